@@ -1,0 +1,4 @@
+pub mod Found
+pub mod Simple
+pub mod Spelled
+pub mod Steps

@@ -1,0 +1,9 @@
+pub mod Rounding
+pub mod NumberFault
+pub mod Length
+pub mod Grid
+pub mod LinePath
+pub mod Limits
+pub mod Failures
+pub mod Device
+pub mod Written

@@ -1,0 +1,57 @@
+ghost use Rattle.std.specs.Prelude.{◌≡◌, ◌≤◌, ℤ, unsigned_abs};
+ghost use Rattle.ngc_fixed_length.specs.NumberFault.{within};
+ghost use Rattle.ngc_fixed_length.specs.Rounding.{nearest};
+ghost use Rattle.ngc_fixed_length.specs.Length.{IsStep};
+ghost use Rattle.ngc_fixed_length.specs.Limits.{LENGTH_LIMIT, IsLength};
+
+use crate::fault::NumberFault;
+use crate::rounding::rounded_quotient;
+use std::marker::Model;
+
+/// A length in nanometres, at most 10^11 in size.
+#[derive(Clone, Copy, Debug, PartialEq, Eq, PartialOrd, Ord)]
+pub struct Nm {
+    nanometres: i64,
+}
+
+impl Model for Nm {
+    ghost Value = { ℤ };
+
+    ghost view = { λ l. l.nanometres };
+
+    ghost invariant = { λ l. IsLength l.nanometres };
+
+    ghost inverse = { λ z. record { nanometres = z } };
+}
+
+impl Nm {
+    /// A number of nanometres as a length, or `TooLarge` above 10^11 in size.
+    pub fn from_nanometres(nanometres: i128) -> Result<Nm, NumberFault>
+        ensures { result ≡ within LENGTH_LIMIT nanometres }
+    {
+        if nanometres.unsigned_abs() <= 100_000_000_000 {
+            Ok(Nm {
+                nanometres: nanometres as i64,
+            })
+        } else {
+            Err(NumberFault::TooLarge)
+        }
+    }
+
+    /// The number of nanometres.
+    pub fn nanometres(self) -> i64
+        ensures value { result ≡ self }
+        ensures bound { IsLength result }
+    {
+        self.nanometres
+    }
+
+    /// The nearest grid point of a step of 500 to 50,000 nm, in steps; ties go away from zero.
+    pub fn to_grid(self, step: Nm) -> i32
+        requires { IsStep step }
+        ensures value { result ≡ nearest self step }
+        ensures bound { unsigned_abs result ≤ 200000000 }
+    {
+        rounded_quotient(i128::from(self.nanometres), i128::from(step.nanometres)) as i32
+    }
+}

@@ -1,0 +1,24 @@
+//! Values, lengths and grid points of a numerical controller, in whole numbers alone.
+#![tactic(auto)]
+
+mod device;
+mod fault;
+mod length;
+mod points;
+mod roots;
+mod rounding;
+mod units;
+mod value;
+mod writing;
+
+pub use device::{Device, DeviceFault, Sink, Source};
+pub use fault::NumberFault;
+pub use length::Nm;
+pub use points::{GridBox, Point2, Point3, StepPos};
+pub use roots::{root_ceil, root_floor};
+pub use units::Units;
+pub use value::Value;
+pub use writing::{WriteFault, write_all};
+
+#[cfg(test)]
+mod tests;

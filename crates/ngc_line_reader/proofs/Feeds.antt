@@ -1,0 +1,76 @@
+-- Lines that bytes make, and the first line feed among them.
+use Rattle.std.proofs.Common.{◌≡◌, ◌≢◌, ℕ, zero, suc, ◌<◌, ◌≤◌, ap, true, false, Some, None, List, [], ◌∷◌, ◌++◌, length, take, drop, refl, arith}
+use Rattle.std.specs.Prelude.{◌==◌, slice_index}
+use Rattle.std.proofs.lemmas.Bool.Decides.{nat_tests}
+use Rattle.memchr.specs.Find.{IsFirstByte, is_byte}
+use Rattle.ngc_line_reader.specs.Program.{split_lines, with_first}
+use Rattle.ngc_line_reader.specs.Load.{NoFeed, IsSplit}
+
+not_feed : (b : ℕ) → b ≢ 10 → (b == 10) ≡ false
+not_feed b h = grind (arith, nat_tests)
+
+other_byte : (b : ℕ) → ((b == 10) ≡ true → ⊥) → b ≢ 10
+other_byte b h e = h (grind (arith, nat_tests))
+
+feed_byte : (b : ℕ) → (b == 10) ≡ true → b ≡ 10
+feed_byte b h = grind (arith, nat_tests)
+
+-- where no byte up to an index is a line feed, there is none in front of it
+feedless_front : (bytes : List ℕ) (n : ℕ) → n ≤ length bytes → ((k : ℕ) → k < n → (slice_index bytes k == 10) ≡ true → ⊥) → NoFeed (take n bytes)
+feedless_front bytes zero h none = tt
+feedless_front [] (suc n) h none = absurd (omega (arith, h))
+feedless_front (b ∷ bytes) (suc n) h none =
+    (other_byte b (none 0 (omega arith)), feedless_front bytes n (omega arith) (λ k l. none (suc k) (omega arith)))
+
+take_all : (xs : List ℕ) → take (length xs) xs ≡ xs
+take_all [] = refl
+take_all (x ∷ xs) = ap (λ l. x ∷ l) (take_all xs)
+
+parted : (bytes : List ℕ) (k : ℕ) → k < length bytes → slice_index bytes k ≡ 10 → bytes ≡ take k bytes ++ (10 ∷ drop 1 (drop k bytes))
+parted [] k h e = absurd (omega (arith, h))
+parted (b ∷ bytes) zero h e = ap (λ x. x ∷ bytes) e
+parted (b ∷ bytes) (suc k) h e = ap (λ l. b ∷ l) (parted bytes k (omega arith) e)
+
+pub no_feed_found : (bytes : List ℕ) → IsFirstByte (is_byte 10) bytes None → NoFeed bytes
+no_feed_found bytes h =
+    let front = feedless_front bytes (length bytes) (omega arith) (λ k l. h k (omega arith) l) in
+    rw take_all at front
+
+pub feed_found : (bytes : List ℕ) (k : ℕ) → IsFirstByte (is_byte 10) bytes (Some k) → IsSplit bytes (take k bytes) (drop 1 (drop k bytes))
+feed_found bytes k h = record {
+  feedless = feedless_front bytes k (omega (arith, h.0.high)) (λ j l. h.0.before j (omega arith) l);
+  parts = parted bytes k h.0.high (feed_byte _ h.1);
+}
+
+pub feed_within : (bytes : List ℕ) (k : ℕ) → IsFirstByte (is_byte 10) bytes (Some k) → k < length bytes
+feed_within bytes k h = h.0.high
+
+-- a line feed ends the line
+pub split_here : (cur rest : List ℕ) → NoFeed cur → split_lines (cur ++ (10 ∷ rest)) ≡ cur ∷ split_lines rest
+split_here [] rest h = refl
+split_here (b ∷ cur) rest h = rw (not_feed b h.0, split_here cur rest h.1) refl
+
+-- the last line may lack it
+pub split_last : (b : ℕ) (cur : List ℕ) → NoFeed (b ∷ cur) → split_lines (b ∷ cur) ≡ (b ∷ cur) ∷ []
+split_last b [] h = rw (not_feed b h.0) refl
+split_last b (c ∷ cur) h = rw (not_feed b h.0, split_last c cur h.1) refl
+
+-- a line that goes on
+pub record GoesOn (cur rest : List ℕ) : Type 0 where
+  pub more : List ℕ
+  pub lines : List (List ℕ)
+  pub split : split_lines (cur ++ rest) ≡ (cur ++ more) ∷ lines
+
+first_line : (b : ℕ) (ls : List (List ℕ)) → (more : List ℕ) × (lines : List (List ℕ)) × (with_first b ls ≡ (b ∷ more) ∷ lines)
+first_line b [] = ([], [], refl)
+first_line b (l ∷ ls) = (l, ls, refl)
+
+pub split_on : (b : ℕ) (cur rest : List ℕ) → NoFeed (b ∷ cur) → GoesOn (b ∷ cur) rest
+split_on b [] rest h = let f = first_line b (split_lines rest) in record { more = f.0; lines = f.1; split = rw (not_feed b h.0) f.2 }
+split_on b (c ∷ cur) rest h =
+    let g = split_on c cur rest h.1 in
+    record { more = g.more; lines = g.lines; split = rw (not_feed b h.0, g.split) refl }
+
+pub feedless_both : (xs ys : List ℕ) → NoFeed xs → NoFeed ys → NoFeed (xs ++ ys)
+feedless_both [] ys h k = k
+feedless_both (x ∷ xs) ys h k = (h.0, feedless_both xs ys h.1 k)

@@ -1,0 +1,5 @@
+use Rattle.ngc_line_reader.proofs.LoadLaws.{begun}
+use Rattle.ngc_line_reader.proofs.program.loader.Loader.new.Goals as goal
+
+pub returns-clause-begins : goal.returns-clause-begins
+returns-clause-begins g c bytes = begun (record { found = c.new.result; cut = c.new-2.result }) bytes c.new.ensures.lines c.new.ensures.phase c.new-2.ensures

@@ -1,0 +1,17 @@
+pub mod Text
+pub mod Letter
+pub mod Grammar
+pub mod Numbers
+pub mod Program
+pub mod Scan
+pub mod ScanLine
+pub mod Tokens
+pub mod Held
+pub mod ReadLine
+pub mod ProgramText
+pub mod ReadFaults
+pub mod Stored
+pub mod ProgramView
+pub mod Load
+pub mod Fault
+pub mod Refused

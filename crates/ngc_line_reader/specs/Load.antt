@@ -1,0 +1,142 @@
+-- How a program is read piece by piece: a state, and what is still to come.
+use Rattle.std.specs.Prelude.{◌≡◌, ◌≢◌, ℕ, ◌+◌, ◌-◌, ◌*◌, ◌≤◌, ◌<◌, nat_le, ◌==◌, ◌&&◌, ◌||◌, List, [], ◌∷◌, ◌++◌, length, Bool, true, false, Option, Some, None, Result, Ok, Err, if◌then◌else◌}
+use Rattle.std.specs.List.{AllByRecursion}
+use Rattle.ngc_line_reader.specs.declared.program.fault.ReadFault.{ReadFault}
+use Rattle.ngc_line_reader.specs.declared.program.fault.ReadFault.TheVariants as faults
+use Rattle.ngc_line_reader.specs.declared.program.phase.Phase.{Phase}
+use Rattle.ngc_line_reader.specs.declared.program.phase.Phase.TheVariants.{Start, Marked, Unmarked}
+use Rattle.ngc_line_reader.specs.declared.program.loader.Step.{Step}
+use Rattle.ngc_line_reader.specs.declared.program.loader.Step.TheVariants.{More, End}
+use Rattle.ngc_line_reader.specs.declared.program.loader.LinesSoFar.{LinesSoFar}
+use Rattle.ngc_line_reader.specs.declared.program.loader.Loader.{Loader}
+use Rattle.ngc_line_reader.specs.Text.{text}
+use Rattle.ngc_line_reader.specs.Program.{Line, split_lines, is_percent_text, is_blank_text}
+use Rattle.ngc_line_reader.specs.ProgramText.{ProgramText, Outcome, fault_of, fault_or, program_of, HaveReadings}
+use Rattle.ngc_line_reader.specs.ProgramView.{lines_in, FaultIs}
+use Rattle.ngc_line_reader.specs.Stored.{line_of}
+
+abbrev pub is_percent : List ℕ → Bool
+is_percent bytes = nat_le (length bytes) 256 && is_percent_text (text bytes)
+
+abbrev pub is_blank : List ℕ → Bool
+is_blank bytes = is_blank_text (text bytes)
+
+-- the bytes behind the spaces and tabs in front
+abbrev pub after_blanks : List ℕ → List ℕ
+after_blanks [] = []
+after_blanks (b ∷ rest) = if (b == 32) || (b == 9) then after_blanks rest else b ∷ rest
+
+-- the number of the line after so many that are read: in a marked file the first % line stands before it
+abbrev pub number_in : Phase → ℕ → ℕ
+number_in Start done = done + 1
+number_in Marked done = done + 2
+number_in Unmarked done = done + 1
+
+abbrev pub phase_after : Phase → List ℕ → Phase
+phase_after Start bytes = if is_blank bytes then Start else Unmarked
+phase_after Marked bytes = Marked
+phase_after Unmarked bytes = Unmarked
+
+abbrev pub is_marking : Phase → Bool
+is_marking Start = false
+is_marking Marked = true
+is_marking Unmarked = false
+
+abbrev pub ended_in : Phase → List Line → ProgramText
+ended_in phase found = record { lines = found; marked = is_marking phase }
+
+-- the file's end: in a marked file a second % is missing
+abbrev pub at_end : Phase → List Line → Outcome
+at_end Start found = Ok (ended_in Start found)
+at_end Marked found = Err faults.NoEnd
+at_end Unmarked found = Ok (ended_in Unmarked found)
+
+-- a % line: in front it marks the file, and later it ends the text
+abbrev pub at_percent : Phase → List Line → Outcome → Outcome
+at_percent Start found more = more
+at_percent Marked found more = Ok (ended_in Marked found)
+at_percent Unmarked found more = Ok (ended_in Unmarked found)
+
+abbrev pub with_line : List Line → Line → List Line
+with_line found line = found ++ (line ∷ [])
+
+-- what the lines of a file come to behind so many that were found
+unfoldable pub walk : Phase → ℕ → List Line → List (List ℕ) → Outcome
+walk phase done found [] = at_end phase found
+walk phase done found (bytes ∷ lines) =
+    if is_percent bytes then at_percent phase found (walk Marked done found lines) else
+    fault_or (fault_of done (line_of (number_in phase done) bytes)) (walk (phase_after phase bytes) (done + 1) (with_line found (line_of (number_in phase done) bytes)) lines)
+
+-- what the lines so far are, if the text ends here
+abbrev pub ended : {A : Type 0} → LinesSoFar A → ProgramText
+ended l = ended_in l.phase (lines_in l.lines)
+
+-- what comes of these lines behind those so far
+abbrev pub walked : {A : Type 0} → LinesSoFar A → List (List ℕ) → Outcome
+walked l lines = walk l.phase (length (lines_in l.lines)) (lines_in l.lines) lines
+
+-- the line that comes next
+abbrev pub next_line : {A : Type 0} → LinesSoFar A → List ℕ → Line
+next_line l bytes = line_of (number_in l.phase (length (lines_in l.lines))) bytes
+
+-- the next line was taken
+pub record TakesLine {A : Type 0} (old new : LinesSoFar A) (bytes : List ℕ) : Type 0 where
+  pub sound : fault_of (length (lines_in old.lines)) (next_line old bytes) ≡ None
+  pub few : length (lines_in old.lines) < 100000
+  pub short : length bytes ≤ 256
+  pub lines : lines_in new.lines ≡ with_line (lines_in old.lines) (next_line old bytes)
+  pub phase : new.phase ≡ phase_after old.phase bytes
+
+-- a fault, but for want of memory, is the line's
+abbrev pub RefusedBy : Option ReadFault → ReadFault → Type 0
+RefusedBy why (faults.Line n f) = why ≡ Some (faults.Line n f)
+RefusedBy why faults.TooManyLines = why ≡ Some faults.TooManyLines
+RefusedBy why faults.NoEnd = ⊥
+RefusedBy why faults.Memory = Unit {0}
+RefusedBy why faults.Device = ⊥
+
+-- what comes of these bytes behind those so far
+abbrev pub resumed : {A : Type 0} → Loader A → List ℕ → Outcome
+resumed l bytes = walked l.found (split_lines (l.cut.items ++ bytes))
+
+-- no byte ends a line
+abbrev pub NoFeed : List ℕ → Type 0
+NoFeed bytes = AllByRecursion (λ b. b ≢ 10) bytes
+
+-- bytes that a line feed parts
+pub record IsSplit (bytes line behind : List ℕ) : Type 0 where
+  pub feedless : NoFeed line
+  pub parts : bytes ≡ line ++ (10 ∷ behind)
+
+pub record IsGoing {A : Type 0} (l : LinesSoFar A) : Type 0 where
+  pub few : length (lines_in l.lines) ≤ 100000
+  pub readings : HaveReadings (lines_in l.lines)
+
+pub record IsLoading {A : Type 0} (l : Loader A) : Type 0 where
+  pub going : IsGoing l.found
+  pub feedless : NoFeed l.cut.items
+  pub short : length l.cut.items ≤ 256
+
+abbrev pub phase_room : Phase → ℕ
+phase_room Start = 257
+phase_room Marked = 0
+phase_room Unmarked = 0
+
+-- how many bytes more can be taken at most
+abbrev pub room_behind : {A : Type 0} → LinesSoFar A → ℕ
+room_behind l = 257 * (100001 - length (lines_in l.lines)) + phase_room l.phase
+
+abbrev pub room_of : {A : Type 0} → Loader A → ℕ
+room_of l = room_behind l.found - length l.cut.items
+
+-- after a step: what came of the text is still to come, or is there
+abbrev pub StepGives : Result Step ReadFault → Outcome → Outcome → ProgramText → Type 0
+StepGives (Ok More) before after now = before ≡ after
+StepGives (Ok End) before after now = before ≡ Ok now
+StepGives (Err fault) before after now = FaultIs fault before
+
+-- what the source's bytes were comes of those that are left, behind what was read
+abbrev pub Follows : {A : Type 0} → Option (List ℕ) → Option (List ℕ) → Loader A → Type 0
+Follows None left l = Unit {0}
+Follows (Some all) None l = ⊥
+Follows (Some all) (Some left) l = program_of all ≡ resumed l left

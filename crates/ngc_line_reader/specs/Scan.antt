@@ -1,0 +1,105 @@
+-- Reading a real value from left to right, with the first fault that is met (our own: the manual names no faults). The
+-- definitions on lines stand on Grammar; these say only which fault is answered, and what was read up to it.
+use Rattle.std.specs.Prelude.{ℕ, zero, suc, ◌≡◌, ◌==◌, ◌&&◌, ◌||◌, nat_le, not, ℤ, List, [], ◌∷◌, ◌++◌, length, drop, Option, Some, None, Bool, false, Result, Ok, Err, if◌then◌else◌}
+use Rattle.std.specs.Char.{is_ascii_digit}
+use Rattle.std.specs.List.{take_while, prefix_len}
+use Rattle.ngc_fixed_length.specs.declared.fault.NumberFault.{NumberFault}
+use Rattle.ngc_fixed_length.specs.Limits.{limited}
+use Rattle.ngc_line_reader.specs.declared.token.Operator.{Operator}
+use Rattle.ngc_line_reader.specs.declared.token.Operator.TheVariants as operators
+use Rattle.ngc_line_reader.specs.declared.token.Token.{Token}
+use Rattle.ngc_line_reader.specs.declared.token.Symbol.TheVariants as mark
+use Rattle.ngc_line_reader.specs.declared.fault.FaultKind.{FaultKind}
+use Rattle.ngc_line_reader.specs.declared.fault.FaultKind.TheVariants.{TooLarge, BadNumber, Bracket}
+use Rattle.ngc_line_reader.specs.declared.fault.Refusal.{Refusal}
+use Rattle.ngc_line_reader.specs.declared.fault.Refusal.TheVariants.{OfItem, AtByte}
+use Rattle.ngc_line_reader.specs.Grammar.{Sign, bare, plus, minus, digits_of}
+use Rattle.ngc_line_reader.specs.Numbers.{written_value}
+use Rattle.ngc_line_reader.specs.Tokens.{token_at}
+
+infixl 10 ◌>>=◌
+abbrev pub ◌>>=◌ : {A B E : Type 0} → Result A E → (A → Result B E) → Result B E
+(Ok x) >>= f = f x
+(Err e) >>= f = Err e
+
+-- What a function returned, seen by view, is what reading gives.
+abbrev pub Gives : {X Y E : Type 0} → (X → Y) → Result X E → Result Y E → Type 0
+Gives view (Ok x) read = read ≡ Ok (view x)
+Gives view (Err e) read = read ≡ Err e
+
+abbrev pub begins : ℕ → List ℕ → Bool
+begins b [] = false
+begins b (c ∷ s) = c == b
+
+-- the characters that stand somewhere outside comments: digits, letters and # % ( ) * + - . / ; = [ ]
+abbrev pub is_known : ℕ → Bool
+is_known c = (nat_le 65 c && nat_le c 91) || (nat_le 45 c && nat_le c 57) || (nat_le 40 c && nat_le c 43) || (c == 35) || (c == 37) || (c == 59) || (c == 61) || (c == 93)
+
+abbrev pub begins_unknown : List ℕ → Bool
+begins_unknown [] = false
+begins_unknown (c ∷ s) = not (is_known c)
+
+-- an item that can't go on at s: for a fault of its own, or for an unknown character there
+abbrev pub refusal : FaultKind → List ℕ → Refusal
+refusal kind s = if begins_unknown s then AtByte (length s) else OfItem kind
+
+abbrev pub sign_at : List ℕ → Sign
+sign_at s = if begins 43 s then plus else (if begins 45 s then minus else bare)
+
+abbrev pub after_sign : List ℕ → List ℕ
+after_sign s = if begins 43 s then drop 1 s else (if begins 45 s then drop 1 s else s)
+
+abbrev pub digits_at : List ℕ → List ℕ
+digits_at s = take_while is_ascii_digit s
+
+abbrev pub after_digits : List ℕ → List ℕ
+after_digits s = drop (prefix_len is_ascii_digit s) s
+
+-- the digits behind a point, if there is one
+abbrev pub decimals_at : List ℕ → Option (List ℕ)
+decimals_at s = if begins 46 s then Some (digits_at (drop 1 s)) else None
+
+abbrev pub after_decimals : List ℕ → List ℕ
+after_decimals s = if begins 46 s then after_digits (drop 1 s) else s
+
+abbrev pub value_fits : Result ℤ NumberFault → Result ℤ Refusal
+value_fits (Ok z) = Ok z
+value_fits (Err e) = Err (OfItem TooLarge)
+
+-- the digits of a number
+abbrev pub whole_at : List ℕ → List ℕ
+whole_at s = digits_at (after_sign s)
+
+abbrev pub fraction_at : List ℕ → List ℕ
+fraction_at s = digits_of (decimals_at (after_digits (after_sign s)))
+
+abbrev pub after_number : List ℕ → List ℕ
+after_number s = after_decimals (after_digits (after_sign s))
+
+-- a number's value, and what follows it
+unfoldable pub number_at : List ℕ → Result (ℤ × List ℕ) Refusal
+number_at s =
+    if (length (whole_at s) == 0) && (length (fraction_at s) == 0) then Err (refusal BadNumber (after_number s)) else (
+    if begins 46 (after_number s) then Err (OfItem BadNumber) else
+    (value_fits (limited (written_value (begins 45 s) (whole_at s) (fraction_at s))) >>= λ z. Ok (z, after_number s)))
+
+abbrev pub number_token : (ℕ → ℕ) → List Token → List ℕ → Result (List Token × List ℕ) Refusal
+number_token place found s = number_at s >>= λ x. Ok (found ++ (token_at place (mark.Number x.0) s ∷ []), x.1)
+
+unfoldable pub operator_at : List ℕ → Result Operator Refusal
+operator_at s = if begins 43 s then Ok operators.Add else (if begins 45 s then Ok operators.Subtract else (if begins 42 s then Ok operators.Multiply else (if begins 47 s then Ok operators.Divide else Err (refusal Bracket s))))
+
+-- a real value's tokens behind those so far, and what follows it; room is above the number of bytes
+unfoldable mutual
+  pub real_at : (ℕ → ℕ) → ℕ → List Token → List ℕ → Result (List Token × List ℕ) Refusal
+  real_at place zero found s = Err (OfItem Bracket)
+  real_at place (suc room) found s =
+      if begins 35 s then real_at place room (found ++ (token_at place mark.Parameter s ∷ [])) (drop 1 s) else (
+      if begins 91 s then (real_at place room (found ++ (token_at place mark.Open s ∷ [])) (drop 1 s) >>= λ x. rest_at place room x.0 x.1) else
+      number_token place found s)
+
+  pub rest_at : (ℕ → ℕ) → ℕ → List Token → List ℕ → Result (List Token × List ℕ) Refusal
+  rest_at place zero found s = Err (OfItem Bracket)
+  rest_at place (suc room) found s =
+      if begins 93 s then Ok (found ++ (token_at place mark.Close s ∷ []), drop 1 s) else (
+      operator_at s >>= λ o. real_at place room (found ++ (token_at place (mark.Operator o) s ∷ [])) (drop 1 s) >>= λ x. rest_at place room x.0 x.1)

@@ -1,0 +1,22 @@
+//! Reads the text of RS274/NGC part programs (NISTIR 6556), line by line.
+#![tactic(auto)]
+
+mod fault;
+pub mod laws;
+mod letter;
+mod line;
+mod number;
+mod program;
+mod real;
+mod text;
+mod token;
+
+pub use fault::{FaultKind, LineFault};
+pub use letter::Letter;
+pub use line::reading::read_line;
+pub use line::{Line, RawSetting, RawWord};
+pub use program::{Program, ReadFault};
+pub use token::{Operator, Symbol, Token};
+
+#[cfg(test)]
+mod tests;

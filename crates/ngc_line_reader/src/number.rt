@@ -1,0 +1,179 @@
+ghost use Rattle.std.specs.Prelude.{◌≡◌, ℕ, ◌*◌, ◌+◌, ◌^◌, ◌≤◌, ◌<◌, List, ◌++◌, length, drop, min, IfOk, IfErr, ◌≢◌, ◌-◌, pos, neg_ℤ, IsTrue, if◌then◌else◌};
+ghost use Rattle.std.specs.List.{prefix_len};
+ghost use Rattle.std.specs.Char.{is_ascii_digit};
+ghost use Rattle.ngc_fixed_length.specs.Rounding.{nearest_size};
+ghost use Rattle.ngc_fixed_length.specs.Limits.{MILLION, limited};
+ghost use Rattle.ngc_line_reader.specs.Grammar.{IsDigits, digits_of};
+ghost use Rattle.ngc_line_reader.specs.Numbers.{digits_value, signed, written_value};
+ghost use Rattle.ngc_line_reader.specs.Scan.{Gives, digits_at, after_digits, begins as has_first, is_known as is_known_byte, begins_unknown as has_unknown_first, refusal as refused, after_sign, decimals_at, after_decimals, number_at as number_found};
+
+use crate::fault::{FaultKind, Refusal};
+use ngc_fixed_length::{NumberFault, Value};
+
+/// Digits, and the number that they give, or `UNITS` where that is less.
+#[derive(Clone, Copy)]
+pub struct Digits<'a> {
+    pub bytes: &'a [u8],
+    pub units: u64,
+}
+
+// More than any value has: with so many units or more a number is too large.
+const UNITS: u64 = 10_000_000_000;
+
+// How many digits stand in front, and the number that they give, or `UNITS`.
+#[tactic(auto, using(crate::proofs::Digits::digits_counted))]
+fn count_digits(s: &[u8]) -> (usize, u64)
+    ensures count { result.0 ≡ prefix_len is_ascii_digit s.now }
+    ensures within { result.0 ≤ length s.now }
+    ensures units { result.1 ≡ min (digits_value (digits_at s.now)) 10000000000 }
+{
+    let mut units = 0;
+    for (count, byte) in s.iter().enumerate() {
+        if !byte.is_ascii_digit() {
+            return (count, units);
+        }
+        units = (10 * units + u64::from(byte.saturating_sub(b'0'))).min(UNITS);
+    }
+    (s.len(), units)
+}
+
+// The digits in front, and what follows them.
+pub fn split_digits(s: &[u8]) -> (Digits<'_>, &[u8])
+    ensures front { result.0.bytes.now ≡ digits_at s.now }
+    ensures units { result.0.units ≡ min (digits_value result.0.bytes.now) 10000000000 }
+    ensures digits { IsDigits result.0.bytes.now }
+    ensures rest { result.1.now ≡ after_digits s.now }
+{
+    let (count, units) = count_digits(s);
+    let (bytes, rest) = s.split_at(count);
+    (Digits { bytes, units }, rest)
+}
+
+fn is_known(byte: u8) -> bool
+    ensures { result ≡ is_known_byte byte }
+{
+    matches!(byte, b'A'..=b'[' | b'-'..=b'9' | b'('..=b'+' | b'#' | b'%' | b';' | b'=' | b']')
+}
+
+fn begins_unknown(s: &[u8]) -> bool
+    ensures { result ≡ has_unknown_first s.now }
+{
+    match s {
+        [first, ..] => !is_known(*first),
+        [] => false,
+    }
+}
+
+// Why an item can't go on at `s`.
+pub fn refusal(kind: FaultKind, s: &[u8]) -> Refusal
+    ensures value { result ≡ refused kind s.now }
+    ensures not_long { kind ≢ FaultKind.LineTooLong → result ≢ Refusal.OfItem FaultKind.LineTooLong }
+{
+    if begins_unknown(s) {
+        Refusal::AtByte(s.len())
+    } else {
+        Refusal::OfItem(kind)
+    }
+}
+
+pub fn begins(byte: u8, s: &[u8]) -> bool
+    ensures first { result ≡ has_first byte s.now }
+    ensures some { IsTrue result → 0 < length s.now }
+{
+    match s {
+        [first, ..] => *first == byte,
+        [] => false,
+    }
+}
+
+// The bytes after the first.
+pub fn tail(s: &[u8]) -> &[u8]
+    requires { 0 < length s.now }
+    ensures { result.now ≡ drop 1 s.now }
+{
+    &s[1..]
+}
+
+fn split_sign(s: &[u8]) -> &[u8]
+    ensures { result.now ≡ after_sign s.now }
+{
+    if begins(b'+', s) || begins(b'-', s) {
+        tail(s)
+    } else {
+        s
+    }
+}
+
+// The digits behind a point, and what follows them.
+fn split_decimals(s: &[u8]) -> (Digits<'_>, &[u8])
+    ensures front { result.0.bytes.now ≡ digits_of (decimals_at s.now) }
+    ensures units { result.0.units ≡ min (digits_value result.0.bytes.now) 10000000000 }
+    ensures digits { IsDigits result.0.bytes.now }
+    ensures rest { result.1.now ≡ after_decimals s.now }
+{
+    if begins(b'.', s) {
+        split_digits(tail(s))
+    } else {
+        let none = Digits {
+            bytes: &s[..0],
+            units: 0,
+        };
+        (none, s)
+    }
+}
+
+// A number's value, and what follows it.
+#[tactic(auto, unfolding(crate::specs::Scan::number_at))]
+pub fn number_at(s: &[u8]) -> Result<(Value, &[u8]), Refusal>
+    ensures reads { Gives (λ x. (x.0, x.1.now)) result (number_found s.now) }
+    ensures not_long { IfErr result (λ e. e ≢ Refusal.OfItem FaultKind.LineTooLong) }
+{
+    let (whole, after_whole) = split_digits(split_sign(s));
+    let (decimals, rest) = split_decimals(after_whole);
+    if whole.bytes.is_empty() && decimals.bytes.is_empty() {
+        return Err(refusal(FaultKind::BadNumber, rest));
+    }
+    if begins(b'.', rest) {
+        return Err(Refusal::OfItem(FaultKind::BadNumber));
+    }
+    match value_of(begins(b'-', s), whole, decimals) {
+        Ok(value) => Ok((value, rest)),
+        Err(_) => Err(Refusal::OfItem(FaultKind::TooLarge)),
+    }
+}
+
+// The decimals in millionths, rounded.
+fn millionths_of(decimals: Digits<'_>) -> u64
+    requires digits { IsDigits decimals.bytes.now }
+    requires units { decimals.units ≡ min (digits_value decimals.bytes.now) 10000000000 }
+    ensures value { result ≡ nearest_size (digits_value decimals.entry.bytes.now * MILLION) (10 ^ length decimals.entry.bytes.now) }
+    ensures bound { result ≤ 1000000 }
+{
+    if decimals.bytes.len() > 6 {
+        // The seventh decimal rounds.
+        (count_digits(&decimals.bytes[..7]).1 + 5) / 10
+    } else {
+        decimals.units * 10u64.pow(6 - decimals.bytes.len() as u32)
+    }
+}
+
+fn signed_value(negative: bool, size: u64) -> Result<Value, NumberFault>
+    requires { size < 2 ^ 62 }
+    ensures { result ≡ limited (signed negative size) }
+{
+    if negative {
+        Value::from_millionths(-i128::from(size))
+    } else {
+        Value::from_millionths(i128::from(size))
+    }
+}
+
+fn value_of(negative: bool, whole: Digits<'_>, decimals: Digits<'_>) -> Result<Value, NumberFault>
+    requires units { whole.units ≡ min (digits_value whole.bytes.now) 10000000000 }
+    requires digits { IsDigits decimals.bytes.now }
+    requires decimal_units { decimals.units ≡ min (digits_value decimals.bytes.now) 10000000000 }
+    ensures { result ≡ limited (written_value negative whole.entry.bytes.now decimals.entry.bytes.now) }
+{
+    let size = whole.units * 1_000_000 + millionths_of(decimals);
+    signed_value(negative, size)
+}

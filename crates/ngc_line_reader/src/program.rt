@@ -1,0 +1,108 @@
+ghost use Rattle.std.specs.Prelude.{◌≡◌, ◌<◌, ◌≤◌, IsOk, length, IfOk, IfSome, Some, slice_get, IsTrue, ◌==◌};
+ghost use Rattle.std.specs.Option.{option_map};
+ghost use Rattle.ngc_fixed_length.specs.Failures.{Rises};
+ghost use Rattle.ngc_line_reader.specs.ReadLine.{line_read};
+ghost use Rattle.ngc_line_reader.specs.ProgramText.{program_of, HaveReadings};
+ghost use Rattle.ngc_line_reader.specs.ProgramView.{text_in, lines_in, OutcomeIs};
+ghost use Rattle.ngc_line_reader.specs.declared.program.fault.ReadFault.TheVariants.{Device};
+
+use crate::line::Line;
+use crate::program::loader::{Loader, Step};
+use crate::program::stored::StoredLines;
+use ngc_fixed_length::Source;
+use std::alloc::Allocator;
+
+mod fault;
+mod loader;
+mod phase;
+mod stored;
+
+pub use fault::ReadFault;
+
+#[cfg(test)]
+mod tests;
+
+/// A part program: the lines that are read.
+#[derive(Drop)]
+pub struct Program<A: Allocator> {
+    lines: StoredLines<A>,
+    marked: bool,
+}
+
+impl<A: Allocator> Program<A> {
+    /// How many lines are read: at most 100,000.
+    pub fn len(&self) -> usize
+        ensures value { result ≡ length (text_in self.now).lines }
+        ensures few { result ≤ 100000 }
+    {
+        self.lines.len()
+    }
+
+    /// Whether no line is read.
+    pub fn is_empty(&self) -> bool
+        ensures { result ≡ (length (text_in self.now).lines == 0) }
+    {
+        self.lines.len() == 0
+    }
+
+    /// Whether `%` lines mark the file.
+    pub fn is_marked(&self) -> bool
+        ensures { result ≡ (text_in self.now).marked }
+    {
+        self.marked
+    }
+
+    /// The number in the file, from 1, of a line that is read.
+    pub fn number(&self, index: usize) -> u32
+        requires { index < length (text_in self.now).lines }
+        ensures { option_map (λ l. l.number) (slice_get (text_in self.now).lines index) ≡ Some result }
+    {
+        self.lines.number(index)
+    }
+
+    /// The bytes of a line that is read, without its line feed. Reading them again answers no fault.
+    pub fn bytes(&self, index: usize) -> &[u8]
+        requires { index < length (text_in self.now).lines }
+        ensures value { option_map (λ l. l.bytes) (slice_get (text_in self.now).lines index) ≡ Some result.now }
+        ensures read { IsOk (line_read result.now) }
+    {
+        self.lines.bytes(index)
+    }
+
+    fn new(lines: StoredLines<A>, marked: bool) -> Program<A>
+        ensures { text_in result ≡ record { lines = lines_in lines; marked = marked } }
+    {
+        Program { lines, marked }
+    }
+
+    /// The lines of a file up to the end of its text, or the first fault. No more is pulled once the text has ended or a
+    /// fault stands.
+    pub fn read<R: Source>(alloc: A, source: &mut R) -> Result<Program<A>, ReadFault>
+    where
+        A: Copy,
+        // Where the source's bytes are known, the answer is what they say, but for want of memory and the source's failure.
+        ensures text { IfSome (R.remaining source.old) (λ bytes. OutcomeIs result (program_of bytes)) }
+        // Each line has a reading.
+        ensures readings { IfOk result (λ p. HaveReadings (text_in p).lines) }
+        // Only a source that failed is said to have failed.
+        ensures device { result ≡ Err Device → Rises (R.failures source.old) (R.failures source.new) }
+    {
+        let mut loader = Loader::new(alloc);
+        let mut reading = Line::empty();
+        let mut chunk = [0u8; 65_536];
+        loop {
+            let count = match source.pull(&mut chunk) {
+                Ok(count) => count,
+                Err(_) => return Err(ReadFault::Device),
+            };
+            if count == 0 {
+                return loader.finish(&mut reading);
+            }
+            match loader.feed(&chunk[..count], &mut reading) {
+                Ok(Step::More) => {}
+                Ok(Step::End) => return Ok(loader.into_program()),
+                Err(fault) => return Err(fault),
+            }
+        }
+    }
+}

@@ -1,0 +1,293 @@
+ghost use Rattle.std.specs.Prelude.{◌≡◌, ◌≢◌, ℕ, ◌+◌, ◌≤◌, ◌<◌, List, [], ◌∷◌, ◌++◌, length, IfOk, IfErr, OnOk, MatchOption, MatchResult, true, None};
+ghost use Rattle.ngc_line_reader.specs.ProgramText.{HaveReadings, HasReading, fault_of, program_of};
+ghost use Rattle.ngc_line_reader.specs.ProgramView.{text_in, lines_in, FaultIs, OutcomeIs};
+ghost use Rattle.ngc_line_reader.specs.Stored.{line_of};
+ghost use Rattle.ngc_line_reader.specs.Load.{is_percent as is_percent_line, number_in, ended, next_line, TakesLine, RefusedBy, StepGives, walked, resumed, IsGoing, IsLoading, IsSplit, NoFeed, room_behind, room_of};
+
+use crate::fault::{FaultKind, LineFault};
+use crate::line::Line;
+use crate::program::Program;
+use crate::program::fault::ReadFault;
+use crate::program::phase::{Phase, is_percent};
+use crate::program::stored::StoredLines;
+use arrayvec::ArrayVec;
+use memchr::memchr;
+use std::alloc::Allocator;
+
+const LINES: usize = 100_000;
+
+// Whether the text goes on.
+#[derive(Clone, Copy, Debug, PartialEq, Eq)]
+pub enum Step {
+    More,
+    End,
+}
+
+/// The lines so far.
+#[derive(Drop)]
+pub struct LinesSoFar<A: Allocator> {
+    lines: StoredLines<A>,
+    phase: Phase,
+}
+
+/// The lines so far, and the beginning of a line that a piece's end cut.
+#[derive(Drop)]
+pub struct Loader<A: Allocator> {
+    found: LinesSoFar<A>,
+    cut: ArrayVec<u8, 256>,
+}
+
+// The first line of some bytes, and what stands behind its line feed.
+fn split_line(bytes: &[u8]) -> Option<(&[u8], &[u8])>
+    ensures { MatchOption result (NoFeed bytes.now) (λ p. IsSplit bytes.now p.0.now p.1.now) }
+{
+    let end = memchr(b'\n', bytes)?;
+    let (line, rest) = bytes.split_at(end);
+    Some((line, &rest[1..]))
+}
+
+// The number of a line that may be stored.
+fn check_line(phase: Phase, done: usize, bytes: &[u8], reading: &mut Line) -> Result<u32, ReadFault>
+    requires { done ≤ 100000 }
+    ensures number { IfOk result (λ n. n ≡ number_in phase done) }
+    ensures few { OnOk result (done < 100000) }
+    ensures sound { OnOk result (fault_of done (line_of (number_in phase done) bytes.now) ≡ None) }
+    ensures read { OnOk result (HasReading (line_of (number_in phase done) bytes.now)) }
+    ensures refused { IfErr result (λ e. RefusedBy (fault_of done (line_of (number_in phase done) bytes.now)) e) }
+{
+    if done >= LINES {
+        return Err(ReadFault::TooManyLines);
+    }
+    let number = phase.number(done);
+    match reading.read(bytes) {
+        Ok(()) => {
+            // The array of words says that there are at most 64.
+            let _words = reading.words.as_slice();
+            Ok(number)
+        }
+        Err(fault) => Err(ReadFault::Line(number, fault)),
+    }
+}
+
+impl<A: Allocator> LinesSoFar<A> {
+    fn new(alloc: A) -> LinesSoFar<A>
+    where
+        A: Copy,
+        ensures lines { lines_in result.lines ≡ [] }
+        ensures phase { result.phase ≡ Phase.Start }
+    {
+        LinesSoFar {
+            lines: StoredLines::new(alloc),
+            phase: Phase::Start,
+        }
+    }
+
+    // The next line, which is no `%` line.
+    fn read_line(&mut self, bytes: &[u8], reading: &mut Line) -> Result<(), ReadFault>
+        requires { IsGoing self.old }
+        ensures taken { OnOk result (TakesLine self.old self.new bytes.now) }
+        ensures going { OnOk result (IsGoing self.new) }
+        ensures refused { IfErr result (λ e. RefusedBy (fault_of (length (lines_in self.old.lines)) (next_line self.old bytes.now)) e) }
+    {
+        match check_line(self.phase, self.lines.len(), bytes, reading) {
+            Ok(number) => match self.lines.push(number, bytes) {
+                Ok(()) => {
+                    self.phase = self.phase.after(bytes);
+                    Ok(())
+                }
+                Err(_) => Err(ReadFault::Memory),
+            },
+            Err(fault) => Err(fault),
+        }
+    }
+
+    // A `%` line marks the file in front, and ends its text later.
+    fn take_percent(&mut self) -> Step
+        requires { IsGoing self.old }
+        ensures step { (ls : List (List ℕ)) (bytes : List ℕ) → is_percent_line bytes ≡ true → StepGives (Ok result) (walked self.old (bytes ∷ ls)) (walked self.new ls) (ended self.new) }
+        ensures going { IsGoing self.new }
+        ensures progress { result ≡ Step.More → room_behind self.new + 257 ≤ room_behind self.old }
+    {
+        match self.phase {
+            Phase::Start => {
+                self.phase = Phase::Marked;
+                Step::More
+            }
+            Phase::Marked | Phase::Unmarked => Step::End,
+        }
+    }
+
+    // The next line.
+    fn take_line(&mut self, bytes: &[u8], reading: &mut Line) -> Result<Step, ReadFault>
+        requires { IsGoing self.old }
+        ensures step { (ls : List (List ℕ)) → StepGives result (walked self.old (bytes.now ∷ ls)) (walked self.new ls) (ended self.new) }
+        ensures going { OnOk result (IsGoing self.new) }
+        ensures quiet { IfErr result (λ e. e ≢ ReadFault.Device) }
+        ensures progress { result ≡ Ok Step.More → room_behind self.new + length bytes.now + 1 ≤ room_behind self.old }
+    {
+        if is_percent(bytes) {
+            return Ok(self.take_percent());
+        }
+        match self.read_line(bytes, reading) {
+            Ok(()) => Ok(Step::More),
+            Err(fault) => Err(fault),
+        }
+    }
+
+    // Why a line of more than 256 bytes is refused.
+    fn long_line(&self) -> ReadFault
+        requires { IsGoing self.now }
+        ensures value { (bytes : List ℕ) → 256 < length bytes → RefusedBy (fault_of (length (lines_in self.now.lines)) (next_line self.now bytes)) result }
+        ensures quiet { result ≢ ReadFault.Device }
+    {
+        if self.lines.len() >= LINES {
+            return ReadFault::TooManyLines;
+        }
+        let fault = LineFault {
+            kind: FaultKind::LineTooLong,
+            column: 257,
+        };
+        ReadFault::Line(self.phase.number(self.lines.len()), fault)
+    }
+
+    fn into_program(self) -> Program<A>
+        requires { IsGoing self }
+        ensures text { text_in result ≡ ended self }
+        ensures readings { HaveReadings (text_in result).lines }
+    {
+        let LinesSoFar { lines, phase } = self;
+        Program::new(lines, phase == Phase::Marked)
+    }
+
+    // No line comes any more.
+    #[tactic(auto, using(crate::proofs::Walk::walk_end))]
+    fn finish(self) -> Result<Program<A>, ReadFault>
+        requires { IsGoing self }
+        ensures text { OutcomeIs result (walked self []) }
+        ensures readings { IfOk result (λ p. HaveReadings (text_in p).lines) }
+        ensures quiet { IfErr result (λ e. e ≢ ReadFault.Device) }
+    {
+        if self.phase == Phase::Marked {
+            return Err(ReadFault::NoEnd);
+        }
+        Ok(self.into_program())
+    }
+}
+
+impl<A: Allocator> Loader<A> {
+    pub fn new(alloc: A) -> Loader<A>
+    where
+        A: Copy,
+        ensures loading { IsLoading result }
+        ensures begins { (bytes : List ℕ) → program_of bytes ≡ resumed result bytes }
+    {
+        Loader {
+            found: LinesSoFar::new(alloc),
+            cut: ArrayVec::new(),
+        }
+    }
+
+    // More of the line that is cut.
+    fn keep(&mut self, piece: &[u8]) -> Result<(), ReadFault>
+        requires loading { IsLoading self.old }
+        requires feedless { NoFeed piece.now }
+        ensures step { (rest : List ℕ) → MatchResult result (λ _. resumed self.old (piece.now ++ rest) ≡ resumed self.new rest) (λ e. FaultIs e (resumed self.old (piece.now ++ rest))) }
+        ensures loading { OnOk result (IsLoading self.new) }
+        ensures quiet { IfErr result (λ e. e ≢ ReadFault.Device) }
+        ensures progress { OnOk result (room_of self.new + length piece.now ≤ room_of self.old) }
+    {
+        match self.cut.try_extend_from_slice(piece) {
+            Ok(()) => Ok(()),
+            Err(_) => Err(self.found.long_line()),
+        }
+    }
+
+    // The line that is cut ends here.
+    fn end_cut(&mut self, reading: &mut Line) -> Result<Step, ReadFault>
+        requires { IsLoading self.old }
+        ensures step { (ls : List (List ℕ)) → StepGives result (walked self.old.found (self.old.cut.items ∷ ls)) (walked self.new.found ls) (ended self.new.found) }
+        ensures empty { OnOk result (self.new.cut.items ≡ []) }
+        ensures going { OnOk result (IsGoing self.new.found) }
+        ensures quiet { IfErr result (λ e. e ≢ ReadFault.Device) }
+        ensures progress { result ≡ Ok Step.More → room_of self.new + 1 ≤ room_of self.old }
+    {
+        match self.found.take_line(self.cut.as_slice(), reading) {
+            Ok(step) => {
+                self.cut.clear();
+                Ok(step)
+            }
+            Err(fault) => Err(fault),
+        }
+    }
+
+    // A piece that a line feed ends.
+    fn end_line(&mut self, piece: &[u8], reading: &mut Line) -> Result<Step, ReadFault>
+        requires loading { IsLoading self.old }
+        requires feedless { NoFeed piece.now }
+        ensures step { (rest : List ℕ) → StepGives result (resumed self.old (piece.now ++ (10 ∷ rest))) (resumed self.new rest) (ended self.new.found) }
+        ensures loading { OnOk result (IsLoading self.new) }
+        ensures quiet { IfErr result (λ e. e ≢ ReadFault.Device) }
+        ensures progress { result ≡ Ok Step.More → room_of self.new + length piece.now + 1 ≤ room_of self.old }
+    {
+        if self.cut.is_empty() {
+            return self.found.take_line(piece, reading);
+        }
+        match self.keep(piece) {
+            Ok(()) => self.end_cut(reading),
+            Err(fault) => Err(fault),
+        }
+    }
+
+    /// More bytes of the file.
+    pub fn feed(&mut self, chunk: &[u8], reading: &mut Line) -> Result<Step, ReadFault>
+        requires { IsLoading self.old }
+        ensures step { (rest : List ℕ) → StepGives result (resumed self.old (chunk.now ++ rest)) (resumed self.new rest) (ended self.new.found) }
+        ensures loading { OnOk result (IsLoading self.new) }
+        ensures quiet { IfErr result (λ e. e ≢ ReadFault.Device) }
+        ensures progress { result ≡ Ok Step.More → room_of self.new + length chunk.now ≤ room_of self.old }
+    {
+        let mut rest = chunk;
+        while let Some((piece, behind)) = split_line(rest) {
+            match self.end_line(piece, reading) {
+                Ok(Step::More) => rest = behind,
+                Ok(Step::End) => return Ok(Step::End),
+                Err(fault) => return Err(fault),
+            }
+        }
+        match self.keep(rest) {
+            Ok(()) => Ok(Step::More),
+            Err(fault) => Err(fault),
+        }
+    }
+
+    /// The program, where the text has ended.
+    pub fn into_program(self) -> Program<A>
+        requires { IsGoing self.found }
+        ensures text { text_in result ≡ ended self.found }
+        ensures readings { HaveReadings (text_in result).lines }
+    {
+        let Loader { found, cut: _ } = self;
+        found.into_program()
+    }
+
+    /// The program, where no byte comes any more.
+    pub fn finish(mut self, reading: &mut Line) -> Result<Program<A>, ReadFault>
+        requires { IsLoading self }
+        ensures text { OutcomeIs result (resumed self []) }
+        ensures readings { IfOk result (λ p. HaveReadings (text_in p).lines) }
+        ensures quiet { IfErr result (λ e. e ≢ ReadFault.Device) }
+    {
+        if self.cut.is_empty() {
+            let Loader { found, cut: _ } = self;
+            return found.finish();
+        }
+        match self.end_cut(reading) {
+            Ok(Step::More) => {
+                let Loader { found, cut: _ } = self;
+                found.finish()
+            }
+            Ok(Step::End) => Ok(self.into_program()),
+            Err(fault) => Err(fault),
+        }
+    }
+}

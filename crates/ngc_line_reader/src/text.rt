@@ -1,0 +1,104 @@
+ghost use Rattle.std.specs.Prelude.{◌≡◌, ◌≤◌, length, take};
+ghost use Rattle.ngc_line_reader.specs.Text.{place_after as next_place, is_blank as blank, upper, kept, text, columns as columns_in, place_in};
+
+/// Where a byte of a line stands.
+#[derive(Clone, Copy, Debug, PartialEq, Eq)]
+pub enum Place {
+    Outside,
+    InComment,
+    InRemark,
+}
+
+#[inline]
+fn place_after(place: Place, byte: u8) -> Place
+    ensures { result ≡ next_place place byte }
+{
+    match place {
+        Place::Outside => {
+            if byte == b'(' {
+                Place::InComment
+            } else if byte == b';' {
+                Place::InRemark
+            } else {
+                Place::Outside
+            }
+        }
+        Place::InComment => {
+            if byte == b')' {
+                Place::Outside
+            } else {
+                Place::InComment
+            }
+        }
+        Place::InRemark => Place::InRemark,
+    }
+}
+
+#[inline]
+fn is_blank(byte: u8, last: bool) -> bool
+    ensures { result ≡ blank byte last }
+{
+    byte == b' ' || byte == b'\t' || (byte == b'\r' && last)
+}
+
+#[inline]
+fn to_upper(byte: u8) -> u8
+    ensures { result ≡ upper byte }
+{
+    if byte >= b'a' && byte <= b'z' {
+        byte - 32
+    } else {
+        byte
+    }
+}
+
+#[inline]
+fn kept_byte(place: Place, byte: u8, last: bool) -> Option<u8>
+    ensures { result ≡ kept place byte last }
+{
+    match place {
+        Place::Outside => {
+            if is_blank(byte, last) {
+                None
+            } else {
+                Some(to_upper(byte))
+            }
+        }
+        Place::InComment | Place::InRemark => Some(byte),
+    }
+}
+
+// The column of the byte with so many bytes left.
+#[inline]
+pub fn column_of(columns: &[u16], left: usize) -> u16
+    ensures { result ≡ place_in columns.now left }
+{
+    let index = columns.len().saturating_sub(left);
+    if index < columns.len() {
+        columns[index]
+    } else {
+        0
+    }
+}
+
+/// The text of a line, into `bytes`, and the column of each of its bytes, into `columns`: so many of either.
+#[tactic(auto, using(crate::proofs::TextSteps::one_byte))]
+pub fn fill_text(line: &[u8], bytes: &mut [u8; 256], columns: &mut [u16; 256]) -> usize
+    requires { length line.now ≤ 256 }
+    ensures within { result ≤ 256 }
+    ensures bytes { take result bytes.new ≡ text line.now }
+    ensures columns { take result columns.new ≡ columns_in line.now }
+{
+    let mut length = 0;
+    let mut place = Place::Outside;
+    for i in 0..line.len() {
+        let byte = line[i];
+        if let Some(kept) = kept_byte(place, byte, i + 1 == line.len()) {
+            bytes[length] = kept;
+            columns[length] = i as u16 + 1;
+            length += 1;
+        }
+        place = place_after(place, byte);
+    }
+    length
+}

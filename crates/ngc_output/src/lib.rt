@@ -1,0 +1,9 @@
+//! Text on its way to a sink, in large pieces.
+#![tactic(auto)]
+
+mod chunk;
+
+pub use chunk::Chunk;
+
+#[cfg(test)]
+mod tests;

@@ -1,0 +1,26 @@
+-- What the functions on tokens have, as the definitions on symbols see it.
+use Rattle.std.specs.Prelude.{◌≡◌, ℤ, pos, List, Option, Some, None, Result, Ok, Err, slice_index_or}
+use Rattle.std.specs.Borrow.{Bor}
+use Rattle.ngc_line_reader.specs.declared.token.Operator.{Operator}
+use Rattle.ngc_line_reader.specs.declared.token.Symbol.{Symbol}
+use Rattle.ngc_line_reader.specs.declared.token.Token.{Token}
+use Rattle.ngc_line_reader.specs.Tokens.{symbols}
+use Rattle.ngc_parameters.specs.declared.fault.EvalFault.{EvalFault}
+use Rattle.ngc_parameters.specs.Meaning.{◌>>=◌, Parameters, Before, nothing, left}
+use Rattle.ngc_parameters.specs.Evaluate.{Found}
+
+-- what a slice holds
+abbrev pub held : List ℤ → Parameters
+held values k = slice_index_or values k (pos 0)
+
+abbrev pub before_of : Option (ℤ × Operator) → Before
+before_of None = nothing
+before_of (Some x) = left x.0 x.1
+
+abbrev pub GivesValue : Result (ℤ × Bor (List Token)) EvalFault → Found → Type 0
+GivesValue (Ok x) found = found ≡ Ok (x.0, symbols x.1.now)
+GivesValue (Err e) found = found ≡ Err e
+
+-- a value, with the symbols behind it
+abbrev pub with_rest : List Symbol → Result ℤ EvalFault → Found
+with_rest r value = value >>= λ z. Ok (z, r)

@@ -1,0 +1,227 @@
+ghost use Rattle.std.specs.Prelude.{◌≡◌, ℕ, ◌+◌, ◌≤◌, List, [], length, pos, IfOk, IfErr, ◌≢◌, ◌==◌, if◌then◌else◌};
+ghost use Rattle.ngc_line_reader.specs.Grammar.{Reading};
+ghost use Rattle.ngc_line_reader.specs.Scan.{Gives};
+ghost use Rattle.ngc_line_reader.specs.Held.{Holds, AllWithinLimit};
+ghost use Rattle.ngc_parameters.specs.EvaluateView.{held};
+ghost use Rattle.ngc_parameters.specs.Meaning.{after_settings};
+ghost use Rattle.ngc_parameters.specs.Stored.{parameters_of, changes_of, line_values, value_from, words_on, settings_on, pairs_of, values_in, IsSame, change_from, values_on};
+
+use crate::change::Change;
+use crate::evaluation::{evaluate, index_of};
+use crate::fault::EvalFault;
+use crate::parameters::Store;
+use arrayvec::ArrayVec;
+use ngc_fixed_length::Value;
+use ngc_line_reader::{Letter, Line, Token};
+use std::alloc::Allocator;
+
+const COUNT: usize = 5161;
+
+/// A word's letter and value.
+#[derive(Clone, Copy, Debug, PartialEq, Eq)]
+pub struct Word {
+    pub letter: Letter,
+    pub value: Value,
+}
+
+impl Default for Word {
+    ghost use Rattle.ngc_line_reader.specs.declared.letter.Letter.TheVariants as letters;
+
+    ghost is_default = { λ w. w ≡ record { letter = letters.A; value = pos 0 } };
+
+    fn default() -> Word {
+        Word {
+            letter: Letter::default(),
+            value: Value::zero(),
+        }
+    }
+}
+
+/// What a line's settings do, from left to right.
+#[derive(Drop)]
+pub struct Changes {
+    settings: ArrayVec<Change, 64>,
+}
+
+/// The values of a line's words, and what its settings do.
+#[derive(Drop)]
+pub struct LineValues {
+    pub words: ArrayVec<Word, 64>,
+    pub changes: Changes,
+}
+
+// The value whose tokens begin there.
+fn value_at(parameters: &[Value], tokens: &[Token], first: u16) -> Result<Value, EvalFault>
+    requires all { length parameters.now ≡ 5161 }
+    requires short { length tokens.now ≤ 256 }
+    ensures value { result ≡ value_from (held parameters.now) tokens.now first }
+    ensures not_memory { IfErr result (λ e. e ≢ EvalFault.Memory) }
+{
+    let first = (first as usize).min(tokens.len());
+    match evaluate(parameters, tokens.split_at(first).1) {
+        Ok((value, _)) => Ok(value),
+        Err(fault) => Err(fault),
+    }
+}
+
+// The values of the words.
+#[tactic(auto, using(crate::proofs::StoredSteps::mapped))]
+fn words_of(
+    parameters: &[Value],
+    line: &Line,
+    words: &mut ArrayVec<Word, 64>,
+) -> Result<(), EvalFault>
+    requires { length parameters.now ≡ 5161 }
+    ensures value { Gives (λ _. pairs_of words.new.items) result (words_on (held parameters.now) line.now.tokens.items line.now.words.items) }
+    ensures not_memory { IfErr result (λ e. e ≢ EvalFault.Memory) }
+{
+    words.clear();
+    for raw in line.words.as_slice() {
+        match value_at(parameters, line.tokens.as_slice(), raw.first) {
+            Ok(value) => words.push(Word {
+                letter: raw.letter,
+                value,
+            }),
+            Err(fault) => return Err(fault),
+        }
+    }
+    Ok(())
+}
+
+fn change_of(
+    parameters: &[Value],
+    tokens: &[Token],
+    index: u16,
+    value: u16,
+) -> Result<Change, EvalFault>
+    requires all { length parameters.now ≡ 5161 }
+    requires short { length tokens.now ≤ 256 }
+    ensures value { IsSame result (change_from (held parameters.now) tokens.now index value) }
+    ensures not_memory { IfErr result (λ e. e ≢ EvalFault.Memory) }
+{
+    let place = match value_at(parameters, tokens, index) {
+        Ok(place) => place,
+        Err(fault) => return Err(fault),
+    };
+    let index = match index_of(place) {
+        Ok(index) => index,
+        Err(fault) => return Err(fault),
+    };
+    match value_at(parameters, tokens, value) {
+        Ok(value) => Ok(Change { index, value }),
+        Err(fault) => Err(fault),
+    }
+}
+
+// What the settings do.
+#[tactic(auto, using(crate::proofs::StoredSteps::mapped))]
+fn changes_of_line(
+    parameters: &[Value],
+    line: &Line,
+    changes: &mut Changes,
+) -> Result<(), EvalFault>
+    requires { length parameters.now ≡ 5161 }
+    ensures value { Gives (λ _. changes_of changes.new) result (settings_on (held parameters.now) line.now.tokens.items line.now.settings.items) }
+    ensures not_memory { IfErr result (λ e. e ≢ EvalFault.Memory) }
+{
+    changes.settings.clear();
+    for raw in line.settings.as_slice() {
+        match change_of(parameters, line.tokens.as_slice(), raw.index, raw.value) {
+            Ok(change) => changes.settings.push(change),
+            Err(fault) => return Err(fault),
+        }
+    }
+    Ok(())
+}
+
+// What words and settings come to.
+fn line_of(parameters: &[Value], line: &Line, values: &mut LineValues) -> Result<(), EvalFault>
+    requires { length parameters.now ≡ 5161 }
+    ensures value { Gives (λ _. values_in values.new) result (values_on (held parameters.now) line.now) }
+    ensures not_memory { IfErr result (λ e. e ≢ EvalFault.Memory) }
+{
+    match words_of(parameters, line, &mut values.words) {
+        Ok(()) => changes_of_line(parameters, line, &mut values.changes),
+        Err(fault) => Err(fault),
+    }
+}
+
+impl LineValues {
+    /// The values of no line yet.
+    pub fn empty() -> LineValues
+        ensures { values_in result ≡ ([], []) }
+    {
+        LineValues {
+            words: ArrayVec::new(),
+            changes: Changes {
+                settings: ArrayVec::new(),
+            },
+        }
+    }
+}
+
+impl<A: Allocator> Store<A> {
+    /// Room for all parameters, each 0.
+    pub fn new(alloc: A) -> Result<Store<A>, EvalFault>
+        ensures zero { IfOk result (λ s. (k : ℕ) → parameters_of s k ≡ pos 0) }
+        ensures refused { IfErr result (λ e. e ≡ EvalFault.Memory) }
+    {
+        let mut values = match Vec::with_capacity(alloc, COUNT) {
+            Ok(values) => values,
+            Err(_) => return Err(EvalFault::Memory),
+        };
+        while values.len() < COUNT {
+            if values.push(Value::zero()).is_err() {
+                return Err(EvalFault::Memory);
+            }
+        }
+        Ok(Store { values })
+    }
+
+    /// The values of a line's words, and what its settings do, in place of what `values` holds. All are found from what the
+    /// parameters hold now. After a fault what `values` holds is unspecified.
+    pub fn read(&self, line: &Line, values: &mut LineValues) -> Result<(), EvalFault>
+        ensures value { (bytes : List ℕ) (r : Reading) → Holds bytes line.now r → AllWithinLimit r.items → Gives (λ _. values_in values.new) result (line_values (parameters_of self.now) r.items) }
+        ensures not_memory { IfErr result (λ e. e ≢ EvalFault.Memory) }
+    {
+        line_of(self.values.as_slice(), line, values)
+    }
+
+    /// The values of a line's words, and what its settings do. All are found from what the parameters hold now.
+    pub fn words(&self, line: &Line) -> Result<(ArrayVec<Word, 64>, Changes), EvalFault>
+        ensures value { (bytes : List ℕ) (r : Reading) → Holds bytes line.now r → AllWithinLimit r.items → Gives (λ x. (pairs_of x.0.items, changes_of x.1)) result (line_values (parameters_of self.now) r.items) }
+        ensures not_memory { IfErr result (λ e. e ≢ EvalFault.Memory) }
+    {
+        let mut values = LineValues::empty();
+        match self.read(line, &mut values) {
+            Ok(()) => {
+                let LineValues { words, changes } = values;
+                Ok((words, changes))
+            }
+            Err(fault) => Err(fault),
+        }
+    }
+
+    #[tactic(auto, using(crate::proofs::StoredSteps::changed))]
+    fn change(&mut self, change: Change)
+        ensures { (k : ℕ) → parameters_of self.new k ≡ (if k == change.index then change.value else parameters_of self.old k) }
+    {
+        self.values[change.index] = change.value;
+    }
+
+    /// Makes the changes, from left to right, so that the last of one parameter counts.
+    pub fn make(&mut self, changes: &Changes)
+        ensures { (k : ℕ) → parameters_of self.new k ≡ after_settings (changes_of changes.now) (parameters_of self.old) k }
+    {
+        for change in changes.settings.as_slice() {
+            self.change(*change);
+        }
+    }
+
+    /// Makes the changes, from left to right, so that the last of one parameter counts.
+    pub fn apply(&mut self, changes: Changes)
+        ensures { (k : ℕ) → parameters_of self.new k ≡ after_settings (changes_of changes) (parameters_of self.old) k }
+    {
+        self.make(&changes);
+    }
+}

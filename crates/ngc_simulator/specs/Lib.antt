@@ -1,0 +1,17 @@
+pub mod Commands
+pub mod Listing
+pub mod Codes
+pub mod Block
+pub mod BlockWords
+pub mod Effects
+pub mod Machine
+pub mod Tools
+pub mod Steps
+pub mod State
+pub mod Perform
+pub mod Meaning
+pub mod Interpreter
+pub mod Faults
+pub mod Lists
+pub mod Status
+pub mod Answers

@@ -1,0 +1,87 @@
+//! What the program tells of a fault.
+ghost use Rattle.std.specs.Prelude.{◌≡◌, ◌+◌, ◌≤◌, ◌++◌, length, decimal, codes};
+ghost use Rattle.ngc_output.specs.Collected.{CHUNK_SIZE};
+ghost use Rattle.ngc_simulator.specs.Faults.{list_number, list_place, fault_line, list_status, read_place, read_status, program_place};
+
+use crate::fault::ProgramFault;
+use crate::lister::ListFault;
+use ngc_line_reader::ReadFault;
+use ngc_output::Chunk;
+
+impl ListFault {
+    /// The fault's number.
+    pub fn number(&self) -> u16
+        ensures { result ≡ list_number self.now }
+    {
+        match self {
+            ListFault::Read(fault) => fault.number(),
+            ListFault::Program(fault) => fault.number(),
+            ListFault::Write(fault) => fault.number(),
+        }
+    }
+
+    /// The exit status: 1 for input, output and memory, 3 for a program that is refused.
+    pub fn status(&self) -> u8
+        ensures { result ≡ list_status self.now }
+    {
+        match self {
+            ListFault::Read(fault) => status_of_reading(fault),
+            ListFault::Program(ProgramFault::At { .. }) => 3,
+            ListFault::Program(ProgramFault::Memory) => 1,
+            ListFault::Write(_) => 1,
+        }
+    }
+}
+
+fn status_of_reading(fault: &ReadFault) -> u8
+    ensures { result ≡ read_status fault.now }
+{
+    match fault {
+        ReadFault::Line(..) | ReadFault::NoEnd | ReadFault::TooManyLines => 3,
+        ReadFault::Memory | ReadFault::Device => 1,
+    }
+}
+
+fn add_line_number(chunk: &mut Chunk, line: u32)
+    requires { length chunk.old + 50 ≤ CHUNK_SIZE }
+    ensures text { chunk.new ≡ chunk.old ++ codes " line " ++ decimal line }
+    ensures short { length chunk.new ≤ length chunk.old + 46 }
+{
+    chunk.add_text(b" line ");
+    chunk.add_number(line);
+}
+
+fn add_reading_place(chunk: &mut Chunk, fault: &ReadFault)
+    requires { length chunk.old + 150 ≤ CHUNK_SIZE }
+    ensures text { chunk.new ≡ chunk.old ++ read_place fault.now }
+    ensures short { length chunk.new ≤ length chunk.old + 100 }
+{
+    if let ReadFault::Line(line, fault) = fault {
+        add_line_number(chunk, *line);
+        chunk.add_text(b" column ");
+        chunk.add_number(fault.column);
+    }
+}
+
+fn add_place(chunk: &mut Chunk, fault: &ListFault)
+    requires { length chunk.old + 150 ≤ CHUNK_SIZE }
+    ensures text { chunk.new ≡ chunk.old ++ list_place fault.now }
+    ensures short { length chunk.new ≤ length chunk.old + 100 }
+{
+    match fault {
+        ListFault::Read(fault) => add_reading_place(chunk, fault),
+        ListFault::Program(ProgramFault::At { line, .. }) => add_line_number(chunk, *line),
+        ListFault::Program(ProgramFault::Memory) | ListFault::Write(_) => {}
+    }
+}
+
+/// The line that tells a fault on standard error.
+pub(crate) fn add_fault_line(chunk: &mut Chunk, fault: &ListFault)
+    requires { length chunk.old + 250 ≤ CHUNK_SIZE }
+    ensures { chunk.new ≡ chunk.old ++ fault_line fault.now }
+{
+    chunk.add_text(b"ngc: fault ");
+    chunk.add_number(fault.number());
+    add_place(chunk, fault);
+    chunk.add_text(b"\n");
+}
