@@ -163,7 +163,10 @@ fn text_of_faults(rt: HostRuntime) -> Result<(), Fail> {
         },
     );
     let line = format!(in rt.alloc(); "{fault}")?;
-    assert_eq!(rt; line.as_str(), "line 7: line too long in column 257");
+    assert_eq!(rt;
+        line.as_str(),
+        "line 7: line longer than 256 characters, column 257"
+    );
     let end = format!(in rt.alloc(); "{}", ReadFault::NoEnd)?;
     assert_eq!(rt; end.as_str(), "second percent line missing");
     Ok(())
