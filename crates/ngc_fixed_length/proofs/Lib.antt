@@ -1,3 +1,4 @@
 pub mod GridLemmas
 pub mod Nearest
 pub mod Appended
+pub mod RootLaws

@@ -7,3 +7,7 @@ pub mod Limits
 pub mod Failures
 pub mod Device
 pub mod Written
+pub mod Signed
+pub mod Places
+pub mod Roots
+pub mod Boxes

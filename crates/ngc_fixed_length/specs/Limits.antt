@@ -42,6 +42,10 @@ product x y = limited (nearest (x *ℤ y) (pos MILLION))
 abbrev pub quotient : ℤ → ℤ → Result ℤ NumberFault
 quotient x y = if unsigned_abs y == 0 then Err DivisionByZero else limited (nearest (x *ℤ pos MILLION) y)
 
--- the length of so many millionths of a unit, to the nearest nanometre, or too large
+-- so many millionths of a unit, to the nearest nanometre
+abbrev pub nanometres_of : Units → ℤ → ℤ
+nanometres_of units value = nearest (value *ℤ nanometres_in units) (pos MILLION)
+
+-- a length, or too large
 abbrev pub length_of : Units → ℤ → Result ℤ NumberFault
-length_of units value = within LENGTH_LIMIT (nearest (value *ℤ nanometres_in units) (pos MILLION))
+length_of units value = within LENGTH_LIMIT (nanometres_of units value)

@@ -1,4 +1,4 @@
-ghost use Rattle.std.specs.Prelude.{◌≡◌, ◌≤◌, ℤ, unsigned_abs};
+ghost use Rattle.std.specs.Prelude.{◌≡◌, ◌≤◌, ℤ, pos, unsigned_abs};
 ghost use Rattle.ngc_fixed_length.specs.NumberFault.{within};
 ghost use Rattle.ngc_fixed_length.specs.Rounding.{nearest};
 ghost use Rattle.ngc_fixed_length.specs.Length.{IsStep};
@@ -24,6 +24,14 @@ impl Model for Nm {
     ghost inverse = { λ z. record { nanometres = z } };
 }
 
+impl Default for Nm {
+    ghost is_default = { λ l. l ≡ pos 0 };
+
+    fn default() -> Nm {
+        Nm::zero()
+    }
+}
+
 impl Nm {
     /// A number of nanometres as a length, or `TooLarge` above 10^11 in size.
     pub fn from_nanometres(nanometres: i128) -> Result<Nm, NumberFault>
@@ -36,6 +44,13 @@ impl Nm {
         } else {
             Err(NumberFault::TooLarge)
         }
+    }
+
+    /// The length 0.
+    pub fn zero() -> Nm
+        ensures { result ≡ pos 0 }
+    {
+        Nm { nanometres: 0 }
     }
 
     /// The number of nanometres.

@@ -4,6 +4,7 @@
 mod device;
 mod fault;
 mod length;
+mod modes;
 mod points;
 mod roots;
 mod rounding;
@@ -14,6 +15,7 @@ mod writing;
 pub use device::{Device, DeviceFault, Sink, Source};
 pub use fault::NumberFault;
 pub use length::Nm;
+pub use modes::{Distance, FeedMode, Plane, ReturnMode, System, Turn};
 pub use points::{GridBox, Point2, Point3, StepPos};
 pub use roots::{root_ceil, root_floor};
 pub use units::Units;

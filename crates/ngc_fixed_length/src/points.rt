@@ -1,9 +1,10 @@
 ghost use Rattle.std.specs.Prelude.{◌≡◌, ◌≤ℤ◌};
 
 use crate::length::Nm;
+use crate::modes::Plane;
 
 /// A point of a plane, by the plane's axes u and v.
-#[derive(Clone, Copy, Debug, PartialEq, Eq)]
+#[derive(Clone, Copy, Debug, Default, PartialEq, Eq)]
 pub struct Point2 {
     pub u: Nm,
     pub v: Nm,
@@ -38,6 +39,30 @@ pub struct GridBox {
 impl Point3 {
     ghost use Rattle.ngc_fixed_length.specs.Length.{IsStep};
     ghost use Rattle.ngc_fixed_length.specs.Grid.{grid, IsInRange};
+    ghost use Rattle.ngc_fixed_length.specs.Places.{in_plane, height};
+
+    /// The point as a plane sees it, without its height.
+    pub fn in_plane(&self, plane: Plane) -> Point2
+        ensures { result ≡ in_plane plane self.now }
+    {
+        let (u, v) = match plane {
+            Plane::XY => (self.x, self.y),
+            Plane::ZX => (self.z, self.x),
+            Plane::YZ => (self.y, self.z),
+        };
+        Point2 { u, v }
+    }
+
+    /// The coordinate on the axis that stands on a plane: Z, Y or X.
+    pub fn height(&self, plane: Plane) -> Nm
+        ensures { result ≡ height plane self.now }
+    {
+        match plane {
+            Plane::XY => self.z,
+            Plane::ZX => self.y,
+            Plane::YZ => self.x,
+        }
+    }
 
     /// The nearest grid point.
     pub fn to_grid(&self, step: Nm) -> StepPos
@@ -50,6 +75,23 @@ impl Point3 {
             y: self.y.to_grid(step),
             z: self.z.to_grid(step),
         }
+    }
+}
+
+impl Point2 {
+    ghost use Rattle.ngc_fixed_length.specs.Places.{at_height};
+
+    /// The point of the machine that lies so high above this point of a plane.
+    pub fn at_height(&self, plane: Plane, height: Nm) -> Point3
+        ensures { result ≡ at_height plane self.now height }
+    {
+        let Point2 { u, v } = *self;
+        let (x, y, z) = match plane {
+            Plane::XY => (u, v, height),
+            Plane::ZX => (v, height, u),
+            Plane::YZ => (height, u, v),
+        };
+        Point3 { x, y, z }
     }
 }
 

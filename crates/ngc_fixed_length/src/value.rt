@@ -1,5 +1,5 @@
 ghost use Rattle.std.specs.Prelude.{◌≡◌, ◌≤◌, ℤ, pos, unsigned_abs};
-ghost use Rattle.ngc_fixed_length.specs.Limits.{IsValue, limited, sum, difference, product, quotient, length_of};
+ghost use Rattle.ngc_fixed_length.specs.Limits.{IsValue, limited, sum, difference, product, quotient, nanometres_of, length_of};
 
 use crate::fault::NumberFault;
 use crate::length::Nm;
@@ -85,11 +85,20 @@ impl Value {
         Value::from_millionths(rounded_quotient(dividend, i128::from(other.millionths)))
     }
 
+    /// So many units in nanometres, to the nearest one, ties away from zero. A feed, in nanometres a minute, has no other
+    /// bound than a value's.
+    pub fn nanometres(self, units: Units) -> i64
+        ensures value { result ≡ nanometres_of units self }
+        ensures bound { unsigned_abs result ≤ 25400000000000000 }
+    {
+        let product = i128::from(self.millionths) * units.nanometres();
+        rounded_quotient(product, 1_000_000) as i64
+    }
+
     /// The length of so many units to the nearest nanometre, ties away from zero, or `TooLarge` above 10^11 nm.
     pub fn to_nm(self, units: Units) -> Result<Nm, NumberFault>
         ensures { result ≡ length_of units self }
     {
-        let product = i128::from(self.millionths) * units.nanometres();
-        Nm::from_nanometres(rounded_quotient(product, 1_000_000))
+        Nm::from_nanometres(i128::from(self.nanometres(units)))
     }
 }
