@@ -1,0 +1,30 @@
+-- Changes and places that may be refused, and the numbers of the faults. Our own.
+use Rattle.std.specs.Prelude.{ℕ, ◌≡◌, ℤ, Result, Ok, Err, if◌then◌else◌}
+use Rattle.ngc_fixed_length.specs.Signed.{is_within}
+use Rattle.ngc_offsets.specs.declared.fault.FrameFault.{FrameFault}
+use Rattle.ngc_offsets.specs.declared.fault.FrameFault.TheVariants.{BeyondRange, NoSuchTool}
+use Rattle.ngc_offsets.specs.Ranges.{COORDINATE_LIMIT, OFFSET_LIMIT}
+
+infixl 10 ◌>>=◌
+abbrev pub ◌>>=◌ : {A B : Type 0} → Result A FrameFault → (A → Result B FrameFault) → Result B FrameFault
+(Ok x) >>= f = f x
+(Err e) >>= f = Err e
+
+-- a length whose size is at most the limit
+abbrev pub limited : ℕ → ℤ → Result ℤ FrameFault
+limited limit l = if is_within limit l then Ok l else Err BeyondRange
+
+abbrev pub coordinate : ℤ → Result ℤ FrameFault
+coordinate c = limited COORDINATE_LIMIT c
+
+abbrev pub offset : ℤ → Result ℤ FrameFault
+offset o = limited OFFSET_LIMIT o
+
+abbrev pub number_of : FrameFault → ℕ
+number_of BeyondRange = 221
+number_of NoSuchTool = 222
+
+-- a change was made as the definition says, or refused, and then nothing changed
+abbrev pub Becomes : {A : Type 0} → Result (Unit {0}) FrameFault → A → A → Result A FrameFault → Type 0
+Becomes (Ok u) old new says = says ≡ Ok new
+Becomes (Err e) old new says = (says ≡ Err e) × (new ≡ old)

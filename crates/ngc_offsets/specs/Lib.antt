@@ -1,0 +1,5 @@
+pub mod Offsets
+pub mod Ranges
+pub mod Faults
+pub mod Frames
+pub mod Given

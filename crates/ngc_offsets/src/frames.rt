@@ -1,0 +1,279 @@
+ghost use Rattle.std.specs.Prelude.{◌≡◌, ◌<◌, ◌-ℤ◌, All, IfOk};
+ghost use Rattle.ngc_fixed_length.specs.Places.{zero_point};
+ghost use Rattle.ngc_offsets.specs.Ranges.{OFFSET_LIMIT, SHIFT_LIMIT, AreInRange, IsOffset, IsWithin, IsMachinePlace, IsProgrammedPlace};
+ghost use Rattle.ngc_offsets.specs.Faults.{Becomes, offset as offset_in};
+ghost use Rattle.ngc_offsets.specs.Frames.{index, on_axis, new_origin as origin_after, new_axis as axis_after, left_over as left_over_of};
+
+use crate::fault::FrameFault;
+use crate::given::{AxisLengths, given_place};
+use crate::range::{coordinate, minus, offset, plus, sum};
+use ngc_fixed_length::{Distance, Nm, Point3, System};
+use std::marker::Model;
+
+/// Where programmed coordinates lie in the machine: the origins of the nine coordinate systems, which of them is active,
+/// the axis offset in force and the one that G92 saved, and the tool length offset, on Z. Each is at most 4*10^9 nm in
+/// size.
+#[derive(Clone, Copy, Debug, PartialEq, Eq)]
+pub struct Frames {
+    pub origins: [Point3; 9],
+    pub active: System,
+    pub axis: Point3,
+    pub saved: Point3,
+    pub length: Nm,
+}
+
+impl Model for Frames {
+    ghost use Rattle.ngc_offsets.specs.Offsets.{Offsets};
+    ghost use Rattle.ngc_offsets.specs.Ranges.{AreInRange};
+
+    ghost Value = { Offsets };
+
+    ghost view = { λ f. record { origins = f.origins; active = f.active; axis = f.axis; saved = f.saved; length = f.length } };
+
+    ghost invariant = { λ f. AreInRange (record { origins = f.origins; active = f.active; axis = f.axis; saved = f.saved; length = f.length }) };
+
+    ghost inverse = { λ f. record { origins = f.origins; active = f.active; axis = f.axis; saved = f.saved; length = f.length } };
+}
+
+fn index_of(system: System) -> usize
+    ensures value { result ≡ index system }
+    ensures nine { result < 9 }
+{
+    match system {
+        System::First => 0,
+        System::Second => 1,
+        System::Third => 2,
+        System::Fourth => 3,
+        System::Fifth => 4,
+        System::Sixth => 5,
+        System::Seventh => 6,
+        System::Eighth => 7,
+        System::Ninth => 8,
+    }
+}
+
+fn zero() -> Point3
+    ensures { result ≡ zero_point }
+{
+    Point3 {
+        x: Nm::zero(),
+        y: Nm::zero(),
+        z: Nm::zero(),
+    }
+}
+
+// The coordinates of an origin after G10, of which a missing one stays.
+fn new_origin(had: &Point3, given: &AxisLengths) -> Result<Point3, FrameFault>
+    requires { IsWithin OFFSET_LIMIT had.now }
+    ensures value { result ≡ origin_after had.now given.now }
+    ensures range { IfOk result (IsWithin OFFSET_LIMIT) }
+{
+    let x = new_coordinate(had.x, given.x)?;
+    let y = new_coordinate(had.y, given.y)?;
+    let z = new_coordinate(had.z, given.z)?;
+    Ok(Point3 { x, y, z })
+}
+
+fn new_coordinate(had: Nm, given: Option<Nm>) -> Result<Nm, FrameFault>
+    requires { IsOffset had }
+    ensures value { result ≡ on_axis offset_in had given }
+    ensures range { IfOk result IsOffset }
+{
+    match given {
+        None => Ok(had),
+        Some(length) => offset(length.nanometres()),
+    }
+}
+
+// The axis offset after G92, by which a machine place gets the coordinates given; a missing one stays.
+fn new_axis(
+    place: &Point3,
+    base: &Point3,
+    had: &Point3,
+    given: &AxisLengths,
+) -> Result<Point3, FrameFault>
+    requires { IsWithin OFFSET_LIMIT had.now }
+    ensures value { result ≡ axis_after place.now base.now had.now given.now }
+    ensures range { IfOk result (IsWithin OFFSET_LIMIT) }
+{
+    let x = new_offset(place.x, base.x, had.x, given.x)?;
+    let y = new_offset(place.y, base.y, had.y, given.y)?;
+    let z = new_offset(place.z, base.z, had.z, given.z)?;
+    Ok(Point3 { x, y, z })
+}
+
+fn new_offset(place: Nm, base: Nm, had: Nm, given: Option<Nm>) -> Result<Nm, FrameFault>
+    requires { IsOffset had }
+    ensures value { result ≡ on_axis (left_over_of place base) had given }
+    ensures range { IfOk result IsOffset }
+{
+    match given {
+        None => Ok(had),
+        Some(length) => left_over(place, base, length),
+    }
+}
+
+// By how many nanometres a place is beyond its base and a coordinate.
+fn excess(place: Nm, base: Nm, coordinate: Nm) -> i64
+    ensures { result ≡ place -ℤ base -ℤ coordinate }
+{
+    let rest = place.nanometres() - base.nanometres();
+    rest - coordinate.nanometres()
+}
+
+// The axis offset by which a machine place gets a coordinate.
+fn left_over(place: Nm, base: Nm, length: Nm) -> Result<Nm, FrameFault>
+    ensures value { result ≡ left_over_of place base length }
+    ensures range { IfOk result IsOffset }
+{
+    let coordinate = coordinate(length.nanometres())?;
+    offset(excess(place, base, coordinate))
+}
+
+impl Frames {
+    ghost use Rattle.ngc_offsets.specs.Frames.{start_frames, base_of, shift_of, to_machine, to_program, IsReachable, set_origin, set_axis, clear, suspend, restore, set_length, select};
+    ghost use Rattle.ngc_offsets.specs.Given.{target};
+
+    /// The frames at a program's start: the first system is active, and there is no offset.
+    pub fn new(origins: &[Point3; 9]) -> Frames
+        requires { All (IsWithin OFFSET_LIMIT) origins.now }
+        ensures { result ≡ start_frames origins.now }
+    {
+        let mut nine = [zero(); 9];
+        nine.copy_from_slice(origins);
+        Frames {
+            origins: nine,
+            active: System::First,
+            axis: zero(),
+            saved: zero(),
+            length: Nm::zero(),
+        }
+    }
+
+    // What lies between programmed places and the machine's, without the axis offset.
+    fn base(&self) -> Point3
+        ensures value { result ≡ base_of self.now }
+        ensures range { IsWithin 8000000000 result }
+    {
+        let origin = &self.origins[index_of(self.active)];
+        Point3 {
+            x: origin.x,
+            y: origin.y,
+            z: sum(origin.z, self.length),
+        }
+    }
+
+    // What lies between programmed places and the machine's.
+    fn shift(&self) -> Point3
+        ensures value { result ≡ shift_of self.now }
+        ensures range { IsWithin SHIFT_LIMIT result }
+        ensures offsets { AreInRange self.now }
+    {
+        plus(&self.base(), &self.axis)
+    }
+
+    /// The machine place of a programmed one: it is offset by the active system's origin, the axis offset and, on Z, the
+    /// tool length offset. NISTIR 6556, 3.2.2.
+    pub fn to_machine(&self, place: Point3) -> Point3
+        requires { IsReachable self.now place }
+        ensures { result ≡ to_machine self.now place }
+    {
+        plus(&place, &self.shift())
+    }
+
+    /// The programmed place of the machine's.
+    pub fn to_program(&self, place: Point3) -> Point3
+        requires { IsMachinePlace place }
+        ensures value { result ≡ to_program self.now place }
+        ensures range { IsProgrammedPlace result }
+        ensures reachable { IsReachable self.now result }
+        ensures offsets { AreInRange self.now }
+    {
+        minus(&place, &self.shift())
+    }
+
+    /// The machine place that a line's lengths give, from the machine place where it begins. After G91 they are added to the
+    /// programmed current point. `BeyondRange` where a programmed coordinate that they give is over 10^9 nm in size.
+    /// NISTIR 6556, 3.5.17.
+    pub fn target(
+        &self,
+        distance: Distance,
+        place: Point3,
+        given: &AxisLengths,
+    ) -> Result<Point3, FrameFault>
+        requires { IsMachinePlace place }
+        ensures value { result ≡ target distance self.now place given.now }
+        ensures range { IfOk result IsMachinePlace }
+    {
+        let shift = self.shift();
+        let programmed = given_place(distance, &minus(&place, &shift), given)?;
+        Ok(plus(&programmed, &shift))
+    }
+
+    /// G10 L2: sets a system's origin on the axes given. `BeyondRange` where a length is over 4*10^9 nm in size; the frames
+    /// are then unchanged. NISTIR 6556, 3.5.5.
+    pub fn set_origin(&mut self, system: System, given: &AxisLengths) -> Result<(), FrameFault>
+        ensures { Becomes result self.old self.new (set_origin self.old system given.now) }
+    {
+        let index = index_of(system);
+        let origin = new_origin(&self.origins[index], given)?;
+        self.origins[index] = origin;
+        Ok(())
+    }
+
+    /// G92: makes the machine place have the programmed coordinates given, by the axis offset, which is saved too.
+    /// `BeyondRange` where a coordinate is over 10^9 nm in size or an offset over 4*10^9 nm; the frames are then unchanged.
+    /// NISTIR 6556, 3.5.18.
+    pub fn set_axis(&mut self, place: Point3, given: &AxisLengths) -> Result<(), FrameFault>
+        ensures { Becomes result self.old self.new (set_axis self.old place given.now) }
+    {
+        let base = self.base();
+        let axis = new_axis(&place, &base, &self.axis, given)?;
+        self.axis = axis;
+        self.saved = self.axis;
+        Ok(())
+    }
+
+    /// G43 with the offset of its tool, or G49 and H0 with 0. `NoSuchTool` where there is none, `BeyondRange` over 4*10^9 nm
+    /// in size; the frames are then unchanged. NISTIR 6556, 3.5.11.
+    pub fn set_length(&mut self, length: Option<Nm>) -> Result<(), FrameFault>
+        ensures { Becomes result self.old self.new (set_length self.old length) }
+    {
+        match length {
+            None => Err(FrameFault::NoSuchTool),
+            Some(length) => {
+                self.length = offset(length.nanometres())?;
+                Ok(())
+            }
+        }
+    }
+
+    /// G92.1: clears the axis offset, and the saved one.
+    pub fn clear(&mut self)
+        ensures { self.new ≡ clear self.old }
+    {
+        self.suspend();
+        self.saved = zero();
+    }
+
+    /// G92.2: clears the axis offset, and keeps the saved one.
+    pub fn suspend(&mut self)
+        ensures { self.new ≡ suspend self.old }
+    {
+        self.axis = zero();
+    }
+
+    /// G92.3: brings the saved axis offset back.
+    pub fn restore(&mut self)
+        ensures { self.new ≡ restore self.old }
+    {
+        self.axis = self.saved;
+    }
+
+    /// G54 to G59.3: selects a coordinate system.
+    pub fn select(&mut self, system: System)
+        ensures { self.new ≡ select self.old system }
+    {
+        self.active = system;
+    }
+}

@@ -1,0 +1,54 @@
+ghost use Rattle.std.specs.Prelude.{◌≡◌, IfOk};
+ghost use Rattle.ngc_offsets.specs.Ranges.{IsMachinePlace, IsKeptOrGiven, IsReachedFrom};
+ghost use Rattle.ngc_offsets.specs.Given.{given_on_axis as on_axis, given_place as place_given, machine_target as target_in_machine};
+
+use crate::fault::FrameFault;
+use crate::range::coordinate;
+use ngc_fixed_length::{Distance, Nm, Point3};
+
+/// The lengths that a line gives for X, Y and Z.
+#[derive(Clone, Copy, Debug, PartialEq, Eq)]
+pub struct AxisLengths {
+    pub x: Option<Nm>,
+    pub y: Option<Nm>,
+    pub z: Option<Nm>,
+}
+
+// The coordinate on one axis: a missing word keeps its place.
+fn given_on_axis(distance: Distance, current: Nm, given: Option<Nm>) -> Result<Nm, FrameFault>
+    ensures value { result ≡ on_axis distance current given }
+    ensures range { IfOk result (λ c. IsKeptOrGiven current c) }
+{
+    match given {
+        None => Ok(current),
+        Some(length) => match distance {
+            Distance::Absolute => coordinate(length.nanometres()),
+            Distance::Incremental => coordinate(current.nanometres() + length.nanometres()),
+        },
+    }
+}
+
+/// The place that a line's lengths give from a current place; a missing length keeps its coordinate.
+pub(crate) fn given_place(
+    distance: Distance,
+    current: &Point3,
+    given: &AxisLengths,
+) -> Result<Point3, FrameFault>
+    ensures value { result ≡ place_given distance current.now given.now }
+    ensures range { IfOk result (IsReachedFrom current.now) }
+{
+    let x = given_on_axis(distance, current.x, given.x)?;
+    let y = given_on_axis(distance, current.y, given.y)?;
+    let z = given_on_axis(distance, current.z, given.z)?;
+    Ok(Point3 { x, y, z })
+}
+
+/// The machine place that a line gives with G53, from the machine place where it begins: its lengths are machine
+/// coordinates whatever the distance mode, with no origin, offset or tool length. `BeyondRange` where one is over 10^9 nm
+/// in size. NISTIR 6556, 3.5.12.
+pub fn machine_target(place: Point3, given: &AxisLengths) -> Result<Point3, FrameFault>
+    ensures value { result ≡ target_in_machine place given.now }
+    ensures range { IsMachinePlace place → IfOk result IsMachinePlace }
+{
+    given_place(Distance::Absolute, &place, given)
+}

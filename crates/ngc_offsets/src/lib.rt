@@ -1,0 +1,14 @@
+//! Coordinate systems, axis offsets and tool length: where programmed coordinates lie in the machine.
+#![tactic(auto)]
+
+mod fault;
+mod frames;
+mod given;
+mod range;
+
+pub use fault::FrameFault;
+pub use frames::Frames;
+pub use given::{AxisLengths, machine_target};
+
+#[cfg(test)]
+mod tests;

@@ -1,0 +1,83 @@
+ghost use Rattle.std.specs.Prelude.{◌≡◌, ◌≤◌, ◌+ℤ◌, ◌-ℤ◌, unsigned_abs, IfOk};
+ghost use Rattle.ngc_fixed_length.specs.Limits.{IsLength, LENGTH_LIMIT};
+ghost use Rattle.ngc_fixed_length.specs.Places.{IsPlace, plus as sum_of, minus as difference_of};
+ghost use Rattle.ngc_offsets.specs.Ranges.{IsCoordinate, IsOffset};
+ghost use Rattle.ngc_offsets.specs.Faults.{limited as limited_to, coordinate as coordinate_in, offset as offset_in};
+
+use crate::fault::FrameFault;
+use ngc_fixed_length::{Nm, Point3};
+
+const COORDINATE: u64 = 1_000_000_000;
+
+const OFFSET: u64 = 4_000_000_000;
+
+// A length whose size is at most the limit.
+fn limited(limit: u64, nanometres: i64) -> Result<Nm, FrameFault>
+    requires { limit ≤ LENGTH_LIMIT }
+    ensures value { result ≡ limited_to limit nanometres }
+    ensures range { IfOk result (λ l. unsigned_abs l ≤ limit) }
+{
+    if nanometres.unsigned_abs() > limit {
+        return Err(FrameFault::BeyondRange);
+    }
+    match Nm::from_nanometres(i128::from(nanometres)) {
+        Ok(length) => Ok(length),
+        Err(_) => Err(FrameFault::BeyondRange),
+    }
+}
+
+/// A coordinate that words give, or `BeyondRange` over 10^9 nm in size.
+pub(crate) fn coordinate(nanometres: i64) -> Result<Nm, FrameFault>
+    ensures value { result ≡ coordinate_in nanometres }
+    ensures range { IfOk result IsCoordinate }
+{
+    limited(COORDINATE, nanometres)
+}
+
+/// An origin or an offset, or `BeyondRange` over 4*10^9 nm in size.
+pub(crate) fn offset(nanometres: i64) -> Result<Nm, FrameFault>
+    ensures value { result ≡ offset_in nanometres }
+    ensures range { IfOk result IsOffset }
+{
+    limited(OFFSET, nanometres)
+}
+
+/// The sum of two lengths.
+pub(crate) fn sum(a: Nm, b: Nm) -> Nm
+    requires { IsLength (a +ℤ b) }
+    ensures { result ≡ a +ℤ b }
+{
+    Nm::from_nanometres(i128::from(a.nanometres() + b.nanometres())).unwrap()
+}
+
+// What the first length has beyond the second.
+fn difference(a: Nm, b: Nm) -> Nm
+    requires { IsLength (a -ℤ b) }
+    ensures { result ≡ a -ℤ b }
+{
+    Nm::from_nanometres(i128::from(a.nanometres() - b.nanometres())).unwrap()
+}
+
+/// The sum of two points, axis by axis.
+pub(crate) fn plus(p: &Point3, q: &Point3) -> Point3
+    requires { IsPlace (sum_of p.now q.now) }
+    ensures { result ≡ sum_of p.now q.now }
+{
+    Point3 {
+        x: sum(p.x, q.x),
+        y: sum(p.y, q.y),
+        z: sum(p.z, q.z),
+    }
+}
+
+/// The difference of two points, axis by axis.
+pub(crate) fn minus(p: &Point3, q: &Point3) -> Point3
+    requires { IsPlace (difference_of p.now q.now) }
+    ensures { result ≡ difference_of p.now q.now }
+{
+    Point3 {
+        x: difference(p.x, q.x),
+        y: difference(p.y, q.y),
+        z: difference(p.z, q.z),
+    }
+}
