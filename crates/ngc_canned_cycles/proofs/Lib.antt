@@ -1,0 +1,3 @@
+pub mod Pecks
+pub mod Range
+pub mod Reach

@@ -1,0 +1,16 @@
+//! Canned cycles: the moves by which holes are drilled, pecked and bored.
+#![tactic(auto)]
+
+mod cycle;
+mod fault;
+mod heights;
+mod holes;
+mod moves;
+mod refusals;
+
+pub use cycle::{Cycle, CycleMove, Hole, Site, Start};
+pub use fault::CycleFault;
+pub use moves::{expand, fill};
+
+#[cfg(test)]
+mod tests;

@@ -1,0 +1,96 @@
+ghost use Rattle.std.specs.Prelude.{◌≡◌, ◌≢◌, ◌≤◌, ◌+◌, ◌++◌, Err, IfOk};
+ghost use Rattle.smallvec.specs.SmallVec.{HasRoomFor, small_vec_len};
+ghost use Rattle.ngc_canned_cycles.specs.Faults.{Gives};
+ghost use Rattle.ngc_canned_cycles.specs.Heights.{site_of, retract_of, AreLengths};
+ghost use Rattle.ngc_canned_cycles.specs.Moves.{first_rise, arrival as arrival_of, expand as expanded, move_limit};
+ghost use Rattle.ngc_canned_cycles.specs.Reach.{StaysInReach};
+
+use crate::cycle::{Cycle, CycleMove, Site, Start};
+use crate::fault::CycleFault;
+use crate::heights::{higher, is_below};
+use crate::holes::add;
+use ngc_fixed_length::Nm;
+use smallvec::SmallVec;
+use std::alloc::Allocator;
+
+impl Cycle {
+    // Once for a line: up to R, where the height before is below it.
+    fn add_first_rise<A: Allocator>(
+        &self,
+        moves: &mut SmallVec<CycleMove, 16, A>,
+        start: &Start,
+        retract: Nm,
+        repeat: u16,
+    )
+        requires retract { retract ≡ retract_of self.now start.now }
+        requires room { HasRoomFor moves.old 1 }
+        ensures items { moves.new.items ≡ moves.old.items ++ first_rise self.now start.now repeat }
+        ensures len { small_vec_len moves.new ≤ small_vec_len moves.old + 1 }
+        ensures capacity { moves.new.capacity ≡ moves.old.capacity }
+    {
+        if repeat == 1 && is_below(start.place.height(self.plane), retract) {
+            let place = start.place.in_plane(self.plane);
+            add(
+                moves,
+                CycleMove::Traverse(place.at_height(self.plane, retract)),
+            );
+        }
+    }
+
+    // The height at which a repeat comes to its place.
+    fn arrival(&self, start: &Start, site: &Site, repeat: u16) -> Nm
+        requires { site.now ≡ site_of self.now start.now repeat }
+        ensures { result ≡ arrival_of self.now start.now repeat }
+    {
+        if repeat == 1 {
+            higher(start.place.height(self.plane), site.retract)
+        } else {
+            site.clear
+        }
+    }
+}
+
+/// The moves of a repeat, counted from 1; the first traverse to R belongs to repeat 1. Refused as by `Cycle::check`, or with
+/// `Memory`. NISTIR 6556, 3.5.16.
+pub fn expand<A: Allocator + Copy>(
+    alloc: A,
+    cycle: &Cycle,
+    start: &Start,
+    repeat: u16,
+) -> Result<SmallVec<CycleMove, 16, A>, CycleFault>
+    requires { AreLengths cycle.now start.now repeat }
+    ensures value { Gives (λ v. v.items) result (expanded cycle.now start.now repeat) }
+    ensures room { move_limit cycle.now start.now ≤ 16 → result ≢ Err CycleFault.Memory }
+    ensures reach { IfOk result (λ v. StaysInReach cycle.now start.now repeat v.items) }
+{
+    let mut moves = SmallVec::new(alloc);
+    fill(&mut moves, cycle, start, repeat)?;
+    Ok(moves)
+}
+
+/// The same in room that is there already, for a caller that makes all repeats: the moves take the place of what `moves`
+/// held. After a refusal it may hold anything.
+pub fn fill<A: Allocator + Copy>(
+    moves: &mut SmallVec<CycleMove, 16, A>,
+    cycle: &Cycle,
+    start: &Start,
+    repeat: u16,
+) -> Result<(), CycleFault>
+    requires { AreLengths cycle.now start.now repeat }
+    ensures value { Gives (λ _. moves.new.items) result (expanded cycle.now start.now repeat) }
+    ensures room { move_limit cycle.now start.now ≤ 16 → result ≢ Err CycleFault.Memory }
+    ensures reach { IfOk result (λ _. StaysInReach cycle.now start.now repeat moves.new.items) }
+{
+    cycle.check(start)?;
+    let site = cycle.site(start, repeat);
+    moves.clear();
+    // The proof learns here that there is room inline.
+    let _capacity = moves.capacity();
+    if moves.reserve(3 + site.hole_limit(&cycle.hole)).is_err() {
+        return Err(CycleFault::Memory);
+    }
+    cycle.add_first_rise(moves, start, site.retract, repeat);
+    site.add_approach(moves, cycle.arrival(start, &site, repeat));
+    site.add_hole(moves, &cycle.hole);
+    Ok(())
+}
