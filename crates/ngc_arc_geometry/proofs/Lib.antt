@@ -1,0 +1,13 @@
+mod Examples
+pub mod Points
+pub mod Squares
+pub mod RadiiLemmas
+pub mod Planes
+pub mod ChordLemmas
+pub mod CentreLemmas
+pub mod CentreRange
+pub mod Machine
+pub mod Steps
+pub mod ArcLemmas
+pub mod GridLemmas
+pub mod SpanLemmas

@@ -1,0 +1,27 @@
+use Rattle.std.proofs.Common.{◌≡◌, ◌<◌, ◌≤◌, ◌*◌, false, not, Ok, ◌∙◌, ap, sym, unsigned_abs, arith}
+use Rattle.std.proofs.lemmas.Int.{ints}
+use Rattle.ngc_fixed_length.specs.declared.points.Point2.{Point2}
+use Rattle.ngc_arc_geometry.specs.declared.fault.ArcFault.TheVariants.{NoAxisWord, EndIsStart, RadiusOutOfRange}
+use Rattle.ngc_arc_geometry.specs.Centre.{arc_about, chord_square, radius_centre}
+use Rattle.ngc_arc_geometry.specs.Faults.{◌>>=◌}
+use Rattle.ngc_arc_geometry.specs.Tolerance.{tolerance}
+use Rattle.ngc_arc_geometry.specs.Radii.{with_equal_radii}
+use Rattle.ngc_arc_geometry.proofs.Steps.{four_pass, not_zero, not_over}
+use Rattle.ngc_arc_geometry.proofs.arc.Arc.radius_format.Goals as goal
+
+pub returns : goal.returns
+returns c =
+    let e = c.args.ends.now in
+    let r = c.args.radius in
+    let t = tolerance c.args.units in
+    let size : c.from-size.result ≡ unsigned_abs r = omega (arith, ints) in
+    let chord_is : c.square.result ≡ chord_square e = cc in
+    let word : not e.has_axis_word ≡ false = cc in
+    let chord : 0 < chord_square e = omega (arith, chord_is) in
+    let some : 0 < unsigned_abs r = omega (arith, size) in
+    let limit : unsigned_abs r * unsigned_abs r ≤ 4000000000000000000 = rw (← size) c.if-size-gt-SQUARE_LIMIT.false in
+    let found : radius_centre t e r ≡ Ok c.in_ok-centre.centre = cc (c.in_ok-centre.was {u = tt}) in
+    let last : c.with_equal_radii.result ≡ with_equal_radii t (arc_about e c.in_ok-centre.centre) = cc in
+    let rest = λ (centre : Point2). with_equal_radii t (arc_about e centre) in
+    let passed = four_pass (not e.has_axis_word) _ _ _ NoAxisWord EndIsStart RadiusOutOfRange RadiusOutOfRange (radius_centre t e r >>= rest) word (not_zero (chord_square e) chord) (not_zero (unsigned_abs r) some) (not_over 4000000000000000000 (unsigned_abs r * unsigned_abs r) limit) in
+    last ∙ sym (passed ∙ ap (λ found. found >>= rest) found)

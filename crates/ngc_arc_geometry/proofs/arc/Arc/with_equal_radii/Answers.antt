@@ -1,0 +1,18 @@
+use Rattle.std.proofs.Common.{◌≡◌, true, arith}
+use Rattle.ngc_arc_geometry.specs.Radii.{lo, hi, roots_within}
+use Rattle.ngc_arc_geometry.specs.Centre.{arc_about}
+use Rattle.ngc_arc_geometry.proofs.RadiiLemmas.{greater_bound}
+use Rattle.ngc_arc_geometry.proofs.arc.Arc.with_equal_radii.Goals as goal
+
+pub invariant_of-result : goal.invariant_of-result
+invariant_of-result c =
+    let a = arc_about c.args.ends.now c.args.centre in
+    let lesser : c.about-radii.result.lesser ≡ lo a = cc in
+    let greater : c.about-radii.result.greater ≡ hi a = cc in
+    let near : roots_within c.args.tolerance (lo a) (hi a) ≡ true = cc in
+    record {
+      start = c.requires.ends.start;
+      end = c.requires.ends.end;
+      some_radius = omega (arith, lesser);
+      radius = greater_bound c.args.tolerance (lo a) (hi a) c.requires.tolerance (omega arith) c.requires.radii near;
+    }

@@ -1,0 +1,75 @@
+use Rattle.std.proofs.Common.{◌≡◌, ◌≤◌, ◌*ℤ◌, neg_ℤ, unsigned_abs, to_z, of_z, arith, ap, ◌∙◌}
+use Rattle.std.specs.Int.{w64, int_signum}
+use Rattle.std.proofs.lemmas.Int.{ints}
+use Rattle.ngc_fixed_length.specs.declared.points.Point2.{Point2}
+use Rattle.ngc_arc_geometry.specs.Chord.{aside as aside_of, side as side_of}
+use Rattle.ngc_arc_geometry.specs.Centre.{chord, chord_square}
+use Rattle.ngc_arc_geometry.proofs.ChordLemmas.{aside_less}
+use Rattle.ngc_arc_geometry.proofs.Machine.{kept, negated, size_of_negative}
+use Rattle.ngc_arc_geometry.proofs.Points.{same_point}
+use Rattle.ngc_arc_geometry.proofs.given.Ends.offset_from_middle.Goals.{After-new, After-signed_aside-v}
+use Rattle.ngc_arc_geometry.proofs.given.Ends.offset_from_middle.Goals as goal
+
+first_bound : (c : After-signed_aside-v) → unsigned_abs c.signed_aside-u.result ≤ 2000000000
+first_bound c =
+    let aside = kept c.aside.result c.aside.ensures.bound in
+    omega (arith, ap unsigned_abs aside)
+
+pub new-requires-clause-u : goal.new-requires-clause-u
+new-requires-clause-u c =
+    let small = first_bound c in
+    rw (negated c.signed_aside-u.result small, size_of_negative c.signed_aside-u.result) (omega (arith, small))
+
+first : (c : After-new) → c.signed_aside-u.result ≡ side_of c.args.self.now.turn c.args.is_long *ℤ int_signum (chord c.args.self.now).v *ℤ aside_of c.args.square (chord_square c.args.self.now) (chord c.args.self.now).v
+first c =
+    let side : to_z w64 (of_z w64 c.side-side.result) ≡ c.side-side.result = omega (arith, ints) in
+    let sign : to_z w64 (of_z w64 c.v.result) ≡ c.chord-chord.result.v = omega (arith, ints) in
+    let part : to_z w64 (of_z w64 c.v-2.result) ≡ c.chord-chord.result.v = omega (arith, ints) in
+    let aside : to_z w64 (of_z w64 c.aside.result) ≡ c.aside.result = omega (arith, ints) in
+    let value = rw (part, c.square-square_of_chord.ensures) at c.aside.ensures.value in
+    let signed = rw (side, sign, aside, value, c.side-side.ensures.value) at c.signed_aside-u.ensures.value in
+    rw c.chord-chord.ensures at signed
+
+second : (c : After-new) → c.signed_aside-v.result ≡ side_of c.args.self.now.turn c.args.is_long *ℤ int_signum (chord c.args.self.now).u *ℤ aside_of c.args.square (chord_square c.args.self.now) (chord c.args.self.now).u
+second c =
+    let side : to_z w64 (of_z w64 c.side-side.result) ≡ c.side-side.result = omega (arith, ints) in
+    let sign : to_z w64 (of_z w64 c.u.result) ≡ c.chord-chord.result.u = omega (arith, ints) in
+    let part : to_z w64 (of_z w64 c.u-2.result) ≡ c.chord-chord.result.u = omega (arith, ints) in
+    let aside : to_z w64 (of_z w64 c.aside-2.result) ≡ c.aside-2.result = omega (arith, ints) in
+    let value = rw (part, c.square-square_of_chord.ensures) at c.aside-2.ensures.value in
+    let signed = rw (side, sign, aside, value, c.side-side.ensures.value) at c.signed_aside-v.ensures.value in
+    rw c.chord-chord.ensures at signed
+
+first_size : (c : After-new) → unsigned_abs c.signed_aside-u.result ≤ unsigned_abs c.aside.result
+first_size c = omega (arith, ap unsigned_abs (kept c.aside.result c.aside.ensures.bound))
+
+second_size : (c : After-new) → unsigned_abs c.signed_aside-v.result ≤ unsigned_abs c.aside-2.result
+second_size c = omega (arith, ap unsigned_abs (kept c.aside-2.result c.aside-2.ensures.bound))
+
+new_u : (c : After-new) → c.new.result.u ≡ neg_ℤ c.signed_aside-u.result
+new_u c =
+    let small : unsigned_abs c.signed_aside-u.result ≤ 2000000000 = omega (arith, first_size c) in
+    ap (λ (p : Point2). p.u) c.new.ensures ∙ negated c.signed_aside-u.result small
+
+new_v : (c : After-new) → c.new.result.v ≡ c.signed_aside-v.result
+new_v c =
+    let small : unsigned_abs c.signed_aside-v.result ≤ 2000000000 = omega (arith, second_size c) in
+    ap (λ (p : Point2). p.v) c.new.ensures ∙ kept c.signed_aside-v.result small
+
+pub returns-clause-value : goal.returns-clause-value
+returns-clause-value c = same_point _ _ _ _ (new_u c ∙ ap neg_ℤ (first c)) (new_v c ∙ second c)
+
+pub returns-clause-short : goal.returns-clause-short
+returns-clause-short c =
+    let part_v : to_z w64 (of_z w64 c.v-2.result) ≡ c.chord-chord.result.v = omega (arith, ints) in
+    let part_u : to_z w64 (of_z w64 c.u-2.result) ≡ c.chord-chord.result.u = omega (arith, ints) in
+    let square_u = rw (part_v, c.square-square_of_chord.ensures, c.chord-chord.ensures) at c.aside.ensures.square in
+    let square_v = rw (part_u, c.square-square_of_chord.ensures, c.chord-chord.ensures) at c.aside-2.ensures.square in
+    let size_u : unsigned_abs c.new.result.u ≤ unsigned_abs c.aside.result = rw (new_u c, size_of_negative c.signed_aside-u.result) (first_size c) in
+    let size_v : unsigned_abs c.new.result.v ≤ unsigned_abs c.aside-2.result = rw (new_v c) (second_size c) in
+    record {
+      u_bound = omega (arith, size_u);
+      v_bound = omega (arith, size_v);
+      u = aside_less _ _ _ (unsigned_abs c.aside.result) (unsigned_abs c.new.result.u) size_u square_u;
+      v = aside_less _ _ _ (unsigned_abs c.aside-2.result) (unsigned_abs c.new.result.v) size_v square_v;
+    }

@@ -1,0 +1,12 @@
+pub mod Shape
+pub mod Faults
+pub mod Radii
+pub mod Tolerance
+pub mod Chord
+pub mod Aside
+pub mod Centre
+pub mod Sector
+pub mod Swept
+pub mod Inside
+pub mod Axes
+pub mod WeakArcPath

@@ -1,0 +1,53 @@
+-- The radii of an arc at its start and end. How far they may differ follows NISTIR 6556, 3.5.3.2; the bounds are our own.
+use Rattle.std.specs.Prelude.{ℕ, ◌≤◌, ◌<◌, ◌+◌, ◌-◌, ◌*◌, ◌==◌, nat_le, min, max, unsigned_abs, Result, Ok, Bool, not, ◌||◌}
+use Rattle.ngc_fixed_length.specs.Places.{from, dot}
+use Rattle.ngc_fixed_length.specs.Roots.{whole_root, whole_root_above}
+use Rattle.ngc_fixed_length.specs.declared.points.Point2.{Point2}
+use Rattle.ngc_arc_geometry.specs.Shape.{ArcShape, start_of, end_of, IsNear}
+use Rattle.ngc_arc_geometry.specs.declared.fault.ArcFault.{ArcFault}
+use Rattle.ngc_arc_geometry.specs.declared.fault.ArcFault.TheVariants.{RadiiDiffer, RadiusOutOfRange}
+use Rattle.ngc_arc_geometry.specs.Faults.{◌>>◌, refuse_if}
+
+abbrev pub squared_distance : Point2 → Point2 → ℕ
+squared_distance p q = unsigned_abs (dot (from p q) (from p q))
+
+-- the lesser and the greater squared distance of the ends from the centre
+abbrev pub lo : ArcShape → ℕ
+lo a = min (squared_distance a.centre (start_of a)) (squared_distance a.centre (end_of a))
+
+abbrev pub hi : ArcShape → ℕ
+hi a = max (squared_distance a.centre (start_of a)) (squared_distance a.centre (end_of a))
+
+-- the radii as whole numbers: the greatest that isn't above the lesser, and the least that isn't below the greater
+abbrev pub inner_radius : ArcShape → ℕ
+inner_radius a = whole_root (lo a)
+
+abbrev pub outer_radius : ArcShape → ℕ
+outer_radius a = whole_root_above (hi a)
+
+-- the square of the greatest radius that words may give, 2*10^9 nm
+abbrev pub SQUARE_LIMIT : ℕ
+SQUARE_LIMIT = 4000000000000000000
+
+-- the roots of lo and hi differ by at most t
+abbrev pub roots_within : ℕ → ℕ → ℕ → Bool
+roots_within t lo hi =
+    nat_le (lo + hi) (t * t) || nat_le ((lo + hi - t * t) * (lo + hi - t * t)) (4 * lo * hi)
+
+-- the arc, where its radii are in range and differ by at most t
+abbrev pub with_equal_radii : ℕ → ArcShape → Result ArcShape ArcFault
+with_equal_radii t a =
+    refuse_if (lo a == 0) RadiusOutOfRange >>
+    refuse_if (not (roots_within t (lo a) (hi a))) RadiiDiffer >>
+    Ok a
+
+-- the squared radii make at most twice the square of a radius that is a little over 2*10^9 nm
+abbrev pub HasRadiiInRange : ArcShape → Type 0
+HasRadiiInRange a = lo a + hi a ≤ 2 * (2000006000 * 2000006000)
+
+-- what both formats give: the greater radius is at most 2*10^9 nm, but for the centre's rounding and the tolerance
+pub record IsArc (a : ArcShape) : Type 0 where
+  pub start : IsNear a.start
+  pub end : IsNear a.end
+  pub some_radius : 0 < lo a
+  pub radius : hi a ≤ 2000020000 * 2000020000

@@ -1,0 +1,109 @@
+ghost use Rattle.std.specs.Prelude.{◌≡◌, ◌*◌, ◌^◌, ◌<◌, ◌≤◌, pos, ◌≤ℤ◌, ◌+ℤ◌, ◌*ℤ◌, ◌-ℤ◌, unsigned_abs, fold, map};
+ghost use Rattle.std.specs.Int.{int_min, int_max};
+ghost use Rattle.ngc_fixed_length.specs.Boxes.{grid_above, grid_below};
+ghost use Rattle.ngc_fixed_length.specs.Length.{IsStep};
+
+use ngc_fixed_length::{Nm, Point2};
+
+/// From a least to a greatest coordinate, in nanometres.
+#[derive(Clone, Copy)]
+pub(crate) struct Span {
+    pub(crate) low: i64,
+    pub(crate) high: i64,
+    ghost ordered: { low ≤ℤ high },
+}
+
+/// From a first to a last grid point, both included, in steps.
+#[derive(Clone, Copy)]
+pub(crate) struct GridRange {
+    pub(crate) low: i32,
+    pub(crate) high: i32,
+    ghost ordered: { low ≤ℤ high },
+}
+
+impl GridRange {
+    /// The grid points between two numbers of nanometres that lie at least two steps apart.
+    pub(crate) fn inside(step: Nm, low: i64, high: i64) -> GridRange
+        requires step { IsStep step }
+        requires low { unsigned_abs low ≤ 11 * 10 ^ 10 }
+        requires high { unsigned_abs high ≤ 11 * 10 ^ 10 }
+        requires apart { (low +ℤ step +ℤ step) ≤ℤ high }
+        ensures low { result.low ≡ grid_above step low }
+        ensures high { result.high ≡ grid_below step high }
+    {
+        GridRange {
+            low: first_grid_point(step, low),
+            high: last_grid_point(step, high),
+        }
+    }
+}
+
+/// An axis of the plane.
+#[derive(Clone, Copy, Debug, PartialEq, Eq)]
+pub(crate) enum PlaneAxis {
+    U,
+    V,
+}
+
+impl PlaneAxis {
+    ghost use Rattle.ngc_arc_geometry.specs.Axes.{along};
+
+    /// A point's coordinate along this axis, in nanometres.
+    pub(crate) fn along(self, point: &Point2) -> i64
+        ensures value { result ≡ along self point.now }
+        ensures bound { unsigned_abs result ≤ 10 ^ 11 }
+    {
+        match self {
+            PlaneAxis::U => point.u.nanometres(),
+            PlaneAxis::V => point.v.nanometres(),
+        }
+    }
+
+    /// The least of a number and the points' coordinates.
+    pub(crate) fn least(self, first: i64, points: &[Point2]) -> i64
+        requires { unsigned_abs first ≤ 10 ^ 11 }
+        ensures value { result ≡ fold int_min first (map (along self) points.now) }
+        ensures bound { unsigned_abs result ≤ 10 ^ 11 }
+        ensures below { result ≤ℤ first }
+    {
+        let mut least = first;
+        for point in points {
+            least = least.min(self.along(point));
+        }
+        least
+    }
+
+    /// The greatest of a number and the points' coordinates.
+    pub(crate) fn greatest(self, first: i64, points: &[Point2]) -> i64
+        requires { unsigned_abs first ≤ 10 ^ 11 }
+        ensures value { result ≡ fold int_max first (map (along self) points.now) }
+        ensures bound { unsigned_abs result ≤ 10 ^ 11 }
+        ensures above { first ≤ℤ result }
+    {
+        let mut greatest = first;
+        for point in points {
+            greatest = greatest.max(self.along(point));
+        }
+        greatest
+    }
+}
+
+/// The first grid point that isn't below a number of nanometres, in steps.
+fn first_grid_point(step: Nm, nanometres: i64) -> i32
+    requires step { IsStep step }
+    requires bound { unsigned_abs nanometres ≤ 11 * 10 ^ 10 }
+    ensures value { result ≡ grid_above step nanometres }
+    ensures near { ((result *ℤ step) -ℤ nanometres) ≤ℤ step }
+{
+    -(-nanometres).div_euclid(step.nanometres()) as i32
+}
+
+/// The last grid point that isn't above a number of nanometres, in steps.
+fn last_grid_point(step: Nm, nanometres: i64) -> i32
+    requires step { IsStep step }
+    requires bound { unsigned_abs nanometres ≤ 11 * 10 ^ 10 }
+    ensures value { result ≡ grid_below step nanometres }
+    ensures near { (nanometres -ℤ (result *ℤ step)) ≤ℤ step }
+{
+    nanometres.div_euclid(step.nanometres()) as i32
+}

@@ -1,0 +1,21 @@
+//! Circular arcs and helices: their centres, sectors and swept boxes, exactly, in whole numbers.
+#![tactic(auto)]
+
+mod arc;
+mod centre;
+mod chord;
+mod extent;
+mod fault;
+mod given;
+mod lengths;
+mod radii;
+mod sector;
+mod swept;
+mod way;
+
+pub use arc::Arc;
+pub use fault::ArcFault;
+pub use given::{Ends, Offsets};
+
+#[cfg(test)]
+mod tests;

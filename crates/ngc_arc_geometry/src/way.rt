@@ -1,0 +1,144 @@
+ghost use Rattle.std.specs.Prelude.{◌≡◌, ◌^◌, ◌*◌, ◌≤◌, ◌*ℤ◌, unsigned_abs};
+
+use ngc_fixed_length::{Nm, Point2};
+use std::marker::Model;
+
+/// A way in a plane, or a point of it that may lie farther out than lengths reach: at most 4*10^11 nm on each axis.
+#[derive(Clone, Copy, Debug, PartialEq, Eq)]
+pub(crate) struct Way {
+    u: i64,
+    v: i64,
+}
+
+impl Model for Way {
+    ghost use Rattle.std.specs.Prelude.{◌≤◌, unsigned_abs};
+    ghost use Rattle.ngc_fixed_length.specs.declared.points.Point2.{Point2};
+
+    ghost Value = { Point2 };
+
+    ghost view = { λ w. record { u = w.u; v = w.v } };
+
+    ghost invariant = { λ w. (unsigned_abs w.u ≤ 400000000000) × (unsigned_abs w.v ≤ 400000000000) };
+
+    ghost inverse = { λ p. record { u = p.u; v = p.v } };
+}
+
+/// The product of two coordinates of ways.
+fn product(x: i64, y: i64) -> i128
+    requires x { unsigned_abs x ≤ 400000000000 }
+    requires y { unsigned_abs y ≤ 400000000000 }
+    ensures value { result ≡ x *ℤ y }
+    ensures bound { unsigned_abs result ≤ 16 * 10 ^ 22 }
+{
+    i128::from(x) * i128::from(y)
+}
+
+impl Way {
+    ghost use Rattle.ngc_fixed_length.specs.Places.{from, shifted, cross, dot};
+
+    /// So far along each axis.
+    pub(crate) fn new(u: i64, v: i64) -> Way
+        requires u { unsigned_abs u ≤ 400000000000 }
+        requires v { unsigned_abs v ≤ 400000000000 }
+        ensures { result ≡ record { u = u; v = v } }
+    {
+        Way { u, v }
+    }
+
+    /// The way from one point to another.
+    pub(crate) fn between(start: &Point2, end: &Point2) -> Way
+        ensures { result ≡ from start.now end.now }
+    {
+        Way {
+            u: end.u.nanometres() - start.u.nanometres(),
+            v: end.v.nanometres() - start.v.nanometres(),
+        }
+    }
+
+    /// A point as a way from the plane's zero.
+    pub(crate) fn of(point: &Point2) -> Way
+        ensures value { result ≡ point.now }
+        ensures u { unsigned_abs result.u ≤ 100000000000 }
+        ensures v { unsigned_abs result.v ≤ 100000000000 }
+    {
+        Way {
+            u: point.u.nanometres(),
+            v: point.v.nanometres(),
+        }
+    }
+
+    /// The point that lies so far from another along each axis.
+    pub(crate) fn offset(start: &Point2, u: Nm, v: Nm) -> Way
+        ensures value { result ≡ shifted start.now (record { u = u; v = v }) }
+        ensures u { unsigned_abs result.u ≤ 200000000000 }
+        ensures v { unsigned_abs result.v ≤ 200000000000 }
+    {
+        Way {
+            u: start.u.nanometres() + u.nanometres(),
+            v: start.v.nanometres() + v.nanometres(),
+        }
+    }
+
+    /// The point that this way leads to from the plane's zero.
+    pub(crate) fn point(&self) -> Point2
+        requires u { unsigned_abs self.now.u ≤ 100000000000 }
+        requires v { unsigned_abs self.now.v ≤ 100000000000 }
+        ensures { result ≡ self.now }
+    {
+        Point2 {
+            u: Nm::from_nanometres(i128::from(self.u)).unwrap(),
+            v: Nm::from_nanometres(i128::from(self.v)).unwrap(),
+        }
+    }
+
+    /// The way from this point to another.
+    pub(crate) fn to(&self, end: &Point2) -> Way
+        requires u { unsigned_abs self.now.u ≤ 200000000000 }
+        requires v { unsigned_abs self.now.v ≤ 200000000000 }
+        ensures { result ≡ from self.now end.now }
+    {
+        Way {
+            u: end.u.nanometres() - self.u,
+            v: end.v.nanometres() - self.v,
+        }
+    }
+
+    /// How far the way goes along u.
+    pub(crate) fn u(&self) -> i64
+        ensures value { result ≡ self.now.u }
+        ensures bound { unsigned_abs result ≤ 400000000000 }
+    {
+        self.u
+    }
+
+    /// How far the way goes along v.
+    pub(crate) fn v(&self) -> i64
+        ensures value { result ≡ self.now.v }
+        ensures bound { unsigned_abs result ≤ 400000000000 }
+    {
+        self.v
+    }
+
+    /// The product of two ways, which is above 0 where the angle between them is less than a right one.
+    pub(crate) fn dot(&self, other: &Way) -> i128
+        ensures value { result ≡ dot self.now other.now }
+        ensures bound { unsigned_abs result ≤ 4 * 10 ^ 23 }
+    {
+        product(self.u, other.u) + product(self.v, other.v)
+    }
+
+    /// Twice the area that two ways span, above 0 where the first turns towards the other counterclockwise.
+    pub(crate) fn cross(&self, other: &Way) -> i128
+        ensures value { result ≡ cross self.now other.now }
+        ensures bound { unsigned_abs result ≤ 4 * 10 ^ 23 }
+    {
+        product(self.u, other.v) - product(self.v, other.u)
+    }
+
+    /// The square of the way's length.
+    pub(crate) fn square(&self) -> u128
+        ensures { result ≡ unsigned_abs (dot self.now self.now) }
+    {
+        self.dot(self).unsigned_abs()
+    }
+}
