@@ -1,0 +1,119 @@
+-- Files whose ranges are all kept.
+use Rattle.std.proofs.Common.{◌≡◌, ◌≤ℤ◌, ◌<ℤ◌, ℕ, ℤ, pos, negsuc, List, Bool, true, false, ◌&&◌, Result, Ok, int_le, int_lt, refl, ap, suc, arith}
+use Rattle.std.specs.List.{All, list_all}
+use Rattle.std.specs.Int.Signed.{le_z_yes, lt_z_yes}
+use Rattle.std.proofs.lemmas.Bool.{and_parts, leb-true, eqb-true}
+use Rattle.std.proofs.lemmas.Float.{T_from_true}
+use Rattle.std.proofs.lemmas.List.Sums.{AllPass-from_list_all}
+use Rattle.std.proofs.lemmas.List.Elements.{All-weaker}
+use Rattle.ngc_fixed_length.specs.Signed.{is_within, is_zero}
+use Rattle.ngc_machine.specs.Ranges.{PLACE_LIMIT, CORNER_LIMIT, IsFrom, IsSized, IsAtMost, IsBelow, IsOnGrid, IsTravel, IsFixture}
+use Rattle.ngc_machine.specs.Numbers.{from_to}
+use Rattle.ngc_machine.specs.Refusals.{◌>>◌, refuse_unless}
+use Rattle.ngc_machine.specs.MachineText.{MachineValues, is_sized, is_at_most, is_below, is_multiple, is_on_grid, good_travel, good_fixture, good_fixtures, machine_ranges, place_of, fixture_of, IsGood}
+use Rattle.ngc_machine.specs.declared.fault.FileFault.{FileFault}
+use Rattle.ngc_machine.specs.declared.machine_contents.Coordinates.{Coordinates}
+use Rattle.ngc_machine.specs.declared.machine_contents.Corners.{Corners}
+use Rattle.ngc_machine.specs.declared.machine_contents.MachinePoints.{MachinePoints}
+
+-- the first of two is no refusal, and then the second is none
+passes : (b : Bool) (e : FileFault) (r : Result (Unit {0}) FileFault) → (refuse_unless b e >> r) ≡ Ok tt → (b ≡ true) × (r ≡ Ok tt)
+passes true e r h = (refl, h)
+passes false e r h = cc
+
+passes_last : (b : Bool) (e : FileFault) → refuse_unless b e ≡ Ok tt → b ≡ true
+passes_last true e h = refl
+passes_last false e h = cc
+
+less : (a b : ℤ) → int_le a b ≡ true → a ≤ℤ b
+less a b h = le_z_yes (T_from_true _ h)
+
+below : (a b : ℤ) → int_lt a b ≡ true → a <ℤ b
+below a b h = lt_z_yes (T_from_true _ h)
+
+from : (low high z : ℤ) → from_to low high z ≡ true → IsFrom low high z
+from low high z h =
+    let (l, g) = and_parts (int_le low z) (int_le z high) h in
+    record { least = less _ _ l; greatest = less _ _ g }
+
+three : (a b c : Bool) → (a && b && c) ≡ true → (a ≡ true) × (b ≡ true) × (c ≡ true)
+three true true true h = (refl, refl, refl)
+three true true false h = cc
+three true false c h = cc
+three false b c h = cc
+
+sized : (n : ℕ) (p : Coordinates) → is_sized n p ≡ true → IsSized n (place_of p)
+sized n p h =
+    let (x, y, z) = three (is_within n p.x) (is_within n p.y) (is_within n p.z) h in
+    record { x = leb-true _ _ x; y = leb-true _ _ y; z = leb-true _ _ z }
+
+at_most : (p q : Coordinates) → is_at_most p q ≡ true → IsAtMost (place_of p) (place_of q)
+at_most p q h =
+    let (x, y, z) = three (int_le p.x q.x) (int_le p.y q.y) (int_le p.z q.z) h in
+    record { x = less _ _ x; y = less _ _ y; z = less _ _ z }
+
+all_below : (p q : Coordinates) → is_below p q ≡ true → IsBelow (place_of p) (place_of q)
+all_below p q h =
+    let (x, y, z) = three (int_lt p.x q.x) (int_lt p.y q.y) (int_lt p.z q.z) h in
+    record { x = below _ _ x; y = below _ _ y; z = below _ _ z }
+
+zero_of : (z : ℤ) → is_zero z ≡ true → z ≡ pos 0
+zero_of (pos n) h = ap pos (eqb-true n 0 h)
+zero_of (negsuc n) h = let e : suc n ≡ 0 = eqb-true _ 0 h in absurd (omega arith)
+
+on_grid : (step : ℤ) (p : Coordinates) → is_on_grid step p ≡ true → IsOnGrid step (place_of p)
+on_grid step p h =
+    let (x, y, z) = three (is_multiple step p.x) (is_multiple step p.y) (is_multiple step p.z) h in
+    record { x = zero_of _ x; y = zero_of _ y; z = zero_of _ z }
+
+travel : (step : ℤ) (p : MachinePoints) → good_travel step p ≡ true → IsTravel step (place_of p.low) (place_of p.high) (place_of p.start)
+travel step p h =
+    let (h5, grid) = and_parts _ (is_on_grid step p.start) h in
+    let (h4, below_high) = and_parts _ (is_at_most p.start p.high) h5 in
+    let (h3, above_low) = and_parts _ (is_at_most p.low p.start) h4 in
+    let (low, high, order) = three (is_sized PLACE_LIMIT p.low) (is_sized PLACE_LIMIT p.high) (is_at_most p.low p.high) h3 in
+    record {
+      low_sized = sized _ _ low;
+      high_sized = sized _ _ high;
+      ordered = at_most _ _ order;
+      start_above = at_most _ _ above_low;
+      start_below = at_most _ _ below_high;
+      start_on_grid = on_grid _ _ grid;
+    }
+
+a_fixture : (f : Corners) → good_fixture f ≡ true → IsFixture (fixture_of f)
+a_fixture f h =
+    let (low, high, order) = three (is_sized CORNER_LIMIT f.low) (is_sized CORNER_LIMIT f.high) (is_below f.low f.high) h in
+    record { low_sized = sized _ _ low; high_sized = sized _ _ high; ordered = all_below _ _ order }
+
+each_passes : {X : Type 0} (p : X → Bool) (P : X → Type 0) → ((x : X) → p x ≡ true → P x) → (xs : List X) → list_all p xs ≡ true → All P xs
+each_passes p P tells xs h = All-weaker (λ x. p x ≡ true) P tells xs (AllPass-from_list_all p xs h)
+
+pub IsGood-from_ranges : (m : MachineValues) → machine_ranges m ≡ Ok tt → IsGood m
+IsGood-from_ranges m h =
+    let (_, h6) = passes _ _ _ h in
+    let (step, h5) = passes _ _ _ h6 in
+    let (ticks, h4) = passes _ _ _ h5 in
+    let (rates, h3) = passes _ _ _ h4 in
+    let (limits, h2) = passes _ _ _ h3 in
+    let (places, h1) = passes _ _ _ h2 in
+    let fixtures : good_fixtures m.fixtures ≡ true = passes_last _ _ h1 in
+    let in_step = from (pos 500) (pos 50000) m.numbers.step step in
+    let (rates3, turn) = and_parts _ (from_to (pos 1) (pos 1000000000000) m.numbers.turn) rates in
+    let (max_rate, change, corner) = three (from_to (pos 1) (pos 1000000) m.numbers.max_rate) (from_to (pos 1) (pos 1000000) m.numbers.change) (from_to (pos 1) (pos 1000000) m.numbers.corner) rates3 in
+    let (home28, home30, origins) = three (is_sized PLACE_LIMIT m.points.home28) (is_sized PLACE_LIMIT m.points.home30) (list_all (is_sized PLACE_LIMIT) m.origins) places in
+    let (count, each) = and_parts _ (list_all good_fixture m.fixtures) fixtures in
+    record {
+      step = record { least = in_step.least; greatest = in_step.greatest };
+      ticks_per_second = from _ _ _ ticks;
+      max_rate = from _ _ _ max_rate;
+      change = from _ _ _ change;
+      corner = from _ _ _ corner;
+      turn = from _ _ _ turn;
+      travel = travel m.numbers.step m.points limits;
+      home28 = sized _ _ home28;
+      home30 = sized _ _ home30;
+      origins = each_passes _ _ (sized PLACE_LIMIT) m.origins origins;
+      fixture_count = leb-true _ _ count;
+      fixtures = each_passes _ _ a_fixture m.fixtures each;
+    }

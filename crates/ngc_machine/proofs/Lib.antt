@@ -1,0 +1,4 @@
+pub mod Trees
+pub mod Ranges
+pub mod Good
+pub mod Blank

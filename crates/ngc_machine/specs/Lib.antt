@@ -1,0 +1,9 @@
+pub mod Numbers
+pub mod Faults
+pub mod Ranges
+pub mod Machine
+pub mod Tools
+pub mod Tree
+pub mod Refusals
+pub mod MachineText
+pub mod ToolText

@@ -1,0 +1,200 @@
+-- What a machine file says. Our own.
+use Rattle.std.specs.Prelude.{ℕ, ◌==◌, ◌≤◌, nat_le, ℤ, pos, unsigned_abs, int_le, int_lt, int_rem, List, [], ◌∷◌, length, map, replicate, Option, Some, None, Result, Ok, Err, Bool, ◌&&◌, codes, if◌then◌else◌}
+use Rattle.std.specs.List.{All, list_all}
+use Rattle.std.specs.Ordering.{int_eq}
+use Rattle.toml.specs.Data.{Data, array, Items, get}
+use Rattle.ngc_fixed_length.specs.Signed.{is_within, is_zero}
+use Rattle.ngc_fixed_length.specs.declared.points.Point3.{Point3}
+use Rattle.ngc_machine.specs.declared.machine.Fixture.{Fixture}
+use Rattle.ngc_machine.specs.declared.machine_contents.Coordinates.{Coordinates}
+use Rattle.ngc_machine.specs.declared.machine_contents.Corners.{Corners}
+use Rattle.ngc_machine.specs.declared.machine_contents.MachineNumbers.{MachineNumbers}
+use Rattle.ngc_machine.specs.declared.machine_contents.MachinePoints.{MachinePoints}
+use Rattle.ngc_machine.specs.declared.machine_contents.MachineContents.{MachineContents}
+use Rattle.ngc_machine.specs.declared.fault.FileFault.{FileFault}
+use Rattle.ngc_machine.specs.declared.fault.FileFault.TheVariants.{Version, Step, TicksPerSecond, Rates, Travel, Places, Fixtures, Document}
+use Rattle.ngc_machine.specs.Machine.{MachineFile}
+use Rattle.ngc_machine.specs.Ranges.{PLACE_LIMIT, CORNER_LIMIT, IsSized, IsTravel, IsFixture, IsFrom}
+use Rattle.ngc_fixed_length.specs.Length.{IsStep}
+use Rattle.ngc_machine.specs.Numbers.{from_to}
+use Rattle.ngc_machine.specs.Refusals.{◌>>◌, refuse_unless}
+use Rattle.ngc_machine.specs.Tree.{◌>>=◌, tree_of, known, whole_at, coordinates, coordinates_at, each, list_at, or_missing}
+
+-- ---- the values that the keys name
+
+pub record MachineValues : Type 0 where
+  pub numbers : MachineNumbers
+  pub points : MachinePoints
+  pub origins : List Coordinates
+  pub fixtures : List Corners
+
+abbrev pub values_of : MachineContents → MachineValues
+values_of c = record { numbers = c.numbers; points = c.points; origins = c.origins; fixtures = c.fixtures.items }
+
+abbrev pub machine_keys : List (List ℕ)
+machine_keys =
+    codes "version" ∷ codes "step" ∷ codes "ticks_per_second" ∷ codes "max_rate" ∷ codes "change" ∷ codes "corner" ∷
+    codes "turn" ∷ codes "low" ∷ codes "high" ∷ codes "start" ∷ codes "home28" ∷ codes "home30" ∷ codes "origins" ∷
+    codes "fixture" ∷ []
+
+abbrev pub machine_numbers : Data → Option MachineNumbers
+machine_numbers tree = do
+  version ← whole_at (codes "version") tree
+  step ← whole_at (codes "step") tree
+  ticks_per_second ← whole_at (codes "ticks_per_second") tree
+  max_rate ← whole_at (codes "max_rate") tree
+  change ← whole_at (codes "change") tree
+  corner ← whole_at (codes "corner") tree
+  turn ← whole_at (codes "turn") tree
+  Some (record {
+    version = version;
+    step = step;
+    ticks_per_second = ticks_per_second;
+    max_rate = max_rate;
+    change = change;
+    corner = corner;
+    turn = turn;
+  })
+
+abbrev pub machine_points : Data → Option MachinePoints
+machine_points tree = do
+  low ← coordinates_at (codes "low") tree
+  high ← coordinates_at (codes "high") tree
+  start ← coordinates_at (codes "start") tree
+  home28 ← coordinates_at (codes "home28") tree
+  home30 ← coordinates_at (codes "home30") tree
+  Some (record { low = low; high = high; start = start; home28 = home28; home30 = home30 })
+
+abbrev pub nine : List Coordinates → Option (List Coordinates)
+nine points = if length points == 9 then Some points else None
+
+abbrev pub nine_coordinates : Items → Option (List Coordinates)
+nine_coordinates items = each coordinates items >>= nine
+
+abbrev pub origins_of : Data → Option (List Coordinates)
+origins_of (array items) = nine_coordinates items
+origins_of _ = None
+
+-- nine points, all zero where they are missing
+abbrev pub machine_origins : Data → Option (List Coordinates)
+machine_origins tree = or_missing (replicate 9 (record { x = pos 0; y = pos 0; z = pos 0 })) origins_of (get (codes "origins") tree)
+
+abbrev pub corners : Data → Option Corners
+corners value = do
+  tree ← known (codes "low" ∷ codes "high" ∷ []) value
+  low ← coordinates_at (codes "low") tree
+  high ← coordinates_at (codes "high") tree
+  Some (record { low = low; high = high })
+
+-- tables of two corners, none where they are missing
+abbrev pub machine_fixtures : Data → Option (List Corners)
+machine_fixtures tree = list_at corners (codes "fixture") tree
+
+abbrev pub machine_values : Data → Option MachineValues
+machine_values root = do
+  tree ← known machine_keys root
+  numbers ← machine_numbers tree
+  points ← machine_points tree
+  origins ← machine_origins tree
+  fixtures ← machine_fixtures tree
+  Some (record { numbers = numbers; points = points; origins = origins; fixtures = fixtures })
+
+-- ---- ranges
+
+abbrev pub is_sized : ℕ → Coordinates → Bool
+is_sized n p = is_within n p.x && is_within n p.y && is_within n p.z
+
+abbrev pub is_at_most : Coordinates → Coordinates → Bool
+is_at_most p q = int_le p.x q.x && int_le p.y q.y && int_le p.z q.z
+
+abbrev pub is_below : Coordinates → Coordinates → Bool
+is_below p q = int_lt p.x q.x && int_lt p.y q.y && int_lt p.z q.z
+
+abbrev pub is_multiple : ℤ → ℤ → Bool
+is_multiple step c = is_zero (int_rem c step)
+
+abbrev pub is_on_grid : ℤ → Coordinates → Bool
+is_on_grid step p = is_multiple step p.x && is_multiple step p.y && is_multiple step p.z
+
+abbrev pub good_rates : MachineNumbers → Bool
+good_rates n =
+    from_to (pos 1) (pos 1000000) n.max_rate && from_to (pos 1) (pos 1000000) n.change &&
+    from_to (pos 1) (pos 1000000) n.corner && from_to (pos 1) (pos 1000000000000) n.turn
+
+abbrev pub good_travel : ℤ → MachinePoints → Bool
+good_travel step p =
+    is_sized PLACE_LIMIT p.low && is_sized PLACE_LIMIT p.high && is_at_most p.low p.high &&
+    is_at_most p.low p.start && is_at_most p.start p.high && is_on_grid step p.start
+
+abbrev pub good_places : MachineValues → Bool
+good_places m =
+    is_sized PLACE_LIMIT m.points.home28 && is_sized PLACE_LIMIT m.points.home30 &&
+    list_all (is_sized PLACE_LIMIT) m.origins
+
+abbrev pub good_fixture : Corners → Bool
+good_fixture f = is_sized CORNER_LIMIT f.low && is_sized CORNER_LIMIT f.high && is_below f.low f.high
+
+abbrev pub good_fixtures : List Corners → Bool
+good_fixtures fixtures = nat_le (length fixtures) 256 && list_all good_fixture fixtures
+
+-- the first refusal
+abbrev pub machine_ranges : MachineValues → Result (Unit {0}) FileFault
+machine_ranges m =
+    refuse_unless (int_eq m.numbers.version (pos 1)) Version >>
+    (refuse_unless (from_to (pos 500) (pos 50000) m.numbers.step) Step >>
+    (refuse_unless (from_to (pos 1) (pos 1000000) m.numbers.ticks_per_second) TicksPerSecond >>
+    (refuse_unless (good_rates m.numbers) Rates >>
+    (refuse_unless (good_travel m.numbers.step m.points) Travel >>
+    (refuse_unless (good_places m) Places >>
+    refuse_unless (good_fixtures m.fixtures) Fixtures)))))
+
+-- ---- the machine of a file
+
+abbrev pub place_of : Coordinates → Point3
+place_of p = record { x = p.x; y = p.y; z = p.z }
+
+abbrev pub fixture_of : Corners → Fixture
+fixture_of f = record { low = place_of f.low; high = place_of f.high }
+
+abbrev pub machine_from : MachineValues → MachineFile
+machine_from m = record {
+  step = m.numbers.step;
+  ticks_per_second = unsigned_abs m.numbers.ticks_per_second;
+  max_rate = unsigned_abs m.numbers.max_rate;
+  change = unsigned_abs m.numbers.change;
+  corner = unsigned_abs m.numbers.corner;
+  turn = unsigned_abs m.numbers.turn;
+  low = place_of m.points.low;
+  high = place_of m.points.high;
+  start = place_of m.points.start;
+  home28 = place_of m.points.home28;
+  home30 = place_of m.points.home30;
+  origins = map place_of m.origins;
+  fixtures = map fixture_of m.fixtures;
+}
+
+-- the same as facts
+pub record IsGood (m : MachineValues) : Type 0 where
+  pub step : IsStep m.numbers.step
+  pub ticks_per_second : IsFrom (pos 1) (pos 1000000) m.numbers.ticks_per_second
+  pub max_rate : IsFrom (pos 1) (pos 1000000) m.numbers.max_rate
+  pub change : IsFrom (pos 1) (pos 1000000) m.numbers.change
+  pub corner : IsFrom (pos 1) (pos 1000000) m.numbers.corner
+  pub turn : IsFrom (pos 1) (pos 1000000000000) m.numbers.turn
+  pub travel : IsTravel m.numbers.step (place_of m.points.low) (place_of m.points.high) (place_of m.points.start)
+  pub home28 : IsSized PLACE_LIMIT (place_of m.points.home28)
+  pub home30 : IsSized PLACE_LIMIT (place_of m.points.home30)
+  pub origins : All (λ p. IsSized PLACE_LIMIT (place_of p)) m.origins
+  pub fixture_count : length m.fixtures ≤ 256
+  pub fixtures : All (λ f. IsFixture (fixture_of f)) m.fixtures
+
+abbrev pub checked_machine : Option MachineValues → Result MachineFile FileFault
+checked_machine None = Err Document
+checked_machine (Some m) = machine_ranges m >> Ok (machine_from m)
+
+abbrev pub values_in : List ℕ → Option MachineValues
+values_in bytes = tree_of bytes >>= machine_values
+
+-- the machine that the bytes say, or why they are refused
+abbrev pub machine_file : List ℕ → Result MachineFile FileFault
+machine_file bytes = checked_machine (values_in bytes)

@@ -1,0 +1,55 @@
+ghost use Rattle.std.specs.List.{All};
+ghost use Rattle.ngc_fixed_length.specs.Length.{IsStep};
+ghost use Rattle.ngc_machine.specs.Ranges.{PLACE_LIMIT, IsRate, IsArcBound, IsTravel, IsSized, AreFixtures};
+
+use ngc_fixed_length::{Nm, Point3};
+use std::alloc::Allocator;
+
+/// A box that tools must stay out of, in nanometres.
+#[derive(Clone, Copy, Debug, PartialEq, Eq)]
+pub struct Fixture {
+    pub low: Point3,
+    pub high: Point3,
+}
+
+/// A machine. Lengths are nanometres, rates millionths of a path step a tick.
+#[derive(Drop)]
+pub struct Machine<A: Allocator> {
+    /// The step length, 500 to 50,000 nm.
+    pub step: Nm,
+    /// 1 to 1,000,000.
+    pub ticks_per_second: u32,
+    /// The greatest rate, 1 to 1,000,000.
+    pub max_rate: u32,
+    /// The greatest change of the rate in a tick, 1 to 1,000,000.
+    pub change: u32,
+    /// The greatest rate at a change of direction, 1 to 1,000,000.
+    pub corner: u32,
+    /// The bound of rates on arcs, 1 to 10^12.
+    pub turn: u64,
+    /// The least coordinates of the travel, at most 10^9 nm in size.
+    pub low: Point3,
+    /// The greatest coordinates of the travel, at most 10^9 nm in size.
+    pub high: Point3,
+    /// Where the axes stand when the machine is started: within the travel, whole multiples of the step.
+    pub start: Point3,
+    /// The home position of G28, at most 10^9 nm in size.
+    pub home28: Point3,
+    /// The home position of G30, at most 10^9 nm in size.
+    pub home30: Point3,
+    /// The origins of the nine coordinate systems, at most 10^9 nm in size.
+    pub origins: [Point3; 9],
+    /// At most 256, numbered from 0; at most 4*10^9 nm in size, low below high on each axis.
+    pub fixtures: Vec<Fixture, A>,
+    ghost step_in_range: { IsStep step },
+    ghost ticks_in_range: { IsRate ticks_per_second },
+    ghost max_rate_in_range: { IsRate max_rate },
+    ghost change_in_range: { IsRate change },
+    ghost corner_in_range: { IsRate corner },
+    ghost turn_in_range: { IsArcBound turn },
+    ghost travel_in_range: { IsTravel step low high start },
+    ghost home28_in_range: { IsSized PLACE_LIMIT home28 },
+    ghost home30_in_range: { IsSized PLACE_LIMIT home30 },
+    ghost origins_in_range: { All (IsSized PLACE_LIMIT) origins },
+    ghost fixtures_in_range: { AreFixtures fixtures.items },
+}

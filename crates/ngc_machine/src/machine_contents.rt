@@ -1,0 +1,176 @@
+ghost use Rattle.std.specs.Prelude.{◌≡◌, IfOk, IfErr, IsSome, codes, Some, replicate, pos, option_map};
+ghost use Rattle.toml.specs.Data.{get};
+ghost use Rattle.toml.specs.View.{view, items_view};
+ghost use Rattle.ngc_machine.specs.Tree.{has_only};
+ghost use Rattle.ngc_machine.specs.MachineText.{values_of, machine_numbers, machine_points, machine_origins, corners, machine_keys, machine_values, nine_coordinates};
+
+use crate::tree::{Entry, coordinates, coordinates_at, entries_at, has_only, whole_at};
+use std::alloc::{AllocError, Global};
+use toml::Value;
+
+/// Three whole numbers of a file, of any size.
+#[derive(Clone, Copy, Debug, PartialEq, Eq)]
+pub struct Coordinates {
+    pub x: i64,
+    pub y: i64,
+    pub z: i64,
+}
+
+/// The corners of a fixture, of any size.
+#[derive(Clone, Copy, Debug, PartialEq, Eq)]
+pub struct Corners {
+    pub low: Coordinates,
+    pub high: Coordinates,
+}
+
+/// The single numbers of a machine file, of any size.
+#[derive(Clone, Copy, Debug, PartialEq, Eq)]
+pub struct MachineNumbers {
+    pub version: i64,
+    pub step: i64,
+    pub ticks_per_second: i64,
+    pub max_rate: i64,
+    pub change: i64,
+    pub corner: i64,
+    pub turn: i64,
+}
+
+/// The single points of a machine file, of any size.
+#[derive(Clone, Copy, Debug, PartialEq, Eq)]
+pub struct MachinePoints {
+    pub low: Coordinates,
+    pub high: Coordinates,
+    pub start: Coordinates,
+    pub home28: Coordinates,
+    pub home30: Coordinates,
+}
+
+/// What stands in a machine file, of any size.
+#[derive(Drop)]
+pub struct MachineContents {
+    pub numbers: MachineNumbers,
+    pub points: MachinePoints,
+    pub origins: [Coordinates; 9],
+    pub fixtures: Vec<Corners>,
+}
+
+impl Entry for Corners {
+    ghost reading = { corners };
+
+    fn read(value: &Value) -> Option<Corners> {
+        if !has_only(value, &["low", "high"]) {
+            return None;
+        }
+        Some(Corners {
+            low: coordinates_at(value, "low")?,
+            high: coordinates_at(value, "high")?,
+        })
+    }
+}
+
+fn machine_numbers(tree: &Value) -> Option<MachineNumbers>
+    ensures { result ≡ machine_numbers (view tree.now) }
+{
+    Some(MachineNumbers {
+        version: whole_at(tree, "version")?,
+        step: whole_at(tree, "step")?,
+        ticks_per_second: whole_at(tree, "ticks_per_second")?,
+        max_rate: whole_at(tree, "max_rate")?,
+        change: whole_at(tree, "change")?,
+        corner: whole_at(tree, "corner")?,
+        turn: whole_at(tree, "turn")?,
+    })
+}
+
+fn machine_points(tree: &Value) -> Option<MachinePoints>
+    ensures { result ≡ machine_points (view tree.now) }
+{
+    Some(MachinePoints {
+        low: coordinates_at(tree, "low")?,
+        high: coordinates_at(tree, "high")?,
+        start: coordinates_at(tree, "start")?,
+        home28: coordinates_at(tree, "home28")?,
+        home30: coordinates_at(tree, "home30")?,
+    })
+}
+
+fn zero_origins() -> [Coordinates; 9]
+    ensures { result ≡ replicate 9 (record { x = pos 0; y = pos 0; z = pos 0 }) }
+{
+    [Coordinates { x: 0, y: 0, z: 0 }; 9]
+}
+
+fn nine(values: &[Value]) -> Option<[Coordinates; 9]>
+    ensures { result ≡ nine_coordinates (items_view values.now) }
+{
+    if values.len() != 9 {
+        return None;
+    }
+    let mut origins = zero_origins();
+    for (i, value) in values.iter().enumerate() {
+        origins[i] = coordinates(value)?;
+    }
+    Some(origins)
+}
+
+fn machine_origins(tree: &Value) -> Option<[Coordinates; 9]>
+    ensures { result ≡ machine_origins (view tree.now) }
+{
+    match tree.get("origins") {
+        Some(value) => nine(value.as_array()?.as_slice()),
+        None => Some(zero_origins()),
+    }
+}
+
+fn has_machine_keys(tree: &Value) -> bool
+    ensures { result ≡ has_only machine_keys (view tree.now) }
+{
+    has_only(
+        tree,
+        &[
+            "version",
+            "step",
+            "ticks_per_second",
+            "max_rate",
+            "change",
+            "corner",
+            "turn",
+            "low",
+            "high",
+            "start",
+            "home28",
+            "home30",
+            "origins",
+            "fixture",
+        ],
+    )
+}
+
+impl MachineContents {
+    /// What the keys of a machine file name, where each is known, there, and of the right kind and length.
+    pub(crate) fn read(alloc: Global, tree: &Value) -> Result<Option<MachineContents>, AllocError>
+        ensures contents { IfOk result (λ o. option_map values_of o ≡ machine_values (view tree.now)) }
+        ensures memory { IfErr result (λ _. IsSome (get (codes "fixture") (view tree.now))) }
+    {
+        if !has_machine_keys(tree) {
+            return Ok(None);
+        }
+        let fixtures = entries_at(alloc, tree, "fixture")?;
+        match (
+            machine_numbers(tree),
+            machine_points(tree),
+            machine_origins(tree),
+            fixtures,
+        ) {
+            (Some(numbers), Some(points), Some(origins), Some(fixtures)) => {
+                Ok(Some(MachineContents {
+                    numbers,
+                    points,
+                    origins,
+                    fixtures,
+                }))
+            }
+            _ => Ok(None),
+        }
+    }
+}

@@ -1,0 +1,58 @@
+ghost use Rattle.ngc_machine.specs.Ranges.{AreTools};
+
+use ngc_fixed_length::Nm;
+use std::alloc::Allocator;
+
+/// A tool of the table. Lengths are nanometres.
+#[derive(Clone, Copy, Debug, PartialEq, Eq)]
+pub struct Tool {
+    /// 1 to 9,999.
+    pub number: u32,
+    /// The body below the controlled point, 0 to 10^9.
+    pub length: Nm,
+    /// 0 to 10^9.
+    pub radius: Nm,
+    /// What G43 takes, -10^9 to 10^9.
+    pub offset: Nm,
+}
+
+/// A tool table: at most 1,000 tools, their numbers all different.
+#[derive(Drop)]
+pub struct Tools<A: Allocator> {
+    pub(crate) tools: Vec<Tool, A>,
+    ghost in_range: { AreTools tools.items },
+}
+
+impl<A: Allocator> Tools<A> {
+    ghost use Rattle.std.specs.Prelude.{◌≡◌, [], IfSome};
+    ghost use Rattle.ngc_machine.specs.Ranges.{IsTool};
+    ghost use Rattle.ngc_machine.specs.Tools.{tools_of, tool_at};
+
+    /// A table with no tool. It takes no memory.
+    pub fn empty(alloc: A) -> Tools<A>
+        ensures { tools_of result ≡ [] }
+    {
+        Tools {
+            tools: Vec::new(alloc),
+        }
+    }
+
+    /// The tools, in the order of the table.
+    pub fn tools(&self) -> &[Tool]
+        ensures tools { result.now ≡ tools_of self.now }
+        ensures range { AreTools result.now }
+    {
+        self.tools.as_slice()
+    }
+
+    /// The tool of a number, where the table has one.
+    pub fn find(&self, number: u32) -> Option<Tool>
+        ensures found { result ≡ tool_at (tools_of self.now) number }
+        ensures range { IfSome result IsTool }
+    {
+        self.tools
+            .iter()
+            .find(|tool| tool.number == number)
+            .copied()
+    }
+}
