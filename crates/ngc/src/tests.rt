@@ -1,33 +1,63 @@
 use linked_list_allocator::LocalHeap;
 use ngc_command_line::{ListOptions, Options};
-use ngc_fixed_length::{Device, DeviceFault, Sink};
+use ngc_fixed_length::{Device, DeviceFault, Sink, Source};
 use ngc_line_reader::ReadFault;
-use ngc_simulator::{Files, ListFault, answer, list};
+use ngc_simulator::{Files, Tools, answer, list, row_machine};
 use std::alloc::Global;
 use std::process::Abort;
 use std::test::Fail;
 
+mod arcs;
+mod cycles;
+mod files;
+mod interpreter;
 mod rows;
 
-// A program on standard input, and no other file.
+// A file's text, of which the contracts know nothing.
 #[derive(Drop)]
-struct OneFile<'a> {
-    text: &'a [u8],
+struct Text<'a> {
+    rest: &'a [u8],
+}
+
+impl Source for Text<'_> {
+    ghost use Rattle.std.specs.Prelude.{None};
+
+    ghost remaining = { λ _. None };
+
+    ghost failures = { λ _. 0 };
+
+    fn pull(&mut self, buf: &mut [u8]) -> Result<usize, DeviceFault> {
+        let count = self.rest.len().min(buf.len());
+        let (now, later) = self.rest.split_at(count);
+        buf[..count].copy_from_slice(now);
+        self.rest = later;
+        Ok(count)
+    }
+}
+
+// A program on standard input, and the files `machine` and `tools`.
+#[derive(Drop)]
+struct SomeFiles<'a> {
+    program: &'a [u8],
+    machine: &'a [u8],
+    tools: &'a [u8],
     failures: u64,
 }
 
-impl<'a> Files for OneFile<'a> {
-    ghost use Rattle.std.specs.Prelude.{Some};
+impl<'a> Files for SomeFiles<'a> {
+    ghost use Rattle.std.specs.Prelude.{None};
 
-    type R = Device<&'a [u8]>;
+    type R = Text<'a>;
 
     ghost failures = { λ f. f.failures };
 
-    ghost bytes = { λ f _. Some f.text.now };
+    ghost bytes = { λ _ _. None };
 
-    fn source(&mut self, name: Option<&str>) -> Result<Device<&'a [u8]>, ReadFault> {
+    fn source(&mut self, name: Option<&str>) -> Result<Text<'a>, ReadFault> {
         match name {
-            None => Ok(Device::new(self.text)),
+            None => Ok(Text { rest: self.program }),
+            Some("machine") => Ok(Text { rest: self.machine }),
+            Some("tools") => Ok(Text { rest: self.tools }),
             Some(_) => {
                 self.failures = self.failures.saturating_add(1);
                 Err(ReadFault::Device)
@@ -36,17 +66,34 @@ impl<'a> Files for OneFile<'a> {
     }
 }
 
-// What the program answers for a text: its status, its output and its line of a fault.
-fn run(alloc: Global, text: &[u8], delete: bool) -> (u8, Vec<u8>, Vec<u8>) {
-    let mut files = OneFile { text, failures: 0 };
+// What `ngc list` comes to: its status, its output and its line of a fault.
+fn run_on(
+    alloc: Global,
+    files: &mut SomeFiles<'_>,
+    options: &ListOptions<'_>,
+) -> (u8, Vec<u8>, Vec<u8>) {
     let mut output = Device::new(Vec::new(alloc));
     let mut errors = Device::new(Vec::new(alloc));
-    let options = Options::List(ListOptions {
-        program: None,
-        delete,
-    });
-    let status = answer(alloc, &options, &mut files, &mut output, &mut errors);
+    let options = Options::List(*options);
+    let status = answer(alloc, &options, files, &mut output, &mut errors);
     (status, output.into_inner(), errors.into_inner())
+}
+
+// The same of a text on the built-in machine without tools.
+fn run(alloc: Global, text: &[u8], delete: bool) -> (u8, Vec<u8>, Vec<u8>) {
+    let mut files = SomeFiles {
+        program: text,
+        machine: b"",
+        tools: b"",
+        failures: 0,
+    };
+    let options = ListOptions {
+        program: None,
+        machine: None,
+        tools: None,
+        delete,
+    };
+    run_on(alloc, &mut files, &options)
 }
 
 fn lists(rt: &impl Abort, alloc: Global, text: &[u8], listing: &[u8]) {
@@ -71,24 +118,39 @@ fn refuses(rt: &impl Abort, alloc: Global, text: &[u8], fault: &[u8]) {
 }
 
 #[test]
-fn a_file_that_is_not_there(rt: HostRuntime) {
-    let mut files = OneFile {
-        text: b"M2\n",
-        failures: 0,
-    };
-    let mut output = Device::new(Vec::new(rt.alloc()));
-    let mut errors = Device::new(Vec::new(rt.alloc()));
-    let options = Options::List(ListOptions {
-        program: Some("none.ngc"),
+fn files_that_are_not_there(rt: HostRuntime) {
+    let none = ListOptions {
+        program: None,
+        machine: None,
+        tools: None,
         delete: false,
-    });
-    let status = answer(rt.alloc(), &options, &mut files, &mut output, &mut errors);
-    assert_eq!(rt; status, 1);
-    assert_eq!(rt;
-        errors.into_inner().as_slice(),
-        b"ngc: fault 901\n".as_slice()
-    );
-    assert_eq!(rt; output.into_inner().as_slice(), b"".as_slice());
+    };
+    for options in [
+        ListOptions {
+            program: Some("none"),
+            ..none
+        },
+        ListOptions {
+            machine: Some("none"),
+            ..none
+        },
+        ListOptions {
+            tools: Some("none"),
+            ..none
+        },
+    ] {
+        let mut files = SomeFiles {
+            program: b"M2\n",
+            machine: b"",
+            tools: b"",
+            failures: 0,
+        };
+        let (status, output, errors) = run_on(rt.alloc(), &mut files, &options);
+        assert_eq!(rt; status, 1);
+        assert_eq!(rt; errors.as_slice(), b"ngc: fault 901\n".as_slice());
+        assert_eq!(rt; output.as_slice(), b"".as_slice());
+        assert_eq!(rt; files.failures, 1);
+    }
 }
 
 // Takes some calls, and fails at the next.
@@ -129,7 +191,9 @@ fn a_sink_that_fails_has_a_beginning(rt: HostRuntime) {
             calls_left: calls,
             failures: 0,
         };
-        let result = list(rt.alloc(), &mut source, false, &mut sink);
+        let machine = row_machine(rt.alloc());
+        let tools = Tools::empty(rt.alloc());
+        let result = list(rt.alloc(), &mut source, &machine, &tools, false, &mut sink);
         assert_eq!(rt;
             result.is_ok(),
             calls == listing.len(),
@@ -144,20 +208,20 @@ fn a_sink_that_fails_has_a_beginning(rt: HostRuntime) {
     }
 }
 
-#[test]
-fn refused_memory_is_told(rt: HostRuntime) -> Result<(), Fail> {
+// With little memory, and then with more and more: 900 and nothing written, or the whole listing.
+fn refused_or_whole(rt: &impl Abort, alloc: Global, text: &[u8]) -> Result<(), Fail> {
+    let (_, listing, _) = run(alloc, text, false);
     let mut refused = 0u32;
     let mut done = 0u32;
-    for blocks in 1..40usize {
-        let heap = LocalHeap::new(rt.alloc(), 2048 * blocks)?;
-        let mut source = Device::new(b"#1=2\nG0 X#1\nM2\n".as_slice());
-        let mut output = Device::new(Vec::new(rt.alloc()));
-        match list(&heap, &mut source, false, &mut output) {
+    for count in 1..60usize {
+        let heap = LocalHeap::new(alloc, 4096 * count)?;
+        let mut source = Device::new(text);
+        let mut output = Device::new(Vec::new(alloc));
+        let machine = row_machine(&heap);
+        let tools = Tools::empty(&heap);
+        match list(&heap, &mut source, &machine, &tools, false, &mut output) {
             Ok(()) => {
-                assert_eq!(rt;
-                    output.into_inner().as_slice(),
-                    b"0 2 traverse 2000000 0 0 grid 200 0 0\n1 3 end\n".as_slice()
-                );
+                assert_eq!(rt; output.into_inner().as_slice(), listing.as_slice());
                 done = done.saturating_add(1);
             }
             Err(fault) => {
@@ -169,6 +233,12 @@ fn refused_memory_is_told(rt: HostRuntime) -> Result<(), Fail> {
     }
     assert!(rt; refused > 0 && done > 0);
     Ok(())
+}
+
+#[test]
+fn refused_memory_is_told(rt: HostRuntime) -> Result<(), Fail> {
+    refused_or_whole(&rt, rt.alloc(), b"#1=2\nG0 X#1\nM2\n")?;
+    refused_or_whole(&rt, rt.alloc(), b"G83 X0 Y0 Z-1 R0 Q0.01 F60\nM2\n")
 }
 
 #[test]

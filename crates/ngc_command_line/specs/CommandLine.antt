@@ -12,10 +12,11 @@ file_option name = record (new_rule name) { long = Some name; value_names = 1; a
 abbrev pub flag : Text → Rule
 flag name = record (new_rule name) { long = Some name; action = Some SetTrue }
 
--- `list [--program FILE] [--delete]`
+-- `list [--program FILE] [--machine FILE] [--tools FILE] [--delete]`
 abbrev pub list_app : App
 list_app = fold with_rule (new_app (codes "list"))
-    (file_option (codes "program") ∷ flag (codes "delete") ∷ [])
+    (file_option (codes "program") ∷ file_option (codes "machine") ∷ file_option (codes "tools")
+    ∷ flag (codes "delete") ∷ [])
 
 -- the words begin after the program's name, and name a subcommand
 abbrev pub ngc_settings : App
@@ -41,6 +42,7 @@ abbrev pub flag_words : Text → Bool → List Text
 flag_words word set = if set then word ∷ [] else []
 
 -- the words of `ngc list` with these options, in one spelling
-abbrev pub list_words : Option Text → Bool → List Text
-list_words program delete = codes "list"
-    ∷ (file_words (codes "--program=") program ++ flag_words (codes "--delete") delete)
+abbrev pub list_words : Option Text → Option Text → Option Text → Bool → List Text
+list_words program machine tools delete = codes "list"
+    ∷ (file_words (codes "--program=") program ++ file_words (codes "--machine=") machine
+    ++ file_words (codes "--tools=") tools ++ flag_words (codes "--delete") delete)

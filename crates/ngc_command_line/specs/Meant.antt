@@ -19,9 +19,11 @@ IsTaken words = fault_of ngc_app words ≡ []
 abbrev pub is_set : Text → List Row → Bool
 is_set name rows = option_map_or (λ value. bytes_eq value (codes "true")) (first_of name rows) false
 
--- each option of `list` by the values that were found
+-- each option of `list` by the values that were found: a file by the first value under its own name
 pub record AreListOptions (rows : List Row) (options : ListOptions) : Type 0 where
   pub program : option_map (λ name. name.now) options.program ≡ first_of (codes "program") rows
+  pub machine : option_map (λ name. name.now) options.machine ≡ first_of (codes "machine") rows
+  pub tools : option_map (λ name. name.now) options.tools ≡ first_of (codes "tools") rows
   pub delete : options.delete ≡ is_set (codes "delete") rows
 
 -- a subcommand of these has the name
@@ -35,9 +37,12 @@ AreOptions None options = ⊥
 AreOptions (Some found) (ToList list) = (found.0 ≡ codes "list") × AreListOptions found.1 list
 
 -- `list` is asked for, with these options
-abbrev pub AsksForList : Option Text → Bool → Options → Type 0
-AsksForList program delete (ToList list) =
-    (option_map (λ name. name.now) list.program ≡ program) × (list.delete ≡ delete)
+abbrev pub AsksForList : Option Text → Option Text → Option Text → Bool → Options → Type 0
+AsksForList program machine tools delete (ToList list) =
+    (option_map (λ name. name.now) list.program ≡ program)
+    × (option_map (λ name. name.now) list.machine ≡ machine)
+    × (option_map (λ name. name.now) list.tools ≡ tools)
+    × (list.delete ≡ delete)
 
 -- the table of numbers
 abbrev pub usage_fault_number : UsageFault → ℕ

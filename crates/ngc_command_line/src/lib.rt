@@ -33,6 +33,10 @@ pub enum Options<'a> {
 pub struct ListOptions<'a> {
     /// The file of the part program. With none it comes from standard input.
     pub program: Option<&'a str>,
+    /// The machine file. With none a built-in small mill is used.
+    pub machine: Option<&'a str>,
+    /// The file of the tool table. With none there are no tools.
+    pub tools: Option<&'a str>,
     /// Whether block delete is on, so that lines that begin with `/` are left out.
     pub delete: bool,
 }
@@ -69,7 +73,7 @@ Exit status:
   0  done
   1  input could not be read, output not written, or memory ran out
   2  the command line was wrong, or asked for help
-  3  the part program was refused
+  3  the part program, the machine file or the tool table was refused
 
 A refusal names its fault by a number, as in `ngc: fault 113 line 7 column 4`.
 The file docs/FAULTS.md explains each number.";
@@ -105,6 +109,26 @@ fn program_argument<'a>(alloc: Global) -> Arg<'a>
     )
 }
 
+fn machine_argument<'a>(alloc: Global) -> Arg<'a>
+    ensures { rule_of result ≡ file_option (codes "machine") }
+{
+    file_argument(
+        alloc,
+        "machine",
+        "Machine file in TOML: its step, travel and home points\n[default: a built-in small mill]",
+    )
+}
+
+fn tools_argument<'a>(alloc: Global) -> Arg<'a>
+    ensures { rule_of result ≡ file_option (codes "tools") }
+{
+    file_argument(
+        alloc,
+        "tools",
+        "Tool table in TOML: each tool's number, size and offset\n[default: no tools]",
+    )
+}
+
 fn delete_argument<'a>(alloc: Global) -> Arg<'a>
     ensures { rule_of result ≡ flag (codes "delete") }
 {
@@ -131,6 +155,8 @@ fn list_command<'a>(alloc: Global) -> Result<Command<'a>, AllocError>
         "Print the commands of a part program, one a line",
     )
     .arg(program_argument(alloc))?
+    .arg(machine_argument(alloc))?
+    .arg(tools_argument(alloc))?
     .arg(delete_argument(alloc))
 }
 
@@ -179,6 +205,8 @@ fn list_options<'a>(found: &ArgMatches<'a>) -> ListOptions<'a>
 {
     ListOptions {
         program: found.get_str("program"),
+        machine: found.get_str("machine"),
+        tools: found.get_str("tools"),
         delete: flag_is_set(found, "delete"),
     }
 }
@@ -207,10 +235,12 @@ pub fn read_options<'a>(alloc: Global, words: &'a [&'a str]) -> Result<Options<'
     // refused only for want of memory.
     ensures taken { OnOk result (IsTaken (texts words.entry.now)) }
     ensures refused { IsTaken (texts words.entry.now) → IsOkUnless result UsageFault.Memory }
-    // `list --program=FILE --delete`, where each option may be left out, is read as it is spelled.
-    ensures spelled { (program : Option Text) (delete : Bool)
-        → texts words.entry.now ≡ list_words program delete
-        → MatchResult result (AsksForList program delete) (λ fault. fault ≡ UsageFault.Memory) }
+    // `list --program=FILE --machine=FILE --tools=FILE --delete`, where each option may be left
+    // out, is read as it is spelled.
+    ensures spelled { (program machine tools : Option Text) (delete : Bool)
+        → texts words.entry.now ≡ list_words program machine tools delete
+        → MatchResult result (AsksForList program machine tools delete)
+        (λ fault. fault ≡ UsageFault.Memory) }
 {
     let Ok(command) = ngc_command(alloc) else {
         return Err(UsageFault::Memory);

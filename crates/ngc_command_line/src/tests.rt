@@ -19,26 +19,66 @@ fn is_refused_with<'a>(alloc: Global, words: &'a [&'a str], parts: &[&str]) -> b
     }
 }
 
+const NOTHING: ListOptions<'static> = ListOptions {
+    program: None,
+    machine: None,
+    tools: None,
+    delete: false,
+};
+
 #[test]
 fn reads_each_spelling(rt: HostRuntime) {
-    let plain = ListOptions {
-        program: None,
-        delete: false,
-    };
     let named = ListOptions {
         program: Some("a.ngc"),
-        delete: false,
+        ..NOTHING
     };
     let both = ListOptions {
-        program: Some("a.ngc"),
         delete: true,
+        ..named
     };
     let alloc = rt.alloc();
-    assert!(rt; is_read_as(alloc, &["list"], plain));
+    assert!(rt; is_read_as(alloc, &["list"], NOTHING));
     assert!(rt; is_read_as(alloc, &["list", "--program", "a.ngc"], named));
     assert!(rt; is_read_as(alloc, &["list", "--program=a.ngc"], named));
     assert!(rt; is_read_as(alloc, &["list", "--program=a.ngc", "--delete"], both));
     assert!(rt; is_read_as(alloc, &["list", "--delete", "--program", "a.ngc"], both));
+}
+
+#[test]
+fn reads_machine_and_tools(rt: HostRuntime) {
+    let machine = ListOptions {
+        machine: Some("mill.toml"),
+        ..NOTHING
+    };
+    let tools = ListOptions {
+        tools: Some("table.toml"),
+        ..NOTHING
+    };
+    let all = ListOptions {
+        program: Some("a.ngc"),
+        machine: Some("mill.toml"),
+        tools: Some("table.toml"),
+        delete: true,
+    };
+    let alloc = rt.alloc();
+    assert!(rt; is_read_as(alloc, &["list", "--machine", "mill.toml"], machine));
+    assert!(rt; is_read_as(alloc, &["list", "--machine=mill.toml"], machine));
+    assert!(rt; is_read_as(alloc, &["list", "--tools", "table.toml"], tools));
+    assert!(rt; is_read_as(alloc, &["list", "--tools=table.toml"], tools));
+    assert!(rt;
+        is_read_as(
+            alloc,
+            &[
+                "list",
+                "--tools=table.toml",
+                "--delete",
+                "--machine",
+                "mill.toml",
+                "--program=a.ngc",
+            ],
+            all,
+        )
+    );
 }
 
 // A file's name may be any text in one word with its option. As a word of its own it begins with
@@ -47,15 +87,15 @@ fn reads_each_spelling(rt: HostRuntime) {
 fn reads_odd_names(rt: HostRuntime) {
     let hyphen = ListOptions {
         program: Some("-"),
-        delete: false,
+        ..NOTHING
     };
     let flag = ListOptions {
         program: Some("--delete"),
-        delete: false,
+        ..NOTHING
     };
     let empty = ListOptions {
         program: Some(""),
-        delete: false,
+        ..NOTHING
     };
     let alloc = rt.alloc();
     assert!(rt; is_read_as(alloc, &["list", "--program", "-"], hyphen));
@@ -92,24 +132,36 @@ fn refuses(rt: HostRuntime) {
     assert!(rt;
         is_refused_with(
             alloc,
-            &["list", "--program"],
-            &["a value is required", "--help"]
-        )
-    );
-    assert!(rt;
-        is_refused_with(
-            alloc,
-            &["list", "--program=a", "--program=b"],
-            &["multiple times", list_usage],
-        )
-    );
-    assert!(rt;
-        is_refused_with(
-            alloc,
             &["list", "--delete", "--delete"],
             &["multiple times", list_usage],
         )
     );
+}
+
+#[test]
+fn refuses_a_file_option_without_a_file_or_twice(rt: HostRuntime) {
+    let alloc = rt.alloc();
+    for option in ["--program", "--machine", "--tools"] {
+        let alone = ["list", option];
+        let before_another = ["list", option, "--delete"];
+        let twice = ["list", option, "a", option, "a"];
+        let value = ["a value is required", option, "--help"];
+        let once = ["multiple times", option, "Usage: ngc list [OPTIONS]"];
+        assert!(rt; is_refused_with(alloc, &alone, &value), "{option}");
+        assert!(rt; is_refused_with(alloc, &before_another, &value), "{option}");
+        assert!(rt; is_refused_with(alloc, &twice, &once), "{option}");
+    }
+}
+
+fn stand_in_order(text: &str, parts: &[&str]) -> bool {
+    let mut rest = text;
+    for part in parts {
+        let Some((_, behind)) = rest.split_once(*part) else {
+            return false;
+        };
+        rest = behind;
+    }
+    true
 }
 
 #[test]
@@ -121,11 +173,23 @@ fn helps(rt: HostRuntime) {
         "Exit status:",
         "docs/FAULTS.md",
     ];
-    let own = ["--program <FILE>", "standard input", "--delete", "off"];
+    let own = [
+        "--program <FILE>",
+        "[default: standard input]",
+        "--machine <FILE>",
+        "[default: a built-in small mill]",
+        "--tools <FILE>",
+        "[default: no tools]",
+        "--delete",
+        "[default: off]",
+    ];
     assert!(rt; is_refused_with(alloc, &["--help"], &parts));
     assert!(rt; is_refused_with(alloc, &["-h"], &parts));
     assert!(rt; is_refused_with(alloc, &["list", "--help"], &parts));
-    assert!(rt; is_refused_with(alloc, &["list", "--help"], &own));
+    match read_options(alloc, &["list", "--help"]) {
+        Err(UsageFault::Usage(text)) => assert!(rt; stand_in_order(text.as_str(), &own)),
+        _ => assert!(rt; false, "help is a refusal"),
+    }
 }
 
 fn is_narrow(text: &str) -> bool {

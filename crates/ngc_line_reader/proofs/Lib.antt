@@ -15,6 +15,8 @@ mod Examples
 mod FileExamples
 pub mod Blanks
 pub mod StoredLaws
+pub mod SymbolLaws
+pub mod KeptLaws
 pub mod Feeds
 pub mod Walk
 pub mod LoadLaws

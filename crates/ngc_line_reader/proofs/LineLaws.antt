@@ -467,12 +467,12 @@ slash_takes s = by_test (begins 47 s) refl where
   by_test true e = rw e (begins_is 47 s e)
   by_test false e = rw e refl
 
-record TakesText (place : ℕ → ℕ) (s : List ℕ) (x : Said) : Type 0 where
-  r : Reading
-  is : IsReading r
-  limit : AllWithinLimit r.items
-  says : x ≡ said place r
-  spelled : spelling r ≡ s
+pub record TakesText (place : ℕ → ℕ) (s : List ℕ) (x : Said) : Type 0 where
+  pub r : Reading
+  pub is : IsReading r
+  pub limit : AllWithinLimit r.items
+  pub says : x ≡ said place r
+  pub spelled : spelling r ≡ s
 
 abbrev saying : Bool → Option ℕ → Parts → Said
 saying b n parts = record { deleted = b; number = n; parts = parts }
@@ -480,7 +480,7 @@ saying b n parts = record { deleted = b; number = n; parts = parts }
 same_said : (b : Bool) (m n : Option ℕ) (x y : Parts) → m ≡ n → x ≡ y → saying b m x ≡ saying b n y
 same_said b m n x y p q = cc
 
-text_takes : (place : ℕ → ℕ) (s : List ℕ) (x : Said) → text_at place s ≡ Ok x → TakesText place s x
+pub text_takes : (place : ℕ → ℕ) (s : List ℕ) (x : Said) → text_at place s ≡ Ok x → TakesText place s x
 unfolding text_at
 text_takes place s x e =
     let t = after_slash s in

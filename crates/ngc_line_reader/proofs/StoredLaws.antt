@@ -5,6 +5,7 @@ use Rattle.std.specs.List.{list_all}
 use Rattle.std.proofs.lemmas.Bool.Decides.{nat_tests}
 use Rattle.std.proofs.lemmas.List.{take-append-le, drop-append-le, length-drop}
 use Rattle.std.proofs.Math.Seq.{drop-append_seam}
+use Rattle.ngc_line_reader.specs.declared.program.parts.LineParts.{LineParts}
 use Rattle.ngc_line_reader.specs.declared.program.stored.LineEnd.{LineEnd}
 use Rattle.ngc_line_reader.specs.Program.{Line}
 use Rattle.ngc_line_reader.specs.ReadLine.{line_read}
@@ -46,8 +47,8 @@ ends_within start total (e ∷ ends) h =
     let w : (start ≤ e.end) × (are_ends e.end total ends ≡ true) = at_most start e.end _ h in
     omega (arith, w.0, ends_within e.end total ends w.1)
 
-abbrev pub end_of : ℕ → List ℕ → List ℕ → LineEnd
-end_of number bytes new = record { number = number; end = length bytes + length new }
+abbrev pub end_of : ℕ → LineParts → List ℕ → List ℕ → LineEnd
+end_of number parts bytes new = record { number = number; end = length bytes + length new; parts = parts }
 
 seam : (bytes new : List ℕ) (start : ℕ) → start ≡ length bytes → slice_range (bytes ++ new) start (length bytes + length new) ≡ new
 seam bytes new start e =
@@ -63,20 +64,20 @@ range_stays bytes new start end h k =
     let m : end - start ≤ length (drop start bytes) = simp length-drop (omega arith) in
     rw (drop-append-le start bytes new, take-append-le (end - start) (drop start bytes) new) refl
 
-push_from : (number : ℕ) (bytes new : List ℕ) (start : ℕ) (ends : List LineEnd) → are_ends start (length bytes) ends ≡ true
-    → lines_from (bytes ++ new) start (ends ++ (end_of number bytes new ∷ [])) ≡ lines_from bytes start ends ++ (line_of number new ∷ [])
-push_from number bytes new start [] h = ap (λ (b : List ℕ). line_of number b ∷ []) (seam bytes new start (same_true start (length bytes) h))
-push_from number bytes new start (e ∷ ends) h =
+push_from : (number : ℕ) (parts : LineParts) (bytes new : List ℕ) (start : ℕ) (ends : List LineEnd) → are_ends start (length bytes) ends ≡ true
+    → lines_from (bytes ++ new) start (ends ++ (end_of number parts bytes new ∷ [])) ≡ lines_from bytes start ends ++ (line_of number new ∷ [])
+push_from number parts bytes new start [] h = ap (λ (b : List ℕ). line_of number b ∷ []) (seam bytes new start (same_true start (length bytes) h))
+push_from number parts bytes new start (e ∷ ends) h =
     let w : (start ≤ e.end) × (are_ends e.end (length bytes) ends ≡ true) = at_most start e.end _ h in
-    rw (range_stays bytes new start e.end w.0 (ends_within e.end (length bytes) ends w.1), push_from number bytes new e.end ends w.1) refl
+    rw (range_stays bytes new start e.end w.0 (ends_within e.end (length bytes) ends w.1), push_from number parts bytes new e.end ends w.1) refl
 
-ends_more : (number : ℕ) (bytes new : List ℕ) (start : ℕ) (ends : List LineEnd) → are_ends start (length bytes) ends ≡ true
-    → are_ends start (length (bytes ++ new)) (ends ++ (end_of number bytes new ∷ [])) ≡ true
-ends_more number bytes new start [] h =
+ends_more : (number : ℕ) (parts : LineParts) (bytes new : List ℕ) (start : ℕ) (ends : List LineEnd) → are_ends start (length bytes) ends ≡ true
+    → are_ends start (length (bytes ++ new)) (ends ++ (end_of number parts bytes new ∷ [])) ≡ true
+ends_more number parts bytes new start [] h =
     joined _ _ (true_le start (length bytes + length new) (omega (arith, same_true start (length bytes) h))) (true_same _ _ (sym (length-append bytes new)))
-ends_more number bytes new start (e ∷ ends) h =
+ends_more number parts bytes new start (e ∷ ends) h =
     let w : (start ≤ e.end) × (are_ends e.end (length bytes) ends ≡ true) = at_most start e.end _ h in
-    joined _ _ (true_le start e.end w.0) (ends_more number bytes new e.end ends w.1)
+    joined _ _ (true_le start e.end w.0) (ends_more number parts bytes new e.end ends w.1)
 
 -- the parts of what is stored
 record Parts (bytes : List ℕ) (ends : List LineEnd) : Type 0 where
@@ -91,13 +92,13 @@ parts_of bytes ends h =
     record { ordered = w.0; few = v.0; read = v.1 }
 
 -- a line more
-pub lines_pushed : (number : ℕ) (bytes new : List ℕ) (ends : List LineEnd) → is_stored bytes ends ≡ true
-    → lines_from (bytes ++ new) 0 (ends ++ (end_of number bytes new ∷ [])) ≡ lines_from bytes 0 ends ++ (line_of number new ∷ [])
-lines_pushed number bytes new ends h = push_from number bytes new 0 ends (parts_of bytes ends h).ordered
+pub lines_pushed : (number : ℕ) (parts : LineParts) (bytes new : List ℕ) (ends : List LineEnd) → is_stored bytes ends ≡ true
+    → lines_from (bytes ++ new) 0 (ends ++ (end_of number parts bytes new ∷ [])) ≡ lines_from bytes 0 ends ++ (line_of number new ∷ [])
+lines_pushed number parts bytes new ends h = push_from number parts bytes new 0 ends (parts_of bytes ends h).ordered
 
-more_room : (number : ℕ) (bytes new : List ℕ) (ends : List LineEnd) → length bytes ≤ 256 * length ends → length new ≤ 256
-    → length (bytes ++ new) ≤ 256 * length (ends ++ (end_of number bytes new ∷ []))
-more_room number bytes new ends h k = omega (arith, length-append bytes new, length-append ends (end_of number bytes new ∷ []))
+more_room : (number : ℕ) (parts : LineParts) (bytes new : List ℕ) (ends : List LineEnd) → length bytes ≤ 256 * length ends → length new ≤ 256
+    → length (bytes ++ new) ≤ 256 * length (ends ++ (end_of number parts bytes new ∷ []))
+more_room number parts bytes new ends h k = omega (arith, length-append bytes new, length-append ends (end_of number parts bytes new ∷ []))
 
 read_more : (lines : List Line) (line : Line) → list_all is_read lines ≡ true → IsOk (line_read line.bytes) → list_all is_read (lines ++ (line ∷ [])) ≡ true
 read_more [] line h read = joined (is_read line) true read refl
@@ -105,14 +106,14 @@ read_more (x ∷ lines) line h read =
     let w : (is_read x ≡ true) × (list_all is_read lines ≡ true) = both _ _ h in
     joined (is_read x) _ w.0 (read_more lines line w.1 read)
 
-pub stored_pushed : (number : ℕ) (bytes new : List ℕ) (ends : List LineEnd) → is_stored bytes ends ≡ true → length new ≤ 256 → IsOk (line_read new)
-    → is_stored (bytes ++ new) (ends ++ (end_of number bytes new ∷ [])) ≡ true
-stored_pushed number bytes new ends h short read =
+pub stored_pushed : (number : ℕ) (parts : LineParts) (bytes new : List ℕ) (ends : List LineEnd) → is_stored bytes ends ≡ true → length new ≤ 256 → IsOk (line_read new)
+    → is_stored (bytes ++ new) (ends ++ (end_of number parts bytes new ∷ [])) ≡ true
+stored_pushed number parts bytes new ends h short read =
     let w = parts_of bytes ends h in
-    let all : list_all is_read (lines_from (bytes ++ new) 0 (ends ++ (end_of number bytes new ∷ []))) ≡ true =
-    ap (list_all is_read) (push_from number bytes new 0 ends w.ordered) ∙ read_more (lines_from bytes 0 ends) (line_of number new) w.read read in
-    joined (are_ends 0 (length (bytes ++ new)) (ends ++ (end_of number bytes new ∷ []))) _ (ends_more number bytes new 0 ends w.ordered)
-    (joined (nat_le (length (bytes ++ new)) (256 * length (ends ++ (end_of number bytes new ∷ [])))) _ (true_le _ _ (more_room number bytes new ends w.few short)) all)
+    let all : list_all is_read (lines_from (bytes ++ new) 0 (ends ++ (end_of number parts bytes new ∷ []))) ≡ true =
+    ap (list_all is_read) (push_from number parts bytes new 0 ends w.ordered) ∙ read_more (lines_from bytes 0 ends) (line_of number new) w.read read in
+    joined (are_ends 0 (length (bytes ++ new)) (ends ++ (end_of number parts bytes new ∷ []))) _ (ends_more number parts bytes new 0 ends w.ordered)
+    (joined (nat_le (length (bytes ++ new)) (256 * length (ends ++ (end_of number parts bytes new ∷ [])))) _ (true_le _ _ (more_room number parts bytes new ends w.few short)) all)
 
 pub stored_size : (bytes : List ℕ) (ends : List LineEnd) → is_stored bytes ends ≡ true → length bytes ≤ 256 * length ends
 stored_size bytes ends h = (parts_of bytes ends h).few
@@ -176,24 +177,24 @@ stored_read bytes ends i e s h is =
     read_at (lines_from bytes 0 ends) i _ (parts_of bytes ends s).read (stored_line bytes ends i e h is)
 
 -- what a push leaves
-pub record Pushes (number end : ℕ) (bytes new after : List ℕ) (ends behind : List LineEnd) : Type 0 where
+pub record Pushes (number end : ℕ) (parts : LineParts) (bytes new after : List ℕ) (ends behind : List LineEnd) : Type 0 where
   pub bytes_are : after ≡ bytes ++ new
   pub end_is : end ≡ length after
-  pub ends_are : behind ≡ ends ++ (record { number = number; end = end } ∷ [])
+  pub ends_are : behind ≡ ends ++ (record { number = number; end = end; parts = parts } ∷ [])
 
-pushed_ends : (number end : ℕ) (bytes new after : List ℕ) (ends behind : List LineEnd) → Pushes number end bytes new after ends behind → behind ≡ ends ++ (end_of number bytes new ∷ [])
-pushed_ends number end bytes new after ends behind p =
+pushed_ends : (number end : ℕ) (parts : LineParts) (bytes new after : List ℕ) (ends behind : List LineEnd) → Pushes number end parts bytes new after ends behind → behind ≡ ends ++ (end_of number parts bytes new ∷ [])
+pushed_ends number end parts bytes new after ends behind p =
     let same : end ≡ length bytes + length new = p.end_is ∙ ap length p.bytes_are ∙ length-append bytes new in
-    p.ends_are ∙ ap (λ (n : ℕ). ends ++ (record { number = number; end = n } ∷ [])) same
+    p.ends_are ∙ ap (λ (n : ℕ). ends ++ (record { number = number; end = n; parts = parts } ∷ [])) same
 
-pub push_lines : (number end : ℕ) (bytes new after : List ℕ) (ends behind : List LineEnd) → Pushes number end bytes new after ends behind → is_stored bytes ends ≡ true
+pub push_lines : (number end : ℕ) (parts : LineParts) (bytes new after : List ℕ) (ends behind : List LineEnd) → Pushes number end parts bytes new after ends behind → is_stored bytes ends ≡ true
     → lines_from after 0 behind ≡ lines_from bytes 0 ends ++ (line_of number new ∷ [])
-push_lines number end bytes new after ends behind p h =
-    ap (λ (b : List ℕ). lines_from b 0 behind) p.bytes_are ∙ ap (λ (e : List LineEnd). lines_from (bytes ++ new) 0 e) (pushed_ends number end bytes new after ends behind p)
-    ∙ lines_pushed number bytes new ends h
+push_lines number end parts bytes new after ends behind p h =
+    ap (λ (b : List ℕ). lines_from b 0 behind) p.bytes_are ∙ ap (λ (e : List LineEnd). lines_from (bytes ++ new) 0 e) (pushed_ends number end parts bytes new after ends behind p)
+    ∙ lines_pushed number parts bytes new ends h
 
-pub push_stored : (number end : ℕ) (bytes new after : List ℕ) (ends behind : List LineEnd) → Pushes number end bytes new after ends behind → is_stored bytes ends ≡ true
+pub push_stored : (number end : ℕ) (parts : LineParts) (bytes new after : List ℕ) (ends behind : List LineEnd) → Pushes number end parts bytes new after ends behind → is_stored bytes ends ≡ true
     → length new ≤ 256 → IsOk (line_read new) → is_stored after behind ≡ true
-push_stored number end bytes new after ends behind p h short read =
-    ap (λ (b : List ℕ). is_stored b behind) p.bytes_are ∙ ap (λ (e : List LineEnd). is_stored (bytes ++ new) e) (pushed_ends number end bytes new after ends behind p)
-    ∙ stored_pushed number bytes new ends h short read
+push_stored number end parts bytes new after ends behind p h short read =
+    ap (λ (b : List ℕ). is_stored b behind) p.bytes_are ∙ ap (λ (e : List LineEnd). is_stored (bytes ++ new) e) (pushed_ends number end parts bytes new after ends behind p)
+    ∙ stored_pushed number parts bytes new ends h short read

@@ -7,6 +7,9 @@ pub mod Scan
 pub mod ScanLine
 pub mod Tokens
 pub mod Held
+pub mod Shown
+pub mod Symbols
+pub mod Kept
 pub mod ReadLine
 pub mod ProgramText
 pub mod ReadFaults

@@ -14,7 +14,7 @@ mod token;
 pub use fault::{FaultKind, LineFault};
 pub use letter::Letter;
 pub use line::reading::read_line;
-pub use line::{Line, RawSetting, RawWord};
+pub use line::{Line, LineView, RawSetting, RawWord};
 pub use program::{Program, ReadFault};
 pub use token::{Operator, Symbol, Token};
 

@@ -1,3 +1,5 @@
+ghost use Rattle.std.specs.Prelude.{◌≡◌, ◌≤◌, length};
+
 use crate::letter::Letter;
 use crate::token::Token;
 use arrayvec::ArrayVec;
@@ -27,6 +29,36 @@ pub struct Line {
     pub words: ArrayVec<RawWord, 64>,
     pub settings: ArrayVec<RawSetting, 64>,
     pub tokens: ArrayVec<Token, 256>,
+}
+
+/// What a line says, but for its number, where it lies: at most 64 words, 64 settings and 256 tokens.
+#[derive(Clone, Copy)]
+pub struct LineView<'a> {
+    pub deleted: bool,
+    pub words: &'a [RawWord],
+    pub settings: &'a [RawSetting],
+    pub tokens: &'a [Token],
+    pub ghost few_words: { length words.now ≤ 64 },
+    pub ghost few_settings: { length settings.now ≤ 64 },
+    pub ghost few_tokens: { length tokens.now ≤ 256 },
+}
+
+impl Line {
+    ghost use Rattle.ngc_line_reader.specs.ScanLine.{parts_of};
+    ghost use Rattle.ngc_line_reader.specs.Shown.{view_parts};
+
+    /// What it says, but for its number.
+    pub fn view(&self) -> LineView<'_>
+        ensures deleted { result.deleted ≡ self.now.deleted }
+        ensures parts { view_parts result ≡ parts_of self.now }
+    {
+        LineView {
+            deleted: self.deleted,
+            words: self.words.as_slice(),
+            settings: self.settings.as_slice(),
+            tokens: self.tokens.as_slice(),
+        }
+    }
 }
 
 pub mod items;

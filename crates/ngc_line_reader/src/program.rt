@@ -1,7 +1,9 @@
-ghost use Rattle.std.specs.Prelude.{◌≡◌, ◌<◌, ◌≤◌, IsOk, length, IfOk, IfSome, Some, slice_get, IsTrue, ◌==◌};
+ghost use Rattle.std.specs.Prelude.{ℕ, List, ◌≡◌, ◌<◌, ◌≤◌, IsOk, length, IfOk, IfSome, Some, slice_get, IsTrue, ◌==◌};
 ghost use Rattle.std.specs.Option.{option_map};
 ghost use Rattle.ngc_fixed_length.specs.Failures.{Rises};
 ghost use Rattle.ngc_line_reader.specs.ReadLine.{line_read};
+ghost use Rattle.ngc_line_reader.specs.ScanLine.{parts_of};
+ghost use Rattle.ngc_line_reader.specs.Shown.{ShowsReading};
 ghost use Rattle.ngc_line_reader.specs.ProgramText.{program_of, HaveReadings};
 ghost use Rattle.ngc_line_reader.specs.ProgramView.{text_in, lines_in, OutcomeIs};
 ghost use Rattle.ngc_line_reader.specs.declared.program.fault.ReadFault.TheVariants.{Device};
@@ -14,6 +16,7 @@ use std::alloc::Allocator;
 
 mod fault;
 mod loader;
+mod parts;
 mod phase;
 mod stored;
 
@@ -67,6 +70,16 @@ impl<A: Allocator> Program<A> {
         ensures read { IsOk (line_read result.now) }
     {
         self.lines.bytes(index)
+    }
+
+    /// What a line that is read says, in place of what `line` holds, as `Line::read` finds it in the line's bytes: whether block
+    /// delete takes it out, its words, its settings, and the symbols of its values. It was kept when the line was read, without
+    /// the columns of tokens, which are 0 then, and without the number behind `N`, so `line.number` stays as it is.
+    pub fn load(&self, index: usize, line: &mut Line)
+        requires { index < length (text_in self.now).lines }
+        ensures { (bytes : List ℕ) → option_map (λ l. l.bytes) (slice_get (text_in self.now).lines index) ≡ Some bytes → ShowsReading bytes line.new.deleted (parts_of line.new) }
+    {
+        self.lines.load(index, line)
     }
 
     fn new(lines: StoredLines<A>, marked: bool) -> Program<A>

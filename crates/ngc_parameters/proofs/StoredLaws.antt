@@ -1,22 +1,24 @@
 -- A line that holds a reading has the values of its items.
 use Rattle.std.proofs.Common.{◌≡◌, ℕ, ◌+◌, ◌≤◌, ℤ, List, [], ◌∷◌, ◌++◌, length, drop, min, Result, Ok, Err, ap, subst, refl, sym, ◌∙◌, append_assoc, length-append, arith}
-use Rattle.std.proofs.lemmas.List.{append-nil, length-drop, drop_at, drop-drop}
+use Rattle.std.proofs.lemmas.List.{append-nil, length-drop, drop_at, drop-drop, drop-map}
 use Rattle.ngc_line_reader.specs.Scan.{Gives}
 use Rattle.ngc_line_reader.specs.declared.token.Token.{Token}
 use Rattle.ngc_line_reader.specs.declared.line.RawWord.{RawWord}
-use Rattle.ngc_line_reader.specs.declared.line.Line.{Line}
+use Rattle.ngc_line_reader.specs.declared.line.RawSetting.{RawSetting}
+use Rattle.ngc_line_reader.specs.ScanLine.{Parts}
+use Rattle.ngc_line_reader.specs.Shown.{Items, items_of, items_said}
 use Rattle.ngc_line_reader.specs.Text.{columns, place_in}
 use Rattle.ngc_line_reader.specs.Grammar.{Real, Item, word, setting, comment, Reading, behind, real_text, items_text}
 use Rattle.ngc_line_reader.specs.declared.token.Symbol.{Symbol}
 use Rattle.ngc_line_reader.specs.declared.letter.Letter.{Letter}
 use Rattle.ngc_line_reader.specs.Tokens.{symbols_of, symbols, tokens_of, IsWithinLimit}
 use Rattle.ngc_line_reader.proofs.TokenLemmas.{symbols-append, length-symbols, symbols-tokens_of, length-tokens_of}
-use Rattle.ngc_line_reader.specs.Held.{all_tokens, token_count, words_from, settings_from, Holds, AllWithinLimit}
+use Rattle.ngc_line_reader.specs.Held.{all_tokens, token_count, words_from, settings_from, AllWithinLimit}
 use Rattle.ngc_parameters.specs.declared.fault.EvalFault.{EvalFault}
 use Rattle.ngc_parameters.specs.Meaning.{◌>>=◌, Parameters, index_of, value_of, words_of, settings_of}
 use Rattle.ngc_parameters.specs.Evaluate.{symbol_value}
 use Rattle.ngc_parameters.specs.EvaluateView.{with_rest}
-use Rattle.ngc_parameters.specs.Stored.{tokens_from, value_from, words_after, words_on, settings_after, settings_on, values_on, line_values}
+use Rattle.ngc_parameters.specs.Stored.{tokens_from, value_from, words_after, words_on, change_from, settings_after, settings_on, values_on, line_values}
 use Rattle.ngc_parameters.proofs.Evaluates.{evaluates}
 
 -- tokens on hand: from first on they are these
@@ -127,23 +129,72 @@ all_found : {K : Type 0} (more : Result (Pairs K) EvalFault) → behind_found []
 all_found (Ok xs) = refl
 all_found (Err e) = refl
 
-pub line_words : (p : Parameters) (bytes : List ℕ) (line : Line) (r : Reading) → Holds bytes line r → AllWithinLimit r.items → words_on p line.tokens.items line.words.items ≡ words_of p r.items
-line_words p bytes line r h limit =
-    ap (λ (ws : List RawWord). words_on p line.tokens.items ws) h.words
-    ∙ words_are p line.tokens.items (place_in (columns bytes)) r.items (behind 59 r.remark) 0 [] limit (record { within = omega arith; are = h.tokens })
+-- ---- the columns of tokens count for nothing
+
+-- the value whose symbols begin at a place
+abbrev value_on : Parameters → List Symbol → ℕ → Result ℤ EvalFault
+value_on p ss first = symbol_value (length (drop (min first (length ss)) ss) + 1) 16 p (drop (min first (length ss)) ss) >>= λ x. Ok x.0
+
+symbols_behind : (tokens : List Token) (n : ℕ) → symbols (drop n tokens) ≡ drop n (symbols tokens)
+symbols_behind tokens n = sym (drop-map (λ (t : Token). t.symbol) n tokens)
+
+value_by_symbols : (p : Parameters) (tokens : List Token) (first : ℕ) → value_from p tokens first ≡ value_on p (symbols tokens) first
+value_by_symbols p tokens first =
+    let behind : symbols (tokens_from tokens first) ≡ drop (min first (length (symbols tokens))) (symbols tokens) =
+    symbols_behind tokens (min first (length tokens)) ∙ ap (λ (n : ℕ). drop (min first n) (symbols tokens)) (sym (length-symbols tokens)) in
+    ap (λ (n : ℕ). symbol_value (n + 1) 16 p (symbols (tokens_from tokens first)) >>= λ x. Ok x.0) (sym (length-symbols (tokens_from tokens first)))
+    ∙ ap (λ (ss : List Symbol). symbol_value (length ss + 1) 16 p ss >>= λ x. Ok x.0) behind
+
+same_value : (p : Parameters) (ts us : List Token) (first : ℕ) → symbols ts ≡ symbols us → value_from p ts first ≡ value_from p us first
+same_value p ts us first e = value_by_symbols p ts first ∙ ap (λ (ss : List Symbol). value_on p ss first) e ∙ sym (value_by_symbols p us first)
+
+-- the same behind each value
+same_behind : {X Y : Type 0} (r : Result X EvalFault) (f g : X → Result Y EvalFault) → ((x : X) → f x ≡ g x) → (r >>= f) ≡ (r >>= g)
+same_behind (Ok x) f g h = h x
+same_behind (Err e) f g h = refl
+
+same_words : (p : Parameters) (ts us : List Token) (found : Pairs Letter) (ws : List RawWord) → symbols ts ≡ symbols us → words_after p ts found ws ≡ words_after p us found ws
+same_words p ts us found [] e = refl
+same_words p ts us found (w ∷ ws) e =
+    ap (λ (r : Result ℤ EvalFault). r >>= λ x. words_after p ts (found ++ ((w.letter, x) ∷ [])) ws) (same_value p ts us w.first e)
+    ∙ same_behind (value_from p us w.first) _ _ (λ x. same_words p ts us (found ++ ((w.letter, x) ∷ [])) ws e)
+
+same_change : (p : Parameters) (ts us : List Token) (i v : ℕ) → symbols ts ≡ symbols us → change_from p ts i v ≡ change_from p us i v
+same_change p ts us i v e = rw (same_value p ts us i e, same_value p ts us v e) refl
+
+same_settings : (p : Parameters) (ts us : List Token) (found : Pairs ℕ) (ss : List RawSetting) → symbols ts ≡ symbols us → settings_after p ts found ss ≡ settings_after p us found ss
+same_settings p ts us found [] e = refl
+same_settings p ts us found (s ∷ ss) e =
+    ap (λ (r : Result (ℕ × ℤ) EvalFault). r >>= λ c. settings_after p ts (found ++ (c ∷ [])) ss) (same_change p ts us s.index s.value e)
+    ∙ same_behind (change_from p us s.index s.value) _ _ (λ c. same_settings p ts us (found ++ (c ∷ [])) ss e)
+
+-- ---- what is said
+
+-- the tokens of a reading of these bytes
+abbrev tokens_said : List ℕ → Reading → List Token
+tokens_said bytes r = all_tokens (place_in (columns bytes)) r.items (behind 59 r.remark)
+
+said_at : (bytes : List ℕ) (r : Reading) → At (tokens_said bytes r) 0 (tokens_said bytes r)
+said_at bytes r = record { within = omega arith; are = refl }
+
+line_words : (p : Parameters) (bytes : List ℕ) (parts : Parts) (r : Reading) → items_of parts ≡ items_said bytes r → AllWithinLimit r.items → words_on p parts.tokens parts.words ≡ words_of p r.items
+line_words p bytes parts r h limit =
+    same_words p parts.tokens (tokens_said bytes r) [] parts.words (ap (λ (x : Items). x.symbols) h)
+    ∙ ap (λ (ws : List RawWord). words_on p (tokens_said bytes r) ws) (ap (λ (x : Items). x.words) h)
+    ∙ words_are p (tokens_said bytes r) (place_in (columns bytes)) r.items (behind 59 r.remark) 0 [] limit (said_at bytes r)
     ∙ all_found (words_of p r.items)
 
-pub line_settings : (p : Parameters) (bytes : List ℕ) (line : Line) (r : Reading) → Holds bytes line r → AllWithinLimit r.items → settings_on p line.tokens.items line.settings.items ≡ settings_of p r.items
-line_settings p bytes line r h limit =
-    ap (λ ss. settings_on p line.tokens.items ss) h.settings
-    ∙ settings_are p line.tokens.items (place_in (columns bytes)) r.items (behind 59 r.remark) 0 [] limit (record { within = omega arith; are = h.tokens })
+line_settings : (p : Parameters) (bytes : List ℕ) (parts : Parts) (r : Reading) → items_of parts ≡ items_said bytes r → AllWithinLimit r.items → settings_on p parts.tokens parts.settings ≡ settings_of p r.items
+line_settings p bytes parts r h limit =
+    same_settings p parts.tokens (tokens_said bytes r) [] parts.settings (ap (λ (x : Items). x.symbols) h)
+    ∙ ap (λ (ss : List RawSetting). settings_on p (tokens_said bytes r) ss) (ap (λ (x : Items). x.settings) h)
+    ∙ settings_are p (tokens_said bytes r) (place_in (columns bytes)) r.items (behind 59 r.remark) 0 [] limit (said_at bytes r)
     ∙ all_found (settings_of p r.items)
 
-pub line_found : (p : Parameters) (bytes : List ℕ) (line : Line) (r : Reading) → Holds bytes line r → AllWithinLimit r.items
-    → (words_on p line.tokens.items line.words.items >>= λ ws. settings_on p line.tokens.items line.settings.items >>= λ ss. Ok (ws, ss)) ≡ line_values p r.items
-line_found p bytes line r h limit = rw (line_words p bytes line r h limit, line_settings p bytes line r h limit) refl
+line_found : (p : Parameters) (bytes : List ℕ) (parts : Parts) (r : Reading) → items_of parts ≡ items_said bytes r → AllWithinLimit r.items → values_on p parts ≡ line_values p r.items
+line_found p bytes parts r h limit = rw (line_words p bytes parts r h limit, line_settings p bytes parts r h limit) refl
 
 -- what was computed is what the line's reading says
-pub line_is : {X : Type 0} (p : Parameters) (line : Line) (view : X → List (Letter × ℤ) × List (ℕ × ℤ)) (result : Result X EvalFault) → Gives view result (values_on p line)
-    → (bytes : List ℕ) (r : Reading) → Holds bytes line r → AllWithinLimit r.items → Gives view result (line_values p r.items)
-line_is p line view result g bytes r h limit = subst (λ (found : Result (List (Letter × ℤ) × List (ℕ × ℤ)) EvalFault). Gives view result found) (line_found p bytes line r h limit) g
+pub line_is : {X : Type 0} (p : Parameters) (parts : Parts) (view : X → List (Letter × ℤ) × List (ℕ × ℤ)) (result : Result X EvalFault) → Gives view result (values_on p parts)
+    → (bytes : List ℕ) (r : Reading) → items_of parts ≡ items_said bytes r → AllWithinLimit r.items → Gives view result (line_values p r.items)
+line_is p parts view result g bytes r h limit = subst (λ (found : Result (List (Letter × ℤ) × List (ℕ × ℤ)) EvalFault). Gives view result found) (line_found p bytes parts r h limit) g

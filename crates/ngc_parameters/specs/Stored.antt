@@ -3,7 +3,7 @@ use Rattle.std.specs.Prelude.{ℕ, ◌≡◌, ◌+◌, ℤ, List, [], ◌∷◌,
 use Rattle.ngc_line_reader.specs.declared.token.Token.{Token}
 use Rattle.ngc_line_reader.specs.declared.line.RawWord.{RawWord}
 use Rattle.ngc_line_reader.specs.declared.line.RawSetting.{RawSetting}
-use Rattle.ngc_line_reader.specs.declared.line.Line.{Line}
+use Rattle.ngc_line_reader.specs.ScanLine.{Parts}
 use Rattle.ngc_line_reader.specs.declared.letter.Letter.{Letter}
 use Rattle.ngc_line_reader.specs.Tokens.{symbols}
 use Rattle.ngc_line_reader.specs.Grammar.{Item}
@@ -63,8 +63,8 @@ abbrev pub settings_on : Parameters → List Token → List RawSetting → Resul
 settings_on p tokens ss = settings_after p tokens [] ss
 
 -- what a line's tokens come to
-abbrev pub values_on : Parameters → Line → Result (List (Letter × ℤ) × List (ℕ × ℤ)) EvalFault
-values_on p line = words_on p line.tokens.items line.words.items >>= λ ws. settings_on p line.tokens.items line.settings.items >>= λ ss. Ok (ws, ss)
+abbrev pub values_on : Parameters → Parts → Result (List (Letter × ℤ) × List (ℕ × ℤ)) EvalFault
+values_on p line = words_on p line.tokens line.words >>= λ ws. settings_on p line.tokens line.settings >>= λ ss. Ok (ws, ss)
 
 -- words' letters and values, and settings' indices and values; all values are found from the same parameters
 abbrev pub line_values : Parameters → List Item → Result (List (Letter × ℤ) × List (ℕ × ℤ)) EvalFault

@@ -2,6 +2,7 @@ ghost use Rattle.std.specs.Prelude.{◌≡◌, ℕ, ◌+◌, ◌≤◌, List, []
 ghost use Rattle.ngc_line_reader.specs.Grammar.{Reading};
 ghost use Rattle.ngc_line_reader.specs.Scan.{Gives};
 ghost use Rattle.ngc_line_reader.specs.Held.{Holds, AllWithinLimit};
+ghost use Rattle.ngc_line_reader.specs.Shown.{view_parts, items_of, items_said};
 ghost use Rattle.ngc_parameters.specs.EvaluateView.{held};
 ghost use Rattle.ngc_parameters.specs.Meaning.{after_settings};
 ghost use Rattle.ngc_parameters.specs.Stored.{parameters_of, changes_of, line_values, value_from, words_on, settings_on, pairs_of, values_in, IsSame, change_from, values_on};
@@ -12,7 +13,7 @@ use crate::fault::EvalFault;
 use crate::parameters::Store;
 use arrayvec::ArrayVec;
 use ngc_fixed_length::Value;
-use ngc_line_reader::{Letter, Line, Token};
+use ngc_line_reader::{Letter, Line, LineView, Token};
 use std::alloc::Allocator;
 
 const COUNT: usize = 5161;
@@ -68,16 +69,16 @@ fn value_at(parameters: &[Value], tokens: &[Token], first: u16) -> Result<Value,
 #[tactic(auto, using(crate::proofs::StoredSteps::mapped))]
 fn words_of(
     parameters: &[Value],
-    line: &Line,
+    line: LineView<'_>,
     words: &mut ArrayVec<Word, 64>,
 ) -> Result<(), EvalFault>
     requires { length parameters.now ≡ 5161 }
-    ensures value { Gives (λ _. pairs_of words.new.items) result (words_on (held parameters.now) line.now.tokens.items line.now.words.items) }
+    ensures value { Gives (λ _. pairs_of words.new.items) result (words_on (held parameters.now) line.entry.tokens.now line.entry.words.now) }
     ensures not_memory { IfErr result (λ e. e ≢ EvalFault.Memory) }
 {
     words.clear();
-    for raw in line.words.as_slice() {
-        match value_at(parameters, line.tokens.as_slice(), raw.first) {
+    for raw in line.words {
+        match value_at(parameters, line.tokens, raw.first) {
             Ok(value) => words.push(Word {
                 letter: raw.letter,
                 value,
@@ -117,16 +118,16 @@ fn change_of(
 #[tactic(auto, using(crate::proofs::StoredSteps::mapped))]
 fn changes_of_line(
     parameters: &[Value],
-    line: &Line,
+    line: LineView<'_>,
     changes: &mut Changes,
 ) -> Result<(), EvalFault>
     requires { length parameters.now ≡ 5161 }
-    ensures value { Gives (λ _. changes_of changes.new) result (settings_on (held parameters.now) line.now.tokens.items line.now.settings.items) }
+    ensures value { Gives (λ _. changes_of changes.new) result (settings_on (held parameters.now) line.entry.tokens.now line.entry.settings.now) }
     ensures not_memory { IfErr result (λ e. e ≢ EvalFault.Memory) }
 {
     changes.settings.clear();
-    for raw in line.settings.as_slice() {
-        match change_of(parameters, line.tokens.as_slice(), raw.index, raw.value) {
+    for raw in line.settings {
+        match change_of(parameters, line.tokens, raw.index, raw.value) {
             Ok(change) => changes.settings.push(change),
             Err(fault) => return Err(fault),
         }
@@ -135,9 +136,13 @@ fn changes_of_line(
 }
 
 // What words and settings come to.
-fn line_of(parameters: &[Value], line: &Line, values: &mut LineValues) -> Result<(), EvalFault>
+fn line_of(
+    parameters: &[Value],
+    line: LineView<'_>,
+    values: &mut LineValues,
+) -> Result<(), EvalFault>
     requires { length parameters.now ≡ 5161 }
-    ensures value { Gives (λ _. values_in values.new) result (values_on (held parameters.now) line.now) }
+    ensures value { Gives (λ _. values_in values.new) result (values_on (held parameters.now) (view_parts line.entry)) }
     ensures not_memory { IfErr result (λ e. e ≢ EvalFault.Memory) }
 {
     match words_of(parameters, line, &mut values.words) {
@@ -180,8 +185,8 @@ impl<A: Allocator> Store<A> {
 
     /// The values of a line's words, and what its settings do, in place of what `values` holds. All are found from what the
     /// parameters hold now. After a fault what `values` holds is unspecified.
-    pub fn read(&self, line: &Line, values: &mut LineValues) -> Result<(), EvalFault>
-        ensures value { (bytes : List ℕ) (r : Reading) → Holds bytes line.now r → AllWithinLimit r.items → Gives (λ _. values_in values.new) result (line_values (parameters_of self.now) r.items) }
+    pub fn read(&self, line: LineView<'_>, values: &mut LineValues) -> Result<(), EvalFault>
+        ensures value { (bytes : List ℕ) (r : Reading) → items_of (view_parts line.entry) ≡ items_said bytes r → AllWithinLimit r.items → Gives (λ _. values_in values.new) result (line_values (parameters_of self.now) r.items) }
         ensures not_memory { IfErr result (λ e. e ≢ EvalFault.Memory) }
     {
         line_of(self.values.as_slice(), line, values)
@@ -193,7 +198,7 @@ impl<A: Allocator> Store<A> {
         ensures not_memory { IfErr result (λ e. e ≢ EvalFault.Memory) }
     {
         let mut values = LineValues::empty();
-        match self.read(line, &mut values) {
+        match self.read(line.view(), &mut values) {
             Ok(()) => {
                 let LineValues { words, changes } = values;
                 Ok((words, changes))

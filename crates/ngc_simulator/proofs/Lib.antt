@@ -1,6 +1,5 @@
 pub mod Progress
 pub mod Added
-pub mod Words
-pub mod Lines
 pub mod ListLaws
 pub mod Told
+pub mod SetupLaws

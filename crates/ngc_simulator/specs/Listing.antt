@@ -1,11 +1,24 @@
 -- The listing: a line for each command. Our own format.
-use Rattle.std.specs.Prelude.{ℕ, ◌+◌, ℤ, List, [], ◌∷◌, ◌++◌, codes, decimal}
+use Rattle.std.specs.Prelude.{ℕ, ◌+◌, ℤ, List, [], ◌∷◌, ◌++◌, codes, decimal, Option, Some, None, Bool, true, false}
 use Rattle.std.specs.Fmt.{signed_decimal}
 use Rattle.ngc_fixed_length.specs.Grid.{grid}
+use Rattle.ngc_arc_geometry.specs.Shape.{ArcShape}
+use Rattle.ngc_fixed_length.specs.declared.modes.Plane.{Plane}
+use Rattle.ngc_fixed_length.specs.declared.modes.Plane.TheVariants.{XY, ZX, YZ}
+use Rattle.ngc_fixed_length.specs.declared.modes.Turn.{Turn}
+use Rattle.ngc_fixed_length.specs.declared.modes.Turn.TheVariants.{Clockwise, Counterclockwise}
 use Rattle.ngc_fixed_length.specs.declared.points.Point3.{Point3}
 use Rattle.ngc_fixed_length.specs.declared.points.StepPos.{StepPos}
-use Rattle.ngc_simulator.specs.declared.command.Command.{Command}
-use Rattle.ngc_simulator.specs.declared.command.Command.TheVariants.{Traverse, End}
+use Rattle.ngc_machine.specs.declared.tools.Tool.{Tool}
+use Rattle.ngc_canonical.specs.Commands.{line_of}
+use Rattle.ngc_canonical.specs.declared.command.Command.{Command}
+use Rattle.ngc_canonical.specs.declared.command.Command.TheVariants.{Traverse, Feed, Arc, Dwell, Tool as MountTool, Spindle, Coolant, Override, Stop, OptionalStop, End}
+use Rattle.ngc_canonical.specs.declared.command.Feed.{Feed as FeedOf}
+use Rattle.ngc_canonical.specs.declared.command.Feed.TheVariants as feeds
+use Rattle.ngc_canonical.specs.declared.command.SpindleState.{SpindleState}
+use Rattle.ngc_canonical.specs.declared.command.SpindleState.TheVariants as spindles
+use Rattle.ngc_canonical.specs.declared.command.CoolantState.{CoolantState}
+use Rattle.ngc_canonical.specs.declared.command.CoolantState.TheVariants as coolants
 
 -- three numbers, parted by one space
 abbrev pub triple : ℤ → ℤ → ℤ → List ℕ
@@ -21,14 +34,59 @@ steps_text p = triple p.x p.y p.z
 abbrev pub end_text : ℤ → Point3 → List ℕ
 end_text step end = place_text end ++ codes " grid " ++ steps_text (grid step end)
 
--- the command's line and what it does
-abbrev pub command_text : ℤ → Command → List ℕ
-command_text step (Traverse line start end) = decimal line ++ codes " traverse " ++ end_text step end
-command_text step (End line) = decimal line ++ codes " end"
+abbrev pub feed_text : FeedOf → List ℕ
+feed_text (feeds.PerMinute n) = codes " permin " ++ decimal n
+feed_text (feeds.Inverse n) = codes " inverse " ++ decimal n
 
--- a line of the listing: the command's index and the command
+abbrev pub turn_text : Turn → List ℕ
+turn_text Clockwise = codes "cw"
+turn_text Counterclockwise = codes "ccw"
+
+abbrev pub plane_text : Plane → List ℕ
+plane_text XY = codes "xy"
+plane_text ZX = codes "zx"
+plane_text YZ = codes "yz"
+
+-- the sense of turning, the plane, and the centre by the plane's axes
+abbrev pub arc_text : ArcShape → List ℕ
+arc_text arc = turn_text arc.turn ++ codes " " ++ plane_text arc.plane ++ codes " " ++ signed_decimal arc.centre.u ++ codes " " ++ signed_decimal arc.centre.v
+
+abbrev pub spindle_text : SpindleState → List ℕ
+spindle_text spindles.Off = codes "off"
+spindle_text (spindles.Turning turn speed) = turn_text turn ++ codes " " ++ decimal speed
+
+abbrev pub coolant_text : CoolantState → List ℕ
+coolant_text coolants.Off = codes "off"
+coolant_text coolants.Mist = codes "mist"
+coolant_text coolants.Flood = codes "flood"
+coolant_text coolants.Both = codes "both"
+
+-- no tool is 0
+abbrev pub number_of_tool : Option Tool → ℕ
+number_of_tool None = 0
+number_of_tool (Some tool) = tool.number
+
+abbrev pub switch_text : Bool → List ℕ
+switch_text true = codes "on"
+switch_text false = codes "off"
+
+-- what a command does
+abbrev pub act_text : ℤ → Command → List ℕ
+act_text step (Traverse line start end) = codes " traverse " ++ end_text step end
+act_text step (Feed line start end feed) = codes " feed " ++ end_text step end ++ feed_text feed
+act_text step (Arc line arc feed) = codes " arc " ++ arc_text arc ++ codes " to " ++ end_text step arc.end ++ feed_text feed
+act_text step (Dwell line millionths) = codes " dwell " ++ decimal millionths
+act_text step (MountTool line tool) = codes " tool " ++ decimal (number_of_tool tool)
+act_text step (Spindle line state) = codes " spindle " ++ spindle_text state
+act_text step (Coolant line state) = codes " coolant " ++ coolant_text state
+act_text step (Override line on) = codes " override " ++ switch_text on
+act_text step (Stop line) = codes " stop"
+act_text step (OptionalStop line) = codes " optional stop"
+act_text step (End line) = codes " end"
+
+-- a line of the listing: the command's index, its line in the program, and what it does
 abbrev pub listing_line : ℤ → ℕ → Command → List ℕ
-listing_line step index command = decimal index ++ codes " " ++ command_text step command ++ codes "\n"
+listing_line step index command = decimal index ++ codes " " ++ decimal (line_of command) ++ act_text step command ++ codes "\n"
 
 abbrev pub listing_from : ℕ → ℤ → List Command → List ℕ
 listing_from index step [] = []

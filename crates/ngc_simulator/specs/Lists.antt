@@ -6,41 +6,41 @@ use Rattle.ngc_fixed_length.specs.Written.{AppendsBeginning}
 use Rattle.ngc_line_reader.specs.Grammar.{Reading}
 use Rattle.ngc_line_reader.specs.ProgramText.{ProgramText, program_of, AreReadings}
 use Rattle.ngc_line_reader.specs.ProgramView.{FaultIs}
-use Rattle.ngc_simulator.specs.declared.command.Command.{Command}
-use Rattle.ngc_simulator.specs.declared.fault.ProgramFault.{ProgramFault}
+use Rattle.ngc_canonical.specs.declared.command.Command.{Command}
+use Rattle.ngc_canonical.specs.declared.fault.ProgramFault.{ProgramFault}
+use Rattle.ngc_canonical.specs.State.{Setup}
+use Rattle.ngc_canonical.specs.Meaning.{meaning, program_said, Fails}
 use Rattle.ngc_simulator.specs.declared.lister.ListFault.{ListFault}
 use Rattle.ngc_simulator.specs.declared.lister.ListFault.TheVariants.{Read, Program, Write}
 use Rattle.ngc_simulator.specs.Listing.{listing}
-use Rattle.ngc_simulator.specs.Machine.{row_machine}
-use Rattle.ngc_simulator.specs.Meaning.{meaning, program_said, Fails}
 
--- a file's text has lines with readings, whose meaning at a setting of block delete this is
-pub record IsMeaning (bytes : List ℕ) (block_delete : Bool) (says : Result (List Command) ProgramFault) : Type 0 where
+-- a file's text has lines with readings, whose meaning on a machine with its tools, at a setting of block delete, this is
+pub record IsMeaning (setup : Setup) (bytes : List ℕ) (block_delete : Bool) (says : Result (List Command) ProgramFault) : Type 0 where
   pub text : ProgramText
   pub is_text : program_of bytes ≡ Ok text
   pub readings : List Reading
   pub are_readings : AreReadings text.lines readings
-  pub means : meaning (program_said text readings) row_machine block_delete ≡ says
+  pub means : meaning (program_said text readings) setup block_delete ≡ says
 
 -- the listing of what a file means
-pub record IsListing (bytes : List ℕ) (block_delete : Bool) (text : List ℕ) : Type 0 where
+pub record IsListing (setup : Setup) (bytes : List ℕ) (block_delete : Bool) (text : List ℕ) : Type 0 where
   pub commands : List Command
-  pub meaning : IsMeaning bytes block_delete (Ok commands)
-  pub lists : text ≡ listing row_machine.step commands
+  pub meaning : IsMeaning setup bytes block_delete (Ok commands)
+  pub lists : text ≡ listing setup.machine.step commands
 
 -- a file's first fault in its meaning
-pub record IsRefused (bytes : List ℕ) (block_delete : Bool) (fault : ProgramFault) : Type 0 where
+pub record IsRefused (setup : Setup) (bytes : List ℕ) (block_delete : Bool) (fault : ProgramFault) : Type 0 where
   pub says : Result (List Command) ProgramFault
-  pub meaning : IsMeaning bytes block_delete says
+  pub meaning : IsMeaning setup bytes block_delete says
   pub fails : Fails fault says
 
 -- Of a file, from what its sink had taken to what it has taken now: the listing of its meaning was written, or a beginning of
 -- it where the sink failed; a refused program, and a file that isn't read, leave what was written as it was.
-abbrev pub Lists : List ℕ → Bool → Option (List ℕ) → Option (List ℕ) → Result (Unit {0}) ListFault → Type 0
-Lists bytes block_delete old new (Ok u) = (text : List ℕ) × IsListing bytes block_delete text × Appends old new text
-Lists bytes block_delete old new (Err (Read fault)) = FaultIs fault (program_of bytes) × Keeps old new
-Lists bytes block_delete old new (Err (Program fault)) = IsRefused bytes block_delete fault × Keeps old new
-Lists bytes block_delete old new (Err (Write fault)) = (text : List ℕ) × IsListing bytes block_delete text × AppendsBeginning old new text
+abbrev pub Lists : Setup → List ℕ → Bool → Option (List ℕ) → Option (List ℕ) → Result (Unit {0}) ListFault → Type 0
+Lists setup bytes block_delete old new (Ok u) = (text : List ℕ) × IsListing setup bytes block_delete text × Appends old new text
+Lists setup bytes block_delete old new (Err (Read fault)) = FaultIs fault (program_of bytes) × Keeps old new
+Lists setup bytes block_delete old new (Err (Program fault)) = IsRefused setup bytes block_delete fault × Keeps old new
+Lists setup bytes block_delete old new (Err (Write fault)) = (text : List ℕ) × IsListing setup bytes block_delete text × AppendsBeginning old new text
 
 -- the sink's count of failures rose where a write failed, and else it is what it was
 abbrev pub FailsByWriting : Result (Unit {0}) ListFault → ℕ → ℕ → Type 0

@@ -1,15 +1,14 @@
 ghost use Rattle.std.specs.Prelude.{◌≡◌, IfSome, Err};
+ghost use Rattle.ngc_canonical.specs.Interpreter.{setup_of};
 ghost use Rattle.ngc_fixed_length.specs.Failures.{Rises};
-ghost use Rattle.ngc_simulator.specs.Lists.{Lists, FailsByWriting};
 ghost use Rattle.ngc_line_reader.specs.declared.program.fault.ReadFault.TheVariants.{Device};
+ghost use Rattle.ngc_simulator.specs.Lists.{Lists, FailsByWriting};
 
-use crate::fault::ProgramFault;
-use crate::interpreter::interpret;
 use crate::listing::write_list;
-use crate::small_mill::row_machine;
-use crate::tools::Tools;
+use ngc_canonical::{ProgramFault, interpret};
 use ngc_fixed_length::{Sink, Source, WriteFault};
 use ngc_line_reader::{Program, ReadFault};
+use ngc_machine::{Machine, Tools};
 use std::alloc::Allocator;
 use thiserror::Error;
 
@@ -19,7 +18,7 @@ pub enum ListFault {
     /// The program isn't read: 101, 111 to 119, 121, 122, 900, 901.
     #[error(transparent)]
     Read(ReadFault),
-    /// The program is refused: 120 to 251, 900.
+    /// The program is refused: 120 to 252, 900.
     #[error(transparent)]
     Program(ProgramFault),
     /// 902
@@ -27,16 +26,18 @@ pub enum ListFault {
     Write(WriteFault),
 }
 
-/// Writes the listing of a program's commands at a setting of block delete, on the machine that is taken where no machine
-/// file is given. Nothing is written where the program is refused; where a write fails, a beginning is written.
+/// Writes the listing of a program's commands on a machine with its tools, at a setting of block delete. Nothing is written
+/// where the program is refused; where a write fails, a beginning is written.
 pub fn list<A: Allocator + Copy, R: Source, W: Sink>(
     alloc: A,
     source: &mut R,
+    machine: &Machine<A>,
+    tools: &Tools<A>,
     block_delete: bool,
     output: &mut W,
 ) -> Result<(), ListFault>
     // Where the source's bytes are known, what is written is the listing of what they mean.
-    ensures lists { IfSome (R.remaining source.old) (λ bytes. Lists bytes block_delete (W.written output.old) (W.written output.new) result) }
+    ensures lists { IfSome (R.remaining source.old) (λ bytes. Lists (setup_of machine.now tools.now) bytes block_delete (W.written output.old) (W.written output.new) result) }
     // A fault of reading or writing comes only from a device that failed.
     ensures source { result ≡ Err (ListFault.Read Device) → Rises (R.failures source.old) (R.failures source.new) }
     ensures sink { FailsByWriting result (W.failures output.old) (W.failures output.new) }
@@ -45,9 +46,7 @@ pub fn list<A: Allocator + Copy, R: Source, W: Sink>(
         Ok(program) => program,
         Err(fault) => return Err(ListFault::Read(fault)),
     };
-    let machine = row_machine(alloc);
-    let tools = Tools::empty(alloc);
-    let commands = match interpret(alloc, &program, &machine, &tools, block_delete) {
+    let commands = match interpret(alloc, &program, machine, tools, block_delete) {
         Ok(commands) => commands,
         Err(fault) => return Err(ListFault::Program(fault)),
     };

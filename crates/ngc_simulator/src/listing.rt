@@ -5,10 +5,11 @@ ghost use Rattle.ngc_fixed_length.specs.Failures.{CountsFailure};
 ghost use Rattle.ngc_fixed_length.specs.Length.{IsStep};
 ghost use Rattle.ngc_fixed_length.specs.Written.{AppendsBeginning};
 ghost use Rattle.ngc_output.specs.Collected.{CHUNK_SIZE, HasLineRoom};
-ghost use Rattle.ngc_simulator.specs.Listing.{place_text, steps_text, end_text, command_text, listing_line, listing};
+ghost use Rattle.ngc_simulator.specs.Listing.{place_text, steps_text, end_text, feed_text, turn_text, plane_text, arc_text, spindle_text, coolant_text, number_of_tool, switch_text, act_text, listing_line, listing};
 
-use crate::command::Command;
-use ngc_fixed_length::{Nm, Point3, Sink, StepPos, WriteFault};
+use ngc_arc_geometry::Arc;
+use ngc_canonical::{Command, CoolantState, Feed, SpindleState, Tool};
+use ngc_fixed_length::{Nm, Plane, Point3, Sink, StepPos, Turn, WriteFault};
 use ngc_output::Chunk;
 
 fn add_place(chunk: &mut Chunk, place: &Point3)
@@ -54,22 +55,149 @@ fn add_end(chunk: &mut Chunk, step: Nm, end: &Point3)
     add_steps(chunk, &end.to_grid(step));
 }
 
-fn add_command(chunk: &mut Chunk, step: Nm, command: &Command)
-    requires room { length chunk.old + 300 ≤ CHUNK_SIZE }
+fn add_feed(chunk: &mut Chunk, feed: &Feed)
+    requires { length chunk.old + 50 ≤ CHUNK_SIZE }
+    ensures text { chunk.new ≡ chunk.old ++ feed_text feed.now }
+    ensures short { length chunk.new ≤ length chunk.old + 49 }
+{
+    match feed {
+        Feed::PerMinute(nanometres) => {
+            chunk.add_text(b" permin ");
+            chunk.add_number(*nanometres);
+        }
+        Feed::Inverse(millionths) => {
+            chunk.add_text(b" inverse ");
+            chunk.add_number(*millionths);
+        }
+    }
+}
+
+fn turn_word(turn: Turn) -> &'static [u8]
+    ensures text { result.now ≡ turn_text turn }
+    ensures short { length result.now ≤ 3 }
+{
+    match turn {
+        Turn::Clockwise => b"cw",
+        Turn::Counterclockwise => b"ccw",
+    }
+}
+
+fn plane_word(plane: Plane) -> &'static [u8]
+    ensures text { result.now ≡ plane_text plane }
+    ensures short { length result.now ≤ 2 }
+{
+    match plane {
+        Plane::XY => b"xy",
+        Plane::ZX => b"zx",
+        Plane::YZ => b"yz",
+    }
+}
+
+fn add_arc(chunk: &mut Chunk, arc: &Arc)
+    requires { length chunk.old + 100 ≤ CHUNK_SIZE }
+    ensures text { chunk.new ≡ chunk.old ++ arc_text arc.now }
+    ensures short { length chunk.new ≤ length chunk.old + 90 }
+{
+    let centre = arc.centre();
+    chunk.add_text(turn_word(arc.turn()));
+    chunk.add_text(b" ");
+    chunk.add_text(plane_word(arc.plane()));
+    chunk.add_text(b" ");
+    chunk.add_number(centre.u.nanometres());
+    chunk.add_text(b" ");
+    chunk.add_number(centre.v.nanometres());
+}
+
+fn add_spindle(chunk: &mut Chunk, state: &SpindleState)
+    requires { length chunk.old + 60 ≤ CHUNK_SIZE }
+    ensures text { chunk.new ≡ chunk.old ++ spindle_text state.now }
+    ensures short { length chunk.new ≤ length chunk.old + 44 }
+{
+    match state {
+        SpindleState::Off => chunk.add_text(b"off"),
+        SpindleState::Turning(turn, speed) => {
+            chunk.add_text(turn_word(*turn));
+            chunk.add_text(b" ");
+            chunk.add_number(*speed);
+        }
+    }
+}
+
+fn coolant_word(state: CoolantState) -> &'static [u8]
+    ensures text { result.now ≡ coolant_text state }
+    ensures short { length result.now ≤ 5 }
+{
+    match state {
+        CoolantState::Off => b"off",
+        CoolantState::Mist => b"mist",
+        CoolantState::Flood => b"flood",
+        CoolantState::Both => b"both",
+    }
+}
+
+fn tool_number(tool: &Option<Tool>) -> u32
+    ensures { result ≡ number_of_tool tool.now }
+{
+    match tool {
+        None => 0,
+        Some(tool) => tool.number,
+    }
+}
+
+fn switch_word(on: bool) -> &'static [u8]
+    ensures text { result.now ≡ switch_text on }
+    ensures short { length result.now ≤ 3 }
+{
+    if on { b"on" } else { b"off" }
+}
+
+// What a command does.
+fn add_act(chunk: &mut Chunk, step: Nm, command: &Command)
+    requires room { length chunk.old + 420 ≤ CHUNK_SIZE }
     requires step { IsStep step }
-    ensures text { chunk.new ≡ chunk.old ++ command_text step command.now }
-    ensures short { length chunk.new ≤ length chunk.old + 300 }
+    ensures text { chunk.new ≡ chunk.old ++ act_text step command.now }
+    ensures short { length chunk.new ≤ length chunk.old + 410 }
 {
     match command {
-        Command::Traverse { line, end, .. } => {
-            chunk.add_number(*line);
+        Command::Traverse { end, .. } => {
             chunk.add_text(b" traverse ");
             add_end(chunk, step, end);
         }
-        Command::End { line } => {
-            chunk.add_number(*line);
-            chunk.add_text(b" end");
+        Command::Feed { end, feed, .. } => {
+            chunk.add_text(b" feed ");
+            add_end(chunk, step, end);
+            add_feed(chunk, feed);
         }
+        Command::Arc { arc, feed, .. } => {
+            chunk.add_text(b" arc ");
+            add_arc(chunk, arc);
+            chunk.add_text(b" to ");
+            add_end(chunk, step, &arc.end());
+            add_feed(chunk, feed);
+        }
+        Command::Dwell { millionths, .. } => {
+            chunk.add_text(b" dwell ");
+            chunk.add_number(*millionths);
+        }
+        Command::Tool { tool, .. } => {
+            chunk.add_text(b" tool ");
+            chunk.add_number(tool_number(tool));
+        }
+        Command::Spindle { state, .. } => {
+            chunk.add_text(b" spindle ");
+            add_spindle(chunk, state);
+        }
+        Command::Coolant { state, .. } => {
+            chunk.add_text(b" coolant ");
+            chunk.add_text(coolant_word(*state));
+        }
+        Command::Override { on, .. } => {
+            chunk.add_text(b" override ");
+            chunk.add_text(switch_word(*on));
+        }
+        Command::Stop { .. } => chunk.add_text(b" stop"),
+        Command::OptionalStop { .. } => chunk.add_text(b" optional stop"),
+        Command::End { .. } => chunk.add_text(b" end"),
     }
 }
 
@@ -80,7 +208,8 @@ fn add_line(chunk: &mut Chunk, step: Nm, index: usize, command: &Command)
 {
     chunk.add_number(index);
     chunk.add_text(b" ");
-    add_command(chunk, step, command);
+    chunk.add_number(command.line());
+    add_act(chunk, step, command);
     chunk.add_text(b"\n");
 }
 

@@ -1,11 +1,13 @@
 //! What the program tells of a fault.
 ghost use Rattle.std.specs.Prelude.{◌≡◌, ◌+◌, ◌≤◌, ◌++◌, length, decimal, codes};
 ghost use Rattle.ngc_output.specs.Collected.{CHUNK_SIZE};
-ghost use Rattle.ngc_simulator.specs.Faults.{list_number, list_place, fault_line, list_status, read_place, read_status, program_place};
+ghost use Rattle.ngc_simulator.specs.Faults.{list_number, list_place, fault_line, list_status, read_place, read_status, program_place, answer_number, answer_place, answer_status, file_place, file_status};
 
-use crate::fault::ProgramFault;
+use crate::fault::AnswerFault;
 use crate::lister::ListFault;
+use ngc_canonical::ProgramFault;
 use ngc_line_reader::ReadFault;
+use ngc_machine::FileFault;
 use ngc_output::Chunk;
 
 impl ListFault {
@@ -30,6 +32,39 @@ impl ListFault {
             ListFault::Program(ProgramFault::Memory) => 1,
             ListFault::Write(_) => 1,
         }
+    }
+}
+
+impl AnswerFault {
+    /// The fault's number.
+    pub fn number(&self) -> u16
+        ensures { result ≡ answer_number self.now }
+    {
+        match self {
+            AnswerFault::Machine(fault) | AnswerFault::Tools(fault) => fault.number(),
+            AnswerFault::Input(fault) => fault.number(),
+            AnswerFault::List(fault) => fault.number(),
+        }
+    }
+
+    /// The exit status: 1 for input, output and memory, 3 for a file or a program that is refused.
+    pub fn status(&self) -> u8
+        ensures { result ≡ answer_status self.now }
+    {
+        match self {
+            AnswerFault::Machine(fault) | AnswerFault::Tools(fault) => status_of_file(fault),
+            AnswerFault::Input(_) => 1,
+            AnswerFault::List(fault) => fault.status(),
+        }
+    }
+}
+
+fn status_of_file(fault: &FileFault) -> u8
+    ensures { result ≡ file_status fault.now }
+{
+    match fault {
+        FileFault::Memory => 1,
+        _ => 3,
     }
 }
 
@@ -63,7 +98,7 @@ fn add_reading_place(chunk: &mut Chunk, fault: &ReadFault)
     }
 }
 
-fn add_place(chunk: &mut Chunk, fault: &ListFault)
+fn add_list_place(chunk: &mut Chunk, fault: &ListFault)
     requires { length chunk.old + 150 ≤ CHUNK_SIZE }
     ensures text { chunk.new ≡ chunk.old ++ list_place fault.now }
     ensures short { length chunk.new ≤ length chunk.old + 100 }
@@ -75,8 +110,33 @@ fn add_place(chunk: &mut Chunk, fault: &ListFault)
     }
 }
 
+// The file, unless memory ran out.
+fn add_file_place(chunk: &mut Chunk, name: &[u8], fault: &FileFault)
+    requires room { length chunk.old + 150 ≤ CHUNK_SIZE }
+    requires name { length name.now ≤ 100 }
+    ensures text { chunk.new ≡ chunk.old ++ file_place name.now fault.now }
+    ensures short { length chunk.new ≤ length chunk.old + 100 }
+{
+    if *fault != FileFault::Memory {
+        chunk.add_text(name);
+    }
+}
+
+fn add_place(chunk: &mut Chunk, fault: &AnswerFault)
+    requires { length chunk.old + 150 ≤ CHUNK_SIZE }
+    ensures text { chunk.new ≡ chunk.old ++ answer_place fault.now }
+    ensures short { length chunk.new ≤ length chunk.old + 100 }
+{
+    match fault {
+        AnswerFault::Machine(fault) => add_file_place(chunk, b" machine", fault),
+        AnswerFault::Tools(fault) => add_file_place(chunk, b" tools", fault),
+        AnswerFault::Input(_) => {}
+        AnswerFault::List(fault) => add_list_place(chunk, fault),
+    }
+}
+
 /// The line that tells a fault on standard error.
-pub(crate) fn add_fault_line(chunk: &mut Chunk, fault: &ListFault)
+pub(crate) fn add_fault_line(chunk: &mut Chunk, fault: &AnswerFault)
     requires { length chunk.old + 250 ≤ CHUNK_SIZE }
     ensures { chunk.new ≡ chunk.old ++ fault_line fault.now }
 {

@@ -76,11 +76,11 @@ fn refused_traverses(rt: HostRuntime) {
     refuses(&rt, a, b"", b"ngc: fault 120 line 0\n");
     refuses(&rt, a, b"G0 G0 X1\nM2\n", b"ngc: fault 201 line 1\n");
     refuses(&rt, a, b"M2 M2 M2 M2 M2\n", b"ngc: fault 202 line 1\n");
-    refuses(&rt, a, b"G0\nG1 X1\nM2\n", b"ngc: fault 204 line 2\n");
+    refuses(&rt, a, b"G0\nG5 X1\nM2\n", b"ngc: fault 204 line 2\n");
     refuses(&rt, a, b"G0.05\nM2\n", b"ngc: fault 204 line 1\n");
     refuses(&rt, a, b"G38.2 X1\nM2\n", b"ngc: fault 205 line 1\n");
     refuses(&rt, a, b"G0 A1\nM2\n", b"ngc: fault 205 line 1\n");
-    refuses(&rt, a, b"G0 X1 F100\nM2\n", b"ngc: fault 207 line 1\n");
+    refuses(&rt, a, b"G0 X1 H1\nM2\n", b"ngc: fault 207 line 1\n");
 }
 
 #[test]

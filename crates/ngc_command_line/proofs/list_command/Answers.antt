@@ -6,4 +6,6 @@ use Rattle.ngc_command_line.proofs.list_command.Goals as goal
 pub returns : goal.returns
 returns c =
     let program = adds_rule c.subcommand.ensures c.program_argument.ensures refl c.in_ok-arg.ensures in
-    IfOk-weaker c.arg-2.result _ _ (λ _ adds. adds_rule program c.delete_argument.ensures refl adds) c.arg-2.ensures
+    let machine = adds_rule program c.machine_argument.ensures refl c.in_ok-arg-2.ensures in
+    let tools = adds_rule machine c.tools_argument.ensures refl c.in_ok-arg-3.ensures in
+    IfOk-weaker c.arg-4.result _ _ (λ _ adds. adds_rule tools c.delete_argument.ensures refl adds) c.arg-4.ensures

@@ -29,8 +29,8 @@ returns-clause-taken c =
     ap (λ (app : App). fault_of app (texts c.args.words.now)) (sym built) ∙ none
 
 pub returns-clause-spelled : goal.returns-clause-spelled
-returns-clause-spelled c = λ program delete spelled. spelled_read _ program delete _ spelled (returns-clause-options c)
+returns-clause-spelled c = λ program machine tools delete spelled. spelled_read _ program machine tools delete _ spelled (returns-clause-options c)
 
 pub returns-in-Err-clause-spelled : goal.returns-in-Err-clause-spelled
-returns-in-Err-clause-spelled c = λ program delete spelled.
-    c.usage_fault.ensures (taken_is_memory _ _ c.in-Err.error c.in-Ok.ensures (spelled_taken _ program delete spelled) c.in-Err.ensures.kinds)
+returns-in-Err-clause-spelled c = λ program machine tools delete spelled.
+    c.usage_fault.ensures (taken_is_memory _ _ c.in-Err.error c.in-Ok.ensures (spelled_taken _ program machine tools delete spelled) c.in-Err.ensures.kinds)

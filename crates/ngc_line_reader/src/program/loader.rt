@@ -1,5 +1,7 @@
-ghost use Rattle.std.specs.Prelude.{◌≡◌, ◌≢◌, ℕ, ◌+◌, ◌≤◌, ◌<◌, List, [], ◌∷◌, ◌++◌, length, IfOk, IfErr, OnOk, MatchOption, MatchResult, true, None};
+ghost use Rattle.std.specs.Prelude.{◌≡◌, ◌≢◌, ℕ, ◌+◌, ◌≤◌, ◌<◌, List, [], ◌∷◌, ◌++◌, length, IfOk, IfErr, OnOk, MatchOption, MatchResult, true, None, Ok};
 ghost use Rattle.ngc_line_reader.specs.ProgramText.{HaveReadings, HasReading, fault_of, program_of};
+ghost use Rattle.ngc_line_reader.specs.ReadLine.{line_read};
+ghost use Rattle.ngc_line_reader.specs.ScanLine.{said_of};
 ghost use Rattle.ngc_line_reader.specs.ProgramView.{text_in, lines_in, FaultIs, OutcomeIs};
 ghost use Rattle.ngc_line_reader.specs.Stored.{line_of};
 ghost use Rattle.ngc_line_reader.specs.Load.{is_percent as is_percent_line, number_in, ended, next_line, TakesLine, RefusedBy, StepGives, walked, resumed, IsGoing, IsLoading, IsSplit, NoFeed, room_behind, room_of};
@@ -53,6 +55,7 @@ fn check_line(phase: Phase, done: usize, bytes: &[u8], reading: &mut Line) -> Re
     ensures few { OnOk result (done < 100000) }
     ensures sound { OnOk result (fault_of done (line_of (number_in phase done) bytes.now) ≡ None) }
     ensures read { OnOk result (HasReading (line_of (number_in phase done) bytes.now)) }
+    ensures held { OnOk result (line_read bytes.now ≡ Ok (said_of reading.new)) }
     ensures refused { IfErr result (λ e. RefusedBy (fault_of done (line_of (number_in phase done) bytes.now)) e) }
 {
     if done >= LINES {
@@ -90,7 +93,7 @@ impl<A: Allocator> LinesSoFar<A> {
         ensures refused { IfErr result (λ e. RefusedBy (fault_of (length (lines_in self.old.lines)) (next_line self.old bytes.now)) e) }
     {
         match check_line(self.phase, self.lines.len(), bytes, reading) {
-            Ok(number) => match self.lines.push(number, bytes) {
+            Ok(number) => match self.lines.push(number, bytes, reading) {
                 Ok(()) => {
                     self.phase = self.phase.after(bytes);
                     Ok(())

@@ -1,24 +1,34 @@
-ghost use Rattle.std.specs.Prelude.{◌≡◌, ◌++◌, ◌∷◌, [], ◌<◌, ◌≤◌, length, slice_get, slice_range, vec_len, Some, IsOk, OnOk, OnErr, IsTrue};
+ghost use Rattle.std.specs.Prelude.{ℕ, List, ◌≡◌, ◌++◌, ◌∷◌, [], ◌<◌, ◌≤◌, length, slice_get, slice_range, vec_len, Some, Ok, IsOk, IfOk, OnOk, IsTrue};
 ghost use Rattle.std.specs.Option.{option_map};
-ghost use Rattle.ngc_line_reader.specs.Stored.{is_stored, line_of, start_from};
+ghost use Rattle.std.proofs.Props.{props};
+ghost use Rattle.ngc_line_reader.specs.Stored.{is_stored, line_of, lines_from, start_from};
 ghost use Rattle.ngc_line_reader.specs.ReadLine.{line_read};
+ghost use Rattle.ngc_line_reader.specs.ScanLine.{parts_of, said_of};
+ghost use Rattle.ngc_line_reader.specs.Kept.{parts_in, parts_at, kept_of, IsWithin, AreWithin, AreKept};
+ghost use Rattle.ngc_line_reader.specs.Shown.{ShowsReading};
 
+use crate::line::Line;
+use crate::program::parts::{LineParts, PartLists};
 use std::alloc::{AllocError, Allocator};
 
-/// The number of a line, and where its bytes end.
+/// The number of a line, where its bytes end, and where what it says lies.
 #[derive(Clone, Copy, Debug, PartialEq, Eq)]
 pub struct LineEnd {
     pub number: u32,
     pub end: u32,
+    pub parts: LineParts,
 }
 
 /// Lines that are read without a fault, one behind the other.
 #[derive(Drop)]
 pub struct StoredLines<A: Allocator> {
     bytes: Vec<u8, A>,
+    parts: PartLists<A>,
     ends: Vec<LineEnd, A>,
     ghost few: { vec_len ends ≤ 100000 },
     ghost stored: { IsTrue (is_stored bytes.items ends.items) },
+    ghost within: { AreWithin (parts_in parts) ends.items } by { Prim.hlevel props },
+    ghost kept: { AreKept (parts_in parts) (lines_from bytes.items 0 ends.items) ends.items },
 }
 
 impl<A: Allocator> StoredLines<A> {
@@ -31,6 +41,7 @@ impl<A: Allocator> StoredLines<A> {
     {
         StoredLines {
             bytes: Vec::new(alloc),
+            parts: PartLists::new(alloc),
             ends: Vec::new(alloc),
         }
     }
@@ -84,17 +95,45 @@ impl<A: Allocator> StoredLines<A> {
         &self.bytes[start..end]
     }
 
-    pub fn push(&mut self, number: u32, bytes: &[u8]) -> Result<(), AllocError>
+    // What a line says, in place of what `line` holds.
+    #[tactic(auto, using(crate::proofs::StoredLaws::counting_lines))]
+    pub fn load(&self, index: usize, line: &mut Line)
+        requires { index < length (lines_in self.now) }
+        ensures { (bytes : List ℕ) → option_map (λ l. l.bytes) (slice_get (lines_in self.now) index) ≡ Some bytes → ShowsReading bytes line.new.deleted (parts_of line.new) }
+    {
+        self.parts.load(self.ends[index].parts, line);
+    }
+
+    // What a line says, behind what is kept. Where memory is wanting, no line is left.
+    fn keep(&mut self, reading: &Line) -> Result<LineParts, AllocError>
+        ensures bytes { OnOk result (self.new.bytes ≡ self.old.bytes) }
+        ensures ends { OnOk result (self.new.ends ≡ self.old.ends) }
+        ensures within { IfOk result (λ p. IsWithin (parts_in self.new.parts) p) }
+        ensures value { IfOk result (λ p. parts_at (parts_in self.new.parts) p ≡ kept_of (parts_of reading.now)) }
+        ensures deleted { IfOk result (λ p. p.deleted ≡ reading.now.deleted) }
+    {
+        match self.parts.push(reading) {
+            Ok(parts) => Ok(parts),
+            Err(_) => {
+                self.bytes.clear();
+                self.ends.clear();
+                Err(AllocError)
+            }
+        }
+    }
+
+    // A line, and its reading. Where memory is wanting, what is left is unspecified.
+    pub fn push(&mut self, number: u32, bytes: &[u8], reading: &Line) -> Result<(), AllocError>
         requires few { length (lines_in self.old) < 100000 }
         requires short { length bytes.now ≤ 256 }
-        requires read { IsOk (line_read bytes.now) }
+        requires read { line_read bytes.now ≡ Ok (said_of reading.now) }
         ensures pushed { OnOk result (lines_in self.new ≡ lines_in self.old ++ (line_of number bytes.now ∷ [])) }
-        ensures kept { OnErr result (lines_in self.new ≡ lines_in self.old) }
     {
         let start = self.bytes.len();
+        let parts = self.keep(reading)?;
         self.bytes.extend_from_slice(bytes)?;
         let end = self.bytes.len() as u32;
-        match self.ends.push(LineEnd { number, end }) {
+        match self.ends.push(LineEnd { number, end, parts }) {
             Ok(()) => Ok(()),
             Err(_) => {
                 self.bytes.truncate(start);

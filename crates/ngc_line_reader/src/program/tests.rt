@@ -1,4 +1,4 @@
-use crate::{FaultKind, LineFault, Program, ReadFault};
+use crate::{FaultKind, Letter, Line, LineFault, Operator, Program, ReadFault, Symbol};
 use linked_list_allocator::LocalHeap;
 use ngc_fixed_length::{Device, DeviceFault, Source};
 use std::alloc::Global;
@@ -84,6 +84,37 @@ fn lines(rt: HostRuntime) -> Result<(), Fail> {
     assert_eq!(rt; program.bytes(0), b"G0 X1".as_slice());
     assert_eq!(rt; program.bytes(1), b"".as_slice());
     assert_eq!(rt; program.bytes(3), b"M2".as_slice());
+    Ok(())
+}
+
+#[test]
+fn loaded_lines(rt: HostRuntime) -> Result<(), Fail> {
+    let program = read(rt.alloc(), b"/N7 #3=#5 G0 (a) X[1+2.5]\nM2\n".as_slice())?;
+    let mut line = Line::empty();
+    program.load(0, &mut line);
+    assert!(rt; line.deleted);
+    assert_eq!(rt; line.words.len(), 2);
+    assert_eq!(rt; line.words.as_slice()[1].letter, Letter::X);
+    assert_eq!(rt; line.words.as_slice()[1].first, 4);
+    assert_eq!(rt; line.settings.len(), 1);
+    assert_eq!(rt; line.settings.as_slice()[0].value, 1);
+    assert_eq!(rt; line.tokens.len(), 9);
+    assert_eq!(rt; line.tokens.as_slice()[1].symbol, Symbol::Parameter);
+    assert_eq!(rt;
+        line.tokens.as_slice()[6].symbol,
+        Symbol::Operator(Operator::Add)
+    );
+    assert!(rt;
+        matches!(line.tokens.as_slice()[7].symbol, Symbol::Number(x) if x.millionths() == 2_500_000)
+    );
+    let seen = line.view();
+    assert!(rt; seen.deleted);
+    assert_eq!(rt; seen.tokens.len(), 9);
+    program.load(1, &mut line);
+    assert!(rt; !line.deleted);
+    assert_eq!(rt; line.words.len(), 1);
+    assert_eq!(rt; line.settings.len(), 0);
+    assert_eq!(rt; line.tokens.len(), 1);
     Ok(())
 }
 

@@ -6,7 +6,7 @@ use Rattle.ngc_simulator.proofs.program.answer.Goals as goal
 pub returns-in-Err-clause-answers : goal.returns-in-Err-clause-answers
 returns-in-Err-clause-answers g c = record {
   outcome = Err c.in-Err.fault;
-  lists = search rules;
+  comes = search rules;
   counts = c.in-Err.ensures.sink;
   says = c.status.ensures;
   tells =

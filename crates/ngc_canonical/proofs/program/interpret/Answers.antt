@@ -1,0 +1,53 @@
+use Rattle.std.proofs.Common.{◌≡◌, ◌≤◌, ap, ap₂, sym, subst, ◌∙◌, Ok, Result, List, length, arith}
+use Rattle.ngc_line_reader.specs.ProgramView.{text_in}
+use Rattle.ngc_canonical.specs.declared.command.Command.{Command}
+use Rattle.ngc_canonical.specs.declared.fault.ProgramFault.{ProgramFault}
+use Rattle.ngc_canonical.specs.Meaning.{meaning, program_said, past_last, commands_of, GivesMeaning}
+use Rattle.ngc_canonical.specs.Interpreter.{setup_of, state_of}
+use Rattle.ngc_canonical.proofs.Lines.{NextLine, next_line, line_at, bytes_at, seen, left_refused, left_ended, left_on, left_none, refused_fails}
+use Rattle.ngc_canonical.proofs.program.interpret.Goals as goal
+
+pub returns-in-Err : goal.returns-in-Err
+returns-in-Err g c = λ rs are.
+    let lines = (text_in c.args.program.now).lines in
+    let here = line_at lines c.loop-index.index c.number.result c.number.ensures in
+    let next : NextLine lines rs c.loop-index.index c.number.result here.line.bytes = next_line _ _ _ _ here.line are here.at here.numbered in
+    let shows = seen here.line.bytes (c.load.ensures here.line.bytes (bytes_at lines c.loop-index.index c.number.result here)) c.view.ensures.deleted c.view.ensures.parts in
+    refused_fails c.in-Err.fault _ _ _
+    (λ e refused. c.loop-index.invariant.leads rs are ∙ left_refused (setup_of c.args.machine.now c.args.tools.now) _ c.args.block_delete lines rs c.loop-index.index _ _ _ e c.loop-index.invariant.running next refused)
+    (c.in-Err.ensures here.line.bytes shows next.reading next.reads)
+
+pub returns-then-interpreter : goal.returns-then-interpreter
+returns-then-interpreter g c = λ rs are.
+    let lines = (text_in c.args.program.now).lines in
+    let here = line_at lines c.loop-index.index c.number.result c.number.ensures in
+    let next : NextLine lines rs c.loop-index.index c.number.result here.line.bytes = next_line _ _ _ _ here.line are here.at here.numbered in
+    let shows = seen here.line.bytes (c.load.ensures here.line.bytes (bytes_at lines c.loop-index.index c.number.result here)) c.view.ensures.deleted c.view.ensures.parts in
+    ap commands_of
+    (c.loop-index.invariant.leads rs are
+    ∙ left_ended (setup_of c.args.machine.now c.args.tools.now) _ c.args.block_delete lines rs c.loop-index.index _ _ _ _ c.loop-index.invariant.running next (c.in-Ok-take_line.ensures here.line.bytes shows next.reading next.reads) c.if-interpreter.true)
+    ∙ ap (λ (l : List Command). Ok l) (sym c.into_commands.ensures)
+
+pub loop-index-preserved : goal.loop-index-preserved
+loop-index-preserved g c = record {
+  running = c.if-interpreter.false;
+  leads = λ rs are.
+      let lines = (text_in c.args.program.now).lines in
+      let here = line_at lines c.loop-index.index c.number.result c.number.ensures in
+      let next : NextLine lines rs c.loop-index.index c.number.result here.line.bytes = next_line _ _ _ _ here.line are here.at here.numbered in
+      let shows = seen here.line.bytes (c.load.ensures here.line.bytes (bytes_at lines c.loop-index.index c.number.result here)) c.view.ensures.deleted c.view.ensures.parts in
+      c.loop-index.invariant.leads rs are
+      ∙ left_on (setup_of c.args.machine.now c.args.tools.now) _ c.args.block_delete lines rs c.loop-index.index _ _ _ _ c.loop-index.invariant.running next (c.in-Ok-take_line.ensures here.line.bytes shows next.reading next.reads) c.if-interpreter.false;
+}
+
+pub returns : goal.returns
+returns g c = λ rs are.
+    let lines = (text_in c.args.program.now).lines in
+    let past : length lines ≤ c.loop-index.index = omega (arith, c.loop-index-test.false, c.len-index-end.ensures.value) in
+    let same : meaning (program_said (text_in c.args.program.now) rs) (setup_of c.args.machine.now c.args.tools.now) c.args.block_delete ≡ commands_of (past_last c.mark_of.result c.len.result (state_of c.loop-index.interpreter)) =
+    ap commands_of
+    (c.loop-index.invariant.leads rs are
+    ∙ left_none (setup_of c.args.machine.now c.args.tools.now) _ c.args.block_delete lines rs c.loop-index.index _ past
+    ∙ ap₂ (λ m n. past_last m n (state_of c.loop-index.interpreter)) (sym c.mark_of.ensures) (sym c.len.ensures.value)) in
+    let P : Result (List Command) ProgramFault → Type 0 = λ says. GivesMeaning (λ v. v.items) c.finish.result says in
+    subst P (sym same) c.finish.ensures

@@ -1,0 +1,12 @@
+pub mod Commands
+pub mod Faults
+pub mod Steps
+pub mod State
+pub mod Spindle
+pub mod Places
+pub mod Motions
+pub mod Arcs
+pub mod Cycles
+pub mod Perform
+pub mod Meaning
+pub mod Interpreter

@@ -1,0 +1,89 @@
+-- What holds between two effects of a program.
+use Rattle.std.specs.Prelude.{ℕ, ℤ, pos, nat_lt, List, [], ◌∷◌, ◌++◌, length, Option, None, Result, Ok, Err, Bool, false, if◌then◌else◌}
+use Rattle.ngc_fixed_length.specs.declared.modes.Turn.{Turn}
+use Rattle.ngc_fixed_length.specs.declared.points.Point3.{Point3}
+use Rattle.ngc_machine.specs.Machine.{MachineFile}
+use Rattle.ngc_machine.specs.declared.tools.Tool.{Tool}
+use Rattle.ngc_modal_state.specs.declared.modes.Modes.{Modes}
+use Rattle.ngc_modal_state.specs.Start.{start_modes}
+use Rattle.ngc_offsets.specs.Offsets.{Offsets}
+use Rattle.ngc_offsets.specs.Frames.{start_frames}
+use Rattle.ngc_parameters.specs.Meaning.{Parameters}
+use Rattle.ngc_canonical.specs.declared.command.Command.{Command}
+use Rattle.ngc_canonical.specs.declared.command.Command.TheVariants.{Traverse}
+use Rattle.ngc_canonical.specs.declared.command.CoolantState.{CoolantState}
+use Rattle.ngc_canonical.specs.declared.command.CoolantState.TheVariants.{Off}
+use Rattle.ngc_canonical.specs.declared.fault.Fault.{Fault}
+use Rattle.ngc_canonical.specs.declared.state.Kept.{Kept}
+use Rattle.ngc_canonical.specs.declared.fault.Fault.TheVariants.{TooManyCommands}
+use Rattle.ngc_canonical.specs.Steps.{◌>>=◌}
+
+-- the machine and its tools
+pub record Setup : Type 0 where
+  pub machine : MachineFile
+  pub tools : List Tool
+
+pub record State : Type 0 where
+  -- the line that is executed
+  pub line : ℕ
+  pub modes : Modes
+  pub frames : Offsets
+  pub parameters : Parameters
+  -- where the axes stand, in the machine
+  pub place : Point3
+  -- the feed that G94 takes, in nanometres a minute, and the spindle's speed, in millionths
+  pub feed : ℕ
+  pub speed : ℕ
+  -- which way the spindle turns
+  pub spindle : Option Turn
+  pub coolant : CoolantState
+  -- the tool that M6 mounts
+  pub selected : ℕ
+  -- what a cycle's line leaves out, from the lines before
+  pub kept : Kept
+  -- the machine's height before the series of cycles, if one is under way
+  pub series : Option ℤ
+  -- the commands so far, and whether the last is an end
+  pub commands : List Command
+  pub ended : Bool
+
+-- At the start all parameters are 0, feed and speed are 0, spindle and coolant are off, no tool is selected, and the axes stand
+-- at the machine's start point.
+abbrev pub start_state : MachineFile → State
+start_state machine = record {
+  line = 0;
+  modes = start_modes;
+  frames = start_frames machine.origins;
+  parameters = λ k. pos 0;
+  place = machine.start;
+  feed = 0;
+  speed = 0;
+  spindle = None;
+  coolant = Off;
+  selected = 0;
+  kept = record { retract = pos 0; bottom = pos 0; dwell = pos 0; peck = pos 0 };
+  series = None;
+  commands = [];
+  ended = false;
+}
+
+-- a program has at most a million commands
+abbrev pub COMMAND_LIMIT : ℕ
+COMMAND_LIMIT = 1000000
+
+-- one command more
+abbrev pub emit : Command → State → Result State Fault
+emit command s = if nat_lt (length s.commands) COMMAND_LIMIT then Ok (record s { commands = s.commands ++ (command ∷ []) }) else Err TooManyCommands
+
+-- a change of frames, plane or tool length, and a motion code that is no cycle, end the series of cycles
+abbrev pub unseries : State → State
+unseries s = record s { series = None }
+
+abbrev pub at_place : Point3 → State → State
+at_place end s = record s { place = end }
+
+-- a traverse to a place of the machine
+abbrev pub traverse_to : Point3 → State → Result State Fault
+traverse_to end s = do
+  t ← emit (Traverse s.line s.place end) s
+  Ok (at_place end t)

@@ -1,0 +1,85 @@
+ghost use Rattle.std.specs.Prelude.{◌≡◌};
+
+use ngc_arc_geometry::ArcFault;
+use ngc_canned_cycles::CycleFault;
+use ngc_fixed_length::NumberFault;
+use ngc_modal_state::ModalFault;
+use ngc_offsets::FrameFault;
+use ngc_parameters::EvalFault;
+use thiserror::Error;
+
+/// What a line breaks, beside its reading.
+#[derive(Clone, Copy, Debug, PartialEq, Eq, Error)]
+pub enum Fault {
+    /// 101, 102, 131 to 133
+    #[error(transparent)]
+    Value(EvalFault),
+    /// 201 to 210
+    #[error(transparent)]
+    Modal(ModalFault),
+    /// 101: a length over 10^11 nm.
+    #[error(transparent)]
+    Length(NumberFault),
+    /// 221, 222
+    #[error(transparent)]
+    Frame(FrameFault),
+    /// 231 to 236
+    #[error(transparent)]
+    Cycle(CycleFault),
+    /// 241 to 246
+    #[error(transparent)]
+    Arc(ArcFault),
+    /// 252: a motion at a feed, and the feed is 0.
+    #[error("the feed is zero")]
+    FeedZero,
+    /// 120
+    #[error("the program has no end")]
+    NoEnd,
+    /// 251: over 1,000,000.
+    #[error("the program has too many commands")]
+    TooManyCommands,
+}
+
+impl Fault {
+    ghost use Rattle.ngc_canonical.specs.Faults.{fault_number};
+
+    /// The fault's number.
+    pub fn number(&self) -> u16
+        ensures { result ≡ fault_number self.now }
+    {
+        match self {
+            Fault::Value(fault) => fault.number(),
+            Fault::Modal(fault) => fault.number(),
+            Fault::Length(fault) => fault.number(),
+            Fault::Frame(fault) => fault.number(),
+            Fault::Cycle(fault) => fault.number(),
+            Fault::Arc(fault) => fault.number(),
+            Fault::FeedZero => 252,
+            Fault::NoEnd => 120,
+            Fault::TooManyCommands => 251,
+        }
+    }
+}
+
+/// Why a program is refused: the fault and its line, or 900.
+#[derive(Clone, Copy, Debug, PartialEq, Eq, Error)]
+pub enum ProgramFault {
+    #[error("line {line}: {fault}")]
+    At { line: u32, fault: Fault },
+    #[error("out of memory")]
+    Memory,
+}
+
+impl ProgramFault {
+    ghost use Rattle.ngc_canonical.specs.Faults.{program_number};
+
+    /// The fault's number.
+    pub fn number(&self) -> u16
+        ensures { result ≡ program_number self.now }
+    {
+        match self {
+            ProgramFault::At { fault, .. } => fault.number(),
+            ProgramFault::Memory => 900,
+        }
+    }
+}

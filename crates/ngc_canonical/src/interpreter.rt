@@ -1,0 +1,103 @@
+//! How a program's execution begins, and how commands are added.
+ghost use Rattle.std.specs.Prelude.{◌≡◌, IfOk, OnOk};
+ghost use Rattle.ngc_machine.specs.Machine.{file_of};
+ghost use Rattle.ngc_offsets.specs.Ranges.{IsMachinePlace};
+ghost use Rattle.ngc_canonical.specs.State.{emit as emitted, start_state, traverse_to as traversed_to};
+ghost use Rattle.ngc_canonical.specs.Interpreter.{state_of, Becomes};
+
+use crate::command::{Command, CoolantState};
+use crate::fault::Fault;
+use crate::state::{Interpreter, Kept, Refusal};
+use ngc_fixed_length::{Nm, Point3, Value};
+use ngc_machine::Machine;
+use ngc_modal_state::Modes;
+use ngc_offsets::Frames;
+use ngc_parameters::Store;
+use std::alloc::{AllocError, Allocator};
+
+const COMMANDS: usize = 1_000_000;
+
+impl<A: Allocator> Interpreter<A> {
+    /// The state at the start.
+    pub fn new(alloc: A, machine: &Machine<A>) -> Result<Interpreter<A>, AllocError>
+    where
+        A: Copy,
+        ensures { IfOk result (λ i. state_of i ≡ start_state (file_of machine.now)) }
+    {
+        let Ok(store) = Store::new(alloc) else {
+            return Err(AllocError);
+        };
+        Ok(Interpreter {
+            line: 0,
+            modes: Modes::start(),
+            frames: Frames::new(&machine.origins),
+            store,
+            place: machine.start,
+            feed: 0,
+            speed: 0,
+            spindle: None,
+            coolant: CoolantState::Off,
+            selected: 0,
+            kept: Kept {
+                retract: Nm::zero(),
+                bottom: Nm::zero(),
+                dwell: Value::zero(),
+                peck: Nm::zero(),
+            },
+            series: None,
+            commands: Vec::new(alloc),
+            ended: false,
+            alloc,
+        })
+    }
+
+    /// One command more.
+    pub fn emit(&mut self, command: Command) -> Result<(), Refusal>
+        ensures value { Becomes result (state_of self.new) (emitted command (state_of self.old)) }
+        ensures frames { OnOk result ((state_of self.new).frames ≡ (state_of self.old).frames) }
+    {
+        if self.commands.len() >= COMMANDS {
+            return Err(Refusal::Breaks(Fault::TooManyCommands));
+        }
+        match self.commands.push(command) {
+            Ok(()) => Ok(()),
+            Err(_) => Err(Refusal::Memory),
+        }
+    }
+
+    /// The axes stand there from now on.
+    pub fn stand_at(&mut self, place: &Point3)
+        requires { IsMachinePlace place.now }
+        ensures { state_of self.new ≡ record (state_of self.old) { place = place.now } }
+    {
+        self.place = *place;
+    }
+
+    /// A traverse to a place of the machine.
+    pub fn traverse_to(&mut self, end: &Point3) -> Result<(), Refusal>
+        requires { IsMachinePlace end.now }
+        ensures value { Becomes result (state_of self.new) (traversed_to end.now (state_of self.old)) }
+        ensures frames { OnOk result ((state_of self.new).frames ≡ (state_of self.old).frames) }
+    {
+        let command = Command::Traverse {
+            line: self.line,
+            start: self.place,
+            end: *end,
+        };
+        match self.emit(command) {
+            Ok(()) => {
+                self.stand_at(end);
+                Ok(())
+            }
+            Err(refusal) => Err(refusal),
+        }
+    }
+
+    /// The commands.
+    pub fn into_commands(self) -> Vec<Command, A>
+        ensures { result.items ≡ (state_of self).commands }
+    {
+        let Interpreter { commands, .. } = self;
+        commands
+    }
+}

@@ -1,0 +1,19 @@
+//! The commands of a part program: what its lines mean on a machine with its tools.
+#![tactic(auto)]
+
+mod arcs;
+mod command;
+mod cycles;
+mod fault;
+mod interpreter;
+mod motions;
+mod perform;
+mod places;
+mod program;
+mod spindle;
+mod state;
+
+pub use command::{Command, CoolantState, Feed, SpindleState};
+pub use fault::{Fault, ProgramFault};
+pub use ngc_machine::{FileFault, Fixture, Machine, Tool, Tools, row_machine};
+pub use program::interpret;

@@ -1,0 +1,69 @@
+//! Straight motions and their feeds.
+ghost use Rattle.std.specs.Prelude.{◌≡◌};
+ghost use Rattle.ngc_canonical.specs.Interpreter.{state_of, Becomes};
+ghost use Rattle.ngc_canonical.specs.Motions.{traverse as traversed, nonzero as nonzero_feed, inverse_feed as inverse, feed_in as feed_by, straight as moved_straight};
+ghost use Rattle.ngc_canonical.specs.declared.command.Feed.TheVariants as feeds;
+
+use crate::command::{Command, Feed};
+use crate::fault::Fault;
+use crate::state::{Interpreter, Refusal};
+use ngc_fixed_length::{FeedMode, Value};
+use ngc_modal_state::AxisWords;
+use std::alloc::Allocator;
+
+/// The feed of a motion: that in force, or in inverse time the line's F.
+pub(crate) fn feed_in(mode: FeedMode, feed: u64, f: Option<Value>) -> Result<Feed, Fault>
+    ensures { result ≡ feed_by mode feed f }
+{
+    match (mode, f) {
+        (FeedMode::PerMinute, _) if feed != 0 => Ok(Feed::PerMinute(feed)),
+        (FeedMode::InverseTime, Some(value)) if value.millionths() != 0 => {
+            Ok(Feed::Inverse(value.millionths().unsigned_abs()))
+        }
+        _ => Err(Fault::FeedZero),
+    }
+}
+
+impl<A: Allocator> Interpreter<A> {
+    /// G0.
+    pub fn traverse(&mut self, is_machine_place: bool, words: &AxisWords) -> Result<(), Refusal>
+        ensures { Becomes result (state_of self.new) (traversed is_machine_place words.now (state_of self.old)) }
+    {
+        match self.end_of(is_machine_place, words) {
+            Ok(end) => self.traverse_to(&end),
+            Err(fault) => Err(Refusal::Breaks(fault)),
+        }
+    }
+
+    /// G1.
+    pub fn straight(
+        &mut self,
+        is_machine_place: bool,
+        words: &AxisWords,
+        f: Option<Value>,
+    ) -> Result<(), Refusal>
+        ensures { Becomes result (state_of self.new) (moved_straight is_machine_place words.now f (state_of self.old)) }
+    {
+        let feed = match feed_in(self.modes.feed_mode, self.feed, f) {
+            Ok(feed) => feed,
+            Err(fault) => return Err(Refusal::Breaks(fault)),
+        };
+        let end = match self.end_of(is_machine_place, words) {
+            Ok(end) => end,
+            Err(fault) => return Err(Refusal::Breaks(fault)),
+        };
+        let command = Command::Feed {
+            line: self.line,
+            start: self.place,
+            end,
+            feed,
+        };
+        match self.emit(command) {
+            Ok(()) => {
+                self.stand_at(&end);
+                Ok(())
+            }
+            Err(refusal) => Err(refusal),
+        }
+    }
+}

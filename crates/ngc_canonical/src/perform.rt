@@ -1,0 +1,112 @@
+//! What each effect does.
+ghost use Rattle.std.specs.Prelude.{◌≡◌};
+ghost use Rattle.ngc_canonical.specs.Interpreter.{setup_of, state_of, Becomes};
+ghost use Rattle.ngc_canonical.specs.Perform.{with_motion, stop as stopped, perform as performed, run as run_through};
+
+use crate::command::Command;
+use crate::state::{Interpreter, Refusal};
+use ngc_machine::{Machine, Tools};
+use ngc_modal_state::{Effect, Motion, Stopping};
+use std::alloc::Allocator;
+
+impl<A: Allocator + Copy> Interpreter<A> {
+    // A code that is no cycle ends the series of cycles.
+    fn set_motion(&mut self, motion: Motion)
+        ensures { state_of self.new ≡ with_motion motion (state_of self.old) }
+    {
+        self.modes.motion = motion;
+        if !matches!(motion, Motion::Cycle(_)) {
+            self.series = None;
+        }
+    }
+
+    fn stop(&mut self, stopping: Stopping) -> Result<(), Refusal>
+        ensures { Becomes result (state_of self.new) (stopped stopping (state_of self.old)) }
+    {
+        let line = self.line;
+        match stopping {
+            Stopping::Stop => self.emit(Command::Stop { line }),
+            Stopping::OptionalStop => self.emit(Command::OptionalStop { line }),
+            Stopping::End => match self.emit(Command::End { line }) {
+                Ok(()) => {
+                    self.ended = true;
+                    Ok(())
+                }
+                Err(refusal) => Err(refusal),
+            },
+        }
+    }
+
+    fn perform(
+        &mut self,
+        machine: &Machine<A>,
+        tools: &Tools<A>,
+        effect: &Effect,
+    ) -> Result<(), Refusal>
+        ensures { Becomes result (state_of self.new) (performed (setup_of machine.now tools.now) effect.now (state_of self.old)) }
+    {
+        let line = self.line;
+        match effect {
+            Effect::FeedMode(mode) => self.modes.feed_mode = *mode,
+            Effect::Feed { value, units } => self.feed = value.nanometres(*units).unsigned_abs(),
+            Effect::Speed(value) => return self.set_speed(*value),
+            Effect::SelectTool(number) => self.selected = *number,
+            Effect::ChangeTool => return self.change_tool(tools),
+            Effect::Spindle(code) => return self.set_spindle(*code),
+            Effect::Coolant(code) => return self.set_coolant(*code),
+            Effect::Override(on) => return self.emit(Command::Override { line, on: *on }),
+            Effect::Dwell(value) => {
+                let millionths = value.millionths().unsigned_abs();
+                return self.emit(Command::Dwell { line, millionths });
+            }
+            Effect::Plane(plane) => self.set_plane(*plane),
+            Effect::Units(units) => self.modes.units = *units,
+            Effect::RadiusOff => {}
+            Effect::ToolLength(h) => return self.set_length(tools, *h),
+            Effect::System(system) => self.select(*system),
+            Effect::Path(path) => self.modes.path = *path,
+            Effect::Distance(distance) => self.modes.distance = *distance,
+            Effect::Return(mode) => self.modes.return_mode = *mode,
+            Effect::GoHome { home, axes } => return self.go_home(machine, *home, axes),
+            Effect::SetOrigin { system, axes } => return self.set_origin(*system, axes),
+            Effect::SetOffset(words) => return self.set_offset(words),
+            Effect::ClearOffset => self.clear_offset(),
+            Effect::SuspendOffset => self.suspend_offset(),
+            Effect::RestoreOffset => self.restore_offset(),
+            Effect::Motion(motion) => self.set_motion(*motion),
+            Effect::Traverse { machine, axes } => return self.traverse(*machine, axes),
+            Effect::Straight {
+                machine,
+                axes,
+                inverse,
+            } => return self.straight(*machine, axes, *inverse),
+            Effect::Cycle { hole, axes, words } => return self.cycle(*hole, axes, words),
+            Effect::Arc {
+                turn,
+                axes,
+                words,
+                inverse,
+            } => return self.arc(*turn, axes, words, *inverse),
+            Effect::Stopping(stopping) => return self.stop(*stopping),
+        }
+        Ok(())
+    }
+
+    /// Effects one after another.
+    pub fn run(
+        &mut self,
+        machine: &Machine<A>,
+        tools: &Tools<A>,
+        effects: &[Effect],
+    ) -> Result<(), Refusal>
+        ensures { Becomes result (state_of self.new) (run_through (setup_of machine.now tools.now) effects.now (state_of self.old)) }
+    {
+        for effect in effects {
+            match self.perform(machine, tools, effect) {
+                Ok(()) => {}
+                Err(refusal) => return Err(refusal),
+            }
+        }
+        Ok(())
+    }
+}

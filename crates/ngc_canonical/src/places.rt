@@ -1,0 +1,202 @@
+//! Places that words give, and changes of the frames.
+ghost use Rattle.std.specs.Prelude.{◌≡◌, ℤ, pos, IfOk};
+ghost use Rattle.ngc_offsets.specs.Ranges.{IsMachinePlace};
+ghost use Rattle.ngc_machine.specs.Machine.{file_of};
+ghost use Rattle.ngc_machine.specs.Tools.{tools_of};
+ghost use Rattle.ngc_canonical.specs.State.{unseries};
+ghost use Rattle.ngc_offsets.specs.Frames.{select as selected, clear as cleared, suspend as suspended, restore as restored};
+ghost use Rattle.ngc_canonical.specs.Interpreter.{state_of, Becomes};
+ghost use Rattle.ngc_canonical.specs.Places.{word_length as length_in, axis_lengths as lengths_in, end_of as end_in, set_origin as origin_set, set_offset as offset_set, tool_length as length_taken, set_length as length_set, home_of as home_in, go_home as gone_home, stands as are_there};
+
+use crate::fault::Fault;
+use crate::state::{Interpreter, Refusal};
+use ngc_fixed_length::{Nm, Plane, Point3, System, Units, Value};
+use ngc_machine::{Machine, Tools};
+use ngc_modal_state::{AxisWords, Home};
+use ngc_offsets::{AxisLengths, machine_target};
+use std::alloc::Allocator;
+
+/// A word's length, if it stands.
+pub(crate) fn word_length(units: Units, word: Option<Value>) -> Result<Option<Nm>, Fault>
+    ensures { result ≡ length_in units word }
+{
+    match word {
+        None => Ok(None),
+        Some(value) => match value.to_nm(units) {
+            Ok(length) => Ok(Some(length)),
+            Err(fault) => Err(Fault::Length(fault)),
+        },
+    }
+}
+
+fn axis_lengths(units: Units, words: &AxisWords) -> Result<AxisLengths, Fault>
+    ensures { result ≡ lengths_in units words.now }
+{
+    let x = word_length(units, words.x)?;
+    let y = word_length(units, words.y)?;
+    let z = word_length(units, words.z)?;
+    Ok(AxisLengths { x, y, z })
+}
+
+fn stands(words: &AxisWords) -> bool
+    ensures { result ≡ are_there words.now }
+{
+    words.x.is_some() || words.y.is_some() || words.z.is_some()
+}
+
+// The tool length offset that G43 with its H, or G49, puts in force; none for a tool that the table doesn't have.
+fn tool_length<A: Allocator>(tools: &Tools<A>, h: Option<u32>) -> Option<Nm>
+    ensures { result ≡ length_taken (tools_of tools.now) h }
+{
+    match h {
+        None | Some(0) => Some(Nm::zero()),
+        Some(number) => match tools.find(number) {
+            Some(tool) => Some(tool.offset),
+            None => None,
+        },
+    }
+}
+
+fn home_of<A: Allocator>(machine: &Machine<A>, home: Home) -> Point3
+    ensures value { result ≡ home_in (file_of machine.now) home }
+    ensures range { IsMachinePlace result }
+{
+    match home {
+        Home::First => machine.home28,
+        Home::Second => machine.home30,
+    }
+}
+
+impl<A: Allocator> Interpreter<A> {
+    /// The place of the machine that axis words give; with G53 they are coordinates of the machine.
+    pub fn end_of(&self, is_machine_place: bool, words: &AxisWords) -> Result<Point3, Fault>
+        ensures value { result ≡ end_in is_machine_place (state_of self.now) words.now }
+        ensures range { IfOk result IsMachinePlace }
+    {
+        let given = axis_lengths(self.modes.units, words)?;
+        let end = if is_machine_place {
+            machine_target(self.place, &given)
+        } else {
+            self.frames.target(self.modes.distance, self.place, &given)
+        };
+        match end {
+            Ok(end) => Ok(end),
+            Err(fault) => Err(Fault::Frame(fault)),
+        }
+    }
+
+    /// G10 L2.
+    pub fn set_origin(&mut self, system: System, words: &AxisWords) -> Result<(), Refusal>
+        ensures { Becomes result (state_of self.new) (origin_set system words.now (state_of self.old)) }
+    {
+        let given = match axis_lengths(self.modes.units, words) {
+            Ok(given) => given,
+            Err(fault) => return Err(Refusal::Breaks(fault)),
+        };
+        match self.frames.set_origin(system, &given) {
+            Ok(()) => {
+                self.series = None;
+                Ok(())
+            }
+            Err(fault) => Err(Refusal::Breaks(Fault::Frame(fault))),
+        }
+    }
+
+    /// G92.
+    pub fn set_offset(&mut self, words: &AxisWords) -> Result<(), Refusal>
+        ensures { Becomes result (state_of self.new) (offset_set words.now (state_of self.old)) }
+    {
+        let given = match axis_lengths(self.modes.units, words) {
+            Ok(given) => given,
+            Err(fault) => return Err(Refusal::Breaks(fault)),
+        };
+        match self.frames.set_axis(self.place, &given) {
+            Ok(()) => {
+                self.series = None;
+                Ok(())
+            }
+            Err(fault) => Err(Refusal::Breaks(Fault::Frame(fault))),
+        }
+    }
+
+    /// G43 with its H, or G49.
+    pub fn set_length(&mut self, tools: &Tools<A>, h: Option<u32>) -> Result<(), Refusal>
+        ensures { Becomes result (state_of self.new) (length_set (tools_of tools.now) h (state_of self.old)) }
+    {
+        match self.frames.set_length(tool_length(tools, h)) {
+            Ok(()) => {
+                self.series = None;
+                Ok(())
+            }
+            Err(fault) => Err(Refusal::Breaks(Fault::Frame(fault))),
+        }
+    }
+
+    /// G17, G18, G19.
+    pub fn set_plane(&mut self, plane: Plane)
+        ensures { state_of self.new ≡ unseries (record (state_of self.old) { modes = record (state_of self.old).modes { plane = plane } }) }
+    {
+        self.modes.plane = plane;
+        self.series = None;
+    }
+
+    /// G54 to G59.3.
+    pub fn select(&mut self, system: System)
+        ensures { state_of self.new ≡ unseries (record (state_of self.old) { frames = selected (state_of self.old).frames system }) }
+    {
+        self.frames.select(system);
+        self.series = None;
+    }
+
+    /// G92.1.
+    pub fn clear_offset(&mut self)
+        ensures { state_of self.new ≡ unseries (record (state_of self.old) { frames = cleared (state_of self.old).frames }) }
+    {
+        self.frames.clear();
+        self.series = None;
+    }
+
+    /// G92.2.
+    pub fn suspend_offset(&mut self)
+        ensures { state_of self.new ≡ unseries (record (state_of self.old) { frames = suspended (state_of self.old).frames }) }
+    {
+        self.frames.suspend();
+        self.series = None;
+    }
+
+    /// G92.3.
+    pub fn restore_offset(&mut self)
+        ensures { state_of self.new ≡ unseries (record (state_of self.old) { frames = restored (state_of self.old).frames }) }
+    {
+        self.frames.restore();
+        self.series = None;
+    }
+
+    /// G28, G30: through the programmed place, if axis words stand, to the home position on all axes.
+    pub fn go_home(
+        &mut self,
+        machine: &Machine<A>,
+        home: Home,
+        words: &AxisWords,
+    ) -> Result<(), Refusal>
+        ensures { Becomes result (state_of self.new) (gone_home (file_of machine.now) home words.now (state_of self.old)) }
+    {
+        let through = match self.end_of(false, words) {
+            Ok(through) => through,
+            Err(fault) => return Err(Refusal::Breaks(fault)),
+        };
+        if stands(words) {
+            match self.traverse_to(&through) {
+                Ok(()) => {}
+                Err(refusal) => return Err(refusal),
+            }
+        }
+        match self.traverse_to(&home_of(machine, home)) {
+            Ok(()) => {
+                self.series = None;
+                Ok(())
+            }
+            Err(refusal) => Err(refusal),
+        }
+    }
+}

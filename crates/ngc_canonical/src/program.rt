@@ -1,0 +1,179 @@
+//! A program's lines, one after another.
+ghost use Rattle.std.specs.Prelude.{◌≡◌, ℤ, ℕ, List, length};
+ghost use Rattle.ngc_line_reader.specs.Grammar.{Reading, Reads};
+ghost use Rattle.ngc_line_reader.specs.Held.{AllWithinLimit};
+ghost use Rattle.ngc_line_reader.specs.Shown.{view_parts, items_of, items_said, ShowsReading};
+ghost use Rattle.ngc_line_reader.specs.ProgramText.{AreReadings};
+ghost use Rattle.ngc_line_reader.specs.ProgramView.{text_in};
+ghost use Rattle.ngc_parameters.specs.Stored.{pairs_of, changes_of};
+ghost use Rattle.ngc_canonical.specs.Meaning.{effects_of as effects_in, execute as executed, with_settings, after_line, past_last, commands_of, GivesMeaning, GivesEffects, meaning, program_said, mark_of as marked_at};
+ghost use Rattle.ngc_canonical.specs.Interpreter.{setup_of, state_of, Becomes, BecomesAt};
+
+use crate::command::Command;
+use crate::fault::{Fault, ProgramFault};
+use crate::state::{Interpreter, Refusal};
+use arrayvec::ArrayVec;
+use ngc_line_reader::{Line, LineView, Program};
+use ngc_machine::{Machine, Tools};
+use ngc_modal_state::{Block, Effect};
+use ngc_parameters::{Changes, LineValues, Word};
+use std::alloc::Allocator;
+
+/// Where the values and effects of lines are found, one after another: room that is made once.
+#[derive(Drop)]
+pub struct Work {
+    pub values: LineValues,
+    pub effects: ArrayVec<Effect, 24>,
+}
+
+impl<A: Allocator + Copy> Interpreter<A> {
+    // What a line does.
+    fn effects(&self, words: &[Word], effects: &mut ArrayVec<Effect, 24>) -> Result<(), Fault>
+        ensures { GivesEffects result effects.new.items (effects_in (state_of self.now).modes (pairs_of words.now)) }
+    {
+        let block = match Block::new(words) {
+            Ok(block) => block,
+            Err(fault) => return Err(Fault::Modal(fault)),
+        };
+        match block.effects(&self.modes, effects) {
+            Ok(()) => Ok(()),
+            Err(fault) => Err(Fault::Modal(fault)),
+        }
+    }
+
+    // Settings are made behind all that the line does.
+    fn set(&mut self, changes: &Changes)
+        ensures { state_of self.new ≡ with_settings (changes_of changes.now) (state_of self.old) }
+    {
+        self.store.make(changes);
+    }
+
+    // Executes a line.
+    fn execute(
+        &mut self,
+        machine: &Machine<A>,
+        tools: &Tools<A>,
+        line: LineView<'_>,
+        work: &mut Work,
+    ) -> Result<(), Refusal>
+        ensures { (bytes : List ℕ) (r : Reading) → items_of (view_parts line.entry) ≡ items_said bytes r → AllWithinLimit r.items → Becomes result (state_of self.new) (executed (setup_of machine.now tools.now) r.items (state_of self.old)) }
+    {
+        match self.store.read(line, &mut work.values) {
+            Ok(()) => {}
+            Err(fault) => return Err(Refusal::Breaks(Fault::Value(fault))),
+        }
+        match self.effects(work.values.words.as_slice(), &mut work.effects) {
+            Ok(()) => {}
+            Err(fault) => return Err(Refusal::Breaks(fault)),
+        }
+        match self.run(machine, tools, work.effects.as_slice()) {
+            Ok(()) => {
+                self.set(&work.values.changes);
+                Ok(())
+            }
+            Err(refusal) => Err(refusal),
+        }
+    }
+
+    fn at(&mut self, line: u32)
+        ensures { state_of self.new ≡ record (state_of self.old) { line = line } }
+    {
+        self.line = line;
+    }
+
+    /// Executes a line of the program, unless block delete takes it out. `work` is where its values and effects are found.
+    pub fn take_line(
+        &mut self,
+        machine: &Machine<A>,
+        tools: &Tools<A>,
+        number: u32,
+        line: LineView<'_>,
+        work: &mut Work,
+        block_delete: bool,
+    ) -> Result<(), ProgramFault>
+        ensures { (bytes : List ℕ) → ShowsReading bytes line.entry.deleted (view_parts line.entry) → (r : Reading) → Reads bytes r → BecomesAt result (state_of self.new) (after_line (setup_of machine.now tools.now) block_delete number r (state_of self.old)) }
+    {
+        if block_delete && line.deleted {
+            return Ok(());
+        }
+        self.at(number);
+        match self.execute(machine, tools, line, work) {
+            Ok(()) => Ok(()),
+            Err(Refusal::Breaks(fault)) => Err(ProgramFault::At {
+                line: number,
+                fault,
+            }),
+            Err(Refusal::Memory) => Err(ProgramFault::Memory),
+        }
+    }
+
+    /// The lines have run out: a marked file ends at its second `%`, whose line is the mark.
+    pub fn finish(mut self, mark: Option<u32>, count: u32) -> Result<Vec<Command, A>, ProgramFault>
+        ensures { GivesMeaning (λ v. v.items) result (commands_of (past_last mark count (state_of self))) }
+    {
+        let Some(line) = mark else {
+            return Err(ProgramFault::At {
+                line: count,
+                fault: Fault::NoEnd,
+            });
+        };
+        match self.emit(Command::End { line }) {
+            Ok(()) => Ok(self.into_commands()),
+            Err(Refusal::Breaks(fault)) => Err(ProgramFault::At { line, fault }),
+            Err(Refusal::Memory) => Err(ProgramFault::Memory),
+        }
+    }
+}
+
+// The line of the second `%` of a marked file.
+fn mark_of<A: Allocator>(program: &Program<A>) -> Option<u32>
+    ensures { result ≡ marked_at (text_in program.now).marked (length (text_in program.now).lines) }
+{
+    if program.is_marked() {
+        Some(program.len() as u32 + 2)
+    } else {
+        None
+    }
+}
+
+/// The commands of a program on a machine with its tools, at a setting of block delete, in the order in which they are
+/// executed, or its first fault with its line (101, 102, 131 to 133, 201 to 210, 221, 222, 252, 120, 251), or 900.
+///
+/// With block delete on, lines that begin with `/` are taken out before anything is evaluated.
+pub fn interpret<A: Allocator + Copy>(
+    alloc: A,
+    program: &Program<A>,
+    machine: &Machine<A>,
+    tools: &Tools<A>,
+    block_delete: bool,
+) -> Result<Vec<Command, A>, ProgramFault>
+    // Whatever the lines' readings are (each line has one, and only one), the answer is what they mean.
+    ensures { (rs : List Reading) → AreReadings (text_in program.now).lines rs → GivesMeaning (λ v. v.items) result (meaning (program_said (text_in program.now) rs) (setup_of machine.now tools.now) block_delete) }
+{
+    let Ok(mut interpreter) = Interpreter::new(alloc, machine) else {
+        return Err(ProgramFault::Memory);
+    };
+    let mut line = Line::empty();
+    let mut work = Work {
+        values: LineValues::empty(),
+        effects: ArrayVec::new(),
+    };
+    for index in 0..program.len() {
+        program.load(index, &mut line);
+        match interpreter.take_line(
+            machine,
+            tools,
+            program.number(index),
+            line.view(),
+            &mut work,
+            block_delete,
+        ) {
+            Ok(()) => {}
+            Err(fault) => return Err(fault),
+        }
+        if interpreter.ended {
+            return Ok(interpreter.into_commands());
+        }
+    }
+    interpreter.finish(mark_of(program), program.len() as u32)
+}

@@ -1,0 +1,104 @@
+//! Spindle, coolant and tool change.
+ghost use Rattle.std.specs.Prelude.{◌≡◌};
+ghost use Rattle.ngc_machine.specs.Tools.{tools_of};
+ghost use Rattle.ngc_canonical.specs.Interpreter.{state_of, Becomes};
+ghost use Rattle.ngc_canonical.specs.Spindle.{spindle_state as state_said, set_speed as speed_set, turn_of as turn_said, set_spindle as spindle_set, mount as mounted, change_tool as tool_changed, with_coolant as coolant_with, set_coolant as coolant_set};
+
+use crate::command::{Command, CoolantState, SpindleState};
+use crate::fault::Fault;
+use crate::state::{Interpreter, Refusal};
+use ngc_fixed_length::{Turn, Value};
+use ngc_machine::{Tool, Tools};
+use ngc_modal_state::{Coolant, Spindle};
+use ngc_offsets::FrameFault;
+use std::alloc::Allocator;
+
+pub(crate) fn spindle_state(turn: Option<Turn>, speed: u64) -> SpindleState
+    ensures { result ≡ state_said turn speed }
+{
+    match turn {
+        None => SpindleState::Off,
+        Some(turn) => SpindleState::Turning(turn, speed),
+    }
+}
+
+fn turn_of(code: Spindle) -> Option<Turn>
+    ensures { result ≡ turn_said code }
+{
+    match code {
+        Spindle::Start(turn) => Some(turn),
+        Spindle::Stop => None,
+    }
+}
+
+fn with_coolant(code: Coolant, had: CoolantState) -> CoolantState
+    ensures { result ≡ coolant_with code had }
+{
+    match (code, had) {
+        (Coolant::Off, _) => CoolantState::Off,
+        (Coolant::Mist, CoolantState::Off | CoolantState::Mist) => CoolantState::Mist,
+        (Coolant::Flood, CoolantState::Off | CoolantState::Flood) => CoolantState::Flood,
+        _ => CoolantState::Both,
+    }
+}
+
+impl<A: Allocator> Interpreter<A> {
+    /// S: the speed, which a turning spindle takes at once.
+    pub fn set_speed(&mut self, value: Value) -> Result<(), Refusal>
+        ensures { Becomes result (state_of self.new) (speed_set value (state_of self.old)) }
+    {
+        self.speed = value.millionths().unsigned_abs();
+        match self.spindle {
+            None => Ok(()),
+            Some(turn) => self.emit(Command::Spindle {
+                line: self.line,
+                state: SpindleState::Turning(turn, self.speed),
+            }),
+        }
+    }
+
+    /// M3, M4, M5.
+    pub fn set_spindle(&mut self, code: Spindle) -> Result<(), Refusal>
+        ensures { Becomes result (state_of self.new) (spindle_set code (state_of self.old)) }
+    {
+        self.spindle = turn_of(code);
+        self.emit(Command::Spindle {
+            line: self.line,
+            state: spindle_state(self.spindle, self.speed),
+        })
+    }
+
+    fn mount(&mut self, tool: Option<Tool>) -> Result<(), Refusal>
+        ensures { Becomes result (state_of self.new) (mounted tool (state_of self.old)) }
+    {
+        self.spindle = None;
+        self.emit(Command::Tool {
+            line: self.line,
+            tool,
+        })
+    }
+
+    /// M6: mounts the selected tool, or none; 222 where the table doesn't have it.
+    pub fn change_tool(&mut self, tools: &Tools<A>) -> Result<(), Refusal>
+        ensures { Becomes result (state_of self.new) (tool_changed (tools_of tools.now) (state_of self.old).selected (state_of self.old)) }
+    {
+        if self.selected == 0 {
+            return self.mount(None);
+        }
+        match tools.find(self.selected) {
+            Some(tool) => self.mount(Some(tool)),
+            None => Err(Refusal::Breaks(Fault::Frame(FrameFault::NoSuchTool))),
+        }
+    }
+
+    /// M7, M8, M9.
+    pub fn set_coolant(&mut self, code: Coolant) -> Result<(), Refusal>
+        ensures { Becomes result (state_of self.new) (coolant_set code (state_of self.old)) }
+    {
+        self.coolant = with_coolant(code, self.coolant);
+        self.emit(Command::Coolant {
+            line: self.line,
+            state: self.coolant,
+        })
+    }
+}

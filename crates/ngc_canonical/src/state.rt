@@ -1,0 +1,54 @@
+//! What holds between two effects of a program.
+ghost use Rattle.std.proofs.Props.{props};
+ghost use Rattle.std.specs.Prelude.{◌≤◌, unsigned_abs, IfSome};
+ghost use Rattle.ngc_offsets.specs.Ranges.{MACHINE_LIMIT, IsMachinePlace};
+
+use crate::command::{Command, CoolantState};
+use crate::fault::Fault;
+use ngc_fixed_length::{Nm, Point3, Turn, Value};
+use ngc_modal_state::Modes;
+use ngc_offsets::Frames;
+use ngc_parameters::Store;
+use std::alloc::Allocator;
+
+/// Why a line isn't executed: what it breaks, or want of memory.
+#[derive(Clone, Copy, Debug, PartialEq, Eq)]
+pub enum Refusal {
+    Breaks(Fault),
+    Memory,
+}
+
+/// R, the bottom, P and Q of a canned cycle, for the lines that leave them out.
+#[derive(Clone, Copy, Debug, PartialEq, Eq)]
+pub struct Kept {
+    pub retract: Nm,
+    pub bottom: Nm,
+    /// In seconds.
+    pub dwell: Value,
+    pub peck: Nm,
+}
+
+/// What holds between two effects of a program, and the commands so far.
+#[derive(Drop)]
+pub struct Interpreter<A: Allocator> {
+    pub line: u32,
+    pub modes: Modes,
+    pub frames: Frames,
+    pub store: Store<A>,
+    pub place: Point3,
+    /// In nanometres a minute.
+    pub feed: u64,
+    /// In millionths of a turn a minute.
+    pub speed: u64,
+    pub spindle: Option<Turn>,
+    pub coolant: CoolantState,
+    pub selected: u32,
+    pub kept: Kept,
+    /// The machine's height before the series of canned cycles, if one is under way.
+    pub series: Option<Nm>,
+    pub commands: Vec<Command, A>,
+    pub ended: bool,
+    pub alloc: A,
+    ghost place_in_range: { IsMachinePlace place },
+    ghost series_in_range: { IfSome series (λ h. unsigned_abs h ≤ MACHINE_LIMIT) } by { Prim.hlevel props },
+}

@@ -1,0 +1,9 @@
+-- The kinds left come to what all of them do.
+use Rattle.std.proofs.Common.{◌≡◌, drop}
+use Rattle.ngc_line_reader.proofs.SymbolLaws.{kinds_after}
+use Rattle.ngc_line_reader.proofs.program.parts.keep_kinds.Given as goal
+
+abbrev pub invariant-loop-token : goal.invariant-loop-token
+invariant-loop-token g l = record {
+  kinds : kinds_after l.kinds.items (drop l.token-index l.tokens) ≡ kinds_after l.initial.kinds.items l.tokens;
+}

@@ -1,0 +1,11 @@
+-- The symbols left come to what all of them do.
+use Rattle.std.proofs.Common.{◌≡◌, ◌≤◌, [], drop, length}
+use Rattle.ngc_line_reader.specs.Tokens.{symbols}
+use Rattle.ngc_line_reader.proofs.SymbolLaws.{loaded_after}
+use Rattle.ngc_line_reader.proofs.program.parts.load_tokens.Given as goal
+
+abbrev pub invariant-loop-kind : goal.invariant-loop-kind
+invariant-loop-kind l = record {
+  symbols : loaded_after (symbols l.tokens.items) (drop l.kind-index l.kinds) l.rest ≡ loaded_after [] l.kinds l.numbers;
+  count : length l.tokens.items ≤ l.kind-index;
+}

@@ -1,0 +1,6 @@
+pub mod TableLaws
+pub mod Words
+pub mod Standing
+pub mod Ranks
+pub mod LetterLaws
+mod Examples

@@ -1,0 +1,40 @@
+-- Steps that may refuse a line's words, and the numbers of faults. Our own.
+use Rattle.std.specs.Prelude.{ℕ, ◌≡◌, Result, Ok, Err, Bool, if◌then◌else◌}
+use Rattle.ngc_modal_state.specs.declared.fault.ModalFault.{ModalFault}
+use Rattle.ngc_modal_state.specs.declared.fault.ModalFault.TheVariants.{GroupTwice, TooManyMWords, LetterRepeated, UnknownCode, LeftOut, ClaimedTwice, WithoutUse, WordMissing, OutOfRange, WithoutStraightMotion}
+
+infixl 10 ◌>>=◌
+abbrev pub ◌>>=◌ : {A B : Type 0} → Result A ModalFault → (A → Result B ModalFault) → Result B ModalFault
+(Ok x) >>= f = f x
+(Err e) >>= f = Err e
+
+infixl 10 ◌>>◌
+abbrev pub ◌>>◌ : {A B : Type 0} → Result A ModalFault → Result B ModalFault → Result B ModalFault
+(Ok x) >> r = r
+(Err e) >> r = Err e
+
+-- refused where the test holds
+abbrev pub refuse_if : Bool → ModalFault → Result (Unit {0}) ModalFault
+refuse_if b e = if b then Err e else Ok tt
+
+abbrev pub number : ModalFault → ℕ
+number GroupTwice = 201
+number TooManyMWords = 202
+number LetterRepeated = 203
+number UnknownCode = 204
+number LeftOut = 205
+number ClaimedTwice = 206
+number WithoutUse = 207
+number WordMissing = 208
+number OutOfRange = 209
+number WithoutStraightMotion = 210
+
+-- what a function returned, seen by view, is what the definition says
+abbrev pub Gives : {X Y E : Type 0} → (X → Y) → Result X E → Result Y E → Type 0
+Gives view (Ok x) says = says ≡ Ok (view x)
+Gives view (Err e) says = says ≡ Err e
+
+-- after a step that may be refused, what it changes is what the definition gives
+abbrev pub Becomes : {X : Type 0} → Result (Unit {0}) ModalFault → X → Result X ModalFault → Type 0
+Becomes (Ok u) new says = says ≡ Ok new
+Becomes (Err e) new says = says ≡ Err e

@@ -1,0 +1,10 @@
+pub mod Tables
+pub mod Faults
+pub mod Codes
+pub mod Block
+pub mod BlockWords
+pub mod Kinds
+pub mod Use
+pub mod Effects
+pub mod Start
+pub mod Letters

@@ -1,0 +1,131 @@
+use ngc_fixed_length::{Distance, FeedMode, Plane, ReturnMode, System, Turn, Units};
+
+/// What a canned cycle does at its hole.
+#[derive(Clone, Copy, Debug, PartialEq, Eq)]
+pub enum Hole {
+    /// G81
+    Drill,
+    /// G82
+    DrillWithDwell,
+    /// G83
+    Peck,
+    /// G85
+    Bore,
+    /// G86
+    BoreWithStop,
+    /// G89
+    BoreWithDwell,
+}
+
+/// What axis words do.
+#[derive(Clone, Copy, Debug, PartialEq, Eq)]
+pub enum Motion {
+    /// A motion in a straight line at the greatest rate: G0.
+    Traverse,
+    /// A motion in a straight line at the feed: G1.
+    Straight,
+    /// A motion along an arc or a helix at the feed: G2 clockwise, G3 counterclockwise.
+    Arc(Turn),
+    /// Nothing: no motion code is in force (G80).
+    Cancel,
+    /// A canned cycle: G81 to G83, G85, G86, G89.
+    Cycle(Hole),
+}
+
+/// The tool length offset.
+#[derive(Clone, Copy, Debug, PartialEq, Eq)]
+pub enum LengthCode {
+    /// G43
+    Apply,
+    /// G49
+    Cancel,
+}
+
+/// How a path is followed where two motions meet.
+#[derive(Clone, Copy, Debug, PartialEq, Eq)]
+pub enum PathControl {
+    /// G61
+    ExactPath,
+    /// G61.1
+    ExactStop,
+    /// G64
+    Continuous,
+}
+
+/// The codes that hold for their line alone.
+#[derive(Clone, Copy, Debug, PartialEq, Eq)]
+pub enum Once {
+    /// G4
+    Dwell,
+    /// G10
+    SetOrigin,
+    /// G28
+    Home28,
+    /// G30
+    Home30,
+    /// G53
+    MachinePlace,
+    /// G92
+    SetOffset,
+    /// G92.1
+    ClearOffset,
+    /// G92.2
+    SuspendOffset,
+    /// G92.3
+    RestoreOffset,
+}
+
+/// What stops a program.
+#[derive(Clone, Copy, Debug, PartialEq, Eq)]
+pub enum Stopping {
+    /// M0, M60
+    Stop,
+    /// M1
+    OptionalStop,
+    /// M2, M30
+    End,
+}
+
+/// What the spindle does.
+#[derive(Clone, Copy, Debug, PartialEq, Eq)]
+pub enum Spindle {
+    /// M3 clockwise, M4 counterclockwise.
+    Start(Turn),
+    /// M5
+    Stop,
+}
+
+/// What the coolant does.
+#[derive(Clone, Copy, Debug, PartialEq, Eq)]
+pub enum Coolant {
+    /// M7
+    Mist,
+    /// M8
+    Flood,
+    /// M9
+    Off,
+}
+
+/// A G or M code. Those of one variant are a modal group.
+#[derive(Clone, Copy, Debug, PartialEq, Eq)]
+pub enum Code {
+    Motion(Motion),
+    Plane(Plane),
+    Distance(Distance),
+    FeedMode(FeedMode),
+    Units(Units),
+    /// G40
+    RadiusOff,
+    ToolLength(LengthCode),
+    Return(ReturnMode),
+    System(System),
+    Path(PathControl),
+    Once(Once),
+    Stopping(Stopping),
+    /// M6
+    ChangeTool,
+    Spindle(Spindle),
+    Coolant(Coolant),
+    /// Whether the overrides are on: M48, M49.
+    Override(bool),
+}

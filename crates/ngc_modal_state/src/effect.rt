@@ -1,0 +1,112 @@
+use crate::block::AxisWords;
+use crate::code::{Coolant, Hole, Motion, PathControl, Spindle, Stopping};
+use ngc_fixed_length::{Distance, FeedMode, Plane, ReturnMode, System, Turn, Units, Value};
+
+/// The two home positions of a machine: G28, G30.
+#[derive(Clone, Copy, Debug, PartialEq, Eq)]
+pub enum Home {
+    First,
+    Second,
+}
+
+/// The words I, J, K and R of an arc.
+#[derive(Clone, Copy, Debug, PartialEq, Eq)]
+pub struct ArcWords {
+    pub i: Option<Value>,
+    pub j: Option<Value>,
+    pub k: Option<Value>,
+    pub r: Option<Value>,
+}
+
+/// The words of a canned cycle beside X, Y and Z.
+#[derive(Clone, Copy, Debug, PartialEq, Eq)]
+pub struct CycleWords {
+    pub l: Option<Value>,
+    pub p: Option<Value>,
+    pub q: Option<Value>,
+    pub r: Option<Value>,
+}
+
+/// One thing that a line does. What needs a word of the line carries it.
+#[derive(Clone, Copy, Debug, PartialEq, Eq)]
+pub enum Effect {
+    FeedMode(FeedMode),
+    /// F in feed per minute, in the units that the line leaves in force.
+    Feed {
+        value: Value,
+        units: Units,
+    },
+    /// S
+    Speed(Value),
+    /// T: the number of a tool, at most 10^9.
+    SelectTool(u32),
+    /// M6
+    ChangeTool,
+    Spindle(Spindle),
+    Coolant(Coolant),
+    /// Whether overrides count from here on: M48, M49.
+    Override(bool),
+    /// G4, in seconds.
+    Dwell(Value),
+    Plane(Plane),
+    Units(Units),
+    /// G40
+    RadiusOff,
+    /// The tool whose length offset G43 takes, by its H; G49 takes none.
+    ToolLength(Option<u32>),
+    System(System),
+    Path(PathControl),
+    Distance(Distance),
+    Return(ReturnMode),
+    /// G28, G30, by way of the point that the axis words give.
+    GoHome {
+        home: Home,
+        axes: AxisWords,
+    },
+    /// G10 L2
+    SetOrigin {
+        system: System,
+        axes: AxisWords,
+    },
+    /// G92
+    SetOffset(AxisWords),
+    /// G92.1
+    ClearOffset,
+    /// G92.2
+    SuspendOffset,
+    /// G92.3
+    RestoreOffset,
+    /// A motion code that stands on the line.
+    Motion(Motion),
+    /// G0; in machine coordinates where G53 stands.
+    Traverse {
+        machine: bool,
+        axes: AxisWords,
+    },
+    /// G1; in machine coordinates where G53 stands, and in inverse time with the line's F.
+    Straight {
+        machine: bool,
+        axes: AxisWords,
+        inverse: Option<Value>,
+    },
+    /// G2, G3; in inverse time with the line's F.
+    Arc {
+        turn: Turn,
+        axes: AxisWords,
+        words: ArcWords,
+        inverse: Option<Value>,
+    },
+    /// G81 to G89
+    Cycle {
+        hole: Hole,
+        axes: AxisWords,
+        words: CycleWords,
+    },
+    Stopping(Stopping),
+}
+
+impl Default for Effect {
+    fn default() -> Effect {
+        Effect::ChangeTool
+    }
+}

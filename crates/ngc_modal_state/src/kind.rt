@@ -1,0 +1,158 @@
+ghost use Rattle.std.specs.Prelude.{◌≡◌};
+
+use crate::block::Block;
+use crate::code::{Hole, LengthCode, Motion, Once};
+
+impl Hole {
+    ghost use Rattle.ngc_modal_state.specs.Kinds.{hole_dwells, hole_pecks, hole_number};
+
+    // Whether the hole takes P.
+    fn dwells(self) -> bool
+        ensures { result ≡ hole_dwells self }
+    {
+        matches!(
+            self,
+            Hole::DrillWithDwell | Hole::BoreWithStop | Hole::BoreWithDwell
+        )
+    }
+
+    // Whether the hole takes Q.
+    fn pecks(self) -> bool
+        ensures { result ≡ hole_pecks self }
+    {
+        matches!(self, Hole::Peck)
+    }
+
+    // The number of the hole's G code.
+    fn number(self) -> u8
+        ensures { result ≡ hole_number self }
+    {
+        match self {
+            Hole::Drill => 81,
+            Hole::DrillWithDwell => 82,
+            Hole::Peck => 83,
+            Hole::Bore => 85,
+            Hole::BoreWithStop => 86,
+            Hole::BoreWithDwell => 89,
+        }
+    }
+}
+
+impl Motion {
+    ghost use Rattle.ngc_modal_state.specs.Kinds.{is_straight, is_arc, is_cycle, is_cancel, feeds, dwells, pecks, begins_cycle};
+
+    // G0, G1
+    pub(crate) fn is_straight(self) -> bool
+        ensures { result ≡ is_straight self }
+    {
+        matches!(self, Motion::Traverse | Motion::Straight)
+    }
+
+    // G2, G3
+    pub(crate) fn is_arc(self) -> bool
+        ensures { result ≡ is_arc self }
+    {
+        matches!(self, Motion::Arc(_))
+    }
+
+    // G81 to G89
+    pub(crate) fn is_cycle(self) -> bool
+        ensures { result ≡ is_cycle self }
+    {
+        matches!(self, Motion::Cycle(_))
+    }
+
+    // G80
+    pub(crate) fn is_cancel(self) -> bool
+        ensures { result ≡ is_cancel self }
+    {
+        matches!(self, Motion::Cancel)
+    }
+
+    // G1 to G3
+    pub(crate) fn feeds(self) -> bool
+        ensures { result ≡ feeds self }
+    {
+        matches!(self, Motion::Straight | Motion::Arc(_))
+    }
+
+    // G82, G86, G89
+    pub(crate) fn dwells(self) -> bool
+        ensures { result ≡ dwells self }
+    {
+        match self {
+            Motion::Cycle(hole) => hole.dwells(),
+            _ => false,
+        }
+    }
+
+    // G83
+    pub(crate) fn pecks(self) -> bool
+        ensures { result ≡ pecks self }
+    {
+        match self {
+            Motion::Cycle(hole) => hole.pecks(),
+            _ => false,
+        }
+    }
+
+    // Whether it is a cycle of another code than the motion mode before it.
+    pub(crate) fn begins_cycle(self, before: Motion) -> bool
+        ensures { result ≡ begins_cycle before self }
+    {
+        match (before, self) {
+            (Motion::Cycle(before), Motion::Cycle(hole)) => before.number() != hole.number(),
+            (_, Motion::Cycle(_)) => true,
+            _ => false,
+        }
+    }
+}
+
+impl Block {
+    ghost use Rattle.ngc_modal_state.specs.Kinds.{is_dwell, sets_origin, sets_offset, is_machine_place, takes_axes, applies_length};
+
+    // G4
+    pub(crate) fn is_dwell(&self) -> bool
+        ensures { result ≡ is_dwell self.now.once }
+    {
+        matches!(self.once, Some(Once::Dwell))
+    }
+
+    // G10
+    pub(crate) fn sets_origin(&self) -> bool
+        ensures { result ≡ sets_origin self.now.once }
+    {
+        matches!(self.once, Some(Once::SetOrigin))
+    }
+
+    // G92
+    pub(crate) fn sets_offset(&self) -> bool
+        ensures { result ≡ sets_offset self.now.once }
+    {
+        matches!(self.once, Some(Once::SetOffset))
+    }
+
+    // G53
+    pub(crate) fn is_machine_place(&self) -> bool
+        ensures { result ≡ is_machine_place self.now.once }
+    {
+        matches!(self.once, Some(Once::MachinePlace))
+    }
+
+    // G10, G28, G30, G92
+    pub(crate) fn takes_axes(&self) -> bool
+        ensures { result ≡ takes_axes self.now.once }
+    {
+        matches!(
+            self.once,
+            Some(Once::SetOrigin | Once::Home28 | Once::Home30 | Once::SetOffset)
+        )
+    }
+
+    // G43
+    pub(crate) fn applies_length(&self) -> bool
+        ensures { result ≡ applies_length self.now.tool_length }
+    {
+        matches!(self.tool_length, Some(LengthCode::Apply))
+    }
+}

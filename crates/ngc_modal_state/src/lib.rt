@@ -1,0 +1,25 @@
+//! A line's words by modal groups, which code uses which letter, and what the line does in order of execution.
+#![tactic(auto)]
+
+mod block;
+mod check;
+mod code;
+mod effect;
+mod fault;
+mod kind;
+pub mod laws;
+mod letters;
+mod modes;
+mod order;
+mod range;
+mod table;
+mod used;
+
+pub use block::{AxisWords, Block};
+pub use code::{Coolant, Hole, LengthCode, Motion, Once, PathControl, Spindle, Stopping};
+pub use effect::{ArcWords, CycleWords, Effect, Home};
+pub use fault::ModalFault;
+pub use modes::Modes;
+
+#[cfg(test)]
+mod tests;

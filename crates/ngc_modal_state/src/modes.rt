@@ -1,0 +1,35 @@
+ghost use Rattle.std.specs.Prelude.{◌≡◌};
+
+use crate::code::{Motion, PathControl};
+use ngc_fixed_length::{Distance, FeedMode, Plane, ReturnMode, Units};
+
+/// The modes in force that say what a line's words mean.
+#[derive(Clone, Copy, Debug, PartialEq, Eq)]
+pub struct Modes {
+    pub motion: Motion,
+    pub plane: Plane,
+    pub units: Units,
+    pub distance: Distance,
+    pub feed_mode: FeedMode,
+    pub return_mode: ReturnMode,
+    pub path: PathControl,
+}
+
+impl Modes {
+    ghost use Rattle.ngc_modal_state.specs.Start.{start_modes};
+
+    /// The modes at a program's start: G80 G17 G21 G90 G94 G98 G64.
+    pub fn start() -> Modes
+        ensures { result ≡ start_modes }
+    {
+        Modes {
+            motion: Motion::Cancel,
+            plane: Plane::XY,
+            units: Units::Millimetres,
+            distance: Distance::Absolute,
+            feed_mode: FeedMode::PerMinute,
+            return_mode: ReturnMode::Series,
+            path: PathControl::Continuous,
+        }
+    }
+}

@@ -1,0 +1,263 @@
+ghost use Rattle.std.specs.Prelude.{◌≡◌, ◌+◌, ◌<◌, ◌≤◌, ◌++◌, option_to_list, option_map};
+ghost use Rattle.arrayvec.specs.ArrayVec.{array_vec_len};
+ghost use Rattle.ngc_modal_state.specs.Effects.{standing, mark as marked, system_at as system_by};
+
+use crate::block::Block;
+use crate::code::{Coolant, LengthCode, Motion, Once};
+use crate::effect::{ArcWords, CycleWords, Effect, Home};
+use crate::fault::ModalFault;
+use crate::modes::Modes;
+use crate::range::whole;
+use arrayvec::ArrayVec;
+use ngc_fixed_length::{FeedMode, System, Value};
+
+// Adds an item, where there is one.
+fn add<T: Copy>(list: &mut ArrayVec<T, 24>, item: Option<T>)
+    requires { array_vec_len list.old < 24 }
+    ensures items { list.new.items ≡ list.old.items ++ option_to_list item }
+    ensures room { array_vec_len list.new ≤ array_vec_len list.old + 1 }
+{
+    if let Some(item) = item {
+        list.push(item);
+    }
+}
+
+// The effect, where the test holds.
+fn mark(effect: Effect, stands: bool) -> Option<Effect>
+    ensures { result ≡ marked effect stands }
+{
+    if stands { Some(effect) } else { None }
+}
+
+// The coordinate system of a P word of G10.
+fn system_at(word: Option<Value>) -> Option<System>
+    ensures { result ≡ system_by word }
+{
+    match whole(word?) {
+        1 => Some(System::First),
+        2 => Some(System::Second),
+        3 => Some(System::Third),
+        4 => Some(System::Fourth),
+        5 => Some(System::Fifth),
+        6 => Some(System::Sixth),
+        7 => Some(System::Seventh),
+        8 => Some(System::Eighth),
+        9 => Some(System::Ninth),
+        _ => None,
+    }
+}
+
+impl Block {
+    ghost use Rattle.ngc_modal_state.specs.Faults.{Gives};
+    ghost use Rattle.ngc_modal_state.specs.Effects.{feed_effect, inverse_feed, dwell_effect, length_effect, frame_effect, arc_words, cycle_words, move_effect, first_effects, mode_effects, last_effects, in_order, effects as effects_of};
+    ghost use Rattle.ngc_modal_state.specs.Use.{feed_mode_of, whole as whole_part};
+    ghost use Rattle.ngc_modal_state.specs.declared.effect.Effect.TheVariants as acts;
+
+    // F in feed per minute, in the units that the line leaves in force.
+    fn feed_effect(&self, modes: &Modes) -> Option<Effect>
+        ensures { result ≡ feed_effect (feed_mode_of modes.now self.now) modes.now self.now }
+    {
+        match self.feed_mode_in_force(modes) {
+            FeedMode::PerMinute => Some(Effect::Feed {
+                value: self.f?,
+                units: self.units.unwrap_or(modes.units),
+            }),
+            FeedMode::InverseTime => None,
+        }
+    }
+
+    // F of a motion in inverse time.
+    fn inverse_feed(&self, modes: &Modes) -> Option<Value>
+        ensures { result ≡ inverse_feed (feed_mode_of modes.now self.now) self.now.f }
+    {
+        match self.feed_mode_in_force(modes) {
+            FeedMode::PerMinute => None,
+            FeedMode::InverseTime => self.f,
+        }
+    }
+
+    // T
+    fn tool_effect(&self) -> Option<Effect>
+        ensures { result ≡ option_map (λ v. acts.SelectTool (whole_part v)) self.now.t }
+    {
+        Some(Effect::SelectTool(whole(self.t?)))
+    }
+
+    // G4
+    fn dwell_effect(&self) -> Option<Effect>
+        ensures { result ≡ dwell_effect self.now.once self.now }
+    {
+        if self.is_dwell() {
+            self.p.map(Effect::Dwell)
+        } else {
+            None
+        }
+    }
+
+    // G43 with its H, or G49.
+    fn length_effect(&self) -> Option<Effect>
+        ensures { result ≡ length_effect self.now.tool_length self.now }
+    {
+        match self.tool_length? {
+            LengthCode::Apply => Some(Effect::ToolLength(Some(whole(self.h?)))),
+            LengthCode::Cancel => Some(Effect::ToolLength(None)),
+        }
+    }
+
+    // G10, G28, G30, G92 and its forms.
+    fn frame_effect(&self) -> Option<Effect>
+        ensures { result ≡ frame_effect self.now.once self.now }
+    {
+        let axes = self.axes;
+        match self.once? {
+            Once::SetOrigin => Some(Effect::SetOrigin {
+                system: system_at(self.p)?,
+                axes,
+            }),
+            Once::Home28 => Some(Effect::GoHome {
+                home: Home::First,
+                axes,
+            }),
+            Once::Home30 => Some(Effect::GoHome {
+                home: Home::Second,
+                axes,
+            }),
+            Once::SetOffset => Some(Effect::SetOffset(axes)),
+            Once::ClearOffset => Some(Effect::ClearOffset),
+            Once::SuspendOffset => Some(Effect::SuspendOffset),
+            Once::RestoreOffset => Some(Effect::RestoreOffset),
+            Once::Dwell | Once::MachinePlace => None,
+        }
+    }
+
+    fn arc_words(&self) -> ArcWords
+        ensures { result ≡ arc_words self.now }
+    {
+        ArcWords {
+            i: self.i,
+            j: self.j,
+            k: self.k,
+            r: self.r,
+        }
+    }
+
+    fn cycle_words(&self) -> CycleWords
+        ensures { result ≡ cycle_words self.now }
+    {
+        CycleWords {
+            l: self.l,
+            p: self.p,
+            q: self.q,
+            r: self.r,
+        }
+    }
+
+    // The line's motion by a motion code, where it moves.
+    fn move_effect(&self, motion: Motion, inverse: Option<Value>) -> Option<Effect>
+        ensures { result ≡ move_effect motion inverse self.now }
+    {
+        let axes = self.axes;
+        let machine = self.is_machine_place();
+        match motion {
+            Motion::Traverse => mark(Effect::Traverse { machine, axes }, self.has_axes()),
+            Motion::Straight => mark(
+                Effect::Straight {
+                    machine,
+                    axes,
+                    inverse,
+                },
+                self.has_axes(),
+            ),
+            Motion::Arc(turn) => mark(
+                Effect::Arc {
+                    turn,
+                    axes,
+                    words: self.arc_words(),
+                    inverse,
+                },
+                self.has_axes() || self.has_arc_words(),
+            ),
+            Motion::Cancel => None,
+            Motion::Cycle(hole) => Some(Effect::Cycle {
+                hole,
+                axes,
+                words: self.cycle_words(),
+            }),
+        }
+    }
+
+    // Feed mode, F, S, T, M6, spindle, coolant, overrides and dwell.
+    #[tactic(auto, unfolding(crate::specs::Effects::first_effects))]
+    fn add_first(&self, modes: &Modes, effects: &mut ArrayVec<Effect, 24>)
+        requires { array_vec_len effects.old ≤ 13 }
+        ensures items { effects.new.items ≡ effects.old.items ++ standing (first_effects modes.now self.now) }
+        ensures room { array_vec_len effects.new ≤ array_vec_len effects.old + 11 }
+    {
+        add(effects, self.feed_mode.map(Effect::FeedMode));
+        add(effects, self.feed_effect(modes));
+        add(effects, self.s.map(Effect::Speed));
+        add(effects, self.tool_effect());
+        add(effects, mark(Effect::ChangeTool, self.change_tool));
+        add(effects, self.spindle.map(Effect::Spindle));
+        add(effects, mark(Effect::Coolant(Coolant::Mist), self.mist));
+        add(effects, mark(Effect::Coolant(Coolant::Flood), self.flood));
+        add(
+            effects,
+            mark(Effect::Coolant(Coolant::Off), self.coolant_off),
+        );
+        add(effects, self.overrides.map(Effect::Override));
+        add(effects, self.dwell_effect());
+    }
+
+    // Plane, units, radius compensation, tool length, coordinate system, path control, distance and return mode.
+    #[tactic(auto, unfolding(crate::specs::Effects::mode_effects))]
+    fn add_modes(&self, effects: &mut ArrayVec<Effect, 24>)
+        requires { array_vec_len effects.old ≤ 16 }
+        ensures items { effects.new.items ≡ effects.old.items ++ standing (mode_effects self.now) }
+        ensures room { array_vec_len effects.new ≤ array_vec_len effects.old + 8 }
+    {
+        add(effects, self.plane.map(Effect::Plane));
+        add(effects, self.units.map(Effect::Units));
+        add(effects, mark(Effect::RadiusOff, self.radius_off));
+        add(effects, self.length_effect());
+        add(effects, self.system.map(Effect::System));
+        add(effects, self.path.map(Effect::Path));
+        add(effects, self.distance.map(Effect::Distance));
+        add(effects, self.return_mode.map(Effect::Return));
+    }
+
+    // What sets frames, the motion, and what stops.
+    #[tactic(auto, unfolding(crate::specs::Effects::last_effects))]
+    fn add_last(&self, modes: &Modes, effects: &mut ArrayVec<Effect, 24>)
+        requires { array_vec_len effects.old ≤ 20 }
+        ensures items { effects.new.items ≡ effects.old.items ++ standing (last_effects modes.now self.now) }
+        ensures room { array_vec_len effects.new ≤ array_vec_len effects.old + 4 }
+    {
+        add(effects, self.frame_effect());
+        add(effects, self.motion.map(Effect::Motion));
+        add(
+            effects,
+            self.move_effect(self.user(modes), self.inverse_feed(modes)),
+        );
+        add(effects, self.stopping.map(Effect::Stopping));
+    }
+
+    /// What the line does, in order of execution, in place of what `effects` holds. Refused, by 210 or else the first of 206
+    /// to 209 that applies, where a word is claimed twice, without use, missing or out of its range. After a fault what
+    /// `effects` holds is unspecified.
+    #[tactic(auto, using(crate::proofs::Standing::in_parts))]
+    pub fn effects(
+        &self,
+        modes: &Modes,
+        effects: &mut ArrayVec<Effect, 24>,
+    ) -> Result<(), ModalFault>
+        ensures { Gives (λ _. effects.new.items) result (effects_of modes.now self.now) }
+    {
+        self.check(modes)?;
+        effects.clear();
+        self.add_first(modes, effects);
+        self.add_modes(effects);
+        self.add_last(modes, effects);
+        Ok(())
+    }
+}

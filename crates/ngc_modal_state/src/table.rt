@@ -1,0 +1,158 @@
+ghost use Rattle.std.specs.Prelude.{◌≡◌};
+ghost use Rattle.ngc_modal_state.specs.Codes.{tenths as tenths_of, g_code as g_code_of, m_code as m_code_of, motion_codes, once_codes, mode_codes, g_codes, m_codes};
+ghost use Rattle.ngc_modal_state.specs.Tables.{at_number};
+
+use crate::code::{Code, Coolant, Hole, LengthCode, Motion, Once, PathControl, Spindle, Stopping};
+use crate::fault::ModalFault;
+use ngc_fixed_length::{Distance, FeedMode, Plane, ReturnMode, System, Turn, Units, Value};
+
+// A value in tenths, where it is a whole number of them.
+fn tenths(value: Value) -> Option<u64>
+    ensures { result ≡ tenths_of value }
+{
+    let millionths = value.millionths();
+    if millionths < 0 || millionths.unsigned_abs() % 100_000 != 0 {
+        None
+    } else {
+        Some(millionths.unsigned_abs() / 100_000)
+    }
+}
+
+#[tactic(auto, unfolding(crate::specs::Codes::motion_codes))]
+// The motion code of a G word in tenths.
+fn motion_code(tenths: u64) -> Option<Code>
+    ensures { result ≡ at_number tenths motion_codes }
+{
+    let motion = match tenths {
+        0 => Motion::Traverse,
+        10 => Motion::Straight,
+        20 => Motion::Arc(Turn::Clockwise),
+        30 => Motion::Arc(Turn::Counterclockwise),
+        800 => Motion::Cancel,
+        810 => Motion::Cycle(Hole::Drill),
+        820 => Motion::Cycle(Hole::DrillWithDwell),
+        830 => Motion::Cycle(Hole::Peck),
+        850 => Motion::Cycle(Hole::Bore),
+        860 => Motion::Cycle(Hole::BoreWithStop),
+        890 => Motion::Cycle(Hole::BoreWithDwell),
+        _ => return None,
+    };
+    Some(Code::Motion(motion))
+}
+
+#[tactic(auto, unfolding(crate::specs::Codes::mode_codes))]
+// The code of a G word in tenths that sets another mode.
+fn mode_code(tenths: u64) -> Option<Code>
+    ensures { result ≡ at_number tenths mode_codes }
+{
+    let code = match tenths {
+        170 => Code::Plane(Plane::XY),
+        180 => Code::Plane(Plane::ZX),
+        190 => Code::Plane(Plane::YZ),
+        900 => Code::Distance(Distance::Absolute),
+        910 => Code::Distance(Distance::Incremental),
+        930 => Code::FeedMode(FeedMode::InverseTime),
+        940 => Code::FeedMode(FeedMode::PerMinute),
+        200 => Code::Units(Units::Inches),
+        210 => Code::Units(Units::Millimetres),
+        400 => Code::RadiusOff,
+        430 => Code::ToolLength(LengthCode::Apply),
+        490 => Code::ToolLength(LengthCode::Cancel),
+        980 => Code::Return(ReturnMode::Series),
+        990 => Code::Return(ReturnMode::Retract),
+        540 => Code::System(System::First),
+        550 => Code::System(System::Second),
+        560 => Code::System(System::Third),
+        570 => Code::System(System::Fourth),
+        580 => Code::System(System::Fifth),
+        590 => Code::System(System::Sixth),
+        591 => Code::System(System::Seventh),
+        592 => Code::System(System::Eighth),
+        593 => Code::System(System::Ninth),
+        610 => Code::Path(PathControl::ExactPath),
+        611 => Code::Path(PathControl::ExactStop),
+        640 => Code::Path(PathControl::Continuous),
+        _ => return None,
+    };
+    Some(code)
+}
+
+#[tactic(auto, unfolding(crate::specs::Codes::once_codes))]
+// The code of a G word in tenths that holds for its line alone.
+fn once_code(tenths: u64) -> Option<Code>
+    ensures { result ≡ at_number tenths once_codes }
+{
+    let once = match tenths {
+        40 => Once::Dwell,
+        100 => Once::SetOrigin,
+        280 => Once::Home28,
+        300 => Once::Home30,
+        530 => Once::MachinePlace,
+        920 => Once::SetOffset,
+        921 => Once::ClearOffset,
+        922 => Once::SuspendOffset,
+        923 => Once::RestoreOffset,
+        _ => return None,
+    };
+    Some(Code::Once(once))
+}
+
+// The code of a G word in tenths.
+#[tactic(auto, using(crate::proofs::TableLaws::found_in_turn))]
+fn g_code_at(tenths: u64) -> Option<Code>
+    ensures { result ≡ at_number tenths g_codes }
+{
+    match motion_code(tenths) {
+        Some(code) => Some(code),
+        None => match mode_code(tenths) {
+            Some(code) => Some(code),
+            None => once_code(tenths),
+        },
+    }
+}
+
+/// The code of a G word. Codes that are left out by name are told from unknown ones.
+#[tactic(auto, unfolding(crate::specs::Codes::g_code))]
+pub(crate) fn g_code(value: Value) -> Result<Code, ModalFault>
+    ensures { result ≡ g_code_of value }
+{
+    match tenths(value) {
+        Some(382 | 410 | 420 | 840 | 870 | 880) => Err(ModalFault::LeftOut),
+        Some(tenths) => g_code_at(tenths).ok_or(ModalFault::UnknownCode),
+        None => Err(ModalFault::UnknownCode),
+    }
+}
+
+#[tactic(auto, unfolding(crate::specs::Codes::m_codes))]
+// The code of an M word in tenths.
+fn m_code_at(tenths: u64) -> Option<Code>
+    ensures { result ≡ at_number tenths m_codes }
+{
+    let code = match tenths {
+        0 | 600 => Code::Stopping(Stopping::Stop),
+        10 => Code::Stopping(Stopping::OptionalStop),
+        20 | 300 => Code::Stopping(Stopping::End),
+        60 => Code::ChangeTool,
+        30 => Code::Spindle(Spindle::Start(Turn::Clockwise)),
+        40 => Code::Spindle(Spindle::Start(Turn::Counterclockwise)),
+        50 => Code::Spindle(Spindle::Stop),
+        70 => Code::Coolant(Coolant::Mist),
+        80 => Code::Coolant(Coolant::Flood),
+        90 => Code::Coolant(Coolant::Off),
+        480 => Code::Override(true),
+        490 => Code::Override(false),
+        _ => return None,
+    };
+    Some(code)
+}
+
+#[tactic(auto, unfolding(crate::specs::Codes::m_code))]
+/// The code of an M word.
+pub(crate) fn m_code(value: Value) -> Result<Code, ModalFault>
+    ensures { result ≡ m_code_of value }
+{
+    match tenths(value) {
+        Some(tenths) => m_code_at(tenths).ok_or(ModalFault::UnknownCode),
+        None => Err(ModalFault::UnknownCode),
+    }
+}

@@ -1,8 +1,0 @@
--- The words left make of the block what all of them make of none.
-use Rattle.std.proofs.Common.{◌≡◌, drop}
-use Rattle.ngc_parameters.specs.Stored.{pairs_of}
-use Rattle.ngc_simulator.specs.Block.{with_words, no_words}
-use Rattle.ngc_simulator.proofs.block.Block.new.Given as goal
-
-abbrev pub invariant-loop-word : goal.invariant-loop-word
-invariant-loop-word l = with_words (pairs_of (drop l.word-index l.words)) l.block ≡ with_words (pairs_of l.words) no_words

@@ -1,0 +1,93 @@
+//! The machine and its tools, from the files that the command line names.
+ghost use Rattle.std.specs.Prelude.{◌≡◌, [], IfOk, IfSome, Some, option_map};
+ghost use Rattle.ngc_machine.specs.Machine.{row_machine as row_file};
+ghost use Rattle.ngc_machine.specs.MachineText.{machine_file};
+ghost use Rattle.ngc_machine.specs.ToolText.{tool_table};
+ghost use Rattle.ngc_machine.specs.Machine.{file_of};
+ghost use Rattle.ngc_simulator.specs.Setups.{IfSaid, GivesSetup, KeepsFiles};
+ghost use Rattle.ngc_machine.specs.Tools.{tools_of};
+
+use crate::fault::SetupFault;
+use crate::files::Files;
+use ngc_input::{InputFault, read_whole};
+use ngc_machine::{Machine, Tools, row_machine};
+use std::alloc::Global;
+
+/// How many bytes of a machine file or tool table are read: a longer one is 901.
+const FILE_LIMIT: usize = 20_000_000;
+
+// The bytes of a named file.
+fn bytes_of<F: Files>(alloc: Global, name: &str, files: &mut F) -> Result<Vec<u8>, InputFault>
+    ensures value { IfSome (F.bytes files.old (Some name.now)) (λ bytes. IfOk result (λ v. v.items ≡ bytes)) }
+    ensures keeps { KeepsFiles (F.bytes files.old) (F.bytes files.new) }
+{
+    let mut source = match files.source(Some(name)) {
+        Ok(source) => source,
+        Err(_) => return Err(InputFault::Device),
+    };
+    read_whole(alloc, &mut source, FILE_LIMIT)
+}
+
+fn named_machine<F: Files>(
+    alloc: Global,
+    name: &str,
+    files: &mut F,
+) -> Result<Machine<Global>, SetupFault>
+    ensures value { IfSome (F.bytes files.old (Some name.now)) (λ bytes. GivesSetup file_of result (machine_file bytes)) }
+    ensures keeps { KeepsFiles (F.bytes files.old) (F.bytes files.new) }
+{
+    match bytes_of(alloc, name, files) {
+        Ok(bytes) => match Machine::read(alloc, bytes.as_slice()) {
+            Ok(machine) => Ok(machine),
+            Err(fault) => Err(SetupFault::Refused(fault)),
+        },
+        Err(fault) => Err(SetupFault::Unread(fault)),
+    }
+}
+
+fn named_tools<F: Files>(
+    alloc: Global,
+    name: &str,
+    files: &mut F,
+) -> Result<Tools<Global>, SetupFault>
+    ensures value { IfSome (F.bytes files.old (Some name.now)) (λ bytes. GivesSetup tools_of result (tool_table bytes)) }
+    ensures keeps { KeepsFiles (F.bytes files.old) (F.bytes files.new) }
+{
+    match bytes_of(alloc, name, files) {
+        Ok(bytes) => match Tools::read(alloc, bytes.as_slice()) {
+            Ok(tools) => Ok(tools),
+            Err(fault) => Err(SetupFault::Refused(fault)),
+        },
+        Err(fault) => Err(SetupFault::Unread(fault)),
+    }
+}
+
+/// The machine that the named file says, or the built-in one.
+pub fn read_machine<F: Files>(
+    alloc: Global,
+    name: Option<&str>,
+    files: &mut F,
+) -> Result<Machine<Global>, SetupFault>
+    ensures value { IfSaid machine_file row_file (F.bytes files.old) (option_map (λ n. n.now) name.entry) (GivesSetup file_of result) }
+    ensures keeps { KeepsFiles (F.bytes files.old) (F.bytes files.new) }
+{
+    match name {
+        None => Ok(row_machine(alloc)),
+        Some(name) => named_machine(alloc, name, files),
+    }
+}
+
+/// The tools that the named file says, or none.
+pub fn read_tools<F: Files>(
+    alloc: Global,
+    name: Option<&str>,
+    files: &mut F,
+) -> Result<Tools<Global>, SetupFault>
+    ensures value { IfSaid tool_table [] (F.bytes files.old) (option_map (λ n. n.now) name.entry) (GivesSetup tools_of result) }
+    ensures keeps { KeepsFiles (F.bytes files.old) (F.bytes files.new) }
+{
+    match name {
+        None => Ok(Tools::empty(alloc)),
+        Some(name) => named_tools(alloc, name, files),
+    }
+}
