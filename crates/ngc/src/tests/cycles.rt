@@ -1,4 +1,5 @@
-use super::{lists, refuses};
+use super::{lists, refuses, run};
+use std::test::Fail;
 
 #[test]
 fn holes(rt: HostRuntime) {
@@ -114,4 +115,29 @@ fn refused_cycles(rt: HostRuntime) {
     ] {
         refuses(&rt, rt.alloc(), text.as_bytes(), fault.as_bytes());
     }
+}
+
+// Each line gives 39,996 commands.
+#[test]
+fn the_most_commands(rt: HostRuntime) -> Result<(), Fail> {
+    let line = "G91 G81 X0.001 Z-0.1 R-0.1 F60 L9999\n";
+    let mut text = Vec::new(rt.alloc());
+    for _ in 0..25u32 {
+        text.extend_from_slice(line.as_bytes())?;
+    }
+    text.extend_from_slice(b"M2\n")?;
+    let (status, listing, errors) = run(rt.alloc(), text.as_slice(), false);
+    assert_eq!(rt; status, 0);
+    assert_eq!(rt; errors.as_slice(), b"".as_slice());
+    assert!(rt; listing.as_slice().ends_with(b"\n999900 26 end\n"));
+    let mut more = Vec::new(rt.alloc());
+    more.extend_from_slice(line.as_bytes())?;
+    more.extend_from_slice(text.as_slice())?;
+    refuses(
+        &rt,
+        rt.alloc(),
+        more.as_slice(),
+        b"ngc: fault 251 line 26\n",
+    );
+    Ok(())
 }

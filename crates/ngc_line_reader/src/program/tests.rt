@@ -90,6 +90,7 @@ fn lines(rt: HostRuntime) -> Result<(), Fail> {
 #[test]
 fn loaded_lines(rt: HostRuntime) -> Result<(), Fail> {
     let program = read(rt.alloc(), b"/N7 #3=#5 G0 (a) X[1+2.5]\nM2\n".as_slice())?;
+    assert_eq!(rt; program.len(), 2);
     let mut line = Line::empty();
     program.load(0, &mut line);
     assert!(rt; line.deleted);
