@@ -8,9 +8,11 @@ use std::process::Abort;
 use std::test::Fail;
 
 mod arcs;
+mod certificates;
 mod cycles;
 mod files;
 mod interpreter;
+mod memory;
 mod rows;
 
 // A file's text, of which the contracts know nothing.
@@ -35,12 +37,13 @@ impl Source for Text<'_> {
     }
 }
 
-// A program on standard input, and the files `machine` and `tools`.
+// A program on standard input, and the files `machine`, `tools` and `certificate`.
 #[derive(Drop)]
 struct SomeFiles<'a> {
     program: &'a [u8],
     machine: &'a [u8],
     tools: &'a [u8],
+    certificate: &'a [u8],
     failures: u64,
 }
 
@@ -58,6 +61,9 @@ impl<'a> Files for SomeFiles<'a> {
             None => Ok(Text { rest: self.program }),
             Some("machine") => Ok(Text { rest: self.machine }),
             Some("tools") => Ok(Text { rest: self.tools }),
+            Some("certificate") => Ok(Text {
+                rest: self.certificate,
+            }),
             Some(_) => {
                 self.failures = self.failures.saturating_add(1);
                 Err(ReadFault::Device)
@@ -66,17 +72,25 @@ impl<'a> Files for SomeFiles<'a> {
     }
 }
 
-// What `ngc list` comes to: its status, its output and its line of a fault.
+// What a run of the program comes to: its status, its output and its line of a fault.
+fn answers_of(
+    alloc: Global,
+    files: &mut SomeFiles<'_>,
+    options: &Options<'_>,
+) -> (u8, Vec<u8>, Vec<u8>) {
+    let mut output = Device::new(Vec::new(alloc));
+    let mut errors = Device::new(Vec::new(alloc));
+    let status = answer(alloc, options, files, &mut output, &mut errors);
+    (status, output.into_inner(), errors.into_inner())
+}
+
+// What `ngc list` comes to.
 fn run_on(
     alloc: Global,
     files: &mut SomeFiles<'_>,
     options: &ListOptions<'_>,
 ) -> (u8, Vec<u8>, Vec<u8>) {
-    let mut output = Device::new(Vec::new(alloc));
-    let mut errors = Device::new(Vec::new(alloc));
-    let options = Options::List(*options);
-    let status = answer(alloc, &options, files, &mut output, &mut errors);
-    (status, output.into_inner(), errors.into_inner())
+    answers_of(alloc, files, &Options::List(*options))
 }
 
 // The same of a text on the built-in machine without tools.
@@ -85,6 +99,7 @@ fn run(alloc: Global, text: &[u8], delete: bool) -> (u8, Vec<u8>, Vec<u8>) {
         program: text,
         machine: b"",
         tools: b"",
+        certificate: b"",
         failures: 0,
     };
     let options = ListOptions {
@@ -143,6 +158,7 @@ fn files_that_are_not_there(rt: HostRuntime) {
             program: b"M2\n",
             machine: b"",
             tools: b"",
+            certificate: b"",
             failures: 0,
         };
         let (status, output, errors) = run_on(rt.alloc(), &mut files, &options);

@@ -11,3 +11,4 @@ pub mod Steps
 pub mod ArcLemmas
 pub mod GridLemmas
 pub mod SpanLemmas
+pub mod SweptEnds

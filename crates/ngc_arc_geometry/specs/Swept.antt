@@ -6,6 +6,7 @@ use Rattle.ngc_fixed_length.specs.Places.{height}
 use Rattle.ngc_fixed_length.specs.Rounding.{nearest}
 use Rattle.ngc_fixed_length.specs.declared.modes.Plane.{Plane}
 use Rattle.ngc_fixed_length.specs.declared.modes.Plane.TheVariants.{XY, ZX, YZ}
+use Rattle.ngc_fixed_length.specs.declared.points.GridBox.{GridBox}
 use Rattle.ngc_fixed_length.specs.declared.points.Point2.{Point2}
 use Rattle.ngc_fixed_length.specs.declared.points.StepPos.{StepPos}
 use Rattle.ngc_arc_geometry.specs.Shape.{ArcShape, start_of, end_of}
@@ -54,3 +55,6 @@ swept_low step a =
 abbrev pub swept_high : ℤ → ArcShape → StepPos
 swept_high step a =
     grid_at a.plane (high_at step a (λ p. p.u)) (high_at step a (λ p. p.v)) (int_max (start_height step a) (end_height step a))
+
+abbrev pub swept_box : ℤ → ArcShape → GridBox
+swept_box step a = record { low = swept_low step a; high = swept_high step a }

@@ -11,7 +11,7 @@ impl Arc {
     ghost use Rattle.ngc_arc_geometry.specs.Axes.{along};
     ghost use Rattle.ngc_arc_geometry.specs.Shape.{start_of};
     ghost use Rattle.ngc_arc_geometry.specs.Radii.{inner_radius, outer_radius};
-    ghost use Rattle.ngc_arc_geometry.specs.Swept.{margin, least, greatest, other_points, low_at, high_at, start_height, end_height, swept_low, swept_high};
+    ghost use Rattle.ngc_arc_geometry.specs.Swept.{margin, least, greatest, other_points, low_at, high_at, start_height, end_height, swept_box};
 
     /// By how much the rounded radii at start and end differ, in nanometres.
     fn radius_difference(&self) -> u64
@@ -81,8 +81,7 @@ impl Arc {
     /// The step is 500 to 50,000 nm.
     pub fn swept_box(&self, step: Nm) -> GridBox
         requires { IsStep step }
-        ensures low { result.low ≡ swept_low step self.now }
-        ensures high { result.high ≡ swept_high step self.now }
+        ensures { result ≡ swept_box step self.now }
     {
         let u = self.range_along(PlaneAxis::U, step);
         let v = self.range_along(PlaneAxis::V, step);

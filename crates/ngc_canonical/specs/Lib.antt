@@ -1,4 +1,6 @@
 pub mod Commands
+pub mod Movement
+pub mod ProgramPath
 pub mod Faults
 pub mod Steps
 pub mod State
@@ -10,3 +12,4 @@ pub mod Cycles
 pub mod Perform
 pub mod Meaning
 pub mod Interpreter
+pub mod Joined

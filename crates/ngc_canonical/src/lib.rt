@@ -6,7 +6,9 @@ mod command;
 mod cycles;
 mod fault;
 mod interpreter;
+pub mod laws;
 mod motions;
+mod movement;
 mod perform;
 mod places;
 mod program;
@@ -15,5 +17,6 @@ mod state;
 
 pub use command::{Command, CoolantState, Feed, SpindleState};
 pub use fault::{Fault, ProgramFault};
+pub use movement::{Doing, Motion};
 pub use ngc_machine::{FileFault, Fixture, Machine, Tool, Tools, row_machine};
 pub use program::interpret;

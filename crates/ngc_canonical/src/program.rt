@@ -1,13 +1,15 @@
 //! A program's lines, one after another.
-ghost use Rattle.std.specs.Prelude.{◌≡◌, ℤ, ℕ, List, length};
+ghost use Rattle.std.specs.Prelude.{◌≡◌, ◌≤◌, ℤ, ℕ, List, length, IfOk};
 ghost use Rattle.ngc_line_reader.specs.Grammar.{Reading, Reads};
 ghost use Rattle.ngc_line_reader.specs.Held.{AllWithinLimit};
 ghost use Rattle.ngc_line_reader.specs.Shown.{view_parts, items_of, items_said, ShowsReading};
 ghost use Rattle.ngc_line_reader.specs.ProgramText.{AreReadings};
 ghost use Rattle.ngc_line_reader.specs.ProgramView.{text_in};
+ghost use Rattle.ngc_machine.specs.Machine.{file_of};
 ghost use Rattle.ngc_parameters.specs.Stored.{pairs_of, changes_of};
 ghost use Rattle.ngc_canonical.specs.Meaning.{effects_of as effects_in, execute as executed, with_settings, after_line, past_last, commands_of, GivesMeaning, GivesEffects, meaning, program_said, mark_of as marked_at};
 ghost use Rattle.ngc_canonical.specs.Interpreter.{setup_of, state_of, Becomes, BecomesAt};
+ghost use Rattle.ngc_canonical.specs.Movement.{doings, motions_of, AreJoined};
 
 use crate::command::Command;
 use crate::fault::{Fault, ProgramFault};
@@ -148,7 +150,10 @@ pub fn interpret<A: Allocator + Copy>(
     block_delete: bool,
 ) -> Result<Vec<Command, A>, ProgramFault>
     // Whatever the lines' readings are (each line has one, and only one), the answer is what they mean.
-    ensures { (rs : List Reading) → AreReadings (text_in program.now).lines rs → GivesMeaning (λ v. v.items) result (meaning (program_said (text_in program.now) rs) (setup_of machine.now tools.now) block_delete) }
+    ensures commands { (rs : List Reading) → AreReadings (text_in program.now).lines rs → GivesMeaning (λ v. v.items) result (meaning (program_said (text_in program.now) rs) (setup_of machine.now tools.now) block_delete) }
+    // The first motion begins at the machine's start point, and each further one where the motion before it ends.
+    ensures joined { IfOk result (λ v. AreJoined (file_of machine.now).start (motions_of (doings v.items))) }
+    ensures count { IfOk result (λ v. length v.items ≤ 1000000) }
 {
     let Ok(mut interpreter) = Interpreter::new(alloc, machine) else {
         return Err(ProgramFault::Memory);

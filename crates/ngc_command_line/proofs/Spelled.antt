@@ -1,56 +1,183 @@
--- The options of `ngc list` are read back from the words that spell them.
-use Rattle.std.proofs.Common.{◌≡◌, Bool, true, false, List, Option, Some, None, refl, subst, sym}
-use Rattle.clap.specs.Words.{Text, subcommand_of}
+-- The options are read back from the words that spell them.
+use Rattle.std.proofs.Common.{◌≡◌, ◌==◌, ◌∙◌, [], ◌∷◌, cond, drop, if◌then◌else◌, ℕ, Bool, true, false, List, Option, Some, None, refl, subst, sym, codes, ◌≤◌, ◌<◌, ◌^◌, ap, option_map, arith}
+use Rattle.std.specs.Prelude.{unwrap_or}
+use Rattle.std.specs.Fmt.{decimal}
+use Rattle.std.specs.Str.Parse.{IsNumeral, digits_value, without_leading_plus}
+use Rattle.std.proofs.lemmas.Fmt.{decimal_is_IsNumeral}
+use Rattle.std.proofs.lemmas.Option.{same_Some}
+use Rattle.clap.specs.Words.{Row, Text, first_of, subcommand_of}
 use Rattle.clap.proofs.OnLiterals.{clap_on_literals}
-use Rattle.ngc_command_line.specs.CommandLine.{list_words, ngc_app}
-use Rattle.ngc_command_line.specs.Meant.{AreOptions, AsksForList, IsTaken}
-use Rattle.ngc_command_line.specs.declared.Options.{Options}
-use Rattle.ngc_command_line.specs.declared.Options.TheVariants.{List as ToList}
+use Rattle.clap.specs.Values.{IsUnsignedIn}
+use Rattle.clap.specs.ValueTests.{accepts}
+use Rattle.clap.specs.Kinds.{Kinds, or_else, value_kinds}
+use Rattle.clap.specs.declared.error.kind.ErrorKind.{ErrorKind}
+use Rattle.std.proofs.lemmas.Bool.{ne_eqb}
+use Rattle.std.proofs.lemmas.Str.Parse.{digit_from_value}
+use Rattle.clap.specs.declared.builder.value_parser.ValueParser.TheVariants.{Unsigned}
+use Rattle.clap.proofs.ValueTestLemmas.{Accepts-accepts}
+use Rattle.ngc_command_line.specs.CommandLine.{certify_words, check_words, list_words, ngc_app}
+use Rattle.ngc_command_line.specs.Meant.{AreCuts, AreCutsInRange, AreOptions, AsksForCertify, AsksForCheck, AsksForList, IsTaken, is_set}
+use Rattle.ngc_command_line.specs.declared.options.Options.{Options}
+use Rattle.ngc_command_line.specs.declared.options.Options.TheVariants.{Certify as ToCertify, Check as ToCheck, List as ToList}
+use Rattle.ngc_command_line.proofs.Whole.{other_name}
 
-list_words_taken : (program machine tools : Option Text) (delete : Bool) → IsTaken (list_words program machine tools delete)
+-- the words are taken, and this holds of the subcommand that they name
+abbrev Spells : List Text → (Option (Text × List Row) → Type 0) → Type 0
+Spells words Finds = IsTaken words × Finds (subcommand_of ngc_app words)
+
+-- the values of `list` that were found are these
+abbrev FindsList : Option Text → Option Text → Option Text → Bool → Option (Text × List Row) → Type 0
+FindsList program machine tools delete None = ⊥
+FindsList program machine tools delete (Some found) = (found.0 ≡ codes "list") × (first_of (codes "program") found.1 ≡ program)
+    × (first_of (codes "machine") found.1 ≡ machine) × (first_of (codes "tools") found.1 ≡ tools) × (is_set (codes "delete") found.1 ≡ delete)
+
+list_spells : (program machine tools : Option Text) (delete : Bool) → Spells (list_words program machine tools delete) (FindsList program machine tools delete)
 unfolding clap_on_literals
-list_words_taken None None None false = refl
-list_words_taken None None None true = refl
-list_words_taken None None (Some tools) false = refl
-list_words_taken None None (Some tools) true = refl
-list_words_taken None (Some machine) None false = refl
-list_words_taken None (Some machine) None true = refl
-list_words_taken None (Some machine) (Some tools) false = refl
-list_words_taken None (Some machine) (Some tools) true = refl
-list_words_taken (Some program) None None false = refl
-list_words_taken (Some program) None None true = refl
-list_words_taken (Some program) None (Some tools) false = refl
-list_words_taken (Some program) None (Some tools) true = refl
-list_words_taken (Some program) (Some machine) None false = refl
-list_words_taken (Some program) (Some machine) None true = refl
-list_words_taken (Some program) (Some machine) (Some tools) false = refl
-list_words_taken (Some program) (Some machine) (Some tools) true = refl
+list_spells None None None false = (refl, (refl, refl, refl, refl, refl))
+list_spells None None None true = (refl, (refl, refl, refl, refl, refl))
+list_spells None None (Some tools) false = (refl, (refl, refl, refl, refl, refl))
+list_spells None None (Some tools) true = (refl, (refl, refl, refl, refl, refl))
+list_spells None (Some machine) None false = (refl, (refl, refl, refl, refl, refl))
+list_spells None (Some machine) None true = (refl, (refl, refl, refl, refl, refl))
+list_spells None (Some machine) (Some tools) false = (refl, (refl, refl, refl, refl, refl))
+list_spells None (Some machine) (Some tools) true = (refl, (refl, refl, refl, refl, refl))
+list_spells (Some program) None None false = (refl, (refl, refl, refl, refl, refl))
+list_spells (Some program) None None true = (refl, (refl, refl, refl, refl, refl))
+list_spells (Some program) None (Some tools) false = (refl, (refl, refl, refl, refl, refl))
+list_spells (Some program) None (Some tools) true = (refl, (refl, refl, refl, refl, refl))
+list_spells (Some program) (Some machine) None false = (refl, (refl, refl, refl, refl, refl))
+list_spells (Some program) (Some machine) None true = (refl, (refl, refl, refl, refl, refl))
+list_spells (Some program) (Some machine) (Some tools) false = (refl, (refl, refl, refl, refl, refl))
+list_spells (Some program) (Some machine) (Some tools) true = (refl, (refl, refl, refl, refl, refl))
 
-list_words_read : (program machine tools : Option Text) (delete : Bool) (options : Options) → AreOptions (subcommand_of ngc_app (list_words program machine tools delete)) options
-    → AsksForList program machine tools delete options
-unfolding clap_on_literals
-list_words_read None None None false (ToList list) are = (are.1.program, are.1.machine, are.1.tools, are.1.delete)
-list_words_read None None None true (ToList list) are = (are.1.program, are.1.machine, are.1.tools, are.1.delete)
-list_words_read None None (Some tools) false (ToList list) are = (are.1.program, are.1.machine, are.1.tools, are.1.delete)
-list_words_read None None (Some tools) true (ToList list) are = (are.1.program, are.1.machine, are.1.tools, are.1.delete)
-list_words_read None (Some machine) None false (ToList list) are = (are.1.program, are.1.machine, are.1.tools, are.1.delete)
-list_words_read None (Some machine) None true (ToList list) are = (are.1.program, are.1.machine, are.1.tools, are.1.delete)
-list_words_read None (Some machine) (Some tools) false (ToList list) are = (are.1.program, are.1.machine, are.1.tools, are.1.delete)
-list_words_read None (Some machine) (Some tools) true (ToList list) are = (are.1.program, are.1.machine, are.1.tools, are.1.delete)
-list_words_read (Some program) None None false (ToList list) are = (are.1.program, are.1.machine, are.1.tools, are.1.delete)
-list_words_read (Some program) None None true (ToList list) are = (are.1.program, are.1.machine, are.1.tools, are.1.delete)
-list_words_read (Some program) None (Some tools) false (ToList list) are = (are.1.program, are.1.machine, are.1.tools, are.1.delete)
-list_words_read (Some program) None (Some tools) true (ToList list) are = (are.1.program, are.1.machine, are.1.tools, are.1.delete)
-list_words_read (Some program) (Some machine) None false (ToList list) are = (are.1.program, are.1.machine, are.1.tools, are.1.delete)
-list_words_read (Some program) (Some machine) None true (ToList list) are = (are.1.program, are.1.machine, are.1.tools, are.1.delete)
-list_words_read (Some program) (Some machine) (Some tools) false (ToList list) are = (are.1.program, are.1.machine, are.1.tools, are.1.delete)
-list_words_read (Some program) (Some machine) (Some tools) true (ToList list) are = (are.1.program, are.1.machine, are.1.tools, are.1.delete)
+list_asked : (program machine tools : Option Text) (delete : Bool) (found : Option (Text × List Row)) (options : Options) → FindsList program machine tools delete found
+    → AreOptions found options → AsksForList program machine tools delete options
+list_asked program machine tools delete None options finds are = absurd finds
+list_asked program machine tools delete (Some found) (ToList list) finds are =
+    (are.1.program ∙ finds.1, are.1.machine ∙ finds.2, are.1.tools ∙ finds.3, are.1.delete ∙ finds.4)
+list_asked program machine tools delete (Some found) (ToCertify certify) finds are = other_name (codes "list") (codes "certify") (sym finds.0 ∙ are.0) (λ lengths. omega (arith, lengths))
+list_asked program machine tools delete (Some found) (ToCheck check) finds are = other_name (codes "list") (codes "check") (sym finds.0 ∙ are.0) (λ lengths. omega (arith, lengths))
 
-pub spelled_taken : (words : List Text) (program machine tools : Option Text) (delete : Bool) → words ≡ list_words program machine tools delete → IsTaken words
-spelled_taken words program machine tools delete spelled = subst IsTaken (sym spelled) (list_words_taken program machine tools delete)
+pub list_taken : (words : List Text) (program machine tools : Option Text) (delete : Bool) → words ≡ list_words program machine tools delete → IsTaken words
+list_taken words program machine tools delete spelled = subst IsTaken (sym spelled) (list_spells program machine tools delete).0
 
-pub spelled_read : (words : List Text) (program machine tools : Option Text) (delete : Bool) (options : Options) → words ≡ list_words program machine tools delete
+pub list_read : (words : List Text) (program machine tools : Option Text) (delete : Bool) (options : Options) → words ≡ list_words program machine tools delete
     → AreOptions (subcommand_of ngc_app words) options → AsksForList program machine tools delete options
-spelled_read words program machine tools delete options spelled are =
+list_read words program machine tools delete options spelled are =
     let Are : List Text → Type 0 = λ ws. AreOptions (subcommand_of ngc_app ws) options in
-    list_words_read program machine tools delete options (subst Are spelled are)
+    list_asked program machine tools delete _ options (list_spells program machine tools delete).1 (subst Are spelled are)
+
+-- the values of `check` that were found are these
+abbrev FindsCheck : Text → Text → Text → Option Text → Option (Text × List Row) → Type 0
+FindsCheck machine tools certificate program None = ⊥
+FindsCheck machine tools certificate program (Some found) = (found.0 ≡ codes "check") × (first_of (codes "machine") found.1 ≡ Some machine)
+    × (first_of (codes "tools") found.1 ≡ Some tools) × (first_of (codes "certificate") found.1 ≡ Some certificate) × (first_of (codes "program") found.1 ≡ program)
+
+check_spells : (machine tools certificate : Text) (program : Option Text) → Spells (check_words machine tools certificate program) (FindsCheck machine tools certificate program)
+unfolding clap_on_literals
+check_spells machine tools certificate None = (refl, (refl, refl, refl, refl, refl))
+check_spells machine tools certificate (Some program) = (refl, (refl, refl, refl, refl, refl))
+
+pub same_text : (a b : Text) (o : Option Text) → Some a ≡ o → o ≡ Some b → a ≡ b
+same_text a b o first second = same_Some _ _ (first ∙ second)
+
+check_asked : (machine tools certificate : Text) (program : Option Text) (found : Option (Text × List Row)) (options : Options)
+    → FindsCheck machine tools certificate program found → AreOptions found options → AsksForCheck machine tools certificate program options
+check_asked machine tools certificate program None options finds are = absurd finds
+check_asked machine tools certificate program (Some found) (ToCheck check) finds are =
+    (same_text _ _ _ are.1.machine finds.1, same_text _ _ _ are.1.tools finds.2, same_text _ _ _ are.1.certificate finds.3, are.1.program ∙ finds.4)
+check_asked machine tools certificate program (Some found) (ToCertify certify) finds are = other_name (codes "check") (codes "certify") (sym finds.0 ∙ are.0) (λ lengths. omega (arith, lengths))
+check_asked machine tools certificate program (Some found) (ToList list) finds are = other_name (codes "check") (codes "list") (sym finds.0 ∙ are.0) (λ lengths. omega (arith, lengths))
+
+pub check_taken : (words : List Text) (machine tools certificate : Text) (program : Option Text) → words ≡ check_words machine tools certificate program → IsTaken words
+check_taken words machine tools certificate program spelled = subst IsTaken (sym spelled) (check_spells machine tools certificate program).0
+
+pub check_read : (words : List Text) (machine tools certificate : Text) (program : Option Text) (options : Options) → words ≡ check_words machine tools certificate program
+    → AreOptions (subcommand_of ngc_app words) options → AsksForCheck machine tools certificate program options
+check_read words machine tools certificate program options spelled are =
+    let Are : List Text → Type 0 = λ ws. AreOptions (subcommand_of ngc_app ws) options in
+    check_asked machine tools certificate program _ options (check_spells machine tools certificate program).1 (subst Are spelled are)
+
+-- the values of `certify` that were found are these
+abbrev FindsCertify : Text → Text → Option Text → Option Text → Option (Text × List Row) → Type 0
+FindsCertify machine tools program cuts None = ⊥
+FindsCertify machine tools program cuts (Some found) = (found.0 ≡ codes "certify") × (first_of (codes "machine") found.1 ≡ Some machine)
+    × (first_of (codes "tools") found.1 ≡ Some tools) × (first_of (codes "program") found.1 ≡ program) × (first_of (codes "cuts") found.1 ≡ cuts)
+
+-- a number as a text
+abbrev text_of : Option ℕ → Option Text
+text_of cuts = option_map decimal cuts
+
+certify_finds : (machine tools : Text) (program : Option Text) (cuts : Option ℕ) → FindsCertify machine tools program (text_of cuts) (subcommand_of ngc_app (certify_words machine tools program cuts))
+unfolding clap_on_literals
+certify_finds machine tools None None = (refl, refl, refl, refl, refl)
+certify_finds machine tools None (Some cuts) = (refl, refl, refl, refl, refl)
+certify_finds machine tools (Some program) None = (refl, refl, refl, refl, refl)
+certify_finds machine tools (Some program) (Some cuts) = (refl, refl, refl, refl, refl)
+
+-- digits have no sign before them
+no_plus : (ds : Text) → IsNumeral 10 ds → without_leading_plus ds ≡ ds
+no_plus [] numeral = refl
+no_plus (d ∷ ds) numeral =
+    let plus : (d == 43) ≡ false = ne_eqb _ _ (λ same. omega (arith, digit_from_value d numeral.1.0, same)) in
+    ap (λ (is_plus : Bool). drop (cond is_plus 1 0) (d ∷ ds)) plus
+
+decimal_value : (cuts : ℕ) → cuts ≤ 65535 → digits_value 10 (without_leading_plus (decimal cuts)) ≡ cuts
+decimal_value cuts high =
+    let (numeral, value) = decimal_is_IsNumeral cuts (omega arith) in
+    ap (digits_value 10) (no_plus (decimal cuts) numeral) ∙ value
+
+decimal_in_range : (cuts : ℕ) → 1 ≤ cuts → cuts ≤ 65535 → IsUnsignedIn 1 65535 (decimal cuts)
+decimal_in_range cuts low high =
+    let small : cuts < 2 ^ 64 = omega arith in
+    let (numeral, value) = decimal_is_IsNumeral cuts small in
+    let digits = subst (λ (ds : Text). IsNumeral 10 ds) (sym (no_plus (decimal cuts) numeral)) numeral in
+    let is = sym (decimal_value cuts high) in
+    (digits, subst (λ (n : ℕ). n < 2 ^ 64) is small, subst (λ (n : ℕ). 1 ≤ n) is low, subst (λ (n : ℕ). n ≤ 65535) is high)
+
+-- two steps that give no fault give none together
+both : {first second : Kinds} → first ≡ [] → second ≡ [] → or_else first second ≡ []
+both {first} {second} none none_after = subst (λ (k : Kinds). or_else k second ≡ []) (sym none) none_after
+
+passes : (takes : Bool) (kind : ErrorKind) → takes ≡ true → (if takes then [] else kind ∷ []) ≡ []
+passes takes kind is = subst (λ (b : Bool). (if b then [] else kind ∷ []) ≡ []) (sym is) refl
+
+certify_cuts_taken : (machine tools : Text) (program : Option Text) (cuts : ℕ) → value_kinds false (Unsigned 1 65535) (decimal cuts) ≡ []
+    → IsTaken (certify_words machine tools program (Some cuts))
+unfolding clap_on_literals
+certify_cuts_taken machine tools None cuts takes = both (both (both (both (both takes refl) refl) refl) refl) refl
+certify_cuts_taken machine tools (Some program) cuts takes = both (both (both (both (both takes refl) refl) refl) refl) refl
+
+certify_spells : (machine tools : Text) (program : Option Text) (cuts : Option ℕ) → AreCutsInRange cuts → IsTaken (certify_words machine tools program cuts)
+unfolding clap_on_literals
+certify_spells machine tools None None range = refl
+certify_spells machine tools (Some program) None range = refl
+certify_spells machine tools program (Some cuts) range =
+    let text = Accepts-accepts false (Unsigned 1 65535) (decimal cuts) (decimal_in_range cuts range.0 range.1) in
+    certify_cuts_taken machine tools program cuts (passes (accepts false (Unsigned 1 65535) (decimal cuts)) _ text)
+
+-- the number that its decimal gives back
+cuts_read : (cuts : Option ℕ) (read : ℕ) → AreCutsInRange cuts → AreCuts (text_of cuts) read → read ≡ unwrap_or cuts 8
+cuts_read None read range are = are
+cuts_read (Some cuts) read range are = are.1 ∙ decimal_value cuts range.1
+
+certify_asked : (machine tools : Text) (program : Option Text) (cuts : Option ℕ) (found : Option (Text × List Row)) (options : Options) → AreCutsInRange cuts
+    → FindsCertify machine tools program (text_of cuts) found → AreOptions found options → AsksForCertify machine tools program cuts options
+certify_asked machine tools program cuts None options range finds are = absurd finds
+certify_asked machine tools program cuts (Some found) (ToCertify certify) range finds are =
+    let read = subst (λ (text : Option Text). AreCuts text certify.cuts) finds.4 are.1.cuts in
+    (same_text _ _ _ are.1.machine finds.1, same_text _ _ _ are.1.tools finds.2, are.1.program ∙ finds.3, cuts_read cuts certify.cuts range read)
+certify_asked machine tools program cuts (Some found) (ToList list) range finds are =
+    other_name (codes "certify") (codes "list") (sym finds.0 ∙ are.0) (λ lengths. omega (arith, lengths))
+certify_asked machine tools program cuts (Some found) (ToCheck check) range finds are =
+    other_name (codes "certify") (codes "check") (sym finds.0 ∙ are.0) (λ lengths. omega (arith, lengths))
+
+pub certify_taken : (words : List Text) (machine tools : Text) (program : Option Text) (cuts : Option ℕ) → AreCutsInRange cuts
+    → words ≡ certify_words machine tools program cuts → IsTaken words
+certify_taken words machine tools program cuts range spelled = subst IsTaken (sym spelled) (certify_spells machine tools program cuts range)
+
+pub certify_read : (words : List Text) (machine tools : Text) (program : Option Text) (cuts : Option ℕ) (options : Options) → AreCutsInRange cuts
+    → words ≡ certify_words machine tools program cuts → AreOptions (subcommand_of ngc_app words) options → AsksForCertify machine tools program cuts options
+certify_read words machine tools program cuts options range spelled are =
+    let Are : List Text → Type 0 = λ ws. AreOptions (subcommand_of ngc_app ws) options in
+    certify_asked machine tools program cuts _ options range (certify_finds machine tools program cuts) (subst Are spelled are)

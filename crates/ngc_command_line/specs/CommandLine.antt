@@ -1,12 +1,22 @@
 -- The command line of the program, as `clap` reads a command.
-use Rattle.std.specs.Prelude.{Bool, List, [], ◌∷◌, ◌++◌, Option, Some, None, true, codes, fold}
+use Rattle.std.specs.Prelude.{ℕ, Bool, List, [], ◌∷◌, ◌++◌, Option, Some, None, true, codes, fold}
 use Rattle.std.specs.Prelude.{if◌then◌else◌}
+use Rattle.std.specs.Fmt.{decimal}
 use Rattle.clap.specs.Words.{App, Rule, Text, new_app, new_rule, with_rule, with_subcommand}
 use Rattle.clap.specs.declared.builder.action.ArgAction.TheVariants.{Set, SetTrue}
+use Rattle.clap.specs.declared.builder.value_parser.ValueParser.TheVariants.{Unsigned}
 
 -- `--NAME FILE`
 abbrev pub file_option : Text → Rule
 file_option name = record (new_rule name) { long = Some name; value_names = 1; action = Some Set }
+
+-- `--NAME FILE`, which may not be left out
+abbrev pub required_file : Text → Rule
+required_file name = record (file_option name) { required = true }
+
+-- `--cuts N`, with a number from 1 to 65,535
+abbrev pub cuts_option : Rule
+cuts_option = record (file_option (codes "cuts")) { parser = Some (Unsigned 1 65535) }
 
 -- `--NAME`
 abbrev pub flag : Text → Rule
@@ -18,6 +28,18 @@ list_app = fold with_rule (new_app (codes "list"))
     (file_option (codes "program") ∷ file_option (codes "machine") ∷ file_option (codes "tools")
     ∷ flag (codes "delete") ∷ [])
 
+-- `certify --machine FILE --tools FILE [--program FILE] [--cuts N]`
+abbrev pub certify_app : App
+certify_app = fold with_rule (new_app (codes "certify"))
+    (required_file (codes "machine") ∷ required_file (codes "tools")
+    ∷ file_option (codes "program") ∷ cuts_option ∷ [])
+
+-- `check --machine FILE --tools FILE --certificate FILE [--program FILE]`
+abbrev pub check_app : App
+check_app = fold with_rule (new_app (codes "check"))
+    (required_file (codes "machine") ∷ required_file (codes "tools")
+    ∷ required_file (codes "certificate") ∷ file_option (codes "program") ∷ [])
+
 -- the words begin after the program's name, and name a subcommand
 abbrev pub ngc_settings : App
 ngc_settings = let bare : App = new_app (codes "ngc") in record bare {
@@ -28,9 +50,10 @@ ngc_settings = let bare : App = new_app (codes "ngc") in record bare {
   };
 }
 
--- `ngc list ..`
+-- `ngc list ..`, `ngc certify ..` and `ngc check ..`
 abbrev pub ngc_app : App
-ngc_app = with_subcommand ngc_settings list_app.top
+ngc_app = with_subcommand (with_subcommand (with_subcommand ngc_settings list_app.top)
+    certify_app.top) check_app.top
 
 -- the one word `--NAME=FILE`, where there is a file and `beginning` is `--NAME=`
 abbrev pub file_words : Text → Option Text → List Text
@@ -41,8 +64,25 @@ file_words beginning (Some file) = (beginning ++ file) ∷ []
 abbrev pub flag_words : Text → Bool → List Text
 flag_words word set = if set then word ∷ [] else []
 
+-- the one word `--cuts=N`, where there is a number
+abbrev pub cuts_words : Option ℕ → List Text
+cuts_words None = []
+cuts_words (Some cuts) = (codes "--cuts=" ++ decimal cuts) ∷ []
+
 -- the words of `ngc list` with these options, in one spelling
 abbrev pub list_words : Option Text → Option Text → Option Text → Bool → List Text
 list_words program machine tools delete = codes "list"
     ∷ (file_words (codes "--program=") program ++ file_words (codes "--machine=") machine
     ++ file_words (codes "--tools=") tools ++ flag_words (codes "--delete") delete)
+
+-- the words of `ngc certify` with these options, in one spelling
+abbrev pub certify_words : Text → Text → Option Text → Option ℕ → List Text
+certify_words machine tools program cuts = codes "certify"
+    ∷ (codes "--machine=" ++ machine) ∷ (codes "--tools=" ++ tools)
+    ∷ (file_words (codes "--program=") program ++ cuts_words cuts)
+
+-- the words of `ngc check` with these options, in one spelling
+abbrev pub check_words : Text → Text → Text → Option Text → List Text
+check_words machine tools certificate program = codes "check"
+    ∷ (codes "--machine=" ++ machine) ∷ (codes "--tools=" ++ tools)
+    ∷ (codes "--certificate=" ++ certificate) ∷ file_words (codes "--program=") program

@@ -1,13 +1,17 @@
 -- What the options are, by the subcommand that `clap` finds in the words and its values.
-use Rattle.std.specs.Prelude.{◌≡◌, ℕ, Bool, List, [], ◌∷◌, ◌⊎◌, Option, Some, None}
-use Rattle.std.specs.Prelude.{option_map, codes, false}
+use Rattle.std.specs.Prelude.{◌≡◌, ◌≤◌, ℕ, Bool, List, [], ◌∷◌, ◌⊎◌, Option, Some, None, IfSome}
+use Rattle.std.specs.Prelude.{option_map, codes, false, true, is_some, unwrap_or}
 use Rattle.std.specs.Str.{bytes_eq}
+use Rattle.std.specs.Str.Parse.{IsNumeral, digits_value, without_leading_plus}
 use Rattle.std.specs.Option.{option_map_or}
-use Rattle.clap.specs.Words.{Row, Shape, Text, fault_of, first_of}
+use Rattle.clap.specs.Words.{IsUnsignedIn, Row, Shape, Text, fault_of, first_of}
 use Rattle.ngc_command_line.specs.CommandLine.{ngc_app}
-use Rattle.ngc_command_line.specs.declared.ListOptions.{ListOptions}
-use Rattle.ngc_command_line.specs.declared.Options.{Options}
-use Rattle.ngc_command_line.specs.declared.Options.TheVariants.{List as ToList}
+use Rattle.ngc_command_line.specs.declared.options.CertifyOptions.{CertifyOptions}
+use Rattle.ngc_command_line.specs.declared.options.CheckOptions.{CheckOptions}
+use Rattle.ngc_command_line.specs.declared.options.ListOptions.{ListOptions}
+use Rattle.ngc_command_line.specs.declared.options.Options.{Options}
+use Rattle.ngc_command_line.specs.declared.options.Options.TheVariants.{List as ToList, Certify as ToCertify}
+use Rattle.ngc_command_line.specs.declared.options.Options.TheVariants.{Check as ToCheck}
 use Rattle.ngc_command_line.specs.declared.UsageFault.{UsageFault}
 use Rattle.ngc_command_line.specs.declared.UsageFault.TheVariants.{Usage, Memory}
 
@@ -26,15 +30,59 @@ pub record AreListOptions (rows : List Row) (options : ListOptions) : Type 0 whe
   pub tools : option_map (λ name. name.now) options.tools ≡ first_of (codes "tools") rows
   pub delete : options.delete ≡ is_set (codes "delete") rows
 
+-- the number of cuts: 8 where no text is given, else the number from 1 to 65,535 whose decimal the
+-- text is; a plus sign may stand before it
+abbrev pub AreCuts : Option Text → ℕ → Type 0
+AreCuts None cuts = cuts ≡ 8
+AreCuts (Some text) cuts = IsNumeral 10 (without_leading_plus text)
+    × (cuts ≡ digits_value 10 (without_leading_plus text)) × (1 ≤ cuts) × (cuts ≤ 65535)
+
+-- each option of `certify` by the first value that was found under its own name
+pub record AreCertifyOptions (rows : List Row) (options : CertifyOptions) : Type 0 where
+  pub machine : Some options.machine.now ≡ first_of (codes "machine") rows
+  pub tools : Some options.tools.now ≡ first_of (codes "tools") rows
+  pub program : option_map (λ name. name.now) options.program ≡ first_of (codes "program") rows
+  pub cuts : AreCuts (first_of (codes "cuts") rows) options.cuts
+
+-- each option of `check` by the first value that was found under its own name
+pub record AreCheckOptions (rows : List Row) (options : CheckOptions) : Type 0 where
+  pub machine : Some options.machine.now ≡ first_of (codes "machine") rows
+  pub tools : Some options.tools.now ≡ first_of (codes "tools") rows
+  pub certificate : Some options.certificate.now ≡ first_of (codes "certificate") rows
+  pub program : option_map (λ name. name.now) options.program ≡ first_of (codes "program") rows
+
+-- a value was found under the name
+abbrev pub HasValue : Text → List Row → Type 0
+HasValue name rows = is_some (first_of name rows) ≡ true
+
+-- what is found for `certify` where the words are taken
+abbrev pub HasCertifyValues : List Row → Type 0
+HasCertifyValues rows = HasValue (codes "machine") rows × HasValue (codes "tools") rows
+    × IfSome (first_of (codes "cuts") rows) (IsUnsignedIn 1 65535)
+
+-- what is found for `check` where the words are taken
+abbrev pub HasCheckValues : List Row → Type 0
+HasCheckValues rows = HasValue (codes "machine") rows × HasValue (codes "tools") rows
+    × HasValue (codes "certificate") rows
+
 -- a subcommand of these has the name
 abbrev pub IsNameAmong : List Shape → Text → Type 0
 IsNameAmong [] name = ⊥
 IsNameAmong (shape ∷ rest) name = (name ≡ shape.name) ⊎ IsNameAmong rest name
 
+-- the subcommand that was found is one of the program's and has the values that it requires
+pub record IsWhole (name : Text) (rows : List Row) : Type 0 where
+  pub named : IsNameAmong ngc_app.subs name
+  pub certify : name ≡ codes "certify" → HasCertifyValues rows
+  pub check : name ≡ codes "check" → HasCheckValues rows
+
 -- the options are those of the subcommand that was found, and there is one
 abbrev pub AreOptions : Option (Text × List Row) → Options → Type 0
 AreOptions None options = ⊥
 AreOptions (Some found) (ToList list) = (found.0 ≡ codes "list") × AreListOptions found.1 list
+AreOptions (Some found) (ToCertify certify) =
+    (found.0 ≡ codes "certify") × AreCertifyOptions found.1 certify
+AreOptions (Some found) (ToCheck check) = (found.0 ≡ codes "check") × AreCheckOptions found.1 check
 
 -- `list` is asked for, with these options
 abbrev pub AsksForList : Option Text → Option Text → Option Text → Bool → Options → Type 0
@@ -43,6 +91,27 @@ AsksForList program machine tools delete (ToList list) =
     × (option_map (λ name. name.now) list.machine ≡ machine)
     × (option_map (λ name. name.now) list.tools ≡ tools)
     × (list.delete ≡ delete)
+AsksForList program machine tools delete other = ⊥
+
+-- `certify` is asked for, with these options, and 8 cuts where none are given
+abbrev pub AsksForCertify : Text → Text → Option Text → Option ℕ → Options → Type 0
+AsksForCertify machine tools program cuts (ToCertify certify) =
+    (certify.machine.now ≡ machine) × (certify.tools.now ≡ tools)
+    × (option_map (λ name. name.now) certify.program ≡ program)
+    × (certify.cuts ≡ unwrap_or cuts 8)
+AsksForCertify machine tools program cuts other = ⊥
+
+-- `check` is asked for, with these options
+abbrev pub AsksForCheck : Text → Text → Text → Option Text → Options → Type 0
+AsksForCheck machine tools certificate program (ToCheck check) =
+    (check.machine.now ≡ machine) × (check.tools.now ≡ tools)
+    × (check.certificate.now ≡ certificate)
+    × (option_map (λ name. name.now) check.program ≡ program)
+AsksForCheck machine tools certificate program other = ⊥
+
+-- the number of cuts, where one is given, is from 1 to 65,535
+abbrev pub AreCutsInRange : Option ℕ → Type 0
+AreCutsInRange cuts = IfSome cuts (λ number. (1 ≤ number) × (number ≤ 65535))
 
 -- the table of numbers
 abbrev pub usage_fault_number : UsageFault → ℕ

@@ -1,4 +1,5 @@
-ghost use Rattle.std.specs.Prelude.{◌≡◌, ◌≤ℤ◌};
+ghost use Rattle.std.specs.Prelude.{◌≡◌};
+ghost use Rattle.std.specs.Int.{int_min, int_max};
 
 use crate::length::Nm;
 use crate::modes::Plane;
@@ -26,14 +27,12 @@ pub struct StepPos {
     pub z: i32,
 }
 
-/// The grid points from the lowest corner to the highest, both included.
+/// The grid points from the lowest corner to the highest, both included. With a low corner above the high one on some axis
+/// it holds no point.
 #[derive(Clone, Copy, Debug, PartialEq, Eq)]
 pub struct GridBox {
     pub low: StepPos,
     pub high: StepPos,
-    ghost ordered_x: { low.x ≤ℤ high.x },
-    ghost ordered_y: { low.y ≤ℤ high.y },
-    ghost ordered_z: { low.z ≤ℤ high.z },
 }
 
 impl Point3 {
@@ -106,5 +105,91 @@ impl StepPos {
         let y = self.y.abs_diff(other.y);
         let z = self.z.abs_diff(other.z);
         x.max(y.max(z))
+    }
+}
+
+fn lesser(a: i32, b: i32) -> i32
+    ensures { result ≡ int_min a b }
+{
+    a.min(b)
+}
+
+fn greater(a: i32, b: i32) -> i32
+    ensures { result ≡ int_max a b }
+{
+    a.max(b)
+}
+
+impl StepPos {
+    ghost use Rattle.ngc_fixed_length.specs.Boxes.{is_below, lesser_corner, greater_corner};
+
+    /// On each axis this point is at most the other.
+    pub fn is_below(&self, other: &StepPos) -> bool
+        ensures { result ≡ is_below self.now other.now }
+    {
+        self.x <= other.x && self.y <= other.y && self.z <= other.z
+    }
+
+    /// On each axis the lesser of the two.
+    pub fn lesser(&self, other: &StepPos) -> StepPos
+        ensures { result ≡ lesser_corner self.now other.now }
+    {
+        StepPos {
+            x: lesser(self.x, other.x),
+            y: lesser(self.y, other.y),
+            z: lesser(self.z, other.z),
+        }
+    }
+
+    /// On each axis the greater of the two.
+    pub fn greater(&self, other: &StepPos) -> StepPos
+        ensures { result ≡ greater_corner self.now other.now }
+    {
+        StepPos {
+            x: greater(self.x, other.x),
+            y: greater(self.y, other.y),
+            z: greater(self.z, other.z),
+        }
+    }
+}
+
+impl GridBox {
+    ghost use Rattle.ngc_fixed_length.specs.Boxes.{box_of, common_box, holds_box, only};
+
+    /// The box of one point.
+    pub fn only(point: StepPos) -> GridBox
+        ensures { result ≡ only point }
+    {
+        GridBox {
+            low: point,
+            high: point,
+        }
+    }
+
+    /// The least box that has both points.
+    pub fn between(point: &StepPos, other: &StepPos) -> GridBox
+        ensures { result ≡ box_of point.now other.now }
+    {
+        GridBox {
+            low: point.lesser(other),
+            high: point.greater(other),
+        }
+    }
+
+    /// What two boxes share.
+    pub fn common(&self, other: &GridBox) -> GridBox
+        ensures { result ≡ common_box self.now other.now }
+    {
+        GridBox {
+            low: self.low.greater(&other.low),
+            high: self.high.lesser(&other.high),
+        }
+    }
+
+    /// This box holds all of the other.
+    pub fn holds(&self, inner: &GridBox) -> bool
+        ensures { result ≡ holds_box self.now inner.now }
+    {
+        self.low.is_below(&inner.low) && inner.high.is_below(&self.high)
     }
 }

@@ -2,6 +2,7 @@ pub mod Numbers
 pub mod Faults
 pub mod Ranges
 pub mod Machine
+pub mod MachineRanges
 pub mod Tools
 pub mod Tree
 pub mod Refusals

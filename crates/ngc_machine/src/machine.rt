@@ -1,9 +1,10 @@
+ghost use Rattle.std.specs.Prelude.{◌≡◌};
 ghost use Rattle.std.specs.List.{All};
 ghost use Rattle.ngc_fixed_length.specs.Length.{IsStep};
 ghost use Rattle.ngc_machine.specs.Ranges.{PLACE_LIMIT, IsRate, IsArcBound, IsTravel, IsSized, AreFixtures};
 
 use ngc_fixed_length::{Nm, Point3};
-use std::alloc::Allocator;
+use std::alloc::{AllocError, Allocator};
 
 /// A box that tools must stay out of, in nanometres.
 #[derive(Clone, Copy, Debug, PartialEq, Eq)]
@@ -52,4 +53,41 @@ pub struct Machine<A: Allocator> {
     ghost home30_in_range: { IsSized PLACE_LIMIT home30 },
     ghost origins_in_range: { All (IsSized PLACE_LIMIT) origins },
     ghost fixtures_in_range: { AreFixtures fixtures.items },
+}
+
+fn copied(origins: &[Point3; 9]) -> [Point3; 9]
+    ensures { result ≡ origins.now }
+{
+    let mut copy = [origins[0]; 9];
+    copy.copy_from_slice(origins);
+    copy
+}
+
+impl<A: Allocator + Copy> Machine<A> {
+    ghost use Rattle.std.specs.Prelude.{IfOk};
+    ghost use Rattle.ngc_machine.specs.Machine.{file_of};
+    ghost use Rattle.ngc_machine.specs.MachineRanges.{IsMachine};
+
+    /// The same machine once more, whose fixtures take memory of their own. It fails where memory is refused.
+    pub fn copy(&self, alloc: A) -> Result<Machine<A>, AllocError>
+        ensures same { IfOk result (λ m. file_of m ≡ file_of self.now) }
+        ensures range { IsMachine (file_of self.now) }
+    {
+        let fixtures = Vec::from_slice(alloc, self.fixtures.as_slice())?;
+        Ok(Machine {
+            step: self.step,
+            ticks_per_second: self.ticks_per_second,
+            max_rate: self.max_rate,
+            change: self.change,
+            corner: self.corner,
+            turn: self.turn,
+            low: self.low,
+            high: self.high,
+            start: self.start,
+            home28: self.home28,
+            home30: self.home30,
+            origins: copied(&self.origins),
+            fixtures,
+        })
+    }
 }

@@ -1,4 +1,5 @@
 use crate::{FileFault, Fixture, Machine, Tool, Tools, row_machine};
+use linked_list_allocator::LocalHeap;
 use ngc_fixed_length::{Nm, Point3};
 use std::alloc::Global;
 use std::test::Fail;
@@ -265,5 +266,33 @@ fn a_refusal_of_memory_is_told_as_one(rt: HostRuntime) -> Result<(), Fail> {
         assert_eq!(rt; fault, FileFault::Memory);
         assert_eq!(rt; Tools::read(rt.alloc(), table)?.tools().len(), 1);
     }
+    Ok(())
+}
+
+#[test]
+fn a_copied_machine_has_the_fixtures(rt: HostRuntime) -> Result<(), Fail> {
+    let text = format!(in rt.alloc();
+        "{ROW_MACHINE}[[fixture]]\nlow = [1, 2, 3]\nhigh = [4, 5, 6]\n"
+    )?;
+    let machine = Machine::read(rt.alloc(), text.as_bytes())?;
+    let copy = machine.copy(rt.alloc())?;
+    assert_eq!(rt; copy.low, machine.low);
+    assert_eq!(rt; copy.origins, machine.origins);
+    assert_eq!(rt; copy.fixtures.as_slice(), machine.fixtures.as_slice());
+    assert_eq!(rt; copy.fixtures.len(), 1);
+    Ok(())
+}
+
+// A heap that holds ten tools doesn't hold twenty.
+#[test]
+fn a_copied_tool_table_needs_memory(rt: HostRuntime) -> Result<(), Fail> {
+    let text = table_of(rt.alloc(), 10)?;
+    let read = Tools::read(rt.alloc(), text.as_bytes())?;
+    let heap = LocalHeap::new(rt.alloc(), 512)?;
+    let tools = Tools {
+        tools: Vec::from_slice(&heap, read.tools())?,
+    };
+    assert!(rt; tools.copy(&heap).is_err());
+    assert_eq!(rt; read.copy(rt.alloc())?.tools(), read.tools());
     Ok(())
 }

@@ -1,7 +1,7 @@
 ghost use Rattle.ngc_machine.specs.Ranges.{AreTools};
 
 use ngc_fixed_length::Nm;
-use std::alloc::Allocator;
+use std::alloc::{AllocError, Allocator};
 
 /// A tool of the table. Lengths are nanometres.
 #[derive(Clone, Copy, Debug, PartialEq, Eq)]
@@ -54,5 +54,18 @@ impl<A: Allocator> Tools<A> {
             .iter()
             .find(|tool| tool.number == number)
             .copied()
+    }
+}
+
+impl<A: Allocator + Copy> Tools<A> {
+    ghost use Rattle.std.specs.Prelude.{◌≡◌, IfOk};
+    ghost use Rattle.ngc_machine.specs.Tools.{tools_of};
+
+    /// The same table once more, in memory of its own. It fails where memory is refused.
+    pub fn copy(&self, alloc: A) -> Result<Tools<A>, AllocError>
+        ensures same { IfOk result (λ t. tools_of t ≡ tools_of self.now) }
+    {
+        let tools = Vec::from_slice(alloc, self.tools())?;
+        Ok(Tools { tools })
     }
 }

@@ -3,3 +3,5 @@ pub mod Added
 pub mod ListLaws
 pub mod Told
 pub mod SetupLaws
+pub mod JobLaws
+pub mod FileLaws

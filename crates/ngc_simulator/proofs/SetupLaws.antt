@@ -1,16 +1,12 @@
 -- What is said of a file's text, and of what the files of a run say.
 use Rattle.std.proofs.Common.{◌≡◌, ℕ, List, [], Option, Some, None, Result, Ok, IfSome, option_map, subst, ◌∙◌}
 use Rattle.ngc_canonical.specs.State.{Setup}
-use Rattle.ngc_command_line.specs.declared.ListOptions.{ListOptions}
-use Rattle.ngc_machine.specs.Machine.{MachineFile, row_machine}
+use Rattle.ngc_machine.specs.Machine.{row_machine}
 use Rattle.ngc_machine.specs.MachineText.{machine_file}
 use Rattle.ngc_machine.specs.ToolText.{tool_table}
 use Rattle.ngc_machine.specs.declared.tools.Tool.{Tool}
-use Rattle.ngc_simulator.specs.declared.lister.ListFault.{ListFault}
-use Rattle.ngc_simulator.specs.Answers.{AreSetup, IfTools, ListsOn}
-use Rattle.ngc_simulator.specs.Lists.{Lists}
 use Rattle.ngc_machine.specs.declared.fault.FileFault.{FileFault}
-use Rattle.ngc_simulator.specs.Setups.{FileBytes, IfSaid, KeepsFiles}
+use Rattle.ngc_simulator.specs.Setups.{FileBytes, IfSaid, KeepsFiles, IfMachine, IfTools, OnSetup, AreSetup}
 
 -- of the bytes that were read, and so of those of the file
 pub carried : (known : Option (List ℕ)) (items slice : List ℕ) (P : List ℕ → Type 0) → slice ≡ items → IfSome known (λ bytes. items ≡ bytes) → P slice → IfSome known P
@@ -32,31 +28,18 @@ pub said_before : {T : Type 0} (read : List ℕ → Result T FileFault) (builtin
 said_before read builtin old new None P keeps p = p
 said_before read builtin old new (Some name) P keeps p = subst (λ (known : Option (List ℕ)). IfSome known (λ text. P (read text))) (keeps (Some name)) p
 
-lists_text : (machine : Result MachineFile FileFault) (tools : Result (List Tool) FileFault) (setup : Setup) (options : ListOptions) (old new : Option (List ℕ)) (outcome : Result (Unit {0}) ListFault)
-    → machine ≡ Ok setup.machine → tools ≡ Ok setup.tools → (known : Option (List ℕ)) → IfSome known (λ text. Lists setup text options.delete old new outcome)
-    → IfSome known (λ text. (setup : Setup) × AreSetup machine tools setup × Lists setup text options.delete old new outcome)
-lists_text machine tools setup options old new outcome m t None lists = tt
-lists_text machine tools setup options old new outcome m t (Some text) lists = (setup, record { machine_said = m; tools_said = t }, lists)
-
--- the files say the machine and the tools on which the program is listed
-pub listed : (bytes after last : FileBytes) (options : ListOptions) (setup : Setup) (known : Option (List ℕ)) (old new : Option (List ℕ)) (outcome : Result (Unit {0}) ListFault)
-    → KeepsFiles bytes after → KeepsFiles after last
-    → IfSaid machine_file row_machine bytes (option_map (λ name. name.now) options.machine) (λ says. says ≡ Ok setup.machine)
-    → IfSaid tool_table [] after (option_map (λ name. name.now) options.tools) (λ says. says ≡ Ok setup.tools)
-    → known ≡ last (option_map (λ name. name.now) options.program) → IfSome known (λ text. Lists setup text options.delete old new outcome)
-    → ListsOn bytes options old new outcome
-listed bytes after last options setup known old new outcome keeps kept machine tools is lists =
-    let program : Option (List ℕ) = option_map (λ name. name.now) options.program in
-    let same : known ≡ bytes program = is ∙ kept program ∙ keeps program in
-    let on : IfSome (bytes program) (λ text. Lists setup text options.delete old new outcome) =
-    subst (λ (k : Option (List ℕ)). IfSome k (λ text. Lists setup text options.delete old new outcome)) same lists in
-    let lists_on : Result MachineFile FileFault → Result (List Tool) FileFault → Type 0 =
-    λ m t. IfSome (bytes program) (λ text. (s : Setup) × AreSetup m t s × Lists s text options.delete old new outcome) in
-    let tools_before : IfSaid tool_table [] bytes (option_map (λ name. name.now) options.tools) (λ says. says ≡ Ok setup.tools) =
-    said_before tool_table [] bytes after (option_map (λ name. name.now) options.tools) (λ says. says ≡ Ok setup.tools) keeps tools in
-    said_weaker machine_file row_machine bytes (option_map (λ name. name.now) options.machine) (λ says. says ≡ Ok setup.machine)
-    (λ m. IfTools bytes options (λ t. lists_on m t))
+-- what holds of the machine and the tools that were read holds on what the two files say
+pub on_setup : (bytes : FileBytes) (machine tools : Option (List ℕ)) (setup : Setup) (P : Setup → Type 0)
+    → IfMachine bytes machine (λ says. says ≡ Ok setup.machine) → IfTools bytes tools (λ says. says ≡ Ok setup.tools) → P setup
+    → OnSetup bytes machine tools P
+on_setup bytes machine tools setup P machine_said tools_said p =
+    said_weaker machine_file row_machine bytes machine (λ says. says ≡ Ok setup.machine)
+    (λ m. IfTools bytes tools (λ t. (s : Setup) × AreSetup m t s × P s))
     (λ m said_m.
-    said_weaker tool_table [] bytes (option_map (λ name. name.now) options.tools) (λ says. says ≡ Ok setup.tools) (λ t. lists_on m t)
-    (λ t said_t. lists_text m t setup options old new outcome said_m said_t (bytes program) on) tools_before)
-    machine
+    said_weaker tool_table [] bytes tools (λ says. says ≡ Ok setup.tools) (λ t. (s : Setup) × AreSetup m t s × P s)
+    (λ t said_t. (setup, record { machine_said = said_m; tools_said = said_t }, p)) tools_said)
+    machine_said
+
+-- of a file's bytes, from a source that gives them
+pub of_file : (known source : Option (List ℕ)) (P : List ℕ → Type 0) → source ≡ known → IfSome source P → IfSome known P
+of_file known source P is p = subst (λ (k : Option (List ℕ)). IfSome k P) is p

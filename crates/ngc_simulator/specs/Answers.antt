@@ -1,54 +1,72 @@
 -- What a run of the program comes to.
-use Rattle.std.specs.Prelude.{◌≡◌, ◌⊎◌, ℕ, List, [], Option, Result, Ok, Err, IfSome, option_map}
+use Rattle.std.specs.Prelude.{◌≡◌, ◌⊎◌, ℕ, List, Option, Some, Result, Ok, Err, IfSome, option_map}
 use Rattle.std.specs.Io.KnownBytes.{Appends, Keeps}
-use Rattle.ngc_command_line.specs.declared.ListOptions.{ListOptions}
-use Rattle.ngc_command_line.specs.declared.Options.{Options}
-use Rattle.ngc_command_line.specs.declared.Options.TheVariants.{List as ToList}
-use Rattle.ngc_canonical.specs.State.{Setup}
+use Rattle.ngc_command_line.specs.declared.options.ListOptions.{ListOptions}
+use Rattle.ngc_command_line.specs.declared.options.CertifyOptions.{CertifyOptions}
+use Rattle.ngc_command_line.specs.declared.options.CheckOptions.{CheckOptions}
+use Rattle.ngc_command_line.specs.declared.options.Options.{Options}
+use Rattle.ngc_command_line.specs.declared.options.Options.TheVariants as commands
 use Rattle.ngc_fixed_length.specs.Failures.{Rises}
 use Rattle.ngc_fixed_length.specs.Written.{AppendsBeginning}
-use Rattle.ngc_machine.specs.Machine.{MachineFile, row_machine}
-use Rattle.ngc_machine.specs.MachineText.{machine_file}
-use Rattle.ngc_machine.specs.ToolText.{tool_table}
-use Rattle.ngc_machine.specs.declared.fault.FileFault.{FileFault}
-use Rattle.ngc_machine.specs.declared.tools.Tool.{Tool}
 use Rattle.ngc_simulator.specs.declared.lister.ListFault.{ListFault}
+use Rattle.ngc_simulator.specs.declared.certifier.CertifyFault.{CertifyFault}
+use Rattle.ngc_simulator.specs.declared.checking.CheckingFault.{CheckingFault}
 use Rattle.ngc_simulator.specs.declared.fault.AnswerFault.{AnswerFault}
 use Rattle.ngc_simulator.specs.declared.fault.AnswerFault.TheVariants as answers
 use Rattle.ngc_simulator.specs.Faults.{fault_line, answer_status}
 use Rattle.ngc_simulator.specs.Lists.{Lists, FailsByWriting}
-use Rattle.ngc_simulator.specs.Setups.{FileBytes, IfSaid, Refuses}
+use Rattle.ngc_simulator.specs.Jobs.{Certifies, FailsByCertifying, Checks, FailsByChecking}
+use Rattle.ngc_simulator.specs.Setups.{FileBytes, OnSetup}
+use Rattle.ngc_simulator.specs.Shops.{RefusesShop}
 
--- the machine and its tools that the two files say
-pub record AreSetup (machine : Result MachineFile FileFault) (tools : Result (List Tool) FileFault) (setup : Setup) : Type 0 where
-  pub machine_said : machine ≡ Ok setup.machine
-  pub tools_said : tools ≡ Ok setup.tools
-
--- of what the machine file and the tool table that the options name say
-abbrev pub IfMachine : FileBytes → ListOptions → (Result MachineFile FileFault → Type 0) → Type 0
-IfMachine bytes options P = IfSaid machine_file row_machine bytes (option_map (λ name. name.now) options.machine) P
-
-abbrev pub IfTools : FileBytes → ListOptions → (Result (List Tool) FileFault → Type 0) → Type 0
-IfTools bytes options P = IfSaid tool_table [] bytes (option_map (λ name. name.now) options.tools) P
-
--- what listing the program on the machine with its tools comes to
+-- what a run of `list`, of `certify` and of `check` comes to on the files that it names
 abbrev pub ListsOn : FileBytes → ListOptions → Option (List ℕ) → Option (List ℕ) → Result (Unit {0}) ListFault → Type 0
 ListsOn bytes options old new outcome =
-    IfMachine bytes options (λ machine. IfTools bytes options (λ tools. IfSome (bytes (option_map (λ name. name.now) options.program)) (λ text.
-    (setup : Setup) × AreSetup machine tools setup × Lists setup text options.delete old new outcome)))
+    OnSetup bytes (option_map (λ name. name.now) options.machine) (option_map (λ name. name.now) options.tools) (λ setup.
+    IfSome (bytes (option_map (λ name. name.now) options.program)) (λ text. Lists setup text options.delete old new outcome))
 
--- A file that is refused leaves what was written as it was, and so does one that isn't read.
-abbrev pub Comes : FileBytes → ListOptions → Option (List ℕ) → Option (List ℕ) → Result (Unit {0}) AnswerFault → Type 0
-Comes bytes options old new (Ok u) = ListsOn bytes options old new (Ok u)
-Comes bytes options old new (Err (answers.List fault)) = ListsOn bytes options old new (Err fault)
-Comes bytes options old new (Err (answers.Machine fault)) = IfMachine bytes options (Refuses fault) × Keeps old new
-Comes bytes options old new (Err (answers.Tools fault)) = IfTools bytes options (Refuses fault) × Keeps old new
-Comes bytes options old new (Err (answers.Input fault)) = Keeps old new
+abbrev pub CertifiesOn : FileBytes → CertifyOptions → Option (List ℕ) → Option (List ℕ) → Result (Unit {0}) CertifyFault → Type 0
+CertifiesOn bytes options old new outcome =
+    OnSetup bytes (Some options.machine.now) (Some options.tools.now) (λ setup.
+    IfSome (bytes (option_map (λ name. name.now) options.program)) (λ text. Certifies setup text options.cuts old new outcome))
+
+abbrev pub ChecksOn : FileBytes → CheckOptions → Option (List ℕ) → Option (List ℕ) → Result (Unit {0}) CheckingFault → Type 0
+ChecksOn bytes options old new outcome =
+    OnSetup bytes (Some options.machine.now) (Some options.tools.now) (λ setup.
+    IfSome (bytes (option_map (λ name. name.now) options.program)) (λ text.
+    IfSome (bytes (Some options.certificate.now)) (λ certificate. Checks setup text certificate old new outcome)))
+
+-- A machine file or tool table that is refused leaves what was written as it was, and so does a file that isn't read.
+abbrev pub StopsEarly : FileBytes → Option (List ℕ) → Option (List ℕ) → Option (List ℕ) → Option (List ℕ) → AnswerFault → Type 0
+StopsEarly bytes machine tools old new fault = RefusesShop bytes machine tools fault × Keeps old new
+
+abbrev pub ListComes : FileBytes → ListOptions → Option (List ℕ) → Option (List ℕ) → Result (Unit {0}) AnswerFault → Type 0
+ListComes bytes options old new (Ok u) = ListsOn bytes options old new (Ok u)
+ListComes bytes options old new (Err (answers.List fault)) = ListsOn bytes options old new (Err fault)
+ListComes bytes options old new (Err fault) =
+    StopsEarly bytes (option_map (λ name. name.now) options.machine) (option_map (λ name. name.now) options.tools) old new fault
+
+abbrev pub CertifyComes : FileBytes → CertifyOptions → Option (List ℕ) → Option (List ℕ) → Result (Unit {0}) AnswerFault → Type 0
+CertifyComes bytes options old new (Ok u) = CertifiesOn bytes options old new (Ok u)
+CertifyComes bytes options old new (Err (answers.Certify fault)) = CertifiesOn bytes options old new (Err fault)
+CertifyComes bytes options old new (Err fault) = StopsEarly bytes (Some options.machine.now) (Some options.tools.now) old new fault
+
+abbrev pub CheckComes : FileBytes → CheckOptions → Option (List ℕ) → Option (List ℕ) → Result (Unit {0}) AnswerFault → Type 0
+CheckComes bytes options old new (Ok u) = ChecksOn bytes options old new (Ok u)
+CheckComes bytes options old new (Err (answers.Check fault)) = ChecksOn bytes options old new (Err fault)
+CheckComes bytes options old new (Err fault) = StopsEarly bytes (Some options.machine.now) (Some options.tools.now) old new fault
+
+abbrev pub ComesBy : FileBytes → Options → Option (List ℕ) → Option (List ℕ) → Result (Unit {0}) AnswerFault → Type 0
+ComesBy bytes (commands.List options) old new outcome = ListComes bytes options old new outcome
+ComesBy bytes (commands.Certify options) old new outcome = CertifyComes bytes options old new outcome
+ComesBy bytes (commands.Check options) old new outcome = CheckComes bytes options old new outcome
 
 -- the first sink's count of failures rose where a write failed, and else it is what it was
 abbrev pub FailsByOutput : Result (Unit {0}) AnswerFault → ℕ → ℕ → Type 0
 FailsByOutput (Ok u) old new = new ≡ old
 FailsByOutput (Err (answers.List fault)) old new = FailsByWriting (Err fault) old new
+FailsByOutput (Err (answers.Certify fault)) old new = FailsByCertifying (Err fault) old new
+FailsByOutput (Err (answers.Check fault)) old new = FailsByChecking (Err fault) old new
 FailsByOutput (Err (answers.Machine fault)) old new = new ≡ old
 FailsByOutput (Err (answers.Tools fault)) old new = new ≡ old
 FailsByOutput (Err (answers.Input fault)) old new = new ≡ old
@@ -75,9 +93,6 @@ Takes sink text =
 abbrev pub Tells : Result (Unit {0}) AnswerFault → Taking → Type 0
 Tells (Ok u) sink = (sink.new ≡ sink.old) × (sink.failures_now ≡ sink.failures)
 Tells (Err fault) sink = Takes sink (fault_line fault)
-
-abbrev pub ComesBy : FileBytes → Options → Option (List ℕ) → Option (List ℕ) → Result (Unit {0}) AnswerFault → Type 0
-ComesBy bytes (ToList options) old new outcome = Comes bytes options old new outcome
 
 -- What the run came to, with the output, the status and the second sink that go with it.
 pub record Answers (bytes : FileBytes) (options : Options) (output errors : Taking) (status : ℕ) : Type 0 where

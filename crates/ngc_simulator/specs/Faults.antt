@@ -1,8 +1,21 @@
 -- The numbers of faults, and the lines that tell them. Our own.
-use Rattle.std.specs.Prelude.{ℕ, List, ◌++◌, codes, decimal}
+use Rattle.std.specs.Prelude.{ℕ, List, ◌++◌, codes, decimal, Option, Some, None}
 use Rattle.ngc_canonical.specs.Faults.{program_number}
 use Rattle.ngc_canonical.specs.declared.fault.ProgramFault.{ProgramFault}
 use Rattle.ngc_canonical.specs.declared.fault.ProgramFault.TheVariants as programs
+use Rattle.ngc_certificate_text.specs.declared.fault.CertificateFault.{CertificateFault}
+use Rattle.ngc_certificate_text.specs.declared.fault.CertificateFault.TheVariants as texts
+use Rattle.ngc_certificate_text.specs.declared.piece.Setting.{Setting}
+use Rattle.ngc_certificate_text.specs.declared.piece.Setting.TheVariants.{Off, On}
+use Rattle.ngc_certificate_text.specs.Faults.{number_of as text_number, line_of as text_line}
+use Rattle.ngc_certificate.specs.Faults.{make_number}
+use Rattle.ngc_certificate.specs.declared.fault.MakeFault.{MakeFault}
+use Rattle.ngc_certificate.specs.declared.fault.MakeFault.TheVariants as makes
+use Rattle.ngc_certificate.specs.declared.fault.PieceFault.{PieceFault}
+use Rattle.ngc_certificate.specs.declared.fault.PieceFault.TheVariants as pieces
+use Rattle.ngc_checker.specs.Faults.{number_of as check_number}
+use Rattle.ngc_checker.specs.declared.fault.CheckFault.{CheckFault}
+use Rattle.ngc_checker.specs.declared.fault.CheckFault.TheVariants as refusals
 use Rattle.ngc_input.specs.Input.{number_of as input_number}
 use Rattle.ngc_line_reader.specs.ReadFaults.{number_of as read_number}
 use Rattle.ngc_line_reader.specs.declared.program.fault.ReadFault.{ReadFault}
@@ -10,6 +23,10 @@ use Rattle.ngc_line_reader.specs.declared.program.fault.ReadFault.TheVariants as
 use Rattle.ngc_machine.specs.Faults.{number_of as file_number}
 use Rattle.ngc_machine.specs.declared.fault.FileFault.{FileFault}
 use Rattle.ngc_machine.specs.declared.fault.FileFault.TheVariants as files
+use Rattle.ngc_simulator.specs.declared.certifier.CertifyFault.{CertifyFault}
+use Rattle.ngc_simulator.specs.declared.certifier.CertifyFault.TheVariants as certifies
+use Rattle.ngc_simulator.specs.declared.checking.CheckingFault.{CheckingFault}
+use Rattle.ngc_simulator.specs.declared.checking.CheckingFault.TheVariants as checks
 use Rattle.ngc_simulator.specs.declared.lister.ListFault.{ListFault}
 use Rattle.ngc_simulator.specs.declared.lister.ListFault.TheVariants as lists
 use Rattle.ngc_simulator.specs.declared.fault.AnswerFault.{AnswerFault}
@@ -20,11 +37,25 @@ list_number (lists.Read e) = read_number e
 list_number (lists.Program e) = program_number e
 list_number (lists.Write e) = 902
 
+abbrev pub certify_number : CertifyFault → ℕ
+certify_number (certifies.Read e) = read_number e
+certify_number (certifies.Program setting e) = 311
+certify_number (certifies.Make e) = make_number e
+certify_number (certifies.Write e) = 902
+
+abbrev pub checking_number : CheckingFault → ℕ
+checking_number (checks.Read e) = read_number e
+checking_number (checks.Certificate e) = text_number e
+checking_number (checks.Check e) = check_number e
+checking_number (checks.Write e) = 902
+
 abbrev pub answer_number : AnswerFault → ℕ
 answer_number (answers.Machine e) = file_number e
 answer_number (answers.Tools e) = file_number e
 answer_number (answers.Input e) = input_number e
 answer_number (answers.List e) = list_number e
+answer_number (answers.Certify e) = certify_number e
+answer_number (answers.Check e) = checking_number e
 
 -- where a fault stands: a line and a column, a line, a file, or nowhere
 abbrev pub read_place : ReadFault → List ℕ
@@ -43,6 +74,55 @@ list_place (lists.Read e) = read_place e
 list_place (lists.Program e) = program_place e
 list_place (lists.Write e) = codes ""
 
+abbrev pub setting_place : Setting → List ℕ
+setting_place Off = codes " setting off"
+setting_place On = codes " setting on"
+
+-- a command of a setting, a piece of a motion, a fixture
+abbrev pub command_place : Setting → ℕ → List ℕ
+command_place setting command = setting_place setting ++ codes " command " ++ decimal command
+
+abbrev pub fixture_place : ℕ → List ℕ
+fixture_place fixture = codes " fixture " ++ decimal fixture
+
+abbrev pub piece_place : PieceFault → List ℕ
+piece_place pieces.Chain = codes ""
+piece_place pieces.NotCovered = codes ""
+piece_place pieces.OutsideTravel = codes ""
+piece_place (pieces.MeetsFixture fixture) = fixture_place fixture
+
+-- a program that is refused, with its own fault
+abbrev pub refused_place : Setting → ProgramFault → List ℕ
+refused_place setting e = setting_place setting ++ codes " fault " ++ decimal (program_number e) ++ program_place e
+
+abbrev pub make_place : MakeFault → List ℕ
+make_place (makes.NotCleared setting command) = command_place setting command
+make_place makes.Memory = codes ""
+
+abbrev pub check_place : CheckFault → List ℕ
+check_place (refusals.Program setting e) = refused_place setting e
+check_place (refusals.MotionsDiffer setting command) = command_place setting command
+check_place (refusals.Start fixture) = fixture_place fixture
+check_place (refusals.Piece setting command piece e) = command_place setting command ++ codes " piece " ++ decimal piece ++ piece_place e
+check_place (refusals.ToolChange setting command fixture) = command_place setting command ++ fixture_place fixture
+check_place refusals.Memory = codes ""
+
+abbrev pub line_of_text : Option ℕ → List ℕ
+line_of_text None = codes ""
+line_of_text (Some line) = codes " certificate line " ++ decimal line
+
+abbrev pub certify_place : CertifyFault → List ℕ
+certify_place (certifies.Read e) = read_place e
+certify_place (certifies.Program setting e) = refused_place setting e
+certify_place (certifies.Make e) = make_place e
+certify_place (certifies.Write e) = codes ""
+
+abbrev pub checking_place : CheckingFault → List ℕ
+checking_place (checks.Read e) = read_place e
+checking_place (checks.Certificate e) = line_of_text (text_line e)
+checking_place (checks.Check e) = check_place e
+checking_place (checks.Write e) = codes ""
+
 -- want of memory has no place
 abbrev pub file_place : List ℕ → FileFault → List ℕ
 file_place name files.Memory = codes ""
@@ -53,12 +133,15 @@ answer_place (answers.Machine e) = file_place (codes " machine") e
 answer_place (answers.Tools e) = file_place (codes " tools") e
 answer_place (answers.Input e) = codes ""
 answer_place (answers.List e) = list_place e
+answer_place (answers.Certify e) = certify_place e
+answer_place (answers.Check e) = checking_place e
 
 -- the line that tells a fault
 abbrev pub fault_line : AnswerFault → List ℕ
 fault_line e = codes "ngc: fault " ++ decimal (answer_number e) ++ answer_place e ++ codes "\n"
 
--- the exit status: 1 for input, output and memory, 3 for a file or a program that is refused
+-- the exit status: 1 for input, output and memory, 3 for a file or a program that is refused, 4 for a certificate that is
+-- refused or isn't made
 abbrev pub read_status : ReadFault → ℕ
 read_status (reads.Line line e) = 3
 read_status reads.NoEnd = 3
@@ -72,6 +155,37 @@ list_status (lists.Program (programs.At line e)) = 3
 list_status (lists.Program programs.Memory) = 1
 list_status (lists.Write e) = 1
 
+abbrev pub make_status : MakeFault → ℕ
+make_status (makes.NotCleared setting command) = 4
+make_status makes.Memory = 1
+
+abbrev pub certify_status : CertifyFault → ℕ
+certify_status (certifies.Read e) = read_status e
+certify_status (certifies.Program setting e) = 3
+certify_status (certifies.Make e) = make_status e
+certify_status (certifies.Write e) = 1
+
+abbrev pub text_status : CertificateFault → ℕ
+text_status texts.Memory = 1
+text_status texts.ReadFailed = 1
+text_status texts.WrongHeader = 4
+text_status (texts.BadLine line) = 4
+text_status (texts.OutOfRange line) = 4
+
+abbrev pub check_status : CheckFault → ℕ
+check_status (refusals.Program setting e) = 3
+check_status (refusals.MotionsDiffer setting command) = 4
+check_status (refusals.Start fixture) = 4
+check_status (refusals.Piece setting command piece e) = 4
+check_status (refusals.ToolChange setting command fixture) = 4
+check_status refusals.Memory = 1
+
+abbrev pub checking_status : CheckingFault → ℕ
+checking_status (checks.Read e) = read_status e
+checking_status (checks.Certificate e) = text_status e
+checking_status (checks.Check e) = check_status e
+checking_status (checks.Write e) = 1
+
 abbrev pub file_status : FileFault → ℕ
 file_status files.Memory = 1
 file_status _ = 3
@@ -81,3 +195,5 @@ answer_status (answers.Machine e) = file_status e
 answer_status (answers.Tools e) = file_status e
 answer_status (answers.Input e) = 1
 answer_status (answers.List e) = list_status e
+answer_status (answers.Certify e) = certify_status e
+answer_status (answers.Check e) = checking_status e

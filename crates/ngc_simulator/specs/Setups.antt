@@ -1,7 +1,12 @@
 -- What the machine file and the tool table that a command line names say.
-use Rattle.std.specs.Prelude.{◌≡◌, ◌≢◌, ℕ, List, Option, Some, None, Result, Ok, Err, IfSome}
+use Rattle.std.specs.Prelude.{◌≡◌, ◌≢◌, ℕ, List, [], Option, Some, None, Result, Ok, Err, IfSome}
+use Rattle.ngc_canonical.specs.State.{Setup}
+use Rattle.ngc_machine.specs.Machine.{MachineFile, row_machine}
+use Rattle.ngc_machine.specs.MachineText.{machine_file}
+use Rattle.ngc_machine.specs.ToolText.{tool_table}
 use Rattle.ngc_machine.specs.declared.fault.FileFault.{FileFault}
 use Rattle.ngc_machine.specs.declared.fault.FileFault.TheVariants.{Memory}
+use Rattle.ngc_machine.specs.declared.tools.Tool.{Tool}
 use Rattle.ngc_simulator.specs.declared.fault.SetupFault.{SetupFault}
 use Rattle.ngc_simulator.specs.declared.fault.SetupFault.TheVariants.{Refused, Unread}
 
@@ -14,9 +19,29 @@ abbrev pub IfSaid : {T : Type 0} → (List ℕ → Result T FileFault) → T →
 IfSaid read builtin bytes None P = P (Ok builtin)
 IfSaid read builtin bytes (Some name) P = IfSome (bytes (Some name)) (λ text. P (read text))
 
--- the bytes of every file are as they were
+-- the bytes of every file are as they were, and of every file with a name
 abbrev pub KeepsFiles : FileBytes → FileBytes → Type 0
 KeepsFiles old new = (name : Option (List ℕ)) → new name ≡ old name
+
+abbrev pub KeepsNamed : FileBytes → FileBytes → Type 0
+KeepsNamed old new = (name : List ℕ) → new (Some name) ≡ old (Some name)
+
+-- the machine and its tools that the two files say
+pub record AreSetup (machine : Result MachineFile FileFault) (tools : Result (List Tool) FileFault) (setup : Setup) : Type 0 where
+  pub machine_said : machine ≡ Ok setup.machine
+  pub tools_said : tools ≡ Ok setup.tools
+
+-- of what the machine file and the tool table say, and of what is taken where none is named
+abbrev pub IfMachine : FileBytes → Option (List ℕ) → (Result MachineFile FileFault → Type 0) → Type 0
+IfMachine bytes name P = IfSaid machine_file row_machine bytes name P
+
+abbrev pub IfTools : FileBytes → Option (List ℕ) → (Result (List Tool) FileFault → Type 0) → Type 0
+IfTools bytes name P = IfSaid tool_table [] bytes name P
+
+-- what holds on the machine with its tools that two files say
+abbrev pub OnSetup : FileBytes → Option (List ℕ) → Option (List ℕ) → (Setup → Type 0) → Type 0
+OnSetup bytes machine tools P =
+    IfMachine bytes machine (λ m. IfTools bytes tools (λ t. (setup : Setup) × AreSetup m t setup × P setup))
 
 -- a refusal is that of the file, unless memory ran out
 abbrev pub Refuses : {T : Type 0} → FileFault → Result T FileFault → Type 0

@@ -1,3 +1,5 @@
+use crate::certifier::CertifyFault;
+use crate::checking::CheckingFault;
 use crate::lister::ListFault;
 use ngc_input::InputFault;
 use ngc_machine::FileFault;
@@ -12,12 +14,18 @@ pub enum AnswerFault {
     /// The tool table is refused: 261, 268, 269, 900.
     #[error("tool table: {0}")]
     Tools(FileFault),
-    /// A machine file or tool table isn't read: 900, 901.
+    /// A machine file or tool table isn't read, or a file isn't opened: 900, 901.
     #[error(transparent)]
     Input(InputFault),
     /// No listing is written.
     #[error(transparent)]
     List(ListFault),
+    /// No certificate is written.
+    #[error(transparent)]
+    Certify(CertifyFault),
+    /// The certificate isn't accepted.
+    #[error(transparent)]
+    Check(CheckingFault),
 }
 
 /// Why a machine file or a tool table gives nothing.

@@ -2,14 +2,20 @@ ghost use Rattle.std.specs.Prelude.{◌≡◌, IfSome, Err};
 ghost use Rattle.ngc_canonical.specs.Interpreter.{setup_of};
 ghost use Rattle.ngc_fixed_length.specs.Failures.{Rises};
 ghost use Rattle.ngc_line_reader.specs.declared.program.fault.ReadFault.TheVariants.{Device};
+ghost use Rattle.ngc_simulator.specs.Answers.{ListComes, FailsByOutput};
 ghost use Rattle.ngc_simulator.specs.Lists.{Lists, FailsByWriting};
 
+use crate::fault::AnswerFault;
+use crate::files::Files;
 use crate::listing::write_list;
+use crate::setup::read_shop;
 use ngc_canonical::{ProgramFault, interpret};
+use ngc_command_line::ListOptions;
 use ngc_fixed_length::{Sink, Source, WriteFault};
+use ngc_input::InputFault;
 use ngc_line_reader::{Program, ReadFault};
 use ngc_machine::{Machine, Tools};
-use std::alloc::Allocator;
+use std::alloc::{Allocator, Global};
 use thiserror::Error;
 
 /// Why no listing is written.
@@ -55,4 +61,35 @@ pub fn list<A: Allocator + Copy, R: Source, W: Sink>(
         Err(fault) => return Err(ListFault::Write(fault)),
     }
     Ok(())
+}
+
+// The listing of a program.
+pub(crate) fn list_files<F: Files, W: Sink>(
+    alloc: Global,
+    options: &ListOptions<'_>,
+    files: &mut F,
+    output: &mut W,
+) -> Result<(), AnswerFault>
+    ensures comes { ListComes (F.bytes files.old) options.now (W.written output.old) (W.written output.new) result }
+    ensures sink { FailsByOutput result (W.failures output.old) (W.failures output.new) }
+{
+    let shop = match read_shop(alloc, options.machine, options.tools, files) {
+        Ok(shop) => shop,
+        Err(fault) => return Err(fault),
+    };
+    let mut source = match files.source(options.program) {
+        Ok(source) => source,
+        Err(_) => return Err(AnswerFault::Input(InputFault::Device)),
+    };
+    match list(
+        alloc,
+        &mut source,
+        &shop.machine,
+        &shop.tools,
+        options.delete,
+        output,
+    ) {
+        Ok(()) => Ok(()),
+        Err(fault) => Err(AnswerFault::List(fault)),
+    }
 }

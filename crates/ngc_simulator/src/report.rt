@@ -5,6 +5,7 @@ ghost use Rattle.ngc_simulator.specs.Faults.{list_number, list_place, fault_line
 
 use crate::fault::AnswerFault;
 use crate::lister::ListFault;
+use crate::report_certificates::{add_certify_place, add_checking_place};
 use ngc_canonical::ProgramFault;
 use ngc_line_reader::ReadFault;
 use ngc_machine::FileFault;
@@ -44,10 +45,13 @@ impl AnswerFault {
             AnswerFault::Machine(fault) | AnswerFault::Tools(fault) => fault.number(),
             AnswerFault::Input(fault) => fault.number(),
             AnswerFault::List(fault) => fault.number(),
+            AnswerFault::Certify(fault) => fault.number(),
+            AnswerFault::Check(fault) => fault.number(),
         }
     }
 
-    /// The exit status: 1 for input, output and memory, 3 for a file or a program that is refused.
+    /// The exit status: 1 for input, output and memory, 3 for a file or a program that is refused, 4 for a certificate that
+    /// is refused or isn't made.
     pub fn status(&self) -> u8
         ensures { result ≡ answer_status self.now }
     {
@@ -55,6 +59,8 @@ impl AnswerFault {
             AnswerFault::Machine(fault) | AnswerFault::Tools(fault) => status_of_file(fault),
             AnswerFault::Input(_) => 1,
             AnswerFault::List(fault) => fault.status(),
+            AnswerFault::Certify(fault) => fault.status(),
+            AnswerFault::Check(fault) => fault.status(),
         }
     }
 }
@@ -68,7 +74,7 @@ fn status_of_file(fault: &FileFault) -> u8
     }
 }
 
-fn status_of_reading(fault: &ReadFault) -> u8
+pub(crate) fn status_of_reading(fault: &ReadFault) -> u8
     ensures { result ≡ read_status fault.now }
 {
     match fault {
@@ -77,7 +83,7 @@ fn status_of_reading(fault: &ReadFault) -> u8
     }
 }
 
-fn add_line_number(chunk: &mut Chunk, line: u32)
+pub(crate) fn add_line_number(chunk: &mut Chunk, line: u32)
     requires { length chunk.old + 50 ≤ CHUNK_SIZE }
     ensures text { chunk.new ≡ chunk.old ++ codes " line " ++ decimal line }
     ensures short { length chunk.new ≤ length chunk.old + 46 }
@@ -86,7 +92,7 @@ fn add_line_number(chunk: &mut Chunk, line: u32)
     chunk.add_number(line);
 }
 
-fn add_reading_place(chunk: &mut Chunk, fault: &ReadFault)
+pub(crate) fn add_reading_place(chunk: &mut Chunk, fault: &ReadFault)
     requires { length chunk.old + 150 ≤ CHUNK_SIZE }
     ensures text { chunk.new ≡ chunk.old ++ read_place fault.now }
     ensures short { length chunk.new ≤ length chunk.old + 100 }
@@ -123,21 +129,23 @@ fn add_file_place(chunk: &mut Chunk, name: &[u8], fault: &FileFault)
 }
 
 fn add_place(chunk: &mut Chunk, fault: &AnswerFault)
-    requires { length chunk.old + 150 ≤ CHUNK_SIZE }
+    requires { length chunk.old + 400 ≤ CHUNK_SIZE }
     ensures text { chunk.new ≡ chunk.old ++ answer_place fault.now }
-    ensures short { length chunk.new ≤ length chunk.old + 100 }
+    ensures short { length chunk.new ≤ length chunk.old + 300 }
 {
     match fault {
         AnswerFault::Machine(fault) => add_file_place(chunk, b" machine", fault),
         AnswerFault::Tools(fault) => add_file_place(chunk, b" tools", fault),
         AnswerFault::Input(_) => {}
         AnswerFault::List(fault) => add_list_place(chunk, fault),
+        AnswerFault::Certify(fault) => add_certify_place(chunk, fault),
+        AnswerFault::Check(fault) => add_checking_place(chunk, fault),
     }
 }
 
 /// The line that tells a fault on standard error.
 pub(crate) fn add_fault_line(chunk: &mut Chunk, fault: &AnswerFault)
-    requires { length chunk.old + 250 ≤ CHUNK_SIZE }
+    requires { length chunk.old + 500 ≤ CHUNK_SIZE }
     ensures { chunk.new ≡ chunk.old ++ fault_line fault.now }
 {
     chunk.add_text(b"ngc: fault ");

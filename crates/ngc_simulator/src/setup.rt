@@ -5,13 +5,21 @@ ghost use Rattle.ngc_machine.specs.MachineText.{machine_file};
 ghost use Rattle.ngc_machine.specs.ToolText.{tool_table};
 ghost use Rattle.ngc_machine.specs.Machine.{file_of};
 ghost use Rattle.ngc_simulator.specs.Setups.{IfSaid, GivesSetup, KeepsFiles};
+ghost use Rattle.ngc_simulator.specs.Shops.{GivesShop, machine_answer, tools_answer};
 ghost use Rattle.ngc_machine.specs.Tools.{tools_of};
 
-use crate::fault::SetupFault;
+use crate::fault::{AnswerFault, SetupFault};
 use crate::files::Files;
 use ngc_input::{InputFault, read_whole};
 use ngc_machine::{Machine, Tools, row_machine};
 use std::alloc::Global;
+
+/// The machine and its tools.
+#[derive(Drop)]
+pub struct Shop {
+    pub machine: Machine<Global>,
+    pub tools: Tools<Global>,
+}
 
 /// How many bytes of a machine file or tool table are read: a longer one is 901.
 const FILE_LIMIT: usize = 20_000_000;
@@ -89,5 +97,43 @@ pub fn read_tools<F: Files>(
     match name {
         None => Ok(Tools::empty(alloc)),
         Some(name) => named_tools(alloc, name, files),
+    }
+}
+
+fn machine_fault(fault: SetupFault) -> AnswerFault
+    ensures { result ≡ machine_answer fault }
+{
+    match fault {
+        SetupFault::Refused(fault) => AnswerFault::Machine(fault),
+        SetupFault::Unread(fault) => AnswerFault::Input(fault),
+    }
+}
+
+fn tools_fault(fault: SetupFault) -> AnswerFault
+    ensures { result ≡ tools_answer fault }
+{
+    match fault {
+        SetupFault::Refused(fault) => AnswerFault::Tools(fault),
+        SetupFault::Unread(fault) => AnswerFault::Input(fault),
+    }
+}
+
+/// The machine and its tools, read in that order.
+pub fn read_shop<F: Files>(
+    alloc: Global,
+    machine: Option<&str>,
+    tools: Option<&str>,
+    files: &mut F,
+) -> Result<Shop, AnswerFault>
+    ensures said { GivesShop (F.bytes files.old) (option_map (λ n. n.now) machine.entry) (option_map (λ n. n.now) tools.entry) result }
+    ensures keeps { KeepsFiles (F.bytes files.old) (F.bytes files.new) }
+{
+    let machine = match read_machine(alloc, machine, files) {
+        Ok(machine) => machine,
+        Err(fault) => return Err(machine_fault(fault)),
+    };
+    match read_tools(alloc, tools, files) {
+        Ok(tools) => Ok(Shop { machine, tools }),
+        Err(fault) => Err(tools_fault(fault)),
     }
 }

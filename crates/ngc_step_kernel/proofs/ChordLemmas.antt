@@ -7,7 +7,7 @@ use Rattle.ngc_fixed_length.specs.Grid.{grid, distance, greatest_distance}
 use Rattle.ngc_fixed_length.specs.LinePath.{FollowsLine, IsLinePath}
 use Rattle.ngc_arc_geometry.specs.Shape.{ArcShape}
 use Rattle.ngc_arc_geometry.specs.WeakArcPath.{IsWeakArcPath}
-use Rattle.ngc_step_kernel.proofs.SweptEnds.{start_inside, end_inside}
+use Rattle.ngc_arc_geometry.proofs.SweptEnds.{start_inside, end_inside}
 
 -- a number on the way from one to another lies between bounds of both
 not_below : (low a b p : ℤ) → distance a p + distance p b ≡ distance a b → low ≤ℤ a → low ≤ℤ b → low ≤ℤ p

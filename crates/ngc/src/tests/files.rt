@@ -33,6 +33,7 @@ fn answers(
         program: b"G0 X0.1\nM2\n",
         machine: machine.unwrap_or(b""),
         tools: tools.unwrap_or(b""),
+        certificate: b"",
         failures: 0,
     };
     let options = ListOptions {

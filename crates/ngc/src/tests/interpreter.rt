@@ -17,6 +17,7 @@ fn with_tool(rt: &impl Abort, alloc: Global, text: &str, status: u8, output: &st
         program: text.as_bytes(),
         machine: b"",
         tools: TOOLS,
+        certificate: b"",
         failures: 0,
     };
     let options = ListOptions {

@@ -2,17 +2,20 @@ use Rattle.std.proofs.Common.{◌∙◌, ap, subst, sym}
 use Rattle.clap.specs.Words.{App, fault_of, is_simple, is_simple_and_free, subcommand_of}
 use Rattle.clap.specs.Walk.{texts}
 use Rattle.ngc_command_line.specs.Meant.{AreOptions}
-use Rattle.ngc_command_line.proofs.Found.{found_from_parts, found_name}
+use Rattle.ngc_command_line.proofs.Found.{found_from_parts}
 use Rattle.ngc_command_line.proofs.Simple.{ngc_is_free, ngc_is_simple, taken_is_memory}
-use Rattle.ngc_command_line.proofs.Spelled.{spelled_read, spelled_taken}
+use Rattle.ngc_command_line.proofs.Spelled.{certify_read, certify_taken, check_read, check_taken, list_read, list_taken}
+use Rattle.ngc_command_line.proofs.Whole.{taken_is_whole}
 use Rattle.ngc_command_line.proofs.read_options.Goals as goal
 
 pub options_of-requires : goal.options_of-requires
 options_of-requires c =
     let built = c.in-Ok.ensures in
-    let matches = (c.in-Ok-try_get_matches_from.ensures.matches (ap is_simple built ∙ ngc_is_simple)).1 in
     let words = texts c.args.words.now in
-    found_name words _ (found_from_parts _ _ _ _ _ _ c.in-Some.ensures.name c.in-Some.ensures.rows (matches ∙ ap (λ (app : App). subcommand_of app words) built))
+    let matches = (c.in-Ok-try_get_matches_from.ensures.matches (ap is_simple built ∙ ngc_is_simple)).1 in
+    let found = found_from_parts _ _ _ _ _ _ c.in-Some.ensures.name c.in-Some.ensures.rows (matches ∙ ap (λ (app : App). subcommand_of app words) built) in
+    let none = c.in-Ok-try_get_matches_from.ensures.kinds (ap is_simple_and_free built ∙ ngc_is_free) in
+    taken_is_whole words _ (ap (λ (app : App). fault_of app words) (sym built) ∙ none) found
 
 pub returns-clause-options : goal.returns-clause-options
 returns-clause-options c =
@@ -29,8 +32,22 @@ returns-clause-taken c =
     ap (λ (app : App). fault_of app (texts c.args.words.now)) (sym built) ∙ none
 
 pub returns-clause-spelled : goal.returns-clause-spelled
-returns-clause-spelled c = λ program machine tools delete spelled. spelled_read _ program machine tools delete _ spelled (returns-clause-options c)
+returns-clause-spelled c = λ program machine tools delete spelled. list_read _ program machine tools delete _ spelled (returns-clause-options c)
+
+pub returns-clause-spelled_certify : goal.returns-clause-spelled_certify
+returns-clause-spelled_certify c = λ machine tools program cuts range spelled. certify_read _ machine tools program cuts _ range spelled (returns-clause-options c)
+
+pub returns-clause-spelled_check : goal.returns-clause-spelled_check
+returns-clause-spelled_check c = λ machine tools certificate program spelled. check_read _ machine tools certificate program _ spelled (returns-clause-options c)
 
 pub returns-in-Err-clause-spelled : goal.returns-in-Err-clause-spelled
 returns-in-Err-clause-spelled c = λ program machine tools delete spelled.
-    c.usage_fault.ensures (taken_is_memory _ _ c.in-Err.error c.in-Ok.ensures (spelled_taken _ program machine tools delete spelled) c.in-Err.ensures.kinds)
+    c.usage_fault.ensures (taken_is_memory _ _ c.in-Err.error c.in-Ok.ensures (list_taken _ program machine tools delete spelled) c.in-Err.ensures.kinds)
+
+pub returns-in-Err-clause-spelled_certify : goal.returns-in-Err-clause-spelled_certify
+returns-in-Err-clause-spelled_certify c = λ machine tools program cuts range spelled.
+    c.usage_fault.ensures (taken_is_memory _ _ c.in-Err.error c.in-Ok.ensures (certify_taken _ machine tools program cuts range spelled) c.in-Err.ensures.kinds)
+
+pub returns-in-Err-clause-spelled_check : goal.returns-in-Err-clause-spelled_check
+returns-in-Err-clause-spelled_check c = λ machine tools certificate program spelled.
+    c.usage_fault.ensures (taken_is_memory _ _ c.in-Err.error c.in-Ok.ensures (check_taken _ machine tools certificate program spelled) c.in-Err.ensures.kinds)

@@ -1,14 +1,16 @@
 use Rattle.std.proofs.Common.{◌≡◌, ◌≤◌, ap, ap₂, sym, subst, ◌∙◌, Ok, Result, List, length, arith}
 use Rattle.ngc_line_reader.specs.ProgramView.{text_in}
+use Rattle.ngc_machine.specs.Machine.{file_of}
 use Rattle.ngc_canonical.specs.declared.command.Command.{Command}
 use Rattle.ngc_canonical.specs.declared.fault.ProgramFault.{ProgramFault}
 use Rattle.ngc_canonical.specs.Meaning.{meaning, program_said, past_last, commands_of, GivesMeaning}
 use Rattle.ngc_canonical.specs.Interpreter.{setup_of, state_of}
+use Rattle.ngc_canonical.proofs.JoinedLines.{went_on, handed_out, finished_joined, finished_few}
 use Rattle.ngc_canonical.proofs.Lines.{NextLine, next_line, line_at, bytes_at, seen, left_refused, left_ended, left_on, left_none, refused_fails}
 use Rattle.ngc_canonical.proofs.program.interpret.Goals as goal
 
-pub returns-in-Err : goal.returns-in-Err
-returns-in-Err g c = λ rs are.
+pub returns-in-Err-clause-commands : goal.returns-in-Err-clause-commands
+returns-in-Err-clause-commands g c = λ rs are.
     let lines = (text_in c.args.program.now).lines in
     let here = line_at lines c.loop-index.index c.number.result c.number.ensures in
     let next : NextLine lines rs c.loop-index.index c.number.result here.line.bytes = next_line _ _ _ _ here.line are here.at here.numbered in
@@ -17,8 +19,8 @@ returns-in-Err g c = λ rs are.
     (λ e refused. c.loop-index.invariant.leads rs are ∙ left_refused (setup_of c.args.machine.now c.args.tools.now) _ c.args.block_delete lines rs c.loop-index.index _ _ _ e c.loop-index.invariant.running next refused)
     (c.in-Err.ensures here.line.bytes shows next.reading next.reads)
 
-pub returns-then-interpreter : goal.returns-then-interpreter
-returns-then-interpreter g c = λ rs are.
+pub returns-then-interpreter-clause-commands : goal.returns-then-interpreter-clause-commands
+returns-then-interpreter-clause-commands g c = λ rs are.
     let lines = (text_in c.args.program.now).lines in
     let here = line_at lines c.loop-index.index c.number.result c.number.ensures in
     let next : NextLine lines rs c.loop-index.index c.number.result here.line.bytes = next_line _ _ _ _ here.line are here.at here.numbered in
@@ -31,6 +33,11 @@ returns-then-interpreter g c = λ rs are.
 pub loop-index-preserved : goal.loop-index-preserved
 loop-index-preserved g c = record {
   running = c.if-interpreter.false;
+  holds =
+      let here = line_at (text_in c.args.program.now).lines c.loop-index.index c.number.result c.number.ensures in
+      let shows = seen here.line.bytes (c.load.ensures here.line.bytes (bytes_at _ c.loop-index.index c.number.result here)) c.view.ensures.deleted c.view.ensures.parts in
+      went_on (file_of c.args.machine.now).start (setup_of c.args.machine.now c.args.tools.now) c.args.block_delete c.number.result shows.reading (state_of c.loop-index.interpreter) (state_of c.take_line.new.self)
+      c.loop-index.invariant.holds (c.in-Ok-take_line.ensures here.line.bytes shows shows.reading shows.reads);
   leads = λ rs are.
       let lines = (text_in c.args.program.now).lines in
       let here = line_at lines c.loop-index.index c.number.result c.number.ensures in
@@ -40,8 +47,8 @@ loop-index-preserved g c = record {
       ∙ left_on (setup_of c.args.machine.now c.args.tools.now) _ c.args.block_delete lines rs c.loop-index.index _ _ _ _ c.loop-index.invariant.running next (c.in-Ok-take_line.ensures here.line.bytes shows next.reading next.reads) c.if-interpreter.false;
 }
 
-pub returns : goal.returns
-returns g c = λ rs are.
+pub returns-clause-commands : goal.returns-clause-commands
+returns-clause-commands g c = λ rs are.
     let lines = (text_in c.args.program.now).lines in
     let past : length lines ≤ c.loop-index.index = omega (arith, c.loop-index-test.false, c.len-index-end.ensures.value) in
     let same : meaning (program_said (text_in c.args.program.now) rs) (setup_of c.args.machine.now c.args.tools.now) c.args.block_delete ≡ commands_of (past_last c.mark_of.result c.len.result (state_of c.loop-index.interpreter)) =
@@ -51,3 +58,27 @@ returns g c = λ rs are.
     ∙ ap₂ (λ m n. past_last m n (state_of c.loop-index.interpreter)) (sym c.mark_of.ensures) (sym c.len.ensures.value)) in
     let P : Result (List Command) ProgramFault → Type 0 = λ says. GivesMeaning (λ v. v.items) c.finish.result says in
     subst P (sym same) c.finish.ensures
+
+pub returns-then-interpreter-clause-joined : goal.returns-then-interpreter-clause-joined
+returns-then-interpreter-clause-joined g c =
+    let here = line_at (text_in c.args.program.now).lines c.loop-index.index c.number.result c.number.ensures in
+    let shows = seen here.line.bytes (c.load.ensures here.line.bytes (bytes_at _ c.loop-index.index c.number.result here)) c.view.ensures.deleted c.view.ensures.parts in
+    let holds = went_on (file_of c.args.machine.now).start (setup_of c.args.machine.now c.args.tools.now) c.args.block_delete c.number.result shows.reading (state_of c.loop-index.interpreter) (state_of c.take_line.new.self)
+    c.loop-index.invariant.holds (c.in-Ok-take_line.ensures here.line.bytes shows shows.reading shows.reads) in
+    (handed_out (file_of c.args.machine.now).start (state_of c.take_line.new.self) _ holds c.into_commands.ensures).trail.leads.joined
+
+pub returns-then-interpreter-clause-count : goal.returns-then-interpreter-clause-count
+returns-then-interpreter-clause-count g c =
+    let here = line_at (text_in c.args.program.now).lines c.loop-index.index c.number.result c.number.ensures in
+    let shows = seen here.line.bytes (c.load.ensures here.line.bytes (bytes_at _ c.loop-index.index c.number.result here)) c.view.ensures.deleted c.view.ensures.parts in
+    let holds = went_on (file_of c.args.machine.now).start (setup_of c.args.machine.now c.args.tools.now) c.args.block_delete c.number.result shows.reading (state_of c.loop-index.interpreter) (state_of c.take_line.new.self)
+    c.loop-index.invariant.holds (c.in-Ok-take_line.ensures here.line.bytes shows shows.reading shows.reads) in
+    (handed_out (file_of c.args.machine.now).start (state_of c.take_line.new.self) _ holds c.into_commands.ensures).trail.few
+
+pub returns-clause-joined : goal.returns-clause-joined
+returns-clause-joined g c =
+    finished_joined (file_of c.args.machine.now).start c.mark_of.result c.len.result (state_of c.loop-index.interpreter) (λ v. v.items) c.finish.result c.loop-index.invariant.holds c.finish.ensures
+
+pub returns-clause-count : goal.returns-clause-count
+returns-clause-count g c =
+    finished_few (file_of c.args.machine.now).start c.mark_of.result c.len.result (state_of c.loop-index.interpreter) (λ v. v.items) c.finish.result c.loop-index.invariant.holds c.finish.ensures

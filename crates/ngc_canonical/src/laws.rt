@@ -1,0 +1,13 @@
+//! Laws about the definitions alone.
+ghost use Rattle.ngc_canonical.specs.Joined.{Joined, FewCommands};
+
+/// The motions of a program are joined: the first begins at the machine's start point, and each further one where the motion
+/// before it ends.
+pub fn joined()
+    ensures { Joined }
+{}
+
+/// A program has at most a million commands.
+pub fn few_commands()
+    ensures { FewCommands }
+{}

@@ -1,0 +1,112 @@
+-- What the pieces are that a motion is cleared with.
+use Rattle.std.proofs.Common.{◌≡◌, ℕ, ◌≤◌, refl, sym, subst, arith, List, [], ◌∷◌, ◌++◌, length, Some, None, true, false}
+use Rattle.std.specs.Prelude.{Option, option_map, IsTrue, Bool, cond, nat_le, ◌&&◌}
+use Rattle.std.specs.List.{find, filter, list_all}
+use Rattle.std.specs.Option.{is_none}
+use Rattle.std.proofs.lemmas.Bool.Decides.{nat_tests}
+use Rattle.ngc_fixed_length.specs.Length.{IsStep}
+use Rattle.ngc_machine.specs.Machine.{MachineFile}
+use Rattle.ngc_machine.specs.Ranges.{IsTravel}
+use Rattle.ngc_machine.specs.declared.tools.Tool.{Tool}
+use Rattle.ngc_canonical.specs.declared.movement.Motion.{Motion}
+use Rattle.ngc_certificate_text.specs.declared.piece.Piece.{Piece}
+use Rattle.ngc_certificate_text.specs.Certificate.{IsEntry, good_piece}
+use Rattle.ngc_certificate.specs.PieceFault.{pieces_fault, ArePiecesValid}
+use Rattle.ngc_certificate.specs.Made.{pieces_of, powers_of_two, tries, cleared}
+use Rattle.ngc_certificate.specs.Making.{is_clear_in}
+use Rattle.ngc_certificate.proofs.Division.{some, few}
+use Rattle.ngc_certificate.proofs.NoFault.{pieces_valid, some_none}
+use Rattle.ngc_certificate.proofs.Truths.{both, and, no_truth}
+use Rattle.ngc_certificate.proofs.GoodPieces.{pieces_good}
+
+-- ---- the first that passes
+
+record Found (f : ℕ → List Piece) (test good : ℕ → Bool) (pieces : List Piece) : Type 0 where
+  count : ℕ
+  fits : IsTrue (good count)
+  passes : test count ≡ true
+  made : pieces ≡ f count
+
+same_some : (x y : List Piece) → Some x ≡ Some y → x ≡ y
+same_some x y h = cc
+
+first_or_later : (f : ℕ → List Piece) (test good : ℕ → Bool) (x : ℕ) (rest : Option ℕ) (pieces : List Piece) (b : Bool) → test x ≡ b → IsTrue (good x) →
+    (option_map f rest ≡ Some pieces → Found f test good pieces) → option_map f (cond b (Some x) rest) ≡ Some pieces → Found f test good pieces
+first_or_later f test good x rest pieces true e g later h = record { count = x; fits = g; passes = e; made = sym (same_some (f x) pieces h) }
+first_or_later f test good x rest pieces false e g later h = later h
+
+found_in : (f : ℕ → List Piece) (test good : ℕ → Bool) (xs : List ℕ) (pieces : List Piece) → IsTrue (list_all good xs) →
+    option_map f (find test xs) ≡ Some pieces → Found f test good pieces
+found_in f test good [] pieces g h = absurd (some_none pieces (sym h))
+found_in f test good (x ∷ xs) pieces g h =
+    let e = both (good x) (list_all good xs) g in
+    first_or_later f test good x (find test xs) pieces (test x) refl e.0 (found_in f test good xs pieces e.1) h
+
+-- ---- all numbers that are tried are some, and no more than a motion may have
+
+abbrev is_count : ℕ → Bool
+is_count c = nat_le 1 c && nat_le c 65535
+
+keep : (good few : ℕ → Bool) (x : ℕ) (rest : List ℕ) (b : Bool) → IsTrue (good x) → IsTrue (list_all good rest) → IsTrue (list_all good (cond b (x ∷ rest) rest))
+keep good few x rest true g r = and _ _ g r
+keep good few x rest false g r = r
+
+all_kept : (good few : ℕ → Bool) (xs : List ℕ) → IsTrue (list_all good xs) → IsTrue (list_all good (filter few xs))
+all_kept good few [] g = refl
+all_kept good few (x ∷ xs) g =
+    let e = both (good x) (list_all good xs) g in
+    keep good few x (filter few xs) (few x) e.0 (all_kept good few xs e.1)
+
+all_behind : (good : ℕ → Bool) (xs ys : List ℕ) → IsTrue (list_all good xs) → IsTrue (list_all good ys) → IsTrue (list_all good (xs ++ ys))
+all_behind good [] ys g h = h
+all_behind good (x ∷ xs) ys g h =
+    let e = both (good x) (list_all good xs) g in
+    and _ _ e.0 (all_behind good xs ys e.1 h)
+
+counts : (most : ℕ) → 1 ≤ most → most ≤ 65535 → IsTrue (list_all is_count (tries most))
+counts most least greatest =
+    let last : IsTrue (is_count most) = grind (arith, nat_tests) in
+    all_behind is_count (filter (λ c. nat_le c most) powers_of_two) (most ∷ [])
+    (all_kept is_count (λ c. nat_le c most) powers_of_two refl) (and (is_count most) true last refl)
+
+at_least : (c : ℕ) → IsTrue (is_count c) → 1 ≤ c
+at_least c h = grind (arith, nat_tests)
+
+at_most : (c : ℕ) → IsTrue (is_count c) → c ≤ 65535
+at_most c h = grind (arith, nat_tests)
+
+-- ---- what clears
+
+abbrev IsCleared : MachineFile → ℕ → Option Tool → Motion → List Piece → Type 0
+IsCleared machine most tool m pieces = Found (pieces_of machine.step m) (is_clear_in machine tool m) is_count pieces
+
+cleared_is : (machine : MachineFile) (most : ℕ) (tool : Option Tool) (m : Motion) (pieces : List Piece) → 1 ≤ most → most ≤ 65535 →
+    cleared machine most tool m ≡ Some pieces → IsCleared machine most tool m pieces
+cleared_is machine most tool m pieces least greatest h =
+    found_in (pieces_of machine.step m) (is_clear_in machine tool m) is_count (tries most) pieces (counts most least greatest) h
+
+pub none_of : {A : Type 0} (o : Option A) → is_none o ≡ true → o ≡ None
+none_of None h = refl
+none_of (Some x) h = absurd (no_truth h)
+
+pub cleared_valid : (machine : MachineFile) (most : ℕ) (tool : Option Tool) (m : Motion) (pieces : List Piece) → 1 ≤ most → most ≤ 65535 →
+    cleared machine most tool m ≡ Some pieces → ArePiecesValid machine tool m pieces
+cleared_valid machine most tool m pieces least greatest h =
+    let c = cleared_is machine most tool m pieces least greatest h in
+    subst (ArePiecesValid machine tool m) (sym c.made)
+    (pieces_valid machine tool m (pieces_of machine.step m c.count) (none_of (pieces_fault machine tool m (pieces_of machine.step m c.count)) c.passes))
+
+-- an entry that a certificate may hold
+pub cleared_entry : (machine : MachineFile) (most k : ℕ) (tool : Option Tool) (m : Motion) (pieces : List Piece) → IsStep machine.step → IsTravel machine.step machine.low machine.high machine.start →
+    k ≤ 999999 → 1 ≤ most → most ≤ 65535 → cleared machine most tool m ≡ Some pieces → IsEntry (record { index = k; pieces = pieces })
+cleared_entry machine most k tool m pieces step travel index least greatest h =
+    let c = cleared_is machine most tool m pieces least greatest h in
+    let valid = pieces_valid machine tool m (pieces_of machine.step m c.count) (none_of (pieces_fault machine tool m (pieces_of machine.step m c.count)) c.passes) in
+    let lower = at_least c.count c.fits in
+    let upper = at_most c.count c.fits in
+    record {
+      index = index;
+      some = subst (λ (ps : List Piece). 1 ≤ length ps) (sym c.made) (some machine.step m c.count lower);
+      count = subst (λ (ps : List Piece). length ps ≤ 65535) (sym c.made) (few machine.step m c.count lower upper);
+      pieces = subst (λ (ps : List Piece). IsTrue (list_all good_piece ps)) (sym c.made) (pieces_good machine tool m c.count step travel lower upper valid);
+    }

@@ -1,0 +1,148 @@
+-- Worked pieces on a mill of 300 mm with steps of 0.01 mm, by computing the definitions.
+use Rattle.std.proofs.Common.{◌≡◌, ℕ, ℤ, pos, negsuc, List, [], ◌∷◌, Some, None, Ok, Err, refl}
+use Rattle.std.specs.Prelude.{codes}
+use Rattle.std.specs.Fmt.{digits}
+use Rattle.ngc_fixed_length.specs.Roots.{whole_root, whole_root_above}
+use Rattle.ngc_fixed_length.specs.Places.{zero_point}
+use Rattle.ngc_fixed_length.specs.declared.modes.Plane.TheVariants.{XY}
+use Rattle.ngc_fixed_length.specs.declared.modes.Turn.TheVariants.{Clockwise}
+use Rattle.ngc_fixed_length.specs.declared.points.GridBox.{GridBox}
+use Rattle.ngc_fixed_length.specs.declared.points.Point3.{Point3}
+use Rattle.ngc_arc_geometry.specs.Shape.{ArcShape}
+use Rattle.ngc_machine.specs.Machine.{MachineFile, row_machine}
+use Rattle.ngc_canonical.specs.declared.command.Command.{Command}
+use Rattle.ngc_canonical.specs.declared.command.Command.TheVariants as commands
+use Rattle.ngc_canonical.specs.declared.movement.Motion.{Motion}
+use Rattle.ngc_canonical.specs.declared.movement.Motion.TheVariants.{Straight, Along}
+use Rattle.ngc_certificate_text.specs.declared.piece.Cut.TheVariants.{Part, Place}
+use Rattle.ngc_certificate_text.specs.declared.piece.Piece.{Piece}
+use Rattle.ngc_certificate_text.specs.declared.piece.Setting.TheVariants.{Off, On}
+use Rattle.ngc_certificate_text.specs.Certificate.{CertificateData}
+use Rattle.ngc_certificate_text.specs.Spelling.{spelling}
+use Rattle.ngc_certificate.specs.declared.fault.MakeFault.TheVariants.{NotCleared}
+use Rattle.ngc_certificate.specs.declared.fault.PieceFault.TheVariants.{Chain, NotCovered, OutsideTravel, MeetsFixture}
+use Rattle.ngc_certificate.specs.Made.{pieces_of, tries, made}
+use Rattle.ngc_certificate.specs.PieceFault.{pieces_fault, at_piece}
+
+abbrev point : ℤ → ℤ → ℤ → Point3
+point x y z = record { x = x; y = y; z = z }
+
+abbrev box : ℤ → ℤ → ℤ → ℤ → ℤ → ℤ → GridBox
+box x y z x' y' z' = record { low = record { x = x; y = y; z = z }; high = record { x = x'; y = y'; z = z' } }
+
+abbrev line : ℕ → GridBox → Piece
+line t b = record { end = Part t; bounds = b }
+
+abbrev with_fixture : Point3 → Point3 → MachineFile
+with_fixture low high = record row_machine { fixtures = record { low = low; high = high } ∷ [] }
+
+-- from zero, so far along X
+abbrev along_x : ℤ → Motion
+along_x x = Straight zero_point (point x (pos 0) (pos 0))
+
+abbrev both : List Piece → CertificateData
+both pieces = record { off = record { index = 0; pieces = pieces } ∷ []; on = record { index = 0; pieces = pieces } ∷ [] }
+
+-- ---- a traverse of 0.03 mm
+
+text : spelling (both (pieces_of (pos 10000) (along_x (pos 30000)) 1)) ≡ codes "ngc-certificate 1\nsetting off 1\nmotion 0 1\nline 65536 0 0 0 3 0 0\nsetting on 1\nmotion 0 1\nline 65536 0 0 0 3 0 0\nend\n"
+unfolding digits
+text = refl
+
+accepted : pieces_fault row_machine None (along_x (pos 30000)) (line 65536 (box (pos 0) (pos 0) (pos 0) (pos 3) (pos 0) (pos 0)) ∷ []) ≡ None
+accepted = refl
+
+too_small : pieces_fault row_machine None (along_x (pos 30000)) (line 65536 (box (pos 0) (pos 0) (pos 0) (pos 2) (pos 0) (pos 0)) ∷ []) ≡ Some (at_piece 0 NotCovered)
+too_small = refl
+
+larger : pieces_fault row_machine None (along_x (pos 30000)) (line 65536 (box (pos 0) (pos 0) (pos 0) (pos 4) (pos 0) (pos 0)) ∷ []) ≡ None
+larger = refl
+
+outside : pieces_fault row_machine None (along_x (pos 30000)) (line 65536 (box (negsuc 0) (pos 0) (pos 0) (pos 3) (pos 0) (pos 0)) ∷ []) ≡ Some (at_piece 0 OutsideTravel)
+outside = refl
+
+too_short : pieces_fault row_machine None (along_x (pos 30000)) (line 65535 (box (pos 0) (pos 0) (pos 0) (pos 3) (pos 0) (pos 0)) ∷ []) ≡ Some (at_piece 0 Chain)
+too_short = refl
+
+twice : pieces_fault row_machine None (along_x (pos 30000)) (line 65536 (box (pos 0) (pos 0) (pos 0) (pos 3) (pos 0) (pos 0)) ∷ line 65536 (box (pos 0) (pos 0) (pos 0) (pos 3) (pos 0) (pos 0)) ∷ []) ≡ Some (at_piece 1 Chain)
+twice = refl
+
+-- ---- the travel's border
+
+to_the_border : pieces_fault row_machine None (along_x (pos 300000000)) (pieces_of (pos 10000) (along_x (pos 300000000)) 1) ≡ None
+to_the_border = refl
+
+beyond_the_border : pieces_fault row_machine None (along_x (pos 300006000)) (pieces_of (pos 10000) (along_x (pos 300006000)) 1) ≡ Some (at_piece 0 OutsideTravel)
+beyond_the_border = refl
+
+-- ---- a fixture beside a slanted line: undivided it is met, in two pieces it isn't
+
+abbrev slanted : Motion
+slanted = Straight zero_point (point (pos 10000000) (pos 10000000) (pos 0))
+
+abbrev beside : MachineFile
+beside = with_fixture (point (pos 8000000) (pos 0) (negsuc 999999)) (point (pos 10000000) (pos 2000000) (pos 1000000))
+
+slanted_whole : pieces_fault beside None slanted (pieces_of (pos 10000) slanted 1) ≡ Some (at_piece 0 (MeetsFixture 0))
+slanted_whole = refl
+
+slanted_pieces : pieces_of (pos 10000) slanted 2 ≡ line 32768 (box (pos 0) (pos 0) (pos 0) (pos 501) (pos 501) (pos 0)) ∷ line 65536 (box (pos 499) (pos 499) (pos 0) (pos 1000) (pos 1000) (pos 0)) ∷ []
+slanted_pieces = refl
+
+slanted_clear : pieces_fault beside None slanted (pieces_of (pos 10000) slanted 2) ≡ None
+slanted_clear = refl
+
+abbrev one_line : List Command
+one_line = commands.Traverse 1 zero_point (point (pos 10000000) (pos 10000000) (pos 0)) ∷ []
+
+in_one_piece : made beside 1 one_line one_line ≡ Err (NotCleared Off 0)
+in_one_piece = refl
+
+in_two_pieces : made beside 2 one_line one_line ≡ Ok (both (pieces_of (pos 10000) slanted 2))
+in_two_pieces = refl
+
+-- the line is there at one setting alone
+at_one_setting : made beside 1 [] one_line ≡ Err (NotCleared On 0)
+at_one_setting = refl
+
+-- ---- a full circle round a fixture, in one piece
+
+abbrev circle : ArcShape
+circle = record {
+  plane = XY;
+  turn = Clockwise;
+  start = point (pos 10000000) (pos 50000000) (pos 0);
+  end = point (pos 10000000) (pos 50000000) (pos 0);
+  centre = record { u = pos 40000000; v = pos 50000000 };
+}
+
+circle_pieces : pieces_of (pos 10000) (Along circle) 8 ≡ record { end = Place (record { u = pos 10000000; v = pos 50000000 }); bounds = box (pos 998) (pos 1998) (pos 0) (pos 7002) (pos 8002) (pos 0) } ∷ []
+unfolding whole_root whole_root_above
+circle_pieces = refl
+
+circle_met : pieces_fault (with_fixture (point (pos 38000000) (pos 48000000) (negsuc 49999999)) (point (pos 42000000) (pos 52000000) (pos 10000000))) None (Along circle) (pieces_of (pos 10000) (Along circle) 1) ≡ Some (at_piece 0 (MeetsFixture 0))
+unfolding whole_root whole_root_above
+circle_met = refl
+
+-- ---- the start, and tool changes there
+
+start_met : made (with_fixture (point (negsuc 999999) (negsuc 999999) (negsuc 999999)) (point (pos 1000000) (pos 1000000) (pos 1000000))) 8 [] [] ≡ Err (NotCleared Off 0)
+start_met = refl
+
+abbrev below : MachineFile
+below = with_fixture (point (negsuc 19999999) (negsuc 9999999) (negsuc 99999999)) (point (negsuc 1999999) (pos 10000000) (negsuc 29999999))
+
+abbrev mounted : ℕ → ℤ → List Command
+mounted number length = commands.Tool 1 (Some (record { number = number; length = length; radius = pos 3000000; offset = pos 0 })) ∷ []
+
+-- a tool of 60 mm reaches into the fixture, one of 20 mm does not
+long_tool : made below 8 (mounted 2 (pos 60000000)) [] ≡ Err (NotCleared Off 0)
+long_tool = refl
+
+short_tool : made below 8 (mounted 1 (pos 20000000)) [] ≡ Ok (record { off = []; on = [] })
+short_tool = refl
+
+-- ---- numbers of pieces
+
+tries_of_five : tries 5 ≡ 1 ∷ 2 ∷ 4 ∷ 5 ∷ []
+tries_of_five = refl

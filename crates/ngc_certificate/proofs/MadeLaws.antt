@@ -1,0 +1,196 @@
+-- What the made certificate says: it is valid, and it is there where each motion clears undivided.
+use Rattle.std.proofs.Common.{◌≡◌, ℕ, ◌+◌, ◌≤◌, refl, ap, ap₂, sym, subst, ◌∙◌, arith, List, [], ◌∷◌, ◌++◌, map, Some, None, Ok, Err, true}
+use Rattle.std.specs.Prelude.{Option, Result, option_map, Bool, nat_le}
+use Rattle.std.specs.List.{find, filter}
+use Rattle.std.specs.Option.{is_none}
+use Rattle.std.proofs.lemmas.Bool.Decides.{nat_tests}
+use Rattle.ngc_fixed_length.specs.Grid.{grid}
+use Rattle.ngc_fixed_length.specs.declared.points.Point3.{Point3}
+use Rattle.ngc_machine.specs.Machine.{MachineFile}
+use Rattle.ngc_machine.specs.declared.tools.Tool.{Tool}
+use Rattle.ngc_canonical.specs.declared.command.Command.{Command}
+use Rattle.ngc_canonical.specs.declared.movement.Motion.{Motion}
+use Rattle.ngc_canonical.specs.declared.movement.Doing.{Doing}
+use Rattle.ngc_canonical.specs.declared.movement.Doing.TheVariants.{Moves, Mounts, Stays}
+use Rattle.ngc_canonical.specs.Movement.{doings, motion_indices, end_of}
+use Rattle.ngc_certificate_text.specs.declared.piece.Piece.{Piece}
+use Rattle.ngc_certificate_text.specs.declared.piece.Setting.{Setting}
+use Rattle.ngc_certificate_text.specs.declared.piece.Setting.TheVariants.{Off, On}
+use Rattle.ngc_certificate_text.specs.Certificate.{Entry, CertificateData}
+use Rattle.ngc_certificate.specs.declared.fault.MakeFault.{MakeFault}
+use Rattle.ngc_certificate.specs.declared.fault.MakeFault.TheVariants.{NotCleared, Memory}
+use Rattle.ngc_certificate.specs.declared.maker.Refusal.{Refusal}
+use Rattle.ngc_certificate.specs.declared.maker.Refusal.TheVariants as refusals
+use Rattle.ngc_certificate.specs.PieceFault.{pieces_fault, place_fault, ArePiecesValid}
+use Rattle.ngc_certificate.specs.Valid.{AreClearFrom, IsValid}
+use Rattle.ngc_certificate.specs.Made.{pieces_of, cleared, with_entry, with_pieces, unless_met, made_from, setting_made, join_settings, from_start, made, GivesMade, clears_from, clears_undivided}
+use Rattle.ngc_certificate.specs.Making.{is_clear_in, GivesSetting, fault_at}
+use Rattle.ngc_certificate.proofs.NoFault.{clear_at}
+use Rattle.ngc_certificate.proofs.Truths.{both}
+use Rattle.ngc_certificate.proofs.Cleared.{cleared_valid, none_of}
+
+err_ok : {X E : Type 0} (x : X) (e : E) → Err e ≡ Ok x → ⊥
+err_ok x e h = cc
+
+same_ok : {X E : Type 0} (x y : X) (r : Result X E) → r ≡ Ok x → r ≡ Ok y → x ≡ y
+same_ok x y r h i = cc
+
+-- ---- the entries of a setting, and whether they are valid
+
+record AreMade (machine : MachineFile) (k : ℕ) (tool : Option Tool) (place : Point3) (ds : List Doing) (entries : List Entry) : Type 0 where
+  indices : map (λ entry. entry.index) entries ≡ motion_indices k ds
+  clear : AreClearFrom machine tool place ds entries
+
+-- a motion in front of what is made
+record Fronted (k : ℕ) (pieces : List Piece) (rest : Result (List Entry) ℕ) (entries : List Entry) : Type 0 where
+  later : List Entry
+  made : rest ≡ Ok later
+  all : entries ≡ record { index = k; pieces = pieces } ∷ later
+
+entry_in_front : (k : ℕ) (pieces : List Piece) (rest : Result (List Entry) ℕ) (entries : List Entry) → with_entry k pieces rest ≡ Ok entries → Fronted k pieces rest entries
+entry_in_front k pieces (Ok later) entries h = record { later = later; made = refl; all = same_ok entries (record { index = k; pieces = pieces } ∷ later) (with_entry k pieces (Ok later)) h refl }
+entry_in_front k pieces (Err refused) entries h = absurd (err_ok entries refused h)
+
+record Cleared (k : ℕ) (found : Option (List Piece)) (rest : Result (List Entry) ℕ) (entries : List Entry) : Type 0 where
+  pieces : List Piece
+  is : found ≡ Some pieces
+  front : Fronted k pieces rest entries
+
+pieces_in_front : (k : ℕ) (found : Option (List Piece)) (rest : Result (List Entry) ℕ) (entries : List Entry) → with_pieces k found rest ≡ Ok entries → Cleared k found rest entries
+pieces_in_front k None rest entries h = absurd (err_ok entries k h)
+pieces_in_front k (Some pieces) rest entries h = record { pieces = pieces; is = refl; front = entry_in_front k pieces rest entries h }
+
+record Unmet (found : Option ℕ) (rest all : Result (List Entry) ℕ) : Type 0 where
+  none : found ≡ None
+  same : all ≡ rest
+
+unmet : (found : Option ℕ) (k : ℕ) (rest : Result (List Entry) ℕ) (entries : List Entry) → unless_met found k rest ≡ Ok entries → Unmet found rest (Ok entries)
+unmet None k rest entries h = record { none = refl; same = sym h }
+unmet (Some fixture) k rest entries h = absurd (err_ok entries k h)
+
+-- one entry more
+entry_more : (machine : MachineFile) (k : ℕ) (tool : Option Tool) (place : Point3) (m : Motion) (ds : List Doing) (pieces : List Piece) (later entries : List Entry) →
+    ArePiecesValid machine tool m pieces → AreMade machine (k + 1) tool (end_of m) ds later → entries ≡ record { index = k; pieces = pieces } ∷ later →
+    AreMade machine k tool place (Moves m ∷ ds) entries
+entry_more machine k tool place m ds pieces later entries valid rest all =
+    subst (AreMade machine k tool place (Moves m ∷ ds)) (sym all)
+    (record { indices = ap (λ ks. k ∷ ks) rest.indices; clear = (valid, rest.clear) })
+
+are_made : (machine : MachineFile) (most k : ℕ) (tool : Option Tool) (place : Point3) (ds : List Doing) (entries : List Entry) → 1 ≤ most → most ≤ 65535 →
+    made_from machine most k tool place ds ≡ Ok entries → AreMade machine k tool place ds entries
+are_made machine most k tool place [] entries least greatest h =
+    record { indices = ap (map (λ (entry : Entry). entry.index)) (same_ok entries [] (made_from machine most k tool place []) h refl); clear = tt }
+are_made machine most k tool place (Stays ∷ ds) entries least greatest h =
+    let rest = are_made machine most (k + 1) tool place ds entries least greatest h in
+    record { indices = rest.indices; clear = rest.clear }
+are_made machine most k tool place (Mounts new ∷ ds) entries least greatest h =
+    let u = unmet (place_fault machine new (grid machine.step place)) k (made_from machine most (k + 1) new place ds) entries h in
+    let rest = are_made machine most (k + 1) new place ds entries least greatest (sym u.same) in
+    record { indices = rest.indices; clear = (clear_at machine new (grid machine.step place) u.none, rest.clear) }
+are_made machine most k tool place (Moves m ∷ ds) entries least greatest h =
+    let c = pieces_in_front k (cleared machine most tool m) (made_from machine most (k + 1) tool (end_of m) ds) entries h in
+    let rest = are_made machine most (k + 1) tool (end_of m) ds c.front.later least greatest c.front.made in
+    entry_more machine k tool place m ds c.pieces c.front.later entries (cleared_valid machine most tool m c.pieces least greatest c.is) rest c.front.all
+
+valid_setting : (machine : MachineFile) (most : ℕ) (commands : List Command) (entries : List Entry) → 1 ≤ most → most ≤ 65535 →
+    place_fault machine None (grid machine.step machine.start) ≡ None → setting_made machine most commands ≡ Ok entries → IsValid machine commands entries
+valid_setting machine most commands entries least greatest start h =
+    let made = are_made machine most 0 None machine.start (doings commands) entries least greatest h in
+    record { motions = made.indices; start = clear_at machine None (grid machine.step machine.start) start; clear = made.clear }
+
+-- ---- motions that clear undivided
+
+first_of : (most : ℕ) → 1 ≤ most → nat_le 1 most ≡ true
+first_of most h = grind (arith, nat_tests)
+
+undivided_first : (f : ℕ → List Piece) (test few : ℕ → Bool) (x : ℕ) (xs last : List ℕ) → few x ≡ true → test x ≡ true →
+    option_map f (find test (filter few (x ∷ xs) ++ last)) ≡ Some (f x)
+undivided_first f test few x xs last h i = simp (h, i)
+
+cleared_undivided : (machine : MachineFile) (most : ℕ) (tool : Option Tool) (m : Motion) → 1 ≤ most → is_clear_in machine tool m 1 ≡ true →
+    cleared machine most tool m ≡ Some (pieces_of machine.step m 1)
+cleared_undivided machine most tool m least clear =
+    undivided_first (pieces_of machine.step m) (is_clear_in machine tool m) (λ c. nat_le c most) 1 (2 ∷ 4 ∷ 8 ∷ 16 ∷ 32 ∷ 64 ∷ 128 ∷ 256 ∷ 512 ∷ 1024 ∷ 2048 ∷ 4096 ∷ 8192 ∷ 16384 ∷ 32768 ∷ []) (most ∷ []) (first_of most least) clear
+
+-- a list is made
+abbrev IsMade : Result (List Entry) ℕ → Type 0
+IsMade r = (entries : List Entry) × (r ≡ Ok entries)
+
+made_more : (k : ℕ) (pieces : List Piece) (found : Option (List Piece)) (rest : Result (List Entry) ℕ) → found ≡ Some pieces → IsMade rest → IsMade (with_pieces k found rest)
+made_more k pieces found rest e r =
+    (record { index = k; pieces = pieces } ∷ r.0, ap₂ (with_pieces k) e r.1)
+
+all_made : (machine : MachineFile) (most k : ℕ) (tool : Option Tool) (place : Point3) (ds : List Doing) → 1 ≤ most →
+    clears_from machine tool place ds ≡ true → IsMade (made_from machine most k tool place ds)
+all_made machine most k tool place [] least h = ([], refl)
+all_made machine most k tool place (Stays ∷ ds) least h = all_made machine most (k + 1) tool place ds least h
+all_made machine most k tool place (Mounts new ∷ ds) least h =
+    let e = both (is_none (place_fault machine new (grid machine.step place))) (clears_from machine new place ds) h in
+    let rest = all_made machine most (k + 1) new place ds least e.1 in
+    (rest.0, ap (λ o. unless_met o k (made_from machine most (k + 1) new place ds)) (none_of (place_fault machine new (grid machine.step place)) e.0) ∙ rest.1)
+all_made machine most k tool place (Moves m ∷ ds) least h =
+    let e = both (is_none (pieces_fault machine tool m (pieces_of machine.step m 1))) (clears_from machine tool (end_of m) ds) h in
+    made_more k (pieces_of machine.step m 1) (cleared machine most tool m) (made_from machine most (k + 1) tool (end_of m) ds)
+    (cleared_undivided machine most tool m least e.0) (all_made machine most (k + 1) tool (end_of m) ds least e.1)
+
+pub undivided_made : (machine : MachineFile) (most : ℕ) (off on : List Command) → 1 ≤ most → clears_undivided machine off ≡ true → clears_undivided machine on ≡ true →
+    (c : CertificateData) × (made machine most off on ≡ Ok c)
+undivided_made machine most off on least a b =
+    let start = place_fault machine None (grid machine.step machine.start) in
+    let e = both (is_none start) (clears_from machine None machine.start (doings off)) a in
+    let f = both (is_none start) (clears_from machine None machine.start (doings on)) b in
+    let p = all_made machine most 0 None machine.start (doings off) least e.1 in
+    let q = all_made machine most 0 None machine.start (doings on) least f.1 in
+    (record { off = p.0; on = q.0 }, ap (λ o. from_start o (join_settings (setting_made machine most off) (setting_made machine most on))) (none_of start e.0) ∙ ap₂ join_settings p.1 q.1)
+
+ok_err : {X E : Type 0} (x : X) (e : E) (r : Result X E) → r ≡ Ok x → r ≡ Err e → ⊥
+ok_err x e r h i = cc
+
+-- where a setting is refused, not all motions clear undivided
+refused_undivided : (machine : MachineFile) (most : ℕ) (off on : List Command) (s : Setting) (refusal : Refusal) → 1 ≤ most →
+    GivesMade {X = CertificateData} (λ c. c) (Err (fault_at s refusal)) (made machine most off on) →
+    clears_undivided machine off ≡ true → clears_undivided machine on ≡ true → fault_at s refusal ≡ Memory
+refused_undivided machine most off on s (refusals.NotCleared k) least h a b =
+    let m = undivided_made machine most off on least a b in
+    absurd (ok_err m.0 (NotCleared s k) (made machine most off on) m.1 h)
+refused_undivided machine most off on s refusals.Memory least h a b = refl
+
+off_refused : (machine : MachineFile) (most : ℕ) (off on : List Command) (refusal : Refusal) →
+    is_none (place_fault machine None (grid machine.step machine.start)) ≡ true → GivesSetting {X = List Entry} (λ m. m) (Err refusal) (setting_made machine most off) →
+    GivesMade {X = CertificateData} (λ c. c) (Err (fault_at Off refusal)) (made machine most off on)
+off_refused machine most off on (refusals.NotCleared k) start h =
+    let e = none_of (place_fault machine None (grid machine.step machine.start)) start in
+    ap₂ (λ o r. from_start o (join_settings r (setting_made machine most on))) e h
+off_refused machine most off on refusals.Memory start h = tt
+
+on_refused : (machine : MachineFile) (most : ℕ) (off on : List Command) (entries : List Entry) (refusal : Refusal) →
+    is_none (place_fault machine None (grid machine.step machine.start)) ≡ true → setting_made machine most off ≡ Ok entries → GivesSetting {X = List Entry} (λ m. m) (Err refusal) (setting_made machine most on) →
+    GivesMade {X = CertificateData} (λ c. c) (Err (fault_at On refusal)) (made machine most off on)
+on_refused machine most off on entries (refusals.NotCleared k) start first h =
+    let e = none_of (place_fault machine None (grid machine.step machine.start)) start in
+    ap (λ o. from_start o (join_settings (setting_made machine most off) (setting_made machine most on))) e ∙ ap₂ join_settings first h
+on_refused machine most off on entries refusals.Memory start first h = tt
+
+-- ---- the answers of the maker, from what it found at the start and at the settings
+
+pub off_undivided : (machine : MachineFile) (most : ℕ) (off on : List Command) (clear : Bool) (refusal : Refusal) (fault : MakeFault) → 1 ≤ most →
+    clear ≡ is_none (place_fault machine None (grid machine.step machine.start)) → clear ≡ true →
+    GivesSetting {X = List Entry} (λ m. m) (Err refusal) (setting_made machine most off) → fault ≡ fault_at Off refusal →
+    clears_undivided machine off ≡ true → clears_undivided machine on ≡ true → fault ≡ Memory
+off_undivided machine most off on clear refusal fault least start here given same a b =
+    same ∙ refused_undivided machine most off on Off refusal least (off_refused machine most off on refusal (sym start ∙ here) given) a b
+
+pub on_undivided : (machine : MachineFile) (most : ℕ) (off on : List Command) (clear : Bool) (entries : List Entry) (refusal : Refusal) (fault : MakeFault) → 1 ≤ most →
+    clear ≡ is_none (place_fault machine None (grid machine.step machine.start)) → clear ≡ true →
+    setting_made machine most off ≡ Ok entries → GivesSetting {X = List Entry} (λ m. m) (Err refusal) (setting_made machine most on) → fault ≡ fault_at On refusal →
+    clears_undivided machine off ≡ true → clears_undivided machine on ≡ true → fault ≡ Memory
+on_undivided machine most off on clear entries refusal fault least start here first given same a b =
+    same ∙ refused_undivided machine most off on On refusal least (on_refused machine most off on entries refusal (sym start ∙ here) first given) a b
+
+pub both_valid : (machine : MachineFile) (most : ℕ) (off on : List Command) (clear : Bool) (off_entries on_entries : List Entry) → 1 ≤ most → most ≤ 65535 →
+    clear ≡ is_none (place_fault machine None (grid machine.step machine.start)) → clear ≡ true →
+    setting_made machine most off ≡ Ok off_entries → setting_made machine most on ≡ Ok on_entries →
+    IsValid machine off off_entries × IsValid machine on on_entries
+both_valid machine most off on clear off_entries on_entries least greatest start here first second =
+    let e = none_of (place_fault machine None (grid machine.step machine.start)) (sym start ∙ here) in
+    (valid_setting machine most off off_entries least greatest e first, valid_setting machine most on on_entries least greatest e second)

@@ -1,0 +1,6 @@
+use Rattle.std.proofs.Common.{arith}
+use Rattle.std.proofs.lemmas.Int.{ints, clamps}
+use Rattle.ngc_certificate.proofs.derived.last_needed.Goals as goal
+
+pub returns-clause-narrow : goal.returns-clause-narrow
+returns-clause-narrow c on_line = let bound = c.last_between.ensures.bound on_line in omega (arith, ints, clamps, bound)

@@ -1,0 +1,10 @@
+use Rattle.std.proofs.Common.{◌≡◌}
+use Rattle.std.specs.Prelude.{drop}
+use Rattle.ngc_machine.specs.Machine.{file_of}
+use Rattle.ngc_certificate.specs.Made.{cleared, powers_of_two}
+use Rattle.ngc_certificate.proofs.Tries.{cleared_from}
+use Rattle.ngc_certificate.proofs.maker.find_clear.Given as goal
+
+abbrev pub invariant-loop-count : goal.invariant-loop-count
+invariant-loop-count g l =
+    cleared (file_of l.machine) l.most l.tool l.motion ≡ cleared_from (file_of l.machine) l.most l.tool l.motion (drop l.count-index powers_of_two)

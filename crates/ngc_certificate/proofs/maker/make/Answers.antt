@@ -1,0 +1,19 @@
+use Rattle.std.proofs.Common.{arith}
+use Rattle.ngc_machine.specs.Machine.{file_of}
+use Rattle.ngc_certificate.proofs.MadeLaws.{off_undivided, on_undivided, both_valid}
+use Rattle.ngc_certificate.proofs.maker.make.Goals as goal
+
+pub returns-in-Err-clause-undivided : goal.returns-in-Err-clause-undivided
+returns-in-Err-clause-undivided g c =
+    off_undivided (file_of c.args.machine.now) c.args.cuts c.args.off.now c.args.on.now c.is_clear_at.result c.in-Err.refusal c.fault_at.result
+    c.requires.cuts c.is_clear_at.ensures c.if-not-is_clear_at.false c.in-Err.ensures c.fault_at.ensures
+
+pub returns-in-Err-setting_motions-clause-undivided : goal.returns-in-Err-setting_motions-clause-undivided
+returns-in-Err-setting_motions-clause-undivided g c =
+    on_undivided (file_of c.args.machine.now) c.args.cuts c.args.off.now c.args.on.now c.is_clear_at.result c.in-Ok.motions c.in-Err-setting_motions.refusal c.fault_at-in-Err-setting_motions.result
+    c.requires.cuts c.is_clear_at.ensures c.if-not-is_clear_at.false c.in-Ok.ensures c.in-Err-setting_motions.ensures c.fault_at-in-Err-setting_motions.ensures
+
+pub returns-clause-valid : goal.returns-clause-valid
+returns-clause-valid g c =
+    both_valid (file_of c.args.machine.now) c.args.cuts c.args.off.now c.args.on.now c.is_clear_at.result c.in-Ok.motions c.in-Ok-setting_motions.motions
+    c.requires.cuts (omega (arith, c.ranges.cuts.fits)) c.is_clear_at.ensures c.if-not-is_clear_at.false c.in-Ok.ensures c.in-Ok-setting_motions.ensures

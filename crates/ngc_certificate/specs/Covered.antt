@@ -1,0 +1,26 @@
+-- Each point of a motion's path lies in the derived box of some piece. Our own.
+use Rattle.std.specs.Prelude.{ℕ, ◌<◌, ℤ, pos, ◌≤ℤ◌, List, length, Any, Option}
+use Rattle.ngc_fixed_length.specs.declared.points.StepPos.{StepPos}
+use Rattle.ngc_fixed_length.specs.LinePath.{point}
+use Rattle.ngc_fixed_length.specs.Boxes.{IsIn}
+use Rattle.ngc_canonical.specs.declared.movement.Motion.{Motion}
+use Rattle.ngc_canonical.specs.ProgramPath.{IsPathOf}
+use Rattle.ngc_certificate_text.specs.declared.piece.Cut.{Cut}
+use Rattle.ngc_certificate_text.specs.declared.piece.Piece.{Piece}
+use Rattle.ngc_collision.specs.Body.{IsSafe}
+use Rattle.ngc_machine.specs.Machine.{MachineFile}
+use Rattle.ngc_machine.specs.declared.tools.Tool.{Tool}
+use Rattle.ngc_certificate.specs.Chain.{IsChain}
+use Rattle.ngc_certificate.specs.PieceFault.{ArePiecesValid}
+use Rattle.ngc_certificate.specs.DerivedBox.{derived_boxes}
+
+abbrev pub Covered : Type 0
+Covered = (step : ℤ) (m : Motion) (cuts : List Cut) (path : List StepPos) (k : ℕ) →
+    pos 1 ≤ℤ step → IsChain m cuts → IsPathOf step m path → k < length path →
+    Any (λ b. IsIn b (point path k)) (derived_boxes step m cuts)
+
+-- each point of a path of a motion whose pieces are valid is a safe place for the tool
+abbrev pub SafeOnPath : Type 0
+SafeOnPath = (machine : MachineFile) (tool : Option Tool) (m : Motion) (pieces : List Piece) (path : List StepPos) (k : ℕ) →
+    pos 1 ≤ℤ machine.step → ArePiecesValid machine tool m pieces → IsPathOf machine.step m path → k < length path →
+    IsSafe machine tool (point path k)

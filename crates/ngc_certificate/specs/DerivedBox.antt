@@ -1,0 +1,49 @@
+-- The box that a piece of a motion needs at least. Our own.
+use Rattle.std.specs.Prelude.{ℕ, ℤ, pos, ◌+ℤ◌, ◌-ℤ◌, ◌*ℤ◌, List, [], ◌∷◌, Bool, true, false}
+use Rattle.ngc_fixed_length.specs.Grid.{grid}
+use Rattle.std.specs.Int.{int_min, int_max}
+use Rattle.ngc_fixed_length.specs.Boxes.{grid_above, grid_below, box_of, common_box}
+use Rattle.ngc_fixed_length.specs.declared.points.Point3.{Point3}
+use Rattle.ngc_fixed_length.specs.declared.points.GridBox.{GridBox}
+use Rattle.ngc_arc_geometry.specs.Swept.{swept_box}
+use Rattle.ngc_canonical.specs.declared.movement.Motion.{Motion}
+use Rattle.ngc_canonical.specs.declared.movement.Motion.TheVariants.{Straight, Along}
+use Rattle.ngc_certificate_text.specs.declared.piece.Cut.{Cut}
+use Rattle.ngc_certificate.specs.declared.stretch.Stretch.{Stretch}
+use Rattle.ngc_certificate_text.specs.Certificate.{WHOLE}
+use Rattle.ngc_certificate.specs.Chain.{part_of, first_cut, stretch, are_several}
+
+-- t parts of the way from b to e, in parts of a nanometre
+abbrev pub cut_at : ℤ → ℤ → ℕ → ℤ
+cut_at b e t = (b *ℤ pos WHOLE) +ℤ ((e -ℤ b) *ℤ pos t)
+
+-- of the grid points within a step of the way between two cuts, the first and the last
+abbrev pub low_between : ℤ → ℤ → ℤ → ℕ → ℕ → ℤ
+low_between step b e s t = grid_above (step *ℤ pos WHOLE) (int_min (cut_at b e s) (cut_at b e t) -ℤ (step *ℤ pos WHOLE))
+
+abbrev pub high_between : ℤ → ℤ → ℤ → ℕ → ℕ → ℤ
+high_between step b e s t = grid_below (step *ℤ pos WHOLE) (int_max (cut_at b e s) (cut_at b e t) +ℤ (step *ℤ pos WHOLE))
+
+abbrev pub grown_box : ℤ → Point3 → Point3 → ℕ → ℕ → GridBox
+grown_box step b e s t = record {
+  low = record { x = low_between step b.x e.x s t; y = low_between step b.y e.y s t; z = low_between step b.z e.z s t };
+  high = record { x = high_between step b.x e.x s t; y = high_between step b.y e.y s t; z = high_between step b.z e.z s t };
+}
+
+-- the same, cut to the box of the line's grid ends
+abbrev pub line_box : ℤ → Point3 → Point3 → ℕ → ℕ → GridBox
+line_box step b e s t = common_box (grown_box step b e s t) (box_of (grid step b) (grid step e))
+
+abbrev pub derived_box : ℤ → Motion → Stretch → Cut → GridBox
+derived_box step (Straight b e) s cut = line_box step b e (part_of s.begin) (part_of cut)
+derived_box step (Along a) s cut = swept_box step a
+
+-- the boxes of all pieces
+abbrev pub boxes_from : ℤ → Motion → Bool → Cut → List Cut → List GridBox
+boxes_from step m several begin [] = []
+boxes_from step m several begin (cut ∷ []) = derived_box step m (stretch several true begin) cut ∷ []
+boxes_from step m several begin (cut ∷ next ∷ cuts) =
+    derived_box step m (stretch several false begin) cut ∷ boxes_from step m several cut (next ∷ cuts)
+
+abbrev pub derived_boxes : ℤ → Motion → List Cut → List GridBox
+derived_boxes step m cuts = boxes_from step m (are_several cuts) (first_cut m) cuts

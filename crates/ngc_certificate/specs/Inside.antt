@@ -1,0 +1,58 @@
+-- Boxes of steps as the crate keeps them, which may reach further than grid points do, and what its loop keeps. Our own.
+use Rattle.std.specs.Prelude.{ℕ, ◌≤◌, ℤ, FitsSigned, List, [], ◌∷◌, Option, None, Bool}
+use Rattle.std.specs.Int.{w32}
+use Rattle.ngc_fixed_length.specs.Grid.{grid}
+use Rattle.ngc_fixed_length.specs.Boxes.{box_of}
+use Rattle.ngc_fixed_length.specs.declared.points.StepPos.{StepPos}
+use Rattle.ngc_fixed_length.specs.declared.points.Point3.{Point3}
+use Rattle.ngc_fixed_length.specs.declared.points.GridBox.{GridBox}
+use Rattle.ngc_arc_geometry.specs.Swept.{swept_box}
+use Rattle.ngc_canonical.specs.declared.movement.Motion.{Motion}
+use Rattle.ngc_canonical.specs.declared.movement.Motion.TheVariants.{Straight, Along}
+use Rattle.ngc_machine.specs.declared.tools.Tool.{Tool}
+use Rattle.ngc_machine.specs.Machine.{MachineFile}
+use Rattle.ngc_certificate_text.specs.Certificate.{WHOLE}
+use Rattle.ngc_certificate_text.specs.declared.piece.Cut.{Cut}
+use Rattle.ngc_certificate_text.specs.declared.piece.Piece.{Piece}
+use Rattle.ngc_certificate.specs.declared.fault.PieceRefusal.{PieceRefusal}
+use Rattle.ngc_certificate.specs.Chain.{are_several, first_cut}
+use Rattle.ngc_certificate.specs.DerivedBox.{grown_box}
+use Rattle.ngc_certificate.specs.PieceFault.{fault_from}
+use Rattle.ngc_certificate.specs.declared.bounds.Corner.{Corner}
+use Rattle.ngc_certificate.specs.declared.bounds.Bounds.{Bounds}
+use Rattle.ngc_certificate.specs.declared.cuts.Cuts.{Cuts}
+
+abbrev pub corner_of : Corner → StepPos
+corner_of c = record { x = c.x; y = c.y; z = c.z }
+
+abbrev pub bounds_of : Bounds → GridBox
+bounds_of b = record { low = corner_of b.low; high = corner_of b.high }
+
+-- a corner that 32 bits hold
+pub record IsNarrow (c : Corner) : Type 0 where
+  pub x : FitsSigned w32 c.x
+  pub y : FitsSigned w32 c.y
+  pub z : FitsSigned w32 c.z
+
+-- both cuts lie on the line
+pub record IsOnLine (cuts : Cuts) : Type 0 where
+  pub from : cuts.from ≤ WHOLE
+  pub to : cuts.to ≤ WHOLE
+
+-- the grid points within a step of the way between two cuts
+abbrev pub box_grown : ℤ → Point3 → Point3 → Cuts → GridBox
+box_grown step b e cuts = grown_box step b e cuts.from cuts.to
+
+-- the box of a motion in one piece
+abbrev pub whole_box : ℤ → Motion → GridBox
+whole_box step (Straight b e) = box_of (grid step b) (grid step e)
+whole_box step (Along a) = swept_box step a
+
+-- the first refusal of the pieces that are left
+abbrev pub rest_fault : MachineFile → Option Tool → Motion → Bool → ℕ → Cut → List Piece → Option PieceRefusal
+rest_fault machine tool m several j begin [] = None
+rest_fault machine tool m several j begin (p ∷ ps) = fault_from machine tool m several j begin (p ∷ ps)
+
+-- and of all of them, where there are some
+abbrev pub fault_of_some : MachineFile → Option Tool → Motion → List Piece → Option PieceRefusal
+fault_of_some machine tool m pieces = rest_fault machine tool m (are_several pieces) 0 (first_cut m) pieces

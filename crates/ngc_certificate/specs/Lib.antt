@@ -1,0 +1,10 @@
+pub mod Faults
+pub mod Chain
+pub mod DerivedBox
+pub mod PieceFault
+pub mod NoFault
+pub mod Inside
+pub mod Valid
+pub mod Covered
+pub mod Made
+pub mod Making

@@ -1,0 +1,112 @@
+-- The certificate that is made for the commands of a program at both settings of block delete. Our own.
+use Rattle.std.specs.Prelude.{◌≡◌, ℕ, zero, suc, ◌+◌, ◌*◌, ◌/◌, nat_le, ℤ, List, [], ◌∷◌, ◌++◌, Option, Some, None, option_map, Result, Ok, Err, Bool, true, ◌&&◌}
+use Rattle.std.specs.List.{find, filter}
+use Rattle.std.specs.Option.{is_none}
+use Rattle.ngc_fixed_length.specs.Grid.{grid}
+use Rattle.ngc_fixed_length.specs.declared.points.Point3.{Point3}
+use Rattle.ngc_arc_geometry.specs.Shape as shapes
+use Rattle.ngc_arc_geometry.specs.Swept.{swept_box}
+use Rattle.ngc_machine.specs.Machine.{MachineFile}
+use Rattle.ngc_machine.specs.declared.tools.Tool.{Tool}
+use Rattle.ngc_canonical.specs.declared.command.Command.{Command}
+use Rattle.ngc_canonical.specs.declared.movement.Motion.{Motion}
+use Rattle.ngc_canonical.specs.declared.movement.Motion.TheVariants.{Straight, Along}
+use Rattle.ngc_canonical.specs.declared.movement.Doing.{Doing}
+use Rattle.ngc_canonical.specs.declared.movement.Doing.TheVariants.{Moves, Mounts, Stays}
+use Rattle.ngc_canonical.specs.Movement.{doings, end_of}
+use Rattle.ngc_certificate_text.specs.declared.piece.Cut.TheVariants.{Part, Place}
+use Rattle.ngc_certificate_text.specs.declared.piece.Piece.{Piece}
+use Rattle.ngc_certificate_text.specs.declared.piece.Setting.TheVariants.{Off, On}
+use Rattle.ngc_certificate_text.specs.Certificate.{WHOLE, Entry, CertificateData}
+use Rattle.ngc_certificate.specs.declared.fault.MakeFault.{MakeFault}
+use Rattle.ngc_certificate.specs.declared.fault.MakeFault.TheVariants.{NotCleared, Memory}
+use Rattle.ngc_certificate.specs.DerivedBox.{line_box}
+use Rattle.ngc_certificate.specs.PieceFault.{pieces_fault, place_fault}
+
+-- the line between two cuts
+abbrev pub line_piece : ℤ → Point3 → Point3 → ℕ → ℕ → Piece
+line_piece step b e s t = record { end = Part t; bounds = line_box step b e s t }
+
+-- pieces k + 1 to k + left of a line in c pieces of about one length
+abbrev pub line_pieces_from : ℤ → Point3 → Point3 → ℕ → ℕ → ℕ → List Piece
+line_pieces_from step b e c k zero = []
+line_pieces_from step b e c k (suc left) =
+    line_piece step b e (WHOLE * k / c) (WHOLE * (k + 1) / c) ∷ line_pieces_from step b e c (k + 1) left
+
+-- a motion in c pieces; an arc stands in one
+abbrev pub pieces_of : ℤ → Motion → ℕ → List Piece
+pieces_of step (Straight b e) c = line_pieces_from step b e c 0 c
+pieces_of step (Along a) c = record { end = Place (shapes.end_of a); bounds = swept_box step a } ∷ []
+
+-- how many pieces are tried: the powers of two up to the most, and then the most itself
+abbrev pub powers_of_two : List ℕ
+powers_of_two = 1 ∷ 2 ∷ 4 ∷ 8 ∷ 16 ∷ 32 ∷ 64 ∷ 128 ∷ 256 ∷ 512 ∷ 1024 ∷ 2048 ∷ 4096 ∷ 8192 ∷ 16384 ∷ 32768 ∷ []
+
+abbrev pub tries : ℕ → List ℕ
+tries most = filter (λ c. nat_le c most) powers_of_two ++ most ∷ []
+
+-- the pieces of the first try that no refusal meets
+abbrev pub cleared : MachineFile → ℕ → Option Tool → Motion → Option (List Piece)
+cleared machine most tool m =
+    option_map (pieces_of machine.step m) (find (λ c. is_none (pieces_fault machine tool m (pieces_of machine.step m c))) (tries most))
+
+-- one motion more, before those that follow
+abbrev pub with_entry : ℕ → List Piece → Result (List Entry) ℕ → Result (List Entry) ℕ
+with_entry k pieces (Ok entries) = Ok (record { index = k; pieces = pieces } ∷ entries)
+with_entry k pieces (Err refused) = Err refused
+
+abbrev pub with_pieces : ℕ → Option (List Piece) → Result (List Entry) ℕ → Result (List Entry) ℕ
+with_pieces k None rest = Err k
+with_pieces k (Some pieces) rest = with_entry k pieces rest
+
+-- the rest, unless a fixture is met
+abbrev pub unless_met : Option ℕ → ℕ → Result (List Entry) ℕ → Result (List Entry) ℕ
+unless_met None k rest = rest
+unless_met (Some fixture) k rest = Err k
+
+-- From command k on, with the tool mounted and the place reached so far: each motion with its pieces, or the first command that
+-- isn't cleared, a motion for which no try clears or a tool change that meets a fixture.
+abbrev pub made_from : MachineFile → ℕ → ℕ → Option Tool → Point3 → List Doing → Result (List Entry) ℕ
+made_from machine most k tool place [] = Ok []
+made_from machine most k tool place (Stays ∷ ds) = made_from machine most (k + 1) tool place ds
+made_from machine most k tool place (Mounts new ∷ ds) =
+    unless_met (place_fault machine new (grid machine.step place)) k (made_from machine most (k + 1) new place ds)
+made_from machine most k tool place (Moves m ∷ ds) =
+    with_pieces k (cleared machine most tool m) (made_from machine most (k + 1) tool (end_of m) ds)
+
+abbrev pub setting_made : MachineFile → ℕ → List Command → Result (List Entry) ℕ
+setting_made machine most commands = made_from machine most 0 None machine.start (doings commands)
+
+-- both settings, or the first command that isn't cleared; that of a start point which isn't clear is command 0, block delete off
+abbrev pub join_settings : Result (List Entry) ℕ → Result (List Entry) ℕ → Result CertificateData MakeFault
+join_settings (Err k) on = Err (NotCleared Off k)
+join_settings (Ok off) (Err k) = Err (NotCleared On k)
+join_settings (Ok off) (Ok on) = Ok (record { off = off; on = on })
+
+abbrev pub from_start : Option ℕ → Result CertificateData MakeFault → Result CertificateData MakeFault
+from_start None rest = rest
+from_start (Some fixture) rest = Err (NotCleared Off 0)
+
+abbrev pub made : MachineFile → ℕ → List Command → List Command → Result CertificateData MakeFault
+made machine most off on =
+    from_start (place_fault machine None (grid machine.step machine.start))
+    (join_settings (setting_made machine most off) (setting_made machine most on))
+
+-- the definition's answer, unless memory ran out
+abbrev pub GivesMade : {X : Type 0} → (X → CertificateData) → Result X MakeFault → Result CertificateData MakeFault → Type 0
+GivesMade view (Ok x) says = says ≡ Ok (view x)
+GivesMade view (Err (NotCleared s k)) says = says ≡ Err (NotCleared s k)
+GivesMade view (Err Memory) says = Unit {0}
+
+-- start and tool changes are clear, and every motion's undivided box clears
+abbrev pub clears_from : MachineFile → Option Tool → Point3 → List Doing → Bool
+clears_from machine tool place [] = true
+clears_from machine tool place (Stays ∷ ds) = clears_from machine tool place ds
+clears_from machine tool place (Mounts new ∷ ds) =
+    is_none (place_fault machine new (grid machine.step place)) && clears_from machine new place ds
+clears_from machine tool place (Moves m ∷ ds) =
+    is_none (pieces_fault machine tool m (pieces_of machine.step m 1)) && clears_from machine tool (end_of m) ds
+
+abbrev pub clears_undivided : MachineFile → List Command → Bool
+clears_undivided machine commands =
+    is_none (place_fault machine None (grid machine.step machine.start)) && clears_from machine None machine.start (doings commands)

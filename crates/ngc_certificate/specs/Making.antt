@@ -1,0 +1,66 @@
+-- How far the maker has come in the commands of a setting. Our own.
+use Rattle.std.specs.Prelude.{◌≡◌, ℕ, ◌+◌, ◌≤◌, ℤ, List, ◌∷◌, ◌++◌, length, Option, Some, None, Result, Ok, Err, Bool, if◌then◌else◌}
+use Rattle.ngc_arc_geometry.specs.Shape.{ArcShape}
+use Rattle.ngc_arc_geometry.specs.Shape as shapes
+use Rattle.ngc_arc_geometry.specs.Swept.{swept_box}
+use Rattle.ngc_certificate_text.specs.declared.piece.Cut.TheVariants.{Place}
+use Rattle.ngc_fixed_length.specs.declared.points.Point3.{Point3}
+use Rattle.ngc_machine.specs.Machine.{MachineFile}
+use Rattle.ngc_machine.specs.declared.tools.Tool.{Tool}
+use Rattle.ngc_canonical.specs.declared.movement.Doing.{Doing}
+use Rattle.ngc_canonical.specs.declared.movement.Motion.{Motion}
+use Rattle.ngc_fixed_length.specs.Grid.{grid}
+use Rattle.std.specs.Option.{is_none}
+use Rattle.ngc_certificate_text.specs.declared.piece.Piece.{Piece}
+use Rattle.ngc_certificate_text.specs.Certificate.{Entry}
+use Rattle.ngc_certificate_text.specs.declared.piece.Setting.{Setting}
+use Rattle.ngc_certificate.specs.declared.fault.MakeFault.{MakeFault}
+use Rattle.ngc_certificate.specs.declared.fault.MakeFault.TheVariants as faults
+use Rattle.ngc_certificate.specs.declared.maker.Progress.{Progress}
+use Rattle.ngc_certificate.specs.declared.maker.Refusal.{Refusal}
+use Rattle.ngc_certificate.specs.declared.maker.Refusal.TheVariants.{NotCleared, Memory}
+use Rattle.ngc_certificate.specs.PieceFault.{pieces_fault, place_fault}
+use Rattle.ngc_certificate.specs.Made.{pieces_of, made_from}
+
+-- an arc in one piece
+abbrev pub whole_arc : ℤ → ArcShape → Piece
+whole_arc step a = record { end = Place (shapes.end_of a); bounds = swept_box step a }
+
+-- no refusal meets a motion in so many pieces
+abbrev pub is_clear_in : MachineFile → Option Tool → Motion → ℕ → Bool
+is_clear_in machine tool m count = is_none (pieces_fault machine tool m (pieces_of machine.step m count))
+
+-- no fixture meets the tool where the axes stand at a place
+abbrev pub is_clear_at : MachineFile → Option Tool → Point3 → Bool
+is_clear_at machine tool place = is_none (place_fault machine tool (grid machine.step place))
+
+-- the pieces, where they are clear
+abbrev pub pieces_where : Bool → List Piece → Option (List Piece)
+pieces_where clear pieces = if clear then Some pieces else None
+
+-- the motions so far, before those that follow
+abbrev pub behind : List Entry → Result (List Entry) ℕ → Result (List Entry) ℕ
+behind entries (Ok rest) = Ok (entries ++ rest)
+behind entries (Err k) = Err k
+
+-- what a setting gives, from command k on, where the commands that are left do this
+abbrev pub given_from : {A : Type 0} → MachineFile → ℕ → ℕ → Progress A → List Doing → Result (List Entry) ℕ
+given_from machine most k p ds = behind p.motions (made_from machine most k p.tool p.place ds)
+
+-- command k leads on, or it isn't cleared, unless memory ran out
+abbrev pub Leads : {A : Type 0} → MachineFile → ℕ → ℕ → Doing → Progress A → Result (Unit {0}) Refusal → Progress A → Type 0
+Leads machine most k d old (Ok done) new =
+    ((ds : List Doing) → given_from machine most k old (d ∷ ds) ≡ given_from machine most (k + 1) new ds) × (length new.motions ≤ length old.motions + 1)
+Leads machine most k d old (Err (NotCleared command)) new = (ds : List Doing) → given_from machine most k old (d ∷ ds) ≡ Err command
+Leads machine most k d old (Err Memory) new = Unit {0}
+
+-- the answer that is due, unless memory ran out
+abbrev pub GivesSetting : {X : Type 0} → (X → List Entry) → Result X Refusal → Result (List Entry) ℕ → Type 0
+GivesSetting view (Ok x) says = says ≡ Ok (view x)
+GivesSetting view (Err (NotCleared command)) says = says ≡ Err command
+GivesSetting view (Err Memory) says = Unit {0}
+
+-- what a refusal at a setting is
+abbrev pub fault_at : Setting → Refusal → MakeFault
+fault_at s (NotCleared command) = faults.NotCleared s command
+fault_at s Memory = faults.Memory

@@ -1,0 +1,166 @@
+ghost use Rattle.std.specs.Prelude.{◌≡◌, ◌≤◌, FitsSigned};
+ghost use Rattle.std.specs.Int.{w32, int_max, int_min};
+ghost use Rattle.ngc_fixed_length.specs.Grid.{grid};
+ghost use Rattle.ngc_fixed_length.specs.Length.{IsStep};
+ghost use Rattle.ngc_fixed_length.specs.Boxes.{box_of, common_box, holds_box, lesser_corner, greater_corner};
+ghost use Rattle.ngc_certificate_text.specs.Certificate.{WHOLE};
+ghost use Rattle.ngc_certificate.specs.Chain.{part_of as part_of_cut};
+ghost use Rattle.ngc_certificate.specs.DerivedBox.{low_between, high_between, line_box as box_of_line, derived_box as box_derived};
+ghost use Rattle.ngc_certificate.specs.Inside.{IsOnLine, IsNarrow, box_grown, corner_of, bounds_of, whole_box as box_of_whole};
+
+use crate::bounds::{Bounds, Corner};
+use crate::cuts::{Cuts, first_between, last_between};
+use crate::stretch::Stretch;
+use ngc_canonical::Motion;
+use ngc_certificate_text::{Cut, Piece};
+use ngc_fixed_length::{GridBox, Nm, Point3, StepPos};
+
+/// The first coordinate that a piece of a line needs, in steps; the line's own is `least`.
+fn first_needed(step: Nm, start: Nm, end: Nm, cuts: &Cuts, least: i32) -> i64
+    requires { IsStep step }
+    ensures value { result ≡ int_max (low_between step start end cuts.now.from cuts.now.to) least }
+    ensures narrow { IsOnLine cuts.now → FitsSigned w32 result }
+{
+    first_between(step, start, end, cuts).max(i64::from(least))
+}
+
+/// The last coordinate that a piece of a line needs, in steps; the line's own is `greatest`.
+fn last_needed(step: Nm, start: Nm, end: Nm, cuts: &Cuts, greatest: i32) -> i64
+    requires { IsStep step }
+    ensures value { result ≡ int_min (high_between step start end cuts.now.from cuts.now.to) greatest }
+    ensures narrow { IsOnLine cuts.now → FitsSigned w32 result }
+{
+    last_between(step, start, end, cuts).min(i64::from(greatest))
+}
+
+/// The lowest corner that a piece of a line needs; the line's own is `least`.
+fn lowest_needed(step: Nm, start: &Point3, end: &Point3, cuts: &Cuts, least: &StepPos) -> Corner
+    requires { IsStep step }
+    ensures value { corner_of result ≡ greater_corner (box_grown step start.now end.now cuts.now).low least.now }
+    ensures narrow { IsOnLine cuts.now → IsNarrow result }
+{
+    Corner {
+        x: first_needed(step, start.x, end.x, cuts, least.x),
+        y: first_needed(step, start.y, end.y, cuts, least.y),
+        z: first_needed(step, start.z, end.z, cuts, least.z),
+    }
+}
+
+/// The highest corner that a piece of a line needs; the line's own is `greatest`.
+fn highest_needed(step: Nm, start: &Point3, end: &Point3, cuts: &Cuts, greatest: &StepPos) -> Corner
+    requires { IsStep step }
+    ensures value { corner_of result ≡ lesser_corner (box_grown step start.now end.now cuts.now).high greatest.now }
+    ensures narrow { IsOnLine cuts.now → IsNarrow result }
+{
+    Corner {
+        x: last_needed(step, start.x, end.x, cuts, greatest.x),
+        y: last_needed(step, start.y, end.y, cuts, greatest.y),
+        z: last_needed(step, start.z, end.z, cuts, greatest.z),
+    }
+}
+
+/// The box that a piece of a line needs at least; `whole` is the box of the line's grid ends.
+fn line_bounds(step: Nm, start: &Point3, end: &Point3, cuts: &Cuts, whole: &GridBox) -> Bounds
+    requires { IsStep step }
+    ensures value { bounds_of result ≡ common_box (box_grown step start.now end.now cuts.now) whole.now }
+    ensures low { IsOnLine cuts.now → IsNarrow result.low }
+    ensures high { IsOnLine cuts.now → IsNarrow result.high }
+{
+    Bounds {
+        low: lowest_needed(step, start, end, cuts, &whole.low),
+        high: highest_needed(step, start, end, cuts, &whole.high),
+    }
+}
+
+/// The box of a motion in one piece.
+pub(crate) fn whole_box(step: Nm, motion: &Motion) -> GridBox
+    requires { IsStep step }
+    ensures { result ≡ box_of_whole step motion.now }
+{
+    match motion {
+        Motion::Straight { start, end } => GridBox::between(
+            &start.to_grid(step),
+            &end.to_grid(step),
+        ),
+        Motion::Along(arc) => arc.swept_box(step),
+    }
+}
+
+/// The box that a piece of a line needs at least; `whole` is the box of the line's grid ends, and cuts are at most
+/// 65,536.
+pub(crate) fn line_box(
+    step: Nm,
+    start: &Point3,
+    end: &Point3,
+    cuts: &Cuts,
+    whole: &GridBox,
+) -> GridBox
+    requires step { IsStep step }
+    requires on_line { IsOnLine cuts.now }
+    requires whole { whole.now ≡ box_of (grid step start.now) (grid step end.now) }
+    ensures { result ≡ box_of_line step start.now end.now cuts.now.from cuts.now.to }
+{
+    if cuts.are_all() {
+        *whole
+    } else {
+        line_bounds(step, start, end, cuts, whole).narrowed()
+    }
+}
+
+/// The box that a piece of a motion needs at least; cuts of a line are at most 65,536.
+pub(crate) fn derived_box(step: Nm, motion: &Motion, stretch: &Stretch, cut: &Cut) -> GridBox
+    requires step { IsStep step }
+    requires from { part_of_cut stretch.now.begin ≤ WHOLE }
+    requires to { part_of_cut cut.now ≤ WHOLE }
+    ensures { result ≡ box_derived step motion.now stretch.now cut.now }
+{
+    let whole = whole_box(step, motion);
+    match motion {
+        Motion::Straight { start, end } => {
+            let cuts = Cuts::of(&stretch.begin, cut);
+            line_box(step, start, end, &cuts, &whole)
+        }
+        Motion::Along(_) => whole,
+    }
+}
+
+/// A box of grid points holds the piece of a line that it is given for.
+fn covers_line(
+    step: Nm,
+    start: &Point3,
+    end: &Point3,
+    cuts: &Cuts,
+    whole: &GridBox,
+    outer: &GridBox,
+) -> bool
+    requires step { IsStep step }
+    requires whole { whole.now ≡ box_of (grid step start.now) (grid step end.now) }
+    ensures { result ≡ holds_box outer.now (box_of_line step start.now end.now cuts.now.from cuts.now.to) }
+{
+    if cuts.are_all() {
+        outer.holds(whole)
+    } else {
+        line_bounds(step, start, end, cuts, whole).are_in(outer)
+    }
+}
+
+/// A piece's box holds the box that it needs at least; `whole` is the box of the motion in one piece.
+pub(crate) fn covers(
+    step: Nm,
+    motion: &Motion,
+    whole: &GridBox,
+    stretch: &Stretch,
+    piece: &Piece,
+) -> bool
+    requires step { IsStep step }
+    requires whole { whole.now ≡ box_of_whole step motion.now }
+    ensures { result ≡ holds_box piece.now.bounds (box_derived step motion.now stretch.now piece.now.end) }
+{
+    match motion {
+        Motion::Straight { start, end } => {
+            let cuts = Cuts::of(&stretch.begin, &piece.end);
+            covers_line(step, start, end, &cuts, whole, &piece.bounds)
+        }
+        Motion::Along(_) => piece.bounds.holds(whole),
+    }
+}

@@ -1,0 +1,22 @@
+//! Certificates for the motions of a program: which pieces hold them, and the maker.
+#![tactic(auto)]
+
+mod bounds;
+mod chain;
+mod cuts;
+mod derived;
+mod divide;
+mod fault;
+pub mod laws;
+mod maker;
+mod pieces;
+mod stretch;
+
+pub use fault::{MakeFault, PieceFault, PieceRefusal};
+pub use maker::make;
+pub use ngc_certificate_text::{Certificate, Cut, Motions, Piece, Setting};
+pub use pieces::{piece_fault, pieces_fault, place_fault};
+pub use stretch::Stretch;
+
+#[cfg(test)]
+mod tests;

@@ -1,0 +1,231 @@
+//! Certificates for commands.
+ghost use Rattle.std.specs.Prelude.{◌≡◌, ℕ, ◌<◌, ◌≤◌, [], length, true, IfOk, MatchResult};
+ghost use Rattle.ngc_machine.specs.Machine.{file_of};
+ghost use Rattle.ngc_canonical.specs.Movement.{doing};
+ghost use Rattle.ngc_canonical.specs.State.{COMMAND_LIMIT};
+ghost use Rattle.ngc_certificate_text.specs.Certificate.{INDEX_LIMIT, MOTION_LIMIT};
+ghost use Rattle.ngc_certificate_text.specs.Contents.{said_of};
+ghost use Rattle.ngc_certificate.specs.Valid.{IsValid};
+ghost use Rattle.ngc_certificate.specs.Made.{pieces_of, cleared, setting_made, made, GivesMade, clears_undivided};
+ghost use Rattle.ngc_certificate.specs.Making.{is_clear_at, is_clear_in, pieces_where, Leads, GivesSetting, fault_at};
+
+use crate::divide::divide;
+use crate::fault::MakeFault;
+use crate::pieces::{pieces_fault, place_fault};
+use ngc_canonical::{Command, Doing, Machine, Motion, Tool};
+use ngc_certificate_text::{Certificate, Motions, Piece, Setting};
+use ngc_fixed_length::Point3;
+use std::alloc::{AllocError, Allocator};
+
+/// In how many pieces a motion is tried, where that isn't more than the most.
+const POWERS_OF_TWO: [u16; 16] = [
+    1, 2, 4, 8, 16, 32, 64, 128, 256, 512, 1024, 2048, 4096, 8192, 16384, 32768,
+];
+
+/// Why a setting has no motions with pieces: it doesn't clear this command, counted from 0, or memory ran out.
+#[derive(Clone, Copy, Debug)]
+enum Refusal {
+    NotCleared(u32),
+    Memory,
+}
+
+/// The motions so far with their pieces, the tool that is mounted and the place that is reached.
+#[derive(Drop)]
+struct Progress<A: Allocator> {
+    motions: Motions<A>,
+    tool: Option<Tool>,
+    place: Point3,
+}
+
+// Whether the tool's body is clear of all fixtures where the axes stand at a place.
+fn is_clear_at<A: Allocator>(machine: &Machine<A>, tool: &Option<Tool>, place: &Point3) -> bool
+    ensures { result ≡ is_clear_at (file_of machine.now) tool.now place.now }
+{
+    place_fault(machine, *tool, &place.to_grid(machine.step)).is_none()
+}
+
+// Makes `pieces` those of a motion in `count`, and answers whether no refusal meets them.
+fn clears_in<A: Allocator>(
+    machine: &Machine<A>,
+    tool: &Option<Tool>,
+    motion: &Motion,
+    count: u16,
+    pieces: &mut Vec<Piece, A>,
+) -> Result<bool, AllocError>
+    requires { 1 ≤ count }
+    ensures pieces { IfOk result (λ clear. pieces.new.items ≡ pieces_of machine.now.step motion.now count) }
+    ensures clear { IfOk result (λ free. free ≡ is_clear_in (file_of machine.now) tool.now motion.now count) }
+{
+    divide(machine.step, motion, count, pieces)?;
+    Ok(pieces_fault(machine, *tool, motion, pieces.as_slice()).is_none())
+}
+
+// Makes `pieces` those of a motion in the first number of pieces that no refusal meets, and answers whether there is one.
+fn find_clear<A: Allocator>(
+    machine: &Machine<A>,
+    tool: &Option<Tool>,
+    motion: &Motion,
+    most: u16,
+    pieces: &mut Vec<Piece, A>,
+) -> Result<bool, AllocError>
+    requires { 1 ≤ most }
+    ensures { IfOk result (λ clear. cleared (file_of machine.now) most tool.now motion.now ≡ pieces_where clear pieces.new.items) }
+{
+    for count in POWERS_OF_TWO {
+        if count > most {
+            continue;
+        }
+        if clears_in(machine, tool, motion, count, pieces)? {
+            return Ok(true);
+        }
+    }
+    clears_in(machine, tool, motion, most, pieces)
+}
+
+impl<A: Allocator + Copy> Progress<A> {
+    // At the start, with no tool mounted.
+    fn at_start(alloc: A, machine: &Machine<A>) -> Progress<A>
+        ensures motions { result.motions ≡ [] }
+        ensures tool { result.tool ≡ None }
+        ensures place { result.place ≡ machine.now.start }
+    {
+        Progress {
+            motions: Motions::new(alloc),
+            tool: None,
+            place: machine.start,
+        }
+    }
+}
+
+impl<A: Allocator> Progress<A> {
+    // A tool, or none, is mounted where the axes stand.
+    fn mount(&mut self, machine: &Machine<A>, index: u32, tool: Option<Tool>) -> Result<(), Refusal>
+        ensures { (most : ℕ) → Leads (file_of machine.now) most index (Doing.Mounts tool) self.old result self.new }
+    {
+        if !is_clear_at(machine, &tool, &self.place) {
+            return Err(Refusal::NotCleared(index));
+        }
+        self.tool = tool;
+        Ok(())
+    }
+
+    // A motion, in as few pieces as clear it. `pieces` is room for them.
+    fn move_along(
+        &mut self,
+        machine: &Machine<A>,
+        index: u32,
+        motion: &Motion,
+        most: u16,
+        pieces: &mut Vec<Piece, A>,
+    ) -> Result<(), Refusal>
+        requires index { index ≤ INDEX_LIMIT }
+        requires most { 1 ≤ most }
+        requires room { length self.old.motions < MOTION_LIMIT }
+        ensures { Leads (file_of machine.now) most index (Doing.Moves motion.now) self.old result self.new }
+    {
+        match find_clear(machine, &self.tool, motion, most, pieces) {
+            Ok(true) => {}
+            Ok(false) => return Err(Refusal::NotCleared(index)),
+            Err(_) => return Err(Refusal::Memory),
+        }
+        match self.motions.push(index, pieces.as_slice()) {
+            Ok(()) => {}
+            Err(_) => return Err(Refusal::Memory),
+        }
+        self.place = motion.end();
+        Ok(())
+    }
+
+    // A command.
+    fn take_command(
+        &mut self,
+        machine: &Machine<A>,
+        index: u32,
+        command: &Command,
+        most: u16,
+        pieces: &mut Vec<Piece, A>,
+    ) -> Result<(), Refusal>
+        requires index { index ≤ INDEX_LIMIT }
+        requires most { 1 ≤ most }
+        requires room { length self.old.motions < MOTION_LIMIT }
+        ensures { Leads (file_of machine.now) most index (doing command.now) self.old result self.new }
+    {
+        match command.doing() {
+            Doing::Moves(motion) => self.move_along(machine, index, &motion, most, pieces),
+            Doing::Mounts(tool) => self.mount(machine, index, tool),
+            Doing::Stays => Ok(()),
+        }
+    }
+}
+
+// The motions of a setting, each with its pieces.
+fn setting_motions<A: Allocator + Copy>(
+    alloc: A,
+    commands: &[Command],
+    machine: &Machine<A>,
+    most: u16,
+    pieces: &mut Vec<Piece, A>,
+) -> Result<Motions<A>, Refusal>
+    requires most { 1 ≤ most }
+    requires count { length commands.now ≤ COMMAND_LIMIT }
+    ensures { GivesSetting (λ v. v) result (setting_made (file_of machine.now) most commands.now) }
+{
+    let mut progress = Progress::at_start(alloc, machine);
+    for (index, command) in commands.iter().enumerate() {
+        match progress.take_command(machine, index as u32, command, most, pieces) {
+            Ok(()) => {}
+            Err(refusal) => return Err(refusal),
+        }
+    }
+    Ok(progress.motions)
+}
+
+// What a refusal at a setting is.
+fn fault_at(setting: Setting, refusal: Refusal) -> MakeFault
+    ensures { result ≡ fault_at setting refusal }
+{
+    match refusal {
+        Refusal::NotCleared(command) => MakeFault::NotCleared { setting, command },
+        Refusal::Memory => MakeFault::Memory,
+    }
+}
+
+/// A certificate for the commands of a program with block delete off and on, on a machine; or the first command that isn't
+/// cleared (304), or 900.
+///
+/// A line is tried in 1, 2, 4 .. pieces of about one length up to `cuts`, and then in `cuts`, of which the first number that
+/// clears is taken; an arc stands in one piece. `cuts` is at least 1. Each setting has at most a million commands.
+pub fn make<A: Allocator + Copy>(
+    alloc: A,
+    off: &[Command],
+    on: &[Command],
+    machine: &Machine<A>,
+    cuts: u16,
+) -> Result<Certificate<A>, MakeFault>
+    requires cuts { 1 ≤ cuts }
+    requires off { length off.now ≤ COMMAND_LIMIT }
+    requires on { length on.now ≤ COMMAND_LIMIT }
+    ensures made { GivesMade said_of result (made (file_of machine.now) cuts off.now on.now) }
+    ensures valid { IfOk result (λ c. IsValid (file_of machine.now) off.now (said_of c).off × IsValid (file_of machine.now) on.now (said_of c).on) }
+    ensures undivided { clears_undivided (file_of machine.now) off.now ≡ true → clears_undivided (file_of machine.now) on.now ≡ true → MatchResult result (λ c. Unit {0}) (λ e. e ≡ MakeFault.Memory) }
+{
+    if !is_clear_at(machine, &None, &machine.start) {
+        return Err(MakeFault::NotCleared {
+            setting: Setting::Off,
+            command: 0,
+        });
+    }
+    let mut pieces = Vec::new(alloc);
+    let off = match setting_motions(alloc, off, machine, cuts, &mut pieces) {
+        Ok(motions) => motions,
+        Err(refusal) => return Err(fault_at(Setting::Off, refusal)),
+    };
+    let on = match setting_motions(alloc, on, machine, cuts, &mut pieces) {
+        Ok(motions) => motions,
+        Err(refusal) => return Err(fault_at(Setting::On, refusal)),
+    };
+    Ok(Certificate { off, on })
+}
+
+#[cfg(test)]
+mod tests;

@@ -1,0 +1,116 @@
+ghost use Rattle.std.specs.Prelude.{◌≡◌, ◌≤◌, length};
+ghost use Rattle.ngc_machine.specs.Machine.{file_of};
+ghost use Rattle.ngc_certificate_text.specs.Certificate.{PIECE_LIMIT};
+ghost use Rattle.ngc_certificate.specs.PieceFault.{piece_fault as fault_of, pieces_fault as fault_of_all, place_fault as met_at};
+ghost use Rattle.ngc_certificate.specs.Inside.{whole_box as box_of_whole, fault_of_some};
+
+use crate::chain::{first_cut, follows};
+use crate::derived::{covers, whole_box};
+use crate::fault::{PieceFault, PieceRefusal};
+use crate::stretch::Stretch;
+use ngc_canonical::Motion;
+use ngc_certificate_text::Piece;
+use ngc_collision::{first_met, is_in_travel};
+use ngc_fixed_length::{GridBox, StepPos};
+use ngc_machine::{Machine, Tool};
+use std::alloc::Allocator;
+
+/// The first refusal of a piece of a motion with this tool mounted, in the order 313 to 316; `whole` is the box of the
+/// motion in one piece.
+fn fault_within<A: Allocator>(
+    machine: &Machine<A>,
+    tool: &Option<Tool>,
+    motion: &Motion,
+    whole: &GridBox,
+    stretch: &Stretch,
+    piece: &Piece,
+) -> Option<PieceFault>
+    requires { whole.now ≡ box_of_whole machine.now.step motion.now }
+    ensures { result ≡ fault_of (file_of machine.now) tool.now motion.now stretch.now piece.now }
+{
+    if !follows(motion, stretch, &piece.end) {
+        return Some(PieceFault::Chain);
+    }
+    if !covers(machine.step, motion, whole, stretch, piece) {
+        return Some(PieceFault::NotCovered);
+    }
+    if !is_in_travel(machine, &piece.bounds) {
+        return Some(PieceFault::OutsideTravel);
+    }
+    first_met(machine, *tool, &piece.bounds).map(PieceFault::MeetsFixture)
+}
+
+/// The first refusal of a piece of a motion with this tool mounted, in the order 313 to 316.
+pub fn piece_fault<A: Allocator>(
+    machine: &Machine<A>,
+    tool: Option<Tool>,
+    motion: &Motion,
+    stretch: &Stretch,
+    piece: &Piece,
+) -> Option<PieceFault>
+    ensures { result ≡ fault_of (file_of machine.now) tool motion.now stretch.now piece.now }
+{
+    let whole = whole_box(machine.step, motion);
+    fault_within(machine, &tool, motion, &whole, stretch, piece)
+}
+
+/// The first refusal of the pieces of a motion, or `None` also where there are none.
+fn first_refusal<A: Allocator>(
+    machine: &Machine<A>,
+    tool: Option<Tool>,
+    motion: &Motion,
+    pieces: &[Piece],
+) -> Option<PieceRefusal>
+    requires { length pieces.now ≤ PIECE_LIMIT }
+    ensures { result ≡ fault_of_some (file_of machine.now) tool motion.now pieces.now }
+{
+    let whole = whole_box(machine.step, motion);
+    let several = pieces.len() > 1;
+    let mut begin = first_cut(motion);
+    for (i, piece) in pieces.iter().enumerate() {
+        let last = i + 1 == pieces.len();
+        let stretch = Stretch {
+            begin,
+            several,
+            last,
+        };
+        if let Some(fault) = fault_within(machine, &tool, motion, &whole, &stretch, piece) {
+            return Some(PieceRefusal {
+                piece: i as u32,
+                fault,
+            });
+        }
+        begin = piece.end;
+    }
+    None
+}
+
+/// The first refusal of the pieces of a motion with this tool mounted. There are at most 65,535 pieces; of none the chain is
+/// refused.
+pub fn pieces_fault<A: Allocator>(
+    machine: &Machine<A>,
+    tool: Option<Tool>,
+    motion: &Motion,
+    pieces: &[Piece],
+) -> Option<PieceRefusal>
+    requires { length pieces.now ≤ PIECE_LIMIT }
+    ensures { result ≡ fault_of_all (file_of machine.now) tool motion.now pieces.now }
+{
+    if pieces.is_empty() {
+        let piece = 0;
+        let fault = PieceFault::Chain;
+        return Some(PieceRefusal { piece, fault });
+    }
+    first_refusal(machine, tool, motion, pieces)
+}
+
+/// The lowest fixture, counted from 0, that the tool's body meets where its controlled point stands at a place.
+pub fn place_fault<A: Allocator>(
+    machine: &Machine<A>,
+    tool: Option<Tool>,
+    place: &StepPos,
+) -> Option<u32>
+    ensures { result ≡ met_at (file_of machine.now) tool place.now }
+{
+    first_met(machine, tool, &GridBox::only(*place))
+}

@@ -1,0 +1,24 @@
+use Rattle.std.proofs.Common.{ap, ◌∙◌, sym}
+use Rattle.std.specs.Prelude.{IsTrue}
+use Rattle.ngc_certificate_text.specs.Certificate.{good_piece}
+use Rattle.ngc_certificate_text.specs.Lines.{piece_said}
+use Rattle.ngc_certificate_text.specs.Pulled.{text_ahead}
+use Rattle.ngc_certificate_text.proofs.LineLaws.{piece_spelled}
+use Rattle.ngc_certificate_text.proofs.FollowLaws.{line_settles, no_line_follows, settles_if}
+use Rattle.ngc_certificate_text.proofs.input.Input.piece.Goals as goal
+
+pub returns-in-Ok-clause-said : goal.returns-in-Ok-clause-said
+returns-in-Ok-clause-said g c =
+    line_settles piece_said c.args.self.now.number c.next_line.new.self.number c.settle.new.self.number (text_ahead c.args.self.now.window (g.R.Source.remaining c.args.source.now))
+    c.next_line.new.self.window c.settle.new.self.window (g.R.Source.remaining c.next_line.new.source) c.next_line.new.self.line.items c.piece_line-said.result c.settle.result
+    c.in-Ok.ensures.line c.in-Ok.ensures.number (c.piece_line-said.ensures ∙ ap piece_said c.text.ensures) c.settle.ensures.settles c.settle.ensures.window
+
+pub returns-in-Err-clause-said : goal.returns-in-Err-clause-said
+returns-in-Err-clause-said g c =
+    no_line_follows piece_said c.args.self.now.number c.next_line.new.self.number (text_ahead c.args.self.now.window (g.R.Source.remaining c.args.source.now))
+    (text_ahead c.next_line.new.self.window (g.R.Source.remaining c.next_line.new.source)) c.next_line.new.self.line.items c.in-Err.fault c.in-Err.ensures.line
+
+pub returns-in-Ok-clause-good : goal.returns-in-Ok-clause-good
+returns-in-Ok-clause-good g c =
+    settles_if (λ p. IsTrue (good_piece p)) c.piece_line-said.result c.next_line.new.self.number c.settle.new.self.number c.settle.result c.settle.ensures.settles
+    (λ p e. (piece_spelled c.text.result.now p (sym c.piece_line-said.ensures ∙ e)).held.good)

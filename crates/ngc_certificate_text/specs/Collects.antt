@@ -1,0 +1,10 @@
+-- Text that is collected, and written from the front where room is wanted. Our own.
+use Rattle.std.specs.Prelude.{ℕ, List, ◌++◌, Option, Result, MatchResult}
+use Rattle.ngc_fixed_length.specs.Written.{AppendsBeginning}
+use Rattle.ngc_fixed_length.specs.declared.writing.WriteFault.{WriteFault}
+use Rattle.ngc_output.specs.Collected.{WritesFront}
+
+-- a text comes behind what was collected: the front of both is written and the rest is still collected, or a beginning is written
+abbrev pub Collects : Option (List ℕ) → Option (List ℕ) → List ℕ → List ℕ → Result (Unit {0}) WriteFault → List ℕ → Type 0
+Collects old new before after result text =
+    MatchResult result (λ _. WritesFront old new (before ++ text) after) (λ _. AppendsBeginning old new (before ++ text))

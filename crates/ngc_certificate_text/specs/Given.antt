@@ -1,0 +1,23 @@
+-- How the answer of reading a certificate goes with what its text says. Our own.
+use Rattle.std.specs.Prelude.{◌≡◌, Result, Ok, Err}
+use Rattle.ngc_certificate_text.specs.declared.certificate.Certificate.{Certificate}
+use Rattle.ngc_certificate_text.specs.declared.fault.CertificateFault.{CertificateFault}
+use Rattle.ngc_certificate_text.specs.declared.fault.CertificateFault.TheVariants.{WrongHeader, BadLine, OutOfRange}
+use Rattle.ngc_certificate_text.specs.declared.fault.CertificateFault.TheVariants.{Memory, ReadFailed}
+use Rattle.ngc_certificate_text.specs.Certificate.{CertificateData}
+use Rattle.ngc_certificate_text.specs.Contents.{said_of}
+
+-- the answer is what the text says, but for want of memory and the source's failure
+abbrev pub GivesCertificate : {A : Type 0} → (Certificate A → CertificateData) → Result (Certificate A) CertificateFault
+    → Result CertificateData CertificateFault → Type 0
+GivesCertificate view (Ok c) says = says ≡ Ok (view c)
+GivesCertificate view (Err WrongHeader) says = says ≡ Err WrongHeader
+GivesCertificate view (Err (BadLine n)) says = says ≡ Err (BadLine n)
+GivesCertificate view (Err (OutOfRange n)) says = says ≡ Err (OutOfRange n)
+GivesCertificate view (Err Memory) says = Unit {0}
+GivesCertificate view (Err ReadFailed) says = Unit {0}
+
+-- what a certificate that was read says
+abbrev pub data_of : {A : Type 0} → Result (Certificate A) CertificateFault → Result CertificateData CertificateFault
+data_of (Ok c) = Ok (said_of c)
+data_of (Err fault) = Err fault

@@ -1,0 +1,15 @@
+pub mod Certificate
+pub mod Spelling
+pub mod Held
+pub mod Contents
+pub mod Faults
+pub mod Number
+pub mod Lines
+pub mod Said
+pub mod Window
+pub mod Clamped
+pub mod Parts
+pub mod Pulled
+pub mod Follows
+pub mod Given
+pub mod Collects

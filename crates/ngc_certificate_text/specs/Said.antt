@@ -1,0 +1,112 @@
+-- What the text of a certificate says, line by line, or the first line at fault. Our own.
+use Rattle.std.specs.Prelude.{◌≡◌, ◌↔◌, ℕ, zero, suc, ◌+◌, min, nat_le, ◌==◌, List, [], ◌∷◌, length, codes, Result, Ok}
+use Rattle.std.specs.Prelude.{Err, IsTrue, Bool, true, false, ◌&&◌, if◌then◌else◌}
+use Rattle.std.specs.List.{slice_split, list_all}
+use Rattle.std.specs.Str.{bytes_eq}
+use Rattle.ngc_certificate_text.specs.declared.fault.CertificateFault.{CertificateFault}
+use Rattle.ngc_certificate_text.specs.declared.fault.CertificateFault.TheVariants.{WrongHeader, BadLine, OutOfRange}
+use Rattle.ngc_certificate_text.specs.declared.lines.LineFlaw.{LineFlaw}
+use Rattle.ngc_certificate_text.specs.declared.lines.LineFlaw.TheVariants.{Spelling, Range}
+use Rattle.ngc_certificate_text.specs.declared.piece.Piece.{Piece}
+use Rattle.ngc_certificate_text.specs.Certificate.{Entry, CertificateData, IsCertificate}
+use Rattle.ngc_certificate_text.specs.Lines.{setting_said, motion_said, piece_said, end_said, are_steps}
+use Rattle.ngc_certificate_text.specs.Spelling.{spelling}
+
+-- the lines of a text, each ended by a line feed, and last what stands behind the last line feed
+abbrev pub lines_of : List ℕ → List (List ℕ)
+lines_of text = slice_split (λ b. b == 10) text
+
+-- how far a text is read: the number of the next line, from 1, and the lines that are left
+pub record Place : Type 0 where
+  pub number : ℕ
+  pub left : List (List ℕ)
+
+-- what a part of the text says, and where it ends
+abbrev pub Said : Type 0 → Type 0
+Said X = Result (X × Place) CertificateFault
+
+abbrev pub then_read : {X Y : Type 0} → Said X → (X → Place → Said Y) → Said Y
+then_read (Ok r) more = more r.0 r.1
+then_read (Err fault) more = Err fault
+
+-- from 2^32 - 1 on lines are numbered so
+abbrev pub next_number : ℕ → ℕ
+next_number number = min (number + 1) 4294967295
+
+abbrev pub fault_at : ℕ → LineFlaw → CertificateFault
+fault_at number Spelling = BadLine number
+fault_at number Range = OutOfRange number
+
+-- what a line says, in front of these lines
+abbrev pub line_is : {X : Type 0} → ℕ → Result X LineFlaw → List (List ℕ) → Said X
+line_is number (Ok x) left = Ok (x, record { number = next_number number; left = left })
+line_is number (Err flaw) left = Err (fault_at number flaw)
+
+-- the next line, of at most 256 bytes and with its line feed
+abbrev pub line_in : {X : Type 0} → (List ℕ → Result X LineFlaw) → ℕ → List (List ℕ) → Said X
+line_in said number [] = Err (BadLine number)
+line_in said number (last ∷ []) = Err (BadLine number)
+line_in said number (line ∷ next ∷ left) =
+    if nat_le (length line) 256 then line_is number (said line) (next ∷ left) else Err (BadLine number)
+
+unfoldable pub line_at : {X : Type 0} → (List ℕ → Result X LineFlaw) → Place → Said X
+line_at said p = line_in said p.number p.left
+
+-- so many parts of one kind
+unfoldable pub several : {X : Type 0} → (Place → Said X) → ℕ → Place → Said (List X)
+several said zero p = Ok ([], p)
+several said (suc n) p = then_read (said p) (λ x q. then_read (several said n q) (λ xs r. Ok (x ∷ xs, r)))
+
+-- a motion: its line, and a line for each piece
+unfoldable pub entry_at : Place → Said Entry
+entry_at p =
+    then_read (line_at motion_said p) (λ m q.
+    then_read (several (line_at piece_said) m.pieces q) (λ pieces r.
+    Ok (record { index = m.index; pieces = pieces }, r)))
+
+-- a setting: its line, and its motions
+unfoldable pub setting_at : List ℕ → Place → Said (List Entry)
+setting_at name p = then_read (line_at (setting_said name) p) (λ n q. several entry_at n q)
+
+-- behind the last line feed stands nothing
+abbrev pub nothing_in : List (List ℕ) → Bool
+nothing_in ([] ∷ []) = true
+nothing_in _ = false
+
+-- both settings, the line `end`, and nothing behind it
+unfoldable pub settings_at : Place → Said CertificateData
+settings_at p =
+    then_read (setting_at (codes "off") p) (λ off q.
+    then_read (setting_at (codes "on") q) (λ on r.
+    then_read (line_at end_said r) (λ _ s. Ok (record { off = off; on = on }, s))))
+
+abbrev pub ended : Said CertificateData → Result CertificateData CertificateFault
+ended (Ok r) = if nothing_in r.1.left then Ok r.0 else Err (BadLine r.1.number)
+ended (Err fault) = Err fault
+
+-- the first line
+abbrev pub header_in : List (List ℕ) → Said (Unit {0})
+header_in [] = Err WrongHeader
+header_in (last ∷ []) = Err WrongHeader
+header_in (line ∷ next ∷ left) =
+    if bytes_eq line (codes "ngc-certificate 1") then Ok (tt, record { number = 2; left = next ∷ left })
+    else Err WrongHeader
+
+unfoldable pub certificate_said : List ℕ → Result CertificateData CertificateFault
+certificate_said text = ended (then_read (header_in (lines_of text)) (λ _ p. settings_at p))
+
+-- ---- the law
+
+-- steps are numbers of 32 bits in each box
+abbrev pub has_steps : Entry → Bool
+has_steps e = list_all (λ (p : Piece). are_steps p.bounds.low && are_steps p.bounds.high) e.pieces
+
+pub record HasSteps (c : CertificateData) : Type 0 where
+  pub off : IsTrue (list_all has_steps c.off)
+  pub on : IsTrue (list_all has_steps c.on)
+
+-- a text says a certificate just where it is the certificate's spelling
+abbrev pub OneSpelling : Type 0
+OneSpelling =
+    (text : List ℕ) (c : CertificateData)
+    → (certificate_said text ≡ Ok c) ↔ (IsCertificate c × HasSteps c × (text ≡ spelling c))

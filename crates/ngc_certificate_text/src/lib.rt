@@ -1,0 +1,24 @@
+//! Certificates and their text: boxes of grid points for the motions of a program.
+#![tactic(auto)]
+
+mod certificate;
+mod fault;
+mod input;
+pub mod laws;
+mod lines;
+mod motions;
+mod number;
+mod piece;
+mod read;
+mod window;
+mod write;
+
+pub use certificate::Certificate;
+pub use fault::CertificateFault;
+pub use motions::Motions;
+pub use piece::{Cut, Piece, Setting};
+
+#[cfg(test)]
+mod tests_of_reading;
+#[cfg(test)]
+mod tests_of_writing;

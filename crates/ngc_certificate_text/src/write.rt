@@ -1,0 +1,211 @@
+ghost use Rattle.std.specs.Prelude.{◌≡◌, ◌+◌, ◌≤◌, ◌++◌, codes, decimal, flat_map, length, OnOk, OnErr};
+ghost use Rattle.std.specs.Fmt.{signed_decimal};
+ghost use Rattle.std.specs.Io.KnownBytes.{Appends};
+ghost use Rattle.ngc_fixed_length.specs.Failures.{CountsFailure};
+ghost use Rattle.ngc_fixed_length.specs.Written.{AppendsBeginning};
+ghost use Rattle.ngc_output.specs.Collected.{CHUNK_SIZE, HasLineRoom};
+ghost use Rattle.ngc_certificate_text.specs.Collects.{Collects};
+ghost use Rattle.ngc_certificate_text.specs.Contents.{said_of};
+ghost use Rattle.ngc_certificate_text.specs.Spelling.{steps_text, cut_text, piece_line, motion_line, entry_lines, setting_lines, spelling};
+
+use crate::certificate::Certificate;
+use crate::motions::Motions;
+use crate::piece::{Cut, Piece};
+use ngc_fixed_length::{Sink, StepPos, WriteFault};
+use ngc_output::Chunk;
+use std::alloc::Allocator;
+
+fn add_count(chunk: &mut Chunk, steps: i32)
+    requires { length chunk.old + 41 ≤ CHUNK_SIZE }
+    ensures text { chunk.new ≡ chunk.old ++ codes " " ++ signed_decimal steps }
+    ensures short { length chunk.new ≤ length chunk.old + 41 }
+{
+    chunk.add_text(b" ");
+    chunk.add_number(steps);
+}
+
+fn add_steps(chunk: &mut Chunk, point: &StepPos)
+    requires { length chunk.old + 123 ≤ CHUNK_SIZE }
+    ensures text { chunk.new ≡ chunk.old ++ steps_text point.now }
+    ensures short { length chunk.new ≤ length chunk.old + 123 }
+{
+    add_count(chunk, point.x);
+    add_count(chunk, point.y);
+    add_count(chunk, point.z);
+}
+
+fn add_cut(chunk: &mut Chunk, end: &Cut)
+    requires { length chunk.old + 85 ≤ CHUNK_SIZE }
+    ensures text { chunk.new ≡ chunk.old ++ cut_text end.now }
+    ensures short { length chunk.new ≤ length chunk.old + 85 }
+{
+    match end {
+        Cut::Part(part) => {
+            chunk.add_text(b"line ");
+            chunk.add_number(*part);
+        }
+        Cut::Place(place) => {
+            chunk.add_text(b"arc ");
+            chunk.add_number(place.u.nanometres());
+            chunk.add_text(b" ");
+            chunk.add_number(place.v.nanometres());
+        }
+    }
+}
+
+fn add_piece(chunk: &mut Chunk, piece: &Piece)
+    requires { HasLineRoom chunk.old }
+    ensures { chunk.new ≡ chunk.old ++ piece_line piece.now }
+{
+    add_cut(chunk, &piece.end);
+    add_steps(chunk, &piece.bounds.low);
+    add_steps(chunk, &piece.bounds.high);
+    chunk.add_text(b"\n");
+}
+
+fn add_motion(chunk: &mut Chunk, index: u32, pieces: usize)
+    requires { HasLineRoom chunk.old }
+    ensures { chunk.new ≡ chunk.old ++ motion_line index pieces }
+{
+    chunk.add_text(b"motion ");
+    chunk.add_number(index);
+    chunk.add_text(b" ");
+    chunk.add_number(pieces);
+    chunk.add_text(b"\n");
+}
+
+fn add_setting(chunk: &mut Chunk, name: &[u8], motions: usize)
+    requires room { HasLineRoom chunk.old }
+    requires name { length name.now ≤ 3 }
+    ensures { chunk.new ≡ chunk.old ++ (codes "setting " ++ name.now ++ codes " " ++ decimal motions ++ codes "\n") }
+{
+    chunk.add_text(b"setting ");
+    chunk.add_text(name);
+    chunk.add_text(b" ");
+    chunk.add_number(motions);
+    chunk.add_text(b"\n");
+}
+
+fn write_piece<W: Sink>(chunk: &mut Chunk, piece: &Piece, sink: &mut W) -> Result<(), WriteFault>
+    ensures text { Collects (W.written sink.old) (W.written sink.new) chunk.old chunk.new result (piece_line piece.now) }
+    ensures counts { CountsFailure (W.failures sink.old) (W.failures sink.new) result }
+{
+    match chunk.make_room(sink) {
+        Ok(()) => {}
+        Err(fault) => return Err(fault),
+    }
+    add_piece(chunk, piece);
+    Ok(())
+}
+
+fn write_pieces<W: Sink>(
+    chunk: &mut Chunk,
+    pieces: &[Piece],
+    sink: &mut W,
+) -> Result<(), WriteFault>
+    ensures text { Collects (W.written sink.old) (W.written sink.new) chunk.old chunk.new result (flat_map piece_line pieces.now) }
+    ensures counts { CountsFailure (W.failures sink.old) (W.failures sink.new) result }
+{
+    for piece in pieces {
+        match write_piece(chunk, piece, sink) {
+            Ok(()) => {}
+            Err(fault) => return Err(fault),
+        }
+    }
+    Ok(())
+}
+
+fn write_motion<W: Sink>(
+    chunk: &mut Chunk,
+    index: u32,
+    pieces: &[Piece],
+    sink: &mut W,
+) -> Result<(), WriteFault>
+    ensures text { Collects (W.written sink.old) (W.written sink.new) chunk.old chunk.new result (entry_lines (record { index = index; pieces = pieces.now })) }
+    ensures counts { CountsFailure (W.failures sink.old) (W.failures sink.new) result }
+{
+    match chunk.make_room(sink) {
+        Ok(()) => {}
+        Err(fault) => return Err(fault),
+    }
+    add_motion(chunk, index, pieces.len());
+    write_pieces(chunk, pieces, sink)
+}
+
+fn write_motions<A: Allocator, W: Sink>(
+    chunk: &mut Chunk,
+    motions: &Motions<A>,
+    sink: &mut W,
+) -> Result<(), WriteFault>
+    ensures text { Collects (W.written sink.old) (W.written sink.new) chunk.old chunk.new result (flat_map entry_lines motions.now) }
+    ensures counts { CountsFailure (W.failures sink.old) (W.failures sink.new) result }
+{
+    for i in 0..motions.len() {
+        match write_motion(chunk, motions.index(i), motions.pieces(i), sink) {
+            Ok(()) => {}
+            Err(fault) => return Err(fault),
+        }
+    }
+    Ok(())
+}
+
+fn write_setting<A: Allocator, W: Sink>(
+    chunk: &mut Chunk,
+    name: &[u8],
+    motions: &Motions<A>,
+    sink: &mut W,
+) -> Result<(), WriteFault>
+    requires { length name.now ≤ 3 }
+    ensures text { Collects (W.written sink.old) (W.written sink.new) chunk.old chunk.new result (setting_lines name.now motions.now) }
+    ensures counts { CountsFailure (W.failures sink.old) (W.failures sink.new) result }
+{
+    match chunk.make_room(sink) {
+        Ok(()) => {}
+        Err(fault) => return Err(fault),
+    }
+    add_setting(chunk, name, motions.len());
+    write_motions(chunk, motions, sink)
+}
+
+fn write_settings<A: Allocator, W: Sink>(
+    chunk: &mut Chunk,
+    certificate: &Certificate<A>,
+    sink: &mut W,
+) -> Result<(), WriteFault>
+    requires { HasLineRoom chunk.old }
+    ensures text { Collects (W.written sink.old) (W.written sink.new) chunk.old chunk.new result (spelling (said_of certificate.now)) }
+    ensures counts { CountsFailure (W.failures sink.old) (W.failures sink.new) result }
+{
+    chunk.add_text(b"ngc-certificate 1\n");
+    match write_setting(chunk, b"off", &certificate.off, sink) {
+        Ok(()) => {}
+        Err(fault) => return Err(fault),
+    }
+    match write_setting(chunk, b"on", &certificate.on, sink) {
+        Ok(()) => {}
+        Err(fault) => return Err(fault),
+    }
+    match chunk.make_room(sink) {
+        Ok(()) => {}
+        Err(fault) => return Err(fault),
+    }
+    chunk.add_text(b"end\n");
+    Ok(())
+}
+
+impl<A: Allocator> Certificate<A> {
+    /// Writes the certificate's text: `setting off` and `setting on`, each with its motions in order.
+    ///
+    /// After a fault (902, and only where the sink failed) a beginning of the text is written.
+    pub fn write<W: Sink>(&self, sink: &mut W) -> Result<(), WriteFault>
+        ensures ok { OnOk result (Appends (W.written sink.old) (W.written sink.new) (spelling (said_of self.now))) }
+        ensures fault { OnErr result (AppendsBeginning (W.written sink.old) (W.written sink.new) (spelling (said_of self.now))) }
+        ensures counts { CountsFailure (W.failures sink.old) (W.failures sink.new) result }
+    {
+        let mut chunk = Chunk::new();
+        match write_settings(&mut chunk, self, sink) {
+            Ok(()) => chunk.write_out(sink),
+            Err(fault) => Err(fault),
+        }
+    }
+}

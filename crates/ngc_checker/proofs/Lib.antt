@@ -1,0 +1,2 @@
+pub mod NoRefusal
+pub mod Acceptance

@@ -1,0 +1,128 @@
+-- Where the checker refuses nothing the certificate is valid at both settings, and where it is valid the checker refuses nothing.
+use Rattle.std.proofs.Common.{◌≡◌, ℕ, ◌+◌, ap, sym, ◌∙◌, arith, refl, List, [], ◌∷◌, Some, None, map}
+use Rattle.std.specs.Prelude.{Option, option_map, Result, Ok, Err, false, true, ◌==◌, min, if◌then◌else◌}
+use Rattle.ngc_fixed_length.specs.Grid.{grid}
+use Rattle.ngc_fixed_length.specs.declared.points.Point3.{Point3}
+use Rattle.ngc_machine.specs.declared.tools.Tool.{Tool}
+use Rattle.ngc_machine.specs.Machine.{MachineFile}
+use Rattle.ngc_canonical.specs.declared.command.Command.{Command}
+use Rattle.ngc_canonical.specs.declared.fault.ProgramFault.{ProgramFault}
+use Rattle.ngc_canonical.specs.declared.movement.Doing.{Doing}
+use Rattle.ngc_canonical.specs.declared.movement.Doing.TheVariants.{Moves, Mounts, Stays}
+use Rattle.ngc_canonical.specs.Meaning.{Program, meaning}
+use Rattle.ngc_canonical.specs.Movement.{doings, motion_indices, end_of}
+use Rattle.ngc_canonical.specs.State.{Setup}
+use Rattle.ngc_certificate_text.specs.declared.piece.Setting.{Setting}
+use Rattle.ngc_certificate_text.specs.declared.piece.Setting.TheVariants.{Off, On}
+use Rattle.ngc_certificate_text.specs.Certificate.{Entry, CertificateData}
+use Rattle.ngc_certificate.specs.Valid.{AreClearFrom, IsValid}
+use Rattle.ngc_certificate.specs.PieceFault.{pieces_fault, place_fault, ◌or◌}
+use Rattle.ngc_certificate.proofs.NoFault.{some_none, no_map, map_none, neither, both_none, clear_at, unmet_at, pieces_valid, pieces_pass}
+use Rattle.ngc_checker.specs.declared.fault.CheckFault.TheVariants as faults
+use Rattle.ngc_checker.specs.FirstRefusal.{first_difference, motions_fault, start_fault, at_command, commands_fault, setting_fault, settings_fault, first_refusal}
+use Rattle.ngc_checker.specs.Validity.{IsValidFor, NoneRefusedIsValid}
+
+-- ---- motions
+
+equal_heads : (i j : ℕ) (rest : Option ℕ) → (if i == j then rest else Some (min i j)) ≡ None → (i ≡ j) × (rest ≡ None)
+equal_heads i j rest h = grind (arith, some_none)
+
+alike_heads : (i : ℕ) (rest : Option ℕ) → rest ≡ None → (if i == i then rest else Some (min i i)) ≡ None
+alike_heads i rest h = grind arith
+
+no_difference : (is js : List ℕ) → first_difference is js ≡ None → js ≡ is
+no_difference [] [] h = refl
+no_difference (i ∷ is) [] h = absurd (some_none i h)
+no_difference [] (j ∷ js) h = absurd (some_none j h)
+no_difference (i ∷ is) (j ∷ js) h =
+    let e = equal_heads i j (first_difference is js) h in
+    ap (λ k. k ∷ js) (sym e.0) ∙ ap (λ ks. i ∷ ks) (no_difference is js e.1)
+
+no_difference_of_one : (is : List ℕ) → first_difference is is ≡ None
+no_difference_of_one [] = refl
+no_difference_of_one (i ∷ is) = alike_heads i (first_difference is is) (no_difference_of_one is)
+
+alike : (is js : List ℕ) → js ≡ is → first_difference is js ≡ None
+alike is js e = ap (first_difference is) e ∙ no_difference_of_one is
+
+-- ---- the commands of a setting
+
+clear_from : (machine : MachineFile) (s : Setting) (k : ℕ) (tool : Option Tool) (place : Point3) (ds : List Doing) (entries : List Entry) →
+    commands_fault machine s k tool place ds entries ≡ None → AreClearFrom machine tool place ds entries
+clear_from machine s k tool place [] entries h = tt
+clear_from machine s k tool place (Stays ∷ ds) entries h = clear_from machine s (k + 1) tool place ds entries h
+clear_from machine s k tool place (Mounts new ∷ ds) entries h =
+    let e = neither (option_map (faults.ToolChange s k) (place_fault machine new (grid machine.step place))) (commands_fault machine s (k + 1) new place ds entries) h in (
+      clear_at machine new (grid machine.step place) (no_map (faults.ToolChange s k) (place_fault machine new (grid machine.step place)) e.0),
+      clear_from machine s (k + 1) new place ds entries e.1,
+    )
+clear_from machine s k tool place (Moves m ∷ ds) (entry ∷ entries) h =
+    let e = neither (option_map (at_command s k) (pieces_fault machine tool m entry.pieces)) (commands_fault machine s (k + 1) tool (end_of m) ds entries) h in (
+      pieces_valid machine tool m entry.pieces (no_map (at_command s k) (pieces_fault machine tool m entry.pieces) e.0),
+      clear_from machine s (k + 1) tool (end_of m) ds entries e.1,
+    )
+clear_from machine s k tool place (Moves m ∷ ds) [] h = absurd (some_none (faults.MotionsDiffer s k) h)
+
+passes_from : (machine : MachineFile) (s : Setting) (k : ℕ) (tool : Option Tool) (place : Point3) (ds : List Doing) (entries : List Entry) →
+    AreClearFrom machine tool place ds entries → commands_fault machine s k tool place ds entries ≡ None
+passes_from machine s k tool place [] entries h = refl
+passes_from machine s k tool place (Stays ∷ ds) entries h = passes_from machine s (k + 1) tool place ds entries h
+passes_from machine s k tool place (Mounts new ∷ ds) entries h =
+    both_none (option_map (faults.ToolChange s k) (place_fault machine new (grid machine.step place))) (commands_fault machine s (k + 1) new place ds entries)
+    (map_none (faults.ToolChange s k) (place_fault machine new (grid machine.step place)) (unmet_at machine new (grid machine.step place) h.0))
+    (passes_from machine s (k + 1) new place ds entries h.1)
+passes_from machine s k tool place (Moves m ∷ ds) (entry ∷ entries) h =
+    both_none (option_map (at_command s k) (pieces_fault machine tool m entry.pieces)) (commands_fault machine s (k + 1) tool (end_of m) ds entries)
+    (map_none (at_command s k) (pieces_fault machine tool m entry.pieces) (pieces_pass machine tool m entry.pieces h.0))
+    (passes_from machine s (k + 1) tool (end_of m) ds entries h.1)
+passes_from machine s k tool place (Moves m ∷ ds) [] h = absurd h
+
+-- ---- a setting
+
+pub setting_valid : (machine : MachineFile) (s : Setting) (commands : List Command) (entries : List Entry) →
+    setting_fault machine s commands entries ≡ None → IsValid machine commands entries
+setting_valid machine s commands entries h =
+    let a = neither (motions_fault s (doings commands) entries or start_fault machine) (commands_fault machine s 0 None machine.start (doings commands) entries) h in
+    let b = neither (motions_fault s (doings commands) entries) (start_fault machine) a.0 in
+    record {
+      motions = no_difference (motion_indices 0 (doings commands)) (map (λ entry. entry.index) entries) (no_map (faults.MotionsDiffer s) (first_difference (motion_indices 0 (doings commands)) (map (λ entry. entry.index) entries)) b.0);
+      start = clear_at machine None (grid machine.step machine.start) (no_map faults.Start (place_fault machine None (grid machine.step machine.start)) b.1);
+      clear = clear_from machine s 0 None machine.start (doings commands) entries a.1;
+    }
+
+setting_passes : (machine : MachineFile) (s : Setting) (commands : List Command) (entries : List Entry) →
+    IsValid machine commands entries → setting_fault machine s commands entries ≡ None
+setting_passes machine s commands entries h =
+    both_none (motions_fault s (doings commands) entries or start_fault machine) (commands_fault machine s 0 None machine.start (doings commands) entries)
+    (both_none (motions_fault s (doings commands) entries) (start_fault machine)
+    (map_none (faults.MotionsDiffer s) _ (alike (motion_indices 0 (doings commands)) (map (λ entry. entry.index) entries) h.motions))
+    (map_none faults.Start _ (unmet_at machine None (grid machine.step machine.start) h.start)))
+    (passes_from machine s 0 None machine.start (doings commands) entries h.clear)
+
+-- ---- both settings
+
+settings_valid : (program : Program) (setup : Setup) (c : CertificateData) (x y : Result (List Command) ProgramFault) →
+    meaning program setup false ≡ x → meaning program setup true ≡ y → settings_fault setup.machine x y c ≡ None → IsValidFor program setup c
+settings_valid program setup c (Err e) y off on h = absurd (some_none (faults.Program Off e) h)
+settings_valid program setup c (Ok a) (Err e) off on h = absurd (some_none (faults.Program On e) h)
+settings_valid program setup c (Ok a) (Ok b) off on h =
+    let n = neither (setting_fault setup.machine Off a c.off) (setting_fault setup.machine On b c.on) h in
+    record {
+      off = a;
+      on = b;
+      off_means = off;
+      on_means = on;
+      off_valid = setting_valid setup.machine Off a c.off n.0;
+      on_valid = setting_valid setup.machine On b c.on n.1;
+    }
+
+settings_pass : (program : Program) (setup : Setup) (c : CertificateData) → IsValidFor program setup c → first_refusal program setup c ≡ None
+settings_pass program setup c h =
+    ap (λ x. settings_fault setup.machine x (meaning program setup true) c) h.off_means
+    ∙ ap (λ y. settings_fault setup.machine (Ok h.off) y c) h.on_means
+    ∙ both_none (setting_fault setup.machine Off h.off c.off) (setting_fault setup.machine On h.on c.on)
+    (setting_passes setup.machine Off h.off c.off h.off_valid)
+    (setting_passes setup.machine On h.on c.on h.on_valid)
+
+pub law : NoneRefusedIsValid
+law = λ program setup c. (settings_valid program setup c (meaning program setup false) (meaning program setup true) refl refl, settings_pass program setup c)

@@ -1,0 +1,63 @@
+-- What was accepted: a program's commands at both settings of block delete, its machine and its tools. Our own.
+use Rattle.std.specs.Prelude.{◌≡◌, ◌≤◌, List, length, Option, Some, None, Result, Ok, Err, Bool, true, false}
+use Rattle.ngc_fixed_length.specs.declared.points.Point3.{Point3}
+use Rattle.ngc_machine.specs.Machine.{MachineFile}
+use Rattle.ngc_machine.specs.MachineRanges.{IsMachine}
+use Rattle.ngc_machine.specs.declared.tools.Tool.{Tool}
+use Rattle.ngc_canonical.specs.declared.command.Command.{Command}
+use Rattle.ngc_canonical.specs.Meaning.{Program, meaning}
+use Rattle.ngc_canonical.specs.Movement.{doings, motions_of, AreJoined}
+use Rattle.ngc_canonical.specs.State.{Setup, COMMAND_LIMIT}
+use Rattle.ngc_certificate_text.specs.Certificate.{CertificateData}
+use Rattle.ngc_certificate.specs.Valid.{IsValid}
+use Rattle.ngc_checker.specs.declared.fault.CheckFault.{CheckFault}
+use Rattle.ngc_checker.specs.declared.fault.CheckFault.TheVariants.{Memory}
+use Rattle.ngc_checker.specs.declared.fault.CheckFault.TheVariants as faults
+use Rattle.ngc_checker.specs.FirstRefusal.{first_refusal}
+
+pub record AcceptedData : Type 0 where
+  pub machine : MachineFile
+  pub tools : List Tool
+  pub off : List Command
+  pub on : List Command
+
+abbrev pub commands_at : Bool → AcceptedData → List Command
+commands_at false a = a.off
+commands_at true a = a.on
+
+-- a setting's commands: there are few enough, and each motion begins where the one before it ends
+pub record AreCommands (start : Point3) (commands : List Command) : Type 0 where
+  pub count : length commands ≤ COMMAND_LIMIT
+  pub joined : AreJoined start (motions_of (doings commands))
+
+-- what holds of all that was accepted: some certificate is valid for both settings
+pub record IsAccepted (a : AcceptedData) : Type 0 where
+  pub machine : IsMachine a.machine
+  pub certificate : CertificateData
+  pub off_valid : IsValid a.machine a.off certificate.off
+  pub on_valid : IsValid a.machine a.on certificate.on
+  pub off_commands : AreCommands a.machine.start a.off
+  pub on_commands : AreCommands a.machine.start a.on
+
+-- ---- what the checker answers
+
+-- it keeps what it was given, and the commands are the program's
+pub record Keeps (program : Program) (setup : Setup) (a : AcceptedData) : Type 0 where
+  pub machine : a.machine ≡ setup.machine
+  pub tools : a.tools ≡ setup.tools
+  pub off : meaning program setup false ≡ Ok a.off
+  pub on : meaning program setup true ≡ Ok a.on
+
+-- a refusal is the first one; that memory ran out says nothing
+abbrev pub IsFirst : CheckFault → Option CheckFault → Type 0
+IsFirst Memory first = Unit {0}
+IsFirst (faults.Program s e) first = first ≡ Some (faults.Program s e)
+IsFirst (faults.MotionsDiffer s k) first = first ≡ Some (faults.MotionsDiffer s k)
+IsFirst (faults.Start i) first = first ≡ Some (faults.Start i)
+IsFirst (faults.Piece s k j e) first = first ≡ Some (faults.Piece s k j e)
+IsFirst (faults.ToolChange s k i) first = first ≡ Some (faults.ToolChange s k i)
+
+-- exactly: yes where nothing is refused, else the first refusal
+abbrev pub Answers : {X : Type 0} → (X → AcceptedData) → Program → Setup → CertificateData → Result X CheckFault → Type 0
+Answers view program setup c (Ok x) = (first_refusal program setup c ≡ None) × Keeps program setup (view x)
+Answers view program setup c (Err e) = IsFirst e (first_refusal program setup c)

@@ -1,0 +1,19 @@
+-- How what was accepted is held in memory, and which refusal a fault of the program is. Our own.
+use Rattle.std.specs.Prelude.{List}
+use Rattle.ngc_machine.specs.Machine.{MachineFile}
+use Rattle.ngc_machine.specs.declared.tools.Tool.{Tool}
+use Rattle.ngc_canonical.specs.declared.command.Command.{Command}
+use Rattle.ngc_canonical.specs.declared.fault.ProgramFault.{ProgramFault}
+use Rattle.ngc_canonical.specs.declared.fault.ProgramFault.TheVariants.{At, Memory}
+use Rattle.ngc_certificate_text.specs.declared.piece.Setting.{Setting}
+use Rattle.ngc_checker.specs.declared.fault.CheckFault.{CheckFault}
+use Rattle.ngc_checker.specs.declared.fault.CheckFault.TheVariants as faults
+use Rattle.ngc_checker.specs.Accepted.{AcceptedData}
+
+abbrev pub held : MachineFile → List Tool → List Command → List Command → AcceptedData
+held machine tools off on = record { machine = machine; tools = tools; off = off; on = on }
+
+-- want of memory is no fault of the program
+abbrev pub program_fault : Setting → ProgramFault → CheckFault
+program_fault s (At line e) = faults.Program s (At line e)
+program_fault s Memory = faults.Memory

@@ -1,0 +1,85 @@
+ghost use Rattle.std.specs.Prelude.{◌≡◌, ◌≤◌, length, List, Ok};
+ghost use Rattle.ngc_line_reader.specs.Grammar.{Reading};
+ghost use Rattle.ngc_line_reader.specs.ProgramText.{AreReadings};
+ghost use Rattle.ngc_line_reader.specs.ProgramView.{text_in};
+ghost use Rattle.ngc_machine.specs.Machine.{file_of};
+ghost use Rattle.ngc_canonical.specs.Interpreter.{setup_of};
+ghost use Rattle.ngc_canonical.specs.Meaning.{program_said};
+ghost use Rattle.ngc_canonical.specs.State.{COMMAND_LIMIT};
+ghost use Rattle.ngc_certificate_text.specs.Contents.{said_of};
+ghost use Rattle.ngc_checker.specs.FirstRefusal.{settings_fault};
+ghost use Rattle.ngc_checker.specs.Accepted.{Answers};
+ghost use Rattle.ngc_checker.specs.Held.{program_fault};
+
+use crate::accepted::Accepted;
+use crate::fault::CheckFault;
+use crate::setting::setting_fault;
+use ngc_canonical::{Command, ProgramFault, interpret};
+use ngc_certificate::Setting;
+use ngc_certificate_text::Certificate;
+use ngc_line_reader::Program;
+use ngc_machine::{Machine, Tools};
+use std::alloc::Allocator;
+
+fn program_fault(setting: Setting, fault: ProgramFault) -> CheckFault
+    ensures { result ≡ program_fault setting fault }
+{
+    match fault {
+        ProgramFault::At { .. } => CheckFault::Program { setting, fault },
+        ProgramFault::Memory => CheckFault::Memory,
+    }
+}
+
+// The first fault of the commands at both settings.
+fn settings_fault<A: Allocator>(
+    machine: &Machine<A>,
+    off: &[Command],
+    on: &[Command],
+    certificate: &Certificate<A>,
+) -> Option<CheckFault>
+    requires off { length off.now ≤ COMMAND_LIMIT }
+    requires on { length on.now ≤ COMMAND_LIMIT }
+    ensures { result ≡ settings_fault (file_of machine.now) (Ok off.now) (Ok on.now) (said_of certificate.now) }
+{
+    let motions = certificate.motions(Setting::Off);
+    if let Some(fault) = setting_fault(machine, Setting::Off, off, motions) {
+        return Some(fault);
+    }
+    let motions = certificate.motions(Setting::On);
+    setting_fault(machine, Setting::On, on, motions)
+}
+
+/// Whether a certificate shows that a program is safe on a machine with its tools, at both settings of block delete.
+///
+/// The first refusal is answered: 311 with block delete off, then on; and then for off, and after it for on, 312, 318, and
+/// the commands in their order: of a tool change 317, of a motion its pieces in their order, of a piece 313 to 316, the
+/// fixtures in theirs. 900 says nothing of the program.
+pub fn check<A: Allocator + Copy>(
+    alloc: A,
+    program: &Program<A>,
+    machine: &Machine<A>,
+    tools: &Tools<A>,
+    certificate: &Certificate<A>,
+) -> Result<Accepted<A>, CheckFault>
+    // Whatever the lines' readings are: each line has one, and only one.
+    ensures { (rs : List Reading) → AreReadings (text_in program.now).lines rs → Answers (λ a. a) (program_said (text_in program.now) rs) (setup_of machine.now tools.now) (said_of certificate.now) result }
+{
+    let off = match interpret(alloc, program, machine, tools, false) {
+        Ok(commands) => commands,
+        Err(fault) => return Err(program_fault(Setting::Off, fault)),
+    };
+    let on = match interpret(alloc, program, machine, tools, true) {
+        Ok(commands) => commands,
+        Err(fault) => return Err(program_fault(Setting::On, fault)),
+    };
+    if let Some(fault) = settings_fault(machine, off.as_slice(), on.as_slice(), certificate) {
+        return Err(fault);
+    }
+    let Ok(own_machine) = machine.copy(alloc) else {
+        return Err(CheckFault::Memory);
+    };
+    let Ok(own_tools) = tools.copy(alloc) else {
+        return Err(CheckFault::Memory);
+    };
+    Ok(Accepted::new(own_machine, own_tools, off, on))
+}

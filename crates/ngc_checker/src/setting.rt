@@ -1,0 +1,43 @@
+//! The check of a setting of block delete.
+ghost use Rattle.std.specs.Prelude.{◌≡◌, ◌≤◌, length};
+ghost use Rattle.ngc_machine.specs.Machine.{file_of};
+ghost use Rattle.ngc_canonical.specs.State.{COMMAND_LIMIT};
+ghost use Rattle.ngc_checker.specs.FirstRefusal.{setting_fault, start_fault};
+
+use crate::fault::CheckFault;
+use crate::motions::first_difference;
+use crate::walk::commands_fault;
+use ngc_canonical::Command;
+use ngc_certificate::{Setting, place_fault};
+use ngc_certificate_text::Motions;
+use ngc_machine::Machine;
+use std::alloc::Allocator;
+
+// The start point, where no tool is mounted yet.
+fn start_fault<A: Allocator>(machine: &Machine<A>) -> Option<CheckFault>
+    ensures { result ≡ start_fault (file_of machine.now) }
+{
+    match place_fault(machine, None, &machine.start.to_grid(machine.step)) {
+        Some(fixture) => Some(CheckFault::Start { fixture }),
+        None => None,
+    }
+}
+
+/// The first fault of a setting: 312, 318, and then those of the commands.
+pub fn setting_fault<A: Allocator>(
+    machine: &Machine<A>,
+    setting: Setting,
+    commands: &[Command],
+    motions: &Motions<A>,
+) -> Option<CheckFault>
+    requires { length commands.now ≤ COMMAND_LIMIT }
+    ensures { result ≡ setting_fault (file_of machine.now) setting commands.now motions.now }
+{
+    if let Some(command) = first_difference(commands, motions) {
+        return Some(CheckFault::MotionsDiffer { setting, command });
+    }
+    if let Some(fault) = start_fault(machine) {
+        return Some(fault);
+    }
+    commands_fault(machine, setting, commands, motions)
+}

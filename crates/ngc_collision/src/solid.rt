@@ -1,0 +1,187 @@
+ghost use Rattle.std.specs.Prelude.{◌≡◌, ◌∷◌, [], ◌≤◌, ◌*ℤ◌, ◌+ℤ◌, ◌-ℤ◌, unsigned_abs, int_le, ◌||◌};
+ghost use Rattle.ngc_fixed_length.specs.Length.{IsStep};
+ghost use Rattle.ngc_collision.specs.Body.{nanometres_of, bodies, span, filled, are_apart, is_below};
+ghost use Rattle.ngc_collision.specs.Inside.{place_of, solid_of, REACH, IsReached};
+
+use ngc_fixed_length::{GridBox, Nm, Point3, StepPos};
+use ngc_machine::{Fixture, Tool};
+
+/// A place of the machine, in nanometres.
+#[derive(Clone, Copy)]
+pub(crate) struct Place {
+    x: i64,
+    y: i64,
+    z: i64,
+}
+
+/// A box, in nanometres.
+#[derive(Clone, Copy)]
+pub(crate) struct Solid {
+    low: Place,
+    high: Place,
+}
+
+/// So many steps, in nanometres.
+fn nanometres_at(step: Nm, steps: i32) -> i64
+    requires { IsStep step }
+    ensures value { result ≡ steps *ℤ step }
+    ensures bound { unsigned_abs result ≤ REACH }
+{
+    i64::from(steps) * step.nanometres()
+}
+
+/// A coordinate so much lower.
+fn lowered(coordinate: i64, by: Nm) -> i64
+    requires { unsigned_abs coordinate ≤ REACH }
+    ensures { result ≡ coordinate -ℤ by }
+{
+    coordinate - by.nanometres()
+}
+
+/// A coordinate so much higher.
+fn raised(coordinate: i64, by: Nm) -> i64
+    requires { unsigned_abs coordinate ≤ REACH }
+    ensures { result ≡ coordinate +ℤ by }
+{
+    coordinate + by.nanometres()
+}
+
+impl Place {
+    /// Where a grid point lies.
+    pub(crate) fn of(step: Nm, point: &StepPos) -> Place
+        requires { IsStep step }
+        ensures value { place_of result ≡ nanometres_of step point.now }
+        ensures reached { IsReached result }
+    {
+        Place {
+            x: nanometres_at(step, point.x),
+            y: nanometres_at(step, point.y),
+            z: nanometres_at(step, point.z),
+        }
+    }
+
+    /// A point as a place.
+    pub(crate) fn at(point: &Point3) -> Place
+        ensures { place_of result ≡ point.now }
+    {
+        Place {
+            x: point.x.nanometres(),
+            y: point.y.nanometres(),
+            z: point.z.nanometres(),
+        }
+    }
+
+    /// The lowest corner of a tool's body whose controlled point stands here: the radius to each side, the length below.
+    fn lowest_filled(&self, tool: &Tool) -> Place
+        requires { IsReached self.now }
+        ensures { place_of result ≡ (filled tool.now (record { low = place_of self.now; high = place_of self.now })).low }
+    {
+        Place {
+            x: lowered(self.x, tool.radius),
+            y: lowered(self.y, tool.radius),
+            z: lowered(self.z, tool.length),
+        }
+    }
+
+    /// The highest corner of a tool's body whose controlled point stands here.
+    fn highest_filled(&self, tool: &Tool) -> Place
+        requires { IsReached self.now }
+        ensures { place_of result ≡ (filled tool.now (record { low = place_of self.now; high = place_of self.now })).high }
+    {
+        Place {
+            x: raised(self.x, tool.radius),
+            y: raised(self.y, tool.radius),
+            z: self.z,
+        }
+    }
+
+    /// On each axis this place is at most the other.
+    pub(crate) fn is_below(&self, other: &Place) -> bool
+        ensures { result ≡ is_below (place_of self.now) (place_of other.now) }
+    {
+        self.x <= other.x && self.y <= other.y && self.z <= other.z
+    }
+}
+
+impl Solid {
+    /// The box that a box of grid points spans.
+    fn spanned(step: Nm, bounds: &GridBox) -> Solid
+        requires { IsStep step }
+        ensures value { solid_of result ≡ span step bounds.now }
+        ensures low { IsReached result.low }
+        ensures high { IsReached result.high }
+    {
+        Solid {
+            low: Place::of(step, &bounds.low),
+            high: Place::of(step, &bounds.high),
+        }
+    }
+
+    /// The box that a tool's body fills while its controlled point goes all over this one: the radius to each side, the
+    /// length below.
+    fn filled(&self, tool: &Tool) -> Solid
+        requires low { IsReached self.now.low }
+        requires high { IsReached self.now.high }
+        ensures { solid_of result ≡ filled tool.now (solid_of self.now) }
+    {
+        Solid {
+            low: self.low.lowest_filled(tool),
+            high: self.high.highest_filled(tool),
+        }
+    }
+
+    /// The box that the body of a tool, or the controlled point alone, fills while that point goes all over a box of grid
+    /// points.
+    pub(crate) fn swept(step: Nm, tool: Option<Tool>, bounds: &GridBox) -> Solid
+        requires { IsStep step }
+        ensures { bodies tool (span step bounds.now) ≡ solid_of result ∷ [] }
+    {
+        let points = Solid::spanned(step, bounds);
+        match tool {
+            None => points,
+            Some(tool) => points.filled(&tool),
+        }
+    }
+
+    /// The box of a fixture.
+    fn of_fixture(fixture: &Fixture) -> Solid
+        ensures low { place_of result.low ≡ fixture.now.low }
+        ensures high { place_of result.high ≡ fixture.now.high }
+    {
+        Solid {
+            low: Place::at(&fixture.low),
+            high: Place::at(&fixture.high),
+        }
+    }
+
+    /// On the X axis one lies beyond the other; they may touch.
+    fn is_left_or_right(&self, other: &Solid) -> bool
+        ensures { result ≡ (int_le self.now.high.x other.now.low.x || int_le other.now.high.x self.now.low.x) }
+    {
+        self.high.x <= other.low.x || other.high.x <= self.low.x
+    }
+
+    /// On the Y axis one lies beyond the other; they may touch.
+    fn is_before_or_behind(&self, other: &Solid) -> bool
+        ensures { result ≡ (int_le self.now.high.y other.now.low.y || int_le other.now.high.y self.now.low.y) }
+    {
+        self.high.y <= other.low.y || other.high.y <= self.low.y
+    }
+
+    /// On the Z axis one lies beyond the other; they may touch.
+    fn is_above_or_below(&self, other: &Solid) -> bool
+        ensures { result ≡ (int_le self.now.high.z other.now.low.z || int_le other.now.high.z self.now.low.z) }
+    {
+        self.high.z <= other.low.z || other.high.z <= self.low.z
+    }
+
+    /// On some axis one lies beyond the other; they may touch.
+    pub(crate) fn is_apart(&self, fixture: &Fixture) -> bool
+        ensures { result ≡ are_apart fixture.now (solid_of self.now) }
+    {
+        let fixture = Solid::of_fixture(fixture);
+        self.is_left_or_right(&fixture)
+            || self.is_before_or_behind(&fixture)
+            || self.is_above_or_below(&fixture)
+    }
+}

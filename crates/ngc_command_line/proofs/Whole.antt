@@ -1,0 +1,115 @@
+-- A subcommand of words that are taken has the values that it requires.
+use Rattle.std.proofs.Common.{◌≡◌, ◌⊎◌, Bool, true, false, List, [], ◌∷◌, Option, Some, None, is_some, refl, inl, inr, subst, ap, length, sym, ◌∙◌, if◌then◌else◌, codes, option_map, arith}
+use Rattle.std.specs.Prelude.{find}
+use Rattle.std.specs.List.{slice_index_or}
+use Rattle.std.specs.Str.{bytes_eq}
+use Rattle.std.specs.Option.{option_map_or}
+use Rattle.std.proofs.lemmas.Option.{same_Some}
+use Rattle.clap.specs.Words.{Row, Shape, Text, subcommand_of}
+use Rattle.clap.specs.Faults.{entered_fault, level_fault}
+use Rattle.clap.specs.Simple.{built, entered, label_of, names_of, new_shape, rows_at}
+use Rattle.clap.specs.Walk.{answers_to, nothing_held, rows_after, stop_after}
+use Rattle.ngc_command_line.specs.CommandLine.{ngc_app}
+use Rattle.ngc_command_line.specs.Meant.{HasCertifyValues, HasCheckValues, IsTaken, IsWhole}
+use Rattle.ngc_command_line.proofs.Filled.{AreSound}
+use Rattle.ngc_command_line.proofs.Rules.{FitsCuts, below_passes, cuts_fit, cuts_in_range, given_has_value, help_is_sound, is_true, level_is_filled, neither_true, set_is_sound}
+
+-- what was found are the rows of one of these, at words in which it finds no fault
+abbrev IsOneOf : List Shape → Text × List Row → Type 0
+IsOneOf [] found = ⊥
+IsOneOf (s ∷ rest) found = ((words : List Text) × (rows_at s words ≡ found) × (level_fault s [] nothing_held words false [] ≡ [])) ⊎ IsOneOf rest found
+
+one_found : (P : Shape → Bool) (xs : List Shape) (words : List Text) (found : Text × List Row) → option_map (λ s. rows_at s words) (find P xs) ≡ Some found
+    → option_map_or (λ s. level_fault s [] nothing_held words false []) (find P xs) [] ≡ [] → IsOneOf xs found
+one_found P [] words found is none = let bad : None ≡ Some found = is in cc
+one_found P (x ∷ xs) words found is none = pick (P x) (one_found P xs words found) is none
+  where
+    pick : (b : Bool)
+        → (option_map (λ s. rows_at s words) (find P xs) ≡ Some found → option_map_or (λ s. level_fault s [] nothing_held words false []) (find P xs) [] ≡ [] → IsOneOf xs found)
+        → option_map (λ s. rows_at s words) (if b then Some x else find P xs) ≡ Some found
+        → option_map_or (λ s. level_fault s [] nothing_held words false []) (if b then Some x else find P xs) [] ≡ [] → IsOneOf (x ∷ xs) found
+    pick true after here passes = inl (words, same_Some _ _ here, passes)
+    pick false after later passes = inr (after later passes)
+
+entered_one : (xs : List Shape) (stop : Option (Text × List Text)) (found : Text × List Row) → entered (record (built ngc_app) { subs = xs }) stop ≡ Some found
+    → entered_fault (record (built ngc_app) { subs = xs }) stop ≡ [] → IsOneOf xs found
+entered_one xs None found is none = let bad : None ≡ Some found = is in cc
+entered_one xs (Some p) found is none = one_found (λ s. answers_to p.0 (label_of s)) xs p.1 found is none
+
+abbrev certify_shape : Shape
+certify_shape = slice_index_or (built ngc_app).subs 1 (new_shape [])
+
+abbrev check_shape : Shape
+check_shape = slice_index_or (built ngc_app).subs 2 (new_shape [])
+
+-- another name than that of the cuts
+no_cuts : (id text : Text) → bytes_eq id (codes "cuts") ≡ false → FitsCuts id text
+no_cuts id text differs same = let bad : false ≡ true = sym differs ∙ same in cc
+
+certify_sound : AreSound FitsCuts certify_shape.rules
+certify_sound =
+    let machine = set_is_sound FitsCuts _ refl refl refl (λ v none. no_cuts (codes "machine") v refl) in
+    let tools = set_is_sound FitsCuts _ refl refl refl (λ v none. no_cuts (codes "tools") v refl) in
+    let program = set_is_sound FitsCuts _ refl refl refl (λ v none. no_cuts (codes "program") v refl) in
+    let cuts = set_is_sound FitsCuts _ refl refl refl (λ v none same. cuts_fit v none) in
+    (machine, (tools, (program, (cuts, (help_is_sound FitsCuts _ refl refl, tt)))))
+
+check_sound : AreSound FitsCuts check_shape.rules
+check_sound =
+    let machine = set_is_sound FitsCuts _ refl refl refl (λ v none. no_cuts (codes "machine") v refl) in
+    let tools = set_is_sound FitsCuts _ refl refl refl (λ v none. no_cuts (codes "tools") v refl) in
+    let certificate = set_is_sound FitsCuts _ refl refl refl (λ v none. no_cuts (codes "certificate") v refl) in
+    let program = set_is_sound FitsCuts _ refl refl refl (λ v none. no_cuts (codes "program") v refl) in
+    (machine, (tools, (certificate, (program, (help_is_sound FitsCuts _ refl refl, tt)))))
+
+certify_values : (words : List Text) → level_fault certify_shape [] nothing_held words false [] ≡ [] → HasCertifyValues (rows_after certify_shape.rules [] words)
+certify_values words none =
+    let rows = rows_after certify_shape.rules [] words in
+    let (filled, required) = level_is_filled FitsCuts certify_shape certify_sound words none in
+    let (machine, others) = neither_true _ _ required in
+    let (tools, rest) = neither_true _ _ others in
+    (given_has_value FitsCuts (codes "machine") rows filled (is_true _ machine), given_has_value FitsCuts (codes "tools") rows filled (is_true _ tools), cuts_in_range rows filled)
+
+check_values : (words : List Text) → level_fault check_shape [] nothing_held words false [] ≡ [] → HasCheckValues (rows_after check_shape.rules [] words)
+check_values words none =
+    let rows = rows_after check_shape.rules [] words in
+    let (filled, required) = level_is_filled FitsCuts check_shape check_sound words none in
+    let (machine, others) = neither_true _ _ required in
+    let (tools, more) = neither_true _ _ others in
+    let (certificate, rest) = neither_true _ _ more in (
+      given_has_value FitsCuts (codes "machine") rows filled (is_true _ machine),
+      given_has_value FitsCuts (codes "tools") rows filled (is_true _ tools),
+      given_has_value FitsCuts (codes "certificate") rows filled (is_true _ certificate),
+    )
+
+-- names of other lengths are other names
+pub other_name : {X : Type 0} (a b : Text) → a ≡ b → (length a ≡ length b → ⊥) → X
+other_name a b same differ = absurd (differ (ap length same))
+
+one_whole : (found : Text × List Row) → IsOneOf (built ngc_app).subs found → IsWhole found.0 found.1
+one_whole found one = elim one [
+  | inl list ↦ subst (λ (f : Text × List Row). IsWhole f.0 f.1) list.1 (record {
+    named = inl refl;
+    certify = λ same. other_name (codes "list") (codes "certify") same (λ lengths. omega (arith, lengths));
+    check = λ same. other_name (codes "list") (codes "check") same (λ lengths. omega (arith, lengths));
+  })
+  | inr (inl certify) ↦ subst (λ (f : Text × List Row). IsWhole f.0 f.1) certify.1 (record {
+    named = inr (inl refl);
+    certify = λ same. certify_values certify.0 certify.2;
+    check = λ same. other_name (codes "certify") (codes "check") same (λ lengths. omega (arith, lengths));
+  })
+  | inr (inr (inl check)) ↦ subst (λ (f : Text × List Row). IsWhole f.0 f.1) check.1 (record {
+    named = inr (inr (inl refl));
+    certify = λ same. other_name (codes "check") (codes "certify") same (λ lengths. omega (arith, lengths));
+    check = λ same. check_values check.0 check.2;
+  })
+  | inr (inr (inr none)) ↦ absurd none
+]
+
+-- the subcommand that taken words name
+pub taken_is_whole : (words : List Text) (found : Text × List Row) → IsTaken words → subcommand_of ngc_app words ≡ Some found → IsWhole found.0 found.1
+taken_is_whole words found taken is =
+    let app = built ngc_app in
+    let stop = stop_after app.top.rules (names_of app) words in
+    let passes = below_passes app.top (names_of app) words (is_some (entered app stop)) (entered_fault app stop) taken in
+    one_whole found (entered_one app.subs stop found is passes)

@@ -1,0 +1,54 @@
+//! What the program can be asked to do.
+
+ghost use Rattle.std.specs.Prelude.{◌≤◌};
+
+/// What the program is asked to do.
+#[derive(Clone, Copy, Debug, PartialEq, Eq)]
+pub enum Options<'a> {
+    /// `ngc list`: print the commands of a part program.
+    List(ListOptions<'a>),
+    /// `ngc certify`: print a certificate of a part program.
+    Certify(CertifyOptions<'a>),
+    /// `ngc check`: check a certificate of a part program.
+    Check(CheckOptions<'a>),
+}
+
+/// The options of `ngc list`.
+#[derive(Clone, Copy, Debug, PartialEq, Eq)]
+pub struct ListOptions<'a> {
+    /// The file of the part program. With none it comes from standard input.
+    pub program: Option<&'a str>,
+    /// The machine file. With none a built-in small mill is used.
+    pub machine: Option<&'a str>,
+    /// The file of the tool table. With none there are no tools.
+    pub tools: Option<&'a str>,
+    /// Whether block delete is on, so that lines that begin with `/` are left out.
+    pub delete: bool,
+}
+
+/// The options of `ngc certify`.
+#[derive(Clone, Copy, Debug, PartialEq, Eq)]
+pub struct CertifyOptions<'a> {
+    /// The machine file.
+    pub machine: &'a str,
+    /// The file of the tool table.
+    pub tools: &'a str,
+    /// The file of the part program. With none it comes from standard input.
+    pub program: Option<&'a str>,
+    /// The most pieces that a motion is cut into, from 1 to 65,535. Where none is given it is 8.
+    pub cuts: u16,
+    ghost some_cuts: { 1 ≤ cuts },
+}
+
+/// The options of `ngc check`.
+#[derive(Clone, Copy, Debug, PartialEq, Eq)]
+pub struct CheckOptions<'a> {
+    /// The machine file.
+    pub machine: &'a str,
+    /// The file of the tool table.
+    pub tools: &'a str,
+    /// The file of the certificate.
+    pub certificate: &'a str,
+    /// The file of the part program. With none it comes from standard input.
+    pub program: Option<&'a str>,
+}

@@ -1,0 +1,162 @@
+-- The greatest rate of a motion, and the least that it travels.
+use Rattle.std.proofs.Common.{◌≡◌, ℕ, zero, suc, ◌+◌, ◌*◌, ◌/◌, ◌^◌, ◌≤◌, ◌<◌, ◌↔◌, ◌==◌, nat_le, max, unsigned_abs, Bool, true, false, cond, arith, refl}
+use Rattle.std.proofs.lemmas.Bool.Decides.{nat_tests}
+use Rattle.std.proofs.lemmas.Int.{ints}
+use Rattle.std.proofs.lemmas.Nat.{mul-le}
+use Rattle.std.proofs.Math.Nat.{le-div_iff_mul-le, div-le_self}
+use Rattle.ngc_fixed_length.specs.Roots.{root_of_digits, whole_root}
+use Rattle.ngc_fixed_length.proofs.RootLaws.{at_most, whole_root-greatest}
+use Rattle.ngc_arc_geometry.specs.Radii.{inner_radius}
+use Rattle.ngc_machine.specs.Machine.{MachineFile, file_of}
+use Rattle.ngc_machine.specs.declared.machine.Machine.{Machine}
+use Rattle.ngc_machine.specs.MachineRanges.{IsMachine}
+use Rattle.ngc_canonical.specs.Movement.{doing}
+use Rattle.ngc_canonical.specs.declared.command.Command.{Command}
+use Rattle.ngc_canonical.specs.declared.command.Command.TheVariants as commands
+use Rattle.ngc_canonical.specs.declared.movement.Doing.{Doing}
+use Rattle.ngc_canonical.specs.declared.movement.Doing.TheVariants.{Moves, Mounts, Stays}
+use Rattle.ngc_canonical.specs.declared.movement.Motion.TheVariants.{Straight, Along}
+use Rattle.ngc_planner.specs.Caps.{MILLION, cap_of}
+use Rattle.ngc_planner.specs.Bounds.{MayTurn, IsGreatestBound, IsMotion, turn_rate, bound_of, target_at, MayTravelLeast}
+use Rattle.ngc_planner.specs.Joints.{goes_straight_on, joint_of}
+
+-- ---- roots are small
+
+digit_small : (b : Bool) (r h : ℕ) → r < h → cond b (2 * r + 1) (2 * r) < 2 * h
+digit_small true r h small = omega arith
+digit_small false r h small = omega arith
+
+digits_small : (n x : ℕ) → root_of_digits n x < 2 ^ n
+unfolding root_of_digits
+digits_small zero x = omega arith
+digits_small (suc n) x =
+    let r = root_of_digits n (x / 4) in
+    let half = digits_small n (x / 4) in
+    let whole : 2 ^ suc n ≡ 2 * 2 ^ n = omega arith in
+    rw whole (digit_small (nat_le ((2 * r + 1) * (2 * r + 1)) x) r (2 ^ n) half)
+
+root_small : (x : ℕ) → whole_root x < 2 ^ 64
+unfolding whole_root
+root_small x = digits_small 64 x
+
+-- ---- the turn on arcs: v*v*step is at most turn*radius, and v no more than the root
+
+turn_within : (turn radius step : ℕ) → turn ≤ 10 ^ 12 → radius < 2 ^ 64 → step ≤ 50000 → turn * max radius step / step < 4 ^ 64
+turn_within turn radius step p q r =
+    let most : max radius step ≤ 2 ^ 64 = omega arith in
+    let product = mul-le turn (max radius step) (10 ^ 12) (2 ^ 64) p most in
+    let quotient = div-le_self (turn * max radius step) step in
+    omega arith
+
+root_law : (x step v : ℕ) → 1 ≤ step → x / step < 4 ^ 64 → (v ≤ whole_root (x / step)) ↔ (v * v * step ≤ x)
+root_law x step v some small =
+    let root = whole_root-greatest (x / step) small in
+    let quotient = le-div_iff_mul-le {k = step} {x = v * v} {y = x} some in (
+      λ less. (
+          let square = mul-le v v (whole_root (x / step)) (whole_root (x / step)) less less in
+          quotient.0 (omega (arith, square, root.square))),
+      λ turns. at_most (x / step) v (whole_root (x / step)) (quotient.1 turns) root.greatest,
+    )
+
+step_within : (m : MachineFile) → IsMachine m → (1 ≤ unsigned_abs m.step) × (unsigned_abs m.step ≤ 50000)
+step_within m ranges = (omega (arith, ints, ranges.step.least), omega (arith, ints, ranges.step.least, ranges.step.greatest))
+
+turns : (m : MachineFile) (d : Doing) (v : ℕ) → IsMachine m → v ≤ MILLION → (v ≤ turn_rate m d) ↔ MayTurn m d v
+turns m (Moves (Along a)) v ranges small =
+    let step = step_within m ranges in
+    root_law (m.turn * max (inner_radius a) (unsigned_abs m.step)) (unsigned_abs m.step) v step.0 (turn_within m.turn (inner_radius a) (unsigned_abs m.step) ranges.turn.greatest (root_small _) step.1)
+turns m (Moves (Straight b e)) v ranges small = (λ h. tt, λ h. small)
+turns m (Mounts tool) v ranges small = (λ h. tt, λ h. small)
+turns m Stays v ranges small = (λ h. tt, λ h. small)
+
+pub greatest_bound : IsGreatestBound
+greatest_bound m command n v ranges = (
+  λ less. record {
+    greatest = omega arith;
+    feed = omega arith;
+    turns = (turns m (doing command) v ranges (omega (arith, ranges.max_rate.greatest))).0 (omega arith);
+  },
+  λ within. (let turned = (turns m (doing command) v ranges (omega (arith, within.greatest, ranges.max_rate.greatest))).1 within.turns in omega (arith, within.greatest, within.feed, turned)),
+)
+
+-- ---- what is travelled at least
+
+one_turns : (turn radius step : ℕ) → 1 ≤ turn → 1 * 1 * step ≤ turn * max radius step
+one_turns turn radius step some = let p = mul-le 1 step turn (max radius step) some (omega arith) in omega (arith, p)
+
+may_turn : (m : MachineFile) (d : Doing) → IsMachine m → MayTurn m d 1
+may_turn m (Moves (Along a)) ranges = one_turns m.turn (inner_radius a) (unsigned_abs m.step) ranges.turn.least
+may_turn m (Moves (Straight b e)) ranges = tt
+may_turn m (Mounts tool) ranges = tt
+may_turn m Stays ranges = tt
+
+turn_some : (m : MachineFile) (d : Doing) → IsMachine m → 1 ≤ turn_rate m d
+turn_some m d ranges = (turns m d 1 ranges (omega arith)).1 (may_turn m d ranges)
+
+pub cap_some : (command : Command) (n : ℕ) (m : MachineFile) → IsMotion command → 1 ≤ m.max_rate → 1 ≤ cap_of command n m
+cap_some (commands.Traverse line b e) n m moves some = some
+cap_some (commands.Feed line b e f) n m moves some = omega arith
+cap_some (commands.Arc line a f) n m moves some = omega arith
+cap_some (commands.Dwell line t) n m moves some = let h = moves.1 in cc
+cap_some (commands.Tool line t) n m moves some = let h = moves.1 in cc
+cap_some (commands.Spindle line s) n m moves some = let h = moves.1 in cc
+cap_some (commands.Coolant line s) n m moves some = let h = moves.1 in cc
+cap_some (commands.Override line on) n m moves some = let h = moves.1 in cc
+cap_some (commands.Stop line) n m moves some = let h = moves.1 in cc
+cap_some (commands.OptionalStop line) n m moves some = let h = moves.1 in cc
+cap_some (commands.End line) n m moves some = let h = moves.1 in cc
+
+-- a bound is at least 1 on a motion
+pub bound_some : (command : Command) (n : ℕ) (m : MachineFile) → IsMachine m → IsMotion command → 1 ≤ bound_of m command n
+bound_some command n m ranges moves =
+    let cap = cap_some command n m moves ranges.max_rate.least in
+    let turn = turn_some m (doing command) ranges in
+    omega (arith, ranges.max_rate.least, cap, turn)
+
+more_percent : (none : Bool) (cap percent : ℕ) → none ≡ (percent == 0) → 1 ≤ percent → max 1 (cap * 1 / 100) ≤ cond none 0 (max 1 (cap * percent / 100))
+more_percent true cap percent test some = absurd (grind (arith, nat_tests))
+more_percent false cap percent test some = let more = mul-le cap 1 cap percent (omega arith) some in omega (arith, more)
+
+corner_or_more : (straight : Bool) (corner : ℕ) → corner ≤ MILLION → corner ≤ cond straight MILLION corner
+corner_or_more true corner small = small
+corner_or_more false corner small = omega arith
+
+joint_least : (m : MachineFile) (d e : Doing) → m.corner ≤ MILLION → m.corner ≤ joint_of m d e
+joint_least m (Moves p) (Moves q) small = corner_or_more (goes_straight_on p q) m.corner small
+joint_least m (Moves p) (Mounts tool) small = small
+joint_least m (Moves p) Stays small = small
+joint_least m (Mounts tool) e small = small
+joint_least m Stays e small = small
+
+pub may_travel_least : MayTravelLeast
+may_travel_least m command next n percent ranges moves =
+    let cap = cap_some command n m moves ranges.max_rate.least in
+    let turn = turn_some m (doing command) ranges in
+    record {
+      some = omega (arith, ranges.change.least, ranges.corner.least, ranges.max_rate.least, turn);
+      change = omega arith;
+      target = λ one. (let more = more_percent (percent == 0) (cap_of command n m) percent refl one in omega (arith, more));
+      bound = omega (arith, cap);
+      entry = (let least = joint_least m (doing next) (doing command) ranges.corner.greatest in omega (arith, least));
+      exit = (let least = joint_least m (doing command) (doing next) ranges.corner.greatest in omega (arith, least));
+    }
+
+-- a target is at least 1 on a motion, unless the override is 0
+pub target_some : (command : Command) (n percent : ℕ) (m : MachineFile) → IsMachine m → IsMotion command → 1 ≤ percent → 1 ≤ target_at m command n percent
+target_some command n percent m ranges moves some =
+    let least = may_travel_least m command command n percent ranges moves in
+    omega (arith, least.some, least.target some)
+
+-- ---- machines in memory
+
+pub ranges_of : {A : Type 0} (m : Machine A) → IsMachine (file_of m)
+ranges_of m = record {
+  step = m.step_in_range;
+  ticks_per_second = m.ticks_in_range;
+  max_rate = m.max_rate_in_range;
+  change = m.change_in_range;
+  corner = m.corner_in_range;
+  turn = m.turn_in_range;
+  travel = m.travel_in_range;
+  fixtures = m.fixtures_in_range;
+}

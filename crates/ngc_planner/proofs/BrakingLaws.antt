@@ -1,0 +1,82 @@
+-- What braking takes: a sum that is also a closed form.
+use Rattle.std.proofs.Common.{◌≡◌, ℕ, zero, suc, ◌+◌, ◌-◌, ◌*◌, ◌/◌, ◌≤◌, ◌<◌, refl, ap, arith}
+use Rattle.std.proofs.Math.Nat.{div-le_self, div-mul-le_self, lt-div-mul-add}
+use Rattle.std.proofs.lemmas.Nat.{mul-le}
+use Rattle.ngc_planner.specs.Braking.{braking, braking_terms}
+
+-- more terms than the rate change nothing
+enough_terms : (n m v a : ℕ) → v ≤ n → v ≤ m → 1 ≤ a → braking_terms n v a ≡ braking_terms m v a
+unfolding braking_terms
+enough_terms zero zero v a p q some = refl
+enough_terms zero (suc m) zero a p q some = refl
+enough_terms zero (suc m) (suc v) a p q some = absurd (omega arith)
+enough_terms (suc n) zero zero a p q some = refl
+enough_terms (suc n) zero (suc v) a p q some = absurd (omega arith)
+enough_terms (suc n) (suc m) zero a p q some = refl
+enough_terms (suc n) (suc m) (suc v) a p q some =
+    ap (λ t. suc v + t) (enough_terms n m (suc v - a) a (omega arith) (omega arith) some)
+
+pub braking_none : (a : ℕ) → braking 0 a ≡ 0
+unfolding braking_terms
+braking_none a = refl
+
+-- one tick, and what is left
+pub braking_step : (v a : ℕ) → 0 < v → 1 ≤ a → braking v a ≡ v + braking (v - a) a
+unfolding braking_terms
+braking_step zero a h some = absurd (omega arith)
+braking_step (suc v) a h some =
+    ap (λ t. suc v + t) (enough_terms v (suc v - a) (suc v - a) a (omega arith) (omega arith) some)
+
+pub braking_least : (v a : ℕ) → 1 ≤ a → v ≤ braking v a
+braking_least zero a some = omega arith
+braking_least (suc v) a some = omega (arith, braking_step (suc v) a (omega arith) some)
+
+-- a rate of at most the change is gone after one tick
+pub braking_low : (v a : ℕ) → v ≤ a → 1 ≤ a → braking v a ≡ v
+braking_low zero a h some = braking_none a
+braking_low (suc v) a h some =
+    let none : suc v - a ≡ 0 = omega arith in
+    let last : braking (suc v - a) a ≡ 0 = rw none (braking_none a) in
+    omega (arith, braking_step (suc v) a (omega arith) some)
+
+-- the numbers below k
+pub triangle : (k : ℕ) → suc k * k / 2 ≡ k + k * (k - 1) / 2
+triangle zero = refl
+triangle (suc j) =
+    let twice : suc (suc j) * suc j ≡ 2 * suc j + suc j * j = omega arith in
+    let less : suc j - 1 ≡ j = omega arith in
+    rw (twice, less) (omega arith)
+
+one_tick_more : (j w a s t : ℕ) → s + a * t ≡ suc j * w → w + a + s + a * (suc j + t) ≡ suc (suc j) * (w + a)
+one_tick_more j w a s t h = omega (arith, h)
+
+-- in k ticks, the last of which is the first one to end at 0
+pub closed_form : (k v a : ℕ) → 1 ≤ a → v ≤ k * a → k * a < v + a → braking v a + a * (k * (k - 1) / 2) ≡ k * v
+closed_form zero v a some high low =
+    let none : v ≡ 0 = omega arith in
+    rw none (rw (braking_none a) (omega arith))
+closed_form (suc zero) v a some high low =
+    let fits : v ≤ a = omega arith in
+    let one = braking_low v a fits some in
+    omega (arith, one)
+closed_form (suc (suc j)) v a some high low =
+    let more : a ≤ suc j * a = omega arith in
+    let above : a < v = omega arith in
+    let before = closed_form (suc j) (v - a) a some (omega arith) (omega arith) in
+    let step = braking_step v a (omega arith) some in
+    let whole : v ≡ v - a + a = omega arith in
+    let ticks : suc (suc j) - 1 ≡ suc j = omega arith in
+    let both = one_tick_more j (v - a) a (braking (v - a) a) (suc j * (suc j - 1) / 2) before in
+    rw (step, ticks, triangle (suc j)) (rw (← whole) at both)
+
+-- the ticks that it takes, and their number
+pub brakes_in : (v a : ℕ) → 1 ≤ a → braking v a + a * ((v + a - 1) / a * ((v + a - 1) / a - 1) / 2) ≡ (v + a - 1) / a * v
+brakes_in v a some =
+    let more = lt-div-mul-add {a = v + a - 1} {b = a} some in
+    let less = div-mul-le_self (v + a - 1) a in
+    closed_form ((v + a - 1) / a) v a some (omega arith) (omega arith)
+
+pub few_ticks : (v a : ℕ) → v ≤ 1000000 → a ≤ 1000000 → (v + a - 1) / a * v ≤ 2000000 * 1000000
+few_ticks v a slow short =
+    let ticks = div-le_self (v + a - 1) a in
+    mul-le ((v + a - 1) / a) v 2000000 1000000 (omega arith) slow

@@ -1,0 +1,11 @@
+-- What 64 bits make of a coordinate of a way.
+use Rattle.std.proofs.Common.{◌≡◌, ◌*◌, ◌^◌, ◌≤◌, ℤ, ◌+ℤ◌, unsigned_abs, to_z, of_z, arith}
+use Rattle.std.specs.Int.{w64, w128}
+use Rattle.std.proofs.lemmas.Int.{ints}
+
+pub kept : (z : ℤ) → unsigned_abs z ≤ 200000000000 → to_z w64 (of_z w64 z) ≡ z
+kept z small = omega (arith, ints)
+
+-- what 128 bits make of a sum of three products
+pub kept_sum : (a b c : ℤ) → unsigned_abs a ≤ 4 * 10 ^ 22 → unsigned_abs b ≤ 4 * 10 ^ 22 → unsigned_abs c ≤ 4 * 10 ^ 22 → to_z w128 (of_z w128 (to_z w128 (of_z w128 (to_z w128 (of_z w128 a) +ℤ to_z w128 (of_z w128 b))) +ℤ to_z w128 (of_z w128 c))) ≡ a +ℤ b +ℤ c
+kept_sum a b c p q r = omega (arith, ints)

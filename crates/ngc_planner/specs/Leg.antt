@@ -1,0 +1,24 @@
+-- Motions as a ramp sees them. Our own.
+use Rattle.std.specs.Prelude.{◌≡◌, ℕ, ◌+◌, ◌-◌, ◌*◌, ◌/◌, ◌≤◌, min, ◌==◌, nat_lt, Bool, if◌then◌else◌}
+use Rattle.ngc_planner.specs.declared.leg.Leg.{Leg}
+use Rattle.ngc_planner.specs.Caps.{MILLION}
+
+-- of whole path steps, at least one, and with bounds of at least 1
+pub record IsLeg (l : Leg) : Type 0 where
+  pub whole : (l.millionths / MILLION) * MILLION ≡ l.millionths
+  pub some : MILLION ≤ l.millionths
+  pub bound : 1 ≤ l.bound
+  pub bound_greatest : l.bound ≤ MILLION
+  pub entry : 1 ≤ l.entry
+  pub exit : 1 ≤ l.exit
+
+-- the first tick on a leg is bound by its entry too
+abbrev pub tick_bound : Leg → ℕ → ℕ
+tick_bound l rest = if rest == l.millionths then min l.bound l.entry else l.bound
+
+abbrev pub travelled : Leg → ℕ → ℕ
+travelled l rest = l.millionths - rest
+
+-- whether v millionths more, with so much left before, reach the end of a path step
+abbrev pub is_due : Leg → ℕ → ℕ → Bool
+is_due l rest v = nat_lt (travelled l rest / MILLION) (min (travelled l rest + v) l.millionths / MILLION)

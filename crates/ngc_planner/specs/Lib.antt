@@ -1,0 +1,9 @@
+pub mod Braking
+pub mod Caps
+pub mod Bounds
+pub mod Joints
+pub mod Pulses
+pub mod Leg
+pub mod Reach
+pub mod Ramp
+pub mod Inside

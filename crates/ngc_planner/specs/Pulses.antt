@@ -1,0 +1,33 @@
+-- The rules of pulses: how many there are in a window of ticks. Our own.
+use Rattle.std.specs.Prelude.{ℕ, ◌+◌, ◌-◌, ◌*◌, ◌/◌, ◌≤◌, ℤ, unsigned_abs, List, length, take, drop, count_by, Bool, nat_lt, ◌||◌}
+use Rattle.ngc_fixed_length.specs.declared.points.StepPos.{StepPos}
+use Rattle.ngc_machine.specs.Machine.{MachineFile}
+use Rattle.ngc_planner.specs.Caps.{MILLION}
+
+-- by how much each axis goes in a tick: -1, 0 or 1
+abbrev pub Pulse : Type 0
+Pulse = StepPos
+
+abbrev pub is_stepping : ℤ → Bool
+is_stepping d = nat_lt 0 (unsigned_abs d)
+
+abbrev pub is_path_step : Pulse → Bool
+is_path_step p = is_stepping p.x || (is_stepping p.y || is_stepping p.z)
+
+-- how many of the n ticks from tick i on pass a test
+abbrev pub count_in : (Pulse → Bool) → ℕ → ℕ → List Pulse → ℕ
+count_in test i n ticks = count_by test (take n (drop i ticks))
+
+-- x / MILLION, rounded up
+abbrev pub up_to_whole : ℕ → ℕ
+up_to_whole x = (x + (MILLION - 1)) / MILLION
+
+pub record KeepsPulseRules (machine : MachineFile) (ticks : List Pulse) : Type 0 where
+  pub x : (i n : ℕ) → i + n ≤ length ticks → count_in (λ p. is_stepping p.x) i n ticks ≤ up_to_whole (n * machine.max_rate)
+  pub y : (i n : ℕ) → i + n ≤ length ticks → count_in (λ p. is_stepping p.y) i n ticks ≤ up_to_whole (n * machine.max_rate)
+  pub z : (i n : ℕ) → i + n ≤ length ticks → count_in (λ p. is_stepping p.z) i n ticks ≤ up_to_whole (n * machine.max_rate)
+  -- two windows of n ticks, one after the other
+  pub faster : (i n : ℕ) → i + n + n ≤ length ticks →
+      count_in is_path_step (i + n) n ticks ≤ count_in is_path_step i n ticks + up_to_whole (n * n * machine.change) + 1
+  pub slower : (i n : ℕ) → i + n + n ≤ length ticks →
+      count_in is_path_step i n ticks ≤ count_in is_path_step (i + n) n ticks + up_to_whole (n * n * machine.change) + 1

@@ -1,0 +1,130 @@
+ghost use Rattle.std.specs.Prelude.{◌≡◌, ◌+◌, ◌*◌, ◌/◌, ◌^◌, ◌≤◌, ◌<◌, unsigned_abs};
+ghost use Rattle.ngc_fixed_length.specs.Grid.{distance};
+ghost use Rattle.ngc_machine.specs.Machine.{file_of};
+ghost use Rattle.ngc_planner.specs.Caps.{MILLION, STEPS_LIMIT, length_between, crosswise, inverse_cap, line_cap, arc_cap, cap_of, KeepsFeed};
+
+use ngc_arc_geometry::Arc;
+use ngc_canonical::{Command, Feed};
+use ngc_fixed_length::{Nm, Point3, root_ceil};
+use ngc_machine::Machine;
+use std::alloc::Allocator;
+
+/// The square of the way from one coordinate to another.
+fn squared_distance(start: Nm, end: Nm) -> u128
+    ensures value { result ≡ distance start end * distance start end }
+    ensures bound { result ≤ 4 * 10 ^ 22 }
+{
+    let distance = u128::from(end.nanometres().abs_diff(start.nanometres()));
+    distance * distance
+}
+
+/// The length of a line, rounded up to whole nanometres.
+fn length_between(start: &Point3, end: &Point3) -> u64
+    ensures value { result ≡ length_between start.now end.now }
+    ensures bound { result ≤ 10 ^ 12 }
+{
+    let x = squared_distance(start.x, end.x);
+    let y = squared_distance(start.y, end.y);
+    let z = squared_distance(start.z, end.z);
+    root_ceil(x + y + z)
+}
+
+/// The thousandths of a step that a path step along an arc is taken for: a little more than the diagonal of a square, or
+/// of a cube on a helix.
+fn crosswise(arc: &Arc) -> u64
+    ensures value { result ≡ crosswise arc.now }
+    ensures least { 1 ≤ result }
+    ensures greatest { result ≤ 1733 }
+{
+    let plane = arc.plane();
+    if arc.start().height(plane) == arc.end().height(plane) {
+        1415
+    } else {
+        1733
+    }
+}
+
+/// The cap of so many path steps that are made so many millionths of a time a minute.
+fn inverse_cap(ticks_per_second: u32, n: u64, feed: u64) -> u128
+    requires ticks { 1 ≤ ticks_per_second }
+    requires steps { n ≤ STEPS_LIMIT }
+    ensures value { result ≡ inverse_cap ticks_per_second n feed }
+    ensures bound { result < 2 ^ 111 }
+{
+    u128::from(n) * u128::from(feed) / (60 * u128::from(ticks_per_second))
+}
+
+/// The cap of so many path steps on a line of so many nanometres.
+fn line_cap(ticks_per_second: u32, n: u64, length: u64, feed: &Feed) -> u128
+    requires ticks { 1 ≤ ticks_per_second }
+    requires steps { n ≤ STEPS_LIMIT }
+    requires length { length ≤ 10 ^ 12 }
+    ensures value { result ≡ line_cap ticks_per_second n length feed.now }
+    ensures bound { result < 2 ^ 111 }
+{
+    match feed {
+        Feed::PerMinute(feed) => {
+            if length == 0 {
+                0
+            } else {
+                u128::from(n) * u128::from(*feed) * 1_000_000
+                    / (u128::from(length) * 60 * u128::from(ticks_per_second))
+            }
+        }
+        Feed::Inverse(feed) => inverse_cap(ticks_per_second, n, *feed),
+    }
+}
+
+/// The cap of so many path steps on an arc, where the steps are so many nanometres long.
+fn arc_cap(ticks_per_second: u32, n: u64, step: u64, crosswise: u64, feed: &Feed) -> u128
+    requires ticks { 1 ≤ ticks_per_second }
+    requires steps { n ≤ STEPS_LIMIT }
+    requires step_least { 1 ≤ step }
+    requires step_greatest { step ≤ 50000 }
+    requires crosswise_least { 1 ≤ crosswise }
+    requires crosswise_greatest { crosswise ≤ 1733 }
+    ensures value { result ≡ arc_cap ticks_per_second n step crosswise feed.now }
+    ensures bound { result < 2 ^ 111 }
+{
+    match feed {
+        Feed::PerMinute(feed) => {
+            u128::from(*feed) * 1_000_000_000
+                / (60 * u128::from(ticks_per_second) * u128::from(step) * u128::from(crosswise))
+        }
+        Feed::Inverse(feed) => inverse_cap(ticks_per_second, n, *feed),
+    }
+}
+
+/// The feed cap of a motion of `n` path steps, at most 10^8, in millionths of a path step a tick: the greatest rate for a
+/// traverse, and otherwise what the feed allows, at least 1. It is 0 for a command that is no motion.
+pub fn cap_of<A: Allocator>(command: &Command, n: u64, machine: &Machine<A>) -> u128
+    requires { n ≤ STEPS_LIMIT }
+    ensures value { result ≡ cap_of command.now n (file_of machine.now) }
+    ensures slow { KeepsFeed (file_of machine.now) command.now n result }
+    ensures bound { result < 2 ^ 111 }
+{
+    match command {
+        Command::Traverse { .. } => u128::from(machine.max_rate),
+        Command::Feed {
+            start,
+            end,
+            feed,
+            ..
+        } => {
+            let length = length_between(start, end);
+            line_cap(machine.ticks_per_second, n, length, feed).max(1)
+        }
+        Command::Arc { arc, feed, .. } => {
+            let step = machine.step.nanometres().unsigned_abs();
+            arc_cap(machine.ticks_per_second, n, step, crosswise(arc), feed).max(1)
+        }
+        Command::Dwell { .. }
+        | Command::Tool { .. }
+        | Command::Spindle { .. }
+        | Command::Coolant { .. }
+        | Command::Override { .. }
+        | Command::Stop { .. }
+        | Command::OptionalStop { .. }
+        | Command::End { .. } => 0,
+    }
+}

@@ -1,0 +1,153 @@
+-- What certifying and checking a program come to, from what their parts come to.
+use Rattle.std.proofs.Common.{◌≡◌, ℕ, List, Option, Some, None, Bool, true, false, Result, Ok, Err, IfSome, refl, subst, sym, ◌∙◌}
+use Rattle.std.specs.Io.KnownBytes.{Appends, Keeps}
+use Rattle.ngc_fixed_length.specs.Written.{AppendsBeginning}
+use Rattle.ngc_fixed_length.specs.declared.writing.WriteFault.{WriteFault}
+use Rattle.ngc_line_reader.specs.Grammar.{Reading}
+use Rattle.ngc_line_reader.specs.ProgramText.{ProgramText, program_of, AreReadings, HaveReadings}
+use Rattle.ngc_canonical.specs.declared.command.Command.{Command}
+use Rattle.ngc_canonical.specs.declared.fault.ProgramFault.{ProgramFault}
+use Rattle.ngc_canonical.specs.declared.fault.ProgramFault.TheVariants as programs
+use Rattle.ngc_canonical.specs.State.{Setup}
+use Rattle.ngc_canonical.specs.Meaning.{meaning, program_said, Fails}
+use Rattle.ngc_certificate_text.specs.Certificate.{CertificateData}
+use Rattle.ngc_certificate_text.specs.Said.{certificate_said}
+use Rattle.ngc_certificate_text.specs.Spelling.{spelling}
+use Rattle.ngc_certificate_text.specs.declared.piece.Setting.TheVariants.{Off, On}
+use Rattle.ngc_certificate.specs.declared.fault.MakeFault.{MakeFault}
+use Rattle.ngc_certificate.specs.declared.fault.MakeFault.TheVariants.{NotCleared, Memory}
+use Rattle.ngc_certificate.specs.Made.{made, GivesMade}
+use Rattle.ngc_certificate.specs.Valid.{IsValid}
+use Rattle.ngc_checker.specs.declared.fault.CheckFault.{CheckFault}
+use Rattle.ngc_checker.specs.Accepted.{AcceptedData, Answers}
+use Rattle.ngc_checker.specs.FirstRefusal.{first_refusal}
+use Rattle.ngc_simulator.specs.declared.certifier.CertifyFault.{CertifyFault}
+use Rattle.ngc_simulator.specs.declared.certifier.CertifyFault.TheVariants as certifies
+use Rattle.ngc_simulator.specs.declared.checking.CheckingFault.TheVariants as checks
+use Rattle.ngc_simulator.specs.Jobs.{IsProgram, AreMeanings, IsMadeFor, IsRefusedAt, refused_at, IsNotMade, Certifies, AreGiven, IsAcceptedText, Checks, accepted_text}
+use Rattle.ngc_simulator.proofs.ListLaws.{Means}
+
+pub if_known : (known : Option (List ℕ)) (P Q : List ℕ → Type 0) → ((bytes : List ℕ) → P bytes → Q bytes) → IfSome known P → IfSome known Q
+if_known None P Q on p = tt
+if_known (Some bytes) P Q on p = on bytes p
+
+is_program : (bytes : List ℕ) (text : ProgramText) → program_of bytes ≡ Ok text → (have : HaveReadings text.lines) → IsProgram bytes (program_said text have.readings)
+is_program bytes text is_text have = record {
+  text = text;
+  is_text = is_text;
+  readings = have.readings;
+  are_readings = have.are;
+  is_said = refl;
+}
+
+-- ---- certifying
+
+means_both : (setup : Setup) (bytes : List ℕ) (text : ProgramText) (off on : List Command) → program_of bytes ≡ Ok text → HaveReadings text.lines
+    → Means text setup false (Ok off) → Means text setup true (Ok on) → AreMeanings setup bytes off on
+means_both setup bytes text off on is_text have off_means on_means = record {
+  program = program_said text have.readings;
+  is_program = is_program bytes text is_text have;
+  off_means = off_means have.readings have.are;
+  on_means = on_means have.readings have.are;
+}
+
+pub made_for : (setup : Setup) (bytes : List ℕ) (cuts : ℕ) (text : ProgramText) (off given_off on given_on : List Command) (c : CertificateData)
+    → given_off ≡ off → given_on ≡ on → program_of bytes ≡ Ok text → HaveReadings text.lines → Means text setup false (Ok off) → Means text setup true (Ok on)
+    → made setup.machine cuts given_off given_on ≡ Ok c → IsValid setup.machine given_off c.off → IsValid setup.machine given_on c.on → IsMadeFor setup bytes cuts c
+made_for setup bytes cuts text off given_off on given_on c same_off same_on is_text have off_means on_means is_made off_valid on_valid = record {
+  off = given_off;
+  on = given_on;
+  means = means_both setup bytes text given_off given_on is_text have
+      (subst (λ l. Means text setup false (Ok l)) (sym same_off) off_means) (subst (λ l. Means text setup true (Ok l)) (sym same_on) on_means);
+  made = is_made;
+  off_valid = off_valid;
+  on_valid = on_valid;
+}
+
+pub certified : (setup : Setup) (bytes : List ℕ) (cuts : ℕ) (old new : Option (List ℕ)) (c : CertificateData) → IsMadeFor setup bytes cuts c → Appends old new (spelling c)
+    → Certifies setup bytes cuts old new (Ok tt)
+certified setup bytes cuts old new c is_made wrote = (c, is_made, wrote)
+
+pub certifying_stopped : (setup : Setup) (bytes : List ℕ) (cuts : ℕ) (old new : Option (List ℕ)) (c : CertificateData) (fault : WriteFault) → IsMadeFor setup bytes cuts c
+    → AppendsBeginning old new (spelling c) → Certifies setup bytes cuts old new (Err (certifies.Write fault))
+certifying_stopped setup bytes cuts old new c fault is_made wrote = (c, is_made, wrote)
+
+pub keeps_same : (known : Option (List ℕ)) → Keeps known known
+keeps_same None = tt
+keeps_same (Some bytes) = refl
+
+pub not_made : {X : Type 0} (view : X → CertificateData) (setup : Setup) (bytes : List ℕ) (cuts : ℕ) (known : Option (List ℕ)) (text : ProgramText) (off given_off on given_on : List Command) (fault : MakeFault)
+    → given_off ≡ off → given_on ≡ on → program_of bytes ≡ Ok text → HaveReadings text.lines → Means text setup false (Ok off) → Means text setup true (Ok on)
+    → GivesMade view (Err fault) (made setup.machine cuts given_off given_on) → Certifies setup bytes cuts known known (Err (certifies.Make fault))
+not_made view setup bytes cuts known text off given_off on given_on Memory same_off same_on is_text have off_means on_means says = (tt, keeps_same known)
+not_made view setup bytes cuts known text off given_off on given_on (NotCleared s k) same_off same_on is_text have off_means on_means says = (
+  (
+    given_off,
+    given_on,
+    means_both setup bytes text given_off given_on is_text have
+        (subst (λ l. Means text setup false (Ok l)) (sym same_off) off_means) (subst (λ l. Means text setup true (Ok l)) (sym same_on) on_means),
+    says,
+  ),
+  keeps_same known,
+)
+
+-- each list of readings of the lines fails so
+abbrev FailsSo : ProgramText → Setup → Bool → ProgramFault → Type 0
+FailsSo text setup block_delete fault = (rs : List Reading) → AreReadings text.lines rs → Fails fault (meaning (program_said text rs) setup block_delete)
+
+refused_off_by : (setup : Setup) (bytes : List ℕ) (cuts : ℕ) (known : Option (List ℕ)) (text : ProgramText) (fault : ProgramFault)
+    → program_of bytes ≡ Ok text → HaveReadings text.lines → FailsSo text setup false fault → Certifies setup bytes cuts known known (Err (refused_at Off fault))
+refused_off_by setup bytes cuts known text programs.Memory is_text have fails = (tt, keeps_same known)
+refused_off_by setup bytes cuts known text (programs.At line e) is_text have fails =
+    ((program_said text have.readings, is_program bytes text is_text have, fails have.readings have.are), keeps_same known)
+
+refused_on_by : (setup : Setup) (bytes : List ℕ) (cuts : ℕ) (known : Option (List ℕ)) (text : ProgramText) (off : List Command) (fault : ProgramFault)
+    → program_of bytes ≡ Ok text → HaveReadings text.lines → Means text setup false (Ok off) → FailsSo text setup true fault
+    → Certifies setup bytes cuts known known (Err (refused_at On fault))
+refused_on_by setup bytes cuts known text off programs.Memory is_text have off_means fails = (tt, keeps_same known)
+refused_on_by setup bytes cuts known text off (programs.At line e) is_text have off_means fails =
+    ((program_said text have.readings, is_program bytes text is_text have, (off, off_means have.readings have.are, fails have.readings have.are)), keeps_same known)
+
+pub refused_off : (setup : Setup) (bytes : List ℕ) (cuts : ℕ) (known : Option (List ℕ)) (text : ProgramText) (fault : ProgramFault) (told : CertifyFault)
+    → told ≡ refused_at Off fault → program_of bytes ≡ Ok text → HaveReadings text.lines → FailsSo text setup false fault
+    → Certifies setup bytes cuts known known (Err told)
+refused_off setup bytes cuts known text fault told is is_text have fails =
+    subst (λ t. Certifies setup bytes cuts known known (Err t)) (sym is) (refused_off_by setup bytes cuts known text fault is_text have fails)
+
+pub refused_on : (setup : Setup) (bytes : List ℕ) (cuts : ℕ) (known : Option (List ℕ)) (text : ProgramText) (off : List Command) (fault : ProgramFault) (told : CertifyFault)
+    → told ≡ refused_at On fault → program_of bytes ≡ Ok text → HaveReadings text.lines → Means text setup false (Ok off) → FailsSo text setup true fault
+    → Certifies setup bytes cuts known known (Err told)
+refused_on setup bytes cuts known text off fault told is is_text have off_means fails =
+    subst (λ t. Certifies setup bytes cuts known known (Err t)) (sym is) (refused_on_by setup bytes cuts known text off fault is_text have off_means fails)
+
+-- ---- checking
+
+-- what the checker says of each list of readings
+abbrev Says : ProgramText → Setup → CertificateData → Result AcceptedData CheckFault → Type 0
+Says text setup c result = (rs : List Reading) → AreReadings text.lines rs → Answers (λ a. a) (program_said text rs) setup c result
+
+given : (bytes text : List ℕ) (program : ProgramText) (c : CertificateData) → program_of bytes ≡ Ok program → (have : HaveReadings program.lines) → certificate_said text ≡ Ok c
+    → AreGiven bytes text (program_said program have.readings) c
+given bytes text program c is_text have said = record { is_program = is_program bytes program is_text have; is_certificate = said }
+
+pub accepted_text_of : (setup : Setup) (bytes text : List ℕ) (program : ProgramText) (c : CertificateData) (a : AcceptedData)
+    → program_of bytes ≡ Ok program → HaveReadings program.lines → certificate_said text ≡ Ok c → Says program setup c (Ok a) → IsAcceptedText setup bytes text
+accepted_text_of setup bytes text program c a is_text have said says = record {
+  program = program_said program have.readings;
+  certificate = c;
+  given = given bytes text program c is_text have said;
+  none_refused = (says have.readings have.are).0;
+}
+
+pub accepted : (setup : Setup) (bytes text : List ℕ) (old new : Option (List ℕ)) → IsAcceptedText setup bytes text → Appends old new accepted_text → Checks setup bytes text old new (Ok tt)
+accepted setup bytes text old new is wrote = (is, wrote)
+
+pub accepting_stopped : (setup : Setup) (bytes text : List ℕ) (old new : Option (List ℕ)) (fault : WriteFault) → IsAcceptedText setup bytes text
+    → AppendsBeginning old new accepted_text → Checks setup bytes text old new (Err (checks.Write fault))
+accepting_stopped setup bytes text old new fault is wrote = (is, wrote)
+
+pub first_told : (setup : Setup) (bytes text : List ℕ) (known : Option (List ℕ)) (program : ProgramText) (c : CertificateData) (fault : CheckFault)
+    → program_of bytes ≡ Ok program → HaveReadings program.lines → certificate_said text ≡ Ok c → Says program setup c (Err fault)
+    → Checks setup bytes text known known (Err (checks.Check fault))
+first_told setup bytes text known program c fault is_text have said says =
+    ((program_said program have.readings, c, given bytes text program c is_text have said, says have.readings have.are), keeps_same known)

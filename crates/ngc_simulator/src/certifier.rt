@@ -1,0 +1,120 @@
+ghost use Rattle.std.specs.Prelude.{◌≡◌, ◌≤◌, IfSome, Err};
+ghost use Rattle.ngc_canonical.specs.Interpreter.{setup_of};
+ghost use Rattle.ngc_fixed_length.specs.Failures.{Rises};
+ghost use Rattle.ngc_line_reader.specs.declared.program.fault.ReadFault.TheVariants.{Device};
+ghost use Rattle.ngc_simulator.specs.Answers.{CertifyComes, FailsByOutput};
+ghost use Rattle.ngc_simulator.specs.Jobs.{Certifies, FailsByCertifying, refused_at};
+
+use crate::fault::AnswerFault;
+use crate::files::Files;
+use crate::setup::read_shop;
+use ngc_canonical::{ProgramFault, interpret};
+use ngc_certificate::{MakeFault, Setting, make};
+use ngc_command_line::CertifyOptions;
+use ngc_fixed_length::{Sink, Source, WriteFault};
+use ngc_input::InputFault;
+use ngc_line_reader::{Program, ReadFault};
+use ngc_machine::{Machine, Tools};
+use std::alloc::{Allocator, Global};
+use thiserror::Error;
+
+/// Why no certificate is written.
+#[derive(Clone, Copy, Debug, PartialEq, Eq, Error)]
+pub enum CertifyFault {
+    /// The program isn't read: 101, 111 to 119, 121, 122, 900, 901.
+    #[error(transparent)]
+    Read(ReadFault),
+    /// The program is refused at this setting of block delete: 311.
+    #[error("the program is refused: {fault}")]
+    Program {
+        setting: Setting,
+        fault: ProgramFault,
+    },
+    /// 304, 900
+    #[error(transparent)]
+    Make(MakeFault),
+    /// 902
+    #[error(transparent)]
+    Write(WriteFault),
+}
+
+// Why a program that is refused at a setting has no certificate.
+fn refused(setting: Setting, fault: ProgramFault) -> CertifyFault
+    ensures { result ≡ refused_at setting fault }
+{
+    match fault {
+        ProgramFault::At { .. } => CertifyFault::Program { setting, fault },
+        ProgramFault::Memory => CertifyFault::Make(MakeFault::Memory),
+    }
+}
+
+/// Writes the certificate of a program on a machine with its tools, in which a straight motion stands in at most `cuts`
+/// pieces. Nothing is written where there is none; where a write fails, a beginning is written.
+pub fn certify<A: Allocator + Copy, R: Source, W: Sink>(
+    alloc: A,
+    source: &mut R,
+    machine: &Machine<A>,
+    tools: &Tools<A>,
+    cuts: u16,
+    output: &mut W,
+) -> Result<(), CertifyFault>
+    requires { 1 ≤ cuts }
+    // Where the source's bytes are known, what is written is the certificate that is made for what they mean.
+    ensures certifies { IfSome (R.remaining source.old) (λ bytes. Certifies (setup_of machine.now tools.now) bytes cuts (W.written output.old) (W.written output.new) result) }
+    // A fault of reading or writing comes only from a device that failed.
+    ensures source { result ≡ Err (CertifyFault.Read Device) → Rises (R.failures source.old) (R.failures source.new) }
+    ensures sink { FailsByCertifying result (W.failures output.old) (W.failures output.new) }
+{
+    let program = match Program::read(alloc, source) {
+        Ok(program) => program,
+        Err(fault) => return Err(CertifyFault::Read(fault)),
+    };
+    let off = match interpret(alloc, &program, machine, tools, false) {
+        Ok(commands) => commands,
+        Err(fault) => return Err(refused(Setting::Off, fault)),
+    };
+    let on = match interpret(alloc, &program, machine, tools, true) {
+        Ok(commands) => commands,
+        Err(fault) => return Err(refused(Setting::On, fault)),
+    };
+    let certificate = match make(alloc, off.as_slice(), on.as_slice(), machine, cuts) {
+        Ok(certificate) => certificate,
+        Err(fault) => return Err(CertifyFault::Make(fault)),
+    };
+    match certificate.write(output) {
+        Ok(()) => Ok(()),
+        Err(fault) => Err(CertifyFault::Write(fault)),
+    }
+}
+
+// The certificate of a program.
+pub(crate) fn certify_files<F: Files, W: Sink>(
+    alloc: Global,
+    options: &CertifyOptions<'_>,
+    files: &mut F,
+    output: &mut W,
+) -> Result<(), AnswerFault>
+    requires { 1 ≤ options.now.cuts }
+    ensures comes { CertifyComes (F.bytes files.old) options.now (W.written output.old) (W.written output.new) result }
+    ensures sink { FailsByOutput result (W.failures output.old) (W.failures output.new) }
+{
+    let shop = match read_shop(alloc, Some(options.machine), Some(options.tools), files) {
+        Ok(shop) => shop,
+        Err(fault) => return Err(fault),
+    };
+    let mut source = match files.source(options.program) {
+        Ok(source) => source,
+        Err(_) => return Err(AnswerFault::Input(InputFault::Device)),
+    };
+    match certify(
+        alloc,
+        &mut source,
+        &shop.machine,
+        &shop.tools,
+        options.cuts,
+        output,
+    ) {
+        Ok(()) => Ok(()),
+        Err(fault) => Err(AnswerFault::Certify(fault)),
+    }
+}

@@ -1,0 +1,107 @@
+ghost use Rattle.std.specs.Prelude.{◌≡◌, ℕ, List, IfSome, Ok, Err};
+ghost use Rattle.ngc_canonical.specs.Interpreter.{setup_of};
+ghost use Rattle.ngc_certificate_text.specs.declared.fault.CertificateFault.TheVariants.{ReadFailed};
+ghost use Rattle.ngc_fixed_length.specs.Failures.{Rises};
+ghost use Rattle.ngc_line_reader.specs.ProgramText.{program_of, HaveReadings};
+ghost use Rattle.ngc_line_reader.specs.ProgramView.{text_in};
+ghost use Rattle.ngc_simulator.specs.Answers.{CheckComes, FailsByOutput};
+ghost use Rattle.ngc_simulator.specs.Jobs.{Checks, FailsByChecking};
+
+use crate::fault::AnswerFault;
+use crate::files::Files;
+use crate::setup::read_shop;
+use ngc_certificate_text::{Certificate, CertificateFault};
+use ngc_checker::{CheckFault, check};
+use ngc_command_line::CheckOptions;
+use ngc_fixed_length::{Sink, Source, WriteFault, write_all};
+use ngc_input::InputFault;
+use ngc_line_reader::{Program, ReadFault};
+use ngc_machine::{Machine, Tools};
+use std::alloc::{Allocator, Global};
+use thiserror::Error;
+
+/// Why a certificate isn't accepted.
+#[derive(Clone, Copy, Debug, PartialEq, Eq, Error)]
+pub enum CheckingFault {
+    /// The program isn't read: 101, 111 to 119, 121, 122, 900, 901.
+    #[error(transparent)]
+    Read(ReadFault),
+    /// The certificate isn't read: 301 to 303, 900, 901.
+    #[error(transparent)]
+    Certificate(CertificateFault),
+    /// 311 to 318, 900
+    #[error(transparent)]
+    Check(CheckFault),
+    /// 902
+    #[error(transparent)]
+    Write(WriteFault),
+}
+
+/// Writes `accepted` where the certificate that a source gives shows that a program is safe on a machine with its tools.
+/// Nothing is written where it isn't; where a write fails, a beginning is written.
+pub fn check_program<A: Allocator + Copy, S: Source, W: Sink>(
+    alloc: A,
+    program: &Program<A>,
+    machine: &Machine<A>,
+    tools: &Tools<A>,
+    certificate: &mut S,
+    output: &mut W,
+) -> Result<(), CheckingFault>
+    // Whatever file the program was read from, where the bytes of the certificate are known: the answer is that of both.
+    ensures checks { (bytes : List ℕ) → program_of bytes ≡ Ok (text_in program.now) → HaveReadings (text_in program.now).lines → IfSome (S.remaining certificate.old) (λ text. Checks (setup_of machine.now tools.now) bytes text (W.written output.old) (W.written output.new) result) }
+    // A fault of reading or writing comes only from a device that failed.
+    ensures source { result ≡ Err (CheckingFault.Certificate ReadFailed) → Rises (S.failures certificate.old) (S.failures certificate.new) }
+    ensures sink { FailsByChecking result (W.failures output.old) (W.failures output.new) }
+{
+    let certificate = match Certificate::read(alloc, certificate) {
+        Ok(certificate) => certificate,
+        Err(fault) => return Err(CheckingFault::Certificate(fault)),
+    };
+    match check(alloc, program, machine, tools, &certificate) {
+        Ok(_) => {}
+        Err(fault) => return Err(CheckingFault::Check(fault)),
+    }
+    match write_all(output, b"accepted\n") {
+        Ok(()) => Ok(()),
+        Err(fault) => Err(CheckingFault::Write(fault)),
+    }
+}
+
+// Whether a certificate is accepted. The program is read before the certificate's file is opened.
+pub(crate) fn check_files<F: Files, W: Sink>(
+    alloc: Global,
+    options: &CheckOptions<'_>,
+    files: &mut F,
+    output: &mut W,
+) -> Result<(), AnswerFault>
+    ensures comes { CheckComes (F.bytes files.old) options.now (W.written output.old) (W.written output.new) result }
+    ensures sink { FailsByOutput result (W.failures output.old) (W.failures output.new) }
+{
+    let shop = match read_shop(alloc, Some(options.machine), Some(options.tools), files) {
+        Ok(shop) => shop,
+        Err(fault) => return Err(fault),
+    };
+    let mut source = match files.source(options.program) {
+        Ok(source) => source,
+        Err(_) => return Err(AnswerFault::Input(InputFault::Device)),
+    };
+    let program = match Program::read(alloc, &mut source) {
+        Ok(program) => program,
+        Err(fault) => return Err(AnswerFault::Check(CheckingFault::Read(fault))),
+    };
+    let mut certificate = match files.source(Some(options.certificate)) {
+        Ok(certificate) => certificate,
+        Err(_) => return Err(AnswerFault::Input(InputFault::Device)),
+    };
+    match check_program(
+        alloc,
+        &program,
+        &shop.machine,
+        &shop.tools,
+        &mut certificate,
+        output,
+    ) {
+        Ok(()) => Ok(()),
+        Err(fault) => Err(AnswerFault::Check(fault)),
+    }
+}
