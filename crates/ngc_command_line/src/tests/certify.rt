@@ -18,9 +18,10 @@ const REQUIRED: CertifyOptions<'static> = CertifyOptions {
 fn reads_each_spelling(rt: HostRuntime) {
     let alloc = rt.alloc();
     let all = CertifyOptions {
+        machine: "mill.toml",
+        tools: "table.toml",
         program: Some("a.ngc"),
         cuts: 3,
-        ..REQUIRED
     };
     let joined = ["certify", "--machine=mill.toml", "--tools=table.toml"];
     let apart = [
@@ -55,8 +56,13 @@ fn cuts_are_read(alloc: Global, text: &str, cuts: u16) -> bool {
         text,
     ];
     match read_options(alloc, &words) {
-        Ok(options) => options == Options::Certify(CertifyOptions { cuts, ..REQUIRED }),
-        Err(_) => false,
+        Ok(Options::Certify(options)) => {
+            options.cuts == cuts
+                && options.machine == REQUIRED.machine
+                && options.tools == REQUIRED.tools
+                && options.program == REQUIRED.program
+        }
+        _ => false,
     }
 }
 
