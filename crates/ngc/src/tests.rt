@@ -9,11 +9,13 @@ use std::test::Fail;
 
 mod arcs;
 mod certificates;
+mod controller;
 mod cycles;
 mod files;
 mod interpreter;
 mod memory;
 mod rows;
+mod runs;
 
 // A file's text, of which the contracts know nothing.
 #[derive(Drop)]
@@ -37,13 +39,14 @@ impl Source for Text<'_> {
     }
 }
 
-// A program on standard input, and the files `machine`, `tools` and `certificate`.
+// A program on standard input, and the files `machine`, `tools`, `certificate` and `events`.
 #[derive(Drop)]
 struct SomeFiles<'a> {
     program: &'a [u8],
     machine: &'a [u8],
     tools: &'a [u8],
     certificate: &'a [u8],
+    events: &'a [u8],
     failures: u64,
 }
 
@@ -64,6 +67,7 @@ impl<'a> Files for SomeFiles<'a> {
             Some("certificate") => Ok(Text {
                 rest: self.certificate,
             }),
+            Some("events") => Ok(Text { rest: self.events }),
             Some(_) => {
                 self.failures = self.failures.saturating_add(1);
                 Err(ReadFault::Device)
@@ -100,6 +104,7 @@ fn run(alloc: Global, text: &[u8], delete: bool) -> (u8, Vec<u8>, Vec<u8>) {
         machine: b"",
         tools: b"",
         certificate: b"",
+        events: b"",
         failures: 0,
     };
     let options = ListOptions {
@@ -159,6 +164,7 @@ fn files_that_are_not_there(rt: HostRuntime) {
             machine: b"",
             tools: b"",
             certificate: b"",
+            events: b"",
             failures: 0,
         };
         let (status, output, errors) = run_on(rt.alloc(), &mut files, &options);

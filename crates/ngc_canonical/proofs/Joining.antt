@@ -80,7 +80,7 @@ pub after : {A B : Type 0} (Q : B → Type 0) (r : Result A Fault) (f : A → Re
 after Q (Ok a) f rest = rest a
 after Q (Err e) f rest = tt
 
-emitted : (Q : State → Type 0) (c : Command) (s : State) → (length s.commands < COMMAND_LIMIT → Q (record s { commands = s.commands ++ (c ∷ []) })) → IfOk (emit c s) Q
+pub emitted : (Q : State → Type 0) (c : Command) (s : State) → (length s.commands < COMMAND_LIMIT → Q (record s { commands = s.commands ++ (c ∷ []) })) → IfOk (emit c s) Q
 emitted Q c s holds = by_test (nat_lt (length s.commands) COMMAND_LIMIT) refl where
   by_test : (b : Bool) → nat_lt (length s.commands) COMMAND_LIMIT ≡ b → (let more : Result State Fault = Ok (record s { commands = s.commands ++ (c ∷ []) }) in IfOk (if b then more else Err TooManyCommands) Q)
   by_test true e = holds (grind (arith, nat_tests))

@@ -4,3 +4,6 @@ pub mod ArcLaws
 pub mod Joining
 pub mod JoinedSteps
 pub mod JoinedLines
+pub mod Ending
+pub mod EndingSteps
+pub mod EndingLines

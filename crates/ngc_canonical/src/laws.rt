@@ -1,5 +1,5 @@
 //! Laws about the definitions alone.
-ghost use Rattle.ngc_canonical.specs.Joined.{Joined, FewCommands};
+ghost use Rattle.ngc_canonical.specs.Joined.{Joined, FewCommands, EndsLast};
 
 /// The motions of a program are joined: the first begins at the machine's start point, and each further one where the motion
 /// before it ends.
@@ -10,4 +10,9 @@ pub fn joined()
 /// A program has at most a million commands.
 pub fn few_commands()
     ensures { FewCommands }
+{}
+
+/// The end is a program's last command.
+pub fn ends_last()
+    ensures { EndsLast }
 {}

@@ -10,6 +10,7 @@ ghost use Rattle.ngc_parameters.specs.Stored.{pairs_of, changes_of};
 ghost use Rattle.ngc_canonical.specs.Meaning.{effects_of as effects_in, execute as executed, with_settings, after_line, past_last, commands_of, GivesMeaning, GivesEffects, meaning, program_said, mark_of as marked_at};
 ghost use Rattle.ngc_canonical.specs.Interpreter.{setup_of, state_of, Becomes, BecomesAt};
 ghost use Rattle.ngc_canonical.specs.Movement.{doings, motions_of, AreJoined};
+ghost use Rattle.ngc_canonical.specs.Joined.{EndIsLast};
 
 use crate::command::Command;
 use crate::fault::{Fault, ProgramFault};
@@ -154,6 +155,8 @@ pub fn interpret<A: Allocator + Copy>(
     // The first motion begins at the machine's start point, and each further one where the motion before it ends.
     ensures joined { IfOk result (λ v. AreJoined (file_of machine.now).start (motions_of (doings v.items))) }
     ensures count { IfOk result (λ v. length v.items ≤ 1000000) }
+    // Nothing comes after the end.
+    ensures ended { IfOk result (λ v. EndIsLast v.items) }
 {
     let Ok(mut interpreter) = Interpreter::new(alloc, machine) else {
         return Err(ProgramFault::Memory);

@@ -64,7 +64,9 @@ impl<A: Allocator> Accepted<A> {
 
     /// The machine.
     pub fn machine(&self) -> &Machine<A>
-        ensures { file_of result.now ≡ self.now.machine }
+        ensures value { file_of result.now ≡ self.now.machine }
+        // What holds of all that was accepted.
+        ensures accepted { IsAccepted self.now }
     {
         &self.machine
     }

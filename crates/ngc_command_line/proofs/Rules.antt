@@ -10,12 +10,12 @@ use Rattle.clap.specs.Kinds.{Kinds, check_kinds, range_kinds, value_kinds, value
 use Rattle.clap.specs.Simple.{Shape}
 use Rattle.clap.specs.Takes.{is_given}
 use Rattle.clap.specs.Values.{IsUnsignedIn}
-use Rattle.clap.specs.Walk.{Names, Row, Rule, Text, action_of, default_rows, first_of, has_row, most_values, nothing_held, reading_by, rows_after, settled, used, used_as, values_or_missing, walk, walk_from, without}
+use Rattle.clap.specs.Walk.{Names, Row, Rule, Text, action_of, default_rows, first_of, has_row, most_values, nothing_held, reading_by, rows_after, settled, used, used_as, values_or_missing, walk, walk_from, with_default, without}
 use Rattle.clap.specs.declared.builder.action.ArgAction.{ArgAction}
-use Rattle.clap.specs.declared.builder.action.ArgAction.TheVariants.{Help, Set}
+use Rattle.clap.specs.declared.builder.action.ArgAction.TheVariants.{Help, Set, SetTrue}
 use Rattle.clap.specs.declared.builder.value_parser.ValueParser.TheVariants.{Unsigned}
 use Rattle.clap.specs.declared.error.kind.ErrorKind.{ErrorKind}
-use Rattle.clap.specs.declared.parser.matches.ValueSource.TheVariants.{CommandLine}
+use Rattle.clap.specs.declared.parser.matches.ValueSource.TheVariants.{CommandLine, DefaultValue}
 use Rattle.clap.proofs.ValueTestLemmas.{accepts-Accepts}
 use Rattle.ngc_command_line.proofs.Filled.{AreFilled, AreSound, Begins, IsSound, defaults_filled, neither, settle_filled, walk_filled, with_values_filled, without_filled}
 
@@ -46,6 +46,28 @@ set_is_sound P a action least none takes = record { uses = uses; defaults = no_d
         let first = (neither (value_kinds a.ignore_case parser v) (values_kinds a.ignore_case parser vs) passes).0 in
         subst (λ (x : ArgAction). AreFilled P (used_as x a.id (reading_by a) (v ∷ vs) rows)) (sym action)
         (with_values_filled P a.id (reading_by a) CommandLine (v ∷ vs) (without a.id rows) (takes v first) (without_filled P a.id rows filled))
+
+-- a flag, whose value stands for it where it is met and where it is not
+pub flag_is_sound : (P : Text → Text → Type 0) (a : Rule) (met unmet : Text) → action_of a ≡ SetTrue → a.missing ≡ met ∷ [] → a.defaults ≡ unmet ∷ []
+    → ((v : Text) → P a.id v) → IsSound P a
+flag_is_sound P a met unmet action missing defaults takes = record { uses = uses; defaults = default }
+  where
+    begins : (values : List Text) → Begins P a.id (values_or_missing a values)
+    begins [] = subst (λ (vs : List Text). Begins P a.id vs) (sym missing) (takes met)
+    begins (v ∷ vs) = takes v
+
+    uses : (again : Bool) (values : List Text) (rows : List Row) → use_fault again a values rows ≡ [] → AreFilled P rows
+        → AreFilled P (used a values rows)
+    uses again values rows fault filled =
+        subst (λ (x : ArgAction). AreFilled P (used_as x a.id (reading_by a) (values_or_missing a values) rows)) (sym action)
+        (with_values_filled P a.id (reading_by a) CommandLine (values_or_missing a values) (without a.id rows) (begins values) (without_filled P a.id rows filled))
+
+    default : (rows : List Row) → AreFilled P rows → AreFilled P (with_default rows a)
+    default rows filled = subst (λ (ds : List Text). AreFilled P (if has_row a.id rows then rows else default_rows a.id (reading_by a) ds rows)) (sym defaults) (pick (has_row a.id rows))
+      where
+        pick : (b : Bool) → AreFilled P (if b then rows else default_rows a.id (reading_by a) (unmet ∷ []) rows)
+        pick true = filled
+        pick false = with_values_filled P a.id (reading_by a) DefaultValue (unmet ∷ []) rows (takes unmet) filled
 
 pub help_is_sound : (P : Text → Text → Type 0) (a : Rule) → action_of a ≡ Help → a.defaults ≡ [] → IsSound P a
 help_is_sound P a action none = record {

@@ -15,10 +15,10 @@ use Rattle.std.proofs.lemmas.Bool.{ne_eqb}
 use Rattle.std.proofs.lemmas.Str.Parse.{digit_from_value}
 use Rattle.clap.specs.declared.builder.value_parser.ValueParser.TheVariants.{Unsigned}
 use Rattle.clap.proofs.ValueTestLemmas.{Accepts-accepts}
-use Rattle.ngc_command_line.specs.CommandLine.{certify_words, check_words, list_words, ngc_app}
-use Rattle.ngc_command_line.specs.Meant.{AreCuts, AreCutsInRange, AreOptions, AsksForCertify, AsksForCheck, AsksForList, IsTaken, is_set}
+use Rattle.ngc_command_line.specs.CommandLine.{certify_words, check_words, list_words, ngc_app, run_words}
+use Rattle.ngc_command_line.specs.Meant.{AreCuts, AreCutsInRange, AreOptions, AsksForCertify, AsksForCheck, AsksForList, AsksForRun, IsTaken, is_set}
 use Rattle.ngc_command_line.specs.declared.options.Options.{Options}
-use Rattle.ngc_command_line.specs.declared.options.Options.TheVariants.{Certify as ToCertify, Check as ToCheck, List as ToList}
+use Rattle.ngc_command_line.specs.declared.options.Options.TheVariants.{Certify as ToCertify, Check as ToCheck, List as ToList, Run as ToRun}
 use Rattle.ngc_command_line.proofs.Whole.{other_name}
 
 -- the words are taken, and this holds of the subcommand that they name
@@ -57,6 +57,7 @@ list_asked program machine tools delete (Some found) (ToList list) finds are =
     (are.1.program ∙ finds.1, are.1.machine ∙ finds.2, are.1.tools ∙ finds.3, are.1.delete ∙ finds.4)
 list_asked program machine tools delete (Some found) (ToCertify certify) finds are = other_name (codes "list") (codes "certify") (sym finds.0 ∙ are.0) (λ lengths. omega (arith, lengths))
 list_asked program machine tools delete (Some found) (ToCheck check) finds are = other_name (codes "list") (codes "check") (sym finds.0 ∙ are.0) (λ lengths. omega (arith, lengths))
+list_asked program machine tools delete (Some found) (ToRun run) finds are = other_name (codes "list") (codes "run") (sym finds.0 ∙ are.0) (λ lengths. omega (arith, lengths))
 
 pub list_taken : (words : List Text) (program machine tools : Option Text) (delete : Bool) → words ≡ list_words program machine tools delete → IsTaken words
 list_taken words program machine tools delete spelled = subst IsTaken (sym spelled) (list_spells program machine tools delete).0
@@ -88,6 +89,7 @@ check_asked machine tools certificate program (Some found) (ToCheck check) finds
     (same_text _ _ _ are.1.machine finds.1, same_text _ _ _ are.1.tools finds.2, same_text _ _ _ are.1.certificate finds.3, are.1.program ∙ finds.4)
 check_asked machine tools certificate program (Some found) (ToCertify certify) finds are = other_name (codes "check") (codes "certify") (sym finds.0 ∙ are.0) (λ lengths. omega (arith, lengths))
 check_asked machine tools certificate program (Some found) (ToList list) finds are = other_name (codes "check") (codes "list") (sym finds.0 ∙ are.0) (λ lengths. omega (arith, lengths))
+check_asked machine tools certificate program (Some found) (ToRun run) finds are = other_name (codes "check") (codes "run") (sym finds.0 ∙ are.0) (λ lengths. omega (arith, lengths))
 
 pub check_taken : (words : List Text) (machine tools certificate : Text) (program : Option Text) → words ≡ check_words machine tools certificate program → IsTaken words
 check_taken words machine tools certificate program spelled = subst IsTaken (sym spelled) (check_spells machine tools certificate program).0
@@ -97,6 +99,51 @@ pub check_read : (words : List Text) (machine tools certificate : Text) (program
 check_read words machine tools certificate program options spelled are =
     let Are : List Text → Type 0 = λ ws. AreOptions (subcommand_of ngc_app ws) options in
     check_asked machine tools certificate program _ options (check_spells machine tools certificate program).1 (subst Are spelled are)
+
+-- the values of `run` that were found are these
+abbrev FindsRun : Text → Text → Text → Text → Option Text → Bool → Option (Text × List Row) → Type 0
+FindsRun machine tools certificate events program delete None = ⊥
+FindsRun machine tools certificate events program delete (Some found) = (found.0 ≡ codes "run") × (first_of (codes "machine") found.1 ≡ Some machine)
+    × (first_of (codes "tools") found.1 ≡ Some tools) × (first_of (codes "certificate") found.1 ≡ Some certificate)
+    × (first_of (codes "events") found.1 ≡ Some events) × (first_of (codes "program") found.1 ≡ program) × (is_set (codes "delete") found.1 ≡ delete)
+
+run_spells : (machine tools certificate events : Text) (program : Option Text) (delete : Bool)
+    → Spells (run_words machine tools certificate events program delete) (FindsRun machine tools certificate events program delete)
+unfolding clap_on_literals
+run_spells machine tools certificate events None false = (refl, (refl, refl, refl, refl, refl, refl, refl))
+run_spells machine tools certificate events None true = (refl, (refl, refl, refl, refl, refl, refl, refl))
+run_spells machine tools certificate events (Some program) false = (refl, (refl, refl, refl, refl, refl, refl, refl))
+run_spells machine tools certificate events (Some program) true = (refl, (refl, refl, refl, refl, refl, refl, refl))
+
+run_asked : (machine tools certificate events : Text) (program : Option Text) (delete : Bool) (found : Option (Text × List Row)) (options : Options)
+    → FindsRun machine tools certificate events program delete found → AreOptions found options → AsksForRun machine tools certificate events program delete options
+run_asked machine tools certificate events program delete None options finds are = absurd finds
+run_asked machine tools certificate events program delete (Some found) (ToRun run) finds are = (
+  same_text _ _ _ are.1.machine finds.1,
+  same_text _ _ _ are.1.tools finds.2,
+  same_text _ _ _ are.1.certificate finds.3,
+  same_text _ _ _ are.1.events finds.4,
+  are.1.program ∙ finds.5,
+  are.1.delete ∙ finds.6,
+)
+run_asked machine tools certificate events program delete (Some found) (ToList list) finds are =
+    other_name (codes "run") (codes "list") (sym finds.0 ∙ are.0) (λ lengths. omega (arith, lengths))
+run_asked machine tools certificate events program delete (Some found) (ToCertify certify) finds are =
+    other_name (codes "run") (codes "certify") (sym finds.0 ∙ are.0) (λ lengths. omega (arith, lengths))
+run_asked machine tools certificate events program delete (Some found) (ToCheck check) finds are =
+    other_name (codes "run") (codes "check") (sym finds.0 ∙ are.0) (λ lengths. omega (arith, lengths))
+
+pub run_taken : (words : List Text) (machine tools certificate events : Text) (program : Option Text) (delete : Bool)
+    → words ≡ run_words machine tools certificate events program delete → IsTaken words
+run_taken words machine tools certificate events program delete spelled =
+    subst IsTaken (sym spelled) (run_spells machine tools certificate events program delete).0
+
+pub run_read : (words : List Text) (machine tools certificate events : Text) (program : Option Text) (delete : Bool) (options : Options)
+    → words ≡ run_words machine tools certificate events program delete → AreOptions (subcommand_of ngc_app words) options
+    → AsksForRun machine tools certificate events program delete options
+run_read words machine tools certificate events program delete options spelled are =
+    let Are : List Text → Type 0 = λ ws. AreOptions (subcommand_of ngc_app ws) options in
+    run_asked machine tools certificate events program delete _ options (run_spells machine tools certificate events program delete).1 (subst Are spelled are)
 
 -- the values of `certify` that were found are these
 abbrev FindsCertify : Text → Text → Option Text → Option Text → Option (Text × List Row) → Type 0
@@ -171,6 +218,8 @@ certify_asked machine tools program cuts (Some found) (ToList list) range finds 
     other_name (codes "certify") (codes "list") (sym finds.0 ∙ are.0) (λ lengths. omega (arith, lengths))
 certify_asked machine tools program cuts (Some found) (ToCheck check) range finds are =
     other_name (codes "certify") (codes "check") (sym finds.0 ∙ are.0) (λ lengths. omega (arith, lengths))
+certify_asked machine tools program cuts (Some found) (ToRun run) range finds are =
+    other_name (codes "certify") (codes "run") (sym finds.0 ∙ are.0) (λ lengths. omega (arith, lengths))
 
 pub certify_taken : (words : List Text) (machine tools : Text) (program : Option Text) (cuts : Option ℕ) → AreCutsInRange cuts
     → words ≡ certify_words machine tools program cuts → IsTaken words

@@ -10,9 +10,9 @@ use Rattle.clap.specs.Faults.{entered_fault, level_fault}
 use Rattle.clap.specs.Simple.{built, entered, label_of, names_of, new_shape, rows_at}
 use Rattle.clap.specs.Walk.{answers_to, nothing_held, rows_after, stop_after}
 use Rattle.ngc_command_line.specs.CommandLine.{ngc_app}
-use Rattle.ngc_command_line.specs.Meant.{HasCertifyValues, HasCheckValues, IsTaken, IsWhole}
+use Rattle.ngc_command_line.specs.Meant.{HasCertifyValues, HasCheckValues, HasRunValues, IsTaken, IsWhole}
 use Rattle.ngc_command_line.proofs.Filled.{AreSound}
-use Rattle.ngc_command_line.proofs.Rules.{FitsCuts, below_passes, cuts_fit, cuts_in_range, given_has_value, help_is_sound, is_true, level_is_filled, neither_true, set_is_sound}
+use Rattle.ngc_command_line.proofs.Rules.{FitsCuts, below_passes, cuts_fit, cuts_in_range, flag_is_sound, given_has_value, help_is_sound, is_true, level_is_filled, neither_true, set_is_sound}
 
 -- what was found are the rows of one of these, at words in which it finds no fault
 abbrev IsOneOf : List Shape → Text × List Row → Type 0
@@ -42,6 +42,9 @@ certify_shape = slice_index_or (built ngc_app).subs 1 (new_shape [])
 abbrev check_shape : Shape
 check_shape = slice_index_or (built ngc_app).subs 2 (new_shape [])
 
+abbrev run_shape : Shape
+run_shape = slice_index_or (built ngc_app).subs 3 (new_shape [])
+
 -- another name than that of the cuts
 no_cuts : (id text : Text) → bytes_eq id (codes "cuts") ≡ false → FitsCuts id text
 no_cuts id text differs same = let bad : false ≡ true = sym differs ∙ same in cc
@@ -61,6 +64,16 @@ check_sound =
     let certificate = set_is_sound FitsCuts _ refl refl refl (λ v none. no_cuts (codes "certificate") v refl) in
     let program = set_is_sound FitsCuts _ refl refl refl (λ v none. no_cuts (codes "program") v refl) in
     (machine, (tools, (certificate, (program, (help_is_sound FitsCuts _ refl refl, tt)))))
+
+run_sound : AreSound FitsCuts run_shape.rules
+run_sound =
+    let machine = set_is_sound FitsCuts _ refl refl refl (λ v none. no_cuts (codes "machine") v refl) in
+    let tools = set_is_sound FitsCuts _ refl refl refl (λ v none. no_cuts (codes "tools") v refl) in
+    let certificate = set_is_sound FitsCuts _ refl refl refl (λ v none. no_cuts (codes "certificate") v refl) in
+    let events = set_is_sound FitsCuts _ refl refl refl (λ v none. no_cuts (codes "events") v refl) in
+    let program = set_is_sound FitsCuts _ refl refl refl (λ v none. no_cuts (codes "program") v refl) in
+    let delete = flag_is_sound FitsCuts _ (codes "true") (codes "false") refl refl refl (λ v. no_cuts (codes "delete") v refl) in
+    (machine, (tools, (certificate, (events, (program, (delete, (help_is_sound FitsCuts _ refl refl, tt)))))))
 
 certify_values : (words : List Text) → level_fault certify_shape [] nothing_held words false [] ≡ [] → HasCertifyValues (rows_after certify_shape.rules [] words)
 certify_values words none =
@@ -82,6 +95,20 @@ check_values words none =
       given_has_value FitsCuts (codes "certificate") rows filled (is_true _ certificate),
     )
 
+run_values : (words : List Text) → level_fault run_shape [] nothing_held words false [] ≡ [] → HasRunValues (rows_after run_shape.rules [] words)
+run_values words none =
+    let rows = rows_after run_shape.rules [] words in
+    let (filled, required) = level_is_filled FitsCuts run_shape run_sound words none in
+    let (machine, others) = neither_true _ _ required in
+    let (tools, more) = neither_true _ _ others in
+    let (certificate, two) = neither_true _ _ more in
+    let (events, rest) = neither_true _ _ two in (
+      given_has_value FitsCuts (codes "machine") rows filled (is_true _ machine),
+      given_has_value FitsCuts (codes "tools") rows filled (is_true _ tools),
+      given_has_value FitsCuts (codes "certificate") rows filled (is_true _ certificate),
+      given_has_value FitsCuts (codes "events") rows filled (is_true _ events),
+    )
+
 -- names of other lengths are other names
 pub other_name : {X : Type 0} (a b : Text) → a ≡ b → (length a ≡ length b → ⊥) → X
 other_name a b same differ = absurd (differ (ap length same))
@@ -92,18 +119,27 @@ one_whole found one = elim one [
     named = inl refl;
     certify = λ same. other_name (codes "list") (codes "certify") same (λ lengths. omega (arith, lengths));
     check = λ same. other_name (codes "list") (codes "check") same (λ lengths. omega (arith, lengths));
+    run = λ same. other_name (codes "list") (codes "run") same (λ lengths. omega (arith, lengths));
   })
   | inr (inl certify) ↦ subst (λ (f : Text × List Row). IsWhole f.0 f.1) certify.1 (record {
     named = inr (inl refl);
     certify = λ same. certify_values certify.0 certify.2;
     check = λ same. other_name (codes "certify") (codes "check") same (λ lengths. omega (arith, lengths));
+    run = λ same. other_name (codes "certify") (codes "run") same (λ lengths. omega (arith, lengths));
   })
   | inr (inr (inl check)) ↦ subst (λ (f : Text × List Row). IsWhole f.0 f.1) check.1 (record {
     named = inr (inr (inl refl));
     certify = λ same. other_name (codes "check") (codes "certify") same (λ lengths. omega (arith, lengths));
     check = λ same. check_values check.0 check.2;
+    run = λ same. other_name (codes "check") (codes "run") same (λ lengths. omega (arith, lengths));
   })
-  | inr (inr (inr none)) ↦ absurd none
+  | inr (inr (inr (inl run))) ↦ subst (λ (f : Text × List Row). IsWhole f.0 f.1) run.1 (record {
+    named = inr (inr (inr (inl refl)));
+    certify = λ same. other_name (codes "run") (codes "certify") same (λ lengths. omega (arith, lengths));
+    check = λ same. other_name (codes "run") (codes "check") same (λ lengths. omega (arith, lengths));
+    run = λ same. run_values run.0 run.2;
+  })
+  | inr (inr (inr (inr none))) ↦ absurd none
 ]
 
 -- the subcommand that taken words name

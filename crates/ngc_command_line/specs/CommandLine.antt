@@ -40,6 +40,13 @@ check_app = fold with_rule (new_app (codes "check"))
     (required_file (codes "machine") ∷ required_file (codes "tools")
     ∷ required_file (codes "certificate") ∷ file_option (codes "program") ∷ [])
 
+-- `run --machine FILE --tools FILE --certificate FILE --events FILE [--program FILE] [--delete]`
+abbrev pub run_app : App
+run_app = fold with_rule (new_app (codes "run"))
+    (required_file (codes "machine") ∷ required_file (codes "tools")
+    ∷ required_file (codes "certificate") ∷ required_file (codes "events")
+    ∷ file_option (codes "program") ∷ flag (codes "delete") ∷ [])
+
 -- the words begin after the program's name, and name a subcommand
 abbrev pub ngc_settings : App
 ngc_settings = let bare : App = new_app (codes "ngc") in record bare {
@@ -50,10 +57,10 @@ ngc_settings = let bare : App = new_app (codes "ngc") in record bare {
   };
 }
 
--- `ngc list ..`, `ngc certify ..` and `ngc check ..`
+-- `ngc list ..`, `ngc certify ..`, `ngc check ..` and `ngc run ..`
 abbrev pub ngc_app : App
-ngc_app = with_subcommand (with_subcommand (with_subcommand ngc_settings list_app.top)
-    certify_app.top) check_app.top
+ngc_app = with_subcommand (with_subcommand (with_subcommand (with_subcommand ngc_settings
+    list_app.top) certify_app.top) check_app.top) run_app.top
 
 -- the one word `--NAME=FILE`, where there is a file and `beginning` is `--NAME=`
 abbrev pub file_words : Text → Option Text → List Text
@@ -86,3 +93,10 @@ abbrev pub check_words : Text → Text → Text → Option Text → List Text
 check_words machine tools certificate program = codes "check"
     ∷ (codes "--machine=" ++ machine) ∷ (codes "--tools=" ++ tools)
     ∷ (codes "--certificate=" ++ certificate) ∷ file_words (codes "--program=") program
+
+-- the words of `ngc run` with these options, in one spelling
+abbrev pub run_words : Text → Text → Text → Text → Option Text → Bool → List Text
+run_words machine tools certificate events program delete = codes "run"
+    ∷ (codes "--machine=" ++ machine) ∷ (codes "--tools=" ++ tools)
+    ∷ (codes "--certificate=" ++ certificate) ∷ (codes "--events=" ++ events)
+    ∷ (file_words (codes "--program=") program ++ flag_words (codes "--delete") delete)

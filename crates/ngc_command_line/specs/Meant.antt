@@ -9,9 +9,10 @@ use Rattle.ngc_command_line.specs.CommandLine.{ngc_app}
 use Rattle.ngc_command_line.specs.declared.options.CertifyOptions.{CertifyOptions}
 use Rattle.ngc_command_line.specs.declared.options.CheckOptions.{CheckOptions}
 use Rattle.ngc_command_line.specs.declared.options.ListOptions.{ListOptions}
+use Rattle.ngc_command_line.specs.declared.options.RunOptions.{RunOptions}
 use Rattle.ngc_command_line.specs.declared.options.Options.{Options}
 use Rattle.ngc_command_line.specs.declared.options.Options.TheVariants.{List as ToList, Certify as ToCertify}
-use Rattle.ngc_command_line.specs.declared.options.Options.TheVariants.{Check as ToCheck}
+use Rattle.ngc_command_line.specs.declared.options.Options.TheVariants.{Check as ToCheck, Run as ToRun}
 use Rattle.ngc_command_line.specs.declared.UsageFault.{UsageFault}
 use Rattle.ngc_command_line.specs.declared.UsageFault.TheVariants.{Usage, Memory}
 
@@ -51,6 +52,15 @@ pub record AreCheckOptions (rows : List Row) (options : CheckOptions) : Type 0 w
   pub certificate : Some options.certificate.now ≡ first_of (codes "certificate") rows
   pub program : option_map (λ name. name.now) options.program ≡ first_of (codes "program") rows
 
+-- each option of `run` by the first value that was found under its own name
+pub record AreRunOptions (rows : List Row) (options : RunOptions) : Type 0 where
+  pub machine : Some options.machine.now ≡ first_of (codes "machine") rows
+  pub tools : Some options.tools.now ≡ first_of (codes "tools") rows
+  pub certificate : Some options.certificate.now ≡ first_of (codes "certificate") rows
+  pub events : Some options.events.now ≡ first_of (codes "events") rows
+  pub program : option_map (λ name. name.now) options.program ≡ first_of (codes "program") rows
+  pub delete : options.delete ≡ is_set (codes "delete") rows
+
 -- a value was found under the name
 abbrev pub HasValue : Text → List Row → Type 0
 HasValue name rows = is_some (first_of name rows) ≡ true
@@ -65,6 +75,11 @@ abbrev pub HasCheckValues : List Row → Type 0
 HasCheckValues rows = HasValue (codes "machine") rows × HasValue (codes "tools") rows
     × HasValue (codes "certificate") rows
 
+-- what is found for `run` where the words are taken
+abbrev pub HasRunValues : List Row → Type 0
+HasRunValues rows = HasValue (codes "machine") rows × HasValue (codes "tools") rows
+    × HasValue (codes "certificate") rows × HasValue (codes "events") rows
+
 -- a subcommand of these has the name
 abbrev pub IsNameAmong : List Shape → Text → Type 0
 IsNameAmong [] name = ⊥
@@ -75,6 +90,7 @@ pub record IsWhole (name : Text) (rows : List Row) : Type 0 where
   pub named : IsNameAmong ngc_app.subs name
   pub certify : name ≡ codes "certify" → HasCertifyValues rows
   pub check : name ≡ codes "check" → HasCheckValues rows
+  pub run : name ≡ codes "run" → HasRunValues rows
 
 -- the options are those of the subcommand that was found, and there is one
 abbrev pub AreOptions : Option (Text × List Row) → Options → Type 0
@@ -83,6 +99,7 @@ AreOptions (Some found) (ToList list) = (found.0 ≡ codes "list") × AreListOpt
 AreOptions (Some found) (ToCertify certify) =
     (found.0 ≡ codes "certify") × AreCertifyOptions found.1 certify
 AreOptions (Some found) (ToCheck check) = (found.0 ≡ codes "check") × AreCheckOptions found.1 check
+AreOptions (Some found) (ToRun run) = (found.0 ≡ codes "run") × AreRunOptions found.1 run
 
 -- `list` is asked for, with these options
 abbrev pub AsksForList : Option Text → Option Text → Option Text → Bool → Options → Type 0
@@ -108,6 +125,14 @@ AsksForCheck machine tools certificate program (ToCheck check) =
     × (check.certificate.now ≡ certificate)
     × (option_map (λ name. name.now) check.program ≡ program)
 AsksForCheck machine tools certificate program other = ⊥
+
+-- `run` is asked for, with these options
+abbrev pub AsksForRun : Text → Text → Text → Text → Option Text → Bool → Options → Type 0
+AsksForRun machine tools certificate events program delete (ToRun run) =
+    (run.machine.now ≡ machine) × (run.tools.now ≡ tools)
+    × (run.certificate.now ≡ certificate) × (run.events.now ≡ events)
+    × (option_map (λ name. name.now) run.program ≡ program) × (run.delete ≡ delete)
+AsksForRun machine tools certificate events program delete other = ⊥
 
 -- the number of cuts, where one is given, is from 1 to 65,535
 abbrev pub AreCutsInRange : Option ℕ → Type 0

@@ -20,7 +20,7 @@ Exit status:
   0  done
   1  input could not be read, output not written, or memory ran out
   2  the command line was wrong, or asked for help
-  3  the part program, the machine file or the tool table was refused
+  3  the part program, machine file, tool table or events were refused
   4  the certificate was refused, or none clears the program
 
 A refusal names its fault by a number, as in `ngc: fault 113 line 7 column 4`.
@@ -86,6 +86,26 @@ pub(crate) fn required_tools_argument<'a>(alloc: Global) -> Arg<'a>
         alloc,
         "tools",
         "Tool table in TOML: each tool's number, size\nand offset",
+    )
+}
+
+pub(crate) fn certificate_argument<'a>(alloc: Global) -> Arg<'a>
+    ensures { rule_of result ≡ required_file (codes "certificate") }
+{
+    required_argument(
+        alloc,
+        "certificate",
+        "Certificate to check, as `ngc certify` prints it",
+    )
+}
+
+pub(crate) fn delete_argument<'a>(alloc: Global) -> Arg<'a>
+    ensures { rule_of result ≡ flag (codes "delete") }
+{
+    flag_argument(
+        alloc,
+        "delete",
+        "Turn block delete on: leave out the lines\nthat begin with `/` [default: off]",
     )
 }
 

@@ -8,16 +8,17 @@ ghost use Rattle.std.specs.Prelude.{◌≡◌, Bool, IfOk, IsOkUnless, MatchResu
 ghost use Rattle.clap.specs.Words.{Text, app_of, found_of, kind_of, rows_of, subcommand_of};
 ghost use Rattle.clap.specs.Walk.{texts};
 ghost use Rattle.ngc_command_line.specs.CommandLine.{certify_words, check_words, list_words};
-ghost use Rattle.ngc_command_line.specs.CommandLine.{ngc_app, ngc_settings};
+ghost use Rattle.ngc_command_line.specs.CommandLine.{ngc_app, ngc_settings, run_words};
 ghost use Rattle.ngc_command_line.specs.Meant.{AreCutsInRange, AreOptions, AsksForCertify};
-ghost use Rattle.ngc_command_line.specs.Meant.{AsksForCheck, AsksForList, IsTaken, IsWhole};
-ghost use Rattle.ngc_command_line.specs.Meant.{usage_fault_number};
+ghost use Rattle.ngc_command_line.specs.Meant.{AsksForCheck, AsksForList, AsksForRun};
+ghost use Rattle.ngc_command_line.specs.Meant.{IsTaken, IsWhole, usage_fault_number};
 
 mod arguments;
 mod certify;
 mod check;
 mod list;
 mod options;
+mod run;
 
 use arguments::help_end;
 use certify::{certify_command, certify_options};
@@ -25,7 +26,8 @@ use check::{check_command, check_options};
 use clap::error::ErrorKind;
 use clap::{ArgMatches, Command};
 use list::{list_command, list_options};
-pub use options::{CertifyOptions, CheckOptions, ListOptions, Options};
+pub use options::{CertifyOptions, CheckOptions, ListOptions, Options, RunOptions};
+use run::{run_command, run_options};
 use std::alloc::{AllocError, Global};
 use thiserror::Error;
 
@@ -64,7 +66,7 @@ fn bare_command<'a>(alloc: Global) -> Result<Command<'a>, AllocError>
         .no_binary_name(true)
         .subcommand_required(true)
         .disable_help_subcommand(true)
-        .about("Read a part program in RS274/NGC and say what the machine is to do")
+        .about("List, certify, check and run part programs in RS274/NGC")
         .after_help(help_end!("  ngc list --program examples/facing.ngc"))
         .bin_name("ngc")
 }
@@ -75,7 +77,8 @@ fn ngc_command<'a>(alloc: Global) -> Result<Command<'a>, AllocError>
     bare_command(alloc)?
         .subcommand(list_command(alloc)?)?
         .subcommand(certify_command(alloc)?)?
-        .subcommand(check_command(alloc)?)
+        .subcommand(check_command(alloc)?)?
+        .subcommand(run_command(alloc)?)
 }
 
 fn usage_fault(alloc: Global, error: clap::Error) -> UsageFault
@@ -99,6 +102,7 @@ fn options_of<'a>(name: &str, found: &ArgMatches<'a>) -> Options<'a>
         "list" => Options::List(list_options(found)),
         "certify" => Options::Certify(certify_options(found)),
         "check" => Options::Check(check_options(found)),
+        "run" => Options::Run(run_options(found)),
         _ => unreachable!(),
     }
 }
@@ -133,6 +137,13 @@ pub fn read_options<'a>(alloc: Global, words: &'a [&'a str]) -> Result<Options<'
     ensures spelled_check { (machine tools certificate : Text) (program : Option Text)
         → texts words.entry.now ≡ check_words machine tools certificate program
         → MatchResult result (AsksForCheck machine tools certificate program)
+        (λ fault. fault ≡ UsageFault.Memory) }
+    // `run --machine=FILE --tools=FILE --certificate=FILE --events=FILE --program=FILE --delete` is
+    // read as it is spelled, where the last two may be left out.
+    ensures spelled_run { (machine tools certificate events : Text) (program : Option Text)
+        (delete : Bool)
+        → texts words.entry.now ≡ run_words machine tools certificate events program delete
+        → MatchResult result (AsksForRun machine tools certificate events program delete)
         (λ fault. fault ≡ UsageFault.Memory) }
 {
     let Ok(command) = ngc_command(alloc) else {

@@ -2,12 +2,12 @@
 
 ghost use Rattle.std.specs.Prelude.{◌≡◌, IfOk, codes};
 ghost use Rattle.clap.specs.Words.{app_of, found_of, rows_of, rule_of};
-ghost use Rattle.ngc_command_line.specs.CommandLine.{file_option, flag, list_app};
+ghost use Rattle.ngc_command_line.specs.CommandLine.{file_option, list_app};
 ghost use Rattle.ngc_command_line.specs.Meant.{AreListOptions};
 
 use crate::ListOptions;
 use crate::arguments::{
-    file_argument, flag_argument, flag_is_set, help_end, program_argument, subcommand,
+    delete_argument, file_argument, flag_is_set, help_end, program_argument, subcommand,
 };
 use clap::{Arg, ArgMatches, Command};
 use std::alloc::{AllocError, Global};
@@ -29,16 +29,6 @@ fn tools_argument<'a>(alloc: Global) -> Arg<'a>
         alloc,
         "tools",
         "Tool table in TOML: each tool's number, size and offset\n[default: no tools]",
-    )
-}
-
-fn delete_argument<'a>(alloc: Global) -> Arg<'a>
-    ensures { rule_of result ≡ flag (codes "delete") }
-{
-    flag_argument(
-        alloc,
-        "delete",
-        "Turn block delete on: leave out the lines\nthat begin with `/` [default: off]",
     )
 }
 

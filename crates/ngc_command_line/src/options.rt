@@ -11,6 +11,8 @@ pub enum Options<'a> {
     Certify(CertifyOptions<'a>),
     /// `ngc check`: check a certificate of a part program.
     Check(CheckOptions<'a>),
+    /// `ngc run`: run a part program on the machine over a list of events.
+    Run(RunOptions<'a>),
 }
 
 /// The options of `ngc list`.
@@ -51,4 +53,21 @@ pub struct CheckOptions<'a> {
     pub certificate: &'a str,
     /// The file of the part program. With none it comes from standard input.
     pub program: Option<&'a str>,
+}
+
+/// The options of `ngc run`.
+#[derive(Clone, Copy, Debug, PartialEq, Eq)]
+pub struct RunOptions<'a> {
+    /// The machine file.
+    pub machine: &'a str,
+    /// The file of the tool table.
+    pub tools: &'a str,
+    /// The file of the certificate.
+    pub certificate: &'a str,
+    /// The file of the events.
+    pub events: &'a str,
+    /// The file of the part program. With none it comes from standard input.
+    pub program: Option<&'a str>,
+    /// Whether block delete is on, so that lines that begin with `/` are left out.
+    pub delete: bool,
 }

@@ -7,6 +7,7 @@ use std::test::Fail;
 mod certify;
 mod check;
 mod list;
+mod run;
 
 fn is_read_as<'a>(alloc: Global, words: &'a [&'a str], wanted: Options<'a>) -> bool {
     match read_options(alloc, words) {
@@ -58,10 +59,12 @@ fn helps_with<'a>(alloc: Global, words: &'a [&'a str], parts: &[&str]) -> bool {
 fn helps(rt: HostRuntime) {
     let alloc = rt.alloc();
     let parts = [
-        "Usage: ngc",
-        "list",
-        "certify",
-        "check",
+        "List, certify, check and run part programs in RS274/NGC",
+        "Usage: ngc <COMMAND>",
+        "  list ",
+        "  certify ",
+        "  check ",
+        "  run ",
         "ngc list --program examples/facing.ngc",
         "Exit status:",
         "0  done",
@@ -87,6 +90,7 @@ fn help_fits_eighty_columns(rt: HostRuntime) {
         &["list", "--help"],
         &["certify", "--help"],
         &["check", "--help"],
+        &["run", "--help"],
     ] {
         match read_options(alloc, words) {
             Err(UsageFault::Usage(text)) => assert!(rt; is_narrow(text.as_str())),

@@ -18,7 +18,7 @@ MILLION = 1000000
 
 -- how many path steps a motion may have
 abbrev pub STEPS_LIMIT : ℕ
-STEPS_LIMIT = 100000000
+STEPS_LIMIT = 1000000000
 
 abbrev pub square : ℕ → ℕ
 square n = n * n

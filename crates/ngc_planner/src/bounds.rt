@@ -45,7 +45,7 @@ pub fn turn_rate<A: Allocator>(command: &Command, machine: &Machine<A>) -> u64
     }
 }
 
-/// The greatest rate of any tick on a motion of `n` path steps, at most 10^8: the machine's greatest rate, twice the feed
+/// The greatest rate of any tick on a motion of `n` path steps, at most 10^9: the machine's greatest rate, twice the feed
 /// cap, or what the turn on an arc allows. It is 0 for a command that is no motion.
 pub fn bound_of<A: Allocator>(command: &Command, n: u64, machine: &Machine<A>) -> u64
     requires { n ≤ STEPS_LIMIT }
@@ -60,7 +60,7 @@ pub fn bound_of<A: Allocator>(command: &Command, n: u64, machine: &Machine<A>) -
 
 /// A cap under an override in percent.
 fn overridden(cap: u128, percent: u8) -> u128
-    requires { cap < 2 ^ 111 }
+    requires { cap < 2 ^ 115 }
     ensures { result ≡ overridden cap percent }
 {
     if percent == 0 {
@@ -70,7 +70,7 @@ fn overridden(cap: u128, percent: u8) -> u128
     }
 }
 
-/// The rate that a tick on a motion of `n` path steps, at most 10^8, is to reach under an override in percent.
+/// The rate that a tick on a motion of `n` path steps, at most 10^9, is to reach under an override in percent.
 pub fn target_at<A: Allocator>(command: &Command, n: u64, percent: u8, machine: &Machine<A>) -> u64
     requires { n ≤ STEPS_LIMIT }
     ensures value { result ≡ target_at (file_of machine.now) command.now n percent }

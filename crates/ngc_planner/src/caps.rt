@@ -49,7 +49,7 @@ fn inverse_cap(ticks_per_second: u32, n: u64, feed: u64) -> u128
     requires ticks { 1 ≤ ticks_per_second }
     requires steps { n ≤ STEPS_LIMIT }
     ensures value { result ≡ inverse_cap ticks_per_second n feed }
-    ensures bound { result < 2 ^ 111 }
+    ensures bound { result < 2 ^ 115 }
 {
     u128::from(n) * u128::from(feed) / (60 * u128::from(ticks_per_second))
 }
@@ -60,7 +60,7 @@ fn line_cap(ticks_per_second: u32, n: u64, length: u64, feed: &Feed) -> u128
     requires steps { n ≤ STEPS_LIMIT }
     requires length { length ≤ 10 ^ 12 }
     ensures value { result ≡ line_cap ticks_per_second n length feed.now }
-    ensures bound { result < 2 ^ 111 }
+    ensures bound { result < 2 ^ 115 }
 {
     match feed {
         Feed::PerMinute(feed) => {
@@ -84,7 +84,7 @@ fn arc_cap(ticks_per_second: u32, n: u64, step: u64, crosswise: u64, feed: &Feed
     requires crosswise_least { 1 ≤ crosswise }
     requires crosswise_greatest { crosswise ≤ 1733 }
     ensures value { result ≡ arc_cap ticks_per_second n step crosswise feed.now }
-    ensures bound { result < 2 ^ 111 }
+    ensures bound { result < 2 ^ 115 }
 {
     match feed {
         Feed::PerMinute(feed) => {
@@ -95,13 +95,13 @@ fn arc_cap(ticks_per_second: u32, n: u64, step: u64, crosswise: u64, feed: &Feed
     }
 }
 
-/// The feed cap of a motion of `n` path steps, at most 10^8, in millionths of a path step a tick: the greatest rate for a
+/// The feed cap of a motion of `n` path steps, at most 10^9, in millionths of a path step a tick: the greatest rate for a
 /// traverse, and otherwise what the feed allows, at least 1. It is 0 for a command that is no motion.
 pub fn cap_of<A: Allocator>(command: &Command, n: u64, machine: &Machine<A>) -> u128
     requires { n ≤ STEPS_LIMIT }
     ensures value { result ≡ cap_of command.now n (file_of machine.now) }
     ensures slow { KeepsFeed (file_of machine.now) command.now n result }
-    ensures bound { result < 2 ^ 111 }
+    ensures bound { result < 2 ^ 115 }
 {
     match command {
         Command::Traverse { .. } => u128::from(machine.max_rate),

@@ -1,6 +1,5 @@
 -- What a run comes to on the files that it names, from what its parts come to.
 use Rattle.std.proofs.Common.{◌≡◌, ℕ, List, Option, Some, None, Result, Ok, Err, IfSome, subst, ◌∙◌}
-use Rattle.std.specs.Io.KnownBytes.{Keeps}
 use Rattle.std.specs.Prelude.{option_map}
 use Rattle.ngc_canonical.specs.Interpreter.{setup_of}
 use Rattle.ngc_command_line.specs.declared.options.CertifyOptions.{CertifyOptions}
@@ -9,16 +8,14 @@ use Rattle.ngc_command_line.specs.declared.options.ListOptions.{ListOptions}
 use Rattle.ngc_line_reader.specs.ProgramText.{program_of}
 use Rattle.ngc_line_reader.specs.ProgramView.{FaultIs}
 use Rattle.ngc_line_reader.specs.declared.program.fault.ReadFault.{ReadFault}
-use Rattle.ngc_simulator.specs.Answers.{ListsOn, CertifiesOn, ChecksOn, ListComes, CertifyComes, CheckComes}
+use Rattle.ngc_simulator.specs.Answers.{ListsOn, CertifiesOn, ChecksOn}
 use Rattle.ngc_simulator.specs.Jobs.{Certifies, Checks}
 use Rattle.ngc_simulator.specs.Lists.{Lists}
 use Rattle.ngc_simulator.specs.Setups.{FileBytes, KeepsFiles, KeepsNamed}
-use Rattle.ngc_simulator.specs.Shops.{GivesShop, RefusesShop}
+use Rattle.ngc_simulator.specs.Shops.{GivesShop}
 use Rattle.ngc_simulator.specs.declared.certifier.CertifyFault.{CertifyFault}
 use Rattle.ngc_simulator.specs.declared.checking.CheckingFault.{CheckingFault}
 use Rattle.ngc_simulator.specs.declared.checking.CheckingFault.TheVariants as checks
-use Rattle.ngc_simulator.specs.declared.fault.AnswerFault.{AnswerFault}
-use Rattle.ngc_simulator.specs.declared.fault.AnswerFault.TheVariants as answers
 use Rattle.ngc_simulator.specs.declared.lister.ListFault.{ListFault}
 use Rattle.ngc_simulator.specs.declared.setup.Shop.{Shop}
 use Rattle.ngc_simulator.proofs.JobLaws.{keeps_same, if_known}
@@ -58,7 +55,7 @@ checked_files bytes after later options shop known source old new outcome said k
     (both_files bytes _ _ known source (λ text certificate. Checks (setup_of shop.machine shop.tools) text certificate old new outcome)
     (is_program ∙ keeps (option_map (λ n. n.now) options.program)) (is_certificate ∙ named options.certificate.now ∙ keeps (Some options.certificate.now)) on_both)
 
-all_known : (known : Option (List ℕ)) (P : List ℕ → Type 0) → ((bytes : List ℕ) → P bytes) → IfSome known P
+pub all_known : (known : Option (List ℕ)) (P : List ℕ → Type 0) → ((bytes : List ℕ) → P bytes) → IfSome known P
 all_known None P on = tt
 all_known (Some bytes) P on = on bytes
 
@@ -74,31 +71,3 @@ unread_files bytes after options shop source known fault said keeps is unread =
     (of_file _ source (λ text. IfSome (bytes (Some options.certificate.now)) (λ certificate. Checks (setup_of shop.machine shop.tools) text certificate known known (Err (checks.Read fault))))
     (is ∙ keeps (option_map (λ n. n.now) options.program))
     (if_known source _ _ (λ text fault_is. all_known (bytes (Some options.certificate.now)) _ (λ certificate. (fault_is, keeps_same known))) unread))
-
--- a machine file or a tool table that stops the run
-pub list_stopped : (bytes : FileBytes) (options : ListOptions) (known : Option (List ℕ)) (fault : AnswerFault)
-    → RefusesShop bytes (option_map (λ n. n.now) options.machine) (option_map (λ n. n.now) options.tools) fault → ListComes bytes options known known (Err fault)
-list_stopped bytes options known (answers.Machine e) refuses = (refuses, keeps_same known)
-list_stopped bytes options known (answers.Tools e) refuses = (refuses, keeps_same known)
-list_stopped bytes options known (answers.Input e) refuses = (refuses, keeps_same known)
-list_stopped bytes options known (answers.List e) refuses = absurd refuses
-list_stopped bytes options known (answers.Certify e) refuses = absurd refuses
-list_stopped bytes options known (answers.Check e) refuses = absurd refuses
-
-pub certify_stopped : (bytes : FileBytes) (options : CertifyOptions) (known : Option (List ℕ)) (fault : AnswerFault)
-    → RefusesShop bytes (Some options.machine.now) (Some options.tools.now) fault → CertifyComes bytes options known known (Err fault)
-certify_stopped bytes options known (answers.Machine e) refuses = (refuses, keeps_same known)
-certify_stopped bytes options known (answers.Tools e) refuses = (refuses, keeps_same known)
-certify_stopped bytes options known (answers.Input e) refuses = (refuses, keeps_same known)
-certify_stopped bytes options known (answers.List e) refuses = absurd refuses
-certify_stopped bytes options known (answers.Certify e) refuses = absurd refuses
-certify_stopped bytes options known (answers.Check e) refuses = absurd refuses
-
-pub check_stopped : (bytes : FileBytes) (options : CheckOptions) (known : Option (List ℕ)) (fault : AnswerFault)
-    → RefusesShop bytes (Some options.machine.now) (Some options.tools.now) fault → CheckComes bytes options known known (Err fault)
-check_stopped bytes options known (answers.Machine e) refuses = (refuses, keeps_same known)
-check_stopped bytes options known (answers.Tools e) refuses = (refuses, keeps_same known)
-check_stopped bytes options known (answers.Input e) refuses = (refuses, keeps_same known)
-check_stopped bytes options known (answers.List e) refuses = absurd refuses
-check_stopped bytes options known (answers.Certify e) refuses = absurd refuses
-check_stopped bytes options known (answers.Check e) refuses = absurd refuses

@@ -1,5 +1,5 @@
 -- What certifying and checking a program come to, from what their parts come to.
-use Rattle.std.proofs.Common.{◌≡◌, ℕ, List, Option, Some, None, Bool, true, false, Result, Ok, Err, IfSome, refl, subst, sym, ◌∙◌}
+use Rattle.std.proofs.Common.{◌≡◌, ℕ, List, Option, Some, None, Bool, true, false, Result, Ok, Err, IfSome, refl, subst, sym}
 use Rattle.std.specs.Io.KnownBytes.{Appends, Keeps}
 use Rattle.ngc_fixed_length.specs.Written.{AppendsBeginning}
 use Rattle.ngc_fixed_length.specs.declared.writing.WriteFault.{WriteFault}
@@ -20,11 +20,10 @@ use Rattle.ngc_certificate.specs.Made.{made, GivesMade}
 use Rattle.ngc_certificate.specs.Valid.{IsValid}
 use Rattle.ngc_checker.specs.declared.fault.CheckFault.{CheckFault}
 use Rattle.ngc_checker.specs.Accepted.{AcceptedData, Answers}
-use Rattle.ngc_checker.specs.FirstRefusal.{first_refusal}
 use Rattle.ngc_simulator.specs.declared.certifier.CertifyFault.{CertifyFault}
 use Rattle.ngc_simulator.specs.declared.certifier.CertifyFault.TheVariants as certifies
 use Rattle.ngc_simulator.specs.declared.checking.CheckingFault.TheVariants as checks
-use Rattle.ngc_simulator.specs.Jobs.{IsProgram, AreMeanings, IsMadeFor, IsRefusedAt, refused_at, IsNotMade, Certifies, AreGiven, IsAcceptedText, Checks, accepted_text}
+use Rattle.ngc_simulator.specs.Jobs.{IsProgram, AreMeanings, IsMadeFor, refused_at, Certifies, AreGiven, IsAcceptedText, Checks, accepted_text}
 use Rattle.ngc_simulator.proofs.ListLaws.{Means}
 
 pub if_known : (known : Option (List ℕ)) (P Q : List ℕ → Type 0) → ((bytes : List ℕ) → P bytes → Q bytes) → IfSome known P → IfSome known Q
@@ -123,10 +122,10 @@ refused_on setup bytes cuts known text off fault told is is_text have off_means 
 -- ---- checking
 
 -- what the checker says of each list of readings
-abbrev Says : ProgramText → Setup → CertificateData → Result AcceptedData CheckFault → Type 0
+abbrev pub Says : ProgramText → Setup → CertificateData → Result AcceptedData CheckFault → Type 0
 Says text setup c result = (rs : List Reading) → AreReadings text.lines rs → Answers (λ a. a) (program_said text rs) setup c result
 
-given : (bytes text : List ℕ) (program : ProgramText) (c : CertificateData) → program_of bytes ≡ Ok program → (have : HaveReadings program.lines) → certificate_said text ≡ Ok c
+pub given : (bytes text : List ℕ) (program : ProgramText) (c : CertificateData) → program_of bytes ≡ Ok program → (have : HaveReadings program.lines) → certificate_said text ≡ Ok c
     → AreGiven bytes text (program_said program have.readings) c
 given bytes text program c is_text have said = record { is_program = is_program bytes program is_text have; is_certificate = said }
 

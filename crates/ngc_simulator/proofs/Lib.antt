@@ -5,3 +5,4 @@ pub mod Told
 pub mod SetupLaws
 pub mod JobLaws
 pub mod FileLaws
+pub mod RunLaws

@@ -1,10 +1,9 @@
 -- What is said of a file's text, and of what the files of a run say.
-use Rattle.std.proofs.Common.{◌≡◌, ℕ, List, [], Option, Some, None, Result, Ok, IfSome, option_map, subst, ◌∙◌}
+use Rattle.std.proofs.Common.{◌≡◌, ℕ, List, [], Option, Some, None, Result, Ok, IfSome, subst, ◌∙◌}
 use Rattle.ngc_canonical.specs.State.{Setup}
 use Rattle.ngc_machine.specs.Machine.{row_machine}
 use Rattle.ngc_machine.specs.MachineText.{machine_file}
 use Rattle.ngc_machine.specs.ToolText.{tool_table}
-use Rattle.ngc_machine.specs.declared.tools.Tool.{Tool}
 use Rattle.ngc_machine.specs.declared.fault.FileFault.{FileFault}
 use Rattle.ngc_simulator.specs.Setups.{FileBytes, IfSaid, KeepsFiles, IfMachine, IfTools, OnSetup, AreSetup}
 

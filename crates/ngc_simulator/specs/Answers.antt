@@ -4,22 +4,26 @@ use Rattle.std.specs.Io.KnownBytes.{Appends, Keeps}
 use Rattle.ngc_command_line.specs.declared.options.ListOptions.{ListOptions}
 use Rattle.ngc_command_line.specs.declared.options.CertifyOptions.{CertifyOptions}
 use Rattle.ngc_command_line.specs.declared.options.CheckOptions.{CheckOptions}
+use Rattle.ngc_command_line.specs.declared.options.RunOptions.{RunOptions}
 use Rattle.ngc_command_line.specs.declared.options.Options.{Options}
 use Rattle.ngc_command_line.specs.declared.options.Options.TheVariants as commands
 use Rattle.ngc_fixed_length.specs.Failures.{Rises}
 use Rattle.ngc_fixed_length.specs.Written.{AppendsBeginning}
+use Rattle.ngc_run_log.specs.declared.report.Report.{Report}
 use Rattle.ngc_simulator.specs.declared.lister.ListFault.{ListFault}
 use Rattle.ngc_simulator.specs.declared.certifier.CertifyFault.{CertifyFault}
 use Rattle.ngc_simulator.specs.declared.checking.CheckingFault.{CheckingFault}
+use Rattle.ngc_simulator.specs.declared.running.RunningFault.{RunningFault}
 use Rattle.ngc_simulator.specs.declared.fault.AnswerFault.{AnswerFault}
 use Rattle.ngc_simulator.specs.declared.fault.AnswerFault.TheVariants as answers
 use Rattle.ngc_simulator.specs.Faults.{fault_line, answer_status}
 use Rattle.ngc_simulator.specs.Lists.{Lists, FailsByWriting}
 use Rattle.ngc_simulator.specs.Jobs.{Certifies, FailsByCertifying, Checks, FailsByChecking}
+use Rattle.ngc_simulator.specs.Running.{Runs, FailsByRunning}
 use Rattle.ngc_simulator.specs.Setups.{FileBytes, OnSetup}
 use Rattle.ngc_simulator.specs.Shops.{RefusesShop}
 
--- what a run of `list`, of `certify` and of `check` comes to on the files that it names
+-- what `list`, `certify`, `check` and `run` come to on the files that they name
 abbrev pub ListsOn : FileBytes → ListOptions → Option (List ℕ) → Option (List ℕ) → Result (Unit {0}) ListFault → Type 0
 ListsOn bytes options old new outcome =
     OnSetup bytes (option_map (λ name. name.now) options.machine) (option_map (λ name. name.now) options.tools) (λ setup.
@@ -35,6 +39,13 @@ ChecksOn bytes options old new outcome =
     OnSetup bytes (Some options.machine.now) (Some options.tools.now) (λ setup.
     IfSome (bytes (option_map (λ name. name.now) options.program)) (λ text.
     IfSome (bytes (Some options.certificate.now)) (λ certificate. Checks setup text certificate old new outcome)))
+
+abbrev pub RunsOn : FileBytes → RunOptions → Option (List ℕ) → Option (List ℕ) → Result Report RunningFault → Type 0
+RunsOn bytes options old new outcome =
+    OnSetup bytes (Some options.machine.now) (Some options.tools.now) (λ setup.
+    IfSome (bytes (option_map (λ name. name.now) options.program)) (λ text.
+    IfSome (bytes (Some options.certificate.now)) (λ certificate.
+    IfSome (bytes (Some options.events.now)) (λ events. Runs setup text certificate events options.delete old new outcome))))
 
 -- A machine file or tool table that is refused leaves what was written as it was, and so does a file that isn't read.
 abbrev pub StopsEarly : FileBytes → Option (List ℕ) → Option (List ℕ) → Option (List ℕ) → Option (List ℕ) → AnswerFault → Type 0
@@ -56,10 +67,17 @@ CheckComes bytes options old new (Ok u) = ChecksOn bytes options old new (Ok u)
 CheckComes bytes options old new (Err (answers.Check fault)) = ChecksOn bytes options old new (Err fault)
 CheckComes bytes options old new (Err fault) = StopsEarly bytes (Some options.machine.now) (Some options.tools.now) old new fault
 
+-- a run that is done has a report, which the program does not write
+abbrev pub RunComes : FileBytes → RunOptions → Option (List ℕ) → Option (List ℕ) → Result (Unit {0}) AnswerFault → Type 0
+RunComes bytes options old new (Ok u) = (report : Report) × RunsOn bytes options old new (Ok report)
+RunComes bytes options old new (Err (answers.Run fault)) = RunsOn bytes options old new (Err fault)
+RunComes bytes options old new (Err fault) = StopsEarly bytes (Some options.machine.now) (Some options.tools.now) old new fault
+
 abbrev pub ComesBy : FileBytes → Options → Option (List ℕ) → Option (List ℕ) → Result (Unit {0}) AnswerFault → Type 0
 ComesBy bytes (commands.List options) old new outcome = ListComes bytes options old new outcome
 ComesBy bytes (commands.Certify options) old new outcome = CertifyComes bytes options old new outcome
 ComesBy bytes (commands.Check options) old new outcome = CheckComes bytes options old new outcome
+ComesBy bytes (commands.Run options) old new outcome = RunComes bytes options old new outcome
 
 -- the first sink's count of failures rose where a write failed, and else it is what it was
 abbrev pub FailsByOutput : Result (Unit {0}) AnswerFault → ℕ → ℕ → Type 0
@@ -67,6 +85,7 @@ FailsByOutput (Ok u) old new = new ≡ old
 FailsByOutput (Err (answers.List fault)) old new = FailsByWriting (Err fault) old new
 FailsByOutput (Err (answers.Certify fault)) old new = FailsByCertifying (Err fault) old new
 FailsByOutput (Err (answers.Check fault)) old new = FailsByChecking (Err fault) old new
+FailsByOutput (Err (answers.Run fault)) old new = FailsByRunning (Err fault) old new
 FailsByOutput (Err (answers.Machine fault)) old new = new ≡ old
 FailsByOutput (Err (answers.Tools fault)) old new = new ≡ old
 FailsByOutput (Err (answers.Input fault)) old new = new ≡ old
@@ -89,7 +108,7 @@ Takes sink text =
     (Appends sink.old sink.new text × (sink.failures_now ≡ sink.failures)) ⊎
     (AppendsBeginning sink.old sink.new text × Rises sink.failures sink.failures_now)
 
--- nothing where the listing was written, and else the line that tells the fault
+-- nothing where what was asked is done, and else the line that tells the fault
 abbrev pub Tells : Result (Unit {0}) AnswerFault → Taking → Type 0
 Tells (Ok u) sink = (sink.new ≡ sink.old) × (sink.failures_now ≡ sink.failures)
 Tells (Err fault) sink = Takes sink (fault_line fault)

@@ -16,6 +16,9 @@ use Rattle.ngc_certificate.specs.declared.fault.PieceFault.TheVariants as pieces
 use Rattle.ngc_checker.specs.Faults.{number_of as check_number}
 use Rattle.ngc_checker.specs.declared.fault.CheckFault.{CheckFault}
 use Rattle.ngc_checker.specs.declared.fault.CheckFault.TheVariants as refusals
+use Rattle.ngc_events.specs.Faults.{number_of as events_number}
+use Rattle.ngc_events.specs.declared.fault.EventsFault.{EventsFault}
+use Rattle.ngc_events.specs.declared.fault.EventsFault.TheVariants as events
 use Rattle.ngc_input.specs.Input.{number_of as input_number}
 use Rattle.ngc_line_reader.specs.ReadFaults.{number_of as read_number}
 use Rattle.ngc_line_reader.specs.declared.program.fault.ReadFault.{ReadFault}
@@ -23,12 +26,15 @@ use Rattle.ngc_line_reader.specs.declared.program.fault.ReadFault.TheVariants as
 use Rattle.ngc_machine.specs.Faults.{number_of as file_number}
 use Rattle.ngc_machine.specs.declared.fault.FileFault.{FileFault}
 use Rattle.ngc_machine.specs.declared.fault.FileFault.TheVariants as files
+use Rattle.ngc_run_log.specs.Runs.{number_of as run_number}
 use Rattle.ngc_simulator.specs.declared.certifier.CertifyFault.{CertifyFault}
 use Rattle.ngc_simulator.specs.declared.certifier.CertifyFault.TheVariants as certifies
 use Rattle.ngc_simulator.specs.declared.checking.CheckingFault.{CheckingFault}
 use Rattle.ngc_simulator.specs.declared.checking.CheckingFault.TheVariants as checks
 use Rattle.ngc_simulator.specs.declared.lister.ListFault.{ListFault}
 use Rattle.ngc_simulator.specs.declared.lister.ListFault.TheVariants as lists
+use Rattle.ngc_simulator.specs.declared.running.RunningFault.{RunningFault}
+use Rattle.ngc_simulator.specs.declared.running.RunningFault.TheVariants as running
 use Rattle.ngc_simulator.specs.declared.fault.AnswerFault.{AnswerFault}
 use Rattle.ngc_simulator.specs.declared.fault.AnswerFault.TheVariants as answers
 
@@ -49,6 +55,13 @@ checking_number (checks.Certificate e) = text_number e
 checking_number (checks.Check e) = check_number e
 checking_number (checks.Write e) = 902
 
+abbrev pub running_number : RunningFault → ℕ
+running_number (running.Read e) = read_number e
+running_number (running.Certificate e) = text_number e
+running_number (running.Events e) = events_number e
+running_number (running.Check e) = check_number e
+running_number (running.Run e) = run_number e
+
 abbrev pub answer_number : AnswerFault → ℕ
 answer_number (answers.Machine e) = file_number e
 answer_number (answers.Tools e) = file_number e
@@ -56,6 +69,7 @@ answer_number (answers.Input e) = input_number e
 answer_number (answers.List e) = list_number e
 answer_number (answers.Certify e) = certify_number e
 answer_number (answers.Check e) = checking_number e
+answer_number (answers.Run e) = running_number e
 
 -- where a fault stands: a line and a column, a line, a file, or nowhere
 abbrev pub read_place : ReadFault → List ℕ
@@ -123,6 +137,18 @@ checking_place (checks.Certificate e) = line_of_text (text_line e)
 checking_place (checks.Check e) = check_place e
 checking_place (checks.Write e) = codes ""
 
+abbrev pub events_place : EventsFault → List ℕ
+events_place (events.BadLine line) = codes " events line " ++ decimal line
+events_place events.TooManyLines = codes ""
+events_place events.Memory = codes ""
+
+abbrev pub running_place : RunningFault → List ℕ
+running_place (running.Read e) = read_place e
+running_place (running.Certificate e) = line_of_text (text_line e)
+running_place (running.Events e) = events_place e
+running_place (running.Check e) = check_place e
+running_place (running.Run e) = codes ""
+
 -- want of memory has no place
 abbrev pub file_place : List ℕ → FileFault → List ℕ
 file_place name files.Memory = codes ""
@@ -135,6 +161,7 @@ answer_place (answers.Input e) = codes ""
 answer_place (answers.List e) = list_place e
 answer_place (answers.Certify e) = certify_place e
 answer_place (answers.Check e) = checking_place e
+answer_place (answers.Run e) = running_place e
 
 -- the line that tells a fault
 abbrev pub fault_line : AnswerFault → List ℕ
@@ -186,6 +213,18 @@ checking_status (checks.Certificate e) = text_status e
 checking_status (checks.Check e) = check_status e
 checking_status (checks.Write e) = 1
 
+abbrev pub events_status : EventsFault → ℕ
+events_status (events.BadLine line) = 3
+events_status events.TooManyLines = 3
+events_status events.Memory = 1
+
+abbrev pub running_status : RunningFault → ℕ
+running_status (running.Read e) = read_status e
+running_status (running.Certificate e) = text_status e
+running_status (running.Events e) = events_status e
+running_status (running.Check e) = check_status e
+running_status (running.Run e) = 1
+
 abbrev pub file_status : FileFault → ℕ
 file_status files.Memory = 1
 file_status _ = 3
@@ -197,3 +236,4 @@ answer_status (answers.Input e) = 1
 answer_status (answers.List e) = list_status e
 answer_status (answers.Certify e) = certify_status e
 answer_status (answers.Check e) = checking_status e
+answer_status (answers.Run e) = running_status e

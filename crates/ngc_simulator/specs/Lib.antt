@@ -2,6 +2,7 @@ pub mod Listing
 pub mod Faults
 pub mod Lists
 pub mod Jobs
+pub mod Running
 pub mod Setups
 pub mod Shops
 pub mod Status

@@ -25,6 +25,7 @@ RefusesShop bytes machine tools (answers.Input e) = Unit {0}
 RefusesShop bytes machine tools (answers.List e) = ⊥
 RefusesShop bytes machine tools (answers.Certify e) = ⊥
 RefusesShop bytes machine tools (answers.Check e) = ⊥
+RefusesShop bytes machine tools (answers.Run e) = ⊥
 
 abbrev pub GivesShop : FileBytes → Option (List ℕ) → Option (List ℕ) → Result Shop AnswerFault → Type 0
 GivesShop bytes machine tools (Ok shop) =

@@ -9,6 +9,7 @@ ghost use Rattle.ngc_simulator.specs.Jobs.{Checks, FailsByChecking};
 
 use crate::fault::AnswerFault;
 use crate::files::Files;
+use crate::opening::read_program;
 use crate::setup::read_shop;
 use ngc_certificate_text::{Certificate, CertificateFault};
 use ngc_checker::{CheckFault, check};
@@ -81,11 +82,7 @@ pub(crate) fn check_files<F: Files, W: Sink>(
         Ok(shop) => shop,
         Err(fault) => return Err(fault),
     };
-    let mut source = match files.source(options.program) {
-        Ok(source) => source,
-        Err(_) => return Err(AnswerFault::Input(InputFault::Device)),
-    };
-    let program = match Program::read(alloc, &mut source) {
+    let program = match read_program(alloc, options.program, files) {
         Ok(program) => program,
         Err(fault) => return Err(AnswerFault::Check(CheckingFault::Read(fault))),
     };

@@ -1,6 +1,7 @@
 use crate::certifier::CertifyFault;
 use crate::checking::CheckingFault;
 use crate::lister::ListFault;
+use crate::running::RunningFault;
 use ngc_input::InputFault;
 use ngc_machine::FileFault;
 use thiserror::Error;
@@ -14,7 +15,7 @@ pub enum AnswerFault {
     /// The tool table is refused: 261, 268, 269, 900.
     #[error("tool table: {0}")]
     Tools(FileFault),
-    /// A machine file or tool table isn't read, or a file isn't opened: 900, 901.
+    /// A machine file, tool table or events file isn't read, or a file isn't opened: 900, 901.
     #[error(transparent)]
     Input(InputFault),
     /// No listing is written.
@@ -26,6 +27,9 @@ pub enum AnswerFault {
     /// The certificate isn't accepted.
     #[error(transparent)]
     Check(CheckingFault),
+    /// The program isn't run, or its log isn't written.
+    #[error(transparent)]
+    Run(RunningFault),
 }
 
 /// Why a machine file or a tool table gives nothing.

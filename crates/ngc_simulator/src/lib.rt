@@ -1,4 +1,4 @@
-//! What the program does: it lists part programs, makes their certificates and checks them.
+//! What the program does: it lists part programs, makes their certificates, checks them and runs the machine.
 #![tactic(auto)]
 
 mod certifier;
@@ -7,9 +7,12 @@ mod fault;
 mod files;
 mod lister;
 mod listing;
+mod opening;
 mod program;
 mod report;
 mod report_certificates;
+mod report_runs;
+mod running;
 mod setup;
 
 pub use certifier::{CertifyFault, certify};
@@ -18,6 +21,7 @@ pub use fault::AnswerFault;
 pub use files::Files;
 pub use lister::{ListFault, list};
 pub use listing::write_list;
+pub use ngc_behaviour::{Ending, EventFault, Reply};
 pub use ngc_canonical::{
     Command, CoolantState, Fault, Feed, ProgramFault, SpindleState, interpret,
 };
@@ -25,7 +29,12 @@ pub use ngc_certificate::{MakeFault, PieceFault, Setting};
 pub use ngc_certificate_text::{Certificate, CertificateFault};
 pub use ngc_checker::{Accepted, CheckFault, check};
 pub use ngc_command_line::{
-    CertifyOptions, CheckOptions, ListOptions, Options, UsageFault, read_options,
+    CertifyOptions, CheckOptions, ListOptions, Options, RunOptions, UsageFault, read_options,
 };
+pub use ngc_controller::Controller;
+pub use ngc_events::{Event, EventLine, EventsFault, read_events};
 pub use ngc_machine::{FileFault, Fixture, Machine, Tool, Tools, row_machine};
+pub use ngc_run_log::{Report, RunFault, run};
+pub use ngc_step_kernel::{ArcKernel, ArcPath};
 pub use program::answer;
+pub use running::{RunningFault, run_program};

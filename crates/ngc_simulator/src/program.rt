@@ -8,6 +8,7 @@ use crate::fault::AnswerFault;
 use crate::files::Files;
 use crate::lister::list_files;
 use crate::report::add_fault_line;
+use crate::running::run_files;
 use ngc_command_line::Options;
 use ngc_fixed_length::Sink;
 use ngc_output::Chunk;
@@ -26,6 +27,7 @@ fn run_command<F: Files, W: Sink>(
         Options::List(options) => list_files(alloc, options, files, output),
         Options::Certify(options) => certify_files(alloc, options, files, output),
         Options::Check(options) => check_files(alloc, options, files, output),
+        Options::Run(options) => run_files(alloc, options, files, output),
     }
 }
 
@@ -39,7 +41,7 @@ pub fn answer<F: Files, W: Sink, E: Sink>(
     output: &mut W,
     errors: &mut E,
 ) -> u8
-    // Of the files that the options name: the listing, the certificate, the word that it is accepted, or a fault, and the status and the second sink tell which.
+    // Of the files that the options name: the listing, the certificate, the word that it is accepted, the log of the run, or a fault, and the status and the second sink tell which.
     ensures answers { Answers (F.bytes files.old) options.now (record { old = W.written output.old; new = W.written output.new; failures = W.failures output.old; failures_now = W.failures output.new }) (record { old = E.written errors.old; new = E.written errors.new; failures = E.failures errors.old; failures_now = E.failures errors.new }) result }
     ensures status { IsStatus result }
     // A run that is done has written what it had to, and nothing to the second sink.

@@ -6,6 +6,7 @@ ghost use Rattle.ngc_simulator.specs.Faults.{list_number, list_place, fault_line
 use crate::fault::AnswerFault;
 use crate::lister::ListFault;
 use crate::report_certificates::{add_certify_place, add_checking_place};
+use crate::report_runs::add_running_place;
 use ngc_canonical::ProgramFault;
 use ngc_line_reader::ReadFault;
 use ngc_machine::FileFault;
@@ -47,6 +48,7 @@ impl AnswerFault {
             AnswerFault::List(fault) => fault.number(),
             AnswerFault::Certify(fault) => fault.number(),
             AnswerFault::Check(fault) => fault.number(),
+            AnswerFault::Run(fault) => fault.number(),
         }
     }
 
@@ -61,6 +63,7 @@ impl AnswerFault {
             AnswerFault::List(fault) => fault.status(),
             AnswerFault::Certify(fault) => fault.status(),
             AnswerFault::Check(fault) => fault.status(),
+            AnswerFault::Run(fault) => fault.status(),
         }
     }
 }
@@ -140,6 +143,7 @@ fn add_place(chunk: &mut Chunk, fault: &AnswerFault)
         AnswerFault::List(fault) => add_list_place(chunk, fault),
         AnswerFault::Certify(fault) => add_certify_place(chunk, fault),
         AnswerFault::Check(fault) => add_checking_place(chunk, fault),
+        AnswerFault::Run(fault) => add_running_place(chunk, fault),
     }
 }
 

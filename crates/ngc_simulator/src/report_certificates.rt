@@ -73,7 +73,7 @@ fn status_of_making(fault: &MakeFault) -> u8
     }
 }
 
-fn status_of_text(fault: &CertificateFault) -> u8
+pub(crate) fn status_of_text(fault: &CertificateFault) -> u8
     ensures { result ≡ text_status fault.now }
 {
     match fault {
@@ -84,7 +84,7 @@ fn status_of_text(fault: &CertificateFault) -> u8
     }
 }
 
-fn status_of_check(fault: &CheckFault) -> u8
+pub(crate) fn status_of_check(fault: &CheckFault) -> u8
     ensures { result ≡ check_status fault.now }
 {
     match fault {
@@ -162,7 +162,7 @@ fn add_make_place(chunk: &mut Chunk, fault: &MakeFault)
     }
 }
 
-fn add_check_place(chunk: &mut Chunk, fault: &CheckFault)
+pub(crate) fn add_check_place(chunk: &mut Chunk, fault: &CheckFault)
     requires { length chunk.old + 250 ≤ CHUNK_SIZE }
     ensures text { chunk.new ≡ chunk.old ++ check_place fault.now }
     ensures short { length chunk.new ≤ length chunk.old + 200 }
@@ -192,7 +192,7 @@ fn add_check_place(chunk: &mut Chunk, fault: &CheckFault)
     }
 }
 
-fn add_text_line(chunk: &mut Chunk, line: Option<u32>)
+pub(crate) fn add_text_line(chunk: &mut Chunk, line: Option<u32>)
     requires { length chunk.old + 100 ≤ CHUNK_SIZE }
     ensures text { chunk.new ≡ chunk.old ++ line_of_text line }
     ensures short { length chunk.new ≤ length chunk.old + 58 }

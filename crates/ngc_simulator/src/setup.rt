@@ -21,11 +21,11 @@ pub struct Shop {
     pub tools: Tools<Global>,
 }
 
-/// How many bytes of a machine file or tool table are read: a longer one is 901.
+/// How many bytes of a machine file, tool table or events file are read: a longer one is 901.
 const FILE_LIMIT: usize = 20_000_000;
 
-// The bytes of a named file.
-fn bytes_of<F: Files>(alloc: Global, name: &str, files: &mut F) -> Result<Vec<u8>, InputFault>
+/// The bytes of a named file.
+pub fn bytes_of<F: Files>(alloc: Global, name: &str, files: &mut F) -> Result<Vec<u8>, InputFault>
     ensures value { IfSome (F.bytes files.old (Some name.now)) (λ bytes. IfOk result (λ v. v.items ≡ bytes)) }
     ensures keeps { KeepsFiles (F.bytes files.old) (F.bytes files.new) }
 {

@@ -4,7 +4,7 @@ use std::alloc::Global;
 use std::process::Abort;
 use std::test::Fail;
 
-const MACHINE: &str = "version = 1
+pub(super) const MACHINE: &str = "version = 1
 step = 10000
 ticks_per_second = 10000
 max_rate = 400000
@@ -44,7 +44,7 @@ low = [8000000, 0, -1000000]
 high = [10000000, 2000000, 1000000]
 ";
 
-const TOOLS: &str = "version = 1
+pub(super) const TOOLS: &str = "version = 1
 [[tool]]
 number = 1
 length = 20000000
@@ -57,7 +57,7 @@ radius = 3000000
 offset = 60000000
 ";
 
-const NO_MOTIONS: &str = "ngc-certificate 1\nsetting off 0\nsetting on 0\nend\n";
+pub(super) const NO_MOTIONS: &str = "ngc-certificate 1\nsetting off 0\nsetting on 0\nend\n";
 
 // A program on the small mill with these fixtures.
 #[derive(Clone, Copy)]
@@ -78,6 +78,7 @@ fn comes_to(
         machine: machine.as_bytes(),
         tools: TOOLS.as_bytes(),
         certificate,
+        events: b"",
         failures: 0,
     };
     Ok(answers_of(alloc, &mut files, options))

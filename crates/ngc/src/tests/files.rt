@@ -34,6 +34,7 @@ fn answers(
         machine: machine.unwrap_or(b""),
         tools: tools.unwrap_or(b""),
         certificate: b"",
+        events: b"",
         failures: 0,
     };
     let options = ListOptions {

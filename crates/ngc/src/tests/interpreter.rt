@@ -18,6 +18,7 @@ fn with_tool(rt: &impl Abort, alloc: Global, text: &str, status: u8, output: &st
         machine: b"",
         tools: TOOLS,
         certificate: b"",
+        events: b"",
         failures: 0,
     };
     let options = ListOptions {

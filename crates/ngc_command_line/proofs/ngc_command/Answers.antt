@@ -7,4 +7,5 @@ pub returns : goal.returns
 returns c =
     let list = adds_subcommand c.in_ok-bare_command.ensures c.in_ok-list_command.ensures refl c.in_ok-subcommand.ensures in
     let certify = adds_subcommand list c.in_ok-certify_command.ensures refl c.in_ok-subcommand-2.ensures in
-    IfOk-weaker c.subcommand-3.result _ _ (λ _ adds. adds_subcommand certify c.in_ok-check_command.ensures refl adds) c.subcommand-3.ensures
+    let check = adds_subcommand certify c.in_ok-check_command.ensures refl c.in_ok-subcommand-3.ensures in
+    IfOk-weaker c.subcommand-4.result _ _ (λ _ adds. adds_subcommand check c.in_ok-run_command.ensures refl adds) c.subcommand-4.ensures

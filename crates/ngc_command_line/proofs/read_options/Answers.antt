@@ -4,7 +4,7 @@ use Rattle.clap.specs.Walk.{texts}
 use Rattle.ngc_command_line.specs.Meant.{AreOptions}
 use Rattle.ngc_command_line.proofs.Found.{found_from_parts}
 use Rattle.ngc_command_line.proofs.Simple.{ngc_is_free, ngc_is_simple, taken_is_memory}
-use Rattle.ngc_command_line.proofs.Spelled.{certify_read, certify_taken, check_read, check_taken, list_read, list_taken}
+use Rattle.ngc_command_line.proofs.Spelled.{certify_read, certify_taken, check_read, check_taken, list_read, list_taken, run_read, run_taken}
 use Rattle.ngc_command_line.proofs.Whole.{taken_is_whole}
 use Rattle.ngc_command_line.proofs.read_options.Goals as goal
 
@@ -40,6 +40,12 @@ returns-clause-spelled_certify c = λ machine tools program cuts range spelled. 
 pub returns-clause-spelled_check : goal.returns-clause-spelled_check
 returns-clause-spelled_check c = λ machine tools certificate program spelled. check_read _ machine tools certificate program _ spelled (returns-clause-options c)
 
+pub returns-clause-spelled_run : goal.returns-clause-spelled_run
+returns-clause-spelled_run c = λ machine tools certificate events program delete spelled. run_read _ machine tools certificate events program delete _ spelled (returns-clause-options c)
+
+pub returns-in-Err-clause-refused : goal.returns-in-Err-clause-refused
+returns-in-Err-clause-refused c = λ taken. c.usage_fault.ensures (taken_is_memory _ _ c.in-Err.error c.in-Ok.ensures taken c.in-Err.ensures.kinds)
+
 pub returns-in-Err-clause-spelled : goal.returns-in-Err-clause-spelled
 returns-in-Err-clause-spelled c = λ program machine tools delete spelled.
     c.usage_fault.ensures (taken_is_memory _ _ c.in-Err.error c.in-Ok.ensures (list_taken _ program machine tools delete spelled) c.in-Err.ensures.kinds)
@@ -51,3 +57,7 @@ returns-in-Err-clause-spelled_certify c = λ machine tools program cuts range sp
 pub returns-in-Err-clause-spelled_check : goal.returns-in-Err-clause-spelled_check
 returns-in-Err-clause-spelled_check c = λ machine tools certificate program spelled.
     c.usage_fault.ensures (taken_is_memory _ _ c.in-Err.error c.in-Ok.ensures (check_taken _ machine tools certificate program spelled) c.in-Err.ensures.kinds)
+
+pub returns-in-Err-clause-spelled_run : goal.returns-in-Err-clause-spelled_run
+returns-in-Err-clause-spelled_run c = λ machine tools certificate events program delete spelled.
+    c.usage_fault.ensures (taken_is_memory _ _ c.in-Err.error c.in-Ok.ensures (run_taken _ machine tools certificate events program delete spelled) c.in-Err.ensures.kinds)

@@ -5,6 +5,7 @@ use Rattle.ngc_canonical.specs.declared.command.Command.{Command}
 use Rattle.ngc_canonical.specs.declared.fault.ProgramFault.{ProgramFault}
 use Rattle.ngc_canonical.specs.Meaning.{meaning, program_said, past_last, commands_of, GivesMeaning}
 use Rattle.ngc_canonical.specs.Interpreter.{setup_of, state_of}
+use Rattle.ngc_canonical.proofs.EndingLines.{line_ended, line_on, finished_ended}
 use Rattle.ngc_canonical.proofs.JoinedLines.{went_on, handed_out, finished_joined, finished_few}
 use Rattle.ngc_canonical.proofs.Lines.{NextLine, next_line, line_at, bytes_at, seen, left_refused, left_ended, left_on, left_none, refused_fails}
 use Rattle.ngc_canonical.proofs.program.interpret.Goals as goal
@@ -33,6 +34,11 @@ returns-then-interpreter-clause-commands g c = λ rs are.
 pub loop-index-preserved : goal.loop-index-preserved
 loop-index-preserved g c = record {
   running = c.if-interpreter.false;
+  no_end =
+      let here = line_at (text_in c.args.program.now).lines c.loop-index.index c.number.result c.number.ensures in
+      let shows = seen here.line.bytes (c.load.ensures here.line.bytes (bytes_at _ c.loop-index.index c.number.result here)) c.view.ensures.deleted c.view.ensures.parts in
+      line_on (setup_of c.args.machine.now c.args.tools.now) c.args.block_delete c.number.result shows.reading (state_of c.loop-index.interpreter) (state_of c.take_line.new.self)
+      c.loop-index.invariant.running c.loop-index.invariant.no_end (c.in-Ok-take_line.ensures here.line.bytes shows shows.reading shows.reads) c.if-interpreter.false;
   holds =
       let here = line_at (text_in c.args.program.now).lines c.loop-index.index c.number.result c.number.ensures in
       let shows = seen here.line.bytes (c.load.ensures here.line.bytes (bytes_at _ c.loop-index.index c.number.result here)) c.view.ensures.deleted c.view.ensures.parts in
@@ -82,3 +88,14 @@ returns-clause-joined g c =
 pub returns-clause-count : goal.returns-clause-count
 returns-clause-count g c =
     finished_few (file_of c.args.machine.now).start c.mark_of.result c.len.result (state_of c.loop-index.interpreter) (λ v. v.items) c.finish.result c.loop-index.invariant.holds c.finish.ensures
+
+pub returns-then-interpreter-clause-ended : goal.returns-then-interpreter-clause-ended
+returns-then-interpreter-clause-ended g c =
+    let here = line_at (text_in c.args.program.now).lines c.loop-index.index c.number.result c.number.ensures in
+    let shows = seen here.line.bytes (c.load.ensures here.line.bytes (bytes_at _ c.loop-index.index c.number.result here)) c.view.ensures.deleted c.view.ensures.parts in
+    line_ended (setup_of c.args.machine.now c.args.tools.now) c.args.block_delete c.number.result shows.reading (state_of c.loop-index.interpreter) (state_of c.take_line.new.self) _
+    c.loop-index.invariant.running c.loop-index.invariant.no_end (c.in-Ok-take_line.ensures here.line.bytes shows shows.reading shows.reads) c.into_commands.ensures
+
+pub returns-clause-ended : goal.returns-clause-ended
+returns-clause-ended g c =
+    finished_ended c.mark_of.result c.len.result (state_of c.loop-index.interpreter) (λ v. v.items) c.finish.result c.loop-index.invariant.no_end c.finish.ensures

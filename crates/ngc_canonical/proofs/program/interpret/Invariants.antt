@@ -1,4 +1,5 @@
--- What is left of the program from here on leads where all of it leads from the start, and the motions so far to where the axes stand.
+-- What is left of the program from here on leads where all of it leads from the start, and the motions so far to where the axes
+-- stand; and no end has come.
 use Rattle.std.proofs.Common.{◌≡◌, List, false}
 use Rattle.ngc_line_reader.specs.Grammar.{Reading}
 use Rattle.ngc_line_reader.specs.ProgramText.{AreReadings}
@@ -7,6 +8,7 @@ use Rattle.ngc_machine.specs.Machine.{file_of}
 use Rattle.ngc_canonical.specs.State.{start_state}
 use Rattle.ngc_canonical.specs.Meaning.{from_state, remaining, program_said}
 use Rattle.ngc_canonical.specs.Interpreter.{setup_of, state_of}
+use Rattle.ngc_canonical.proofs.EndingSteps.{HasNoEnd}
 use Rattle.ngc_canonical.proofs.Joining.{Holds}
 use Rattle.ngc_canonical.proofs.Lines.{left}
 use Rattle.ngc_canonical.proofs.program.interpret.Given as goal
@@ -14,6 +16,7 @@ use Rattle.ngc_canonical.proofs.program.interpret.Given as goal
 abbrev pub invariant-loop-index : goal.invariant-loop-index
 invariant-loop-index g l = record {
   running : (state_of l.interpreter).ended ≡ false;
+  no_end : HasNoEnd (state_of l.interpreter).commands;
   holds : Holds (file_of l.machine).start (state_of l.interpreter);
   leads : (rs : List Reading) → AreReadings (text_in l.program).lines rs
       → from_state (setup_of l.machine l.tools) (program_said (text_in l.program) rs) (remaining l.block_delete (program_said (text_in l.program) rs).lines) (start_state (file_of l.machine))

@@ -1,0 +1,258 @@
+-- A motion is done within so many ticks in which the machine is free.
+use Rattle.std.proofs.Common.{◌≡◌, ◌⊎◌, inl, inr, ℕ, zero, suc, ◌+◌, ◌-◌, ◌*◌, ◌<◌, ◌≤◌, ap, subst, sym, ◌∙◌, arith, refl, List, [], ◌∷◌, ◌++◌, length, Some, None, true, false, Bool, min}
+use Rattle.std.specs.Prelude.{Option, MatchBool, nat_lt, nat_le, not, ◌&&◌, if◌then◌else◌}
+use Rattle.std.specs.List.{All}
+use Rattle.std.proofs.lemmas.Bool.{cases_lt, and_parts, not-true, ltb-true, eqb-true, false≢true}
+use Rattle.std.proofs.lemmas.Bool.Decides.{nat_tests}
+use Rattle.std.proofs.lemmas.List.Elements.{All-head, All-tail}
+use Rattle.std.proofs.lemmas.Nat.{le-div}
+use Rattle.std.proofs.Math.Nat.{div-mul-le_self}
+use Rattle.ngc_canonical.specs.declared.command.Command.{Command}
+use Rattle.ngc_planner.specs.Bounds.{least_travel}
+use Rattle.ngc_planner.specs.Caps.{MILLION}
+use Rattle.ngc_events.specs.declared.event.Event.{Event}
+use Rattle.ngc_events.specs.declared.event.Event.TheVariants.{Load, Tick, Hold, Resume, Override, StopSwitch, Start}
+use Rattle.ngc_behaviour.specs.State.{Job, Queued, State, opening, loaded, command_at, path_steps, millionths, effective, RING}
+use Rattle.ngc_behaviour.specs.Reach.{rest}
+use Rattle.ngc_behaviour.specs.Step.{Outcome, Step, LoadCommand, Rests, Finishes, Dwells, Serves, Travels, HeadTick, TickBy, popped, after, ticks_of}
+use Rattle.ngc_behaviour.specs.Run.{Run}
+use Rattle.ngc_behaviour.specs.Progress.{IsFree, TravelsAtLeast, GoesOn, KeepGoing, is_tick, is_free, IsHead, has_head, free_ticks, ticks_for}
+use Rattle.ngc_behaviour.specs.Headline.{EndsInTime}
+use Rattle.ngc_behaviour.proofs.Cases.{match_with}
+use Rattle.ngc_behaviour.proofs.RatesOfRun.{Fits, after_stays, event_keeps}
+use Rattle.ngc_behaviour.proofs.Travel.{moved}
+
+-- ---- ticks for a length
+
+-- more takes no fewer ticks
+ticks_more : (x y m : ℕ) → 1 ≤ m → x ≤ y → ticks_for x m ≤ ticks_for y m
+ticks_more x y m p h = let q = div-mul-le_self (x + (m - 1)) m in le-div (ticks_for x m) (y + (m - 1)) m (omega (arith, p)) (omega (arith, q, h))
+
+-- one tick at the least
+ticks_some : (x m : ℕ) → 1 ≤ m → 1 ≤ x → 1 ≤ ticks_for x m
+ticks_some x m p h = le-div 1 (x + (m - 1)) m (omega (arith, p)) (omega (arith, p, h))
+
+-- one tick of m takes one off
+ticks_next : (x m : ℕ) → 1 ≤ m → m ≤ x → 1 + ticks_for (x - m) m ≤ ticks_for x m
+ticks_next x m p h =
+    let q = div-mul-le_self (x - m + (m - 1)) m in
+    let e : (1 + ticks_for (x - m) m) * m ≡ m + ticks_for (x - m) m * m = omega arith in
+    le-div (1 + ticks_for (x - m) m) (x + (m - 1)) m (omega (arith, p)) (omega (arith, q, h, e))
+
+-- ---- what any event leaves
+
+-- something is left of the head, once it was begun
+abbrev pub IsPartWay : List Queued → ℕ → Type 0
+IsPartWay [] travelled = Unit {0}
+IsPartWay (l ∷ ls) travelled = 0 < travelled → travelled < millionths l
+
+-- command k goes on, or the next one is at the head
+abbrev GoesAhead : State → State → Type 0
+GoesAhead old new = IsPartWay new.ring new.travelled × (((new.done ≡ old.done) × (old.travelled ≤ new.travelled)) ⊎ (new.done ≡ suc old.done))
+
+none_way : (ring : List Queued) (travelled : ℕ) → travelled ≡ 0 → IsPartWay ring travelled
+none_way [] travelled e = tt
+none_way (l ∷ ls) travelled e = λ h. absurd (omega (arith, h, e))
+
+more_way : (ring : List Queued) (l : Queued) (travelled : ℕ) → Fits ring travelled → IsPartWay ring travelled → IsPartWay (ring ++ l ∷ []) travelled
+more_way [] l travelled f w = λ h. absurd (omega (arith, h, f))
+more_way (k ∷ ks) l travelled f w = w
+
+same_ahead : (old : State) → IsPartWay old.ring old.travelled → GoesAhead old old
+same_ahead old w = (w, inl (refl, omega arith))
+
+travel_ahead : (job : Job) (l : Queued) (ls : List Queued) (old : State) (o : Outcome) (new : State) → old.ring ≡ l ∷ ls → old.travelled ≤ millionths l →
+    Travels job l ls old o new → GoesAhead old new
+travel_ahead job l ls old o new e f t =
+    let m = moved job l ls old o new t f in
+    elim (m.state) [
+      | inl s ↦ (none_way new.ring new.travelled s.3, inr s.1)
+      | inr s ↦ (subst (λ r. IsPartWay r new.travelled) (sym (s.1 ∙ e)) (λ h. let t = s.2 in let b = s.3 in omega (arith, t, b)), inl (s.0, let t = s.2 in omega (arith, t)))
+    ]
+
+finish_ahead : (l : Queued) (old new : State) → new ≡ after l.command (record (popped 0 old) { rate = 0 }) → GoesAhead old new
+finish_ahead l old new n =
+    let a = after_stays l.command (record (popped 0 old) { rate = 0 }) in
+    let done : new.done ≡ suc old.done = ap (λ (s : State). s.done) n ∙ a.0 in
+    let travelled : new.travelled ≡ 0 = ap (λ (s : State). s.travelled) n ∙ a.2 in
+    (none_way new.ring new.travelled travelled, inr done)
+
+head_ahead : (job : Job) (l : Queued) (ls : List Queued) (old : State) (o : Outcome) (new : State) → old.ring ≡ l ∷ ls → old.travelled ≤ millionths l →
+    IsPartWay old.ring old.travelled → HeadTick job l ls old o new → GoesAhead old new
+head_ahead job l ls old o new e f w t =
+    elim (match_with (nat_lt 0 (path_steps l)) (Travels job l ls old o new) (MatchBool old.held (Rests job old o new) (Serves job l.command old o new)) t) [
+      | inl u ↦ travel_ahead job l ls old o new e f u.1
+      | inr u ↦ elim (match_with old.held (Rests job old o new) (Serves job l.command old o new) u.1) [
+        | inl r ↦ subst (GoesAhead old) (sym r.1.stands) (same_ahead old w)
+        | inr r ↦ elim (match_with (nat_lt (suc old.dwelt) (ticks_of job l.command)) (Dwells job old o new) (Finishes job l.command old o new) r.1) [
+          | inl d ↦ subst (GoesAhead old) (sym d.1.counts) (same_ahead old w)
+          | inr d ↦ finish_ahead l old new d.1.goes_on
+        ]
+      ]
+    ]
+
+tick_ahead : (job : Job) (stopped : Bool) (ring : List Queued) (old : State) (o : Outcome) (new : State) → old.ring ≡ ring → Fits ring old.travelled →
+    IsPartWay old.ring old.travelled → TickBy job stopped ring old o new → GoesAhead old new
+tick_ahead job true ring old o new e f w t = subst (GoesAhead old) (sym t.stands) (same_ahead old w)
+tick_ahead job false [] old o new e f w t = subst (GoesAhead old) (sym t.stands) (same_ahead old w)
+tick_ahead job false (l ∷ ls) old o new e f w t = head_ahead job l ls old o new e f w t
+
+load_ahead : (job : Job) (old : State) (next : Option Command) (o : Outcome) (new : State) → Fits old.ring old.travelled → IsPartWay old.ring old.travelled →
+    LoadCommand job old next o new → GoesAhead old new
+load_ahead job old None o new f w t = subst (GoesAhead old) (sym t.1) (same_ahead old w)
+load_ahead job old (Some c) o new f w t = elim (match_with (nat_lt (length old.ring) RING) _ _ t) [
+  | inl u ↦ subst (GoesAhead old) (sym u.1.3) (more_way old.ring (record { command = c; path = u.1.0 }) old.travelled f w, inl (refl, omega arith))
+  | inr u ↦ subst (GoesAhead old) (sym u.1.1) (same_ahead old w)
+]
+
+event_ahead : (job : Job) (old : State) (e : Event) (o : Outcome) (new : State) → Fits old.ring old.travelled → IsPartWay old.ring old.travelled →
+    Step job old e o new → GoesAhead old new
+event_ahead job old Load o new f w t = load_ahead job old (command_at job (loaded old)) o new f w t
+event_ahead job old Tick o new f w t = tick_ahead job old.stopped old.ring old o new refl f w t
+event_ahead job old Hold o new f w t = subst (GoesAhead old) (sym t.1) (same_ahead old w)
+event_ahead job old Resume o new f w t = subst (GoesAhead old) (sym t.1) (same_ahead old w)
+event_ahead job old Start o new f w t = subst (GoesAhead old) (sym t.1) (same_ahead old w)
+event_ahead job old (StopSwitch on) o new f w t = subst (GoesAhead old) (sym t.1) (same_ahead old w)
+event_ahead job old (Override n) o new f w t = elim (match_with (nat_le n 200) _ _ t) [
+  | inl u ↦ subst (GoesAhead old) (sym u.1.1) (same_ahead old w)
+  | inr u ↦ subst (GoesAhead old) (sym u.1.1) (same_ahead old w)
+]
+
+-- ---- what a tick leaves that is given while the machine is free
+
+-- command k, of x millionths, is at the head, and is done now or has travelled m more
+pub record Counts (k x m : ℕ) (old new : State) : Type 0 where
+  pub head : old.done ≡ k
+  pub some : old.travelled < x
+  pub moves : (new.done ≡ suc old.done) ⊎ ((new.done ≡ old.done) × (old.travelled + m ≤ new.travelled) × (new.travelled ≤ x))
+
+free_is : (s : State) → is_free s ≡ true → IsFree s
+free_is s h =
+    let a = and_parts (not s.held) (not s.stopped && nat_lt 0 (effective s)) h in
+    let b = and_parts (not s.stopped) (nat_lt 0 (effective s)) a.1 in
+    record { not_held = not-true s.held a.0; not_stopped = not-true s.stopped b.0; some_override = ltb-true 0 (effective s) b.1 }
+
+short : (travelled x : ℕ) → (0 < travelled → travelled < x) → 0 < x → travelled < x
+short zero x h p = p
+short (suc t) x h p = h (omega arith)
+
+travel_counts : (job : Job) (k : ℕ) (c : Command) (n : ℕ) (l : Queued) (ls : List Queued) (old : State) (o : Outcome) (new : State) → old.travelled ≤ millionths l →
+    (0 < old.travelled → old.travelled < millionths l) → 1 ≤ n → old.done ≡ k → l.command ≡ c → path_steps l ≡ n →
+    min (least_travel job.machine l.command (path_steps l)) (rest l old) ≤ new.rate → Travels job l ls old o new →
+    Counts k (n * MILLION) (least_travel job.machine c n) old new
+travel_counts job k c n l ls old o new f w p head same steps least t =
+    let s = short old.travelled (millionths l) w (omega (arith, p, steps)) in
+    let e : least_travel job.machine l.command (path_steps l) ≡ least_travel job.machine c n = ap (λ (d : Command). least_travel job.machine d (path_steps l)) same ∙ ap (least_travel job.machine c) steps in
+    let m = moved job l ls old o new t f in
+    record {
+      head = head;
+      some = omega (arith, s, steps);
+      moves = elim (m.state) [
+        | inl g ↦ inl g.1
+        | inr g ↦ let a = g.2 in let b = g.3 in inr (g.0, omega (arith, a, b, least, e), omega (arith, a, b, steps))
+      ];
+    }
+
+tick_counts : (job : Job) (k : ℕ) (c : Command) (n : ℕ) (ring : List Queued) (old : State) (o : Outcome) (new : State) → old.ring ≡ ring → Fits ring old.travelled →
+    IsPartWay ring old.travelled → 1 ≤ n → IsHead k c n old ring → has_head k old ring ≡ true → IsFree old → TravelsAtLeast job ring old new.rate →
+    TickBy job false ring old o new → Counts k (n * MILLION) (least_travel job.machine c n) old new
+tick_counts job k c n [] old o new e f w p is_head h free g t = absurd (false≢true h)
+tick_counts job k c n (l ∷ ls) old o new e f w p is_head h free g t =
+    let head = eqb-true old.done k h in
+    let i = is_head head in let steps = i.1 in
+    elim (match_with (nat_lt 0 (path_steps l)) (Travels job l ls old o new) (MatchBool old.held (Rests job old o new) (Serves job l.command old o new)) t) [
+      | inl u ↦ travel_counts job k c n l ls old o new f w p head i.0 i.1 (g free (omega (arith, p, steps))) u.1
+      | inr u ↦ absurd (let z : path_steps l ≡ 0 = let b = u.0 in grind (arith, nat_tests) in omega (arith, z, p, steps))
+    ]
+
+event_counts : (job : Job) (k : ℕ) (c : Command) (n : ℕ) (old : State) (e : Event) (o : Outcome) (new : State) → Fits old.ring old.travelled →
+    IsPartWay old.ring old.travelled → 1 ≤ n → IsHead k c n old old.ring → Step job old e o new → GoesOn job old e new →
+    (is_tick e && (has_head k old old.ring && is_free old)) ≡ true → Counts k (n * MILLION) (least_travel job.machine c n) old new
+event_counts job k c n old Tick o new f w p is_head t g h =
+    let a = and_parts (has_head k old old.ring) (is_free old) h in
+    let free = free_is old a.1 in
+    tick_counts job k c n old.ring old o new refl f w p is_head a.0 free g (subst (λ b. TickBy job b old.ring old o new) free.not_stopped t)
+event_counts job k c n old Load o new f w p is_head t g h = absurd (false≢true h)
+event_counts job k c n old Hold o new f w p is_head t g h = absurd (false≢true h)
+event_counts job k c n old Resume o new f w p is_head t g h = absurd (false≢true h)
+event_counts job k c n old Start o new f w p is_head t g h = absurd (false≢true h)
+event_counts job k c n old (StopSwitch on) o new f w p is_head t g h = absurd (false≢true h)
+event_counts job k c n old (Override q) o new f w p is_head t g h = absurd (false≢true h)
+
+-- ---- runs
+
+-- how many such ticks are to come, where command k has x millionths
+pub record IsBounded (k x m : ℕ) (s : State) (ticks : ℕ) : Type 0 where
+  pub past : k < s.done → ticks ≡ 0
+  pub now : s.done ≡ k → ticks ≤ ticks_for (x - s.travelled) m
+  pub later : s.done < k → ticks ≤ ticks_for x m
+
+other_bounded : (k x m : ℕ) (old new : State) (ticks : ℕ) → 1 ≤ m → ((new.done ≡ old.done) × (old.travelled ≤ new.travelled)) ⊎ (new.done ≡ suc old.done) →
+    IsBounded k x m new ticks → IsBounded k x m old ticks
+other_bounded k x m old new ticks p (inl g) b =
+    let same = g.0 in let more = g.1 in
+    record {
+      past = λ h. b.past (omega (arith, same, h));
+      now = λ h. let i = b.now (same ∙ h) in let q = ticks_more (x - new.travelled) (x - old.travelled) m p (omega (arith, more)) in omega (arith, i, q);
+      later = λ h. b.later (omega (arith, same, h));
+    }
+other_bounded k x m old new ticks p (inr g) b = record {
+  past = λ h. b.past (omega (arith, g, h));
+  now = λ h. let z = b.past (omega (arith, g, h)) in omega (arith, z);
+  later = λ h. elim (cases_lt new.done k) [
+    | inl l ↦ b.later l
+    | inr l ↦ let i = b.now (omega (arith, g, h, l)) in let q = ticks_more (x - new.travelled) x m p (omega arith) in omega (arith, i, q)
+  ];
+}
+
+counted_bounded : (k x m : ℕ) (old new : State) (ticks : ℕ) → 1 ≤ m → Counts k x m old new → IsBounded k x m new ticks → IsBounded k x m old (1 + ticks)
+counted_bounded k x m old new ticks p c b =
+    let head = c.head in let some = c.some in
+    record {
+      past = λ h. absurd (omega (arith, head, h));
+      now = λ h. elim (c.moves) [
+        | inl g ↦ let z = b.past (omega (arith, g, head)) in let q = ticks_some (x - old.travelled) m p (omega (arith, some)) in omega (arith, z, q)
+        | inr g ↦
+            let more = g.1 in let most = g.2 in
+            let i = b.now (g.0 ∙ head) in
+            let r = ticks_more (x - new.travelled) (x - old.travelled - m) m p (omega (arith, more)) in
+            let q = ticks_next (x - old.travelled) m p (omega (arith, more, most)) in
+            omega (arith, i, r, q)
+      ];
+      later = λ h. absurd (omega (arith, head, h));
+    }
+
+next_bounded : (k x m : ℕ) (old new : State) (ticks : ℕ) (b : Bool) → 1 ≤ m → (b ≡ true → Counts k x m old new) → GoesAhead old new → IsBounded k x m new ticks →
+    IsBounded k x m old ((if b then 1 else 0) + ticks)
+next_bounded k x m old new ticks true p c g i = counted_bounded k x m old new ticks p (c refl) i
+next_bounded k x m old new ticks false p c g i =
+    let e : ticks ≡ 0 + ticks = omega arith in subst (IsBounded k x m old) e (other_bounded k x m old new ticks p g.1 i)
+
+none_bounded : (k x m : ℕ) (s : State) → IsBounded k x m s 0
+none_bounded k x m s = record { past = λ h. refl; now = λ h. omega arith; later = λ h. omega arith }
+
+run_bounded : (job : Job) (k : ℕ) (c : Command) (n : ℕ) (old : State) (es : List Event) (os : List Outcome) (states : List State) → Fits old.ring old.travelled →
+    IsPartWay old.ring old.travelled → 1 ≤ n → 1 ≤ least_travel job.machine c n → IsHead k c n old old.ring → All (λ (s : State). IsHead k c n s s.ring) states →
+    Run job old es os states → KeepGoing job old es states → IsBounded k (n * MILLION) (least_travel job.machine c n) old (free_ticks k old es states)
+run_bounded job k c n old [] os states f w p q is_head heads r g = none_bounded k (n * MILLION) (least_travel job.machine c n) old
+run_bounded job k c n old (e ∷ es) os [] f w p q is_head heads r g = none_bounded k (n * MILLION) (least_travel job.machine c n) old
+run_bounded job k c n old (e ∷ es) [] (new ∷ states) f w p q is_head heads r g = absurd r
+run_bounded job k c n old (e ∷ es) (o ∷ os) (new ∷ states) f w p q is_head heads r g =
+    let a = event_ahead job old e o new f w r.0 in
+    let fits = event_keeps job old e o new f r.0 in
+    let i = run_bounded job k c n new es os states fits.1 a.0 p q (All-head (λ (s : State). IsHead k c n s s.ring) new states heads)
+    (All-tail (λ (s : State). IsHead k c n s s.ring) new states heads) r.1 g.1 in
+    next_bounded k (n * MILLION) (least_travel job.machine c n) old new (free_ticks k new es states) (is_tick e && (has_head k old old.ring && is_free old)) q
+    (event_counts job k c n old e o new f w p is_head r.0 g.0) a i
+
+pub ends_in_time : EndsInTime
+ends_in_time job k c n es os states r g heads p q =
+    let b = run_bounded job k c n (opening job.machine) es os states refl tt p q tt heads r g in
+    from_start k b
+  where
+    from_start : (k : ℕ) → IsBounded k (n * MILLION) (least_travel job.machine c n) (opening job.machine) (free_ticks k (opening job.machine) es states) →
+        free_ticks k (opening job.machine) es states ≤ ticks_for (n * MILLION) (least_travel job.machine c n)
+    from_start zero b =
+        let i = b.now refl in
+        let all = ticks_more (n * MILLION - 0) (n * MILLION) (least_travel job.machine c n) q (omega arith) in omega (arith, i, all)
+    from_start (suc j) b = b.later (omega arith)

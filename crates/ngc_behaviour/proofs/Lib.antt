@@ -1,0 +1,14 @@
+pub mod Cases
+pub mod Heads
+pub mod SafeRun
+pub mod SafePositions
+pub mod Settings
+pub mod RatesOfRun
+pub mod Travel
+pub mod Windows
+pub mod PulseRules
+pub mod EndsInTime
+pub mod Effects
+pub mod MotionPaths
+pub mod Way
+pub mod Headline

@@ -1,0 +1,50 @@
+-- The rules of rates: millionths of a path step a tick. Our own.
+use Rattle.std.specs.Prelude.{◌≡◌, ℕ, zero, suc, ◌+◌, ◌-◌, ◌≤◌, ◌<◌, min, max, ◌==◌, List, [], ◌∷◌, Option, None, if◌then◌else◌}
+use Rattle.ngc_canonical.specs.declared.command.Command.{Command}
+use Rattle.ngc_planner.specs.Braking.{braking}
+use Rattle.ngc_planner.specs.Bounds.{IsWithinBounds, bound_of, target_at}
+use Rattle.ngc_planner.specs.Joints.{joint_before, joint_after}
+use Rattle.ngc_behaviour.specs.State.{Job, Queued, State, command_at, path_steps, millionths, effective}
+use Rattle.ngc_behaviour.specs.Reach.{reach, free}
+
+-- the command before the head
+abbrev pub before : Job → ℕ → Option Command
+before job zero = None
+before job (suc k) = command_at job k
+
+-- the next motion is within its bounds too, where the tick goes on into it
+abbrev pub GoesOnInto : Job → ℕ → List Queued → Type 0
+GoesOnInto job v [] = ⊥
+GoesOnInto job v (l ∷ ls) = IsWithinBounds job.machine l.command (path_steps l) v
+
+-- the rate v of a tick at whose start l is the head
+pub record KeepsRateRules (job : Job) (l : Queued) (ls : List Queued) (s : State) (v : ℕ) : Type 0 where
+  pub faster : v ≤ s.rate + job.machine.change
+  pub slower : s.rate ≤ v + job.machine.change
+  pub within : IsWithinBounds job.machine l.command (path_steps l) v
+  -- the first tick on a motion, and the last
+  pub enters : s.travelled ≡ 0 → v ≤ joint_before job.machine (before job s.done) l.command
+  pub leaves : millionths l ≤ s.travelled + v → v ≤ joint_after job.machine l.command (command_at job (suc s.done))
+  pub goes_on : millionths l < s.travelled + v → GoesOnInto job v ls
+
+-- nothing is to be travelled while held
+abbrev pub target : Job → Queued → State → ℕ
+target job l s = if s.held then 0 else target_at job.machine l.command (path_steps l) (effective s)
+
+-- in its first tick a motion is bound by the joint too
+abbrev pub head_bound : Job → Queued → State → ℕ
+head_bound job l s =
+    if s.travelled == 0
+    then min (bound_of job.machine l.command (path_steps l)) (joint_before job.machine (before job s.done) l.command)
+    else bound_of job.machine l.command (path_steps l)
+
+-- the rate that a tick has at least, where the way is free for it
+abbrev pub pace : Job → Queued → State → ℕ
+pace job l s = min (min (s.rate + job.machine.change) (target job l s)) (head_bound job l s)
+
+-- the rates that a tick may travel on the head
+pub record MayTravel (job : Job) (l : Queued) (ls : List Queued) (s : State) (v : ℕ) : Type 0 where
+  pub rules : KeepsRateRules job l ls s v
+  pub brakes : braking v job.machine.change ≤ reach l ls s
+  pub aims : v ≤ max (target job l s) (s.rate - job.machine.change)
+  pub keeps_pace : braking (pace job l s) job.machine.change < free job (pace job l s) l ls s → pace job l s ≤ v

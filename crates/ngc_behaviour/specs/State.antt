@@ -1,0 +1,74 @@
+-- The state of a machine that runs a program. Our own.
+use Rattle.std.specs.Prelude.{ℕ, ◌+◌, ◌-◌, ◌*◌, List, [], length, slice_get, Option, None, Bool, true, false, if◌then◌else◌}
+use Rattle.ngc_fixed_length.specs.declared.points.StepPos.{StepPos}
+use Rattle.ngc_fixed_length.specs.Grid.{grid}
+use Rattle.ngc_canonical.specs.declared.command.Command.{Command}
+use Rattle.ngc_machine.specs.declared.tools.Tool.{Tool}
+use Rattle.ngc_machine.specs.Machine.{MachineFile}
+use Rattle.ngc_planner.specs.Caps.{MILLION}
+
+-- what the machine runs: a machine file, and the commands of a setting
+pub record Job : Type 0 where
+  pub machine : MachineFile
+  pub commands : List Command
+
+-- a loaded command, and the path that was chosen for it; a command that is no motion has no points
+pub record Queued : Type 0 where
+  pub command : Command
+  pub path : List StepPos
+
+pub record State : Type 0 where
+  -- how many commands are done, and those that are loaded and not done
+  pub done : ℕ
+  pub ring : List Queued
+  -- of the first of these the millionths of a path step that were travelled, or the ticks that were dwelt
+  pub travelled : ℕ
+  pub dwelt : ℕ
+  pub position : StepPos
+  -- the rate of the last tick
+  pub rate : ℕ
+  pub tool : Option Tool
+  -- the override in percent, and whether it counts
+  pub percent : ℕ
+  pub overrides : Bool
+  pub held : Bool
+  pub stopped : Bool
+  pub stop_switch : Bool
+
+abbrev pub opening : MachineFile → State
+opening machine = record {
+  done = 0;
+  ring = [];
+  travelled = 0;
+  dwelt = 0;
+  position = grid machine.step machine.start;
+  rate = 0;
+  tool = None;
+  percent = 100;
+  overrides = true;
+  held = false;
+  stopped = false;
+  stop_switch = false;
+}
+
+-- how many commands the ring takes
+abbrev pub RING : ℕ
+RING = 16
+
+-- the index of the next command to load, and commands by index
+abbrev pub loaded : State → ℕ
+loaded s = s.done + length s.ring
+
+abbrev pub command_at : Job → ℕ → Option Command
+command_at job k = slice_get job.commands k
+
+-- how many path steps a loaded command has, and their millionths
+abbrev pub path_steps : Queued → ℕ
+path_steps l = length l.path - 1
+
+abbrev pub millionths : Queued → ℕ
+millionths l = path_steps l * MILLION
+
+-- the percentage that counts
+abbrev pub effective : State → ℕ
+effective s = if s.overrides then s.percent else 100

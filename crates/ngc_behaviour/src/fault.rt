@@ -1,0 +1,31 @@
+ghost use Rattle.std.specs.Prelude.{◌≡◌};
+ghost use Rattle.ngc_behaviour.specs.Faults.{number_of};
+
+use thiserror::Error;
+
+/// Why the machine refuses an event. It is then unchanged.
+#[derive(Clone, Copy, Debug, PartialEq, Eq, Error)]
+pub enum EventFault {
+    /// 701: an override over 200 percent.
+    #[error("override over 200 percent")]
+    OverrideTooLarge,
+    /// 702: a load while sixteen commands are loaded and not done.
+    #[error("no room for a command")]
+    RingFull,
+    /// 703: a load behind the last command.
+    #[error("all commands are loaded")]
+    AllLoaded,
+}
+
+impl EventFault {
+    /// The fault's number.
+    pub fn number(&self) -> u16
+        ensures { result ≡ number_of self.now }
+    {
+        match self {
+            EventFault::OverrideTooLarge => 701,
+            EventFault::RingFull => 702,
+            EventFault::AllLoaded => 703,
+        }
+    }
+}

@@ -1,0 +1,24 @@
+//! Laws about the definitions alone.
+ghost use Rattle.ngc_behaviour.specs.Headline.{AcceptedRunsSafely, EndsInTime, Headline, KeepRatesAlways};
+
+/// Where the checker refuses nothing, then at either setting of block delete, for every list of events, every run of the
+/// machine is safe: each position is within travel and the tool mounted then clear of every fixture, rates and pulses keep
+/// their rules, the positions begin a path of the program, and the end is told only behind a whole one.
+pub fn headline()
+    ensures { Headline }
+{}
+
+/// Whatever was accepted runs safely.
+pub fn accepted_runs_safely()
+    ensures { AcceptedRunsSafely }
+{}
+
+/// Every tick of every run keeps the rules of rates, also where nothing was accepted.
+pub fn rates()
+    ensures { KeepRatesAlways }
+{}
+
+/// A motion is done within so many ticks in which the machine is neither held nor stopped, at an override of at least 1.
+pub fn ends_in_time()
+    ensures { EndsInTime }
+{}

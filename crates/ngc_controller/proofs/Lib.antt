@@ -1,0 +1,3 @@
+pub mod TravelLaws
+pub mod OrderLaws
+pub mod HeadLaws

@@ -1,0 +1,94 @@
+-- What the fields of a controller stand for, and what they keep. Our own.
+use Rattle.std.specs.Prelude.{◌≡◌, ℕ, ◌+◌, ◌-◌, ◌/◌, ◌^◌, ◌≤◌, List, [], ◌∷◌, length, Option, true}
+use Rattle.ngc_fixed_length.specs.declared.points.StepPos.{StepPos}
+use Rattle.ngc_canonical.specs.declared.command.Command.{Command}
+use Rattle.ngc_canonical.specs.declared.command.Command.TheVariants as commands
+use Rattle.ngc_machine.specs.MachineRanges.{IsMachine}
+use Rattle.ngc_machine.specs.declared.tools.Tool.{Tool}
+use Rattle.ngc_planner.specs.Caps.{MILLION}
+use Rattle.ngc_planner.specs.Ramp.{IsRest}
+use Rattle.ngc_behaviour.specs.State.{Job, State, Queued, path_steps, millionths}
+use Rattle.ngc_behaviour.specs.Progress.{TravelsAtLeast}
+use Rattle.ngc_behaviour.specs.Step.{Outcome, Travels}
+use Rattle.ngc_controller.specs.declared.drive.Drive.{Drive}
+use Rattle.ngc_controller.specs.declared.panel.Panel.{Panel}
+use Rattle.ngc_controller.specs.Drive.{legs_of, IsTarget}
+use Rattle.ngc_controller.specs.Panel.{effective_at}
+use Rattle.ngc_controller.specs.Ring.{RingData}
+
+-- the millionths of a path step of the head
+abbrev pub total : List Queued → ℕ
+total [] = 0
+total (l ∷ ls) = millionths l
+
+abbrev pub state_of : ℕ → RingData → Drive → ℕ → StepPos → Option Tool → Panel → State
+state_of done ring drive dwelt position tool panel = record {
+  done = done;
+  ring = ring.loaded;
+  travelled = total ring.loaded - drive.ramp.rest;
+  dwelt = dwelt;
+  position = position;
+  rate = drive.ramp.rate;
+  tool = tool;
+  percent = panel.percent;
+  overrides = panel.overrides;
+  held = panel.held;
+  stopped = panel.stopped;
+  stop_switch = panel.stop_switch;
+}
+
+-- more ticks than any dwell takes
+abbrev pub DWELL_LIMIT : ℕ
+DWELL_LIMIT = 2 ^ 100
+
+-- what the fields keep: the ramp is on the head, where that is a motion with path steps
+pub record IsInOrder (job : Job) (done : ℕ) (ring : RingData) (drive : Drive) (dwelt : ℕ) (panel : Panel) : Type 0 where
+  pub machine : IsMachine job.machine
+  pub change : drive.ramp.change ≡ job.machine.change
+  pub legs : drive.ramp.legs ≡ legs_of job done ring.loaded
+  pub left : IsRest drive.ramp.rest drive.ramp.legs
+  pub place : ring.place ≡ (total ring.loaded - drive.ramp.rest) / MILLION
+  pub target : IsTarget job.machine (effective_at panel) ring.loaded drive.target
+  pub few : done + length ring.loaded ≤ length job.commands
+  pub brief : dwelt ≤ DWELL_LIMIT
+  pub still : panel.stopped ≡ true → drive.ramp.rate ≡ 0
+
+-- ---- ticks by the kind of the head
+
+-- the head is a motion with path steps, and travels
+abbrev pub TravelsOn : Job → List Queued → State → Outcome → State → Type 0
+TravelsOn job [] old outcome new = ⊥
+TravelsOn job (l ∷ ls) old outcome new = Travels job l ls old outcome new × TravelsAtLeast job (l ∷ ls) old new.rate
+
+-- the head is this command, with no path step
+abbrev pub IsServed : List Queued → Command → Type 0
+IsServed [] c = ⊥
+IsServed (l ∷ ls) c = (l.command ≡ c) × (path_steps l ≡ 0)
+
+-- what a command makes of the panel when it ends
+abbrev pub panel_after : Command → Panel → Panel
+panel_after (commands.Override line on) p = record p { overrides = on }
+panel_after (commands.Stop line) p = record p { stopped = true }
+panel_after (commands.OptionalStop line) p = record p { stopped = p.stop_switch }
+panel_after (commands.Tool line tool) p = p
+panel_after (commands.Traverse line b e) p = p
+panel_after (commands.Feed line b e f) p = p
+panel_after (commands.Arc line a f) p = p
+panel_after (commands.Dwell line n) p = p
+panel_after (commands.Spindle line state) p = p
+panel_after (commands.Coolant line state) p = p
+panel_after (commands.End line) p = p
+
+-- and of the tool
+abbrev pub tool_after : Command → Option Tool → Option Tool
+tool_after (commands.Tool line tool) t = tool
+tool_after (commands.Override line on) t = t
+tool_after (commands.Stop line) t = t
+tool_after (commands.OptionalStop line) t = t
+tool_after (commands.Traverse line b e) t = t
+tool_after (commands.Feed line b e f) t = t
+tool_after (commands.Arc line a f) t = t
+tool_after (commands.Dwell line n) t = t
+tool_after (commands.Spindle line state) t = t
+tool_after (commands.Coolant line state) t = t
+tool_after (commands.End line) t = t

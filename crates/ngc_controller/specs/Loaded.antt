@@ -1,0 +1,34 @@
+-- A loaded command with its path and the place on it. Our own.
+use Rattle.std.specs.Prelude.{◌≡◌, ℕ, ◌+◌, ◌≤◌, List, [], Bool, if◌then◌else◌}
+use Rattle.ngc_fixed_length.specs.declared.points.StepPos.{StepPos}
+use Rattle.ngc_planner.specs.Bounds.{IsMotion}
+use Rattle.ngc_planner.specs.Caps.{STEPS_LIMIT}
+use Rattle.ngc_behaviour.specs.State.{Queued, path_steps}
+use Rattle.ngc_controller.specs.declared.route.Route.{Route}
+use Rattle.ngc_controller.specs.declared.route.Route.TheVariants.{Line, Arc, Still}
+
+-- the points of a route and the place on it; a command that is no motion has none
+abbrev pub points_of : {K : Type 0} → (K → List StepPos) → Route K → List StepPos
+points_of points (Line line) = line.points
+points_of points (Arc arc) = points arc
+points_of points Still = []
+
+abbrev pub place_of : {K : Type 0} → (K → ℕ) → Route K → ℕ
+place_of place (Line line) = line.place
+place_of place (Arc arc) = place arc
+place_of place Still = 0
+
+-- one place on where it is due
+abbrev pub next_place : ℕ → Bool → ℕ
+next_place place due = if due then place + 1 else place
+
+-- what is loaded, and the place on its path
+pub record LoadedData : Type 0 where
+  pub queued : Queued
+  pub place : ℕ
+
+-- how many path steps it has; only motions have some
+pub record IsLoaded (queued : Queued) (steps : ℕ) : Type 0 where
+  pub count : steps ≡ path_steps queued
+  pub few : steps ≤ STEPS_LIMIT
+  pub moves : 1 ≤ steps → IsMotion queued.command

@@ -1,0 +1,10 @@
+-- How far the machine is when it is started: nowhere. Our own.
+use Rattle.std.specs.Prelude.{◌≡◌, ℕ, []}
+use Rattle.ngc_controller.specs.declared.progress.Progress.{Progress}
+
+pub record IsOpening {K A : Type 0} (change : ℕ) (p : Progress K A) : Type 0 where
+  pub none : p.ring.loaded ≡ []
+  pub beginning : p.ring.place ≡ 0
+  pub still : p.drive.ramp ≡ record { change = change; rate = 0; rest = 0; legs = [] }
+  pub done : p.done ≡ 0
+  pub dwelt : p.dwelt ≡ 0

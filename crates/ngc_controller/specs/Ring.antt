@@ -1,0 +1,60 @@
+-- The ring of loaded commands. Our own.
+use Rattle.std.specs.Prelude.{◌≡◌, ℕ, ◌<◌, ◌≤◌, List, [], ◌∷◌, map, Option, Some, None}
+use Rattle.std.specs.List.{AllByRecursion}
+use Rattle.ngc_fixed_length.specs.declared.points.StepPos.{StepPos}
+use Rattle.ngc_fixed_length.specs.LinePath.{point}
+use Rattle.ngc_canonical.specs.declared.command.Command.{Command}
+use Rattle.ngc_planner.specs.Bounds.{IsMotion}
+use Rattle.ngc_behaviour.specs.State.{Queued, path_steps}
+use Rattle.ngc_controller.specs.Loaded.{LoadedData}
+
+-- what is loaded, the head first, and the place on the head's path; the others are at the beginning of theirs
+pub record RingData : Type 0 where
+  pub loaded : List Queued
+  pub place : ℕ
+
+-- how many commands wait behind the head
+abbrev pub BEHIND : ℕ
+BEHIND = 15
+
+abbrev pub queue_of : Option LoadedData → List LoadedData → List Queued
+queue_of None behind = map (λ (l : LoadedData). l.queued) behind
+queue_of (Some head) behind = head.queued ∷ map (λ (l : LoadedData). l.queued) behind
+
+abbrev pub place_at : Option LoadedData → ℕ
+place_at None = 0
+place_at (Some head) = head.place
+
+-- nothing waits behind no head
+abbrev pub IsLed : Option LoadedData → List LoadedData → Type 0
+IsLed None behind = behind ≡ []
+IsLed (Some head) behind = Unit {0}
+
+-- what a ring keeps
+pub record IsRing (head : Option LoadedData) (behind : List LoadedData) (capacity : ℕ) : Type 0 where
+  pub room : capacity ≡ BEHIND
+  pub led : IsLed head behind
+  pub waits : AllByRecursion (λ (l : LoadedData). l.place ≡ 0) behind
+
+abbrev pub head_of : List Queued → ℕ → Option LoadedData
+head_of [] p = None
+head_of (l ∷ ls) p = Some (record { queued = l; place = p })
+
+-- the head is a motion with path steps
+abbrev pub IsMoving : List Queued → Type 0
+IsMoving [] = ⊥
+IsMoving (l ∷ ls) = 1 ≤ path_steps l
+
+-- the point at a place of the head's path
+abbrev pub IsPointOn : List Queued → ℕ → StepPos → Type 0
+IsPointOn [] place p = ⊥
+IsPointOn (l ∷ ls) place p = (p ≡ point l.path place) × IsMotion l.command
+
+-- the head's path goes on
+abbrev pub HasNext : List Queued → ℕ → Type 0
+HasNext [] place = ⊥
+HasNext (l ∷ ls) place = place < path_steps l
+
+abbrev pub command_of : List Queued → Option Command
+command_of [] = None
+command_of (l ∷ ls) = Some l.command

@@ -1,0 +1,293 @@
+ghost use Rattle.std.specs.Prelude.{◌≡◌, ◌++◌, ◌∷◌, [], true, false, Ok, IfOk, IfErr};
+ghost use Rattle.circular_buffer.specs.Buffer.{keep_last};
+ghost use Rattle.ngc_behaviour.specs.Headline.{job_of};
+ghost use Rattle.ngc_behaviour.specs.Progress.{GoesOn, TravelsAtLeast};
+ghost use Rattle.ngc_behaviour.specs.State.{opening, command_at, loaded};
+ghost use Rattle.ngc_behaviour.specs.Step.{Step, LoadCommand, Rests, Serves, TickBy};
+ghost use Rattle.ngc_checker.specs.Accepted.{commands_at};
+ghost use Rattle.ngc_controller.specs.Controller.{KEPT, from_the_last};
+ghost use Rattle.ngc_controller.specs.Fields.{TravelsOn, IsServed};
+ghost use Rattle.ngc_controller.specs.Ring.{IsMoving};
+
+use crate::ending::{dwells_on, ending_of, panel_after, tool_after};
+use crate::panel::Panel;
+use crate::progress::Progress;
+use crate::route::Loaded;
+use circular_buffer::HeapCircularBuffer;
+use ngc_behaviour::{Ending, EventFault, Reply};
+use ngc_canonical::Command;
+use ngc_checker::Accepted;
+use ngc_events::Event;
+use ngc_fixed_length::StepPos;
+use ngc_machine::Tool;
+use ngc_step_kernel::ArcKernel;
+use std::alloc::{AllocError, Allocator};
+use std::marker::Model;
+
+/// How many commands may be loaded and not done.
+const RING: u32 = 16;
+
+/// How many outcomes of events are kept.
+const KEPT: usize = 256;
+
+const QUIET: Reply = Reply::Ticked {
+    position: None,
+    ending: None,
+};
+
+/// A machine that runs what was accepted, at a setting of block delete, driven by events. `K` leads its arcs over the grid.
+#[derive(Drop)]
+pub struct Controller<K: ArcKernel + Drop, A: Allocator> {
+    accepted: Accepted<A>,
+    block_delete: bool,
+    progress: Progress<K, A>,
+    position: StepPos,
+    tool: Option<Tool>,
+    panel: Panel,
+    recent: HeapCircularBuffer<Result<Reply, EventFault>, A>,
+}
+
+impl<K: ArcKernel + Drop, A: Allocator> Model for Controller<K, A> {
+    ghost use Rattle.std.specs.Prelude.{◌≡◌};
+    ghost use Rattle.ngc_behaviour.specs.Headline.{job_of};
+    ghost use Rattle.ngc_checker.specs.Accepted.{commands_at};
+    ghost use Rattle.ngc_controller.specs.Controller.{ControllerData, KEPT};
+    ghost use Rattle.ngc_controller.specs.Fields.{state_of, IsInOrder};
+
+    ghost Value = { ControllerData };
+
+    ghost view = { λ c. record {
+      job = job_of c.accepted.machine (commands_at c.block_delete c.accepted);
+      state = state_of c.progress.done c.progress.ring c.progress.drive c.progress.dwelt c.position c.tool c.panel;
+      recent = c.recent.items;
+    } };
+
+    ghost invariant = { λ c. IsInOrder (job_of c.accepted.machine (commands_at c.block_delete c.accepted)) c.progress.done c.progress.ring c.progress.drive c.progress.dwelt c.panel
+        × (c.recent.capacity ≡ KEPT) };
+}
+
+impl<K: ArcKernel + Drop, A: Allocator + Copy> Controller<K, A> {
+    /// A controller whose machine stands still at the start point, with nothing loaded and no tool mounted. It takes all its
+    /// memory here; where there is too little, what was accepted is handed back.
+    pub fn new(
+        alloc: A,
+        accepted: Accepted<A>,
+        block_delete: bool,
+    ) -> Result<Controller<K, A>, (Accepted<A>, AllocError)>
+        ensures made { IfOk result (λ c. (c.job ≡ job_of accepted.machine (commands_at block_delete accepted)) × (c.state ≡ opening accepted.machine) × (c.recent ≡ [])) }
+        ensures back { IfErr result (λ e. e.0 ≡ accepted) }
+    {
+        let machine = accepted.machine();
+        let position = machine.start.to_grid(machine.step);
+        let progress = match Progress::new(alloc, u64::from(machine.change)) {
+            Ok(progress) => progress,
+            Err(error) => return Err((accepted, error)),
+        };
+        let recent = match HeapCircularBuffer::with_capacity(alloc, KEPT) {
+            Ok(recent) => recent,
+            Err(error) => return Err((accepted, error)),
+        };
+        Ok(Controller {
+            accepted,
+            block_delete,
+            progress,
+            position,
+            tool: None,
+            panel: Panel::new(),
+            recent,
+        })
+    }
+
+    /// Takes an event, and answers what the machine did. It takes no memory. A refused event leaves the machine as it was: an
+    /// override over 200 percent (701), a load while sixteen commands are loaded and not done (702), or a load behind the last
+    /// command (703).
+    pub fn event(&mut self, event: Event) -> Result<Reply, EventFault>
+        ensures job { self.new.job ≡ self.old.job }
+        ensures step { Step self.old.job self.old.state event result self.new.state }
+        ensures goes_on { GoesOn self.old.job self.old.state event self.new.state }
+        ensures recent { self.new.recent ≡ keep_last KEPT (self.old.recent ++ result ∷ []) }
+    {
+        let outcome = self.take(event);
+        self.recent.push_back(outcome);
+        outcome
+    }
+
+    // Does what an event asks for.
+    fn take(&mut self, event: Event) -> Result<Reply, EventFault>
+        ensures job { self.new.job ≡ self.old.job }
+        ensures recent { self.new.recent ≡ self.old.recent }
+        ensures step { Step self.old.job self.old.state event result self.new.state }
+        ensures goes_on { GoesOn self.old.job self.old.state event self.new.state }
+    {
+        match event {
+            Event::Load => self.load(),
+            Event::Tick => Ok(self.tick()),
+            Event::Hold => {
+                self.panel.held = true;
+                Ok(Reply::Held)
+            }
+            Event::Resume => {
+                self.panel.held = false;
+                Ok(Reply::Resumed)
+            }
+            Event::Override(percent) => self.override_by(percent),
+            Event::StopSwitch(on) => {
+                self.panel.stop_switch = on;
+                Ok(Reply::Switched(on))
+            }
+            Event::Start => {
+                self.panel.stopped = false;
+                Ok(Reply::Started)
+            }
+        }
+    }
+
+    // The next command comes into the ring.
+    fn load(&mut self) -> Result<Reply, EventFault>
+        ensures job { self.new.job ≡ self.old.job }
+        ensures recent { self.new.recent ≡ self.old.recent }
+        ensures loads { LoadCommand self.old.job self.old.state (command_at self.old.job (loaded self.old.state)) result self.new.state }
+    {
+        let machine = self.accepted.machine();
+        let commands = self.accepted.commands(self.block_delete);
+        let index = self.progress.done + self.progress.ring.len();
+        let Some(command) = commands.get(index as usize) else {
+            return Err(EventFault::AllLoaded);
+        };
+        if self.progress.ring.len() >= RING {
+            return Err(EventFault::RingFull);
+        }
+        let loaded = Loaded::new(command, machine.step);
+        self.progress
+            .load(loaded, commands, self.panel.effective(), machine);
+        Ok(Reply::Loaded(index))
+    }
+
+    // One tick of the pulse clock.
+    fn tick(&mut self) -> Reply
+        ensures job { self.new.job ≡ self.old.job }
+        ensures recent { self.new.recent ≡ self.old.recent }
+        ensures ticks { TickBy self.old.job self.old.state.stopped self.old.state.ring self.old.state (Ok result) self.new.state }
+        ensures goes_on { TravelsAtLeast self.old.job self.old.state.ring self.old.state self.new.state.rate }
+    {
+        if self.panel.stopped {
+            return self.rest();
+        }
+        if !self.progress.drive.ramp.is_empty() {
+            return self.travel();
+        }
+        if self.panel.held {
+            return self.rest();
+        }
+        match self.progress.command() {
+            Some(command) => self.serve(command),
+            None => self.rest(),
+        }
+    }
+
+    // Nothing travels, and nothing is done.
+    fn rest(&mut self) -> Reply
+        requires { IsMoving self.old.state.ring → self.old.state.stopped ≡ true }
+        ensures job { self.new.job ≡ self.old.job }
+        ensures recent { self.new.recent ≡ self.old.recent }
+        ensures rests { Rests self.old.job self.old.state (Ok result) self.new.state }
+    {
+        self.progress.drive.halt();
+        QUIET
+    }
+
+    // The head is a motion with path steps, and goes on.
+    fn travel(&mut self) -> Reply
+        requires moves { IsMoving self.old.state.ring }
+        requires runs { self.old.state.stopped ≡ false }
+        ensures job { self.new.job ≡ self.old.job }
+        ensures recent { self.new.recent ≡ self.old.recent }
+        ensures travels { TravelsOn self.old.job self.old.state.ring self.old.state (Ok result) self.new.state }
+    {
+        let wish = self.panel.wish(self.progress.drive.target);
+        let travel = self.progress.drive.ramp.tick(wish);
+        self.position = self.progress.ring.follow(travel.due);
+        let position = travel.due.then_some(self.position);
+        if !self.progress.drive.ramp.is_empty() {
+            return Reply::Ticked {
+                position,
+                ending: None,
+            };
+        }
+        let ending = Some(Ending::Done(self.progress.done));
+        let machine = self.accepted.machine();
+        let commands = self.accepted.commands(self.block_delete);
+        self.progress
+            .leave(commands, self.panel.effective(), machine);
+        Reply::Ticked { position, ending }
+    }
+
+    // The head travels nothing: it dwells, or it is done.
+    fn serve(&mut self, command: Command) -> Reply
+        requires head { IsServed self.old.state.ring command }
+        requires runs { self.old.state.stopped ≡ false }
+        ensures job { self.new.job ≡ self.old.job }
+        ensures recent { self.new.recent ≡ self.old.recent }
+        ensures serves { Serves self.old.job command self.old.state (Ok result) self.new.state }
+    {
+        let machine = self.accepted.machine();
+        self.progress.drive.halt();
+        if dwells_on(&command, self.progress.dwelt, machine.ticks_per_second) {
+            self.progress.dwelt += 1;
+            return QUIET;
+        }
+        let ending = Some(ending_of(&command, self.progress.done, self.panel.stop_switch));
+        self.tool = tool_after(&command, self.tool);
+        self.panel = panel_after(&command, self.panel);
+        let commands = self.accepted.commands(self.block_delete);
+        self.progress
+            .leave(commands, self.panel.effective(), machine);
+        Reply::Ticked {
+            position: None,
+            ending,
+        }
+    }
+
+    // Another override, in percent.
+    fn override_by(&mut self, percent: u8) -> Result<Reply, EventFault>
+        ensures job { self.new.job ≡ self.old.job }
+        ensures recent { self.new.recent ≡ self.old.recent }
+        ensures step { Step self.old.job self.old.state (Event.Override percent) result self.new.state }
+    {
+        if percent > 200 {
+            return Err(EventFault::OverrideTooLarge);
+        }
+        self.panel.percent = percent;
+        let effective = self.panel.effective();
+        self.progress.aim(effective, self.accepted.machine());
+        Ok(Reply::Overridden(percent))
+    }
+
+    /// The machine's position, in steps.
+    pub fn position(&self) -> StepPos
+        ensures { result ≡ self.now.state.position }
+    {
+        self.position
+    }
+
+    /// The rate of the last tick, in millionths of a path step: 0 to 1,000,000, and 0 before the first.
+    pub fn rate(&self) -> u64
+        ensures { result ≡ self.now.state.rate }
+    {
+        self.progress.drive.ramp.rate()
+    }
+
+    /// The tool that is mounted.
+    pub fn tool(&self) -> Option<Tool>
+        ensures { result ≡ self.now.state.tool }
+    {
+        self.tool
+    }
+
+    /// What came of the event `index` places before the last one, 0 for the last one itself. The last 256 are kept.
+    pub fn recent(&self, index: usize) -> Option<Result<Reply, EventFault>>
+        ensures { result ≡ from_the_last index self.now.recent }
+    {
+        self.recent.nth_back(index).copied()
+    }
+}

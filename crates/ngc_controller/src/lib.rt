@@ -1,0 +1,12 @@
+//! The controller of a machine: it takes events one by one, and answers what the machine did.
+#![tactic(auto)]
+
+mod controller;
+mod drive;
+mod ending;
+mod panel;
+mod progress;
+mod ring;
+mod route;
+
+pub use controller::Controller;

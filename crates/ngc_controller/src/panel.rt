@@ -1,0 +1,45 @@
+//! What the panel has set.
+ghost use Rattle.std.specs.Prelude.{◌≡◌, true, false, if◌then◌else◌};
+ghost use Rattle.ngc_controller.specs.Panel.{effective_at};
+
+/// The switches of the panel, and whether the machine is stopped.
+#[derive(Clone, Copy)]
+pub struct Panel {
+    /// The feed override in percent, 0 to 200.
+    pub percent: u8,
+    /// Whether the override counts.
+    pub overrides: bool,
+    pub held: bool,
+    pub stopped: bool,
+    /// Whether an optional stop stops the machine.
+    pub stop_switch: bool,
+}
+
+impl Panel {
+    /// The panel when the machine is started.
+    pub fn new() -> Panel
+        ensures { result ≡ record { percent = 100; overrides = true; held = false; stopped = false; stop_switch = false } }
+    {
+        Panel {
+            percent: 100,
+            overrides: true,
+            held: false,
+            stopped: false,
+            stop_switch: false,
+        }
+    }
+
+    /// The percentage that counts: 100 while overrides are off.
+    pub fn effective(&self) -> u8
+        ensures { result ≡ effective_at self.now }
+    {
+        if self.overrides { self.percent } else { 100 }
+    }
+
+    /// The rate that is wished for a tick, of a motion with this target: none while held.
+    pub fn wish(&self, target: u64) -> u64
+        ensures { result ≡ (if self.now.held then 0 else target) }
+    {
+        if self.held { 0 } else { target }
+    }
+}

@@ -1,0 +1,109 @@
+//! The commands that are loaded and not done.
+ghost use Rattle.std.specs.Prelude.{◌≡◌, ◌≤◌, ◌<◌, ◌++◌, ◌∷◌, [], length, drop, true, IfOk, option_copied};
+ghost use Rattle.ngc_behaviour.specs.State.{RING};
+ghost use Rattle.ngc_controller.specs.Loaded.{next_place};
+ghost use Rattle.ngc_controller.specs.Ring.{RingData, IsMoving, IsPointOn, HasNext, head_of};
+
+use crate::route::Loaded;
+use circular_buffer::HeapCircularBuffer;
+use ngc_fixed_length::StepPos;
+use ngc_step_kernel::ArcKernel;
+use std::alloc::{AllocError, Allocator};
+use std::marker::Model;
+
+/// How many commands wait behind the head.
+const BEHIND: usize = 15;
+
+/// A ring of up to 16 commands. The head stands by itself, so that a tick reaches it at once.
+#[derive(Drop)]
+pub struct Ring<K: ArcKernel + Drop, A: Allocator> {
+    head: Option<Loaded<K>>,
+    behind: HeapCircularBuffer<Loaded<K>, A>,
+}
+
+impl<K: ArcKernel + Drop, A: Allocator> Model for Ring<K, A> {
+    ghost use Rattle.ngc_controller.specs.Ring.{RingData, queue_of, place_at, IsRing};
+
+    ghost Value = { RingData };
+
+    ghost view = { λ r. record { loaded = queue_of r.head r.behind.items; place = place_at r.head } };
+
+    ghost invariant = { λ r. IsRing r.head r.behind.items r.behind.capacity };
+}
+
+// Puts a command behind others, where there is room.
+fn put<K: ArcKernel + Drop, A: Allocator>(
+    behind: &mut HeapCircularBuffer<Loaded<K>, A>,
+    loaded: Loaded<K>,
+)
+    requires { length behind.old.items < behind.old.capacity }
+    ensures items { behind.new.items ≡ behind.old.items ++ loaded ∷ [] }
+    ensures capacity { behind.new.capacity ≡ behind.old.capacity }
+{
+    behind.push_back(loaded);
+}
+
+impl<K: ArcKernel + Drop, A: Allocator> Ring<K, A> {
+    /// An empty ring with all its memory.
+    pub fn new(alloc: A) -> Result<Ring<K, A>, AllocError>
+        ensures { IfOk result (λ (r : RingData). (r.loaded ≡ []) × (r.place ≡ 0)) }
+    {
+        let behind = HeapCircularBuffer::with_capacity(alloc, BEHIND)?;
+        Ok(Ring { head: None, behind })
+    }
+
+    /// How many commands are loaded, the head among them.
+    pub fn len(&self) -> u32
+        ensures value { result ≡ length self.now.loaded }
+        ensures few { result ≤ RING }
+    {
+        match self.head {
+            Some(_) => 1 + self.behind.len() as u32,
+            None => 0,
+        }
+    }
+
+    /// Puts a command behind the others. There must be fewer than 16.
+    pub fn push(&mut self, loaded: Loaded<K>)
+        requires room { length self.old.loaded < RING }
+        requires beginning { loaded.place ≡ 0 }
+        ensures loaded { self.new.loaded ≡ self.old.loaded ++ loaded.queued ∷ [] }
+        ensures place { self.new.place ≡ self.old.place }
+    {
+        if self.head.is_none() {
+            self.head = Some(loaded);
+        } else {
+            put(&mut self.behind, loaded);
+        }
+    }
+
+    /// The command that is executed.
+    pub fn head(&self) -> Option<&Loaded<K>>
+        ensures { option_copied result ≡ head_of self.now.loaded self.now.place }
+    {
+        self.head.as_ref()
+    }
+
+    /// Goes one place on along the head's path, if it is due, and answers the point there. The head must be a motion with
+    /// path steps.
+    pub fn follow(&mut self, due: bool) -> StepPos
+        requires moves { IsMoving self.old.loaded }
+        requires room { due ≡ true → HasNext self.old.loaded self.old.place }
+        ensures loaded { self.new.loaded ≡ self.old.loaded }
+        ensures place { self.new.place ≡ next_place self.old.place due }
+        ensures point { IsPointOn self.new.loaded self.new.place result }
+    {
+        let Some(head) = &mut self.head else {
+            unreachable!();
+        };
+        head.follow(due)
+    }
+
+    /// The head leaves the ring.
+    pub fn leave(&mut self)
+        ensures loaded { self.new.loaded ≡ drop 1 self.old.loaded }
+        ensures place { self.new.place ≡ 0 }
+    {
+        self.head = self.behind.pop_front();
+    }
+}

@@ -1,0 +1,84 @@
+-- What the bytes of an events file say: an event for each line, or the first fault. Our own.
+use Rattle.std.specs.Prelude.{ℕ, zero, suc, ◌+◌, nat_le, ◌==◌, List, [], ◌∷◌, length, take, drop, codes, Option, Some, None}
+use Rattle.std.specs.Prelude.{Result, Ok, Err, Bool, true, false, not, ◌&&◌, ◌||◌, if◌then◌else◌}
+use Rattle.std.specs.List.{slice_split}
+use Rattle.std.specs.Option.{option_map, ok_or}
+use Rattle.std.specs.Str.{bytes_eq, all_ascii_digits}
+use Rattle.std.specs.Str.Parse.{digits_value}
+use Rattle.ngc_events.specs.declared.event.Event.{Event}
+use Rattle.ngc_events.specs.declared.event.Event.TheVariants.{Load, Tick, Hold, Resume, Override, StopSwitch, Start}
+use Rattle.ngc_events.specs.declared.event.EventLine.{EventLine}
+use Rattle.ngc_events.specs.declared.fault.EventsFault.{EventsFault}
+use Rattle.ngc_events.specs.declared.fault.EventsFault.TheVariants.{BadLine, TooManyLines}
+
+-- ---- numbers
+
+-- digits, and no zero in front of others
+abbrev pub are_digits : List ℕ → Bool
+are_digits [] = false
+are_digits (d ∷ ds) = all_ascii_digits (d ∷ ds) && (not (d == 48) || (length ds == 0))
+
+-- the number whose decimal spelling a text is, where it is no greater than the limit
+abbrev pub number_to : ℕ → List ℕ → Option ℕ
+number_to limit text =
+    if are_digits text && nat_le (digits_value 10 text) limit then Some (digits_value 10 text) else None
+
+-- ---- a line
+
+abbrev pub once : Event → EventLine
+once event = record { event = event; times = 1 }
+
+abbrev pub ticks : Option ℕ → Option EventLine
+ticks None = None
+ticks (Some zero) = None
+ticks (Some (suc n)) = Some (record { event = Tick; times = suc n })
+
+abbrev pub override : Option ℕ → Option EventLine
+override number = option_map (λ n. once (Override n)) number
+
+abbrev pub begins : List ℕ → List ℕ → Bool
+begins front line = bytes_eq (take (length front) line) front
+
+-- what stands behind such a beginning
+abbrev pub behind : List ℕ → List ℕ → List ℕ
+behind front line = drop (length front) line
+
+-- the event that a word says
+unfoldable pub word_said : List ℕ → Option Event
+word_said word =
+    if bytes_eq word (codes "load") then Some Load else
+    if bytes_eq word (codes "hold") then Some Hold else
+    if bytes_eq word (codes "resume") then Some Resume else
+    if bytes_eq word (codes "start") then Some Start else
+    if bytes_eq word (codes "switch on") then Some (StopSwitch true) else
+    if bytes_eq word (codes "switch off") then Some (StopSwitch false) else None
+
+-- what a line says, its line feed left out
+unfoldable pub event_said : List ℕ → Option EventLine
+event_said line =
+    if begins (codes "tick ") line then ticks (number_to 1000000 (behind (codes "tick ") line)) else
+    if begins (codes "override ") line then override (number_to 255 (behind (codes "override ") line)) else
+    option_map once (word_said line)
+
+-- ---- the lines of a text
+
+-- what the line of this number says; one past the 1,000,000th is too many, whatever it says
+abbrev pub line_said : ℕ → Option EventLine → Result EventLine EventsFault
+line_said number said = if nat_le number 1000000 then ok_or said (BadLine number) else Err TooManyLines
+
+-- the first line's event in front of those of the others
+abbrev pub in_front : Result EventLine EventsFault → Result (List EventLine) EventsFault → Result (List EventLine) EventsFault
+in_front (Ok line) (Ok others) = Ok (line ∷ others)
+in_front (Ok line) (Err fault) = Err fault
+in_front (Err fault) others = Err fault
+
+-- what lines say, of which the first has this number; the last one is what stands behind the last line
+-- feed, and must be empty
+unfoldable pub lines_said : ℕ → List (List ℕ) → Result (List EventLine) EventsFault
+lines_said number [] = Ok []
+lines_said number (last ∷ []) = if length last == 0 then Ok [] else in_front (line_said number None) (Ok [])
+lines_said number (line ∷ next ∷ lines) =
+    in_front (line_said number (event_said line)) (lines_said (number + 1) (next ∷ lines))
+
+unfoldable pub events_said : List ℕ → Result (List EventLine) EventsFault
+events_said text = lines_said 1 (slice_split (λ b. b == 10) text)

@@ -1,0 +1,6 @@
+pub mod Digits
+pub mod Events
+pub mod Faults
+pub mod Given
+pub mod Reading
+pub mod Spelling

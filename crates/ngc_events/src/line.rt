@@ -1,0 +1,79 @@
+ghost use Rattle.std.specs.Prelude.{◌≡◌};
+ghost use Rattle.std.specs.Str.{bytes_eq};
+ghost use Rattle.ngc_events.specs.Events.{number_to as number_said, once, ticks as ticks_said, override as override_said};
+ghost use Rattle.ngc_events.specs.Events.{word_said, event_said};
+
+use crate::event::{Event, EventLine};
+use crate::number::number_to;
+
+fn once(event: Event) -> EventLine
+    ensures { result ≡ once event }
+{
+    EventLine { event, times: 1 }
+}
+
+// So many ticks.
+fn ticks(number: &[u8]) -> Option<EventLine>
+    ensures { result ≡ ticks_said (number_said 1000000 number.now) }
+{
+    match number_to(1_000_000, number) {
+        Some(0) | None => None,
+        Some(times) => Some(EventLine {
+            event: Event::Tick,
+            times,
+        }),
+    }
+}
+
+fn feed_override(number: &[u8]) -> Option<EventLine>
+    ensures { result ≡ override_said (number_said 255 number.now) }
+{
+    match number_to(255, number) {
+        Some(percent) => Some(once(Event::Override(percent as u8))),
+        None => None,
+    }
+}
+
+fn is_word(bytes: &[u8], word: &[u8]) -> bool
+    ensures { result ≡ bytes_eq bytes.now word.now }
+{
+    bytes == word
+}
+
+#[tactic(auto, unfolding(crate::specs::Events::word_said))]
+fn word_event(word: &[u8]) -> Option<Event>
+    ensures { result ≡ word_said word.now }
+{
+    if is_word(word, b"load") {
+        Some(Event::Load)
+    } else if is_word(word, b"hold") {
+        Some(Event::Hold)
+    } else if is_word(word, b"resume") {
+        Some(Event::Resume)
+    } else if is_word(word, b"start") {
+        Some(Event::Start)
+    } else if is_word(word, b"switch on") {
+        Some(Event::StopSwitch(true))
+    } else if is_word(word, b"switch off") {
+        Some(Event::StopSwitch(false))
+    } else {
+        None
+    }
+}
+
+/// What a line says, its line feed left out.
+#[tactic(auto, unfolding(crate::specs::Events::event_said))]
+pub fn event_in(line: &[u8]) -> Option<EventLine>
+    ensures { result ≡ event_said line.now }
+{
+    if let Some(number) = line.strip_prefix(b"tick ") {
+        return ticks(number);
+    }
+    if let Some(number) = line.strip_prefix(b"override ") {
+        return feed_override(number);
+    }
+    match word_event(line) {
+        Some(event) => Some(once(event)),
+        None => None,
+    }
+}

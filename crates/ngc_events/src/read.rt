@@ -1,0 +1,48 @@
+ghost use Rattle.std.specs.Prelude.{◌<◌, ◌+◌, length};
+ghost use Rattle.ngc_events.specs.Events.{events_said};
+ghost use Rattle.ngc_events.specs.Given.{GivesEvents};
+ghost use Rattle.ngc_events.specs.Reading.{TakesLine};
+
+use crate::event::EventLine;
+use crate::fault::EventsFault;
+use crate::line::event_in;
+use memchr::memchr;
+use std::alloc::Allocator;
+
+// How many lines a file may have.
+const LINE_LIMIT: usize = 1_000_000;
+
+// What the first line of a text says, behind so many others, and the text behind it.
+fn first_line(before: usize, text: &[u8]) -> Result<(EventLine, &[u8]), EventsFault>
+    requires { 0 < length text.now }
+    ensures { TakesLine result (before + 1) text.now }
+{
+    if before >= LINE_LIMIT {
+        return Err(EventsFault::TooManyLines);
+    }
+    let number = before as u32 + 1;
+    let Some(end) = memchr(b'\n', text) else {
+        return Err(EventsFault::BadLine(number));
+    };
+    match event_in(&text[..end]) {
+        Some(line) => Ok((line, &text[end + 1..])),
+        None => Err(EventsFault::BadLine(number)),
+    }
+}
+
+/// The events that a text says, line by line, or the first fault: 711 where a line says no event or lacks its line
+/// feed, 712 where there are more than 1,000,000 lines.
+pub fn read_events<A: Allocator>(alloc: A, text: &[u8]) -> Result<Vec<EventLine, A>, EventsFault>
+    ensures { GivesEvents result (events_said text.now) }
+{
+    let mut events = Vec::new(alloc);
+    let mut left = text;
+    while !left.is_empty() {
+        let (line, behind) = first_line(events.len(), left)?;
+        if events.push(line).is_err() {
+            return Err(EventsFault::Memory);
+        }
+        left = behind;
+    }
+    Ok(events)
+}

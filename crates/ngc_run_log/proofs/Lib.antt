@@ -1,0 +1,4 @@
+pub mod Added
+pub mod Joined
+pub mod Turns
+pub mod Comes

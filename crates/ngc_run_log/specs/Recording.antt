@@ -1,0 +1,61 @@
+-- A stretch of a run, as it is recorded on the way: from one state of the machine to a later one. Our own.
+use Rattle.std.specs.Prelude.{◌≡◌, ℕ, ◌+◌, ◌≤◌, List, [], ◌∷◌, ◌++◌, length, count_by, Option}
+use Rattle.std.specs.Io.KnownBytes.{Appends}
+use Rattle.ngc_fixed_length.specs.Written.{AppendsBeginning}
+use Rattle.ngc_events.specs.declared.event.Event.{Event}
+use Rattle.ngc_behaviour.specs.State.{Job, State}
+use Rattle.ngc_behaviour.specs.Step.{Outcome}
+use Rattle.ngc_behaviour.specs.Run.{Run, positions}
+use Rattle.ngc_behaviour.specs.Progress.{KeepGoing, is_tick}
+use Rattle.ngc_run_log.specs.declared.report.Report.{Report}
+use Rattle.ngc_run_log.specs.declared.recorder.Recorder.{Recorder}
+use Rattle.ngc_run_log.specs.Log.{log}
+use Rattle.ngc_run_log.specs.Runs.{is_refusal, last_position}
+
+-- the last of these states, or s where there is none
+abbrev pub last_state : State → List State → State
+last_state s [] = s
+last_state s (t ∷ ts) = last_state t ts
+
+-- these events lead from a state to another, and each tick that is free to goes on
+pub record Stretch (job : Job) (old new : State) (events : List Event) (outcomes : List Outcome) : Type 0 where
+  pub states : List State
+  pub runs : Run job old events outcomes states
+  pub goes_on : KeepGoing job old events states
+  pub last : new ≡ last_state old states
+
+-- the report's numbers grow by those of these events
+pub record Counts (events : List Event) (outcomes : List Outcome) (old new : Report) : Type 0 where
+  pub ticks : new.ticks ≡ old.ticks + count_by is_tick events
+  pub path_steps : new.path_steps ≡ old.path_steps + length (positions outcomes)
+  pub refused : new.refused ≡ old.refused + count_by is_refusal outcomes
+  pub position : new.position ≡ last_position old.position (positions outcomes)
+
+-- none of the report's counts is above n
+pub record AreAtMost (n : ℕ) (report : Report) : Type 0 where
+  pub ticks : report.ticks ≤ n
+  pub path_steps : report.path_steps ≤ n
+  pub refused : report.refused ≤ n
+
+-- A text came behind what was collected. A beginning of both is written, and the rest is still collected.
+pub record Collects (old new : Option (List ℕ)) (before text after : List ℕ) : Type 0 where
+  pub front : List ℕ
+  pub writes : Appends old new front
+  pub splits : before ++ text ≡ front ++ after
+
+-- all these events were given, counted and logged
+pub record IsRecorded (job : Job) (old new : State) (before after : Recorder) (written now : Option (List ℕ)) (events : List Event) : Type 0 where
+  pub outcomes : List Outcome
+  pub stretch : Stretch job old new events outcomes
+  pub counts : Counts events outcomes before.report after.report
+  pub collects : Collects written now before.chunk (log outcomes) after.chunk
+
+-- the first of these events were given, and then a write failed
+pub record IsCutShort (job : Job) (old : State) (before : Recorder) (written now : Option (List ℕ)) (events : List Event) : Type 0 where
+  pub given : List Event
+  pub left : List Event
+  pub are_first : events ≡ given ++ left
+  pub outcomes : List Outcome
+  pub reached : State
+  pub stretch : Stretch job old reached given outcomes
+  pub logged : AppendsBeginning written now (before.chunk ++ log outcomes)

@@ -1,0 +1,72 @@
+-- What a run over lists of events comes to. Our own.
+use Rattle.std.specs.Prelude.{◌≡◌, ℕ, List, [], ◌∷◌, ◌++◌, length, count_by, Option, Ok, Err, Result, Bool, true, false}
+use Rattle.std.specs.Io.KnownBytes.{Appends, Keeps}
+use Rattle.ngc_fixed_length.specs.declared.points.StepPos.{StepPos}
+use Rattle.ngc_fixed_length.specs.Failures.{Rises}
+use Rattle.ngc_fixed_length.specs.Written.{AppendsBeginning}
+use Rattle.ngc_events.specs.declared.event.Event.{Event}
+use Rattle.ngc_events.specs.declared.event.EventLine.{EventLine}
+use Rattle.ngc_behaviour.specs.State.{Job, State, opening}
+use Rattle.ngc_behaviour.specs.Step.{Outcome}
+use Rattle.ngc_behaviour.specs.Run.{Run, events_of, positions}
+use Rattle.ngc_behaviour.specs.Safety.{IsSafeRun, start_of_job}
+use Rattle.ngc_behaviour.specs.Progress.{KeepGoing, is_tick}
+use Rattle.ngc_run_log.specs.declared.report.Report.{Report}
+use Rattle.ngc_run_log.specs.declared.report.RunFault.{RunFault}
+use Rattle.ngc_run_log.specs.declared.report.RunFault.TheVariants.{Memory, Write}
+use Rattle.ngc_run_log.specs.Log.{log}
+
+abbrev pub is_refusal : Outcome → Bool
+is_refusal (Ok reply) = false
+is_refusal (Err e) = true
+
+-- the last of these positions, or p where there is none
+abbrev pub last_position : StepPos → List StepPos → StepPos
+last_position p [] = p
+last_position p (q ∷ qs) = last_position q qs
+
+-- a run over these events, from the opening state: it is safe, and goes on at each tick that is free to
+pub record IsRun (job : Job) (events : List Event) (outcomes : List Outcome) : Type 0 where
+  pub states : List State
+  pub runs : Run job (opening job.machine) events outcomes states
+  pub is_safe : IsSafeRun job events outcomes states
+  pub goes_on : KeepGoing job (opening job.machine) events states
+
+-- the report's numbers are those of the run
+pub record Reports (job : Job) (events : List Event) (outcomes : List Outcome) (report : Report) : Type 0 where
+  pub ticks : report.ticks ≡ count_by is_tick events
+  pub path_steps : report.path_steps ≡ length (positions outcomes)
+  pub refused : report.refused ≡ count_by is_refusal outcomes
+  pub position : report.position ≡ last_position (start_of_job job) (positions outcomes)
+
+-- all events were given, and what was written is the log of what came of them
+pub record IsLoggedRun (job : Job) (lines : List EventLine) (old new : Option (List ℕ)) (report : Report) : Type 0 where
+  pub outcomes : List Outcome
+  pub run : IsRun job (events_of lines) outcomes
+  pub logged : Appends old new (log outcomes)
+  pub reports : Reports job (events_of lines) outcomes report
+
+-- the first of the events were given, and what was written begins the log of what came of them
+pub record IsBrokenRun (job : Job) (lines : List EventLine) (old new : Option (List ℕ)) : Type 0 where
+  pub given : List Event
+  pub left : List Event
+  pub are_first : events_of lines ≡ given ++ left
+  pub outcomes : List Outcome
+  pub run : IsRun job given outcomes
+  pub logged : AppendsBeginning old new (log outcomes)
+
+-- What a run comes to, of the bytes of its sink where they are known. That memory ran out says that nothing was written.
+abbrev pub ComesTo : Job → List EventLine → Option (List ℕ) → Option (List ℕ) → Result Report RunFault → Type 0
+ComesTo job lines old new (Ok report) = IsLoggedRun job lines old new report
+ComesTo job lines old new (Err (Write fault)) = IsBrokenRun job lines old new
+ComesTo job lines old new (Err Memory) = Keeps old new
+
+-- the sink's count of failures rose where a write failed, and else it is what it was
+abbrev pub FailsByWriting : Result Report RunFault → ℕ → ℕ → Type 0
+FailsByWriting (Ok report) old new = new ≡ old
+FailsByWriting (Err (Write fault)) old new = Rises old new
+FailsByWriting (Err Memory) old new = new ≡ old
+
+abbrev pub number_of : RunFault → ℕ
+number_of Memory = 900
+number_of (Write fault) = 902

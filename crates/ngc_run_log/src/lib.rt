@@ -1,0 +1,13 @@
+//! Runs of the machine over lists of events, and their log.
+#![tactic(auto)]
+
+mod log_line;
+mod recorder;
+mod report;
+mod runner;
+
+pub use report::{Report, RunFault};
+pub use runner::run;
+
+#[cfg(test)]
+mod tests;

@@ -1,0 +1,69 @@
+ghost use Rattle.std.specs.Prelude.{◌≡◌, ◌^◌, [], ◌∷◌};
+ghost use Rattle.ngc_run_log.specs.Recording.{AreAtMost, Counts};
+ghost use Rattle.ngc_run_log.specs.Runs.{number_of};
+
+use ngc_behaviour::{EventFault, Reply};
+use ngc_events::Event;
+use ngc_fixed_length::{StepPos, WriteFault};
+use thiserror::Error;
+
+/// What a run came to.
+#[derive(Clone, Copy, Debug, PartialEq, Eq)]
+pub struct Report {
+    /// How many ticks were given.
+    pub ticks: u128,
+    /// How many path steps were made: pulses, each of which moves one axis or more.
+    pub path_steps: u128,
+    /// How many events were refused.
+    pub refused: u128,
+    /// Where the machine stands, in steps.
+    pub position: StepPos,
+}
+
+impl Report {
+    /// Counts an event, and what came of it.
+    pub(crate) fn count(&mut self, event: Event, outcome: &Result<Reply, EventFault>)
+        requires { AreAtMost (2 ^ 127) self.old }
+        ensures { Counts (event ∷ []) (outcome.now ∷ []) self.old self.new }
+    {
+        if let Event::Tick = event {
+            self.ticks += 1;
+        }
+        match outcome {
+            Ok(
+                Reply::Ticked {
+                    position: Some(position),
+                    ..
+                },
+            ) => {
+                self.path_steps += 1;
+                self.position = *position;
+            }
+            Ok(_) => {}
+            Err(_) => self.refused += 1,
+        }
+    }
+}
+
+/// Why a run has no report.
+#[derive(Clone, Copy, Debug, PartialEq, Eq, Error)]
+pub enum RunFault {
+    /// 900
+    #[error("out of memory")]
+    Memory,
+    /// 902
+    #[error(transparent)]
+    Write(WriteFault),
+}
+
+impl RunFault {
+    /// The fault's number.
+    pub fn number(&self) -> u16
+        ensures { result ≡ number_of self.now }
+    {
+        match self {
+            RunFault::Memory => 900,
+            RunFault::Write(_) => 902,
+        }
+    }
+}

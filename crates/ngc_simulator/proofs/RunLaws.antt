@@ -1,0 +1,146 @@
+-- What running a program over events comes to, from what its parts come to.
+use Rattle.std.proofs.Common.{◌≡◌, ℕ, List, Option, Some, None, Bool, true, false, Result, Ok, Err, IfSome, ap, subst, ◌∙◌}
+use Rattle.std.specs.Prelude.{option_map}
+use Rattle.ngc_line_reader.specs.ProgramText.{ProgramText, program_of, HaveReadings}
+use Rattle.ngc_canonical.specs.Interpreter.{setup_of}
+use Rattle.ngc_canonical.specs.Meaning.{Program as ProgramLines, meaning, program_said}
+use Rattle.ngc_canonical.specs.State.{Setup}
+use Rattle.ngc_certificate_text.specs.Certificate.{CertificateData}
+use Rattle.ngc_certificate_text.specs.Given.{GivesCertificate}
+use Rattle.ngc_certificate_text.specs.Said.{certificate_said}
+use Rattle.ngc_certificate_text.specs.declared.certificate.Certificate.{Certificate}
+use Rattle.ngc_certificate_text.specs.declared.fault.CertificateFault.{CertificateFault}
+use Rattle.ngc_certificate_text.specs.declared.fault.CertificateFault.TheVariants as certificates
+use Rattle.ngc_checker.specs.Accepted.{AcceptedData, Keeps as CheckerKeeps, commands_at}
+use Rattle.ngc_checker.specs.declared.fault.CheckFault.{CheckFault}
+use Rattle.ngc_command_line.specs.declared.options.RunOptions.{RunOptions}
+use Rattle.ngc_events.specs.Events.{events_said}
+use Rattle.ngc_events.specs.Given.{GivesEvents}
+use Rattle.ngc_events.specs.declared.event.EventLine.{EventLine}
+use Rattle.ngc_events.specs.declared.fault.EventsFault.{EventsFault}
+use Rattle.ngc_events.specs.declared.fault.EventsFault.TheVariants as texts
+use Rattle.ngc_behaviour.specs.Headline.{job_of}
+use Rattle.ngc_run_log.specs.Runs.{ComesTo}
+use Rattle.ngc_run_log.specs.declared.report.Report.{Report}
+use Rattle.ngc_run_log.specs.declared.report.RunFault.{RunFault}
+use Rattle.ngc_simulator.specs.Answers.{RunsOn}
+use Rattle.ngc_simulator.specs.Jobs.{IsNoCertificate}
+use Rattle.ngc_simulator.specs.Running.{IsAcceptedJob, RunsOver, AreNoEvents, Runs}
+use Rattle.ngc_simulator.specs.Setups.{FileBytes, KeepsFiles, KeepsNamed}
+use Rattle.ngc_simulator.specs.Shops.{GivesShop}
+use Rattle.ngc_simulator.specs.declared.running.RunningFault.{RunningFault}
+use Rattle.ngc_simulator.specs.declared.running.RunningFault.TheVariants as running
+use Rattle.ngc_simulator.specs.declared.setup.Shop.{Shop}
+use Rattle.ngc_simulator.proofs.JobLaws.{Says, given, keeps_same}
+use Rattle.ngc_simulator.proofs.SetupLaws.{on_setup}
+
+-- ---- of two files that are read, and of events
+
+no_events : (A : Type 0) (events : List ℕ) (fault : EventsFault) → GivesEvents {A = A} (Err fault) (events_said events) → AreNoEvents events fault
+no_events A events (texts.BadLine line) says = says
+no_events A events texts.TooManyLines says = says
+no_events A events texts.Memory says = tt
+
+pub events_refused : (A : Type 0) (setup : Setup) (bytes text events : List ℕ) (block_delete : Bool) (known : Option (List ℕ)) (program : ProgramText) (c : CertificateData) (fault : EventsFault)
+    → program_of bytes ≡ Ok program → HaveReadings program.lines → certificate_said text ≡ Ok c → GivesEvents {A = A} (Err fault) (events_said events)
+    → Runs setup bytes text events block_delete known known (Err (running.Events fault))
+events_refused A setup bytes text events block_delete known program c fault is_text have said says =
+    (((program_said program have.readings, c, given bytes text program c is_text have said), no_events A events fault says), keeps_same known)
+
+pub run_refused : (setup : Setup) (bytes text events : List ℕ) (block_delete : Bool) (known : Option (List ℕ)) (program : ProgramText) (c : CertificateData) (lines : List EventLine) (fault : CheckFault)
+    → program_of bytes ≡ Ok program → HaveReadings program.lines → certificate_said text ≡ Ok c → events_said events ≡ Ok lines → Says program setup c (Err fault)
+    → Runs setup bytes text events block_delete known known (Err (running.Check fault))
+run_refused setup bytes text events block_delete known program c lines fault is_text have said are_lines says = (
+  record {
+    lines = lines;
+    are_lines = are_lines;
+    program = program_said program have.readings;
+    certificate = c;
+    given = given bytes text program c is_text have said;
+    first = says have.readings have.are;
+  },
+  keeps_same known,
+)
+
+means_at : (program : ProgramLines) (setup : Setup) (block_delete : Bool) (a : AcceptedData) → CheckerKeeps program setup a
+    → meaning program setup block_delete ≡ Ok (commands_at block_delete a)
+means_at program setup false a keeps = keeps.off
+means_at program setup true a keeps = keeps.on
+
+accepted_job : (setup : Setup) (bytes text : List ℕ) (block_delete : Bool) (program : ProgramText) (c : CertificateData) (a : AcceptedData)
+    → program_of bytes ≡ Ok program → HaveReadings program.lines → certificate_said text ≡ Ok c → Says program setup c (Ok a)
+    → IsAcceptedJob setup bytes text block_delete (job_of a.machine (commands_at block_delete a))
+accepted_job setup bytes text block_delete program c a is_text have said says =
+    let checked = says have.readings have.are in record {
+      program = program_said program have.readings;
+      certificate = c;
+      given = given bytes text program c is_text have said;
+      none_refused = checked.0;
+      commands = commands_at block_delete a;
+      means = means_at (program_said program have.readings) setup block_delete a checked.1;
+      is_job = ap (λ machine. job_of machine (commands_at block_delete a)) checked.1.machine;
+    }
+
+pub ran_over : (setup : Setup) (bytes text events : List ℕ) (block_delete : Bool) (old new : Option (List ℕ)) (program : ProgramText) (c : CertificateData) (lines given_lines : List EventLine) (a : AcceptedData) (result : Result Report RunFault)
+    → program_of bytes ≡ Ok program → HaveReadings program.lines → certificate_said text ≡ Ok c → events_said events ≡ Ok lines → Says program setup c (Ok a)
+    → given_lines ≡ lines → ComesTo (job_of a.machine (commands_at block_delete a)) given_lines old new result
+    → RunsOver setup bytes text events block_delete old new result
+ran_over setup bytes text events block_delete old new program c lines given_lines a result is_text have said are_lines says same comes = record {
+  job = job_of a.machine (commands_at block_delete a);
+  accepted = accepted_job setup bytes text block_delete program c a is_text have said says;
+  lines = lines;
+  are_lines = are_lines;
+  comes = subst (λ ls. ComesTo (job_of a.machine (commands_at block_delete a)) ls old new result) same comes;
+}
+
+-- of the bytes that were read, and so of those of the file
+pub run_over : (setup : Setup) (bytes text events slice items : List ℕ) (block_delete : Bool) (old new : Option (List ℕ)) (outcome : Result Report RunningFault)
+    → slice ≡ items → items ≡ events → Runs setup bytes text slice block_delete old new outcome → Runs setup bytes text events block_delete old new outcome
+run_over setup bytes text events slice items block_delete old new outcome same read runs =
+    subst (λ es. Runs setup bytes text es block_delete old new outcome) (same ∙ read) runs
+
+pub no_certificate : (A : Type 0) (view : Certificate A → CertificateData) (text : List ℕ) (fault : CertificateFault) → GivesCertificate view (Err fault) (certificate_said text)
+    → IsNoCertificate text fault
+no_certificate A view text certificates.WrongHeader says = says
+no_certificate A view text (certificates.BadLine line) says = says
+no_certificate A view text (certificates.OutOfRange line) says = says
+no_certificate A view text certificates.Memory says = tt
+no_certificate A view text certificates.ReadFailed says = tt
+
+-- ---- of the files that the command line names
+
+-- of three files, where each is opened after the one before it
+on_files : (first second third known source events : Option (List ℕ)) (P Q R : List ℕ → Type 0) (S : List ℕ → List ℕ → List ℕ → Type 0)
+    → known ≡ first → source ≡ second → events ≡ third → ((a b e : List ℕ) → P a → Q b → R e → S a b e)
+    → IfSome known P → IfSome source Q → IfSome events R → IfSome first (λ a. IfSome second (λ b. IfSome third (S a b)))
+on_files first second third known source events P Q R S is_first is_second is_third on p q r =
+    subst (λ (k : Option (List ℕ)). IfSome k (λ a. IfSome second (λ b. IfSome third (S a b)))) is_first
+    (subst (λ (k : Option (List ℕ)). IfSome known (λ a. IfSome k (λ b. IfSome third (S a b)))) is_second
+    (subst (λ (k : Option (List ℕ)). IfSome known (λ a. IfSome source (λ b. IfSome k (S a b)))) is_third (on_all known source events p q r)))
+  where
+    on_last : (events : Option (List ℕ)) (a b : List ℕ) → P a → Q b → IfSome events R → IfSome events (S a b)
+    on_last None a b p q r = tt
+    on_last (Some e) a b p q r = on a b e p q r
+
+    on_two : (source events : Option (List ℕ)) (a : List ℕ) → P a → IfSome source Q → IfSome events R → IfSome source (λ b. IfSome events (S a b))
+    on_two None events a p q r = tt
+    on_two (Some b) events a p q r = on_last events a b p q r
+
+    on_all : (known source events : Option (List ℕ)) → IfSome known P → IfSome source Q → IfSome events R → IfSome known (λ a. IfSome source (λ b. IfSome events (S a b)))
+    on_all None source events p q r = tt
+    on_all (Some a) source events p q r = on_two source events a p q r
+
+-- of what was read: the shop, then the program, the certificate and the events
+pub ran_files : (bytes after later last : FileBytes) (options : RunOptions) (shop : Shop) (old new : Option (List ℕ)) (outcome : Result Report RunningFault) (P Q R : List ℕ → Type 0)
+    → GivesShop bytes (Some options.machine.now) (Some options.tools.now) (Ok shop) → KeepsFiles bytes after → KeepsNamed after later → KeepsFiles later last
+    → IfSome (after (option_map (λ n. n.now) options.program)) P → IfSome (later (Some options.certificate.now)) Q → IfSome (last (Some options.events.now)) R
+    → ((a b e : List ℕ) → P a → Q b → R e → Runs (setup_of shop.machine shop.tools) a b e options.delete old new outcome)
+    → RunsOn bytes options old new outcome
+ran_files bytes after later last options shop old new outcome P Q R said keeps named kept p q r on =
+    on_setup bytes (Some options.machine.now) (Some options.tools.now) (setup_of shop.machine shop.tools)
+    (λ setup. IfSome (bytes (option_map (λ n. n.now) options.program)) (λ a. IfSome (bytes (Some options.certificate.now)) (λ b. IfSome (bytes (Some options.events.now)) (λ e. Runs setup a b e options.delete old new outcome))))
+    said.0 said.1
+    (on_files _ _ _ _ _ _ P Q R (λ a b e. Runs (setup_of shop.machine shop.tools) a b e options.delete old new outcome)
+    (keeps (option_map (λ n. n.now) options.program))
+    (named options.certificate.now ∙ keeps (Some options.certificate.now))
+    (kept (Some options.events.now) ∙ named options.events.now ∙ keeps (Some options.events.now)) on p q r)

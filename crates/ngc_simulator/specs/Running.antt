@@ -1,0 +1,81 @@
+-- What running a program over events comes to. Our own.
+use Rattle.std.specs.Prelude.{◌≡◌, ℕ, List, Option, None, Result, Ok, Err, Bool}
+use Rattle.std.specs.Io.KnownBytes.{Keeps}
+use Rattle.ngc_line_reader.specs.ProgramText.{program_of}
+use Rattle.ngc_line_reader.specs.ProgramView.{FaultIs}
+use Rattle.ngc_canonical.specs.declared.command.Command.{Command}
+use Rattle.ngc_canonical.specs.State.{Setup}
+use Rattle.ngc_canonical.specs.Meaning.{Program as ProgramLines, meaning}
+use Rattle.ngc_certificate_text.specs.Certificate.{CertificateData}
+use Rattle.ngc_checker.specs.declared.fault.CheckFault.{CheckFault}
+use Rattle.ngc_checker.specs.Accepted.{IsFirst}
+use Rattle.ngc_checker.specs.FirstRefusal.{first_refusal}
+use Rattle.ngc_events.specs.Events.{events_said}
+use Rattle.ngc_events.specs.declared.event.EventLine.{EventLine}
+use Rattle.ngc_events.specs.declared.fault.EventsFault.{EventsFault}
+use Rattle.ngc_events.specs.declared.fault.EventsFault.TheVariants as texts
+use Rattle.ngc_behaviour.specs.State.{Job}
+use Rattle.ngc_behaviour.specs.Headline.{job_of}
+use Rattle.ngc_run_log.specs.declared.report.Report.{Report}
+use Rattle.ngc_run_log.specs.declared.report.RunFault.{RunFault}
+use Rattle.ngc_run_log.specs.Runs.{ComesTo, FailsByWriting}
+use Rattle.ngc_simulator.specs.declared.running.RunningFault.{RunningFault}
+use Rattle.ngc_simulator.specs.declared.running.RunningFault.TheVariants as running
+use Rattle.ngc_simulator.specs.Jobs.{AreGiven, IsNoCertificate}
+
+-- The job of a program's file at a setting of block delete: the commands that the program means there. Nothing is refused of it
+-- and of a certificate's file.
+pub record IsAcceptedJob (setup : Setup) (bytes text : List ℕ) (block_delete : Bool) (job : Job) : Type 0 where
+  pub program : ProgramLines
+  pub certificate : CertificateData
+  pub given : AreGiven bytes text program certificate
+  pub none_refused : first_refusal program setup certificate ≡ None
+  pub commands : List Command
+  pub means : meaning program setup block_delete ≡ Ok commands
+  pub is_job : job ≡ job_of setup.machine commands
+
+-- the run of such a job over the events that a third file says, and what it came to
+pub record RunsOver (setup : Setup) (bytes text events : List ℕ) (block_delete : Bool) (old new : Option (List ℕ)) (result : Result Report RunFault) : Type 0 where
+  pub job : Job
+  pub accepted : IsAcceptedJob setup bytes text block_delete job
+  pub lines : List EventLine
+  pub are_lines : events_said events ≡ Ok lines
+  pub comes : ComesTo job lines old new result
+
+-- a program's file and a certificate's file are read
+abbrev pub AreRead : List ℕ → List ℕ → Type 0
+AreRead bytes text = (program : ProgramLines) × (c : CertificateData) × AreGiven bytes text program c
+
+-- a text says no events, but for want of memory
+abbrev pub AreNoEvents : List ℕ → EventsFault → Type 0
+AreNoEvents events (texts.BadLine line) = events_said events ≡ Err (texts.BadLine line)
+AreNoEvents events texts.TooManyLines = events_said events ≡ Err texts.TooManyLines
+AreNoEvents events texts.Memory = Unit {0}
+
+-- the first refusal of the two files, where the events are read
+pub record IsRefusedRun (setup : Setup) (bytes text events : List ℕ) (fault : CheckFault) : Type 0 where
+  pub lines : List EventLine
+  pub are_lines : events_said events ≡ Ok lines
+  pub program : ProgramLines
+  pub certificate : CertificateData
+  pub given : AreGiven bytes text program certificate
+  pub first : IsFirst fault (first_refusal program setup certificate)
+
+-- Of a program's file, a certificate's file, an events file and a sink: the log of the run was written, or a beginning of it where
+-- the sink failed; where there is no run, what was written is as it was.
+abbrev pub Runs : Setup → List ℕ → List ℕ → List ℕ → Bool → Option (List ℕ) → Option (List ℕ) → Result Report RunningFault → Type 0
+Runs setup bytes text events block_delete old new (Ok report) = RunsOver setup bytes text events block_delete old new (Ok report)
+Runs setup bytes text events block_delete old new (Err (running.Read fault)) = FaultIs fault (program_of bytes) × Keeps old new
+Runs setup bytes text events block_delete old new (Err (running.Certificate fault)) = IsNoCertificate text fault × Keeps old new
+Runs setup bytes text events block_delete old new (Err (running.Events fault)) = (AreRead bytes text × AreNoEvents events fault) × Keeps old new
+Runs setup bytes text events block_delete old new (Err (running.Check fault)) = IsRefusedRun setup bytes text events fault × Keeps old new
+Runs setup bytes text events block_delete old new (Err (running.Run fault)) = RunsOver setup bytes text events block_delete old new (Err fault)
+
+-- the sink's count of failures rose where a write failed, and else it is what it was
+abbrev pub FailsByRunning : Result Report RunningFault → ℕ → ℕ → Type 0
+FailsByRunning (Ok report) old new = new ≡ old
+FailsByRunning (Err (running.Read fault)) old new = new ≡ old
+FailsByRunning (Err (running.Certificate fault)) old new = new ≡ old
+FailsByRunning (Err (running.Events fault)) old new = new ≡ old
+FailsByRunning (Err (running.Check fault)) old new = new ≡ old
+FailsByRunning (Err (running.Run fault)) old new = FailsByWriting (Err fault) old new

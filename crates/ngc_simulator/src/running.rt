@@ -1,0 +1,115 @@
+ghost use Rattle.std.specs.Prelude.{◌≡◌, ℕ, List, Ok};
+ghost use Rattle.ngc_canonical.specs.Interpreter.{setup_of};
+ghost use Rattle.ngc_certificate_text.specs.Contents.{said_of};
+ghost use Rattle.ngc_certificate_text.specs.Said.{certificate_said};
+ghost use Rattle.ngc_line_reader.specs.ProgramText.{program_of, HaveReadings};
+ghost use Rattle.ngc_line_reader.specs.ProgramView.{text_in};
+ghost use Rattle.ngc_simulator.specs.Answers.{RunComes, FailsByOutput};
+ghost use Rattle.ngc_simulator.specs.Running.{Runs, FailsByRunning};
+
+use crate::fault::AnswerFault;
+use crate::files::Files;
+use crate::opening::{read_certificate, read_program};
+use crate::setup::{bytes_of, read_shop};
+use ngc_certificate_text::{Certificate, CertificateFault};
+use ngc_checker::{CheckFault, check};
+use ngc_command_line::RunOptions;
+use ngc_events::{EventsFault, read_events};
+use ngc_fixed_length::Sink;
+use ngc_line_reader::{Program, ReadFault};
+use ngc_machine::{Machine, Tools};
+use ngc_run_log::{Report, RunFault, run};
+use std::alloc::{Allocator, Global};
+use thiserror::Error;
+
+/// Why a program isn't run, or its log isn't written.
+#[derive(Clone, Copy, Debug, PartialEq, Eq, Error)]
+pub enum RunningFault {
+    /// The program isn't read: 101, 111 to 119, 121, 122, 900, 901.
+    #[error(transparent)]
+    Read(ReadFault),
+    /// The certificate isn't read: 301 to 303, 900, 901.
+    #[error(transparent)]
+    Certificate(CertificateFault),
+    /// The events are refused: 711, 712, 900.
+    #[error(transparent)]
+    Events(EventsFault),
+    /// The certificate isn't accepted: 311 to 318, 900.
+    #[error(transparent)]
+    Check(CheckFault),
+    /// 900, 902
+    #[error(transparent)]
+    Run(RunFault),
+}
+
+/// Runs a program on a machine with its tools, at a setting of block delete, over the events that a text says, and writes
+/// the log. It is run only where the certificate shows that it is safe, and else nothing is written; where a write fails, a
+/// beginning of the log is written.
+pub fn run_program<A: Allocator + Copy, W: Sink>(
+    alloc: A,
+    program: &Program<A>,
+    machine: &Machine<A>,
+    tools: &Tools<A>,
+    certificate: &Certificate<A>,
+    events: &[u8],
+    block_delete: bool,
+    output: &mut W,
+) -> Result<Report, RunningFault>
+    // Whatever files the program and the certificate were read from: the answer is that of these and of the events.
+    ensures runs { (bytes text : List ℕ) → program_of bytes ≡ Ok (text_in program.now) → HaveReadings (text_in program.now).lines → certificate_said text ≡ Ok (said_of certificate.now) → Runs (setup_of machine.now tools.now) bytes text events.now block_delete (W.written output.old) (W.written output.new) result }
+    ensures sink { FailsByRunning result (W.failures output.old) (W.failures output.new) }
+{
+    let lines = match read_events(alloc, events) {
+        Ok(lines) => lines,
+        Err(fault) => return Err(RunningFault::Events(fault)),
+    };
+    let accepted = match check(alloc, program, machine, tools, certificate) {
+        Ok(accepted) => accepted,
+        Err(fault) => return Err(RunningFault::Check(fault)),
+    };
+    match run(alloc, accepted, block_delete, lines.as_slice(), output) {
+        Ok(report) => Ok(report),
+        Err(fault) => Err(RunningFault::Run(fault)),
+    }
+}
+
+// The log of a run. Each file is read before the next one is opened.
+pub(crate) fn run_files<F: Files, W: Sink>(
+    alloc: Global,
+    options: &RunOptions<'_>,
+    files: &mut F,
+    output: &mut W,
+) -> Result<(), AnswerFault>
+    ensures comes { RunComes (F.bytes files.old) options.now (W.written output.old) (W.written output.new) result }
+    ensures sink { FailsByOutput result (W.failures output.old) (W.failures output.new) }
+{
+    let shop = match read_shop(alloc, Some(options.machine), Some(options.tools), files) {
+        Ok(shop) => shop,
+        Err(fault) => return Err(fault),
+    };
+    let program = match read_program(alloc, options.program, files) {
+        Ok(program) => program,
+        Err(fault) => return Err(AnswerFault::Run(RunningFault::Read(fault))),
+    };
+    let certificate = match read_certificate(alloc, options.certificate, files) {
+        Ok(certificate) => certificate,
+        Err(fault) => return Err(AnswerFault::Run(RunningFault::Certificate(fault))),
+    };
+    let events = match bytes_of(alloc, options.events, files) {
+        Ok(events) => events,
+        Err(fault) => return Err(AnswerFault::Input(fault)),
+    };
+    match run_program(
+        alloc,
+        &program,
+        &shop.machine,
+        &shop.tools,
+        &certificate,
+        events.as_slice(),
+        options.delete,
+        output,
+    ) {
+        Ok(_) => Ok(()),
+        Err(fault) => Err(AnswerFault::Run(fault)),
+    }
+}
