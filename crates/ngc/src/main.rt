@@ -2,8 +2,6 @@
 #![tactic(auto)]
 
 mod host;
-#[cfg(test)]
-mod tests;
 
 use crate::host::HostFiles;
 use ngc_fixed_length::{Device, write_all};
@@ -11,26 +9,49 @@ use ngc_simulator::{UsageFault, answer, read_options};
 use std::process::ExitCode;
 use std::{env, io};
 
-fn main(rt: HostRuntime) -> io::Result<ExitCode> {
-    let words: Vec<String> = env::args(&rt)?.collect(rt.alloc())?;
-    let mut names = Vec::new(rt.alloc());
-    for word in words.iter().skip(1) {
-        names.push(word.as_str())?;
-    }
-    let mut errors = Device::new(rt.stderr());
-    match read_options(rt.alloc(), names.as_slice()) {
-        Ok(options) => {
-            let mut files = HostFiles::new(&rt);
-            let mut output = Device::new(rt.stdout());
-            Ok(ExitCode::from(answer(rt.alloc(), &options, &mut files, &mut output, &mut errors)))
+// The words behind the program's name.
+fn words_of(rt: &HostRuntime) -> Result<Vec<String>, UsageFault> {
+    match env::args(rt) {
+        Ok(words) => match words.skip(1).collect(rt.alloc()) {
+            Ok(words) => Ok(words),
+            Err(_) => Err(UsageFault::Memory),
+        },
+        Err(fault) if fault.kind() == io::ErrorKind::InvalidData => {
+            match "error: a word of the command line is no UTF-8 text\n".to_string(rt.alloc()) {
+                Ok(text) => Err(UsageFault::Usage(text)),
+                Err(_) => Err(UsageFault::Memory),
+            }
         }
+        Err(_) => Err(UsageFault::Memory),
+    }
+}
+
+// Does what the words ask for, and answers the status.
+fn answer_words(rt: &HostRuntime) -> Result<u8, UsageFault> {
+    let words = words_of(rt)?;
+    let mut names = Vec::new(rt.alloc());
+    for word in words.iter() {
+        if names.push(word.as_str()).is_err() {
+            return Err(UsageFault::Memory);
+        }
+    }
+    let options = read_options(rt.alloc(), names.as_slice())?;
+    let mut files = HostFiles::new(rt);
+    let mut output = Device::new(rt.stdout());
+    let mut errors = Device::new(rt.stderr());
+    Ok(answer(rt.alloc(), &options, &mut files, &mut output, &mut errors))
+}
+
+fn main(rt: HostRuntime) -> ExitCode {
+    match answer_words(&rt) {
+        Ok(status) => ExitCode::from(status),
         Err(UsageFault::Usage(text)) => {
-            let _ = write_all(&mut errors, text.as_bytes());
-            Ok(ExitCode::from(2))
+            let _ = write_all(&mut Device::new(rt.stderr()), text.as_bytes());
+            ExitCode::from(2)
         }
         Err(UsageFault::Memory) => {
-            let _ = write_all(&mut errors, b"ngc: fault 900\n");
-            Ok(ExitCode::from(1))
+            let _ = write_all(&mut Device::new(rt.stderr()), b"ngc: fault 900\n");
+            ExitCode::from(1)
         }
     }
 }

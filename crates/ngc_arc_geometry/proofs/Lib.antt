@@ -1,4 +1,6 @@
 mod Examples
+mod FollowedArcs
+mod FollowedPaths
 pub mod Points
 pub mod Squares
 pub mod RadiiLemmas

@@ -7,6 +7,7 @@ mod chord;
 mod extent;
 mod fault;
 mod given;
+pub mod laws;
 mod lengths;
 mod radii;
 mod sector;
@@ -16,6 +17,3 @@ mod way;
 pub use arc::Arc;
 pub use fault::ArcFault;
 pub use given::{Ends, Offsets};
-
-#[cfg(test)]
-mod tests;

@@ -1,24 +1,29 @@
 -- A motion is done within so many ticks in which the machine is free.
 use Rattle.std.proofs.Common.{◌≡◌, ◌⊎◌, inl, inr, ℕ, zero, suc, ◌+◌, ◌-◌, ◌*◌, ◌<◌, ◌≤◌, ap, subst, sym, ◌∙◌, arith, refl, List, [], ◌∷◌, ◌++◌, length, Some, None, true, false, Bool, min}
-use Rattle.std.specs.Prelude.{Option, MatchBool, nat_lt, nat_le, not, ◌&&◌, if◌then◌else◌}
+use Rattle.std.specs.Prelude.{Option, MatchBool, nat_lt, nat_le, not, ◌&&◌, if◌then◌else◌, slice_index_or, slice_get}
 use Rattle.std.specs.List.{All}
 use Rattle.std.proofs.lemmas.Bool.{cases_lt, and_parts, not-true, ltb-true, eqb-true, false≢true}
 use Rattle.std.proofs.lemmas.Bool.Decides.{nat_tests}
+use Rattle.std.proofs.lemmas.List.{get_or_default}
 use Rattle.std.proofs.lemmas.List.Elements.{All-head, All-tail}
 use Rattle.std.proofs.lemmas.Nat.{le-div}
 use Rattle.std.proofs.Math.Nat.{div-mul-le_self}
+use Rattle.ngc_canonical.specs.Movement.{doing}
 use Rattle.ngc_canonical.specs.declared.command.Command.{Command}
-use Rattle.ngc_planner.specs.Bounds.{least_travel}
-use Rattle.ngc_planner.specs.Caps.{MILLION}
+use Rattle.ngc_canonical.specs.declared.movement.Doing.{Doing}
+use Rattle.ngc_canonical.specs.declared.movement.Doing.TheVariants.{Moves, Mounts, Stays}
+use Rattle.ngc_planner.specs.Bounds.{IsMotion}
+use Rattle.ngc_planner.proofs.BoundLaws.{may_travel_least}
 use Rattle.ngc_events.specs.declared.event.Event.{Event}
 use Rattle.ngc_events.specs.declared.event.Event.TheVariants.{Load, Tick, Hold, Resume, Override, StopSwitch, Start}
 use Rattle.ngc_behaviour.specs.State.{Job, Queued, State, opening, loaded, command_at, path_steps, millionths, effective, RING}
 use Rattle.ngc_behaviour.specs.Reach.{rest}
-use Rattle.ngc_behaviour.specs.Step.{Outcome, Step, LoadCommand, Rests, Finishes, Dwells, Serves, Travels, HeadTick, TickBy, popped, after, ticks_of}
+use Rattle.ngc_behaviour.specs.Step.{Outcome, Step, LoadCommand, MayTake, Rests, Finishes, Dwells, Serves, Travels, HeadTick, TickBy, popped, after, ticks_of}
 use Rattle.ngc_behaviour.specs.Run.{Run}
-use Rattle.ngc_behaviour.specs.Progress.{IsFree, TravelsAtLeast, GoesOn, KeepGoing, is_tick, is_free, IsHead, has_head, free_ticks, ticks_for}
-use Rattle.ngc_behaviour.specs.Headline.{EndsInTime}
+use Rattle.ngc_behaviour.specs.Progress.{IsFree, TravelsAtLeast, GoesOn, KeepGoing, is_tick, is_free, ComesToHead, has_head, free_ticks, ticks_for, least_rate}
+use Rattle.ngc_behaviour.specs.Headline.{EndsInTime, MachinesRunInTime}
 use Rattle.ngc_behaviour.proofs.Cases.{match_with}
+use Rattle.ngc_behaviour.proofs.KeptPaths.{keep_paths}
 use Rattle.ngc_behaviour.proofs.RatesOfRun.{Fits, after_stays, event_keeps}
 use Rattle.ngc_behaviour.proofs.Travel.{moved}
 
@@ -136,48 +141,58 @@ short : (travelled x : ℕ) → (0 < travelled → travelled < x) → 0 < x → 
 short zero x h p = p
 short (suc t) x h p = h (omega arith)
 
-travel_counts : (job : Job) (k : ℕ) (c : Command) (n : ℕ) (l : Queued) (ls : List Queued) (old : State) (o : Outcome) (new : State) → old.travelled ≤ millionths l →
-    (0 < old.travelled → old.travelled < millionths l) → 1 ≤ n → old.done ≡ k → l.command ≡ c → path_steps l ≡ n →
-    min (least_travel job.machine l.command (path_steps l)) (rest l old) ≤ new.rate → Travels job l ls old o new →
-    Counts k (n * MILLION) (least_travel job.machine c n) old new
-travel_counts job k c n l ls old o new f w p head same steps least t =
-    let s = short old.travelled (millionths l) w (omega (arith, p, steps)) in
-    let e : least_travel job.machine l.command (path_steps l) ≡ least_travel job.machine c n = ap (λ (d : Command). least_travel job.machine d (path_steps l)) same ∙ ap (least_travel job.machine c) steps in
+-- where command k is at the head, it is this one
+abbrev Shows : ℕ → Queued → State → List Queued → Type 0
+Shows k l s [] = Unit {0}
+Shows k l s (m ∷ ms) = s.done ≡ k → m ≡ l
+
+travel_counts : (job : Job) (k : ℕ) (l : Queued) (ls : List Queued) (old : State) (o : Outcome) (new : State) → old.travelled ≤ millionths l →
+    (0 < old.travelled → old.travelled < millionths l) → 1 ≤ path_steps l → old.done ≡ k → min (least_rate job l) (rest l old) ≤ new.rate → Travels job l ls old o new →
+    Counts k (millionths l) (least_rate job l) old new
+travel_counts job k l ls old o new f w some head least t =
+    let s = short old.travelled (millionths l) w (omega (arith, some)) in
     let m = moved job l ls old o new t f in
     record {
       head = head;
-      some = omega (arith, s, steps);
+      some = s;
       moves = elim (m.state) [
         | inl g ↦ inl g.1
-        | inr g ↦ let a = g.2 in let b = g.3 in inr (g.0, omega (arith, a, b, least, e), omega (arith, a, b, steps))
+        | inr g ↦ let a = g.2 in let b = g.3 in inr (g.0, omega (arith, a, b, least), omega (arith, a, b))
       ];
     }
 
-tick_counts : (job : Job) (k : ℕ) (c : Command) (n : ℕ) (ring : List Queued) (old : State) (o : Outcome) (new : State) → old.ring ≡ ring → Fits ring old.travelled →
-    IsPartWay ring old.travelled → 1 ≤ n → IsHead k c n old ring → has_head k old ring ≡ true → IsFree old → TravelsAtLeast job ring old new.rate →
-    TickBy job false ring old o new → Counts k (n * MILLION) (least_travel job.machine c n) old new
-tick_counts job k c n [] old o new e f w p is_head h free g t = absurd (false≢true h)
-tick_counts job k c n (l ∷ ls) old o new e f w p is_head h free g t =
-    let head = eqb-true old.done k h in
-    let i = is_head head in let steps = i.1 in
+head_counts : (job : Job) (k : ℕ) (l : Queued) (ls : List Queued) (old : State) (o : Outcome) (new : State) → old.travelled ≤ millionths l →
+    (0 < old.travelled → old.travelled < millionths l) → 1 ≤ path_steps l → old.done ≡ k → IsFree old → TravelsAtLeast job (l ∷ ls) old new.rate →
+    HeadTick job l ls old o new → Counts k (millionths l) (least_rate job l) old new
+head_counts job k l ls old o new f w some head free g t =
     elim (match_with (nat_lt 0 (path_steps l)) (Travels job l ls old o new) (MatchBool old.held (Rests job old o new) (Serves job l.command old o new)) t) [
-      | inl u ↦ travel_counts job k c n l ls old o new f w p head i.0 i.1 (g free (omega (arith, p, steps))) u.1
-      | inr u ↦ absurd (let z : path_steps l ≡ 0 = let b = u.0 in grind (arith, nat_tests) in omega (arith, z, p, steps))
+      | inl u ↦ travel_counts job k l ls old o new f w some head (g free (omega (arith, some))) u.1
+      | inr u ↦ absurd (let z : path_steps l ≡ 0 = let b = u.0 in grind (arith, nat_tests) in omega (arith, z, some))
     ]
 
-event_counts : (job : Job) (k : ℕ) (c : Command) (n : ℕ) (old : State) (e : Event) (o : Outcome) (new : State) → Fits old.ring old.travelled →
-    IsPartWay old.ring old.travelled → 1 ≤ n → IsHead k c n old old.ring → Step job old e o new → GoesOn job old e new →
-    (is_tick e && (has_head k old old.ring && is_free old)) ≡ true → Counts k (n * MILLION) (least_travel job.machine c n) old new
-event_counts job k c n old Tick o new f w p is_head t g h =
+tick_counts : (job : Job) (k : ℕ) (l : Queued) (ring : List Queued) (old : State) (o : Outcome) (new : State) → Fits ring old.travelled →
+    IsPartWay ring old.travelled → 1 ≤ path_steps l → Shows k l old ring → has_head k old ring ≡ true → IsFree old → TravelsAtLeast job ring old new.rate →
+    TickBy job false ring old o new → Counts k (millionths l) (least_rate job l) old new
+tick_counts job k l [] old o new f w some shows h free g t = absurd (false≢true h)
+tick_counts job k l (m ∷ ms) old o new f w some shows h free g t =
+    let head = eqb-true old.done k h in
+    let same = shows head in
+    subst (λ n. Counts k (millionths n) (least_rate job n) old new) same
+    (head_counts job k m ms old o new f w (subst (λ n. 1 ≤ path_steps n) (sym same) some) head free g t)
+
+event_counts : (job : Job) (k : ℕ) (l : Queued) (old : State) (e : Event) (o : Outcome) (new : State) → Fits old.ring old.travelled →
+    IsPartWay old.ring old.travelled → 1 ≤ path_steps l → Shows k l old old.ring → Step job old e o new → GoesOn job old e new →
+    (is_tick e && (has_head k old old.ring && is_free old)) ≡ true → Counts k (millionths l) (least_rate job l) old new
+event_counts job k l old Tick o new f w some shows t g h =
     let a = and_parts (has_head k old old.ring) (is_free old) h in
     let free = free_is old a.1 in
-    tick_counts job k c n old.ring old o new refl f w p is_head a.0 free g (subst (λ b. TickBy job b old.ring old o new) free.not_stopped t)
-event_counts job k c n old Load o new f w p is_head t g h = absurd (false≢true h)
-event_counts job k c n old Hold o new f w p is_head t g h = absurd (false≢true h)
-event_counts job k c n old Resume o new f w p is_head t g h = absurd (false≢true h)
-event_counts job k c n old Start o new f w p is_head t g h = absurd (false≢true h)
-event_counts job k c n old (StopSwitch on) o new f w p is_head t g h = absurd (false≢true h)
-event_counts job k c n old (Override q) o new f w p is_head t g h = absurd (false≢true h)
+    tick_counts job k l old.ring old o new f w some shows a.0 free g (subst (λ b. TickBy job b old.ring old o new) free.not_stopped t)
+event_counts job k l old Load o new f w some shows t g h = absurd (false≢true h)
+event_counts job k l old Hold o new f w some shows t g h = absurd (false≢true h)
+event_counts job k l old Resume o new f w some shows t g h = absurd (false≢true h)
+event_counts job k l old Start o new f w some shows t g h = absurd (false≢true h)
+event_counts job k l old (StopSwitch on) o new f w some shows t g h = absurd (false≢true h)
+event_counts job k l old (Override q) o new f w some shows t g h = absurd (false≢true h)
 
 -- ---- runs
 
@@ -231,28 +246,49 @@ next_bounded k x m old new ticks false p c g i =
 none_bounded : (k x m : ℕ) (s : State) → IsBounded k x m s 0
 none_bounded k x m s = record { past = λ h. refl; now = λ h. omega arith; later = λ h. omega arith }
 
-run_bounded : (job : Job) (k : ℕ) (c : Command) (n : ℕ) (old : State) (es : List Event) (os : List Outcome) (states : List State) → Fits old.ring old.travelled →
-    IsPartWay old.ring old.travelled → 1 ≤ n → 1 ≤ least_travel job.machine c n → IsHead k c n old old.ring → All (λ (s : State). IsHead k c n s s.ring) states →
-    Run job old es os states → KeepGoing job old es states → IsBounded k (n * MILLION) (least_travel job.machine c n) old (free_ticks k old es states)
-run_bounded job k c n old [] os states f w p q is_head heads r g = none_bounded k (n * MILLION) (least_travel job.machine c n) old
-run_bounded job k c n old (e ∷ es) os [] f w p q is_head heads r g = none_bounded k (n * MILLION) (least_travel job.machine c n) old
-run_bounded job k c n old (e ∷ es) [] (new ∷ states) f w p q is_head heads r g = absurd r
-run_bounded job k c n old (e ∷ es) (o ∷ os) (new ∷ states) f w p q is_head heads r g =
+run_bounded : (job : Job) (k : ℕ) (l : Queued) (old : State) (es : List Event) (os : List Outcome) (states : List State) → Fits old.ring old.travelled →
+    IsPartWay old.ring old.travelled → 1 ≤ path_steps l → 1 ≤ least_rate job l → Shows k l old old.ring → All (λ (s : State). Shows k l s s.ring) states →
+    Run job old es os states → KeepGoing job old es states → IsBounded k (millionths l) (least_rate job l) old (free_ticks k old es states)
+run_bounded job k l old [] os states f w some least shows all r g = none_bounded k (millionths l) (least_rate job l) old
+run_bounded job k l old (e ∷ es) os [] f w some least shows all r g = none_bounded k (millionths l) (least_rate job l) old
+run_bounded job k l old (e ∷ es) [] (new ∷ states) f w some least shows all r g = absurd r
+run_bounded job k l old (e ∷ es) (o ∷ os) (new ∷ states) f w some least shows all r g =
     let a = event_ahead job old e o new f w r.0 in
     let fits = event_keeps job old e o new f r.0 in
-    let i = run_bounded job k c n new es os states fits.1 a.0 p q (All-head (λ (s : State). IsHead k c n s s.ring) new states heads)
-    (All-tail (λ (s : State). IsHead k c n s s.ring) new states heads) r.1 g.1 in
-    next_bounded k (n * MILLION) (least_travel job.machine c n) old new (free_ticks k new es states) (is_tick e && (has_head k old old.ring && is_free old)) q
-    (event_counts job k c n old e o new f w p is_head r.0 g.0) a i
+    let i = run_bounded job k l new es os states fits.1 a.0 some least (All-head (λ (s : State). Shows k l s s.ring) new states all)
+    (All-tail (λ (s : State). Shows k l s s.ring) new states all) r.1 g.1 in
+    next_bounded k (millionths l) (least_rate job l) old new (free_ticks k new es states) (is_tick e && (has_head k old old.ring && is_free old)) least
+    (event_counts job k l old e o new f w some shows r.0 g.0) a i
+
+-- command k is at the head as no other
+shown : (k : ℕ) (l : Queued) (states : List State) → ((m : Queued) → ComesToHead k m states → m ≡ l) → All (λ (s : State). Shows k l s s.ring) states
+shown k l states no_other i d lt = at (slice_index_or states i d).ring refl
+  where
+    at : (ring : List Queued) → (slice_index_or states i d).ring ≡ ring → Shows k l (slice_index_or states i d) ring
+    at [] e = tt
+    at (m ∷ ms) e = λ done. no_other m (i, slice_index_or states i d, lt, get_or_default states i (slice_index_or states i d) d lt, (done, ap (λ ring. slice_get ring 0) e))
+
+from_start : (job : Job) (k x m ticks : ℕ) → 1 ≤ m → IsBounded k x m (opening job.machine) ticks → ticks ≤ ticks_for x m
+from_start job zero x m ticks p b =
+    let i = b.now refl in
+    let all = ticks_more (x - 0) x m p (omega arith) in omega (arith, i, all)
+from_start job (suc j) x m ticks p b = b.later (omega arith)
 
 pub ends_in_time : EndsInTime
-ends_in_time job k c n es os states r g heads p q =
-    let b = run_bounded job k c n (opening job.machine) es os states refl tt p q tt heads r g in
-    from_start k b
-  where
-    from_start : (k : ℕ) → IsBounded k (n * MILLION) (least_travel job.machine c n) (opening job.machine) (free_ticks k (opening job.machine) es states) →
-        free_ticks k (opening job.machine) es states ≤ ticks_for (n * MILLION) (least_travel job.machine c n)
-    from_start zero b =
-        let i = b.now refl in
-        let all = ticks_more (n * MILLION - 0) (n * MILLION) (least_travel job.machine c n) q (omega arith) in omega (arith, i, all)
-    from_start (suc j) b = b.later (omega arith)
+ends_in_time job es os states r g k l c some least =
+    let heads = shown k l states (keep_paths job es os states r k l c).no_other in
+    from_start job k (millionths l) (least_rate job l) (free_ticks k (opening job.machine) es states) least
+    (run_bounded job k l (opening job.machine) es os states refl tt some least tt heads r g)
+
+-- ---- on a machine within its ranges
+
+-- only motions have path steps
+moves : (job : Job) (l : Queued) (d : Doing) → doing l.command ≡ d → MayTake job d l.path → 1 ≤ path_steps l → IsMotion l.command
+moves job l (Moves m) e take some = (m, e)
+moves job l (Mounts tool) e take some = absurd (let none = ap length take in omega (arith, none, some))
+moves job l Stays e take some = absurd (let none = ap length take in omega (arith, none, some))
+
+pub machines_run_in_time : MachinesRunInTime
+machines_run_in_time job m es os states r g k l c some =
+    let is_motion = moves job l (doing l.command) refl (keep_paths job es os states r k l c).path some in
+    ends_in_time job es os states r g k l c some (may_travel_least job.machine l.command l.command (path_steps l) 1 m is_motion).some

@@ -5,6 +5,8 @@ pub mod SafePositions
 pub mod Settings
 pub mod RatesOfRun
 pub mod Travel
+pub mod Rings
+pub mod KeptPaths
 pub mod Windows
 pub mod PulseRules
 pub mod EndsInTime

@@ -1,22 +1,19 @@
 -- The headline: what the checker accepts runs safely. Our own.
-use Rattle.std.specs.Prelude.{◌≡◌, ℕ, ◌≤◌, ◌*◌, List, None, Ok, Bool}
-use Rattle.std.specs.List.{All}
+use Rattle.std.specs.Prelude.{◌≡◌, ℕ, ◌≤◌, List, None, Ok, Bool}
 use Rattle.ngc_machine.specs.Machine.{MachineFile}
 use Rattle.ngc_machine.specs.MachineRanges.{IsMachine}
 use Rattle.ngc_canonical.specs.declared.command.Command.{Command}
 use Rattle.ngc_canonical.specs.Meaning.{Program, meaning}
 use Rattle.ngc_canonical.specs.State.{Setup}
-use Rattle.ngc_planner.specs.Bounds.{least_travel}
-use Rattle.ngc_planner.specs.Caps.{MILLION}
 use Rattle.ngc_certificate_text.specs.Certificate.{CertificateData}
 use Rattle.ngc_checker.specs.Accepted.{AcceptedData, IsAccepted, commands_at}
 use Rattle.ngc_checker.specs.FirstRefusal.{first_refusal}
 use Rattle.ngc_events.specs.declared.event.Event.{Event}
-use Rattle.ngc_behaviour.specs.State.{Job, State, opening}
+use Rattle.ngc_behaviour.specs.State.{Job, Queued, State, opening, path_steps}
 use Rattle.ngc_behaviour.specs.Step.{Outcome}
 use Rattle.ngc_behaviour.specs.Run.{Run}
 use Rattle.ngc_behaviour.specs.Safety.{IsSafeRun, KeepRates}
-use Rattle.ngc_behaviour.specs.Progress.{KeepGoing, IsHead, free_ticks, ticks_for}
+use Rattle.ngc_behaviour.specs.Progress.{KeepGoing, ComesToHead, KeepsPath, free_ticks, least_rate, most_ticks, IsDoneInTime}
 
 abbrev pub job_of : MachineFile → List Command → Job
 job_of machine commands = record { machine = machine; commands = commands }
@@ -43,9 +40,25 @@ abbrev pub KeepRatesAlways : Type 0
 KeepRatesAlways = (job : Job) (events : List Event) (outcomes : List Outcome) (states : List State) →
     Run job (opening job.machine) events outcomes states → KeepRates job (opening job.machine) events states
 
--- A motion of n path steps is done within so many ticks in which the machine is free.
+-- In every run a loaded command that comes to the head keeps its path.
+abbrev pub KeepPaths : Type 0
+KeepPaths = (job : Job) (events : List Event) (outcomes : List Outcome) (states : List State) →
+    Run job (opening job.machine) events outcomes states →
+    (k : ℕ) (l : Queued) → ComesToHead k l states → KeepsPath job k l states
+
+-- In every run that keeps going, a motion with path steps and a least rate is done within so many free ticks.
 abbrev pub EndsInTime : Type 0
-EndsInTime = (job : Job) (k : ℕ) (c : Command) (n : ℕ) (events : List Event) (outcomes : List Outcome) (states : List State) →
+EndsInTime = (job : Job) (events : List Event) (outcomes : List Outcome) (states : List State) →
     Run job (opening job.machine) events outcomes states → KeepGoing job (opening job.machine) events states →
-    All (λ (s : State). IsHead k c n s s.ring) states → 1 ≤ n → 1 ≤ least_travel job.machine c n →
-    free_ticks k (opening job.machine) events states ≤ ticks_for (n * MILLION) (least_travel job.machine c n)
+    (k : ℕ) (l : Queued) → ComesToHead k l states → 1 ≤ path_steps l → 1 ≤ least_rate job l →
+    free_ticks k (opening job.machine) events states ≤ most_ticks job l
+
+-- every run of a job that keeps going is done in time
+abbrev pub RunsInTime : Job → Type 0
+RunsInTime job = (events : List Event) (outcomes : List Outcome) (states : List State) →
+    Run job (opening job.machine) events outcomes states → KeepGoing job (opening job.machine) events states →
+    IsDoneInTime job events states
+
+-- On every machine within its ranges each motion has a least rate, whatever the commands.
+abbrev pub MachinesRunInTime : Type 0
+MachinesRunInTime = (job : Job) → IsMachine job.machine → RunsInTime job

@@ -1,11 +1,12 @@
 -- How long a motion takes at the most. Our own.
-use Rattle.std.specs.Prelude.{◌≡◌, ℕ, ◌+◌, ◌-◌, ◌/◌, ◌≤◌, ◌<◌, min, ◌==◌, nat_lt, List, [], ◌∷◌, Bool, true, false, not, ◌&&◌, if◌then◌else◌}
+use Rattle.std.specs.Prelude.{◌≡◌, ℕ, ◌+◌, ◌-◌, ◌/◌, ◌≤◌, ◌<◌, min, ◌==◌, nat_lt, List, [], ◌∷◌, slice_get, Any, Some, Bool, true, false, not, ◌&&◌, if◌then◌else◌}
 use Rattle.ngc_planner.specs.Bounds.{least_travel}
-use Rattle.ngc_canonical.specs.declared.command.Command.{Command}
+use Rattle.ngc_canonical.specs.Movement.{doing}
 use Rattle.ngc_events.specs.declared.event.Event.{Event}
 use Rattle.ngc_events.specs.declared.event.Event.TheVariants.{Load, Tick, Hold, Resume, Override, StopSwitch, Start}
-use Rattle.ngc_behaviour.specs.State.{Job, Queued, State, path_steps, effective}
+use Rattle.ngc_behaviour.specs.State.{Job, Queued, State, opening, command_at, path_steps, millionths, effective}
 use Rattle.ngc_behaviour.specs.Reach.{rest}
+use Rattle.ngc_behaviour.specs.Step.{MayTake}
 
 -- the machine is free to travel: neither held nor stopped, at an override of at least 1
 pub record IsFree (s : State) : Type 0 where
@@ -34,6 +35,22 @@ KeepGoing job old [] states = Unit {0}
 KeepGoing job old (e ∷ es) [] = Unit {0}
 KeepGoing job old (e ∷ es) (new ∷ states) = GoesOn job old e new × KeepGoing job new es states
 
+-- ---- commands at the head
+
+-- a loaded command is at the head, as command k
+abbrev pub IsHead : ℕ → Queued → State → Type 0
+IsHead k l s = (s.done ≡ k) × (slice_get s.ring 0 ≡ Some l)
+
+-- it is in one of these states
+abbrev pub ComesToHead : ℕ → Queued → List State → Type 0
+ComesToHead k l states = Any (IsHead k l) states
+
+-- it is the job's command k, on a path that it may take, and command k is never at the head on another path
+pub record KeepsPath (job : Job) (k : ℕ) (l : Queued) (states : List State) : Type 0 where
+  pub command : command_at job k ≡ Some l.command
+  pub path : MayTake job (doing l.command) l.path
+  pub no_other : (m : Queued) → ComesToHead k m states → m ≡ l
+
 -- ---- the bound on ticks that follows
 
 abbrev pub is_tick : Event → Bool
@@ -47,11 +64,6 @@ is_tick Start = false
 
 abbrev pub is_free : State → Bool
 is_free s = not (s.held) && (not (s.stopped) && nat_lt 0 (effective s))
-
--- a loaded command of n path steps, n at least 1, is the one at index k that is at the head
-abbrev pub IsHead : ℕ → Command → ℕ → State → List Queued → Type 0
-IsHead k c n s [] = Unit {0}
-IsHead k c n s (l ∷ ls) = s.done ≡ k → (l.command ≡ c) × (path_steps l ≡ n)
 
 -- whether command k is loaded and at the head
 abbrev pub has_head : ℕ → State → List Queued → Bool
@@ -68,3 +80,17 @@ free_ticks k old (e ∷ es) (new ∷ states) =
 -- x / m, rounded up
 abbrev pub ticks_for : ℕ → ℕ → ℕ
 ticks_for x m = (x + (m - 1)) / m
+
+-- a loaded motion travels at least so much in a free tick, or all that is left of it
+abbrev pub least_rate : Job → Queued → ℕ
+least_rate job l = least_travel job.machine l.command (path_steps l)
+
+-- how many free ticks a loaded motion takes at the most
+abbrev pub most_ticks : Job → Queued → ℕ
+most_ticks job l = ticks_for (millionths l) (least_rate job l)
+
+-- each motion with path steps that comes to the head in a run is done within so many free ticks
+abbrev pub IsDoneInTime : Job → List Event → List State → Type 0
+IsDoneInTime job events states =
+    (k : ℕ) (l : Queued) → ComesToHead k l states → 1 ≤ path_steps l →
+    free_ticks k (opening job.machine) events states ≤ most_ticks job l

@@ -1,5 +1,5 @@
 //! Laws about the definitions alone.
-ghost use Rattle.ngc_behaviour.specs.Headline.{AcceptedRunsSafely, EndsInTime, Headline, KeepRatesAlways};
+ghost use Rattle.ngc_behaviour.specs.Headline.{AcceptedRunsSafely, EndsInTime, Headline, KeepPaths, KeepRatesAlways, MachinesRunInTime};
 
 /// Where the checker refuses nothing, then at either setting of block delete, for every list of events, every run of the
 /// machine is safe: each position is within travel and the tool mounted then clear of every fixture, rates and pulses keep
@@ -18,7 +18,18 @@ pub fn rates()
     ensures { KeepRatesAlways }
 {}
 
-/// A motion is done within so many ticks in which the machine is neither held nor stopped, at an override of at least 1.
+/// In every run, whenever a command is at the head it is on one path, which it may take.
+pub fn keep_paths()
+    ensures { KeepPaths }
+{}
+
+/// A motion that comes to the head is done within so many ticks in which the machine is neither held nor stopped, at an
+/// override of at least 1, where each such tick goes on at its least rate.
 pub fn ends_in_time()
     ensures { EndsInTime }
+{}
+
+/// So it is of every motion on a machine whose rates are within their ranges: its least rate is at least 1.
+pub fn machines_run_in_time()
+    ensures { MachinesRunInTime }
 {}

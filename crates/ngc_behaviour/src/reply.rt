@@ -3,8 +3,11 @@ use ngc_fixed_length::StepPos;
 /// How a command ended: by itself, by stopping the machine, or with the program. Commands are counted from 0.
 #[derive(Clone, Copy, Debug, PartialEq, Eq)]
 pub enum Ending {
+    /// By itself: its index.
     Done(u32),
+    /// By stopping the machine: its index.
     Stopped(u32),
+    /// With the program.
     End,
 }
 
@@ -18,10 +21,14 @@ pub enum Reply {
         position: Option<StepPos>,
         ending: Option<Ending>,
     },
+    /// The machine is held from now on.
     Held,
+    /// The machine is held no longer.
     Resumed,
-    /// In percent.
+    /// The override from now on, in percent.
     Overridden(u8),
+    /// Whether the optional stop switch is on from now on.
     Switched(bool),
+    /// The machine is stopped no longer.
     Started,
 }

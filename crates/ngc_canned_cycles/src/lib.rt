@@ -11,6 +11,3 @@ mod refusals;
 pub use cycle::{Cycle, CycleMove, Hole, Site, Start};
 pub use fault::CycleFault;
 pub use moves::{expand, fill};
-
-#[cfg(test)]
-mod tests;

@@ -110,7 +110,7 @@ impl<A: Allocator + Copy> Interpreter<A> {
     }
 
     /// G2, G3. Without an axis word of the plane nothing moves whose feed or lengths could be at fault.
-    pub fn arc(
+    pub(crate) fn arc(
         &mut self,
         turn: Turn,
         axes: &AxisWords,

@@ -256,7 +256,12 @@ impl<A: Allocator + Copy> Interpreter<A> {
     }
 
     /// G81, G82, G83, G85, G86, G89.
-    pub fn cycle(&mut self, hole: Hole, axes: &AxisWords, words: &CycleWords) -> Result<(), Refusal>
+    pub(crate) fn cycle(
+        &mut self,
+        hole: Hole,
+        axes: &AxisWords,
+        words: &CycleWords,
+    ) -> Result<(), Refusal>
         ensures { Becomes result (state_of self.new) (cycle_done hole axes.now words.now (state_of self.old)) }
     {
         let kept = match self.kept_after(axes, words) {

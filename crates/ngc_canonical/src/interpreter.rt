@@ -19,7 +19,7 @@ const COMMANDS: usize = 1_000_000;
 
 impl<A: Allocator> Interpreter<A> {
     /// The state at the start.
-    pub fn new(alloc: A, machine: &Machine<A>) -> Result<Interpreter<A>, AllocError>
+    pub(crate) fn new(alloc: A, machine: &Machine<A>) -> Result<Interpreter<A>, AllocError>
     where
         A: Copy,
         ensures { IfOk result (λ i. state_of i ≡ start_state (file_of machine.now)) }
@@ -52,7 +52,7 @@ impl<A: Allocator> Interpreter<A> {
     }
 
     /// One command more.
-    pub fn emit(&mut self, command: Command) -> Result<(), Refusal>
+    pub(crate) fn emit(&mut self, command: Command) -> Result<(), Refusal>
         ensures value { Becomes result (state_of self.new) (emitted command (state_of self.old)) }
         ensures frames { OnOk result ((state_of self.new).frames ≡ (state_of self.old).frames) }
     {
@@ -66,7 +66,7 @@ impl<A: Allocator> Interpreter<A> {
     }
 
     /// The axes stand there from now on.
-    pub fn stand_at(&mut self, place: &Point3)
+    pub(crate) fn stand_at(&mut self, place: &Point3)
         requires { IsMachinePlace place.now }
         ensures { state_of self.new ≡ record (state_of self.old) { place = place.now } }
     {
@@ -74,7 +74,7 @@ impl<A: Allocator> Interpreter<A> {
     }
 
     /// A traverse to a place of the machine.
-    pub fn traverse_to(&mut self, end: &Point3) -> Result<(), Refusal>
+    pub(crate) fn traverse_to(&mut self, end: &Point3) -> Result<(), Refusal>
         requires { IsMachinePlace end.now }
         ensures value { Becomes result (state_of self.new) (traversed_to end.now (state_of self.old)) }
         ensures frames { OnOk result ((state_of self.new).frames ≡ (state_of self.old).frames) }
@@ -94,7 +94,7 @@ impl<A: Allocator> Interpreter<A> {
     }
 
     /// The commands.
-    pub fn into_commands(self) -> Vec<Command, A>
+    pub(crate) fn into_commands(self) -> Vec<Command, A>
         ensures { result.items ≡ (state_of self).commands }
     {
         let Interpreter { commands, .. } = self;

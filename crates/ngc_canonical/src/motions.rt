@@ -26,7 +26,11 @@ pub(crate) fn feed_in(mode: FeedMode, feed: u64, f: Option<Value>) -> Result<Fee
 
 impl<A: Allocator> Interpreter<A> {
     /// G0.
-    pub fn traverse(&mut self, is_machine_place: bool, words: &AxisWords) -> Result<(), Refusal>
+    pub(crate) fn traverse(
+        &mut self,
+        is_machine_place: bool,
+        words: &AxisWords,
+    ) -> Result<(), Refusal>
         ensures { Becomes result (state_of self.new) (traversed is_machine_place words.now (state_of self.old)) }
     {
         match self.end_of(is_machine_place, words) {
@@ -36,7 +40,7 @@ impl<A: Allocator> Interpreter<A> {
     }
 
     /// G1.
-    pub fn straight(
+    pub(crate) fn straight(
         &mut self,
         is_machine_place: bool,
         words: &AxisWords,

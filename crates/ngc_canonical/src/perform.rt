@@ -93,7 +93,7 @@ impl<A: Allocator + Copy> Interpreter<A> {
     }
 
     /// Effects one after another.
-    pub fn run(
+    pub(crate) fn run(
         &mut self,
         machine: &Machine<A>,
         tools: &Tools<A>,

@@ -69,7 +69,7 @@ fn home_of<A: Allocator>(machine: &Machine<A>, home: Home) -> Point3
 
 impl<A: Allocator> Interpreter<A> {
     /// The place of the machine that axis words give; with G53 they are coordinates of the machine.
-    pub fn end_of(&self, is_machine_place: bool, words: &AxisWords) -> Result<Point3, Fault>
+    pub(crate) fn end_of(&self, is_machine_place: bool, words: &AxisWords) -> Result<Point3, Fault>
         ensures value { result ≡ end_in is_machine_place (state_of self.now) words.now }
         ensures range { IfOk result IsMachinePlace }
     {
@@ -86,7 +86,7 @@ impl<A: Allocator> Interpreter<A> {
     }
 
     /// G10 L2.
-    pub fn set_origin(&mut self, system: System, words: &AxisWords) -> Result<(), Refusal>
+    pub(crate) fn set_origin(&mut self, system: System, words: &AxisWords) -> Result<(), Refusal>
         ensures { Becomes result (state_of self.new) (origin_set system words.now (state_of self.old)) }
     {
         let given = match axis_lengths(self.modes.units, words) {
@@ -103,7 +103,7 @@ impl<A: Allocator> Interpreter<A> {
     }
 
     /// G92.
-    pub fn set_offset(&mut self, words: &AxisWords) -> Result<(), Refusal>
+    pub(crate) fn set_offset(&mut self, words: &AxisWords) -> Result<(), Refusal>
         ensures { Becomes result (state_of self.new) (offset_set words.now (state_of self.old)) }
     {
         let given = match axis_lengths(self.modes.units, words) {
@@ -120,7 +120,7 @@ impl<A: Allocator> Interpreter<A> {
     }
 
     /// G43 with its H, or G49.
-    pub fn set_length(&mut self, tools: &Tools<A>, h: Option<u32>) -> Result<(), Refusal>
+    pub(crate) fn set_length(&mut self, tools: &Tools<A>, h: Option<u32>) -> Result<(), Refusal>
         ensures { Becomes result (state_of self.new) (length_set (tools_of tools.now) h (state_of self.old)) }
     {
         match self.frames.set_length(tool_length(tools, h)) {
@@ -133,7 +133,7 @@ impl<A: Allocator> Interpreter<A> {
     }
 
     /// G17, G18, G19.
-    pub fn set_plane(&mut self, plane: Plane)
+    pub(crate) fn set_plane(&mut self, plane: Plane)
         ensures { state_of self.new ≡ unseries (record (state_of self.old) { modes = record (state_of self.old).modes { plane = plane } }) }
     {
         self.modes.plane = plane;
@@ -141,7 +141,7 @@ impl<A: Allocator> Interpreter<A> {
     }
 
     /// G54 to G59.3.
-    pub fn select(&mut self, system: System)
+    pub(crate) fn select(&mut self, system: System)
         ensures { state_of self.new ≡ unseries (record (state_of self.old) { frames = selected (state_of self.old).frames system }) }
     {
         self.frames.select(system);
@@ -149,7 +149,7 @@ impl<A: Allocator> Interpreter<A> {
     }
 
     /// G92.1.
-    pub fn clear_offset(&mut self)
+    pub(crate) fn clear_offset(&mut self)
         ensures { state_of self.new ≡ unseries (record (state_of self.old) { frames = cleared (state_of self.old).frames }) }
     {
         self.frames.clear();
@@ -157,7 +157,7 @@ impl<A: Allocator> Interpreter<A> {
     }
 
     /// G92.2.
-    pub fn suspend_offset(&mut self)
+    pub(crate) fn suspend_offset(&mut self)
         ensures { state_of self.new ≡ unseries (record (state_of self.old) { frames = suspended (state_of self.old).frames }) }
     {
         self.frames.suspend();
@@ -165,7 +165,7 @@ impl<A: Allocator> Interpreter<A> {
     }
 
     /// G92.3.
-    pub fn restore_offset(&mut self)
+    pub(crate) fn restore_offset(&mut self)
         ensures { state_of self.new ≡ unseries (record (state_of self.old) { frames = restored (state_of self.old).frames }) }
     {
         self.frames.restore();
@@ -173,7 +173,7 @@ impl<A: Allocator> Interpreter<A> {
     }
 
     /// G28, G30: through the programmed place, if axis words stand, to the home position on all axes.
-    pub fn go_home(
+    pub(crate) fn go_home(
         &mut self,
         machine: &Machine<A>,
         home: Home,

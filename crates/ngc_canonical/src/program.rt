@@ -85,7 +85,7 @@ impl<A: Allocator + Copy> Interpreter<A> {
     }
 
     /// Executes a line of the program, unless block delete takes it out. `work` is where its values and effects are found.
-    pub fn take_line(
+    pub(crate) fn take_line(
         &mut self,
         machine: &Machine<A>,
         tools: &Tools<A>,
@@ -111,7 +111,11 @@ impl<A: Allocator + Copy> Interpreter<A> {
     }
 
     /// The lines have run out: a marked file ends at its second `%`, whose line is the mark.
-    pub fn finish(mut self, mark: Option<u32>, count: u32) -> Result<Vec<Command, A>, ProgramFault>
+    pub(crate) fn finish(
+        mut self,
+        mark: Option<u32>,
+        count: u32,
+    ) -> Result<Vec<Command, A>, ProgramFault>
         ensures { GivesMeaning (λ v. v.items) result (commands_of (past_last mark count (state_of self))) }
     {
         let Some(line) = mark else {
@@ -140,7 +144,8 @@ fn mark_of<A: Allocator>(program: &Program<A>) -> Option<u32>
 }
 
 /// The commands of a program on a machine with its tools, at a setting of block delete, in the order in which they are
-/// executed, or its first fault with its line (101, 102, 131 to 133, 201 to 210, 221, 222, 252, 120, 251), or 900.
+/// executed, or its first fault with its line (101, 102, 120, 131 to 133, 201 to 210, 221, 222, 231 to 236, 241 to 246, 251,
+/// 252), or 900.
 ///
 /// With block delete on, lines that begin with `/` are taken out before anything is evaluated.
 pub fn interpret<A: Allocator + Copy>(

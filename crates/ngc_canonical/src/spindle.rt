@@ -44,7 +44,7 @@ fn with_coolant(code: Coolant, had: CoolantState) -> CoolantState
 
 impl<A: Allocator> Interpreter<A> {
     /// S: the speed, which a turning spindle takes at once.
-    pub fn set_speed(&mut self, value: Value) -> Result<(), Refusal>
+    pub(crate) fn set_speed(&mut self, value: Value) -> Result<(), Refusal>
         ensures { Becomes result (state_of self.new) (speed_set value (state_of self.old)) }
     {
         self.speed = value.millionths().unsigned_abs();
@@ -58,7 +58,7 @@ impl<A: Allocator> Interpreter<A> {
     }
 
     /// M3, M4, M5.
-    pub fn set_spindle(&mut self, code: Spindle) -> Result<(), Refusal>
+    pub(crate) fn set_spindle(&mut self, code: Spindle) -> Result<(), Refusal>
         ensures { Becomes result (state_of self.new) (spindle_set code (state_of self.old)) }
     {
         self.spindle = turn_of(code);
@@ -79,7 +79,7 @@ impl<A: Allocator> Interpreter<A> {
     }
 
     /// M6: mounts the selected tool, or none; 222 where the table doesn't have it.
-    pub fn change_tool(&mut self, tools: &Tools<A>) -> Result<(), Refusal>
+    pub(crate) fn change_tool(&mut self, tools: &Tools<A>) -> Result<(), Refusal>
         ensures { Becomes result (state_of self.new) (tool_changed (tools_of tools.now) (state_of self.old).selected (state_of self.old)) }
     {
         if self.selected == 0 {
@@ -92,7 +92,7 @@ impl<A: Allocator> Interpreter<A> {
     }
 
     /// M7, M8, M9.
-    pub fn set_coolant(&mut self, code: Coolant) -> Result<(), Refusal>
+    pub(crate) fn set_coolant(&mut self, code: Coolant) -> Result<(), Refusal>
         ensures { Becomes result (state_of self.new) (coolant_set code (state_of self.old)) }
     {
         self.coolant = with_coolant(code, self.coolant);

@@ -1,6 +1,6 @@
 -- What the pieces are that a motion is cleared with.
 use Rattle.std.proofs.Common.{◌≡◌, ℕ, ◌≤◌, refl, sym, subst, arith, List, [], ◌∷◌, ◌++◌, length, Some, None, true, false}
-use Rattle.std.specs.Prelude.{Option, option_map, IsTrue, Bool, cond, nat_le, ◌&&◌}
+use Rattle.std.specs.Prelude.{Option, option_map, IsTrue, Bool, cond, nat_le, nat_lt, ◌&&◌}
 use Rattle.std.specs.List.{find, filter, list_all}
 use Rattle.std.specs.Option.{is_none}
 use Rattle.std.proofs.lemmas.Bool.Decides.{nat_tests}
@@ -66,8 +66,8 @@ all_behind good (x ∷ xs) ys g h =
 counts : (most : ℕ) → 1 ≤ most → most ≤ 65535 → IsTrue (list_all is_count (tries most))
 counts most least greatest =
     let last : IsTrue (is_count most) = grind (arith, nat_tests) in
-    all_behind is_count (filter (λ c. nat_le c most) powers_of_two) (most ∷ [])
-    (all_kept is_count (λ c. nat_le c most) powers_of_two refl) (and (is_count most) true last refl)
+    all_behind is_count (filter (λ c. nat_lt c most) powers_of_two) (most ∷ [])
+    (all_kept is_count (λ c. nat_lt c most) powers_of_two refl) (and (is_count most) true last refl)
 
 at_least : (c : ℕ) → IsTrue (is_count c) → 1 ≤ c
 at_least c h = grind (arith, nat_tests)

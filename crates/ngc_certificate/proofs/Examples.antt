@@ -146,3 +146,6 @@ short_tool = refl
 
 tries_of_five : tries 5 ≡ 1 ∷ 2 ∷ 4 ∷ 5 ∷ []
 tries_of_five = refl
+
+tries_of_eight : tries 8 ≡ 1 ∷ 2 ∷ 4 ∷ 8 ∷ []
+tries_of_eight = refl

@@ -1,8 +1,9 @@
 -- What the made certificate says: it is valid, and it is there where each motion clears undivided.
-use Rattle.std.proofs.Common.{◌≡◌, ℕ, ◌+◌, ◌≤◌, refl, ap, ap₂, sym, subst, ◌∙◌, arith, List, [], ◌∷◌, ◌++◌, map, Some, None, Ok, Err, true}
-use Rattle.std.specs.Prelude.{Option, Result, option_map, Bool, nat_le}
+use Rattle.std.proofs.Common.{◌≡◌, inl, inr, ℕ, ◌+◌, ◌<◌, ◌≤◌, refl, ap, ap₂, sym, subst, ◌∙◌, arith, List, [], ◌∷◌, ◌++◌, map, Some, None, Ok, Err, true}
+use Rattle.std.specs.Prelude.{Option, Result, option_map, Bool, nat_lt}
 use Rattle.std.specs.List.{find, filter}
 use Rattle.std.specs.Option.{is_none}
+use Rattle.std.proofs.lemmas.Bool.{cases_lt}
 use Rattle.std.proofs.lemmas.Bool.Decides.{nat_tests}
 use Rattle.ngc_fixed_length.specs.Grid.{grid}
 use Rattle.ngc_fixed_length.specs.declared.points.Point3.{Point3}
@@ -100,17 +101,25 @@ valid_setting machine most commands entries least greatest start h =
 
 -- ---- motions that clear undivided
 
-first_of : (most : ℕ) → 1 ≤ most → nat_le 1 most ≡ true
+first_of : (most : ℕ) → 1 < most → nat_lt 1 most ≡ true
 first_of most h = grind (arith, nat_tests)
 
 undivided_first : (f : ℕ → List Piece) (test few : ℕ → Bool) (x : ℕ) (xs last : List ℕ) → few x ≡ true → test x ≡ true →
     option_map f (find test (filter few (x ∷ xs) ++ last)) ≡ Some (f x)
 undivided_first f test few x xs last h i = simp (h, i)
 
+only_one : (f : ℕ → List Piece) (test : ℕ → Bool) (x : ℕ) → test x ≡ true → option_map f (find test (x ∷ [])) ≡ Some (f x)
+only_one f test x h = simp h
+
 cleared_undivided : (machine : MachineFile) (most : ℕ) (tool : Option Tool) (m : Motion) → 1 ≤ most → is_clear_in machine tool m 1 ≡ true →
     cleared machine most tool m ≡ Some (pieces_of machine.step m 1)
-cleared_undivided machine most tool m least clear =
-    undivided_first (pieces_of machine.step m) (is_clear_in machine tool m) (λ c. nat_le c most) 1 (2 ∷ 4 ∷ 8 ∷ 16 ∷ 32 ∷ 64 ∷ 128 ∷ 256 ∷ 512 ∷ 1024 ∷ 2048 ∷ 4096 ∷ 8192 ∷ 16384 ∷ 32768 ∷ []) (most ∷ []) (first_of most least) clear
+cleared_undivided machine most tool m least clear = elim (cases_lt 1 most) [
+  | inl more ↦ undivided_first (pieces_of machine.step m) (is_clear_in machine tool m) (λ c. nat_lt c most) 1
+      (2 ∷ 4 ∷ 8 ∷ 16 ∷ 32 ∷ 64 ∷ 128 ∷ 256 ∷ 512 ∷ 1024 ∷ 2048 ∷ 4096 ∷ 8192 ∷ 16384 ∷ 32768 ∷ []) (most ∷ []) (first_of most more) clear
+  | inr one ↦
+      let e : 1 ≡ most = omega (arith, least, one) in
+      subst (λ n. cleared machine n tool m ≡ Some (pieces_of machine.step m 1)) e (only_one (pieces_of machine.step m) (is_clear_in machine tool m) 1 clear)
+]
 
 -- a list is made
 abbrev IsMade : Result (List Entry) ℕ → Type 0

@@ -1,6 +1,6 @@
 -- The numbers of pieces that are tried, one after another.
 use Rattle.std.proofs.Common.{◌≡◌, ℕ, suc, ◌+◌, ◌<◌, ◌≤◌, ap, sym, ◌∙◌, List, [], ◌∷◌, ◌++◌, Some, true, false, arith}
-use Rattle.std.specs.Prelude.{Option, option_map, Bool, nat_le, drop, slice_index_or}
+use Rattle.std.specs.Prelude.{Option, option_map, Bool, nat_lt, drop, slice_index_or}
 use Rattle.std.specs.List.{find, filter}
 use Rattle.std.proofs.Math.Seq.{drop-cons}
 use Rattle.std.proofs.lemmas.List.{drop_all}
@@ -15,7 +15,7 @@ use Rattle.ngc_certificate.specs.Making.{is_clear_in, pieces_where}
 -- the pieces of the first try that clears, where these powers of two are left
 abbrev pub cleared_from : MachineFile → ℕ → Option Tool → Motion → List ℕ → Option (List Piece)
 cleared_from machine most tool m powers =
-    option_map (pieces_of machine.step m) (find (is_clear_in machine tool m) (filter (λ c. nat_le c most) powers ++ most ∷ []))
+    option_map (pieces_of machine.step m) (find (is_clear_in machine tool m) (filter (λ c. nat_lt c most) powers ++ most ∷ []))
 
 skip : (f : ℕ → List Piece) (test few : ℕ → Bool) (x : ℕ) (xs last : List ℕ) → few x ≡ false →
     option_map f (find test (filter few (x ∷ xs) ++ last)) ≡ option_map f (find test (filter few xs ++ last))
@@ -38,34 +38,34 @@ at_last f test x false h = simp (sym h)
 next : (i : ℕ) → i < 16 → drop i powers_of_two ≡ slice_index_or powers_of_two i 0 ∷ drop (i + 1) powers_of_two
 next i h = let e : i + 1 ≡ suc i = omega arith in drop-cons powers_of_two i 0 h ∙ ap (λ n. slice_index_or powers_of_two i 0 ∷ drop n powers_of_two) (sym e)
 
-too_many : (most x : ℕ) → most < x → nat_le x most ≡ false
+too_many : (most x : ℕ) → most ≤ x → nat_lt x most ≡ false
 too_many most x h = grind (arith, nat_tests)
 
-few_enough : (most x : ℕ) → x ≤ most → nat_le x most ≡ true
+few_enough : (most x : ℕ) → x < most → nat_lt x most ≡ true
 few_enough most x h = grind (arith, nat_tests)
 
-pub skipped : (machine : MachineFile) (most : ℕ) (tool : Option Tool) (m : Motion) (i : ℕ) → i < 16 → most < slice_index_or powers_of_two i 0 →
+pub skipped : (machine : MachineFile) (most : ℕ) (tool : Option Tool) (m : Motion) (i : ℕ) → i < 16 → most ≤ slice_index_or powers_of_two i 0 →
     cleared_from machine most tool m (drop i powers_of_two) ≡ cleared_from machine most tool m (drop (i + 1) powers_of_two)
 skipped machine most tool m i h large =
     let x = slice_index_or powers_of_two i 0 in
     ap (cleared_from machine most tool m) (next i h)
-    ∙ skip (pieces_of machine.step m) (is_clear_in machine tool m) (λ c. nat_le c most) x (drop (i + 1) powers_of_two) (most ∷ []) (too_many most x large)
+    ∙ skip (pieces_of machine.step m) (is_clear_in machine tool m) (λ c. nat_lt c most) x (drop (i + 1) powers_of_two) (most ∷ []) (too_many most x large)
 
-pub refused : (machine : MachineFile) (most : ℕ) (tool : Option Tool) (m : Motion) (i : ℕ) → i < 16 → slice_index_or powers_of_two i 0 ≤ most →
+pub refused : (machine : MachineFile) (most : ℕ) (tool : Option Tool) (m : Motion) (i : ℕ) → i < 16 → slice_index_or powers_of_two i 0 < most →
     false ≡ is_clear_in machine tool m (slice_index_or powers_of_two i 0) →
     cleared_from machine most tool m (drop i powers_of_two) ≡ cleared_from machine most tool m (drop (i + 1) powers_of_two)
 refused machine most tool m i h few failed =
     let x = slice_index_or powers_of_two i 0 in
     ap (cleared_from machine most tool m) (next i h)
-    ∙ fails (pieces_of machine.step m) (is_clear_in machine tool m) (λ c. nat_le c most) x (drop (i + 1) powers_of_two) (most ∷ []) (few_enough most x few) (sym failed)
+    ∙ fails (pieces_of machine.step m) (is_clear_in machine tool m) (λ c. nat_lt c most) x (drop (i + 1) powers_of_two) (most ∷ []) (few_enough most x few) (sym failed)
 
-pub taken : (machine : MachineFile) (most : ℕ) (tool : Option Tool) (m : Motion) (i : ℕ) (pieces : List Piece) → i < 16 → slice_index_or powers_of_two i 0 ≤ most →
+pub taken : (machine : MachineFile) (most : ℕ) (tool : Option Tool) (m : Motion) (i : ℕ) (pieces : List Piece) → i < 16 → slice_index_or powers_of_two i 0 < most →
     true ≡ is_clear_in machine tool m (slice_index_or powers_of_two i 0) → pieces ≡ pieces_of machine.step m (slice_index_or powers_of_two i 0) →
     cleared_from machine most tool m (drop i powers_of_two) ≡ Some pieces
 taken machine most tool m i pieces h few clear same =
     let x = slice_index_or powers_of_two i 0 in
     ap (cleared_from machine most tool m) (next i h)
-    ∙ found (pieces_of machine.step m) (is_clear_in machine tool m) (λ c. nat_le c most) x (drop (i + 1) powers_of_two) (most ∷ []) (few_enough most x few) (sym clear)
+    ∙ found (pieces_of machine.step m) (is_clear_in machine tool m) (λ c. nat_lt c most) x (drop (i + 1) powers_of_two) (most ∷ []) (few_enough most x few) (sym clear)
     ∙ ap (λ (ps : List Piece). Some ps) (sym same)
 
 pub last_try : (machine : MachineFile) (most : ℕ) (tool : Option Tool) (m : Motion) (i : ℕ) (pieces : List Piece) (clear : Bool) → 16 ≤ i →

@@ -1,5 +1,5 @@
 -- The certificate that is made for the commands of a program at both settings of block delete. Our own.
-use Rattle.std.specs.Prelude.{◌≡◌, ℕ, zero, suc, ◌+◌, ◌*◌, ◌/◌, nat_le, ℤ, List, [], ◌∷◌, ◌++◌, Option, Some, None, option_map, Result, Ok, Err, Bool, true, ◌&&◌}
+use Rattle.std.specs.Prelude.{◌≡◌, ℕ, zero, suc, ◌+◌, ◌*◌, ◌/◌, nat_lt, ℤ, List, [], ◌∷◌, ◌++◌, Option, Some, None, option_map, Result, Ok, Err, Bool, true, ◌&&◌}
 use Rattle.std.specs.List.{find, filter}
 use Rattle.std.specs.Option.{is_none}
 use Rattle.ngc_fixed_length.specs.Grid.{grid}
@@ -38,12 +38,12 @@ abbrev pub pieces_of : ℤ → Motion → ℕ → List Piece
 pieces_of step (Straight b e) c = line_pieces_from step b e c 0 c
 pieces_of step (Along a) c = record { end = Place (shapes.end_of a); bounds = swept_box step a } ∷ []
 
--- how many pieces are tried: the powers of two up to the most, and then the most itself
+-- how many pieces are tried: the powers of two below the most, and then the most itself
 abbrev pub powers_of_two : List ℕ
 powers_of_two = 1 ∷ 2 ∷ 4 ∷ 8 ∷ 16 ∷ 32 ∷ 64 ∷ 128 ∷ 256 ∷ 512 ∷ 1024 ∷ 2048 ∷ 4096 ∷ 8192 ∷ 16384 ∷ 32768 ∷ []
 
 abbrev pub tries : ℕ → List ℕ
-tries most = filter (λ c. nat_le c most) powers_of_two ++ most ∷ []
+tries most = filter (λ c. nat_lt c most) powers_of_two ++ most ∷ []
 
 -- the pieces of the first try that no refusal meets
 abbrev pub cleared : MachineFile → ℕ → Option Tool → Motion → Option (List Piece)

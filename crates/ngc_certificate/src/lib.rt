@@ -17,6 +17,3 @@ pub use maker::make;
 pub use ngc_certificate_text::{Certificate, Cut, Motions, Piece, Setting};
 pub use pieces::{piece_fault, pieces_fault, place_fault};
 pub use stretch::Stretch;
-
-#[cfg(test)]
-mod tests;

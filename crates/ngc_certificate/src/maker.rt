@@ -17,7 +17,7 @@ use ngc_certificate_text::{Certificate, Motions, Piece, Setting};
 use ngc_fixed_length::Point3;
 use std::alloc::{AllocError, Allocator};
 
-/// In how many pieces a motion is tried, where that isn't more than the most.
+/// In how many pieces a motion is tried, where that is less than the most.
 const POWERS_OF_TWO: [u16; 16] = [
     1, 2, 4, 8, 16, 32, 64, 128, 256, 512, 1024, 2048, 4096, 8192, 16384, 32768,
 ];
@@ -72,7 +72,7 @@ fn find_clear<A: Allocator>(
     ensures { IfOk result (λ clear. cleared (file_of machine.now) most tool.now motion.now ≡ pieces_where clear pieces.new.items) }
 {
     for count in POWERS_OF_TWO {
-        if count > most {
+        if count >= most {
             continue;
         }
         if clears_in(machine, tool, motion, count, pieces)? {
@@ -193,7 +193,7 @@ fn fault_at(setting: Setting, refusal: Refusal) -> MakeFault
 /// A certificate for the commands of a program with block delete off and on, on a machine; or the first command that isn't
 /// cleared (304), or 900.
 ///
-/// A line is tried in 1, 2, 4 .. pieces of about one length up to `cuts`, and then in `cuts`, of which the first number that
+/// A line is tried in 1, 2, 4 .. pieces of about one length below `cuts`, and then in `cuts`, of which the first number that
 /// clears is taken; an arc stands in one piece. `cuts` is at least 1. Each setting has at most a million commands.
 pub fn make<A: Allocator + Copy>(
     alloc: A,
@@ -226,6 +226,3 @@ pub fn make<A: Allocator + Copy>(
     };
     Ok(Certificate { off, on })
 }
-
-#[cfg(test)]
-mod tests;

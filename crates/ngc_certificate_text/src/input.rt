@@ -58,7 +58,7 @@ pub struct Input {
 
 impl Input {
     /// Nothing is read yet.
-    pub fn new() -> Input
+    pub(crate) fn new() -> Input
         ensures window { window_of result ≡ [] }
         ensures number { number_of result ≡ 1 }
     {
@@ -114,7 +114,7 @@ impl Input {
     }
 
     /// How many motions the setting of this name has.
-    pub fn setting<R: Source>(
+    pub(crate) fn setting<R: Source>(
         &mut self,
         source: &mut R,
         name: &[u8],
@@ -134,7 +134,10 @@ impl Input {
     }
 
     /// The index and the number of pieces of the next motion.
-    pub fn motion<R: Source>(&mut self, source: &mut R) -> Result<MotionLine, CertificateFault>
+    pub(crate) fn motion<R: Source>(
+        &mut self,
+        source: &mut R,
+    ) -> Result<MotionLine, CertificateFault>
         ensures said { Follows result (line_at motion_said)
             (place_in self.old (R.remaining source.old)) (place_in self.new (R.remaining source.new)) }
         ensures ranges { IfOk result IsMotionLine }
@@ -150,7 +153,7 @@ impl Input {
     }
 
     /// The next piece of a motion.
-    pub fn piece<R: Source>(&mut self, source: &mut R) -> Result<Piece, CertificateFault>
+    pub(crate) fn piece<R: Source>(&mut self, source: &mut R) -> Result<Piece, CertificateFault>
         ensures said { Follows result (line_at piece_said)
             (place_in self.old (R.remaining source.old)) (place_in self.new (R.remaining source.new)) }
         ensures good { IfOk result (λ p. IsTrue (good_piece p)) }
@@ -166,7 +169,7 @@ impl Input {
     }
 
     /// The last line.
-    pub fn end<R: Source>(&mut self, source: &mut R) -> Result<(), CertificateFault>
+    pub(crate) fn end<R: Source>(&mut self, source: &mut R) -> Result<(), CertificateFault>
         ensures said { Follows result (line_at end_said)
             (place_in self.old (R.remaining source.old)) (place_in self.new (R.remaining source.new)) }
         ensures device { FailsByReading result (R.failures source.old) (R.failures source.new) }
@@ -181,7 +184,7 @@ impl Input {
     }
 
     /// Whether the source is at its end, or a line comes that must not be there.
-    pub fn finish<R: Source>(&mut self, source: &mut R) -> Result<(), CertificateFault>
+    pub(crate) fn finish<R: Source>(&mut self, source: &mut R) -> Result<(), CertificateFault>
         ensures end { Finishes result (number_of self.old) (text_ahead (window_of self.old) (R.remaining source.old)) }
         ensures device { FailsByReading result (R.failures source.old) (R.failures source.new) }
     {
@@ -196,7 +199,7 @@ impl Input {
     }
 
     /// The first line.
-    pub fn header<R: Source>(&mut self, source: &mut R) -> Result<(), CertificateFault>
+    pub(crate) fn header<R: Source>(&mut self, source: &mut R) -> Result<(), CertificateFault>
         requires { number_of self.old ≡ 1 }
         ensures said { Follows result header_at
             (place_in self.old (R.remaining source.old)) (place_in self.new (R.remaining source.new)) }

@@ -17,8 +17,3 @@ pub use certificate::Certificate;
 pub use fault::CertificateFault;
 pub use motions::Motions;
 pub use piece::{Cut, Piece, Setting};
-
-#[cfg(test)]
-mod tests_of_reading;
-#[cfg(test)]
-mod tests_of_writing;

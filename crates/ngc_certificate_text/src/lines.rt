@@ -221,14 +221,14 @@ fn arc_piece_in(fields: Option<&[u8]>) -> Result<Piece, LineFlaw>
     }
 }
 
-pub fn is_text(bytes: &[u8], text: &[u8]) -> bool
+pub(crate) fn is_text(bytes: &[u8], text: &[u8]) -> bool
     ensures { result ≡ bytes_eq bytes.now text.now }
 {
     bytes == text
 }
 
 /// How many motions the setting of this name has, if the line says it.
-pub fn setting_line(name: &[u8], line: &[u8]) -> Result<u32, LineFlaw>
+pub(crate) fn setting_line(name: &[u8], line: &[u8]) -> Result<u32, LineFlaw>
     ensures { result ≡ setting_said name.now line.now }
 {
     let (word, behind) = split_field(line);
@@ -247,7 +247,7 @@ pub fn setting_line(name: &[u8], line: &[u8]) -> Result<u32, LineFlaw>
 }
 
 /// A motion's index and number of pieces, if the line says them.
-pub fn motion_line(line: &[u8]) -> Result<MotionLine, LineFlaw>
+pub(crate) fn motion_line(line: &[u8]) -> Result<MotionLine, LineFlaw>
     ensures { result ≡ motion_said line.now }
 {
     let (word, numbers) = split_field(line);
@@ -259,7 +259,7 @@ pub fn motion_line(line: &[u8]) -> Result<MotionLine, LineFlaw>
 }
 
 /// A piece, if the line says it.
-pub fn piece_line(line: &[u8]) -> Result<Piece, LineFlaw>
+pub(crate) fn piece_line(line: &[u8]) -> Result<Piece, LineFlaw>
     ensures { result ≡ piece_said line.now }
 {
     let (word, numbers) = split_field(line);
@@ -273,7 +273,7 @@ pub fn piece_line(line: &[u8]) -> Result<Piece, LineFlaw>
 }
 
 /// Whether the line is the last one.
-pub fn end_line(line: &[u8]) -> Result<(), LineFlaw>
+pub(crate) fn end_line(line: &[u8]) -> Result<(), LineFlaw>
     ensures { result ≡ end_said line.now }
 {
     if is_text(line, b"end") {

@@ -97,7 +97,7 @@ fn first_space(text: &[u8]) -> Option<usize>
 }
 
 /// The first of the fields of a text, and the text behind it if there are more.
-pub fn split_field(text: &[u8]) -> (&[u8], Option<&[u8]>)
+pub(crate) fn split_field(text: &[u8]) -> (&[u8], Option<&[u8]>)
     ensures fields { fields text.now ≡ result.0.now ∷ all_fields result.1 }
     ensures shorter { IfSome result.1 (λ rest. length rest.now < length text.now) }
 {
@@ -111,7 +111,7 @@ pub fn split_field(text: &[u8]) -> (&[u8], Option<&[u8]>)
 }
 
 /// The numbers in the fields that are left, one in each, if they are no more than 8.
-pub fn numbers_in(text: Option<&[u8]>) -> Option<Numbers>
+pub(crate) fn numbers_in(text: Option<&[u8]>) -> Option<Numbers>
     ensures { option_map (λ n. n.items) result ≡ numbers_left (all_fields text.entry) }
 {
     let mut numbers = ArrayVec::new();

@@ -27,7 +27,7 @@ impl Model for Window {
 
 impl Window {
     /// No bytes.
-    pub fn new() -> Window
+    pub(crate) fn new() -> Window
         ensures { result ≡ [] }
     {
         Window {
@@ -37,14 +37,14 @@ impl Window {
         }
     }
 
-    pub fn bytes(&self) -> &[u8]
+    pub(crate) fn bytes(&self) -> &[u8]
         ensures { result.now ≡ self.now }
     {
         &self.chunk[self.start..self.end]
     }
 
     /// So many bytes are read.
-    pub fn skip(&mut self, count: usize)
+    pub(crate) fn skip(&mut self, count: usize)
         requires { count ≤ length self.old }
         ensures { self.new ≡ drop count self.old }
     {
@@ -52,7 +52,7 @@ impl Window {
     }
 
     /// Pulls bytes in place of those that are there, and tells whether any came: none come at the source's end alone.
-    pub fn refill<R: Source>(&mut self, source: &mut R) -> Result<bool, DeviceFault>
+    pub(crate) fn refill<R: Source>(&mut self, source: &mut R) -> Result<bool, DeviceFault>
         ensures bytes { Refills result (R.remaining source.old) self.new (R.remaining source.new) }
         ensures counts { CountsFailure (R.failures source.old) (R.failures source.new) result }
     {

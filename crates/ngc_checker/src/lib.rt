@@ -12,6 +12,3 @@ mod walk;
 pub use accepted::Accepted;
 pub use checker::check;
 pub use fault::CheckFault;
-
-#[cfg(test)]
-mod tests;

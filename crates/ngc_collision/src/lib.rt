@@ -7,6 +7,3 @@ mod travel;
 
 pub use bodies::first_met;
 pub use travel::is_in_travel;
-
-#[cfg(test)]
-mod tests;

@@ -31,9 +31,6 @@ use run::{run_command, run_options};
 use std::alloc::{AllocError, Global};
 use thiserror::Error;
 
-#[cfg(test)]
-mod tests;
-
 /// Why no options were read.
 #[derive(Debug, Drop, Error)]
 pub enum UsageFault {

@@ -18,7 +18,7 @@ fn machine_argument<'a>(alloc: Global) -> Arg<'a>
     file_argument(
         alloc,
         "machine",
-        "Machine file in TOML: its step, travel and home points\n[default: a built-in small mill]",
+        "Machine file in TOML: its step, start, home points\nand origins [default: a built-in small mill]",
     )
 }
 

@@ -1,4 +1,4 @@
-ghost use Rattle.std.specs.Prelude.{◌≡◌, ◌++◌, ◌∷◌, [], true, false, Ok, IfOk, IfErr};
+ghost use Rattle.std.specs.Prelude.{◌≡◌, ◌++◌, ◌∷◌, [], true, false, Ok, IfOk, IfErr, OnErr};
 ghost use Rattle.circular_buffer.specs.Buffer.{keep_last};
 ghost use Rattle.ngc_behaviour.specs.Headline.{job_of};
 ghost use Rattle.ngc_behaviour.specs.Progress.{GoesOn, TravelsAtLeast};
@@ -10,6 +10,7 @@ ghost use Rattle.ngc_controller.specs.Fields.{TravelsOn, IsServed};
 ghost use Rattle.ngc_controller.specs.Ring.{IsMoving};
 
 use crate::ending::{dwells_on, ending_of, panel_after, tool_after};
+use crate::fault::MemoryFault;
 use crate::panel::Panel;
 use crate::progress::Progress;
 use crate::route::Loaded;
@@ -21,13 +22,13 @@ use ngc_events::Event;
 use ngc_fixed_length::StepPos;
 use ngc_machine::Tool;
 use ngc_step_kernel::ArcKernel;
-use std::alloc::{AllocError, Allocator};
+use std::alloc::Allocator;
 use std::marker::Model;
 
 /// How many commands may be loaded and not done.
 const RING: u32 = 16;
 
-/// How many outcomes of events are kept.
+/// How many replies are kept.
 const KEPT: usize = 256;
 
 const QUIET: Reply = Reply::Ticked {
@@ -44,7 +45,7 @@ pub struct Controller<K: ArcKernel + Drop, A: Allocator> {
     position: StepPos,
     tool: Option<Tool>,
     panel: Panel,
-    recent: HeapCircularBuffer<Result<Reply, EventFault>, A>,
+    recent: HeapCircularBuffer<Reply, A>,
 }
 
 impl<K: ArcKernel + Drop, A: Allocator> Model for Controller<K, A> {
@@ -68,12 +69,12 @@ impl<K: ArcKernel + Drop, A: Allocator> Model for Controller<K, A> {
 
 impl<K: ArcKernel + Drop, A: Allocator + Copy> Controller<K, A> {
     /// A controller whose machine stands still at the start point, with nothing loaded and no tool mounted. It takes all its
-    /// memory here; where there is too little, what was accepted is handed back.
+    /// memory here; where there is too little (900), what was accepted is handed back.
     pub fn new(
         alloc: A,
         accepted: Accepted<A>,
         block_delete: bool,
-    ) -> Result<Controller<K, A>, (Accepted<A>, AllocError)>
+    ) -> Result<Controller<K, A>, (Accepted<A>, MemoryFault)>
         ensures made { IfOk result (λ c. (c.job ≡ job_of accepted.machine (commands_at block_delete accepted)) × (c.state ≡ opening accepted.machine) × (c.recent ≡ [])) }
         ensures back { IfErr result (λ e. e.0 ≡ accepted) }
     {
@@ -81,11 +82,11 @@ impl<K: ArcKernel + Drop, A: Allocator + Copy> Controller<K, A> {
         let position = machine.start.to_grid(machine.step);
         let progress = match Progress::new(alloc, u64::from(machine.change)) {
             Ok(progress) => progress,
-            Err(error) => return Err((accepted, error)),
+            Err(_) => return Err((accepted, MemoryFault)),
         };
         let recent = match HeapCircularBuffer::with_capacity(alloc, KEPT) {
             Ok(recent) => recent,
-            Err(error) => return Err((accepted, error)),
+            Err(_) => return Err((accepted, MemoryFault)),
         };
         Ok(Controller {
             accepted,
@@ -98,17 +99,20 @@ impl<K: ArcKernel + Drop, A: Allocator + Copy> Controller<K, A> {
         })
     }
 
-    /// Takes an event, and answers what the machine did. It takes no memory. A refused event leaves the machine as it was: an
-    /// override over 200 percent (701), a load while sixteen commands are loaded and not done (702), or a load behind the last
-    /// command (703).
+    /// Takes an event, and answers what the machine did. It takes no memory. A refused event leaves the controller as it was,
+    /// its latest replies too: an override over 200 percent (701), a load while sixteen commands are loaded and not done
+    /// (702), or a load behind the last command (703).
     pub fn event(&mut self, event: Event) -> Result<Reply, EventFault>
         ensures job { self.new.job ≡ self.old.job }
         ensures step { Step self.old.job self.old.state event result self.new.state }
         ensures goes_on { GoesOn self.old.job self.old.state event self.new.state }
-        ensures recent { self.new.recent ≡ keep_last KEPT (self.old.recent ++ result ∷ []) }
+        ensures recent { IfOk result (λ reply. self.new.recent ≡ keep_last KEPT (self.old.recent ++ reply ∷ [])) }
+        ensures refused { OnErr result (self.new ≡ self.old) }
     {
         let outcome = self.take(event);
-        self.recent.push_back(outcome);
+        if let Ok(reply) = outcome {
+            self.recent.push_back(reply);
+        }
         outcome
     }
 
@@ -118,6 +122,7 @@ impl<K: ArcKernel + Drop, A: Allocator + Copy> Controller<K, A> {
         ensures recent { self.new.recent ≡ self.old.recent }
         ensures step { Step self.old.job self.old.state event result self.new.state }
         ensures goes_on { GoesOn self.old.job self.old.state event self.new.state }
+        ensures refused { OnErr result (self.new ≡ self.old) }
     {
         match event {
             Event::Load => self.load(),
@@ -147,6 +152,7 @@ impl<K: ArcKernel + Drop, A: Allocator + Copy> Controller<K, A> {
         ensures job { self.new.job ≡ self.old.job }
         ensures recent { self.new.recent ≡ self.old.recent }
         ensures loads { LoadCommand self.old.job self.old.state (command_at self.old.job (loaded self.old.state)) result self.new.state }
+        ensures refused { OnErr result (self.new ≡ self.old) }
     {
         let machine = self.accepted.machine();
         let commands = self.accepted.commands(self.block_delete);
@@ -253,6 +259,7 @@ impl<K: ArcKernel + Drop, A: Allocator + Copy> Controller<K, A> {
         ensures job { self.new.job ≡ self.old.job }
         ensures recent { self.new.recent ≡ self.old.recent }
         ensures step { Step self.old.job self.old.state (Event.Override percent) result self.new.state }
+        ensures refused { OnErr result (self.new ≡ self.old) }
     {
         if percent > 200 {
             return Err(EventFault::OverrideTooLarge);
@@ -284,8 +291,9 @@ impl<K: ArcKernel + Drop, A: Allocator + Copy> Controller<K, A> {
         self.tool
     }
 
-    /// What came of the event `index` places before the last one, 0 for the last one itself. The last 256 are kept.
-    pub fn recent(&self, index: usize) -> Option<Result<Reply, EventFault>>
+    /// The reply to the event that was taken `index` events before the last one, 0 for the last one itself. Those to the last
+    /// 256 are kept, and refused events don't count.
+    pub fn recent(&self, index: usize) -> Option<Reply>
         ensures { result ≡ from_the_last index self.now.recent }
     {
         self.recent.nth_back(index).copied()

@@ -4,9 +4,11 @@
 mod controller;
 mod drive;
 mod ending;
+mod fault;
 mod panel;
 mod progress;
 mod ring;
 mod route;
 
 pub use controller::Controller;
+pub use fault::MemoryFault;

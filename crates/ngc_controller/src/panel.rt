@@ -9,7 +9,9 @@ pub struct Panel {
     pub percent: u8,
     /// Whether the override counts.
     pub overrides: bool,
+    /// Whether the machine is held: its rate falls to 0, and then nothing is begun.
     pub held: bool,
+    /// Whether a stop has stopped the machine, and no start came since.
     pub stopped: bool,
     /// Whether an optional stop stops the machine.
     pub stop_switch: bool,

@@ -11,6 +11,3 @@ mod read;
 pub use event::{Event, EventLine};
 pub use fault::EventsFault;
 pub use read::read_events;
-
-#[cfg(test)]
-mod tests;

@@ -63,7 +63,7 @@ fn word_event(word: &[u8]) -> Option<Event>
 
 /// What a line says, its line feed left out.
 #[tactic(auto, unfolding(crate::specs::Events::event_said))]
-pub fn event_in(line: &[u8]) -> Option<EventLine>
+pub(crate) fn event_in(line: &[u8]) -> Option<EventLine>
     ensures { result ≡ event_said line.now }
 {
     if let Some(number) = line.strip_prefix(b"tick ") {

@@ -31,7 +31,7 @@ fn digits_to(limit: u32, digits: &[u8]) -> Option<u32>
 }
 
 /// The number whose decimal spelling a text is, if it is no greater than the limit.
-pub fn number_to(limit: u32, text: &[u8]) -> Option<u32>
+pub(crate) fn number_to(limit: u32, text: &[u8]) -> Option<u32>
     ensures value { result ≡ number_said limit text.now }
     ensures within { IfSome result (λ n. n ≤ limit) }
 {

@@ -21,6 +21,3 @@ pub use roots::{root_ceil, root_floor};
 pub use units::Units;
 pub use value::Value;
 pub use writing::{WriteFault, write_all};
-
-#[cfg(test)]
-mod tests;

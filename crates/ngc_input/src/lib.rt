@@ -6,6 +6,3 @@ mod reading;
 
 pub use fault::InputFault;
 pub use reading::{CHUNK, read_whole};
-
-#[cfg(test)]
-mod tests;

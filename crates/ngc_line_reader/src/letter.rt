@@ -39,7 +39,7 @@ impl Default for Letter {
 // The letter that a byte spells.
 #[tactic(auto, unfolding(crate::specs::Letter::letter_of))]
 #[inline]
-pub fn letter_of(byte: u8) -> Option<Letter>
+pub(crate) fn letter_of(byte: u8) -> Option<Letter>
     ensures { result ≡ letter_spelled byte }
 {
     match byte {

@@ -17,6 +17,3 @@ pub use line::reading::read_line;
 pub use line::{Line, LineView, RawSetting, RawWord};
 pub use program::{Program, ReadFault};
 pub use token::{Operator, Symbol, Token};
-
-#[cfg(test)]
-mod tests;

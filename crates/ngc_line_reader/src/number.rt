@@ -38,7 +38,7 @@ fn count_digits(s: &[u8]) -> (usize, u64)
 }
 
 // The digits in front, and what follows them.
-pub fn split_digits(s: &[u8]) -> (Digits<'_>, &[u8])
+pub(crate) fn split_digits(s: &[u8]) -> (Digits<'_>, &[u8])
     ensures front { result.0.bytes.now ≡ digits_at s.now }
     ensures units { result.0.units ≡ min (digits_value result.0.bytes.now) 10000000000 }
     ensures digits { IsDigits result.0.bytes.now }
@@ -65,7 +65,7 @@ fn begins_unknown(s: &[u8]) -> bool
 }
 
 // Why an item can't go on at `s`.
-pub fn refusal(kind: FaultKind, s: &[u8]) -> Refusal
+pub(crate) fn refusal(kind: FaultKind, s: &[u8]) -> Refusal
     ensures value { result ≡ refused kind s.now }
     ensures not_long { kind ≢ FaultKind.LineTooLong → result ≢ Refusal.OfItem FaultKind.LineTooLong }
 {
@@ -76,7 +76,7 @@ pub fn refusal(kind: FaultKind, s: &[u8]) -> Refusal
     }
 }
 
-pub fn begins(byte: u8, s: &[u8]) -> bool
+pub(crate) fn begins(byte: u8, s: &[u8]) -> bool
     ensures first { result ≡ has_first byte s.now }
     ensures some { IsTrue result → 0 < length s.now }
 {
@@ -87,7 +87,7 @@ pub fn begins(byte: u8, s: &[u8]) -> bool
 }
 
 // The bytes after the first.
-pub fn tail(s: &[u8]) -> &[u8]
+pub(crate) fn tail(s: &[u8]) -> &[u8]
     requires { 0 < length s.now }
     ensures { result.now ≡ drop 1 s.now }
 {
@@ -124,7 +124,7 @@ fn split_decimals(s: &[u8]) -> (Digits<'_>, &[u8])
 
 // A number's value, and what follows it.
 #[tactic(auto, unfolding(crate::specs::Scan::number_at))]
-pub fn number_at(s: &[u8]) -> Result<(Value, &[u8]), Refusal>
+pub(crate) fn number_at(s: &[u8]) -> Result<(Value, &[u8]), Refusal>
     ensures reads { Gives (λ x. (x.0, x.1.now)) result (number_found s.now) }
     ensures not_long { IfErr result (λ e. e ≢ Refusal.OfItem FaultKind.LineTooLong) }
 {

@@ -22,9 +22,6 @@ mod stored;
 
 pub use fault::ReadFault;
 
-#[cfg(test)]
-mod tests;
-
 /// A part program: the lines that are read.
 #[derive(Drop)]
 pub struct Program<A: Allocator> {

@@ -45,7 +45,7 @@ fn number_token<'a>(
 // The tokens of a real value, and what follows it.
 #[cycle(real)]
 #[tactic(auto, using(crate::proofs::ScanSteps::real_step))]
-pub fn real_at<'a>(
+pub(crate) fn real_at<'a>(
     columns: &[u16],
     room: usize,
     s: &'a [u8],

@@ -70,7 +70,7 @@ fn kept_byte(place: Place, byte: u8, last: bool) -> Option<u8>
 
 // The column of the byte with so many bytes left.
 #[inline]
-pub fn column_of(columns: &[u16], left: usize) -> u16
+pub(crate) fn column_of(columns: &[u16], left: usize) -> u16
     ensures { result ≡ place_in columns.now left }
 {
     let index = columns.len().saturating_sub(left);
@@ -83,7 +83,7 @@ pub fn column_of(columns: &[u16], left: usize) -> u16
 
 /// The text of a line, into `bytes`, and the column of each of its bytes, into `columns`: so many of either.
 #[tactic(auto, using(crate::proofs::TextSteps::one_byte))]
-pub fn fill_text(line: &[u8], bytes: &mut [u8; 256], columns: &mut [u16; 256]) -> usize
+pub(crate) fn fill_text(line: &[u8], bytes: &mut [u8; 256], columns: &mut [u16; 256]) -> usize
     requires { length line.now ≤ 256 }
     ensures within { result ≤ 256 }
     ensures bytes { take result bytes.new ≡ text line.now }

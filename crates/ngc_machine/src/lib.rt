@@ -18,6 +18,3 @@ pub use fault::FileFault;
 pub use machine::{Fixture, Machine};
 pub use small_mill::row_machine;
 pub use tools::{Tool, Tools};
-
-#[cfg(test)]
-mod tests;

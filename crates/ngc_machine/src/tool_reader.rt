@@ -1,4 +1,4 @@
-ghost use Rattle.std.specs.Prelude.{◌≡◌, IfOk, IfErr, option_map};
+ghost use Rattle.std.specs.Prelude.{◌≡◌, IfOk, IsOk, option_map};
 ghost use Rattle.ngc_machine.specs.Tools.{tools_of};
 ghost use Rattle.ngc_machine.specs.ToolText.{tool_table, values_in, values_of};
 ghost use Rattle.toml.specs.Errors.{IsBlank};
@@ -12,7 +12,7 @@ use std::alloc::{AllocError, Global};
 
 fn read_contents(alloc: Global, bytes: &[u8]) -> Result<Option<ToolContents>, AllocError>
     ensures contents { IfOk result (λ o. option_map values_of o ≡ values_in bytes.now) }
-    ensures memory { IfErr result (λ _. ¬ IsBlank bytes.now) }
+    ensures blank { IsBlank bytes.now → IsOk result }
 {
     match read_tree(alloc, bytes)? {
         Some(tree) => ToolContents::read(alloc, &tree),
@@ -25,10 +25,11 @@ impl Tools<Global> {
     ///
     /// It is refused with 269 where it is no such document or a key is unknown, missing or of the wrong kind, and else with
     /// 261 for another version and 268 for a number out of range, a tool's number twice or more than 1,000 tools; with 900
-    /// where memory was refused, which no blank file asks for.
+    /// where memory was refused.
     pub fn read(alloc: Global, bytes: &[u8]) -> Result<Tools<Global>, FileFault>
         ensures tools { GivesFile tools_of result (tool_table bytes.now) }
-        ensures memory { result ≡ Err FileFault.Memory → ¬ IsBlank bytes.now }
+        // A file of white space and comments alone is told as such even where there is no memory.
+        ensures blank { IsBlank bytes.now → result ≡ Err FileFault.Document }
     {
         let contents = match read_contents(alloc, bytes) {
             Ok(Some(contents)) => contents,

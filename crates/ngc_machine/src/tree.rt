@@ -1,4 +1,4 @@
-ghost use Rattle.std.specs.Prelude.{◌≡◌, IfOk, IfErr, IsSome, map, Option, List, option_map, string_bytes};
+ghost use Rattle.std.specs.Prelude.{◌≡◌, IfOk, IfErr, IsOk, IsSome, map, Option, List, option_map, string_bytes};
 ghost use Rattle.std.specs.List.{list_all, list_any};
 ghost use Rattle.std.specs.Map.{keys_of};
 ghost use Rattle.std.specs.Str.{bytes_eq};
@@ -14,7 +14,7 @@ use toml::{Table, Value};
 /// The tree of a document, where the bytes are one.
 pub(crate) fn read_tree(alloc: Global, bytes: &[u8]) -> Result<Option<Value>, AllocError>
     ensures tree { IfOk result (λ tree. option_map view tree ≡ tree_of bytes.now) }
-    ensures memory { IfErr result (λ _. ¬ IsBlank bytes.now) }
+    ensures blank { IsBlank bytes.now → IsOk result }
 {
     match toml::table_from_slice(alloc, bytes) {
         Ok(table) => Ok(Some(Value::Table(table))),

@@ -20,6 +20,3 @@ pub use code::{Coolant, Hole, LengthCode, Motion, Once, PathControl, Spindle, St
 pub use effect::{ArcWords, CycleWords, Effect, Home};
 pub use fault::ModalFault;
 pub use modes::Modes;
-
-#[cfg(test)]
-mod tests;

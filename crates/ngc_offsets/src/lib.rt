@@ -9,6 +9,3 @@ mod range;
 pub use fault::FrameFault;
 pub use frames::Frames;
 pub use given::{AxisLengths, machine_target};
-
-#[cfg(test)]
-mod tests;

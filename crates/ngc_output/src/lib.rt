@@ -4,6 +4,3 @@
 mod chunk;
 
 pub use chunk::Chunk;
-
-#[cfg(test)]
-mod tests;

@@ -12,6 +12,3 @@ pub use evaluation::evaluate;
 pub use fault::EvalFault;
 pub use parameters::Store;
 pub use store::{Changes, LineValues, Word};
-
-#[cfg(test)]
-mod tests;

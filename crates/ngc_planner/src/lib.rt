@@ -16,6 +16,3 @@ pub use joints::joint_of;
 pub use leg::{Leg, Travel};
 pub use ramp::Ramp;
 pub use slowing::braking;
-
-#[cfg(test)]
-mod tests;

@@ -10,7 +10,7 @@ use Rattle.ngc_behaviour.specs.State.{Job, State, opening}
 use Rattle.ngc_behaviour.specs.Step.{Outcome}
 use Rattle.ngc_behaviour.specs.Run.{Run, events_of, positions}
 use Rattle.ngc_behaviour.specs.Safety.{IsSafeRun, start_of_job}
-use Rattle.ngc_behaviour.specs.Progress.{KeepGoing, is_tick}
+use Rattle.ngc_behaviour.specs.Progress.{KeepGoing, is_tick, IsDoneInTime}
 use Rattle.ngc_run_log.specs.declared.report.Report.{Report}
 use Rattle.ngc_run_log.specs.declared.report.RunFault.{RunFault}
 use Rattle.ngc_run_log.specs.declared.report.RunFault.TheVariants.{Memory, Write}
@@ -25,12 +25,13 @@ abbrev pub last_position : StepPos → List StepPos → StepPos
 last_position p [] = p
 last_position p (q ∷ qs) = last_position q qs
 
--- a run over these events, from the opening state: it is safe, and goes on at each tick that is free to
+-- a run over these events, from the opening state: it is safe, goes on at each tick that is free to, and is done in time
 pub record IsRun (job : Job) (events : List Event) (outcomes : List Outcome) : Type 0 where
   pub states : List State
   pub runs : Run job (opening job.machine) events outcomes states
   pub is_safe : IsSafeRun job events outcomes states
   pub goes_on : KeepGoing job (opening job.machine) events states
+  pub in_time : IsDoneInTime job events states
 
 -- the report's numbers are those of the run
 pub record Reports (job : Job) (events : List Event) (outcomes : List Outcome) (report : Report) : Type 0 where

@@ -8,6 +8,3 @@ mod runner;
 
 pub use report::{Report, RunFault};
 pub use runner::run;
-
-#[cfg(test)]
-mod tests;

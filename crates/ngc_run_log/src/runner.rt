@@ -1,5 +1,5 @@
 ghost use Rattle.std.specs.Prelude.{◌≡◌, ◌<◌, ◌^◌, replicate, IfOk, OnOk, OnErr};
-ghost use Rattle.ngc_behaviour.specs.Headline.{job_of, RunsSafely};
+ghost use Rattle.ngc_behaviour.specs.Headline.{job_of, RunsInTime, RunsSafely};
 ghost use Rattle.ngc_behaviour.specs.State.{opening};
 ghost use Rattle.ngc_checker.specs.Accepted.{commands_at};
 ghost use Rattle.ngc_fixed_length.specs.Failures.{CountsFailure};
@@ -45,6 +45,7 @@ fn run_lines<A: Allocator + Copy, W: Sink>(
 ) -> Result<Report, WriteFault>
     requires opens { controller.old.state ≡ opening controller.old.job.machine }
     requires safe { RunsSafely controller.old.job }
+    requires in_time { RunsInTime controller.old.job }
     ensures logged { IfOk result (λ report. IsLoggedRun controller.old.job lines.now (W.written sink.old) (W.written sink.new) report) }
     ensures broken { OnErr result (IsBrokenRun controller.old.job lines.now (W.written sink.old) (W.written sink.new)) }
     ensures failures { CountsFailure (W.failures sink.old) (W.failures sink.new) result }
@@ -71,7 +72,7 @@ pub fn run<A: Allocator + Copy, W: Sink>(
     ensures comes { ComesTo (job_of accepted.machine (commands_at block_delete accepted)) lines.now (W.written sink.old) (W.written sink.new) result }
     ensures counts { FailsByWriting result (W.failures sink.old) (W.failures sink.new) }
 {
-    // What holds of all that was accepted makes the run a safe one.
+    // What holds of all that was accepted makes the run a safe one, which is done in time.
     let _machine = accepted.machine();
     let mut controller = match Controller::<ArcPath, A>::new(alloc, accepted, block_delete) {
         Ok(controller) => controller,

@@ -31,7 +31,7 @@ pub use ngc_checker::{Accepted, CheckFault, check};
 pub use ngc_command_line::{
     CertifyOptions, CheckOptions, ListOptions, Options, RunOptions, UsageFault, read_options,
 };
-pub use ngc_controller::Controller;
+pub use ngc_controller::{Controller, MemoryFault};
 pub use ngc_events::{Event, EventLine, EventsFault, read_events};
 pub use ngc_machine::{FileFault, Fixture, Machine, Tool, Tools, row_machine};
 pub use ngc_run_log::{Report, RunFault, run};

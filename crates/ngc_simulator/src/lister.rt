@@ -33,7 +33,8 @@ pub enum ListFault {
 }
 
 /// Writes the listing of a program's commands on a machine with its tools, at a setting of block delete. Nothing is written
-/// where the program is refused; where a write fails, a beginning is written.
+/// where the program isn't read (101, 111 to 119, 121, 122, 901) or is refused (101, 102, 120, 131 to 133, 201 to 252), nor
+/// for want of memory (900); where a write fails (902), a beginning is written.
 pub fn list<A: Allocator + Copy, R: Source, W: Sink>(
     alloc: A,
     source: &mut R,

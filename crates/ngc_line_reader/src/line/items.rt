@@ -158,7 +158,7 @@ fn other_item_at<'a>(
 
 // An item, and what follows it.
 #[tactic(auto, unfolding(crate::specs::ScanLine::item_at))]
-pub fn item_at<'a>(
+pub(crate) fn item_at<'a>(
     columns: &[u16],
     room: usize,
     s: &'a [u8],

@@ -178,7 +178,7 @@ impl<A: Allocator> LinesSoFar<A> {
 }
 
 impl<A: Allocator> Loader<A> {
-    pub fn new(alloc: A) -> Loader<A>
+    pub(crate) fn new(alloc: A) -> Loader<A>
     where
         A: Copy,
         ensures loading { IsLoading result }
@@ -242,7 +242,7 @@ impl<A: Allocator> Loader<A> {
     }
 
     /// More bytes of the file.
-    pub fn feed(&mut self, chunk: &[u8], reading: &mut Line) -> Result<Step, ReadFault>
+    pub(crate) fn feed(&mut self, chunk: &[u8], reading: &mut Line) -> Result<Step, ReadFault>
         requires { IsLoading self.old }
         ensures step { (rest : List ℕ) → StepGives result (resumed self.old (chunk.now ++ rest)) (resumed self.new rest) (ended self.new.found) }
         ensures loading { OnOk result (IsLoading self.new) }
@@ -264,7 +264,7 @@ impl<A: Allocator> Loader<A> {
     }
 
     /// The program, where the text has ended.
-    pub fn into_program(self) -> Program<A>
+    pub(crate) fn into_program(self) -> Program<A>
         requires { IsGoing self.found }
         ensures text { text_in result ≡ ended self.found }
         ensures readings { HaveReadings (text_in result).lines }
@@ -274,7 +274,7 @@ impl<A: Allocator> Loader<A> {
     }
 
     /// The program, where no byte comes any more.
-    pub fn finish(mut self, reading: &mut Line) -> Result<Program<A>, ReadFault>
+    pub(crate) fn finish(mut self, reading: &mut Line) -> Result<Program<A>, ReadFault>
         requires { IsLoading self }
         ensures text { OutcomeIs result (resumed self []) }
         ensures readings { IfOk result (λ p. HaveReadings (text_in p).lines) }

@@ -127,7 +127,7 @@ fn load_tokens(kinds: &[Kind], numbers: &[Value], tokens: &mut ArrayVec<Token, 2
 impl<A: Allocator> PartLists<A> {
     ghost use Rattle.ngc_line_reader.specs.Kept.{parts_in, parts_at, kept_of, IsWithin, Keeps, no_kept};
 
-    pub fn new(alloc: A) -> PartLists<A>
+    pub(crate) fn new(alloc: A) -> PartLists<A>
     where
         A: Copy,
         ensures { parts_in result ≡ no_kept }
@@ -141,7 +141,7 @@ impl<A: Allocator> PartLists<A> {
     }
 
     // What a line says, behind what is kept.
-    pub fn push(&mut self, line: &Line) -> Result<LineParts, AllocError>
+    pub(crate) fn push(&mut self, line: &Line) -> Result<LineParts, AllocError>
         ensures kept { OnOk result (Keeps (parts_in self.old) (parts_in self.new)) }
         ensures within { IfOk result (λ p. IsWithin (parts_in self.new) p) }
         ensures value { IfOk result (λ p. parts_at (parts_in self.new) p ≡ kept_of (parts_of line.now)) }
@@ -170,7 +170,7 @@ impl<A: Allocator> PartLists<A> {
     }
 
     // What a line says, in place of what `line` holds; the columns of its tokens are not kept, nor is its number.
-    pub fn load(&self, parts: LineParts, line: &mut Line)
+    pub(crate) fn load(&self, parts: LineParts, line: &mut Line)
         requires { IsWithin (parts_in self.now) parts }
         ensures deleted { line.new.deleted ≡ parts.deleted }
         ensures words { line.new.words.items ≡ (parts_at (parts_in self.now) parts).words }

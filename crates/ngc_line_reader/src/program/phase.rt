@@ -32,7 +32,7 @@ fn is_blank(bytes: &[u8]) -> bool
 
 // A percent sign and white space, in at most 256 bytes.
 #[tactic(auto, using(crate::proofs::Blanks::percent_by_bytes))]
-pub fn is_percent(bytes: &[u8]) -> bool
+pub(crate) fn is_percent(bytes: &[u8]) -> bool
     ensures { result ≡ is_percent_line bytes.now }
 {
     match skip_blanks(bytes).split_first() {
@@ -43,7 +43,7 @@ pub fn is_percent(bytes: &[u8]) -> bool
 
 impl Phase {
     // The phase behind a line that is read.
-    pub fn after(self, bytes: &[u8]) -> Phase
+    pub(crate) fn after(self, bytes: &[u8]) -> Phase
         ensures { result ≡ phase_after self bytes.now }
     {
         if self == Phase::Start && !is_blank(bytes) {
@@ -53,7 +53,7 @@ impl Phase {
     }
 
     // The number in the file of the line behind so many that are read.
-    pub fn number(self, done: usize) -> u32
+    pub(crate) fn number(self, done: usize) -> u32
         requires { done ≤ 100000 }
         ensures { result ≡ number_in self done }
     {

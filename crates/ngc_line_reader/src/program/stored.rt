@@ -34,7 +34,7 @@ pub struct StoredLines<A: Allocator> {
 impl<A: Allocator> StoredLines<A> {
     ghost use Rattle.ngc_line_reader.specs.ProgramView.{lines_in};
 
-    pub fn new(alloc: A) -> StoredLines<A>
+    pub(crate) fn new(alloc: A) -> StoredLines<A>
     where
         A: Copy,
         ensures { lines_in result ≡ [] }
@@ -47,7 +47,7 @@ impl<A: Allocator> StoredLines<A> {
     }
 
     #[tactic(auto, using(crate::proofs::StoredLaws::counting_lines))]
-    pub fn len(&self) -> usize
+    pub(crate) fn len(&self) -> usize
         ensures value { result ≡ length (lines_in self.now) }
         ensures few { result ≤ 100000 }
     {
@@ -55,7 +55,7 @@ impl<A: Allocator> StoredLines<A> {
     }
 
     #[tactic(auto, using(crate::proofs::StoredLaws::counting_lines))]
-    pub fn number(&self, index: usize) -> u32
+    pub(crate) fn number(&self, index: usize) -> u32
         requires { index < length (lines_in self.now) }
         ensures { option_map (λ l. l.number) (slice_get (lines_in self.now) index) ≡ Some result }
     {
@@ -86,7 +86,7 @@ impl<A: Allocator> StoredLines<A> {
         (self.start(index), self.ends[index].end as usize)
     }
 
-    pub fn bytes(&self, index: usize) -> &[u8]
+    pub(crate) fn bytes(&self, index: usize) -> &[u8]
         requires { index < length (lines_in self.now) }
         ensures value { option_map (λ l. l.bytes) (slice_get (lines_in self.now) index) ≡ Some result.now }
         ensures read { IsOk (line_read result.now) }
@@ -97,7 +97,7 @@ impl<A: Allocator> StoredLines<A> {
 
     // What a line says, in place of what `line` holds.
     #[tactic(auto, using(crate::proofs::StoredLaws::counting_lines))]
-    pub fn load(&self, index: usize, line: &mut Line)
+    pub(crate) fn load(&self, index: usize, line: &mut Line)
         requires { index < length (lines_in self.now) }
         ensures { (bytes : List ℕ) → option_map (λ l. l.bytes) (slice_get (lines_in self.now) index) ≡ Some bytes → ShowsReading bytes line.new.deleted (parts_of line.new) }
     {
@@ -123,7 +123,12 @@ impl<A: Allocator> StoredLines<A> {
     }
 
     // A line, and its reading. Where memory is wanting, what is left is unspecified.
-    pub fn push(&mut self, number: u32, bytes: &[u8], reading: &Line) -> Result<(), AllocError>
+    pub(crate) fn push(
+        &mut self,
+        number: u32,
+        bytes: &[u8],
+        reading: &Line,
+    ) -> Result<(), AllocError>
         requires few { length (lines_in self.old) < 100000 }
         requires short { length bytes.now ≤ 256 }
         requires read { line_read bytes.now ≡ Ok (said_of reading.now) }

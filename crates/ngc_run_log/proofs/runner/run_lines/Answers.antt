@@ -36,18 +36,18 @@ pub returns-in-Err-clause-broken : goal.returns-in-Err-clause-broken
 returns-in-Err-clause-broken g c =
     let controller = c.args.controller.now in
     let new : AreNew controller.job controller.state c.new-recorder.result = new_recorder controller.job controller.state c.new-recorder.result _ c.requires.opens c.position.ensures c.new-recorder.ensures.report c.new-recorder.ensures.chunk in
-    run_cut _ _ _ _ _ _ new c.requires.safe
+    run_cut _ _ _ _ _ _ new c.requires.safe c.requires.in_time
     (line_cut _ _ _ _ _ _ _ _ _ c.args.lines.now c.loop-line.line-index none c.loop-line.invariant.job c.loop-line-test.true c.loop-line.invariant.recorded c.in-Err.ensures.fault)
 
 pub returns-clause-broken : goal.returns-clause-broken
 returns-clause-broken g c =
     let controller = c.args.controller.now in
     let new : AreNew controller.job controller.state c.new-recorder.result = new_recorder controller.job controller.state c.new-recorder.result _ c.requires.opens c.position.ensures c.new-recorder.ensures.report c.new-recorder.ensures.chunk in
-    on_err_weaker c.finish.result (run_broken _ _ _ _ _ _ _ _ c.args.lines.now c.loop-line.line-index new c.requires.safe c.loop-line-test.false c.loop-line.invariant.recorded) c.finish.ensures.fault
+    on_err_weaker c.finish.result (run_broken _ _ _ _ _ _ _ _ c.args.lines.now c.loop-line.line-index new c.requires.safe c.requires.in_time c.loop-line-test.false c.loop-line.invariant.recorded) c.finish.ensures.fault
 
 pub returns-clause-logged : goal.returns-clause-logged
 returns-clause-logged g c =
     let controller = c.args.controller.now in
     let new : AreNew controller.job controller.state c.new-recorder.result = new_recorder controller.job controller.state c.new-recorder.result _ c.requires.opens c.position.ensures c.new-recorder.ensures.report c.new-recorder.ensures.chunk in
     if_ok_both _ _ c.finish.result c.finish.ensures.report c.finish.ensures.ok
-    (λ report same wrote. run_logged _ _ _ _ _ _ _ _ c.args.lines.now c.loop-line.line-index report new c.requires.safe c.loop-line-test.false c.loop-line.invariant.recorded wrote same)
+    (λ report same wrote. run_logged _ _ _ _ _ _ _ _ c.args.lines.now c.loop-line.line-index report new c.requires.safe c.requires.in_time c.loop-line-test.false c.loop-line.invariant.recorded wrote same)

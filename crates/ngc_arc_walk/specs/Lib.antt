@@ -1,0 +1,3 @@
+pub mod Placed
+pub mod ArcWalk
+pub mod Round

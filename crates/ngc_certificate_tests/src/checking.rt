@@ -1,0 +1,153 @@
+use crate::given::point;
+use linked_list_allocator::LocalHeap;
+use ngc_canonical::Command;
+use ngc_certificate_text::{Certificate, Cut, Motions, Piece, Setting};
+use ngc_checker::{Accepted, CheckFault, check};
+use ngc_fixed_length::{Device, GridBox, Nm, Point3, StepPos};
+use ngc_line_reader::Program;
+use ngc_machine::{Fixture, Machine, Tools, row_machine};
+use std::alloc::{AllocError, Allocator};
+use std::process::Abort;
+use std::test::Fail;
+
+const PROGRAM: &[u8] = b"G0 X1 M2\n";
+
+// One motion, command 0, in one piece of 100 steps.
+fn one_motion<A: Allocator + Copy>(alloc: A) -> Result<Motions<A>, AllocError> {
+    let mut motions = Motions::new(alloc);
+    let whole_way = Piece {
+        end: Cut::Part(65_536),
+        bounds: GridBox {
+            low: StepPos { x: 0, y: 0, z: 0 },
+            high: StepPos { x: 100, y: 0, z: 0 },
+        },
+    };
+    motions.push(0, &[whole_way])?;
+    Ok(motions)
+}
+
+// The row machine with a fixture far from zero.
+fn machine_with_fixture<A: Allocator>(alloc: A) -> Option<Machine<A>> {
+    let mut machine = row_machine(alloc);
+    let low = Nm::from_nanometres(200_000_000).ok()?;
+    let high = Nm::from_nanometres(300_000_000).ok()?;
+    let fixture = Fixture {
+        low: Point3 {
+            x: low,
+            y: low,
+            z: low,
+        },
+        high: Point3 {
+            x: high,
+            y: high,
+            z: high,
+        },
+    };
+    machine.fixtures.push(fixture).ok()?;
+    Some(machine)
+}
+
+// The check of the program with a certificate of one motion.
+fn check_program<A: Allocator + Copy>(
+    alloc: A,
+    program: &Program<A>,
+    machine: &Machine<A>,
+    certificate: &Certificate<A>,
+) -> Result<Accepted<A>, CheckFault> {
+    check(alloc, program, machine, &Tools::empty(alloc), certificate)
+}
+
+#[test]
+fn what_was_accepted_is_told(rt: HostRuntime) -> Result<(), Fail> {
+    let alloc = rt.alloc();
+    let program = Program::read(alloc, &mut Device::new(PROGRAM))?;
+    let certificate = Certificate {
+        off: one_motion(alloc)?,
+        on: one_motion(alloc)?,
+    };
+    let machine = row_machine(alloc);
+    let accepted = check_program(alloc, &program, &machine, &certificate)?;
+    let motion = Command::Traverse {
+        line: 1,
+        start: point(&rt, 0, 0),
+        end: point(&rt, 1_000_000, 0),
+    };
+    let commands = [motion, Command::End { line: 1 }];
+    for delete in [false, true] {
+        assert_eq!(rt; accepted.commands(delete), commands.as_slice());
+    }
+    assert_eq!(rt; accepted.machine().step, machine.step);
+    assert_eq!(rt; accepted.machine().high, machine.high);
+    assert_eq!(rt; accepted.tools().tools().len(), 0);
+    Ok(())
+}
+
+#[test]
+fn refusals_tell_their_numbers_and_texts(rt: HostRuntime) -> Result<(), Fail> {
+    let alloc = rt.alloc();
+    let program = Program::read(alloc, &mut Device::new(PROGRAM))?;
+    let certificate = Certificate {
+        off: one_motion(alloc)?,
+        on: Motions::new(alloc),
+    };
+    let machine = row_machine(alloc);
+    let fault = check_program(alloc, &program, &machine, &certificate)
+        .err()
+        .ok_or("a refusal")?;
+    let expected = CheckFault::MotionsDiffer {
+        setting: Setting::On,
+        command: 0,
+    };
+    assert_eq!(rt; fault, expected);
+    assert_eq!(rt; fault.number(), 312);
+    let text = format!(in alloc; "{fault}")?;
+    assert_eq!(rt;
+        text.as_str(),
+        "program and certificate differ at command 0"
+    );
+    Ok(())
+}
+
+// What the check of the program answers with memory of this heap, or None where the heap doesn't even hold what is checked.
+fn outcome_in(rt: &impl Abort, heap: &LocalHeap) -> Option<Result<(), CheckFault>> {
+    let program = Program::read(heap, &mut Device::new(PROGRAM)).ok()?;
+    let machine = machine_with_fixture(heap)?;
+    let certificate = Certificate {
+        off: one_motion(heap).ok()?,
+        on: one_motion(heap).ok()?,
+    };
+    let used = heap.used();
+    let outcome = match check_program(heap, &program, &machine, &certificate) {
+        Ok(accepted) => {
+            assert_eq!(rt; accepted.commands(false).len(), 2);
+            assert_eq!(rt; accepted.commands(true).len(), 2);
+            assert_eq!(rt; accepted.machine().fixtures.len(), 1);
+            Ok(())
+        }
+        Err(fault) => Err(fault),
+    };
+    assert_eq!(rt; heap.used(), used);
+    Some(outcome)
+}
+
+// With little memory, and then with more and more: 900, and from some size on yes. None of it stays in use.
+#[test]
+fn refused_memory_is_told(rt: HostRuntime) -> Result<(), Fail> {
+    let mut refused = 0u32;
+    let mut done = 0u32;
+    for count in 1..160usize {
+        let heap = LocalHeap::new(rt.alloc(), 288 * count)?;
+        match outcome_in(&rt, &heap) {
+            Some(Ok(())) => done = done.saturating_add(1),
+            Some(Err(fault)) => {
+                assert_eq!(rt; fault, CheckFault::Memory);
+                assert_eq!(rt; done, 0);
+                refused = refused.saturating_add(1);
+            }
+            None => assert_eq!(rt; refused, 0),
+        }
+        assert_eq!(rt; heap.used(), 0);
+    }
+    assert!(rt; refused > 0 && done > 0);
+    Ok(())
+}

@@ -1,0 +1,194 @@
+use crate::given::{BESIDE_THE_LINE, INSIDE_THE_CIRCLE, circle, machine_with, piece, point};
+use linked_list_allocator::LocalHeap;
+use ngc_canonical::{Command, Feed};
+use ngc_certificate::{Cut, MakeFault, Motions, Piece, Setting, make};
+use ngc_fixed_length::{Plane, Point3};
+use ngc_machine::row_machine;
+use std::alloc::{Allocator, Global};
+use std::process::Abort;
+use std::test::Fail;
+
+// About zero.
+const AT_ZERO: &str = "[[fixture]]
+low = [-1000000, -1000000, -1000000]
+high = [1000000, 1000000, 1000000]
+";
+
+fn traverse(line: u32, start: Point3, end: Point3) -> Command {
+    Command::Traverse { line, start, end }
+}
+
+// From zero to (10, 10) mm.
+fn slanted(rt: &impl Abort, line: u32) -> Command {
+    traverse(line, point(rt, 0, 0), point(rt, 10_000_000, 10_000_000))
+}
+
+// To the circle, and around it.
+fn way_around(rt: &impl Abort) -> Result<[Command; 2], Fail> {
+    let left = point(rt, 10_000_000, 50_000_000);
+    let circle = Command::Arc {
+        line: 2,
+        arc: circle(rt)?,
+        feed: Feed::PerMinute(600_000_000),
+    };
+    Ok([traverse(1, point(rt, 0, 0), left), circle])
+}
+
+// The index of a motion's command, and the motion's pieces.
+fn motion_of<A: Allocator>(motions: &Motions<A>, motion: usize) -> Option<(u32, &[Piece])> {
+    if motion < motions.len() {
+        Some((motions.index(motion), motions.pieces(motion)))
+    } else {
+        None
+    }
+}
+
+fn line_piece(part: u32, low: i32, high: i32) -> Piece {
+    piece(Cut::Part(part), (low, low, 0), (high, high, 0))
+}
+
+#[derive(Clone, Copy, Debug)]
+enum Way {
+    Nothing,
+    Slanted,
+    SlantedBehindAStop,
+    Around,
+}
+
+fn commands_on(rt: &impl Abort, alloc: Global, way: Way) -> Result<Vec<Command>, Fail> {
+    let mut commands = Vec::new(alloc);
+    match way {
+        Way::Nothing => {}
+        Way::Slanted => commands.push(slanted(rt, 1))?,
+        Way::SlantedBehindAStop => {
+            commands.push(Command::Stop { line: 1 })?;
+            commands.push(slanted(rt, 2))?;
+        }
+        Way::Around => commands.extend_from_slice(&way_around(rt)?)?,
+    }
+    Ok(commands)
+}
+
+// With block delete off and on, and in how many pieces at most.
+static NOT_CLEARED: [(&str, Way, Way, u16, Setting, u32); 5] = [
+    (
+        BESIDE_THE_LINE,
+        Way::Slanted,
+        Way::Slanted,
+        1,
+        Setting::Off,
+        0,
+    ),
+    (
+        BESIDE_THE_LINE,
+        Way::SlantedBehindAStop,
+        Way::Nothing,
+        1,
+        Setting::Off,
+        1,
+    ),
+    (
+        BESIDE_THE_LINE,
+        Way::Nothing,
+        Way::SlantedBehindAStop,
+        1,
+        Setting::On,
+        1,
+    ),
+    (
+        INSIDE_THE_CIRCLE,
+        Way::Around,
+        Way::Around,
+        1,
+        Setting::Off,
+        1,
+    ),
+    // A start that isn't clear.
+    (AT_ZERO, Way::Nothing, Way::Nothing, 8, Setting::Off, 0),
+];
+
+#[test]
+fn what_is_not_cleared(rt: HostRuntime) -> Result<(), Fail> {
+    for (fixture, off, on, most, setting, command) in &NOT_CLEARED {
+        let machine = machine_with(rt.alloc(), fixture)?;
+        let off = commands_on(&rt, rt.alloc(), *off)?;
+        let on = commands_on(&rt, rt.alloc(), *on)?;
+        assert!(rt; off.len() <= 2 && on.len() <= 2 && *most >= 1);
+        let refused = make(rt.alloc(), off.as_slice(), on.as_slice(), &machine, *most).err();
+        let fault = MakeFault::NotCleared {
+            setting: *setting,
+            command: *command,
+        };
+        assert_eq!(rt; refused, Some(fault), "{fixture}");
+        assert_eq!(rt; fault.number(), 304);
+    }
+    Ok(())
+}
+
+#[test]
+fn a_slanted_line_in_two_pieces(rt: HostRuntime) -> Result<(), Fail> {
+    let machine = machine_with(rt.alloc(), BESIDE_THE_LINE)?;
+    let commands = [slanted(&rt, 1)];
+    let certificate = make(rt.alloc(), &commands, &commands, &machine, 2)?;
+    let pieces = [line_piece(32_768, 0, 501), line_piece(65_536, 499, 1_000)];
+    for setting in [Setting::Off, Setting::On] {
+        let motions = certificate.motions(setting);
+        assert_eq!(rt; motions.len(), 1);
+        assert_eq!(rt; motion_of(motions, 0), Some((0, pieces.as_slice())));
+    }
+    Ok(())
+}
+
+#[test]
+fn a_setting_without_the_line(rt: HostRuntime) -> Result<(), Fail> {
+    let machine = machine_with(rt.alloc(), BESIDE_THE_LINE)?;
+    let off = [Command::Stop { line: 1 }, slanted(&rt, 2)];
+    let certificate = make(rt.alloc(), &off, &[], &machine, 8)?;
+    assert_eq!(rt; certificate.off.len(), 1);
+    assert_eq!(rt;
+        motion_of(&certificate.off, 0).map(|motion| motion.0),
+        Some(1)
+    );
+    assert!(rt; certificate.on.is_empty());
+    Ok(())
+}
+
+#[test]
+fn a_circle_in_one_piece(rt: HostRuntime) -> Result<(), Fail> {
+    let around = way_around(&rt)?;
+    let machine = row_machine(rt.alloc());
+    let certificate = make(rt.alloc(), &around, &around, &machine, 1)?;
+    let left = point(&rt, 10_000_000, 50_000_000).in_plane(Plane::XY);
+    let whole = [piece(Cut::Place(left), (998, 1_998, 0), (7_002, 8_002, 0))];
+    assert_eq!(rt; motion_of(&certificate.on, 1), Some((1, whole.as_slice())));
+    Ok(())
+}
+
+#[test]
+fn refused_memory(rt: HostRuntime) -> Result<(), Fail> {
+    let middle = point(&rt, 10_000_000, 10_000_000);
+    let commands = [slanted(&rt, 1), traverse(2, middle, point(&rt, 0, 0))];
+    let whole = [line_piece(65_536, 0, 1_000)];
+    let mut refused = 0u32;
+    let mut done = 0u32;
+    for blocks in 1..80usize {
+        let heap = LocalHeap::new(rt.alloc(), 64 * blocks)?;
+        let machine = row_machine(&heap);
+        match make(&heap, &commands, &commands, &machine, 8) {
+            Ok(certificate) => {
+                assert_eq!(rt; certificate.off.len(), 2);
+                assert_eq!(rt; motion_of(&certificate.on, 1), Some((1, whole.as_slice())));
+                done = done.saturating_add(1);
+            }
+            Err(fault) => {
+                assert_eq!(rt; fault, MakeFault::Memory);
+                assert_eq!(rt; fault.number(), 900);
+                assert_eq!(rt; done, 0);
+                refused = refused.saturating_add(1);
+            }
+        }
+        assert_eq!(rt; heap.used(), 0);
+    }
+    assert!(rt; refused > 0 && done > 0);
+    Ok(())
+}

@@ -1,0 +1,63 @@
+//! What the log says of each event.
+use ngc_canonical::interpret;
+use ngc_certificate::make;
+use ngc_checker::{Accepted, check};
+use ngc_events::read_events;
+use ngc_fixed_length::Device;
+use ngc_line_reader::Program;
+use ngc_machine::{Tools, row_machine};
+use ngc_run_log::run;
+use std::alloc::Global;
+use std::test::Fail;
+
+// A program without deleted lines, on the row machine.
+fn accepted(alloc: Global, program: &str) -> Result<Accepted<Global>, Fail> {
+    let machine = row_machine(alloc);
+    let tools = Tools::empty(alloc);
+    let program = Program::read(alloc, &mut Device::new(program.as_bytes()))?;
+    let commands = interpret(alloc, &program, &machine, &tools, false)?;
+    let commands = commands.as_slice();
+    let certificate = make(alloc, commands, commands, &machine, 8)?;
+    Ok(check(alloc, &program, &machine, &tools, &certificate)?)
+}
+
+fn log_of(alloc: Global, program: &str, events: &str) -> Result<Vec<u8>, Fail> {
+    let accepted = accepted(alloc, program)?;
+    let events = read_events(alloc, events.as_bytes())?;
+    let mut sink = Device::new(Vec::new(alloc));
+    run(alloc, accepted, false, events.as_slice(), &mut sink)?;
+    Ok(sink.into_inner())
+}
+
+#[test]
+fn the_log_of_a_run(rt: HostRuntime) -> Result<(), Fail> {
+    for (program, events, log) in [
+        (
+            "M2\n",
+            "load\nhold\nresume\noverride 200\nswitch on\nswitch off\nstart\n",
+            "load 0\nhold\nresume\noverride 200\nswitch on\nswitch off\nstart\n",
+        ),
+        // Refused: an override that is too large, a load into a full ring, and one behind the last command.
+        (
+            "M2\n",
+            "override 201\nload\nload\n",
+            "refused 701\nload 0\nrefused 703\n",
+        ),
+        (
+            "G91 G81 X1 Z-2 R-1 F60 L4\nM2\n",
+            "load\nload\nload\nload\nload\nload\nload\nload\nload\n\
+             load\nload\nload\nload\nload\nload\nload\nload\n",
+            "load 0\nload 1\nload 2\nload 3\nload 4\nload 5\nload 6\nload 7\nload 8\n\
+             load 9\nload 10\nload 11\nload 12\nload 13\nload 14\nload 15\nrefused 702\n",
+        ),
+        (
+            "G0 Z-0.03\nM0\nM2\n",
+            "load\nload\nload\ntick 3000\nstart\ntick 2\n",
+            "load 0\nload 1\nload 2\npos 0 0 -1\npos 0 0 -2\npos 0 0 -3\ndone 0\nstop 1\nstart\nend\n",
+        ),
+    ] {
+        let found = log_of(rt.alloc(), program, events)?;
+        assert_eq!(rt; found.as_slice(), log.as_bytes(), "{program}");
+    }
+    Ok(())
+}

@@ -1,0 +1,415 @@
+//! What no clause of `ngc_command_line` says: spellings, refusals and their texts. Want of memory is not tested, since
+//! `clap` allocates by `Global`, which no test can make run out.
+use ngc_command_line::{
+    CertifyOptions, CheckOptions, ListOptions, Options, RunOptions, UsageFault, read_options,
+};
+use std::alloc::{AllocError, Global};
+use std::test::Fail;
+
+// Whether each of the command lines, which stand between bars, is read as these options.
+fn are_read_as(alloc: Global, lines: &str, wanted: Options<'_>) -> Result<bool, AllocError> {
+    for line in lines.split('|') {
+        let words: Vec<&str> = line.split_whitespace().collect(alloc)?;
+        if read_options(alloc, words.as_slice()).ok() != Some(wanted) {
+            return Ok(false);
+        }
+    }
+    Ok(true)
+}
+
+#[test]
+fn reads_list(rt: HostRuntime) -> Result<(), Fail> {
+    for (lines, program, machine, tools, delete) in [
+        ("list", None, None, None, false),
+        (
+            "list --program a.ngc|list --program=a.ngc",
+            Some("a.ngc"),
+            None,
+            None,
+            false,
+        ),
+        (
+            "list --program=a.ngc --delete|list --delete --program a.ngc",
+            Some("a.ngc"),
+            None,
+            None,
+            true,
+        ),
+        (
+            "list --machine mill.toml|list --machine=mill.toml",
+            None,
+            Some("mill.toml"),
+            None,
+            false,
+        ),
+        (
+            "list --tools table.toml|list --tools=table.toml",
+            None,
+            None,
+            Some("table.toml"),
+            false,
+        ),
+        (
+            "list --tools=table.toml --delete --machine mill.toml --program=a.ngc",
+            Some("a.ngc"),
+            Some("mill.toml"),
+            Some("table.toml"),
+            true,
+        ),
+        // A file's name may be any text in one word with its option. As a word of its own it begins with no hyphen,
+        // but for the hyphen alone.
+        ("list --program -", Some("-"), None, None, false),
+        (
+            "list --program=--delete",
+            Some("--delete"),
+            None,
+            None,
+            false,
+        ),
+        ("list --program=", Some(""), None, None, false),
+    ] {
+        let wanted = ListOptions {
+            program,
+            machine,
+            tools,
+            delete,
+        };
+        assert!(rt;
+            are_read_as(rt.alloc(), lines, Options::List(wanted))?,
+            "{lines}"
+        );
+    }
+    Ok(())
+}
+
+#[test]
+fn reads_certify(rt: HostRuntime) -> Result<(), Fail> {
+    for (lines, program, cuts) in [
+        (
+            "certify --machine=mill.toml --tools=table.toml|certify --machine=mill.toml --tools=table.toml --cuts 08",
+            None,
+            8,
+        ),
+        (
+            "certify --machine mill.toml --tools table.toml --program a.ngc --cuts 3|\
+             certify --cuts=3 --program=a.ngc --tools=table.toml --machine=mill.toml",
+            Some("a.ngc"),
+            3,
+        ),
+        (
+            "certify --machine=mill.toml --tools=table.toml --cuts 1",
+            None,
+            1,
+        ),
+        (
+            "certify --machine=mill.toml --tools=table.toml --cuts 65535",
+            None,
+            65_535,
+        ),
+        (
+            "certify --machine=mill.toml --tools=table.toml --cuts +12",
+            None,
+            12,
+        ),
+    ] {
+        assert!(rt; cuts > 0);
+        let wanted = CertifyOptions {
+            machine: "mill.toml",
+            tools: "table.toml",
+            program,
+            cuts,
+        };
+        assert!(rt;
+            are_read_as(rt.alloc(), lines, Options::Certify(wanted))?,
+            "{lines}"
+        );
+    }
+    Ok(())
+}
+
+#[test]
+fn reads_check(rt: HostRuntime) -> Result<(), Fail> {
+    for (lines, program) in [
+        (
+            "check --machine=mill.toml --tools=table.toml --certificate=a.cert",
+            None,
+        ),
+        (
+            "check --machine mill.toml --tools table.toml --certificate a.cert --program a.ngc|\
+             check --program=a.ngc --certificate=a.cert --tools=table.toml --machine=mill.toml",
+            Some("a.ngc"),
+        ),
+    ] {
+        let wanted = CheckOptions {
+            machine: "mill.toml",
+            tools: "table.toml",
+            certificate: "a.cert",
+            program,
+        };
+        assert!(rt;
+            are_read_as(rt.alloc(), lines, Options::Check(wanted))?,
+            "{lines}"
+        );
+    }
+    Ok(())
+}
+
+#[test]
+fn reads_run(rt: HostRuntime) -> Result<(), Fail> {
+    for (lines, program, delete) in [
+        (
+            "run --machine=mill.toml --tools=table.toml --certificate=a.cert --events=a.events",
+            None,
+            false,
+        ),
+        (
+            "run --machine=mill.toml --tools=table.toml --certificate=a.cert --events=a.events --program=a.ngc",
+            Some("a.ngc"),
+            false,
+        ),
+        (
+            "run --machine=mill.toml --tools=table.toml --certificate=a.cert --events=a.events --delete",
+            None,
+            true,
+        ),
+        (
+            "run --machine mill.toml --tools table.toml --certificate a.cert --events a.events --program a.ngc --delete|\
+             run --delete --program=a.ngc --events=a.events --certificate=a.cert --tools=table.toml --machine=mill.toml",
+            Some("a.ngc"),
+            true,
+        ),
+    ] {
+        let wanted = RunOptions {
+            machine: "mill.toml",
+            tools: "table.toml",
+            certificate: "a.cert",
+            events: "a.events",
+            program,
+            delete,
+        };
+        assert!(rt;
+            are_read_as(rt.alloc(), lines, Options::Run(wanted))?,
+            "{lines}"
+        );
+    }
+    Ok(())
+}
+
+// The text that the words are refused with by the number 720, and else none.
+fn refusal(alloc: Global, words: &[&str]) -> Result<String, AllocError> {
+    match read_options(alloc, words) {
+        Err(fault) if fault.number() == 720 => format!(in alloc; "{fault}"),
+        _ => Ok(String::new(alloc)),
+    }
+}
+
+fn stand_in_order(text: &str, parts: &[&str]) -> bool {
+    let mut rest = text;
+    for part in parts {
+        let Some((_, behind)) = rest.split_once(*part) else {
+            return false;
+        };
+        rest = behind;
+    }
+    true
+}
+
+// Whether the words are refused with a text that has these parts, which stand between bars, in their order.
+fn is_refused_with(alloc: Global, words: &[&str], parts: &str) -> Result<bool, AllocError> {
+    let text = refusal(alloc, words)?;
+    let parts: Vec<&str> = parts.split('|').collect(alloc)?;
+    Ok(stand_in_order(text.as_str(), parts.as_slice()))
+}
+
+// Each line is a command line, an arrow, and the parts of its refusal.
+const REFUSALS: &str = "\
+-> requires a subcommand|Usage: ngc <COMMAND>
+print -> 'print'|Usage: ngc <COMMAND>
+help -> 'help'|Usage: ngc <COMMAND>
+--delete list -> '--delete'|Usage: ngc <COMMAND>
+--cuts=8 certify -> '--cuts'|Usage: ngc <COMMAND>
+list --frame -> '--frame'|Usage: ngc list [OPTIONS]
+list a.ngc -> 'a.ngc'|Usage: ngc list [OPTIONS]
+list --delete=on -> 'on'|Usage: ngc list
+list --delete --delete -> multiple times|Usage: ngc list [OPTIONS]
+list --program -x -> '-x'|Usage: ngc list
+list --program -> a value is required|--program|--help
+list --machine -> a value is required|--machine|--help
+list --tools -> a value is required|--tools|--help
+list --program --delete -> a value is required|--program|--help
+list --machine --delete -> a value is required|--machine|--help
+list --tools --delete -> a value is required|--tools|--help
+list --program a --program a -> --program|multiple times|Usage: ngc list [OPTIONS]
+list --machine a --machine a -> --machine|multiple times|Usage: ngc list [OPTIONS]
+list --tools a --tools a -> --tools|multiple times|Usage: ngc list [OPTIONS]
+certify --machine=mill.toml --tools=table.toml --cuts=-1 -> '-1'|'--cuts <N>'";
+
+#[test]
+fn refuses(rt: HostRuntime) -> Result<(), Fail> {
+    for row in REFUSALS.lines() {
+        let (line, parts) = row.split_once("-> ").ok_or("an arrow")?;
+        let words: Vec<&str> = line.split_whitespace().collect(rt.alloc())?;
+        assert!(rt;
+            is_refused_with(rt.alloc(), words.as_slice(), parts)?,
+            "{row}"
+        );
+    }
+    Ok(())
+}
+
+// Each line is a command line, an arrow, and the options that it lacks.
+const INCOMPLETE: &str = "\
+certify --tools=table.toml --cuts=3 --program=a.ngc -> --machine
+certify --machine=mill.toml --cuts=3 --program=a.ngc -> --tools
+certify -> --machine --tools
+check --tools=table.toml --certificate=a.cert -> --machine
+check --machine=mill.toml --certificate=a.cert -> --tools
+check --machine=mill.toml --tools=table.toml -> --certificate
+run --tools=table.toml --certificate=a.cert --events=a.events --program=a.ngc -> --machine
+run --machine=mill.toml --certificate=a.cert --events=a.events --delete -> --tools
+run --machine=mill.toml --tools=table.toml --events=a.events -> --certificate
+run --machine=mill.toml --tools=table.toml --certificate=a.cert -> --events";
+
+#[test]
+fn refuses_where_required_options_are_missing(rt: HostRuntime) -> Result<(), Fail> {
+    for row in INCOMPLETE.lines() {
+        let (line, missing) = row.split_once("-> ").ok_or("an arrow")?;
+        let words: Vec<&str> = line.split_whitespace().collect(rt.alloc())?;
+        let mut parts = format!(in rt.alloc();
+            "the following required arguments were not provided"
+        )?;
+        for option in missing.split_whitespace() {
+            parts.push_str(format!(in rt.alloc(); "|  {option} <FILE>\n")?.as_str())?;
+        }
+        assert!(rt;
+            is_refused_with(rt.alloc(), words.as_slice(), parts.as_str())?,
+            "{row}"
+        );
+    }
+    Ok(())
+}
+
+// Each row is a command line, last words that it is refused with, and the parts of the refusal.
+#[test]
+fn refuses_with_a_last_word(rt: HostRuntime) -> Result<(), Fail> {
+    for (line, last_words, parts) in [
+        (
+            "certify --machine=mill.toml --tools=table.toml --cuts",
+            "0|65536|99999999999999999999|x|8x|0x8|1.5| 8|",
+            "'--cuts <N>'|try '--help'",
+        ),
+        (
+            "certify --machine=mill.toml --tools=table.toml --program=a.ngc --cuts=3",
+            "--machine=a|--tools=a|--program=a|--cuts=5",
+            "multiple times|Usage: ngc certify",
+        ),
+        (
+            "certify --machine=mill.toml --tools=table.toml",
+            "--delete|--certificate=a|--frame",
+            "unexpected argument|Usage: ngc certify",
+        ),
+        (
+            "check --machine=mill.toml --tools=table.toml --certificate=a.cert --program=a.ngc",
+            "--machine=a|--tools=a|--certificate=a|--program=a",
+            "multiple times|Usage: ngc check",
+        ),
+        (
+            "check --machine=mill.toml --tools=table.toml --certificate=a.cert",
+            "--delete|--cuts=8|--frame",
+            "unexpected argument|Usage: ngc check",
+        ),
+        (
+            "run --machine=mill.toml --tools=table.toml --certificate=a.cert --events=a.events --program=a.ngc --delete",
+            "--machine=a|--tools=a|--certificate=a|--events=a|--program=a|--delete",
+            "multiple times|Usage: ngc run",
+        ),
+        (
+            "run --machine=mill.toml --tools=table.toml --certificate=a.cert --events=a.events",
+            "--cuts=8|--frame",
+            "unexpected argument|Usage: ngc run",
+        ),
+    ] {
+        for last in last_words.split('|') {
+            let mut words: Vec<&str> = line.split_whitespace().collect(rt.alloc())?;
+            words.push(last)?;
+            assert!(rt;
+                is_refused_with(rt.alloc(), words.as_slice(), parts)?,
+                "{line} {last}"
+            );
+        }
+    }
+    Ok(())
+}
+
+fn is_narrow(text: &str) -> bool {
+    text.lines().all(|line| line.chars().count() <= 80)
+}
+
+const HELP: &str =
+    "List, certify, check and run part programs in RS274/NGC|Usage: ngc <COMMAND>|  list |  certify |  check |\
+                    \x20 run |ngc list --program examples/facing.ngc|Exit status:|0  done|1  input|2  the command line|\
+                    3  the part program|4  the certificate was refused, or none clears the program|docs/FAULTS.md";
+
+const LIST_HELP: &str =
+    "Usage: ngc list [OPTIONS]|--program <FILE>|[default: standard input]|--machine <FILE>|\
+                         [default: a built-in small mill]|--tools <FILE>|[default: no tools]|--delete|[default: off]|\
+                         ngc list --program examples/facing.ngc|Exit status:|\
+                         4  the certificate was refused, or none clears the program|docs/FAULTS.md";
+
+const CERTIFY_HELP: &str =
+    "Usage: ngc certify [OPTIONS] --machine <FILE> --tools <FILE>|--machine <FILE>|--tools <FILE>|\
+                            --program <FILE>|[default: standard input]|--cuts <N>|[default: 8]|\
+                            ngc certify --program examples/slot.ngc|\
+                            --machine examples/clamped_mill.toml --tools examples/tools.toml|Exit status:|\
+                            4  the certificate was refused, or none clears the program|docs/FAULTS.md";
+
+const CHECK_HELP: &str =
+    "Usage: ngc check [OPTIONS] --machine <FILE> --tools <FILE> --certificate <FILE>|\
+                          --machine <FILE>|--tools <FILE>|--certificate <FILE>|--program <FILE>|\
+                          [default: standard input]|ngc check --program examples/slot.ngc --certificate slot.cert|\
+                          --machine examples/clamped_mill.toml --tools examples/tools.toml|Exit status:|\
+                          4  the certificate was refused, or none clears the program|docs/FAULTS.md";
+
+const RUN_HELP: &str = "Run a part program over a list of events and print the log|\
+                        Usage: ngc run [OPTIONS] --machine <FILE> --tools <FILE>\n| --certificate <FILE> --events <FILE>\n|\
+                        --machine <FILE>|--tools <FILE>|--certificate <FILE>|--events <FILE>|--program <FILE>|\
+                        [default: standard input]|--delete|[default: off]|\
+                        ngc run --program examples/slot.ngc --certificate slot.cert|--events examples/slot.events|\
+                        --machine examples/clamped_mill.toml --tools examples/tools.toml|Exit status:|\
+                        4  the certificate was refused, or none clears the program|docs/FAULTS.md";
+
+#[test]
+fn helps(rt: HostRuntime) -> Result<(), Fail> {
+    for (line, parts) in [
+        ("--help", HELP),
+        ("-h", HELP),
+        ("--help --help", HELP),
+        ("list --help", LIST_HELP),
+        ("certify --help", CERTIFY_HELP),
+        ("check --help", CHECK_HELP),
+        ("run --help", RUN_HELP),
+    ] {
+        let words: Vec<&str> = line.split_whitespace().collect(rt.alloc())?;
+        let text = refusal(rt.alloc(), words.as_slice())?;
+        assert!(rt; is_narrow(text.as_str()), "{line}");
+        assert!(rt;
+            is_refused_with(rt.alloc(), words.as_slice(), parts)?,
+            "{line}"
+        );
+    }
+    Ok(())
+}
+
+#[test]
+fn shows_the_text_of_clap(rt: HostRuntime) -> Result<(), Fail> {
+    assert_eq!(rt;
+        refusal(rt.alloc(), &["list", "--frame"])?.as_str(),
+        "error: unexpected argument '--frame' found\n\nUsage: ngc list [OPTIONS]\n\nFor more information, try '--help'.\n"
+    );
+    assert_eq!(rt; UsageFault::Memory.number(), 900);
+    assert_eq!(rt;
+        format!(in rt.alloc(); "{}", UsageFault::Memory)?.as_str(),
+        "out of memory"
+    );
+    Ok(())
+}

@@ -1,0 +1,146 @@
+//! What no clause of `ngc_events` says: that calls succeed, that memory which is refused is told, and the words of the
+//! format.
+use linked_list_allocator::LocalHeap;
+use ngc_events::{Event, EventLine, EventsFault, laws, read_events};
+use std::alloc::{AllocError, Global};
+use std::test::Fail;
+
+const LIMIT: usize = 1_000_000;
+
+fn says(alloc: Global, text: &[u8], events: &[EventLine]) -> bool {
+    match read_events(alloc, text) {
+        Ok(found) => found.as_slice() == events,
+        Err(_) => false,
+    }
+}
+
+// Each line alone, and with the lines before it.
+#[test]
+fn each_event(rt: HostRuntime) -> Result<(), Fail> {
+    let alloc = rt.alloc();
+    let mut text = Vec::new(alloc);
+    let mut events = Vec::new(alloc);
+    assert!(rt; says(alloc, text.as_slice(), events.as_slice()));
+    for (line, event, times) in [
+        ("load\n", Event::Load, 1),
+        ("tick 1\n", Event::Tick, 1),
+        ("hold\n", Event::Hold, 1),
+        ("resume\n", Event::Resume, 1),
+        ("override 150\n", Event::Override(150), 1),
+        ("switch on\n", Event::StopSwitch(true), 1),
+        ("switch off\n", Event::StopSwitch(false), 1),
+        ("start\n", Event::Start, 1),
+        ("tick 1000000\n", Event::Tick, 1_000_000),
+        ("override 0\n", Event::Override(0), 1),
+        ("override 201\n", Event::Override(201), 1),
+        ("override 255\n", Event::Override(255), 1),
+        ("tick 3001\n", Event::Tick, 3001),
+    ] {
+        let said = EventLine { event, times };
+        assert!(rt; says(alloc, line.as_bytes(), &[said]), "{line}");
+        text.extend_from_slice(line.as_bytes())?;
+        events.push(said)?;
+        assert!(rt;
+            says(alloc, text.as_slice(), events.as_slice()),
+            "up to {line}"
+        );
+    }
+    Ok(())
+}
+
+// Each row is the number of a wrong line, and texts that have it, between bars.
+#[test]
+fn wrong_lines(rt: HostRuntime) {
+    for (line, texts) in [
+        (
+            1,
+            "tick 0\n|tick 1000001\n|override 256\n|load|\n|tick 05\n|tick +5\n|tick -5\n|tick  5\n|tick 5 \n| tick 5\n|\
+             tick 5\r\n|tick\n|tick \n|tick 18446744073709551621\n|override 00\n|override\n|override 1.5\n|Load\n|load 1\n|\
+             load\r\n|switch\n|switch ON\n|tick 5",
+        ),
+        (
+            3,
+            "load\nload\ntick 0\n|load\ntick 5\nload|load\ntick 5\n\nstop\n",
+        ),
+    ] {
+        for text in texts.split('|') {
+            let fault = read_events(rt.alloc(), text.as_bytes()).err();
+            assert_eq!(rt; fault, Some(EventsFault::BadLine(line)), "{text}");
+        }
+    }
+}
+
+// So many lines `load`, and then a text.
+fn loads_and(alloc: Global, count: usize, last: &str) -> Result<Vec<u8>, AllocError> {
+    let mut text = Vec::new(alloc);
+    for _ in 0..count {
+        text.extend_from_slice(b"load\n")?;
+    }
+    text.extend_from_slice(last.as_bytes())?;
+    Ok(text)
+}
+
+#[test]
+fn a_million_lines(rt: HostRuntime) -> Result<(), Fail> {
+    let text = loads_and(rt.alloc(), LIMIT - 1, "tick 1000000\n")?;
+    let events = read_events(rt.alloc(), text.as_slice())?;
+    let load = EventLine {
+        event: Event::Load,
+        times: 1,
+    };
+    let ticks = EventLine {
+        event: Event::Tick,
+        times: 1_000_000,
+    };
+    assert_eq!(rt; events.len(), LIMIT);
+    assert_eq!(rt; events.as_slice().first(), Some(&load));
+    assert_eq!(rt; events.as_slice().last(), Some(&ticks));
+    Ok(())
+}
+
+#[test]
+fn a_line_too_many(rt: HostRuntime) -> Result<(), Fail> {
+    for (count, last, wanted) in [
+        (LIMIT, "load\n", EventsFault::TooManyLines),
+        (LIMIT, "tick 0\n", EventsFault::TooManyLines),
+        (LIMIT, "load", EventsFault::TooManyLines),
+        (LIMIT, "\n", EventsFault::TooManyLines),
+        (LIMIT - 1, "tick 0\nload\n", EventsFault::BadLine(1_000_000)),
+    ] {
+        let text = loads_and(rt.alloc(), count, last)?;
+        let fault = read_events(rt.alloc(), text.as_slice()).err();
+        assert_eq!(rt; fault, Some(wanted), "{count} loads and {last}");
+    }
+    Ok(())
+}
+
+#[test]
+fn refused_memory(rt: HostRuntime) -> Result<(), Fail> {
+    let text = loads_and(rt.alloc(), 1000, "")?;
+    let mut refused = 0u32;
+    let mut done = 0u32;
+    for blocks in 1..12usize {
+        let heap = LocalHeap::new(rt.alloc(), 2048 * blocks)?;
+        match read_events(&heap, text.as_slice()) {
+            Ok(events) => {
+                assert_eq!(rt; events.len(), 1000, "{blocks} blocks");
+                done = done.saturating_add(1);
+            }
+            Err(fault) => {
+                assert_eq!(rt; (fault, done), (EventsFault::Memory, 0), "{blocks} blocks");
+                refused = refused.saturating_add(1);
+            }
+        }
+        assert_eq!(rt; heap.used(), 0, "{blocks} blocks");
+    }
+    assert!(rt; refused > 0 && done > 0);
+    Ok(())
+}
+
+#[test]
+fn numbers(rt: HostRuntime) {
+    laws::one_spelling();
+    assert_eq!(rt; EventsFault::BadLine(7).number(), 711);
+    assert_eq!(rt; EventsFault::TooManyLines.number(), 712);
+    assert_eq!(rt; EventsFault::Memory.number(), 900);
+}

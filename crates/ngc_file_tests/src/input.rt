@@ -1,0 +1,192 @@
+//! What no clause of `ngc_input` says: that calls succeed, that memory which is refused is told, and a source of which
+//! the contract knows no bytes.
+use linked_list_allocator::LocalHeap;
+use ngc_fixed_length::{Device, DeviceFault, Source};
+use ngc_input::{CHUNK, InputFault, read_whole};
+use std::alloc::{AllocError, Allocator, Global};
+use std::test::Fail;
+
+// Gives at most so many bytes a pull, and fails in place of the byte at `failing`.
+#[derive(Drop)]
+struct SlowSource<'a> {
+    rest: &'a [u8],
+    most: usize,
+    failing: usize,
+    failures: u64,
+}
+
+impl Source for SlowSource<'_> {
+    ghost use Rattle.std.specs.Prelude.{None};
+
+    ghost remaining = { λ _. None };
+
+    ghost failures = { λ s. s.failures };
+
+    fn pull(&mut self, buf: &mut [u8]) -> Result<usize, DeviceFault> {
+        if self.failing == 0 {
+            self.failures = self.failures.saturating_add(1);
+            return Err(DeviceFault);
+        }
+        let count = self
+            .rest
+            .len()
+            .min(buf.len())
+            .min(self.most)
+            .min(self.failing);
+        let (now, later) = self.rest.split_at(count);
+        buf[..count].copy_from_slice(now);
+        self.rest = later;
+        self.failing -= count;
+        Ok(count)
+    }
+}
+
+// Fills each buffer, and never ends.
+#[derive(Drop)]
+struct EndlessSource {
+    given: u64,
+}
+
+impl Source for EndlessSource {
+    ghost use Rattle.std.specs.Prelude.{None};
+
+    ghost remaining = { λ _. None };
+
+    ghost failures = { λ _. 0 };
+
+    fn pull(&mut self, buf: &mut [u8]) -> Result<usize, DeviceFault> {
+        self.given = self.given.saturating_add(buf.len() as u64);
+        Ok(buf.len())
+    }
+}
+
+// A file of so many bytes, which go on from 0 to 250 and again.
+fn file_of(alloc: Global, len: usize) -> Result<Vec<u8>, AllocError> {
+    let mut bytes = Vec::new(alloc);
+    for i in 0..len {
+        bytes.push((i % 251) as u8)?;
+    }
+    Ok(bytes)
+}
+
+// Whether what is read is the file.
+fn is_read<A: Allocator, R: Source>(
+    alloc: A,
+    source: &mut R,
+    file: &[u8],
+    limit: usize,
+) -> Result<bool, InputFault> {
+    Ok(read_whole(alloc, source, limit)?.as_slice() == file)
+}
+
+#[test]
+fn files_around_a_chunk(rt: HostRuntime) -> Result<(), Fail> {
+    let alloc = rt.alloc();
+    for len in [0, 1, CHUNK - 1, CHUNK, CHUNK + 1, 2 * CHUNK, 3 * CHUNK + 7] {
+        let file = file_of(alloc, len)?;
+        for limit in [len, 1_000_000] {
+            let mut source = Device::new(file.as_slice());
+            let read = is_read(alloc, &mut source, file.as_slice(), limit);
+            assert_eq!(rt; read, Ok(true), "{len} bytes, a limit of {limit}");
+        }
+    }
+    for limit in [0, 1, CHUNK - 1, CHUNK, 2 * CHUNK + 5] {
+        let file = file_of(alloc, limit + 1)?;
+        let mut source = Device::new(file.as_slice());
+        let read = is_read(alloc, &mut source, file.as_slice(), limit);
+        assert_eq!(rt; read, Err(InputFault::TooLong), "a limit of {limit}");
+    }
+    Ok(())
+}
+
+#[test]
+fn a_file_without_end(rt: HostRuntime) {
+    for limit in [0, 1_000_000] {
+        let mut source = EndlessSource { given: 0 };
+        let fault = read_whole(rt.alloc(), &mut source, limit).err();
+        assert_eq!(rt; fault, Some(InputFault::TooLong), "a limit of {limit}");
+        assert!(rt;
+            source.given <= (limit + CHUNK) as u64,
+            "a limit of {limit}"
+        );
+    }
+}
+
+// Whether a slow source is read to its end, and how often it failed.
+fn is_read_slowly(
+    alloc: Global,
+    text: &[u8],
+    (most, failing): (usize, usize),
+    limit: usize,
+) -> (Result<bool, InputFault>, u64) {
+    let mut source = SlowSource {
+        rest: text,
+        most,
+        failing,
+        failures: 0,
+    };
+    let read = is_read(alloc, &mut source, text, limit);
+    (read, source.failures)
+}
+
+#[test]
+fn a_byte_a_pull(rt: HostRuntime) {
+    let text = b"version = 1\nstep = 10000\n".as_slice();
+    for limit in 0..30usize {
+        let wanted = if limit < text.len() {
+            Err(InputFault::TooLong)
+        } else {
+            Ok(true)
+        };
+        let read = is_read_slowly(rt.alloc(), text, (1, 100), limit);
+        assert_eq!(rt; read, (wanted, 0), "a limit of {limit}");
+    }
+}
+
+#[test]
+fn fails_at_each_byte(rt: HostRuntime) {
+    let text = b"version = 1\n".as_slice();
+    for most in [1, 5, 100] {
+        for failing in 0..20usize {
+            // The end of the file is a pull too.
+            let wanted = if failing <= text.len() {
+                (Err(InputFault::Device), 1)
+            } else {
+                (Ok(true), 0)
+            };
+            let read = is_read_slowly(rt.alloc(), text, (most, failing), 100);
+            assert_eq!(rt; read, wanted, "{most} bytes a pull, failing at {failing}");
+        }
+    }
+}
+
+#[test]
+fn refused_memory(rt: HostRuntime) -> Result<(), Fail> {
+    let file = file_of(rt.alloc(), 2 * CHUNK)?;
+    let mut refused = 0u32;
+    let mut done = 0u32;
+    for blocks in 1..12usize {
+        let heap = LocalHeap::new(rt.alloc(), 8192 * blocks)?;
+        let mut source = Device::new(file.as_slice());
+        match is_read(&heap, &mut source, file.as_slice(), 1_000_000) {
+            Ok(whole) => {
+                assert!(rt; whole, "{blocks} blocks");
+                done = done.saturating_add(1);
+            }
+            Err(fault) => {
+                assert_eq!(rt; (fault, done), (InputFault::Memory, 0), "{blocks} blocks");
+                refused = refused.saturating_add(1);
+            }
+        }
+        assert_eq!(rt; heap.used(), 0, "{blocks} blocks");
+    }
+    assert!(rt; refused > 0 && done > 0);
+    Ok(())
+}
+
+#[test]
+fn numbers(rt: HostRuntime) {
+    assert_eq!(rt; InputFault::Memory.number(), 900);
+    assert_eq!(rt; InputFault::Device.number(), 901);
+    assert_eq!(rt; InputFault::TooLong.number(), 901);
+}

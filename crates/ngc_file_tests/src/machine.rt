@@ -1,0 +1,301 @@
+//! What no clause of `ngc_machine` says: that calls succeed, the keys of the files, and the texts of faults.
+use linked_list_allocator::LocalHeap;
+use ngc_fixed_length::{Nm, Point3};
+use ngc_machine::{FileFault, Machine, Tool, Tools, row_machine};
+use std::alloc::Global;
+use std::test::Fail;
+
+const ROW_MACHINE: &str = "version = 1
+step = 10000
+ticks_per_second = 10000
+max_rate = 400000
+change = 1000
+corner = 50000
+turn = 1000000000
+low = [0, 0, -100000000]
+high = [300000000, 300000000, 0]
+start = [0, 0, 0]
+home28 = [0, 0, 0]
+home30 = [0, 0, 0]
+";
+
+const TOOL_ONE: &str = "[[tool]]
+number = 1
+length = 20000000
+radius = 3000000
+offset = 20000000
+";
+
+fn nanometres(point: Point3) -> [i64; 3] {
+    [
+        point.x.nanometres(),
+        point.y.nanometres(),
+        point.z.nanometres(),
+    ]
+}
+
+// The number that a machine file is refused with; 0 where it is read.
+fn machine_fault(alloc: Global, bytes: &[u8]) -> u16 {
+    match Machine::read(alloc, bytes) {
+        Ok(_) => 0,
+        Err(fault) => fault.number(),
+    }
+}
+
+// The same once a piece of the row machine's file is another, as `piece -> other`.
+fn changed_machine_fault(alloc: Global, change: &str) -> Result<u16, Fail> {
+    let (piece, other) = change.split_once(" -> ").ok_or("a piece and another")?;
+    let (before, after) = ROW_MACHINE.split_once(piece).ok_or("a piece of the file")?;
+    let text = format!(in alloc; "{before}{other}{after}")?;
+    Ok(machine_fault(alloc, text.as_bytes()))
+}
+
+// The same of a tool table.
+fn table_fault(alloc: Global, bytes: &[u8]) -> u16 {
+    match Tools::read(alloc, bytes) {
+        Ok(_) => 0,
+        Err(fault) => fault.number(),
+    }
+}
+
+fn are_same(one: &Machine<Global>, other: &Machine<Global>) -> bool {
+    one.step == other.step
+        && one.ticks_per_second == other.ticks_per_second
+        && one.max_rate == other.max_rate
+        && one.change == other.change
+        && one.corner == other.corner
+        && one.turn == other.turn
+        && one.low == other.low
+        && one.high == other.high
+        && one.start == other.start
+        && one.home28 == other.home28
+        && one.home30 == other.home30
+        && one.origins == other.origins
+        && one.fixtures.as_slice() == other.fixtures.as_slice()
+}
+
+#[test]
+fn the_row_machine_and_its_file_are_one(rt: HostRuntime) -> Result<(), Fail> {
+    let file = Machine::read(rt.alloc(), ROW_MACHINE.as_bytes())?;
+    assert!(rt; are_same(&file, &row_machine(rt.alloc())) && file.fixtures.is_empty());
+    assert_eq!(rt; file.step.nanometres(), 10_000);
+    assert_eq!(rt; nanometres(file.low), [0, 0, -100_000_000]);
+    assert_eq!(rt; nanometres(file.high), [300_000_000, 300_000_000, 0]);
+    Ok(())
+}
+
+#[test]
+fn places_and_fixtures_are_read(rt: HostRuntime) -> Result<(), Fail> {
+    let text = format!(in rt.alloc();
+        "{ROW_MACHINE}origins = [[1, 2, 3], [4, 5, 6], [7, 8, 9], [0, 0, 0], [0, 0, 0], [0, 0, 0], [0, 0, 0], [0, 0, 0], [-1, -2, -3]]
+[[fixture]]
+low = [-4000000000, 0, 0]
+high = [0, 1, 4000000000]
+[[fixture]]
+low = [1, 2, 3]
+high = [4, 5, 6]
+"
+    )?;
+    let machine = Machine::read(rt.alloc(), text.as_bytes())?;
+    assert_eq!(rt; machine.fixtures.len(), 2);
+    let second = machine.fixtures[1];
+    for (place, wanted) in [
+        (machine.origins[1], [4, 5, 6]),
+        (machine.origins[8], [-1, -2, -3]),
+        (second.low, [1, 2, 3]),
+        (second.high, [4, 5, 6]),
+    ] {
+        assert_eq!(rt; nanometres(place), wanted);
+    }
+    Ok(())
+}
+
+// Each row is a number, and changes of the row machine's file that are refused with it, between bars.
+#[test]
+fn machine_files(rt: HostRuntime) -> Result<(), Fail> {
+    for (number, changes) in [
+        (
+            0,
+            "home30 = [0, 0, 0] -> home30 = [0, 0, 0]\n[[fixture]]\nlow = [0, 0, 0]\nhigh = [1, 1, 1]",
+        ),
+        (261, "version = 1 -> version = 2"),
+        (
+            262,
+            "step = 10000 -> step = 499|step = 10000 -> step = 50001",
+        ),
+        (263, "second = 10000 -> second = 1000001"),
+        (
+            264,
+            "max_rate = 400000 -> max_rate = 0|turn = 1000000000 -> turn = 1000000000001",
+        ),
+        (
+            265,
+            "start = [0, 0, 0] -> start = [5, 0, 0]|start = [0, 0, 0] -> start = [0, 0, 10000]|\
+             low = [0, 0, -100000000] -> low = [0, 0, 10000]|high = [300000000, -> high = [1000000001,",
+        ),
+        (
+            266,
+            "home28 = [0, 0, 0] -> home28 = [0, -1000000001, 0]|home30 = [0, 0, 0] -> home30 = [0, 0, 1000000001]",
+        ),
+        (
+            267,
+            "home30 = [0, 0, 0] -> home30 = [0, 0, 0]\n[[fixture]]\nlow = [0, 0, 0]\nhigh = [1, 1, 0]|\
+             home30 = [0, 0, 0] -> home30 = [0, 0, 0]\n[[fixture]]\nlow = [0, 0, 0]\nhigh = [1, 1, 4000000001]",
+        ),
+        (
+            269,
+            "version = 1 -> colour = 1\nversion = 1|step = 10000\n -> |step = 10000 -> step = 10000.0|\
+             step = 10000 -> step = 10000\nstep = 10000|step = 10000 -> step = \"10000\"|\
+             start = [0, 0, 0] -> start = [0, 0]|start = [0, 0, 0] -> start = [0, 0, 0, 0]|\
+             start = [0, 0, 0] -> start = [0, 0, 0.0]|start = [0, 0, 0] -> start = 0|\
+             home30 = [0, 0, 0] -> home30 = [0, 0, 0]\norigins = [[0, 0, 0]]|\
+             home30 = [0, 0, 0] -> home30 = [0, 0, 0]\nfixture = 1|\
+             home30 = [0, 0, 0] -> home30 = [0, 0, 0]\n[[fixture]]\nlow = [0, 0, 0]|\
+             home30 = [0, 0, 0] -> home30 = [0, 0, 0]\n[[fixture]]\nlow = [0, 0]\nhigh = [1, 1, 1]|\
+             version = 1 -> version|version = 1\nstep = 10000\n -> version = 2\n",
+        ),
+    ] {
+        for change in changes.split('|') {
+            assert_eq!(rt;
+                changed_machine_fault(rt.alloc(), change)?,
+                number,
+                "{change}"
+            );
+        }
+    }
+    assert_eq!(rt; machine_fault(rt.alloc(), b"\xff"), 269);
+    assert_eq!(rt; machine_fault(rt.alloc(), b""), 269);
+    Ok(())
+}
+
+#[test]
+fn tools_are_read_and_found(rt: HostRuntime) -> Result<(), Fail> {
+    let text = format!(in rt.alloc();
+        "version = 1\n[[tool]]\nnumber = 9999\nlength = 1\nradius = 2\noffset = -3\n{TOOL_ONE}"
+    )?;
+    let tools = Tools::read(rt.alloc(), text.as_bytes())?;
+    assert_eq!(rt; tools.tools().len(), 2);
+    let one = Some(Tool {
+        number: 1,
+        length: Nm::from_nanometres(20_000_000)?,
+        radius: Nm::from_nanometres(3_000_000)?,
+        offset: Nm::from_nanometres(20_000_000)?,
+    });
+    assert_eq!(rt; tools.tools().get(1).copied(), one);
+    assert_eq!(rt; tools.find(1), one);
+    assert_eq!(rt; tools.find(9_999).ok_or("a tool")?.offset.nanometres(), -3);
+    assert_eq!(rt; tools.find(2), None);
+    assert_eq!(rt; tools.find(0), None);
+    assert_eq!(rt; Tools::empty(rt.alloc()).find(1), None);
+    Ok(())
+}
+
+// Each row is a number, and texts of tool tables that are refused with it, between bars. `ONE` stands for the tool of
+// number 1.
+#[test]
+fn tool_tables(rt: HostRuntime) -> Result<(), Fail> {
+    for (number, texts) in [
+        (0, "version = 1"),
+        (261, "version = 2|version = 2\nONE ONE "),
+        (
+            268,
+            "version = 1\nONE ONE |\
+             version = 1\n[[tool]]\nnumber = 0\nlength = 0\nradius = 0\noffset = 0\n|\
+             version = 1\n[[tool]]\nnumber = 10000\nlength = 0\nradius = 0\noffset = 0\n|\
+             version = 1\n[[tool]]\nnumber = 1\nlength = -1\nradius = 0\noffset = 0\n|\
+             version = 1\n[[tool]]\nnumber = 1\nlength = 0\nradius = 1000000001\noffset = 0\n|\
+             version = 1\n[[tool]]\nnumber = 1\nlength = 0\nradius = 0\noffset = -1000000001\n",
+        ),
+        (269, "version = 1\nONE name = 1\n"),
+    ] {
+        for text in texts.split('|') {
+            let table = text.replace(rt.alloc(), "ONE ", TOOL_ONE)?;
+            assert_eq!(rt; table_fault(rt.alloc(), table.as_bytes()), number, "{text}");
+        }
+    }
+    Ok(())
+}
+
+// The text of a table of so many tools.
+fn table_of(alloc: Global, count: u32) -> Result<String, Fail> {
+    let mut text = format!(in alloc; "version = 1\n")?;
+    for number in 1..=count {
+        text.push_str(format!(in alloc;
+            "[[tool]]\nnumber = {number}\nlength = 0\nradius = 0\noffset = 0\n"
+        )?.as_str())?;
+    }
+    Ok(text)
+}
+
+#[test]
+fn a_thousand_tools_and_no_more(rt: HostRuntime) -> Result<(), Fail> {
+    for count in [10, 1_000] {
+        let text = table_of(rt.alloc(), count)?;
+        let tools = Tools::read(rt.alloc(), text.as_bytes())?;
+        assert_eq!(rt; tools.tools().len(), count as usize);
+        assert_eq!(rt; tools.copy(rt.alloc())?.tools(), tools.tools());
+    }
+    let more = table_of(rt.alloc(), 1_001)?;
+    assert_eq!(rt; table_fault(rt.alloc(), more.as_bytes()), 268);
+    Ok(())
+}
+
+#[test]
+fn faults_tell_their_text(rt: HostRuntime) -> Result<(), Fail> {
+    let text = format!(in rt.alloc(); "{}", FileFault::Step)?;
+    assert_eq!(rt; text.as_str(), "the step length is out of range");
+    assert_eq!(rt; FileFault::Memory.number(), 900);
+    Ok(())
+}
+
+// Where memory is refused, that is what is told, and the next call reads the file.
+fn read_machine(alloc: Global, bytes: &[u8]) -> Result<Machine<Global>, FileFault> {
+    match Machine::read(alloc, bytes) {
+        Err(FileFault::Memory) => Machine::read(alloc, bytes),
+        read => read,
+    }
+}
+
+fn read_tools(alloc: Global, bytes: &[u8]) -> Result<Tools<Global>, FileFault> {
+    match Tools::read(alloc, bytes) {
+        Err(FileFault::Memory) => Tools::read(alloc, bytes),
+        read => read,
+    }
+}
+
+// Passes also where one allocation fails.
+#[test]
+fn a_refusal_of_memory_is_told_as_one(rt: HostRuntime) -> Result<(), Fail> {
+    let machine =
+        b"version = 1\nstep = 500\nticks_per_second = 1\nmax_rate = 1\nchange = 1\ncorner = 1\nturn = 1\nlow = [0, 0, 0]\nhigh = [0, 0, 0]\nstart = [0, 0, 0]\nhome28 = [0, 0, 0]\nhome30 = [0, 0, 0]\nfixture = [{ low = [0, 0, 0], high = [1, 1, 1] }]\n";
+    assert_eq!(rt; read_machine(rt.alloc(), machine)?.fixtures.len(), 1);
+    let table = b"version = 1\ntool = [{ number = 1, length = 0, radius = 0, offset = 0 }]\n";
+    let tools = read_tools(rt.alloc(), table)?;
+    assert_eq!(rt; tools.tools().len(), 1);
+    let copy = match tools.copy(rt.alloc()) {
+        Ok(copy) => copy,
+        Err(_) => tools.copy(rt.alloc())?,
+    };
+    assert_eq!(rt; copy.tools(), tools.tools());
+    Ok(())
+}
+
+#[test]
+fn a_copied_machine_has_the_fixtures(rt: HostRuntime) -> Result<(), Fail> {
+    let text = format!(in rt.alloc();
+        "{ROW_MACHINE}[[fixture]]\nlow = [1, 2, 3]\nhigh = [4, 5, 6]\n"
+    )?;
+    let machine = Machine::read(rt.alloc(), text.as_bytes())?;
+    let copy = machine.copy(rt.alloc())?;
+    assert!(rt; are_same(&copy, &machine));
+    assert_eq!(rt; copy.fixtures.len(), 1);
+    Ok(())
+}
+
+#[test]
+fn an_empty_tool_table_takes_no_memory(rt: HostRuntime) -> Result<(), Fail> {
+    let heap = LocalHeap::new(rt.alloc(), 512)?;
+    assert!(rt; Tools::empty(&heap).copy(&heap)?.tools().is_empty());
+    assert_eq!(rt; heap.used(), 0);
+    Ok(())
+}

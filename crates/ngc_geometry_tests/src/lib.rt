@@ -1,0 +1,13 @@
+//! Tests of arcs, step paths, rates and collisions.
+#![tactic(auto)]
+
+#[cfg(test)]
+mod arcs;
+#[cfg(test)]
+mod collisions;
+#[cfg(test)]
+mod given;
+#[cfg(test)]
+mod paths;
+#[cfg(test)]
+mod rates;

@@ -1,0 +1,259 @@
+//! The controller event by event: what it answers, where it stands, and its rates.
+use super::SHORT_WAY;
+use super::jobs::{End, Job, certify_text, written_by};
+use super::runs::{SHORT_WAY_EVENTS, SHORT_WAY_LOG, SHORT_WAY_REPORT};
+use linked_list_allocator::LocalHeap;
+use ngc_fixed_length::{Device, StepPos};
+use ngc_line_reader::Program;
+use ngc_simulator::{
+    Accepted, ArcPath, Certificate, Controller, Ending, Event, EventFault, Reply, Tools, check,
+    read_events, row_machine, run,
+};
+use std::alloc::{Allocator, Global};
+use std::process::Abort;
+use std::test::Fail;
+
+const TOOLS: &[u8] =
+    b"version = 1\n[[tool]]\nnumber = 1\nlength = 20000000\nradius = 3000000\noffset = 0\n";
+
+// What is accepted of a program on the built-in machine, with the certificate that is made for it.
+fn accepted(rt: &impl Abort, alloc: Global, text: &str) -> Result<Accepted<Global>, Fail> {
+    let tools = Tools::read(alloc, TOOLS)?;
+    let mut written = Device::new(Vec::new(alloc));
+    let ending = certify_text(alloc, text, &tools, &mut written);
+    assert_eq!(rt; ending, End::Done, "at {text}");
+    let written = written.into_inner();
+    Ok(accepted_on(alloc, text, written.as_slice(), &tools).ok_or("not accepted")?)
+}
+
+fn accepted_on<A: Allocator + Copy>(
+    alloc: A,
+    text: &str,
+    written: &[u8],
+    tools: &Tools<A>,
+) -> Option<Accepted<A>> {
+    let program = Program::read(alloc, &mut Device::new(text.as_bytes())).ok()?;
+    let certificate = Certificate::read(alloc, &mut Device::new(written)).ok()?;
+    check(alloc, &program, &row_machine(alloc), tools, &certificate).ok()
+}
+
+fn controller(
+    rt: &impl Abort,
+    alloc: Global,
+    text: &str,
+) -> Result<Controller<ArcPath, Global>, Fail> {
+    match Controller::new(alloc, accepted(rt, alloc, text)?, false) {
+        Ok(controller) => Ok(controller),
+        Err((_, fault)) => {
+            assert!(rt; false, "no memory for the controller");
+            Err(fault)?
+        }
+    }
+}
+
+// `event` without its clauses: they would make the proof of each test longer.
+fn give<A: Allocator + Copy>(
+    controller: &mut Controller<ArcPath, A>,
+    event: Event,
+) -> Result<Reply, EventFault> {
+    controller.event(event)
+}
+
+// How far a rate goes on when it falls by 1,000 a tick.
+fn braking(rate: u64) -> u64 {
+    let mut way = 0u64;
+    let mut left = rate;
+    for _ in 0..401u32 {
+        way = way.saturating_add(left);
+        left = left.saturating_sub(1000);
+    }
+    way
+}
+
+// What was seen of a run of ticks.
+#[derive(Clone, Copy)]
+struct Seen {
+    pulses: u32,
+    travelled: u64,
+    ended: bool,
+}
+
+const NOTHING: Seen = Seen {
+    pulses: 0,
+    travelled: 0,
+    ended: false,
+};
+
+// A tick on a motion of 100 path steps that keeps the rules of rates.
+fn tick(rt: &impl Abort, controller: &mut Controller<ArcPath, Global>, seen: &mut Seen) {
+    let before = controller.rate();
+    let reply = give(controller, Event::Tick);
+    let rate = controller.rate();
+    assert!(rt; rate <= 400_000);
+    assert!(rt; rate.abs_diff(before) <= 1000);
+    assert!(rt; braking(rate) <= 100_000_000u64.saturating_sub(seen.travelled));
+    seen.travelled = seen.travelled.saturating_add(rate);
+    if let Ok(Reply::Ticked { position, ending }) = reply {
+        if position.is_some() {
+            seen.pulses = seen.pulses.saturating_add(1);
+        }
+        seen.ended = ending == Some(Ending::Done(0));
+    }
+}
+
+// Ticks until so many pulses are seen or the motion has ended, but no more than so many.
+fn ticks(
+    rt: &impl Abort,
+    controller: &mut Controller<ArcPath, Global>,
+    seen: &mut Seen,
+    pulses: u32,
+    most: u32,
+) {
+    for _ in 0..most {
+        if seen.pulses < pulses && !seen.ended {
+            tick(rt, controller, seen);
+        }
+    }
+}
+
+#[test]
+fn a_hold_before_the_last_pulse(rt: HostRuntime) -> Result<(), Fail> {
+    let mut controller = controller(&rt, rt.alloc(), "G0 X1\nM2\n")?;
+    for (event, reply) in [
+        (Event::Load, Reply::Loaded(0)),
+        (Event::Load, Reply::Loaded(1)),
+        (Event::Override(200), Reply::Overridden(200)),
+    ] {
+        assert_eq!(rt; give(&mut controller, event), Ok(reply));
+    }
+    let mut seen = NOTHING;
+    ticks(&rt, &mut controller, &mut seen, 99, 10_000);
+    assert_eq!(rt; seen.pulses, 99);
+    assert_eq!(rt; give(&mut controller, Event::Hold), Ok(Reply::Held));
+    tick(&rt, &mut controller, &mut seen);
+    assert_eq!(rt; give(&mut controller, Event::Resume), Ok(Reply::Resumed));
+    ticks(&rt, &mut controller, &mut seen, u32::MAX, 10_000);
+    assert!(rt; seen.ended);
+    assert_eq!(rt; controller.position(), StepPos { x: 100, y: 0, z: 0 });
+    Ok(())
+}
+
+#[test]
+fn a_traverse_of_a_hundred_steps_within_a_thousand_ticks(rt: HostRuntime) -> Result<(), Fail> {
+    let mut controller = controller(&rt, rt.alloc(), "G0 X1\nM2\n")?;
+    let _ = give(&mut controller, Event::Load);
+    let _ = give(&mut controller, Event::Load);
+    let mut seen = NOTHING;
+    ticks(&rt, &mut controller, &mut seen, u32::MAX, 1000);
+    assert!(rt; seen.ended);
+    assert_eq!(rt; seen.pulses, 100);
+    Ok(())
+}
+
+// An arc with a radius of 1 mm.
+#[test]
+fn the_rate_on_an_arc(rt: HostRuntime) -> Result<(), Fail> {
+    let mut controller = controller(&rt, rt.alloc(), "G0 X5 Y5\nF6000 G2 X7 Y5 I1 J0\nM2\n")?;
+    let _ = give(&mut controller, Event::Load);
+    let _ = give(&mut controller, Event::Load);
+    let mut greatest = 0u64;
+    let mut on_arc = false;
+    for _ in 0..10_000u32 {
+        let reply = give(&mut controller, Event::Tick);
+        if on_arc {
+            greatest = greatest.max(controller.rate());
+        }
+        if let Ok(Reply::Ticked { ending, .. }) = reply {
+            on_arc = on_arc || ending == Some(Ending::Done(0));
+        }
+    }
+    assert!(rt; greatest <= 316_227);
+    assert!(rt; greatest > 300_000);
+    Ok(())
+}
+
+#[test]
+fn a_tool_is_mounted_in_its_tick(rt: HostRuntime) -> Result<(), Fail> {
+    let mut controller = controller(&rt, rt.alloc(), "T1 M6\nM2\n")?;
+    assert!(rt; controller.tool().is_none());
+    let _ = give(&mut controller, Event::Load);
+    assert!(rt; controller.tool().is_none());
+    let _ = give(&mut controller, Event::Tick);
+    assert_eq!(rt; controller.tool().map(|tool| tool.number), Some(1));
+    Ok(())
+}
+
+#[test]
+fn the_latest_answers(rt: HostRuntime) -> Result<(), Fail> {
+    let mut controller = controller(&rt, rt.alloc(), "M2\n")?;
+    assert_eq!(rt; controller.recent(0), None);
+    // The second load is refused, and isn't kept.
+    for event in [Event::Load, Event::Load, Event::Hold] {
+        let _ = give(&mut controller, event);
+    }
+    for (index, answer) in [
+        (0, Some(Reply::Held)),
+        (1, Some(Reply::Loaded(0))),
+        (2, None),
+    ] {
+        assert_eq!(rt; controller.recent(index), answer, "at {index}");
+    }
+    for _ in 0..255u32 {
+        let _ = give(&mut controller, Event::Tick);
+    }
+    for (index, answer) in [(255, Some(Reply::Held)), (256, None)] {
+        assert_eq!(rt; controller.recent(index), answer, "at {index}");
+    }
+    Ok(())
+}
+
+#[test]
+fn the_report_of_a_run(rt: HostRuntime) -> Result<(), Fail> {
+    let events = read_events(rt.alloc(), SHORT_WAY_EVENTS.as_bytes())?;
+    let mut log = Device::new(Vec::new(rt.alloc()));
+    let accepted = accepted(&rt, rt.alloc(), SHORT_WAY)?;
+    let report = run(rt.alloc(), accepted, false, events.as_slice(), &mut log)?;
+    assert_eq!(rt; report, SHORT_WAY_REPORT);
+    assert_eq!(rt; log.into_inner().as_slice(), SHORT_WAY_LOG.as_bytes());
+    Ok(())
+}
+
+const HEAP: usize = 262_144;
+
+#[test]
+fn a_controller_with_little_memory(rt: HostRuntime) -> Result<(), Fail> {
+    let text = "G0 X1\nM2\n";
+    let written = written_by(&rt, rt.alloc(), Job::Certify(text));
+    let mut refused = 0u32;
+    let mut done = 0u32;
+    for spare in 1..64usize {
+        let heap = LocalHeap::new(rt.alloc(), HEAP)?;
+        let tools = Tools::empty(&heap);
+        let Some(accepted) = accepted_on(&heap, text, written.as_slice(), &tools) else {
+            continue;
+        };
+        // The heap is filled up, and then so many KiB of it are given back.
+        let mut fillers = Vec::new(rt.alloc());
+        for _ in 0..300u32 {
+            if let Ok(filler) = Vec::<u8, _>::with_capacity(&heap, 1024) {
+                fillers.push(filler)?;
+            }
+        }
+        for _ in 0..spare {
+            fillers.pop();
+        }
+        match Controller::<ArcPath, _>::new(&heap, accepted, true) {
+            Ok(mut controller) => {
+                assert_eq!(rt; give(&mut controller, Event::Load), Ok(Reply::Loaded(0)));
+                done = done.saturating_add(1);
+            }
+            Err((accepted, fault)) => {
+                assert_eq!(rt; fault.number(), 900);
+                assert_eq!(rt; accepted.commands(true).len(), 2);
+                refused = refused.saturating_add(1);
+            }
+        }
+    }
+    assert!(rt; refused > 0 && done > 0);
+    Ok(())
+}

@@ -1,0 +1,294 @@
+use super::runs::certificate_of;
+use super::{LIST, MACHINE, NO_TEXTS, RUN, SHORT_WAY, Texts, comes_to, on_the_mill, outcome_of};
+use ngc_simulator::{CheckOptions, ListOptions, Options, RunOptions};
+use std::alloc::Global;
+use std::process::Abort;
+use std::test::Fail;
+
+const TOOL: &str = "[[tool]]\nnumber = 1\nlength = 0\nradius = 0\noffset = 0\n";
+
+const LISTING: &str = "0 1 traverse 100000 0 0 grid 10 0 0\n1 2 end\n";
+
+// What `ngc list` gives with a machine file, a tool table, or both.
+fn listing_is<'a>(
+    rt: &impl Abort,
+    alloc: Global,
+    machine: Option<&'a [u8]>,
+    tools: Option<&'a str>,
+    wanted: Result<&str, (u8, &str)>,
+    row: &str,
+) {
+    let texts = Texts {
+        program: b"G0 X0.1\nM2\n",
+        machine: machine.unwrap_or(b""),
+        tools: tools.unwrap_or("").as_bytes(),
+        ..NO_TEXTS
+    };
+    let options = ListOptions {
+        machine: machine.map(|_| "machine"),
+        tools: tools.map(|_| "tools"),
+        ..LIST
+    };
+    comes_to(rt, alloc, texts, &Options::List(options), wanted, row);
+}
+
+const MACHINE_LINES: &[(&str, &str, Result<&str, (u8, &str)>)] = &[
+    ("step = 10000", "step = 10000", Ok(LISTING)),
+    (
+        "step = 10000",
+        "step = 20000",
+        Ok("0 1 traverse 100000 0 0 grid 5 0 0\n1 2 end\n"),
+    ),
+    (
+        "version = 1",
+        "version = 2",
+        Err((3, "ngc: fault 261 machine\n")),
+    ),
+    (
+        "step = 10000",
+        "step = 499",
+        Err((3, "ngc: fault 262 machine\n")),
+    ),
+    (
+        "step = 10000",
+        "step = 50001",
+        Err((3, "ngc: fault 262 machine\n")),
+    ),
+    (
+        "ticks_per_second = 10000",
+        "ticks_per_second = 0",
+        Err((3, "ngc: fault 263 machine\n")),
+    ),
+    (
+        "corner = 50000",
+        "corner = 1000001",
+        Err((3, "ngc: fault 264 machine\n")),
+    ),
+    (
+        "turn = 1000000000",
+        "turn = 1000000000001",
+        Err((3, "ngc: fault 264 machine\n")),
+    ),
+    (
+        "start = [0, 0, 0]",
+        "start = [5, 0, 0]",
+        Err((3, "ngc: fault 265 machine\n")),
+    ),
+    (
+        "start = [0, 0, 0]",
+        "start = [0, 0, 10000]",
+        Err((3, "ngc: fault 265 machine\n")),
+    ),
+    (
+        "home30 = [0, 0, 0]",
+        "home30 = [1000000001, 0, 0]",
+        Err((3, "ngc: fault 266 machine\n")),
+    ),
+    (
+        "home30 = [0, 0, 0]",
+        "home30 = [0, 0, 0]\n[[fixture]]\nlow = [0, 0, 0]\nhigh = [1, 1, 0]",
+        Err((3, "ngc: fault 267 machine\n")),
+    ),
+    (
+        "corner = 50000",
+        "corner = 50000\ncolour = 1",
+        Err((3, "ngc: fault 269 machine\n")),
+    ),
+    ("corner = 50000", "", Err((3, "ngc: fault 269 machine\n"))),
+    (
+        "corner = 50000",
+        "corner = 50000.0",
+        Err((3, "ngc: fault 269 machine\n")),
+    ),
+    (
+        "corner = 50000",
+        "corner = 50000\ncorner = 50000",
+        Err((3, "ngc: fault 269 machine\n")),
+    ),
+    (
+        "start = [0, 0, 0]",
+        "start = [0, 0]",
+        Err((3, "ngc: fault 269 machine\n")),
+    ),
+    (
+        "start = [0, 0, 0]",
+        "start =",
+        Err((3, "ngc: fault 269 machine\n")),
+    ),
+];
+
+#[test]
+fn lines_of_a_machine_file(rt: HostRuntime) -> Result<(), Fail> {
+    for (from, to, wanted) in MACHINE_LINES {
+        let text = MACHINE.replace(rt.alloc(), from, to)?;
+        listing_is(&rt, rt.alloc(), Some(text.as_bytes()), None, *wanted, to);
+    }
+    Ok(())
+}
+
+const FILES: &[(Option<&[u8]>, Option<&str>, Result<&str, (u8, &str)>, &str)] = &[
+    (
+        Some(b"\xff"),
+        None,
+        Err((3, "ngc: fault 269 machine\n")),
+        "no text",
+    ),
+    (None, Some("version = 1\n"), Ok(LISTING), "no tools"),
+    (
+        None,
+        Some("version = 2\n"),
+        Err((3, "ngc: fault 261 tools\n")),
+        "another version",
+    ),
+    (
+        None,
+        Some(""),
+        Err((3, "ngc: fault 269 tools\n")),
+        "no version",
+    ),
+    (
+        None,
+        Some("version = 1\nbottom = 0\n"),
+        Err((3, "ngc: fault 269 tools\n")),
+        "an unknown key",
+    ),
+    (
+        Some(b""),
+        Some(""),
+        Err((3, "ngc: fault 269 machine\n")),
+        "the machine file goes first",
+    ),
+];
+
+#[test]
+fn machine_files_and_tool_tables(rt: HostRuntime) -> Result<(), Fail> {
+    for (machine, tools, wanted, row) in FILES {
+        listing_is(&rt, rt.alloc(), *machine, *tools, *wanted, row);
+    }
+    let twice = format!(in rt.alloc(); "version = 1\n{TOOL}{TOOL}")?;
+    let wanted = Err((3, "ngc: fault 268 tools\n"));
+    listing_is(
+        &rt,
+        rt.alloc(),
+        None,
+        Some(twice.as_str()),
+        wanted,
+        "a tool that stands twice",
+    );
+    Ok(())
+}
+
+#[test]
+fn long_machine_files(rt: HostRuntime) -> Result<(), Fail> {
+    for (size, wanted) in [
+        (20_000_000, Ok(LISTING)),
+        (20_000_001, Err((1, "ngc: fault 901\n"))),
+    ] {
+        let mut machine = Vec::with_capacity(rt.alloc(), size)?;
+        machine.extend_from_slice(MACHINE.as_bytes())?;
+        machine.resize(size, b'\n')?;
+        let row = "a long machine file";
+        listing_is(&rt, rt.alloc(), Some(machine.as_slice()), None, wanted, row);
+    }
+    Ok(())
+}
+
+#[test]
+fn files_that_are_not_there(rt: HostRuntime) {
+    let end = Texts {
+        program: b"M2\n",
+        ..NO_TEXTS
+    };
+    let certificate = certificate_of(&rt, rt.alloc(), SHORT_WAY);
+    let short_way = Texts {
+        certificate: certificate.as_slice(),
+        ..on_the_mill(SHORT_WAY)
+    };
+    let check = CheckOptions {
+        machine: "machine",
+        tools: "tools",
+        certificate: "none",
+        program: None,
+    };
+    for (texts, options, row) in [
+        (
+            end,
+            Options::List(ListOptions {
+                program: Some("none"),
+                ..LIST
+            }),
+            "a program to list",
+        ),
+        (
+            end,
+            Options::List(ListOptions {
+                machine: Some("none"),
+                ..LIST
+            }),
+            "a machine to list on",
+        ),
+        (
+            end,
+            Options::List(ListOptions {
+                tools: Some("none"),
+                ..LIST
+            }),
+            "tools to list with",
+        ),
+        (
+            on_the_mill("M2\n"),
+            Options::Check(check),
+            "a certificate to check",
+        ),
+        (
+            short_way,
+            Options::Run(RunOptions {
+                machine: "none",
+                ..RUN
+            }),
+            "a machine to run",
+        ),
+        (
+            short_way,
+            Options::Run(RunOptions {
+                tools: "none",
+                ..RUN
+            }),
+            "tools to run with",
+        ),
+        (
+            short_way,
+            Options::Run(RunOptions {
+                program: Some("none"),
+                ..RUN
+            }),
+            "a program to run",
+        ),
+        (
+            short_way,
+            Options::Run(RunOptions {
+                certificate: "none",
+                ..RUN
+            }),
+            "a certificate to run with",
+        ),
+        (
+            short_way,
+            Options::Run(RunOptions {
+                events: "none",
+                ..RUN
+            }),
+            "events to run over",
+        ),
+    ] {
+        let found = outcome_of(rt.alloc(), texts, &options);
+        assert_eq!(rt; found.status, 1, "at {row}");
+        assert_eq!(rt;
+            found.errors.as_slice(),
+            b"ngc: fault 901\n".as_slice(),
+            "at {row}"
+        );
+        assert_eq!(rt; found.output.as_slice(), b"".as_slice(), "at {row}");
+        assert_eq!(rt; found.failures, 1, "at {row}");
+    }
+}

@@ -1,0 +1,140 @@
+//! What the program does, on the built-in machine, over any allocator and sink.
+use ngc_fixed_length::{Device, Sink};
+use ngc_line_reader::Program;
+use ngc_simulator::{
+    Certificate, Report, Tools, certify, check_program, list, row_machine, run_program,
+};
+use std::alloc::{Allocator, Global};
+use std::process::Abort;
+
+pub(super) const PROGRAM: &str = "G0 X1\nG81 X2 Z-1 R0 F60 L9\nM2\n";
+
+// With the text of a program, and of a certificate and of events where it needs them.
+#[derive(Clone, Copy, Debug)]
+pub(super) enum Job<'a> {
+    List(&'a str),
+    Certify(&'a str),
+    Check(&'a str, &'a [u8]),
+    Run(&'a str, &'a [u8], &'a str),
+}
+
+#[derive(Clone, Copy, Debug, PartialEq, Eq)]
+pub(super) enum End {
+    Done,
+    Ran(Report),
+    // The program or the certificate isn't read, with the fault's number.
+    Unread(u16),
+    // The fault's number and status.
+    Refused(u16, u8),
+}
+
+impl Job<'_> {
+    pub(super) fn attempt<A: Allocator + Copy, W: Sink>(&self, alloc: A, output: &mut W) -> End {
+        let tools = Tools::empty(alloc);
+        match *self {
+            Job::List(text) => list_text(alloc, text, &tools, output),
+            Job::Certify(text) => certify_text(alloc, text, &tools, output),
+            Job::Check(text, certificate) => check_text(alloc, text, certificate, &tools, output),
+            Job::Run(text, certificate, events) => {
+                run_text(alloc, text, certificate, events, &tools, output)
+            }
+        }
+    }
+}
+
+fn list_text<A: Allocator + Copy, W: Sink>(
+    alloc: A,
+    text: &str,
+    tools: &Tools<A>,
+    output: &mut W,
+) -> End {
+    let mut source = Device::new(text.as_bytes());
+    match list(
+        alloc,
+        &mut source,
+        &row_machine(alloc),
+        tools,
+        false,
+        output,
+    ) {
+        Ok(()) => End::Done,
+        Err(fault) => End::Refused(fault.number(), fault.status()),
+    }
+}
+
+pub(super) fn certify_text<A: Allocator + Copy, W: Sink>(
+    alloc: A,
+    text: &str,
+    tools: &Tools<A>,
+    output: &mut W,
+) -> End {
+    let mut source = Device::new(text.as_bytes());
+    match certify(alloc, &mut source, &row_machine(alloc), tools, 8, output) {
+        Ok(()) => End::Done,
+        Err(fault) => End::Refused(fault.number(), fault.status()),
+    }
+}
+
+fn check_text<A: Allocator + Copy, W: Sink>(
+    alloc: A,
+    text: &str,
+    certificate: &[u8],
+    tools: &Tools<A>,
+    output: &mut W,
+) -> End {
+    let program = match Program::read(alloc, &mut Device::new(text.as_bytes())) {
+        Ok(program) => program,
+        Err(fault) => return End::Unread(fault.number()),
+    };
+    let mut source = Device::new(certificate);
+    match check_program(
+        alloc,
+        &program,
+        &row_machine(alloc),
+        tools,
+        &mut source,
+        output,
+    ) {
+        Ok(()) => End::Done,
+        Err(fault) => End::Refused(fault.number(), fault.status()),
+    }
+}
+
+fn run_text<A: Allocator + Copy, W: Sink>(
+    alloc: A,
+    text: &str,
+    certificate: &[u8],
+    events: &str,
+    tools: &Tools<A>,
+    output: &mut W,
+) -> End {
+    let program = match Program::read(alloc, &mut Device::new(text.as_bytes())) {
+        Ok(program) => program,
+        Err(fault) => return End::Unread(fault.number()),
+    };
+    let certificate = match Certificate::read(alloc, &mut Device::new(certificate)) {
+        Ok(certificate) => certificate,
+        Err(fault) => return End::Unread(fault.number()),
+    };
+    let machine = row_machine(alloc);
+    match run_program(
+        alloc,
+        &program,
+        &machine,
+        tools,
+        &certificate,
+        events.as_bytes(),
+        false,
+        output,
+    ) {
+        Ok(report) => End::Ran(report),
+        Err(fault) => End::Refused(fault.number(), fault.status()),
+    }
+}
+
+// What a job writes that is done.
+pub(super) fn written_by(rt: &impl Abort, alloc: Global, job: Job<'_>) -> Vec<u8> {
+    let mut output = Device::new(Vec::new(alloc));
+    assert_eq!(rt; job.attempt(alloc, &mut output), End::Done, "at {job:?}");
+    output.into_inner()
+}

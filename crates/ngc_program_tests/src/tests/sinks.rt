@@ -1,0 +1,103 @@
+//! Sinks that fail: what is written is a beginning.
+use super::jobs::{End, Job, PROGRAM, written_by};
+use super::runs::{SHORT_WAY_EVENTS, SHORT_WAY_LOG, certificate_of};
+use super::{RUN, SHORT_WAY, SomeFiles, Texts, on_the_mill, status_of};
+use ngc_fixed_length::{Device, DeviceFault, Sink};
+use ngc_simulator::Options;
+use std::alloc::Global;
+
+// Takes one byte a call, some calls long, and fails at the next.
+#[derive(Drop)]
+struct FailingSink {
+    taken: Vec<u8>,
+    calls_left: usize,
+    failures: u64,
+}
+
+impl FailingSink {
+    fn new(alloc: Global, calls: usize) -> FailingSink {
+        FailingSink {
+            taken: Vec::new(alloc),
+            calls_left: calls,
+            failures: 0,
+        }
+    }
+}
+
+impl Sink for FailingSink {
+    ghost use Rattle.std.specs.Prelude.{Some};
+
+    ghost written = { λ s. Some s.taken.items };
+
+    ghost failures = { λ s. s.failures };
+
+    fn push(&mut self, buf: &[u8]) -> Result<usize, DeviceFault> {
+        let Some(first) = buf.first() else {
+            return Ok(0);
+        };
+        if self.calls_left == 0 || self.taken.push(*first).is_err() {
+            self.failures = self.failures.saturating_add(1);
+            return Err(DeviceFault);
+        }
+        self.calls_left -= 1;
+        Ok(1)
+    }
+}
+
+#[test]
+fn outputs_that_break_off(rt: HostRuntime) {
+    let listing = b"0 1 traverse 1000000 0 0 grid 100 0 0\n1 2 end\n".as_slice();
+    let certificate = written_by(&rt, rt.alloc(), Job::Certify(PROGRAM));
+    let certificate = certificate.as_slice();
+    for (job, whole, counts) in [
+        (Job::List("G0 X1\nM2\n"), listing, 0..=listing.len()),
+        (Job::Certify(PROGRAM), certificate, 10..=10),
+        (Job::Check(PROGRAM, certificate), b"accepted\n", 3..=3),
+    ] {
+        for calls in counts {
+            let mut sink = FailingSink::new(rt.alloc(), calls);
+            let (ending, failures) = if calls == whole.len() {
+                (End::Done, 0)
+            } else {
+                (End::Refused(902, 1), 1)
+            };
+            assert_eq!(rt;
+                job.attempt(rt.alloc(), &mut sink),
+                ending,
+                "after {calls} calls of {job:?}"
+            );
+            assert_eq!(rt; sink.failures, failures, "after {calls} calls of {job:?}");
+            assert_eq!(rt; sink.taken.len(), calls, "at {job:?}");
+            assert!(rt;
+                whole.starts_with(sink.taken.as_slice()),
+                "after {calls} calls of {job:?}"
+            );
+        }
+    }
+}
+
+#[test]
+fn a_log_that_breaks_off(rt: HostRuntime) {
+    let certificate = certificate_of(&rt, rt.alloc(), SHORT_WAY);
+    let texts = Texts {
+        certificate: certificate.as_slice(),
+        events: SHORT_WAY_EVENTS.as_bytes(),
+        ..on_the_mill(SHORT_WAY)
+    };
+    let log = SHORT_WAY_LOG.as_bytes();
+    for calls in 0..=log.len() {
+        let mut files = SomeFiles { texts, failures: 0 };
+        let mut sink = FailingSink::new(rt.alloc(), calls);
+        let mut errors = Device::new(Vec::new(rt.alloc()));
+        let options = Options::Run(RUN);
+        let status = status_of(rt.alloc(), &options, &mut files, &mut sink, &mut errors);
+        let (expected, fault) = if calls == log.len() {
+            (0, "")
+        } else {
+            (1, "ngc: fault 902\n")
+        };
+        assert_eq!(rt; sink.taken.as_slice(), &log[..calls]);
+        assert_eq!(rt; errors.into_inner().as_slice(), fault.as_bytes());
+        assert_eq!(rt; status, expected, "after {calls} calls");
+    }
+}

@@ -1,0 +1,21 @@
+use ngc_fixed_length::Device;
+use ngc_output::Chunk;
+use std::test::Fail;
+
+#[test]
+fn collects_numbers_and_texts(rt: HostRuntime) -> Result<(), Fail> {
+    let mut chunk = Chunk::new();
+    let mut sink = Device::new(Vec::new(rt.alloc()));
+    chunk.make_room(&mut sink)?;
+    chunk.add_number(18_446_744_073_709_551_615u64);
+    chunk.add_text(b" ");
+    chunk.add_number(-9_223_372_036_854_775_808i64);
+    chunk.write_out(&mut sink)?;
+    chunk.add_text(b" 0");
+    chunk.write_out(&mut sink)?;
+    assert_eq!(rt;
+        sink.into_inner().as_slice(),
+        b"18446744073709551615 -9223372036854775808 0".as_slice()
+    );
+    Ok(())
+}

@@ -1,0 +1,345 @@
+use crate::checks::same;
+use arrayvec::ArrayVec;
+use ngc_fixed_length::{Distance, FeedMode, Plane, ReturnMode, System, Turn, Units, Value};
+use ngc_line_reader::read_line;
+use ngc_modal_state::{
+    ArcWords, AxisWords, Block, Coolant, CycleWords, Effect, Hole, Home, ModalFault, Modes, Motion,
+    PathControl, Spindle, Stopping, laws,
+};
+use ngc_parameters::{Store, Word};
+use std::alloc::Allocator;
+use std::test::Fail;
+
+// What words do in the modes at a program's start, but for the motion in force.
+fn effects_of(words: &[Word], motion: Motion) -> Result<ArrayVec<Effect, 24>, ModalFault> {
+    let modes = Modes {
+        motion,
+        ..Modes::start()
+    };
+    let block = Block::new(words)?;
+    let mut effects = ArrayVec::new();
+    effects.push(Effect::RestoreOffset);
+    block.effects(&modes, &mut effects)?;
+    Ok(effects)
+}
+
+// The number of the fault of a line in these modes, 0 where it has effects.
+fn number<A: Allocator>(store: &Store<A>, motion: Motion, text: &str) -> Result<u16, Fail> {
+    let line = read_line(text.as_bytes())?;
+    let (words, _changes) = store.words(&line)?;
+    match effects_of(words.as_slice(), motion) {
+        Ok(_) => Ok(0),
+        Err(fault) => Ok(fault.number()),
+    }
+}
+
+// Whether a line in these modes has these effects.
+fn does<A: Allocator>(
+    store: &Store<A>,
+    motion: Motion,
+    text: &str,
+    wanted: &[Effect],
+) -> Result<bool, Fail> {
+    let line = read_line(text.as_bytes())?;
+    let (words, _changes) = store.words(&line)?;
+    let effects = effects_of(words.as_slice(), motion)?;
+    Ok(effects.as_slice() == wanted)
+}
+
+// By the motion in force: lines, and the numbers of their faults, 0 where a line has effects.
+const FAULTS: &[(Motion, &[(&str, u16)])] = &[
+    (
+        Motion::Cancel,
+        &[
+            ("G0 X1 G1", 201),
+            ("G28 G92 X1", 201),
+            ("M7 M9", 201),
+            ("M9 M8", 201),
+            ("M7 M7", 201),
+            ("M7 M8", 0),
+            ("M0 M30", 201),
+            ("M3 M7 M48 M0 M6", 202),
+            ("M3 M7 M48 M0", 0),
+            ("G0 X1 X2", 203),
+            ("G5", 204),
+            ("G1.05", 204),
+            ("M10", 204),
+            ("G01", 0),
+            ("G[0+1]", 0),
+            ("G38.2", 205),
+            ("G41", 205),
+            ("G42", 205),
+            ("G84", 205),
+            ("G87", 205),
+            ("G88", 205),
+            ("A1", 205),
+            ("D1", 205),
+            ("G40", 0),
+            ("G0 G92 X1", 206),
+            ("G80 G92 X1", 0),
+            ("G4 P1 G82 X1 Z-1 R0", 206),
+            ("G2 X10 Y10 R10 I5", 206),
+            ("G80 X1", 207),
+            ("X1", 207),
+            ("G2 X10 Y0 K5", 207),
+            ("G19 G2 Y10 I5", 207),
+            ("G19 G2 Y10 J5", 0),
+            ("G1 X1 R2", 207),
+            ("G64 P1", 207),
+            ("G0 L1", 207),
+            ("G81 X1 Z-1 R0 Q1", 207),
+            ("G49 H1", 207),
+            ("G4", 208),
+            ("G43", 208),
+            ("G10 L2 X1", 208),
+            ("G10 P1 X1", 208),
+            ("G92", 208),
+            ("G0 G53", 208),
+            ("G93 G1 X1", 208),
+            ("G93 G0 X1", 0),
+            ("G93 G1", 0),
+            ("G81 R1", 208),
+            ("G81 X1 Z-1", 208),
+            ("G81 X1 R0", 208),
+            ("G82 X1 Z-1 R0", 208),
+            ("G83 X1 Z-1 R0", 208),
+            ("G18 G81 X1 Z-1 R0", 208),
+            ("G4 P-1", 209),
+            ("F-1", 209),
+            ("S-1", 209),
+            ("T1.5", 209),
+            ("T-1", 209),
+            ("T0", 0),
+            ("G43 H0.5", 209),
+            ("G10 L3 P1", 209),
+            ("G10 L2 P0", 209),
+            ("G10 L2 P10", 209),
+            ("G10 L2 P9", 0),
+            ("G53 X1", 210),
+            ("G53 X1 Q1", 210),
+            ("G53 X1 G0", 0),
+            ("G53 X1 X1", 203),
+            ("G0 G92 X1 Q1", 206),
+            ("G4 Q1", 207),
+            ("G4 F-1", 208),
+        ],
+    ),
+    (
+        Motion::Cycle(Hole::DrillWithDwell),
+        &[("G4 P1 X1", 206), ("G4 P1", 0)],
+    ),
+    (
+        Motion::Cycle(Hole::Peck),
+        &[
+            ("R1", 207),
+            ("X1 R1 Q1 L2", 0),
+            ("G83 X1", 0),
+            ("G81 X1", 208),
+        ],
+    ),
+];
+
+#[test]
+fn faults_of_lines(rt: HostRuntime) -> Result<(), Fail> {
+    let store = Store::new(rt.alloc())?;
+    for (motion, lines) in FAULTS {
+        for (text, wanted) in *lines {
+            same(&rt, text, &number(&store, *motion, text)?, wanted);
+        }
+    }
+    Ok(())
+}
+
+fn value(millionths: i128) -> Value {
+    Value::from_millionths(millionths).unwrap_or(Value::zero())
+}
+
+fn no_axes() -> AxisWords {
+    AxisWords {
+        x: None,
+        y: None,
+        z: None,
+    }
+}
+
+// X alone.
+fn on_x(millionths: i128) -> AxisWords {
+    AxisWords {
+        x: Some(value(millionths)),
+        ..no_axes()
+    }
+}
+
+// X and Z.
+fn on_xz(x: i128, z: i128) -> AxisWords {
+    AxisWords {
+        z: Some(value(z)),
+        ..on_x(x)
+    }
+}
+
+// I alone.
+fn on_i(millionths: i128) -> ArcWords {
+    ArcWords {
+        i: Some(value(millionths)),
+        j: None,
+        k: None,
+        r: None,
+    }
+}
+
+#[test]
+fn order_of_execution(rt: HostRuntime) -> Result<(), Fail> {
+    let store = Store::new(rt.alloc())?;
+    let stopping = [
+        Effect::Feed {
+            value: value(60_000_000),
+            units: Units::Millimetres,
+        },
+        Effect::Speed(value(1_000_000_000)),
+        Effect::Spindle(Spindle::Start(Turn::Clockwise)),
+        Effect::Motion(Motion::Straight),
+        Effect::Straight {
+            machine: false,
+            axes: on_x(1_000_000),
+            inverse: None,
+        },
+        Effect::Stopping(Stopping::Stop),
+    ];
+    let in_inches = [
+        Effect::Feed {
+            value: value(1_000_000),
+            units: Units::Inches,
+        },
+        Effect::Units(Units::Inches),
+        Effect::Motion(Motion::Straight),
+        Effect::Straight {
+            machine: false,
+            axes: on_x(1_000_000),
+            inverse: None,
+        },
+    ];
+    let with_a_tool = [
+        Effect::SelectTool(3),
+        Effect::ChangeTool,
+        Effect::Coolant(Coolant::Mist),
+        Effect::Coolant(Coolant::Flood),
+        Effect::Override(true),
+    ];
+    let modes = [
+        Effect::FeedMode(FeedMode::PerMinute),
+        Effect::Plane(Plane::ZX),
+        Effect::Units(Units::Millimetres),
+        Effect::RadiusOff,
+        Effect::ToolLength(None),
+        Effect::System(System::Ninth),
+        Effect::Path(PathControl::ExactStop),
+        Effect::Distance(Distance::Incremental),
+        Effect::Return(ReturnMode::Retract),
+    ];
+    let arc = [
+        Effect::FeedMode(FeedMode::InverseTime),
+        Effect::Motion(Motion::Arc(Turn::Counterclockwise)),
+        Effect::Arc {
+            turn: Turn::Counterclockwise,
+            axes: on_x(10_000_000),
+            words: on_i(5_000_000),
+            inverse: Some(value(2_000_000)),
+        },
+    ];
+    let traverse = [
+        Effect::Motion(Motion::Traverse),
+        Effect::Traverse {
+            machine: true,
+            axes: on_x(10_000_000),
+        },
+    ];
+    let cycle = [
+        Effect::Feed {
+            value: value(60_000_000),
+            units: Units::Millimetres,
+        },
+        Effect::Distance(Distance::Incremental),
+        Effect::Motion(Motion::Cycle(Hole::Drill)),
+        Effect::Cycle {
+            hole: Hole::Drill,
+            axes: on_xz(1_000_000, -2_000_000),
+            words: CycleWords {
+                l: Some(value(3_000_000)),
+                p: None,
+                q: None,
+                r: Some(value(-1_000_000)),
+            },
+        },
+    ];
+    for (text, wanted) in [
+        ("M0 X1 G1 F60 M3 S1000", stopping.as_slice()),
+        ("G20 F1 G1 X1", in_inches.as_slice()),
+        ("M48 M8 M7 T3 M6", with_a_tool.as_slice()),
+        ("G99 G91 G61.1 G59.3 G49 G40 G21 G18 G94", modes.as_slice()),
+        ("G93 G3 X10 I5 F2", arc.as_slice()),
+        ("G0 G53 X10", traverse.as_slice()),
+        ("G91 G81 X1 Z-2 R-1 F60 L3", cycle.as_slice()),
+    ] {
+        same(
+            &rt,
+            &text,
+            &does(&store, Motion::Cancel, text, wanted)?,
+            &true,
+        );
+    }
+    Ok(())
+}
+
+#[test]
+fn single_effects(rt: HostRuntime) -> Result<(), Fail> {
+    let store = Store::new(rt.alloc())?;
+    let xz = on_xz(1_000_000, -2_000_000);
+    let arc = Effect::Arc {
+        turn: Turn::Clockwise,
+        axes: no_axes(),
+        words: on_i(5_000_000),
+        inverse: None,
+    };
+    let home = Effect::GoHome {
+        home: Home::First,
+        axes: on_x(10_000_000),
+    };
+    let origin = Effect::SetOrigin {
+        system: System::Second,
+        axes: xz,
+    };
+    let home_again = Effect::GoHome {
+        home: Home::Second,
+        axes: no_axes(),
+    };
+    let in_arc = Motion::Arc(Turn::Clockwise);
+    for (motion, text, wanted) in [
+        (in_arc, "I5", arc),
+        (Motion::Cancel, "G2", Effect::Motion(in_arc)),
+        (in_arc, "G28 X10", home),
+        (in_arc, "G30", home_again),
+        (Motion::Cancel, "G10 L2 P2 X1 Z-2", origin),
+        (Motion::Cancel, "G92 X1 Z-2", Effect::SetOffset(xz)),
+        (Motion::Cancel, "G92.1", Effect::ClearOffset),
+        (Motion::Cancel, "G92.2", Effect::SuspendOffset),
+        (Motion::Cancel, "G92.3", Effect::RestoreOffset),
+        (Motion::Cancel, "G43 H1", Effect::ToolLength(Some(1))),
+        (Motion::Cancel, "G4 P0.5", Effect::Dwell(value(500_000))),
+    ] {
+        same(&rt, &text, &does(&store, motion, text, &[wanted])?, &true);
+    }
+    Ok(())
+}
+
+#[test]
+fn laws_and_texts(rt: HostRuntime) -> Result<(), Fail> {
+    laws::order_of_execution();
+    laws::few_effects();
+    let text = format!(in rt.alloc(); "{}", ModalFault::WordMissing)?;
+    assert_eq!(rt;
+        text.as_str(),
+        "a word that a code on the line needs is missing"
+    );
+    Ok(())
+}

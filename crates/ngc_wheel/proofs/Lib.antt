@@ -1,0 +1,16 @@
+pub mod Rim
+pub mod Rays
+pub mod NearEnd
+pub mod Columns
+pub mod Progress
+pub mod Joins
+pub mod Entry
+pub mod Band
+pub mod Short
+pub mod Turns
+pub mod Between
+pub mod Rolling
+pub mod OverAxis
+pub mod OneRoll
+pub mod Wheeling
+pub mod CircleLaws
