@@ -8,6 +8,7 @@ pub mod Planes
 pub mod ChordLemmas
 pub mod CentreLemmas
 pub mod CentreRange
+pub mod FormatRadii
 pub mod Machine
 pub mod Steps
 pub mod ArcLemmas

@@ -45,9 +45,17 @@ with_equal_radii t a =
 abbrev pub HasRadiiInRange : ArcShape → Type 0
 HasRadiiInRange a = lo a + hi a ≤ 2 * (2000006000 * 2000006000)
 
--- what both formats give: the greater radius is at most 2*10^9 nm, but for the centre's rounding and the tolerance
+-- what both formats give: the greater radius is at most 2*10^9 nm, but for the centre's rounding and the tolerance, and it is
+-- above the lesser by at most the tolerance and what whole roots add
 pub record IsArc (a : ArcShape) : Type 0 where
   pub start : IsNear a.start
   pub end : IsNear a.end
   pub some_radius : 0 < lo a
   pub radius : hi a ≤ 2000020000 * 2000020000
+  pub even : outer_radius a ≤ inner_radius a + 6000
+
+-- what both formats give of the radii: the lesser above 0, the greater at most a little over 2*10^9 nm, and nearly equal
+pub record HasEvenRadii (a : ArcShape) : Type 0 where
+  pub some_radius : 0 < lo a
+  pub radius : hi a ≤ 2000020000 * 2000020000
+  pub even : outer_radius a ≤ inner_radius a + 6000

@@ -39,7 +39,7 @@ impl Model for Arc {
 
 impl Arc {
     ghost use Rattle.ngc_arc_geometry.specs.Shape.{IsNear};
-    ghost use Rattle.ngc_arc_geometry.specs.Radii.{lo, hi, inner_radius, outer_radius, with_equal_radii, HasRadiiInRange};
+    ghost use Rattle.ngc_arc_geometry.specs.Radii.{lo, hi, inner_radius, outer_radius, with_equal_radii, HasRadiiInRange, IsArc};
     ghost use Rattle.ngc_arc_geometry.specs.Centre.{IsEnds, arc_about, centre_format, radius_format};
 
     /// The arc in centre format: I, J and K lead from its start to its centre (NISTIR 6556, 3.5.3.2). Where the end lies in
@@ -155,6 +155,7 @@ impl Arc {
         ensures value { result ≡ self.now.centre }
         ensures u { unsigned_abs result.u ≤ 93 * 10 ^ 9 }
         ensures v { unsigned_abs result.v ≤ 93 * 10 ^ 9 }
+        ensures arc { IsArc self.now }
     {
         self.centre
     }

@@ -15,7 +15,7 @@ use Rattle.ngc_arc_geometry.specs.ArcOrder.{Passes, GoesOn}
 use Rattle.ngc_arc_walk.specs.Placed.{placed}
 use Rattle.ngc_arc_walk.proofs.Crosses.{dot_placed}
 use Rattle.ngc_arc_walk.proofs.Walks.{walk_in_sector, walk_goes_on}
-use Rattle.ngc_arc_walk.proofs.Passing.{IsCircuit, below_on, above_on, walk_passes}
+use Rattle.ngc_arc_walk.proofs.Circuit.{IsCircuit, below_on, above_on, walk_passes}
 
 if_at_least : (t : Bool) (m n k : ℕ) → k ≤ m → k ≤ n → k ≤ (if t then m else n)
 if_at_least true m n k hm hn = hm

@@ -1,171 +1,36 @@
 -- A walk comes by the quadrant points of its arc, one after the other.
-use Rattle.std.proofs.Common.{◌≡◌, ℕ, zero, suc, ◌+◌, ◌-◌, ◌*◌, ◌<◌, ◌≤◌, min, ℤ, pos, ◌+ℤ◌, ◌-ℤ◌, ◌*ℤ◌, neg_ℤ, unsigned_abs, ◌⊎◌, inl, inr, refl, sym, ◌∙◌, ap, subst, arith}
+use Rattle.std.proofs.Common.{◌≡◌, ℕ, zero, suc, ◌+◌, ◌-◌, ◌<◌, ◌≤◌, min, ◌⊎◌, inl, inr, sym, ◌∙◌, ap, subst, arith}
 use Rattle.std.proofs.lemmas.Bool.{cases_lt}
-use Rattle.std.proofs.lemmas.Int.{ints}
-use Rattle.std.proofs.Math.Nat.{mul-le-mul_left}
-use borrow.Author.Differences.{neg_is}
-use Rattle.ngc_fixed_length.specs.Places.{shifted}
-use Rattle.ngc_fixed_length.specs.declared.modes.Turn.{Turn}
-use Rattle.ngc_fixed_length.specs.declared.modes.Turn.TheVariants.{Clockwise, Counterclockwise}
-use Rattle.ngc_fixed_length.specs.declared.points.Point2.{Point2}
 use Rattle.ngc_wheel.specs.declared.spoke.Quadrant.{Quadrant}
-use Rattle.ngc_wheel.specs.declared.spoke.Quadrant.TheVariants.{First, Second, Third, Fourth}
 use Rattle.ngc_wheel.specs.declared.spoke.Roll.{Roll}
 use Rattle.ngc_wheel.specs.declared.spoke.Roll.TheVariants.{Outward, Diagonal, Inward, Over}
 use Rattle.ngc_wheel.specs.declared.spoke.Spoke.{Spoke}
 use Rattle.ngc_wheel.specs.Wheel.{rolled, IsRoll}
 use Rattle.ngc_wheel.specs.Quadrants.{following}
-use Rattle.ngc_wheel.specs.Around.{around}
-use Rattle.ngc_wheel.specs.Bounds.{IsBelow, IsAbove}
-use Rattle.ngc_wheel.proofs.Rays.{square_le}
-use Rattle.ngc_wheel.proofs.NearEnd.{IsRim, limit_of}
 use Rattle.ngc_wheel.specs.Rolling.{quadrants_of, IsRolling}
-use Rattle.ngc_wheel.proofs.Rolling.{all_below, all_above}
-use Rattle.ngc_wheel.proofs.OverAxis.{by_axis_point}
 use Rattle.ngc_arc_geometry.specs.Shape.{ArcShape}
-use Rattle.ngc_arc_geometry.specs.Radii.{squared_distance, inner_radius, outer_radius}
+use Rattle.ngc_arc_geometry.specs.Radii.{outer_radius}
 use Rattle.ngc_arc_geometry.specs.Sector.{extremes}
-use Rattle.ngc_arc_geometry.specs.ArcBand.{spread, IsWithin}
+use Rattle.ngc_arc_geometry.specs.ArcBand.{IsWithin}
 use Rattle.ngc_arc_geometry.specs.ArcOrder.{Passes}
-use Rattle.ngc_arc_geometry.proofs.Squares.{square_sum}
-use Rattle.ngc_arc_walk.specs.Placed.{mirrored, placed, turned_by, axis_points, first_axis}
-use Rattle.ngc_arc_walk.proofs.Crosses.{same_axis}
+use Rattle.ngc_arc_walk.specs.Placed.{placed, turned_by, axis_points, first_axis}
 use Rattle.ngc_arc_walk.proofs.Sectors.{turned_sum}
 use Rattle.ngc_arc_walk.proofs.Walks.{quadrant_on}
 use Rattle.ngc_arc_walk.specs.ArcWalk.{IsWalk}
 use Rattle.ngc_arc_walk.proofs.Axes.{extremes_are}
 use Rattle.ngc_arc_walk.specs.Round.{IsRound}
 
--- ---- how far apart two points of one quadrant are
-
-abbrev gap : ℕ → ℕ → ℕ
-gap x z = unsigned_abs (pos z -ℤ pos x)
-
-squares : (p q : ℤ) (m n : ℕ) → unsigned_abs p ≡ m → unsigned_abs q ≡ n → unsigned_abs ((p *ℤ p) +ℤ (q *ℤ q)) ≡ m * m + n * n
-squares p q m n hp hq = square_sum p q ∙ ap (λ t. t * t + unsigned_abs q * unsigned_abs q) hp ∙ ap (λ t. m * m + t * t) hq
-
-placed_apart : (t : Turn) (c d e : Point2) → squared_distance (shifted c (mirrored t d)) (shifted c (mirrored t e)) ≡ unsigned_abs (e.u -ℤ d.u) * unsigned_abs (e.u -ℤ d.u) + unsigned_abs (e.v -ℤ d.v) * unsigned_abs (e.v -ℤ d.v)
-placed_apart Counterclockwise c d e =
-    squares ((c.u +ℤ e.u) -ℤ (c.u +ℤ d.u)) ((c.v +ℤ e.v) -ℤ (c.v +ℤ d.v)) (unsigned_abs (e.u -ℤ d.u)) (unsigned_abs (e.v -ℤ d.v)) (omega (arith, ints)) (omega (arith, ints))
-placed_apart Clockwise c d e =
-    let f = neg_is d.v in
-    let g = neg_is e.v in
-    squares ((c.u +ℤ e.u) -ℤ (c.u +ℤ d.u)) ((c.v +ℤ neg_ℤ e.v) -ℤ (c.v +ℤ neg_ℤ d.v)) (unsigned_abs (e.u -ℤ d.u)) (unsigned_abs (e.v -ℤ d.v)) (omega (arith, ints)) (omega (arith, ints, f.0, f.1, g.0, g.1))
-
-two_squares : (p q : ℤ) (m n : ℕ) → unsigned_abs p ≡ m → unsigned_abs q ≡ n → unsigned_abs p * unsigned_abs p + unsigned_abs q * unsigned_abs q ≡ m * m + n * n
-two_squares p q m n hp hq = ap (λ t. t * t + unsigned_abs q * unsigned_abs q) hp ∙ ap (λ t. m * m + t * t) hq
-
-around_apart : (q : Quadrant) (x y z w : ℕ) → (let d = around q x y in let e = around q z w in
-    unsigned_abs (e.u -ℤ d.u) * unsigned_abs (e.u -ℤ d.u) + unsigned_abs (e.v -ℤ d.v) * unsigned_abs (e.v -ℤ d.v)) ≡ gap x z * gap x z + gap y w * gap y w
-around_apart First x y z w = refl
-around_apart Second x y z w =
-    let f = neg_is (pos y) in let g = neg_is (pos w) in
-    two_squares (neg_ℤ (pos w) -ℤ neg_ℤ (pos y)) (pos z -ℤ pos x) (gap y w) (gap x z) (omega (arith, ints, f.0, f.1, g.0, g.1)) refl ∙ omega arith
-around_apart Third x y z w =
-    let f = neg_is (pos y) in let g = neg_is (pos w) in let h = neg_is (pos x) in let i = neg_is (pos z) in
-    two_squares (neg_ℤ (pos z) -ℤ neg_ℤ (pos x)) (neg_ℤ (pos w) -ℤ neg_ℤ (pos y)) (gap x z) (gap y w) (omega (arith, ints, h.0, h.1, i.0, i.1)) (omega (arith, ints, f.0, f.1, g.0, g.1))
-around_apart Fourth x y z w =
-    let h = neg_is (pos x) in let i = neg_is (pos z) in
-    two_squares (pos w -ℤ pos y) (neg_ℤ (pos z) -ℤ neg_ℤ (pos x)) (gap y w) (gap x z) refl (omega (arith, ints, h.0, h.1, i.0, i.1)) ∙ omega arith
-
-pub spokes_apart : (a : ArcShape) (s : Spoke) (z w : ℕ) → squared_distance (placed a s) (placed a (record { quadrant = s.quadrant; x = z; y = w })) ≡ gap s.x z * gap s.x z + gap s.y w * gap s.y w
-spokes_apart a s z w = placed_apart a.turn a.centre (around s.quadrant s.x s.y) (around s.quadrant z w) ∙ around_apart s.quadrant s.x s.y z w
-
--- ---- near an axis a point is at most a step farther in or out than the radius of its wheel
-
-pub along_axis : (g q h k l v x y : ℕ) → IsRim g q h k l v → v * v ≤ x * x + y * y + g * g → x * x + y * y ≤ limit_of q l + g * g → y ≤ g → (q + 1 ≤ x + g) × (x ≤ q + 1 + g)
-along_axis g q h k l v x y r above below near =
-    let m = g - l in
-    let em : m + l ≡ g = omega (arith, r.l_high) in
-    let wide : g ≤ 5 * m = omega (arith, r.l_high, em) in
-    let yy = square_le y g near in
-    let gg = mul-le-mul_left g r.step in (
-      elim (cases_lt (x + g) (q + 1)) [
-        | inr fine ↦ fine
-        | inl short ↦ (
-            let t = q + 1 - g in
-            let et : t + g ≡ q + 1 = omega (arith, short) in
-            let ev : v ≡ t + m = omega (arith, et, em, r.inner) in
-            let vv : v * v ≡ (t + m) * (t + m) = rw ev refl in
-            let xx = square_le x t (omega (arith, short, et)) in
-            let a = mul-le-mul_left t wide in
-            let b : 7 * g ≤ t = omega (arith, et, r.far) in
-            let c = mul-le-mul_left g b in
-            absurd (omega (arith, above, vv, xx, yy, a, c, gg)))
-      ],
-      elim (cases_lt (q + 1 + g) x) [
-        | inr fine ↦ fine
-        | inl long ↦ (
-            let xx = square_le (q + 1 + g) x (omega (arith, long)) in
-            let far : (q + 1 + g) * (q + 1 + g) ≡ (q + 1 + l + m) * (q + 1 + l + m) = (let e : q + 1 + g ≡ q + 1 + l + m = omega (arith, em) in rw e refl) in
-            let a = mul-le-mul_left (q + 1) wide in
-            let c = mul-le-mul_left g r.far in
-            absurd (omega (arith, below, xx, far, a, c, gg)))
-      ],
-    )
-
--- ---- a walk near its circle
-
--- what the two bounds of a wheel ask of its limit
-limit_grows : (g q h k l v : ℕ) → IsRim g q h k l v → limit_of q h ≤ limit_of q l
-limit_grows g q h k l v r = square_le (q + 1 + h) (q + 1 + l) (omega (arith, r.h_high, r.l_low, r.step))
-
-limit_inside : (g q h k l v : ℕ) → IsRim g q h k l v → (v + g) * (v + g) ≤ limit_of q h
-limit_inside g q h k l v r = square_le (v + g) (q + 1 + h) (omega (arith, r.inner, r.h_low, r.l_low))
-
-wide_limit : (g q h k l v : ℕ) → IsRim g q h k l v → 2 * (g * g) ≤ limit_of q h
-wide_limit g q h k l v r = let a = square_le (2 * g) (q + 1 + h) (omega (arith, r.far)) in omega (arith, a)
-
-wide_inside : (g q h k l v : ℕ) → IsRim g q h k l v → 2 * (g * g) ≤ v * v
-wide_inside g q h k l v r = let a = square_le (2 * g) v (omega (arith, r.far, r.inner, r.l_high)) in omega (arith, a)
-
--- A walk whose first point lies near the circle of radius q + 1, which lies between the arc's two radii. A half axis that it begins
--- on or past, but that isn't behind the start, is less than a step behind its first point. It ends in the quadrant of the arc's end, or
--- where the next move leads over the axis into that one.
-pub record IsCircuit (a : ArcShape) (g q h k l v n : ℕ) (at : ℕ → Spoke) (quadrant : ℕ → ℕ) (b e : Spoke) (begun left : ℕ) : Type 0 where
-  pub walk : IsWalk a g (limit_of q h) n at quadrant b e begun left
-  pub rim : IsRim g q h k l v
-  pub below : IsBelow g (limit_of q l) (at 0)
-  pub above : IsAbove g v (at 0)
-  pub inside : inner_radius a ≤ q + 1
-  pub outside : q + 1 ≤ outer_radius a
+-- A walk that comes within d of a half axis' quadrant point where it is at most a step before or behind that axis. A half axis that it
+-- begins on or past, but that isn't behind the start, is less than a step behind its first point. It ends in the quadrant of the arc's
+-- end, or where the next move leads over the axis into that one.
+pub record IsPassing (a : ArcShape) (g limit d n : ℕ) (at : ℕ → Spoke) (quadrant : ℕ → ℕ) (b e : Spoke) (begun left : ℕ) : Type 0 where
+  pub walk : IsWalk a g limit n at quadrant b e begun left
+  pub behind : (i : ℕ) → i ≤ n → (at i).y ≤ g → IsWithin d (placed a (at i)) (placed a (record { quadrant = (at i).quadrant; x = outer_radius a; y = 0 }))
+  pub before : (i : ℕ) → i ≤ n → (at i).x ≤ g → IsWithin d (placed a (at i)) (placed a (record { quadrant = following (at i).quadrant; x = outer_radius a; y = 0 }))
+  pub some_radius : 0 < outer_radius a
   pub soon : begun ≤ first_axis b.y
   pub beside : first_axis b.y ≤ begun → (at 0).y ≤ g
   pub ends : (quadrant n ≡ left) ⊎ ((quadrant n + 1 ≡ left) × ((at n).x < g))
-
-pub below_on : (a : ArcShape) (g q h k l v n : ℕ) (at : ℕ → Spoke) (quadrant : ℕ → ℕ) (b e : Spoke) (begun left i : ℕ) → IsCircuit a g q h k l v n at quadrant b e begun left → i ≤ n → IsBelow g (limit_of q l) (at i)
-below_on a g q h k l v n at quadrant b e begun left i c le =
-    let more = limit_grows g q h k l v c.rim in
-    all_below g (limit_of q h) (limit_of q l) n at quadrant i c.walk.rolling more (omega (arith, more, wide_limit g q h k l v c.rim)) c.below le
-
-pub above_on : (a : ArcShape) (g q h k l v n : ℕ) (at : ℕ → Spoke) (quadrant : ℕ → ℕ) (b e : Spoke) (begun left i : ℕ) → IsCircuit a g q h k l v n at quadrant b e begun left → i ≤ n → IsAbove g v (at i)
-above_on a g q h k l v n at quadrant b e begun left i c le =
-    all_above g v (limit_of q h) n at quadrant i c.walk.rolling (limit_inside g q h k l v c.rim) (wide_inside g q h k l v c.rim) c.above le
-
-gap_up : (x z d : ℕ) → x ≤ z + d → z ≤ x + d → gap x z ≤ d
-gap_up x z d hx hz = omega (arith, ints, hx, hz)
-
--- a point at most a step behind an axis is near the axis' quadrant point, and one at most a step before it
-pub by_first : (a : ArcShape) (s : Spoke) (g q h k l v d : ℕ) → IsRim g q h k l v → IsBelow g (limit_of q l) s → IsAbove g v s → inner_radius a ≤ q + 1 → q + 1 ≤ outer_radius a →
-    spread a + 2 * g ≤ d → s.y ≤ g → IsWithin d (placed a s) (placed a (record { quadrant = s.quadrant; x = outer_radius a; y = 0 }))
-by_first a s g q h k l v d r below above inside outside wide near =
-    let along = along_axis g q h k l v s.x s.y r above.all below.all near in
-    let aside : gap s.y 0 ≤ g = gap_up s.y 0 g (omega (arith, near)) (omega arith) in
-    let off : gap s.x (outer_radius a) ≤ spread a + g = gap_up s.x (outer_radius a) (spread a + g) (omega (arith, along.1, outside)) (omega (arith, along.0, inside)) in
-    let m = by_axis_point g (gap s.y 0) (gap s.x (outer_radius a)) (spread a) aside off in
-    let w = square_le (spread a + 2 * g) d wide in
-    subst (λ t. t ≤ d * d) (sym (spokes_apart a s (outer_radius a) 0)) (omega (arith, m, w))
-
-pub by_second : (a : ArcShape) (s : Spoke) (g q h k l v d : ℕ) → IsRim g q h k l v → IsBelow g (limit_of q l) s → IsAbove g v s → inner_radius a ≤ q + 1 → q + 1 ≤ outer_radius a →
-    spread a + 2 * g ≤ d → s.x ≤ g → IsWithin d (placed a s) (placed a (record { quadrant = following s.quadrant; x = outer_radius a; y = 0 }))
-by_second a s g q h k l v d r below above inside outside wide near =
-    let along = along_axis g q h k l v s.y s.x r (omega (arith, above.all)) (omega (arith, below.all)) near in
-    let aside : gap s.x 0 ≤ g = gap_up s.x 0 g (omega (arith, near)) (omega arith) in
-    let off : gap s.y (outer_radius a) ≤ spread a + g = gap_up s.y (outer_radius a) (spread a + g) (omega (arith, along.1, outside)) (omega (arith, along.0, inside)) in
-    let m = by_axis_point g (gap s.x 0) (gap s.y (outer_radius a)) (spread a) aside off in
-    let w = square_le (spread a + 2 * g) d wide in
-    let far : squared_distance (placed a s) (placed a (record { quadrant = s.quadrant; x = 0; y = outer_radius a })) ≤ d * d = subst (λ t. t ≤ d * d) (sym (spokes_apart a s 0 (outer_radius a))) (omega (arith, m, w)) in
-    subst (λ (p : Point2). squared_distance (placed a s) (shifted a.centre (mirrored a.turn p)) ≤ d * d) (same_axis s.quadrant (outer_radius a)) far
 
 -- ---- places
 
@@ -222,70 +87,70 @@ first_place g limit n at quadrant (suc m) j way le some more =
 -- ---- the quadrant points
 
 -- from place i on, which lies before the j-th axis
-passes_from : (a : ArcShape) (g q h k l v n : ℕ) (at : ℕ → Spoke) (quadrant : ℕ → ℕ) (b e : Spoke) (begun left d : ℕ) → IsCircuit a g q h k l v n at quadrant b e begun left →
-    spread a + 2 * g ≤ d → (c j i : ℕ) → i ≤ n → begun + quadrant i < j → j + c ≤ begun + left + 1 →
+passes_from : (a : ArcShape) (g limit d n : ℕ) (at : ℕ → Spoke) (quadrant : ℕ → ℕ) (b e : Spoke) (begun left : ℕ) → IsPassing a g limit d n at quadrant b e begun left →
+    (c j i : ℕ) → i ≤ n → begun + quadrant i < j → j + c ≤ begun + left + 1 →
     Passes (λ k. placed a (at k)) n d i (axis_points a b (outer_radius a) j c)
-passes_from a g q h k l v n at quadrant b e begun left d w wide zero j i le before few = tt
-passes_from a g q h k l v n at quadrant b e begun left d w wide (suc c) j i le before few =
+passes_from a g limit d n at quadrant b e begun left w zero j i le before few = tt
+passes_from a g limit d n at quadrant b e begun left w (suc c) j i le before few =
     let way = w.walk.rolling in
     elim (cases_lt (begun + quadrant n) j) [
       | inr reached ↦ (
-          let f = first_place g (limit_of q h) n at quadrant n (j - begun) way (omega arith) (omega (arith, before)) (omega (arith, reached)) in
+          let f = first_place g limit n at quadrant n (j - begun) way (omega arith) (omega (arith, before)) (omega (arith, reached)) in
           let count : begun + quadrant f.0 ≡ j = omega (arith, f.2, before) in
-          let order = in_order g (limit_of q h) n at quadrant i f.0 way le (omega (arith, before, count)) in
+          let order = in_order g limit n at quadrant i f.0 way le (omega (arith, before, count)) in
           let there : (at f.0).quadrant ≡ turned_by j b.quadrant =
-          quadrant_on g (limit_of q h) n at quadrant f.0 way f.1 ∙ ap (turned_by (quadrant f.0)) w.walk.begins ∙ turned_sum begun (quadrant f.0) b.quadrant ∙ ap (λ m. turned_by m b.quadrant) count in
-          let near = by_first a (at f.0) g q h k l v d w.rim (below_on a g q h k l v n at quadrant b e begun left f.0 w f.1) (above_on a g q h k l v n at quadrant b e begun left f.0 w f.1) w.inside w.outside wide f.3 in
-          let rest = passes_from a g q h k l v n at quadrant b e begun left d w wide c (suc j) f.0 f.1 (omega (arith, count)) (omega (arith, few)) in
+          quadrant_on g limit n at quadrant f.0 way f.1 ∙ ap (turned_by (quadrant f.0)) w.walk.begins ∙ turned_sum begun (quadrant f.0) b.quadrant ∙ ap (λ m. turned_by m b.quadrant) count in
+          let near = w.behind f.0 f.1 f.3 in
+          let rest = passes_from a g limit d n at quadrant b e begun left w c (suc j) f.0 f.1 (omega (arith, count)) (omega (arith, few)) in
           (f.0, order, f.1, subst (λ (z : Quadrant). IsWithin d (placed a (at f.0)) (placed a (record { quadrant = z; x = outer_radius a; y = 0 }))) there near, rest))
       | inl beyond ↦ elim w.ends [
         | inl done ↦ absurd (omega (arith, done, beyond, few))
         | inr last ↦ (
             let count : suc (begun + quadrant n) ≡ j = omega (arith, last.0, beyond, few) in
             let here : (at n).quadrant ≡ turned_by (begun + quadrant n) b.quadrant =
-            quadrant_on g (limit_of q h) n at quadrant n way (omega arith) ∙ ap (turned_by (quadrant n)) w.walk.begins ∙ turned_sum begun (quadrant n) b.quadrant in
+            quadrant_on g limit n at quadrant n way (omega arith) ∙ ap (turned_by (quadrant n)) w.walk.begins ∙ turned_sum begun (quadrant n) b.quadrant in
             let there : following (at n).quadrant ≡ turned_by j b.quadrant = ap following here ∙ ap (λ m. turned_by m b.quadrant) count in
-            let near = by_second a (at n) g q h k l v d w.rim (below_on a g q h k l v n at quadrant b e begun left n w (omega arith)) (above_on a g q h k l v n at quadrant b e begun left n w (omega arith)) w.inside w.outside wide (omega (arith, last.1)) in
-            let rest = passes_from a g q h k l v n at quadrant b e begun left d w wide c (suc j) n (omega arith) (omega (arith, beyond)) (omega (arith, few)) in
+            let near = w.before n (omega arith) (omega (arith, last.1)) in
+            let rest = passes_from a g limit d n at quadrant b e begun left w c (suc j) n (omega arith) (omega (arith, beyond)) (omega (arith, few)) in
             (n, le, omega arith, subst (λ (z : Quadrant). IsWithin d (placed a (at n)) (placed a (record { quadrant = z; x = outer_radius a; y = 0 }))) there near, rest))
       ]
     ]
 
 -- from the start, with the axis that it begins on or past
-passes_all : (a : ArcShape) (g q h k l v n : ℕ) (at : ℕ → Spoke) (quadrant : ℕ → ℕ) (b e : Spoke) (begun left d : ℕ) → IsCircuit a g q h k l v n at quadrant b e begun left →
-    spread a + 2 * g ≤ d → (c : ℕ) → first_axis b.y + c ≤ begun + left + 1 → Passes (λ k. placed a (at k)) n d 0 (axis_points a b (outer_radius a) (first_axis b.y) c)
-passes_all a g q h k l v n at quadrant b e begun left d w wide zero few = tt
-passes_all a g q h k l v n at quadrant b e begun left d w wide (suc c) few =
+passes_all : (a : ArcShape) (g limit d n : ℕ) (at : ℕ → Spoke) (quadrant : ℕ → ℕ) (b e : Spoke) (begun left : ℕ) → IsPassing a g limit d n at quadrant b e begun left →
+    (c : ℕ) → first_axis b.y + c ≤ begun + left + 1 → Passes (λ k. placed a (at k)) n d 0 (axis_points a b (outer_radius a) (first_axis b.y) c)
+passes_all a g limit d n at quadrant b e begun left w zero few = tt
+passes_all a g limit d n at quadrant b e begun left w (suc c) few =
     let starts = w.walk.rolling.starts in
     elim (cases_lt begun (first_axis b.y)) [
-      | inl before ↦ passes_from a g q h k l v n at quadrant b e begun left d w wide (suc c) (first_axis b.y) 0 (omega arith) (omega (arith, starts, before)) few
+      | inl before ↦ passes_from a g limit d n at quadrant b e begun left w (suc c) (first_axis b.y) 0 (omega arith) (omega (arith, starts, before)) few
       | inr past ↦ (
           let same : begun ≡ first_axis b.y = omega (arith, past, w.soon) in
           let there : (at 0).quadrant ≡ turned_by (first_axis b.y) b.quadrant = w.walk.begins ∙ ap (λ m. turned_by m b.quadrant) same in
-          let near = by_first a (at 0) g q h k l v d w.rim w.below w.above w.inside w.outside wide (w.beside past) in
-          let rest = passes_from a g q h k l v n at quadrant b e begun left d w wide c (suc (first_axis b.y)) 0 (omega arith) (omega (arith, starts, same)) (omega (arith, few)) in
+          let near = w.behind 0 (omega arith) (w.beside past) in
+          let rest = passes_from a g limit d n at quadrant b e begun left w c (suc (first_axis b.y)) 0 (omega arith) (omega (arith, starts, same)) (omega (arith, few)) in
           (0, omega arith, omega arith, subst (λ (z : Quadrant). IsWithin d (placed a (at 0)) (placed a (record { quadrant = z; x = outer_radius a; y = 0 }))) there near, rest))
     ]
 
-at_most_one : (y : ℕ) → first_axis y ≤ 1
+pub at_most_one : (y : ℕ) → first_axis y ≤ 1
 at_most_one zero = omega arith
 at_most_one (suc y) = omega arith
 
-round_of : (a : ArcShape) (g q h k l v n : ℕ) (at : ℕ → Spoke) (quadrant : ℕ → ℕ) (b e : Spoke) (begun left : ℕ) → IsCircuit a g q h k l v n at quadrant b e begun left → IsRound a b e (begun + left)
-round_of a g q h k l v n at quadrant b e begun left w = record {
+round_of : (a : ArcShape) (g limit d n : ℕ) (at : ℕ → Spoke) (quadrant : ℕ → ℕ) (b e : Spoke) (begun left : ℕ) → IsPassing a g limit d n at quadrant b e begun left → IsRound a b e (begun + left)
+round_of a g limit d n at quadrant b e begun left w = record {
   start = w.walk.start;
   end = w.walk.end;
   start_out = w.walk.start_out;
   end_out = w.walk.end_out;
   to_end = w.walk.to_end ∙ ap (turned_by left) w.walk.begins ∙ turned_sum begun left b.quadrant;
   turn = w.walk.turn;
-  some_radius = omega (arith, w.outside);
+  some_radius = w.some_radius;
 }
 
--- A walk comes within two steps and the spread of each quadrant point of its arc, one after the other.
-pub walk_passes : (a : ArcShape) (g q h k l v n : ℕ) (at : ℕ → Spoke) (quadrant : ℕ → ℕ) (b e : Spoke) (begun left d : ℕ) → IsCircuit a g q h k l v n at quadrant b e begun left →
-    spread a + 2 * g ≤ d → Passes (λ k. placed a (at k)) n d 0 (extremes a)
-walk_passes a g q h k l v n at quadrant b e begun left d w wide =
+-- Such a walk comes within d of each quadrant point of its arc, one after the other.
+pub passes : (a : ArcShape) (g limit d n : ℕ) (at : ℕ → Spoke) (quadrant : ℕ → ℕ) (b e : Spoke) (begun left : ℕ) → IsPassing a g limit d n at quadrant b e begun left →
+    Passes (λ k. placed a (at k)) n d 0 (extremes a)
+passes a g limit d n at quadrant b e begun left w =
     let few : first_axis b.y + min 4 (begun + left + 1 - first_axis b.y) ≤ begun + left + 1 = omega (arith, at_most_one b.y) in
-    subst (λ ps. Passes (λ k. placed a (at k)) n d 0 ps) (sym (extremes_are a b e (begun + left) (round_of a g q h k l v n at quadrant b e begun left w)))
-    (passes_all a g q h k l v n at quadrant b e begun left d w wide (min 4 (begun + left + 1 - first_axis b.y)) few)
+    subst (λ ps. Passes (λ k. placed a (at k)) n d 0 ps) (sym (extremes_are a b e (begun + left) (round_of a g limit d n at quadrant b e begun left w)))
+    (passes_all a g limit d n at quadrant b e begun left w (min 4 (begun + left + 1 - first_axis b.y)) few)

@@ -19,7 +19,7 @@ use Rattle.ngc_arc_walk.specs.Placed.{placed, turned_by, axis_points, first_axis
 use Rattle.ngc_arc_walk.proofs.Crosses.{four_on}
 use Rattle.ngc_arc_walk.proofs.Axes.{extremes_are}
 use Rattle.ngc_arc_walk.specs.Round.{IsRound}
-use Rattle.ngc_arc_walk.proofs.Passing.{by_first, by_second}
+use Rattle.ngc_arc_walk.proofs.Circuit.{by_first, by_second}
 
 -- where no walk begins, by the course's rule, the end lies in the start's quadrant or the next, and no farther than the walk's first point would
 pub none_begun : (b e : Spoke) (begun n : ℕ) → begun ≤ 1 → (n ≡ 0) ⊎ (n ≡ 3) → e.quadrant ≡ turned_by n (turned_by begun b.quadrant) →
@@ -48,7 +48,7 @@ none_begun b e (suc (suc m)) n few h he area = absurd (omega (arith, few))
 abbrev pub IsByAxis : ℕ → Quadrant → Spoke → Type 0
 IsByAxis g z s = ((s.quadrant ≡ z) × (s.y ≤ g)) ⊎ ((following s.quadrant ≡ z) × (s.x ≤ g))
 
-by_axis : (a : ArcShape) (s : Spoke) (z : Quadrant) (g q h k l v d : ℕ) → IsRim g q h k l v → IsBelow g (limit_of q l) s → IsAbove g v s → inner_radius a ≤ q + 1 → q + 1 ≤ outer_radius a →
+pub by_axis : (a : ArcShape) (s : Spoke) (z : Quadrant) (g q h k l v d : ℕ) → IsRim g q h k l v → IsBelow g (limit_of q l) s → IsAbove g v s → inner_radius a ≤ q + 1 → q + 1 ≤ outer_radius a →
     spread a + 2 * g ≤ d → IsByAxis g z s → IsWithin d (placed a s) (placed a (record { quadrant = z; x = outer_radius a; y = 0 }))
 by_axis a s z g q h k l v d r below above inside outside wide (inl p) =
     subst (λ (t : Quadrant). IsWithin d (placed a s) (placed a (record { quadrant = t; x = outer_radius a; y = 0 }))) p.0 (by_first a s g q h k l v d r below above inside outside wide p.1)

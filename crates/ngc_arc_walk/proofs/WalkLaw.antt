@@ -6,7 +6,7 @@ use Rattle.ngc_arc_geometry.specs.Shape.{ArcShape}
 use Rattle.ngc_arc_geometry.specs.ArcBand.{spread}
 use Rattle.ngc_arc_walk.specs.ArcWalk.{IsArcWalk, Follows, WalksFollow}
 use Rattle.ngc_arc_walk.proofs.Walks.{walk_in_sector, walk_goes_on}
-use Rattle.ngc_arc_walk.proofs.Passing.{IsCircuit, walk_passes}
+use Rattle.ngc_arc_walk.proofs.Circuit.{IsCircuit, walk_passes}
 use Rattle.ngc_arc_walk.proofs.Lifts.{circuit_in_band}
 
 circuit : (a : ArcShape) (g q n : ℕ) (at : ℕ → Spoke) (quadrant : ℕ → ℕ) (b e : Spoke) (begun left : ℕ) → IsArcWalk a g (q + 1) n at quadrant b e begun left →

@@ -116,7 +116,7 @@ out_on g limit n at quadrant (suc k) way some room out le =
     subst (λ t. 0 < (at t).x + (at t).y) e
     (subst (λ (s : Spoke). 0 < s.x + s.y) (sym step.2) (stays_out g limit (at k) step.0 some room here step.1))
 
-past_on : (g limit n : ℕ) (at : ℕ → Spoke) (quadrant : ℕ → ℕ) (k begun bx by : ℕ) → IsRolling g limit n at quadrant → IsNoLater begun bx by (at 0).x (at 0).y → k ≤ n →
+pub past_on : (g limit n : ℕ) (at : ℕ → Spoke) (quadrant : ℕ → ℕ) (k begun bx by : ℕ) → IsRolling g limit n at quadrant → IsNoLater begun bx by (at 0).x (at 0).y → k ≤ n →
     IsNoLater (begun + quadrant k) bx by (at k).x (at k).y
 past_on g limit n at quadrant zero begun bx by way first le =
     let z : begun ≡ begun + quadrant 0 = omega (arith, way.starts) in
@@ -131,7 +131,7 @@ past_on g limit n at quadrant (suc k) begun bx by way first le =
     (subst (λ m. IsNoLater m bx by (at (k + 1)).x (at (k + 1)).y) count
     (subst (λ (s : Spoke). IsNoLater (quadrants_of (begun + quadrant k) step.0) bx by s.x s.y) (sym step.2) there))
 
-before_on : (g limit n : ℕ) (at : ℕ → Spoke) (quadrant : ℕ → ℕ) (d k left : ℕ) (e : Spoke) → IsRolling g limit n at quadrant → IsBeforeEnd (quadrant n) left (at n) e → k + d ≡ n →
+pub before_on : (g limit n : ℕ) (at : ℕ → Spoke) (quadrant : ℕ → ℕ) (d k left : ℕ) (e : Spoke) → IsRolling g limit n at quadrant → IsBeforeEnd (quadrant n) left (at n) e → k + d ≡ n →
     IsBeforeEnd (quadrant k) left (at k) e
 before_on g limit n at quadrant zero k left e way last sum =
     let same : n ≡ k = omega (arith, sum) in
@@ -142,11 +142,11 @@ before_on g limit n at quadrant (suc d) k left e way last sum =
     let there = subst (λ (s : Spoke). IsBeforeEnd (quadrant (k + 1)) left s e) step.2 after in
     was_before g limit (at k) e step.0 (quadrant k) left step.1 (subst (λ m. IsBeforeEnd m left (rolled g step.0 (at k)) e) step.3 there)
 
-no_later_end : (here last : ℕ) (s e : Spoke) → IsBeforeEnd here last s e → IsNoLater (last - here) s.x s.y e.x e.y
+pub no_later_end : (here last : ℕ) (s e : Spoke) → IsBeforeEnd here last s e → IsNoLater (last - here) s.x s.y e.x e.y
 no_later_end here last s e (inl less) = later (last - here) s.x s.y e.x e.y (omega (arith, less))
 no_later_end here last s e (inr h) = let z : 0 ≡ last - here = omega (arith, h.0) in subst (λ m. IsNoLater m s.x s.y e.x e.y) z (omega (arith, h.1))
 
-no_more : (here last : ℕ) (s e : Spoke) → IsBeforeEnd here last s e → here ≤ last
+pub no_more : (here last : ℕ) (s e : Spoke) → IsBeforeEnd here last s e → here ≤ last
 no_more here last s e (inl less) = omega (arith, less)
 no_more here last s e (inr h) = omega (arith, h.0)
 

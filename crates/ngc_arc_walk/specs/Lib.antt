@@ -1,3 +1,4 @@
 pub mod Placed
 pub mod ArcWalk
 pub mod Round
+pub mod Hull

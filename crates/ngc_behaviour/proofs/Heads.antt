@@ -30,4 +30,4 @@ counted_ends job m path n count starts ends moves =
 
 pub has_ends : (job : Job) (m : Motion) (path : List StepPos) → IsPathOf job.machine.step m path → HasEnds job m path
 has_ends job (Straight b e) path w = counted_ends job (Straight b e) path (greatest_distance (grid job.machine.step b) (grid job.machine.step e)) w.count w.starts w.ends w.unit_moves
-has_ends job (Along a) path w = counted_ends job (Along a) path w.0 w.1.count w.1.starts w.1.ends w.1.unit_moves
+has_ends job (Along a) path w = counted_ends job (Along a) path w.0 w.1.weak.count w.1.weak.starts w.1.weak.ends w.1.weak.unit_moves

@@ -11,6 +11,7 @@ pub mod Windows
 pub mod PulseRules
 pub mod EndsInTime
 pub mod Effects
+pub mod Arcs
 pub mod MotionPaths
 pub mod Way
 pub mod Headline

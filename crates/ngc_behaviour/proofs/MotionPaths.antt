@@ -12,7 +12,6 @@ use Rattle.ngc_fixed_length.specs.Grid.{grid, greatest_distance}
 use Rattle.ngc_fixed_length.specs.LinePath.{point}
 use Rattle.ngc_step_kernel.specs.Line.{line_points}
 use Rattle.ngc_step_kernel.proofs.FollowsLine.{follows_step}
-use Rattle.ngc_step_kernel.proofs.ChordLemmas.{chord_is_weak}
 use Rattle.ngc_canonical.specs.Movement.{end_of, AreJoined}
 use Rattle.ngc_canonical.specs.declared.movement.Motion.{Motion}
 use Rattle.ngc_canonical.specs.declared.movement.Motion.TheVariants.{Straight, Along}
@@ -20,6 +19,8 @@ use Rattle.ngc_canonical.specs.ProgramPath.{IsPathOf, IsPathOfAll}
 use Rattle.ngc_behaviour.specs.State.{Job}
 use Rattle.ngc_behaviour.proofs.SafeRun.{path_ends, ends_last}
 use Rattle.ngc_behaviour.proofs.Effects.{emitted}
+use Rattle.ngc_behaviour.proofs.Arcs.{IsArcIfAlong, AreArcs}
+use Rattle.ngc_step_kernel.proofs.SomePath.{some_arc_path}
 
 -- ---- points of lists
 
@@ -74,11 +75,9 @@ with_pulse path n j k p q tail rest e jk kj kn pj qk h = by_case (nat_lt j k) re
 
 -- ---- paths of motions
 
-path_of : (step : ℤ) → IsStep step → (m : Motion) → (path : List StepPos) × IsPathOf step m path
-path_of step h (Straight b e) = (line_points (greatest_distance (grid step b) (grid step e)) (grid step b) (grid step e), follows_step step b e h)
-path_of step h (Along a) =
-    let points = line_points (greatest_distance (grid step a.start) (grid step a.end)) (grid step a.start) (grid step a.end) in
-    (points, chord_is_weak step a points h (follows_step step a.start a.end h))
+path_of : (step : ℤ) → IsStep step → (m : Motion) → IsArcIfAlong m → (path : List StepPos) × IsPathOf step m path
+path_of step h (Straight b e) arc = (line_points (greatest_distance (grid step b) (grid step e)) (grid step b) (grid step e), follows_step step b e h)
+path_of step h (Along a) arc = some_arc_path step a h arc
 
 pub path_length : (job : Job) (m : Motion) (path : List StepPos) → IsPathOf job.machine.step m path → length path ≡ (length path - 1) + 1
 path_length job m path w = omega (arith, (path_ends job m path w).1)
@@ -99,14 +98,14 @@ path_then job m ms p path rest points w starts others e =
     )
 
 -- joined motions have a path from the grid point of their start on
-pub some_path : (job : Job) → IsStep job.machine.step → (ms : List Motion) (place : Point3) (p : StepPos) → AreJoined place ms → p ≡ grid job.machine.step place →
+pub some_path : (job : Job) → IsStep job.machine.step → (ms : List Motion) (place : Point3) (p : StepPos) → AreArcs ms → AreJoined place ms → p ≡ grid job.machine.step place →
     (later : List StepPos) × IsPathOfAll job.machine.step p ms (p ∷ later)
-some_path job h [] place p j at = ([], refl)
-some_path job h (m ∷ ms) place p j at =
-    let w = path_of job.machine.step h m in
+some_path job h [] place p arcs j at = ([], refl)
+some_path job h (m ∷ ms) place p arcs j at =
+    let w = path_of job.machine.step h m arcs.0 in
     let path = w.0 in
     let n = length path - 1 in
-    let others = some_path job h ms (end_of m) (point path n) j.1 (ends_last job m path w.1) in
+    let others = some_path job h ms (end_of m) (point path n) arcs.1 j.1 (ends_last job m path w.1) in
     let starts : point path 0 ≡ p = (path_ends job m path w.1).2 ∙ ap (grid job.machine.step) j.0 ∙ sym at in
     let b = begins_with (take n path) (point path n) others.0 p (subst (λ t. point t 0 ≡ p) (sym (split_last path n (path_length job m path w.1))) starts) in
     (b.0, path_then job m ms p path (point path n ∷ others.0) (p ∷ b.0) w.1 starts others.1 (sym b.1))

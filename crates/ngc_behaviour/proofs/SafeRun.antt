@@ -58,7 +58,7 @@ pub path_ends : (job : Job) (m : Motion) (path : List StepPos) → IsPathOf job.
     (n : ℕ) × (length path ≡ n + 1) × (point path 0 ≡ grid job.machine.step (start_of m)) × (point path n ≡ grid job.machine.step (end_of m))
 path_ends job (Straight b e) path w =
     (greatest_distance (grid job.machine.step b) (grid job.machine.step e), w.count, w.starts, w.ends)
-path_ends job (Along a) path w = (w.0, w.1.count, w.1.starts, w.1.ends)
+path_ends job (Along a) path w = (w.0, w.1.weak.count, w.1.weak.starts, w.1.weak.ends)
 
 pub ends_last : (job : Job) (m : Motion) (path : List StepPos) → IsPathOf job.machine.step m path →
     point path (length path - 1) ≡ grid job.machine.step (end_of m)

@@ -30,6 +30,7 @@ use Rattle.ngc_behaviour.specs.Headline.{job_of}
 use Rattle.ngc_behaviour.proofs.SafeRun.{RingFits, one_more, path_ends, ends_last, still_ends}
 use Rattle.ngc_behaviour.proofs.RatesOfRun.{Fits}
 use Rattle.ngc_behaviour.proofs.Effects.{Spot, spot_of, spot, tells_end, ends_program, emitted, Effect, stands, grows, goes_on, arrives, passes, effect_of}
+use Rattle.ngc_behaviour.proofs.Arcs.{AreArcs, arcs_left}
 use Rattle.ngc_behaviour.proofs.MotionPaths.{begins_at, none_before, with_pulse, path_length, path_then, some_path}
 
 -- ---- what holds between two events
@@ -216,21 +217,21 @@ back_passed job (Moves m) cs l ls place t p tail j may here short z w =
 
 -- from a place on the head's path there is some way
 way_ahead : (job : Job) → IsStep job.machine.step → (d : Doing) (cs : List Command) (l : Queued) (ls : List Queued) (place : Point3) (t : ℕ) (p : StepPos) →
-    AreJoined place (motions_of (d ∷ doings cs)) → MayTake job d l.path → t ≤ millionths l → IsHere job place (l ∷ ls) t p →
+    AreArcs (motions_of (d ∷ doings cs)) → AreJoined place (motions_of (d ∷ doings cs)) → MayTake job d l.path → t ≤ millionths l → IsHere job place (l ∷ ls) t p →
     (later : List StepPos) × HeadWay job l d cs t p (p ∷ later)
-way_ahead job s Stays cs l ls place t p j may short here = some_path job s (motions_of (doings cs)) place p j (here.0 (no_path l may))
-way_ahead job s (Mounts tool) cs l ls place t p j may short here = some_path job s (motions_of (doings cs)) place p j (here.0 (no_path l may))
-way_ahead job s (Moves m) cs l ls place t p j may short here =
+way_ahead job s Stays cs l ls place t p arcs j may short here = some_path job s (motions_of (doings cs)) place p arcs j (here.0 (no_path l may))
+way_ahead job s (Mounts tool) cs l ls place t p arcs j may short here = some_path job s (motions_of (doings cs)) place p arcs j (here.0 (no_path l may))
+way_ahead job s (Moves m) cs l ls place t p arcs j may short here =
     let n = path_steps l in
-    let others = some_path job s (motions_of (doings cs)) (end_of m) (point l.path n) j.1 (ends_last job m l.path may) in
+    let others = some_path job s (motions_of (doings cs)) (end_of m) (point l.path n) arcs.1 j.1 (ends_last job m l.path may) in
     let b = begins_at l.path n (t / MILLION) p others.0 (path_length job m l.path may) (omega (arith, short)) (on_path job m l ls place t p j.0 may short here) in
     (b.0, (point l.path n ∷ others.0, others.1, sym b.1))
 
-some_way : (job : Job) → IsStep job.machine.step → (left : List Command) (ring : List Queued) (t : ℕ) (p : StepPos) → Walks job left ring t p →
+some_way : (job : Job) → IsStep job.machine.step → (left : List Command) (ring : List Queued) (t : ℕ) (p : StepPos) → AreArcs (motions_of (doings left)) → Walks job left ring t p →
     (later : List StepPos) × WayFrom job left ring t p (p ∷ later)
-some_way job s left [] t p w = some_path job s (motions_of (doings left)) w.place p w.joined w.here
-some_way job s [] (l ∷ ls) t p w = absurd w.fits
-some_way job s (c ∷ cs) (l ∷ ls) t p w = way_ahead job s (doing c) cs l ls w.place t p w.joined w.fits.1 w.short w.here
+some_way job s left [] t p arcs w = some_path job s (motions_of (doings left)) w.place p arcs w.joined w.here
+some_way job s [] (l ∷ ls) t p arcs w = absurd w.fits
+some_way job s (c ∷ cs) (l ∷ ls) t p arcs w = way_ahead job s (doing c) cs l ls w.place t p arcs w.joined w.fits.1 w.short w.here
 
 -- where nothing is left the position alone is the way
 no_way : (job : Job) (left : List Command) (ring : List Queued) (t : ℕ) (p : StepPos) → left ≡ [] → Walks job left ring t p → WayFrom job left ring t p (p ∷ [])
@@ -388,16 +389,17 @@ is_over job old new o last w (passes e) h =
 
 -- ---- runs
 
-begun : (job : Job) (old : State) (es : List Event) (os : List Outcome) (states : List State) → IsMachine job.machine → WalksIn job (spot old) → Run job old es os states →
+begun : (job : Job) (old : State) (es : List Event) (os : List Outcome) (states : List State) → IsMachine job.machine → AreArcs (motions_of (doings job.commands)) →
+    WalksIn job (spot old) → Run job old es os states →
     (later : List StepPos) × WayOn job (positions os ++ later) (spot old)
-begun job old [] [] [] m w r = some_way job m.step (left_of job old.done) old.ring old.travelled old.position w
-begun job old [] [] (new ∷ states) m w r = absurd r
-begun job old [] (o ∷ os) states m w r = absurd r
-begun job old (e ∷ es) [] states m w r = absurd r
-begun job old (e ∷ es) (o ∷ os) [] m w r = absurd r
-begun job old (e ∷ es) (o ∷ os) (new ∷ states) m w r =
+begun job old [] [] [] m arcs w r = some_way job m.step (left_of job old.done) old.ring old.travelled old.position (arcs_left old.done job.commands arcs) w
+begun job old [] [] (new ∷ states) m arcs w r = absurd r
+begun job old [] (o ∷ os) states m arcs w r = absurd r
+begun job old (e ∷ es) [] states m arcs w r = absurd r
+begun job old (e ∷ es) (o ∷ os) [] m arcs w r = absurd r
+begun job old (e ∷ es) (o ∷ os) (new ∷ states) m arcs w r =
     let x = effect_of job old e o new m w.short r.0 in
-    let next = begun job new es os states m (kept job (spot old) (spot new) o x w) r.1 in (
+    let next = begun job new es os states m arcs (kept job (spot old) (spot new) o x w) r.1 in (
       next.0,
       subst (λ tail. WayOn job tail (spot old)) (sym (append_assoc (position_in o) (positions os) next.0))
           (back job (spot old) (spot new) o (positions os ++ next.0) x w next.1),
@@ -436,11 +438,11 @@ opens : (machine : MachineFile) (commands : List Command) → AreJoined machine.
 opens machine commands j = begins (job_of machine commands) commands [] machine.start (start_of_job (job_of machine commands)) j tt refl
 
 -- The positions of a run begin a path of the program.
-pub way_begins : (machine : MachineFile) (commands : List Command) → IsMachine machine → AreJoined machine.start (motions_of (doings commands)) →
+pub way_begins : (machine : MachineFile) (commands : List Command) → IsMachine machine → AreArcs (motions_of (doings commands)) → AreJoined machine.start (motions_of (doings commands)) →
     (events : List Event) (outcomes : List Outcome) (states : List State) → Run (job_of machine commands) (opening machine) events outcomes states →
     BeginPath (job_of machine commands) (start_of_job (job_of machine commands) ∷ positions outcomes)
-way_begins machine commands m j events outcomes states r =
-    begun (job_of machine commands) (opening machine) events outcomes states m (opens machine commands j) r
+way_begins machine commands m arcs j events outcomes states r =
+    begun (job_of machine commands) (opening machine) events outcomes states m arcs (opens machine commands j) r
 
 -- When the end is told they are a whole path.
 pub way_ended : (machine : MachineFile) (commands : List Command) → IsMachine machine → AreJoined machine.start (motions_of (doings commands)) → EndIsLast commands →

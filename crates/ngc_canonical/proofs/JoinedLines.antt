@@ -1,4 +1,4 @@
--- The lines of a program lead its motions on from the machine's start point, and leave its commands few.
+-- The lines of a program lead its motions on from the machine's start point, with even radii, and leave its commands few.
 use Rattle.std.proofs.Common.{◌≡◌, ℕ, ◌≤◌, List, [], ◌∷◌, length, Option, Some, None, Bool, true, false, Result, Ok, Err, refl, sym, subst, lit≤}
 use Rattle.std.proofs.lemmas.Result.{IfOk-at_ok, IfOk-weaker}
 use Rattle.std.specs.Prelude.{IfOk, ◌&&◌, if◌then◌else◌}
@@ -11,7 +11,7 @@ use Rattle.ngc_canonical.specs.declared.command.Command.TheVariants.{End}
 use Rattle.ngc_canonical.specs.declared.fault.Fault.{Fault}
 use Rattle.ngc_canonical.specs.declared.fault.Fault.TheVariants.{Value}
 use Rattle.ngc_canonical.specs.declared.fault.ProgramFault.{ProgramFault}
-use Rattle.ngc_canonical.specs.Joined.{Joined, FewCommands}
+use Rattle.ngc_canonical.specs.Joined.{Joined, HaveEvenRadii, ArcsHaveEvenRadii, FewCommands}
 use Rattle.ngc_canonical.specs.Meaning.{NumberedLine, Program, effects_of, with_settings, execute, at_line, remaining, after_line, commands_of, past_last, go_on, then_lines, from_state, meaning, GivesMeaning}
 use Rattle.ngc_canonical.specs.Movement.{doings, motions_of, AreJoined}
 use Rattle.ngc_canonical.specs.Perform.{run}
@@ -21,7 +21,7 @@ use Rattle.ngc_canonical.proofs.Joining.{IsTrail, Holds, onward, after, stays}
 use Rattle.ngc_canonical.proofs.JoinedSteps.{run_holds}
 
 start_holds : (machine : MachineFile) → Holds machine.start (start_state machine)
-start_holds machine = record { leads = record { joined = tt; ends = refl }; few = lit≤ tt }
+start_holds machine = record { leads = record { joined = tt; ends = refl; radii = tt }; few = lit≤ tt }
 
 execute_holds : (p : Point3) (setup : Setup) (items : List Item) (s : State) → Holds p s → IfOk (execute setup items s) (Holds p)
 execute_holds p setup items s h =
@@ -42,7 +42,7 @@ after_line_holds p setup block_delete number r s h = by_test (block_delete && r.
 
 past_last_holds : (p : Point3) (mark : Option ℕ) (count : ℕ) (s : State) → Holds p s → IfOk (past_last mark count s) (Holds p)
 past_last_holds p None count s h = tt
-past_last_holds p (Some line) count s h = at_line_holds p line (emit (End line) s) (stays p (End line) s h (record { joined = tt; ends = refl }))
+past_last_holds p (Some line) count s h = at_line_holds p line (emit (End line) s) (stays p (End line) s h (record { joined = tt; ends = refl; radii = tt }))
 
 go_on_holds : (p : Point3) (ended : Bool) (s : State) (rest : State → Result State ProgramFault) → Holds p s → ((t : State) → Holds p t → IfOk (rest t) (Holds p)) → IfOk (go_on ended s rest) (Holds p)
 go_on_holds p true s rest h on = h
@@ -90,6 +90,11 @@ pub finished_joined : {X : Type 0} (p : Point3) (mark : Option ℕ) (count : ℕ
 finished_joined p mark count s view result h says =
     IfOk-weaker result (λ v. AreFrom p (view v)) (λ v. AreJoined p (motions_of (doings (view v)))) (λ v from. from.trail.leads.joined) (finished p mark count s view result h says)
 
+pub finished_radii : {X : Type 0} (p : Point3) (mark : Option ℕ) (count : ℕ) (s : State) (view : X → List Command) (result : Result X ProgramFault) → Holds p s
+    → GivesMeaning view result (commands_of (past_last mark count s)) → IfOk result (λ v. HaveEvenRadii (motions_of (doings (view v))))
+finished_radii p mark count s view result h says =
+    IfOk-weaker result (λ v. AreFrom p (view v)) (λ v. HaveEvenRadii (motions_of (doings (view v)))) (λ v from. from.trail.leads.radii) (finished p mark count s view result h says)
+
 pub finished_few : {X : Type 0} (p : Point3) (mark : Option ℕ) (count : ℕ) (s : State) (view : X → List Command) (result : Result X ProgramFault) → Holds p s
     → GivesMeaning view result (commands_of (past_last mark count s)) → IfOk result (λ v. length (view v) ≤ COMMAND_LIMIT)
 finished_few p mark count s view result h says =
@@ -105,6 +110,9 @@ meant program setup block_delete commands e =
 
 pub are_joined : Joined
 are_joined program setup block_delete commands e = (meant program setup block_delete commands e).trail.leads.joined
+
+pub are_even : ArcsHaveEvenRadii
+are_even program setup block_delete commands e = (meant program setup block_delete commands e).trail.leads.radii
 
 pub are_few : FewCommands
 are_few program setup block_delete commands e = (meant program setup block_delete commands e).trail.few

@@ -1,9 +1,10 @@
--- What each effect does leads the motions on from where the axes stand, and leaves the commands few.
+-- What each effect does leads the motions on from where the axes stand, with even radii, and leaves the commands few.
 use Rattle.std.proofs.Common.{◌≡◌, ℕ, zero, suc, List, [], ◌∷◌, Option, Some, None, Bool, true, false, Result, Ok, Err, refl}
 use Rattle.std.specs.Prelude.{ℤ, IfOk, unsigned_abs, not, if◌then◌else◌}
 use Rattle.ngc_fixed_length.specs.declared.modes.Turn.{Turn}
 use Rattle.ngc_fixed_length.specs.declared.modes.System.{System}
 use Rattle.ngc_fixed_length.specs.declared.points.Point3.{Point3}
+use Rattle.ngc_fixed_length.specs.declared.units.Units.{Units}
 use Rattle.ngc_machine.specs.Machine.{MachineFile}
 use Rattle.ngc_machine.specs.declared.tools.Tool.{Tool}
 use Rattle.ngc_machine.specs.Tools.{tool_at}
@@ -12,10 +13,13 @@ use Rattle.ngc_offsets.specs.declared.fault.FrameFault.{FrameFault}
 use Rattle.ngc_offsets.specs.Frames as frame
 use Rattle.ngc_offsets.specs.Frames.{to_machine}
 use Rattle.ngc_arc_geometry.specs.Centre.{centre_format, radius_format}
+use Rattle.ngc_arc_geometry.specs.Radii.{HasEvenRadii}
 use Rattle.ngc_arc_geometry.specs.Shape.{ArcShape}
 use Rattle.ngc_arc_geometry.specs.declared.fault.ArcFault.{ArcFault}
 use Rattle.ngc_arc_geometry.specs.declared.given.Ends.{Ends}
+use Rattle.ngc_arc_geometry.specs.declared.given.Offsets.{Offsets as CentreOffsets}
 use Rattle.ngc_arc_geometry.specs.declared.fault.ArcFault.TheVariants.{NoAxisWord}
+use Rattle.ngc_arc_geometry.proofs.FormatRadii.{radii_of_centre, radii_of_radius}
 use Rattle.ngc_canned_cycles.specs.declared.cycle.CycleMove.{CycleMove}
 use Rattle.ngc_canned_cycles.specs.declared.cycle.CycleMove.TheVariants as cycle_moves
 use Rattle.ngc_modal_state.specs.declared.block.AxisWords.{AxisWords}
@@ -50,10 +54,10 @@ use Rattle.ngc_canonical.proofs.ArcLaws.{start_of_centre, start_of_radius}
 
 tell_speed_holds : (p : Point3) (turn : Option Turn) (s : State) → Holds p s → IfOk (tell_speed turn s) (Holds p)
 tell_speed_holds p None s h = h
-tell_speed_holds p (Some turn) s h = stays p (commands.Spindle s.line (turning.Turning turn s.speed)) s h (record { joined = tt; ends = refl })
+tell_speed_holds p (Some turn) s h = stays p (commands.Spindle s.line (turning.Turning turn s.speed)) s h (record { joined = tt; ends = refl; radii = tt })
 
 mount_holds : (p : Point3) (tool : Option Tool) (s : State) → Holds p s → IfOk (mount tool s) (Holds p)
-mount_holds p tool s h = stays p (commands.Tool s.line tool) (record s { spindle = None }) h (record { joined = tt; ends = refl })
+mount_holds p tool s h = stays p (commands.Tool s.line tool) (record s { spindle = None }) h (record { joined = tt; ends = refl; radii = tt })
 
 mount_found_holds : (p : Point3) (tool : Option Tool) (s : State) → Holds p s → IfOk (mount_found tool s) (Holds p)
 mount_found_holds p None s h = tt
@@ -66,7 +70,7 @@ change_tool_holds p tools (suc n) s h = mount_found_holds p (tool_at tools (suc 
 -- ---- places
 
 traverse_to_holds : (p end : Point3) (s : State) → Holds p s → IfOk (traverse_to end s) (Holds p)
-traverse_to_holds p end s h = moves p (commands.Traverse s.line s.place end) s end h (record { joined = (refl, tt); ends = refl })
+traverse_to_holds p end s h = moves p (commands.Traverse s.line s.place end) s end h (record { joined = (refl, tt); ends = refl; radii = (tt, tt) })
 
 with_frames_holds : (p : Point3) (s : State) (changed : Result Offsets FrameFault) → Holds p s → IfOk (with_frames s changed) (Holds p)
 with_frames_holds p s changed h = after (Holds p) (faulted faults.Frame changed) (λ f. Ok (unseries (record s { frames = f }))) (λ f. h)
@@ -97,7 +101,7 @@ traverse_holds : (p : Point3) (is_machine_place : Bool) (words : AxisWords) (s :
 traverse_holds p is_machine_place words s h = after (Holds p) (end_of is_machine_place s words) (λ end. traverse_to end s) (λ end. traverse_to_holds p end s h)
 
 feed_holds : (p end : Point3) (feed : Feed) (s : State) → Holds p s → IfOk (emit (commands.Feed s.line s.place end feed) s >>= (λ t. Ok (at_place end t))) (Holds p)
-feed_holds p end feed s h = moves p (commands.Feed s.line s.place end feed) s end h (record { joined = (refl, tt); ends = refl })
+feed_holds p end feed s h = moves p (commands.Feed s.line s.place end feed) s end h (record { joined = (refl, tt); ends = refl; radii = (tt, tt) })
 
 straight_holds : (p : Point3) (is_machine_place : Bool) (words : AxisWords) (f : Option ℤ) (s : State) → Holds p s → IfOk (straight is_machine_place words f s) (Holds p)
 straight_holds p is_machine_place words f s h =
@@ -105,43 +109,53 @@ straight_holds p is_machine_place words f s h =
     after (Holds p) (end_of is_machine_place s words) (λ end. emit (commands.Feed s.line s.place end feed) s >>= (λ t. Ok (at_place end t)))
     (λ end. feed_holds p end feed s h))
 
--- ---- arcs, which begin where the axes stand
+-- ---- arcs, which begin where the axes stand, with even radii
+
+record IsArcFrom (p : Point3) (a : ArcShape) : Type 0 where
+  begins : a.start ≡ p
+  even : HasEvenRadii a
 
 -- what is known of an arc that was made
 made : (P : ArcShape → Type 0) (r : Result ArcShape ArcFault) → ((a : ArcShape) → r ≡ Ok a → P a) → IfOk (faulted faults.Arc r) P
 made P (Ok a) known = known a refl
 made P (Err e) known = tt
 
-arc_by_begins : (r : Option ℤ) (s : State) (words : ArcWords) (e : Ends) → IfOk (arc_by r s words e) (λ a. a.start ≡ e.start)
-arc_by_begins (Some r) s words e = made (λ a. a.start ≡ e.start) (radius_format s.modes.units e r) (start_of_radius s.modes.units e r)
-arc_by_begins None s words e =
-    after (λ a. a.start ≡ e.start) (word_length s.modes.units (along_u s.modes.plane words)) _ (λ u.
-    after (λ a. a.start ≡ e.start) (word_length s.modes.units (along_v s.modes.plane words))
-    (λ v. faulted faults.Arc (centre_format s.modes.units e (record { u = u; v = v })))
-    (λ v. made (λ a. a.start ≡ e.start) (centre_format s.modes.units e (record { u = u; v = v })) (start_of_centre s.modes.units e (record { u = u; v = v }))))
+by_centre : (units : Units) (e : Ends) (o : CentreOffsets) (a : ArcShape) → centre_format units e o ≡ Ok a → IsArcFrom e.start a
+by_centre units e o a is = record { begins = start_of_centre units e o a is; even = radii_of_centre units e o a is }
 
-arc_of_begins : (turn : Turn) (axes : AxisWords) (words : ArcWords) (s : State) → IfOk (arc_of turn axes words s) (λ a. a.start ≡ s.place)
+by_radius : (units : Units) (e : Ends) (r : ℤ) (a : ArcShape) → radius_format units e r ≡ Ok a → IsArcFrom e.start a
+by_radius units e r a is = record { begins = start_of_radius units e r a is; even = radii_of_radius units e r a is }
+
+arc_by_begins : (r : Option ℤ) (s : State) (words : ArcWords) (e : Ends) → IfOk (arc_by r s words e) (IsArcFrom e.start)
+arc_by_begins (Some r) s words e = made (IsArcFrom e.start) (radius_format s.modes.units e r) (by_radius s.modes.units e r)
+arc_by_begins None s words e =
+    after (IsArcFrom e.start) (word_length s.modes.units (along_u s.modes.plane words)) _ (λ u.
+    after (IsArcFrom e.start) (word_length s.modes.units (along_v s.modes.plane words))
+    (λ v. faulted faults.Arc (centre_format s.modes.units e (record { u = u; v = v })))
+    (λ v. made (IsArcFrom e.start) (centre_format s.modes.units e (record { u = u; v = v })) (by_centre s.modes.units e (record { u = u; v = v }))))
+
+arc_of_begins : (turn : Turn) (axes : AxisWords) (words : ArcWords) (s : State) → IfOk (arc_of turn axes words s) (IsArcFrom s.place)
 arc_of_begins turn axes words s =
-    after (λ a. a.start ≡ s.place) (end_of false s axes) _ (λ end.
-    after (λ a. a.start ≡ s.place) (word_length s.modes.units words.r) (λ r. arc_by r s words (ends_of turn s axes end))
+    after (IsArcFrom s.place) (end_of false s axes) _ (λ end.
+    after (IsArcFrom s.place) (word_length s.modes.units words.r) (λ r. arc_by r s words (ends_of turn s axes end))
     (λ r. arc_by_begins r s words (ends_of turn s axes end)))
 
 arc_holds : (p : Point3) (turn : Turn) (axes : AxisWords) (words : ArcWords) (f : Option ℤ) (s : State) → Holds p s → IfOk (arc turn axes words f s) (Holds p)
 arc_holds p turn axes words f s h =
     after (Holds p) (refuse_if (not (has_plane_word s.modes.plane axes)) (faults.Arc NoAxisWord)) _ (λ worded.
     after (Holds p) (feed_in s.modes.feed_mode s.feed f) _ (λ feed.
-    onward (λ a. a.start ≡ s.place) (Holds p) (arc_of turn axes words s) (λ a. emit (commands.Arc s.line a feed) s >>= (λ t. Ok (at_place a.end t)))
+    onward (IsArcFrom s.place) (Holds p) (arc_of turn axes words s) (λ a. emit (commands.Arc s.line a feed) s >>= (λ t. Ok (at_place a.end t)))
     (arc_of_begins turn axes words s)
-    (λ a begins. moves p (commands.Arc s.line a feed) s a.end h (record { joined = (begins, tt); ends = refl }))))
+    (λ a from. moves p (commands.Arc s.line a feed) s a.end h (record { joined = (from.begins, tt); ends = refl; radii = (from.even, tt) }))))
 
 -- ---- cycles
 
 make_move_holds : (p : Point3) (move : CycleMove) (s : State) → Holds p s → IfOk (make_move move s) (Holds p)
 make_move_holds p (cycle_moves.Traverse q) s h = traverse_to_holds p (to_machine s.frames q) s h
 make_move_holds p (cycle_moves.Feed q) s h = feed_holds p (to_machine s.frames q) (PerMinute s.feed) s h
-make_move_holds p (cycle_moves.Dwell v) s h = stays p (commands.Dwell s.line (unsigned_abs v)) s h (record { joined = tt; ends = refl })
-make_move_holds p cycle_moves.StopSpindle s h = stays p (commands.Spindle s.line turning.Off) s h (record { joined = tt; ends = refl })
-make_move_holds p cycle_moves.StartSpindle s h = stays p (commands.Spindle s.line (spindle_state s.spindle s.speed)) s h (record { joined = tt; ends = refl })
+make_move_holds p (cycle_moves.Dwell v) s h = stays p (commands.Dwell s.line (unsigned_abs v)) s h (record { joined = tt; ends = refl; radii = tt })
+make_move_holds p cycle_moves.StopSpindle s h = stays p (commands.Spindle s.line turning.Off) s h (record { joined = tt; ends = refl; radii = tt })
+make_move_holds p cycle_moves.StartSpindle s h = stays p (commands.Spindle s.line (spindle_state s.spindle s.speed)) s h (record { joined = tt; ends = refl; radii = tt })
 
 make_moves_holds : (p : Point3) (moves : List CycleMove) (s : State) → Holds p s → IfOk (make_moves moves s) (Holds p)
 unfolding make_moves
@@ -162,11 +176,11 @@ with_motion_holds p (motions.Cycle hole) s h = h
 with_motion_holds p code s h = h
 
 stop_holds : (p : Point3) (code : Stopping) (s : State) → Holds p s → IfOk (stop code s) (Holds p)
-stop_holds p stops.Stop s h = stays p (commands.Stop s.line) s h (record { joined = tt; ends = refl })
-stop_holds p stops.OptionalStop s h = stays p (commands.OptionalStop s.line) s h (record { joined = tt; ends = refl })
+stop_holds p stops.Stop s h = stays p (commands.Stop s.line) s h (record { joined = tt; ends = refl; radii = tt })
+stop_holds p stops.OptionalStop s h = stays p (commands.OptionalStop s.line) s h (record { joined = tt; ends = refl; radii = tt })
 stop_holds p stops.End s h =
     onward (Holds p) (Holds p) (emit (commands.End s.line) s) (λ t. Ok (record t { ended = true }))
-    (stays p (commands.End s.line) s h (record { joined = tt; ends = refl }))
+    (stays p (commands.End s.line) s h (record { joined = tt; ends = refl; radii = tt }))
     (λ t h_t. h_t)
 
 perform_holds : (p : Point3) (setup : Setup) (effect : Effect) (s : State) → Holds p s → IfOk (perform setup effect s) (Holds p)
@@ -176,11 +190,11 @@ perform_holds p setup (acts.Speed value) s h = tell_speed_holds p s.spindle (rec
 perform_holds p setup (acts.SelectTool n) s h = h
 perform_holds p setup acts.ChangeTool s h = change_tool_holds p setup.tools s.selected s h
 perform_holds p setup (acts.Spindle code) s h =
-    stays p (commands.Spindle s.line (spindle_state (turn_of code) s.speed)) (record s { spindle = turn_of code }) h (record { joined = tt; ends = refl })
+    stays p (commands.Spindle s.line (spindle_state (turn_of code) s.speed)) (record s { spindle = turn_of code }) h (record { joined = tt; ends = refl; radii = tt })
 perform_holds p setup (acts.Coolant code) s h =
-    stays p (commands.Coolant s.line (with_coolant code s.coolant)) (record s { coolant = with_coolant code s.coolant }) h (record { joined = tt; ends = refl })
-perform_holds p setup (acts.Override on) s h = stays p (commands.Override s.line on) s h (record { joined = tt; ends = refl })
-perform_holds p setup (acts.Dwell value) s h = stays p (commands.Dwell s.line (unsigned_abs value)) s h (record { joined = tt; ends = refl })
+    stays p (commands.Coolant s.line (with_coolant code s.coolant)) (record s { coolant = with_coolant code s.coolant }) h (record { joined = tt; ends = refl; radii = tt })
+perform_holds p setup (acts.Override on) s h = stays p (commands.Override s.line on) s h (record { joined = tt; ends = refl; radii = tt })
+perform_holds p setup (acts.Dwell value) s h = stays p (commands.Dwell s.line (unsigned_abs value)) s h (record { joined = tt; ends = refl; radii = tt })
 perform_holds p setup (acts.Plane plane) s h = h
 perform_holds p setup (acts.Units units) s h = h
 perform_holds p setup acts.RadiusOff s h = h

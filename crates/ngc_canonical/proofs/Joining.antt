@@ -1,4 +1,4 @@
--- Each step of a program leads its motions on from where the axes stand, and its commands stay few.
+-- Each step of a program leads its motions on from where the axes stand, its arcs have even radii, and its commands stay few.
 use Rattle.std.proofs.Common.{◌≡◌, ◌≤◌, ◌<◌, List, [], ◌∷◌, ◌++◌, length, Bool, true, false, Result, Ok, Err, refl, ap, sym, subst, ◌∙◌, arith, length-append}
 use Rattle.std.specs.Prelude.{IfOk, nat_lt, if◌then◌else◌}
 use Rattle.std.proofs.lemmas.Bool.Decides.{nat_tests}
@@ -10,6 +10,7 @@ use Rattle.ngc_canonical.specs.declared.fault.Fault.TheVariants.{TooManyCommands
 use Rattle.ngc_canonical.specs.declared.movement.Doing.{Doing}
 use Rattle.ngc_canonical.specs.declared.movement.Doing.TheVariants.{Moves, Mounts, Stays}
 use Rattle.ngc_canonical.specs.declared.movement.Motion.{Motion}
+use Rattle.ngc_canonical.specs.Joined.{HaveEvenRadii}
 use Rattle.ngc_canonical.specs.Movement.{end_of, doing, doings, motions_of, AreJoined}
 use Rattle.ngc_canonical.specs.Steps.{◌>>=◌}
 use Rattle.ngc_canonical.specs.State.{State, COMMAND_LIMIT, emit, at_place}
@@ -19,10 +20,11 @@ abbrev pub led_to : Point3 → List Motion → Point3
 led_to p [] = p
 led_to p (m ∷ ms) = led_to (end_of m) ms
 
--- the motions of these commands are joined, from p to q
+-- the motions of these commands are joined, from p to q, and those that are arcs have even radii
 pub record Leads (p : Point3) (commands : List Command) (q : Point3) : Type 0 where
   pub joined : AreJoined p (motions_of (doings commands))
   pub ends : led_to p (motions_of (doings commands)) ≡ q
+  pub radii : HaveEvenRadii (motions_of (doings commands))
 
 -- the commands so far lead from p to where the axes stand, and are few
 pub record IsTrail (p : Point3) (commands : List Command) (q : Point3) : Type 0 where
@@ -39,6 +41,10 @@ joined_append p (m ∷ ms) ns first second = (first.0, joined_append (end_of m) 
 led_append : (p : Point3) (ms ns : List Motion) → led_to p (ms ++ ns) ≡ led_to (led_to p ms) ns
 led_append p [] ns = refl
 led_append p (m ∷ ms) ns = led_append (end_of m) ms ns
+
+radii_append : (ms ns : List Motion) → HaveEvenRadii ms → HaveEvenRadii ns → HaveEvenRadii (ms ++ ns)
+radii_append [] ns first second = second
+radii_append (m ∷ ms) ns first second = (first.0, radii_append ms ns first.1 second)
 
 motions_append : (ds es : List Doing) → motions_of (ds ++ es) ≡ motions_of ds ++ motions_of es
 motions_append [] es = refl
@@ -59,6 +65,7 @@ leads_on p q r cs ds first second =
     record {
       joined = subst (AreJoined p) (sym e) (joined_append p ms ns first.joined from);
       ends = ap (led_to p) e ∙ led_append p ms ns ∙ to;
+      radii = subst HaveEvenRadii (sym e) (radii_append ms ns first.radii second.radii);
     }
 
 -- one command more

@@ -1,7 +1,10 @@
 -- What holds of the commands of every program. Our own.
 use Rattle.std.specs.Prelude.{◌≡◌, ◌≤◌, List, [], ◌∷◌, length, Ok, Bool}
+use Rattle.ngc_arc_geometry.specs.Radii.{HasEvenRadii}
 use Rattle.ngc_canonical.specs.declared.command.Command.{Command}
 use Rattle.ngc_canonical.specs.declared.command.Command.TheVariants as commands
+use Rattle.ngc_canonical.specs.declared.movement.Motion.{Motion}
+use Rattle.ngc_canonical.specs.declared.movement.Motion.TheVariants.{Straight, Along}
 use Rattle.ngc_canonical.specs.Meaning.{Program, meaning}
 use Rattle.ngc_canonical.specs.Movement.{doings, motions_of, AreJoined}
 use Rattle.ngc_canonical.specs.State.{Setup, COMMAND_LIMIT}
@@ -10,6 +13,20 @@ use Rattle.ngc_canonical.specs.State.{Setup, COMMAND_LIMIT}
 abbrev pub Joined : Type 0
 Joined = (program : Program) (setup : Setup) (block_delete : Bool) (commands : List Command) → meaning program setup block_delete ≡ Ok commands
     → AreJoined setup.machine.start (motions_of (doings commands))
+
+-- an arc has some radius, at most a little over two metres, and the same at both ends but for a few micrometres
+abbrev pub IsEvenIfArc : Motion → Type 0
+IsEvenIfArc (Straight start end) = Unit {0}
+IsEvenIfArc (Along arc) = HasEvenRadii arc
+
+abbrev pub HaveEvenRadii : List Motion → Type 0
+HaveEvenRadii [] = Unit {0}
+HaveEvenRadii (m ∷ ms) = IsEvenIfArc m × HaveEvenRadii ms
+
+-- so has each arc of every program
+abbrev pub ArcsHaveEvenRadii : Type 0
+ArcsHaveEvenRadii = (program : Program) (setup : Setup) (block_delete : Bool) (commands : List Command) → meaning program setup block_delete ≡ Ok commands
+    → HaveEvenRadii (motions_of (doings commands))
 
 -- there are at most a million
 abbrev pub FewCommands : Type 0

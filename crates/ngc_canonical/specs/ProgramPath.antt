@@ -2,14 +2,14 @@
 use Rattle.std.specs.Prelude.{◌≡◌, ℤ, List, [], ◌∷◌, ◌++◌}
 use Rattle.ngc_fixed_length.specs.declared.points.StepPos.{StepPos}
 use Rattle.ngc_fixed_length.specs.LinePath.{point, IsLinePath}
-use Rattle.ngc_arc_geometry.specs.WeakArcPath.{IsWeakArcPath}
+use Rattle.ngc_arc_geometry.specs.ArcPath.{IsArcPath}
 use Rattle.ngc_canonical.specs.declared.movement.Motion.{Motion}
 use Rattle.ngc_canonical.specs.declared.movement.Motion.TheVariants.{Straight, Along}
 
--- the paths that a motion may take: a line's follow it, an arc's stay in its swept box
+-- the paths that a motion may take: those that follow it
 abbrev pub IsPathOf : ℤ → Motion → List StepPos → Type 0
 IsPathOf step (Straight start end) path = IsLinePath step start end path
-IsPathOf step (Along arc) path = IsWeakArcPath step arc path
+IsPathOf step (Along arc) path = IsArcPath step arc path
 
 -- one path for each motion, in order, joined at their common ends, from the grid point p on
 abbrev pub IsPathOfAll : ℤ → StepPos → List Motion → List StepPos → Type 0

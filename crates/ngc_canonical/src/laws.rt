@@ -1,10 +1,16 @@
 //! Laws about the definitions alone.
-ghost use Rattle.ngc_canonical.specs.Joined.{Joined, FewCommands, EndsLast};
+ghost use Rattle.ngc_canonical.specs.Joined.{Joined, ArcsHaveEvenRadii, FewCommands, EndsLast};
 
 /// The motions of a program are joined: the first begins at the machine's start point, and each further one where the motion
 /// before it ends.
 pub fn joined()
     ensures { Joined }
+{}
+
+/// Each arc of a program has some radius, at most a little over two metres, and its radii at start and end are the same but for
+/// a few micrometres.
+pub fn arcs_have_even_radii()
+    ensures { ArcsHaveEvenRadii }
 {}
 
 /// A program has at most a million commands.

@@ -10,7 +10,7 @@ ghost use Rattle.ngc_parameters.specs.Stored.{pairs_of, changes_of};
 ghost use Rattle.ngc_canonical.specs.Meaning.{effects_of as effects_in, execute as executed, with_settings, after_line, past_last, commands_of, GivesMeaning, GivesEffects, meaning, program_said, mark_of as marked_at};
 ghost use Rattle.ngc_canonical.specs.Interpreter.{setup_of, state_of, Becomes, BecomesAt};
 ghost use Rattle.ngc_canonical.specs.Movement.{doings, motions_of, AreJoined};
-ghost use Rattle.ngc_canonical.specs.Joined.{EndIsLast};
+ghost use Rattle.ngc_canonical.specs.Joined.{HaveEvenRadii, EndIsLast};
 
 use crate::command::Command;
 use crate::fault::{Fault, ProgramFault};
@@ -159,6 +159,8 @@ pub fn interpret<A: Allocator + Copy>(
     ensures commands { (rs : List Reading) → AreReadings (text_in program.now).lines rs → GivesMeaning (λ v. v.items) result (meaning (program_said (text_in program.now) rs) (setup_of machine.now tools.now) block_delete) }
     // The first motion begins at the machine's start point, and each further one where the motion before it ends.
     ensures joined { IfOk result (λ v. AreJoined (file_of machine.now).start (motions_of (doings v.items))) }
+    // Each arc has some radius, in range, and nearly the same at both ends.
+    ensures radii { IfOk result (λ v. HaveEvenRadii (motions_of (doings v.items))) }
     ensures count { IfOk result (λ v. length v.items ≤ 1000000) }
     // Nothing comes after the end.
     ensures ended { IfOk result (λ v. EndIsLast v.items) }

@@ -27,5 +27,5 @@ covered (pos g) (Straight b e) cuts path k h chain way i =
     covered_line g (greatest_distance (grid (pos g) b) (grid (pos g) e)) k b e (are_several cuts) cuts path
     (omega (arith, ints, h)) (omega (arith, i, way.count)) way chain
 covered (pos g) (Along a) cuts path k h chain way i =
-    covered_arc (pos g) a cuts (point path k) chain (way.1.inside k (omega (arith, i, way.1.count)))
+    covered_arc (pos g) a cuts (point path k) chain (way.1.weak.inside k (omega (arith, i, way.1.weak.count)))
 covered (negsuc g) m cuts path k h chain way i = absurd (omega (arith, ints, h))

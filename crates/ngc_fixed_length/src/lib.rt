@@ -18,6 +18,7 @@ pub use length::Nm;
 pub use modes::{Distance, FeedMode, Plane, ReturnMode, System, Turn};
 pub use points::{GridBox, Point2, Point3, StepPos};
 pub use roots::{root_ceil, root_floor};
+pub use rounding::rounded_quotient;
 pub use units::Units;
 pub use value::Value;
 pub use writing::{WriteFault, write_all};

@@ -6,6 +6,8 @@ mod arcs;
 #[cfg(test)]
 mod collisions;
 #[cfg(test)]
+mod followed;
+#[cfg(test)]
 mod given;
 #[cfg(test)]
 mod paths;

@@ -1,8 +1,6 @@
-use crate::given::{Format, arc, ends, length, point, steps};
-use ngc_arc_geometry::Arc;
+use crate::given::{Format, arc, ends, length, point};
 use ngc_fixed_length::{Plane, StepPos, Turn, Units};
 use ngc_step_kernel::{ArcKernel, ArcPath, AxisMove, LinePath, Move, Path};
-use std::process::Abort;
 use std::test::Fail;
 
 #[test]
@@ -26,34 +24,22 @@ fn a_line_goes_to_its_end(rt: HostRuntime) {
     assert_eq!(rt; path.position(), StepPos { x: 2, y: 1, z: 0 });
 }
 
-fn path_of<K: ArcKernel>(rt: &impl Abort, arc: &Arc) -> K {
-    K::new(arc, length(rt, 10_000))
-}
-
+// Roots are taken for a half circle, and none on the way.
 #[test]
-fn an_arc_goes_to_its_end(rt: HostRuntime) -> Result<(), Fail> {
-    let ends = ends(
-        &rt,
-        Plane::XY,
-        Turn::Clockwise,
-        (0, 0, 0),
-        (10_000_000, 0, 0),
-    );
-    let half = arc(
-        &rt,
-        Units::Millimetres,
-        &ends,
-        Format::Offsets(Some(5_000_000), None),
-    )?;
-    let mut path: ArcPath = path_of(&rt, &half);
-    assert_eq!(rt; path.remaining(), 1000);
-    assert_eq!(rt; path.position(), steps((0, 0, 0)));
-    for _ in 0..1000 {
+fn roots_are_taken_at_first(rt: HostRuntime) -> Result<(), Fail> {
+    let end = (10_000_000, 0, 0);
+    let ends = ends(&rt, Plane::XY, Turn::Clockwise, (0, 0, 0), end);
+    let format = Format::Offsets(Some(5_000_000), None);
+    let half = arc(&rt, Units::Millimetres, &ends, format)?;
+    let mut path = ArcPath::new(&half, length(&rt, 10_000));
+    let roots = path.roots();
+    assert!(rt; 0 < roots && roots <= 16);
+    for _ in 0..path.remaining() {
         if path.remaining() > 0 {
             path.advance();
         }
     }
     assert_eq!(rt; path.remaining(), 0);
-    assert_eq!(rt; path.position(), steps((1000, 0, 0)));
+    assert_eq!(rt; path.roots(), roots);
     Ok(())
 }

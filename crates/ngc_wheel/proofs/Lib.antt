@@ -14,3 +14,5 @@ pub mod OverAxis
 pub mod OneRoll
 pub mod Wheeling
 pub mod CircleLaws
+pub mod SmallCircles
+pub mod Beginnings

@@ -130,7 +130,7 @@ diagonal_near g t y ex ey limit some past refused room =
 
 -- a move outward leads beyond the ray: the point before it would be too far in.
 -- With d the product of point and e, and c their cross product, squares are shared: d*d + c*c is the product of both squared distances.
-shared : (x y ex ey d c : ℕ) → x * ey ≡ y * ex + c → d ≡ x * ex + y * ey → d * d + c * c ≡ (x * x + y * y) * (ex * ex + ey * ey)
+pub shared : (x y ex ey d c : ℕ) → x * ey ≡ y * ex + c → d ≡ x * ex + y * ey → d * d + c * c ≡ (x * x + y * y) * (ex * ex + ey * ey)
 shared x y ex ey d c cross dot =
     let a : (x * ey) * (x * ey) ≡ (y * ex + c) * (y * ex + c) = rw cross in
     let b : y * ex * (x * ey) ≡ y * ex * (y * ex + c) = rw cross in

@@ -11,7 +11,7 @@ use Rattle.ngc_wheel.specs.Around.{around}
 neg_right : (k x : ℕ) → pos k *ℤ neg_ℤ (pos x) ≡ neg_ℤ (pos (k * x))
 neg_right k x = let e = neg_is (pos x) in omega (arith, ints, ap (λ t. k * t) e.0, ap (λ t. k * t) e.1)
 
-neg_left : (q s : ℕ) → neg_ℤ (pos q) *ℤ pos s ≡ neg_ℤ (pos (q * s))
+pub neg_left : (q s : ℕ) → neg_ℤ (pos q) *ℤ pos s ≡ neg_ℤ (pos (q * s))
 neg_left q s = let e = neg_is (pos q) in omega (arith, ints, ap (λ t. t * s) e.0, ap (λ t. t * s) e.1)
 
 both_neg : (q s : ℕ) → neg_ℤ (pos q) *ℤ neg_ℤ (pos s) ≡ pos (q * s)

@@ -5,3 +5,4 @@ pub mod Rolling
 pub mod Bounds
 pub mod Directions
 pub mod Turning
+pub mod Entering

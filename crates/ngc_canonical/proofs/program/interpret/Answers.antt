@@ -6,7 +6,7 @@ use Rattle.ngc_canonical.specs.declared.fault.ProgramFault.{ProgramFault}
 use Rattle.ngc_canonical.specs.Meaning.{meaning, program_said, past_last, commands_of, GivesMeaning}
 use Rattle.ngc_canonical.specs.Interpreter.{setup_of, state_of}
 use Rattle.ngc_canonical.proofs.EndingLines.{line_ended, line_on, finished_ended}
-use Rattle.ngc_canonical.proofs.JoinedLines.{went_on, handed_out, finished_joined, finished_few}
+use Rattle.ngc_canonical.proofs.JoinedLines.{went_on, handed_out, finished_joined, finished_radii, finished_few}
 use Rattle.ngc_canonical.proofs.Lines.{NextLine, next_line, line_at, bytes_at, seen, left_refused, left_ended, left_on, left_none, refused_fails}
 use Rattle.ngc_canonical.proofs.program.interpret.Goals as goal
 
@@ -73,6 +73,14 @@ returns-then-interpreter-clause-joined g c =
     c.loop-index.invariant.holds (c.in-Ok-take_line.ensures here.line.bytes shows shows.reading shows.reads) in
     (handed_out (file_of c.args.machine.now).start (state_of c.take_line.new.self) _ holds c.into_commands.ensures).trail.leads.joined
 
+pub returns-then-interpreter-clause-radii : goal.returns-then-interpreter-clause-radii
+returns-then-interpreter-clause-radii g c =
+    let here = line_at (text_in c.args.program.now).lines c.loop-index.index c.number.result c.number.ensures in
+    let shows = seen here.line.bytes (c.load.ensures here.line.bytes (bytes_at _ c.loop-index.index c.number.result here)) c.view.ensures.deleted c.view.ensures.parts in
+    let holds = went_on (file_of c.args.machine.now).start (setup_of c.args.machine.now c.args.tools.now) c.args.block_delete c.number.result shows.reading (state_of c.loop-index.interpreter) (state_of c.take_line.new.self)
+    c.loop-index.invariant.holds (c.in-Ok-take_line.ensures here.line.bytes shows shows.reading shows.reads) in
+    (handed_out (file_of c.args.machine.now).start (state_of c.take_line.new.self) _ holds c.into_commands.ensures).trail.leads.radii
+
 pub returns-then-interpreter-clause-count : goal.returns-then-interpreter-clause-count
 returns-then-interpreter-clause-count g c =
     let here = line_at (text_in c.args.program.now).lines c.loop-index.index c.number.result c.number.ensures in
@@ -84,6 +92,10 @@ returns-then-interpreter-clause-count g c =
 pub returns-clause-joined : goal.returns-clause-joined
 returns-clause-joined g c =
     finished_joined (file_of c.args.machine.now).start c.mark_of.result c.len.result (state_of c.loop-index.interpreter) (λ v. v.items) c.finish.result c.loop-index.invariant.holds c.finish.ensures
+
+pub returns-clause-radii : goal.returns-clause-radii
+returns-clause-radii g c =
+    finished_radii (file_of c.args.machine.now).start c.mark_of.result c.len.result (state_of c.loop-index.interpreter) (λ v. v.items) c.finish.result c.loop-index.invariant.holds c.finish.ensures
 
 pub returns-clause-count : goal.returns-clause-count
 returns-clause-count g c =

@@ -1,0 +1,112 @@
+-- Each arc of commands for which a certificate is valid lies near zero, with even radii.
+use Rattle.std.proofs.Common.{ℕ, zero, suc, ◌≤◌, arith, List, [], ◌∷◌, drop, true, false, ℤ, pos, negsuc, ◌*ℤ◌, ◌≤ℤ◌}
+use Rattle.std.specs.Prelude.{Option, Bool, unsigned_abs}
+use Rattle.std.proofs.lemmas.Int.{ints}
+use Rattle.ngc_fixed_length.specs.declared.points.Point3.{Point3}
+use Rattle.ngc_fixed_length.specs.declared.points.StepPos.{StepPos}
+use Rattle.ngc_fixed_length.specs.Boxes.{IsIn}
+use Rattle.ngc_fixed_length.specs.Grid.{grid}
+use Rattle.ngc_fixed_length.specs.Length.{IsStep}
+use Rattle.ngc_fixed_length.specs.Rounding.{nearest}
+use Rattle.ngc_fixed_length.proofs.Nearest.{nearest_near}
+use Rattle.ngc_arc_geometry.specs.Radii.{IsArc}
+use Rattle.ngc_arc_geometry.specs.Shape.{ArcShape, IsNear, END_LIMIT}
+use Rattle.ngc_arc_geometry.specs.Swept.{swept_box}
+use Rattle.ngc_arc_geometry.proofs.SweptEnds.{start_inside, end_inside}
+use Rattle.ngc_machine.specs.Machine.{MachineFile}
+use Rattle.ngc_machine.specs.MachineRanges.{IsMachine}
+use Rattle.ngc_machine.specs.Ranges.{PLACE_LIMIT}
+use Rattle.ngc_machine.specs.declared.tools.Tool.{Tool}
+use Rattle.ngc_canonical.specs.declared.command.Command.{Command}
+use Rattle.ngc_canonical.specs.Joined.{IsEvenIfArc, HaveEvenRadii}
+use Rattle.ngc_canonical.specs.Movement.{doing, doings, motions_of, end_of}
+use Rattle.ngc_canonical.specs.declared.movement.Motion.{Motion}
+use Rattle.ngc_canonical.specs.declared.movement.Motion.TheVariants.{Straight, Along}
+use Rattle.ngc_canonical.specs.declared.movement.Doing.{Doing}
+use Rattle.ngc_canonical.specs.declared.movement.Doing.TheVariants.{Moves, Mounts, Stays}
+use Rattle.ngc_collision.specs.Body.{IsSafe}
+use Rattle.ngc_certificate_text.specs.Certificate.{Entry}
+use Rattle.ngc_certificate_text.specs.declared.piece.Cut.{Cut}
+use Rattle.ngc_certificate_text.specs.declared.piece.Piece.{Piece}
+use Rattle.ngc_certificate.specs.Chain.{stretch, first_cut, are_several}
+use Rattle.ngc_certificate.specs.PieceFault.{AreValidFrom, ArePiecesValid}
+use Rattle.ngc_certificate.specs.Valid.{AreClearFrom, IsValid}
+use Rattle.ngc_certificate.proofs.SafeInPiece.{safe_in_piece}
+use Rattle.ngc_certificate.proofs.Truths.{both, le_of}
+use Rattle.ngc_behaviour.proofs.SafePositions.{one_step}
+
+abbrev pub IsArcIfAlong : Motion → Type 0
+IsArcIfAlong (Straight b e) = Unit {0}
+IsArcIfAlong (Along a) = IsArc a
+
+abbrev pub AreArcs : List Motion → Type 0
+AreArcs [] = Unit {0}
+AreArcs (m ∷ ms) = IsArcIfAlong m × AreArcs ms
+
+-- ---- a place whose grid point is within travel
+
+near_zero : (z step low high : ℤ) → IsStep step → unsigned_abs low ≤ PLACE_LIMIT → unsigned_abs high ≤ PLACE_LIMIT →
+    low ≤ℤ (nearest z step *ℤ step) → (nearest z step *ℤ step) ≤ℤ high → unsigned_abs z ≤ END_LIMIT
+near_zero z (pos s) low high step l h above below =
+    let near = nearest_near z s (omega (arith, ints, step.least)) in omega (arith, ints, near, step.greatest, l, h, above, below)
+near_zero z (negsuc s) low high step l h above below = absurd (omega (arith, ints, step.least))
+
+near_place : (machine : MachineFile) (tool : Option Tool) (p : Point3) → IsMachine machine → IsSafe machine tool (grid machine.step p) → IsNear p
+near_place machine tool p m safe =
+    let t = m.travel in
+    let lowhigh = both _ _ safe.inside in
+    let low = both _ _ lowhigh.0 in let low_yz = both _ _ low.1 in
+    let high = both _ _ lowhigh.1 in let high_yz = both _ _ high.1 in
+    record {
+      x = near_zero p.x machine.step machine.low.x machine.high.x m.step t.low_sized.x t.high_sized.x (le_of _ _ low.0) (le_of _ _ high.0);
+      y = near_zero p.y machine.step machine.low.y machine.high.y m.step t.low_sized.y t.high_sized.y (le_of _ _ low_yz.0) (le_of _ _ high_yz.0);
+      z = near_zero p.z machine.step machine.low.z machine.high.z m.step t.low_sized.z t.high_sized.z (le_of _ _ low_yz.1) (le_of _ _ high_yz.1);
+    }
+
+-- ---- an arc whose pieces are valid
+
+-- the first piece holds the whole arc's box already
+safe_in_swept : (machine : MachineFile) (tool : Option Tool) (a : ArcShape) (several : Bool) (begin : Cut) (pieces : List Piece) (q : StepPos) → pos 1 ≤ℤ machine.step →
+    AreValidFrom machine tool (Along a) several begin pieces → IsIn (swept_box machine.step a) q → IsSafe machine tool q
+safe_in_swept machine tool a several begin [] q s v k = absurd v
+safe_in_swept machine tool a several begin (p ∷ []) q s v k = safe_in_piece machine tool (Along a) (stretch several true begin) p q s v k
+safe_in_swept machine tool a several begin (p ∷ r ∷ ps) q s v k = safe_in_piece machine tool (Along a) (stretch several false begin) p q s v.0 k
+
+arc_if_valid : (machine : MachineFile) (tool : Option Tool) (m : Motion) (pieces : List Piece) → IsMachine machine → ArePiecesValid machine tool m pieces → IsEvenIfArc m → IsArcIfAlong m
+arc_if_valid machine tool (Straight b e) pieces h v even = tt
+arc_if_valid machine tool (Along a) pieces h v even =
+    let safe_at : (q : StepPos) → IsIn (swept_box machine.step a) q → IsSafe machine tool q =
+    λ q. safe_in_swept machine tool a (are_several pieces) (first_cut (Along a)) pieces q (one_step machine h) v in
+    record {
+      start = near_place machine tool a.start h (safe_at (grid machine.step a.start) (start_inside machine.step a h.step));
+      end = near_place machine tool a.end h (safe_at (grid machine.step a.end) (end_inside machine.step a h.step));
+      some_radius = even.some_radius;
+      radius = even.radius;
+      even = even.even;
+    }
+
+-- ---- all of them
+
+clear_arcs : (machine : MachineFile) (tool : Option Tool) (place : Point3) (ds : List Doing) (entries : List Entry) → IsMachine machine →
+    AreClearFrom machine tool place ds entries → HaveEvenRadii (motions_of ds) → AreArcs (motions_of ds)
+clear_arcs machine tool place [] entries h c even = tt
+clear_arcs machine tool place (Stays ∷ ds) entries h c even = clear_arcs machine tool place ds entries h c even
+clear_arcs machine tool place (Mounts new ∷ ds) entries h c even = clear_arcs machine new place ds entries h c.1 even
+clear_arcs machine tool place (Moves m ∷ ds) [] h c even = absurd c
+clear_arcs machine tool place (Moves m ∷ ds) (entry ∷ entries) h c even =
+    (arc_if_valid machine tool m entry.pieces h c.0 even.0, clear_arcs machine tool (end_of m) ds entries h c.1 even.1)
+
+pub are_arcs : (machine : MachineFile) (commands : List Command) (entries : List Entry) → IsMachine machine → IsValid machine commands entries →
+    HaveEvenRadii (motions_of (doings commands)) → AreArcs (motions_of (doings commands))
+are_arcs machine commands entries h v even = clear_arcs machine _ machine.start (doings commands) entries h v.clear even
+
+-- and of those that are left
+behind_first : (d : Doing) (ds : List Doing) → AreArcs (motions_of (d ∷ ds)) → AreArcs (motions_of ds)
+behind_first (Moves m) ds arcs = arcs.1
+behind_first (Mounts tool) ds arcs = arcs
+behind_first Stays ds arcs = arcs
+
+pub arcs_left : (n : ℕ) (cs : List Command) → AreArcs (motions_of (doings cs)) → AreArcs (motions_of (doings (drop n cs)))
+arcs_left zero cs arcs = arcs
+arcs_left (suc n) [] arcs = tt
+arcs_left (suc n) (c ∷ cs) arcs = arcs_left n cs (behind_first (doing c) (doings cs) arcs)

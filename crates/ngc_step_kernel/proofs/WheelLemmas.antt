@@ -1,0 +1,11 @@
+-- A wheel's points as a recursion.
+use Rattle.std.proofs.Common.{◌≡◌, ℕ, suc, ◌+◌, arith, subst}
+use Rattle.ngc_wheel.specs.declared.spoke.Spoke.{Spoke}
+use Rattle.ngc_wheel.specs.Wheel.{next_roll, rolled}
+use Rattle.ngc_wheel.specs.Rolling.{spoke_at}
+use Rattle.ngc_wheel.proofs.Wheeling.{next_spoke}
+
+pub spoke_on : (g limit : ℕ) (s : Spoke) (k : ℕ) → spoke_at g limit s (k + 1) ≡ rolled g (next_roll g limit (spoke_at g limit s k)) (spoke_at g limit s k)
+spoke_on g limit s k =
+    let e : suc k ≡ k + 1 = omega arith in
+    subst (λ t. spoke_at g limit s t ≡ rolled g (next_roll g limit (spoke_at g limit s k)) (spoke_at g limit s k)) e (next_spoke g limit s k)

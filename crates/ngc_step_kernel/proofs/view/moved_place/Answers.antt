@@ -1,0 +1,67 @@
+use Rattle.std.proofs.Common.{arith, ◌≡◌, ◌≤◌, ◌*◌, pos, to_z, of_z, w32, w64}
+use Rattle.std.specs.Int.{w128}
+use Rattle.std.proofs.lemmas.Int.{ints}
+use Rattle.std.proofs.lemmas.Nat.{mul-le}
+use Rattle.ngc_step_kernel.proofs.ViewLemmas.{moved_sum, moved_near, moved_small}
+use Rattle.ngc_step_kernel.proofs.view.moved_place.Goals as goal
+
+pub rounded_quotient-requires-clause-dividend : goal.rounded_quotient-requires-clause-dividend
+rounded_quotient-requires-clause-dividend c =
+    let r = c.requires in
+    let centre : to_z w64 (of_z w64 c.args.centre) ≡ c.args.centre = omega (arith, ints, r.centre) in
+    let way : to_z w64 (of_z w64 c.args.way) ≡ c.args.way = omega (arith, ints, r.way, r.radius) in
+    let a = rw centre at c.scaled.ensures.value in
+    let b = rw centre at c.scaled.ensures.bound in
+    let d = rw way at c.scaled-2.ensures.value in
+    let e = rw way at c.scaled-2.ensures.bound in
+    (moved_sum c.args.centre c.args.way _ _ c.args.radius c.args.other a b d e r.centre r.way r.radius r.other).small
+
+pub returns-clause-near : goal.returns-clause-near
+returns-clause-near c =
+    let r = c.requires in
+    let centre : to_z w64 (of_z w64 c.args.centre) ≡ c.args.centre = omega (arith, ints, r.centre) in
+    let way : to_z w64 (of_z w64 c.args.way) ≡ c.args.way = omega (arith, ints, r.way, r.radius) in
+    let a = rw centre at c.scaled.ensures.value in
+    let b = rw centre at c.scaled.ensures.bound in
+    let d = rw way at c.scaled-2.ensures.value in
+    let e = rw way at c.scaled-2.ensures.bound in
+    let sum = moved_sum c.args.centre c.args.way _ _ c.args.radius c.args.other a b d e r.centre r.way r.radius r.other in
+    let few : c.args.radius * c.args.step ≤ 2000020000 * 50000 = mul-le c.args.radius c.args.step 2000020000 50000 r.radius r.greatest in
+    let div : to_z w128 (of_z w128 c.from.result) ≡ pos (c.args.radius * c.args.step) = omega (arith, ints, few, c.from.ensures) in
+    let near = moved_near c.args.step c.args.radius c.args.other c.args.centre c.args.way _ _ c.rounded_quotient.result c.rounded_quotient.ensures.nearest sum.is div in
+    let small = moved_small c.args.step c.args.radius c.args.other c.args.centre c.args.way _ c.rounded_quotient.result r.some r.least r.greatest sum near in
+    let same : to_z w32 (of_z w32 (to_z w128 (of_z w128 c.rounded_quotient.result))) ≡ c.rounded_quotient.result = omega (arith, ints, small) in
+    rw same near
+
+pub overflow_cast-result : goal.overflow_cast-result
+overflow_cast-result c =
+    let r = c.requires in
+    let centre : to_z w64 (of_z w64 c.args.centre) ≡ c.args.centre = omega (arith, ints, r.centre) in
+    let way : to_z w64 (of_z w64 c.args.way) ≡ c.args.way = omega (arith, ints, r.way, r.radius) in
+    let a = rw centre at c.scaled.ensures.value in
+    let b = rw centre at c.scaled.ensures.bound in
+    let d = rw way at c.scaled-2.ensures.value in
+    let e = rw way at c.scaled-2.ensures.bound in
+    let sum = moved_sum c.args.centre c.args.way _ _ c.args.radius c.args.other a b d e r.centre r.way r.radius r.other in
+    let few : c.args.radius * c.args.step ≤ 2000020000 * 50000 = mul-le c.args.radius c.args.step 2000020000 50000 r.radius r.greatest in
+    let div : to_z w128 (of_z w128 c.from.result) ≡ pos (c.args.radius * c.args.step) = omega (arith, ints, few, c.from.ensures) in
+    let near = moved_near c.args.step c.args.radius c.args.other c.args.centre c.args.way _ _ c.rounded_quotient.result c.rounded_quotient.ensures.nearest sum.is div in
+    let small = moved_small c.args.step c.args.radius c.args.other c.args.centre c.args.way _ c.rounded_quotient.result r.some r.least r.greatest sum near in
+    omega (arith, ints, small)
+
+pub returns-clause-range : goal.returns-clause-range
+returns-clause-range c =
+    let r = c.requires in
+    let centre : to_z w64 (of_z w64 c.args.centre) ≡ c.args.centre = omega (arith, ints, r.centre) in
+    let way : to_z w64 (of_z w64 c.args.way) ≡ c.args.way = omega (arith, ints, r.way, r.radius) in
+    let a = rw centre at c.scaled.ensures.value in
+    let b = rw centre at c.scaled.ensures.bound in
+    let d = rw way at c.scaled-2.ensures.value in
+    let e = rw way at c.scaled-2.ensures.bound in
+    let sum = moved_sum c.args.centre c.args.way _ _ c.args.radius c.args.other a b d e r.centre r.way r.radius r.other in
+    let few : c.args.radius * c.args.step ≤ 2000020000 * 50000 = mul-le c.args.radius c.args.step 2000020000 50000 r.radius r.greatest in
+    let div : to_z w128 (of_z w128 c.from.result) ≡ pos (c.args.radius * c.args.step) = omega (arith, ints, few, c.from.ensures) in
+    let near = moved_near c.args.step c.args.radius c.args.other c.args.centre c.args.way _ _ c.rounded_quotient.result c.rounded_quotient.ensures.nearest sum.is div in
+    let small = moved_small c.args.step c.args.radius c.args.other c.args.centre c.args.way _ c.rounded_quotient.result r.some r.least r.greatest sum near in
+    let same : to_z w32 (of_z w32 (to_z w128 (of_z w128 c.rounded_quotient.result))) ≡ c.rounded_quotient.result = omega (arith, ints, small) in
+    rw same small

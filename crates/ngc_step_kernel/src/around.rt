@@ -1,0 +1,161 @@
+ghost use Rattle.std.specs.Prelude.{◌≡◌, ◌≤◌, ◌+◌, ◌*◌, ◌/◌, min, max, nat_lt, pos, ◌-ℤ◌, ◌*ℤ◌, int_lt};
+ghost use Rattle.ngc_wheel.specs.Quadrants.{quadrants_to};
+ghost use Rattle.ngc_wheel.specs.Wheel.{square, is_before, IsSmall};
+ghost use Rattle.ngc_step_kernel.specs.About.{IsAbout};
+ghost use Rattle.ngc_arc_geometry.specs.Radii.{IsArc};
+ghost use Rattle.ngc_arc_geometry.specs.Shape.{ArcShape};
+ghost use Rattle.ngc_step_kernel.specs.Course.{IsPlan, course_at};
+ghost use Rattle.ngc_step_kernel.specs.PlaneCourse.{laid, FollowsInPlane};
+ghost use Rattle.ngc_step_kernel.specs.Entered.{is_steep, IsEntered};
+ghost use Rattle.ngc_step_kernel.specs.Spots.{IsSpot, straight_moves};
+ghost use Rattle.ngc_step_kernel.specs.View.{squared, place_of, way_from, quadrants_left, view_of, IsView, IsNearestSpot};
+ghost use Rattle.ngc_step_kernel.specs.Ways.{IsWay};
+
+use crate::plan::Plan;
+use crate::roots::Roots;
+use crate::round::{Way, entering, limit_of};
+use crate::spot::{PlaneMove, Spot};
+use crate::view::View;
+use ngc_wheel::{Quadrant, Spoke, Wheel};
+
+/// Where a wheel begins: a grid point, and the same about the centre.
+#[derive(Clone, Copy, Debug)]
+struct Entry {
+    spot: Spot,
+    spoke: Spoke,
+}
+
+/// Whether a way is nearer to the half axes beside a quadrant than to those along it.
+fn is_steep(way: &Way, quadrant: Quadrant) -> bool
+    ensures { result ≡ is_steep quadrant way.now }
+{
+    let u = way.u.unsigned_abs();
+    let v = way.v.unsigned_abs();
+    match quadrant {
+        Quadrant::First | Quadrant::Third => u < v,
+        Quadrant::Second | Quadrant::Fourth => v < u,
+    }
+}
+
+impl Entry {
+    /// At the joint, or a move on from it where the joint lies behind the start's direction.
+    fn of(view: &View, joint: Spot, step: u64, radius: u64, limit: u64) -> Entry
+        requires view { IsView view.now }
+        requires joint { IsSpot joint }
+        requires near { 12 * squared (way_from step view.now.centre joint) ≤ 12 * (radius * radius) + 17 * (radius * step) + 6 * (step * step) }
+        requires radius { radius ≤ 2000020000 }
+        requires least { 500 ≤ step }
+        requires greatest { step ≤ 50000 }
+        ensures about { IsAbout step (place_of view.now.centre) result.spot result.spoke }
+        ensures entered { IsEntered step limit view.now.start (way_from step view.now.centre joint) result.spoke }
+        ensures beside { straight_moves joint result.spot ≤ 1 }
+        ensures near { square result.spoke.x result.spoke.y ≤ (radius + 2 * step) * (radius + 2 * step) }
+    {
+        let way = view.way_to(&joint, step);
+        let first = way.spoke();
+        if view.start.cross(&way) < 0 {
+            let roll = entering(first, is_steep(&view.start, first.quadrant), step, limit);
+            Entry {
+                spot: joint.moved(PlaneMove::of(roll, first.quadrant)),
+                spoke: first.rolled(roll, step),
+            }
+        } else {
+            Entry {
+                spot: joint,
+                spoke: first,
+            }
+        }
+    }
+}
+
+/// How many quadrants on the end lies from a wheel's first point, or none where its direction is reached before the wheel.
+fn quadrants_left(view: &View, first: &Spoke, end: &Spoke) -> Option<u32>
+    requires start { IsWay view.now.start }
+    requires end { IsWay view.now.end }
+    requires first { IsSmall first.now }
+    requires last { IsSmall end.now }
+    ensures { result ≡ quadrants_left (quadrants_to first.now.quadrant end.now.quadrant) (int_lt (pos 0) ((view.now.start.u *ℤ view.now.end.v) -ℤ (view.now.start.v *ℤ view.now.end.u))) (is_before first.now end.now) }
+{
+    let is_short = 0 < view.start.cross(&view.end);
+    let is_before = first.is_before(end);
+    match first.quadrant.quadrants_to(end.quadrant) {
+        0 if !is_short => Some(4),
+        0 if !is_before => None,
+        3 if is_short => None,
+        quadrants => Some(quadrants),
+    }
+}
+
+/// Whether the lesser radius is below one and a half steps.
+fn is_tiny(view: &View, step: u64) -> bool
+    requires start { IsWay view.now.start }
+    requires end { IsWay view.now.end }
+    requires greatest { step ≤ 50000 }
+    ensures { result ≡ nat_lt (4 * min (squared view.now.start) (squared view.now.end)) (9 * (step * step)) }
+{
+    let lesser = view.start.square().min(view.end.square());
+    4 * lesser < 9 * u128::from(step * step)
+}
+
+/// The radius of the circle that a wheel rolls on: the end's, or two and a quarter steps where that is less.
+fn circle_of(radius: u64, step: u64) -> u64
+    requires radius { radius ≤ 2000020000 }
+    requires short { step ≤ 50000 }
+    ensures value { result ≡ max radius (9 * step / 4 + 1) }
+    ensures bound { result ≤ 2000020000 }
+{
+    radius.max(9 * step / 4 + 1)
+}
+
+impl Plan {
+    /// From an arc's start to its end, round its centre: straight where it is tiny; else by the joint, the entry and a wheel, but
+    /// without the wheel where the end's direction is reached before it.
+    ///
+    /// It takes two roots, or none.
+    pub(crate) fn around<W: Wheel + Drop>(
+        view: &View,
+        start: Spot,
+        end: Spot,
+        step: u64,
+        roots: &mut Roots,
+    ) -> Plan
+        requires view { IsView view.now }
+        requires start { IsSpot start }
+        requires end { IsSpot end }
+        requires start_at { IsNearestSpot step view.now.centre view.now.start start }
+        requires end_at { IsNearestSpot step view.now.centre view.now.end end }
+        requires least { 500 ≤ step }
+        requires greatest { step ≤ 50000 }
+        requires roots { roots.old.taken ≤ 14 }
+        ensures plan { IsPlan result }
+        ensures start { result.start ≡ start }
+        ensures end { result.end ≡ end }
+        ensures roots { roots.new.taken ≤ roots.old.taken + 2 }
+        ensures follows { (a : ArcShape) → view.now ≡ view_of a → IsArc a → FollowsInPlane a step result.moves (λ j. laid step a.turn (course_at result j)) }
+    {
+        if is_tiny(view, step) {
+            return Plan::straight(start, end, step);
+        }
+        let radius = roots.ceil(view.start.square());
+        let other = roots.ceil(view.end.square());
+        let circle = circle_of(other, step);
+        let joint = view.joint(radius, circle, step);
+        let limit = limit_of(circle, step);
+        let entry = Entry::of(view, joint, step, circle, limit);
+        let last = view.end.spoke();
+        match quadrants_left(view, &entry.spoke, &last) {
+            None => Plan::by_joint(start, joint, end, step),
+            Some(quadrants) => Plan::round::<W>(
+                start,
+                joint,
+                entry.spot,
+                end,
+                entry.spoke,
+                &last,
+                quadrants,
+                step,
+                limit,
+            ),
+        }
+    }
+}

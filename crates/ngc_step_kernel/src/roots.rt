@@ -1,0 +1,23 @@
+ghost use Rattle.std.specs.Prelude.{◌≡◌, ℕ, ◌+◌, ◌*◌, ◌^◌, ◌<◌, ◌≤◌};
+
+use ngc_fixed_length::root_ceil;
+
+/// Takes all roots that the way round an arc needs, and counts them.
+#[derive(Debug, Drop)]
+pub(crate) struct Roots {
+    pub taken: u64,
+}
+
+impl Roots {
+    /// The least whole number whose square is at least `x`.
+    pub(crate) fn ceil(&mut self, x: u128) -> u64
+        requires small { x ≤ 10 ^ 38 }
+        requires few { self.old.taken < 16 }
+        ensures square { x ≤ result * result }
+        ensures least { (r : ℕ) → x ≤ r * r → result ≤ r }
+        ensures counted { self.new.taken ≡ self.old.taken + 1 }
+    {
+        self.taken += 1;
+        root_ceil(x)
+    }
+}

@@ -1,0 +1,90 @@
+ghost use Rattle.std.specs.Prelude.{◌≡◌, ◌+◌, ◌*◌, ◌/◌, ◌≤◌, ◌<◌, unsigned_abs, ℤ, ◌-ℤ◌, ◌*ℤ◌};
+ghost use Rattle.ngc_wheel.specs.Around.{around};
+ghost use Rattle.ngc_wheel.specs.Entering.{IsEntry};
+ghost use Rattle.ngc_wheel.specs.Wheel.{IsSmall};
+
+use ngc_wheel::{Roll, Spoke};
+
+/// A way in a plane, in nanometres.
+#[derive(Clone, Copy, Debug)]
+pub(crate) struct Way {
+    pub u: i64,
+    pub v: i64,
+}
+
+/// The product of two coordinates of ways.
+fn product(x: i64, y: i64) -> i128
+    requires x { unsigned_abs x ≤ 3000000000 }
+    requires y { unsigned_abs y ≤ 3000000000 }
+    ensures value { result ≡ x *ℤ y }
+    ensures bound { unsigned_abs result ≤ 9000000000000000000 }
+{
+    i128::from(x) * i128::from(y)
+}
+
+impl Way {
+    ghost use Rattle.ngc_step_kernel.specs.Ways.{IsWay};
+
+    /// Above 0 where a turn of less than half a circle leads from this way to the other.
+    pub(crate) fn cross(&self, other: &Way) -> i128
+        requires here { IsWay self.now }
+        requires other { IsWay other.now }
+        ensures { result ≡ (self.now.u *ℤ other.now.v) -ℤ (self.now.v *ℤ other.now.u) }
+    {
+        product(self.u, other.v) - product(self.v, other.u)
+    }
+
+    /// The square of its length.
+    pub(crate) fn square(&self) -> u128
+        requires { IsWay self.now }
+        ensures { result ≡ unsigned_abs self.now.u * unsigned_abs self.now.u + unsigned_abs self.now.v * unsigned_abs self.now.v }
+    {
+        let u = u128::from(self.u.unsigned_abs());
+        let v = u128::from(self.v.unsigned_abs());
+        u * u + v * v
+    }
+
+    pub(crate) fn spoke(&self) -> Spoke
+        requires { IsWay self.now }
+        ensures place { around result.quadrant result.x result.y ≡ record { u = self.now.u; v = self.now.v } }
+        ensures small { IsSmall result }
+        ensures out { 0 < unsigned_abs self.now.u + unsigned_abs self.now.v → 0 < result.x }
+    {
+        Spoke::of(self.u, self.v)
+    }
+}
+
+/// The greatest squared distance that a wheel about a centre chooses.
+pub(crate) fn limit_of(radius: u64, step: u64) -> u64
+    requires radius { radius ≤ 2000100000 }
+    requires short { step ≤ 50000 }
+    ensures value { result ≡ (radius + 2 * step / 5) * (radius + 2 * step / 5) }
+    ensures bound { result ≤ 2000120000 * 2000120000 }
+{
+    let reach = radius + 2 * step / 5;
+    reach * reach
+}
+
+/// The move that leads from a joint behind the start's direction to a point in it or ahead of it: along the lesser axis, and
+/// along the greater one too where the limit asks for it.
+pub(crate) fn entering(joint: Spoke, is_steep: bool, step: u64, limit: u64) -> Roll
+    requires x { joint.x ≤ 2900000000 }
+    requires y { joint.y ≤ 2900000000 }
+    requires short { step ≤ 50000 }
+    ensures { IsEntry step limit is_steep joint result }
+{
+    if joint.x < step {
+        return Roll::Over;
+    }
+    if is_steep {
+        if joint.rolled(Roll::Diagonal, step).square() <= limit {
+            Roll::Diagonal
+        } else {
+            Roll::Inward
+        }
+    } else if joint.rolled(Roll::Outward, step).square() <= limit {
+        Roll::Outward
+    } else {
+        Roll::Diagonal
+    }
+}
