@@ -11,19 +11,20 @@ use std::{env, io};
 
 // The words behind the program's name.
 fn words_of(rt: &HostRuntime) -> Result<Vec<String>, UsageFault> {
-    match env::args(rt) {
-        Ok(words) => match words.skip(1).collect(rt.alloc()) {
-            Ok(words) => Ok(words),
-            Err(_) => Err(UsageFault::Memory),
-        },
+    let words = match env::args(rt) {
+        Ok(words) => words,
         Err(fault) if fault.kind() == io::ErrorKind::InvalidData => {
-            match "error: a word of the command line is no UTF-8 text\n".to_string(rt.alloc()) {
-                Ok(text) => Err(UsageFault::Usage(text)),
-                Err(_) => Err(UsageFault::Memory),
-            }
+            let text = "error: a word of the command line is no UTF-8 text\n"
+                .to_string(rt.alloc())
+                .map_err(|_| UsageFault::Memory)?;
+            return Err(UsageFault::Usage(text));
         }
-        Err(_) => Err(UsageFault::Memory),
-    }
+        Err(_) => return Err(UsageFault::Memory),
+    };
+    words
+        .skip(1)
+        .collect(rt.alloc())
+        .map_err(|_| UsageFault::Memory)
 }
 
 // Does what the words ask for, and answers the status.
@@ -31,9 +32,7 @@ fn answer_words(rt: &HostRuntime) -> Result<u8, UsageFault> {
     let words = words_of(rt)?;
     let mut names = Vec::new(rt.alloc());
     for word in words.iter() {
-        if names.push(word.as_str()).is_err() {
-            return Err(UsageFault::Memory);
-        }
+        names.push(word.as_str()).map_err(|_| UsageFault::Memory)?;
     }
     let options = read_options(rt.alloc(), names.as_slice())?;
     let mut files = HostFiles::new(rt);
