@@ -15,3 +15,11 @@ pub mod ArcLemmas
 pub mod GridLemmas
 pub mod SpanLemmas
 pub mod SweptEnds
+pub mod CutLemmas
+pub mod CutInts
+pub mod CutSigns
+pub mod CutBetween
+pub mod CutGrid
+pub mod CutSeen
+pub mod CutChain
+mod CutExamples

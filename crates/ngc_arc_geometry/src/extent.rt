@@ -3,7 +3,7 @@ ghost use Rattle.std.specs.Int.{int_min, int_max};
 ghost use Rattle.ngc_fixed_length.specs.Boxes.{grid_above, grid_below};
 ghost use Rattle.ngc_fixed_length.specs.Length.{IsStep};
 
-use ngc_fixed_length::{Nm, Point2};
+use ngc_fixed_length::{GridBox, Nm, Plane, Point2, StepPos};
 
 /// From a least to a greatest coordinate, in nanometres.
 #[derive(Clone, Copy)]
@@ -13,8 +13,21 @@ pub(crate) struct Span {
     ghost ordered: { low ≤ℤ high },
 }
 
+impl Span {
+    /// From the lesser of two coordinates to the greater.
+    pub(crate) fn between(first: i64, second: i64) -> Span
+        ensures low { result.low ≡ int_min first second }
+        ensures high { result.high ≡ int_max first second }
+    {
+        Span {
+            low: first.min(second),
+            high: first.max(second),
+        }
+    }
+}
+
 /// From a first to a last grid point, both included, in steps.
-#[derive(Clone, Copy)]
+#[derive(Clone, Copy, Debug)]
 pub(crate) struct GridRange {
     pub(crate) low: i32,
     pub(crate) high: i32,
@@ -34,6 +47,47 @@ impl GridRange {
         GridRange {
             low: first_grid_point(step, low),
             high: last_grid_point(step, high),
+        }
+    }
+}
+
+impl GridRange {
+    ghost use Rattle.ngc_arc_geometry.specs.Swept.{grid_at};
+
+    /// The grid points of a span that is grown on both sides by a margin of at least a step.
+    pub(crate) fn around(step: Nm, span: &Span, margin: i64) -> GridRange
+        requires step { IsStep step }
+        requires low { unsigned_abs span.now.low ≤ 10 ^ 11 }
+        requires high { unsigned_abs span.now.high ≤ 10 ^ 11 }
+        requires least { step ≤ℤ margin }
+        requires greatest { unsigned_abs margin ≤ 2000120000 }
+        ensures low { result.low ≡ grid_above step (span.now.low -ℤ margin) }
+        ensures high { result.high ≡ grid_below step (span.now.high +ℤ margin) }
+    {
+        GridRange::inside(step, span.low - margin, span.high + margin)
+    }
+
+    /// The box of these ranges along the axes of a plane and the third axis.
+    pub(crate) fn in_space(plane: Plane, u: &GridRange, v: &GridRange, w: &GridRange) -> GridBox
+        ensures low { result.low ≡ grid_at plane u.now.low v.now.low w.now.low }
+        ensures high { result.high ≡ grid_at plane u.now.high v.now.high w.now.high }
+    {
+        let (x, y, z) = match plane {
+            Plane::XY => (u, v, w),
+            Plane::ZX => (v, w, u),
+            Plane::YZ => (w, u, v),
+        };
+        GridBox {
+            low: StepPos {
+                x: x.low,
+                y: y.low,
+                z: z.low,
+            },
+            high: StepPos {
+                x: x.high,
+                y: y.high,
+                z: z.high,
+            },
         }
     }
 }

@@ -4,6 +4,7 @@
 mod arc;
 mod centre;
 mod chord;
+mod cut;
 mod extent;
 mod fault;
 mod given;
@@ -15,5 +16,6 @@ mod swept;
 mod way;
 
 pub use arc::Arc;
+pub use cut::GridArc;
 pub use fault::ArcFault;
 pub use given::{Ends, Offsets};

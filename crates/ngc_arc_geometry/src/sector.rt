@@ -53,7 +53,7 @@ impl Arc {
     }
 
     /// Twice the area that two points span about the centre, above 0 where the arc's sense leads from the first to the other.
-    fn turn_from(&self, first: &Point2, second: &Point2) -> i128
+    pub(crate) fn turn_from(&self, first: &Point2, second: &Point2) -> i128
         ensures { result ≡ turn_from self.now first.now second.now }
     {
         let centre = self.centre();

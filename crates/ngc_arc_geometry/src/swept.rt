@@ -5,7 +5,7 @@ ghost use Rattle.ngc_fixed_length.specs.Length.{IsStep};
 use crate::arc::Arc;
 use crate::extent::{GridRange, PlaneAxis, Span};
 use crate::lengths::moved;
-use ngc_fixed_length::{GridBox, Nm, Plane, StepPos, root_ceil, root_floor};
+use ngc_fixed_length::{GridBox, Nm, root_ceil, root_floor};
 
 impl Arc {
     ghost use Rattle.ngc_arc_geometry.specs.Axes.{along};
@@ -57,12 +57,11 @@ impl Arc {
         ensures high { result.high ≡ high_at step self.now (along axis) }
     {
         let span = self.span_along(axis);
-        let margin = self.margin(step).nanometres();
-        GridRange::inside(step, span.low - margin, span.high + margin)
+        GridRange::around(step, &span, self.margin(step).nanometres())
     }
 
     /// The grid points along the third axis.
-    fn height_range(&self, step: Nm) -> GridRange
+    pub(crate) fn height_range(&self, step: Nm) -> GridRange
         requires { IsStep step }
         ensures low { result.low ≡ int_min (start_height step self.now) (end_height step self.now) }
         ensures high { result.high ≡ int_max (start_height step self.now) (end_height step self.now) }
@@ -86,22 +85,6 @@ impl Arc {
         let u = self.range_along(PlaneAxis::U, step);
         let v = self.range_along(PlaneAxis::V, step);
         let w = self.height_range(step);
-        let (x, y, z) = match self.plane() {
-            Plane::XY => (u, v, w),
-            Plane::ZX => (v, w, u),
-            Plane::YZ => (w, u, v),
-        };
-        GridBox {
-            low: StepPos {
-                x: x.low,
-                y: y.low,
-                z: z.low,
-            },
-            high: StepPos {
-                x: x.high,
-                y: y.high,
-                z: z.high,
-            },
-        }
+        GridRange::in_space(self.plane(), &u, &v, &w)
     }
 }

@@ -1,4 +1,4 @@
-ghost use Rattle.std.specs.Prelude.{◌≡◌, ◌^◌, ◌*◌, ◌≤◌, ◌*ℤ◌, unsigned_abs};
+ghost use Rattle.std.specs.Prelude.{◌≡◌, ◌^◌, ◌*◌, ◌≤◌, ◌*ℤ◌, ◌&&◌, int_le, pos, unsigned_abs};
 
 use ngc_fixed_length::{Nm, Point2};
 use std::marker::Model;
@@ -133,6 +133,13 @@ impl Way {
         ensures bound { unsigned_abs result ≤ 4 * 10 ^ 23 }
     {
         product(self.u, other.v) - product(self.v, other.u)
+    }
+
+    /// Whether both ways lead into one closed quadrant.
+    pub(crate) fn shares_quadrant(&self, other: &Way) -> bool
+        ensures { result ≡ (int_le (pos 0) (self.now.u *ℤ other.now.u) && int_le (pos 0) (self.now.v *ℤ other.now.v)) }
+    {
+        0 <= product(self.u, other.u) && 0 <= product(self.v, other.v)
     }
 
     /// The square of the way's length.

@@ -6,6 +6,8 @@ mod arcs;
 #[cfg(test)]
 mod collisions;
 #[cfg(test)]
+mod cuts;
+#[cfg(test)]
 mod followed;
 #[cfg(test)]
 mod given;

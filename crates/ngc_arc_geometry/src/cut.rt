@@ -1,0 +1,138 @@
+ghost use Rattle.std.specs.Prelude.{◌≡◌, ◌≤◌, ◌≤ℤ◌, pos, ◌+ℤ◌, ◌-ℤ◌, int_lt, unsigned_abs};
+ghost use Rattle.std.specs.Int.{int_min, int_max};
+ghost use Rattle.ngc_fixed_length.specs.Boxes.{grid_above, grid_below};
+ghost use Rattle.ngc_fixed_length.specs.Length.{IsStep};
+ghost use Rattle.ngc_fixed_length.specs.Signed.{same};
+ghost use Rattle.ngc_arc_geometry.specs.Axes.{along};
+ghost use Rattle.ngc_arc_geometry.specs.CutArc.{share_quadrant, is_in_band, turns_on, passes_start, is_inner_cut, is_end, cut_follows, cut_box};
+ghost use Rattle.ngc_arc_geometry.specs.Swept.{margin};
+
+use crate::arc::Arc;
+use crate::extent::{GridRange, PlaneAxis, Span};
+use crate::way::Way;
+use ngc_fixed_length::{GridBox, Nm, Point2};
+use std::marker::Model;
+
+/// An arc on a grid, with what the pieces share that it is cut into.
+#[derive(Debug, Drop)]
+pub struct GridArc {
+    arc: Arc,
+    step: Nm,
+    inner: u64,
+    outer: u64,
+    margin: Nm,
+    heights: GridRange,
+}
+
+impl Model for GridArc {
+    ghost use Rattle.ngc_arc_geometry.specs.GridArcs.{ArcOnGrid};
+
+    ghost Value = { ArcOnGrid };
+
+    ghost use Rattle.ngc_arc_geometry.specs.GridArcs.{arc_on_grid, IsArcOnGrid};
+
+    ghost view = { arc_on_grid };
+
+    ghost invariant = { IsArcOnGrid };
+}
+
+impl GridArc {
+    /// The arc on a grid whose step is 500 to 50,000 nm.
+    pub fn new(arc: Arc, step: Nm) -> GridArc
+        requires { IsStep step }
+        ensures { result ≡ record { arc = arc; step = step } }
+    {
+        GridArc {
+            arc,
+            step,
+            inner: arc.inner_radius(),
+            outer: arc.outer_radius(),
+            margin: arc.margin(step),
+            heights: arc.height_range(step),
+        }
+    }
+
+    /// Whether a point of the plane is at most a step nearer to the centre than the inner radius, and at most a step farther
+    /// than the outer one.
+    fn is_in_band(&self, point: &Point2) -> bool
+        ensures { result ≡ is_in_band self.now.arc (unsigned_abs self.now.step) point.now }
+    {
+        let step = self.step.nanometres().unsigned_abs();
+        let inner = u128::from(self.inner.saturating_sub(step));
+        let outer = u128::from(self.outer) + u128::from(step);
+        let square = Way::between(&self.arc.centre(), point).square();
+        inner * inner <= square && square <= outer * outer
+    }
+
+    /// Whether the way round from one point to another is more than none and at most a quarter, within a closed quadrant.
+    fn turns_on(&self, from: &Point2, to: &Point2) -> bool
+        ensures { result ≡ turns_on self.now.arc from.now to.now }
+    {
+        let centre = self.arc.centre();
+        let (first, second) = (Way::between(&centre, from), Way::between(&centre, to));
+        first.shares_quadrant(&second) && 0 < self.arc.turn_from(from, to)
+    }
+
+    /// Whether the start's direction lies on the short way round from one point to another, the first one left out.
+    fn passes_start(&self, from: &Point2, to: &Point2) -> bool
+        ensures { result ≡ passes_start self.now.arc from.now to.now }
+    {
+        let start = self.arc.start_in_plane();
+        0 < self.arc.turn_from(from, &start) && 0 <= self.arc.turn_from(&start, to)
+    }
+
+    fn is_inner_cut(&self, from: &Point2, to: &Point2) -> bool
+        ensures { result ≡ is_inner_cut self.now.step self.now.arc from.now to.now }
+    {
+        self.is_in_band(to) && self.arc.in_sector(*to) && !self.passes_start(from, to)
+    }
+
+    fn is_end(&self, point: &Point2) -> bool
+        ensures { result ≡ is_end self.now.arc point.now }
+    {
+        let end = self.arc.end_in_plane();
+        point.u.nanometres() == end.u.nanometres() && point.v.nanometres() == end.v.nanometres()
+    }
+
+    /// Whether, of an arc that is cut into several pieces, a piece may lead from one point to another: it turns on in the
+    /// arc's sense within a closed quadrant about the centre; the last one ends at the arc's end, another one in the sector,
+    /// within a step of the radii, and before the start's direction comes again.
+    pub fn cut_follows(&self, last: bool, from: &Point2, to: &Point2) -> bool
+        ensures { result ≡ cut_follows self.now.step self.now.arc last from.now to.now }
+    {
+        self.turns_on(from, to)
+            && (if last {
+                self.is_end(to)
+            } else {
+                self.is_inner_cut(from, to)
+            })
+    }
+
+    /// How far a piece's box reaches beyond its points, in nanometres.
+    fn margin(&self) -> i64
+        ensures value { result ≡ margin self.now.step self.now.arc }
+        ensures least { self.now.step ≤ℤ result }
+        ensures bound { unsigned_abs result ≤ 2000120000 }
+    {
+        self.margin.nanometres()
+    }
+
+    /// The grid points along an axis of the plane between two points, with the margin on both sides.
+    fn range_between(&self, axis: PlaneAxis, from: &Point2, to: &Point2) -> GridRange
+        ensures low { result.low ≡ grid_above self.now.step (int_min (along axis from.now) (along axis to.now) -ℤ margin self.now.step self.now.arc) }
+        ensures high { result.high ≡ grid_below self.now.step (int_max (along axis from.now) (along axis to.now) +ℤ margin self.now.step self.now.arc) }
+    {
+        let span = Span::between(axis.along(from), axis.along(to));
+        GridRange::around(self.step, &span, self.margin())
+    }
+
+    /// The box of a piece from one point of the plane to another: in the plane that of both points, grown by the margin; on
+    /// the third axis from one end's grid point to the other's.
+    pub fn cut_box(&self, from: &Point2, to: &Point2) -> GridBox
+        ensures { result ≡ cut_box self.now.step self.now.arc from.now to.now }
+    {
+        let u = self.range_between(PlaneAxis::U, from, to);
+        let v = self.range_between(PlaneAxis::V, from, to);
+        GridRange::in_space(self.arc.plane(), &u, &v, &self.heights)
+    }
+}
