@@ -1,0 +1,5 @@
+use Rattle.std.proofs.Common.{rules}
+use Rattle.ngc_fixed_length.proofs.length.NmDefault.default.Goals as goal
+
+pub returns : goal.returns
+returns c = search rules
