@@ -19,11 +19,11 @@ use Rattle.ngc_machine.specs.Ranges.{PLACE_LIMIT}
 use Rattle.ngc_machine.specs.declared.tools.Tool.{Tool}
 use Rattle.ngc_canonical.specs.declared.command.Command.{Command}
 use Rattle.ngc_canonical.specs.Joined.{IsEvenIfArc, HaveEvenRadii}
-use Rattle.ngc_canonical.specs.Movement.{doing, doings, motions_of, end_of}
-use Rattle.ngc_canonical.specs.declared.movement.Motion.{Motion}
-use Rattle.ngc_canonical.specs.declared.movement.Motion.TheVariants.{Straight, Along}
-use Rattle.ngc_canonical.specs.declared.movement.Doing.{Doing}
-use Rattle.ngc_canonical.specs.declared.movement.Doing.TheVariants.{Moves, Mounts, Stays}
+use Rattle.ngc_canonical.specs.Movement.{actions_of, ways_of, end_of}
+use Rattle.ngc_canonical.specs.declared.movement.Way.{Way}
+use Rattle.ngc_canonical.specs.declared.movement.Way.TheVariants.{Line, Arc}
+use Rattle.ngc_canonical.specs.declared.command.Action.{Action}
+use Rattle.ngc_canonical.specs.declared.command.Action.TheVariants.{Move, Mount}
 use Rattle.ngc_collision.specs.Body.{IsSafe}
 use Rattle.ngc_certificate_text.specs.Certificate.{Entry}
 use Rattle.ngc_certificate_text.specs.declared.piece.Cut.{Cut}
@@ -35,11 +35,11 @@ use Rattle.ngc_certificate.proofs.SafeInPiece.{safe_in_piece}
 use Rattle.ngc_certificate.proofs.Truths.{both, le_of}
 use Rattle.ngc_behaviour.proofs.SafePositions.{one_step}
 
-abbrev pub IsArcIfAlong : Motion → Type 0
-IsArcIfAlong (Straight b e) = Unit {0}
-IsArcIfAlong (Along a) = IsArc a
+abbrev pub IsArcIfAlong : Way → Type 0
+IsArcIfAlong (Line b e) = Unit {0}
+IsArcIfAlong (Arc a) = IsArc a
 
-abbrev pub AreArcs : List Motion → Type 0
+abbrev pub AreArcs : List Way → Type 0
 AreArcs [] = Unit {0}
 AreArcs (m ∷ ms) = IsArcIfAlong m × AreArcs ms
 
@@ -67,16 +67,16 @@ near_place machine tool p m safe =
 
 -- the first piece holds the whole arc's box already
 safe_in_swept : (machine : MachineFile) (tool : Option Tool) (a : ArcShape) (several : Bool) (begin : Cut) (pieces : List Piece) (q : StepPos) → pos 1 ≤ℤ machine.step →
-    AreValidFrom machine tool (Along a) several begin pieces → IsIn (swept_box machine.step a) q → IsSafe machine tool q
+    AreValidFrom machine tool (Arc a) several begin pieces → IsIn (swept_box machine.step a) q → IsSafe machine tool q
 safe_in_swept machine tool a several begin [] q s v k = absurd v
-safe_in_swept machine tool a several begin (p ∷ []) q s v k = safe_in_piece machine tool (Along a) (stretch several true begin) p q s v k
-safe_in_swept machine tool a several begin (p ∷ r ∷ ps) q s v k = safe_in_piece machine tool (Along a) (stretch several false begin) p q s v.0 k
+safe_in_swept machine tool a several begin (p ∷ []) q s v k = safe_in_piece machine tool (Arc a) (stretch several true begin) p q s v k
+safe_in_swept machine tool a several begin (p ∷ r ∷ ps) q s v k = safe_in_piece machine tool (Arc a) (stretch several false begin) p q s v.0 k
 
-arc_if_valid : (machine : MachineFile) (tool : Option Tool) (m : Motion) (pieces : List Piece) → IsMachine machine → ArePiecesValid machine tool m pieces → IsEvenIfArc m → IsArcIfAlong m
-arc_if_valid machine tool (Straight b e) pieces h v even = tt
-arc_if_valid machine tool (Along a) pieces h v even =
+arc_if_valid : (machine : MachineFile) (tool : Option Tool) (m : Way) (pieces : List Piece) → IsMachine machine → ArePiecesValid machine tool m pieces → IsEvenIfArc m → IsArcIfAlong m
+arc_if_valid machine tool (Line b e) pieces h v even = tt
+arc_if_valid machine tool (Arc a) pieces h v even =
     let safe_at : (q : StepPos) → IsIn (swept_box machine.step a) q → IsSafe machine tool q =
-    λ q. safe_in_swept machine tool a (are_several pieces) (first_cut (Along a)) pieces q (one_step machine h) v in
+    λ q. safe_in_swept machine tool a (are_several pieces) (first_cut (Arc a)) pieces q (one_step machine h) v in
     record {
       start = near_place machine tool a.start h (safe_at (grid machine.step a.start) (start_inside machine.step a h.step));
       end = near_place machine tool a.end h (safe_at (grid machine.step a.end) (end_inside machine.step a h.step));
@@ -87,26 +87,25 @@ arc_if_valid machine tool (Along a) pieces h v even =
 
 -- ---- all of them
 
-clear_arcs : (machine : MachineFile) (tool : Option Tool) (place : Point3) (ds : List Doing) (entries : List Entry) → IsMachine machine →
-    AreClearFrom machine tool place ds entries → HaveEvenRadii (motions_of ds) → AreArcs (motions_of ds)
+clear_arcs : (machine : MachineFile) (tool : Option Tool) (place : Point3) (ds : List Action) (entries : List Entry) → IsMachine machine →
+    AreClearFrom machine tool place ds entries → HaveEvenRadii (ways_of ds) → AreArcs (ways_of ds)
 clear_arcs machine tool place [] entries h c even = tt
-clear_arcs machine tool place (Stays ∷ ds) entries h c even = clear_arcs machine tool place ds entries h c even
-clear_arcs machine tool place (Mounts new ∷ ds) entries h c even = clear_arcs machine new place ds entries h c.1 even
-clear_arcs machine tool place (Moves m ∷ ds) [] h c even = absurd c
-clear_arcs machine tool place (Moves m ∷ ds) (entry ∷ entries) h c even =
-    (arc_if_valid machine tool m entry.pieces h c.0 even.0, clear_arcs machine tool (end_of m) ds entries h c.1 even.1)
+clear_arcs machine tool place (Mount new ∷ ds) entries h c even = clear_arcs machine new place ds entries h c.1 even
+clear_arcs machine tool place (Move m ∷ ds) [] h c even = absurd c
+clear_arcs machine tool place (Move m ∷ ds) (entry ∷ entries) h c even =
+    (arc_if_valid machine tool m.way entry.pieces h c.0 even.0, clear_arcs machine tool (end_of m.way) ds entries h c.1 even.1)
+clear_arcs machine tool place (_ ∷ ds) entries h c even = clear_arcs machine tool place ds entries h c even
 
 pub are_arcs : (machine : MachineFile) (commands : List Command) (entries : List Entry) → IsMachine machine → IsValid machine commands entries →
-    HaveEvenRadii (motions_of (doings commands)) → AreArcs (motions_of (doings commands))
-are_arcs machine commands entries h v even = clear_arcs machine _ machine.start (doings commands) entries h v.clear even
+    HaveEvenRadii (ways_of (actions_of commands)) → AreArcs (ways_of (actions_of commands))
+are_arcs machine commands entries h v even = clear_arcs machine _ machine.start (actions_of commands) entries h v.clear even
 
 -- and of those that are left
-behind_first : (d : Doing) (ds : List Doing) → AreArcs (motions_of (d ∷ ds)) → AreArcs (motions_of ds)
-behind_first (Moves m) ds arcs = arcs.1
-behind_first (Mounts tool) ds arcs = arcs
-behind_first Stays ds arcs = arcs
+behind_first : (d : Action) (ds : List Action) → AreArcs (ways_of (d ∷ ds)) → AreArcs (ways_of ds)
+behind_first (Move m) ds arcs = arcs.1
+behind_first _ ds arcs = arcs
 
-pub arcs_left : (n : ℕ) (cs : List Command) → AreArcs (motions_of (doings cs)) → AreArcs (motions_of (doings (drop n cs)))
+pub arcs_left : (n : ℕ) (cs : List Command) → AreArcs (ways_of (actions_of cs)) → AreArcs (ways_of (actions_of (drop n cs)))
 arcs_left zero cs arcs = arcs
 arcs_left (suc n) [] arcs = tt
-arcs_left (suc n) (c ∷ cs) arcs = arcs_left n cs (behind_first (doing c) (doings cs) arcs)
+arcs_left (suc n) (c ∷ cs) arcs = arcs_left n cs (behind_first c.action (actions_of cs) arcs)

@@ -6,9 +6,9 @@ use Rattle.std.proofs.lemmas.Bool.Decides.{nat_tests}
 use Rattle.ngc_fixed_length.specs.declared.points.StepPos.{StepPos}
 use Rattle.ngc_fixed_length.specs.LinePath.{point}
 use Rattle.ngc_machine.specs.MachineRanges.{IsMachine}
+use Rattle.ngc_canonical.specs.declared.command.Action.{Action}
+use Rattle.ngc_canonical.specs.declared.command.Action.TheVariants as actions
 use Rattle.ngc_canonical.specs.declared.command.Command.{Command}
-use Rattle.ngc_canonical.specs.declared.command.Command.TheVariants as commands
-use Rattle.ngc_canonical.specs.Movement.{doing}
 use Rattle.ngc_planner.specs.Caps.{MILLION}
 use Rattle.ngc_events.specs.declared.event.Event.{Event}
 use Rattle.ngc_events.specs.declared.event.Event.TheVariants.{Load, Tick, Hold, Resume, Override, StopSwitch, Start}
@@ -50,18 +50,9 @@ tells_end (Ok (Switched on)) = false
 tells_end (Ok Started) = false
 tells_end (Err e) = false
 
-abbrev pub ends_program : Command → Bool
-ends_program (commands.End line) = true
-ends_program (commands.Traverse line b e) = false
-ends_program (commands.Feed line b e f) = false
-ends_program (commands.Arc line a f) = false
-ends_program (commands.Dwell line n) = false
-ends_program (commands.Tool line tool) = false
-ends_program (commands.Spindle line state) = false
-ends_program (commands.Coolant line state) = false
-ends_program (commands.Override line on) = false
-ends_program (commands.Stop line) = false
-ends_program (commands.OptionalStop line) = false
+abbrev pub ends_program : Action → Bool
+ends_program actions.End = true
+ends_program _ = false
 
 -- the position of a pulse from place j to place k of a path
 abbrev pub emitted : List StepPos → ℕ → ℕ → List StepPos
@@ -76,7 +67,7 @@ pub record Grows (job : Job) (old new : Spot) (o : Outcome) : Type 0 where
   pub command : Command
   pub path : List StepPos
   pub next : command_at job (old.done + length old.ring) ≡ Some command
-  pub takes : MayTake job (doing command) path
+  pub takes : MayTake job command.action path
   pub is : new ≡ spot_of old.done (old.ring ++ record { command = command; path = path } ∷ []) old.travelled old.position
   pub silent : position_in o ≡ []
   pub no_end : tells_end o ≡ false
@@ -101,7 +92,7 @@ pub record Arrives (old new : Spot) (o : Outcome) : Type 0 where
   pub some : 0 < path_steps head
   pub near : path_steps head ≤ old.travelled / MILLION + 1
   pub emits : position_in o ≡ emitted head.path (old.travelled / MILLION) (path_steps head)
-  pub ends : tells_end o ≡ true → ends_program head.command ≡ true
+  pub ends : tells_end o ≡ true → ends_program head.command.action ≡ true
 
 pub record Passes (old new : Spot) (o : Outcome) : Type 0 where
   pub head : Queued
@@ -110,7 +101,7 @@ pub record Passes (old new : Spot) (o : Outcome) : Type 0 where
   pub is : new ≡ spot_of (suc old.done) others 0 old.position
   pub none : path_steps head ≡ 0
   pub silent : position_in o ≡ []
-  pub ends : tells_end o ≡ true → ends_program head.command ≡ true
+  pub ends : tells_end o ≡ true → ends_program head.command.action ≡ true
 
 pub data Effect (job : Job) (old new : Spot) (o : Outcome) : Type 0 where
   stands : Stands old new o → Effect job old new o
@@ -125,19 +116,11 @@ by_test : (b : Bool) (e f : Ending) → is_end e ≡ false → is_end f ≡ fals
 by_test true e f x y = x
 by_test false e f x y = y
 
-only_end : (c : Command) (s : State) → is_end (ending c s) ≡ true → ends_program c ≡ true
-only_end (commands.End line) s h = refl
-only_end (commands.Traverse line b e) s h = h
-only_end (commands.Feed line b e f) s h = h
-only_end (commands.Arc line a f) s h = h
-only_end (commands.Dwell line n) s h = h
-only_end (commands.Tool line tool) s h = h
-only_end (commands.Spindle line state) s h = h
-only_end (commands.Coolant line state) s h = h
-only_end (commands.Override line on) s h = h
-only_end (commands.Stop line) s h = h
-only_end (commands.OptionalStop line) s h =
+only_end : (a : Action) (s : State) → is_end (ending a s) ≡ true → ends_program a ≡ true
+only_end actions.End s h = refl
+only_end actions.OptionalStop s h =
     absurd (true≢false (sym h ∙ by_test s.stop_switch (Stopped s.done) (Done s.done) refl refl))
+only_end _ s h = h
 
 -- ---- a tick on the way
 
@@ -195,7 +178,7 @@ on_way job l ls old o new m e some f t =
       some = some;
       near = omega (arith, full, slow);
       emits = says ∙ ap (emitted l.path (t0 / MILLION)) whole;
-      ends = λ h. only_end l.command old (sym (ap tells_end t.says ∙ said_end (pulse l old v) (nat_le (millionths l) (t0 + v)) (ending l.command old) b) ∙ h);
+      ends = λ h. only_end l.command.action old (sym (ap tells_end t.says ∙ said_end (pulse l old v) (nat_le (millionths l) (t0 + v)) (ending l.command.action old) b) ∙ h);
     }))
     (λ b.
     let part : place_after l old v ≡ (t0 + v) / MILLION = omega (arith, in_reach) in
@@ -213,47 +196,38 @@ on_way job l ls old o new m e some f t =
       small = slow;
       short = in_reach;
       emits = says ∙ ap (emitted l.path (t0 / MILLION)) part;
-      no_end = ap tells_end t.says ∙ said_none (pulse l old v) (nat_le (millionths l) (t0 + v)) (ending l.command old) b;
+      no_end = ap tells_end t.says ∙ said_none (pulse l old v) (nat_le (millionths l) (t0 + v)) (ending l.command.action old) b;
     }))
 
 -- ---- a tick that travels nothing
 
-same_spot : (c : Command) (s : State) → spot (after c s) ≡ spot s
-same_spot (commands.Traverse line b e) s = refl
-same_spot (commands.Feed line b e f) s = refl
-same_spot (commands.Arc line a f) s = refl
-same_spot (commands.Dwell line n) s = refl
-same_spot (commands.Tool line tool) s = refl
-same_spot (commands.Spindle line state) s = refl
-same_spot (commands.Coolant line state) s = refl
-same_spot (commands.Override line on) s = refl
-same_spot (commands.Stop line) s = refl
-same_spot (commands.OptionalStop line) s = refl
-same_spot (commands.End line) s = refl
+same_spot : (a : Action) (s : State) → spot (after a s) ≡ spot s
+same_spot (actions.Move m) s = refl
+same_spot _ s = refl
 
 resting : (job : Job) (old : State) (o : Outcome) (new : State) → Rests job old o new → Effect job (spot old) (spot new) o
 resting job old o new r = stands (record { same = ap spot r.stands; silent = ap position_in r.quiet; no_end = ap tells_end r.quiet })
 
 finished : (job : Job) (l : Queued) (ls : List Queued) (old : State) (o : Outcome) (new : State) → old.ring ≡ l ∷ ls → path_steps l ≡ 0 →
-    Finishes job l.command old o new → Effect job (spot old) (spot new) o
+    Finishes job l.command.action old o new → Effect job (spot old) (spot new) o
 finished job l ls old o new e z f = passes (record {
   head = l;
   others = ls;
   was = ap (λ r. spot_of old.done r old.travelled old.position) e;
-  is = ap spot f.goes_on ∙ same_spot l.command (record (popped 0 old) { rate = 0 }) ∙ ap (λ r. spot_of (suc old.done) (drop 1 r) 0 old.position) e;
+  is = ap spot f.goes_on ∙ same_spot l.command.action (record (popped 0 old) { rate = 0 }) ∙ ap (λ r. spot_of (suc old.done) (drop 1 r) 0 old.position) e;
   none = z;
   silent = ap position_in f.says;
-  ends = λ h. only_end l.command old (sym (ap tells_end f.says) ∙ h);
+  ends = λ h. only_end l.command.action old (sym (ap tells_end f.says) ∙ h);
 })
 
 on_head : (job : Job) (l : Queued) (ls : List Queued) (old : State) (o : Outcome) (new : State) → IsMachine job.machine → old.ring ≡ l ∷ ls →
     old.travelled ≤ millionths l → HeadTick job l ls old o new → Effect job (spot old) (spot new) o
 on_head job l ls old o new m e f t =
-    elim (match_with (nat_lt 0 (path_steps l)) (Travels job l ls old o new) (MatchBool old.held (Rests job old o new) (Serves job l.command old o new)) t) [
+    elim (match_with (nat_lt 0 (path_steps l)) (Travels job l ls old o new) (MatchBool old.held (Rests job old o new) (Serves job l.command.action old o new)) t) [
       | inl u ↦ on_way job l ls old o new m e (let b = u.0 in grind (arith, nat_tests)) f u.1
-      | inr u ↦ elim (match_with old.held (Rests job old o new) (Serves job l.command old o new) u.1) [
+      | inr u ↦ elim (match_with old.held (Rests job old o new) (Serves job l.command.action old o new) u.1) [
         | inl r ↦ resting job old o new r.1
-        | inr r ↦ elim (match_with (nat_lt (suc old.dwelt) (ticks_of job l.command)) (Dwells job old o new) (Finishes job l.command old o new) r.1) [
+        | inr r ↦ elim (match_with (nat_lt (suc old.dwelt) (ticks_of job l.command.action)) (Dwells job old o new) (Finishes job l.command.action old o new) r.1) [
           | inl d ↦ stands (record { same = ap spot d.1.counts; silent = ap position_in d.1.quiet; no_end = ap tells_end d.1.quiet })
           | inr d ↦ finished job l ls old o new e (let b = u.0 in grind (arith, nat_tests)) d.1
         ]

@@ -8,10 +8,9 @@ use Rattle.std.proofs.lemmas.List.{get_or_default}
 use Rattle.std.proofs.lemmas.List.Elements.{All-head, All-tail}
 use Rattle.std.proofs.lemmas.Nat.{le-div}
 use Rattle.std.proofs.Math.Nat.{div-mul-le_self}
-use Rattle.ngc_canonical.specs.Movement.{doing}
 use Rattle.ngc_canonical.specs.declared.command.Command.{Command}
-use Rattle.ngc_canonical.specs.declared.movement.Doing.{Doing}
-use Rattle.ngc_canonical.specs.declared.movement.Doing.TheVariants.{Moves, Mounts, Stays}
+use Rattle.ngc_canonical.specs.declared.command.Action.{Action}
+use Rattle.ngc_canonical.specs.declared.command.Action.TheVariants.{Move}
 use Rattle.ngc_planner.specs.Bounds.{IsMotion}
 use Rattle.ngc_planner.proofs.BoundLaws.{may_travel_least}
 use Rattle.ngc_events.specs.declared.event.Event.{Event}
@@ -75,9 +74,9 @@ travel_ahead job l ls old o new e f t =
       | inr s ↦ (subst (λ r. IsPartWay r new.travelled) (sym (s.1 ∙ e)) (λ h. let t = s.2 in let b = s.3 in omega (arith, t, b)), inl (s.0, let t = s.2 in omega (arith, t)))
     ]
 
-finish_ahead : (l : Queued) (old new : State) → new ≡ after l.command (record (popped 0 old) { rate = 0 }) → GoesAhead old new
+finish_ahead : (l : Queued) (old new : State) → new ≡ after l.command.action (record (popped 0 old) { rate = 0 }) → GoesAhead old new
 finish_ahead l old new n =
-    let a = after_stays l.command (record (popped 0 old) { rate = 0 }) in
+    let a = after_stays l.command.action (record (popped 0 old) { rate = 0 }) in
     let done : new.done ≡ suc old.done = ap (λ (s : State). s.done) n ∙ a.0 in
     let travelled : new.travelled ≡ 0 = ap (λ (s : State). s.travelled) n ∙ a.2 in
     (none_way new.ring new.travelled travelled, inr done)
@@ -85,11 +84,11 @@ finish_ahead l old new n =
 head_ahead : (job : Job) (l : Queued) (ls : List Queued) (old : State) (o : Outcome) (new : State) → old.ring ≡ l ∷ ls → old.travelled ≤ millionths l →
     IsPartWay old.ring old.travelled → HeadTick job l ls old o new → GoesAhead old new
 head_ahead job l ls old o new e f w t =
-    elim (match_with (nat_lt 0 (path_steps l)) (Travels job l ls old o new) (MatchBool old.held (Rests job old o new) (Serves job l.command old o new)) t) [
+    elim (match_with (nat_lt 0 (path_steps l)) (Travels job l ls old o new) (MatchBool old.held (Rests job old o new) (Serves job l.command.action old o new)) t) [
       | inl u ↦ travel_ahead job l ls old o new e f u.1
-      | inr u ↦ elim (match_with old.held (Rests job old o new) (Serves job l.command old o new) u.1) [
+      | inr u ↦ elim (match_with old.held (Rests job old o new) (Serves job l.command.action old o new) u.1) [
         | inl r ↦ subst (GoesAhead old) (sym r.1.stands) (same_ahead old w)
-        | inr r ↦ elim (match_with (nat_lt (suc old.dwelt) (ticks_of job l.command)) (Dwells job old o new) (Finishes job l.command old o new) r.1) [
+        | inr r ↦ elim (match_with (nat_lt (suc old.dwelt) (ticks_of job l.command.action)) (Dwells job old o new) (Finishes job l.command.action old o new) r.1) [
           | inl d ↦ subst (GoesAhead old) (sym d.1.counts) (same_ahead old w)
           | inr d ↦ finish_ahead l old new d.1.goes_on
         ]
@@ -165,7 +164,7 @@ head_counts : (job : Job) (k : ℕ) (l : Queued) (ls : List Queued) (old : State
     (0 < old.travelled → old.travelled < millionths l) → 1 ≤ path_steps l → old.done ≡ k → IsFree old → TravelsAtLeast job (l ∷ ls) old new.rate →
     HeadTick job l ls old o new → Counts k (millionths l) (least_rate job l) old new
 head_counts job k l ls old o new f w some head free g t =
-    elim (match_with (nat_lt 0 (path_steps l)) (Travels job l ls old o new) (MatchBool old.held (Rests job old o new) (Serves job l.command old o new)) t) [
+    elim (match_with (nat_lt 0 (path_steps l)) (Travels job l ls old o new) (MatchBool old.held (Rests job old o new) (Serves job l.command.action old o new)) t) [
       | inl u ↦ travel_counts job k l ls old o new f w some head (g free (omega (arith, some))) u.1
       | inr u ↦ absurd (let z : path_steps l ≡ 0 = let b = u.0 in grind (arith, nat_tests) in omega (arith, z, some))
     ]
@@ -283,12 +282,11 @@ ends_in_time job es os states r g k l c some least =
 -- ---- on a machine within its ranges
 
 -- only motions have path steps
-moves : (job : Job) (l : Queued) (d : Doing) → doing l.command ≡ d → MayTake job d l.path → 1 ≤ path_steps l → IsMotion l.command
-moves job l (Moves m) e take some = (m, e)
-moves job l (Mounts tool) e take some = absurd (let none = ap length take in omega (arith, none, some))
-moves job l Stays e take some = absurd (let none = ap length take in omega (arith, none, some))
+moves : (job : Job) (l : Queued) (a : Action) → l.command.action ≡ a → MayTake job a l.path → 1 ≤ path_steps l → IsMotion l.command.action
+moves job l (Move m) e take some = (m, e)
+moves job l _ e take some = absurd (let none = ap length take in omega (arith, none, some))
 
 pub machines_run_in_time : MachinesRunInTime
 machines_run_in_time job m es os states r g k l c some =
-    let is_motion = moves job l (doing l.command) refl (keep_paths job es os states r k l c).path some in
-    ends_in_time job es os states r g k l c some (may_travel_least job.machine l.command l.command (path_steps l) 1 m is_motion).some
+    let is_motion = moves job l l.command.action refl (keep_paths job es os states r k l c).path some in
+    ends_in_time job es os states r g k l c some (may_travel_least job.machine l.command.action l.command.action (path_steps l) 1 m is_motion).some

@@ -4,7 +4,7 @@ use Rattle.ngc_machine.specs.Machine.{MachineFile}
 use Rattle.ngc_machine.specs.MachineRanges.{IsMachine}
 use Rattle.ngc_canonical.specs.declared.command.Command.{Command}
 use Rattle.ngc_canonical.specs.Joined.{HaveEvenRadii, EndIsLast}
-use Rattle.ngc_canonical.specs.Movement.{doings, motions_of, AreJoined}
+use Rattle.ngc_canonical.specs.Movement.{actions_of, ways_of, AreJoined}
 use Rattle.ngc_canonical.proofs.EndingLines.{ends_last}
 use Rattle.ngc_certificate_text.specs.Certificate.{Entry}
 use Rattle.ngc_certificate.specs.Valid.{IsValid}
@@ -17,7 +17,7 @@ use Rattle.ngc_behaviour.proofs.Way.{way_begins, way_ended}
 use Rattle.ngc_behaviour.proofs.Settings.{entries_at, setting_is_valid, setting_is_joined, setting_is_even}
 
 runs_safely : (machine : MachineFile) (commands : List Command) (entries : List Entry) → IsMachine machine → IsValid machine commands entries →
-    AreJoined machine.start (motions_of (doings commands)) → HaveEvenRadii (motions_of (doings commands)) → EndIsLast commands → RunsSafely (job_of machine commands)
+    AreJoined machine.start (ways_of (actions_of commands)) → HaveEvenRadii (ways_of (actions_of commands)) → EndIsLast commands → RunsSafely (job_of machine commands)
 runs_safely machine commands entries m v j even e events outcomes states r = record {
   safe = positions_safe machine commands entries m v j events outcomes states r;
   rates = rates_of_run (job_of machine commands) events outcomes states r;

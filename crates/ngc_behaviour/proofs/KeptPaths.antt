@@ -3,7 +3,6 @@ use Rattle.std.proofs.Common.{◌≡◌, ◌⊎◌, inl, inr, ℕ, zero, suc, �
 use Rattle.std.specs.Prelude.{slice_get, Any}
 use Rattle.std.specs.List.{AllByRecursion}
 use Rattle.std.proofs.lemmas.List.Elements.{All-from_recursion}
-use Rattle.ngc_canonical.specs.Movement.{doing}
 use Rattle.ngc_events.specs.declared.event.Event.{Event}
 use Rattle.ngc_behaviour.specs.State.{Job, Queued, State, opening, command_at}
 use Rattle.ngc_behaviour.specs.Step.{Outcome, MayTake}
@@ -92,7 +91,7 @@ no_other job k l m old (e ∷ es) (o ∷ os) (new ∷ states) r a b =
 
 pub record IsLoadedAs (job : Job) (k : ℕ) (l : Queued) : Type 0 where
   pub command : command_at job k ≡ Some l.command
-  pub path : MayTake job (doing l.command) l.path
+  pub path : MayTake job l.command.action l.path
 
 abbrev AreCommands : Job → State → Type 0
 AreCommands job s = (i : ℕ) (l : Queued) → slice_get s.ring i ≡ Some l → IsLoadedAs job (s.done + i) l

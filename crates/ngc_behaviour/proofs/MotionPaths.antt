@@ -13,8 +13,8 @@ use Rattle.ngc_fixed_length.specs.LinePath.{point}
 use Rattle.ngc_step_kernel.specs.Line.{line_points}
 use Rattle.ngc_step_kernel.proofs.FollowsLine.{follows_step}
 use Rattle.ngc_canonical.specs.Movement.{end_of, AreJoined}
-use Rattle.ngc_canonical.specs.declared.movement.Motion.{Motion}
-use Rattle.ngc_canonical.specs.declared.movement.Motion.TheVariants.{Straight, Along}
+use Rattle.ngc_canonical.specs.declared.movement.Way.{Way}
+use Rattle.ngc_canonical.specs.declared.movement.Way.TheVariants.{Line, Arc}
 use Rattle.ngc_canonical.specs.ProgramPath.{IsPathOf, IsPathOfAll}
 use Rattle.ngc_behaviour.specs.State.{Job}
 use Rattle.ngc_behaviour.proofs.SafeRun.{path_ends, ends_last}
@@ -75,15 +75,15 @@ with_pulse path n j k p q tail rest e jk kj kn pj qk h = by_case (nat_lt j k) re
 
 -- ---- paths of motions
 
-path_of : (step : ℤ) → IsStep step → (m : Motion) → IsArcIfAlong m → (path : List StepPos) × IsPathOf step m path
-path_of step h (Straight b e) arc = (line_points (greatest_distance (grid step b) (grid step e)) (grid step b) (grid step e), follows_step step b e h)
-path_of step h (Along a) arc = some_arc_path step a h arc
+path_of : (step : ℤ) → IsStep step → (m : Way) → IsArcIfAlong m → (path : List StepPos) × IsPathOf step m path
+path_of step h (Line b e) arc = (line_points (greatest_distance (grid step b) (grid step e)) (grid step b) (grid step e), follows_step step b e h)
+path_of step h (Arc a) arc = some_arc_path step a h arc
 
-pub path_length : (job : Job) (m : Motion) (path : List StepPos) → IsPathOf job.machine.step m path → length path ≡ (length path - 1) + 1
+pub path_length : (job : Job) (m : Way) (path : List StepPos) → IsPathOf job.machine.step m path → length path ≡ (length path - 1) + 1
 path_length job m path w = omega (arith, (path_ends job m path w).1)
 
 -- a path of the first motion, and then one of the others
-pub path_then : (job : Job) (m : Motion) (ms : List Motion) (p : StepPos) (path rest points : List StepPos) → IsPathOf job.machine.step m path → point path 0 ≡ p →
+pub path_then : (job : Job) (m : Way) (ms : List Way) (p : StepPos) (path rest points : List StepPos) → IsPathOf job.machine.step m path → point path 0 ≡ p →
     IsPathOfAll job.machine.step (point path (length path - 1)) ms rest → points ≡ take (length path - 1) path ++ rest → IsPathOfAll job.machine.step p (m ∷ ms) points
 path_then job m ms p path rest points w starts others e =
     let n = length path - 1 in
@@ -98,7 +98,7 @@ path_then job m ms p path rest points w starts others e =
     )
 
 -- joined motions have a path from the grid point of their start on
-pub some_path : (job : Job) → IsStep job.machine.step → (ms : List Motion) (place : Point3) (p : StepPos) → AreArcs ms → AreJoined place ms → p ≡ grid job.machine.step place →
+pub some_path : (job : Job) → IsStep job.machine.step → (ms : List Way) (place : Point3) (p : StepPos) → AreArcs ms → AreJoined place ms → p ≡ grid job.machine.step place →
     (later : List StepPos) × IsPathOfAll job.machine.step p ms (p ∷ later)
 some_path job h [] place p arcs j at = ([], refl)
 some_path job h (m ∷ ms) place p arcs j at =

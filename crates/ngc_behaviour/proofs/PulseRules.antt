@@ -11,9 +11,9 @@ use Rattle.ngc_fixed_length.specs.Grid.{grid}
 use Rattle.ngc_fixed_length.specs.LinePath.{point, IsUnitMove}
 use Rattle.ngc_machine.specs.MachineRanges.{IsMachine}
 use Rattle.ngc_canonical.specs.declared.command.Command.{Command}
-use Rattle.ngc_canonical.specs.Movement.{doing, doings, motions_of, end_of, AreJoined}
-use Rattle.ngc_canonical.specs.declared.movement.Doing.{Doing}
-use Rattle.ngc_canonical.specs.declared.movement.Doing.TheVariants.{Moves, Mounts, Stays}
+use Rattle.ngc_canonical.specs.Movement.{actions_of, ways_of, end_of, AreJoined}
+use Rattle.ngc_canonical.specs.declared.command.Action.{Action}
+use Rattle.ngc_canonical.specs.declared.command.Action.TheVariants.{Move}
 use Rattle.ngc_planner.specs.Caps.{MILLION}
 use Rattle.ngc_planner.specs.Pulses.{is_stepping, is_path_step, KeepsPulseRules}
 use Rattle.ngc_events.specs.declared.event.Event.{Event}
@@ -72,7 +72,7 @@ pub record Walks (job : Job) (done : ℕ) (ring : List Queued) (travelled : ℕ)
   pub left : List Command
   pub place : Point3
   pub at : (k : ℕ) → command_at job (done + k) ≡ slice_get left k
-  pub joined : AreJoined place (motions_of (doings left))
+  pub joined : AreJoined place (ways_of (actions_of left))
   pub fits : RingFits job left ring
   pub begins : travelled ≡ 0 → position ≡ grid job.machine.step place
   pub goes_on : 0 < travelled → IsOnHead ring travelled position
@@ -81,34 +81,30 @@ abbrev pub WalksIn : Job → State → Type 0
 WalksIn job s = Walks job s.done s.ring s.travelled s.position
 
 -- the head is a motion, if it has path steps
-begins_at : (job : Job) (d : Doing) (ds : List Doing) (path : List StepPos) (place : Point3) → AreJoined place (motions_of (d ∷ ds)) → MayTake job d path →
+begins_at : (job : Job) (d : Action) (ds : List Action) (path : List StepPos) (place : Point3) → AreJoined place (ways_of (d ∷ ds)) → MayTake job d path →
     0 < length path - 1 → point path 0 ≡ grid job.machine.step place
-begins_at job (Moves m) ds path place joined take p = (has_ends job m path take).starts ∙ ap (grid job.machine.step) joined.0
-begins_at job (Mounts tool) ds path place joined take p = absurd (let e = ap length take in omega (arith, e, p))
-begins_at job Stays ds path place joined take p = absurd (let e = ap length take in omega (arith, e, p))
+begins_at job (Move m) ds path place joined take p = (has_ends job m.way path take).starts ∙ ap (grid job.machine.step) joined.0
+begins_at job _ ds path place joined take p = absurd (let e = ap length take in omega (arith, e, p))
 
-unit_at : (job : Job) (d : Doing) (path : List StepPos) (k : ℕ) → MayTake job d path → k < length path - 1 → IsUnitMove (point path k) (point path (k + 1))
-unit_at job (Moves m) path k take h = (has_ends job m path take).unit_moves k h
-unit_at job (Mounts tool) path k take h = absurd (let e = ap length take in omega (arith, e, h))
-unit_at job Stays path k take h = absurd (let e = ap length take in omega (arith, e, h))
+unit_at : (job : Job) (d : Action) (path : List StepPos) (k : ℕ) → MayTake job d path → k < length path - 1 → IsUnitMove (point path k) (point path (k + 1))
+unit_at job (Move m) path k take h = (has_ends job m.way path take).unit_moves k h
+unit_at job _ path k take h = absurd (let e = ap length take in omega (arith, e, h))
 
 -- the next motion begins where the head's path ends
-abbrev Continues : Job → List Doing → StepPos → Type 0
-Continues job ds p = (next : Point3) × AreJoined next (motions_of ds) × (p ≡ grid job.machine.step next)
+abbrev Continues : Job → List Action → StepPos → Type 0
+Continues job ds p = (next : Point3) × AreJoined next (ways_of ds) × (p ≡ grid job.machine.step next)
 
-ends_at_next : (job : Job) (d : Doing) (ds : List Doing) (path : List StepPos) (place : Point3) → AreJoined place (motions_of (d ∷ ds)) → MayTake job d path →
+ends_at_next : (job : Job) (d : Action) (ds : List Action) (path : List StepPos) (place : Point3) → AreJoined place (ways_of (d ∷ ds)) → MayTake job d path →
     0 < length path - 1 → Continues job ds (point path (length path - 1))
-ends_at_next job (Moves m) ds path place joined take p = (end_of m, joined.1, (has_ends job m path take).ends)
-ends_at_next job (Mounts tool) ds path place joined take p = absurd (let e = ap length take in omega (arith, e, p))
-ends_at_next job Stays ds path place joined take p = absurd (let e = ap length take in omega (arith, e, p))
+ends_at_next job (Move m) ds path place joined take p = (end_of m.way, joined.1, (has_ends job m.way path take).ends)
+ends_at_next job _ ds path place joined take p = absurd (let e = ap length take in omega (arith, e, p))
 
-stays_at_next : (job : Job) (d : Doing) (ds : List Doing) (path : List StepPos) (place : Point3) (p : StepPos) → AreJoined place (motions_of (d ∷ ds)) → MayTake job d path →
+stays_at_next : (job : Job) (d : Action) (ds : List Action) (path : List StepPos) (place : Point3) (p : StepPos) → AreJoined place (ways_of (d ∷ ds)) → MayTake job d path →
     length path - 1 ≡ 0 → p ≡ grid job.machine.step place → Continues job ds p
-stays_at_next job (Moves m) ds path place p joined take z e =
-    let h = has_ends job m path take in
-    (end_of m, joined.1, e ∙ ap (grid job.machine.step) (sym joined.0) ∙ sym h.starts ∙ ap (point path) (sym z) ∙ h.ends)
-stays_at_next job (Mounts tool) ds path place p joined take z e = (place, joined, e)
-stays_at_next job Stays ds path place p joined take z e = (place, joined, e)
+stays_at_next job (Move m) ds path place p joined take z e =
+    let h = has_ends job m.way path take in
+    (end_of m.way, joined.1, e ∙ ap (grid job.machine.step) (sym joined.0) ∙ sym h.starts ∙ ap (point path) (sym z) ∙ h.ends)
+stays_at_next job _ ds path place p joined take z e = (place, joined, e)
 
 -- ---- a tick
 
@@ -161,7 +157,7 @@ at_state job s done ring travelled position d r t p w =
     (subst (λ x. Walks job done ring travelled x) (sym p) w)))
 
 next_walks : (job : Job) (done : ℕ) (ring : List Queued) (position : StepPos) (cs : List Command) → ((k : ℕ) → command_at job (done + k) ≡ slice_get cs k) →
-    RingFits job cs ring → Continues job (doings cs) position → Walks job done ring 0 position
+    RingFits job cs ring → Continues job (actions_of cs) position → Walks job done ring 0 position
 next_walks job done ring position cs at fits c = record {
   left = cs;
   place = c.0;
@@ -173,18 +169,18 @@ next_walks job done ring position cs at fits c = record {
 }
 
 head_path : (job : Job) (l : Queued) (ls : List Queued) (left : List Command) (place : Point3) (travelled : ℕ) (position : StepPos) →
-    AreJoined place (motions_of (doings left)) → RingFits job left (l ∷ ls) → 0 < path_steps l → (travelled ≡ 0 → position ≡ grid job.machine.step place) →
+    AreJoined place (ways_of (actions_of left)) → RingFits job left (l ∷ ls) → 0 < path_steps l → (travelled ≡ 0 → position ≡ grid job.machine.step place) →
     (0 < travelled → position ≡ point l.path (travelled / MILLION)) → position ≡ point l.path (travelled / MILLION)
 head_path job l ls [] place travelled position joined fits p begins goes_on = absurd fits
 head_path job l ls (c ∷ cs) place zero position joined fits p begins goes_on =
     let z : zero / MILLION ≡ 0 = omega arith in
-    begins refl ∙ sym (begins_at job (doing c) (doings cs) l.path place joined fits.1 p) ∙ ap (point l.path) (sym z)
+    begins refl ∙ sym (begins_at job c.action (actions_of cs) l.path place joined fits.1 p) ∙ ap (point l.path) (sym z)
 head_path job l ls (c ∷ cs) place (suc n) position joined fits p begins goes_on = goes_on (omega arith)
 
 head_units : (job : Job) (l : Queued) (ls : List Queued) (left : List Command) (k : ℕ) → RingFits job left (l ∷ ls) → k < path_steps l →
     IsUnitMove (point l.path k) (point l.path (k + 1))
 head_units job l ls [] k fits h = absurd fits
-head_units job l ls (c ∷ cs) k fits h = unit_at job (doing c) l.path k fits.1 h
+head_units job l ls (c ∷ cs) k fits h = unit_at job c.action l.path k fits.1 h
 
 travel_advances : (job : Job) (l : Queued) (ls : List Queued) (old : State) (o : Outcome) (new : State) → old.ring ≡ l ∷ ls → old.travelled ≤ millionths l →
     new.rate ≤ MILLION → 0 < path_steps l → WalksIn job old → Travels job l ls old o new → Advances old new
@@ -202,7 +198,7 @@ travel_advances job l ls old o new e f small p walks t =
 
 travel_walks : (job : Job) (l : Queued) (ls : List Queued) (old : State) (o : Outcome) (new : State) → old.ring ≡ l ∷ ls → old.travelled ≤ millionths l →
     0 < path_steps l → (left : List Command) (place : Point3) → ((k : ℕ) → command_at job (old.done + k) ≡ slice_get left k) →
-    AreJoined place (motions_of (doings left)) → RingFits job left (l ∷ ls) → Travels job l ls old o new → WalksIn job new
+    AreJoined place (ways_of (actions_of left)) → RingFits job left (l ∷ ls) → Travels job l ls old o new → WalksIn job new
 travel_walks job l ls old o new e f p [] place at joined fits t = absurd fits
 travel_walks job l ls old o new e f p (c ∷ cs) place at joined fits t =
     let m = moved job l ls old o new t f in
@@ -211,7 +207,7 @@ travel_walks job l ls old o new e f p (c ∷ cs) place at joined fits t =
           let k : (old.travelled + new.rate) / MILLION ≡ path_steps l = omega (arith, s.0) in
           at_state job new (suc old.done) ls 0 (point l.path (path_steps l)) s.1 (s.2 ∙ ap (drop 1) e) s.3 (m.position ∙ ap (point l.path) k)
           (next_walks job (suc old.done) ls (point l.path (path_steps l)) cs (next_at job old.done c cs at) fits.2
-          (ends_at_next job (doing c) (doings cs) l.path place joined fits.1 p))
+          (ends_at_next job c.action (actions_of cs) l.path place joined fits.1 p))
       | inr s ↦
           at_state job new old.done (l ∷ ls) (old.travelled + new.rate) (point l.path ((old.travelled + new.rate) / MILLION)) s.0 (s.1 ∙ e) s.2 m.position (record {
             left = c ∷ cs;
@@ -220,23 +216,23 @@ travel_walks job l ls old o new e f p (c ∷ cs) place at joined fits t =
             joined = joined;
             fits = fits;
             begins = λ z. let k : (old.travelled + new.rate) / MILLION ≡ 0 = omega (arith, z) in
-                ap (point l.path) k ∙ begins_at job (doing c) (doings cs) l.path place joined fits.1 p;
+                ap (point l.path) k ∙ begins_at job c.action (actions_of cs) l.path place joined fits.1 p;
             goes_on = λ h. refl;
           })
     ]
 
 finish_walks : (job : Job) (l : Queued) (ls : List Queued) (done : ℕ) (travelled : ℕ) (position : StepPos) → path_steps l ≡ 0 → travelled ≡ 0 →
-    (left : List Command) (place : Point3) → ((k : ℕ) → command_at job (done + k) ≡ slice_get left k) → AreJoined place (motions_of (doings left)) →
+    (left : List Command) (place : Point3) → ((k : ℕ) → command_at job (done + k) ≡ slice_get left k) → AreJoined place (ways_of (actions_of left)) →
     RingFits job left (l ∷ ls) → position ≡ grid job.machine.step place → Walks job (suc done) ls 0 position
 finish_walks job l ls done travelled position z t [] place at joined fits b = absurd fits
 finish_walks job l ls done travelled position z t (c ∷ cs) place at joined fits b =
     next_walks job (suc done) ls position cs (next_at job done c cs at) fits.2
-    (stays_at_next job (doing c) (doings cs) l.path place position joined fits.1 z b)
+    (stays_at_next job c.action (actions_of cs) l.path place position joined fits.1 z b)
 
 finish_both : (job : Job) (l : Queued) (ls : List Queued) (old new : State) → old.ring ≡ l ∷ ls → old.travelled ≤ millionths l → path_steps l ≡ 0 → WalksIn job old →
-    new ≡ after l.command (record (popped 0 old) { rate = 0 }) → Both job old new
+    new ≡ after l.command.action (record (popped 0 old) { rate = 0 }) → Both job old new
 finish_both job l ls old new e f z walks n =
-    let a = after_stays l.command (record (popped 0 old) { rate = 0 }) in
+    let a = after_stays l.command.action (record (popped 0 old) { rate = 0 }) in
     let t : old.travelled ≡ 0 = omega (arith, f, z) in
     let done : new.done ≡ suc old.done = ap (λ (s : State). s.done) n ∙ a.0 in
     let ring : new.ring ≡ ls = ap (λ (s : State). s.ring) n ∙ a.1 ∙ ap (drop 1) e in
@@ -254,15 +250,15 @@ rest_both job old new walks n = subst (Both job old) (sym n) (still_advances old
 head_both : (job : Job) (l : Queued) (ls : List Queued) (old : State) (o : Outcome) (new : State) → old.ring ≡ l ∷ ls → old.travelled ≤ millionths l → new.rate ≤ MILLION →
     WalksIn job old → HeadTick job l ls old o new → Both job old new
 head_both job l ls old o new e f small walks t =
-    elim (match_with (nat_lt 0 (path_steps l)) (Travels job l ls old o new) (MatchBool old.held (Rests job old o new) (Serves job l.command old o new)) t) [
+    elim (match_with (nat_lt 0 (path_steps l)) (Travels job l ls old o new) (MatchBool old.held (Rests job old o new) (Serves job l.command.action old o new)) t) [
       | inl u ↦
           let p : 0 < path_steps l = let b = u.0 in grind (arith, nat_tests) in (
             travel_advances job l ls old o new e f small p walks u.1,
             travel_walks job l ls old o new e f p walks.left walks.place walks.at walks.joined (subst (RingFits job walks.left) e walks.fits) u.1,
           )
-      | inr u ↦ elim (match_with old.held (Rests job old o new) (Serves job l.command old o new) u.1) [
+      | inr u ↦ elim (match_with old.held (Rests job old o new) (Serves job l.command.action old o new) u.1) [
         | inl r ↦ rest_both job old new walks r.1.stands
-        | inr r ↦ elim (match_with (nat_lt (suc old.dwelt) (ticks_of job l.command)) (Dwells job old o new) (Finishes job l.command old o new) r.1) [
+        | inr r ↦ elim (match_with (nat_lt (suc old.dwelt) (ticks_of job l.command.action)) (Dwells job old o new) (Finishes job l.command.action old o new) r.1) [
           | inl d ↦ subst (Both job old) (sym d.1.counts) (still_advances old (record old { rate = 0; dwelt = suc old.dwelt }) refl refl refl, walks)
           | inr d ↦ finish_both job l ls old new e f (let b = u.0 in grind (arith, nat_tests)) walks d.1.goes_on
         ]
@@ -382,7 +378,7 @@ run_goes job q old (Override p ∷ es) (o ∷ os) (new ∷ states) m f w r =
     let n = waits job old (Override p) o new refl w r.0 in let k = event_keeps job old (Override p) o new f r.0 in
     goes_on_from job q old new (pulses new.position es states) n (run_goes job q new es os states m k.1 n.0 r.1)
 
-opening_walks : (job : Job) → AreJoined job.machine.start (motions_of (doings job.commands)) → WalksIn job (opening job.machine)
+opening_walks : (job : Job) → AreJoined job.machine.start (ways_of (actions_of job.commands)) → WalksIn job (opening job.machine)
 opening_walks job joined = record {
   left = job.commands;
   place = job.machine.start;
@@ -409,7 +405,7 @@ fewer test f (p ∷ ps) =
     at_most false true h = omega arith
     at_most false false h = omega arith
 
-pub pulse_rules : (job : Job) → IsMachine job.machine → AreJoined job.machine.start (motions_of (doings job.commands)) → (es : List Event) (os : List Outcome) (states : List State) →
+pub pulse_rules : (job : Job) → IsMachine job.machine → AreJoined job.machine.start (ways_of (actions_of job.commands)) → (es : List Event) (os : List Outcome) (states : List State) →
     Run job (opening job.machine) es os states → KeepsPulseRules job.machine (pulses (grid job.machine.step job.machine.start) es states)
 pulse_rules job machine joined es os states r =
     let ticks : List StepPos = pulses (grid job.machine.step job.machine.start) es states in

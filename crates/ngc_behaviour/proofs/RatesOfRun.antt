@@ -2,14 +2,13 @@
 use Rattle.std.proofs.Common.{◌≡◌, ℕ, zero, suc, ◌+◌, ◌-◌, ◌≤◌, inl, inr, ap, subst, sym, ◌∙◌, arith, refl, List, [], ◌∷◌, ◌++◌, drop, Some, None, true, false}
 use Rattle.std.specs.Prelude.{Option, Bool, MatchBool, nat_lt, nat_le, length, if◌then◌else◌}
 use Rattle.ngc_canonical.specs.declared.command.Command.{Command}
-use Rattle.ngc_canonical.specs.declared.command.Command.TheVariants as commands
 use Rattle.ngc_machine.specs.Machine.{MachineFile}
-use Rattle.ngc_canonical.specs.Movement.{doing}
-use Rattle.ngc_canonical.specs.declared.movement.Motion.TheVariants.{Straight, Along}
-use Rattle.ngc_canonical.specs.declared.movement.Doing.{Doing}
-use Rattle.ngc_canonical.specs.declared.movement.Doing.TheVariants.{Moves, Mounts, Stays}
+use Rattle.ngc_canonical.specs.declared.movement.Way.{Way}
+use Rattle.ngc_canonical.specs.declared.movement.Way.TheVariants.{Line, Arc}
+use Rattle.ngc_canonical.specs.declared.command.Action.{Action}
+use Rattle.ngc_canonical.specs.declared.command.Action.TheVariants.{Move}
 use Rattle.ngc_planner.specs.Braking.{braking, braking_terms}
-use Rattle.ngc_planner.specs.Bounds.{MayTurn}
+use Rattle.ngc_planner.specs.Bounds.{MayTurnOn, MayTurn}
 use Rattle.ngc_events.specs.declared.event.Event.{Event}
 use Rattle.ngc_events.specs.declared.event.Event.TheVariants.{Load, Tick, Hold, Resume, Override, StopSwitch, Start}
 use Rattle.ngc_behaviour.specs.State.{Job, Queued, State, opening, loaded, command_at, path_steps, millionths, RING}
@@ -30,36 +29,29 @@ unfolding braking_terms
 braking_least zero a = omega arith
 braking_least (suc v) a = omega arith
 
-still : (machine : MachineFile) (d : Doing) → MayTurn machine d 0
-still machine (Moves (Straight b e)) = tt
-still machine (Moves (Along a)) = omega arith
-still machine (Mounts tool) = tt
-still machine Stays = tt
+still_on : (machine : MachineFile) (w : Way) → MayTurnOn machine w 0
+still_on machine (Line b e) = tt
+still_on machine (Arc a) = omega arith
+
+still : (machine : MachineFile) (a : Action) → MayTurn machine a 0
+still machine (Move m) = still_on machine m.way
+still machine _ = tt
 
 resting : (job : Job) (l : Queued) (ls : List Queued) (s : State) → s.rate ≤ job.machine.change → s.travelled ≤ millionths l → KeepsRateRules job l ls s 0
 resting job l ls s slow f = record {
   faster = omega arith;
   slower = omega (arith, slow);
-  within = record { greatest = omega arith; feed = omega arith; turns = still job.machine (doing l.command) };
+  within = record { greatest = omega arith; feed = omega arith; turns = still job.machine l.command.action };
   enters = λ e. omega arith;
   leaves = λ h. omega arith;
   goes_on = λ h. absurd (omega (arith, h, f));
 }
 
--- what a command that travels nothing leaves when it is done
-pub after_stays : (c : Command) (s : State) → ((after c s).done ≡ s.done) × ((after c s).ring ≡ s.ring) × ((after c s).travelled ≡ s.travelled) ×
-    ((after c s).position ≡ s.position) × ((after c s).rate ≡ s.rate)
-after_stays (commands.Traverse line b e) s = (refl, refl, refl, refl, refl)
-after_stays (commands.Feed line b e f) s = (refl, refl, refl, refl, refl)
-after_stays (commands.Arc line a f) s = (refl, refl, refl, refl, refl)
-after_stays (commands.Dwell line n) s = (refl, refl, refl, refl, refl)
-after_stays (commands.Tool line tool) s = (refl, refl, refl, refl, refl)
-after_stays (commands.Spindle line state) s = (refl, refl, refl, refl, refl)
-after_stays (commands.Coolant line state) s = (refl, refl, refl, refl, refl)
-after_stays (commands.Override line on) s = (refl, refl, refl, refl, refl)
-after_stays (commands.Stop line) s = (refl, refl, refl, refl, refl)
-after_stays (commands.OptionalStop line) s = (refl, refl, refl, refl, refl)
-after_stays (commands.End line) s = (refl, refl, refl, refl, refl)
+-- what an action that travels nothing leaves when it is done
+pub after_stays : (a : Action) (s : State) → ((after a s).done ≡ s.done) × ((after a s).ring ≡ s.ring) × ((after a s).travelled ≡ s.travelled) ×
+    ((after a s).position ≡ s.position) × ((after a s).rate ≡ s.rate)
+after_stays (Move m) s = (refl, refl, refl, refl, refl)
+after_stays _ s = (refl, refl, refl, refl, refl)
 
 none_fits : (ring : List Queued) (t : ℕ) → t ≡ 0 → Fits ring t
 none_fits [] t e = e
@@ -73,9 +65,9 @@ rest_keeps job [] old new e f slow n = subst (Kept job [] old) (sym n) ((refl, s
 rest_keeps job (l ∷ ls) old new e f slow n = subst (Kept job (l ∷ ls) old) (sym n) (resting job l ls old slow f, subst (λ r. Fits r old.travelled) (sym e) f)
 
 finish_keeps : (job : Job) (l : Queued) (ls : List Queued) (old new : State) → old.travelled ≤ millionths l → old.rate ≤ job.machine.change →
-    new ≡ after l.command (record (popped 0 old) { rate = 0 }) → Kept job (l ∷ ls) old new
+    new ≡ after l.command.action (record (popped 0 old) { rate = 0 }) → Kept job (l ∷ ls) old new
 finish_keeps job l ls old new f slow n =
-    let a = after_stays l.command (record (popped 0 old) { rate = 0 }) in
+    let a = after_stays l.command.action (record (popped 0 old) { rate = 0 }) in
     let r : new.rate ≡ 0 = ap (λ (s : State). s.rate) n ∙ a.4 in
     let t : new.travelled ≡ 0 = ap (λ (s : State). s.travelled) n ∙ a.2 in
     (subst (KeepsRateRules job l ls old) (sym r) (resting job l ls old slow f), none_fits new.ring new.travelled t)
@@ -99,11 +91,11 @@ travel_keeps job l ls old o new e f t =
 
 head_keeps : (job : Job) (l : Queued) (ls : List Queued) (old : State) (o : Outcome) (new : State) → old.ring ≡ l ∷ ls → old.travelled ≤ millionths l → HeadTick job l ls old o new → Kept job (l ∷ ls) old new
 head_keeps job l ls old o new e f t =
-    elim (match_with (nat_lt 0 (path_steps l)) (Travels job l ls old o new) (MatchBool old.held (Rests job old o new) (Serves job l.command old o new)) t) [
+    elim (match_with (nat_lt 0 (path_steps l)) (Travels job l ls old o new) (MatchBool old.held (Rests job old o new) (Serves job l.command.action old o new)) t) [
       | inl u ↦ travel_keeps job l ls old o new e f u.1
-      | inr u ↦ elim (match_with old.held (Rests job old o new) (Serves job l.command old o new) u.1) [
+      | inr u ↦ elim (match_with old.held (Rests job old o new) (Serves job l.command.action old o new) u.1) [
         | inl r ↦ rest_keeps job (l ∷ ls) old new e f r.1.slow r.1.stands
-        | inr r ↦ elim (match_with (nat_lt (suc old.dwelt) (ticks_of job l.command)) (Dwells job old o new) (Finishes job l.command old o new) r.1) [
+        | inr r ↦ elim (match_with (nat_lt (suc old.dwelt) (ticks_of job l.command.action)) (Dwells job old o new) (Finishes job l.command.action old o new) r.1) [
           | inl d ↦ subst (Kept job (l ∷ ls) old) (sym d.1.counts) (resting job l ls old d.1.slow f, subst (λ r. Fits r old.travelled) (sym e) f)
           | inr d ↦ finish_keeps job l ls old new f d.1.slow d.1.goes_on
         ]

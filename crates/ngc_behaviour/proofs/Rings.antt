@@ -3,8 +3,8 @@ use Rattle.std.proofs.Common.{◌≡◌, suc, ap, subst, sym, ◌∙◌, refl, i
 use Rattle.std.specs.Prelude.{Option, Bool, MatchBool, nat_lt, nat_le, if◌then◌else◌, ◌+◌, ◌-◌}
 use Rattle.ngc_fixed_length.specs.declared.points.StepPos.{StepPos}
 use Rattle.ngc_fixed_length.specs.LinePath.{point}
+use Rattle.ngc_canonical.specs.declared.command.Action.{Action}
 use Rattle.ngc_canonical.specs.declared.command.Command.{Command}
-use Rattle.ngc_canonical.specs.Movement.{doing}
 use Rattle.ngc_events.specs.declared.event.Event.{Event}
 use Rattle.ngc_events.specs.declared.event.Event.TheVariants.{Load, Tick, Hold, Resume, Override, StopSwitch, Start}
 use Rattle.ngc_behaviour.specs.State.{Job, Queued, State, RING, loaded, command_at, path_steps, millionths}
@@ -17,7 +17,7 @@ pub record Grows (job : Job) (old new : State) : Type 0 where
   pub command : Command
   pub path : List StepPos
   pub next : command_at job (loaded old) ≡ Some command
-  pub takes : MayTake job (doing command) path
+  pub takes : MayTake job command.action path
   pub done : new.done ≡ old.done
   pub ring : new.ring ≡ old.ring ++ record { command = command; path = path } ∷ []
 
@@ -40,20 +40,20 @@ travel_ring job l ls old o new t =
     (by_test (RingAfter job old) (nat_le (millionths l) (old.travelled + new.rate)) (popped (old.travelled + new.rate - millionths l) there)
     (record there { travelled = old.travelled + new.rate }) (shrinks (refl, refl)) (stays (refl, refl)))
 
-finish_ring : (job : Job) (c : Command) (old : State) (o : Outcome) (new : State) → Finishes job c old o new → RingAfter job old new
-finish_ring job c old o new f =
-    let a = after_stays c (record (popped 0 old) { rate = 0 }) in
-    shrinks (ap (λ (s : State). s.done) f.goes_on ∙ a.0, ap (λ (s : State). s.ring) f.goes_on ∙ a.1)
+finish_ring : (job : Job) (a : Action) (old : State) (o : Outcome) (new : State) → Finishes job a old o new → RingAfter job old new
+finish_ring job a old o new f =
+    let kept = after_stays a (record (popped 0 old) { rate = 0 }) in
+    shrinks (ap (λ (s : State). s.done) f.goes_on ∙ kept.0, ap (λ (s : State). s.ring) f.goes_on ∙ kept.1)
 
 head_ring : (job : Job) (l : Queued) (ls : List Queued) (old : State) (o : Outcome) (new : State) → HeadTick job l ls old o new → RingAfter job old new
 head_ring job l ls old o new t =
-    elim (match_with (nat_lt 0 (path_steps l)) (Travels job l ls old o new) (MatchBool old.held (Rests job old o new) (Serves job l.command old o new)) t) [
+    elim (match_with (nat_lt 0 (path_steps l)) (Travels job l ls old o new) (MatchBool old.held (Rests job old o new) (Serves job l.command.action old o new)) t) [
       | inl u ↦ travel_ring job l ls old o new u.1
-      | inr u ↦ elim (match_with old.held (Rests job old o new) (Serves job l.command old o new) u.1) [
+      | inr u ↦ elim (match_with old.held (Rests job old o new) (Serves job l.command.action old o new) u.1) [
         | inl r ↦ still job old new _ r.1.stands refl refl
-        | inr r ↦ elim (match_with (nat_lt (suc old.dwelt) (ticks_of job l.command)) (Dwells job old o new) (Finishes job l.command old o new) r.1) [
+        | inr r ↦ elim (match_with (nat_lt (suc old.dwelt) (ticks_of job l.command.action)) (Dwells job old o new) (Finishes job l.command.action old o new) r.1) [
           | inl d ↦ still job old new _ d.1.counts refl refl
-          | inr d ↦ finish_ring job l.command old o new d.1
+          | inr d ↦ finish_ring job l.command.action old o new d.1
         ]
       ]
     ]

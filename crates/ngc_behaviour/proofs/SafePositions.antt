@@ -8,7 +8,7 @@ use Rattle.ngc_fixed_length.specs.declared.points.Point3.{Point3}
 use Rattle.ngc_fixed_length.specs.Grid.{grid}
 use Rattle.ngc_fixed_length.specs.Rounding.{nearest, nearest_size}
 use Rattle.ngc_canonical.specs.declared.command.Command.{Command}
-use Rattle.ngc_canonical.specs.Movement.{doings, motions_of, AreJoined}
+use Rattle.ngc_canonical.specs.Movement.{actions_of, ways_of, AreJoined}
 use Rattle.ngc_machine.specs.Machine.{MachineFile}
 use Rattle.ngc_machine.specs.MachineRanges.{IsMachine}
 use Rattle.ngc_machine.specs.Ranges.{IsAtMost}
@@ -70,7 +70,7 @@ start_inside machine m = and _ _
     (subst (λ p. IsTrue (is_below p machine.high)) (sym (start_exact machine m)) (tested machine.start machine.high m.travel.start_below))
 
 pub opening_holds : (machine : MachineFile) (commands : List Command) (entries : List Entry) → IsMachine machine → IsValid machine commands entries →
-    AreJoined machine.start (motions_of (doings commands)) → HoldsIn (job_of machine commands) (opening machine)
+    AreJoined machine.start (ways_of (actions_of commands)) → HoldsIn (job_of machine commands) (opening machine)
 opening_holds machine commands entries m v j = record {
   left = commands;
   entries = entries;
@@ -85,7 +85,7 @@ opening_holds machine commands entries m v j = record {
 
 -- each state of each run is safe
 pub positions_safe : (machine : MachineFile) (commands : List Command) (entries : List Entry) → IsMachine machine → IsValid machine commands entries →
-    AreJoined machine.start (motions_of (doings commands)) →
+    AreJoined machine.start (ways_of (actions_of commands)) →
     (events : List Event) (outcomes : List Outcome) (states : List State) → Run (job_of machine commands) (opening machine) events outcomes states →
     AreSafe machine (opening machine ∷ states)
 positions_safe machine commands entries m v j events outcomes states r =

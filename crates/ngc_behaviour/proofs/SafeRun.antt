@@ -7,13 +7,12 @@ use Rattle.ngc_fixed_length.specs.declared.points.Point3.{Point3}
 use Rattle.ngc_fixed_length.specs.Grid.{grid, greatest_distance}
 use Rattle.ngc_fixed_length.specs.LinePath.{point}
 use Rattle.ngc_canonical.specs.declared.command.Command.{Command}
-use Rattle.ngc_canonical.specs.declared.command.Command.TheVariants as commands
 use Rattle.ngc_machine.specs.declared.tools.Tool.{Tool}
-use Rattle.ngc_canonical.specs.Movement.{doing, doings, motions_of, start_of, end_of, AreJoined}
-use Rattle.ngc_canonical.specs.declared.movement.Motion.{Motion}
-use Rattle.ngc_canonical.specs.declared.movement.Motion.TheVariants.{Straight, Along}
-use Rattle.ngc_canonical.specs.declared.movement.Doing.{Doing}
-use Rattle.ngc_canonical.specs.declared.movement.Doing.TheVariants.{Moves, Mounts, Stays}
+use Rattle.ngc_canonical.specs.Movement.{actions_of, ways_of, start_of, end_of, AreJoined}
+use Rattle.ngc_canonical.specs.declared.movement.Way.{Way}
+use Rattle.ngc_canonical.specs.declared.movement.Way.TheVariants.{Line, Arc}
+use Rattle.ngc_canonical.specs.declared.command.Action.{Action}
+use Rattle.ngc_canonical.specs.declared.command.Action.TheVariants.{Move, Mount}
 use Rattle.ngc_canonical.specs.ProgramPath.{IsPathOf}
 use Rattle.ngc_collision.specs.Body.{IsSafe, IsClearAt}
 use Rattle.ngc_certificate_text.specs.Certificate.{Entry}
@@ -32,7 +31,7 @@ use Rattle.ngc_behaviour.proofs.Heads.{next_at}
 abbrev pub RingFits : Job → List Command → List Queued → Type 0
 RingFits job cs [] = Unit {0}
 RingFits job [] (l ∷ ls) = ⊥
-RingFits job (c ∷ cs) (l ∷ ls) = (l.command ≡ c) × MayTake job (doing c) l.path × RingFits job cs ls
+RingFits job (c ∷ cs) (l ∷ ls) = (l.command ≡ c) × MayTake job c.action l.path × RingFits job cs ls
 
 -- the head, if there is one, has no path steps
 abbrev pub NoSteps : List Queued → Type 0
@@ -45,8 +44,8 @@ pub record Holds (job : Job) (done : ℕ) (ring : List Queued) (position : StepP
   pub entries : List Entry
   pub place : Point3
   pub at : (k : ℕ) → command_at job (done + k) ≡ slice_get left k
-  pub clear : AreClearFrom job.machine tool place (doings left) entries
-  pub joined : AreJoined place (motions_of (doings left))
+  pub clear : AreClearFrom job.machine tool place (actions_of left) entries
+  pub joined : AreJoined place (ways_of (actions_of left))
   pub fits : RingFits job left ring
   pub safe : IsSafe job.machine tool position
   pub stands : NoSteps ring → position ≡ grid job.machine.step place
@@ -54,46 +53,34 @@ pub record Holds (job : Job) (done : ℕ) (ring : List Queued) (position : StepP
 abbrev pub HoldsIn : Job → State → Type 0
 HoldsIn job s = Holds job s.done s.ring s.position s.tool
 
-pub path_ends : (job : Job) (m : Motion) (path : List StepPos) → IsPathOf job.machine.step m path →
+pub path_ends : (job : Job) (m : Way) (path : List StepPos) → IsPathOf job.machine.step m path →
     (n : ℕ) × (length path ≡ n + 1) × (point path 0 ≡ grid job.machine.step (start_of m)) × (point path n ≡ grid job.machine.step (end_of m))
-path_ends job (Straight b e) path w =
+path_ends job (Line b e) path w =
     (greatest_distance (grid job.machine.step b) (grid job.machine.step e), w.count, w.starts, w.ends)
-path_ends job (Along a) path w = (w.0, w.1.weak.count, w.1.weak.starts, w.1.weak.ends)
+path_ends job (Arc a) path w = (w.0, w.1.weak.count, w.1.weak.starts, w.1.weak.ends)
 
-pub ends_last : (job : Job) (m : Motion) (path : List StepPos) → IsPathOf job.machine.step m path →
+pub ends_last : (job : Job) (m : Way) (path : List StepPos) → IsPathOf job.machine.step m path →
     point path (length path - 1) ≡ grid job.machine.step (end_of m)
 ends_last job m path w = let e = path_ends job m path w in
     let i : length path - 1 ≡ e.0 = omega (arith, e.1) in ap (point path) i ∙ e.3
 
-pub still_ends : (job : Job) (m : Motion) (path : List StepPos) → IsPathOf job.machine.step m path → length path - 1 ≡ 0 →
+pub still_ends : (job : Job) (m : Way) (path : List StepPos) → IsPathOf job.machine.step m path → length path - 1 ≡ 0 →
     grid job.machine.step (start_of m) ≡ grid job.machine.step (end_of m)
 still_ends job m path w z = let e = path_ends job m path w in
     let i : 0 ≡ e.0 = omega (arith, e.1, z) in sym e.2 ∙ ap (point path) i ∙ e.3
 
 -- ---- the head is done, in a place p
 
-abbrev tool_after : Doing → Option Tool → Option Tool
-tool_after (Moves m) tool = tool
-tool_after (Mounts new) tool = new
-tool_after Stays tool = tool
+abbrev tool_after : Action → Option Tool → Option Tool
+tool_after (Mount new) tool = new
+tool_after _ tool = tool
 
 -- a head without path steps
-served : (job : Job) (done : ℕ) (l : Queued) (ls : List Queued) (p : StepPos) (tool : Option Tool) (d : Doing) (cs : List Command) (entries : List Entry) (place : Point3) →
+served : (job : Job) (done : ℕ) (l : Queued) (ls : List Queued) (p : StepPos) (tool : Option Tool) (d : Action) (cs : List Command) (entries : List Entry) (place : Point3) →
     ((k : ℕ) → command_at job (suc done + k) ≡ slice_get cs k) →
-    AreClearFrom job.machine tool place (d ∷ doings cs) entries → AreJoined place (motions_of (d ∷ doings cs)) → MayTake job d l.path → RingFits job cs ls →
+    AreClearFrom job.machine tool place (d ∷ actions_of cs) entries → AreJoined place (ways_of (d ∷ actions_of cs)) → MayTake job d l.path → RingFits job cs ls →
     IsSafe job.machine tool p → path_steps l ≡ 0 → p ≡ grid job.machine.step place → Holds job (suc done) ls p (tool_after d tool)
-served job done l ls p tool Stays cs entries place at clear joined take fits safe z stands = record {
-  left = cs;
-  entries = entries;
-  place = place;
-  at = at;
-  clear = clear;
-  joined = joined;
-  fits = fits;
-  safe = safe;
-  stands = λ n. stands;
-}
-served job done l ls p tool (Mounts new) cs entries place at clear joined take fits safe z stands = record {
+served job done l ls p tool (Mount new) cs entries place at clear joined take fits safe z stands = record {
   left = cs;
   entries = entries;
   place = place;
@@ -104,62 +91,62 @@ served job done l ls p tool (Mounts new) cs entries place at clear joined take f
   safe = record { inside = safe.inside; clear = subst (IsClearAt job.machine new) (sym stands) clear.0 };
   stands = λ n. stands;
 }
-served job done l ls p tool (Moves m) cs [] place at clear joined take fits safe z stands = absurd clear
-served job done l ls p tool (Moves m) cs (entry ∷ entries) place at clear joined take fits safe z stands = record {
+served job done l ls p tool (Move m) cs [] place at clear joined take fits safe z stands = absurd clear
+served job done l ls p tool (Move m) cs (entry ∷ entries) place at clear joined take fits safe z stands = record {
   left = cs;
   entries = entries;
-  place = end_of m;
+  place = end_of m.way;
   at = at;
   clear = clear.1;
   joined = joined.1;
   fits = fits;
   safe = safe;
-  stands = λ n. stands ∙ ap (grid job.machine.step) (sym joined.0) ∙ still_ends job m l.path take z;
+  stands = λ n. stands ∙ ap (grid job.machine.step) (sym joined.0) ∙ still_ends job m.way l.path take z;
+}
+served job done l ls p tool _ cs entries place at clear joined take fits safe z stands = record {
+  left = cs;
+  entries = entries;
+  place = place;
+  at = at;
+  clear = clear;
+  joined = joined;
+  fits = fits;
+  safe = safe;
+  stands = λ n. stands;
 }
 
 -- a head with path steps: each of its points is safe
-on_way : (job : Job) (l : Queued) (tool : Option Tool) (place : Point3) (d : Doing) (ds : List Doing) (entries : List Entry) (k : ℕ) → pos 1 ≤ℤ job.machine.step →
+on_way : (job : Job) (l : Queued) (tool : Option Tool) (place : Point3) (d : Action) (ds : List Action) (entries : List Entry) (k : ℕ) → pos 1 ≤ℤ job.machine.step →
     AreClearFrom job.machine tool place (d ∷ ds) entries → MayTake job d l.path → 0 < path_steps l → k ≤ path_steps l → IsSafe job.machine tool (point l.path k)
-on_way job l tool place Stays ds entries k s clear take p i = absurd (let e = ap length take in omega (arith, e, p))
-on_way job l tool place (Mounts new) ds entries k s clear take p i = absurd (let e = ap length take in omega (arith, e, p))
-on_way job l tool place (Moves m) ds [] k s clear take p i = absurd clear
-on_way job l tool place (Moves m) ds (entry ∷ entries) k s clear take p i =
-    safe_on_path job.machine tool m entry.pieces l.path k s clear.0 take (omega (arith, p, i))
+on_way job l tool place (Move m) ds [] k s clear take p i = absurd clear
+on_way job l tool place (Move m) ds (entry ∷ entries) k s clear take p i =
+    safe_on_path job.machine tool m.way entry.pieces l.path k s clear.0 take (omega (arith, p, i))
+on_way job l tool place _ ds entries k s clear take p i = absurd (let e = ap length take in omega (arith, e, p))
 
 -- and when it is done, the next motion begins where it ends
-arrived : (job : Job) (done : ℕ) (l : Queued) (ls : List Queued) (tool : Option Tool) (d : Doing) (cs : List Command) (entries : List Entry) (place : Point3) → pos 1 ≤ℤ job.machine.step →
+arrived : (job : Job) (done : ℕ) (l : Queued) (ls : List Queued) (tool : Option Tool) (d : Action) (cs : List Command) (entries : List Entry) (place : Point3) → pos 1 ≤ℤ job.machine.step →
     ((k : ℕ) → command_at job (suc done + k) ≡ slice_get cs k) →
-    AreClearFrom job.machine tool place (d ∷ doings cs) entries → AreJoined place (motions_of (d ∷ doings cs)) → MayTake job d l.path → RingFits job cs ls →
+    AreClearFrom job.machine tool place (d ∷ actions_of cs) entries → AreJoined place (ways_of (d ∷ actions_of cs)) → MayTake job d l.path → RingFits job cs ls →
     0 < path_steps l → Holds job (suc done) ls (point l.path (path_steps l)) tool
-arrived job done l ls tool Stays cs entries place s at clear joined take fits p = absurd (let e = ap length take in omega (arith, e, p))
-arrived job done l ls tool (Mounts new) cs entries place s at clear joined take fits p = absurd (let e = ap length take in omega (arith, e, p))
-arrived job done l ls tool (Moves m) cs [] place s at clear joined take fits p = absurd clear
-arrived job done l ls tool (Moves m) cs (entry ∷ entries) place s at clear joined take fits p = record {
+arrived job done l ls tool (Move m) cs [] place s at clear joined take fits p = absurd clear
+arrived job done l ls tool (Move m) cs (entry ∷ entries) place s at clear joined take fits p = record {
   left = cs;
   entries = entries;
-  place = end_of m;
+  place = end_of m.way;
   at = at;
   clear = clear.1;
   joined = joined.1;
   fits = fits;
-  safe = safe_on_path job.machine tool m entry.pieces l.path (path_steps l) s clear.0 take (omega (arith, p));
-  stands = λ n. ends_last job m l.path take;
+  safe = safe_on_path job.machine tool m.way entry.pieces l.path (path_steps l) s clear.0 take (omega (arith, p));
+  stands = λ n. ends_last job m.way l.path take;
 }
+arrived job done l ls tool _ cs entries place s at clear joined take fits p = absurd (let e = ap length take in omega (arith, e, p))
 
 -- ---- a tick
 
-after_keeps : (job : Job) (c : Command) (s : State) → Holds job s.done s.ring s.position (tool_after (doing c) s.tool) → HoldsIn job (after c s)
-after_keeps job (commands.Traverse line b e) s h = h
-after_keeps job (commands.Feed line b e f) s h = h
-after_keeps job (commands.Arc line a f) s h = h
-after_keeps job (commands.Dwell line n) s h = h
-after_keeps job (commands.Tool line tool) s h = h
-after_keeps job (commands.Spindle line state) s h = h
-after_keeps job (commands.Coolant line state) s h = h
-after_keeps job (commands.Override line on) s h = h
-after_keeps job (commands.Stop line) s h = h
-after_keeps job (commands.OptionalStop line) s h = h
-after_keeps job (commands.End line) s h = h
+after_keeps : (job : Job) (a : Action) (s : State) → Holds job s.done s.ring s.position (tool_after a s.tool) → HoldsIn job (after a s)
+after_keeps job (Move m) s h = h
+after_keeps job _ s h = h
 
 if_holds : (P : State → Type 0) (b : Bool) (x y : State) → (b ≡ true → P x) → (b ≡ false → P y) → P (if b then x else y)
 if_holds P true x y f g = f refl
@@ -173,18 +160,18 @@ part_way l s v = omega arith
 
 on_head : (job : Job) (l : Queued) (ls : List Queued) (old : State) (o : Outcome) (new : State) → old.ring ≡ l ∷ ls → pos 1 ≤ℤ job.machine.step → HoldsIn job old →
     (left : List Command) (entries : List Entry) (place : Point3) → ((k : ℕ) → command_at job (old.done + k) ≡ slice_get left k) →
-    AreClearFrom job.machine old.tool place (doings left) entries → AreJoined place (motions_of (doings left)) → RingFits job left (l ∷ ls) →
+    AreClearFrom job.machine old.tool place (actions_of left) entries → AreJoined place (ways_of (actions_of left)) → RingFits job left (l ∷ ls) →
     (path_steps l ≡ 0 → old.position ≡ grid job.machine.step place) → HeadTick job l ls old o new → HoldsIn job new
 on_head job l ls old o new e s whole [] entries place at clear joined fits stands t = absurd fits
 on_head job l ls old o new e s whole (c ∷ cs) entries place at clear joined fits stands t =
-    elim (match_with (nat_lt 0 (path_steps l)) (Travels job l ls old o new) (MatchBool old.held (Rests job old o new) (Serves job l.command old o new)) t) [
+    elim (match_with (nat_lt 0 (path_steps l)) (Travels job l ls old o new) (MatchBool old.held (Rests job old o new) (Serves job l.command.action old o new)) t) [
       | inl u ↦
           let p : 0 < path_steps l = let b = u.0 in grind (arith, nat_tests) in
           subst (HoldsIn job) (sym u.1.goes_on)
           (if_holds (HoldsIn job) (nat_le (millionths l) (old.travelled + new.rate)) (popped (old.travelled + new.rate - millionths l) (record old { rate = new.rate; position = point l.path (place_after l old new.rate) })) (record old { rate = new.rate; position = point l.path (place_after l old new.rate); travelled = old.travelled + new.rate })
           (λ b. subst (λ k. Holds job (suc old.done) (drop 1 old.ring) (point l.path k) old.tool) (sym (whole_way l old new.rate b))
           (subst (λ ring. Holds job (suc old.done) (drop 1 ring) (point l.path (path_steps l)) old.tool) (sym e)
-          (arrived job old.done l ls old.tool (doing c) cs entries place s (next_at job old.done c cs at) clear joined fits.1 fits.2 p)))
+          (arrived job old.done l ls old.tool c.action cs entries place s (next_at job old.done c cs at) clear joined fits.1 fits.2 p)))
           (λ b. record {
             left = c ∷ cs;
             entries = entries;
@@ -193,20 +180,20 @@ on_head job l ls old o new e s whole (c ∷ cs) entries place at clear joined fi
             clear = clear;
             joined = joined;
             fits = subst (RingFits job (c ∷ cs)) (sym e) fits;
-            safe = on_way job l old.tool place (doing c) (doings cs) entries (place_after l old new.rate) s clear fits.1 p (part_way l old new.rate);
+            safe = on_way job l old.tool place c.action (actions_of cs) entries (place_after l old new.rate) s clear fits.1 p (part_way l old new.rate);
             stands = λ n. absurd (let z = subst NoSteps e n in omega (arith, z, p));
           }))
-      | inr u ↦ elim (match_with old.held (Rests job old o new) (Serves job l.command old o new) u.1) [
+      | inr u ↦ elim (match_with old.held (Rests job old o new) (Serves job l.command.action old o new) u.1) [
         | inl r ↦ subst (HoldsIn job) (sym r.1.stands) whole
-        | inr r ↦ elim (match_with (nat_lt (suc old.dwelt) (ticks_of job l.command)) (Dwells job old o new) (Finishes job l.command old o new) r.1) [
+        | inr r ↦ elim (match_with (nat_lt (suc old.dwelt) (ticks_of job l.command.action)) (Dwells job old o new) (Finishes job l.command.action old o new) r.1) [
           | inl d ↦ subst (HoldsIn job) (sym d.1.counts) whole
           | inr d ↦
               let z : path_steps l ≡ 0 = let b = u.0 in grind (arith, nat_tests) in
               subst (HoldsIn job) (sym d.1.goes_on)
-              (after_keeps job l.command (record (popped 0 old) { rate = 0 })
-              (subst (λ ring. Holds job (suc old.done) (drop 1 ring) old.position (tool_after (doing l.command) old.tool)) (sym e)
-              (subst (λ (k : Command). Holds job (suc old.done) ls old.position (tool_after (doing k) old.tool)) (sym fits.0)
-              (served job old.done l ls old.position old.tool (doing c) cs entries place (next_at job old.done c cs at) clear joined fits.1 fits.2 whole.safe z (stands z)))))
+              (after_keeps job l.command.action (record (popped 0 old) { rate = 0 })
+              (subst (λ ring. Holds job (suc old.done) (drop 1 ring) old.position (tool_after l.command.action old.tool)) (sym e)
+              (subst (λ (k : Command). Holds job (suc old.done) ls old.position (tool_after k.action old.tool)) (sym fits.0)
+              (served job old.done l ls old.position old.tool c.action cs entries place (next_at job old.done c cs at) clear joined fits.1 fits.2 whole.safe z (stands z)))))
         ]
       ]
     ]
@@ -226,12 +213,12 @@ no_steps [] l n = tt
 no_steps (k ∷ ks) l n = n
 
 pub one_more : (job : Job) (left : List Command) (ring : List Queued) (c : Command) (path : List StepPos) → RingFits job left ring → slice_get left (length ring) ≡ Some c →
-    MayTake job (doing c) path → RingFits job left (ring ++ record { command = c; path = path } ∷ [])
+    MayTake job c.action path → RingFits job left (ring ++ record { command = c; path = path } ∷ [])
 one_more job [] [] c path f e take = absurd (none_some c e)
   where
     none_some : (c : Command) → None ≡ Some c → ⊥
     none_some c h = cc
-one_more job (x ∷ xs) [] c path f e take = (same_some c x (sym e), subst (λ (k : Command). MayTake job (doing k) path) (same_some c x (sym e)) take, tt)
+one_more job (x ∷ xs) [] c path f e take = (same_some c x (sym e), subst (λ (k : Command). MayTake job k.action path) (same_some c x (sym e)) take, tt)
   where
     same_some : (c x : Command) → Some c ≡ Some x → c ≡ x
     same_some c x h = cc

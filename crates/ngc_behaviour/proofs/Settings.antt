@@ -5,7 +5,7 @@ use Rattle.ngc_canonical.specs.declared.command.Command.{Command}
 use Rattle.ngc_canonical.specs.declared.fault.ProgramFault.{ProgramFault}
 use Rattle.ngc_canonical.specs.Joined.{HaveEvenRadii}
 use Rattle.ngc_canonical.specs.Meaning.{Program, meaning}
-use Rattle.ngc_canonical.specs.Movement.{doings, motions_of, AreJoined}
+use Rattle.ngc_canonical.specs.Movement.{actions_of, ways_of, AreJoined}
 use Rattle.ngc_canonical.specs.State.{Setup}
 use Rattle.ngc_canonical.proofs.JoinedLines.{are_joined, are_even}
 use Rattle.ngc_certificate_text.specs.Certificate.{Entry, CertificateData}
@@ -38,10 +38,10 @@ setting_is_valid program setup c none block_delete commands e = meant program se
 
 -- and their motions are joined
 pub setting_is_joined : (program : Program) (setup : Setup) (block_delete : Bool) (commands : List Command) →
-    meaning program setup block_delete ≡ Ok commands → AreJoined setup.machine.start (motions_of (doings commands))
+    meaning program setup block_delete ≡ Ok commands → AreJoined setup.machine.start (ways_of (actions_of commands))
 setting_is_joined program setup block_delete commands e = are_joined program setup block_delete commands e
 
 -- and their arcs have even radii
 pub setting_is_even : (program : Program) (setup : Setup) (block_delete : Bool) (commands : List Command) →
-    meaning program setup block_delete ≡ Ok commands → HaveEvenRadii (motions_of (doings commands))
+    meaning program setup block_delete ≡ Ok commands → HaveEvenRadii (ways_of (actions_of commands))
 setting_is_even program setup block_delete commands e = are_even program setup block_delete commands e

@@ -11,11 +11,11 @@ use Rattle.ngc_fixed_length.specs.LinePath.{point}
 use Rattle.ngc_machine.specs.Machine.{MachineFile}
 use Rattle.ngc_machine.specs.MachineRanges.{IsMachine}
 use Rattle.ngc_canonical.specs.declared.command.Command.{Command}
-use Rattle.ngc_canonical.specs.declared.command.Command.TheVariants as commands
-use Rattle.ngc_canonical.specs.Movement.{doing, doings, motions_of, start_of, end_of, AreJoined}
-use Rattle.ngc_canonical.specs.declared.movement.Motion.{Motion}
-use Rattle.ngc_canonical.specs.declared.movement.Doing.{Doing}
-use Rattle.ngc_canonical.specs.declared.movement.Doing.TheVariants.{Moves, Mounts, Stays}
+use Rattle.ngc_canonical.specs.Movement.{actions_of, ways_of, start_of, end_of, AreJoined}
+use Rattle.ngc_canonical.specs.declared.movement.Way.{Way}
+use Rattle.ngc_canonical.specs.declared.command.Action.{Action}
+use Rattle.ngc_canonical.specs.declared.command.Action.TheVariants.{Move}
+use Rattle.ngc_canonical.specs.declared.command.Action.TheVariants as actions
 use Rattle.ngc_canonical.specs.Joined.{IsLastIfEnd, EndIsLast}
 use Rattle.ngc_canonical.specs.ProgramPath.{IsPathOf, IsPathOfAll}
 use Rattle.ngc_planner.specs.Caps.{MILLION}
@@ -43,7 +43,7 @@ IsHere job place (l ∷ ls) travelled p =
 
 record Walks (job : Job) (left : List Command) (ring : List Queued) (travelled : ℕ) (p : StepPos) : Type 0 where
   place : Point3
-  joined : AreJoined place (motions_of (doings left))
+  joined : AreJoined place (ways_of (actions_of left))
   fits : RingFits job left ring
   short : Fits ring travelled
   here : IsHere job place ring travelled p
@@ -51,40 +51,38 @@ record Walks (job : Job) (left : List Command) (ring : List Queued) (travelled :
 -- ---- the points that may follow
 
 -- of the head's path the points from the place on, and then a path of the other motions
-abbrev HeadWay : Job → Queued → Doing → List Command → ℕ → StepPos → List StepPos → Type 0
-HeadWay job l (Moves m) cs travelled p points =
-    (rest : List StepPos) × IsPathOfAll job.machine.step (point l.path (path_steps l)) (motions_of (doings cs)) rest ×
+abbrev HeadWay : Job → Queued → Action → List Command → ℕ → StepPos → List StepPos → Type 0
+HeadWay job l (Move m) cs travelled p points =
+    (rest : List StepPos) × IsPathOfAll job.machine.step (point l.path (path_steps l)) (ways_of (actions_of cs)) rest ×
     (points ≡ drop (travelled / MILLION) (take (path_steps l) l.path) ++ rest)
-HeadWay job l (Mounts tool) cs travelled p points = IsPathOfAll job.machine.step p (motions_of (doings cs)) points
-HeadWay job l Stays cs travelled p points = IsPathOfAll job.machine.step p (motions_of (doings cs)) points
+HeadWay job l _ cs travelled p points = IsPathOfAll job.machine.step p (ways_of (actions_of cs)) points
 
 abbrev WayFrom : Job → List Command → List Queued → ℕ → StepPos → List StepPos → Type 0
-WayFrom job left [] travelled p points = IsPathOfAll job.machine.step p (motions_of (doings left)) points
+WayFrom job left [] travelled p points = IsPathOfAll job.machine.step p (ways_of (actions_of left)) points
 WayFrom job [] (l ∷ ls) travelled p points = ⊥
-WayFrom job (c ∷ cs) (l ∷ ls) travelled p points = HeadWay job l (doing c) cs travelled p points
+WayFrom job (c ∷ cs) (l ∷ ls) travelled p points = HeadWay job l c.action cs travelled p points
 
 -- ---- where motions begin
 
 no_path : (l : Queued) → l.path ≡ [] → path_steps l ≡ 0
 no_path l e = let n = ap length e in omega (arith, n)
 
-first_point : (job : Job) (d : Doing) (cs : List Command) (place : Point3) (path : List StepPos) → AreJoined place (motions_of (d ∷ doings cs)) → MayTake job d path →
+first_point : (job : Job) (d : Action) (cs : List Command) (place : Point3) (path : List StepPos) → AreJoined place (ways_of (d ∷ actions_of cs)) → MayTake job d path →
     0 < length path - 1 → point path 0 ≡ grid job.machine.step place
-first_point job Stays cs place path j may some = absurd (let e = ap length may in omega (arith, e, some))
-first_point job (Mounts tool) cs place path j may some = absurd (let e = ap length may in omega (arith, e, some))
-first_point job (Moves m) cs place path j may some = (path_ends job m path may).2 ∙ ap (grid job.machine.step) j.0
+first_point job (Move m) cs place path j may some = (path_ends job m.way path may).2 ∙ ap (grid job.machine.step) j.0
+first_point job _ cs place path j may some = absurd (let e = ap length may in omega (arith, e, some))
 
-begins_here : (job : Job) (left : List Command) (ring : List Queued) (place : Point3) (p : StepPos) → AreJoined place (motions_of (doings left)) → RingFits job left ring →
+begins_here : (job : Job) (left : List Command) (ring : List Queued) (place : Point3) (p : StepPos) → AreJoined place (ways_of (actions_of left)) → RingFits job left ring →
     p ≡ grid job.machine.step place → IsHere job place ring 0 p
 begins_here job left [] place p j f e = e
 begins_here job [] (l ∷ ls) place p j f e = absurd f
-begins_here job (c ∷ cs) (l ∷ ls) place p j f e = (λ z. e, λ some. e ∙ sym (first_point job (doing c) cs place l.path j f.1 some))
+begins_here job (c ∷ cs) (l ∷ ls) place p j f e = (λ z. e, λ some. e ∙ sym (first_point job c.action cs place l.path j f.1 some))
 
 none_walked : (ring : List Queued) → Fits ring 0
 none_walked [] = refl
 none_walked (l ∷ ls) = omega arith
 
-begins : (job : Job) (left : List Command) (ring : List Queued) (place : Point3) (p : StepPos) → AreJoined place (motions_of (doings left)) → RingFits job left ring →
+begins : (job : Job) (left : List Command) (ring : List Queued) (place : Point3) (p : StepPos) → AreJoined place (ways_of (actions_of left)) → RingFits job left ring →
     p ≡ grid job.machine.step place → Walks job left ring 0 p
 begins job left ring place p j f e =
     record { place = place; joined = j; fits = f; short = none_walked ring; here = begins_here job left ring place p j f e }
@@ -95,17 +93,17 @@ more_walked : (ring : List Queued) (l : Queued) (t : ℕ) → Fits ring t → Fi
 more_walked [] l t f = omega (arith, f)
 more_walked (k ∷ ks) l t f = f
 
-first_loaded : (job : Job) (left : List Command) (l : Queued) (place : Point3) (t : ℕ) (p : StepPos) → AreJoined place (motions_of (doings left)) → RingFits job left (l ∷ []) →
+first_loaded : (job : Job) (left : List Command) (l : Queued) (place : Point3) (t : ℕ) (p : StepPos) → AreJoined place (ways_of (actions_of left)) → RingFits job left (l ∷ []) →
     t ≡ 0 → p ≡ grid job.machine.step place → IsHere job place (l ∷ []) t p
 first_loaded job left l place t p j f z e = subst (λ k. IsHere job place (l ∷ []) k p) (sym z) (begins_here job left (l ∷ []) place p j f e)
 
-still_here : (job : Job) (left : List Command) (ring : List Queued) (l : Queued) (place : Point3) (t : ℕ) (p : StepPos) → AreJoined place (motions_of (doings left)) →
+still_here : (job : Job) (left : List Command) (ring : List Queued) (l : Queued) (place : Point3) (t : ℕ) (p : StepPos) → AreJoined place (ways_of (actions_of left)) →
     RingFits job left (ring ++ l ∷ []) → Fits ring t → IsHere job place ring t p → IsHere job place (ring ++ l ∷ []) t p
 still_here job left [] l place t p j f z e = first_loaded job left l place t p j f z e
 still_here job left (k ∷ ks) l place t p j f z e = e
 
 walks_grown : (job : Job) (left : List Command) (ring : List Queued) (t : ℕ) (p : StepPos) (c : Command) (path : List StepPos) → Walks job left ring t p →
-    slice_get left (length ring) ≡ Some c → MayTake job (doing c) path → Walks job left (ring ++ record { command = c; path = path } ∷ []) t p
+    slice_get left (length ring) ≡ Some c → MayTake job c.action path → Walks job left (ring ++ record { command = c; path = path } ∷ []) t p
 walks_grown job left ring t p c path w e may =
     let f = one_more job left ring c path w.fits e may in
     let l : Queued = record { command = c; path = path } in
@@ -123,18 +121,16 @@ walks_on job left l ls t v p w some short =
     record { place = w.place; joined = w.joined; fits = w.fits; short = short; here = (λ z. absurd (omega (arith, z, some)), λ s. refl) }
 
 -- the command behind the head
-walks_arrived : (job : Job) (d : Doing) (cs : List Command) (l : Queued) (ls : List Queued) (place : Point3) → AreJoined place (motions_of (d ∷ doings cs)) → MayTake job d l.path →
+walks_arrived : (job : Job) (d : Action) (cs : List Command) (l : Queued) (ls : List Queued) (place : Point3) → AreJoined place (ways_of (d ∷ actions_of cs)) → MayTake job d l.path →
     RingFits job cs ls → 0 < path_steps l → Walks job cs ls 0 (point l.path (path_steps l))
-walks_arrived job Stays cs l ls place j may f some = absurd (let e = ap length may in omega (arith, e, some))
-walks_arrived job (Mounts tool) cs l ls place j may f some = absurd (let e = ap length may in omega (arith, e, some))
-walks_arrived job (Moves m) cs l ls place j may f some = begins job cs ls (end_of m) (point l.path (path_steps l)) j.1 f (ends_last job m l.path may)
+walks_arrived job (Move m) cs l ls place j may f some = begins job cs ls (end_of m.way) (point l.path (path_steps l)) j.1 f (ends_last job m.way l.path may)
+walks_arrived job _ cs l ls place j may f some = absurd (let e = ap length may in omega (arith, e, some))
 
-walks_passed : (job : Job) (d : Doing) (cs : List Command) (l : Queued) (ls : List Queued) (place : Point3) (p : StepPos) → AreJoined place (motions_of (d ∷ doings cs)) →
+walks_passed : (job : Job) (d : Action) (cs : List Command) (l : Queued) (ls : List Queued) (place : Point3) (p : StepPos) → AreJoined place (ways_of (d ∷ actions_of cs)) →
     MayTake job d l.path → RingFits job cs ls → path_steps l ≡ 0 → p ≡ grid job.machine.step place → Walks job cs ls 0 p
-walks_passed job Stays cs l ls place p j may f z e = begins job cs ls place p j f e
-walks_passed job (Mounts tool) cs l ls place p j may f z e = begins job cs ls place p j f e
-walks_passed job (Moves m) cs l ls place p j may f z e =
-    begins job cs ls (end_of m) p j.1 f (e ∙ ap (grid job.machine.step) (sym j.0) ∙ still_ends job m l.path may z)
+walks_passed job (Move m) cs l ls place p j may f z e =
+    begins job cs ls (end_of m.way) p j.1 f (e ∙ ap (grid job.machine.step) (sym j.0) ∙ still_ends job m.way l.path may z)
+walks_passed job _ cs l ls place p j may f z e = begins job cs ls place p j f e
 
 -- ---- from the way of the next state to that of this one
 
@@ -143,7 +139,7 @@ zero_or_some zero = inl refl
 zero_or_some (suc n) = inr (omega arith)
 
 -- the position on the path of a motion at the head
-on_path : (job : Job) (m : Motion) (l : Queued) (ls : List Queued) (place : Point3) (t : ℕ) (p : StepPos) → start_of m ≡ place → IsPathOf job.machine.step m l.path →
+on_path : (job : Job) (m : Way) (l : Queued) (ls : List Queued) (place : Point3) (t : ℕ) (p : StepPos) → start_of m ≡ place → IsPathOf job.machine.step m l.path →
     t ≤ millionths l → IsHere job place (l ∷ ls) t p → p ≡ point l.path (t / MILLION)
 on_path job m l ls place t p j may short here =
     elim (zero_or_some (path_steps l)) [
@@ -153,20 +149,19 @@ on_path job m l ls place t p j may short here =
       | inr some ↦ here.1 some
     ]
 
-all_head : (job : Job) (d : Doing) (cs : List Command) (l : Queued) (ls : List Queued) (place : Point3) (p : StepPos) (points : List StepPos) →
-    AreJoined place (motions_of (d ∷ doings cs)) → MayTake job d l.path → IsHere job place (l ∷ ls) 0 p → HeadWay job l d cs 0 p points →
-    IsPathOfAll job.machine.step p (motions_of (d ∷ doings cs)) points
-all_head job Stays cs l ls place p points j may here w = w
-all_head job (Mounts tool) cs l ls place p points j may here w = w
-all_head job (Moves m) cs l ls place p points j may here w =
-    path_then job m (motions_of (doings cs)) p l.path w.0 points may (sym (on_path job m l ls place 0 p j.0 may (omega arith) here)) w.1 w.2
+all_head : (job : Job) (d : Action) (cs : List Command) (l : Queued) (ls : List Queued) (place : Point3) (p : StepPos) (points : List StepPos) →
+    AreJoined place (ways_of (d ∷ actions_of cs)) → MayTake job d l.path → IsHere job place (l ∷ ls) 0 p → HeadWay job l d cs 0 p points →
+    IsPathOfAll job.machine.step p (ways_of (d ∷ actions_of cs)) points
+all_head job (Move m) cs l ls place p points j may here w =
+    path_then job m.way (ways_of (actions_of cs)) p l.path w.0 points may (sym (on_path job m.way l ls place 0 p j.0 may (omega arith) here)) w.1 w.2
+all_head job _ cs l ls place p points j may here w = w
 
 -- where nothing of the head was walked, the way is a path of all that is left
 all_way : (job : Job) (left : List Command) (ring : List Queued) (p : StepPos) (points : List StepPos) → Walks job left ring 0 p → WayFrom job left ring 0 p points →
-    IsPathOfAll job.machine.step p (motions_of (doings left)) points
+    IsPathOfAll job.machine.step p (ways_of (actions_of left)) points
 all_way job left [] p points w way = way
 all_way job [] (l ∷ ls) p points w way = absurd way
-all_way job (c ∷ cs) (l ∷ ls) p points w way = all_head job (doing c) cs l ls w.place p points w.joined w.fits.1 w.here way
+all_way job (c ∷ cs) (l ∷ ls) p points w way = all_head job c.action cs l ls w.place p points w.joined w.fits.1 w.here way
 
 back_grown : (job : Job) (left : List Command) (ring : List Queued) (l : Queued) (t : ℕ) (p : StepPos) (points : List StepPos) → Fits ring t → Walks job left (ring ++ l ∷ []) t p →
     WayFrom job left (ring ++ l ∷ []) t p points → WayFrom job left ring t p points
@@ -175,63 +170,59 @@ back_grown job left [] l t p points z w way =
 back_grown job [] (k ∷ ks) l t p points z w way = absurd way
 back_grown job (c ∷ cs) (k ∷ ks) l t p points z w way = way
 
-back_on : (job : Job) (d : Doing) (cs : List Command) (l : Queued) (t v : ℕ) (p : StepPos) (tail : List StepPos) → MayTake job d l.path → 0 < path_steps l → v ≤ MILLION →
+back_on : (job : Job) (d : Action) (cs : List Command) (l : Queued) (t v : ℕ) (p : StepPos) (tail : List StepPos) → MayTake job d l.path → 0 < path_steps l → v ≤ MILLION →
     t + v ≤ millionths l → p ≡ point l.path (t / MILLION) →
     HeadWay job l d cs (t + v) (point l.path ((t + v) / MILLION)) (point l.path ((t + v) / MILLION) ∷ tail) →
     HeadWay job l d cs t p (p ∷ (emitted l.path (t / MILLION) ((t + v) / MILLION) ++ tail))
-back_on job Stays cs l t v p tail may some small short at w = absurd (let e = ap length may in omega (arith, e, some))
-back_on job (Mounts tool) cs l t v p tail may some small short at w = absurd (let e = ap length may in omega (arith, e, some))
-back_on job (Moves m) cs l t v p tail may some small short at w = (
+back_on job (Move m) cs l t v p tail may some small short at w = (
   w.0,
   w.1,
-  with_pulse l.path (path_steps l) (t / MILLION) ((t + v) / MILLION) p (point l.path ((t + v) / MILLION)) tail w.0 (path_length job m l.path may)
+  with_pulse l.path (path_steps l) (t / MILLION) ((t + v) / MILLION) p (point l.path ((t + v) / MILLION)) tail w.0 (path_length job m.way l.path may)
       (omega arith) (omega (arith, small)) (omega (arith, short)) at refl w.2,
 )
+back_on job _ cs l t v p tail may some small short at w = absurd (let e = ap length may in omega (arith, e, some))
 
-back_arrived : (job : Job) (d : Doing) (cs : List Command) (l : Queued) (t : ℕ) (p : StepPos) (tail : List StepPos) → MayTake job d l.path → 0 < path_steps l →
+back_arrived : (job : Job) (d : Action) (cs : List Command) (l : Queued) (t : ℕ) (p : StepPos) (tail : List StepPos) → MayTake job d l.path → 0 < path_steps l →
     t ≤ millionths l → path_steps l ≤ t / MILLION + 1 → p ≡ point l.path (t / MILLION) →
-    IsPathOfAll job.machine.step (point l.path (path_steps l)) (motions_of (doings cs)) (point l.path (path_steps l) ∷ tail) →
+    IsPathOfAll job.machine.step (point l.path (path_steps l)) (ways_of (actions_of cs)) (point l.path (path_steps l) ∷ tail) →
     HeadWay job l d cs t p (p ∷ (emitted l.path (t / MILLION) (path_steps l) ++ tail))
-back_arrived job Stays cs l t p tail may some short near at w = absurd (let e = ap length may in omega (arith, e, some))
-back_arrived job (Mounts tool) cs l t p tail may some short near at w = absurd (let e = ap length may in omega (arith, e, some))
-back_arrived job (Moves m) cs l t p tail may some short near at w =
+back_arrived job (Move m) cs l t p tail may some short near at w =
     let q = point l.path (path_steps l) in (
       q ∷ tail,
       w,
-      with_pulse l.path (path_steps l) (t / MILLION) (path_steps l) p q tail (q ∷ tail) (path_length job m l.path may)
+      with_pulse l.path (path_steps l) (t / MILLION) (path_steps l) p q tail (q ∷ tail) (path_length job m.way l.path may)
           (omega (arith, short)) near (omega arith) at refl (ap (λ xs. xs ++ q ∷ tail) (sym (none_before l.path (path_steps l) (path_steps l) (omega arith)))),
     )
+back_arrived job _ cs l t p tail may some short near at w = absurd (let e = ap length may in omega (arith, e, some))
 
-back_passed : (job : Job) (d : Doing) (cs : List Command) (l : Queued) (ls : List Queued) (place : Point3) (t : ℕ) (p : StepPos) (tail : List StepPos) →
-    AreJoined place (motions_of (d ∷ doings cs)) → MayTake job d l.path → IsHere job place (l ∷ ls) t p → t ≤ millionths l → path_steps l ≡ 0 →
-    IsPathOfAll job.machine.step p (motions_of (doings cs)) (p ∷ tail) → HeadWay job l d cs t p (p ∷ tail)
-back_passed job Stays cs l ls place t p tail j may here short z w = w
-back_passed job (Mounts tool) cs l ls place t p tail j may here short z w = w
-back_passed job (Moves m) cs l ls place t p tail j may here short z w =
+back_passed : (job : Job) (d : Action) (cs : List Command) (l : Queued) (ls : List Queued) (place : Point3) (t : ℕ) (p : StepPos) (tail : List StepPos) →
+    AreJoined place (ways_of (d ∷ actions_of cs)) → MayTake job d l.path → IsHere job place (l ∷ ls) t p → t ≤ millionths l → path_steps l ≡ 0 →
+    IsPathOfAll job.machine.step p (ways_of (actions_of cs)) (p ∷ tail) → HeadWay job l d cs t p (p ∷ tail)
+back_passed job (Move m) cs l ls place t p tail j may here short z w =
     let k : t / MILLION ≡ path_steps l = omega (arith, z, short) in
-    let at : p ≡ point l.path (path_steps l) = on_path job m l ls place t p j.0 may short here ∙ ap (point l.path) k in (
+    let at : p ≡ point l.path (path_steps l) = on_path job m.way l ls place t p j.0 may short here ∙ ap (point l.path) k in (
       p ∷ tail,
-      subst (λ q. IsPathOfAll job.machine.step q (motions_of (doings cs)) (p ∷ tail)) at w,
+      subst (λ q. IsPathOfAll job.machine.step q (ways_of (actions_of cs)) (p ∷ tail)) at w,
       ap (λ xs. xs ++ p ∷ tail) (sym (none_before l.path (path_steps l) (t / MILLION) (omega (arith, k)))),
     )
+back_passed job _ cs l ls place t p tail j may here short z w = w
 
 -- from a place on the head's path there is some way
-way_ahead : (job : Job) → IsStep job.machine.step → (d : Doing) (cs : List Command) (l : Queued) (ls : List Queued) (place : Point3) (t : ℕ) (p : StepPos) →
-    AreArcs (motions_of (d ∷ doings cs)) → AreJoined place (motions_of (d ∷ doings cs)) → MayTake job d l.path → t ≤ millionths l → IsHere job place (l ∷ ls) t p →
+way_ahead : (job : Job) → IsStep job.machine.step → (d : Action) (cs : List Command) (l : Queued) (ls : List Queued) (place : Point3) (t : ℕ) (p : StepPos) →
+    AreArcs (ways_of (d ∷ actions_of cs)) → AreJoined place (ways_of (d ∷ actions_of cs)) → MayTake job d l.path → t ≤ millionths l → IsHere job place (l ∷ ls) t p →
     (later : List StepPos) × HeadWay job l d cs t p (p ∷ later)
-way_ahead job s Stays cs l ls place t p arcs j may short here = some_path job s (motions_of (doings cs)) place p arcs j (here.0 (no_path l may))
-way_ahead job s (Mounts tool) cs l ls place t p arcs j may short here = some_path job s (motions_of (doings cs)) place p arcs j (here.0 (no_path l may))
-way_ahead job s (Moves m) cs l ls place t p arcs j may short here =
+way_ahead job s (Move m) cs l ls place t p arcs j may short here =
     let n = path_steps l in
-    let others = some_path job s (motions_of (doings cs)) (end_of m) (point l.path n) arcs.1 j.1 (ends_last job m l.path may) in
-    let b = begins_at l.path n (t / MILLION) p others.0 (path_length job m l.path may) (omega (arith, short)) (on_path job m l ls place t p j.0 may short here) in
+    let others = some_path job s (ways_of (actions_of cs)) (end_of m.way) (point l.path n) arcs.1 j.1 (ends_last job m.way l.path may) in
+    let b = begins_at l.path n (t / MILLION) p others.0 (path_length job m.way l.path may) (omega (arith, short)) (on_path job m.way l ls place t p j.0 may short here) in
     (b.0, (point l.path n ∷ others.0, others.1, sym b.1))
+way_ahead job s _ cs l ls place t p arcs j may short here = some_path job s (ways_of (actions_of cs)) place p arcs j (here.0 (no_path l may))
 
-some_way : (job : Job) → IsStep job.machine.step → (left : List Command) (ring : List Queued) (t : ℕ) (p : StepPos) → AreArcs (motions_of (doings left)) → Walks job left ring t p →
+some_way : (job : Job) → IsStep job.machine.step → (left : List Command) (ring : List Queued) (t : ℕ) (p : StepPos) → AreArcs (ways_of (actions_of left)) → Walks job left ring t p →
     (later : List StepPos) × WayFrom job left ring t p (p ∷ later)
-some_way job s left [] t p arcs w = some_path job s (motions_of (doings left)) w.place p arcs w.joined w.here
+some_way job s left [] t p arcs w = some_path job s (ways_of (actions_of left)) w.place p arcs w.joined w.here
 some_way job s [] (l ∷ ls) t p arcs w = absurd w.fits
-some_way job s (c ∷ cs) (l ∷ ls) t p arcs w = way_ahead job s (doing c) cs l ls w.place t p arcs w.joined w.fits.1 w.short w.here
+some_way job s (c ∷ cs) (l ∷ ls) t p arcs w = way_ahead job s c.action cs l ls w.place t p arcs w.joined w.fits.1 w.short w.here
 
 -- where nothing is left the position alone is the way
 no_way : (job : Job) (left : List Command) (ring : List Queued) (t : ℕ) (p : StepPos) → left ≡ [] → Walks job left ring t p → WayFrom job left ring t p (p ∷ [])
@@ -264,19 +255,19 @@ after_arrival : (job : Job) (left next : List Command) (l : Queued) (ls : List Q
     Walks job left (l ∷ ls) t p → Walks job next ls 0 (point l.path (path_steps l))
 after_arrival job [] next l ls t p e some w = absurd w.fits
 after_arrival job (c ∷ cs) next l ls t p e some w =
-    subst (λ n. Walks job n ls 0 (point l.path (path_steps l))) (sym e) (walks_arrived job (doing c) cs l ls w.place w.joined w.fits.1 w.fits.2 some)
+    subst (λ n. Walks job n ls 0 (point l.path (path_steps l))) (sym e) (walks_arrived job c.action cs l ls w.place w.joined w.fits.1 w.fits.2 some)
 
 after_pass : (job : Job) (left next : List Command) (l : Queued) (ls : List Queued) (t : ℕ) (p : StepPos) → next ≡ drop 1 left → path_steps l ≡ 0 →
     Walks job left (l ∷ ls) t p → Walks job next ls 0 p
 after_pass job [] next l ls t p e z w = absurd w.fits
 after_pass job (c ∷ cs) next l ls t p e z w =
-    subst (λ n. Walks job n ls 0 p) (sym e) (walks_passed job (doing c) cs l ls w.place p w.joined w.fits.1 w.fits.2 z (w.here.0 z))
+    subst (λ n. Walks job n ls 0 p) (sym e) (walks_passed job c.action cs l ls w.place p w.joined w.fits.1 w.fits.2 z (w.here.0 z))
 
 before_on : (job : Job) (left : List Command) (l : Queued) (ls : List Queued) (t v : ℕ) (p : StepPos) (tail : List StepPos) → 0 < path_steps l → v ≤ MILLION → t + v ≤ millionths l →
     Walks job left (l ∷ ls) t p → WayFrom job left (l ∷ ls) (t + v) (point l.path ((t + v) / MILLION)) (point l.path ((t + v) / MILLION) ∷ tail) →
     WayFrom job left (l ∷ ls) t p (p ∷ (emitted l.path (t / MILLION) ((t + v) / MILLION) ++ tail))
 before_on job [] l ls t v p tail some small short w way = absurd way
-before_on job (c ∷ cs) l ls t v p tail some small short w way = back_on job (doing c) cs l t v p tail w.fits.1 some small short (w.here.1 some) way
+before_on job (c ∷ cs) l ls t v p tail some small short w way = back_on job c.action cs l t v p tail w.fits.1 some small short (w.here.1 some) way
 
 before_arrival : (job : Job) (left next : List Command) (l : Queued) (ls : List Queued) (t : ℕ) (p : StepPos) (tail : List StepPos) → next ≡ drop 1 left → 0 < path_steps l →
     path_steps l ≤ t / MILLION + 1 → Walks job left (l ∷ ls) t p → WayFrom job next ls 0 (point l.path (path_steps l)) (point l.path (path_steps l) ∷ tail) →
@@ -284,16 +275,16 @@ before_arrival : (job : Job) (left next : List Command) (l : Queued) (ls : List 
 before_arrival job [] next l ls t p tail e some near w way = absurd w.fits
 before_arrival job (c ∷ cs) next l ls t p tail e some near w way =
     let q = point l.path (path_steps l) in
-    back_arrived job (doing c) cs l t p tail w.fits.1 some w.short near (w.here.1 some)
-    (subst (λ n. IsPathOfAll job.machine.step q (motions_of (doings n)) (q ∷ tail)) e
+    back_arrived job c.action cs l t p tail w.fits.1 some w.short near (w.here.1 some)
+    (subst (λ n. IsPathOfAll job.machine.step q (ways_of (actions_of n)) (q ∷ tail)) e
     (all_way job next ls q (q ∷ tail) (after_arrival job (c ∷ cs) next l ls t p e some w) way))
 
 before_pass : (job : Job) (left next : List Command) (l : Queued) (ls : List Queued) (t : ℕ) (p : StepPos) (tail : List StepPos) → next ≡ drop 1 left → path_steps l ≡ 0 →
     Walks job left (l ∷ ls) t p → WayFrom job next ls 0 p (p ∷ tail) → WayFrom job left (l ∷ ls) t p (p ∷ tail)
 before_pass job [] next l ls t p tail e z w way = absurd w.fits
 before_pass job (c ∷ cs) next l ls t p tail e z w way =
-    back_passed job (doing c) cs l ls w.place t p tail w.joined w.fits.1 w.here w.short z
-    (subst (λ n. IsPathOfAll job.machine.step p (motions_of (doings n)) (p ∷ tail)) e
+    back_passed job c.action cs l ls w.place t p tail w.joined w.fits.1 w.here w.short z
+    (subst (λ n. IsPathOfAll job.machine.step p (ways_of (actions_of n)) (p ∷ tail)) e
     (all_way job next ls p (p ∷ tail) (after_pass job (c ∷ cs) next l ls t p e z w) way))
 
 kept : (job : Job) (old new : Spot) (o : Outcome) → Effect job old new o → WalksIn job old → WalksIn job new
@@ -341,18 +332,9 @@ back job old new o tail (passes e) w way =
 
 -- ---- the end
 
-last_of : (c : Command) (cs : List Command) → ends_program c ≡ true → IsLastIfEnd c cs → cs ≡ []
-last_of (commands.End line) cs h last = last
-last_of (commands.Traverse line b e) cs h last = absurd (true≢false (sym h))
-last_of (commands.Feed line b e f) cs h last = absurd (true≢false (sym h))
-last_of (commands.Arc line a f) cs h last = absurd (true≢false (sym h))
-last_of (commands.Dwell line n) cs h last = absurd (true≢false (sym h))
-last_of (commands.Tool line tool) cs h last = absurd (true≢false (sym h))
-last_of (commands.Spindle line state) cs h last = absurd (true≢false (sym h))
-last_of (commands.Coolant line state) cs h last = absurd (true≢false (sym h))
-last_of (commands.Override line on) cs h last = absurd (true≢false (sym h))
-last_of (commands.Stop line) cs h last = absurd (true≢false (sym h))
-last_of (commands.OptionalStop line) cs h last = absurd (true≢false (sym h))
+last_of : (a : Action) (cs : List Command) → ends_program a ≡ true → IsLastIfEnd a cs → cs ≡ []
+last_of actions.End cs h last = last
+last_of _ cs h last = absurd (true≢false (sym h))
 
 end_is_last : (n : ℕ) (cs : List Command) → EndIsLast cs → EndIsLast (drop n cs)
 end_is_last zero cs h = h
@@ -360,9 +342,9 @@ end_is_last (suc n) [] h = tt
 end_is_last (suc n) (c ∷ cs) h = end_is_last n cs h.1
 
 nothing_left : (job : Job) (left next : List Command) (l : Queued) (ls : List Queued) → next ≡ drop 1 left → EndIsLast left → RingFits job left (l ∷ ls) →
-    ends_program l.command ≡ true → next ≡ []
+    ends_program l.command.action ≡ true → next ≡ []
 nothing_left job [] next l ls e last f h = absurd f
-nothing_left job (c ∷ cs) next l ls e last f h = e ∙ last_of c cs (sym (ap ends_program f.0) ∙ h) last.0
+nothing_left job (c ∷ cs) next l ls e last f h = e ∙ last_of c.action cs (sym (ap (λ (k : Command). ends_program k.action) f.0) ∙ h) last.0
 
 done_grows : (n : ℕ) (cs : List Command) → drop n cs ≡ [] → drop (suc n) cs ≡ []
 done_grows n cs e = next_left n cs ∙ ap (drop 1) e
@@ -389,7 +371,7 @@ is_over job old new o last w (passes e) h =
 
 -- ---- runs
 
-begun : (job : Job) (old : State) (es : List Event) (os : List Outcome) (states : List State) → IsMachine job.machine → AreArcs (motions_of (doings job.commands)) →
+begun : (job : Job) (old : State) (es : List Event) (os : List Outcome) (states : List State) → IsMachine job.machine → AreArcs (ways_of (actions_of job.commands)) →
     WalksIn job (spot old) → Run job old es os states →
     (later : List StepPos) × WayOn job (positions os ++ later) (spot old)
 begun job old [] [] [] m arcs w r = some_way job m.step (left_of job old.done) old.ring old.travelled old.position (arcs_left old.done job.commands arcs) w
@@ -434,18 +416,18 @@ ended job old (e ∷ es) (o ∷ os) (new ∷ states) m last w r end =
 
 -- ---- from the opening state
 
-opens : (machine : MachineFile) (commands : List Command) → AreJoined machine.start (motions_of (doings commands)) → WalksIn (job_of machine commands) (spot (opening machine))
+opens : (machine : MachineFile) (commands : List Command) → AreJoined machine.start (ways_of (actions_of commands)) → WalksIn (job_of machine commands) (spot (opening machine))
 opens machine commands j = begins (job_of machine commands) commands [] machine.start (start_of_job (job_of machine commands)) j tt refl
 
 -- The positions of a run begin a path of the program.
-pub way_begins : (machine : MachineFile) (commands : List Command) → IsMachine machine → AreArcs (motions_of (doings commands)) → AreJoined machine.start (motions_of (doings commands)) →
+pub way_begins : (machine : MachineFile) (commands : List Command) → IsMachine machine → AreArcs (ways_of (actions_of commands)) → AreJoined machine.start (ways_of (actions_of commands)) →
     (events : List Event) (outcomes : List Outcome) (states : List State) → Run (job_of machine commands) (opening machine) events outcomes states →
     BeginPath (job_of machine commands) (start_of_job (job_of machine commands) ∷ positions outcomes)
 way_begins machine commands m arcs j events outcomes states r =
     begun (job_of machine commands) (opening machine) events outcomes states m arcs (opens machine commands j) r
 
 -- When the end is told they are a whole path.
-pub way_ended : (machine : MachineFile) (commands : List Command) → IsMachine machine → AreJoined machine.start (motions_of (doings commands)) → EndIsLast commands →
+pub way_ended : (machine : MachineFile) (commands : List Command) → IsMachine machine → AreJoined machine.start (ways_of (actions_of commands)) → EndIsLast commands →
     (events : List Event) (outcomes : List Outcome) (states : List State) → Run (job_of machine commands) (opening machine) events outcomes states →
     Contains outcomes (Ok (Ticked None (Some End))) → AreWholePath (job_of machine commands) (start_of_job (job_of machine commands) ∷ positions outcomes)
 way_ended machine commands m j last events outcomes states r end =

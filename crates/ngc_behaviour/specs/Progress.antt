@@ -1,7 +1,6 @@
 -- How long a motion takes at the most. Our own.
 use Rattle.std.specs.Prelude.{◌≡◌, ℕ, ◌+◌, ◌-◌, ◌/◌, ◌≤◌, ◌<◌, min, ◌==◌, nat_lt, List, [], ◌∷◌, slice_get, Any, Some, Bool, true, false, not, ◌&&◌, if◌then◌else◌}
 use Rattle.ngc_planner.specs.Bounds.{least_travel}
-use Rattle.ngc_canonical.specs.Movement.{doing}
 use Rattle.ngc_events.specs.declared.event.Event.{Event}
 use Rattle.ngc_events.specs.declared.event.Event.TheVariants.{Load, Tick, Hold, Resume, Override, StopSwitch, Start}
 use Rattle.ngc_behaviour.specs.State.{Job, Queued, State, opening, command_at, path_steps, millionths, effective}
@@ -18,7 +17,7 @@ pub record IsFree (s : State) : Type 0 where
 abbrev pub TravelsAtLeast : Job → List Queued → State → ℕ → Type 0
 TravelsAtLeast job [] old v = Unit {0}
 TravelsAtLeast job (l ∷ ls) old v =
-    IsFree old → 0 < path_steps l → min (least_travel job.machine l.command (path_steps l)) (rest l old) ≤ v
+    IsFree old → 0 < path_steps l → min (least_travel job.machine l.command.action (path_steps l)) (rest l old) ≤ v
 
 abbrev pub GoesOn : Job → State → Event → State → Type 0
 GoesOn job old Tick new = TravelsAtLeast job old.ring old new.rate
@@ -48,7 +47,7 @@ ComesToHead k l states = Any (IsHead k l) states
 -- it is the job's command k, on a path that it may take, and command k is never at the head on another path
 pub record KeepsPath (job : Job) (k : ℕ) (l : Queued) (states : List State) : Type 0 where
   pub command : command_at job k ≡ Some l.command
-  pub path : MayTake job (doing l.command) l.path
+  pub path : MayTake job l.command.action l.path
   pub no_other : (m : Queued) → ComesToHead k m states → m ≡ l
 
 -- ---- the bound on ticks that follows
@@ -83,7 +82,7 @@ ticks_for x m = (x + (m - 1)) / m
 
 -- a loaded motion travels at least so much in a free tick, or all that is left of it
 abbrev pub least_rate : Job → Queued → ℕ
-least_rate job l = least_travel job.machine l.command (path_steps l)
+least_rate job l = least_travel job.machine l.command.action (path_steps l)
 
 -- how many free ticks a loaded motion takes at the most
 abbrev pub most_ticks : Job → Queued → ℕ

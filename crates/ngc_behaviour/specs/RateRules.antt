@@ -15,13 +15,13 @@ before job (suc k) = command_at job k
 -- the next motion is within its bounds too, where the tick goes on into it
 abbrev pub GoesOnInto : Job → ℕ → List Queued → Type 0
 GoesOnInto job v [] = ⊥
-GoesOnInto job v (l ∷ ls) = IsWithinBounds job.machine l.command (path_steps l) v
+GoesOnInto job v (l ∷ ls) = IsWithinBounds job.machine l.command.action (path_steps l) v
 
 -- the rate v of a tick at whose start l is the head
 pub record KeepsRateRules (job : Job) (l : Queued) (ls : List Queued) (s : State) (v : ℕ) : Type 0 where
   pub faster : v ≤ s.rate + job.machine.change
   pub slower : s.rate ≤ v + job.machine.change
-  pub within : IsWithinBounds job.machine l.command (path_steps l) v
+  pub within : IsWithinBounds job.machine l.command.action (path_steps l) v
   -- the first tick on a motion, and the last
   pub enters : s.travelled ≡ 0 → v ≤ joint_before job.machine (before job s.done) l.command
   pub leaves : millionths l ≤ s.travelled + v → v ≤ joint_after job.machine l.command (command_at job (suc s.done))
@@ -29,14 +29,14 @@ pub record KeepsRateRules (job : Job) (l : Queued) (ls : List Queued) (s : State
 
 -- nothing is to be travelled while held
 abbrev pub target : Job → Queued → State → ℕ
-target job l s = if s.held then 0 else target_at job.machine l.command (path_steps l) (effective s)
+target job l s = if s.held then 0 else target_at job.machine l.command.action (path_steps l) (effective s)
 
 -- in its first tick a motion is bound by the joint too
 abbrev pub head_bound : Job → Queued → State → ℕ
 head_bound job l s =
     if s.travelled == 0
-    then min (bound_of job.machine l.command (path_steps l)) (joint_before job.machine (before job s.done) l.command)
-    else bound_of job.machine l.command (path_steps l)
+    then min (bound_of job.machine l.command.action (path_steps l)) (joint_before job.machine (before job s.done) l.command)
+    else bound_of job.machine l.command.action (path_steps l)
 
 -- the rate that a tick has at least, where the way is free for it
 abbrev pub pace : Job → Queued → State → ℕ

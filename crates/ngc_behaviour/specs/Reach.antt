@@ -1,6 +1,5 @@
 -- How far the way is loaded, and how far a rate may go on. Our own.
 use Rattle.std.specs.Prelude.{ℕ, ◌+◌, ◌-◌, nat_le, List, [], ◌∷◌, sum_by, ◌&&◌, if◌then◌else◌}
-use Rattle.ngc_canonical.specs.Movement.{doing}
 use Rattle.ngc_planner.specs.Bounds.{bound_of}
 use Rattle.ngc_planner.specs.Joints.{joint_of}
 use Rattle.ngc_behaviour.specs.State.{Job, Queued, State, path_steps, millionths}
@@ -20,7 +19,7 @@ reach l ls s = rest l s + sum_by millionths (followers l ls)
 abbrev pub free_way : Job → ℕ → Queued → List Queued → ℕ
 free_way job w l [] = 0
 free_way job w l (k ∷ ks) =
-    if nat_le w (joint_of job.machine (doing l.command) (doing k.command)) && nat_le w (bound_of job.machine k.command (path_steps k))
+    if nat_le w (joint_of job.machine l.command.action k.command.action) && nat_le w (bound_of job.machine k.command.action (path_steps k))
     then millionths k + free_way job w k ks else 0
 
 abbrev pub free : Job → ℕ → Queued → List Queued → State → ℕ

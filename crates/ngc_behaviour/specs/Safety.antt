@@ -3,7 +3,7 @@ use Rattle.std.specs.Prelude.{◌≡◌, ℕ, ◌≤◌, List, [], ◌∷◌, �
 use Rattle.ngc_fixed_length.specs.declared.points.StepPos.{StepPos}
 use Rattle.ngc_fixed_length.specs.Grid.{grid}
 use Rattle.ngc_machine.specs.Machine.{MachineFile}
-use Rattle.ngc_canonical.specs.Movement.{doings, motions_of}
+use Rattle.ngc_canonical.specs.Movement.{actions_of, ways_of}
 use Rattle.ngc_canonical.specs.ProgramPath.{IsPathOfAll}
 use Rattle.ngc_collision.specs.Body.{IsSafe}
 use Rattle.ngc_planner.specs.Pulses.{KeepsPulseRules}
@@ -46,7 +46,7 @@ start_of_job job = grid job.machine.step job.machine.start
 
 -- these points are a path of all the commands' motions, and these begin one
 abbrev pub AreWholePath : Job → List StepPos → Type 0
-AreWholePath job points = IsPathOfAll job.machine.step (start_of_job job) (motions_of (doings job.commands)) points
+AreWholePath job points = IsPathOfAll job.machine.step (start_of_job job) (ways_of (actions_of job.commands)) points
 
 abbrev pub BeginPath : Job → List StepPos → Type 0
 BeginPath job points = (later : List StepPos) × AreWholePath job (points ++ later)

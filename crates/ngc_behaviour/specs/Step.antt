@@ -2,11 +2,9 @@
 use Rattle.std.specs.Prelude.{◌≡◌, ℕ, suc, ◌+◌, ◌-◌, ◌*◌, ◌/◌, ◌≤◌, max, min, nat_lt, nat_le, List, [], ◌∷◌, ◌++◌, length, drop, Option, Some, None, Result, Ok, Err, Bool, true, false, MatchBool, if◌then◌else◌}
 use Rattle.ngc_fixed_length.specs.declared.points.StepPos.{StepPos}
 use Rattle.ngc_fixed_length.specs.LinePath.{point}
+use Rattle.ngc_canonical.specs.declared.command.Action.{Action}
+use Rattle.ngc_canonical.specs.declared.command.Action.TheVariants as actions
 use Rattle.ngc_canonical.specs.declared.command.Command.{Command}
-use Rattle.ngc_canonical.specs.declared.command.Command.TheVariants as commands
-use Rattle.ngc_canonical.specs.Movement.{doing}
-use Rattle.ngc_canonical.specs.declared.movement.Doing.{Doing}
-use Rattle.ngc_canonical.specs.declared.movement.Doing.TheVariants.{Moves, Mounts, Stays}
 use Rattle.ngc_canonical.specs.ProgramPath.{IsPathOf}
 use Rattle.ngc_planner.specs.Caps.{MILLION}
 use Rattle.ngc_events.specs.declared.event.Event.{Event}
@@ -26,17 +24,16 @@ Outcome = Result Reply EventFault
 
 -- ---- load
 
--- the paths that a command may take
-abbrev pub MayTake : Job → Doing → List StepPos → Type 0
-MayTake job (Moves m) path = IsPathOf job.machine.step m path
-MayTake job (Mounts tool) path = path ≡ []
-MayTake job Stays path = path ≡ []
+-- the paths that an action may take
+abbrev pub MayTake : Job → Action → List StepPos → Type 0
+MayTake job (actions.Move m) path = IsPathOf job.machine.step m.way path
+MayTake job _ path = path ≡ []
 
 abbrev pub LoadCommand : Job → State → Option Command → Outcome → State → Type 0
 LoadCommand job old None outcome new = (outcome ≡ Err AllLoaded) × (new ≡ old)
 LoadCommand job old (Some c) outcome new =
     MatchBool (nat_lt (length old.ring) RING)
-    ((path : List StepPos) × MayTake job (doing c) path × (outcome ≡ Ok (Loaded (loaded old))) ×
+    ((path : List StepPos) × MayTake job c.action path × (outcome ≡ Ok (Loaded (loaded old))) ×
     (new ≡ record old { ring = old.ring ++ record { command = c; path = path } ∷ [] }))
     ((outcome ≡ Err RingFull) × (new ≡ old))
 
@@ -48,65 +45,43 @@ pub record Rests (job : Job) (old : State) (outcome : Outcome) (new : State) : T
   pub quiet : outcome ≡ Ok (Ticked None None)
   pub stands : new ≡ record old { rate = 0 }
 
--- how many ticks a command takes that travels nothing
-abbrev pub ticks_of : Job → Command → ℕ
-ticks_of job (commands.Dwell line n) = max 1 ((n * job.machine.ticks_per_second + (MILLION - 1)) / MILLION)
-ticks_of job (commands.Traverse line b e) = 1
-ticks_of job (commands.Feed line b e f) = 1
-ticks_of job (commands.Arc line a f) = 1
-ticks_of job (commands.Tool line tool) = 1
-ticks_of job (commands.Spindle line s) = 1
-ticks_of job (commands.Coolant line s) = 1
-ticks_of job (commands.Override line on) = 1
-ticks_of job (commands.Stop line) = 1
-ticks_of job (commands.OptionalStop line) = 1
-ticks_of job (commands.End line) = 1
+-- how many ticks an action takes that travels nothing
+abbrev pub ticks_of : Job → Action → ℕ
+ticks_of job (actions.Dwell n) = max 1 ((n * job.machine.ticks_per_second + (MILLION - 1)) / MILLION)
+ticks_of job _ = 1
 
--- what a command changes when it ends; an optional stop reads the switch then
-abbrev pub after : Command → State → State
-after (commands.Tool line tool) s = record s { tool = tool }
-after (commands.Override line on) s = record s { overrides = on }
-after (commands.Stop line) s = record s { stopped = true }
-after (commands.OptionalStop line) s = record s { stopped = s.stop_switch }
-after (commands.Traverse line b e) s = s
-after (commands.Feed line b e f) s = s
-after (commands.Arc line a f) s = s
-after (commands.Dwell line n) s = s
-after (commands.Spindle line state) s = s
-after (commands.Coolant line state) s = s
-after (commands.End line) s = s
+-- what an action changes when it ends; an optional stop reads the switch then
+abbrev pub after : Action → State → State
+after (actions.Mount tool) s = record s { tool = tool }
+after (actions.Override on) s = record s { overrides = on }
+after actions.Stop s = record s { stopped = true }
+after actions.OptionalStop s = record s { stopped = s.stop_switch }
+after _ s = s
 
-abbrev pub ending : Command → State → Ending
-ending (commands.Stop line) s = Stopped s.done
-ending (commands.OptionalStop line) s = if s.stop_switch then Stopped s.done else Done s.done
-ending (commands.End line) s = End
-ending (commands.Traverse line b e) s = Done s.done
-ending (commands.Feed line b e f) s = Done s.done
-ending (commands.Arc line a f) s = Done s.done
-ending (commands.Dwell line n) s = Done s.done
-ending (commands.Tool line tool) s = Done s.done
-ending (commands.Spindle line state) s = Done s.done
-ending (commands.Coolant line state) s = Done s.done
-ending (commands.Override line on) s = Done s.done
+abbrev pub ending : Action → State → Ending
+ending actions.Stop s = Stopped s.done
+ending actions.OptionalStop s = if s.stop_switch then Stopped s.done else Done s.done
+ending actions.End s = End
+ending _ s = Done s.done
 
 -- the head leaves the ring, with so many millionths travelled on the next
 abbrev pub popped : ℕ → State → State
 popped over s = record s { done = suc s.done; ring = drop 1 s.ring; travelled = over; dwelt = 0 }
 
--- a command that travels nothing is done, or dwells on
-pub record Finishes (job : Job) (c : Command) (old : State) (outcome : Outcome) (new : State) : Type 0 where
+-- an action that travels nothing is done, or dwells on
+pub record Finishes (job : Job) (action : Action) (old : State) (outcome : Outcome) (new : State) : Type 0 where
   pub slow : old.rate ≤ job.machine.change
-  pub says : outcome ≡ Ok (Ticked None (Some (ending c old)))
-  pub goes_on : new ≡ after c (record (popped 0 old) { rate = 0 })
+  pub says : outcome ≡ Ok (Ticked None (Some (ending action old)))
+  pub goes_on : new ≡ after action (record (popped 0 old) { rate = 0 })
 
 pub record Dwells (job : Job) (old : State) (outcome : Outcome) (new : State) : Type 0 where
   pub slow : old.rate ≤ job.machine.change
   pub quiet : outcome ≡ Ok (Ticked None None)
   pub counts : new ≡ record old { rate = 0; dwelt = suc old.dwelt }
 
-abbrev pub Serves : Job → Command → State → Outcome → State → Type 0
-Serves job c old outcome new =
-    MatchBool (nat_lt (suc old.dwelt) (ticks_of job c)) (Dwells job old outcome new) (Finishes job c old outcome new)
+abbrev pub Serves : Job → Action → State → Outcome → State → Type 0
+Serves job action old outcome new =
+    MatchBool (nat_lt (suc old.dwelt) (ticks_of job action)) (Dwells job old outcome new) (Finishes job action old outcome new)
 
 -- the place on the head's path before and after v millionths
 abbrev pub place_before : State → ℕ
@@ -120,7 +95,7 @@ abbrev pub pulse : Queued → State → ℕ → Option StepPos
 pulse l s v = if nat_lt (place_before s) (place_after l s v) then Some (point l.path (place_after l s v)) else None
 
 abbrev pub ends_at : Queued → State → ℕ → Option Ending
-ends_at l s v = if nat_le (millionths l) (s.travelled + v) then Some (ending l.command s) else None
+ends_at l s v = if nat_le (millionths l) (s.travelled + v) then Some (ending l.command.action s) else None
 
 abbrev pub moved_by : Queued → State → ℕ → State
 moved_by l s v = let there = record s { rate = v; position = point l.path (place_after l s v) } in
@@ -136,7 +111,7 @@ pub record Travels (job : Job) (l : Queued) (ls : List Queued) (old : State) (ou
 abbrev pub HeadTick : Job → Queued → List Queued → State → Outcome → State → Type 0
 HeadTick job l ls old outcome new =
     MatchBool (nat_lt 0 (path_steps l)) (Travels job l ls old outcome new)
-    (MatchBool old.held (Rests job old outcome new) (Serves job l.command old outcome new))
+    (MatchBool old.held (Rests job old outcome new) (Serves job l.command.action old outcome new))
 
 abbrev pub TickBy : Job → Bool → List Queued → State → Outcome → State → Type 0
 TickBy job true ring old outcome new = Rests job old outcome new

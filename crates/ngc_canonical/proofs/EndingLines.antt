@@ -5,8 +5,8 @@ use Rattle.std.specs.Prelude.{IfOk, ◌&&◌, if◌then◌else◌}
 use Rattle.ngc_line_reader.specs.Grammar.{Item, Reading}
 use Rattle.ngc_machine.specs.Machine.{MachineFile}
 use Rattle.ngc_parameters.specs.Stored.{line_values}
+use Rattle.ngc_canonical.specs.declared.command.Action.TheVariants.{End}
 use Rattle.ngc_canonical.specs.declared.command.Command.{Command}
-use Rattle.ngc_canonical.specs.declared.command.Command.TheVariants.{End}
 use Rattle.ngc_canonical.specs.declared.fault.Fault.{Fault}
 use Rattle.ngc_canonical.specs.declared.fault.Fault.TheVariants.{Value}
 use Rattle.ngc_canonical.specs.declared.fault.ProgramFault.{ProgramFault}
@@ -45,7 +45,7 @@ after_line_left setup block_delete number r s h = by_test (block_delete && r.del
 
 past_last_ends : (mark : Option ℕ) (count : ℕ) (s : State) → HasNoEnd s.commands → IfOk (past_last mark count s) Ends
 past_last_ends None count s none = tt
-past_last_ends (Some line) count s none = at_line_left Ends line (emit (End line) s) (emitted Ends (End line) s (λ room. last_behind s.commands (End line) none))
+past_last_ends (Some line) count s none = at_line_left Ends line (emit End (record s { line = line })) (emitted Ends End (record s { line = line }) (λ room. last_behind s.commands (record { line = line; action = End }) none))
 
 go_on_ends : (ended : Bool) (s : State) (rest : State → Result State ProgramFault) → s.ended ≡ ended → Left s → ((t : State) → Open t → IfOk (rest t) Ends) → IfOk (go_on ended s rest) Ends
 go_on_ends true s rest e h on = h.last

@@ -26,16 +26,21 @@ use Rattle.ngc_modal_state.specs.declared.effect.CycleWords.{CycleWords}
 use Rattle.ngc_modal_state.specs.declared.effect.Effect.{Effect}
 use Rattle.ngc_modal_state.specs.declared.effect.Effect.TheVariants as acts
 use Rattle.ngc_modal_state.specs.declared.effect.Home.{Home}
+use Rattle.ngc_canonical.specs.declared.command.Action.{Action}
+use Rattle.ngc_canonical.specs.declared.command.Action.TheVariants as actions
 use Rattle.ngc_canonical.specs.declared.command.Command.{Command}
-use Rattle.ngc_canonical.specs.declared.command.Command.TheVariants as commands
-use Rattle.ngc_canonical.specs.declared.command.Feed.{Feed}
-use Rattle.ngc_canonical.specs.declared.command.Feed.TheVariants.{PerMinute}
 use Rattle.ngc_canonical.specs.declared.command.SpindleState.TheVariants as turning
 use Rattle.ngc_canonical.specs.declared.fault.Fault.{Fault}
 use Rattle.ngc_canonical.specs.declared.fault.Fault.TheVariants as faults
+use Rattle.ngc_canonical.specs.declared.movement.Feed.{Feed}
+use Rattle.ngc_canonical.specs.declared.movement.Feed.TheVariants.{PerMinute}
+use Rattle.ngc_canonical.specs.declared.movement.Motion.{Motion as Moved}
+use Rattle.ngc_canonical.specs.declared.movement.Pace.TheVariants as paces
+use Rattle.ngc_canonical.specs.declared.movement.Way.TheVariants as ways
 use Rattle.ngc_canonical.specs.Joined.{IsLastIfEnd, EndIsLast}
+use Rattle.ngc_canonical.specs.Movement.{end_of as moved_to}
 use Rattle.ngc_canonical.specs.Steps.{◌>>=◌, faulted, refuse_if}
-use Rattle.ngc_canonical.specs.State.{Setup, State, emit, at_place, traverse_to, unseries}
+use Rattle.ngc_canonical.specs.State.{Setup, State, emit, at_place, go, traverse_to, unseries}
 use Rattle.ngc_canonical.specs.Spindle.{spindle_state, tell_speed, turn_of, mount, mount_found, change_tool, with_coolant}
 use Rattle.ngc_canonical.specs.Places.{axis_lengths, end_of, with_frames, set_origin, set_offset, tool_length, home_of, stands, go_home}
 use Rattle.ngc_canonical.specs.Motions.{traverse, feed_in, straight}
@@ -45,13 +50,13 @@ use Rattle.ngc_canonical.specs.Perform.{with_motion, stop, perform, run}
 use Rattle.ngc_canonical.proofs.Ending.{IsPassing, IsLastIfStop, StopIsLast}
 use Rattle.ngc_canonical.proofs.Joining.{onward, after, emitted}
 
-abbrev pub IsNotEnd : Command → Type 0
-IsNotEnd (commands.End line) = ⊥
+abbrev pub IsNotEnd : Action → Type 0
+IsNotEnd actions.End = ⊥
 IsNotEnd _ = Unit {0}
 
 abbrev pub HasNoEnd : List Command → Type 0
 HasNoEnd [] = Unit {0}
-HasNoEnd (c ∷ cs) = IsNotEnd c × HasNoEnd cs
+HasNoEnd (c ∷ cs) = IsNotEnd c.action × HasNoEnd cs
 
 -- the program goes on
 pub record IsOpen (cs : List Command) (ended : Bool) : Type 0 where
@@ -69,45 +74,45 @@ Open s = IsOpen s.commands s.ended
 abbrev pub Left : State → Type 0
 Left s = IsLeft s.commands s.ended
 
-no_end_more : (cs : List Command) (c : Command) → HasNoEnd cs → IsNotEnd c → HasNoEnd (cs ++ (c ∷ []))
+no_end_more : (cs : List Command) (c : Command) → HasNoEnd cs → IsNotEnd c.action → HasNoEnd (cs ++ (c ∷ []))
 no_end_more [] c none not_end = (not_end, tt)
 no_end_more (x ∷ cs) c none not_end = (none.0, no_end_more cs c none.1 not_end)
 
-last_alone : (c : Command) → IsLastIfEnd c []
-last_alone (commands.End line) = refl
-last_alone c = tt
+last_alone : (a : Action) → IsLastIfEnd a []
+last_alone actions.End = refl
+last_alone _ = tt
 
-not_last : (c : Command) (later : List Command) → IsNotEnd c → IsLastIfEnd c later
-not_last (commands.End line) later not_end = absurd not_end
-not_last c later not_end = tt
+not_last : (a : Action) (later : List Command) → IsNotEnd a → IsLastIfEnd a later
+not_last actions.End later not_end = absurd not_end
+not_last _ later not_end = tt
 
 pub last_behind : (cs : List Command) (c : Command) → HasNoEnd cs → EndIsLast (cs ++ (c ∷ []))
-last_behind [] c none = (last_alone c, tt)
-last_behind (x ∷ cs) c none = (not_last x (cs ++ (c ∷ [])) none.0, last_behind cs c none.1)
+last_behind [] c none = (last_alone c.action, tt)
+last_behind (x ∷ cs) c none = (not_last x.action (cs ++ (c ∷ [])) none.0, last_behind cs c none.1)
 
 last_of_none : (cs : List Command) → HasNoEnd cs → EndIsLast cs
 last_of_none [] none = tt
-last_of_none (c ∷ cs) none = (not_last c cs none.0, last_of_none cs none.1)
+last_of_none (c ∷ cs) none = (not_last c.action cs none.0, last_of_none cs none.1)
 
 pub left_open : (s : State) → Open s → Left s
 left_open s h = record { last = last_of_none s.commands h.no_end; no_end = λ _. h.no_end }
 
--- a command that is no end
-passes : (c : Command) (s : State) → Open s → IsNotEnd c → IfOk (emit c s) Open
-passes c s h not_end = emitted Open c s (λ room. record { running = h.running; no_end = no_end_more s.commands c h.no_end not_end })
+-- an action that is no end
+passes : (a : Action) (s : State) → Open s → IsNotEnd a → IfOk (emit a s) Open
+passes a s h not_end =
+    emitted Open a s (λ room. record { running = h.running; no_end = no_end_more s.commands (record { line = s.line; action = a }) h.no_end not_end })
 
--- a motion
-moves : (c : Command) (end : Point3) (s : State) → Open s → IsNotEnd c → IfOk (emit c s >>= (λ t. Ok (at_place end t))) Open
-moves c end s h not_end = onward Open Open (emit c s) (λ t. Ok (at_place end t)) (passes c s h not_end) (λ t h_t. h_t)
+moves : (m : Moved) (s : State) → Open s → IfOk (go m s) Open
+moves m s h = onward Open Open (emit (actions.Move m) s) (λ t. Ok (at_place (moved_to m.way) t)) (passes (actions.Move m) s h tt) (λ t h_t. h_t)
 
 -- ---- spindle, coolant and tools
 
 tell_speed_open : (turn : Option Turn) (s : State) → Open s → IfOk (tell_speed turn s) Open
 tell_speed_open None s h = h
-tell_speed_open (Some turn) s h = passes (commands.Spindle s.line (turning.Turning turn s.speed)) s h tt
+tell_speed_open (Some turn) s h = passes (actions.Spindle (turning.Turning turn s.speed)) s h tt
 
 mount_open : (tool : Option Tool) (s : State) → Open s → IfOk (mount tool s) Open
-mount_open tool s h = passes (commands.Tool s.line tool) (record s { spindle = None }) h tt
+mount_open tool s h = passes (actions.Mount tool) (record s { spindle = None }) h tt
 
 mount_found_open : (tool : Option Tool) (s : State) → Open s → IfOk (mount_found tool s) Open
 mount_found_open None s h = tt
@@ -120,7 +125,7 @@ change_tool_open tools (suc n) s h = mount_found_open (tool_at tools (suc n)) s 
 -- ---- places
 
 traverse_to_open : (end : Point3) (s : State) → Open s → IfOk (traverse_to end s) Open
-traverse_to_open end s h = moves (commands.Traverse s.line s.place end) end s h tt
+traverse_to_open end s h = moves (record { way = ways.Line s.place end; pace = paces.Rapid }) s h
 
 with_frames_open : (s : State) (changed : Result Offsets FrameFault) → Open s → IfOk (with_frames s changed) Open
 with_frames_open s changed h = after Open (faulted faults.Frame changed) (λ f. Ok (unseries (record s { frames = f }))) (λ f. h)
@@ -150,30 +155,30 @@ go_home_open machine home words s h =
 traverse_open : (is_machine_place : Bool) (words : AxisWords) (s : State) → Open s → IfOk (traverse is_machine_place words s) Open
 traverse_open is_machine_place words s h = after Open (end_of is_machine_place s words) (λ end. traverse_to end s) (λ end. traverse_to_open end s h)
 
-feed_open : (end : Point3) (feed : Feed) (s : State) → Open s → IfOk (emit (commands.Feed s.line s.place end feed) s >>= (λ t. Ok (at_place end t))) Open
-feed_open end feed s h = moves (commands.Feed s.line s.place end feed) end s h tt
+feed_open : (end : Point3) (feed : Feed) (s : State) → Open s → IfOk (go (record { way = ways.Line s.place end; pace = paces.Feed feed }) s) Open
+feed_open end feed s h = moves (record { way = ways.Line s.place end; pace = paces.Feed feed }) s h
 
 straight_open : (is_machine_place : Bool) (words : AxisWords) (f : Option ℤ) (s : State) → Open s → IfOk (straight is_machine_place words f s) Open
 straight_open is_machine_place words f s h =
     after Open (feed_in s.modes.feed_mode s.feed f) _ (λ feed.
-    after Open (end_of is_machine_place s words) (λ end. emit (commands.Feed s.line s.place end feed) s >>= (λ t. Ok (at_place end t)))
+    after Open (end_of is_machine_place s words) (λ end. go (record { way = ways.Line s.place end; pace = paces.Feed feed }) s)
     (λ end. feed_open end feed s h))
 
 arc_open : (turn : Turn) (axes : AxisWords) (words : ArcWords) (f : Option ℤ) (s : State) → Open s → IfOk (arc turn axes words f s) Open
 arc_open turn axes words f s h =
     after Open (refuse_if (not (has_plane_word s.modes.plane axes)) (faults.Arc NoAxisWord)) _ (λ worded.
     after Open (feed_in s.modes.feed_mode s.feed f) _ (λ feed.
-    after Open (arc_of turn axes words s) (λ a. emit (commands.Arc s.line a feed) s >>= (λ t. Ok (at_place a.end t)))
-    (λ a. moves (commands.Arc s.line a feed) a.end s h tt)))
+    after Open (arc_of turn axes words s) (λ a. go (record { way = ways.Arc a; pace = paces.Feed feed }) s)
+    (λ a. moves (record { way = ways.Arc a; pace = paces.Feed feed }) s h)))
 
 -- ---- cycles
 
 make_move_open : (move : CycleMove) (s : State) → Open s → IfOk (make_move move s) Open
 make_move_open (cycle_moves.Traverse q) s h = traverse_to_open (to_machine s.frames q) s h
 make_move_open (cycle_moves.Feed q) s h = feed_open (to_machine s.frames q) (PerMinute s.feed) s h
-make_move_open (cycle_moves.Dwell v) s h = passes (commands.Dwell s.line (unsigned_abs v)) s h tt
-make_move_open cycle_moves.StopSpindle s h = passes (commands.Spindle s.line turning.Off) s h tt
-make_move_open cycle_moves.StartSpindle s h = passes (commands.Spindle s.line (spindle_state s.spindle s.speed)) s h tt
+make_move_open (cycle_moves.Dwell v) s h = passes (actions.Dwell (unsigned_abs v)) s h tt
+make_move_open cycle_moves.StopSpindle s h = passes (actions.Spindle turning.Off) s h tt
+make_move_open cycle_moves.StartSpindle s h = passes (actions.Spindle (spindle_state s.spindle s.speed)) s h tt
 
 make_moves_open : (moves : List CycleMove) (s : State) → Open s → IfOk (make_moves moves s) Open
 unfolding make_moves
@@ -194,42 +199,30 @@ with_motion_open (motions.Cycle hole) s h = h
 with_motion_open code s h = h
 
 perform_open : (setup : Setup) (effect : Effect) (s : State) → IsPassing effect → Open s → IfOk (perform setup effect s) Open
-perform_open setup (acts.FeedMode mode) s passing h = h
-perform_open setup (acts.Feed value units) s passing h = h
 perform_open setup (acts.Speed value) s passing h = tell_speed_open s.spindle (record s { speed = unsigned_abs value }) h
-perform_open setup (acts.SelectTool n) s passing h = h
 perform_open setup acts.ChangeTool s passing h = change_tool_open setup.tools s.selected s h
-perform_open setup (acts.Spindle code) s passing h = passes (commands.Spindle s.line (spindle_state (turn_of code) s.speed)) (record s { spindle = turn_of code }) h tt
-perform_open setup (acts.Coolant code) s passing h = passes (commands.Coolant s.line (with_coolant code s.coolant)) (record s { coolant = with_coolant code s.coolant }) h tt
-perform_open setup (acts.Override on) s passing h = passes (commands.Override s.line on) s h tt
-perform_open setup (acts.Dwell value) s passing h = passes (commands.Dwell s.line (unsigned_abs value)) s h tt
-perform_open setup (acts.Plane plane) s passing h = h
-perform_open setup (acts.Units units) s passing h = h
-perform_open setup acts.RadiusOff s passing h = h
+perform_open setup (acts.Spindle code) s passing h = passes (actions.Spindle (spindle_state (turn_of code) s.speed)) (record s { spindle = turn_of code }) h tt
+perform_open setup (acts.Coolant code) s passing h = passes (actions.Coolant (with_coolant code s.coolant)) (record s { coolant = with_coolant code s.coolant }) h tt
+perform_open setup (acts.Override on) s passing h = passes (actions.Override on) s h tt
+perform_open setup (acts.Dwell value) s passing h = passes (actions.Dwell (unsigned_abs value)) s h tt
 perform_open setup (acts.ToolLength number) s passing h = with_frames_open s (frame.set_length s.frames (tool_length setup.tools number)) h
-perform_open setup (acts.System system) s passing h = h
-perform_open setup (acts.Path path) s passing h = h
-perform_open setup (acts.Distance distance) s passing h = h
-perform_open setup (acts.Return mode) s passing h = h
 perform_open setup (acts.GoHome home words) s passing h = go_home_open setup.machine home words s h
 perform_open setup (acts.SetOrigin system words) s passing h = set_origin_open system words s h
 perform_open setup (acts.SetOffset words) s passing h = set_offset_open words s h
-perform_open setup acts.ClearOffset s passing h = h
-perform_open setup acts.SuspendOffset s passing h = h
-perform_open setup acts.RestoreOffset s passing h = h
 perform_open setup (acts.Motion code) s passing h = with_motion_open code s h
 perform_open setup (acts.Traverse is_machine_place words) s passing h = traverse_open is_machine_place words s h
 perform_open setup (acts.Straight is_machine_place words f) s passing h = straight_open is_machine_place words f s h
 perform_open setup (acts.Arc turn axes words f) s passing h = arc_open turn axes words f s h
 perform_open setup (acts.Cycle hole axes words) s passing h = cycle_open hole axes words s h
 perform_open setup (acts.Stopping code) s passing h = absurd passing
+perform_open setup _ s passing h = h
 
 stop_left : (code : Stopping) (s : State) → Open s → IfOk (stop code s) Left
-stop_left stops.Stop s h = IfOk-weaker (emit (commands.Stop s.line) s) Open Left left_open (passes (commands.Stop s.line) s h tt)
-stop_left stops.OptionalStop s h = IfOk-weaker (emit (commands.OptionalStop s.line) s) Open Left left_open (passes (commands.OptionalStop s.line) s h tt)
+stop_left stops.Stop s h = IfOk-weaker (emit actions.Stop s) Open Left left_open (passes actions.Stop s h tt)
+stop_left stops.OptionalStop s h = IfOk-weaker (emit actions.OptionalStop s) Open Left left_open (passes actions.OptionalStop s h tt)
 stop_left stops.End s h =
-    onward (λ t. EndIsLast t.commands) Left (emit (commands.End s.line) s) (λ t. Ok (record t { ended = true }))
-    (emitted (λ t. EndIsLast t.commands) (commands.End s.line) s (λ room. last_behind s.commands (commands.End s.line) h.no_end))
+    onward (λ t. EndIsLast t.commands) Left (emit actions.End s) (λ t. Ok (record t { ended = true }))
+    (emitted (λ t. EndIsLast t.commands) actions.End s (λ room. last_behind s.commands (record { line = s.line; action = actions.End }) h.no_end))
     (λ t last. record { last = last; no_end = λ e. absurd (cc e) })
 
 -- a stop is performed last, and another effect leaves the program open

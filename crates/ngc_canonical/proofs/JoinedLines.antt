@@ -6,14 +6,14 @@ use Rattle.ngc_fixed_length.specs.declared.points.Point3.{Point3}
 use Rattle.ngc_line_reader.specs.Grammar.{Item, Reading}
 use Rattle.ngc_machine.specs.Machine.{MachineFile}
 use Rattle.ngc_parameters.specs.Stored.{line_values}
+use Rattle.ngc_canonical.specs.declared.command.Action.TheVariants.{End}
 use Rattle.ngc_canonical.specs.declared.command.Command.{Command}
-use Rattle.ngc_canonical.specs.declared.command.Command.TheVariants.{End}
 use Rattle.ngc_canonical.specs.declared.fault.Fault.{Fault}
 use Rattle.ngc_canonical.specs.declared.fault.Fault.TheVariants.{Value}
 use Rattle.ngc_canonical.specs.declared.fault.ProgramFault.{ProgramFault}
 use Rattle.ngc_canonical.specs.Joined.{Joined, HaveEvenRadii, ArcsHaveEvenRadii, FewCommands}
 use Rattle.ngc_canonical.specs.Meaning.{NumberedLine, Program, effects_of, with_settings, execute, at_line, remaining, after_line, commands_of, past_last, go_on, then_lines, from_state, meaning, GivesMeaning}
-use Rattle.ngc_canonical.specs.Movement.{doings, motions_of, AreJoined}
+use Rattle.ngc_canonical.specs.Movement.{actions_of, ways_of, AreJoined}
 use Rattle.ngc_canonical.specs.Perform.{run}
 use Rattle.ngc_canonical.specs.State.{Setup, State, COMMAND_LIMIT, start_state, emit}
 use Rattle.ngc_canonical.specs.Steps.{faulted}
@@ -42,7 +42,7 @@ after_line_holds p setup block_delete number r s h = by_test (block_delete && r.
 
 past_last_holds : (p : Point3) (mark : Option ℕ) (count : ℕ) (s : State) → Holds p s → IfOk (past_last mark count s) (Holds p)
 past_last_holds p None count s h = tt
-past_last_holds p (Some line) count s h = at_line_holds p line (emit (End line) s) (stays p (End line) s h (record { joined = tt; ends = refl; radii = tt }))
+past_last_holds p (Some line) count s h = at_line_holds p line (emit End (record s { line = line })) (stays p End (record s { line = line }) h tt)
 
 go_on_holds : (p : Point3) (ended : Bool) (s : State) (rest : State → Result State ProgramFault) → Holds p s → ((t : State) → Holds p t → IfOk (rest t) (Holds p)) → IfOk (go_on ended s rest) (Holds p)
 go_on_holds p true s rest h on = h
@@ -86,14 +86,14 @@ finished p mark count s view (Ok v) h says = commands_from p (past_last mark cou
 finished p mark count s view (Err e) h says = tt
 
 pub finished_joined : {X : Type 0} (p : Point3) (mark : Option ℕ) (count : ℕ) (s : State) (view : X → List Command) (result : Result X ProgramFault) → Holds p s
-    → GivesMeaning view result (commands_of (past_last mark count s)) → IfOk result (λ v. AreJoined p (motions_of (doings (view v))))
+    → GivesMeaning view result (commands_of (past_last mark count s)) → IfOk result (λ v. AreJoined p (ways_of (actions_of (view v))))
 finished_joined p mark count s view result h says =
-    IfOk-weaker result (λ v. AreFrom p (view v)) (λ v. AreJoined p (motions_of (doings (view v)))) (λ v from. from.trail.leads.joined) (finished p mark count s view result h says)
+    IfOk-weaker result (λ v. AreFrom p (view v)) (λ v. AreJoined p (ways_of (actions_of (view v)))) (λ v from. from.trail.leads.joined) (finished p mark count s view result h says)
 
 pub finished_radii : {X : Type 0} (p : Point3) (mark : Option ℕ) (count : ℕ) (s : State) (view : X → List Command) (result : Result X ProgramFault) → Holds p s
-    → GivesMeaning view result (commands_of (past_last mark count s)) → IfOk result (λ v. HaveEvenRadii (motions_of (doings (view v))))
+    → GivesMeaning view result (commands_of (past_last mark count s)) → IfOk result (λ v. HaveEvenRadii (ways_of (actions_of (view v))))
 finished_radii p mark count s view result h says =
-    IfOk-weaker result (λ v. AreFrom p (view v)) (λ v. HaveEvenRadii (motions_of (doings (view v)))) (λ v from. from.trail.leads.radii) (finished p mark count s view result h says)
+    IfOk-weaker result (λ v. AreFrom p (view v)) (λ v. HaveEvenRadii (ways_of (actions_of (view v)))) (λ v from. from.trail.leads.radii) (finished p mark count s view result h says)
 
 pub finished_few : {X : Type 0} (p : Point3) (mark : Option ℕ) (count : ℕ) (s : State) (view : X → List Command) (result : Result X ProgramFault) → Holds p s
     → GivesMeaning view result (commands_of (past_last mark count s)) → IfOk result (λ v. length (view v) ≤ COMMAND_LIMIT)

@@ -33,14 +33,16 @@ use Rattle.ngc_modal_state.specs.declared.effect.CycleWords.{CycleWords}
 use Rattle.ngc_modal_state.specs.declared.effect.Effect.{Effect}
 use Rattle.ngc_modal_state.specs.declared.effect.Effect.TheVariants as acts
 use Rattle.ngc_modal_state.specs.declared.effect.Home.{Home}
-use Rattle.ngc_canonical.specs.declared.command.Command.TheVariants as commands
-use Rattle.ngc_canonical.specs.declared.command.Feed.{Feed}
-use Rattle.ngc_canonical.specs.declared.command.Feed.TheVariants.{PerMinute}
+use Rattle.ngc_canonical.specs.declared.command.Action.TheVariants as actions
 use Rattle.ngc_canonical.specs.declared.command.SpindleState.TheVariants as turning
 use Rattle.ngc_canonical.specs.declared.fault.Fault.{Fault}
 use Rattle.ngc_canonical.specs.declared.fault.Fault.TheVariants as faults
+use Rattle.ngc_canonical.specs.declared.movement.Feed.{Feed}
+use Rattle.ngc_canonical.specs.declared.movement.Feed.TheVariants.{PerMinute}
+use Rattle.ngc_canonical.specs.declared.movement.Pace.TheVariants as paces
+use Rattle.ngc_canonical.specs.declared.movement.Way.TheVariants as ways
 use Rattle.ngc_canonical.specs.Steps.{◌>>=◌, faulted, refuse_if}
-use Rattle.ngc_canonical.specs.State.{Setup, State, emit, at_place, traverse_to, unseries}
+use Rattle.ngc_canonical.specs.State.{Setup, State, emit, go, traverse_to, unseries}
 use Rattle.ngc_canonical.specs.Spindle.{spindle_state, tell_speed, turn_of, mount, mount_found, change_tool, with_coolant}
 use Rattle.ngc_canonical.specs.Places.{word_length, axis_lengths, end_of, with_frames, set_origin, set_offset, tool_length, home_of, stands, go_home}
 use Rattle.ngc_canonical.specs.Motions.{traverse, feed_in, straight}
@@ -54,10 +56,10 @@ use Rattle.ngc_canonical.proofs.ArcLaws.{start_of_centre, start_of_radius}
 
 tell_speed_holds : (p : Point3) (turn : Option Turn) (s : State) → Holds p s → IfOk (tell_speed turn s) (Holds p)
 tell_speed_holds p None s h = h
-tell_speed_holds p (Some turn) s h = stays p (commands.Spindle s.line (turning.Turning turn s.speed)) s h (record { joined = tt; ends = refl; radii = tt })
+tell_speed_holds p (Some turn) s h = stays p (actions.Spindle (turning.Turning turn s.speed)) s h tt
 
 mount_holds : (p : Point3) (tool : Option Tool) (s : State) → Holds p s → IfOk (mount tool s) (Holds p)
-mount_holds p tool s h = stays p (commands.Tool s.line tool) (record s { spindle = None }) h (record { joined = tt; ends = refl; radii = tt })
+mount_holds p tool s h = stays p (actions.Mount tool) (record s { spindle = None }) h tt
 
 mount_found_holds : (p : Point3) (tool : Option Tool) (s : State) → Holds p s → IfOk (mount_found tool s) (Holds p)
 mount_found_holds p None s h = tt
@@ -70,7 +72,7 @@ change_tool_holds p tools (suc n) s h = mount_found_holds p (tool_at tools (suc 
 -- ---- places
 
 traverse_to_holds : (p end : Point3) (s : State) → Holds p s → IfOk (traverse_to end s) (Holds p)
-traverse_to_holds p end s h = moves p (commands.Traverse s.line s.place end) s end h (record { joined = (refl, tt); ends = refl; radii = (tt, tt) })
+traverse_to_holds p end s h = moves p (record { way = ways.Line s.place end; pace = paces.Rapid }) s h refl tt
 
 with_frames_holds : (p : Point3) (s : State) (changed : Result Offsets FrameFault) → Holds p s → IfOk (with_frames s changed) (Holds p)
 with_frames_holds p s changed h = after (Holds p) (faulted faults.Frame changed) (λ f. Ok (unseries (record s { frames = f }))) (λ f. h)
@@ -100,13 +102,13 @@ go_home_holds p machine home words s h =
 traverse_holds : (p : Point3) (is_machine_place : Bool) (words : AxisWords) (s : State) → Holds p s → IfOk (traverse is_machine_place words s) (Holds p)
 traverse_holds p is_machine_place words s h = after (Holds p) (end_of is_machine_place s words) (λ end. traverse_to end s) (λ end. traverse_to_holds p end s h)
 
-feed_holds : (p end : Point3) (feed : Feed) (s : State) → Holds p s → IfOk (emit (commands.Feed s.line s.place end feed) s >>= (λ t. Ok (at_place end t))) (Holds p)
-feed_holds p end feed s h = moves p (commands.Feed s.line s.place end feed) s end h (record { joined = (refl, tt); ends = refl; radii = (tt, tt) })
+feed_holds : (p end : Point3) (feed : Feed) (s : State) → Holds p s → IfOk (go (record { way = ways.Line s.place end; pace = paces.Feed feed }) s) (Holds p)
+feed_holds p end feed s h = moves p (record { way = ways.Line s.place end; pace = paces.Feed feed }) s h refl tt
 
 straight_holds : (p : Point3) (is_machine_place : Bool) (words : AxisWords) (f : Option ℤ) (s : State) → Holds p s → IfOk (straight is_machine_place words f s) (Holds p)
 straight_holds p is_machine_place words f s h =
     after (Holds p) (feed_in s.modes.feed_mode s.feed f) _ (λ feed.
-    after (Holds p) (end_of is_machine_place s words) (λ end. emit (commands.Feed s.line s.place end feed) s >>= (λ t. Ok (at_place end t)))
+    after (Holds p) (end_of is_machine_place s words) (λ end. go (record { way = ways.Line s.place end; pace = paces.Feed feed }) s)
     (λ end. feed_holds p end feed s h))
 
 -- ---- arcs, which begin where the axes stand, with even radii
@@ -144,18 +146,18 @@ arc_holds : (p : Point3) (turn : Turn) (axes : AxisWords) (words : ArcWords) (f 
 arc_holds p turn axes words f s h =
     after (Holds p) (refuse_if (not (has_plane_word s.modes.plane axes)) (faults.Arc NoAxisWord)) _ (λ worded.
     after (Holds p) (feed_in s.modes.feed_mode s.feed f) _ (λ feed.
-    onward (IsArcFrom s.place) (Holds p) (arc_of turn axes words s) (λ a. emit (commands.Arc s.line a feed) s >>= (λ t. Ok (at_place a.end t)))
+    onward (IsArcFrom s.place) (Holds p) (arc_of turn axes words s) (λ a. go (record { way = ways.Arc a; pace = paces.Feed feed }) s)
     (arc_of_begins turn axes words s)
-    (λ a from. moves p (commands.Arc s.line a feed) s a.end h (record { joined = (from.begins, tt); ends = refl; radii = (from.even, tt) }))))
+    (λ a from. moves p (record { way = ways.Arc a; pace = paces.Feed feed }) s h from.begins from.even)))
 
 -- ---- cycles
 
 make_move_holds : (p : Point3) (move : CycleMove) (s : State) → Holds p s → IfOk (make_move move s) (Holds p)
 make_move_holds p (cycle_moves.Traverse q) s h = traverse_to_holds p (to_machine s.frames q) s h
 make_move_holds p (cycle_moves.Feed q) s h = feed_holds p (to_machine s.frames q) (PerMinute s.feed) s h
-make_move_holds p (cycle_moves.Dwell v) s h = stays p (commands.Dwell s.line (unsigned_abs v)) s h (record { joined = tt; ends = refl; radii = tt })
-make_move_holds p cycle_moves.StopSpindle s h = stays p (commands.Spindle s.line turning.Off) s h (record { joined = tt; ends = refl; radii = tt })
-make_move_holds p cycle_moves.StartSpindle s h = stays p (commands.Spindle s.line (spindle_state s.spindle s.speed)) s h (record { joined = tt; ends = refl; radii = tt })
+make_move_holds p (cycle_moves.Dwell v) s h = stays p (actions.Dwell (unsigned_abs v)) s h tt
+make_move_holds p cycle_moves.StopSpindle s h = stays p (actions.Spindle turning.Off) s h tt
+make_move_holds p cycle_moves.StartSpindle s h = stays p (actions.Spindle (spindle_state s.spindle s.speed)) s h tt
 
 make_moves_holds : (p : Point3) (moves : List CycleMove) (s : State) → Holds p s → IfOk (make_moves moves s) (Holds p)
 unfolding make_moves
@@ -176,45 +178,33 @@ with_motion_holds p (motions.Cycle hole) s h = h
 with_motion_holds p code s h = h
 
 stop_holds : (p : Point3) (code : Stopping) (s : State) → Holds p s → IfOk (stop code s) (Holds p)
-stop_holds p stops.Stop s h = stays p (commands.Stop s.line) s h (record { joined = tt; ends = refl; radii = tt })
-stop_holds p stops.OptionalStop s h = stays p (commands.OptionalStop s.line) s h (record { joined = tt; ends = refl; radii = tt })
+stop_holds p stops.Stop s h = stays p actions.Stop s h tt
+stop_holds p stops.OptionalStop s h = stays p actions.OptionalStop s h tt
 stop_holds p stops.End s h =
-    onward (Holds p) (Holds p) (emit (commands.End s.line) s) (λ t. Ok (record t { ended = true }))
-    (stays p (commands.End s.line) s h (record { joined = tt; ends = refl; radii = tt }))
+    onward (Holds p) (Holds p) (emit actions.End s) (λ t. Ok (record t { ended = true }))
+    (stays p actions.End s h tt)
     (λ t h_t. h_t)
 
 perform_holds : (p : Point3) (setup : Setup) (effect : Effect) (s : State) → Holds p s → IfOk (perform setup effect s) (Holds p)
-perform_holds p setup (acts.FeedMode mode) s h = h
-perform_holds p setup (acts.Feed value units) s h = h
 perform_holds p setup (acts.Speed value) s h = tell_speed_holds p s.spindle (record s { speed = unsigned_abs value }) h
-perform_holds p setup (acts.SelectTool n) s h = h
 perform_holds p setup acts.ChangeTool s h = change_tool_holds p setup.tools s.selected s h
 perform_holds p setup (acts.Spindle code) s h =
-    stays p (commands.Spindle s.line (spindle_state (turn_of code) s.speed)) (record s { spindle = turn_of code }) h (record { joined = tt; ends = refl; radii = tt })
+    stays p (actions.Spindle (spindle_state (turn_of code) s.speed)) (record s { spindle = turn_of code }) h tt
 perform_holds p setup (acts.Coolant code) s h =
-    stays p (commands.Coolant s.line (with_coolant code s.coolant)) (record s { coolant = with_coolant code s.coolant }) h (record { joined = tt; ends = refl; radii = tt })
-perform_holds p setup (acts.Override on) s h = stays p (commands.Override s.line on) s h (record { joined = tt; ends = refl; radii = tt })
-perform_holds p setup (acts.Dwell value) s h = stays p (commands.Dwell s.line (unsigned_abs value)) s h (record { joined = tt; ends = refl; radii = tt })
-perform_holds p setup (acts.Plane plane) s h = h
-perform_holds p setup (acts.Units units) s h = h
-perform_holds p setup acts.RadiusOff s h = h
+    stays p (actions.Coolant (with_coolant code s.coolant)) (record s { coolant = with_coolant code s.coolant }) h tt
+perform_holds p setup (acts.Override on) s h = stays p (actions.Override on) s h tt
+perform_holds p setup (acts.Dwell value) s h = stays p (actions.Dwell (unsigned_abs value)) s h tt
 perform_holds p setup (acts.ToolLength number) s h = with_frames_holds p s (frame.set_length s.frames (tool_length setup.tools number)) h
-perform_holds p setup (acts.System system) s h = h
-perform_holds p setup (acts.Path path) s h = h
-perform_holds p setup (acts.Distance distance) s h = h
-perform_holds p setup (acts.Return mode) s h = h
 perform_holds p setup (acts.GoHome home words) s h = go_home_holds p setup.machine home words s h
 perform_holds p setup (acts.SetOrigin system words) s h = set_origin_holds p system words s h
 perform_holds p setup (acts.SetOffset words) s h = set_offset_holds p words s h
-perform_holds p setup acts.ClearOffset s h = h
-perform_holds p setup acts.SuspendOffset s h = h
-perform_holds p setup acts.RestoreOffset s h = h
 perform_holds p setup (acts.Motion code) s h = with_motion_holds p code s h
 perform_holds p setup (acts.Traverse is_machine_place words) s h = traverse_holds p is_machine_place words s h
 perform_holds p setup (acts.Straight is_machine_place words f) s h = straight_holds p is_machine_place words f s h
 perform_holds p setup (acts.Arc turn axes words f) s h = arc_holds p turn axes words f s h
 perform_holds p setup (acts.Cycle hole axes words) s h = cycle_holds p hole axes words s h
 perform_holds p setup (acts.Stopping code) s h = stop_holds p code s h
+perform_holds p setup _ s h = h
 
 pub run_holds : (p : Point3) (setup : Setup) (effects : List Effect) (s : State) → Holds p s → IfOk (run setup effects s) (Holds p)
 run_holds p setup [] s h = h

@@ -1,30 +1,31 @@
 -- Each step of a program leads its motions on from where the axes stand, its arcs have even radii, and its commands stay few.
-use Rattle.std.proofs.Common.{◌≡◌, ◌≤◌, ◌<◌, List, [], ◌∷◌, ◌++◌, length, Bool, true, false, Result, Ok, Err, refl, ap, sym, subst, ◌∙◌, arith, length-append}
+use Rattle.std.proofs.Common.{◌≡◌, ℕ, ◌≤◌, ◌<◌, List, [], ◌∷◌, ◌++◌, length, Bool, true, false, Result, Ok, Err, refl, ap, sym, subst, ◌∙◌, arith, length-append}
 use Rattle.std.specs.Prelude.{IfOk, nat_lt, if◌then◌else◌}
 use Rattle.std.proofs.lemmas.Bool.Decides.{nat_tests}
 use Rattle.std.proofs.lemmas.List.{map-append}
 use Rattle.ngc_fixed_length.specs.declared.points.Point3.{Point3}
+use Rattle.ngc_canonical.specs.declared.command.Action.{Action}
+use Rattle.ngc_canonical.specs.declared.command.Action.TheVariants.{Move}
 use Rattle.ngc_canonical.specs.declared.command.Command.{Command}
 use Rattle.ngc_canonical.specs.declared.fault.Fault.{Fault}
 use Rattle.ngc_canonical.specs.declared.fault.Fault.TheVariants.{TooManyCommands}
-use Rattle.ngc_canonical.specs.declared.movement.Doing.{Doing}
-use Rattle.ngc_canonical.specs.declared.movement.Doing.TheVariants.{Moves, Mounts, Stays}
 use Rattle.ngc_canonical.specs.declared.movement.Motion.{Motion}
-use Rattle.ngc_canonical.specs.Joined.{HaveEvenRadii}
-use Rattle.ngc_canonical.specs.Movement.{end_of, doing, doings, motions_of, AreJoined}
+use Rattle.ngc_canonical.specs.declared.movement.Way.{Way}
+use Rattle.ngc_canonical.specs.Joined.{IsEvenIfArc, HaveEvenRadii}
+use Rattle.ngc_canonical.specs.Movement.{start_of, end_of, actions_of, ways_of, AreJoined}
 use Rattle.ngc_canonical.specs.Steps.{◌>>=◌}
-use Rattle.ngc_canonical.specs.State.{State, COMMAND_LIMIT, emit, at_place}
+use Rattle.ngc_canonical.specs.State.{State, COMMAND_LIMIT, with_command, emit, at_place, go}
 
--- where motions lead to that begin at p
-abbrev pub led_to : Point3 → List Motion → Point3
+-- where ways lead to that begin at p
+abbrev pub led_to : Point3 → List Way → Point3
 led_to p [] = p
-led_to p (m ∷ ms) = led_to (end_of m) ms
+led_to p (w ∷ ws) = led_to (end_of w) ws
 
 -- the motions of these commands are joined, from p to q, and those that are arcs have even radii
 pub record Leads (p : Point3) (commands : List Command) (q : Point3) : Type 0 where
-  pub joined : AreJoined p (motions_of (doings commands))
-  pub ends : led_to p (motions_of (doings commands)) ≡ q
-  pub radii : HaveEvenRadii (motions_of (doings commands))
+  pub joined : AreJoined p (ways_of (actions_of commands))
+  pub ends : led_to p (ways_of (actions_of commands)) ≡ q
+  pub radii : HaveEvenRadii (ways_of (actions_of commands))
 
 -- the commands so far lead from p to where the axes stand, and are few
 pub record IsTrail (p : Point3) (commands : List Command) (q : Point3) : Type 0 where
@@ -34,38 +35,37 @@ pub record IsTrail (p : Point3) (commands : List Command) (q : Point3) : Type 0 
 abbrev pub Holds : Point3 → State → Type 0
 Holds p s = IsTrail p s.commands s.place
 
-joined_append : (p : Point3) (ms ns : List Motion) → AreJoined p ms → AreJoined (led_to p ms) ns → AreJoined p (ms ++ ns)
-joined_append p [] ns first second = second
-joined_append p (m ∷ ms) ns first second = (first.0, joined_append (end_of m) ms ns first.1 second)
+joined_append : (p : Point3) (vs ws : List Way) → AreJoined p vs → AreJoined (led_to p vs) ws → AreJoined p (vs ++ ws)
+joined_append p [] ws first second = second
+joined_append p (v ∷ vs) ws first second = (first.0, joined_append (end_of v) vs ws first.1 second)
 
-led_append : (p : Point3) (ms ns : List Motion) → led_to p (ms ++ ns) ≡ led_to (led_to p ms) ns
-led_append p [] ns = refl
-led_append p (m ∷ ms) ns = led_append (end_of m) ms ns
+led_append : (p : Point3) (vs ws : List Way) → led_to p (vs ++ ws) ≡ led_to (led_to p vs) ws
+led_append p [] ws = refl
+led_append p (v ∷ vs) ws = led_append (end_of v) vs ws
 
-radii_append : (ms ns : List Motion) → HaveEvenRadii ms → HaveEvenRadii ns → HaveEvenRadii (ms ++ ns)
-radii_append [] ns first second = second
-radii_append (m ∷ ms) ns first second = (first.0, radii_append ms ns first.1 second)
+radii_append : (vs ws : List Way) → HaveEvenRadii vs → HaveEvenRadii ws → HaveEvenRadii (vs ++ ws)
+radii_append [] ws first second = second
+radii_append (v ∷ vs) ws first second = (first.0, radii_append vs ws first.1 second)
 
-motions_append : (ds es : List Doing) → motions_of (ds ++ es) ≡ motions_of ds ++ motions_of es
-motions_append [] es = refl
-motions_append (Moves m ∷ ds) es = ap (λ (ms : List Motion). m ∷ ms) (motions_append ds es)
-motions_append (Mounts tool ∷ ds) es = motions_append ds es
-motions_append (Stays ∷ ds) es = motions_append ds es
+ways_append : (first rest : List Action) → ways_of (first ++ rest) ≡ ways_of first ++ ways_of rest
+ways_append [] rest = refl
+ways_append (Move m ∷ first) rest = ap (λ (ws : List Way). m.way ∷ ws) (ways_append first rest)
+ways_append (_ ∷ first) rest = ways_append first rest
 
-motions_of_both : (cs ds : List Command) → motions_of (doings (cs ++ ds)) ≡ motions_of (doings cs) ++ motions_of (doings ds)
-motions_of_both cs ds = ap motions_of (map-append doing cs ds) ∙ motions_append (doings cs) (doings ds)
+ways_of_both : (cs ds : List Command) → ways_of (actions_of (cs ++ ds)) ≡ ways_of (actions_of cs) ++ ways_of (actions_of ds)
+ways_of_both cs ds = ap ways_of (map-append (λ (c : Command). c.action) cs ds) ∙ ways_append (actions_of cs) (actions_of ds)
 
 leads_on : (p q r : Point3) (cs ds : List Command) → Leads p cs q → Leads q ds r → Leads p (cs ++ ds) r
 leads_on p q r cs ds first second =
-    let e = motions_of_both cs ds in
-    let ms = motions_of (doings cs) in
-    let ns = motions_of (doings ds) in
-    let from : AreJoined (led_to p ms) ns = subst (λ (x : Point3). AreJoined x ns) (sym first.ends) second.joined in
-    let to : led_to (led_to p ms) ns ≡ r = ap (λ (x : Point3). led_to x ns) first.ends ∙ second.ends in
+    let e = ways_of_both cs ds in
+    let vs = ways_of (actions_of cs) in
+    let ws = ways_of (actions_of ds) in
+    let from : AreJoined (led_to p vs) ws = subst (λ (x : Point3). AreJoined x ws) (sym first.ends) second.joined in
+    let to : led_to (led_to p vs) ws ≡ r = ap (λ (x : Point3). led_to x ws) first.ends ∙ second.ends in
     record {
-      joined = subst (AreJoined p) (sym e) (joined_append p ms ns first.joined from);
-      ends = ap (led_to p) e ∙ led_append p ms ns ∙ to;
-      radii = subst HaveEvenRadii (sym e) (radii_append ms ns first.radii second.radii);
+      joined = subst (AreJoined p) (sym e) (joined_append p vs ws first.joined from);
+      ends = ap (led_to p) e ∙ led_append p vs ws ∙ to;
+      radii = subst HaveEvenRadii (sym e) (radii_append vs ws first.radii second.radii);
     }
 
 -- one command more
@@ -87,19 +87,30 @@ pub after : {A B : Type 0} (Q : B → Type 0) (r : Result A Fault) (f : A → Re
 after Q (Ok a) f rest = rest a
 after Q (Err e) f rest = tt
 
-pub emitted : (Q : State → Type 0) (c : Command) (s : State) → (length s.commands < COMMAND_LIMIT → Q (record s { commands = s.commands ++ (c ∷ []) })) → IfOk (emit c s) Q
-emitted Q c s holds = by_test (nat_lt (length s.commands) COMMAND_LIMIT) refl where
-  by_test : (b : Bool) → nat_lt (length s.commands) COMMAND_LIMIT ≡ b → (let more : Result State Fault = Ok (record s { commands = s.commands ++ (c ∷ []) }) in IfOk (if b then more else Err TooManyCommands) Q)
+pub emitted : (Q : State → Type 0) (a : Action) (s : State) → (length s.commands < COMMAND_LIMIT → Q (with_command a s)) → IfOk (emit a s) Q
+emitted Q a s holds = by_test (nat_lt (length s.commands) COMMAND_LIMIT) refl where
+  by_test : (b : Bool) → nat_lt (length s.commands) COMMAND_LIMIT ≡ b → (let more : Result State Fault = Ok (with_command a s) in IfOk (if b then more else Err TooManyCommands) Q)
   by_test true e = holds (grind (arith, nat_tests))
   by_test false e = tt
 
+-- an action that moves nothing
+abbrev pub IsStill : Action → Type 0
+IsStill (Move m) = ⊥
+IsStill _ = Unit {0}
+
+leads_nowhere : (p : Point3) (line : ℕ) (a : Action) → IsStill a → Leads p (record { line = line; action = a } ∷ []) p
+leads_nowhere p line (Move m) still = absurd still
+leads_nowhere p line _ still = record { joined = tt; ends = refl; radii = tt }
+
 -- a command after which the axes stand where they stood
-pub stays : (p : Point3) (c : Command) (s : State) → Holds p s → Leads s.place (c ∷ []) s.place → IfOk (emit c s) (Holds p)
-stays p c s h step = emitted (Holds p) c s (λ room. added p s.place s.place s.commands c h step room)
+pub stays : (p : Point3) (a : Action) (s : State) → Holds p s → IsStill a → IfOk (emit a s) (Holds p)
+stays p a s h still =
+    emitted (Holds p) a s (λ room. added p s.place s.place s.commands (record { line = s.line; action = a }) h (leads_nowhere s.place s.line a still) room)
 
 -- a motion, after which they stand at its end
-pub moves : (p : Point3) (c : Command) (s : State) (end : Point3) → Holds p s → Leads s.place (c ∷ []) end → IfOk (emit c s >>= (λ t. Ok (at_place end t))) (Holds p)
-moves p c s end h step =
-    onward (λ t. IsTrail p t.commands end) (Holds p) (emit c s) (λ t. Ok (at_place end t))
-    (emitted (λ t. IsTrail p t.commands end) c s (λ room. added p s.place end s.commands c h step room))
+pub moves : (p : Point3) (m : Motion) (s : State) → Holds p s → start_of m.way ≡ s.place → IsEvenIfArc m.way → IfOk (go m s) (Holds p)
+moves p m s h begins even =
+    onward (λ t. IsTrail p t.commands (end_of m.way)) (Holds p) (emit (Move m) s) (λ t. Ok (at_place (end_of m.way) t))
+    (emitted (λ t. IsTrail p t.commands (end_of m.way)) (Move m) s
+    (λ room. added p s.place (end_of m.way) s.commands (record { line = s.line; action = Move m }) h (record { joined = (begins, tt); ends = refl; radii = (even, tt) }) room))
     (λ t trail. trail)

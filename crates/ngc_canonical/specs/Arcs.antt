@@ -10,11 +10,12 @@ use Rattle.ngc_arc_geometry.specs.Centre.{centre_format, radius_format}
 use Rattle.ngc_arc_geometry.specs.Shape.{ArcShape}
 use Rattle.ngc_arc_geometry.specs.declared.fault.ArcFault.TheVariants.{NoAxisWord}
 use Rattle.ngc_arc_geometry.specs.declared.given.Ends.{Ends}
-use Rattle.ngc_canonical.specs.declared.command.Command.TheVariants as commands
 use Rattle.ngc_canonical.specs.declared.fault.Fault.{Fault}
 use Rattle.ngc_canonical.specs.declared.fault.Fault.TheVariants as faults
+use Rattle.ngc_canonical.specs.declared.movement.Pace.TheVariants as paces
+use Rattle.ngc_canonical.specs.declared.movement.Way.TheVariants as ways
 use Rattle.ngc_canonical.specs.Steps.{◌>>=◌, faulted, refuse_if}
-use Rattle.ngc_canonical.specs.State.{State, emit, at_place}
+use Rattle.ngc_canonical.specs.State.{State, go}
 use Rattle.ngc_canonical.specs.Places.{word_length, end_of}
 use Rattle.ngc_canonical.specs.Motions.{feed_in}
 
@@ -65,5 +66,4 @@ arc turn axes words f s = do
   worded ← refuse_if (not (has_plane_word s.modes.plane axes)) (faults.Arc NoAxisWord)
   feed ← feed_in s.modes.feed_mode s.feed f
   a ← arc_of turn axes words s
-  t ← emit (commands.Arc s.line a feed) s
-  Ok (at_place a.end t)
+  go (record { way = ways.Arc a; pace = paces.Feed feed }) s

@@ -21,14 +21,16 @@ use Rattle.ngc_canned_cycles.specs.Heights.{repeats_of}
 use Rattle.ngc_canned_cycles.specs.Holes.{counting}
 use Rattle.ngc_canned_cycles.specs.Moves.{repeat_moves}
 use Rattle.ngc_canned_cycles.specs.Refusals.{check, is_in_range}
-use Rattle.ngc_canonical.specs.declared.command.Command.TheVariants as commands
-use Rattle.ngc_canonical.specs.declared.command.Feed.TheVariants.{PerMinute}
+use Rattle.ngc_canonical.specs.declared.command.Action.TheVariants as actions
 use Rattle.ngc_canonical.specs.declared.command.SpindleState.TheVariants.{Off}
 use Rattle.ngc_canonical.specs.declared.fault.Fault.{Fault}
 use Rattle.ngc_canonical.specs.declared.fault.Fault.TheVariants as faults
+use Rattle.ngc_canonical.specs.declared.movement.Feed.TheVariants.{PerMinute}
+use Rattle.ngc_canonical.specs.declared.movement.Pace.TheVariants as paces
+use Rattle.ngc_canonical.specs.declared.movement.Way.TheVariants.{Line}
 use Rattle.ngc_canonical.specs.declared.state.Kept.{Kept}
 use Rattle.ngc_canonical.specs.Steps.{◌>>=◌, faulted, refuse_if}
-use Rattle.ngc_canonical.specs.State.{State, emit, at_place, traverse_to}
+use Rattle.ngc_canonical.specs.State.{State, emit, go, traverse_to}
 use Rattle.ngc_canonical.specs.Spindle.{spindle_state}
 use Rattle.ngc_canonical.specs.Places.{word_length}
 
@@ -99,16 +101,14 @@ start_of s = record {
 -- ---- moves
 
 abbrev pub feed_to : Point3 → State → Result State Fault
-feed_to end s = do
-  t ← emit (commands.Feed s.line s.place end (PerMinute s.feed)) s
-  Ok (at_place end t)
+feed_to end s = go (record { way = Line s.place end; pace = paces.Feed (PerMinute s.feed) }) s
 
 abbrev pub make_move : CycleMove → State → Result State Fault
 make_move (moves.Traverse p) s = traverse_to (to_machine s.frames p) s
 make_move (moves.Feed p) s = feed_to (to_machine s.frames p) s
-make_move (moves.Dwell v) s = emit (commands.Dwell s.line (unsigned_abs v)) s
-make_move moves.StopSpindle s = emit (commands.Spindle s.line Off) s
-make_move moves.StartSpindle s = emit (commands.Spindle s.line (spindle_state s.spindle s.speed)) s
+make_move (moves.Dwell v) s = emit (actions.Dwell (unsigned_abs v)) s
+make_move moves.StopSpindle s = emit (actions.Spindle Off) s
+make_move moves.StartSpindle s = emit (actions.Spindle (spindle_state s.spindle s.speed)) s
 
 -- one after another
 unfoldable pub make_moves : List CycleMove → State → Result State Fault

@@ -1,4 +1,3 @@
-pub mod Commands
 pub mod Movement
 pub mod ProgramPath
 pub mod Faults

@@ -6,8 +6,8 @@ use Rattle.ngc_line_reader.specs.ProgramText.{ProgramText}
 use Rattle.ngc_line_reader.specs.declared.letter.Letter.{Letter}
 use Rattle.ngc_parameters.specs.Meaning.{after_settings}
 use Rattle.ngc_parameters.specs.Stored.{line_values}
+use Rattle.ngc_canonical.specs.declared.command.Action.TheVariants.{End}
 use Rattle.ngc_canonical.specs.declared.command.Command.{Command}
-use Rattle.ngc_canonical.specs.declared.command.Command.TheVariants.{End}
 use Rattle.ngc_modal_state.specs.declared.effect.Effect.{Effect}
 use Rattle.ngc_modal_state.specs.declared.modes.Modes.{Modes}
 use Rattle.ngc_canonical.specs.declared.fault.Fault.{Fault}
@@ -72,7 +72,7 @@ commands_of (Err e) = Err e
 -- where the lines have run out: a marked file ends at its second %, as by M2
 abbrev pub past_last : Option ℕ → ℕ → State → Result State ProgramFault
 past_last None count s = Err (At count NoEnd)
-past_last (Some line) count s = at_line line (emit (End line) s)
+past_last (Some line) count s = at_line line (emit End (record s { line = line }))
 
 -- what a line leads to, and then the lines after it, unless it was an end
 abbrev pub go_on : Bool → State → (State → Result State ProgramFault) → Result State ProgramFault

@@ -3,13 +3,14 @@ use Rattle.std.specs.Prelude.{ℕ, ◌==◌, ℤ, unsigned_abs, Option, Some, No
 use Rattle.ngc_fixed_length.specs.declared.modes.FeedMode.{FeedMode}
 use Rattle.ngc_fixed_length.specs.declared.modes.FeedMode.TheVariants.{PerMinute, InverseTime}
 use Rattle.ngc_modal_state.specs.declared.block.AxisWords.{AxisWords}
-use Rattle.ngc_canonical.specs.declared.command.Command.TheVariants as commands
-use Rattle.ngc_canonical.specs.declared.command.Feed.{Feed}
-use Rattle.ngc_canonical.specs.declared.command.Feed.TheVariants as feeds
 use Rattle.ngc_canonical.specs.declared.fault.Fault.{Fault}
 use Rattle.ngc_canonical.specs.declared.fault.Fault.TheVariants.{FeedZero}
+use Rattle.ngc_canonical.specs.declared.movement.Feed.{Feed}
+use Rattle.ngc_canonical.specs.declared.movement.Feed.TheVariants as feeds
+use Rattle.ngc_canonical.specs.declared.movement.Pace.TheVariants as paces
+use Rattle.ngc_canonical.specs.declared.movement.Way.TheVariants.{Line}
 use Rattle.ngc_canonical.specs.Steps.{◌>>=◌}
-use Rattle.ngc_canonical.specs.State.{State, emit, at_place, traverse_to}
+use Rattle.ngc_canonical.specs.State.{State, go, traverse_to}
 use Rattle.ngc_canonical.specs.Places.{end_of}
 
 abbrev pub traverse : Bool → AxisWords → State → Result State Fault
@@ -34,5 +35,4 @@ abbrev pub straight : Bool → AxisWords → Option ℤ → State → Result Sta
 straight is_machine_place words f s = do
   feed ← feed_in s.modes.feed_mode s.feed f
   end ← end_of is_machine_place s words
-  t ← emit (commands.Feed s.line s.place end feed) s
-  Ok (at_place end t)
+  go (record { way = Line s.place end; pace = paces.Feed feed }) s

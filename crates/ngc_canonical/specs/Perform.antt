@@ -9,7 +9,7 @@ use Rattle.ngc_modal_state.specs.declared.modes.Modes.{Modes}
 use Rattle.ngc_modal_state.specs.declared.effect.Effect.{Effect}
 use Rattle.ngc_modal_state.specs.declared.effect.Effect.TheVariants as acts
 use Rattle.ngc_offsets.specs.Frames as frame
-use Rattle.ngc_canonical.specs.declared.command.Command.TheVariants as commands
+use Rattle.ngc_canonical.specs.declared.command.Action.TheVariants as actions
 use Rattle.ngc_canonical.specs.declared.fault.Fault.{Fault}
 use Rattle.ngc_canonical.specs.Steps.{◌>>=◌}
 use Rattle.ngc_canonical.specs.State.{Setup, State, emit, unseries}
@@ -28,10 +28,10 @@ with_motion (motions.Cycle hole) s = with_modes (record s.modes { motion = motio
 with_motion code s = unseries (with_modes (record s.modes { motion = code }) s)
 
 abbrev pub stop : Stopping → State → Result State Fault
-stop stops.Stop s = emit (commands.Stop s.line) s
-stop stops.OptionalStop s = emit (commands.OptionalStop s.line) s
+stop stops.Stop s = emit actions.Stop s
+stop stops.OptionalStop s = emit actions.OptionalStop s
 stop stops.End s = do
-  t ← emit (commands.End s.line) s
+  t ← emit actions.End s
   Ok (record t { ended = true })
 
 abbrev pub perform : Setup → Effect → State → Result State Fault
@@ -42,8 +42,8 @@ perform setup (acts.SelectTool n) s = Ok (record s { selected = n })
 perform setup acts.ChangeTool s = change_tool setup.tools s.selected s
 perform setup (acts.Spindle code) s = set_spindle code s
 perform setup (acts.Coolant code) s = set_coolant code s
-perform setup (acts.Override on) s = emit (commands.Override s.line on) s
-perform setup (acts.Dwell value) s = emit (commands.Dwell s.line (unsigned_abs value)) s
+perform setup (acts.Override on) s = emit (actions.Override on) s
+perform setup (acts.Dwell value) s = emit (actions.Dwell (unsigned_abs value)) s
 perform setup (acts.Plane plane) s = Ok (unseries (with_modes (record s.modes { plane = plane }) s))
 perform setup (acts.Units units) s = Ok (with_modes (record s.modes { units = units }) s)
 perform setup acts.RadiusOff s = Ok s

@@ -3,18 +3,18 @@ use Rattle.std.specs.Prelude.{◌≡◌, ℤ, List, [], ◌∷◌, ◌++◌}
 use Rattle.ngc_fixed_length.specs.declared.points.StepPos.{StepPos}
 use Rattle.ngc_fixed_length.specs.LinePath.{point, IsLinePath}
 use Rattle.ngc_arc_geometry.specs.ArcPath.{IsArcPath}
-use Rattle.ngc_canonical.specs.declared.movement.Motion.{Motion}
-use Rattle.ngc_canonical.specs.declared.movement.Motion.TheVariants.{Straight, Along}
+use Rattle.ngc_canonical.specs.declared.movement.Way.{Way}
+use Rattle.ngc_canonical.specs.declared.movement.Way.TheVariants.{Line, Arc}
 
--- the paths that a motion may take: those that follow it
-abbrev pub IsPathOf : ℤ → Motion → List StepPos → Type 0
-IsPathOf step (Straight start end) path = IsLinePath step start end path
-IsPathOf step (Along arc) path = IsArcPath step arc path
+-- the paths that a motion may take: those that follow its way
+abbrev pub IsPathOf : ℤ → Way → List StepPos → Type 0
+IsPathOf step (Line start end) path = IsLinePath step start end path
+IsPathOf step (Arc arc) path = IsArcPath step arc path
 
--- one path for each motion, in order, joined at their common ends, from the grid point p on
-abbrev pub IsPathOfAll : ℤ → StepPos → List Motion → List StepPos → Type 0
+-- one path for each way, in order, joined at their common ends, from the grid point p on
+abbrev pub IsPathOfAll : ℤ → StepPos → List Way → List StepPos → Type 0
 IsPathOfAll step p [] path = path ≡ p ∷ []
-IsPathOfAll step p (m ∷ ms) path =
+IsPathOfAll step p (w ∷ ws) path =
     (first : List StepPos) × (q : StepPos) × (rest : List StepPos) ×
-    IsPathOf step m (first ++ q ∷ []) × (point (first ++ q ∷ []) 0 ≡ p) ×
-    IsPathOfAll step q ms rest × (path ≡ first ++ rest)
+    IsPathOf step w (first ++ q ∷ []) × (point (first ++ q ∷ []) 0 ≡ p) ×
+    IsPathOfAll step q ws rest × (path ≡ first ++ rest)

@@ -8,7 +8,7 @@ use Rattle.ngc_modal_state.specs.declared.code.Coolant.TheVariants as coolant
 use Rattle.ngc_modal_state.specs.declared.code.Spindle.{Spindle}
 use Rattle.ngc_modal_state.specs.declared.code.Spindle.TheVariants as spindle
 use Rattle.ngc_offsets.specs.declared.fault.FrameFault.TheVariants.{NoSuchTool}
-use Rattle.ngc_canonical.specs.declared.command.Command.TheVariants as commands
+use Rattle.ngc_canonical.specs.declared.command.Action.TheVariants as actions
 use Rattle.ngc_canonical.specs.declared.command.CoolantState.{CoolantState}
 use Rattle.ngc_canonical.specs.declared.command.CoolantState.TheVariants.{Off, Mist, Flood, Both}
 use Rattle.ngc_canonical.specs.declared.command.SpindleState.{SpindleState}
@@ -24,7 +24,7 @@ spindle_state (Some turn) speed = turning.Turning turn speed
 -- S gives a command at once while the spindle turns
 abbrev pub tell_speed : Option Turn → State → Result State Fault
 tell_speed None s = Ok s
-tell_speed (Some turn) s = emit (commands.Spindle s.line (turning.Turning turn s.speed)) s
+tell_speed (Some turn) s = emit (actions.Spindle (turning.Turning turn s.speed)) s
 
 abbrev pub set_speed : ℤ → State → Result State Fault
 set_speed v s = tell_speed s.spindle (record s { speed = unsigned_abs v })
@@ -34,11 +34,11 @@ turn_of (spindle.Start turn) = Some turn
 turn_of spindle.Stop = None
 
 abbrev pub set_spindle : Spindle → State → Result State Fault
-set_spindle code s = emit (commands.Spindle s.line (spindle_state (turn_of code) s.speed)) (record s { spindle = turn_of code })
+set_spindle code s = emit (actions.Spindle (spindle_state (turn_of code) s.speed)) (record s { spindle = turn_of code })
 
 -- M6 mounts the selected tool, or none, and leaves the spindle off
 abbrev pub mount : Option Tool → State → Result State Fault
-mount tool s = emit (commands.Tool s.line tool) (record s { spindle = None })
+mount tool s = emit (actions.Mount tool) (record s { spindle = None })
 
 abbrev pub mount_found : Option Tool → State → Result State Fault
 mount_found None s = Err (Frame NoSuchTool)
@@ -68,4 +68,4 @@ with_coolant coolant.Flood had = with_flood had
 with_coolant coolant.Off had = Off
 
 abbrev pub set_coolant : Coolant → State → Result State Fault
-set_coolant code s = let now = with_coolant code s.coolant in emit (commands.Coolant s.line now) (record s { coolant = now })
+set_coolant code s = let now = with_coolant code s.coolant in emit (actions.Coolant now) (record s { coolant = now })

@@ -9,13 +9,18 @@ use Rattle.ngc_modal_state.specs.Start.{start_modes}
 use Rattle.ngc_offsets.specs.Offsets.{Offsets}
 use Rattle.ngc_offsets.specs.Frames.{start_frames}
 use Rattle.ngc_parameters.specs.Meaning.{Parameters}
+use Rattle.ngc_canonical.specs.declared.command.Action.{Action}
+use Rattle.ngc_canonical.specs.declared.command.Action.TheVariants.{Move}
 use Rattle.ngc_canonical.specs.declared.command.Command.{Command}
-use Rattle.ngc_canonical.specs.declared.command.Command.TheVariants.{Traverse}
 use Rattle.ngc_canonical.specs.declared.command.CoolantState.{CoolantState}
 use Rattle.ngc_canonical.specs.declared.command.CoolantState.TheVariants.{Off}
 use Rattle.ngc_canonical.specs.declared.fault.Fault.{Fault}
+use Rattle.ngc_canonical.specs.declared.movement.Motion.{Motion}
+use Rattle.ngc_canonical.specs.declared.movement.Pace.TheVariants.{Rapid}
+use Rattle.ngc_canonical.specs.declared.movement.Way.TheVariants.{Line}
 use Rattle.ngc_canonical.specs.declared.state.Kept.{Kept}
 use Rattle.ngc_canonical.specs.declared.fault.Fault.TheVariants.{TooManyCommands}
+use Rattle.ngc_canonical.specs.Movement.{end_of}
 use Rattle.ngc_canonical.specs.Steps.{◌>>=◌}
 
 -- the machine and its tools
@@ -71,9 +76,12 @@ start_state machine = record {
 abbrev pub COMMAND_LIMIT : ℕ
 COMMAND_LIMIT = 1000000
 
--- one command more
-abbrev pub emit : Command → State → Result State Fault
-emit command s = if nat_lt (length s.commands) COMMAND_LIMIT then Ok (record s { commands = s.commands ++ (command ∷ []) }) else Err TooManyCommands
+-- one command more, of the line that is executed
+abbrev pub with_command : Action → State → State
+with_command action s = record s { commands = s.commands ++ record { line = s.line; action = action } ∷ [] }
+
+abbrev pub emit : Action → State → Result State Fault
+emit action s = if nat_lt (length s.commands) COMMAND_LIMIT then Ok (with_command action s) else Err TooManyCommands
 
 -- a change of frames, plane or tool length, and a motion code that is no cycle, end the series of cycles
 abbrev pub unseries : State → State
@@ -82,8 +90,12 @@ unseries s = record s { series = None }
 abbrev pub at_place : Point3 → State → State
 at_place end s = record s { place = end }
 
+-- a motion, after which the axes stand at its end
+abbrev pub go : Motion → State → Result State Fault
+go motion s = do
+  t ← emit (Move motion) s
+  Ok (at_place (end_of motion.way) t)
+
 -- a traverse to a place of the machine
 abbrev pub traverse_to : Point3 → State → Result State Fault
-traverse_to end s = do
-  t ← emit (Traverse s.line s.place end) s
-  Ok (at_place end t)
+traverse_to end s = go (record { way = Line s.place end; pace = Rapid }) s

@@ -6,9 +6,9 @@ ghost use Rattle.ngc_canonical.specs.Steps.{faulted};
 ghost use Rattle.ngc_canonical.specs.Interpreter.{state_of, Becomes};
 ghost use Rattle.ngc_canonical.specs.Arcs.{has_plane_word as has_word, along_u as on_u, along_v as on_v, arc_by as arc_given, arc_of as arc_said, arc as arc_done};
 
-use crate::command::Command;
 use crate::fault::Fault;
 use crate::motions::feed_in;
+use crate::movement::{Motion, Pace, Way};
 use crate::places::word_length;
 use crate::state::{Interpreter, Refusal};
 use ngc_arc_geometry::{Arc, ArcFault, Ends, Offsets};
@@ -130,13 +130,9 @@ impl<A: Allocator + Copy> Interpreter<A> {
             Ok(arc) => arc,
             Err(fault) => return Err(Refusal::Breaks(fault)),
         };
-        let line = self.line;
-        match self.emit(Command::Arc { line, arc, feed }) {
-            Ok(()) => {
-                self.stand_at(&arc.end());
-                Ok(())
-            }
-            Err(refusal) => Err(refusal),
-        }
+        self.go(Motion {
+            way: Way::Arc(arc),
+            pace: Pace::Feed(feed),
+        })
     }
 }

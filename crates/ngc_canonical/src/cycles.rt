@@ -11,8 +11,9 @@ ghost use Rattle.ngc_canonical.specs.Interpreter.{state_of, Becomes};
 ghost use Rattle.ngc_canonical.specs.Cycles.{word_u as word_on_u, word_v as word_on_v, kept_after as kept_then, hole_of as hole_with, cycle_of as cycle_said, start_of as start_said, series_of as series_said, series_place as series_place_said, feed_to as fed_to, make_move as move_made, make_moves as moves_made, all_moves, refusal as refused, cycle as cycle_done};
 ghost use Rattle.ngc_modal_state.specs.Use.{depth_word as word_on_depth};
 
-use crate::command::{Command, Feed, SpindleState};
+use crate::command::{Action, SpindleState};
 use crate::fault::Fault;
+use crate::movement::{Feed, Motion, Pace, Way};
 use crate::places::word_length;
 use crate::spindle::spindle_state;
 use crate::state::{Interpreter, Kept, Refusal};
@@ -169,19 +170,13 @@ impl<A: Allocator + Copy> Interpreter<A> {
         ensures value { Becomes result (state_of self.new) (fed_to end.now (state_of self.old)) }
         ensures frames { OnOk result ((state_of self.new).frames ≡ (state_of self.old).frames) }
     {
-        let command = Command::Feed {
-            line: self.line,
-            start: self.place,
-            end: *end,
-            feed: Feed::PerMinute(self.feed),
-        };
-        match self.emit(command) {
-            Ok(()) => {
-                self.stand_at(end);
-                Ok(())
-            }
-            Err(refusal) => Err(refusal),
-        }
+        self.go(Motion {
+            way: Way::Line {
+                start: self.place,
+                end: *end,
+            },
+            pace: Pace::Feed(Feed::PerMinute(self.feed)),
+        })
     }
 
     fn make_move(&mut self, step: &CycleMove) -> Result<(), Refusal>
@@ -189,7 +184,6 @@ impl<A: Allocator + Copy> Interpreter<A> {
         ensures value { Becomes result (state_of self.new) (move_made step.now (state_of self.old)) }
         ensures frames { OnOk result ((state_of self.new).frames ≡ (state_of self.old).frames) }
     {
-        let line = self.line;
         match step {
             CycleMove::Traverse(place) => {
                 let end = self.machine_place(place);
@@ -201,16 +195,13 @@ impl<A: Allocator + Copy> Interpreter<A> {
             }
             CycleMove::Dwell(value) => {
                 let millionths = value.millionths().unsigned_abs();
-                self.emit(Command::Dwell { line, millionths })
+                self.emit(Action::Dwell(millionths))
             }
-            CycleMove::StopSpindle => self.emit(Command::Spindle {
-                line,
-                state: SpindleState::Off,
-            }),
-            CycleMove::StartSpindle => self.emit(Command::Spindle {
-                line,
-                state: spindle_state(self.spindle, self.speed),
-            }),
+            CycleMove::StopSpindle => self.emit(Action::Spindle(SpindleState::Off)),
+            CycleMove::StartSpindle => self.emit(Action::Spindle(spindle_state(
+                self.spindle,
+                self.speed,
+            ))),
         }
     }
 

@@ -2,11 +2,13 @@
 ghost use Rattle.std.specs.Prelude.{◌≡◌, IfOk, OnOk};
 ghost use Rattle.ngc_machine.specs.Machine.{file_of};
 ghost use Rattle.ngc_offsets.specs.Ranges.{IsMachinePlace};
-ghost use Rattle.ngc_canonical.specs.State.{emit as emitted, start_state, traverse_to as traversed_to};
+ghost use Rattle.ngc_canonical.specs.State.{emit as emitted, go as gone, start_state, traverse_to as traversed_to};
 ghost use Rattle.ngc_canonical.specs.Interpreter.{state_of, Becomes};
+ghost use Rattle.ngc_canonical.specs.Movement.{end_of};
 
-use crate::command::{Command, CoolantState};
+use crate::command::{Action, Command, CoolantState};
 use crate::fault::Fault;
+use crate::movement::{Motion, Pace, Way};
 use crate::state::{Interpreter, Kept, Refusal};
 use ngc_fixed_length::{Nm, Point3, Value};
 use ngc_machine::Machine;
@@ -51,14 +53,18 @@ impl<A: Allocator> Interpreter<A> {
         })
     }
 
-    /// One command more.
-    pub(crate) fn emit(&mut self, command: Command) -> Result<(), Refusal>
-        ensures value { Becomes result (state_of self.new) (emitted command (state_of self.old)) }
+    /// One command more, of the line that is executed.
+    pub(crate) fn emit(&mut self, action: Action) -> Result<(), Refusal>
+        ensures value { Becomes result (state_of self.new) (emitted action (state_of self.old)) }
         ensures frames { OnOk result ((state_of self.new).frames ≡ (state_of self.old).frames) }
     {
         if self.commands.len() >= COMMANDS {
             return Err(Refusal::Breaks(Fault::TooManyCommands));
         }
+        let command = Command {
+            line: self.line,
+            action,
+        };
         match self.commands.push(command) {
             Ok(()) => Ok(()),
             Err(_) => Err(Refusal::Memory),
@@ -73,24 +79,34 @@ impl<A: Allocator> Interpreter<A> {
         self.place = *place;
     }
 
+    /// A motion, after which the axes stand at its end.
+    pub(crate) fn go(&mut self, motion: Motion) -> Result<(), Refusal>
+        requires { IsMachinePlace (end_of motion.way) }
+        ensures value { Becomes result (state_of self.new) (gone motion (state_of self.old)) }
+        ensures frames { OnOk result ((state_of self.new).frames ≡ (state_of self.old).frames) }
+    {
+        match self.emit(Action::Move(motion)) {
+            Ok(()) => {
+                self.stand_at(&motion.way.end());
+                Ok(())
+            }
+            Err(refusal) => Err(refusal),
+        }
+    }
+
     /// A traverse to a place of the machine.
     pub(crate) fn traverse_to(&mut self, end: &Point3) -> Result<(), Refusal>
         requires { IsMachinePlace end.now }
         ensures value { Becomes result (state_of self.new) (traversed_to end.now (state_of self.old)) }
         ensures frames { OnOk result ((state_of self.new).frames ≡ (state_of self.old).frames) }
     {
-        let command = Command::Traverse {
-            line: self.line,
-            start: self.place,
-            end: *end,
-        };
-        match self.emit(command) {
-            Ok(()) => {
-                self.stand_at(end);
-                Ok(())
-            }
-            Err(refusal) => Err(refusal),
-        }
+        self.go(Motion {
+            way: Way::Line {
+                start: self.place,
+                end: *end,
+            },
+            pace: Pace::Rapid,
+        })
     }
 
     /// The commands.

@@ -15,8 +15,8 @@ mod program;
 mod spindle;
 mod state;
 
-pub use command::{Command, CoolantState, Feed, SpindleState};
+pub use command::{Action, Command, CoolantState, SpindleState};
 pub use fault::{Fault, ProgramFault};
-pub use movement::{Doing, Motion};
+pub use movement::{Feed, Motion, Pace, Way};
 pub use ngc_machine::{FileFault, Fixture, Machine, Tool, Tools, row_machine};
 pub use program::interpret;

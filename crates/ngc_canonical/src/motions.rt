@@ -2,10 +2,10 @@
 ghost use Rattle.std.specs.Prelude.{◌≡◌};
 ghost use Rattle.ngc_canonical.specs.Interpreter.{state_of, Becomes};
 ghost use Rattle.ngc_canonical.specs.Motions.{traverse as traversed, nonzero as nonzero_feed, inverse_feed as inverse, feed_in as feed_by, straight as moved_straight};
-ghost use Rattle.ngc_canonical.specs.declared.command.Feed.TheVariants as feeds;
+ghost use Rattle.ngc_canonical.specs.declared.movement.Feed.TheVariants as feeds;
 
-use crate::command::{Command, Feed};
 use crate::fault::Fault;
+use crate::movement::{Feed, Motion, Pace, Way};
 use crate::state::{Interpreter, Refusal};
 use ngc_fixed_length::{FeedMode, Value};
 use ngc_modal_state::AxisWords;
@@ -56,18 +56,10 @@ impl<A: Allocator> Interpreter<A> {
             Ok(end) => end,
             Err(fault) => return Err(Refusal::Breaks(fault)),
         };
-        let command = Command::Feed {
-            line: self.line,
-            start: self.place,
-            end,
-            feed,
-        };
-        match self.emit(command) {
-            Ok(()) => {
-                self.stand_at(&end);
-                Ok(())
-            }
-            Err(refusal) => Err(refusal),
-        }
+        let start = self.place;
+        self.go(Motion {
+            way: Way::Line { start, end },
+            pace: Pace::Feed(feed),
+        })
     }
 }

@@ -1,62 +1,47 @@
 ghost use Rattle.std.specs.Prelude.{◌≡◌};
 
-use crate::command::Command;
 use ngc_arc_geometry::Arc;
 use ngc_fixed_length::Point3;
-use ngc_machine::Tool;
 
-/// A way of the axes, in nanometres of the machine: straight from start to end, or along an arc.
+/// The feed of a motion: nanometres a minute, or in inverse time how often a minute the motion could be made, in millionths.
 #[derive(Clone, Copy, Debug, PartialEq, Eq)]
-pub enum Motion {
-    Straight { start: Point3, end: Point3 },
-    Along(Arc),
+pub enum Feed {
+    PerMinute(u64),
+    Inverse(u64),
 }
 
-/// What a command does to the axes and to the tool: it moves the axes, or mounts a tool or none, or does neither.
+/// How fast a motion goes: at the greatest rate (G0, G28, G30), or at a feed (G1, G2, G3).
 #[derive(Clone, Copy, Debug, PartialEq, Eq)]
-pub enum Doing {
-    Moves(Motion),
-    Mounts(Option<Tool>),
-    Stays,
+pub enum Pace {
+    Rapid,
+    Feed(Feed),
 }
 
-impl Motion {
+/// The way of the axes, in nanometres of the machine before they are rounded to the grid: straight from start to end, or
+/// along an arc or a helix.
+#[derive(Clone, Copy, Debug, PartialEq, Eq)]
+pub enum Way {
+    Line { start: Point3, end: Point3 },
+    Arc(Arc),
+}
+
+/// A motion: the way of the axes, and its pace.
+#[derive(Clone, Copy, Debug, PartialEq, Eq)]
+pub struct Motion {
+    pub way: Way,
+    pub pace: Pace,
+}
+
+impl Way {
     ghost use Rattle.ngc_canonical.specs.Movement.{end_of};
 
-    /// Where the motion ends.
+    /// Where the way ends.
     pub fn end(&self) -> Point3
         ensures { result ≡ end_of self.now }
     {
         match self {
-            Motion::Straight { end, .. } => *end,
-            Motion::Along(arc) => arc.end(),
-        }
-    }
-}
-
-impl Command {
-    ghost use Rattle.ngc_canonical.specs.Movement.{doing};
-
-    /// What the command does to the axes and to the tool.
-    pub fn doing(&self) -> Doing
-        ensures { result ≡ doing self.now }
-    {
-        match self {
-            Command::Traverse { start, end, .. } | Command::Feed { start, end, .. } => {
-                Doing::Moves(Motion::Straight {
-                    start: *start,
-                    end: *end,
-                })
-            }
-            Command::Arc { arc, .. } => Doing::Moves(Motion::Along(*arc)),
-            Command::Tool { tool, .. } => Doing::Mounts(*tool),
-            Command::Dwell { .. }
-            | Command::Spindle { .. }
-            | Command::Coolant { .. }
-            | Command::Override { .. }
-            | Command::Stop { .. }
-            | Command::OptionalStop { .. }
-            | Command::End { .. } => Doing::Stays,
+            Way::Line { end, .. } => *end,
+            Way::Arc(arc) => arc.end(),
         }
     }
 }

@@ -3,7 +3,7 @@ ghost use Rattle.std.specs.Prelude.{◌≡◌};
 ghost use Rattle.ngc_canonical.specs.Interpreter.{setup_of, state_of, Becomes};
 ghost use Rattle.ngc_canonical.specs.Perform.{with_motion, stop as stopped, perform as performed, run as run_through};
 
-use crate::command::Command;
+use crate::command::Action;
 use crate::state::{Interpreter, Refusal};
 use ngc_machine::{Machine, Tools};
 use ngc_modal_state::{Effect, Motion, Stopping};
@@ -23,11 +23,10 @@ impl<A: Allocator + Copy> Interpreter<A> {
     fn stop(&mut self, stopping: Stopping) -> Result<(), Refusal>
         ensures { Becomes result (state_of self.new) (stopped stopping (state_of self.old)) }
     {
-        let line = self.line;
         match stopping {
-            Stopping::Stop => self.emit(Command::Stop { line }),
-            Stopping::OptionalStop => self.emit(Command::OptionalStop { line }),
-            Stopping::End => match self.emit(Command::End { line }) {
+            Stopping::Stop => self.emit(Action::Stop),
+            Stopping::OptionalStop => self.emit(Action::OptionalStop),
+            Stopping::End => match self.emit(Action::End) {
                 Ok(()) => {
                     self.ended = true;
                     Ok(())
@@ -45,7 +44,6 @@ impl<A: Allocator + Copy> Interpreter<A> {
     ) -> Result<(), Refusal>
         ensures { Becomes result (state_of self.new) (performed (setup_of machine.now tools.now) effect.now (state_of self.old)) }
     {
-        let line = self.line;
         match effect {
             Effect::FeedMode(mode) => self.modes.feed_mode = *mode,
             Effect::Feed { value, units } => self.feed = value.nanometres(*units).unsigned_abs(),
@@ -54,10 +52,10 @@ impl<A: Allocator + Copy> Interpreter<A> {
             Effect::ChangeTool => return self.change_tool(tools),
             Effect::Spindle(code) => return self.set_spindle(*code),
             Effect::Coolant(code) => return self.set_coolant(*code),
-            Effect::Override(on) => return self.emit(Command::Override { line, on: *on }),
+            Effect::Override(on) => return self.emit(Action::Override(*on)),
             Effect::Dwell(value) => {
                 let millionths = value.millionths().unsigned_abs();
-                return self.emit(Command::Dwell { line, millionths });
+                return self.emit(Action::Dwell(millionths));
             }
             Effect::Plane(plane) => self.set_plane(*plane),
             Effect::Units(units) => self.modes.units = *units,

@@ -9,10 +9,10 @@ ghost use Rattle.ngc_machine.specs.Machine.{file_of};
 ghost use Rattle.ngc_parameters.specs.Stored.{pairs_of, changes_of};
 ghost use Rattle.ngc_canonical.specs.Meaning.{effects_of as effects_in, execute as executed, with_settings, after_line, past_last, commands_of, GivesMeaning, GivesEffects, meaning, program_said, mark_of as marked_at};
 ghost use Rattle.ngc_canonical.specs.Interpreter.{setup_of, state_of, Becomes, BecomesAt};
-ghost use Rattle.ngc_canonical.specs.Movement.{doings, motions_of, AreJoined};
+ghost use Rattle.ngc_canonical.specs.Movement.{actions_of, ways_of, AreJoined};
 ghost use Rattle.ngc_canonical.specs.Joined.{HaveEvenRadii, EndIsLast};
 
-use crate::command::Command;
+use crate::command::{Action, Command};
 use crate::fault::{Fault, ProgramFault};
 use crate::state::{Interpreter, Refusal};
 use arrayvec::ArrayVec;
@@ -124,7 +124,8 @@ impl<A: Allocator + Copy> Interpreter<A> {
                 fault: Fault::NoEnd,
             });
         };
-        match self.emit(Command::End { line }) {
+        self.at(line);
+        match self.emit(Action::End) {
             Ok(()) => Ok(self.into_commands()),
             Err(Refusal::Breaks(fault)) => Err(ProgramFault::At { line, fault }),
             Err(Refusal::Memory) => Err(ProgramFault::Memory),
@@ -158,9 +159,9 @@ pub fn interpret<A: Allocator + Copy>(
     // Whatever the lines' readings are (each line has one, and only one), the answer is what they mean.
     ensures commands { (rs : List Reading) → AreReadings (text_in program.now).lines rs → GivesMeaning (λ v. v.items) result (meaning (program_said (text_in program.now) rs) (setup_of machine.now tools.now) block_delete) }
     // The first motion begins at the machine's start point, and each further one where the motion before it ends.
-    ensures joined { IfOk result (λ v. AreJoined (file_of machine.now).start (motions_of (doings v.items))) }
+    ensures joined { IfOk result (λ v. AreJoined (file_of machine.now).start (ways_of (actions_of v.items))) }
     // Each arc has some radius, in range, and nearly the same at both ends.
-    ensures radii { IfOk result (λ v. HaveEvenRadii (motions_of (doings v.items))) }
+    ensures radii { IfOk result (λ v. HaveEvenRadii (ways_of (actions_of v.items))) }
     ensures count { IfOk result (λ v. length v.items ≤ 1000000) }
     // Nothing comes after the end.
     ensures ended { IfOk result (λ v. EndIsLast v.items) }

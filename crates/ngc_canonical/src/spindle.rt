@@ -4,7 +4,7 @@ ghost use Rattle.ngc_machine.specs.Tools.{tools_of};
 ghost use Rattle.ngc_canonical.specs.Interpreter.{state_of, Becomes};
 ghost use Rattle.ngc_canonical.specs.Spindle.{spindle_state as state_said, set_speed as speed_set, turn_of as turn_said, set_spindle as spindle_set, mount as mounted, change_tool as tool_changed, with_coolant as coolant_with, set_coolant as coolant_set};
 
-use crate::command::{Command, CoolantState, SpindleState};
+use crate::command::{Action, CoolantState, SpindleState};
 use crate::fault::Fault;
 use crate::state::{Interpreter, Refusal};
 use ngc_fixed_length::{Turn, Value};
@@ -50,10 +50,7 @@ impl<A: Allocator> Interpreter<A> {
         self.speed = value.millionths().unsigned_abs();
         match self.spindle {
             None => Ok(()),
-            Some(turn) => self.emit(Command::Spindle {
-                line: self.line,
-                state: SpindleState::Turning(turn, self.speed),
-            }),
+            Some(turn) => self.emit(Action::Spindle(SpindleState::Turning(turn, self.speed))),
         }
     }
 
@@ -62,20 +59,14 @@ impl<A: Allocator> Interpreter<A> {
         ensures { Becomes result (state_of self.new) (spindle_set code (state_of self.old)) }
     {
         self.spindle = turn_of(code);
-        self.emit(Command::Spindle {
-            line: self.line,
-            state: spindle_state(self.spindle, self.speed),
-        })
+        self.emit(Action::Spindle(spindle_state(self.spindle, self.speed)))
     }
 
     fn mount(&mut self, tool: Option<Tool>) -> Result<(), Refusal>
         ensures { Becomes result (state_of self.new) (mounted tool (state_of self.old)) }
     {
         self.spindle = None;
-        self.emit(Command::Tool {
-            line: self.line,
-            tool,
-        })
+        self.emit(Action::Mount(tool))
     }
 
     /// M6: mounts the selected tool, or none; 222 where the table doesn't have it.
@@ -96,9 +87,6 @@ impl<A: Allocator> Interpreter<A> {
         ensures { Becomes result (state_of self.new) (coolant_set code (state_of self.old)) }
     {
         self.coolant = with_coolant(code, self.coolant);
-        self.emit(Command::Coolant {
-            line: self.line,
-            state: self.coolant,
-        })
+        self.emit(Action::Coolant(self.coolant))
     }
 }

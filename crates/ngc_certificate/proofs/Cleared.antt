@@ -8,7 +8,7 @@ use Rattle.ngc_fixed_length.specs.Length.{IsStep}
 use Rattle.ngc_machine.specs.Machine.{MachineFile}
 use Rattle.ngc_machine.specs.Ranges.{IsTravel}
 use Rattle.ngc_machine.specs.declared.tools.Tool.{Tool}
-use Rattle.ngc_canonical.specs.declared.movement.Motion.{Motion}
+use Rattle.ngc_canonical.specs.declared.movement.Way.{Way}
 use Rattle.ngc_certificate_text.specs.declared.piece.Piece.{Piece}
 use Rattle.ngc_certificate_text.specs.Certificate.{IsEntry, good_piece}
 use Rattle.ngc_certificate.specs.PieceFault.{pieces_fault, ArePiecesValid}
@@ -77,36 +77,36 @@ at_most c h = grind (arith, nat_tests)
 
 -- ---- what clears
 
-abbrev IsCleared : MachineFile → ℕ → Option Tool → Motion → List Piece → Type 0
-IsCleared machine most tool m pieces = Found (pieces_of machine.step m) (is_clear_in machine tool m) is_count pieces
+abbrev IsCleared : MachineFile → ℕ → Option Tool → Way → List Piece → Type 0
+IsCleared machine most tool w pieces = Found (pieces_of machine.step w) (is_clear_in machine tool w) is_count pieces
 
-cleared_is : (machine : MachineFile) (most : ℕ) (tool : Option Tool) (m : Motion) (pieces : List Piece) → 1 ≤ most → most ≤ 65535 →
-    cleared machine most tool m ≡ Some pieces → IsCleared machine most tool m pieces
-cleared_is machine most tool m pieces least greatest h =
-    found_in (pieces_of machine.step m) (is_clear_in machine tool m) is_count (tries most) pieces (counts most least greatest) h
+cleared_is : (machine : MachineFile) (most : ℕ) (tool : Option Tool) (w : Way) (pieces : List Piece) → 1 ≤ most → most ≤ 65535 →
+    cleared machine most tool w ≡ Some pieces → IsCleared machine most tool w pieces
+cleared_is machine most tool w pieces least greatest h =
+    found_in (pieces_of machine.step w) (is_clear_in machine tool w) is_count (tries most) pieces (counts most least greatest) h
 
 pub none_of : {A : Type 0} (o : Option A) → is_none o ≡ true → o ≡ None
 none_of None h = refl
 none_of (Some x) h = absurd (no_truth h)
 
-pub cleared_valid : (machine : MachineFile) (most : ℕ) (tool : Option Tool) (m : Motion) (pieces : List Piece) → 1 ≤ most → most ≤ 65535 →
-    cleared machine most tool m ≡ Some pieces → ArePiecesValid machine tool m pieces
-cleared_valid machine most tool m pieces least greatest h =
-    let c = cleared_is machine most tool m pieces least greatest h in
-    subst (ArePiecesValid machine tool m) (sym c.made)
-    (pieces_valid machine tool m (pieces_of machine.step m c.count) (none_of (pieces_fault machine tool m (pieces_of machine.step m c.count)) c.passes))
+pub cleared_valid : (machine : MachineFile) (most : ℕ) (tool : Option Tool) (w : Way) (pieces : List Piece) → 1 ≤ most → most ≤ 65535 →
+    cleared machine most tool w ≡ Some pieces → ArePiecesValid machine tool w pieces
+cleared_valid machine most tool w pieces least greatest h =
+    let c = cleared_is machine most tool w pieces least greatest h in
+    subst (ArePiecesValid machine tool w) (sym c.made)
+    (pieces_valid machine tool w (pieces_of machine.step w c.count) (none_of (pieces_fault machine tool w (pieces_of machine.step w c.count)) c.passes))
 
 -- an entry that a certificate may hold
-pub cleared_entry : (machine : MachineFile) (most k : ℕ) (tool : Option Tool) (m : Motion) (pieces : List Piece) → IsStep machine.step → IsTravel machine.step machine.low machine.high machine.start →
-    k ≤ 999999 → 1 ≤ most → most ≤ 65535 → cleared machine most tool m ≡ Some pieces → IsEntry (record { index = k; pieces = pieces })
-cleared_entry machine most k tool m pieces step travel index least greatest h =
-    let c = cleared_is machine most tool m pieces least greatest h in
-    let valid = pieces_valid machine tool m (pieces_of machine.step m c.count) (none_of (pieces_fault machine tool m (pieces_of machine.step m c.count)) c.passes) in
+pub cleared_entry : (machine : MachineFile) (most k : ℕ) (tool : Option Tool) (w : Way) (pieces : List Piece) → IsStep machine.step → IsTravel machine.step machine.low machine.high machine.start →
+    k ≤ 999999 → 1 ≤ most → most ≤ 65535 → cleared machine most tool w ≡ Some pieces → IsEntry (record { index = k; pieces = pieces })
+cleared_entry machine most k tool w pieces step travel index least greatest h =
+    let c = cleared_is machine most tool w pieces least greatest h in
+    let valid = pieces_valid machine tool w (pieces_of machine.step w c.count) (none_of (pieces_fault machine tool w (pieces_of machine.step w c.count)) c.passes) in
     let lower = at_least c.count c.fits in
     let upper = at_most c.count c.fits in
     record {
       index = index;
-      some = subst (λ (ps : List Piece). 1 ≤ length ps) (sym c.made) (some machine.step m c.count lower);
-      count = subst (λ (ps : List Piece). length ps ≤ 65535) (sym c.made) (few machine.step m c.count lower upper);
-      pieces = subst (λ (ps : List Piece). IsTrue (list_all good_piece ps)) (sym c.made) (pieces_good machine tool m c.count step travel lower upper valid);
+      some = subst (λ (ps : List Piece). 1 ≤ length ps) (sym c.made) (some machine.step w c.count lower);
+      count = subst (λ (ps : List Piece). length ps ≤ 65535) (sym c.made) (few machine.step w c.count lower upper);
+      pieces = subst (λ (ps : List Piece). IsTrue (list_all good_piece ps)) (sym c.made) (pieces_good machine tool w c.count step travel lower upper valid);
     }

@@ -13,7 +13,7 @@ use Rattle.std.specs.Int.{int_min, int_max}
 use Rattle.ngc_fixed_length.specs.Boxes.{IsIn}
 use Rattle.ngc_fixed_length.specs.Grid.{distance}
 use Rattle.ngc_fixed_length.specs.LinePath.{point, FollowsLine, IsLineOf}
-use Rattle.ngc_canonical.specs.declared.movement.Motion.TheVariants.{Straight}
+use Rattle.ngc_canonical.specs.declared.movement.Way.TheVariants.{Line}
 use Rattle.ngc_certificate_text.specs.declared.piece.Cut.{Cut}
 use Rattle.ngc_certificate_text.specs.declared.piece.Cut.TheVariants.{Part, Place}
 use Rattle.ngc_certificate.specs.Chain.{ChainFrom}
@@ -82,8 +82,8 @@ not_true h = cc
 
 -- the pieces from a cut on hold each point that comes no earlier
 from_cut : (g n k : ℕ) (b e : Point3) (p : StepPos) → 0 < n → k ≤ n → 0 < g → OnLine g n k b e p →
-    (several : Bool) (s : ℕ) (cuts : List Cut) → s * n ≤ 65536 * k → ChainFrom (Straight b e) several (Part s) cuts →
-    Any (λ bounds. IsIn bounds p) (boxes_from (pos g) (Straight b e) several (Part s) cuts)
+    (several : Bool) (s : ℕ) (cuts : List Cut) → s * n ≤ 65536 * k → ChainFrom (Line b e) several (Part s) cuts →
+    Any (λ bounds. IsIn bounds p) (boxes_from (pos g) (Line b e) several (Part s) cuts)
 from_cut g n k b e p zn kn zg h several s [] c chain = absurd chain
 from_cut g n k b e p zn kn zg h several s (Part t ∷ []) c chain =
     let w = whole_at_last s t chain in
@@ -92,9 +92,9 @@ from_cut g n k b e p zn kn zg h several s (Part t ∷ []) c chain =
 from_cut g n k b e p zn kn zg h several s (Place q ∷ []) c chain = absurd (not_true chain)
 from_cut g n k b e p zn kn zg h several s (Part t ∷ next ∷ cuts) c chain =
     elim (cases_lt (t * n) (65536 * k)) [
-      | inl later ↦ any_there (λ bounds. IsIn bounds p) (line_box (pos g) b e s t) (boxes_from (pos g) (Straight b e) several (Part t) (next ∷ cuts))
+      | inl later ↦ any_there (λ bounds. IsIn bounds p) (line_box (pos g) b e s t) (boxes_from (pos g) (Line b e) several (Part t) (next ∷ cuts))
           (from_cut g n k b e p zn kn zg h several t (next ∷ cuts) (omega (arith, later)) chain.1)
-      | inr here ↦ any_here (λ bounds. IsIn bounds p) (line_box (pos g) b e s t) (boxes_from (pos g) (Straight b e) several (Part t) (next ∷ cuts))
+      | inr here ↦ any_here (λ bounds. IsIn bounds p) (line_box (pos g) b e s t) (boxes_from (pos g) (Line b e) several (Part t) (next ∷ cuts))
           (in_piece g n k s t b e p zn zg c here h)
     ]
 from_cut g n k b e p zn kn zg h several s (Place q ∷ next ∷ cuts) c chain = absurd (not_true chain.0)
@@ -131,8 +131,8 @@ line_still g b e path zg l = record {
 
 -- the law, for a line of n moves
 pub covered_line : (g n k : ℕ) (b e : Point3) (several : Bool) (cuts : List Cut) (path : List StepPos) → 0 < g → k ≤ n →
-    IsLineOf (pos g) b e n path → ChainFrom (Straight b e) several (Part 0) cuts →
-    Any (λ bounds. IsIn bounds (point path k)) (boxes_from (pos g) (Straight b e) several (Part 0) cuts)
+    IsLineOf (pos g) b e n path → ChainFrom (Line b e) several (Part 0) cuts →
+    Any (λ bounds. IsIn bounds (point path k)) (boxes_from (pos g) (Line b e) several (Part 0) cuts)
 covered_line g zero zero b e several cuts path zg kn l chain =
     from_cut g 1 0 b e (point path 0) (omega arith) (omega arith) zg (line_still g b e path zg l) several 0 cuts (omega arith) chain
 covered_line g zero (suc k) b e several cuts path zg kn l chain = absurd (omega arith)

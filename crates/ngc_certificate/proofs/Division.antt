@@ -1,8 +1,8 @@
 -- The pieces of a divided motion.
 use Rattle.std.proofs.Common.{◌≡◌, ℕ, zero, suc, ◌+◌, ◌*◌, ◌/◌, ◌≤◌, ℤ, refl, ap, sym, ◌∙◌, List, [], ◌∷◌, ◌++◌, length, arith}
 use Rattle.ngc_fixed_length.specs.declared.points.Point3.{Point3}
-use Rattle.ngc_canonical.specs.declared.movement.Motion.{Motion}
-use Rattle.ngc_canonical.specs.declared.movement.Motion.TheVariants.{Straight, Along}
+use Rattle.ngc_canonical.specs.declared.movement.Way.{Way}
+use Rattle.ngc_canonical.specs.declared.movement.Way.TheVariants.{Line, Arc}
 use Rattle.ngc_certificate_text.specs.declared.piece.Piece.{Piece}
 use Rattle.ngc_certificate.specs.Made.{line_piece, line_pieces_from, pieces_of}
 
@@ -30,9 +30,9 @@ pub next_piece : (step : ℤ) (b e : Point3) (c k : ℕ) →
 next_piece step b e c k =
     let n : k + 1 ≡ suc k = omega arith in
     let z : 0 + k ≡ k = omega arith in
-    ap (λ m. line_pieces_from step b e c 0 m) n
+    ap (λ w. line_pieces_from step b e c 0 w) n
     ∙ one_more step b e c 0 k
-    ∙ ap (λ m. line_pieces_from step b e c 0 k ++ (line_piece_at step b e c m ∷ [])) z
+    ∙ ap (λ w. line_pieces_from step b e c 0 k ++ (line_piece_at step b e c w ∷ [])) z
 
 -- a write of a piece whose cuts are known
 pub piece_added : (step : ℤ) (b e : Point3) (c k s t : ℕ) (before after : List Piece) (p : Piece) →
@@ -41,10 +41,10 @@ pub piece_added : (step : ℤ) (b e : Point3) (c k s t : ℕ) (before after : Li
 piece_added step b e c k s t before after p hs ht hp hb ha = cc (next_piece step b e c k)
 
 -- no more pieces than asked for
-pub few : (step : ℤ) (m : Motion) (c : ℕ) → 1 ≤ c → c ≤ 65535 → length (pieces_of step m c) ≤ 65535
-few step (Straight b e) c some most = rw (count_of step b e c 0 c) most
-few step (Along a) c some most = omega arith
+pub few : (step : ℤ) (w : Way) (c : ℕ) → 1 ≤ c → c ≤ 65535 → length (pieces_of step w c) ≤ 65535
+few step (Line b e) c some most = rw (count_of step b e c 0 c) most
+few step (Arc a) c some most = omega arith
 
-pub some : (step : ℤ) (m : Motion) (c : ℕ) → 1 ≤ c → 1 ≤ length (pieces_of step m c)
-some step (Straight b e) c least = rw (count_of step b e c 0 c) least
-some step (Along a) c least = omega arith
+pub some : (step : ℤ) (w : Way) (c : ℕ) → 1 ≤ c → 1 ≤ length (pieces_of step w c)
+some step (Line b e) c least = rw (count_of step b e c 0 c) least
+some step (Arc a) c least = omega arith

@@ -12,8 +12,8 @@ use Rattle.ngc_arc_geometry.specs.Shape.{ArcShape}
 use Rattle.ngc_machine.specs.Machine.{MachineFile, row_machine}
 use Rattle.ngc_canonical.specs.declared.command.Command.{Command}
 use Rattle.ngc_canonical.specs.declared.command.Command.TheVariants as commands
-use Rattle.ngc_canonical.specs.declared.movement.Motion.{Motion}
-use Rattle.ngc_canonical.specs.declared.movement.Motion.TheVariants.{Straight, Along}
+use Rattle.ngc_canonical.specs.declared.movement.Way.{Way}
+use Rattle.ngc_canonical.specs.declared.movement.Way.TheVariants.{Line, Arc}
 use Rattle.ngc_certificate_text.specs.declared.piece.Cut.TheVariants.{Part, Place}
 use Rattle.ngc_certificate_text.specs.declared.piece.Piece.{Piece}
 use Rattle.ngc_certificate_text.specs.declared.piece.Setting.TheVariants.{Off, On}
@@ -37,8 +37,8 @@ abbrev with_fixture : Point3 → Point3 → MachineFile
 with_fixture low high = record row_machine { fixtures = record { low = low; high = high } ∷ [] }
 
 -- from zero, so far along X
-abbrev along_x : ℤ → Motion
-along_x x = Straight zero_point (point x (pos 0) (pos 0))
+abbrev along_x : ℤ → Way
+along_x x = Line zero_point (point x (pos 0) (pos 0))
 
 abbrev both : List Piece → CertificateData
 both pieces = record { off = record { index = 0; pieces = pieces } ∷ []; on = record { index = 0; pieces = pieces } ∷ [] }
@@ -77,8 +77,8 @@ beyond_the_border = refl
 
 -- ---- a fixture beside a slanted line: undivided it is met, in two pieces it isn't
 
-abbrev slanted : Motion
-slanted = Straight zero_point (point (pos 10000000) (pos 10000000) (pos 0))
+abbrev slanted : Way
+slanted = Line zero_point (point (pos 10000000) (pos 10000000) (pos 0))
 
 abbrev beside : MachineFile
 beside = with_fixture (point (pos 8000000) (pos 0) (negsuc 999999)) (point (pos 10000000) (pos 2000000) (pos 1000000))
@@ -116,11 +116,11 @@ circle = record {
   centre = record { u = pos 40000000; v = pos 50000000 };
 }
 
-circle_pieces : pieces_of (pos 10000) (Along circle) 8 ≡ record { end = Place (record { u = pos 10000000; v = pos 50000000 }); bounds = box (pos 998) (pos 1998) (pos 0) (pos 7002) (pos 8002) (pos 0) } ∷ []
+circle_pieces : pieces_of (pos 10000) (Arc circle) 8 ≡ record { end = Place (record { u = pos 10000000; v = pos 50000000 }); bounds = box (pos 998) (pos 1998) (pos 0) (pos 7002) (pos 8002) (pos 0) } ∷ []
 unfolding whole_root whole_root_above
 circle_pieces = refl
 
-circle_met : pieces_fault (with_fixture (point (pos 38000000) (pos 48000000) (negsuc 49999999)) (point (pos 42000000) (pos 52000000) (pos 10000000))) None (Along circle) (pieces_of (pos 10000) (Along circle) 1) ≡ Some (at_piece 0 (MeetsFixture 0))
+circle_met : pieces_fault (with_fixture (point (pos 38000000) (pos 48000000) (negsuc 49999999)) (point (pos 42000000) (pos 52000000) (pos 10000000))) None (Arc circle) (pieces_of (pos 10000) (Arc circle) 1) ≡ Some (at_piece 0 (MeetsFixture 0))
 unfolding whole_root whole_root_above
 circle_met = refl
 

@@ -20,8 +20,8 @@ use Rattle.ngc_arc_geometry.specs.Swept.{swept_box}
 use Rattle.ngc_machine.specs.Machine.{MachineFile}
 use Rattle.ngc_machine.specs.Ranges.{IsTravel}
 use Rattle.ngc_machine.specs.declared.tools.Tool.{Tool}
-use Rattle.ngc_canonical.specs.declared.movement.Motion.{Motion}
-use Rattle.ngc_canonical.specs.declared.movement.Motion.TheVariants.{Straight, Along}
+use Rattle.ngc_canonical.specs.declared.movement.Way.{Way}
+use Rattle.ngc_canonical.specs.declared.movement.Way.TheVariants.{Line, Arc}
 use Rattle.ngc_collision.specs.Body.{IsSafe}
 use Rattle.ngc_certificate_text.specs.Certificate.{good_piece}
 use Rattle.ngc_certificate.specs.Chain.{stretch, first_cut}
@@ -94,11 +94,11 @@ step_positive : (step : ℤ) → IsStep step → pos 1 ≤ℤ step
 step_positive step h = omega (arith, ints, h.least)
 
 arc_good : (machine : MachineFile) (tool : Option Tool) (a : ArcShape) → IsStep machine.step → IsTravel machine.step machine.low machine.high machine.start →
-    ArePiecesValid machine tool (Along a) (whole_arc machine.step a ∷ []) → IsTrue (good_piece (whole_arc machine.step a))
+    ArePiecesValid machine tool (Arc a) (whole_arc machine.step a ∷ []) → IsTrue (good_piece (whole_arc machine.step a))
 arc_good machine tool a step travel valid =
     let k = end_inside machine.step a step in
     let q = grid machine.step a.end in
-    let safe = safe_in_piece machine tool (Along a) (stretch false true (first_cut (Along a))) (whole_arc machine.step a) q (step_positive machine.step step) valid k in
+    let safe = safe_in_piece machine tool (Arc a) (stretch false true (first_cut (Arc a))) (whole_arc machine.step a) q (step_positive machine.step step) valid k in
     let b = swept_box machine.step a in
     and _ _ (end_within machine tool a.end step travel safe a.plane)
     (and _ _ (le_test b.low.x b.high.x (le_trans b.low.x q.x b.high.x k.x_low k.x_high))
@@ -106,7 +106,7 @@ arc_good machine tool a step travel valid =
 
 -- ---- motions
 
-pub pieces_good : (machine : MachineFile) (tool : Option Tool) (m : Motion) (c : ℕ) → IsStep machine.step → IsTravel machine.step machine.low machine.high machine.start →
-    1 ≤ c → c ≤ 65535 → ArePiecesValid machine tool m (pieces_of machine.step m c) → IsTrue (list_all good_piece (pieces_of machine.step m c))
-pieces_good machine tool (Straight b e) c step travel some most valid = lines_of machine.step b e c step some most
-pieces_good machine tool (Along a) c step travel some most valid = and _ _ (arc_good machine tool a step travel valid) refl
+pub pieces_good : (machine : MachineFile) (tool : Option Tool) (w : Way) (c : ℕ) → IsStep machine.step → IsTravel machine.step machine.low machine.high machine.start →
+    1 ≤ c → c ≤ 65535 → ArePiecesValid machine tool w (pieces_of machine.step w c) → IsTrue (list_all good_piece (pieces_of machine.step w c))
+pieces_good machine tool (Line b e) c step travel some most valid = lines_of machine.step b e c step some most
+pieces_good machine tool (Arc a) c step travel some most valid = and _ _ (arc_good machine tool a step travel valid) refl

@@ -11,9 +11,10 @@ use Rattle.ngc_machine.specs.Machine.{MachineFile}
 use Rattle.ngc_machine.specs.declared.tools.Tool.{Tool}
 use Rattle.ngc_canonical.specs.declared.command.Command.{Command}
 use Rattle.ngc_canonical.specs.declared.movement.Motion.{Motion}
-use Rattle.ngc_canonical.specs.declared.movement.Doing.{Doing}
-use Rattle.ngc_canonical.specs.declared.movement.Doing.TheVariants.{Moves, Mounts, Stays}
-use Rattle.ngc_canonical.specs.Movement.{doings, motion_indices, end_of}
+use Rattle.ngc_canonical.specs.declared.movement.Way.{Way}
+use Rattle.ngc_canonical.specs.declared.command.Action.{Action}
+use Rattle.ngc_canonical.specs.declared.command.Action.TheVariants.{Move, Mount}
+use Rattle.ngc_canonical.specs.Movement.{actions_of, motion_indices, end_of}
 use Rattle.ngc_certificate_text.specs.declared.piece.Piece.{Piece}
 use Rattle.ngc_certificate_text.specs.declared.piece.Setting.{Setting}
 use Rattle.ngc_certificate_text.specs.declared.piece.Setting.TheVariants.{Off, On}
@@ -38,9 +39,9 @@ same_ok x y r h i = cc
 
 -- ---- the entries of a setting, and whether they are valid
 
-record AreMade (machine : MachineFile) (k : ℕ) (tool : Option Tool) (place : Point3) (ds : List Doing) (entries : List Entry) : Type 0 where
-  indices : map (λ entry. entry.index) entries ≡ motion_indices k ds
-  clear : AreClearFrom machine tool place ds entries
+record AreMade (machine : MachineFile) (k : ℕ) (tool : Option Tool) (place : Point3) (actions : List Action) (entries : List Entry) : Type 0 where
+  indices : map (λ entry. entry.index) entries ≡ motion_indices k actions
+  clear : AreClearFrom machine tool place actions entries
 
 -- a motion in front of what is made
 record Fronted (k : ℕ) (pieces : List Piece) (rest : Result (List Entry) ℕ) (entries : List Entry) : Type 0 where
@@ -70,33 +71,33 @@ unmet None k rest entries h = record { none = refl; same = sym h }
 unmet (Some fixture) k rest entries h = absurd (err_ok entries k h)
 
 -- one entry more
-entry_more : (machine : MachineFile) (k : ℕ) (tool : Option Tool) (place : Point3) (m : Motion) (ds : List Doing) (pieces : List Piece) (later entries : List Entry) →
-    ArePiecesValid machine tool m pieces → AreMade machine (k + 1) tool (end_of m) ds later → entries ≡ record { index = k; pieces = pieces } ∷ later →
-    AreMade machine k tool place (Moves m ∷ ds) entries
-entry_more machine k tool place m ds pieces later entries valid rest all =
-    subst (AreMade machine k tool place (Moves m ∷ ds)) (sym all)
+entry_more : (machine : MachineFile) (k : ℕ) (tool : Option Tool) (place : Point3) (m : Motion) (actions : List Action) (pieces : List Piece) (later entries : List Entry) →
+    ArePiecesValid machine tool m.way pieces → AreMade machine (k + 1) tool (end_of m.way) actions later → entries ≡ record { index = k; pieces = pieces } ∷ later →
+    AreMade machine k tool place (Move m ∷ actions) entries
+entry_more machine k tool place m actions pieces later entries valid rest all =
+    subst (AreMade machine k tool place (Move m ∷ actions)) (sym all)
     (record { indices = ap (λ ks. k ∷ ks) rest.indices; clear = (valid, rest.clear) })
 
-are_made : (machine : MachineFile) (most k : ℕ) (tool : Option Tool) (place : Point3) (ds : List Doing) (entries : List Entry) → 1 ≤ most → most ≤ 65535 →
-    made_from machine most k tool place ds ≡ Ok entries → AreMade machine k tool place ds entries
+are_made : (machine : MachineFile) (most k : ℕ) (tool : Option Tool) (place : Point3) (actions : List Action) (entries : List Entry) → 1 ≤ most → most ≤ 65535 →
+    made_from machine most k tool place actions ≡ Ok entries → AreMade machine k tool place actions entries
 are_made machine most k tool place [] entries least greatest h =
     record { indices = ap (map (λ (entry : Entry). entry.index)) (same_ok entries [] (made_from machine most k tool place []) h refl); clear = tt }
-are_made machine most k tool place (Stays ∷ ds) entries least greatest h =
-    let rest = are_made machine most (k + 1) tool place ds entries least greatest h in
-    record { indices = rest.indices; clear = rest.clear }
-are_made machine most k tool place (Mounts new ∷ ds) entries least greatest h =
-    let u = unmet (place_fault machine new (grid machine.step place)) k (made_from machine most (k + 1) new place ds) entries h in
-    let rest = are_made machine most (k + 1) new place ds entries least greatest (sym u.same) in
+are_made machine most k tool place (Mount new ∷ actions) entries least greatest h =
+    let u = unmet (place_fault machine new (grid machine.step place)) k (made_from machine most (k + 1) new place actions) entries h in
+    let rest = are_made machine most (k + 1) new place actions entries least greatest (sym u.same) in
     record { indices = rest.indices; clear = (clear_at machine new (grid machine.step place) u.none, rest.clear) }
-are_made machine most k tool place (Moves m ∷ ds) entries least greatest h =
-    let c = pieces_in_front k (cleared machine most tool m) (made_from machine most (k + 1) tool (end_of m) ds) entries h in
-    let rest = are_made machine most (k + 1) tool (end_of m) ds c.front.later least greatest c.front.made in
-    entry_more machine k tool place m ds c.pieces c.front.later entries (cleared_valid machine most tool m c.pieces least greatest c.is) rest c.front.all
+are_made machine most k tool place (Move m ∷ actions) entries least greatest h =
+    let c = pieces_in_front k (cleared machine most tool m.way) (made_from machine most (k + 1) tool (end_of m.way) actions) entries h in
+    let rest = are_made machine most (k + 1) tool (end_of m.way) actions c.front.later least greatest c.front.made in
+    entry_more machine k tool place m actions c.pieces c.front.later entries (cleared_valid machine most tool m.way c.pieces least greatest c.is) rest c.front.all
+are_made machine most k tool place (_ ∷ actions) entries least greatest h =
+    let rest = are_made machine most (k + 1) tool place actions entries least greatest h in
+    record { indices = rest.indices; clear = rest.clear }
 
 valid_setting : (machine : MachineFile) (most : ℕ) (commands : List Command) (entries : List Entry) → 1 ≤ most → most ≤ 65535 →
     place_fault machine None (grid machine.step machine.start) ≡ None → setting_made machine most commands ≡ Ok entries → IsValid machine commands entries
 valid_setting machine most commands entries least greatest start h =
-    let made = are_made machine most 0 None machine.start (doings commands) entries least greatest h in
+    let made = are_made machine most 0 None machine.start (actions_of commands) entries least greatest h in
     record { motions = made.indices; start = clear_at machine None (grid machine.step machine.start) start; clear = made.clear }
 
 -- ---- motions that clear undivided
@@ -111,14 +112,14 @@ undivided_first f test few x xs last h i = simp (h, i)
 only_one : (f : ℕ → List Piece) (test : ℕ → Bool) (x : ℕ) → test x ≡ true → option_map f (find test (x ∷ [])) ≡ Some (f x)
 only_one f test x h = simp h
 
-cleared_undivided : (machine : MachineFile) (most : ℕ) (tool : Option Tool) (m : Motion) → 1 ≤ most → is_clear_in machine tool m 1 ≡ true →
-    cleared machine most tool m ≡ Some (pieces_of machine.step m 1)
-cleared_undivided machine most tool m least clear = elim (cases_lt 1 most) [
-  | inl more ↦ undivided_first (pieces_of machine.step m) (is_clear_in machine tool m) (λ c. nat_lt c most) 1
+cleared_undivided : (machine : MachineFile) (most : ℕ) (tool : Option Tool) (w : Way) → 1 ≤ most → is_clear_in machine tool w 1 ≡ true →
+    cleared machine most tool w ≡ Some (pieces_of machine.step w 1)
+cleared_undivided machine most tool w least clear = elim (cases_lt 1 most) [
+  | inl more ↦ undivided_first (pieces_of machine.step w) (is_clear_in machine tool w) (λ c. nat_lt c most) 1
       (2 ∷ 4 ∷ 8 ∷ 16 ∷ 32 ∷ 64 ∷ 128 ∷ 256 ∷ 512 ∷ 1024 ∷ 2048 ∷ 4096 ∷ 8192 ∷ 16384 ∷ 32768 ∷ []) (most ∷ []) (first_of most more) clear
   | inr one ↦
       let e : 1 ≡ most = omega (arith, least, one) in
-      subst (λ n. cleared machine n tool m ≡ Some (pieces_of machine.step m 1)) e (only_one (pieces_of machine.step m) (is_clear_in machine tool m) 1 clear)
+      subst (λ n. cleared machine n tool w ≡ Some (pieces_of machine.step w 1)) e (only_one (pieces_of machine.step w) (is_clear_in machine tool w) 1 clear)
 ]
 
 -- a list is made
@@ -129,27 +130,27 @@ made_more : (k : ℕ) (pieces : List Piece) (found : Option (List Piece)) (rest 
 made_more k pieces found rest e r =
     (record { index = k; pieces = pieces } ∷ r.0, ap₂ (with_pieces k) e r.1)
 
-all_made : (machine : MachineFile) (most k : ℕ) (tool : Option Tool) (place : Point3) (ds : List Doing) → 1 ≤ most →
-    clears_from machine tool place ds ≡ true → IsMade (made_from machine most k tool place ds)
+all_made : (machine : MachineFile) (most k : ℕ) (tool : Option Tool) (place : Point3) (actions : List Action) → 1 ≤ most →
+    clears_from machine tool place actions ≡ true → IsMade (made_from machine most k tool place actions)
 all_made machine most k tool place [] least h = ([], refl)
-all_made machine most k tool place (Stays ∷ ds) least h = all_made machine most (k + 1) tool place ds least h
-all_made machine most k tool place (Mounts new ∷ ds) least h =
-    let e = both (is_none (place_fault machine new (grid machine.step place))) (clears_from machine new place ds) h in
-    let rest = all_made machine most (k + 1) new place ds least e.1 in
-    (rest.0, ap (λ o. unless_met o k (made_from machine most (k + 1) new place ds)) (none_of (place_fault machine new (grid machine.step place)) e.0) ∙ rest.1)
-all_made machine most k tool place (Moves m ∷ ds) least h =
-    let e = both (is_none (pieces_fault machine tool m (pieces_of machine.step m 1))) (clears_from machine tool (end_of m) ds) h in
-    made_more k (pieces_of machine.step m 1) (cleared machine most tool m) (made_from machine most (k + 1) tool (end_of m) ds)
-    (cleared_undivided machine most tool m least e.0) (all_made machine most (k + 1) tool (end_of m) ds least e.1)
+all_made machine most k tool place (Mount new ∷ actions) least h =
+    let e = both (is_none (place_fault machine new (grid machine.step place))) (clears_from machine new place actions) h in
+    let rest = all_made machine most (k + 1) new place actions least e.1 in
+    (rest.0, ap (λ o. unless_met o k (made_from machine most (k + 1) new place actions)) (none_of (place_fault machine new (grid machine.step place)) e.0) ∙ rest.1)
+all_made machine most k tool place (Move m ∷ actions) least h =
+    let e = both (is_none (pieces_fault machine tool m.way (pieces_of machine.step m.way 1))) (clears_from machine tool (end_of m.way) actions) h in
+    made_more k (pieces_of machine.step m.way 1) (cleared machine most tool m.way) (made_from machine most (k + 1) tool (end_of m.way) actions)
+    (cleared_undivided machine most tool m.way least e.0) (all_made machine most (k + 1) tool (end_of m.way) actions least e.1)
+all_made machine most k tool place (_ ∷ actions) least h = all_made machine most (k + 1) tool place actions least h
 
 pub undivided_made : (machine : MachineFile) (most : ℕ) (off on : List Command) → 1 ≤ most → clears_undivided machine off ≡ true → clears_undivided machine on ≡ true →
     (c : CertificateData) × (made machine most off on ≡ Ok c)
 undivided_made machine most off on least a b =
     let start = place_fault machine None (grid machine.step machine.start) in
-    let e = both (is_none start) (clears_from machine None machine.start (doings off)) a in
-    let f = both (is_none start) (clears_from machine None machine.start (doings on)) b in
-    let p = all_made machine most 0 None machine.start (doings off) least e.1 in
-    let q = all_made machine most 0 None machine.start (doings on) least f.1 in
+    let e = both (is_none start) (clears_from machine None machine.start (actions_of off)) a in
+    let f = both (is_none start) (clears_from machine None machine.start (actions_of on)) b in
+    let p = all_made machine most 0 None machine.start (actions_of off) least e.1 in
+    let q = all_made machine most 0 None machine.start (actions_of on) least f.1 in
     (record { off = p.0; on = q.0 }, ap (λ o. from_start o (join_settings (setting_made machine most off) (setting_made machine most on))) (none_of start e.0) ∙ ap₂ join_settings p.1 q.1)
 
 ok_err : {X E : Type 0} (x : X) (e : E) (r : Result X E) → r ≡ Ok x → r ≡ Err e → ⊥

@@ -8,7 +8,7 @@ use Rattle.ngc_fixed_length.specs.Boxes.{holds_box, only}
 use Rattle.ngc_machine.specs.declared.machine.Fixture.{Fixture}
 use Rattle.ngc_machine.specs.declared.tools.Tool.{Tool}
 use Rattle.ngc_machine.specs.Machine.{MachineFile}
-use Rattle.ngc_canonical.specs.declared.movement.Motion.{Motion}
+use Rattle.ngc_canonical.specs.declared.movement.Way.{Way}
 use Rattle.ngc_collision.specs.Body.{clears, first_met, first_met_from, is_in_travel, IsClearAt}
 use Rattle.ngc_certificate_text.specs.declared.piece.Cut.{Cut}
 use Rattle.ngc_certificate_text.specs.declared.piece.Piece.{Piece}
@@ -86,51 +86,51 @@ unmet_at machine tool p h = meets_none machine tool (only p) h
 
 -- ---- a piece
 
-piece_valid : (machine : MachineFile) (tool : Option Tool) (m : Motion) (s : Stretch) (p : Piece) → piece_fault machine tool m s p ≡ None → IsPieceValid machine tool m s p
-piece_valid machine tool m s p h =
-    let a = passed (follows m s p.end) Chain _ h in
-    let b = passed (holds_box p.bounds (derived_box machine.step m s p.end)) NotCovered _ a.1 in
+piece_valid : (machine : MachineFile) (tool : Option Tool) (w : Way) (s : Stretch) (p : Piece) → piece_fault machine tool w s p ≡ None → IsPieceValid machine tool w s p
+piece_valid machine tool w s p h =
+    let a = passed (follows w s p.end) Chain _ h in
+    let b = passed (holds_box p.bounds (derived_box machine.step w s p.end)) NotCovered _ a.1 in
     let c = passed (is_in_travel machine p.bounds) OutsideTravel _ b.1 in
     record { chain = a.0; covers = b.0; travel = c.0; clear = none_met machine tool p.bounds (no_map MeetsFixture (first_met machine tool p.bounds) c.1) }
 
-piece_passes : (machine : MachineFile) (tool : Option Tool) (m : Motion) (s : Stretch) (p : Piece) → IsPieceValid machine tool m s p → piece_fault machine tool m s p ≡ None
-piece_passes machine tool m s p h =
-    passes (follows m s p.end) Chain _ h.chain
-    (passes (holds_box p.bounds (derived_box machine.step m s p.end)) NotCovered _ h.covers
+piece_passes : (machine : MachineFile) (tool : Option Tool) (w : Way) (s : Stretch) (p : Piece) → IsPieceValid machine tool w s p → piece_fault machine tool w s p ≡ None
+piece_passes machine tool w s p h =
+    passes (follows w s p.end) Chain _ h.chain
+    (passes (holds_box p.bounds (derived_box machine.step w s p.end)) NotCovered _ h.covers
     (passes (is_in_travel machine p.bounds) OutsideTravel _ h.travel
     (map_none MeetsFixture (first_met machine tool p.bounds) (meets_none machine tool p.bounds h.clear))))
 
 -- ---- the pieces of a motion
 
-valid_from : (machine : MachineFile) (tool : Option Tool) (m : Motion) (several : Bool) (j : ℕ) (begin : Cut) (ps : List Piece) → fault_from machine tool m several j begin ps ≡ None → AreValidFrom machine tool m several begin ps
-valid_from machine tool m several j begin [] h = absurd (some_none (at_piece j Chain) h)
-valid_from machine tool m several j begin (p ∷ []) h =
-    piece_valid machine tool m (stretch several true begin) p (no_map (at_piece j) (piece_fault machine tool m (stretch several true begin) p) h)
-valid_from machine tool m several j begin (p ∷ q ∷ ps) h =
-    let e = neither (option_map (at_piece j) (piece_fault machine tool m (stretch several false begin) p)) (fault_from machine tool m several (j + 1) p.end (q ∷ ps)) h in (
-      piece_valid machine tool m (stretch several false begin) p (no_map (at_piece j) (piece_fault machine tool m (stretch several false begin) p) e.0),
-      valid_from machine tool m several (j + 1) p.end (q ∷ ps) e.1,
+valid_from : (machine : MachineFile) (tool : Option Tool) (w : Way) (several : Bool) (j : ℕ) (begin : Cut) (ps : List Piece) → fault_from machine tool w several j begin ps ≡ None → AreValidFrom machine tool w several begin ps
+valid_from machine tool w several j begin [] h = absurd (some_none (at_piece j Chain) h)
+valid_from machine tool w several j begin (p ∷ []) h =
+    piece_valid machine tool w (stretch several true begin) p (no_map (at_piece j) (piece_fault machine tool w (stretch several true begin) p) h)
+valid_from machine tool w several j begin (p ∷ q ∷ ps) h =
+    let e = neither (option_map (at_piece j) (piece_fault machine tool w (stretch several false begin) p)) (fault_from machine tool w several (j + 1) p.end (q ∷ ps)) h in (
+      piece_valid machine tool w (stretch several false begin) p (no_map (at_piece j) (piece_fault machine tool w (stretch several false begin) p) e.0),
+      valid_from machine tool w several (j + 1) p.end (q ∷ ps) e.1,
     )
 
-passes_from : (machine : MachineFile) (tool : Option Tool) (m : Motion) (several : Bool) (j : ℕ) (begin : Cut) (ps : List Piece) → AreValidFrom machine tool m several begin ps → fault_from machine tool m several j begin ps ≡ None
-passes_from machine tool m several j begin [] h = absurd h
-passes_from machine tool m several j begin (p ∷ []) h =
-    map_none (at_piece j) (piece_fault machine tool m (stretch several true begin) p) (piece_passes machine tool m (stretch several true begin) p h)
-passes_from machine tool m several j begin (p ∷ q ∷ ps) h =
-    both_none (option_map (at_piece j) (piece_fault machine tool m (stretch several false begin) p)) (fault_from machine tool m several (j + 1) p.end (q ∷ ps))
-    (map_none (at_piece j) (piece_fault machine tool m (stretch several false begin) p) (piece_passes machine tool m (stretch several false begin) p h.0))
-    (passes_from machine tool m several (j + 1) p.end (q ∷ ps) h.1)
+passes_from : (machine : MachineFile) (tool : Option Tool) (w : Way) (several : Bool) (j : ℕ) (begin : Cut) (ps : List Piece) → AreValidFrom machine tool w several begin ps → fault_from machine tool w several j begin ps ≡ None
+passes_from machine tool w several j begin [] h = absurd h
+passes_from machine tool w several j begin (p ∷ []) h =
+    map_none (at_piece j) (piece_fault machine tool w (stretch several true begin) p) (piece_passes machine tool w (stretch several true begin) p h)
+passes_from machine tool w several j begin (p ∷ q ∷ ps) h =
+    both_none (option_map (at_piece j) (piece_fault machine tool w (stretch several false begin) p)) (fault_from machine tool w several (j + 1) p.end (q ∷ ps))
+    (map_none (at_piece j) (piece_fault machine tool w (stretch several false begin) p) (piece_passes machine tool w (stretch several false begin) p h.0))
+    (passes_from machine tool w several (j + 1) p.end (q ∷ ps) h.1)
 
-pub pieces_valid : (machine : MachineFile) (tool : Option Tool) (m : Motion) (ps : List Piece) → pieces_fault machine tool m ps ≡ None → ArePiecesValid machine tool m ps
-pieces_valid machine tool m ps h = valid_from machine tool m (are_several ps) 0 (first_cut m) ps h
+pub pieces_valid : (machine : MachineFile) (tool : Option Tool) (w : Way) (ps : List Piece) → pieces_fault machine tool w ps ≡ None → ArePiecesValid machine tool w ps
+pieces_valid machine tool w ps h = valid_from machine tool w (are_several ps) 0 (first_cut w) ps h
 
-pub pieces_pass : (machine : MachineFile) (tool : Option Tool) (m : Motion) (ps : List Piece) → ArePiecesValid machine tool m ps → pieces_fault machine tool m ps ≡ None
-pieces_pass machine tool m ps h = passes_from machine tool m (are_several ps) 0 (first_cut m) ps h
+pub pieces_pass : (machine : MachineFile) (tool : Option Tool) (w : Way) (ps : List Piece) → ArePiecesValid machine tool w ps → pieces_fault machine tool w ps ≡ None
+pieces_pass machine tool w ps h = passes_from machine tool w (are_several ps) 0 (first_cut w) ps h
 
 -- ---- the law
 
 pub pieces_law : NoPiecesFaultIsValid
-pieces_law = λ machine tool m pieces. (pieces_valid machine tool m pieces, pieces_pass machine tool m pieces)
+pieces_law = λ machine tool w pieces. (pieces_valid machine tool w pieces, pieces_pass machine tool w pieces)
 
 pub place_law : NoPlaceFaultIsClear
 place_law = λ machine tool p. (clear_at machine tool p, unmet_at machine tool p)

@@ -10,7 +10,7 @@ use Rattle.ngc_fixed_length.specs.Boxes.{IsIn, holds_box, only}
 use Rattle.ngc_machine.specs.declared.machine.Fixture.{Fixture}
 use Rattle.ngc_machine.specs.declared.tools.Tool.{Tool}
 use Rattle.ngc_machine.specs.Machine.{MachineFile}
-use Rattle.ngc_canonical.specs.declared.movement.Motion.{Motion}
+use Rattle.ngc_canonical.specs.declared.movement.Way.{Way}
 use Rattle.ngc_collision.specs.Body.{Solid, span, filled, bodies, are_apart, clears, is_in_travel, IsSafe}
 use Rattle.ngc_certificate_text.specs.declared.piece.Piece.{Piece}
 use Rattle.ngc_certificate.specs.declared.stretch.Stretch.{Stretch}
@@ -112,7 +112,7 @@ safe_in_box machine tool b q p k t c =
           (λ f h. bodies_within f tool (span machine.step b) (span machine.step (only q)) w h) c;
     }
 
-pub safe_in_piece : (machine : MachineFile) (tool : Option Tool) (m : Motion) (s : Stretch) (piece : Piece) (q : StepPos) → pos 1 ≤ℤ machine.step →
-    IsPieceValid machine tool m s piece → IsIn (derived_box machine.step m s piece.end) q → IsSafe machine tool q
-safe_in_piece machine tool m s piece q p v k =
-    safe_in_box machine tool piece.bounds q p (held_by piece.bounds (derived_box machine.step m s piece.end) q v.covers k) v.travel v.clear
+pub safe_in_piece : (machine : MachineFile) (tool : Option Tool) (way : Way) (s : Stretch) (piece : Piece) (q : StepPos) → pos 1 ≤ℤ machine.step →
+    IsPieceValid machine tool way s piece → IsIn (derived_box machine.step way s piece.end) q → IsSafe machine tool q
+safe_in_piece machine tool way s piece q p v k =
+    safe_in_box machine tool piece.bounds q p (held_by piece.bounds (derived_box machine.step way s piece.end) q v.covers k) v.travel v.clear

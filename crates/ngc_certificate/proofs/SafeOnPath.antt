@@ -7,7 +7,7 @@ use Rattle.ngc_fixed_length.specs.LinePath.{point}
 use Rattle.ngc_fixed_length.specs.Boxes.{IsIn}
 use Rattle.ngc_machine.specs.declared.tools.Tool.{Tool}
 use Rattle.ngc_machine.specs.Machine.{MachineFile}
-use Rattle.ngc_canonical.specs.declared.movement.Motion.{Motion}
+use Rattle.ngc_canonical.specs.declared.movement.Way.{Way}
 use Rattle.ngc_collision.specs.Body.{IsSafe}
 use Rattle.ngc_certificate_text.specs.declared.piece.Cut.{Cut}
 use Rattle.ngc_certificate_text.specs.declared.piece.Piece.{Piece}
@@ -21,29 +21,29 @@ use Rattle.ngc_certificate.proofs.SafeInPiece.{safe_in_piece}
 abbrev end_of : Piece → Cut
 end_of p = p.end
 
-chain_of : (machine : MachineFile) (tool : Option Tool) (m : Motion) (several : Bool) (begin : Cut) (ps : List Piece) →
-    AreValidFrom machine tool m several begin ps → ChainFrom m several begin (map end_of ps)
-chain_of machine tool m several begin [] v = v
-chain_of machine tool m several begin (p ∷ []) v = v.chain
-chain_of machine tool m several begin (p ∷ q ∷ ps) v = (v.0.chain, chain_of machine tool m several p.end (q ∷ ps) v.1)
+chain_of : (machine : MachineFile) (tool : Option Tool) (w : Way) (several : Bool) (begin : Cut) (ps : List Piece) →
+    AreValidFrom machine tool w several begin ps → ChainFrom w several begin (map end_of ps)
+chain_of machine tool w several begin [] v = v
+chain_of machine tool w several begin (p ∷ []) v = v.chain
+chain_of machine tool w several begin (p ∷ q ∷ ps) v = (v.0.chain, chain_of machine tool w several p.end (q ∷ ps) v.1)
 
 split_any : (P : GridBox → Type 0) (b : GridBox) (bs : List GridBox) (k : ℕ) (x : GridBox) → k < length (b ∷ bs) → slice_index_or (b ∷ bs) k x ≡ x → P x → P b ⊎ Any P bs
 split_any P b bs zero x l e h = inl (subst P (sym e) h)
 split_any P b bs (suc k) x l e h = inr (k, x, omega (arith, l), e, h)
 
-safe_in_some : (machine : MachineFile) (tool : Option Tool) (m : Motion) (q : StepPos) → pos 1 ≤ℤ machine.step →
-    (several : Bool) (begin : Cut) (ps : List Piece) → AreValidFrom machine tool m several begin ps →
-    Any (λ b. IsIn b q) (boxes_from machine.step m several begin (map end_of ps)) → IsSafe machine tool q
-safe_in_some machine tool m q s several begin [] v a = absurd v
-safe_in_some machine tool m q s several begin (p ∷ []) v a =
-    elim (split_any (λ b. IsIn b q) (derived_box machine.step m (stretch several true begin) p.end) [] a.0 a.1 a.2 a.3 a.4) [
-      | inl k ↦ safe_in_piece machine tool m (stretch several true begin) p q s v k
+safe_in_some : (machine : MachineFile) (tool : Option Tool) (w : Way) (q : StepPos) → pos 1 ≤ℤ machine.step →
+    (several : Bool) (begin : Cut) (ps : List Piece) → AreValidFrom machine tool w several begin ps →
+    Any (λ b. IsIn b q) (boxes_from machine.step w several begin (map end_of ps)) → IsSafe machine tool q
+safe_in_some machine tool w q s several begin [] v a = absurd v
+safe_in_some machine tool w q s several begin (p ∷ []) v a =
+    elim (split_any (λ b. IsIn b q) (derived_box machine.step w (stretch several true begin) p.end) [] a.0 a.1 a.2 a.3 a.4) [
+      | inl k ↦ safe_in_piece machine tool w (stretch several true begin) p q s v k
       | inr none ↦ absurd (omega (arith, none.2))
     ]
-safe_in_some machine tool m q s several begin (p ∷ r ∷ ps) v a =
-    elim (split_any (λ b. IsIn b q) (derived_box machine.step m (stretch several false begin) p.end) (boxes_from machine.step m several p.end (map end_of (r ∷ ps))) a.0 a.1 a.2 a.3 a.4) [
-      | inl k ↦ safe_in_piece machine tool m (stretch several false begin) p q s v.0 k
-      | inr later ↦ safe_in_some machine tool m q s several p.end (r ∷ ps) v.1 later
+safe_in_some machine tool w q s several begin (p ∷ r ∷ ps) v a =
+    elim (split_any (λ b. IsIn b q) (derived_box machine.step w (stretch several false begin) p.end) (boxes_from machine.step w several p.end (map end_of (r ∷ ps))) a.0 a.1 a.2 a.3 a.4) [
+      | inl k ↦ safe_in_piece machine tool w (stretch several false begin) p q s v.0 k
+      | inr later ↦ safe_in_some machine tool w q s several p.end (r ∷ ps) v.1 later
     ]
 
 length_map : (ps : List Piece) → length (map end_of ps) ≡ length ps
@@ -51,9 +51,9 @@ length_map [] = refl
 length_map (p ∷ ps) = ap suc (length_map ps)
 
 pub safe_on_path : SafeOnPath
-safe_on_path machine tool m ps path k s v way l =
+safe_on_path machine tool w ps path k s v way l =
     let e : are_several (map end_of ps) ≡ are_several ps = ap (nat_lt 1) (length_map ps) in
-    let chain = subst (λ b. ChainFrom m b (first_cut m) (map end_of ps)) (sym e) (chain_of machine tool m (are_several ps) (first_cut m) ps v) in
-    let a = covered machine.step m (map end_of ps) path k s chain way l in
-    safe_in_some machine tool m (point path k) s (are_several ps) (first_cut m) ps v
-    (subst (λ b. Any (λ bounds. IsIn bounds (point path k)) (boxes_from machine.step m b (first_cut m) (map end_of ps))) e a)
+    let chain = subst (λ b. ChainFrom w b (first_cut w) (map end_of ps)) (sym e) (chain_of machine tool w (are_several ps) (first_cut w) ps v) in
+    let a = covered machine.step w (map end_of ps) path k s chain way l in
+    safe_in_some machine tool w (point path k) s (are_several ps) (first_cut w) ps v
+    (subst (λ b. Any (λ bounds. IsIn bounds (point path k)) (boxes_from machine.step w b (first_cut w) (map end_of ps))) e a)

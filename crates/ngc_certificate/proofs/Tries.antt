@@ -7,15 +7,15 @@ use Rattle.std.proofs.lemmas.List.{drop_all}
 use Rattle.std.proofs.lemmas.Bool.Decides.{nat_tests}
 use Rattle.ngc_machine.specs.Machine.{MachineFile}
 use Rattle.ngc_machine.specs.declared.tools.Tool.{Tool}
-use Rattle.ngc_canonical.specs.declared.movement.Motion.{Motion}
+use Rattle.ngc_canonical.specs.declared.movement.Way.{Way}
 use Rattle.ngc_certificate_text.specs.declared.piece.Piece.{Piece}
 use Rattle.ngc_certificate.specs.Made.{pieces_of, powers_of_two}
 use Rattle.ngc_certificate.specs.Making.{is_clear_in, pieces_where}
 
 -- the pieces of the first try that clears, where these powers of two are left
-abbrev pub cleared_from : MachineFile → ℕ → Option Tool → Motion → List ℕ → Option (List Piece)
-cleared_from machine most tool m powers =
-    option_map (pieces_of machine.step m) (find (is_clear_in machine tool m) (filter (λ c. nat_lt c most) powers ++ most ∷ []))
+abbrev pub cleared_from : MachineFile → ℕ → Option Tool → Way → List ℕ → Option (List Piece)
+cleared_from machine most tool w powers =
+    option_map (pieces_of machine.step w) (find (is_clear_in machine tool w) (filter (λ c. nat_lt c most) powers ++ most ∷ []))
 
 skip : (f : ℕ → List Piece) (test few : ℕ → Bool) (x : ℕ) (xs last : List ℕ) → few x ≡ false →
     option_map f (find test (filter few (x ∷ xs) ++ last)) ≡ option_map f (find test (filter few xs ++ last))
@@ -44,34 +44,34 @@ too_many most x h = grind (arith, nat_tests)
 few_enough : (most x : ℕ) → x < most → nat_lt x most ≡ true
 few_enough most x h = grind (arith, nat_tests)
 
-pub skipped : (machine : MachineFile) (most : ℕ) (tool : Option Tool) (m : Motion) (i : ℕ) → i < 16 → most ≤ slice_index_or powers_of_two i 0 →
-    cleared_from machine most tool m (drop i powers_of_two) ≡ cleared_from machine most tool m (drop (i + 1) powers_of_two)
-skipped machine most tool m i h large =
+pub skipped : (machine : MachineFile) (most : ℕ) (tool : Option Tool) (w : Way) (i : ℕ) → i < 16 → most ≤ slice_index_or powers_of_two i 0 →
+    cleared_from machine most tool w (drop i powers_of_two) ≡ cleared_from machine most tool w (drop (i + 1) powers_of_two)
+skipped machine most tool w i h large =
     let x = slice_index_or powers_of_two i 0 in
-    ap (cleared_from machine most tool m) (next i h)
-    ∙ skip (pieces_of machine.step m) (is_clear_in machine tool m) (λ c. nat_lt c most) x (drop (i + 1) powers_of_two) (most ∷ []) (too_many most x large)
+    ap (cleared_from machine most tool w) (next i h)
+    ∙ skip (pieces_of machine.step w) (is_clear_in machine tool w) (λ c. nat_lt c most) x (drop (i + 1) powers_of_two) (most ∷ []) (too_many most x large)
 
-pub refused : (machine : MachineFile) (most : ℕ) (tool : Option Tool) (m : Motion) (i : ℕ) → i < 16 → slice_index_or powers_of_two i 0 < most →
-    false ≡ is_clear_in machine tool m (slice_index_or powers_of_two i 0) →
-    cleared_from machine most tool m (drop i powers_of_two) ≡ cleared_from machine most tool m (drop (i + 1) powers_of_two)
-refused machine most tool m i h few failed =
+pub refused : (machine : MachineFile) (most : ℕ) (tool : Option Tool) (w : Way) (i : ℕ) → i < 16 → slice_index_or powers_of_two i 0 < most →
+    false ≡ is_clear_in machine tool w (slice_index_or powers_of_two i 0) →
+    cleared_from machine most tool w (drop i powers_of_two) ≡ cleared_from machine most tool w (drop (i + 1) powers_of_two)
+refused machine most tool w i h few failed =
     let x = slice_index_or powers_of_two i 0 in
-    ap (cleared_from machine most tool m) (next i h)
-    ∙ fails (pieces_of machine.step m) (is_clear_in machine tool m) (λ c. nat_lt c most) x (drop (i + 1) powers_of_two) (most ∷ []) (few_enough most x few) (sym failed)
+    ap (cleared_from machine most tool w) (next i h)
+    ∙ fails (pieces_of machine.step w) (is_clear_in machine tool w) (λ c. nat_lt c most) x (drop (i + 1) powers_of_two) (most ∷ []) (few_enough most x few) (sym failed)
 
-pub taken : (machine : MachineFile) (most : ℕ) (tool : Option Tool) (m : Motion) (i : ℕ) (pieces : List Piece) → i < 16 → slice_index_or powers_of_two i 0 < most →
-    true ≡ is_clear_in machine tool m (slice_index_or powers_of_two i 0) → pieces ≡ pieces_of machine.step m (slice_index_or powers_of_two i 0) →
-    cleared_from machine most tool m (drop i powers_of_two) ≡ Some pieces
-taken machine most tool m i pieces h few clear same =
+pub taken : (machine : MachineFile) (most : ℕ) (tool : Option Tool) (w : Way) (i : ℕ) (pieces : List Piece) → i < 16 → slice_index_or powers_of_two i 0 < most →
+    true ≡ is_clear_in machine tool w (slice_index_or powers_of_two i 0) → pieces ≡ pieces_of machine.step w (slice_index_or powers_of_two i 0) →
+    cleared_from machine most tool w (drop i powers_of_two) ≡ Some pieces
+taken machine most tool w i pieces h few clear same =
     let x = slice_index_or powers_of_two i 0 in
-    ap (cleared_from machine most tool m) (next i h)
-    ∙ found (pieces_of machine.step m) (is_clear_in machine tool m) (λ c. nat_lt c most) x (drop (i + 1) powers_of_two) (most ∷ []) (few_enough most x few) (sym clear)
+    ap (cleared_from machine most tool w) (next i h)
+    ∙ found (pieces_of machine.step w) (is_clear_in machine tool w) (λ c. nat_lt c most) x (drop (i + 1) powers_of_two) (most ∷ []) (few_enough most x few) (sym clear)
     ∙ ap (λ (ps : List Piece). Some ps) (sym same)
 
-pub last_try : (machine : MachineFile) (most : ℕ) (tool : Option Tool) (m : Motion) (i : ℕ) (pieces : List Piece) (clear : Bool) → 16 ≤ i →
-    clear ≡ is_clear_in machine tool m most → pieces ≡ pieces_of machine.step m most →
-    cleared_from machine most tool m (drop i powers_of_two) ≡ pieces_where clear pieces
-last_try machine most tool m i pieces clear h test same =
-    ap (cleared_from machine most tool m) (drop_all i powers_of_two h)
-    ∙ at_last (pieces_of machine.step m) (is_clear_in machine tool m) most clear test
+pub last_try : (machine : MachineFile) (most : ℕ) (tool : Option Tool) (w : Way) (i : ℕ) (pieces : List Piece) (clear : Bool) → 16 ≤ i →
+    clear ≡ is_clear_in machine tool w most → pieces ≡ pieces_of machine.step w most →
+    cleared_from machine most tool w (drop i powers_of_two) ≡ pieces_where clear pieces
+last_try machine most tool w i pieces clear h test same =
+    ap (cleared_from machine most tool w) (drop_all i powers_of_two h)
+    ∙ at_last (pieces_of machine.step w) (is_clear_in machine tool w) most clear test
     ∙ ap (pieces_where clear) (sym same)

@@ -6,8 +6,8 @@ use Rattle.ngc_fixed_length.specs.Boxes.{grid_above, grid_below, box_of, common_
 use Rattle.ngc_fixed_length.specs.declared.points.Point3.{Point3}
 use Rattle.ngc_fixed_length.specs.declared.points.GridBox.{GridBox}
 use Rattle.ngc_arc_geometry.specs.Swept.{swept_box}
-use Rattle.ngc_canonical.specs.declared.movement.Motion.{Motion}
-use Rattle.ngc_canonical.specs.declared.movement.Motion.TheVariants.{Straight, Along}
+use Rattle.ngc_canonical.specs.declared.movement.Way.{Way}
+use Rattle.ngc_canonical.specs.declared.movement.Way.TheVariants.{Line, Arc}
 use Rattle.ngc_certificate_text.specs.declared.piece.Cut.{Cut}
 use Rattle.ngc_certificate.specs.declared.stretch.Stretch.{Stretch}
 use Rattle.ngc_certificate_text.specs.Certificate.{WHOLE}
@@ -34,16 +34,16 @@ grown_box step b e s t = record {
 abbrev pub line_box : ℤ → Point3 → Point3 → ℕ → ℕ → GridBox
 line_box step b e s t = common_box (grown_box step b e s t) (box_of (grid step b) (grid step e))
 
-abbrev pub derived_box : ℤ → Motion → Stretch → Cut → GridBox
-derived_box step (Straight b e) s cut = line_box step b e (part_of s.begin) (part_of cut)
-derived_box step (Along a) s cut = swept_box step a
+abbrev pub derived_box : ℤ → Way → Stretch → Cut → GridBox
+derived_box step (Line b e) s cut = line_box step b e (part_of s.begin) (part_of cut)
+derived_box step (Arc a) s cut = swept_box step a
 
 -- the boxes of all pieces
-abbrev pub boxes_from : ℤ → Motion → Bool → Cut → List Cut → List GridBox
-boxes_from step m several begin [] = []
-boxes_from step m several begin (cut ∷ []) = derived_box step m (stretch several true begin) cut ∷ []
-boxes_from step m several begin (cut ∷ next ∷ cuts) =
-    derived_box step m (stretch several false begin) cut ∷ boxes_from step m several cut (next ∷ cuts)
+abbrev pub boxes_from : ℤ → Way → Bool → Cut → List Cut → List GridBox
+boxes_from step w several begin [] = []
+boxes_from step w several begin (cut ∷ []) = derived_box step w (stretch several true begin) cut ∷ []
+boxes_from step w several begin (cut ∷ next ∷ cuts) =
+    derived_box step w (stretch several false begin) cut ∷ boxes_from step w several cut (next ∷ cuts)
 
-abbrev pub derived_boxes : ℤ → Motion → List Cut → List GridBox
-derived_boxes step m cuts = boxes_from step m (are_several cuts) (first_cut m) cuts
+abbrev pub derived_boxes : ℤ → Way → List Cut → List GridBox
+derived_boxes step w cuts = boxes_from step w (are_several cuts) (first_cut w) cuts

@@ -7,8 +7,8 @@ use Rattle.ngc_fixed_length.specs.declared.points.StepPos.{StepPos}
 use Rattle.ngc_fixed_length.specs.declared.points.Point3.{Point3}
 use Rattle.ngc_fixed_length.specs.declared.points.GridBox.{GridBox}
 use Rattle.ngc_arc_geometry.specs.Swept.{swept_box}
-use Rattle.ngc_canonical.specs.declared.movement.Motion.{Motion}
-use Rattle.ngc_canonical.specs.declared.movement.Motion.TheVariants.{Straight, Along}
+use Rattle.ngc_canonical.specs.declared.movement.Way.{Way}
+use Rattle.ngc_canonical.specs.declared.movement.Way.TheVariants.{Line, Arc}
 use Rattle.ngc_machine.specs.declared.tools.Tool.{Tool}
 use Rattle.ngc_machine.specs.Machine.{MachineFile}
 use Rattle.ngc_certificate_text.specs.Certificate.{WHOLE}
@@ -44,15 +44,15 @@ abbrev pub box_grown : ℤ → Point3 → Point3 → Cuts → GridBox
 box_grown step b e cuts = grown_box step b e cuts.from cuts.to
 
 -- the box of a motion in one piece
-abbrev pub whole_box : ℤ → Motion → GridBox
-whole_box step (Straight b e) = box_of (grid step b) (grid step e)
-whole_box step (Along a) = swept_box step a
+abbrev pub whole_box : ℤ → Way → GridBox
+whole_box step (Line b e) = box_of (grid step b) (grid step e)
+whole_box step (Arc a) = swept_box step a
 
 -- the first refusal of the pieces that are left
-abbrev pub rest_fault : MachineFile → Option Tool → Motion → Bool → ℕ → Cut → List Piece → Option PieceRefusal
-rest_fault machine tool m several j begin [] = None
-rest_fault machine tool m several j begin (p ∷ ps) = fault_from machine tool m several j begin (p ∷ ps)
+abbrev pub rest_fault : MachineFile → Option Tool → Way → Bool → ℕ → Cut → List Piece → Option PieceRefusal
+rest_fault machine tool w several j begin [] = None
+rest_fault machine tool w several j begin (p ∷ ps) = fault_from machine tool w several j begin (p ∷ ps)
 
 -- and of all of them, where there are some
-abbrev pub fault_of_some : MachineFile → Option Tool → Motion → List Piece → Option PieceRefusal
-fault_of_some machine tool m pieces = rest_fault machine tool m (are_several pieces) 0 (first_cut m) pieces
+abbrev pub fault_of_some : MachineFile → Option Tool → Way → List Piece → Option PieceRefusal
+fault_of_some machine tool w pieces = rest_fault machine tool w (are_several pieces) 0 (first_cut w) pieces

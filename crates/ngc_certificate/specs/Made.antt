@@ -9,11 +9,11 @@ use Rattle.ngc_arc_geometry.specs.Swept.{swept_box}
 use Rattle.ngc_machine.specs.Machine.{MachineFile}
 use Rattle.ngc_machine.specs.declared.tools.Tool.{Tool}
 use Rattle.ngc_canonical.specs.declared.command.Command.{Command}
-use Rattle.ngc_canonical.specs.declared.movement.Motion.{Motion}
-use Rattle.ngc_canonical.specs.declared.movement.Motion.TheVariants.{Straight, Along}
-use Rattle.ngc_canonical.specs.declared.movement.Doing.{Doing}
-use Rattle.ngc_canonical.specs.declared.movement.Doing.TheVariants.{Moves, Mounts, Stays}
-use Rattle.ngc_canonical.specs.Movement.{doings, end_of}
+use Rattle.ngc_canonical.specs.declared.movement.Way.{Way}
+use Rattle.ngc_canonical.specs.declared.movement.Way.TheVariants.{Line, Arc}
+use Rattle.ngc_canonical.specs.declared.command.Action.{Action}
+use Rattle.ngc_canonical.specs.declared.command.Action.TheVariants.{Move, Mount}
+use Rattle.ngc_canonical.specs.Movement.{actions_of, end_of}
 use Rattle.ngc_certificate_text.specs.declared.piece.Cut.TheVariants.{Part, Place}
 use Rattle.ngc_certificate_text.specs.declared.piece.Piece.{Piece}
 use Rattle.ngc_certificate_text.specs.declared.piece.Setting.TheVariants.{Off, On}
@@ -34,9 +34,9 @@ line_pieces_from step b e c k (suc left) =
     line_piece step b e (WHOLE * k / c) (WHOLE * (k + 1) / c) ∷ line_pieces_from step b e c (k + 1) left
 
 -- a motion in c pieces; an arc stands in one
-abbrev pub pieces_of : ℤ → Motion → ℕ → List Piece
-pieces_of step (Straight b e) c = line_pieces_from step b e c 0 c
-pieces_of step (Along a) c = record { end = Place (shapes.end_of a); bounds = swept_box step a } ∷ []
+abbrev pub pieces_of : ℤ → Way → ℕ → List Piece
+pieces_of step (Line b e) c = line_pieces_from step b e c 0 c
+pieces_of step (Arc a) c = record { end = Place (shapes.end_of a); bounds = swept_box step a } ∷ []
 
 -- how many pieces are tried: the powers of two below the most, and then the most itself
 abbrev pub powers_of_two : List ℕ
@@ -46,9 +46,9 @@ abbrev pub tries : ℕ → List ℕ
 tries most = filter (λ c. nat_lt c most) powers_of_two ++ most ∷ []
 
 -- the pieces of the first try that no refusal meets
-abbrev pub cleared : MachineFile → ℕ → Option Tool → Motion → Option (List Piece)
-cleared machine most tool m =
-    option_map (pieces_of machine.step m) (find (λ c. is_none (pieces_fault machine tool m (pieces_of machine.step m c))) (tries most))
+abbrev pub cleared : MachineFile → ℕ → Option Tool → Way → Option (List Piece)
+cleared machine most tool w =
+    option_map (pieces_of machine.step w) (find (λ c. is_none (pieces_fault machine tool w (pieces_of machine.step w c))) (tries most))
 
 -- one motion more, before those that follow
 abbrev pub with_entry : ℕ → List Piece → Result (List Entry) ℕ → Result (List Entry) ℕ
@@ -66,16 +66,16 @@ unless_met (Some fixture) k rest = Err k
 
 -- From command k on, with the tool mounted and the place reached so far: each motion with its pieces, or the first command that
 -- isn't cleared, a motion for which no try clears or a tool change that meets a fixture.
-abbrev pub made_from : MachineFile → ℕ → ℕ → Option Tool → Point3 → List Doing → Result (List Entry) ℕ
+abbrev pub made_from : MachineFile → ℕ → ℕ → Option Tool → Point3 → List Action → Result (List Entry) ℕ
 made_from machine most k tool place [] = Ok []
-made_from machine most k tool place (Stays ∷ ds) = made_from machine most (k + 1) tool place ds
-made_from machine most k tool place (Mounts new ∷ ds) =
-    unless_met (place_fault machine new (grid machine.step place)) k (made_from machine most (k + 1) new place ds)
-made_from machine most k tool place (Moves m ∷ ds) =
-    with_pieces k (cleared machine most tool m) (made_from machine most (k + 1) tool (end_of m) ds)
+made_from machine most k tool place (Mount new ∷ actions) =
+    unless_met (place_fault machine new (grid machine.step place)) k (made_from machine most (k + 1) new place actions)
+made_from machine most k tool place (Move m ∷ actions) =
+    with_pieces k (cleared machine most tool m.way) (made_from machine most (k + 1) tool (end_of m.way) actions)
+made_from machine most k tool place (_ ∷ actions) = made_from machine most (k + 1) tool place actions
 
 abbrev pub setting_made : MachineFile → ℕ → List Command → Result (List Entry) ℕ
-setting_made machine most commands = made_from machine most 0 None machine.start (doings commands)
+setting_made machine most commands = made_from machine most 0 None machine.start (actions_of commands)
 
 -- both settings, or the first command that isn't cleared; that of a start point which isn't clear is command 0, block delete off
 abbrev pub join_settings : Result (List Entry) ℕ → Result (List Entry) ℕ → Result CertificateData MakeFault
@@ -99,14 +99,14 @@ GivesMade view (Err (NotCleared s k)) says = says ≡ Err (NotCleared s k)
 GivesMade view (Err Memory) says = Unit {0}
 
 -- start and tool changes are clear, and every motion's undivided box clears
-abbrev pub clears_from : MachineFile → Option Tool → Point3 → List Doing → Bool
+abbrev pub clears_from : MachineFile → Option Tool → Point3 → List Action → Bool
 clears_from machine tool place [] = true
-clears_from machine tool place (Stays ∷ ds) = clears_from machine tool place ds
-clears_from machine tool place (Mounts new ∷ ds) =
-    is_none (place_fault machine new (grid machine.step place)) && clears_from machine new place ds
-clears_from machine tool place (Moves m ∷ ds) =
-    is_none (pieces_fault machine tool m (pieces_of machine.step m 1)) && clears_from machine tool (end_of m) ds
+clears_from machine tool place (Mount new ∷ actions) =
+    is_none (place_fault machine new (grid machine.step place)) && clears_from machine new place actions
+clears_from machine tool place (Move m ∷ actions) =
+    is_none (pieces_fault machine tool m.way (pieces_of machine.step m.way 1)) && clears_from machine tool (end_of m.way) actions
+clears_from machine tool place (_ ∷ actions) = clears_from machine tool place actions
 
 abbrev pub clears_undivided : MachineFile → List Command → Bool
 clears_undivided machine commands =
-    is_none (place_fault machine None (grid machine.step machine.start)) && clears_from machine None machine.start (doings commands)
+    is_none (place_fault machine None (grid machine.step machine.start)) && clears_from machine None machine.start (actions_of commands)

@@ -7,8 +7,8 @@ use Rattle.ngc_certificate_text.specs.declared.piece.Cut.TheVariants.{Place}
 use Rattle.ngc_fixed_length.specs.declared.points.Point3.{Point3}
 use Rattle.ngc_machine.specs.Machine.{MachineFile}
 use Rattle.ngc_machine.specs.declared.tools.Tool.{Tool}
-use Rattle.ngc_canonical.specs.declared.movement.Doing.{Doing}
-use Rattle.ngc_canonical.specs.declared.movement.Motion.{Motion}
+use Rattle.ngc_canonical.specs.declared.command.Action.{Action}
+use Rattle.ngc_canonical.specs.declared.movement.Way.{Way}
 use Rattle.ngc_fixed_length.specs.Grid.{grid}
 use Rattle.std.specs.Option.{is_none}
 use Rattle.ngc_certificate_text.specs.declared.piece.Piece.{Piece}
@@ -27,8 +27,8 @@ abbrev pub whole_arc : ℤ → ArcShape → Piece
 whole_arc step a = record { end = Place (shapes.end_of a); bounds = swept_box step a }
 
 -- no refusal meets a motion in so many pieces
-abbrev pub is_clear_in : MachineFile → Option Tool → Motion → ℕ → Bool
-is_clear_in machine tool m count = is_none (pieces_fault machine tool m (pieces_of machine.step m count))
+abbrev pub is_clear_in : MachineFile → Option Tool → Way → ℕ → Bool
+is_clear_in machine tool w count = is_none (pieces_fault machine tool w (pieces_of machine.step w count))
 
 -- no fixture meets the tool where the axes stand at a place
 abbrev pub is_clear_at : MachineFile → Option Tool → Point3 → Bool
@@ -44,14 +44,14 @@ behind entries (Ok rest) = Ok (entries ++ rest)
 behind entries (Err k) = Err k
 
 -- what a setting gives, from command k on, where the commands that are left do this
-abbrev pub given_from : {A : Type 0} → MachineFile → ℕ → ℕ → Progress A → List Doing → Result (List Entry) ℕ
-given_from machine most k p ds = behind p.motions (made_from machine most k p.tool p.place ds)
+abbrev pub given_from : {A : Type 0} → MachineFile → ℕ → ℕ → Progress A → List Action → Result (List Entry) ℕ
+given_from machine most k p actions = behind p.motions (made_from machine most k p.tool p.place actions)
 
 -- command k leads on, or it isn't cleared, unless memory ran out
-abbrev pub Leads : {A : Type 0} → MachineFile → ℕ → ℕ → Doing → Progress A → Result (Unit {0}) Refusal → Progress A → Type 0
+abbrev pub Leads : {A : Type 0} → MachineFile → ℕ → ℕ → Action → Progress A → Result (Unit {0}) Refusal → Progress A → Type 0
 Leads machine most k d old (Ok done) new =
-    ((ds : List Doing) → given_from machine most k old (d ∷ ds) ≡ given_from machine most (k + 1) new ds) × (length new.motions ≤ length old.motions + 1)
-Leads machine most k d old (Err (NotCleared command)) new = (ds : List Doing) → given_from machine most k old (d ∷ ds) ≡ Err command
+    ((actions : List Action) → given_from machine most k old (d ∷ actions) ≡ given_from machine most (k + 1) new actions) × (length new.motions ≤ length old.motions + 1)
+Leads machine most k d old (Err (NotCleared command)) new = (actions : List Action) → given_from machine most k old (d ∷ actions) ≡ Err command
 Leads machine most k d old (Err Memory) new = Unit {0}
 
 -- the answer that is due, unless memory ran out

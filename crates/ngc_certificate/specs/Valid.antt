@@ -5,26 +5,26 @@ use Rattle.ngc_fixed_length.specs.declared.points.Point3.{Point3}
 use Rattle.ngc_canonical.specs.declared.command.Command.{Command}
 use Rattle.ngc_machine.specs.declared.tools.Tool.{Tool}
 use Rattle.ngc_machine.specs.Machine.{MachineFile}
-use Rattle.ngc_canonical.specs.Movement.{doings, motion_indices, end_of}
-use Rattle.ngc_canonical.specs.declared.movement.Doing.{Doing}
-use Rattle.ngc_canonical.specs.declared.movement.Doing.TheVariants.{Moves, Mounts, Stays}
+use Rattle.ngc_canonical.specs.Movement.{actions_of, motion_indices, end_of}
+use Rattle.ngc_canonical.specs.declared.command.Action.{Action}
+use Rattle.ngc_canonical.specs.declared.command.Action.TheVariants.{Move, Mount}
 use Rattle.ngc_collision.specs.Body.{IsClearAt}
 use Rattle.ngc_certificate_text.specs.Certificate.{Entry}
 use Rattle.ngc_certificate.specs.PieceFault.{ArePiecesValid}
 
 -- From a place, with a tool mounted: each motion's pieces are valid with the tool mounted then, and each new tool is
 -- clear where it is mounted.
-abbrev pub AreClearFrom : MachineFile → Option Tool → Point3 → List Doing → List Entry → Type 0
+abbrev pub AreClearFrom : MachineFile → Option Tool → Point3 → List Action → List Entry → Type 0
 AreClearFrom machine tool place [] entries = Unit {0}
-AreClearFrom machine tool place (Stays ∷ ds) entries = AreClearFrom machine tool place ds entries
-AreClearFrom machine tool place (Mounts new ∷ ds) entries =
-    IsClearAt machine new (grid machine.step place) × AreClearFrom machine new place ds entries
-AreClearFrom machine tool place (Moves m ∷ ds) (entry ∷ entries) =
-    ArePiecesValid machine tool m entry.pieces × AreClearFrom machine tool (end_of m) ds entries
-AreClearFrom machine tool place (Moves m ∷ ds) [] = ⊥
+AreClearFrom machine tool place (Mount new ∷ actions) entries =
+    IsClearAt machine new (grid machine.step place) × AreClearFrom machine new place actions entries
+AreClearFrom machine tool place (Move m ∷ actions) (entry ∷ entries) =
+    ArePiecesValid machine tool m.way entry.pieces × AreClearFrom machine tool (end_of m.way) actions entries
+AreClearFrom machine tool place (Move m ∷ actions) [] = ⊥
+AreClearFrom machine tool place (_ ∷ actions) entries = AreClearFrom machine tool place actions entries
 
 pub record IsValid (machine : MachineFile) (commands : List Command) (entries : List Entry) : Type 0 where
   -- the motions are those of the commands
-  pub motions : map (λ entry. entry.index) entries ≡ motion_indices 0 (doings commands)
+  pub motions : map (λ entry. entry.index) entries ≡ motion_indices 0 (actions_of commands)
   pub start : IsClearAt machine None (grid machine.step machine.start)
-  pub clear : AreClearFrom machine None machine.start (doings commands) entries
+  pub clear : AreClearFrom machine None machine.start (actions_of commands) entries

@@ -4,7 +4,7 @@ ghost use Rattle.ngc_certificate.specs.Chain.{first_cut as first_cut_of, equal_p
 
 use crate::stretch::Stretch;
 use ngc_arc_geometry::Arc;
-use ngc_canonical::Motion;
+use ngc_canonical::Way;
 use ngc_certificate_text::Cut;
 use ngc_fixed_length::{Nm, Point2};
 
@@ -12,12 +12,12 @@ use ngc_fixed_length::{Nm, Point2};
 pub(crate) const WHOLE: u32 = 65_536;
 
 /// Where the first piece of a motion begins.
-pub(crate) fn first_cut(motion: &Motion) -> Cut
-    ensures { result ≡ first_cut_of motion.now }
+pub(crate) fn first_cut(way: &Way) -> Cut
+    ensures { result ≡ first_cut_of way.now }
 {
-    match motion {
-        Motion::Straight { .. } => Cut::Part(0),
-        Motion::Along(arc) => Cut::Place(arc.start().in_plane(arc.plane())),
+    match way {
+        Way::Line { .. } => Cut::Part(0),
+        Way::Arc(arc) => Cut::Place(arc.start().in_plane(arc.plane())),
     }
 }
 
@@ -59,16 +59,16 @@ fn arc_follows(arc: &Arc, stretch: &Stretch, place: &Point2) -> bool
 }
 
 /// The piece that ends at a cut is of the motion's kind, and follows the one before it.
-pub(crate) fn follows(motion: &Motion, stretch: &Stretch, cut: &Cut) -> bool
-    ensures { result ≡ goes_on motion.now stretch.now cut.now }
+pub(crate) fn follows(way: &Way, stretch: &Stretch, cut: &Cut) -> bool
+    ensures { result ≡ goes_on way.now stretch.now cut.now }
 {
-    match (motion, cut) {
-        (Motion::Straight { .. }, Cut::Part(part)) => line_follows(
+    match (way, cut) {
+        (Way::Line { .. }, Cut::Part(part)) => line_follows(
             stretch.last,
             part_of(&stretch.begin),
             *part,
         ),
-        (Motion::Along(arc), Cut::Place(place)) => arc_follows(arc, stretch, place),
-        (Motion::Straight { .. }, Cut::Place(_)) | (Motion::Along(_), Cut::Part(_)) => false,
+        (Way::Arc(arc), Cut::Place(place)) => arc_follows(arc, stretch, place),
+        (Way::Line { .. }, Cut::Place(_)) | (Way::Arc(_), Cut::Part(_)) => false,
     }
 }

@@ -11,7 +11,7 @@ ghost use Rattle.ngc_certificate.specs.Inside.{IsOnLine, IsNarrow, box_grown, co
 use crate::bounds::{Bounds, Corner};
 use crate::cuts::{Cuts, first_between, last_between};
 use crate::stretch::Stretch;
-use ngc_canonical::Motion;
+use ngc_canonical::Way;
 use ngc_certificate_text::{Cut, Piece};
 use ngc_fixed_length::{GridBox, Nm, Point3, StepPos};
 
@@ -73,16 +73,13 @@ fn line_bounds(step: Nm, start: &Point3, end: &Point3, cuts: &Cuts, whole: &Grid
 }
 
 /// The box of a motion in one piece.
-pub(crate) fn whole_box(step: Nm, motion: &Motion) -> GridBox
+pub(crate) fn whole_box(step: Nm, way: &Way) -> GridBox
     requires { IsStep step }
-    ensures { result ≡ box_of_whole step motion.now }
+    ensures { result ≡ box_of_whole step way.now }
 {
-    match motion {
-        Motion::Straight { start, end } => GridBox::between(
-            &start.to_grid(step),
-            &end.to_grid(step),
-        ),
-        Motion::Along(arc) => arc.swept_box(step),
+    match way {
+        Way::Line { start, end } => GridBox::between(&start.to_grid(step), &end.to_grid(step)),
+        Way::Arc(arc) => arc.swept_box(step),
     }
 }
 
@@ -108,19 +105,19 @@ pub(crate) fn line_box(
 }
 
 /// The box that a piece of a motion needs at least; cuts of a line are at most 65,536.
-pub(crate) fn derived_box(step: Nm, motion: &Motion, stretch: &Stretch, cut: &Cut) -> GridBox
+pub(crate) fn derived_box(step: Nm, way: &Way, stretch: &Stretch, cut: &Cut) -> GridBox
     requires step { IsStep step }
     requires from { part_of_cut stretch.now.begin ≤ WHOLE }
     requires to { part_of_cut cut.now ≤ WHOLE }
-    ensures { result ≡ box_derived step motion.now stretch.now cut.now }
+    ensures { result ≡ box_derived step way.now stretch.now cut.now }
 {
-    let whole = whole_box(step, motion);
-    match motion {
-        Motion::Straight { start, end } => {
+    let whole = whole_box(step, way);
+    match way {
+        Way::Line { start, end } => {
             let cuts = Cuts::of(&stretch.begin, cut);
             line_box(step, start, end, &cuts, &whole)
         }
-        Motion::Along(_) => whole,
+        Way::Arc(_) => whole,
     }
 }
 
@@ -145,22 +142,16 @@ fn covers_line(
 }
 
 /// A piece's box holds the box that it needs at least; `whole` is the box of the motion in one piece.
-pub(crate) fn covers(
-    step: Nm,
-    motion: &Motion,
-    whole: &GridBox,
-    stretch: &Stretch,
-    piece: &Piece,
-) -> bool
+pub(crate) fn covers(step: Nm, way: &Way, whole: &GridBox, stretch: &Stretch, piece: &Piece) -> bool
     requires step { IsStep step }
-    requires whole { whole.now ≡ box_of_whole step motion.now }
-    ensures { result ≡ holds_box piece.now.bounds (box_derived step motion.now stretch.now piece.now.end) }
+    requires whole { whole.now ≡ box_of_whole step way.now }
+    ensures { result ≡ holds_box piece.now.bounds (box_derived step way.now stretch.now piece.now.end) }
 {
-    match motion {
-        Motion::Straight { start, end } => {
+    match way {
+        Way::Line { start, end } => {
             let cuts = Cuts::of(&stretch.begin, &piece.end);
             covers_line(step, start, end, &cuts, whole, &piece.bounds)
         }
-        Motion::Along(_) => piece.bounds.holds(whole),
+        Way::Arc(_) => piece.bounds.holds(whole),
     }
 }

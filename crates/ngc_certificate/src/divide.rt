@@ -12,7 +12,7 @@ use crate::chain::WHOLE;
 use crate::cuts::Cuts;
 use crate::derived::line_box;
 use ngc_arc_geometry::Arc;
-use ngc_canonical::Motion;
+use ngc_canonical::Way;
 use ngc_certificate_text::{Cut, Piece};
 use ngc_fixed_length::{GridBox, Nm, Point3};
 use std::alloc::{AllocError, Allocator};
@@ -91,17 +91,17 @@ fn divide_line<A: Allocator>(
 /// The step is 500 to 50,000 nm.
 pub(crate) fn divide<A: Allocator>(
     step: Nm,
-    motion: &Motion,
+    way: &Way,
     count: u16,
     pieces: &mut Vec<Piece, A>,
 ) -> Result<(), AllocError>
     requires { IsStep step }
-    ensures { OnOk result (pieces.new.items ≡ pieces_of step motion.now count) }
+    ensures { OnOk result (pieces.new.items ≡ pieces_of step way.now count) }
 {
     pieces.clear();
-    match motion {
-        Motion::Straight { start, end } => divide_line(step, start, end, u32::from(count), pieces),
-        Motion::Along(arc) => {
+    match way {
+        Way::Line { start, end } => divide_line(step, start, end, u32::from(count), pieces),
+        Way::Arc(arc) => {
             pieces.push(whole_arc(step, arc))?;
             Ok(())
         }

@@ -1,7 +1,6 @@
 //! Certificates for commands.
 ghost use Rattle.std.specs.Prelude.{◌≡◌, ℕ, ◌<◌, ◌≤◌, [], length, true, IfOk, MatchResult};
 ghost use Rattle.ngc_machine.specs.Machine.{file_of};
-ghost use Rattle.ngc_canonical.specs.Movement.{doing};
 ghost use Rattle.ngc_canonical.specs.State.{COMMAND_LIMIT};
 ghost use Rattle.ngc_certificate_text.specs.Certificate.{INDEX_LIMIT, MOTION_LIMIT};
 ghost use Rattle.ngc_certificate_text.specs.Contents.{said_of};
@@ -12,7 +11,7 @@ ghost use Rattle.ngc_certificate.specs.Making.{is_clear_at, is_clear_in, pieces_
 use crate::divide::divide;
 use crate::fault::MakeFault;
 use crate::pieces::{pieces_fault, place_fault};
-use ngc_canonical::{Command, Doing, Machine, Motion, Tool};
+use ngc_canonical::{Action, Command, Machine, Motion, Tool, Way};
 use ngc_certificate_text::{Certificate, Motions, Piece, Setting};
 use ngc_fixed_length::Point3;
 use std::alloc::{AllocError, Allocator};
@@ -48,38 +47,38 @@ fn is_clear_at<A: Allocator>(machine: &Machine<A>, tool: &Option<Tool>, place: &
 fn clears_in<A: Allocator>(
     machine: &Machine<A>,
     tool: &Option<Tool>,
-    motion: &Motion,
+    way: &Way,
     count: u16,
     pieces: &mut Vec<Piece, A>,
 ) -> Result<bool, AllocError>
     requires { 1 ≤ count }
-    ensures pieces { IfOk result (λ clear. pieces.new.items ≡ pieces_of machine.now.step motion.now count) }
-    ensures clear { IfOk result (λ free. free ≡ is_clear_in (file_of machine.now) tool.now motion.now count) }
+    ensures pieces { IfOk result (λ clear. pieces.new.items ≡ pieces_of machine.now.step way.now count) }
+    ensures clear { IfOk result (λ free. free ≡ is_clear_in (file_of machine.now) tool.now way.now count) }
 {
-    divide(machine.step, motion, count, pieces)?;
-    Ok(pieces_fault(machine, *tool, motion, pieces.as_slice()).is_none())
+    divide(machine.step, way, count, pieces)?;
+    Ok(pieces_fault(machine, *tool, way, pieces.as_slice()).is_none())
 }
 
 // Makes `pieces` those of a motion in the first number of pieces that no refusal meets, and answers whether there is one.
 fn find_clear<A: Allocator>(
     machine: &Machine<A>,
     tool: &Option<Tool>,
-    motion: &Motion,
+    way: &Way,
     most: u16,
     pieces: &mut Vec<Piece, A>,
 ) -> Result<bool, AllocError>
     requires { 1 ≤ most }
-    ensures { IfOk result (λ clear. cleared (file_of machine.now) most tool.now motion.now ≡ pieces_where clear pieces.new.items) }
+    ensures { IfOk result (λ clear. cleared (file_of machine.now) most tool.now way.now ≡ pieces_where clear pieces.new.items) }
 {
     for count in POWERS_OF_TWO {
         if count >= most {
             continue;
         }
-        if clears_in(machine, tool, motion, count, pieces)? {
+        if clears_in(machine, tool, way, count, pieces)? {
             return Ok(true);
         }
     }
-    clears_in(machine, tool, motion, most, pieces)
+    clears_in(machine, tool, way, most, pieces)
 }
 
 impl<A: Allocator + Copy> Progress<A> {
@@ -100,7 +99,7 @@ impl<A: Allocator + Copy> Progress<A> {
 impl<A: Allocator> Progress<A> {
     // A tool, or none, is mounted where the axes stand.
     fn mount(&mut self, machine: &Machine<A>, index: u32, tool: Option<Tool>) -> Result<(), Refusal>
-        ensures { (most : ℕ) → Leads (file_of machine.now) most index (Doing.Mounts tool) self.old result self.new }
+        ensures { (most : ℕ) → Leads (file_of machine.now) most index (Action.Mount tool) self.old result self.new }
     {
         if !is_clear_at(machine, &tool, &self.place) {
             return Err(Refusal::NotCleared(index));
@@ -121,9 +120,9 @@ impl<A: Allocator> Progress<A> {
         requires index { index ≤ INDEX_LIMIT }
         requires most { 1 ≤ most }
         requires room { length self.old.motions < MOTION_LIMIT }
-        ensures { Leads (file_of machine.now) most index (Doing.Moves motion.now) self.old result self.new }
+        ensures { Leads (file_of machine.now) most index (Action.Move motion.now) self.old result self.new }
     {
-        match find_clear(machine, &self.tool, motion, most, pieces) {
+        match find_clear(machine, &self.tool, &motion.way, most, pieces) {
             Ok(true) => {}
             Ok(false) => return Err(Refusal::NotCleared(index)),
             Err(_) => return Err(Refusal::Memory),
@@ -132,28 +131,28 @@ impl<A: Allocator> Progress<A> {
             Ok(()) => {}
             Err(_) => return Err(Refusal::Memory),
         }
-        self.place = motion.end();
+        self.place = motion.way.end();
         Ok(())
     }
 
-    // A command.
-    fn take_command(
+    // What a command does.
+    fn take(
         &mut self,
         machine: &Machine<A>,
         index: u32,
-        command: &Command,
+        action: &Action,
         most: u16,
         pieces: &mut Vec<Piece, A>,
     ) -> Result<(), Refusal>
         requires index { index ≤ INDEX_LIMIT }
         requires most { 1 ≤ most }
         requires room { length self.old.motions < MOTION_LIMIT }
-        ensures { Leads (file_of machine.now) most index (doing command.now) self.old result self.new }
+        ensures { Leads (file_of machine.now) most index action.now self.old result self.new }
     {
-        match command.doing() {
-            Doing::Moves(motion) => self.move_along(machine, index, &motion, most, pieces),
-            Doing::Mounts(tool) => self.mount(machine, index, tool),
-            Doing::Stays => Ok(()),
+        match action {
+            Action::Move(motion) => self.move_along(machine, index, motion, most, pieces),
+            Action::Mount(tool) => self.mount(machine, index, *tool),
+            _ => Ok(()),
         }
     }
 }
@@ -172,7 +171,7 @@ fn setting_motions<A: Allocator + Copy>(
 {
     let mut progress = Progress::at_start(alloc, machine);
     for (index, command) in commands.iter().enumerate() {
-        match progress.take_command(machine, index as u32, command, most, pieces) {
+        match progress.take(machine, index as u32, &command.action, most, pieces) {
             Ok(()) => {}
             Err(refusal) => return Err(refusal),
         }

@@ -8,7 +8,7 @@ use crate::chain::{first_cut, follows};
 use crate::derived::{covers, whole_box};
 use crate::fault::{PieceFault, PieceRefusal};
 use crate::stretch::Stretch;
-use ngc_canonical::Motion;
+use ngc_canonical::Way;
 use ngc_certificate_text::Piece;
 use ngc_collision::{first_met, is_in_travel};
 use ngc_fixed_length::{GridBox, StepPos};
@@ -20,18 +20,18 @@ use std::alloc::Allocator;
 fn fault_within<A: Allocator>(
     machine: &Machine<A>,
     tool: &Option<Tool>,
-    motion: &Motion,
+    way: &Way,
     whole: &GridBox,
     stretch: &Stretch,
     piece: &Piece,
 ) -> Option<PieceFault>
-    requires { whole.now ≡ box_of_whole machine.now.step motion.now }
-    ensures { result ≡ fault_of (file_of machine.now) tool.now motion.now stretch.now piece.now }
+    requires { whole.now ≡ box_of_whole machine.now.step way.now }
+    ensures { result ≡ fault_of (file_of machine.now) tool.now way.now stretch.now piece.now }
 {
-    if !follows(motion, stretch, &piece.end) {
+    if !follows(way, stretch, &piece.end) {
         return Some(PieceFault::Chain);
     }
-    if !covers(machine.step, motion, whole, stretch, piece) {
+    if !covers(machine.step, way, whole, stretch, piece) {
         return Some(PieceFault::NotCovered);
     }
     if !is_in_travel(machine, &piece.bounds) {
@@ -44,29 +44,29 @@ fn fault_within<A: Allocator>(
 pub fn piece_fault<A: Allocator>(
     machine: &Machine<A>,
     tool: Option<Tool>,
-    motion: &Motion,
+    way: &Way,
     stretch: &Stretch,
     piece: &Piece,
 ) -> Option<PieceFault>
-    ensures { result ≡ fault_of (file_of machine.now) tool motion.now stretch.now piece.now }
+    ensures { result ≡ fault_of (file_of machine.now) tool way.now stretch.now piece.now }
 {
-    let whole = whole_box(machine.step, motion);
-    fault_within(machine, &tool, motion, &whole, stretch, piece)
+    let whole = whole_box(machine.step, way);
+    fault_within(machine, &tool, way, &whole, stretch, piece)
 }
 
 /// The first refusal of the pieces of a motion, or `None` also where there are none.
 fn first_refusal<A: Allocator>(
     machine: &Machine<A>,
     tool: Option<Tool>,
-    motion: &Motion,
+    way: &Way,
     pieces: &[Piece],
 ) -> Option<PieceRefusal>
     requires { length pieces.now ≤ PIECE_LIMIT }
-    ensures { result ≡ fault_of_some (file_of machine.now) tool motion.now pieces.now }
+    ensures { result ≡ fault_of_some (file_of machine.now) tool way.now pieces.now }
 {
-    let whole = whole_box(machine.step, motion);
+    let whole = whole_box(machine.step, way);
     let several = pieces.len() > 1;
-    let mut begin = first_cut(motion);
+    let mut begin = first_cut(way);
     for (i, piece) in pieces.iter().enumerate() {
         let last = i + 1 == pieces.len();
         let stretch = Stretch {
@@ -74,7 +74,7 @@ fn first_refusal<A: Allocator>(
             several,
             last,
         };
-        if let Some(fault) = fault_within(machine, &tool, motion, &whole, &stretch, piece) {
+        if let Some(fault) = fault_within(machine, &tool, way, &whole, &stretch, piece) {
             return Some(PieceRefusal {
                 piece: i as u32,
                 fault,
@@ -90,18 +90,18 @@ fn first_refusal<A: Allocator>(
 pub fn pieces_fault<A: Allocator>(
     machine: &Machine<A>,
     tool: Option<Tool>,
-    motion: &Motion,
+    way: &Way,
     pieces: &[Piece],
 ) -> Option<PieceRefusal>
     requires { length pieces.now ≤ PIECE_LIMIT }
-    ensures { result ≡ fault_of_all (file_of machine.now) tool motion.now pieces.now }
+    ensures { result ≡ fault_of_all (file_of machine.now) tool way.now pieces.now }
 {
     if pieces.is_empty() {
         let piece = 0;
         let fault = PieceFault::Chain;
         return Some(PieceRefusal { piece, fault });
     }
-    first_refusal(machine, tool, motion, pieces)
+    first_refusal(machine, tool, way, pieces)
 }
 
 /// The lowest fixture, counted from 0, that the tool's body meets where its controlled point stands at a place.

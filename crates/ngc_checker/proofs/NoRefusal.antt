@@ -7,10 +7,10 @@ use Rattle.ngc_machine.specs.declared.tools.Tool.{Tool}
 use Rattle.ngc_machine.specs.Machine.{MachineFile}
 use Rattle.ngc_canonical.specs.declared.command.Command.{Command}
 use Rattle.ngc_canonical.specs.declared.fault.ProgramFault.{ProgramFault}
-use Rattle.ngc_canonical.specs.declared.movement.Doing.{Doing}
-use Rattle.ngc_canonical.specs.declared.movement.Doing.TheVariants.{Moves, Mounts, Stays}
+use Rattle.ngc_canonical.specs.declared.command.Action.{Action}
+use Rattle.ngc_canonical.specs.declared.command.Action.TheVariants.{Move, Mount}
 use Rattle.ngc_canonical.specs.Meaning.{Program, meaning}
-use Rattle.ngc_canonical.specs.Movement.{doings, motion_indices, end_of}
+use Rattle.ngc_canonical.specs.Movement.{actions_of, motion_indices, end_of}
 use Rattle.ngc_canonical.specs.State.{Setup}
 use Rattle.ngc_certificate_text.specs.declared.piece.Setting.{Setting}
 use Rattle.ngc_certificate_text.specs.declared.piece.Setting.TheVariants.{Off, On}
@@ -47,57 +47,57 @@ alike is js e = ap (first_difference is) e ∙ no_difference_of_one is
 
 -- ---- the commands of a setting
 
-clear_from : (machine : MachineFile) (s : Setting) (k : ℕ) (tool : Option Tool) (place : Point3) (ds : List Doing) (entries : List Entry) →
-    commands_fault machine s k tool place ds entries ≡ None → AreClearFrom machine tool place ds entries
+clear_from : (machine : MachineFile) (s : Setting) (k : ℕ) (tool : Option Tool) (place : Point3) (actions : List Action) (entries : List Entry) →
+    commands_fault machine s k tool place actions entries ≡ None → AreClearFrom machine tool place actions entries
 clear_from machine s k tool place [] entries h = tt
-clear_from machine s k tool place (Stays ∷ ds) entries h = clear_from machine s (k + 1) tool place ds entries h
-clear_from machine s k tool place (Mounts new ∷ ds) entries h =
-    let e = neither (option_map (faults.ToolChange s k) (place_fault machine new (grid machine.step place))) (commands_fault machine s (k + 1) new place ds entries) h in (
+clear_from machine s k tool place (Mount new ∷ actions) entries h =
+    let e = neither (option_map (faults.ToolChange s k) (place_fault machine new (grid machine.step place))) (commands_fault machine s (k + 1) new place actions entries) h in (
       clear_at machine new (grid machine.step place) (no_map (faults.ToolChange s k) (place_fault machine new (grid machine.step place)) e.0),
-      clear_from machine s (k + 1) new place ds entries e.1,
+      clear_from machine s (k + 1) new place actions entries e.1,
     )
-clear_from machine s k tool place (Moves m ∷ ds) (entry ∷ entries) h =
-    let e = neither (option_map (at_command s k) (pieces_fault machine tool m entry.pieces)) (commands_fault machine s (k + 1) tool (end_of m) ds entries) h in (
-      pieces_valid machine tool m entry.pieces (no_map (at_command s k) (pieces_fault machine tool m entry.pieces) e.0),
-      clear_from machine s (k + 1) tool (end_of m) ds entries e.1,
+clear_from machine s k tool place (Move m ∷ actions) (entry ∷ entries) h =
+    let e = neither (option_map (at_command s k) (pieces_fault machine tool m.way entry.pieces)) (commands_fault machine s (k + 1) tool (end_of m.way) actions entries) h in (
+      pieces_valid machine tool m.way entry.pieces (no_map (at_command s k) (pieces_fault machine tool m.way entry.pieces) e.0),
+      clear_from machine s (k + 1) tool (end_of m.way) actions entries e.1,
     )
-clear_from machine s k tool place (Moves m ∷ ds) [] h = absurd (some_none (faults.MotionsDiffer s k) h)
+clear_from machine s k tool place (Move m ∷ actions) [] h = absurd (some_none (faults.MotionsDiffer s k) h)
+clear_from machine s k tool place (_ ∷ actions) entries h = clear_from machine s (k + 1) tool place actions entries h
 
-passes_from : (machine : MachineFile) (s : Setting) (k : ℕ) (tool : Option Tool) (place : Point3) (ds : List Doing) (entries : List Entry) →
-    AreClearFrom machine tool place ds entries → commands_fault machine s k tool place ds entries ≡ None
+passes_from : (machine : MachineFile) (s : Setting) (k : ℕ) (tool : Option Tool) (place : Point3) (actions : List Action) (entries : List Entry) →
+    AreClearFrom machine tool place actions entries → commands_fault machine s k tool place actions entries ≡ None
 passes_from machine s k tool place [] entries h = refl
-passes_from machine s k tool place (Stays ∷ ds) entries h = passes_from machine s (k + 1) tool place ds entries h
-passes_from machine s k tool place (Mounts new ∷ ds) entries h =
-    both_none (option_map (faults.ToolChange s k) (place_fault machine new (grid machine.step place))) (commands_fault machine s (k + 1) new place ds entries)
+passes_from machine s k tool place (Mount new ∷ actions) entries h =
+    both_none (option_map (faults.ToolChange s k) (place_fault machine new (grid machine.step place))) (commands_fault machine s (k + 1) new place actions entries)
     (map_none (faults.ToolChange s k) (place_fault machine new (grid machine.step place)) (unmet_at machine new (grid machine.step place) h.0))
-    (passes_from machine s (k + 1) new place ds entries h.1)
-passes_from machine s k tool place (Moves m ∷ ds) (entry ∷ entries) h =
-    both_none (option_map (at_command s k) (pieces_fault machine tool m entry.pieces)) (commands_fault machine s (k + 1) tool (end_of m) ds entries)
-    (map_none (at_command s k) (pieces_fault machine tool m entry.pieces) (pieces_pass machine tool m entry.pieces h.0))
-    (passes_from machine s (k + 1) tool (end_of m) ds entries h.1)
-passes_from machine s k tool place (Moves m ∷ ds) [] h = absurd h
+    (passes_from machine s (k + 1) new place actions entries h.1)
+passes_from machine s k tool place (Move m ∷ actions) (entry ∷ entries) h =
+    both_none (option_map (at_command s k) (pieces_fault machine tool m.way entry.pieces)) (commands_fault machine s (k + 1) tool (end_of m.way) actions entries)
+    (map_none (at_command s k) (pieces_fault machine tool m.way entry.pieces) (pieces_pass machine tool m.way entry.pieces h.0))
+    (passes_from machine s (k + 1) tool (end_of m.way) actions entries h.1)
+passes_from machine s k tool place (Move m ∷ actions) [] h = absurd h
+passes_from machine s k tool place (_ ∷ actions) entries h = passes_from machine s (k + 1) tool place actions entries h
 
 -- ---- a setting
 
 pub setting_valid : (machine : MachineFile) (s : Setting) (commands : List Command) (entries : List Entry) →
     setting_fault machine s commands entries ≡ None → IsValid machine commands entries
 setting_valid machine s commands entries h =
-    let a = neither (motions_fault s (doings commands) entries or start_fault machine) (commands_fault machine s 0 None machine.start (doings commands) entries) h in
-    let b = neither (motions_fault s (doings commands) entries) (start_fault machine) a.0 in
+    let a = neither (motions_fault s (actions_of commands) entries or start_fault machine) (commands_fault machine s 0 None machine.start (actions_of commands) entries) h in
+    let b = neither (motions_fault s (actions_of commands) entries) (start_fault machine) a.0 in
     record {
-      motions = no_difference (motion_indices 0 (doings commands)) (map (λ entry. entry.index) entries) (no_map (faults.MotionsDiffer s) (first_difference (motion_indices 0 (doings commands)) (map (λ entry. entry.index) entries)) b.0);
+      motions = no_difference (motion_indices 0 (actions_of commands)) (map (λ entry. entry.index) entries) (no_map (faults.MotionsDiffer s) (first_difference (motion_indices 0 (actions_of commands)) (map (λ entry. entry.index) entries)) b.0);
       start = clear_at machine None (grid machine.step machine.start) (no_map faults.Start (place_fault machine None (grid machine.step machine.start)) b.1);
-      clear = clear_from machine s 0 None machine.start (doings commands) entries a.1;
+      clear = clear_from machine s 0 None machine.start (actions_of commands) entries a.1;
     }
 
 setting_passes : (machine : MachineFile) (s : Setting) (commands : List Command) (entries : List Entry) →
     IsValid machine commands entries → setting_fault machine s commands entries ≡ None
 setting_passes machine s commands entries h =
-    both_none (motions_fault s (doings commands) entries or start_fault machine) (commands_fault machine s 0 None machine.start (doings commands) entries)
-    (both_none (motions_fault s (doings commands) entries) (start_fault machine)
-    (map_none (faults.MotionsDiffer s) _ (alike (motion_indices 0 (doings commands)) (map (λ entry. entry.index) entries) h.motions))
+    both_none (motions_fault s (actions_of commands) entries or start_fault machine) (commands_fault machine s 0 None machine.start (actions_of commands) entries)
+    (both_none (motions_fault s (actions_of commands) entries) (start_fault machine)
+    (map_none (faults.MotionsDiffer s) _ (alike (motion_indices 0 (actions_of commands)) (map (λ entry. entry.index) entries) h.motions))
     (map_none faults.Start _ (unmet_at machine None (grid machine.step machine.start) h.start)))
-    (passes_from machine s 0 None machine.start (doings commands) entries h.clear)
+    (passes_from machine s 0 None machine.start (actions_of commands) entries h.clear)
 
 -- ---- both settings
 

@@ -7,7 +7,7 @@ use Rattle.ngc_machine.specs.declared.tools.Tool.{Tool}
 use Rattle.ngc_canonical.specs.declared.command.Command.{Command}
 use Rattle.ngc_canonical.specs.Joined.{HaveEvenRadii, EndIsLast}
 use Rattle.ngc_canonical.specs.Meaning.{Program, meaning}
-use Rattle.ngc_canonical.specs.Movement.{doings, motions_of, AreJoined}
+use Rattle.ngc_canonical.specs.Movement.{actions_of, ways_of, AreJoined}
 use Rattle.ngc_canonical.specs.State.{Setup, COMMAND_LIMIT}
 use Rattle.ngc_certificate_text.specs.Certificate.{CertificateData}
 use Rattle.ngc_certificate.specs.Valid.{IsValid}
@@ -30,8 +30,8 @@ commands_at true a = a.on
 -- nothing comes after the end
 pub record AreCommands (start : Point3) (commands : List Command) : Type 0 where
   pub count : length commands ≤ COMMAND_LIMIT
-  pub joined : AreJoined start (motions_of (doings commands))
-  pub radii : HaveEvenRadii (motions_of (doings commands))
+  pub joined : AreJoined start (ways_of (actions_of commands))
+  pub radii : HaveEvenRadii (ways_of (actions_of commands))
   pub ended : EndIsLast commands
 
 -- what holds of all that was accepted: some certificate is valid for both settings

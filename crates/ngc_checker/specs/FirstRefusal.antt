@@ -8,9 +8,9 @@ use Rattle.ngc_machine.specs.declared.tools.Tool.{Tool}
 use Rattle.ngc_machine.specs.Machine.{MachineFile}
 use Rattle.ngc_canonical.specs.Meaning.{Program, meaning}
 use Rattle.ngc_canonical.specs.State.{Setup}
-use Rattle.ngc_canonical.specs.Movement.{doings, motion_indices, end_of}
-use Rattle.ngc_canonical.specs.declared.movement.Doing.{Doing}
-use Rattle.ngc_canonical.specs.declared.movement.Doing.TheVariants.{Moves, Mounts, Stays}
+use Rattle.ngc_canonical.specs.Movement.{actions_of, motion_indices, end_of}
+use Rattle.ngc_canonical.specs.declared.command.Action.{Action}
+use Rattle.ngc_canonical.specs.declared.command.Action.TheVariants.{Move, Mount}
 use Rattle.ngc_certificate_text.specs.declared.piece.Setting.{Setting}
 use Rattle.ngc_certificate_text.specs.declared.piece.Setting.TheVariants.{Off, On}
 use Rattle.ngc_certificate_text.specs.Certificate.{Entry, CertificateData}
@@ -26,8 +26,8 @@ first_difference (i ∷ is) [] = Some i
 first_difference [] (j ∷ js) = Some j
 first_difference (i ∷ is) (j ∷ js) = if i == j then first_difference is js else Some (min i j)
 
-abbrev pub motions_fault : Setting → List Doing → List Entry → Option CheckFault
-motions_fault s ds entries = option_map (faults.MotionsDiffer s) (first_difference (motion_indices 0 ds) (map (λ entry. entry.index) entries))
+abbrev pub motions_fault : Setting → List Action → List Entry → Option CheckFault
+motions_fault s actions entries = option_map (faults.MotionsDiffer s) (first_difference (motion_indices 0 actions) (map (λ entry. entry.index) entries))
 
 abbrev pub start_fault : MachineFile → Option CheckFault
 start_fault machine = option_map faults.Start (place_fault machine None (grid machine.step machine.start))
@@ -36,21 +36,21 @@ abbrev pub at_command : Setting → ℕ → PieceRefusal → CheckFault
 at_command s k refusal = faults.Piece s k refusal.piece refusal.fault
 
 -- from command k on, with the tool mounted and the place reached so far
-abbrev pub commands_fault : MachineFile → Setting → ℕ → Option Tool → Point3 → List Doing → List Entry → Option CheckFault
+abbrev pub commands_fault : MachineFile → Setting → ℕ → Option Tool → Point3 → List Action → List Entry → Option CheckFault
 commands_fault machine s k tool place [] entries = None
-commands_fault machine s k tool place (Stays ∷ ds) entries = commands_fault machine s (k + 1) tool place ds entries
-commands_fault machine s k tool place (Mounts new ∷ ds) entries =
+commands_fault machine s k tool place (Mount new ∷ actions) entries =
     option_map (faults.ToolChange s k) (place_fault machine new (grid machine.step place))
-    or commands_fault machine s (k + 1) new place ds entries
-commands_fault machine s k tool place (Moves m ∷ ds) (entry ∷ entries) =
-    option_map (at_command s k) (pieces_fault machine tool m entry.pieces)
-    or commands_fault machine s (k + 1) tool (end_of m) ds entries
-commands_fault machine s k tool place (Moves m ∷ ds) [] = Some (faults.MotionsDiffer s k)
+    or commands_fault machine s (k + 1) new place actions entries
+commands_fault machine s k tool place (Move m ∷ actions) (entry ∷ entries) =
+    option_map (at_command s k) (pieces_fault machine tool m.way entry.pieces)
+    or commands_fault machine s (k + 1) tool (end_of m.way) actions entries
+commands_fault machine s k tool place (Move m ∷ actions) [] = Some (faults.MotionsDiffer s k)
+commands_fault machine s k tool place (_ ∷ actions) entries = commands_fault machine s (k + 1) tool place actions entries
 
 abbrev pub setting_fault : MachineFile → Setting → List Command → List Entry → Option CheckFault
 setting_fault machine s commands entries =
-    motions_fault s (doings commands) entries or start_fault machine or
-    commands_fault machine s 0 None machine.start (doings commands) entries
+    motions_fault s (actions_of commands) entries or start_fault machine or
+    commands_fault machine s 0 None machine.start (actions_of commands) entries
 
 -- the commands at both settings, or why the program is refused
 abbrev pub settings_fault : MachineFile → Result (List Command) ProgramFault → Result (List Command) ProgramFault → CertificateData → Option CheckFault

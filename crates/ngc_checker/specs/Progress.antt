@@ -1,7 +1,7 @@
 -- What is left of a check on the way through a list of commands. Our own.
 use Rattle.std.specs.Prelude.{ℕ, List, map, drop, Option}
 use Rattle.ngc_machine.specs.Machine.{MachineFile}
-use Rattle.ngc_canonical.specs.declared.movement.Doing.{Doing}
+use Rattle.ngc_canonical.specs.declared.command.Action.{Action}
 use Rattle.ngc_certificate_text.specs.declared.piece.Setting.{Setting}
 use Rattle.ngc_certificate_text.specs.Certificate.{Entry}
 use Rattle.ngc_checker.specs.declared.fault.CheckFault.{CheckFault}
@@ -13,5 +13,5 @@ abbrev pub indices_from : ℕ → List Entry → List ℕ
 indices_from next entries = map (λ entry. entry.index) (drop next entries)
 
 -- the first fault of the commands from k on
-abbrev pub fault_from : MachineFile → Setting → ℕ → Walk → List Doing → List Entry → Option CheckFault
-fault_from machine s k walk ds entries = commands_fault machine s k walk.tool walk.place ds (drop walk.next entries)
+abbrev pub fault_from : MachineFile → Setting → ℕ → Walk → List Action → List Entry → Option CheckFault
+fault_from machine s k walk actions entries = commands_fault machine s k walk.tool walk.place actions (drop walk.next entries)

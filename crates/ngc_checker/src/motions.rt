@@ -1,12 +1,12 @@
 //! Whether the motions of a certificate are those of a program's commands.
 ghost use Rattle.std.specs.Prelude.{◌≡◌, ◌+◌, ◌∷◌, [], ◌≤◌, length, List, ℕ};
-ghost use Rattle.ngc_canonical.specs.Movement.{doings, motion_indices};
+ghost use Rattle.ngc_canonical.specs.Movement.{actions_of, motion_indices};
 ghost use Rattle.ngc_canonical.specs.State.{COMMAND_LIMIT};
 ghost use Rattle.ngc_certificate.specs.PieceFault.{◌or◌};
 ghost use Rattle.ngc_checker.specs.FirstRefusal.{first_difference};
 ghost use Rattle.ngc_checker.specs.Progress.{indices_from};
 
-use ngc_canonical::{Command, Doing};
+use ngc_canonical::{Action, Command};
 use ngc_certificate_text::Motions;
 use std::alloc::Allocator;
 
@@ -40,11 +40,11 @@ fn difference_behind<A: Allocator>(motions: &Motions<A>, next: usize) -> Option<
 /// the two where both have one there.
 pub fn first_difference<A: Allocator>(commands: &[Command], motions: &Motions<A>) -> Option<u32>
     requires { length commands.now ≤ COMMAND_LIMIT }
-    ensures { result ≡ first_difference (motion_indices 0 (doings commands.now)) (indices_from 0 motions.now) }
+    ensures { result ≡ first_difference (motion_indices 0 (actions_of commands.now)) (indices_from 0 motions.now) }
 {
     let mut next = 0;
     for (index, command) in commands.iter().enumerate() {
-        if let Doing::Moves(_) = command.doing() {
+        if let Action::Move(_) = &command.action {
             match difference_at(motions, next, index as u32) {
                 Some(first) => return Some(first),
                 None => next += 1,

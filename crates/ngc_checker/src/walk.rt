@@ -1,12 +1,12 @@
 //! The way through the commands of a setting: each motion with its pieces, each tool change at its place.
 ghost use Rattle.std.specs.Prelude.{◌≡◌, ◌+◌, ◌∷◌, ◌≤◌, length, List, None};
 ghost use Rattle.ngc_machine.specs.Machine.{file_of};
-ghost use Rattle.ngc_canonical.specs.Movement.{doings};
+ghost use Rattle.ngc_canonical.specs.Movement.{actions_of};
 ghost use Rattle.ngc_canonical.specs.State.{COMMAND_LIMIT};
 ghost use Rattle.ngc_checker.specs.FirstRefusal.{commands_fault};
 
 use crate::fault::CheckFault;
-use ngc_canonical::{Command, Doing, Motion};
+use ngc_canonical::{Action, Command, Motion};
 use ngc_certificate::{Setting, pieces_fault, place_fault};
 use ngc_certificate_text::Motions;
 use ngc_fixed_length::Point3;
@@ -22,8 +22,8 @@ pub struct Walk {
 }
 
 impl Walk {
-    ghost use Rattle.ngc_canonical.specs.declared.movement.Doing.{Doing};
-    ghost use Rattle.ngc_canonical.specs.declared.movement.Doing.TheVariants.{Moves};
+    ghost use Rattle.ngc_canonical.specs.declared.command.Action.{Action};
+    ghost use Rattle.ngc_canonical.specs.declared.command.Action.TheVariants.{Move};
     ghost use Rattle.ngc_certificate.specs.PieceFault.{◌or◌};
     ghost use Rattle.ngc_checker.specs.Progress.{fault_from};
 
@@ -36,7 +36,7 @@ impl Walk {
         motion: &Motion,
         motions: &Motions<A>,
     ) -> Option<CheckFault>
-        ensures { (ds : List Doing) → fault_from (file_of machine.now) setting index self.old (Moves motion.now ∷ ds) motions.now ≡ (result or fault_from (file_of machine.now) setting (index + 1) self.new ds motions.now) }
+        ensures { (rest : List Action) → fault_from (file_of machine.now) setting index self.old (Move motion.now ∷ rest) motions.now ≡ (result or fault_from (file_of machine.now) setting (index + 1) self.new rest motions.now) }
     {
         if self.next >= motions.len() {
             return Some(CheckFault::MotionsDiffer {
@@ -44,7 +44,7 @@ impl Walk {
                 command: index,
             });
         }
-        match pieces_fault(machine, self.tool, motion, motions.pieces(self.next)) {
+        match pieces_fault(machine, self.tool, &motion.way, motions.pieces(self.next)) {
             Some(refusal) => Some(CheckFault::Piece {
                 setting,
                 command: index,
@@ -52,7 +52,7 @@ impl Walk {
                 fault: refusal.fault,
             }),
             None => {
-                self.place = motion.end();
+                self.place = motion.way.end();
                 self.next += 1;
                 None
             }
@@ -65,14 +65,14 @@ impl Walk {
         machine: &Machine<A>,
         setting: Setting,
         index: u32,
-        doing: &Doing,
+        action: &Action,
         motions: &Motions<A>,
     ) -> Option<CheckFault>
-        ensures { (ds : List Doing) → fault_from (file_of machine.now) setting index self.old (doing.now ∷ ds) motions.now ≡ (result or fault_from (file_of machine.now) setting (index + 1) self.new ds motions.now) }
+        ensures { (rest : List Action) → fault_from (file_of machine.now) setting index self.old (action.now ∷ rest) motions.now ≡ (result or fault_from (file_of machine.now) setting (index + 1) self.new rest motions.now) }
     {
-        match doing {
-            Doing::Moves(motion) => self.follow(machine, setting, index, motion, motions),
-            Doing::Mounts(tool) => {
+        match action {
+            Action::Move(motion) => self.follow(machine, setting, index, motion, motions),
+            Action::Mount(tool) => {
                 let place = self.place.to_grid(machine.step);
                 if let Some(fixture) = place_fault(machine, *tool, &place) {
                     return Some(CheckFault::ToolChange {
@@ -84,7 +84,7 @@ impl Walk {
                 self.tool = *tool;
                 None
             }
-            Doing::Stays => None,
+            _ => None,
         }
     }
 }
@@ -97,7 +97,7 @@ pub fn commands_fault<A: Allocator>(
     motions: &Motions<A>,
 ) -> Option<CheckFault>
     requires { length commands.now ≤ COMMAND_LIMIT }
-    ensures { result ≡ commands_fault (file_of machine.now) setting 0 None (file_of machine.now).start (doings commands.now) motions.now }
+    ensures { result ≡ commands_fault (file_of machine.now) setting 0 None (file_of machine.now).start (actions_of commands.now) motions.now }
 {
     let mut walk = Walk {
         tool: None,
@@ -105,7 +105,7 @@ pub fn commands_fault<A: Allocator>(
         next: 0,
     };
     for (index, command) in commands.iter().enumerate() {
-        if let Some(fault) = walk.take(machine, setting, index as u32, &command.doing(), motions) {
+        if let Some(fault) = walk.take(machine, setting, index as u32, &command.action, motions) {
             return Some(fault);
         }
     }

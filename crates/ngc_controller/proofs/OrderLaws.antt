@@ -3,11 +3,11 @@ use Rattle.std.proofs.Common.{◌≡◌, ℕ, suc, ◌+◌, ◌-◌, ◌/◌, �
 use Rattle.std.proofs.lemmas.Bool.{cases_lt, lt-ltb, le-ltb}
 use Rattle.ngc_machine.specs.Machine.{MachineFile}
 use Rattle.ngc_canonical.specs.declared.command.Command.{Command}
-use Rattle.ngc_canonical.specs.declared.command.Command.TheVariants as commands
+use Rattle.ngc_canonical.specs.declared.command.Action.{Action}
+use Rattle.ngc_canonical.specs.declared.command.Action.TheVariants.{Move}
 use Rattle.ngc_machine.specs.declared.tools.Tool.{Tool}
 use Rattle.std.specs.Prelude.{Ok, Err}
 use Rattle.ngc_fixed_length.specs.declared.points.StepPos.{StepPos}
-use Rattle.ngc_canonical.specs.Movement.{doing}
 use Rattle.ngc_behaviour.specs.declared.reply.Reply.TheVariants.{Loaded}
 use Rattle.ngc_behaviour.specs.declared.fault.EventFault.TheVariants.{RingFull}
 use Rattle.ngc_behaviour.specs.Headline.{job_of}
@@ -68,7 +68,7 @@ at_rest job k (l ∷ ls) still = still_legs job k l ls (omega arith)
 begun_moving : (job : Job) (k percent : ℕ) (l : Queued) (ls : List Queued) (old new : Drive) → 1 ≤ path_steps l → old.ramp.legs ≡ [] → new ≡ begun job k percent (l ∷ ls) old → IsBegun job k percent (l ∷ ls) old new
 begun_moving job k percent l ls old new some none is =
     let leg = leg_of job k l in
-    let t = target_at job.machine l.command (path_steps l) percent in
+    let t = target_at job.machine l.command.action (path_steps l) percent in
     let there : Drive = record { ramp = loaded old.ramp leg; target = t } in
     let e : new ≡ there = is ∙ ap (λ b. cond b there old) (lt-ltb 0 (path_steps l) some) in
     let legs : new.ramp.legs ≡ leg ∷ [] = ap (λ (d : Drive). d.ramp.legs) e ∙ ap (λ ks. ks ++ leg ∷ []) none in
@@ -85,7 +85,7 @@ begun_moving job k percent l ls old new some none is =
 begun_still : (job : Job) (k percent : ℕ) (l : Queued) (ls : List Queued) (old new : Drive) → path_steps l ≤ 0 → old.ramp.legs ≡ [] → old.ramp.rest ≡ 0 → new ≡ begun job k percent (l ∷ ls) old → IsBegun job k percent (l ∷ ls) old new
 begun_still job k percent l ls old new still none zero is =
     let leg = leg_of job k l in
-    let t = target_at job.machine l.command (path_steps l) percent in
+    let t = target_at job.machine l.command.action (path_steps l) percent in
     let there : Drive = record { ramp = loaded old.ramp leg; target = t } in
     let e : new ≡ old = is ∙ ap (λ b. cond b there old) (le-ltb 0 (path_steps l) still) in
     let legs : new.ramp.legs ≡ [] = ap (λ (d : Drive). d.ramp.legs) e ∙ none in
@@ -171,25 +171,16 @@ with_panel s tool panel = record s {
   stop_switch = panel.stop_switch;
 }
 
-after_by : (c : Command) (s : State) (tool : Option Tool) (panel : Panel) → with_panel s (tool_after c tool) (panel_after c panel) ≡ after c (with_panel s tool panel)
-after_by (commands.Traverse line b e) s tool panel = refl
-after_by (commands.Feed line b e f) s tool panel = refl
-after_by (commands.Arc line a f) s tool panel = refl
-after_by (commands.Dwell line t) s tool panel = refl
-after_by (commands.Tool line t) s tool panel = refl
-after_by (commands.Spindle line t) s tool panel = refl
-after_by (commands.Coolant line t) s tool panel = refl
-after_by (commands.Override line on) s tool panel = refl
-after_by (commands.Stop line) s tool panel = refl
-after_by (commands.OptionalStop line) s tool panel = refl
-after_by (commands.End line) s tool panel = refl
+after_by : (a : Action) (s : State) (tool : Option Tool) (panel : Panel) → with_panel s (tool_after a tool) (panel_after a panel) ≡ after a (with_panel s tool panel)
+after_by (Move m) s tool panel = refl
+after_by _ s tool panel = refl
 
-pub finished : (c : Command) (s : State) (tool mounted : Option Tool) (panel set : Panel) (k : ℕ) (xs : List Queued) (w t d : ℕ) →
-    k ≡ suc s.done → xs ≡ drop 1 s.ring → w ≡ 0 → t ≡ 0 → d ≡ 0 → mounted ≡ tool_after c tool → set ≡ panel_after c panel →
-    with_panel (record s { done = k; ring = xs; rate = w; travelled = t; dwelt = d }) mounted set ≡ after c (record (popped 0 (with_panel s tool panel)) { rate = 0 })
-finished c s tool mounted panel set k xs w t d e1 e2 e3 e4 e5 e6 e7 =
-    let whole : with_panel (record s { done = k; ring = xs; rate = w; travelled = t; dwelt = d }) mounted set ≡ with_panel (record s { done = suc s.done; ring = drop 1 s.ring; rate = 0; travelled = 0; dwelt = 0 }) (tool_after c tool) (panel_after c panel) = cc in
-    whole ∙ after_by c (record s { done = suc s.done; ring = drop 1 s.ring; rate = 0; travelled = 0; dwelt = 0 }) tool panel
+pub finished : (a : Action) (s : State) (tool mounted : Option Tool) (panel set : Panel) (k : ℕ) (xs : List Queued) (w t d : ℕ) →
+    k ≡ suc s.done → xs ≡ drop 1 s.ring → w ≡ 0 → t ≡ 0 → d ≡ 0 → mounted ≡ tool_after a tool → set ≡ panel_after a panel →
+    with_panel (record s { done = k; ring = xs; rate = w; travelled = t; dwelt = d }) mounted set ≡ after a (record (popped 0 (with_panel s tool panel)) { rate = 0 })
+finished a s tool mounted panel set k xs w t d e1 e2 e3 e4 e5 e6 e7 =
+    let whole : with_panel (record s { done = k; ring = xs; rate = w; travelled = t; dwelt = d }) mounted set ≡ with_panel (record s { done = suc s.done; ring = drop 1 s.ring; rate = 0; travelled = 0; dwelt = 0 }) (tool_after a tool) (panel_after a panel) = cc in
+    whole ∙ after_by a (record s { done = suc s.done; ring = drop 1 s.ring; rate = 0; travelled = 0; dwelt = 0 }) tool panel
 
 -- ---- a command more
 
@@ -247,7 +238,7 @@ total_more (l ∷ ls) q job k percent drive d legs left is = (ap (λ (x : Drive)
 
 -- the state after a load
 pub loads : (job : Job) (done : ℕ) (ring : RingData) (drive : Drive) (dwelt : ℕ) (position : StepPos) (tool : Option Tool) (panel : Panel) (c : Command) (q : Queued) (k : ℕ) (after : RingData) (d : Drive) (n : ℕ) →
-    IsInOrder job done ring drive dwelt panel → command_at job (done + length ring.loaded) ≡ Some c → length ring.loaded < RING → q.command ≡ c → MayTake job (doing c) q.path →
+    IsInOrder job done ring drive dwelt panel → command_at job (done + length ring.loaded) ≡ Some c → length ring.loaded < RING → q.command ≡ c → MayTake job c.action q.path →
     d ≡ with_one_more job done (effective_at panel) ring.loaded q drive → k ≡ done → n ≡ dwelt → after.loaded ≡ ring.loaded ++ q ∷ [] →
     LoadCommand job (state_of done ring drive dwelt position tool panel) (command_at job (done + length ring.loaded)) (Ok (Loaded (done + length ring.loaded))) (state_of k after d n position tool panel)
 loads job done ring drive dwelt position tool panel c q k after d n o found room same takes is more brief queue =
@@ -260,5 +251,5 @@ loads job done ring drive dwelt position tool panel c q k after d n o found room
     let own : after.loaded ≡ ring.loaded ++ record { command = c; path = q.path } ∷ [] = queue ∙ ap (λ x. ring.loaded ++ record { command = x; path = q.path } ∷ []) same in
     let whole : new ≡ record old { ring = ring.loaded ++ record { command = c; path = q.path } ∷ [] } = cc in
     subst (λ found. LoadCommand job old found out new) (sym found)
-    (subst (λ b. MatchBool b ((path : List StepPos) × MayTake job (doing c) path × (out ≡ Ok (Loaded (done + length ring.loaded))) × (new ≡ record old { ring = ring.loaded ++ record { command = c; path = path } ∷ [] })) ((out ≡ Err RingFull) × (new ≡ old))) (sym (lt-ltb (length ring.loaded) RING room))
+    (subst (λ b. MatchBool b ((path : List StepPos) × MayTake job c.action path × (out ≡ Ok (Loaded (done + length ring.loaded))) × (new ≡ record old { ring = ring.loaded ++ record { command = c; path = path } ∷ [] })) ((out ≡ Err RingFull) × (new ≡ old))) (sym (lt-ltb (length ring.loaded) RING room))
     (q.path, takes, refl, whole))

@@ -9,7 +9,7 @@ use Rattle.ngc_fixed_length.specs.LinePath.{point}
 use Rattle.ngc_machine.specs.Machine.{MachineFile}
 use Rattle.ngc_machine.specs.MachineRanges.{IsMachine}
 use Rattle.ngc_canonical.specs.declared.command.Command.{Command}
-use Rattle.ngc_canonical.specs.declared.command.Command.TheVariants as commands
+use Rattle.ngc_canonical.specs.declared.command.Action.TheVariants as actions
 use Rattle.ngc_planner.specs.Braking.{braking}
 use Rattle.ngc_planner.specs.Bounds.{IsMotion, IsLeastTravel, bound_of, least_travel}
 use Rattle.ngc_planner.specs.Caps.{MILLION}
@@ -36,7 +36,7 @@ same_test t r m e f = grind (arith, nat_tests)
 
 same_bound : (job : Job) (l : Queued) (s : State) (r : ℕ) → s.travelled ≡ millionths l - r → r ≤ millionths l → head_bound job l s ≡ tick_bound (leg_of job s.done l) r
 same_bound job l s r at within =
-    let bound = bound_of job.machine l.command (path_steps l) in
+    let bound = bound_of job.machine l.command.action (path_steps l) in
     let entry = joint_before job.machine (before job s.done) l.command in
     ap (λ b. cond b (min bound entry) bound) (same_test s.travelled r (millionths l) at within)
 
@@ -62,7 +62,7 @@ may_travel job l ls s r wish v machine change rate at some within aim may =
       rules = record {
         faster = omega (arith, may.faster);
         slower = omega (arith, may.slower);
-        within = (greatest_bound job.machine l.command (path_steps l) v machine).0 (omega (arith, may.within, low));
+        within = (greatest_bound job.machine l.command.action (path_steps l) v machine).0 (omega (arith, may.within, low));
         enters = λ none. entered leg.bound leg.entry r.rest leg.millionths v (r.rest == leg.millionths) refl (omega arith) may.within;
         leaves = λ ends. may.leaves (omega arith);
         goes_on = λ over. absurd (may.goes_on (omega arith));
@@ -82,7 +82,7 @@ after_least : (m : MachineFile) (c : Command) (a : Option Command) (least : ℕ)
 after_least m c None least small each = small
 after_least m c (Some d) least small each = each d
 
-pub travels_at_least : (job : Job) (l : Queued) (ls : List Queued) (s : State) (r : RampState) (wish v : ℕ) → IsMachine job.machine → IsMotion l.command → r.change ≡ job.machine.change → s.travelled ≡ millionths l - r.rest → r.rest ≤ millionths l → wish ≡ target job l s → MayTick r wish (leg_of job s.done l) [] v → TravelsAtLeast job (l ∷ ls) s v
+pub travels_at_least : (job : Job) (l : Queued) (ls : List Queued) (s : State) (r : RampState) (wish v : ℕ) → IsMachine job.machine → IsMotion l.command.action → r.change ≡ job.machine.change → s.travelled ≡ millionths l - r.rest → r.rest ≤ millionths l → wish ≡ target job l s → MayTick r wish (leg_of job s.done l) [] v → TravelsAtLeast job (l ∷ ls) s v
 travels_at_least job l ls s r wish v machine moves change at within aim may = λ free some.
     let m = job.machine in
     let c = l.command in
@@ -132,18 +132,9 @@ travels_to job l ls old new outcome v may e says =
     }
 
 -- a motion's end is done
-pub motion_done : (c : Command) (s : State) → IsMotion c → ending c s ≡ Done s.done
-motion_done (commands.Traverse line b e) s moves = refl
-motion_done (commands.Feed line b e f) s moves = refl
-motion_done (commands.Arc line a f) s moves = refl
-motion_done (commands.Dwell line t) s moves = refl
-motion_done (commands.Tool line t) s moves = refl
-motion_done (commands.Spindle line t) s moves = refl
-motion_done (commands.Coolant line t) s moves = refl
-motion_done (commands.Override line on) s moves = refl
-motion_done (commands.Stop line) s moves = let h = moves.1 in cc
-motion_done (commands.OptionalStop line) s moves = let h = moves.1 in cc
-motion_done (commands.End line) s moves = let h = moves.1 in cc
+pub motion_done : (a : Action) (s : State) → IsMotion a → ending a s ≡ Done s.done
+motion_done (actions.Move m) s moves = refl
+motion_done _ s moves = let h = moves.1 in cc
 
 going : (b : Bool) (s t : State) (e : Option Ending) → b ≡ false → ((if b then s else t) ≡ t) × ((if b then e else None) ≡ None)
 going true s t e h = (cc, cc)
@@ -164,7 +155,7 @@ at_most_rest r wish leg v may = elim (cases_lt r.rest v) [
 -- what is known of a tick of the ramp r to s, with the head l
 pub record IsTravel (job : Job) (l : Queued) (old : State) (r s : RampState) (wish v place : ℕ) (due : Bool) (next : ℕ) (p : StepPos) : Type 0 where
   pub machine : IsMachine job.machine
-  pub motion : IsMotion l.command
+  pub motion : IsMotion l.command.action
   pub change : r.change ≡ job.machine.change
   pub rate : r.rate ≡ old.rate
   pub some : 1 ≤ r.rest
@@ -227,7 +218,7 @@ goes_on job l ls old new r v next due p t xs w h at within less far same rate is
 
 -- the motion ends
 pub ends_there : (job : Job) (l : Queued) (ls : List Queued) (old new : State) (r : RampState) (v next : ℕ) (due : Bool) (p : StepPos) (t : ℕ) (xs : List Queued) (w k d : ℕ) → HasTravelled job l ls old r v next due p →
-    IsMotion l.command → old.travelled ≡ millionths l - r.rest → r.rest ≤ millionths l → r.rest ≤ v → t ≡ 0 → xs ≡ drop 1 old.ring → w ≡ v → k ≡ suc old.done → d ≡ 0 →
+    IsMotion l.command.action → old.travelled ≡ millionths l - r.rest → r.rest ≤ millionths l → r.rest ≤ v → t ≡ 0 → xs ≡ drop 1 old.ring → w ≡ v → k ≡ suc old.done → d ≡ 0 →
     new ≡ record old { done = k; ring = xs; rate = w; position = p; travelled = t; dwelt = d } →
     Travels job l ls old (Ok (Ticked (then_some due p) (Some (Done old.done)))) new
 ends_there job l ls old new r v next due p t xs w k d h motion at within ends none same rate more brief is =

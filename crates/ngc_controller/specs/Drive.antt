@@ -13,7 +13,7 @@ use Rattle.ngc_controller.specs.declared.drive.Drive.{Drive}
 abbrev pub leg_of : Job → ℕ → Queued → Leg
 leg_of job k l = record {
   millionths = millionths l;
-  bound = bound_of job.machine l.command (path_steps l);
+  bound = bound_of job.machine l.command.action (path_steps l);
   entry = joint_before job.machine (before job k) l.command;
   exit = joint_after job.machine l.command (command_at job (suc k));
   joined = false;
@@ -29,7 +29,7 @@ abbrev pub begun : Job → ℕ → ℕ → List Queued → Drive → Drive
 begun job k percent [] d = d
 begun job k percent (l ∷ ls) d =
     if nat_lt 0 (path_steps l)
-    then record { ramp = loaded d.ramp (leg_of job k l); target = target_at job.machine l.command (path_steps l) percent }
+    then record { ramp = loaded d.ramp (leg_of job k l); target = target_at job.machine l.command.action (path_steps l) percent }
     else d
 
 -- a command is put behind these
@@ -40,4 +40,4 @@ with_one_more job k percent (h ∷ hs) l d = d
 -- the target is that of the head
 abbrev pub IsTarget : MachineFile → ℕ → List Queued → ℕ → Type 0
 IsTarget machine percent [] target = Unit {0}
-IsTarget machine percent (l ∷ ls) target = 1 ≤ path_steps l → target ≡ target_at machine l.command (path_steps l) percent
+IsTarget machine percent (l ∷ ls) target = 1 ≤ path_steps l → target ≡ target_at machine l.command.action (path_steps l) percent

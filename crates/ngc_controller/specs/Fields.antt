@@ -1,8 +1,8 @@
 -- What the fields of a controller stand for, and what they keep. Our own.
 use Rattle.std.specs.Prelude.{◌≡◌, ℕ, ◌+◌, ◌-◌, ◌/◌, ◌^◌, ◌≤◌, List, [], ◌∷◌, length, Option, true}
 use Rattle.ngc_fixed_length.specs.declared.points.StepPos.{StepPos}
-use Rattle.ngc_canonical.specs.declared.command.Command.{Command}
-use Rattle.ngc_canonical.specs.declared.command.Command.TheVariants as commands
+use Rattle.ngc_canonical.specs.declared.command.Action.{Action}
+use Rattle.ngc_canonical.specs.declared.command.Action.TheVariants as actions
 use Rattle.ngc_machine.specs.MachineRanges.{IsMachine}
 use Rattle.ngc_machine.specs.declared.tools.Tool.{Tool}
 use Rattle.ngc_planner.specs.Caps.{MILLION}
@@ -60,35 +60,19 @@ abbrev pub TravelsOn : Job → List Queued → State → Outcome → State → T
 TravelsOn job [] old outcome new = ⊥
 TravelsOn job (l ∷ ls) old outcome new = Travels job l ls old outcome new × TravelsAtLeast job (l ∷ ls) old new.rate
 
--- the head is this command, with no path step
-abbrev pub IsServed : List Queued → Command → Type 0
-IsServed [] c = ⊥
-IsServed (l ∷ ls) c = (l.command ≡ c) × (path_steps l ≡ 0)
+-- the head does this, with no path step
+abbrev pub IsServed : List Queued → Action → Type 0
+IsServed [] action = ⊥
+IsServed (l ∷ ls) action = (l.command.action ≡ action) × (path_steps l ≡ 0)
 
--- what a command makes of the panel when it ends
-abbrev pub panel_after : Command → Panel → Panel
-panel_after (commands.Override line on) p = record p { overrides = on }
-panel_after (commands.Stop line) p = record p { stopped = true }
-panel_after (commands.OptionalStop line) p = record p { stopped = p.stop_switch }
-panel_after (commands.Tool line tool) p = p
-panel_after (commands.Traverse line b e) p = p
-panel_after (commands.Feed line b e f) p = p
-panel_after (commands.Arc line a f) p = p
-panel_after (commands.Dwell line n) p = p
-panel_after (commands.Spindle line state) p = p
-panel_after (commands.Coolant line state) p = p
-panel_after (commands.End line) p = p
+-- what an action makes of the panel when it ends
+abbrev pub panel_after : Action → Panel → Panel
+panel_after (actions.Override on) p = record p { overrides = on }
+panel_after actions.Stop p = record p { stopped = true }
+panel_after actions.OptionalStop p = record p { stopped = p.stop_switch }
+panel_after _ p = p
 
 -- and of the tool
-abbrev pub tool_after : Command → Option Tool → Option Tool
-tool_after (commands.Tool line tool) t = tool
-tool_after (commands.Override line on) t = t
-tool_after (commands.Stop line) t = t
-tool_after (commands.OptionalStop line) t = t
-tool_after (commands.Traverse line b e) t = t
-tool_after (commands.Feed line b e f) t = t
-tool_after (commands.Arc line a f) t = t
-tool_after (commands.Dwell line n) t = t
-tool_after (commands.Spindle line state) t = t
-tool_after (commands.Coolant line state) t = t
-tool_after (commands.End line) t = t
+abbrev pub tool_after : Action → Option Tool → Option Tool
+tool_after (actions.Mount tool) t = tool
+tool_after _ t = t

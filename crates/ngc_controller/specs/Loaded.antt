@@ -31,4 +31,4 @@ pub record LoadedData : Type 0 where
 pub record IsLoaded (queued : Queued) (steps : ℕ) : Type 0 where
   pub count : steps ≡ path_steps queued
   pub few : steps ≤ STEPS_LIMIT
-  pub moves : 1 ≤ steps → IsMotion queued.command
+  pub moves : 1 ≤ steps → IsMotion queued.command.action

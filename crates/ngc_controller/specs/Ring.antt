@@ -48,7 +48,7 @@ IsMoving (l ∷ ls) = 1 ≤ path_steps l
 -- the point at a place of the head's path
 abbrev pub IsPointOn : List Queued → ℕ → StepPos → Type 0
 IsPointOn [] place p = ⊥
-IsPointOn (l ∷ ls) place p = (p ≡ point l.path place) × IsMotion l.command
+IsPointOn (l ∷ ls) place p = (p ≡ point l.path place) × IsMotion l.command.action
 
 -- the head's path goes on
 abbrev pub HasNext : List Queued → ℕ → Type 0

@@ -10,14 +10,14 @@ use Rattle.ngc_arc_geometry.specs.Radii.{inner_radius}
 use Rattle.ngc_machine.specs.Machine.{MachineFile, file_of}
 use Rattle.ngc_machine.specs.declared.machine.Machine.{Machine}
 use Rattle.ngc_machine.specs.MachineRanges.{IsMachine}
-use Rattle.ngc_canonical.specs.Movement.{doing}
-use Rattle.ngc_canonical.specs.declared.command.Command.{Command}
-use Rattle.ngc_canonical.specs.declared.command.Command.TheVariants as commands
-use Rattle.ngc_canonical.specs.declared.movement.Doing.{Doing}
-use Rattle.ngc_canonical.specs.declared.movement.Doing.TheVariants.{Moves, Mounts, Stays}
-use Rattle.ngc_canonical.specs.declared.movement.Motion.TheVariants.{Straight, Along}
-use Rattle.ngc_planner.specs.Caps.{MILLION, cap_of}
-use Rattle.ngc_planner.specs.Bounds.{MayTurn, IsGreatestBound, IsMotion, turn_rate, bound_of, target_at, MayTravelLeast}
+use Rattle.ngc_canonical.specs.declared.command.Action.{Action}
+use Rattle.ngc_canonical.specs.declared.command.Action.TheVariants.{Move}
+use Rattle.ngc_canonical.specs.declared.movement.Pace.{Pace}
+use Rattle.ngc_canonical.specs.declared.movement.Pace.TheVariants as paces
+use Rattle.ngc_canonical.specs.declared.movement.Way.{Way}
+use Rattle.ngc_canonical.specs.declared.movement.Way.TheVariants.{Line, Arc}
+use Rattle.ngc_planner.specs.Caps.{MILLION, motion_cap, cap_of}
+use Rattle.ngc_planner.specs.Bounds.{MayTurnOn, MayTurn, IsGreatestBound, IsMotion, turn_rate, turn_bound, bound_of, target_at, MayTravelLeast}
 use Rattle.ngc_planner.specs.Joints.{goes_straight_on, joint_of}
 
 -- ---- roots are small
@@ -61,22 +61,24 @@ root_law x step v some small =
 step_within : (m : MachineFile) → IsMachine m → (1 ≤ unsigned_abs m.step) × (unsigned_abs m.step ≤ 50000)
 step_within m ranges = (omega (arith, ints, ranges.step.least), omega (arith, ints, ranges.step.least, ranges.step.greatest))
 
-turns : (m : MachineFile) (d : Doing) (v : ℕ) → IsMachine m → v ≤ MILLION → (v ≤ turn_rate m d) ↔ MayTurn m d v
-turns m (Moves (Along a)) v ranges small =
+turns_on : (m : MachineFile) (w : Way) (v : ℕ) → IsMachine m → v ≤ MILLION → (v ≤ turn_rate m w) ↔ MayTurnOn m w v
+turns_on m (Line b e) v ranges small = (λ h. tt, λ h. small)
+turns_on m (Arc a) v ranges small =
     let step = step_within m ranges in
     root_law (m.turn * max (inner_radius a) (unsigned_abs m.step)) (unsigned_abs m.step) v step.0 (turn_within m.turn (inner_radius a) (unsigned_abs m.step) ranges.turn.greatest (root_small _) step.1)
-turns m (Moves (Straight b e)) v ranges small = (λ h. tt, λ h. small)
-turns m (Mounts tool) v ranges small = (λ h. tt, λ h. small)
-turns m Stays v ranges small = (λ h. tt, λ h. small)
+
+turns : (m : MachineFile) (a : Action) (v : ℕ) → IsMachine m → v ≤ MILLION → (v ≤ turn_bound m a) ↔ MayTurn m a v
+turns m (Move motion) v ranges small = turns_on m motion.way v ranges small
+turns m _ v ranges small = (λ h. tt, λ h. small)
 
 pub greatest_bound : IsGreatestBound
-greatest_bound m command n v ranges = (
+greatest_bound m action n v ranges = (
   λ less. record {
     greatest = omega arith;
     feed = omega arith;
-    turns = (turns m (doing command) v ranges (omega (arith, ranges.max_rate.greatest))).0 (omega arith);
+    turns = (turns m action v ranges (omega (arith, ranges.max_rate.greatest))).0 (omega arith);
   },
-  λ within. (let turned = (turns m (doing command) v ranges (omega (arith, within.greatest, ranges.max_rate.greatest))).1 within.turns in omega (arith, within.greatest, within.feed, turned)),
+  λ within. (let turned = (turns m action v ranges (omega (arith, within.greatest, ranges.max_rate.greatest))).1 within.turns in omega (arith, within.greatest, within.feed, turned)),
 )
 
 -- ---- what is travelled at least
@@ -84,33 +86,30 @@ greatest_bound m command n v ranges = (
 one_turns : (turn radius step : ℕ) → 1 ≤ turn → 1 * 1 * step ≤ turn * max radius step
 one_turns turn radius step some = let p = mul-le 1 step turn (max radius step) some (omega arith) in omega (arith, p)
 
-may_turn : (m : MachineFile) (d : Doing) → IsMachine m → MayTurn m d 1
-may_turn m (Moves (Along a)) ranges = one_turns m.turn (inner_radius a) (unsigned_abs m.step) ranges.turn.least
-may_turn m (Moves (Straight b e)) ranges = tt
-may_turn m (Mounts tool) ranges = tt
-may_turn m Stays ranges = tt
+may_turn_on : (m : MachineFile) (w : Way) → IsMachine m → MayTurnOn m w 1
+may_turn_on m (Line b e) ranges = tt
+may_turn_on m (Arc a) ranges = one_turns m.turn (inner_radius a) (unsigned_abs m.step) ranges.turn.least
 
-turn_some : (m : MachineFile) (d : Doing) → IsMachine m → 1 ≤ turn_rate m d
-turn_some m d ranges = (turns m d 1 ranges (omega arith)).1 (may_turn m d ranges)
+may_turn : (m : MachineFile) (a : Action) → IsMachine m → MayTurn m a 1
+may_turn m (Move motion) ranges = may_turn_on m motion.way ranges
+may_turn m _ ranges = tt
 
-pub cap_some : (command : Command) (n : ℕ) (m : MachineFile) → IsMotion command → 1 ≤ m.max_rate → 1 ≤ cap_of command n m
-cap_some (commands.Traverse line b e) n m moves some = some
-cap_some (commands.Feed line b e f) n m moves some = omega arith
-cap_some (commands.Arc line a f) n m moves some = omega arith
-cap_some (commands.Dwell line t) n m moves some = let h = moves.1 in cc
-cap_some (commands.Tool line t) n m moves some = let h = moves.1 in cc
-cap_some (commands.Spindle line s) n m moves some = let h = moves.1 in cc
-cap_some (commands.Coolant line s) n m moves some = let h = moves.1 in cc
-cap_some (commands.Override line on) n m moves some = let h = moves.1 in cc
-cap_some (commands.Stop line) n m moves some = let h = moves.1 in cc
-cap_some (commands.OptionalStop line) n m moves some = let h = moves.1 in cc
-cap_some (commands.End line) n m moves some = let h = moves.1 in cc
+turn_some : (m : MachineFile) (a : Action) → IsMachine m → 1 ≤ turn_bound m a
+turn_some m a ranges = (turns m a 1 ranges (omega arith)).1 (may_turn m a ranges)
+
+motion_cap_some : (w : Way) (p : Pace) (n : ℕ) (m : MachineFile) → 1 ≤ m.max_rate → 1 ≤ motion_cap w p n m
+motion_cap_some w paces.Rapid n m some = some
+motion_cap_some w (paces.Feed f) n m some = omega arith
+
+pub cap_some : (a : Action) (n : ℕ) (m : MachineFile) → IsMotion a → 1 ≤ m.max_rate → 1 ≤ cap_of a n m
+cap_some (Move motion) n m moves some = motion_cap_some motion.way motion.pace n m some
+cap_some _ n m moves some = let h = moves.1 in cc
 
 -- a bound is at least 1 on a motion
-pub bound_some : (command : Command) (n : ℕ) (m : MachineFile) → IsMachine m → IsMotion command → 1 ≤ bound_of m command n
-bound_some command n m ranges moves =
-    let cap = cap_some command n m moves ranges.max_rate.least in
-    let turn = turn_some m (doing command) ranges in
+pub bound_some : (a : Action) (n : ℕ) (m : MachineFile) → IsMachine m → IsMotion a → 1 ≤ bound_of m a n
+bound_some a n m ranges moves =
+    let cap = cap_some a n m moves ranges.max_rate.least in
+    let turn = turn_some m a ranges in
     omega (arith, ranges.max_rate.least, cap, turn)
 
 more_percent : (none : Bool) (cap percent : ℕ) → none ≡ (percent == 0) → 1 ≤ percent → max 1 (cap * 1 / 100) ≤ cond none 0 (max 1 (cap * percent / 100))
@@ -121,30 +120,27 @@ corner_or_more : (straight : Bool) (corner : ℕ) → corner ≤ MILLION → cor
 corner_or_more true corner small = small
 corner_or_more false corner small = omega arith
 
-joint_least : (m : MachineFile) (d e : Doing) → m.corner ≤ MILLION → m.corner ≤ joint_of m d e
-joint_least m (Moves p) (Moves q) small = corner_or_more (goes_straight_on p q) m.corner small
-joint_least m (Moves p) (Mounts tool) small = small
-joint_least m (Moves p) Stays small = small
-joint_least m (Mounts tool) e small = small
-joint_least m Stays e small = small
+joint_least : (m : MachineFile) (a b : Action) → m.corner ≤ MILLION → m.corner ≤ joint_of m a b
+joint_least m (Move p) (Move q) small = corner_or_more (goes_straight_on p.way q.way) m.corner small
+joint_least m _ _ small = small
 
 pub may_travel_least : MayTravelLeast
-may_travel_least m command next n percent ranges moves =
-    let cap = cap_some command n m moves ranges.max_rate.least in
-    let turn = turn_some m (doing command) ranges in
+may_travel_least m action next n percent ranges moves =
+    let cap = cap_some action n m moves ranges.max_rate.least in
+    let turn = turn_some m action ranges in
     record {
       some = omega (arith, ranges.change.least, ranges.corner.least, ranges.max_rate.least, turn);
       change = omega arith;
-      target = λ one. (let more = more_percent (percent == 0) (cap_of command n m) percent refl one in omega (arith, more));
+      target = λ one. (let more = more_percent (percent == 0) (cap_of action n m) percent refl one in omega (arith, more));
       bound = omega (arith, cap);
-      entry = (let least = joint_least m (doing next) (doing command) ranges.corner.greatest in omega (arith, least));
-      exit = (let least = joint_least m (doing command) (doing next) ranges.corner.greatest in omega (arith, least));
+      entry = (let least = joint_least m next action ranges.corner.greatest in omega (arith, least));
+      exit = (let least = joint_least m action next ranges.corner.greatest in omega (arith, least));
     }
 
 -- a target is at least 1 on a motion, unless the override is 0
-pub target_some : (command : Command) (n percent : ℕ) (m : MachineFile) → IsMachine m → IsMotion command → 1 ≤ percent → 1 ≤ target_at m command n percent
-target_some command n percent m ranges moves some =
-    let least = may_travel_least m command command n percent ranges moves in
+pub target_some : (a : Action) (n percent : ℕ) (m : MachineFile) → IsMachine m → IsMotion a → 1 ≤ percent → 1 ≤ target_at m a n percent
+target_some a n percent m ranges moves some =
+    let least = may_travel_least m a a n percent ranges moves in
     omega (arith, least.some, least.target some)
 
 -- ---- machines in memory

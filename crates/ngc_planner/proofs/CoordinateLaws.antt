@@ -1,4 +1,4 @@
--- What 64 bits make of a coordinate of a way.
+-- What 64 bits make of a coordinate of a displacement.
 use Rattle.std.proofs.Common.{◌≡◌, ◌*◌, ◌^◌, ◌≤◌, ℤ, ◌+ℤ◌, unsigned_abs, to_z, of_z, arith}
 use Rattle.std.specs.Int.{w64, w128}
 use Rattle.std.proofs.lemmas.Int.{ints}

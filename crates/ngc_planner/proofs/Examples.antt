@@ -6,11 +6,12 @@ use Rattle.ngc_fixed_length.specs.declared.modes.Turn.TheVariants.{Clockwise}
 use Rattle.ngc_fixed_length.specs.declared.points.Point3.{Point3}
 use Rattle.ngc_arc_geometry.specs.Shape.{ArcShape}
 use Rattle.ngc_machine.specs.Machine.{row_machine}
-use Rattle.ngc_canonical.specs.Movement.{doing}
-use Rattle.ngc_canonical.specs.declared.command.Command.{Command}
-use Rattle.ngc_canonical.specs.declared.command.Command.TheVariants as commands
-use Rattle.ngc_canonical.specs.declared.command.Feed.{Feed}
-use Rattle.ngc_canonical.specs.declared.command.Feed.TheVariants.{PerMinute, Inverse}
+use Rattle.ngc_canonical.specs.declared.command.Action.{Action}
+use Rattle.ngc_canonical.specs.declared.command.Action.TheVariants.{Move}
+use Rattle.ngc_canonical.specs.declared.movement.Feed.{Feed}
+use Rattle.ngc_canonical.specs.declared.movement.Feed.TheVariants.{PerMinute, Inverse}
+use Rattle.ngc_canonical.specs.declared.movement.Pace.TheVariants as paces
+use Rattle.ngc_canonical.specs.declared.movement.Way.TheVariants as ways
 use Rattle.ngc_planner.specs.Braking.{braking, braking_terms}
 use Rattle.ngc_planner.specs.Caps.{cap_of}
 use Rattle.ngc_planner.specs.Bounds.{turn_rate, bound_of, target_at, least_travel}
@@ -19,11 +20,14 @@ use Rattle.ngc_planner.specs.Joints.{joint_of}
 abbrev at : ℤ → ℤ → ℤ → Point3
 at x y z = record { x = x; y = y; z = z }
 
-abbrev traverse : Point3 → Point3 → Command
-traverse start end = commands.Traverse 1 start end
+abbrev traverse : Point3 → Point3 → Action
+traverse start end = Move (record { way = ways.Line start end; pace = paces.Rapid })
 
-abbrev feed : Point3 → Feed → Command
-feed end f = commands.Feed 1 (at (pos 0) (pos 0) (pos 0)) end f
+abbrev feed : Point3 → Feed → Action
+feed end f = Move (record { way = ways.Line (at (pos 0) (pos 0) (pos 0)) end; pace = paces.Feed f })
+
+abbrev along : ArcShape → Feed → Action
+along a f = Move (record { way = ways.Arc a; pace = paces.Feed f })
 
 -- about a point on the x axis, from zero
 abbrev arc : ℤ → Point3 → ArcShape
@@ -52,10 +56,10 @@ cap_raised : cap_of (feed (at (pos 10000000) (pos 0) (pos 0)) (PerMinute 100)) 1
 unfolding whole_root_above
 cap_raised = refl
 
-cap_arc : cap_of (commands.Arc 1 (arc (pos 5000000) (at (pos 10000000) (pos 0) (pos 0))) (PerMinute 60000000)) 2000 row_machine ≡ 7067
+cap_arc : cap_of (along (arc (pos 5000000) (at (pos 10000000) (pos 0) (pos 0))) (PerMinute 60000000)) 2000 row_machine ≡ 7067
 cap_arc = refl
 
-cap_helix : cap_of (commands.Arc 1 (arc (pos 5000000) (at (pos 10000000) (pos 0) (pos 1000000))) (PerMinute 60000000)) 2000 row_machine ≡ 5770
+cap_helix : cap_of (along (arc (pos 5000000) (at (pos 10000000) (pos 0) (pos 1000000))) (PerMinute 60000000)) 2000 row_machine ≡ 5770
 cap_helix = refl
 
 -- twice a minute
@@ -64,7 +68,7 @@ unfolding whole_root_above
 cap_inverse = refl
 
 -- a full circle with a radius of 1 mm
-turn_small : turn_rate row_machine (doing (commands.Arc 1 (arc (pos 1000000) (at (pos 0) (pos 0) (pos 0))) (PerMinute 60000000))) ≡ 316227
+turn_small : turn_rate row_machine (ways.Arc (arc (pos 1000000) (at (pos 0) (pos 0) (pos 0)))) ≡ 316227
 unfolding whole_root
 turn_small = refl
 
@@ -87,11 +91,11 @@ target_none = refl
 least_traverse : least_travel row_machine (traverse (at (pos 0) (pos 0) (pos 0)) (at (pos 1000000) (pos 0) (pos 0))) 100 ≡ 1000
 least_traverse = refl
 
-joint_corner : joint_of row_machine (doing (traverse (at (pos 0) (pos 0) (pos 0)) (at (pos 1000000) (pos 0) (pos 0)))) (doing (traverse (at (pos 1000000) (pos 0) (pos 0)) (at (pos 1000000) (pos 1000000) (pos 0)))) ≡ 50000
+joint_corner : joint_of row_machine (traverse (at (pos 0) (pos 0) (pos 0)) (at (pos 1000000) (pos 0) (pos 0))) (traverse (at (pos 1000000) (pos 0) (pos 0)) (at (pos 1000000) (pos 1000000) (pos 0))) ≡ 50000
 joint_corner = refl
 
-joint_back : joint_of row_machine (doing (traverse (at (pos 0) (pos 0) (pos 0)) (at (pos 1000000) (pos 0) (pos 0)))) (doing (traverse (at (pos 1000000) (pos 0) (pos 0)) (at (pos 0) (pos 0) (pos 0)))) ≡ 50000
+joint_back : joint_of row_machine (traverse (at (pos 0) (pos 0) (pos 0)) (at (pos 1000000) (pos 0) (pos 0))) (traverse (at (pos 1000000) (pos 0) (pos 0)) (at (pos 0) (pos 0) (pos 0))) ≡ 50000
 joint_back = refl
 
-joint_straight : joint_of row_machine (doing (traverse (at (pos 0) (pos 0) (pos 0)) (at (pos 1000000) (pos 0) (pos 0)))) (doing (traverse (at (pos 1000000) (pos 0) (pos 0)) (at (pos 3000000) (pos 0) (pos 0)))) ≡ 1000000
+joint_straight : joint_of row_machine (traverse (at (pos 0) (pos 0) (pos 0)) (at (pos 1000000) (pos 0) (pos 0))) (traverse (at (pos 1000000) (pos 0) (pos 0)) (at (pos 3000000) (pos 0) (pos 0))) ≡ 1000000
 joint_straight = refl

@@ -5,75 +5,78 @@ use Rattle.ngc_arc_geometry.specs.Radii.{inner_radius}
 use Rattle.ngc_arc_geometry.specs.Shape.{ArcShape}
 use Rattle.ngc_machine.specs.Machine.{MachineFile}
 use Rattle.ngc_machine.specs.MachineRanges.{IsMachine}
-use Rattle.ngc_canonical.specs.Movement.{doing}
-use Rattle.ngc_canonical.specs.declared.command.Command.{Command}
-use Rattle.ngc_canonical.specs.declared.movement.Doing.{Doing}
-use Rattle.ngc_canonical.specs.declared.movement.Doing.TheVariants.{Moves, Mounts, Stays}
+use Rattle.ngc_canonical.specs.declared.command.Action.{Action}
+use Rattle.ngc_canonical.specs.declared.command.Action.TheVariants.{Move}
 use Rattle.ngc_canonical.specs.declared.movement.Motion.{Motion}
-use Rattle.ngc_canonical.specs.declared.movement.Motion.TheVariants.{Straight, Along}
+use Rattle.ngc_canonical.specs.declared.movement.Way.{Way}
+use Rattle.ngc_canonical.specs.declared.movement.Way.TheVariants.{Line, Arc}
 use Rattle.ngc_planner.specs.Caps.{MILLION, cap_of}
 use Rattle.ngc_planner.specs.Joints.{joint_of}
 
 -- on an arc v*v*step is at most the machine's turn times the radius
-abbrev pub MayTurn : MachineFile → Doing → ℕ → Type 0
-MayTurn machine (Moves (Along a)) v = v * v * unsigned_abs machine.step ≤ machine.turn * max (inner_radius a) (unsigned_abs machine.step)
-MayTurn machine (Moves (Straight b e)) v = Unit {0}
-MayTurn machine (Mounts tool) v = Unit {0}
-MayTurn machine Stays v = Unit {0}
+abbrev pub MayTurnOn : MachineFile → Way → ℕ → Type 0
+MayTurnOn machine (Line b e) v = Unit {0}
+MayTurnOn machine (Arc a) v = v * v * unsigned_abs machine.step ≤ machine.turn * max (inner_radius a) (unsigned_abs machine.step)
+
+abbrev pub MayTurn : MachineFile → Action → ℕ → Type 0
+MayTurn machine (Move m) v = MayTurnOn machine m.way v
+MayTurn machine _ v = Unit {0}
 
 -- the rates of a tick that travels on a motion of n path steps
-pub record IsWithinBounds (machine : MachineFile) (command : Command) (n v : ℕ) : Type 0 where
+pub record IsWithinBounds (machine : MachineFile) (action : Action) (n v : ℕ) : Type 0 where
   pub greatest : v ≤ machine.max_rate
-  pub feed : v ≤ 2 * cap_of command n machine
-  pub turns : MayTurn machine (doing command) v
+  pub feed : v ≤ 2 * cap_of action n machine
+  pub turns : MayTurn machine action v
 
 -- the greatest of them
 abbrev pub arc_rate : ℕ → ℕ → ArcShape → ℕ
 arc_rate turn step a = whole_root (turn * max (inner_radius a) step / step)
 
-abbrev pub turn_rate : MachineFile → Doing → ℕ
-turn_rate machine (Moves (Along a)) = arc_rate machine.turn (unsigned_abs machine.step) a
-turn_rate machine (Moves (Straight b e)) = MILLION
-turn_rate machine (Mounts tool) = MILLION
-turn_rate machine Stays = MILLION
+abbrev pub turn_rate : MachineFile → Way → ℕ
+turn_rate machine (Line b e) = MILLION
+turn_rate machine (Arc a) = arc_rate machine.turn (unsigned_abs machine.step) a
 
-abbrev pub bound_of : MachineFile → Command → ℕ → ℕ
-bound_of machine command n = min (min machine.max_rate (2 * cap_of command n machine)) (turn_rate machine (doing command))
+abbrev pub turn_bound : MachineFile → Action → ℕ
+turn_bound machine (Move m) = turn_rate machine m.way
+turn_bound machine _ = MILLION
+
+abbrev pub bound_of : MachineFile → Action → ℕ → ℕ
+bound_of machine action n = min (min machine.max_rate (2 * cap_of action n machine)) (turn_bound machine action)
 
 -- a cap under an override in percent, at least 1 unless the override is 0
 abbrev pub overridden : ℕ → ℕ → ℕ
 overridden cap percent = if percent == 0 then 0 else max 1 (cap * percent / 100)
 
 -- the rate that a tick of a motion of n path steps is to reach
-abbrev pub target_at : MachineFile → Command → ℕ → ℕ → ℕ
-target_at machine command n percent =
-    min (min (overridden (cap_of command n machine) percent) machine.max_rate) (turn_rate machine (doing command))
+abbrev pub target_at : MachineFile → Action → ℕ → ℕ → ℕ
+target_at machine action n percent =
+    min (min (overridden (cap_of action n machine) percent) machine.max_rate) (turn_bound machine action)
 
 -- the rate that a motion of n path steps has in each of its ticks at least, if its end allows it
-abbrev pub least_travel : MachineFile → Command → ℕ → ℕ
-least_travel machine command n = min (min machine.change machine.corner) (target_at machine command n 1)
+abbrev pub least_travel : MachineFile → Action → ℕ → ℕ
+least_travel machine action n = min (min machine.change machine.corner) (target_at machine action n 1)
 
--- ---- what holds of every machine and command
+-- ---- what holds of every machine and action
 
-abbrev pub IsMotion : Command → Type 0
-IsMotion command = (m : Motion) × (doing command ≡ Moves m)
+abbrev pub IsMotion : Action → Type 0
+IsMotion action = (m : Motion) × (action ≡ Move m)
 
 -- the bound is the greatest of the rates that a tick may have
 abbrev pub IsGreatestBound : Type 0
 IsGreatestBound =
-    (machine : MachineFile) (command : Command) (n v : ℕ) → IsMachine machine →
-    (v ≤ bound_of machine command n) ↔ IsWithinBounds machine command n v
+    (machine : MachineFile) (action : Action) (n v : ℕ) → IsMachine machine →
+    (v ≤ bound_of machine action n) ↔ IsWithinBounds machine action n v
 
 -- at least that much is aimed at under every override, and allowed by every bound
-pub record IsLeastTravel (machine : MachineFile) (command next : Command) (n percent : ℕ) : Type 0 where
-  pub some : 1 ≤ least_travel machine command n
-  pub change : least_travel machine command n ≤ machine.change
-  pub target : 1 ≤ percent → least_travel machine command n ≤ target_at machine command n percent
-  pub bound : least_travel machine command n ≤ bound_of machine command n
-  pub entry : least_travel machine command n ≤ joint_of machine (doing next) (doing command)
-  pub exit : least_travel machine command n ≤ joint_of machine (doing command) (doing next)
+pub record IsLeastTravel (machine : MachineFile) (action next : Action) (n percent : ℕ) : Type 0 where
+  pub some : 1 ≤ least_travel machine action n
+  pub change : least_travel machine action n ≤ machine.change
+  pub target : 1 ≤ percent → least_travel machine action n ≤ target_at machine action n percent
+  pub bound : least_travel machine action n ≤ bound_of machine action n
+  pub entry : least_travel machine action n ≤ joint_of machine next action
+  pub exit : least_travel machine action n ≤ joint_of machine action next
 
 abbrev pub MayTravelLeast : Type 0
 MayTravelLeast =
-    (machine : MachineFile) (command next : Command) (n percent : ℕ) → IsMachine machine → IsMotion command →
-    IsLeastTravel machine command next n percent
+    (machine : MachineFile) (action next : Action) (n percent : ℕ) → IsMachine machine → IsMotion action →
+    IsLeastTravel machine action next n percent

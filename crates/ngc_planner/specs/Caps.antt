@@ -7,10 +7,14 @@ use Rattle.ngc_fixed_length.specs.Signed.{same}
 use Rattle.ngc_fixed_length.specs.declared.points.Point3.{Point3}
 use Rattle.ngc_arc_geometry.specs.Shape.{ArcShape}
 use Rattle.ngc_machine.specs.Machine.{MachineFile}
-use Rattle.ngc_canonical.specs.declared.command.Command.{Command}
-use Rattle.ngc_canonical.specs.declared.command.Command.TheVariants as commands
-use Rattle.ngc_canonical.specs.declared.command.Feed.{Feed}
-use Rattle.ngc_canonical.specs.declared.command.Feed.TheVariants.{PerMinute, Inverse}
+use Rattle.ngc_canonical.specs.declared.command.Action.{Action}
+use Rattle.ngc_canonical.specs.declared.command.Action.TheVariants.{Move}
+use Rattle.ngc_canonical.specs.declared.movement.Feed.{Feed}
+use Rattle.ngc_canonical.specs.declared.movement.Feed.TheVariants.{PerMinute, Inverse}
+use Rattle.ngc_canonical.specs.declared.movement.Pace.{Pace}
+use Rattle.ngc_canonical.specs.declared.movement.Pace.TheVariants as paces
+use Rattle.ngc_canonical.specs.declared.movement.Way.{Way}
+use Rattle.ngc_canonical.specs.declared.movement.Way.TheVariants.{Line, Arc}
 
 -- millionths in a path step; no rate is above it
 abbrev pub MILLION : ℕ
@@ -45,19 +49,19 @@ abbrev pub arc_cap : ℕ → ℕ → ℕ → ℕ → Feed → ℕ
 arc_cap hz n step thousandths (PerMinute f) = f * 1000000000 / (60 * hz * step * thousandths)
 arc_cap hz n step thousandths (Inverse f) = inverse_cap hz n f
 
+-- of n path steps on a way
+abbrev pub feed_cap : Way → ℕ → Feed → MachineFile → ℕ
+feed_cap (Line b e) n f m = line_cap m.ticks_per_second n (length_between b e) f
+feed_cap (Arc a) n f m = arc_cap m.ticks_per_second n (unsigned_abs m.step) (crosswise a) f
+
 -- the cap of a motion of n path steps, raised to 1 where it is 0
-abbrev pub cap_of : Command → ℕ → MachineFile → ℕ
-cap_of (commands.Traverse line b e) n m = m.max_rate
-cap_of (commands.Feed line b e f) n m = max 1 (line_cap m.ticks_per_second n (length_between b e) f)
-cap_of (commands.Arc line a f) n m = max 1 (arc_cap m.ticks_per_second n (unsigned_abs m.step) (crosswise a) f)
-cap_of (commands.Dwell line t) n m = 0
-cap_of (commands.Tool line t) n m = 0
-cap_of (commands.Spindle line s) n m = 0
-cap_of (commands.Coolant line s) n m = 0
-cap_of (commands.Override line on) n m = 0
-cap_of (commands.Stop line) n m = 0
-cap_of (commands.OptionalStop line) n m = 0
-cap_of (commands.End line) n m = 0
+abbrev pub motion_cap : Way → Pace → ℕ → MachineFile → ℕ
+motion_cap w paces.Rapid n m = m.max_rate
+motion_cap w (paces.Feed f) n m = max 1 (feed_cap w n f m)
+
+abbrev pub cap_of : Action → ℕ → MachineFile → ℕ
+cap_of (Move motion) n m = motion_cap motion.way motion.pace n m
+cap_of _ n m = 0
 
 -- no rate up to the cap makes more than f nanometres a minute of a line of n path steps
 abbrev pub KeepsMinuteFeed : ℕ → ℕ → ℕ → ℕ → ℕ → Type 0
@@ -68,15 +72,10 @@ abbrev pub KeepsLineFeed : ℕ → ℕ → ℕ → Feed → ℕ → Type 0
 KeepsLineFeed hz n length (PerMinute f) cap = 1 ≤ line_cap hz n length (PerMinute f) → KeepsMinuteFeed hz n length f cap
 KeepsLineFeed hz n length (Inverse f) cap = Unit {0}
 
-abbrev pub KeepsFeed : MachineFile → Command → ℕ → ℕ → Type 0
-KeepsFeed m (commands.Traverse line b e) n cap = Unit {0}
-KeepsFeed m (commands.Feed line b e f) n cap = KeepsLineFeed m.ticks_per_second n (length_between b e) f cap
-KeepsFeed m (commands.Arc line a f) n cap = Unit {0}
-KeepsFeed m (commands.Dwell line t) n cap = Unit {0}
-KeepsFeed m (commands.Tool line t) n cap = Unit {0}
-KeepsFeed m (commands.Spindle line s) n cap = Unit {0}
-KeepsFeed m (commands.Coolant line s) n cap = Unit {0}
-KeepsFeed m (commands.Override line on) n cap = Unit {0}
-KeepsFeed m (commands.Stop line) n cap = Unit {0}
-KeepsFeed m (commands.OptionalStop line) n cap = Unit {0}
-KeepsFeed m (commands.End line) n cap = Unit {0}
+abbrev pub KeepsMotionFeed : MachineFile → Way → Pace → ℕ → ℕ → Type 0
+KeepsMotionFeed m (Line b e) (paces.Feed f) n cap = KeepsLineFeed m.ticks_per_second n (length_between b e) f cap
+KeepsMotionFeed m _ _ n cap = Unit {0}
+
+abbrev pub KeepsFeed : MachineFile → Action → ℕ → ℕ → Type 0
+KeepsFeed m (Move motion) n cap = KeepsMotionFeed m motion.way motion.pace n cap
+KeepsFeed m _ n cap = Unit {0}

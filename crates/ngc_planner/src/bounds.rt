@@ -1,12 +1,11 @@
 ghost use Rattle.std.specs.Prelude.{◌≡◌, ◌≤◌, ◌<◌, ◌^◌};
 ghost use Rattle.ngc_machine.specs.Machine.{file_of};
-ghost use Rattle.ngc_canonical.specs.Movement.{doing};
 ghost use Rattle.ngc_planner.specs.Caps.{MILLION, STEPS_LIMIT};
-ghost use Rattle.ngc_planner.specs.Bounds.{IsMotion, arc_rate, turn_rate, bound_of, overridden, target_at};
+ghost use Rattle.ngc_planner.specs.Bounds.{IsMotion, arc_rate, turn_rate, turn_bound, bound_of, overridden, target_at};
 
 use crate::caps::cap_of;
 use ngc_arc_geometry::Arc;
-use ngc_canonical::Command;
+use ngc_canonical::{Action, Way};
 use ngc_fixed_length::root_floor;
 use ngc_machine::Machine;
 use std::alloc::Allocator;
@@ -22,40 +21,37 @@ fn arc_rate(arc: &Arc, turn: u64, step: u64) -> u64
     root_floor(u128::from(turn) * u128::from(radius) / u128::from(step))
 }
 
-/// The greatest rate that the machine's turn allows on an arc, and 1,000,000, which no rate is above, for other commands.
-pub fn turn_rate<A: Allocator>(command: &Command, machine: &Machine<A>) -> u64
-    ensures { result ≡ turn_rate (file_of machine.now) (doing command.now) }
+/// The greatest rate that the machine's turn allows on an arc, and 1,000,000, which no rate is above, on a line.
+pub fn turn_rate<A: Allocator>(way: &Way, machine: &Machine<A>) -> u64
+    ensures { result ≡ turn_rate (file_of machine.now) way.now }
 {
-    match command {
-        Command::Arc { arc, .. } => arc_rate(
-            arc,
-            machine.turn,
-            machine.step.nanometres().unsigned_abs(),
-        ),
-        Command::Traverse { .. }
-        | Command::Feed { .. }
-        | Command::Dwell { .. }
-        | Command::Tool { .. }
-        | Command::Spindle { .. }
-        | Command::Coolant { .. }
-        | Command::Override { .. }
-        | Command::Stop { .. }
-        | Command::OptionalStop { .. }
-        | Command::End { .. } => 1_000_000,
+    match way {
+        Way::Line { .. } => 1_000_000,
+        Way::Arc(arc) => arc_rate(arc, machine.turn, machine.step.nanometres().unsigned_abs()),
+    }
+}
+
+/// The same of a motion, and 1,000,000 for an action that is none.
+fn turn_bound<A: Allocator>(action: &Action, machine: &Machine<A>) -> u64
+    ensures { result ≡ turn_bound (file_of machine.now) action.now }
+{
+    match action {
+        Action::Move(motion) => turn_rate(&motion.way, machine),
+        _ => 1_000_000,
     }
 }
 
 /// The greatest rate of any tick on a motion of `n` path steps, at most 10^9: the machine's greatest rate, twice the feed
-/// cap, or what the turn on an arc allows. It is 0 for a command that is no motion.
-pub fn bound_of<A: Allocator>(command: &Command, n: u64, machine: &Machine<A>) -> u64
+/// cap, or what the turn on an arc allows. It is 0 for an action that is no motion.
+pub fn bound_of<A: Allocator>(action: &Action, n: u64, machine: &Machine<A>) -> u64
     requires { n ≤ STEPS_LIMIT }
-    ensures value { result ≡ bound_of (file_of machine.now) command.now n }
-    ensures least { IsMotion command.now → 1 ≤ result }
+    ensures value { result ≡ bound_of (file_of machine.now) action.now n }
+    ensures least { IsMotion action.now → 1 ≤ result }
     ensures greatest { result ≤ MILLION }
 {
-    let twice = 2 * cap_of(command, n, machine);
+    let twice = 2 * cap_of(action, n, machine);
     let greatest = u128::from(machine.max_rate).min(twice) as u64;
-    greatest.min(turn_rate(command, machine))
+    greatest.min(turn_bound(action, machine))
 }
 
 /// A cap under an override in percent.
@@ -71,13 +67,13 @@ fn overridden(cap: u128, percent: u8) -> u128
 }
 
 /// The rate that a tick on a motion of `n` path steps, at most 10^9, is to reach under an override in percent.
-pub fn target_at<A: Allocator>(command: &Command, n: u64, percent: u8, machine: &Machine<A>) -> u64
+pub fn target_at<A: Allocator>(action: &Action, n: u64, percent: u8, machine: &Machine<A>) -> u64
     requires { n ≤ STEPS_LIMIT }
-    ensures value { result ≡ target_at (file_of machine.now) command.now n percent }
-    ensures least { IsMotion command.now → 1 ≤ percent → 1 ≤ result }
+    ensures value { result ≡ target_at (file_of machine.now) action.now n percent }
+    ensures least { IsMotion action.now → 1 ≤ percent → 1 ≤ result }
     ensures greatest { result ≤ MILLION }
 {
-    let wanted = overridden(cap_of(command, n, machine), percent);
+    let wanted = overridden(cap_of(action, n, machine), percent);
     let greatest = wanted.min(u128::from(machine.max_rate)) as u64;
-    greatest.min(turn_rate(command, machine))
+    greatest.min(turn_bound(action, machine))
 }

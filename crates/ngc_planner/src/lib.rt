@@ -3,12 +3,12 @@
 
 mod bounds;
 mod caps;
+mod displacement;
 mod joints;
 pub mod laws;
 mod leg;
 mod ramp;
 mod slowing;
-mod way;
 
 pub use bounds::{bound_of, target_at, turn_rate};
 pub use caps::cap_of;

@@ -5,5 +5,5 @@ use Rattle.ngc_planner.proofs.bounds.bound_of.Goals as goal
 
 pub returns-clause-least : goal.returns-clause-least
 returns-clause-least g c = λ moves. (
-    let least = bound_some c.args.command.now c.args.n (file_of c.args.machine.now) (ranges_of c.args.machine.now) moves in
+    let least = bound_some c.args.action.now c.args.n (file_of c.args.machine.now) (ranges_of c.args.machine.now) moves in
     omega (arith, least))

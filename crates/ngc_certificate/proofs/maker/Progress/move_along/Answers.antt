@@ -12,7 +12,7 @@ push-requires-clause-entry g c =
     let machine = c.args.machine.now in
     let clear = c.in-Ok-true.ensures ∙ ap (λ b. pieces_where b c.find_clear.new.pieces.items) c.in-Ok-true.field-0-test in
     subst (λ (ps : List Piece). IsEntry (record { index = c.args.index; pieces = ps })) (sym c.as_slice.ensures.value)
-    (cleared_entry (file_of machine) c.args.most c.args.index c.args.self.now.tool c.args.motion.now c.find_clear.new.pieces.items machine.step_in_range machine.travel_in_range
+    (cleared_entry (file_of machine) c.args.most c.args.index c.args.self.now.tool c.args.motion.now.way c.find_clear.new.pieces.items machine.step_in_range machine.travel_in_range
     c.requires.index c.requires.most (omega (arith, c.ranges.most.fits)) clear)
 
 pub returns : goal.returns

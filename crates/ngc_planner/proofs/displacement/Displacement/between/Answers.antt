@@ -1,7 +1,7 @@
 use Rattle.std.proofs.Common.{arith, ◌-ℤ◌}
 use Rattle.std.proofs.lemmas.Int.{ints}
 use Rattle.ngc_planner.proofs.Points.{same_point}
-use Rattle.ngc_planner.proofs.way.Way.between.Goals as goal
+use Rattle.ngc_planner.proofs.displacement.Displacement.between.Goals as goal
 
 pub returns : goal.returns
 returns c =

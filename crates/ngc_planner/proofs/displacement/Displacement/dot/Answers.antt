@@ -1,7 +1,7 @@
 use Rattle.std.proofs.Common.{arith}
 use Rattle.std.proofs.lemmas.Int.{ints}
 use Rattle.ngc_planner.proofs.CoordinateLaws.{kept, kept_sum}
-use Rattle.ngc_planner.proofs.way.Way.dot.Goals as goal
+use Rattle.ngc_planner.proofs.displacement.Displacement.dot.Goals as goal
 
 pub overflow_add-result-2 : goal.overflow_add-result-2
 overflow_add-result-2 c = omega (arith, ints)
