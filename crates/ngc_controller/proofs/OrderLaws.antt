@@ -153,13 +153,13 @@ left_order job done ring drive panel next after new dwelt machine none rest chan
 
 -- ---- a command that travels nothing
 
-pub served_legs : (job : Job) (k : ℕ) (ring : List Queued) (c : Command) → IsServed ring c → legs_of job k ring ≡ []
-served_legs job k [] c served = elim served [ ]
-served_legs job k (l ∷ ls) c served = still_legs job k l ls (omega (arith, served.1))
+pub served_legs : (job : Job) (k : ℕ) (ring : List Queued) (a : Action) → IsServed ring a → legs_of job k ring ≡ []
+served_legs job k [] a served = elim served [ ]
+served_legs job k (l ∷ ls) a served = still_legs job k l ls (omega (arith, served.1))
 
-pub served_some : (ring : List Queued) (c : Command) → IsServed ring c → 1 ≤ length ring
-served_some [] c served = elim served [ ]
-served_some (l ∷ ls) c served = omega arith
+pub served_some : (ring : List Queued) (a : Action) → IsServed ring a → 1 ≤ length ring
+served_some [] a served = elim served [ ]
+served_some (l ∷ ls) a served = omega arith
 
 abbrev pub with_panel : State → Option Tool → Panel → State
 with_panel s tool panel = record s {
@@ -220,8 +220,8 @@ more_order job done (l ∷ ls) place drive dwelt panel q d o is less =
     } in
     rw is order
 
-pub serves_done : (job : Job) (c : Command) (old new : State) (outcome : Outcome) → nat_lt (suc old.dwelt) (ticks_of job c) ≡ false → Finishes job c old outcome new → Serves job c old outcome new
-serves_done job c old new outcome over h = subst (λ t. MatchBool t (Dwells job old outcome new) (Finishes job c old outcome new)) (sym over) h
+pub serves_done : (job : Job) (a : Action) (old new : State) (outcome : Outcome) → nat_lt (suc old.dwelt) (ticks_of job a) ≡ false → Finishes job a old outcome new → Serves job a old outcome new
+serves_done job a old new outcome over h = subst (λ t. MatchBool t (Dwells job old outcome new) (Finishes job a old outcome new)) (sym over) h
 
 pub loaded_order : (job : Job) (done : ℕ) (ring : RingData) (drive : Drive) (dwelt : ℕ) (panel : Panel) (q : Queued) (k : ℕ) (after : RingData) (d : Drive) (n : ℕ) → IsInOrder job done ring drive dwelt panel →
     d ≡ with_one_more job done (effective_at panel) ring.loaded q drive → done + length ring.loaded < length job.commands → k ≡ done → n ≡ dwelt → after.loaded ≡ ring.loaded ++ q ∷ [] → after.place ≡ ring.place →

@@ -87,8 +87,8 @@ travels_at_least job l ls s r wish v machine moves change at within aim may = λ
     let m = job.machine in
     let c = l.command in
     let n = path_steps l in
-    let least = least_travel m c n in
-    let law : (d : Command) → IsLeastTravel m c d n (effective s) = λ d. may_travel_least m c d n (effective s) machine moves in
+    let least = least_travel m c.action n in
+    let law : (d : Command) → IsLeastTravel m c.action d.action n (effective s) = λ d. may_travel_least m c.action d.action n (effective s) machine moves in
     let own = law c in
     let small : least ≤ MILLION = omega (arith, own.change, machine.change.greatest) in
     let wished : least ≤ wish = rw (aim, free.not_held) (own.target free.some_override) in
@@ -208,7 +208,7 @@ goes_on job l ls old new r v next due p t xs w h at within less far same rate is
     let on : nat_le (millionths l) (old.travelled + v) ≡ false = grind (arith, nat_tests) in
     let place = point l.path (place_after l old v) in
     let there : State = record old { rate = v; position = place } in
-    let by = going (nat_le (millionths l) (old.travelled + v)) (popped (old.travelled + v - millionths l) there) (record there { travelled = old.travelled + v }) (Some (ending l.command old)) on in
+    let by = going (nat_le (millionths l) (old.travelled + v)) (popped (old.travelled + v - millionths l) there) (record there { travelled = old.travelled + v }) (Some (ending l.command.action old)) on in
     let state : new ≡ record there { travelled = old.travelled + v } =
     is ∙ ap (λ (ys : List Queued). record old { ring = ys; rate = w; position = p; travelled = t }) same
     ∙ ap (λ (x : ℕ). record old { rate = x; position = p; travelled = t }) rate
@@ -226,7 +226,7 @@ ends_there job l ls old new r v next due p t xs w k d h motion at within ends no
     let place = point l.path (place_after l old v) in
     let there : State = record old { rate = v; position = place } in
     let left : t ≡ old.travelled + v - millionths l = omega (arith, h.fits) in
-    let by = done_with (nat_le (millionths l) (old.travelled + v)) (popped (old.travelled + v - millionths l) there) (record there { travelled = old.travelled + v }) (Some (ending l.command old)) over in
+    let by = done_with (nat_le (millionths l) (old.travelled + v)) (popped (old.travelled + v - millionths l) there) (record there { travelled = old.travelled + v }) (Some (ending l.command.action old)) over in
     let state : new ≡ popped (old.travelled + v - millionths l) there =
     is ∙ ap (λ (ys : List Queued). record old { done = k; ring = ys; rate = w; position = p; travelled = t; dwelt = d }) same
     ∙ ap (λ (x : ℕ). record old { done = k; ring = drop 1 old.ring; rate = x; position = p; travelled = t; dwelt = d }) rate
@@ -234,4 +234,4 @@ ends_there job l ls old new r v next due p t xs w k d h motion at within ends no
     ∙ ap (λ (x : ℕ). record old { done = k; ring = drop 1 old.ring; rate = v; position = place; travelled = x; dwelt = d }) left
     ∙ ap (λ (x : ℕ). record old { done = x; ring = drop 1 old.ring; rate = v; position = place; travelled = old.travelled + v - millionths l; dwelt = d }) more
     ∙ ap (λ (x : ℕ). record old { done = suc old.done; ring = drop 1 old.ring; rate = v; position = place; travelled = old.travelled + v - millionths l; dwelt = x }) brief in
-    travels_to job l ls old new (Ok (Ticked (then_some due p) (Some (Done old.done)))) v h.may (state ∙ sym by.0) (ap₂ (λ a b. Ok (Ticked a b)) h.says (sym (by.1 ∙ ap (λ e. Some e) (motion_done l.command old motion))))
+    travels_to job l ls old new (Ok (Ticked (then_some due p) (Some (Done old.done)))) v h.may (state ∙ sym by.0) (ap₂ (λ a b. Ok (Ticked a b)) h.says (sym (by.1 ∙ ap (λ e. Some e) (motion_done l.command.action old motion))))

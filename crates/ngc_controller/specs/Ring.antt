@@ -3,7 +3,7 @@ use Rattle.std.specs.Prelude.{◌≡◌, ℕ, ◌<◌, ◌≤◌, List, [], ◌�
 use Rattle.std.specs.List.{AllByRecursion}
 use Rattle.ngc_fixed_length.specs.declared.points.StepPos.{StepPos}
 use Rattle.ngc_fixed_length.specs.LinePath.{point}
-use Rattle.ngc_canonical.specs.declared.command.Command.{Command}
+use Rattle.ngc_canonical.specs.declared.command.Action.{Action}
 use Rattle.ngc_planner.specs.Bounds.{IsMotion}
 use Rattle.ngc_behaviour.specs.State.{Queued, path_steps}
 use Rattle.ngc_controller.specs.Loaded.{LoadedData}
@@ -55,6 +55,6 @@ abbrev pub HasNext : List Queued → ℕ → Type 0
 HasNext [] place = ⊥
 HasNext (l ∷ ls) place = place < path_steps l
 
-abbrev pub command_of : List Queued → Option Command
-command_of [] = None
-command_of (l ∷ ls) = Some l.command
+abbrev pub action_of : List Queued → Option Action
+action_of [] = None
+action_of (l ∷ ls) = Some l.command.action

@@ -16,7 +16,7 @@ use crate::progress::Progress;
 use crate::route::Loaded;
 use circular_buffer::HeapCircularBuffer;
 use ngc_behaviour::{Ending, EventFault, Reply};
-use ngc_canonical::Command;
+use ngc_canonical::Action;
 use ngc_checker::Accepted;
 use ngc_events::Event;
 use ngc_fixed_length::StepPos;
@@ -185,8 +185,8 @@ impl<K: ArcKernel + Drop, A: Allocator + Copy> Controller<K, A> {
         if self.panel.held {
             return self.rest();
         }
-        match self.progress.command() {
-            Some(command) => self.serve(command),
+        match self.progress.action() {
+            Some(action) => self.serve(action),
             None => self.rest(),
         }
     }
@@ -229,22 +229,22 @@ impl<K: ArcKernel + Drop, A: Allocator + Copy> Controller<K, A> {
     }
 
     // The head travels nothing: it dwells, or it is done.
-    fn serve(&mut self, command: Command) -> Reply
-        requires head { IsServed self.old.state.ring command }
+    fn serve(&mut self, action: Action) -> Reply
+        requires head { IsServed self.old.state.ring action }
         requires runs { self.old.state.stopped ≡ false }
         ensures job { self.new.job ≡ self.old.job }
         ensures recent { self.new.recent ≡ self.old.recent }
-        ensures serves { Serves self.old.job command self.old.state (Ok result) self.new.state }
+        ensures serves { Serves self.old.job action self.old.state (Ok result) self.new.state }
     {
         let machine = self.accepted.machine();
         self.progress.drive.halt();
-        if dwells_on(&command, self.progress.dwelt, machine.ticks_per_second) {
+        if dwells_on(&action, self.progress.dwelt, machine.ticks_per_second) {
             self.progress.dwelt += 1;
             return QUIET;
         }
-        let ending = Some(ending_of(&command, self.progress.done, self.panel.stop_switch));
-        self.tool = tool_after(&command, self.tool);
-        self.panel = panel_after(&command, self.panel);
+        let ending = Some(ending_of(&action, self.progress.done, self.panel.stop_switch));
+        self.tool = tool_after(&action, self.tool);
+        self.panel = panel_after(&action, self.panel);
         let commands = self.accepted.commands(self.block_delete);
         self.progress
             .leave(commands, self.panel.effective(), machine);

@@ -37,7 +37,7 @@ fn entry_of<A: Allocator>(
         return 1_000_000;
     }
     match commands.get(index as usize - 1) {
-        Some(before) => joint_of(before, command, machine),
+        Some(before) => joint_of(&before.action, &command.action, machine),
         None => 1_000_000,
     }
 }
@@ -53,7 +53,7 @@ fn exit_of<A: Allocator>(
     ensures least { 1 ≤ result }
 {
     match commands.get(index as usize + 1) {
-        Some(next) => joint_of(command, next, machine),
+        Some(next) => joint_of(&command.action, &next.action, machine),
         None => 1_000_000,
     }
 }
@@ -73,7 +73,7 @@ fn leg_of<K: ArcKernel + Drop, A: Allocator>(
     let steps = head.path_steps();
     Leg {
         millionths: steps * 1_000_000,
-        bound: bound_of(command, steps, machine),
+        bound: bound_of(&command.action, steps, machine),
         entry: entry_of(commands, index, command, machine),
         exit: exit_of(commands, index, command, machine),
         joined: false,
@@ -97,7 +97,7 @@ impl Drive {
         let steps = head.path_steps();
         if steps > 0 {
             self.ramp.load(leg_of(commands, index, head, machine));
-            self.target = target_at(head.command(), steps, percent, machine);
+            self.target = target_at(&head.command().action, steps, percent, machine);
         }
     }
 

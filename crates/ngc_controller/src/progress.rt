@@ -6,12 +6,12 @@ ghost use Rattle.ngc_behaviour.specs.Headline.{job_of};
 ghost use Rattle.ngc_behaviour.specs.State.{RING};
 ghost use Rattle.ngc_controller.specs.Drive.{begun, with_one_more, IsTarget};
 ghost use Rattle.ngc_controller.specs.Opening.{IsOpening};
-ghost use Rattle.ngc_controller.specs.Ring.{command_of};
+ghost use Rattle.ngc_controller.specs.Ring.{action_of};
 
 use crate::drive::Drive;
 use crate::ring::Ring;
 use crate::route::Loaded;
-use ngc_canonical::Command;
+use ngc_canonical::{Action, Command};
 use ngc_machine::Machine;
 use ngc_planner::{Ramp, target_at};
 use ngc_step_kernel::ArcKernel;
@@ -47,12 +47,12 @@ impl<K: ArcKernel + Drop, A: Allocator> Progress<K, A> {
         })
     }
 
-    /// The command at the head.
-    pub fn command(&self) -> Option<Command>
-        ensures { result ≡ command_of self.now.ring.loaded }
+    /// What the command at the head does.
+    pub fn action(&self) -> Option<Action>
+        ensures { result ≡ action_of self.now.ring.loaded }
     {
         match self.ring.head() {
-            Some(head) => Some(*head.command()),
+            Some(head) => Some(head.command().action),
             None => None,
         }
     }
@@ -120,7 +120,12 @@ impl<K: ArcKernel + Drop, A: Allocator> Progress<K, A> {
         ensures target { IsTarget (file_of machine.now) percent self.old.ring.loaded self.new.drive.target }
     {
         if let Some(head) = self.ring.head() {
-            self.drive.target = target_at(head.command(), head.path_steps(), percent, machine);
+            self.drive.target = target_at(
+                &head.command().action,
+                head.path_steps(),
+                percent,
+                machine,
+            );
         }
     }
 }

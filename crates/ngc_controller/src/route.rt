@@ -2,14 +2,13 @@
 ghost use Rattle.std.specs.Prelude.{◌≡◌, ◌≤◌, ◌<◌, ◌+◌, ◌-◌, length, true};
 ghost use Rattle.ngc_fixed_length.specs.Length.{IsStep};
 ghost use Rattle.ngc_fixed_length.specs.LinePath.{point};
-ghost use Rattle.ngc_canonical.specs.Movement.{doing};
 ghost use Rattle.ngc_planner.specs.Bounds.{IsMotion};
 ghost use Rattle.ngc_planner.specs.Caps.{STEPS_LIMIT};
 ghost use Rattle.ngc_behaviour.specs.State.{Job, path_steps};
 ghost use Rattle.ngc_behaviour.specs.Step.{MayTake};
 ghost use Rattle.ngc_controller.specs.Loaded.{points_of, place_of, next_place, IsLoaded};
 
-use ngc_canonical::Command;
+use ngc_canonical::{Action, Command, Way};
 use ngc_fixed_length::{Nm, StepPos};
 use ngc_step_kernel::{ArcKernel, LinePath, Path};
 use std::marker::Model;
@@ -23,26 +22,19 @@ enum Route<K: ArcKernel + Drop> {
 }
 
 impl<K: ArcKernel + Drop> Route<K> {
-    /// A path of the command on a grid of this step, at its beginning.
-    fn of(command: &Command, step: Nm) -> Route<K>
+    /// A path of the action on a grid of this step, at its beginning.
+    fn of(action: &Action, step: Nm) -> Route<K>
         requires { IsStep step }
-        ensures takes { (job : Job) → job.machine.step ≡ step → MayTake job (doing command.now) (points_of K.points result) }
+        ensures takes { (job : Job) → job.machine.step ≡ step → MayTake job action.now (points_of K.points result) }
         ensures place { place_of K.place result ≡ 0 }
-        ensures moves { 1 ≤ length (points_of K.points result) - 1 → IsMotion command.now }
+        ensures moves { 1 ≤ length (points_of K.points result) - 1 → IsMotion action.now }
     {
-        match command {
-            Command::Traverse { start, end, .. } | Command::Feed { start, end, .. } => {
-                Route::Line(LinePath::new(*start, *end, step))
-            }
-            Command::Arc { arc, .. } => Route::Arc(K::new(arc, step)),
-            Command::Dwell { .. }
-            | Command::Tool { .. }
-            | Command::Spindle { .. }
-            | Command::Coolant { .. }
-            | Command::Override { .. }
-            | Command::Stop { .. }
-            | Command::OptionalStop { .. }
-            | Command::End { .. } => Route::Still,
+        match action {
+            Action::Move(motion) => match &motion.way {
+                Way::Line { start, end } => Route::Line(LinePath::new(*start, *end, step)),
+                Way::Arc(arc) => Route::Arc(K::new(arc, step)),
+            },
+            _ => Route::Still,
         }
     }
 
@@ -108,10 +100,10 @@ impl<K: ArcKernel + Drop> Loaded<K> {
     pub fn new(command: &Command, step: Nm) -> Loaded<K>
         requires { IsStep step }
         ensures command { result.queued.command ≡ command.now }
-        ensures takes { (job : Job) → job.machine.step ≡ step → MayTake job (doing command.now) result.queued.path }
+        ensures takes { (job : Job) → job.machine.step ≡ step → MayTake job command.now.action result.queued.path }
         ensures place { result.place ≡ 0 }
     {
-        let route = Route::of(command, step);
+        let route = Route::of(&command.action, step);
         let steps = route.path_steps();
         Loaded {
             command: *command,
@@ -130,7 +122,7 @@ impl<K: ArcKernel + Drop> Loaded<K> {
     pub fn path_steps(&self) -> u64
         ensures value { result ≡ path_steps self.now.queued }
         ensures few { result ≤ STEPS_LIMIT }
-        ensures moves { 1 ≤ result → IsMotion self.now.queued.command }
+        ensures moves { 1 ≤ result → IsMotion self.now.queued.command.action }
     {
         self.steps
     }
@@ -142,7 +134,7 @@ impl<K: ArcKernel + Drop> Loaded<K> {
         ensures queued { self.new.queued ≡ self.old.queued }
         ensures place { self.new.place ≡ next_place self.old.place due }
         ensures point { result ≡ point self.new.queued.path self.new.place }
-        ensures motion { IsMotion self.new.queued.command }
+        ensures motion { IsMotion self.new.queued.command.action }
     {
         self.route.follow(due)
     }
