@@ -39,7 +39,7 @@ use Rattle.ngc_canonical.specs.declared.movement.Pace.TheVariants as paces
 use Rattle.ngc_canonical.specs.declared.movement.Way.TheVariants as ways
 use Rattle.ngc_canonical.specs.Joined.{IsLastIfEnd, EndIsLast}
 use Rattle.ngc_canonical.specs.Movement.{end_of as moved_to}
-use Rattle.ngc_canonical.specs.Steps.{◌>>=◌, faulted, refuse_if}
+use Rattle.ngc_canonical.specs.Steps.{faulted, refuse_if}
 use Rattle.ngc_canonical.specs.State.{Setup, State, emit, at_place, go, traverse_to, unseries}
 use Rattle.ngc_canonical.specs.Spindle.{spindle_state, tell_speed, turn_of, mount, mount_found, change_tool, with_coolant}
 use Rattle.ngc_canonical.specs.Places.{axis_lengths, end_of, with_frames, set_origin, set_offset, tool_length, home_of, stands, go_home}

@@ -1,5 +1,5 @@
 -- Arcs (NISTIR 6556, 3.5.3: G2 and G3).
-use Rattle.std.specs.Prelude.{ℤ, Option, Some, None, Result, Ok, Bool, false, is_some, not, ◌||◌}
+use Rattle.std.specs.Prelude.{ℤ, Option, Some, None, Result, Bool, false, is_some, not, ◌||◌}
 use Rattle.ngc_fixed_length.specs.declared.modes.Plane.{Plane}
 use Rattle.ngc_fixed_length.specs.declared.modes.Plane.TheVariants.{XY, ZX, YZ}
 use Rattle.ngc_fixed_length.specs.declared.modes.Turn.{Turn}

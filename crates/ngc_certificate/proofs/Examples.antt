@@ -10,8 +10,9 @@ use Rattle.ngc_fixed_length.specs.declared.points.GridBox.{GridBox}
 use Rattle.ngc_fixed_length.specs.declared.points.Point3.{Point3}
 use Rattle.ngc_arc_geometry.specs.Shape.{ArcShape}
 use Rattle.ngc_machine.specs.Machine.{MachineFile, row_machine}
+use Rattle.ngc_canonical.specs.declared.command.Action.TheVariants.{Move, Mount}
 use Rattle.ngc_canonical.specs.declared.command.Command.{Command}
-use Rattle.ngc_canonical.specs.declared.command.Command.TheVariants as commands
+use Rattle.ngc_canonical.specs.declared.movement.Pace.TheVariants.{Rapid}
 use Rattle.ngc_canonical.specs.declared.movement.Way.{Way}
 use Rattle.ngc_canonical.specs.declared.movement.Way.TheVariants.{Line, Arc}
 use Rattle.ngc_certificate_text.specs.declared.piece.Cut.TheVariants.{Part, Place}
@@ -93,7 +94,7 @@ slanted_clear : pieces_fault beside None slanted (pieces_of (pos 10000) slanted 
 slanted_clear = refl
 
 abbrev one_line : List Command
-one_line = commands.Traverse 1 zero_point (point (pos 10000000) (pos 10000000) (pos 0)) ∷ []
+one_line = record { line = 1; action = Move (record { way = slanted; pace = Rapid }) } ∷ []
 
 in_one_piece : made beside 1 one_line one_line ≡ Err (NotCleared Off 0)
 in_one_piece = refl
@@ -133,7 +134,7 @@ abbrev below : MachineFile
 below = with_fixture (point (negsuc 19999999) (negsuc 9999999) (negsuc 99999999)) (point (negsuc 1999999) (pos 10000000) (negsuc 29999999))
 
 abbrev mounted : ℕ → ℤ → List Command
-mounted number length = commands.Tool 1 (Some (record { number = number; length = length; radius = pos 3000000; offset = pos 0 })) ∷ []
+mounted number length = record { line = 1; action = Mount (Some (record { number = number; length = length; radius = pos 3000000; offset = pos 0 })) } ∷ []
 
 -- a tool of 60 mm reaches into the fixture, one of 20 mm does not
 long_tool : made below 8 (mounted 2 (pos 60000000)) [] ≡ Err (NotCleared Off 0)

@@ -1,6 +1,6 @@
 use crate::given::point;
 use linked_list_allocator::LocalHeap;
-use ngc_canonical::Command;
+use ngc_canonical::{Action, Command, Motion, Pace, Way};
 use ngc_certificate_text::{Certificate, Cut, Motions, Piece, Setting};
 use ngc_checker::{Accepted, CheckFault, check};
 use ngc_fixed_length::{Device, GridBox, Nm, Point3, StepPos};
@@ -67,12 +67,24 @@ fn what_was_accepted_is_told(rt: HostRuntime) -> Result<(), Fail> {
     };
     let machine = row_machine(alloc);
     let accepted = check_program(alloc, &program, &machine, &certificate)?;
-    let motion = Command::Traverse {
-        line: 1,
+    let way = Way::Line {
         start: point(&rt, 0, 0),
         end: point(&rt, 1_000_000, 0),
     };
-    let commands = [motion, Command::End { line: 1 }];
+    let motion = Motion {
+        way,
+        pace: Pace::Rapid,
+    };
+    let commands = [
+        Command {
+            line: 1,
+            action: Action::Move(motion),
+        },
+        Command {
+            line: 1,
+            action: Action::End,
+        },
+    ];
     for delete in [false, true] {
         assert_eq!(rt; accepted.commands(delete), commands.as_slice());
     }

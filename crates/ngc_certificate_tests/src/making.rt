@@ -1,6 +1,6 @@
 use crate::given::{BESIDE_THE_LINE, INSIDE_THE_CIRCLE, circle, machine_with, piece, point};
 use linked_list_allocator::LocalHeap;
-use ngc_canonical::{Command, Feed};
+use ngc_canonical::{Action, Command, Feed, Motion, Pace, Way};
 use ngc_certificate::{Cut, MakeFault, Motions, Piece, Setting, make};
 use ngc_fixed_length::{Plane, Point3};
 use ngc_machine::row_machine;
@@ -14,8 +14,20 @@ low = [-1000000, -1000000, -1000000]
 high = [1000000, 1000000, 1000000]
 ";
 
+const STOP: Command = Command {
+    line: 1,
+    action: Action::Stop,
+};
+
+fn motion(line: u32, way: Way, pace: Pace) -> Command {
+    Command {
+        line,
+        action: Action::Move(Motion { way, pace }),
+    }
+}
+
 fn traverse(line: u32, start: Point3, end: Point3) -> Command {
-    Command::Traverse { line, start, end }
+    motion(line, Way::Line { start, end }, Pace::Rapid)
 }
 
 // From zero to (10, 10) mm.
@@ -26,12 +38,9 @@ fn slanted(rt: &impl Abort, line: u32) -> Command {
 // To the circle, and around it.
 fn way_around(rt: &impl Abort) -> Result<[Command; 2], Fail> {
     let left = point(rt, 10_000_000, 50_000_000);
-    let circle = Command::Arc {
-        line: 2,
-        arc: circle(rt)?,
-        feed: Feed::PerMinute(600_000_000),
-    };
-    Ok([traverse(1, point(rt, 0, 0), left), circle])
+    let pace = Pace::Feed(Feed::PerMinute(600_000_000));
+    let around = motion(2, Way::Arc(circle(rt)?), pace);
+    Ok([traverse(1, point(rt, 0, 0), left), around])
 }
 
 // The index of a motion's command, and the motion's pieces.
@@ -48,63 +57,70 @@ fn line_piece(part: u32, low: i32, high: i32) -> Piece {
 }
 
 #[derive(Clone, Copy, Debug)]
-enum Way {
+enum Course {
     Nothing,
     Slanted,
     SlantedBehindAStop,
     Around,
 }
 
-fn commands_on(rt: &impl Abort, alloc: Global, way: Way) -> Result<Vec<Command>, Fail> {
+fn commands_on(rt: &impl Abort, alloc: Global, course: Course) -> Result<Vec<Command>, Fail> {
     let mut commands = Vec::new(alloc);
-    match way {
-        Way::Nothing => {}
-        Way::Slanted => commands.push(slanted(rt, 1))?,
-        Way::SlantedBehindAStop => {
-            commands.push(Command::Stop { line: 1 })?;
+    match course {
+        Course::Nothing => {}
+        Course::Slanted => commands.push(slanted(rt, 1))?,
+        Course::SlantedBehindAStop => {
+            commands.push(STOP)?;
             commands.push(slanted(rt, 2))?;
         }
-        Way::Around => commands.extend_from_slice(&way_around(rt)?)?,
+        Course::Around => commands.extend_from_slice(&way_around(rt)?)?,
     }
     Ok(commands)
 }
 
 // With block delete off and on, and in how many pieces at most.
-static NOT_CLEARED: [(&str, Way, Way, u16, Setting, u32); 5] = [
+static NOT_CLEARED: [(&str, Course, Course, u16, Setting, u32); 5] = [
     (
         BESIDE_THE_LINE,
-        Way::Slanted,
-        Way::Slanted,
+        Course::Slanted,
+        Course::Slanted,
         1,
         Setting::Off,
         0,
     ),
     (
         BESIDE_THE_LINE,
-        Way::SlantedBehindAStop,
-        Way::Nothing,
+        Course::SlantedBehindAStop,
+        Course::Nothing,
         1,
         Setting::Off,
         1,
     ),
     (
         BESIDE_THE_LINE,
-        Way::Nothing,
-        Way::SlantedBehindAStop,
+        Course::Nothing,
+        Course::SlantedBehindAStop,
         1,
         Setting::On,
         1,
     ),
     (
         INSIDE_THE_CIRCLE,
-        Way::Around,
-        Way::Around,
+        Course::Around,
+        Course::Around,
         1,
         Setting::Off,
         1,
     ),
     // A start that isn't clear.
-    (AT_ZERO, Way::Nothing, Way::Nothing, 8, Setting::Off, 0),
+    (
+        AT_ZERO,
+        Course::Nothing,
+        Course::Nothing,
+        8,
+        Setting::Off,
+        0,
+    ),
 ];
 
 #[test]
@@ -142,7 +158,7 @@ fn a_slanted_line_in_two_pieces(rt: HostRuntime) -> Result<(), Fail> {
 #[test]
 fn a_setting_without_the_line(rt: HostRuntime) -> Result<(), Fail> {
     let machine = machine_with(rt.alloc(), BESIDE_THE_LINE)?;
-    let off = [Command::Stop { line: 1 }, slanted(&rt, 2)];
+    let off = [STOP, slanted(&rt, 2)];
     let certificate = make(rt.alloc(), &off, &[], &machine, 8)?;
     assert_eq!(rt; certificate.off.len(), 1);
     assert_eq!(rt;

@@ -1,7 +1,7 @@
 use crate::given::{
     BESIDE_THE_LINE, INSIDE_THE_CIRCLE, circle, length, machine_with, piece, point,
 };
-use ngc_canonical::Motion;
+use ngc_canonical::Way;
 use ngc_certificate::{
     Cut, MakeFault, Piece, PieceFault, PieceRefusal, Setting, Stretch, piece_fault, pieces_fault,
     place_fault,
@@ -38,8 +38,8 @@ const FIRST_MEETS_FIXTURE: Option<PieceRefusal> = Some(PieceRefusal {
 });
 
 // A line from zero.
-fn line(rt: &impl Abort, x: i64, y: i64) -> Motion {
-    Motion::Straight {
+fn line(rt: &impl Abort, x: i64, y: i64) -> Way {
+    Way::Line {
         start: point(rt, 0, 0),
         end: point(rt, x, y),
     }
@@ -59,22 +59,22 @@ fn refusal_of(
     rt: &impl Abort,
     machine: &Machine<Global>,
     reach: Option<i64>,
-    motion: &Motion,
+    way: &Way,
     pieces: &[Piece; 2],
     count: usize,
 ) -> Option<PieceRefusal> {
     assert!(rt; count <= 2);
-    pieces_fault(machine, tool(rt, reach), motion, &pieces[..count])
+    pieces_fault(machine, tool(rt, reach), way, &pieces[..count])
 }
 
 // The fault of a line's only piece.
-fn fault_alone(machine: &Machine<Global>, motion: &Motion, piece: &Piece) -> Option<PieceFault> {
+fn fault_alone(machine: &Machine<Global>, way: &Way, piece: &Piece) -> Option<PieceFault> {
     let stretch = Stretch {
         begin: Cut::Part(0),
         several: false,
         last: true,
     };
-    piece_fault(machine, None, motion, &stretch, piece)
+    piece_fault(machine, None, way, &stretch, piece)
 }
 
 static ALONE: [(u32, (i32, i32, i32), (i32, i32, i32), Option<PieceFault>); 10] = [
@@ -103,13 +103,13 @@ static ALONE: [(u32, (i32, i32, i32), (i32, i32, i32), Option<PieceFault>); 10] 
 #[test]
 fn a_line_in_one_piece(rt: HostRuntime) {
     let machine = row_machine(rt.alloc());
-    let motion = line(&rt, 30_000, 0);
+    let way = line(&rt, 30_000, 0);
     for (part, low, high, fault) in &ALONE {
-        let found = fault_alone(&machine, &motion, &piece(Cut::Part(*part), *low, *high));
+        let found = fault_alone(&machine, &way, &piece(Cut::Part(*part), *low, *high));
         assert_eq!(rt; found, *fault, "{part} from {low:?} to {high:?}");
     }
     let on_an_arc = piece(Cut::Place(Point2::default()), (0, 0, 0), (3, 0, 0));
-    let found = fault_alone(&machine, &motion, &on_an_arc);
+    let found = fault_alone(&machine, &way, &on_an_arc);
     assert_eq!(rt; found, Some(PieceFault::Chain));
 }
 
@@ -128,13 +128,13 @@ static CHAINS: [(usize, (u32, u32), Option<PieceRefusal>); 8] = [
 #[test]
 fn pieces_follow_each_other(rt: HostRuntime) {
     let machine = row_machine(rt.alloc());
-    let motion = line(&rt, 30_000, 0);
+    let way = line(&rt, 30_000, 0);
     for (count, (first, second), fault) in &CHAINS {
         let pieces = [
             piece(Cut::Part(*first), (0, 0, 0), (3, 0, 0)),
             piece(Cut::Part(*second), (0, 0, 0), (3, 0, 0)),
         ];
-        let found = refusal_of(&rt, &machine, None, &motion, &pieces, *count);
+        let found = refusal_of(&rt, &machine, None, &way, &pieces, *count);
         assert_eq!(rt; found, *fault, "{count} of {first} and {second}");
     }
 }
@@ -172,10 +172,10 @@ static BESIDE: [(
 #[test]
 fn a_slanted_line_beside_a_fixture(rt: HostRuntime) -> Result<(), Fail> {
     let machine = machine_with(rt.alloc(), BESIDE_THE_LINE)?;
-    let motion = line(&rt, 10_000_000, 10_000_000);
+    let way = line(&rt, 10_000_000, 10_000_000);
     for (reach, count, first, second, fault) in &BESIDE {
         let pieces = [flat(*first), flat(*second)];
-        let found = refusal_of(&rt, &machine, *reach, &motion, &pieces, *count);
+        let found = refusal_of(&rt, &machine, *reach, &way, &pieces, *count);
         assert_eq!(rt;
             found,
             *fault,
@@ -213,11 +213,11 @@ fn end_of(rt: &impl Abort, v: Option<i64>) -> Cut {
 
 #[test]
 fn an_arc_stands_in_one_piece(rt: HostRuntime) -> Result<(), Fail> {
-    let motion = Motion::Along(circle(&rt)?);
+    let way = Way::Arc(circle(&rt)?);
     for (fixture, v, y, count, fault) in &ROUND {
         let machine = machine_with(rt.alloc(), fixture)?;
         let pieces = [piece(end_of(&rt, *v), (998, *y, 0), (7_002, 8_002, 0)); 2];
-        let found = refusal_of(&rt, &machine, None, &motion, &pieces, *count);
+        let found = refusal_of(&rt, &machine, None, &way, &pieces, *count);
         assert_eq!(rt; found, *fault, "{count} to {v:?} from {y}");
     }
     Ok(())

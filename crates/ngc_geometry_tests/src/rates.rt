@@ -3,7 +3,7 @@ ghost use Rattle.ngc_planner.specs.Leg.{IsLeg};
 
 use crate::given::{Format, arc, ends, point};
 use ngc_arc_geometry::ArcFault;
-use ngc_canonical::{Command, Feed};
+use ngc_canonical::{Action, Feed, Motion, Pace, Way};
 use ngc_fixed_length::{Plane, Turn, Units};
 use ngc_machine::{Machine, row_machine};
 use ngc_planner::{Leg, Ramp, bound_of, braking, cap_of, joint_of, target_at, turn_rate};
@@ -14,7 +14,7 @@ const MINUTE: Feed = Feed::PerMinute(60_000_000);
 
 // A motion from zero.
 #[derive(Clone, Copy, Debug)]
-enum Way {
+enum Course {
     Line(i64, i64, Feed),
     // At 60 mm a minute about a point on the X axis, to an X and a Z.
     Arc(i64, i64, i64),
@@ -30,97 +30,115 @@ enum Rate {
     Target(u8),
 }
 
-fn traverse(rt: &impl Abort, start: (i64, i64, i64), end: (i64, i64, i64)) -> Command {
-    Command::Traverse {
-        line: 1,
+fn traverse(rt: &impl Abort, start: (i64, i64, i64), end: (i64, i64, i64)) -> Motion {
+    let way = Way::Line {
         start: point(rt, start),
         end: point(rt, end),
+    };
+    Motion {
+        way,
+        pace: Pace::Rapid,
     }
 }
 
-fn command_on(rt: &impl Abort, way: Way) -> Result<Command, ArcFault> {
-    match way {
-        Way::Line(x, y, feed) => Ok(Command::Feed {
-            line: 1,
-            start: point(rt, (0, 0, 0)),
-            end: point(rt, (x, y, 0)),
-            feed,
-        }),
-        Way::Arc(centre, x, z) => {
-            let ends = ends(rt, Plane::XY, Turn::Clockwise, (0, 0, 0), (x, 0, z));
-            let format = Format::Offsets(Some(centre), Some(0));
-            Ok(Command::Arc {
-                line: 1,
-                arc: arc(rt, Units::Millimetres, &ends, format)?,
-                feed: MINUTE,
+fn motion_on(rt: &impl Abort, course: Course) -> Result<Motion, ArcFault> {
+    match course {
+        Course::Line(x, y, feed) => {
+            let way = Way::Line {
+                start: point(rt, (0, 0, 0)),
+                end: point(rt, (x, y, 0)),
+            };
+            Ok(Motion {
+                way,
+                pace: Pace::Feed(feed),
             })
         }
-        Way::Traverse(x) => Ok(traverse(rt, (0, 0, 0), (x, 0, 0))),
+        Course::Arc(centre, x, z) => {
+            let ends = ends(rt, Plane::XY, Turn::Clockwise, (0, 0, 0), (x, 0, z));
+            let format = Format::Offsets(Some(centre), Some(0));
+            let arc = arc(rt, Units::Millimetres, &ends, format)?;
+            Ok(Motion {
+                way: Way::Arc(arc),
+                pace: Pace::Feed(MINUTE),
+            })
+        }
+        Course::Traverse(x) => Ok(traverse(rt, (0, 0, 0), (x, 0, 0))),
     }
 }
 
 fn rate_on(
     rt: &impl Abort,
     machine: &Machine<Global>,
-    way: Way,
+    course: Course,
     steps: u64,
     rate: Rate,
 ) -> Result<u128, ArcFault> {
     assert!(rt; steps <= 1_000_000_000);
-    let command = command_on(rt, way)?;
+    let motion = motion_on(rt, course)?;
+    let action = Action::Move(motion);
     Ok(match rate {
-        Rate::Cap => cap_of(&command, steps, machine),
-        Rate::Bound => u128::from(bound_of(&command, steps, machine)),
-        Rate::Turn => u128::from(turn_rate(&command, machine)),
-        Rate::Target(percent) => u128::from(target_at(&command, steps, percent, machine)),
+        Rate::Cap => cap_of(&action, steps, machine),
+        Rate::Bound => u128::from(bound_of(&action, steps, machine)),
+        Rate::Turn => u128::from(turn_rate(&motion.way, machine)),
+        Rate::Target(percent) => u128::from(target_at(&action, steps, percent, machine)),
     })
 }
 
-static RATES: [(Way, u64, Rate, u128); 10] = [
-    (Way::Line(10_000_000, 0, MINUTE), 1000, Rate::Cap, 10_000),
+static RATES: [(Course, u64, Rate, u128); 10] = [
+    (Course::Line(10_000_000, 0, MINUTE), 1000, Rate::Cap, 10_000),
     (
-        Way::Line(3_000_000, 4_000_000, MINUTE),
+        Course::Line(3_000_000, 4_000_000, MINUTE),
         400,
         Rate::Cap,
         8_000,
     ),
     (
-        Way::Line(10_000_000, 0, Feed::PerMinute(100)),
+        Course::Line(10_000_000, 0, Feed::PerMinute(100)),
         1000,
         Rate::Cap,
         1,
     ),
     (
-        Way::Line(10_000_000, 0, Feed::Inverse(2_000_000)),
+        Course::Line(10_000_000, 0, Feed::Inverse(2_000_000)),
         1000,
         Rate::Cap,
         3_333,
     ),
-    (Way::Line(10_000_000, 0, MINUTE), 1000, Rate::Bound, 20_000),
     (
-        Way::Line(10_000_000, 0, MINUTE),
+        Course::Line(10_000_000, 0, MINUTE),
+        1000,
+        Rate::Bound,
+        20_000,
+    ),
+    (
+        Course::Line(10_000_000, 0, MINUTE),
         1000,
         Rate::Target(50),
         5_000,
     ),
-    (Way::Arc(5_000_000, 10_000_000, 0), 2000, Rate::Cap, 7_067),
     (
-        Way::Arc(5_000_000, 10_000_000, 1_000_000),
+        Course::Arc(5_000_000, 10_000_000, 0),
+        2000,
+        Rate::Cap,
+        7_067,
+    ),
+    (
+        Course::Arc(5_000_000, 10_000_000, 1_000_000),
         2000,
         Rate::Cap,
         5_770,
     ),
-    (Way::Arc(1_000_000, 0, 0), 0, Rate::Turn, 316_227),
-    (Way::Traverse(1_000_000), 100, Rate::Target(200), 400_000),
+    (Course::Arc(1_000_000, 0, 0), 0, Rate::Turn, 316_227),
+    (Course::Traverse(1_000_000), 100, Rate::Target(200), 400_000),
 ];
 
 #[test]
 fn rates_of_motions(rt: HostRuntime) {
     let machine = row_machine(rt.alloc());
-    for (way, steps, rate, wanted) in &RATES {
-        match rate_on(&rt, &machine, *way, *steps, *rate) {
-            Ok(found) => assert_eq!(rt; found, *wanted, "{rate:?} on {way:?}"),
-            Err(_) => assert!(rt; false, "no arc on {way:?}"),
+    for (course, steps, rate, wanted) in &RATES {
+        match rate_on(&rt, &machine, *course, *steps, *rate) {
+            Ok(found) => assert_eq!(rt; found, *wanted, "{rate:?} on {course:?}"),
+            Err(_) => assert!(rt; false, "no arc on {course:?}"),
         }
     }
 }
@@ -130,23 +148,22 @@ fn rates_of_motions(rt: HostRuntime) {
 fn corners(rt: HostRuntime) {
     let machine = row_machine(rt.alloc());
     let middle = (1_000_000, 0, 0);
-    let along = traverse(&rt, (0, 0, 0), middle);
+    let along = Action::Move(traverse(&rt, (0, 0, 0), middle));
     for (end, joint) in [
         ((3_000_000, 0, 0), 1_000_000),
         ((1_000_000, 1_000_000, 0), 50_000),
     ] {
-        let next = traverse(&rt, middle, end);
+        let next = Action::Move(traverse(&rt, middle, end));
         assert_eq!(rt; joint_of(&along, &next, &machine), joint, "to {end:?}");
     }
-    let stop = Command::Stop { line: 1 };
-    assert_eq!(rt; joint_of(&along, &stop, &machine), 1_000_000);
+    assert_eq!(rt; joint_of(&along, &Action::Stop, &machine), 1_000_000);
 }
 
 #[test]
 fn braking_from_two_rates(rt: HostRuntime) {
-    for (rate, way) in [(2_500, 4_500), (400_000, 80_200_000)] {
+    for (rate, course) in [(2_500, 4_500), (400_000, 80_200_000)] {
         assert!(rt; rate <= 1_000_000);
-        assert_eq!(rt; braking(rate, 1_000), way, "from {rate}");
+        assert_eq!(rt; braking(rate, 1_000), course, "from {rate}");
     }
 }
 

@@ -10,11 +10,16 @@ use Rattle.ngc_fixed_length.specs.declared.modes.Turn.TheVariants.{Clockwise, Co
 use Rattle.ngc_fixed_length.specs.declared.points.Point3.{Point3}
 use Rattle.ngc_fixed_length.specs.declared.points.StepPos.{StepPos}
 use Rattle.ngc_machine.specs.declared.tools.Tool.{Tool}
-use Rattle.ngc_canonical.specs.Commands.{line_of}
+use Rattle.ngc_canonical.specs.Movement.{end_of}
+use Rattle.ngc_canonical.specs.declared.command.Action.{Action}
+use Rattle.ngc_canonical.specs.declared.command.Action.TheVariants.{Move, Mount, Dwell, Spindle, Coolant, Override, Stop, OptionalStop, End}
 use Rattle.ngc_canonical.specs.declared.command.Command.{Command}
-use Rattle.ngc_canonical.specs.declared.command.Command.TheVariants.{Traverse, Feed, Arc, Dwell, Tool as MountTool, Spindle, Coolant, Override, Stop, OptionalStop, End}
-use Rattle.ngc_canonical.specs.declared.command.Feed.{Feed as FeedOf}
-use Rattle.ngc_canonical.specs.declared.command.Feed.TheVariants as feeds
+use Rattle.ngc_canonical.specs.declared.movement.Feed.{Feed}
+use Rattle.ngc_canonical.specs.declared.movement.Feed.TheVariants as feeds
+use Rattle.ngc_canonical.specs.declared.movement.Pace.{Pace}
+use Rattle.ngc_canonical.specs.declared.movement.Pace.TheVariants as paces
+use Rattle.ngc_canonical.specs.declared.movement.Way.{Way}
+use Rattle.ngc_canonical.specs.declared.movement.Way.TheVariants.{Line, Arc}
 use Rattle.ngc_canonical.specs.declared.command.SpindleState.{SpindleState}
 use Rattle.ngc_canonical.specs.declared.command.SpindleState.TheVariants as spindles
 use Rattle.ngc_canonical.specs.declared.command.CoolantState.{CoolantState}
@@ -34,7 +39,7 @@ steps_text p = triple p.x p.y p.z
 abbrev pub end_text : ℤ → Point3 → List ℕ
 end_text step end = place_text end ++ codes " grid " ++ steps_text (grid step end)
 
-abbrev pub feed_text : FeedOf → List ℕ
+abbrev pub feed_text : Feed → List ℕ
 feed_text (feeds.PerMinute n) = codes " permin " ++ decimal n
 feed_text (feeds.Inverse n) = codes " inverse " ++ decimal n
 
@@ -70,23 +75,32 @@ abbrev pub switch_text : Bool → List ℕ
 switch_text true = codes "on"
 switch_text false = codes "off"
 
+-- what stands before the end of a motion
+abbrev pub way_text : Way → Pace → List ℕ
+way_text (Line start end) paces.Rapid = codes " traverse "
+way_text (Line start end) (paces.Feed feed) = codes " feed "
+way_text (Arc arc) pace = codes " arc " ++ arc_text arc ++ codes " to "
+
+-- and behind it
+abbrev pub pace_text : Pace → List ℕ
+pace_text paces.Rapid = []
+pace_text (paces.Feed feed) = feed_text feed
+
 -- what a command does
-abbrev pub act_text : ℤ → Command → List ℕ
-act_text step (Traverse line start end) = codes " traverse " ++ end_text step end
-act_text step (Feed line start end feed) = codes " feed " ++ end_text step end ++ feed_text feed
-act_text step (Arc line arc feed) = codes " arc " ++ arc_text arc ++ codes " to " ++ end_text step arc.end ++ feed_text feed
-act_text step (Dwell line millionths) = codes " dwell " ++ decimal millionths
-act_text step (MountTool line tool) = codes " tool " ++ decimal (number_of_tool tool)
-act_text step (Spindle line state) = codes " spindle " ++ spindle_text state
-act_text step (Coolant line state) = codes " coolant " ++ coolant_text state
-act_text step (Override line on) = codes " override " ++ switch_text on
-act_text step (Stop line) = codes " stop"
-act_text step (OptionalStop line) = codes " optional stop"
-act_text step (End line) = codes " end"
+abbrev pub act_text : ℤ → Action → List ℕ
+act_text step (Move m) = way_text m.way m.pace ++ end_text step (end_of m.way) ++ pace_text m.pace
+act_text step (Dwell millionths) = codes " dwell " ++ decimal millionths
+act_text step (Mount tool) = codes " tool " ++ decimal (number_of_tool tool)
+act_text step (Spindle state) = codes " spindle " ++ spindle_text state
+act_text step (Coolant state) = codes " coolant " ++ coolant_text state
+act_text step (Override on) = codes " override " ++ switch_text on
+act_text step Stop = codes " stop"
+act_text step OptionalStop = codes " optional stop"
+act_text step End = codes " end"
 
 -- a line of the listing: the command's index, its line in the program, and what it does
 abbrev pub listing_line : ℤ → ℕ → Command → List ℕ
-listing_line step index command = decimal index ++ codes " " ++ decimal (line_of command) ++ act_text step command ++ codes "\n"
+listing_line step index command = decimal index ++ codes " " ++ decimal command.line ++ act_text step command.action ++ codes "\n"
 
 abbrev pub listing_from : ℕ → ℤ → List Command → List ℕ
 listing_from index step [] = []

@@ -23,7 +23,8 @@ pub use lister::{ListFault, list};
 pub use listing::write_list;
 pub use ngc_behaviour::{Ending, EventFault, Reply};
 pub use ngc_canonical::{
-    Command, CoolantState, Fault, Feed, ProgramFault, SpindleState, interpret,
+    Action, Command, CoolantState, Fault, Feed, Motion, Pace, ProgramFault, SpindleState, Way,
+    interpret,
 };
 pub use ngc_certificate::{MakeFault, PieceFault, Setting};
 pub use ngc_certificate_text::{Certificate, CertificateFault};

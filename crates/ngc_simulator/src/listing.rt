@@ -5,10 +5,11 @@ ghost use Rattle.ngc_fixed_length.specs.Failures.{CountsFailure};
 ghost use Rattle.ngc_fixed_length.specs.Length.{IsStep};
 ghost use Rattle.ngc_fixed_length.specs.Written.{AppendsBeginning};
 ghost use Rattle.ngc_output.specs.Collected.{CHUNK_SIZE, HasLineRoom};
-ghost use Rattle.ngc_simulator.specs.Listing.{place_text, steps_text, end_text, feed_text, turn_text, plane_text, arc_text, spindle_text, coolant_text, number_of_tool, switch_text, act_text, listing_line, listing};
+ghost use Rattle.ngc_canonical.specs.Movement.{end_of};
+ghost use Rattle.ngc_simulator.specs.Listing.{place_text, steps_text, end_text, feed_text, turn_text, plane_text, arc_text, spindle_text, coolant_text, number_of_tool, switch_text, way_text, pace_text, act_text, listing_line, listing};
 
 use ngc_arc_geometry::Arc;
-use ngc_canonical::{Command, CoolantState, Feed, SpindleState, Tool};
+use ngc_canonical::{Action, Command, CoolantState, Feed, Motion, Pace, SpindleState, Tool, Way};
 use ngc_fixed_length::{Nm, Plane, Point3, Sink, StepPos, Turn, WriteFault};
 use ngc_output::Chunk;
 
@@ -151,53 +152,78 @@ fn switch_word(on: bool) -> &'static [u8]
     if on { b"on" } else { b"off" }
 }
 
-// What a command does.
-fn add_act(chunk: &mut Chunk, step: Nm, command: &Command)
-    requires room { length chunk.old + 420 ≤ CHUNK_SIZE }
-    requires step { IsStep step }
-    ensures text { chunk.new ≡ chunk.old ++ act_text step command.now }
-    ensures short { length chunk.new ≤ length chunk.old + 410 }
+// What stands before the end of a motion.
+fn add_way(chunk: &mut Chunk, way: &Way, pace: &Pace)
+    requires { length chunk.old + 110 ≤ CHUNK_SIZE }
+    ensures text { chunk.new ≡ chunk.old ++ way_text way.now pace.now }
+    ensures short { length chunk.new ≤ length chunk.old + 100 }
 {
-    match command {
-        Command::Traverse { end, .. } => {
-            chunk.add_text(b" traverse ");
-            add_end(chunk, step, end);
-        }
-        Command::Feed { end, feed, .. } => {
-            chunk.add_text(b" feed ");
-            add_end(chunk, step, end);
-            add_feed(chunk, feed);
-        }
-        Command::Arc { arc, feed, .. } => {
+    match (way, pace) {
+        (Way::Line { .. }, Pace::Rapid) => chunk.add_text(b" traverse "),
+        (Way::Line { .. }, Pace::Feed(_)) => chunk.add_text(b" feed "),
+        (Way::Arc(arc), _) => {
             chunk.add_text(b" arc ");
             add_arc(chunk, arc);
             chunk.add_text(b" to ");
-            add_end(chunk, step, &arc.end());
-            add_feed(chunk, feed);
         }
-        Command::Dwell { millionths, .. } => {
+    }
+}
+
+// What stands behind it.
+fn add_pace(chunk: &mut Chunk, pace: &Pace)
+    requires { length chunk.old + 50 ≤ CHUNK_SIZE }
+    ensures text { chunk.new ≡ chunk.old ++ pace_text pace.now }
+    ensures short { length chunk.new ≤ length chunk.old + 49 }
+{
+    match pace {
+        Pace::Rapid => {}
+        Pace::Feed(feed) => add_feed(chunk, feed),
+    }
+}
+
+fn add_motion(chunk: &mut Chunk, step: Nm, motion: &Motion)
+    requires room { length chunk.old + 420 ≤ CHUNK_SIZE }
+    requires step { IsStep step }
+    ensures text { chunk.new ≡ chunk.old ++ (way_text motion.now.way motion.now.pace ++ end_text step (end_of motion.now.way) ++ pace_text motion.now.pace) }
+    ensures short { length chunk.new ≤ length chunk.old + 410 }
+{
+    add_way(chunk, &motion.way, &motion.pace);
+    add_end(chunk, step, &motion.way.end());
+    add_pace(chunk, &motion.pace);
+}
+
+// What a command does.
+fn add_act(chunk: &mut Chunk, step: Nm, action: &Action)
+    requires room { length chunk.old + 420 ≤ CHUNK_SIZE }
+    requires step { IsStep step }
+    ensures text { chunk.new ≡ chunk.old ++ act_text step action.now }
+    ensures short { length chunk.new ≤ length chunk.old + 410 }
+{
+    match action {
+        Action::Move(motion) => add_motion(chunk, step, motion),
+        Action::Dwell(millionths) => {
             chunk.add_text(b" dwell ");
             chunk.add_number(*millionths);
         }
-        Command::Tool { tool, .. } => {
+        Action::Mount(tool) => {
             chunk.add_text(b" tool ");
             chunk.add_number(tool_number(tool));
         }
-        Command::Spindle { state, .. } => {
+        Action::Spindle(state) => {
             chunk.add_text(b" spindle ");
             add_spindle(chunk, state);
         }
-        Command::Coolant { state, .. } => {
+        Action::Coolant(state) => {
             chunk.add_text(b" coolant ");
             chunk.add_text(coolant_word(*state));
         }
-        Command::Override { on, .. } => {
+        Action::Override(on) => {
             chunk.add_text(b" override ");
             chunk.add_text(switch_word(*on));
         }
-        Command::Stop { .. } => chunk.add_text(b" stop"),
-        Command::OptionalStop { .. } => chunk.add_text(b" optional stop"),
-        Command::End { .. } => chunk.add_text(b" end"),
+        Action::Stop => chunk.add_text(b" stop"),
+        Action::OptionalStop => chunk.add_text(b" optional stop"),
+        Action::End => chunk.add_text(b" end"),
     }
 }
 
@@ -208,8 +234,8 @@ fn add_line(chunk: &mut Chunk, step: Nm, index: usize, command: &Command)
 {
     chunk.add_number(index);
     chunk.add_text(b" ");
-    chunk.add_number(command.line());
-    add_act(chunk, step, command);
+    chunk.add_number(command.line);
+    add_act(chunk, step, &command.action);
     chunk.add_text(b"\n");
 }
 

@@ -7,4 +7,4 @@ use Rattle.ngc_certificate.proofs.maker.find_clear.Given as goal
 
 abbrev pub invariant-loop-count : goal.invariant-loop-count
 invariant-loop-count g l =
-    cleared (file_of l.machine) l.most l.tool l.motion ≡ cleared_from (file_of l.machine) l.most l.tool l.motion (drop l.count-index powers_of_two)
+    cleared (file_of l.machine) l.most l.tool l.way ≡ cleared_from (file_of l.machine) l.most l.tool l.way (drop l.count-index powers_of_two)
