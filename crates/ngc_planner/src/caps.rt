@@ -1,10 +1,10 @@
 ghost use Rattle.std.specs.Prelude.{◌≡◌, ◌+◌, ◌*◌, ◌/◌, ◌^◌, ◌≤◌, ◌<◌, unsigned_abs};
 ghost use Rattle.ngc_fixed_length.specs.Grid.{distance};
 ghost use Rattle.ngc_machine.specs.Machine.{file_of};
-ghost use Rattle.ngc_planner.specs.Caps.{MILLION, STEPS_LIMIT, length_between, crosswise, inverse_cap, line_cap, arc_cap, feed_cap, motion_cap, cap_of, KeepsMotionFeed, KeepsFeed};
+ghost use Rattle.ngc_planner.specs.Caps.{MILLION, STEPS_LIMIT, length_between, crosswise, inverse_cap, line_cap, arc_cap, feed_cap, cap_of, KeepsFeed};
 
 use ngc_arc_geometry::Arc;
-use ngc_canonical::{Action, Feed, Motion, Pace, Way};
+use ngc_canonical::{Action, Feed, Pace, Way};
 use ngc_fixed_length::{Nm, Point3, root_ceil};
 use ngc_machine::Machine;
 use std::alloc::Allocator;
@@ -113,19 +113,6 @@ fn feed_cap<A: Allocator>(way: &Way, n: u64, feed: &Feed, machine: &Machine<A>) 
     }
 }
 
-/// The cap of so many path steps of a motion.
-fn motion_cap<A: Allocator>(motion: &Motion, n: u64, machine: &Machine<A>) -> u128
-    requires { n ≤ STEPS_LIMIT }
-    ensures value { result ≡ motion_cap motion.now.way motion.now.pace n (file_of machine.now) }
-    ensures slow { KeepsMotionFeed (file_of machine.now) motion.now.way motion.now.pace n result }
-    ensures bound { result < 2 ^ 115 }
-{
-    match &motion.pace {
-        Pace::Rapid => u128::from(machine.max_rate),
-        Pace::Feed(feed) => feed_cap(&motion.way, n, feed, machine).max(1),
-    }
-}
-
 /// The feed cap of a motion of `n` path steps, at most 10^9, in millionths of a path step a tick: the greatest rate at a
 /// rapid pace, and otherwise what the feed allows, at least 1. It is 0 for an action that is no motion.
 pub fn cap_of<A: Allocator>(action: &Action, n: u64, machine: &Machine<A>) -> u128
@@ -135,7 +122,10 @@ pub fn cap_of<A: Allocator>(action: &Action, n: u64, machine: &Machine<A>) -> u1
     ensures bound { result < 2 ^ 115 }
 {
     match action {
-        Action::Move(motion) => motion_cap(motion, n, machine),
+        Action::Move(motion) => match &motion.pace {
+            Pace::Rapid => u128::from(machine.max_rate),
+            Pace::Feed(feed) => feed_cap(&motion.way, n, feed, machine).max(1),
+        },
         _ => 0,
     }
 }

@@ -7,7 +7,7 @@ use Rattle.ngc_canonical.specs.declared.movement.Way.{Way}
 use Rattle.ngc_canonical.specs.declared.movement.Way.TheVariants.{Line, Arc}
 use Rattle.ngc_planner.specs.Caps.{MILLION, KeepsLineFeed, KeepsMotionFeed, length_between, line_cap, feed_cap}
 use Rattle.ngc_planner.proofs.CapLaws.{below_quotient}
-use Rattle.ngc_planner.proofs.caps.motion_cap.Goals as goal
+use Rattle.ngc_planner.proofs.caps.cap_of.Goals as goal
 
 keeps_line : (hz n length : ℕ) (f : Feed) (cap : ℕ) → cap ≡ max (line_cap hz n length f) 1 → KeepsLineFeed hz n length f cap
 keeps_line hz n length (PerMinute f) cap h =
@@ -21,4 +21,4 @@ keeps_feed m (Arc a) n f cap h = tt
 pub returns-in-Feed-clause-slow : goal.returns-in-Feed-clause-slow
 returns-in-Feed-clause-slow g c =
     let value = rw c.feed_cap.ensures.value at c.max.ensures in
-    rw c.in-Feed.is (keeps_feed _ _ _ _ _ value)
+    rw (c.in-Move.is, c.in-Feed.is) (keeps_feed _ _ _ _ _ value)
