@@ -35,13 +35,13 @@ use Rattle.ngc_certificate.proofs.SafeInPiece.{safe_in_piece}
 use Rattle.ngc_certificate.proofs.Truths.{both, le_of}
 use Rattle.ngc_behaviour.proofs.SafePositions.{one_step}
 
-abbrev pub IsArcIfAlong : Way → Type 0
-IsArcIfAlong (Line b e) = Unit {0}
-IsArcIfAlong (Arc a) = IsArc a
+abbrev pub IsArcIfCurved : Way → Type 0
+IsArcIfCurved (Line b e) = Unit {0}
+IsArcIfCurved (Arc a) = IsArc a
 
 abbrev pub AreArcs : List Way → Type 0
 AreArcs [] = Unit {0}
-AreArcs (m ∷ ms) = IsArcIfAlong m × AreArcs ms
+AreArcs (way ∷ ways) = IsArcIfCurved way × AreArcs ways
 
 -- ---- a place whose grid point is within travel
 
@@ -72,7 +72,7 @@ safe_in_swept machine tool a several begin [] q s v k = absurd v
 safe_in_swept machine tool a several begin (p ∷ []) q s v k = safe_in_piece machine tool (Arc a) (stretch several true begin) p q s v k
 safe_in_swept machine tool a several begin (p ∷ r ∷ ps) q s v k = safe_in_piece machine tool (Arc a) (stretch several false begin) p q s v.0 k
 
-arc_if_valid : (machine : MachineFile) (tool : Option Tool) (m : Way) (pieces : List Piece) → IsMachine machine → ArePiecesValid machine tool m pieces → IsEvenIfArc m → IsArcIfAlong m
+arc_if_valid : (machine : MachineFile) (tool : Option Tool) (way : Way) (pieces : List Piece) → IsMachine machine → ArePiecesValid machine tool way pieces → IsEvenIfArc way → IsArcIfCurved way
 arc_if_valid machine tool (Line b e) pieces h v even = tt
 arc_if_valid machine tool (Arc a) pieces h v even =
     let safe_at : (q : StepPos) → IsIn (swept_box machine.step a) q → IsSafe machine tool q =
@@ -87,23 +87,23 @@ arc_if_valid machine tool (Arc a) pieces h v even =
 
 -- ---- all of them
 
-clear_arcs : (machine : MachineFile) (tool : Option Tool) (place : Point3) (ds : List Action) (entries : List Entry) → IsMachine machine →
-    AreClearFrom machine tool place ds entries → HaveEvenRadii (ways_of ds) → AreArcs (ways_of ds)
+clear_arcs : (machine : MachineFile) (tool : Option Tool) (place : Point3) (actions : List Action) (entries : List Entry) → IsMachine machine →
+    AreClearFrom machine tool place actions entries → HaveEvenRadii (ways_of actions) → AreArcs (ways_of actions)
 clear_arcs machine tool place [] entries h c even = tt
-clear_arcs machine tool place (Mount new ∷ ds) entries h c even = clear_arcs machine new place ds entries h c.1 even
-clear_arcs machine tool place (Move m ∷ ds) [] h c even = absurd c
-clear_arcs machine tool place (Move m ∷ ds) (entry ∷ entries) h c even =
-    (arc_if_valid machine tool m.way entry.pieces h c.0 even.0, clear_arcs machine tool (end_of m.way) ds entries h c.1 even.1)
-clear_arcs machine tool place (_ ∷ ds) entries h c even = clear_arcs machine tool place ds entries h c even
+clear_arcs machine tool place (Mount new ∷ actions) entries h c even = clear_arcs machine new place actions entries h c.1 even
+clear_arcs machine tool place (Move m ∷ actions) [] h c even = absurd c
+clear_arcs machine tool place (Move m ∷ actions) (entry ∷ entries) h c even =
+    (arc_if_valid machine tool m.way entry.pieces h c.0 even.0, clear_arcs machine tool (end_of m.way) actions entries h c.1 even.1)
+clear_arcs machine tool place (_ ∷ actions) entries h c even = clear_arcs machine tool place actions entries h c even
 
 pub are_arcs : (machine : MachineFile) (commands : List Command) (entries : List Entry) → IsMachine machine → IsValid machine commands entries →
     HaveEvenRadii (ways_of (actions_of commands)) → AreArcs (ways_of (actions_of commands))
 are_arcs machine commands entries h v even = clear_arcs machine _ machine.start (actions_of commands) entries h v.clear even
 
 -- and of those that are left
-behind_first : (d : Action) (ds : List Action) → AreArcs (ways_of (d ∷ ds)) → AreArcs (ways_of ds)
-behind_first (Move m) ds arcs = arcs.1
-behind_first _ ds arcs = arcs
+behind_first : (d : Action) (actions : List Action) → AreArcs (ways_of (d ∷ actions)) → AreArcs (ways_of actions)
+behind_first (Move m) actions arcs = arcs.1
+behind_first _ actions arcs = arcs
 
 pub arcs_left : (n : ℕ) (cs : List Command) → AreArcs (ways_of (actions_of cs)) → AreArcs (ways_of (actions_of (drop n cs)))
 arcs_left zero cs arcs = arcs

@@ -19,7 +19,7 @@ use Rattle.ngc_canonical.specs.ProgramPath.{IsPathOf, IsPathOfAll}
 use Rattle.ngc_behaviour.specs.State.{Job}
 use Rattle.ngc_behaviour.proofs.SafeRun.{path_ends, ends_last}
 use Rattle.ngc_behaviour.proofs.Effects.{emitted}
-use Rattle.ngc_behaviour.proofs.Arcs.{IsArcIfAlong, AreArcs}
+use Rattle.ngc_behaviour.proofs.Arcs.{IsArcIfCurved, AreArcs}
 use Rattle.ngc_step_kernel.proofs.SomePath.{some_arc_path}
 
 -- ---- points of lists
@@ -75,37 +75,37 @@ with_pulse path n j k p q tail rest e jk kj kn pj qk h = by_case (nat_lt j k) re
 
 -- ---- paths of motions
 
-path_of : (step : ℤ) → IsStep step → (m : Way) → IsArcIfAlong m → (path : List StepPos) × IsPathOf step m path
+path_of : (step : ℤ) → IsStep step → (way : Way) → IsArcIfCurved way → (path : List StepPos) × IsPathOf step way path
 path_of step h (Line b e) arc = (line_points (greatest_distance (grid step b) (grid step e)) (grid step b) (grid step e), follows_step step b e h)
 path_of step h (Arc a) arc = some_arc_path step a h arc
 
-pub path_length : (job : Job) (m : Way) (path : List StepPos) → IsPathOf job.machine.step m path → length path ≡ (length path - 1) + 1
-path_length job m path w = omega (arith, (path_ends job m path w).1)
+pub path_length : (job : Job) (way : Way) (path : List StepPos) → IsPathOf job.machine.step way path → length path ≡ (length path - 1) + 1
+path_length job way path w = omega (arith, (path_ends job way path w).1)
 
 -- a path of the first motion, and then one of the others
-pub path_then : (job : Job) (m : Way) (ms : List Way) (p : StepPos) (path rest points : List StepPos) → IsPathOf job.machine.step m path → point path 0 ≡ p →
-    IsPathOfAll job.machine.step (point path (length path - 1)) ms rest → points ≡ take (length path - 1) path ++ rest → IsPathOfAll job.machine.step p (m ∷ ms) points
-path_then job m ms p path rest points w starts others e =
+pub path_then : (job : Job) (way : Way) (ways : List Way) (p : StepPos) (path rest points : List StepPos) → IsPathOf job.machine.step way path → point path 0 ≡ p →
+    IsPathOfAll job.machine.step (point path (length path - 1)) ways rest → points ≡ take (length path - 1) path ++ rest → IsPathOfAll job.machine.step p (way ∷ ways) points
+path_then job way ways p path rest points w starts others e =
     let n = length path - 1 in
-    let split = split_last path n (path_length job m path w) in (
+    let split = split_last path n (path_length job way path w) in (
       take n path,
       point path n,
       rest,
-      subst (IsPathOf job.machine.step m) (sym split) w,
+      subst (IsPathOf job.machine.step way) (sym split) w,
       subst (λ t. point t 0 ≡ p) (sym split) starts,
       others,
       e,
     )
 
 -- joined motions have a path from the grid point of their start on
-pub some_path : (job : Job) → IsStep job.machine.step → (ms : List Way) (place : Point3) (p : StepPos) → AreArcs ms → AreJoined place ms → p ≡ grid job.machine.step place →
-    (later : List StepPos) × IsPathOfAll job.machine.step p ms (p ∷ later)
+pub some_path : (job : Job) → IsStep job.machine.step → (ways : List Way) (place : Point3) (p : StepPos) → AreArcs ways → AreJoined place ways → p ≡ grid job.machine.step place →
+    (later : List StepPos) × IsPathOfAll job.machine.step p ways (p ∷ later)
 some_path job h [] place p arcs j at = ([], refl)
-some_path job h (m ∷ ms) place p arcs j at =
-    let w = path_of job.machine.step h m arcs.0 in
+some_path job h (way ∷ ways) place p arcs j at =
+    let w = path_of job.machine.step h way arcs.0 in
     let path = w.0 in
     let n = length path - 1 in
-    let others = some_path job h ms (end_of m) (point path n) arcs.1 j.1 (ends_last job m path w.1) in
-    let starts : point path 0 ≡ p = (path_ends job m path w.1).2 ∙ ap (grid job.machine.step) j.0 ∙ sym at in
-    let b = begins_with (take n path) (point path n) others.0 p (subst (λ t. point t 0 ≡ p) (sym (split_last path n (path_length job m path w.1))) starts) in
-    (b.0, path_then job m ms p path (point path n ∷ others.0) (p ∷ b.0) w.1 starts others.1 (sym b.1))
+    let others = some_path job h ways (end_of way) (point path n) arcs.1 j.1 (ends_last job way path w.1) in
+    let starts : point path 0 ≡ p = (path_ends job way path w.1).2 ∙ ap (grid job.machine.step) j.0 ∙ sym at in
+    let b = begins_with (take n path) (point path n) others.0 p (subst (λ t. point t 0 ≡ p) (sym (split_last path n (path_length job way path w.1))) starts) in
+    (b.0, path_then job way ways p path (point path n ∷ others.0) (p ∷ b.0) w.1 starts others.1 (sym b.1))

@@ -81,10 +81,10 @@ abbrev pub WalksIn : Job → State → Type 0
 WalksIn job s = Walks job s.done s.ring s.travelled s.position
 
 -- the head is a motion, if it has path steps
-begins_at : (job : Job) (d : Action) (ds : List Action) (path : List StepPos) (place : Point3) → AreJoined place (ways_of (d ∷ ds)) → MayTake job d path →
+begins_at : (job : Job) (d : Action) (actions : List Action) (path : List StepPos) (place : Point3) → AreJoined place (ways_of (d ∷ actions)) → MayTake job d path →
     0 < length path - 1 → point path 0 ≡ grid job.machine.step place
-begins_at job (Move m) ds path place joined take p = (has_ends job m.way path take).starts ∙ ap (grid job.machine.step) joined.0
-begins_at job _ ds path place joined take p = absurd (let e = ap length take in omega (arith, e, p))
+begins_at job (Move m) actions path place joined take p = (has_ends job m.way path take).starts ∙ ap (grid job.machine.step) joined.0
+begins_at job _ actions path place joined take p = absurd (let e = ap length take in omega (arith, e, p))
 
 unit_at : (job : Job) (d : Action) (path : List StepPos) (k : ℕ) → MayTake job d path → k < length path - 1 → IsUnitMove (point path k) (point path (k + 1))
 unit_at job (Move m) path k take h = (has_ends job m.way path take).unit_moves k h
@@ -92,19 +92,19 @@ unit_at job _ path k take h = absurd (let e = ap length take in omega (arith, e,
 
 -- the next motion begins where the head's path ends
 abbrev Continues : Job → List Action → StepPos → Type 0
-Continues job ds p = (next : Point3) × AreJoined next (ways_of ds) × (p ≡ grid job.machine.step next)
+Continues job actions p = (next : Point3) × AreJoined next (ways_of actions) × (p ≡ grid job.machine.step next)
 
-ends_at_next : (job : Job) (d : Action) (ds : List Action) (path : List StepPos) (place : Point3) → AreJoined place (ways_of (d ∷ ds)) → MayTake job d path →
-    0 < length path - 1 → Continues job ds (point path (length path - 1))
-ends_at_next job (Move m) ds path place joined take p = (end_of m.way, joined.1, (has_ends job m.way path take).ends)
-ends_at_next job _ ds path place joined take p = absurd (let e = ap length take in omega (arith, e, p))
+ends_at_next : (job : Job) (d : Action) (actions : List Action) (path : List StepPos) (place : Point3) → AreJoined place (ways_of (d ∷ actions)) → MayTake job d path →
+    0 < length path - 1 → Continues job actions (point path (length path - 1))
+ends_at_next job (Move m) actions path place joined take p = (end_of m.way, joined.1, (has_ends job m.way path take).ends)
+ends_at_next job _ actions path place joined take p = absurd (let e = ap length take in omega (arith, e, p))
 
-stays_at_next : (job : Job) (d : Action) (ds : List Action) (path : List StepPos) (place : Point3) (p : StepPos) → AreJoined place (ways_of (d ∷ ds)) → MayTake job d path →
-    length path - 1 ≡ 0 → p ≡ grid job.machine.step place → Continues job ds p
-stays_at_next job (Move m) ds path place p joined take z e =
+stays_at_next : (job : Job) (d : Action) (actions : List Action) (path : List StepPos) (place : Point3) (p : StepPos) → AreJoined place (ways_of (d ∷ actions)) → MayTake job d path →
+    length path - 1 ≡ 0 → p ≡ grid job.machine.step place → Continues job actions p
+stays_at_next job (Move m) actions path place p joined take z e =
     let h = has_ends job m.way path take in
     (end_of m.way, joined.1, e ∙ ap (grid job.machine.step) (sym joined.0) ∙ sym h.starts ∙ ap (point path) (sym z) ∙ h.ends)
-stays_at_next job _ ds path place p joined take z e = (place, joined, e)
+stays_at_next job _ actions path place p joined take z e = (place, joined, e)
 
 -- ---- a tick
 

@@ -53,20 +53,20 @@ pub record Holds (job : Job) (done : ℕ) (ring : List Queued) (position : StepP
 abbrev pub HoldsIn : Job → State → Type 0
 HoldsIn job s = Holds job s.done s.ring s.position s.tool
 
-pub path_ends : (job : Job) (m : Way) (path : List StepPos) → IsPathOf job.machine.step m path →
-    (n : ℕ) × (length path ≡ n + 1) × (point path 0 ≡ grid job.machine.step (start_of m)) × (point path n ≡ grid job.machine.step (end_of m))
+pub path_ends : (job : Job) (way : Way) (path : List StepPos) → IsPathOf job.machine.step way path →
+    (n : ℕ) × (length path ≡ n + 1) × (point path 0 ≡ grid job.machine.step (start_of way)) × (point path n ≡ grid job.machine.step (end_of way))
 path_ends job (Line b e) path w =
     (greatest_distance (grid job.machine.step b) (grid job.machine.step e), w.count, w.starts, w.ends)
 path_ends job (Arc a) path w = (w.0, w.1.weak.count, w.1.weak.starts, w.1.weak.ends)
 
-pub ends_last : (job : Job) (m : Way) (path : List StepPos) → IsPathOf job.machine.step m path →
-    point path (length path - 1) ≡ grid job.machine.step (end_of m)
-ends_last job m path w = let e = path_ends job m path w in
+pub ends_last : (job : Job) (way : Way) (path : List StepPos) → IsPathOf job.machine.step way path →
+    point path (length path - 1) ≡ grid job.machine.step (end_of way)
+ends_last job way path w = let e = path_ends job way path w in
     let i : length path - 1 ≡ e.0 = omega (arith, e.1) in ap (point path) i ∙ e.3
 
-pub still_ends : (job : Job) (m : Way) (path : List StepPos) → IsPathOf job.machine.step m path → length path - 1 ≡ 0 →
-    grid job.machine.step (start_of m) ≡ grid job.machine.step (end_of m)
-still_ends job m path w z = let e = path_ends job m path w in
+pub still_ends : (job : Job) (way : Way) (path : List StepPos) → IsPathOf job.machine.step way path → length path - 1 ≡ 0 →
+    grid job.machine.step (start_of way) ≡ grid job.machine.step (end_of way)
+still_ends job way path w z = let e = path_ends job way path w in
     let i : 0 ≡ e.0 = omega (arith, e.1, z) in sym e.2 ∙ ap (point path) i ∙ e.3
 
 -- ---- the head is done, in a place p
@@ -116,12 +116,12 @@ served job done l ls p tool _ cs entries place at clear joined take fits safe z 
 }
 
 -- a head with path steps: each of its points is safe
-on_way : (job : Job) (l : Queued) (tool : Option Tool) (place : Point3) (d : Action) (ds : List Action) (entries : List Entry) (k : ℕ) → pos 1 ≤ℤ job.machine.step →
-    AreClearFrom job.machine tool place (d ∷ ds) entries → MayTake job d l.path → 0 < path_steps l → k ≤ path_steps l → IsSafe job.machine tool (point l.path k)
-on_way job l tool place (Move m) ds [] k s clear take p i = absurd clear
-on_way job l tool place (Move m) ds (entry ∷ entries) k s clear take p i =
+on_way : (job : Job) (l : Queued) (tool : Option Tool) (place : Point3) (d : Action) (actions : List Action) (entries : List Entry) (k : ℕ) → pos 1 ≤ℤ job.machine.step →
+    AreClearFrom job.machine tool place (d ∷ actions) entries → MayTake job d l.path → 0 < path_steps l → k ≤ path_steps l → IsSafe job.machine tool (point l.path k)
+on_way job l tool place (Move m) actions [] k s clear take p i = absurd clear
+on_way job l tool place (Move m) actions (entry ∷ entries) k s clear take p i =
     safe_on_path job.machine tool m.way entry.pieces l.path k s clear.0 take (omega (arith, p, i))
-on_way job l tool place _ ds entries k s clear take p i = absurd (let e = ap length take in omega (arith, e, p))
+on_way job l tool place _ actions entries k s clear take p i = absurd (let e = ap length take in omega (arith, e, p))
 
 -- and when it is done, the next motion begins where it ends
 arrived : (job : Job) (done : ℕ) (l : Queued) (ls : List Queued) (tool : Option Tool) (d : Action) (cs : List Command) (entries : List Entry) (place : Point3) → pos 1 ≤ℤ job.machine.step →

@@ -139,13 +139,13 @@ zero_or_some zero = inl refl
 zero_or_some (suc n) = inr (omega arith)
 
 -- the position on the path of a motion at the head
-on_path : (job : Job) (m : Way) (l : Queued) (ls : List Queued) (place : Point3) (t : ℕ) (p : StepPos) → start_of m ≡ place → IsPathOf job.machine.step m l.path →
+on_path : (job : Job) (way : Way) (l : Queued) (ls : List Queued) (place : Point3) (t : ℕ) (p : StepPos) → start_of way ≡ place → IsPathOf job.machine.step way l.path →
     t ≤ millionths l → IsHere job place (l ∷ ls) t p → p ≡ point l.path (t / MILLION)
-on_path job m l ls place t p j may short here =
+on_path job way l ls place t p j may short here =
     elim (zero_or_some (path_steps l)) [
       | inl z ↦
           let k : 0 ≡ t / MILLION = omega (arith, z, short) in
-          here.0 z ∙ ap (grid job.machine.step) (sym j) ∙ sym (path_ends job m l.path may).2 ∙ ap (point l.path) k
+          here.0 z ∙ ap (grid job.machine.step) (sym j) ∙ sym (path_ends job way l.path may).2 ∙ ap (point l.path) k
       | inr some ↦ here.1 some
     ]
 
