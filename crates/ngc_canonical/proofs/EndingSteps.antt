@@ -34,8 +34,9 @@ use Rattle.ngc_canonical.specs.declared.fault.Fault.{Fault}
 use Rattle.ngc_canonical.specs.declared.fault.Fault.TheVariants as faults
 use Rattle.ngc_canonical.specs.declared.movement.Feed.{Feed}
 use Rattle.ngc_canonical.specs.declared.movement.Feed.TheVariants.{PerMinute}
-use Rattle.ngc_canonical.specs.declared.movement.Motion.{Motion as Moved}
+use Rattle.ngc_canonical.specs.declared.movement.Pace.{Pace}
 use Rattle.ngc_canonical.specs.declared.movement.Pace.TheVariants as paces
+use Rattle.ngc_canonical.specs.declared.movement.Way.{Way}
 use Rattle.ngc_canonical.specs.declared.movement.Way.TheVariants as ways
 use Rattle.ngc_canonical.specs.Joined.{IsLastIfEnd, EndIsLast}
 use Rattle.ngc_canonical.specs.Movement.{end_of as moved_to}
@@ -102,8 +103,10 @@ passes : (a : Action) (s : State) → Open s → IsNotEnd a → IfOk (emit a s) 
 passes a s h not_end =
     emitted Open a s (λ room. record { running = h.running; no_end = no_end_more s.commands (record { line = s.line; action = a }) h.no_end not_end })
 
-moves : (m : Moved) (s : State) → Open s → IfOk (go m s) Open
-moves m s h = onward Open Open (emit (actions.Move m) s) (λ t. Ok (at_place (moved_to m.way) t)) (passes (actions.Move m) s h tt) (λ t h_t. h_t)
+moves : (w : Way) (pace : Pace) (s : State) → Open s → IfOk (go w pace s) Open
+moves w pace s h =
+    let a : Action = actions.Move (record { way = w; pace = pace }) in
+    onward Open Open (emit a s) (λ t. Ok (at_place (moved_to w) t)) (passes a s h tt) (λ t h_t. h_t)
 
 -- ---- spindle, coolant and tools
 
@@ -125,7 +128,7 @@ change_tool_open tools (suc n) s h = mount_found_open (tool_at tools (suc n)) s 
 -- ---- places
 
 traverse_to_open : (end : Point3) (s : State) → Open s → IfOk (traverse_to end s) Open
-traverse_to_open end s h = moves (record { way = ways.Line s.place end; pace = paces.Rapid }) s h
+traverse_to_open end s h = moves (ways.Line s.place end) paces.Rapid s h
 
 with_frames_open : (s : State) (changed : Result Offsets FrameFault) → Open s → IfOk (with_frames s changed) Open
 with_frames_open s changed h = after Open (faulted faults.Frame changed) (λ f. Ok (unseries (record s { frames = f }))) (λ f. h)
@@ -155,21 +158,21 @@ go_home_open machine home words s h =
 traverse_open : (is_machine_place : Bool) (words : AxisWords) (s : State) → Open s → IfOk (traverse is_machine_place words s) Open
 traverse_open is_machine_place words s h = after Open (end_of is_machine_place s words) (λ end. traverse_to end s) (λ end. traverse_to_open end s h)
 
-feed_open : (end : Point3) (feed : Feed) (s : State) → Open s → IfOk (go (record { way = ways.Line s.place end; pace = paces.Feed feed }) s) Open
-feed_open end feed s h = moves (record { way = ways.Line s.place end; pace = paces.Feed feed }) s h
+feed_open : (end : Point3) (feed : Feed) (s : State) → Open s → IfOk (go (ways.Line s.place end) (paces.Feed feed) s) Open
+feed_open end feed s h = moves (ways.Line s.place end) (paces.Feed feed) s h
 
 straight_open : (is_machine_place : Bool) (words : AxisWords) (f : Option ℤ) (s : State) → Open s → IfOk (straight is_machine_place words f s) Open
 straight_open is_machine_place words f s h =
     after Open (feed_in s.modes.feed_mode s.feed f) _ (λ feed.
-    after Open (end_of is_machine_place s words) (λ end. go (record { way = ways.Line s.place end; pace = paces.Feed feed }) s)
+    after Open (end_of is_machine_place s words) (λ end. go (ways.Line s.place end) (paces.Feed feed) s)
     (λ end. feed_open end feed s h))
 
 arc_open : (turn : Turn) (axes : AxisWords) (words : ArcWords) (f : Option ℤ) (s : State) → Open s → IfOk (arc turn axes words f s) Open
 arc_open turn axes words f s h =
     after Open (refuse_if (not (has_plane_word s.modes.plane axes)) (faults.Arc NoAxisWord)) _ (λ worded.
     after Open (feed_in s.modes.feed_mode s.feed f) _ (λ feed.
-    after Open (arc_of turn axes words s) (λ a. go (record { way = ways.Arc a; pace = paces.Feed feed }) s)
-    (λ a. moves (record { way = ways.Arc a; pace = paces.Feed feed }) s h)))
+    after Open (arc_of turn axes words s) (λ a. go (ways.Arc a) (paces.Feed feed) s)
+    (λ a. moves (ways.Arc a) (paces.Feed feed) s h)))
 
 -- ---- cycles
 

@@ -72,7 +72,7 @@ change_tool_holds p tools (suc n) s h = mount_found_holds p (tool_at tools (suc 
 -- ---- places
 
 traverse_to_holds : (p end : Point3) (s : State) → Holds p s → IfOk (traverse_to end s) (Holds p)
-traverse_to_holds p end s h = moves p (record { way = ways.Line s.place end; pace = paces.Rapid }) s h refl tt
+traverse_to_holds p end s h = moves p (ways.Line s.place end) paces.Rapid s h refl tt
 
 with_frames_holds : (p : Point3) (s : State) (changed : Result Offsets FrameFault) → Holds p s → IfOk (with_frames s changed) (Holds p)
 with_frames_holds p s changed h = after (Holds p) (faulted faults.Frame changed) (λ f. Ok (unseries (record s { frames = f }))) (λ f. h)
@@ -102,13 +102,13 @@ go_home_holds p machine home words s h =
 traverse_holds : (p : Point3) (is_machine_place : Bool) (words : AxisWords) (s : State) → Holds p s → IfOk (traverse is_machine_place words s) (Holds p)
 traverse_holds p is_machine_place words s h = after (Holds p) (end_of is_machine_place s words) (λ end. traverse_to end s) (λ end. traverse_to_holds p end s h)
 
-feed_holds : (p end : Point3) (feed : Feed) (s : State) → Holds p s → IfOk (go (record { way = ways.Line s.place end; pace = paces.Feed feed }) s) (Holds p)
-feed_holds p end feed s h = moves p (record { way = ways.Line s.place end; pace = paces.Feed feed }) s h refl tt
+feed_holds : (p end : Point3) (feed : Feed) (s : State) → Holds p s → IfOk (go (ways.Line s.place end) (paces.Feed feed) s) (Holds p)
+feed_holds p end feed s h = moves p (ways.Line s.place end) (paces.Feed feed) s h refl tt
 
 straight_holds : (p : Point3) (is_machine_place : Bool) (words : AxisWords) (f : Option ℤ) (s : State) → Holds p s → IfOk (straight is_machine_place words f s) (Holds p)
 straight_holds p is_machine_place words f s h =
     after (Holds p) (feed_in s.modes.feed_mode s.feed f) _ (λ feed.
-    after (Holds p) (end_of is_machine_place s words) (λ end. go (record { way = ways.Line s.place end; pace = paces.Feed feed }) s)
+    after (Holds p) (end_of is_machine_place s words) (λ end. go (ways.Line s.place end) (paces.Feed feed) s)
     (λ end. feed_holds p end feed s h))
 
 -- ---- arcs, which begin where the axes stand, with even radii
@@ -146,9 +146,9 @@ arc_holds : (p : Point3) (turn : Turn) (axes : AxisWords) (words : ArcWords) (f 
 arc_holds p turn axes words f s h =
     after (Holds p) (refuse_if (not (has_plane_word s.modes.plane axes)) (faults.Arc NoAxisWord)) _ (λ worded.
     after (Holds p) (feed_in s.modes.feed_mode s.feed f) _ (λ feed.
-    onward (IsArcFrom s.place) (Holds p) (arc_of turn axes words s) (λ a. go (record { way = ways.Arc a; pace = paces.Feed feed }) s)
+    onward (IsArcFrom s.place) (Holds p) (arc_of turn axes words s) (λ a. go (ways.Arc a) (paces.Feed feed) s)
     (arc_of_begins turn axes words s)
-    (λ a from. moves p (record { way = ways.Arc a; pace = paces.Feed feed }) s h from.begins from.even)))
+    (λ a from. moves p (ways.Arc a) (paces.Feed feed) s h from.begins from.even)))
 
 -- ---- cycles
 

@@ -9,7 +9,7 @@ use Rattle.ngc_canonical.specs.declared.command.Action.TheVariants.{Move}
 use Rattle.ngc_canonical.specs.declared.command.Command.{Command}
 use Rattle.ngc_canonical.specs.declared.fault.Fault.{Fault}
 use Rattle.ngc_canonical.specs.declared.fault.Fault.TheVariants.{TooManyCommands}
-use Rattle.ngc_canonical.specs.declared.movement.Motion.{Motion}
+use Rattle.ngc_canonical.specs.declared.movement.Pace.{Pace}
 use Rattle.ngc_canonical.specs.declared.movement.Way.{Way}
 use Rattle.ngc_canonical.specs.Joined.{IsEvenIfArc, HaveEvenRadii}
 use Rattle.ngc_canonical.specs.Movement.{start_of, end_of, actions_of, ways_of, AreJoined}
@@ -108,9 +108,10 @@ stays p a s h still =
     emitted (Holds p) a s (λ room. added p s.place s.place s.commands (record { line = s.line; action = a }) h (leads_nowhere s.place s.line a still) room)
 
 -- a motion, after which they stand at its end
-pub moves : (p : Point3) (m : Motion) (s : State) → Holds p s → start_of m.way ≡ s.place → IsEvenIfArc m.way → IfOk (go m s) (Holds p)
-moves p m s h begins even =
-    onward (λ t. IsTrail p t.commands (end_of m.way)) (Holds p) (emit (Move m) s) (λ t. Ok (at_place (end_of m.way) t))
-    (emitted (λ t. IsTrail p t.commands (end_of m.way)) (Move m) s
-    (λ room. added p s.place (end_of m.way) s.commands (record { line = s.line; action = Move m }) h (record { joined = (begins, tt); ends = refl; radii = (even, tt) }) room))
+pub moves : (p : Point3) (w : Way) (pace : Pace) (s : State) → Holds p s → start_of w ≡ s.place → IsEvenIfArc w → IfOk (go w pace s) (Holds p)
+moves p w pace s h begins even =
+    let a : Action = Move (record { way = w; pace = pace }) in
+    onward (λ t. IsTrail p t.commands (end_of w)) (Holds p) (emit a s) (λ t. Ok (at_place (end_of w) t))
+    (emitted (λ t. IsTrail p t.commands (end_of w)) a s
+    (λ room. added p s.place (end_of w) s.commands (record { line = s.line; action = a }) h (record { joined = (begins, tt); ends = refl; radii = (even, tt) }) room))
     (λ t trail. trail)

@@ -66,4 +66,4 @@ arc turn axes words f s = do
   worded ← refuse_if (not (has_plane_word s.modes.plane axes)) (faults.Arc NoAxisWord)
   feed ← feed_in s.modes.feed_mode s.feed f
   a ← arc_of turn axes words s
-  go (record { way = ways.Arc a; pace = paces.Feed feed }) s
+  go (ways.Arc a) (paces.Feed feed) s

@@ -101,7 +101,7 @@ start_of s = record {
 -- ---- moves
 
 abbrev pub feed_to : Point3 → State → Result State Fault
-feed_to end s = go (record { way = Line s.place end; pace = paces.Feed (PerMinute s.feed) }) s
+feed_to end s = go (Line s.place end) (paces.Feed (PerMinute s.feed)) s
 
 abbrev pub make_move : CycleMove → State → Result State Fault
 make_move (moves.Traverse p) s = traverse_to (to_machine s.frames p) s

@@ -35,4 +35,4 @@ abbrev pub straight : Bool → AxisWords → Option ℤ → State → Result Sta
 straight is_machine_place words f s = do
   feed ← feed_in s.modes.feed_mode s.feed f
   end ← end_of is_machine_place s words
-  go (record { way = Line s.place end; pace = paces.Feed feed }) s
+  go (Line s.place end) (paces.Feed feed) s

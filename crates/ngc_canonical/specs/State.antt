@@ -15,8 +15,9 @@ use Rattle.ngc_canonical.specs.declared.command.Command.{Command}
 use Rattle.ngc_canonical.specs.declared.command.CoolantState.{CoolantState}
 use Rattle.ngc_canonical.specs.declared.command.CoolantState.TheVariants.{Off}
 use Rattle.ngc_canonical.specs.declared.fault.Fault.{Fault}
-use Rattle.ngc_canonical.specs.declared.movement.Motion.{Motion}
+use Rattle.ngc_canonical.specs.declared.movement.Pace.{Pace}
 use Rattle.ngc_canonical.specs.declared.movement.Pace.TheVariants.{Rapid}
+use Rattle.ngc_canonical.specs.declared.movement.Way.{Way}
 use Rattle.ngc_canonical.specs.declared.movement.Way.TheVariants.{Line}
 use Rattle.ngc_canonical.specs.declared.state.Kept.{Kept}
 use Rattle.ngc_canonical.specs.declared.fault.Fault.TheVariants.{TooManyCommands}
@@ -91,11 +92,11 @@ abbrev pub at_place : Point3 → State → State
 at_place end s = record s { place = end }
 
 -- a motion, after which the axes stand at its end
-abbrev pub go : Motion → State → Result State Fault
-go motion s = do
-  t ← emit (Move motion) s
-  Ok (at_place (end_of motion.way) t)
+abbrev pub go : Way → Pace → State → Result State Fault
+go way pace s = do
+  t ← emit (Move (record { way = way; pace = pace })) s
+  Ok (at_place (end_of way) t)
 
 -- a traverse to a place of the machine
 abbrev pub traverse_to : Point3 → State → Result State Fault
-traverse_to end s = go (record { way = Line s.place end; pace = Rapid }) s
+traverse_to end s = go (Line s.place end) Rapid s

@@ -8,7 +8,7 @@ ghost use Rattle.ngc_canonical.specs.Arcs.{has_plane_word as has_word, along_u a
 
 use crate::fault::Fault;
 use crate::motions::feed_in;
-use crate::movement::{Motion, Pace, Way};
+use crate::movement::{Pace, Way};
 use crate::places::word_length;
 use crate::state::{Interpreter, Refusal};
 use ngc_arc_geometry::{Arc, ArcFault, Ends, Offsets};
@@ -130,9 +130,6 @@ impl<A: Allocator + Copy> Interpreter<A> {
             Ok(arc) => arc,
             Err(fault) => return Err(Refusal::Breaks(fault)),
         };
-        self.go(Motion {
-            way: Way::Arc(arc),
-            pace: Pace::Feed(feed),
-        })
+        self.go(Way::Arc(arc), Pace::Feed(feed))
     }
 }

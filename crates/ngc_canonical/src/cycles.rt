@@ -13,7 +13,7 @@ ghost use Rattle.ngc_modal_state.specs.Use.{depth_word as word_on_depth};
 
 use crate::command::{Action, SpindleState};
 use crate::fault::Fault;
-use crate::movement::{Feed, Motion, Pace, Way};
+use crate::movement::{Feed, Pace, Way};
 use crate::places::word_length;
 use crate::spindle::spindle_state;
 use crate::state::{Interpreter, Kept, Refusal};
@@ -170,13 +170,9 @@ impl<A: Allocator + Copy> Interpreter<A> {
         ensures value { Becomes result (state_of self.new) (fed_to end.now (state_of self.old)) }
         ensures frames { OnOk result ((state_of self.new).frames ≡ (state_of self.old).frames) }
     {
-        self.go(Motion {
-            way: Way::Line {
-                start: self.place,
-                end: *end,
-            },
-            pace: Pace::Feed(Feed::PerMinute(self.feed)),
-        })
+        let start = self.place;
+        let feed = Feed::PerMinute(self.feed);
+        self.go(Way::Line { start, end: *end }, Pace::Feed(feed))
     }
 
     fn make_move(&mut self, step: &CycleMove) -> Result<(), Refusal>

@@ -80,14 +80,14 @@ impl<A: Allocator> Interpreter<A> {
     }
 
     /// A motion, after which the axes stand at its end.
-    pub(crate) fn go(&mut self, motion: Motion) -> Result<(), Refusal>
-        requires { IsMachinePlace (end_of motion.way) }
-        ensures value { Becomes result (state_of self.new) (gone motion (state_of self.old)) }
+    pub(crate) fn go(&mut self, way: Way, pace: Pace) -> Result<(), Refusal>
+        requires { IsMachinePlace (end_of way) }
+        ensures value { Becomes result (state_of self.new) (gone way pace (state_of self.old)) }
         ensures frames { OnOk result ((state_of self.new).frames ≡ (state_of self.old).frames) }
     {
-        match self.emit(Action::Move(motion)) {
+        match self.emit(Action::Move(Motion { way, pace })) {
             Ok(()) => {
-                self.stand_at(&motion.way.end());
+                self.stand_at(&way.end());
                 Ok(())
             }
             Err(refusal) => Err(refusal),
@@ -100,13 +100,8 @@ impl<A: Allocator> Interpreter<A> {
         ensures value { Becomes result (state_of self.new) (traversed_to end.now (state_of self.old)) }
         ensures frames { OnOk result ((state_of self.new).frames ≡ (state_of self.old).frames) }
     {
-        self.go(Motion {
-            way: Way::Line {
-                start: self.place,
-                end: *end,
-            },
-            pace: Pace::Rapid,
-        })
+        let start = self.place;
+        self.go(Way::Line { start, end: *end }, Pace::Rapid)
     }
 
     /// The commands.

@@ -5,7 +5,7 @@ ghost use Rattle.ngc_canonical.specs.Motions.{traverse as traversed, nonzero as 
 ghost use Rattle.ngc_canonical.specs.declared.movement.Feed.TheVariants as feeds;
 
 use crate::fault::Fault;
-use crate::movement::{Feed, Motion, Pace, Way};
+use crate::movement::{Feed, Pace, Way};
 use crate::state::{Interpreter, Refusal};
 use ngc_fixed_length::{FeedMode, Value};
 use ngc_modal_state::AxisWords;
@@ -57,9 +57,6 @@ impl<A: Allocator> Interpreter<A> {
             Err(fault) => return Err(Refusal::Breaks(fault)),
         };
         let start = self.place;
-        self.go(Motion {
-            way: Way::Line { start, end },
-            pace: Pace::Feed(feed),
-        })
+        self.go(Way::Line { start, end }, Pace::Feed(feed))
     }
 }
