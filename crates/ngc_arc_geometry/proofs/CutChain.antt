@@ -19,7 +19,7 @@ use Rattle.ngc_arc_geometry.specs.GridPlaces.{seen, height_of}
 use Rattle.ngc_arc_geometry.specs.ArcBand.{leeway, spread, IsInBand}
 use Rattle.ngc_arc_geometry.specs.ArcSides.{IsByAnEnd, IsBetweenEnds}
 use Rattle.ngc_arc_geometry.specs.ArcPath.{IsArcOf}
-use Rattle.ngc_arc_geometry.specs.CutArc.{is_in_band, share_quadrant, turns_on, passes_start, is_inner_cut, is_end, cut_follows, cut_box, IsCutChain, cut_boxes, CoveredByCuts}
+use Rattle.ngc_arc_geometry.specs.CutArc.{is_in_band, share_quadrant, turns_on, passes_start, is_inner_cut, is_end, cut_follows, cut_box, is_large, IsCutChain, cut_boxes, CoveredByCuts}
 use Rattle.ngc_arc_geometry.proofs.CutInts.{three_turns}
 use Rattle.ngc_arc_geometry.proofs.Squares.{first_within, second_within}
 use Rattle.ngc_arc_geometry.proofs.CutSigns.{onward, backward}
@@ -117,7 +117,7 @@ turned_on a q r h =
 equal_of : (x y : ℤ) → IsTrue (same x y) → x ≡ y
 equal_of x y h = grind (arith, ints, nat_tests)
 
-at_end : (a : ArcShape) (r : Point2) → IsTrue (is_end a r) → r ≡ end_of a
+pub at_end : (a : ArcShape) (r : Point2) → IsTrue (is_end a r) → r ≡ end_of a
 at_end a r h =
     let e = both (same r.u (end_of a).u) (same r.v (end_of a).v) h in
     ap₂ (λ (x y : ℤ). record { u = x; v = y }) (equal_of _ _ e.0) (equal_of _ _ e.1)
@@ -419,9 +419,10 @@ to_hold g a n path k some arc large follows within =
     }
 
 pub covered_by_cuts : CoveredByCuts
-covered_by_cuts (pos g) a cuts path k some arc large chain follows within =
+covered_by_cuts (pos g) a cuts path k some arc is_so chain follows within =
     let f = follows.1 in
+    let large : 8 * g ≤ inner_radius a = grind (arith, nat_tests, is_so) in
     let k_within : k ≤ follows.0 = omega (arith, within, f.weak.count) in
     covered g a cuts (point path k) (to_hold g a follows.0 path k (omega (arith, ints, some)) arc large f k_within) chain
     (subst (λ w. IsBetweenEnds a (w + spread a) (seen (pos g) a (point path k))) (narrow g a large) (f.sector k k_within))
-covered_by_cuts (negsuc g) a cuts path k some arc large chain follows within = absurd (omega (arith, ints, some))
+covered_by_cuts (negsuc g) a cuts path k some arc is_so chain follows within = absurd (omega (arith, ints, some))

@@ -22,4 +22,5 @@ pub mod CutBetween
 pub mod CutGrid
 pub mod CutSeen
 pub mod CutChain
+pub mod CutEnds
 mod CutExamples

@@ -46,12 +46,12 @@ near_step : (z s : ℤ) → IsStep s → unsigned_abs (z -ℤ (nearest z s *ℤ 
 near_step z (pos s) step = let near = nearest_near z s (omega (arith, ints, step.least)) in omega (arith, ints, near)
 near_step z (negsuc s) step = absurd (omega (arith, ints, step.least))
 
-above_inside : (s low z : ℤ) → IsStep s → (low +ℤ s +ℤ s) ≤ℤ z → grid_above s low ≤ℤ nearest z s
+pub above_inside : (s low z : ℤ) → IsStep s → (low +ℤ s +ℤ s) ≤ℤ z → grid_above s low ≤ℤ nearest z s
 above_inside s low z step inside =
     let near = near_step z s step in
     ordered low z s (grid_above s low) (nearest z s) step inside (above_near low s step) (omega (arith, ints, near, step.least))
 
-inside_below : (s z high : ℤ) → IsStep s → (z +ℤ s +ℤ s) ≤ℤ high → nearest z s ≤ℤ grid_below s high
+pub inside_below : (s z high : ℤ) → IsStep s → (z +ℤ s +ℤ s) ≤ℤ high → nearest z s ≤ℤ grid_below s high
 inside_below s z high step inside =
     let near = near_step z s step in
     ordered z high s (nearest z s) (grid_below s high) step inside (omega (arith, ints, near, step.least)) (quotient_near high s step)
@@ -66,7 +66,7 @@ within_high s a f z step high = inside_below s z (greatest f (start_of a) (other
 
 -- ---- the three axes, as the plane names them
 
-place_between : (plane : Plane) (s : ℤ) (p : Point3) (u v w u' v' w' : ℤ) →
+pub place_between : (plane : Plane) (s : ℤ) (p : Point3) (u v w u' v' w' : ℤ) →
     u ≤ℤ nearest (in_plane plane p).u s → nearest (in_plane plane p).u s ≤ℤ u' →
     v ≤ℤ nearest (in_plane plane p).v s → nearest (in_plane plane p).v s ≤ℤ v' →
     w ≤ℤ nearest (height plane p) s → nearest (height plane p) s ≤ℤ w' →

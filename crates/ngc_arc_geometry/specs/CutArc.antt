@@ -52,6 +52,10 @@ cut_box step a p q = record {
   high = grid_at a.plane (grid_below step (int_max p.u q.u +ℤ margin step a)) (grid_below step (int_max p.v q.v +ℤ margin step a)) (int_max (start_height step a) (end_height step a));
 }
 
+-- the inner radius is at least eight steps; else a piece needs the box of the whole arc
+abbrev pub is_large : ℤ → ArcShape → Bool
+is_large step a = nat_le (8 * unsigned_abs step) (inner_radius a)
+
 -- ---- the law
 
 abbrev pub IsCutChain : ℤ → ArcShape → Point2 → List Point2 → Type 0
@@ -66,5 +70,5 @@ cut_boxes step a p (q ∷ qs) = cut_box step a p q ∷ cut_boxes step a q qs
 -- each point of a path that follows a cut arc lies in the box of some piece, where the inner radius is at least eight steps
 abbrev pub CoveredByCuts : Type 0
 CoveredByCuts = (step : ℤ) (a : ArcShape) (cuts : List Point2) (path : List StepPos) (k : ℕ) →
-    pos 1 ≤ℤ step → HasEvenRadii a → 8 * unsigned_abs step ≤ inner_radius a → IsCutChain step a (start_of a) cuts →
+    pos 1 ≤ℤ step → HasEvenRadii a → IsTrue (is_large step a) → IsCutChain step a (start_of a) cuts →
     IsArcPath step a path → k < length path → Any (λ b. IsIn b (point path k)) (cut_boxes step a (start_of a) cuts)

@@ -2,9 +2,8 @@ ghost use Rattle.std.specs.Prelude.{◌≡◌, ◌≤◌, ◌≤ℤ◌, pos, ◌
 ghost use Rattle.std.specs.Int.{int_min, int_max};
 ghost use Rattle.ngc_fixed_length.specs.Boxes.{grid_above, grid_below};
 ghost use Rattle.ngc_fixed_length.specs.Length.{IsStep};
-ghost use Rattle.ngc_fixed_length.specs.Signed.{same};
 ghost use Rattle.ngc_arc_geometry.specs.Axes.{along};
-ghost use Rattle.ngc_arc_geometry.specs.CutArc.{share_quadrant, is_in_band, turns_on, passes_start, is_inner_cut, is_end, cut_follows, cut_box};
+ghost use Rattle.ngc_arc_geometry.specs.CutArc.{share_quadrant, is_in_band, turns_on, passes_start, is_inner_cut, cut_follows, is_large, cut_box};
 ghost use Rattle.ngc_arc_geometry.specs.Swept.{margin};
 
 use crate::arc::Arc;
@@ -87,13 +86,6 @@ impl GridArc {
         self.is_in_band(to) && self.arc.in_sector(*to) && !self.passes_start(from, to)
     }
 
-    fn is_end(&self, point: &Point2) -> bool
-        ensures { result ≡ is_end self.now.arc point.now }
-    {
-        let end = self.arc.end_in_plane();
-        point.u.nanometres() == end.u.nanometres() && point.v.nanometres() == end.v.nanometres()
-    }
-
     /// Whether, of an arc that is cut into several pieces, a piece may lead from one point to another: it turns on in the
     /// arc's sense within a closed quadrant about the centre; the last one ends at the arc's end, another one in the sector,
     /// within a step of the radii, and before the start's direction comes again.
@@ -102,10 +94,17 @@ impl GridArc {
     {
         self.turns_on(from, to)
             && (if last {
-                self.is_end(to)
+                self.arc.ends_at(to)
             } else {
                 self.is_inner_cut(from, to)
             })
+    }
+
+    /// Whether the inner radius is at least eight steps. Where it is less, each piece needs the box of the whole arc.
+    pub fn is_large(&self) -> bool
+        ensures { result ≡ is_large self.now.step self.now.arc }
+    {
+        8 * self.step.nanometres().unsigned_abs() <= self.inner
     }
 
     /// How far a piece's box reaches beyond its points, in nanometres.

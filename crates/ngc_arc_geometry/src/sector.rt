@@ -36,6 +36,7 @@ fn first_met(u: i64, v: i64) -> usize
 
 impl Arc {
     ghost use Rattle.ngc_arc_geometry.specs.Shape.{start_of, end_of};
+    ghost use Rattle.ngc_arc_geometry.specs.CutArc.{is_end};
     ghost use Rattle.ngc_arc_geometry.specs.Sector.{turn_from, is_ahead, same_direction, is_full, in_sector};
 
     /// The start, by the plane's axes.
@@ -50,6 +51,14 @@ impl Arc {
         ensures { result ≡ end_of self.now }
     {
         self.end().in_plane(self.plane())
+    }
+
+    /// Whether a point of the plane is the end.
+    pub fn ends_at(&self, point: &Point2) -> bool
+        ensures { result ≡ is_end self.now point.now }
+    {
+        let end = self.end_in_plane();
+        point.u.nanometres() == end.u.nanometres() && point.v.nanometres() == end.v.nanometres()
     }
 
     /// Twice the area that two points span about the centre, above 0 where the arc's sense leads from the first to the other.

@@ -1,18 +1,14 @@
 -- Each arc of commands for which a certificate is valid lies near zero, with even radii.
-use Rattle.std.proofs.Common.{ℕ, zero, suc, ◌≤◌, arith, List, [], ◌∷◌, drop, true, false, ℤ, pos, negsuc, ◌*ℤ◌, ◌≤ℤ◌}
-use Rattle.std.specs.Prelude.{Option, Bool, unsigned_abs}
+use Rattle.std.proofs.Common.{ℕ, zero, suc, ◌≤◌, arith, List, [], ◌∷◌, drop, ℤ, pos, negsuc, ◌*ℤ◌, ◌≤ℤ◌}
+use Rattle.std.specs.Prelude.{Option, unsigned_abs}
 use Rattle.std.proofs.lemmas.Int.{ints}
 use Rattle.ngc_fixed_length.specs.declared.points.Point3.{Point3}
-use Rattle.ngc_fixed_length.specs.declared.points.StepPos.{StepPos}
-use Rattle.ngc_fixed_length.specs.Boxes.{IsIn}
 use Rattle.ngc_fixed_length.specs.Grid.{grid}
 use Rattle.ngc_fixed_length.specs.Length.{IsStep}
 use Rattle.ngc_fixed_length.specs.Rounding.{nearest}
 use Rattle.ngc_fixed_length.proofs.Nearest.{nearest_near}
 use Rattle.ngc_arc_geometry.specs.Radii.{IsArc}
-use Rattle.ngc_arc_geometry.specs.Shape.{ArcShape, IsNear, END_LIMIT}
-use Rattle.ngc_arc_geometry.specs.Swept.{swept_box}
-use Rattle.ngc_arc_geometry.proofs.SweptEnds.{start_inside, end_inside}
+use Rattle.ngc_arc_geometry.specs.Shape.{IsNear, END_LIMIT}
 use Rattle.ngc_machine.specs.Machine.{MachineFile}
 use Rattle.ngc_machine.specs.MachineRanges.{IsMachine}
 use Rattle.ngc_machine.specs.Ranges.{PLACE_LIMIT}
@@ -26,12 +22,11 @@ use Rattle.ngc_canonical.specs.declared.command.Action.{Action}
 use Rattle.ngc_canonical.specs.declared.command.Action.TheVariants.{Move, Mount}
 use Rattle.ngc_collision.specs.Body.{IsSafe}
 use Rattle.ngc_certificate_text.specs.Certificate.{Entry}
-use Rattle.ngc_certificate_text.specs.declared.piece.Cut.{Cut}
 use Rattle.ngc_certificate_text.specs.declared.piece.Piece.{Piece}
-use Rattle.ngc_certificate.specs.Chain.{stretch, first_cut, are_several}
-use Rattle.ngc_certificate.specs.PieceFault.{AreValidFrom, ArePiecesValid}
+use Rattle.ngc_certificate.specs.Chain.{first_cut, are_several}
+use Rattle.ngc_certificate.specs.PieceFault.{ArePiecesValid}
 use Rattle.ngc_certificate.specs.Valid.{AreClearFrom, IsValid}
-use Rattle.ngc_certificate.proofs.SafeInPiece.{safe_in_piece}
+use Rattle.ngc_certificate.proofs.ArcEnds.{start_is_safe, end_is_safe}
 use Rattle.ngc_certificate.proofs.Truths.{both, le_of}
 use Rattle.ngc_behaviour.proofs.SafePositions.{one_step}
 
@@ -65,21 +60,13 @@ near_place machine tool p m safe =
 
 -- ---- an arc whose pieces are valid
 
--- the first piece holds the whole arc's box already
-safe_in_swept : (machine : MachineFile) (tool : Option Tool) (a : ArcShape) (several : Bool) (begin : Cut) (pieces : List Piece) (q : StepPos) → pos 1 ≤ℤ machine.step →
-    AreValidFrom machine tool (Arc a) several begin pieces → IsIn (swept_box machine.step a) q → IsSafe machine tool q
-safe_in_swept machine tool a several begin [] q s v k = absurd v
-safe_in_swept machine tool a several begin (p ∷ []) q s v k = safe_in_piece machine tool (Arc a) (stretch several true begin) p q s v k
-safe_in_swept machine tool a several begin (p ∷ r ∷ ps) q s v k = safe_in_piece machine tool (Arc a) (stretch several false begin) p q s v.0 k
-
 arc_if_valid : (machine : MachineFile) (tool : Option Tool) (way : Way) (pieces : List Piece) → IsMachine machine → ArePiecesValid machine tool way pieces → IsEvenIfArc way → IsArcIfCurved way
 arc_if_valid machine tool (Line b e) pieces h v even = tt
 arc_if_valid machine tool (Arc a) pieces h v even =
-    let safe_at : (q : StepPos) → IsIn (swept_box machine.step a) q → IsSafe machine tool q =
-    λ q. safe_in_swept machine tool a (are_several pieces) (first_cut (Arc a)) pieces q (one_step machine h) v in
+    let s = one_step machine h in
     record {
-      start = near_place machine tool a.start h (safe_at (grid machine.step a.start) (start_inside machine.step a h.step));
-      end = near_place machine tool a.end h (safe_at (grid machine.step a.end) (end_inside machine.step a h.step));
+      start = near_place machine tool a.start h (start_is_safe machine tool a (are_several pieces) pieces h.step s v);
+      end = near_place machine tool a.end h (end_is_safe machine tool a (are_several pieces) (first_cut (Arc a)) pieces h.step s v);
       some_radius = even.some_radius;
       radius = even.radius;
       even = even.even;

@@ -8,6 +8,7 @@ use Rattle.ngc_fixed_length.specs.declared.points.Point3.{Point3}
 use Rattle.ngc_fixed_length.specs.Grid.{grid}
 use Rattle.ngc_fixed_length.specs.Rounding.{nearest, nearest_size}
 use Rattle.ngc_canonical.specs.declared.command.Command.{Command}
+use Rattle.ngc_canonical.specs.Joined.{HaveEvenRadii}
 use Rattle.ngc_canonical.specs.Movement.{actions_of, ways_of, AreJoined}
 use Rattle.ngc_machine.specs.Machine.{MachineFile}
 use Rattle.ngc_machine.specs.MachineRanges.{IsMachine}
@@ -70,14 +71,15 @@ start_inside machine m = and _ _
     (subst (λ p. IsTrue (is_below p machine.high)) (sym (start_exact machine m)) (tested machine.start machine.high m.travel.start_below))
 
 pub opening_holds : (machine : MachineFile) (commands : List Command) (entries : List Entry) → IsMachine machine → IsValid machine commands entries →
-    AreJoined machine.start (ways_of (actions_of commands)) → HoldsIn (job_of machine commands) (opening machine)
-opening_holds machine commands entries m v j = record {
+    AreJoined machine.start (ways_of (actions_of commands)) → HaveEvenRadii (ways_of (actions_of commands)) → HoldsIn (job_of machine commands) (opening machine)
+opening_holds machine commands entries m v j even = record {
   left = commands;
   entries = entries;
   place = machine.start;
   at = λ k. ap (slice_get commands) (omega arith);
   clear = v.clear;
   joined = j;
+  even = even;
   fits = tt;
   safe = record { inside = start_inside machine m; clear = v.start };
   stands = λ n. refl;
@@ -85,9 +87,9 @@ opening_holds machine commands entries m v j = record {
 
 -- each state of each run is safe
 pub positions_safe : (machine : MachineFile) (commands : List Command) (entries : List Entry) → IsMachine machine → IsValid machine commands entries →
-    AreJoined machine.start (ways_of (actions_of commands)) →
+    AreJoined machine.start (ways_of (actions_of commands)) → HaveEvenRadii (ways_of (actions_of commands)) →
     (events : List Event) (outcomes : List Outcome) (states : List State) → Run (job_of machine commands) (opening machine) events outcomes states →
     AreSafe machine (opening machine ∷ states)
-positions_safe machine commands entries m v j events outcomes states r =
-    let h = opening_holds machine commands entries m v j in
+positions_safe machine commands entries m v j even events outcomes states r =
+    let h = opening_holds machine commands entries m v j even in
     (h.safe, safe_run (job_of machine commands) (opening machine) events outcomes states (one_step machine m) h r)

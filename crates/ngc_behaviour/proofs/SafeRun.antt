@@ -8,6 +8,7 @@ use Rattle.ngc_fixed_length.specs.Grid.{grid, greatest_distance}
 use Rattle.ngc_fixed_length.specs.LinePath.{point}
 use Rattle.ngc_canonical.specs.declared.command.Command.{Command}
 use Rattle.ngc_machine.specs.declared.tools.Tool.{Tool}
+use Rattle.ngc_canonical.specs.Joined.{HaveEvenRadii}
 use Rattle.ngc_canonical.specs.Movement.{actions_of, ways_of, start_of, end_of, AreJoined}
 use Rattle.ngc_canonical.specs.declared.movement.Way.{Way}
 use Rattle.ngc_canonical.specs.declared.movement.Way.TheVariants.{Line, Arc}
@@ -46,6 +47,7 @@ pub record Holds (job : Job) (done : ℕ) (ring : List Queued) (position : StepP
   pub at : (k : ℕ) → command_at job (done + k) ≡ slice_get left k
   pub clear : AreClearFrom job.machine tool place (actions_of left) entries
   pub joined : AreJoined place (ways_of (actions_of left))
+  pub even : HaveEvenRadii (ways_of (actions_of left))
   pub fits : RingFits job left ring
   pub safe : IsSafe job.machine tool position
   pub stands : NoSteps ring → position ≡ grid job.machine.step place
@@ -78,38 +80,41 @@ tool_after _ tool = tool
 -- a head without path steps
 served : (job : Job) (done : ℕ) (l : Queued) (ls : List Queued) (p : StepPos) (tool : Option Tool) (d : Action) (cs : List Command) (entries : List Entry) (place : Point3) →
     ((k : ℕ) → command_at job (suc done + k) ≡ slice_get cs k) →
-    AreClearFrom job.machine tool place (d ∷ actions_of cs) entries → AreJoined place (ways_of (d ∷ actions_of cs)) → MayTake job d l.path → RingFits job cs ls →
+    AreClearFrom job.machine tool place (d ∷ actions_of cs) entries → AreJoined place (ways_of (d ∷ actions_of cs)) → HaveEvenRadii (ways_of (d ∷ actions_of cs)) → MayTake job d l.path → RingFits job cs ls →
     IsSafe job.machine tool p → path_steps l ≡ 0 → p ≡ grid job.machine.step place → Holds job (suc done) ls p (tool_after d tool)
-served job done l ls p tool (Mount new) cs entries place at clear joined take fits safe z stands = record {
+served job done l ls p tool (Mount new) cs entries place at clear joined even take fits safe z stands = record {
   left = cs;
   entries = entries;
   place = place;
   at = at;
   clear = clear.1;
   joined = joined;
+  even = even;
   fits = fits;
   safe = record { inside = safe.inside; clear = subst (IsClearAt job.machine new) (sym stands) clear.0 };
   stands = λ n. stands;
 }
-served job done l ls p tool (Move m) cs [] place at clear joined take fits safe z stands = absurd clear
-served job done l ls p tool (Move m) cs (entry ∷ entries) place at clear joined take fits safe z stands = record {
+served job done l ls p tool (Move m) cs [] place at clear joined even take fits safe z stands = absurd clear
+served job done l ls p tool (Move m) cs (entry ∷ entries) place at clear joined even take fits safe z stands = record {
   left = cs;
   entries = entries;
   place = end_of m.way;
   at = at;
   clear = clear.1;
   joined = joined.1;
+  even = even.1;
   fits = fits;
   safe = safe;
   stands = λ n. stands ∙ ap (grid job.machine.step) (sym joined.0) ∙ still_ends job m.way l.path take z;
 }
-served job done l ls p tool _ cs entries place at clear joined take fits safe z stands = record {
+served job done l ls p tool _ cs entries place at clear joined even take fits safe z stands = record {
   left = cs;
   entries = entries;
   place = place;
   at = at;
   clear = clear;
   joined = joined;
+  even = even;
   fits = fits;
   safe = safe;
   stands = λ n. stands;
@@ -117,30 +122,31 @@ served job done l ls p tool _ cs entries place at clear joined take fits safe z 
 
 -- a head with path steps: each of its points is safe
 on_way : (job : Job) (l : Queued) (tool : Option Tool) (place : Point3) (d : Action) (actions : List Action) (entries : List Entry) (k : ℕ) → pos 1 ≤ℤ job.machine.step →
-    AreClearFrom job.machine tool place (d ∷ actions) entries → MayTake job d l.path → 0 < path_steps l → k ≤ path_steps l → IsSafe job.machine tool (point l.path k)
-on_way job l tool place (Move m) actions [] k s clear take p i = absurd clear
-on_way job l tool place (Move m) actions (entry ∷ entries) k s clear take p i =
-    safe_on_path job.machine tool m.way entry.pieces l.path k s clear.0 take (omega (arith, p, i))
-on_way job l tool place _ actions entries k s clear take p i = absurd (let e = ap length take in omega (arith, e, p))
+    AreClearFrom job.machine tool place (d ∷ actions) entries → HaveEvenRadii (ways_of (d ∷ actions)) → MayTake job d l.path → 0 < path_steps l → k ≤ path_steps l → IsSafe job.machine tool (point l.path k)
+on_way job l tool place (Move m) actions [] k s clear even take p i = absurd clear
+on_way job l tool place (Move m) actions (entry ∷ entries) k s clear even take p i =
+    safe_on_path job.machine tool m.way entry.pieces l.path k s even.0 clear.0 take (omega (arith, p, i))
+on_way job l tool place _ actions entries k s clear even take p i = absurd (let e = ap length take in omega (arith, e, p))
 
 -- and when it is done, the next motion begins where it ends
 arrived : (job : Job) (done : ℕ) (l : Queued) (ls : List Queued) (tool : Option Tool) (d : Action) (cs : List Command) (entries : List Entry) (place : Point3) → pos 1 ≤ℤ job.machine.step →
     ((k : ℕ) → command_at job (suc done + k) ≡ slice_get cs k) →
-    AreClearFrom job.machine tool place (d ∷ actions_of cs) entries → AreJoined place (ways_of (d ∷ actions_of cs)) → MayTake job d l.path → RingFits job cs ls →
+    AreClearFrom job.machine tool place (d ∷ actions_of cs) entries → AreJoined place (ways_of (d ∷ actions_of cs)) → HaveEvenRadii (ways_of (d ∷ actions_of cs)) → MayTake job d l.path → RingFits job cs ls →
     0 < path_steps l → Holds job (suc done) ls (point l.path (path_steps l)) tool
-arrived job done l ls tool (Move m) cs [] place s at clear joined take fits p = absurd clear
-arrived job done l ls tool (Move m) cs (entry ∷ entries) place s at clear joined take fits p = record {
+arrived job done l ls tool (Move m) cs [] place s at clear joined even take fits p = absurd clear
+arrived job done l ls tool (Move m) cs (entry ∷ entries) place s at clear joined even take fits p = record {
   left = cs;
   entries = entries;
   place = end_of m.way;
   at = at;
   clear = clear.1;
   joined = joined.1;
+  even = even.1;
   fits = fits;
-  safe = safe_on_path job.machine tool m.way entry.pieces l.path (path_steps l) s clear.0 take (omega (arith, p));
+  safe = safe_on_path job.machine tool m.way entry.pieces l.path (path_steps l) s even.0 clear.0 take (omega (arith, p));
   stands = λ n. ends_last job m.way l.path take;
 }
-arrived job done l ls tool _ cs entries place s at clear joined take fits p = absurd (let e = ap length take in omega (arith, e, p))
+arrived job done l ls tool _ cs entries place s at clear joined even take fits p = absurd (let e = ap length take in omega (arith, e, p))
 
 -- ---- a tick
 
@@ -160,10 +166,10 @@ part_way l s v = omega arith
 
 on_head : (job : Job) (l : Queued) (ls : List Queued) (old : State) (o : Outcome) (new : State) → old.ring ≡ l ∷ ls → pos 1 ≤ℤ job.machine.step → HoldsIn job old →
     (left : List Command) (entries : List Entry) (place : Point3) → ((k : ℕ) → command_at job (old.done + k) ≡ slice_get left k) →
-    AreClearFrom job.machine old.tool place (actions_of left) entries → AreJoined place (ways_of (actions_of left)) → RingFits job left (l ∷ ls) →
+    AreClearFrom job.machine old.tool place (actions_of left) entries → AreJoined place (ways_of (actions_of left)) → HaveEvenRadii (ways_of (actions_of left)) → RingFits job left (l ∷ ls) →
     (path_steps l ≡ 0 → old.position ≡ grid job.machine.step place) → HeadTick job l ls old o new → HoldsIn job new
-on_head job l ls old o new e s whole [] entries place at clear joined fits stands t = absurd fits
-on_head job l ls old o new e s whole (c ∷ cs) entries place at clear joined fits stands t =
+on_head job l ls old o new e s whole [] entries place at clear joined even fits stands t = absurd fits
+on_head job l ls old o new e s whole (c ∷ cs) entries place at clear joined even fits stands t =
     elim (match_with (nat_lt 0 (path_steps l)) (Travels job l ls old o new) (MatchBool old.held (Rests job old o new) (Serves job l.command.action old o new)) t) [
       | inl u ↦
           let p : 0 < path_steps l = let b = u.0 in grind (arith, nat_tests) in
@@ -171,7 +177,7 @@ on_head job l ls old o new e s whole (c ∷ cs) entries place at clear joined fi
           (if_holds (HoldsIn job) (nat_le (millionths l) (old.travelled + new.rate)) (popped (old.travelled + new.rate - millionths l) (record old { rate = new.rate; position = point l.path (place_after l old new.rate) })) (record old { rate = new.rate; position = point l.path (place_after l old new.rate); travelled = old.travelled + new.rate })
           (λ b. subst (λ k. Holds job (suc old.done) (drop 1 old.ring) (point l.path k) old.tool) (sym (whole_way l old new.rate b))
           (subst (λ ring. Holds job (suc old.done) (drop 1 ring) (point l.path (path_steps l)) old.tool) (sym e)
-          (arrived job old.done l ls old.tool c.action cs entries place s (next_at job old.done c cs at) clear joined fits.1 fits.2 p)))
+          (arrived job old.done l ls old.tool c.action cs entries place s (next_at job old.done c cs at) clear joined even fits.1 fits.2 p)))
           (λ b. record {
             left = c ∷ cs;
             entries = entries;
@@ -179,8 +185,9 @@ on_head job l ls old o new e s whole (c ∷ cs) entries place at clear joined fi
             at = at;
             clear = clear;
             joined = joined;
+            even = even;
             fits = subst (RingFits job (c ∷ cs)) (sym e) fits;
-            safe = on_way job l old.tool place c.action (actions_of cs) entries (place_after l old new.rate) s clear fits.1 p (part_way l old new.rate);
+            safe = on_way job l old.tool place c.action (actions_of cs) entries (place_after l old new.rate) s clear even fits.1 p (part_way l old new.rate);
             stands = λ n. absurd (let z = subst NoSteps e n in omega (arith, z, p));
           }))
       | inr u ↦ elim (match_with old.held (Rests job old o new) (Serves job l.command.action old o new) u.1) [
@@ -193,7 +200,7 @@ on_head job l ls old o new e s whole (c ∷ cs) entries place at clear joined fi
               (after_keeps job l.command.action (record (popped 0 old) { rate = 0 })
               (subst (λ ring. Holds job (suc old.done) (drop 1 ring) old.position (tool_after l.command.action old.tool)) (sym e)
               (subst (λ (k : Command). Holds job (suc old.done) ls old.position (tool_after k.action old.tool)) (sym fits.0)
-              (served job old.done l ls old.position old.tool c.action cs entries place (next_at job old.done c cs at) clear joined fits.1 fits.2 whole.safe z (stands z)))))
+              (served job old.done l ls old.position old.tool c.action cs entries place (next_at job old.done c cs at) clear joined even fits.1 fits.2 whole.safe z (stands z)))))
         ]
       ]
     ]
@@ -203,7 +210,7 @@ on_tick : (job : Job) (stopped : Bool) (ring : List Queued) (old : State) (o : O
 on_tick job true ring old o new e s h t = subst (HoldsIn job) (sym t.stands) h
 on_tick job false [] old o new e s h t = subst (HoldsIn job) (sym t.stands) h
 on_tick job false (l ∷ ls) old o new e s h t =
-    on_head job l ls old o new e s h h.left h.entries h.place h.at h.clear h.joined (subst (RingFits job h.left) e h.fits)
+    on_head job l ls old o new e s h h.left h.entries h.place h.at h.clear h.joined h.even (subst (RingFits job h.left) e h.fits)
     (λ z. h.stands (subst NoSteps (sym e) z)) t
 
 -- ---- a load
@@ -238,6 +245,7 @@ on_load job old (Some c) o new e h t =
             at = h.at;
             clear = h.clear;
             joined = h.joined;
+            even = h.even;
             safe = h.safe;
             fits = one_more job h.left old.ring c u.1.0 h.fits (sym (h.at (length old.ring)) ∙ e) u.1.1;
             stands = λ n. h.stands (no_steps old.ring (record { command = c; path = u.1.0 }) n);

@@ -82,7 +82,7 @@ not_true h = cc
 
 -- the pieces from a cut on hold each point that comes no earlier
 from_cut : (g n k : ℕ) (b e : Point3) (p : StepPos) → 0 < n → k ≤ n → 0 < g → OnLine g n k b e p →
-    (several : Bool) (s : ℕ) (cuts : List Cut) → s * n ≤ 65536 * k → ChainFrom (Line b e) several (Part s) cuts →
+    (several : Bool) (s : ℕ) (cuts : List Cut) → s * n ≤ 65536 * k → ChainFrom (pos g) (Line b e) several (Part s) cuts →
     Any (λ bounds. IsIn bounds p) (boxes_from (pos g) (Line b e) several (Part s) cuts)
 from_cut g n k b e p zn kn zg h several s [] c chain = absurd chain
 from_cut g n k b e p zn kn zg h several s (Part t ∷ []) c chain =
@@ -131,7 +131,7 @@ line_still g b e path zg l = record {
 
 -- the law, for a line of n moves
 pub covered_line : (g n k : ℕ) (b e : Point3) (several : Bool) (cuts : List Cut) (path : List StepPos) → 0 < g → k ≤ n →
-    IsLineOf (pos g) b e n path → ChainFrom (Line b e) several (Part 0) cuts →
+    IsLineOf (pos g) b e n path → ChainFrom (pos g) (Line b e) several (Part 0) cuts →
     Any (λ bounds. IsIn bounds (point path k)) (boxes_from (pos g) (Line b e) several (Part 0) cuts)
 covered_line g zero zero b e several cuts path zg kn l chain =
     from_cut g 1 0 b e (point path 0) (omega arith) (omega arith) zg (line_still g b e path zg l) several 0 cuts (omega arith) chain

@@ -7,6 +7,7 @@ mod AxisBetween
 pub mod CoveredLines
 pub mod CoveredLaw
 pub mod Truths
+pub mod SharedLaws
 pub mod SafeInPiece
 pub mod SafeOnPath
 pub mod NoFault
@@ -18,3 +19,4 @@ pub mod GoodPieces
 pub mod Cleared
 pub mod MadeLaws
 mod Examples
+pub mod ArcEnds

@@ -88,14 +88,14 @@ unmet_at machine tool p h = meets_none machine tool (only p) h
 
 piece_valid : (machine : MachineFile) (tool : Option Tool) (w : Way) (s : Stretch) (p : Piece) → piece_fault machine tool w s p ≡ None → IsPieceValid machine tool w s p
 piece_valid machine tool w s p h =
-    let a = passed (follows w s p.end) Chain _ h in
+    let a = passed (follows machine.step w s p.end) Chain _ h in
     let b = passed (holds_box p.bounds (derived_box machine.step w s p.end)) NotCovered _ a.1 in
     let c = passed (is_in_travel machine p.bounds) OutsideTravel _ b.1 in
     record { chain = a.0; covers = b.0; travel = c.0; clear = none_met machine tool p.bounds (no_map MeetsFixture (first_met machine tool p.bounds) c.1) }
 
 piece_passes : (machine : MachineFile) (tool : Option Tool) (w : Way) (s : Stretch) (p : Piece) → IsPieceValid machine tool w s p → piece_fault machine tool w s p ≡ None
 piece_passes machine tool w s p h =
-    passes (follows w s p.end) Chain _ h.chain
+    passes (follows machine.step w s p.end) Chain _ h.chain
     (passes (holds_box p.bounds (derived_box machine.step w s p.end)) NotCovered _ h.covers
     (passes (is_in_travel machine p.bounds) OutsideTravel _ h.travel
     (map_none MeetsFixture (first_met machine tool p.bounds) (meets_none machine tool p.bounds h.clear))))

@@ -22,7 +22,7 @@ abbrev end_of : Piece → Cut
 end_of p = p.end
 
 chain_of : (machine : MachineFile) (tool : Option Tool) (w : Way) (several : Bool) (begin : Cut) (ps : List Piece) →
-    AreValidFrom machine tool w several begin ps → ChainFrom w several begin (map end_of ps)
+    AreValidFrom machine tool w several begin ps → ChainFrom machine.step w several begin (map end_of ps)
 chain_of machine tool w several begin [] v = v
 chain_of machine tool w several begin (p ∷ []) v = v.chain
 chain_of machine tool w several begin (p ∷ q ∷ ps) v = (v.0.chain, chain_of machine tool w several p.end (q ∷ ps) v.1)
@@ -51,9 +51,9 @@ length_map [] = refl
 length_map (p ∷ ps) = ap suc (length_map ps)
 
 pub safe_on_path : SafeOnPath
-safe_on_path machine tool w ps path k s v way l =
+safe_on_path machine tool w ps path k s even v way l =
     let e : are_several (map end_of ps) ≡ are_several ps = ap (nat_lt 1) (length_map ps) in
-    let chain = subst (λ b. ChainFrom w b (first_cut w) (map end_of ps)) (sym e) (chain_of machine tool w (are_several ps) (first_cut w) ps v) in
-    let a = covered machine.step w (map end_of ps) path k s chain way l in
+    let chain = subst (λ b. ChainFrom machine.step w b (first_cut w) (map end_of ps)) (sym e) (chain_of machine tool w (are_several ps) (first_cut w) ps v) in
+    let a = covered machine.step w (map end_of ps) path k s even chain way l in
     safe_in_some machine tool w (point path k) s (are_several ps) (first_cut w) ps v
     (subst (λ b. Any (λ bounds. IsIn bounds (point path k)) (boxes_from machine.step w b (first_cut w) (map end_of ps))) e a)

@@ -4,6 +4,7 @@ use Rattle.ngc_fixed_length.specs.declared.points.StepPos.{StepPos}
 use Rattle.ngc_fixed_length.specs.LinePath.{point}
 use Rattle.ngc_fixed_length.specs.Boxes.{IsIn}
 use Rattle.ngc_canonical.specs.declared.movement.Way.{Way}
+use Rattle.ngc_canonical.specs.Joined.{IsEvenIfArc}
 use Rattle.ngc_canonical.specs.ProgramPath.{IsPathOf}
 use Rattle.ngc_certificate_text.specs.declared.piece.Cut.{Cut}
 use Rattle.ngc_certificate_text.specs.declared.piece.Piece.{Piece}
@@ -16,11 +17,11 @@ use Rattle.ngc_certificate.specs.DerivedBox.{derived_boxes}
 
 abbrev pub Covered : Type 0
 Covered = (step : ℤ) (w : Way) (cuts : List Cut) (path : List StepPos) (k : ℕ) →
-    pos 1 ≤ℤ step → IsChain w cuts → IsPathOf step w path → k < length path →
+    pos 1 ≤ℤ step → IsEvenIfArc w → IsChain step w cuts → IsPathOf step w path → k < length path →
     Any (λ b. IsIn b (point path k)) (derived_boxes step w cuts)
 
 -- each point of a path of a motion whose pieces are valid is a safe place for the tool
 abbrev pub SafeOnPath : Type 0
 SafeOnPath = (machine : MachineFile) (tool : Option Tool) (w : Way) (pieces : List Piece) (path : List StepPos) (k : ℕ) →
-    pos 1 ≤ℤ machine.step → ArePiecesValid machine tool w pieces → IsPathOf machine.step w path → k < length path →
+    pos 1 ≤ℤ machine.step → IsEvenIfArc w → ArePiecesValid machine tool w pieces → IsPathOf machine.step w path → k < length path →
     IsSafe machine tool (point path k)

@@ -1,17 +1,20 @@
 -- The box that a piece of a motion needs at least. Our own.
-use Rattle.std.specs.Prelude.{ℕ, ℤ, pos, ◌+ℤ◌, ◌-ℤ◌, ◌*ℤ◌, List, [], ◌∷◌, Bool, true, false}
+use Rattle.std.specs.Prelude.{ℕ, ℤ, pos, ◌+ℤ◌, ◌-ℤ◌, ◌*ℤ◌, List, [], ◌∷◌, Bool, true, false, ◌&&◌, if◌then◌else◌}
 use Rattle.ngc_fixed_length.specs.Grid.{grid}
 use Rattle.std.specs.Int.{int_min, int_max}
 use Rattle.ngc_fixed_length.specs.Boxes.{grid_above, grid_below, box_of, common_box}
 use Rattle.ngc_fixed_length.specs.declared.points.Point3.{Point3}
 use Rattle.ngc_fixed_length.specs.declared.points.GridBox.{GridBox}
+use Rattle.ngc_fixed_length.specs.declared.points.Point2.{Point2}
+use Rattle.ngc_arc_geometry.specs.Shape.{ArcShape}
 use Rattle.ngc_arc_geometry.specs.Swept.{swept_box}
+use Rattle.ngc_arc_geometry.specs.CutArc.{cut_box, is_large}
 use Rattle.ngc_canonical.specs.declared.movement.Way.{Way}
 use Rattle.ngc_canonical.specs.declared.movement.Way.TheVariants.{Line, Arc}
 use Rattle.ngc_certificate_text.specs.declared.piece.Cut.{Cut}
 use Rattle.ngc_certificate.specs.declared.stretch.Stretch.{Stretch}
 use Rattle.ngc_certificate_text.specs.Certificate.{WHOLE}
-use Rattle.ngc_certificate.specs.Chain.{part_of, first_cut, stretch, are_several}
+use Rattle.ngc_certificate.specs.Chain.{part_of, place_of, first_cut, stretch, are_several}
 
 -- t parts of the way from b to e, in parts of a nanometre
 abbrev pub cut_at : ℤ → ℤ → ℕ → ℤ
@@ -34,9 +37,14 @@ grown_box step b e s t = record {
 abbrev pub line_box : ℤ → Point3 → Point3 → ℕ → ℕ → GridBox
 line_box step b e s t = common_box (grown_box step b e s t) (box_of (grid step b) (grid step e))
 
+-- an arc in one piece needs its swept box; so does each piece where the inner radius is below eight steps, and else what lies
+-- about its two cuts
+abbrev pub arc_box : ℤ → ArcShape → Stretch → Point2 → GridBox
+arc_box step a s q = if s.several && is_large step a then cut_box step a (place_of a s.begin) q else swept_box step a
+
 abbrev pub derived_box : ℤ → Way → Stretch → Cut → GridBox
 derived_box step (Line b e) s cut = line_box step b e (part_of s.begin) (part_of cut)
-derived_box step (Arc a) s cut = swept_box step a
+derived_box step (Arc a) s cut = arc_box step a s (place_of a cut)
 
 -- the boxes of all pieces
 abbrev pub boxes_from : ℤ → Way → Bool → Cut → List Cut → List GridBox

@@ -8,3 +8,4 @@ pub mod Valid
 pub mod Covered
 pub mod Made
 pub mod Making
+pub mod Shared

@@ -18,14 +18,14 @@ use Rattle.ngc_certificate.specs.DerivedBox.{derived_box}
 
 -- a piece in a motion with this tool mounted
 pub record IsPieceValid (machine : MachineFile) (tool : Option Tool) (w : Way) (s : Stretch) (p : Piece) : Type 0 where
-  pub chain : IsTrue (follows w s p.end)
+  pub chain : IsTrue (follows machine.step w s p.end)
   pub covers : IsTrue (holds_box p.bounds (derived_box machine.step w s p.end))
   pub travel : IsTrue (is_in_travel machine p.bounds)
   pub clear : IsTrue (list_all (clears machine.step tool p.bounds) machine.fixtures)
 
 abbrev pub piece_fault : MachineFile → Option Tool → Way → Stretch → Piece → Option PieceFault
 piece_fault machine tool w s p =
-    if not (follows w s p.end) then Some Chain
+    if not (follows machine.step w s p.end) then Some Chain
     else (if not (holds_box p.bounds (derived_box machine.step w s p.end)) then Some NotCovered
     else (if not (is_in_travel machine p.bounds) then Some OutsideTravel
     else option_map MeetsFixture (first_met machine tool p.bounds)))

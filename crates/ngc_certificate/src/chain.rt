@@ -1,12 +1,14 @@
-ghost use Rattle.std.specs.Prelude.{◌≡◌};
-ghost use Rattle.ngc_fixed_length.specs.Signed.{same};
-ghost use Rattle.ngc_certificate.specs.Chain.{first_cut as first_cut_of, equal_places, part_of, line_follows as line_goes_on, arc_follows as arc_goes_on, follows as goes_on};
+ghost use Rattle.std.specs.Prelude.{◌≡◌, ℤ};
+ghost use Rattle.ngc_canonical.specs.declared.movement.Way.TheVariants as ways;
+ghost use Rattle.ngc_certificate.specs.Chain.{first_cut as first_cut_of, part_of, place_of, line_follows as line_goes_on, arc_follows as arc_goes_on, follows as goes_on};
+ghost use Rattle.ngc_certificate.specs.Shared.{cut_arc as cut_arc_of, IsShared};
 
+use crate::shared::Shared;
 use crate::stretch::Stretch;
-use ngc_arc_geometry::Arc;
+use ngc_arc_geometry::{Arc, GridArc};
 use ngc_canonical::Way;
 use ngc_certificate_text::Cut;
-use ngc_fixed_length::{Nm, Point2};
+use ngc_fixed_length::Point2;
 
 /// Parts of a line.
 pub(crate) const WHOLE: u32 = 65_536;
@@ -31,16 +33,14 @@ pub(crate) fn part_of(cut: &Cut) -> u32
     }
 }
 
-fn is_same(a: Nm, b: Nm) -> bool
-    ensures { result ≡ same a b }
+/// A cut as a point of an arc's plane.
+pub(crate) fn place_of(arc: &Arc, cut: &Cut) -> Point2
+    ensures { result ≡ place_of arc.now cut.now }
 {
-    a.nanometres() == b.nanometres()
-}
-
-fn are_equal(place: &Point2, other: &Point2) -> bool
-    ensures { result ≡ equal_places place.now other.now }
-{
-    is_same(place.u, other.u) && is_same(place.v, other.v)
+    match cut {
+        Cut::Part(_) => arc.start().in_plane(arc.plane()),
+        Cut::Place(place) => *place,
+    }
 }
 
 /// A line's cuts rise up to the whole line.
@@ -50,17 +50,19 @@ fn line_follows(last: bool, from: u32, to: u32) -> bool
     from < to && (!last || to == WHOLE)
 }
 
-/// An arc's last cut is its end, and it stands in one piece.
-fn arc_follows(arc: &Arc, stretch: &Stretch, place: &Point2) -> bool
-    ensures { result ≡ arc_goes_on arc.now stretch.now place.now }
+/// An arc in one piece ends where the arc does; one in several goes round by its cuts.
+fn arc_follows(arc: &Arc, cut_arc: &Option<GridArc>, stretch: &Stretch, place: &Point2) -> bool
+    ensures { (step : ℤ) → cut_arc.now ≡ cut_arc_of step (ways.Arc arc.now) stretch.now.several → result ≡ arc_goes_on step arc.now stretch.now place.now }
 {
-    let end = arc.end().in_plane(arc.plane());
-    !stretch.several && (!stretch.last || are_equal(place, &end))
+    match cut_arc {
+        Some(cut_arc) => cut_arc.cut_follows(stretch.last, &place_of(arc, &stretch.begin), place),
+        None => arc.ends_at(place),
+    }
 }
 
 /// The piece that ends at a cut is of the motion's kind, and follows the one before it.
-pub(crate) fn follows(way: &Way, stretch: &Stretch, cut: &Cut) -> bool
-    ensures { result ≡ goes_on way.now stretch.now cut.now }
+pub(crate) fn follows(way: &Way, shared: &Shared, stretch: &Stretch, cut: &Cut) -> bool
+    ensures { (step : ℤ) → IsShared step way.now stretch.now.several shared.now → result ≡ goes_on step way.now stretch.now cut.now }
 {
     match (way, cut) {
         (Way::Line { .. }, Cut::Part(part)) => line_follows(
@@ -68,7 +70,7 @@ pub(crate) fn follows(way: &Way, stretch: &Stretch, cut: &Cut) -> bool
             part_of(&stretch.begin),
             *part,
         ),
-        (Way::Arc(arc), Cut::Place(place)) => arc_follows(arc, stretch, place),
+        (Way::Arc(arc), Cut::Place(place)) => arc_follows(arc, &shared.cut_arc, stretch, place),
         (Way::Line { .. }, Cut::Place(_)) | (Way::Arc(_), Cut::Part(_)) => false,
     }
 }

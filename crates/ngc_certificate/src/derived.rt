@@ -1,16 +1,20 @@
-ghost use Rattle.std.specs.Prelude.{◌≡◌, ◌≤◌, FitsSigned};
+ghost use Rattle.std.specs.Prelude.{◌≡◌, ℤ, FitsSigned};
+ghost use Rattle.ngc_canonical.specs.declared.movement.Way.TheVariants as ways;
 ghost use Rattle.std.specs.Int.{w32, int_max, int_min};
 ghost use Rattle.ngc_fixed_length.specs.Grid.{grid};
 ghost use Rattle.ngc_fixed_length.specs.Length.{IsStep};
 ghost use Rattle.ngc_fixed_length.specs.Boxes.{box_of, common_box, holds_box, lesser_corner, greater_corner};
-ghost use Rattle.ngc_certificate_text.specs.Certificate.{WHOLE};
-ghost use Rattle.ngc_certificate.specs.Chain.{part_of as part_of_cut};
-ghost use Rattle.ngc_certificate.specs.DerivedBox.{low_between, high_between, line_box as box_of_line, derived_box as box_derived};
+ghost use Rattle.ngc_certificate.specs.Chain.{place_of as place_of_cut};
+ghost use Rattle.ngc_certificate.specs.DerivedBox.{low_between, high_between, line_box as box_of_line, arc_box as box_of_arc, derived_box as box_derived};
 ghost use Rattle.ngc_certificate.specs.Inside.{IsOnLine, IsNarrow, box_grown, corner_of, bounds_of, whole_box as box_of_whole};
+ghost use Rattle.ngc_certificate.specs.Shared.{IsShared};
 
 use crate::bounds::{Bounds, Corner};
+use crate::chain::place_of;
 use crate::cuts::{Cuts, first_between, last_between};
+use crate::shared::Shared;
 use crate::stretch::Stretch;
+use ngc_arc_geometry::Arc;
 use ngc_canonical::Way;
 use ngc_certificate_text::{Cut, Piece};
 use ngc_fixed_length::{GridBox, Nm, Point3, StepPos};
@@ -104,23 +108,6 @@ pub(crate) fn line_box(
     }
 }
 
-/// The box that a piece of a motion needs at least; cuts of a line are at most 65,536.
-pub(crate) fn derived_box(step: Nm, way: &Way, stretch: &Stretch, cut: &Cut) -> GridBox
-    requires step { IsStep step }
-    requires from { part_of_cut stretch.now.begin ≤ WHOLE }
-    requires to { part_of_cut cut.now ≤ WHOLE }
-    ensures { result ≡ box_derived step way.now stretch.now cut.now }
-{
-    let whole = whole_box(step, way);
-    match way {
-        Way::Line { start, end } => {
-            let cuts = Cuts::of(&stretch.begin, cut);
-            line_box(step, start, end, &cuts, &whole)
-        }
-        Way::Arc(_) => whole,
-    }
-}
-
 /// A box of grid points holds the piece of a line that it is given for.
 fn covers_line(
     step: Nm,
@@ -141,17 +128,36 @@ fn covers_line(
     }
 }
 
-/// A piece's box holds the box that it needs at least; `whole` is the box of the motion in one piece.
-pub(crate) fn covers(step: Nm, way: &Way, whole: &GridBox, stretch: &Stretch, piece: &Piece) -> bool
+/// A box of grid points holds the piece of an arc that it is given for.
+fn covers_arc(shared: &Shared, arc: &Arc, stretch: &Stretch, end: &Cut, outer: &GridBox) -> bool
+    ensures { (step : ℤ) → IsShared step (ways.Arc arc.now) stretch.now.several shared.now → result ≡ holds_box outer.now (box_of_arc step arc.now stretch.now (place_of_cut arc.now end.now)) }
+{
+    match &shared.cut_arc {
+        Some(cut_arc) if cut_arc.is_large() => {
+            let begin = place_of(arc, &stretch.begin);
+            outer.holds(&cut_arc.cut_box(&begin, &place_of(arc, end)))
+        }
+        Some(_) | None => outer.holds(&shared.whole),
+    }
+}
+
+/// A piece's box holds the box that it needs at least.
+pub(crate) fn covers(
+    step: Nm,
+    way: &Way,
+    shared: &Shared,
+    stretch: &Stretch,
+    piece: &Piece,
+) -> bool
     requires step { IsStep step }
-    requires whole { whole.now ≡ box_of_whole step way.now }
+    requires shared { IsShared step way.now stretch.now.several shared.now }
     ensures { result ≡ holds_box piece.now.bounds (box_derived step way.now stretch.now piece.now.end) }
 {
     match way {
         Way::Line { start, end } => {
             let cuts = Cuts::of(&stretch.begin, &piece.end);
-            covers_line(step, start, end, &cuts, whole, &piece.bounds)
+            covers_line(step, start, end, &cuts, &shared.whole, &piece.bounds)
         }
-        Way::Arc(_) => piece.bounds.holds(whole),
+        Way::Arc(arc) => covers_arc(shared, arc, stretch, &piece.end, &piece.bounds),
     }
 }

@@ -10,6 +10,7 @@ mod fault;
 pub mod laws;
 mod maker;
 mod pieces;
+mod shared;
 mod stretch;
 
 pub use fault::{MakeFault, PieceFault, PieceRefusal};

@@ -2,11 +2,13 @@ ghost use Rattle.std.specs.Prelude.{◌≡◌, ◌≤◌, length};
 ghost use Rattle.ngc_machine.specs.Machine.{file_of};
 ghost use Rattle.ngc_certificate_text.specs.Certificate.{PIECE_LIMIT};
 ghost use Rattle.ngc_certificate.specs.PieceFault.{piece_fault as fault_of, pieces_fault as fault_of_all, place_fault as met_at};
-ghost use Rattle.ngc_certificate.specs.Inside.{whole_box as box_of_whole, fault_of_some};
+ghost use Rattle.ngc_certificate.specs.Inside.{fault_of_some};
+ghost use Rattle.ngc_certificate.specs.Shared.{IsShared};
 
 use crate::chain::{first_cut, follows};
-use crate::derived::{covers, whole_box};
+use crate::derived::covers;
 use crate::fault::{PieceFault, PieceRefusal};
+use crate::shared::Shared;
 use crate::stretch::Stretch;
 use ngc_canonical::Way;
 use ngc_certificate_text::Piece;
@@ -15,23 +17,22 @@ use ngc_fixed_length::{GridBox, StepPos};
 use ngc_machine::{Machine, Tool};
 use std::alloc::Allocator;
 
-/// The first refusal of a piece of a motion with this tool mounted, in the order 313 to 316; `whole` is the box of the
-/// motion in one piece.
+/// The first refusal of a piece of a motion with this tool mounted, in the order 313 to 316.
 fn fault_within<A: Allocator>(
     machine: &Machine<A>,
     tool: &Option<Tool>,
     way: &Way,
-    whole: &GridBox,
+    shared: &Shared,
     stretch: &Stretch,
     piece: &Piece,
 ) -> Option<PieceFault>
-    requires { whole.now ≡ box_of_whole machine.now.step way.now }
+    requires { IsShared machine.now.step way.now stretch.now.several shared.now }
     ensures { result ≡ fault_of (file_of machine.now) tool.now way.now stretch.now piece.now }
 {
-    if !follows(way, stretch, &piece.end) {
+    if !follows(way, shared, stretch, &piece.end) {
         return Some(PieceFault::Chain);
     }
-    if !covers(machine.step, way, whole, stretch, piece) {
+    if !covers(machine.step, way, shared, stretch, piece) {
         return Some(PieceFault::NotCovered);
     }
     if !is_in_travel(machine, &piece.bounds) {
@@ -50,8 +51,8 @@ pub fn piece_fault<A: Allocator>(
 ) -> Option<PieceFault>
     ensures { result ≡ fault_of (file_of machine.now) tool way.now stretch.now piece.now }
 {
-    let whole = whole_box(machine.step, way);
-    fault_within(machine, &tool, way, &whole, stretch, piece)
+    let shared = Shared::of(machine.step, way, stretch.several);
+    fault_within(machine, &tool, way, &shared, stretch, piece)
 }
 
 /// The first refusal of the pieces of a motion, or `None` also where there are none.
@@ -64,8 +65,8 @@ fn first_refusal<A: Allocator>(
     requires { length pieces.now ≤ PIECE_LIMIT }
     ensures { result ≡ fault_of_some (file_of machine.now) tool way.now pieces.now }
 {
-    let whole = whole_box(machine.step, way);
     let several = pieces.len() > 1;
+    let shared = Shared::of(machine.step, way, several);
     let mut begin = first_cut(way);
     for (i, piece) in pieces.iter().enumerate() {
         let last = i + 1 == pieces.len();
@@ -74,7 +75,7 @@ fn first_refusal<A: Allocator>(
             several,
             last,
         };
-        if let Some(fault) = fault_within(machine, &tool, way, &whole, &stretch, piece) {
+        if let Some(fault) = fault_within(machine, &tool, way, &shared, &stretch, piece) {
             return Some(PieceRefusal {
                 piece: i as u32,
                 fault,
