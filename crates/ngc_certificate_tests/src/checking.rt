@@ -6,7 +6,7 @@ use ngc_checker::{Accepted, CheckFault, check};
 use ngc_fixed_length::{Device, GridBox, Nm, Point3, StepPos};
 use ngc_line_reader::Program;
 use ngc_machine::{Fixture, Machine, Tools, row_machine};
-use std::alloc::{AllocError, Allocator};
+use std::alloc::{AllocError, Allocator, Global};
 use std::process::Abort;
 use std::test::Fail;
 
@@ -24,6 +24,14 @@ fn one_motion<A: Allocator + Copy>(alloc: A) -> Result<Motions<A>, AllocError> {
     };
     motions.push(0, &[whole_way])?;
     Ok(motions)
+}
+
+// The certificate of that motion at both settings of block delete.
+fn a_motion_each<A: Allocator + Copy>(alloc: A) -> Result<Certificate<A>, AllocError> {
+    Ok(Certificate {
+        off: one_motion(alloc)?,
+        on: one_motion(alloc)?,
+    })
 }
 
 // The row machine with a fixture far from zero.
@@ -57,16 +65,16 @@ fn check_program<A: Allocator + Copy>(
     check(alloc, program, machine, &Tools::empty(alloc), certificate)
 }
 
+fn accepted_on(alloc: Global, machine: &Machine<Global>) -> Result<Accepted<Global>, Fail> {
+    let program = Program::read(alloc, &mut Device::new(PROGRAM))?;
+    let certificate = a_motion_each(alloc)?;
+    Ok(check_program(alloc, &program, machine, &certificate)?)
+}
+
 #[test]
 fn what_was_accepted_is_told(rt: HostRuntime) -> Result<(), Fail> {
-    let alloc = rt.alloc();
-    let program = Program::read(alloc, &mut Device::new(PROGRAM))?;
-    let certificate = Certificate {
-        off: one_motion(alloc)?,
-        on: one_motion(alloc)?,
-    };
-    let machine = row_machine(alloc);
-    let accepted = check_program(alloc, &program, &machine, &certificate)?;
+    let machine = row_machine(rt.alloc());
+    let accepted = accepted_on(rt.alloc(), &machine)?;
     let way = Way::Line {
         start: point(&rt, 0, 0),
         end: point(&rt, 1_000_000, 0),
@@ -85,34 +93,36 @@ fn what_was_accepted_is_told(rt: HostRuntime) -> Result<(), Fail> {
             action: Action::End,
         },
     ];
-    for delete in [false, true] {
-        assert_eq!(rt; accepted.commands(delete), commands.as_slice());
-    }
+    assert_eq!(rt; accepted.commands(false), commands.as_slice());
+    assert_eq!(rt; accepted.commands(true), commands.as_slice());
     assert_eq!(rt; accepted.machine().step, machine.step);
     assert_eq!(rt; accepted.machine().high, machine.high);
     assert_eq!(rt; accepted.tools().tools().len(), 0);
     Ok(())
 }
 
-#[test]
-fn refusals_tell_their_numbers_and_texts(rt: HostRuntime) -> Result<(), Fail> {
-    let alloc = rt.alloc();
+// Why a certificate without the motion is refused where block delete is on.
+fn refusal(alloc: Global) -> Result<CheckFault, Fail> {
     let program = Program::read(alloc, &mut Device::new(PROGRAM))?;
     let certificate = Certificate {
         off: one_motion(alloc)?,
         on: Motions::new(alloc),
     };
     let machine = row_machine(alloc);
-    let fault = check_program(alloc, &program, &machine, &certificate)
-        .err()
-        .ok_or("a refusal")?;
+    let checked = check_program(alloc, &program, &machine, &certificate);
+    Ok(checked.err().ok_or("a refusal")?)
+}
+
+#[test]
+fn refusals_tell_their_numbers_and_texts(rt: HostRuntime) -> Result<(), Fail> {
+    let fault = refusal(rt.alloc())?;
     let expected = CheckFault::MotionsDiffer {
         setting: Setting::On,
         command: 0,
     };
     assert_eq!(rt; fault, expected);
     assert_eq!(rt; fault.number(), 312);
-    let text = format!(in alloc; "{fault}")?;
+    let text = format!(in rt.alloc(); "{fault}")?;
     assert_eq!(rt;
         text.as_str(),
         "program and certificate differ at command 0"
@@ -120,24 +130,47 @@ fn refusals_tell_their_numbers_and_texts(rt: HostRuntime) -> Result<(), Fail> {
     Ok(())
 }
 
-// What the check of the program answers with memory of this heap, or None where the heap doesn't even hold what is checked.
-fn outcome_in(rt: &impl Abort, heap: &LocalHeap) -> Option<Result<(), CheckFault>> {
+// What is checked, in the memory of a heap.
+#[derive(Drop)]
+struct Checked<'a> {
+    program: Program<&'a LocalHeap>,
+    machine: Machine<&'a LocalHeap>,
+    certificate: Certificate<&'a LocalHeap>,
+}
+
+fn checked_in(heap: &LocalHeap) -> Option<Checked<'_>> {
     let program = Program::read(heap, &mut Device::new(PROGRAM)).ok()?;
     let machine = machine_with_fixture(heap)?;
-    let certificate = Certificate {
-        off: one_motion(heap).ok()?,
-        on: one_motion(heap).ok()?,
-    };
+    let certificate = a_motion_each(heap).ok()?;
+    Some(Checked {
+        program,
+        machine,
+        certificate,
+    })
+}
+
+fn check_in<'a>(
+    rt: &impl Abort,
+    heap: &'a LocalHeap,
+    checked: &Checked<'a>,
+) -> Result<(), CheckFault> {
+    let accepted = check_program(
+        heap,
+        &checked.program,
+        &checked.machine,
+        &checked.certificate,
+    )?;
+    assert_eq!(rt; accepted.commands(false).len(), 2);
+    assert_eq!(rt; accepted.commands(true).len(), 2);
+    assert_eq!(rt; accepted.machine().fixtures.len(), 1);
+    Ok(())
+}
+
+// What the check of the program answers with memory of this heap, or None where the heap doesn't even hold what is checked.
+fn outcome_in(rt: &impl Abort, heap: &LocalHeap) -> Option<Result<(), CheckFault>> {
+    let checked = checked_in(heap)?;
     let used = heap.used();
-    let outcome = match check_program(heap, &program, &machine, &certificate) {
-        Ok(accepted) => {
-            assert_eq!(rt; accepted.commands(false).len(), 2);
-            assert_eq!(rt; accepted.commands(true).len(), 2);
-            assert_eq!(rt; accepted.machine().fixtures.len(), 1);
-            Ok(())
-        }
-        Err(fault) => Err(fault),
-    };
+    let outcome = check_in(rt, heap, &checked);
     assert_eq!(rt; heap.used(), used);
     Some(outcome)
 }

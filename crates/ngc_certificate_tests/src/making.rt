@@ -3,7 +3,7 @@ use linked_list_allocator::LocalHeap;
 use ngc_canonical::{Action, Command, Feed, Motion, Pace, Way};
 use ngc_certificate::{Cut, MakeFault, Motions, Piece, Setting, make};
 use ngc_fixed_length::{Plane, Point3};
-use ngc_machine::row_machine;
+use ngc_machine::{Machine, row_machine};
 use std::alloc::{Allocator, Global};
 use std::process::Abort;
 use std::test::Fail;
@@ -123,14 +123,26 @@ static NOT_CLEARED: [(&str, Course, Course, u16, Setting, u32); 5] = [
     ),
 ];
 
+// Why there is no certificate of at most two commands at either setting.
+fn refusal_of(
+    rt: &impl Abort,
+    alloc: Global,
+    machine: &Machine<Global>,
+    (off, on): (&[Command], &[Command]),
+    most: u16,
+) -> Option<MakeFault> {
+    assert!(rt; off.len() <= 2 && on.len() <= 2 && most >= 1);
+    make(alloc, off, on, machine, most).err()
+}
+
 #[test]
 fn what_is_not_cleared(rt: HostRuntime) -> Result<(), Fail> {
     for (fixture, off, on, most, setting, command) in &NOT_CLEARED {
         let machine = machine_with(rt.alloc(), fixture)?;
         let off = commands_on(&rt, rt.alloc(), *off)?;
         let on = commands_on(&rt, rt.alloc(), *on)?;
-        assert!(rt; off.len() <= 2 && on.len() <= 2 && *most >= 1);
-        let refused = make(rt.alloc(), off.as_slice(), on.as_slice(), &machine, *most).err();
+        let commands = (off.as_slice(), on.as_slice());
+        let refused = refusal_of(&rt, rt.alloc(), &machine, commands, *most);
         let fault = MakeFault::NotCleared {
             setting: *setting,
             command: *command,
@@ -141,14 +153,16 @@ fn what_is_not_cleared(rt: HostRuntime) -> Result<(), Fail> {
     Ok(())
 }
 
+const SETTINGS: &[Setting] = &[Setting::Off, Setting::On];
+
 #[test]
 fn a_slanted_line_in_two_pieces(rt: HostRuntime) -> Result<(), Fail> {
     let machine = machine_with(rt.alloc(), BESIDE_THE_LINE)?;
     let commands = [slanted(&rt, 1)];
     let certificate = make(rt.alloc(), &commands, &commands, &machine, 2)?;
     let pieces = [line_piece(32_768, 0, 501), line_piece(65_536, 499, 1_000)];
-    for setting in [Setting::Off, Setting::On] {
-        let motions = certificate.motions(setting);
+    for setting in SETTINGS {
+        let motions = certificate.motions(*setting);
         assert_eq!(rt; motions.len(), 1);
         assert_eq!(rt; motion_of(motions, 0), Some((0, pieces.as_slice())));
     }
@@ -180,30 +194,40 @@ fn a_circle_in_one_piece(rt: HostRuntime) -> Result<(), Fail> {
     Ok(())
 }
 
+// Whether a certificate is made with the memory of a heap.
+fn is_made_in(rt: &impl Abort, heap: &LocalHeap, commands: &[Command; 2]) -> bool {
+    let whole = [line_piece(65_536, 0, 1_000)];
+    let machine = row_machine(heap);
+    let is_made = match make(heap, commands, commands, &machine, 8) {
+        Ok(certificate) => {
+            assert_eq!(rt; certificate.off.len(), 2);
+            assert_eq!(rt; motion_of(&certificate.on, 1), Some((1, whole.as_slice())));
+            true
+        }
+        Err(fault) => {
+            assert_eq!(rt; fault, MakeFault::Memory);
+            assert_eq!(rt; fault.number(), 900);
+            false
+        }
+    };
+    assert_eq!(rt; heap.used(), 0);
+    is_made
+}
+
 #[test]
 fn refused_memory(rt: HostRuntime) -> Result<(), Fail> {
     let middle = point(&rt, 10_000_000, 10_000_000);
     let commands = [slanted(&rt, 1), traverse(2, middle, point(&rt, 0, 0))];
-    let whole = [line_piece(65_536, 0, 1_000)];
     let mut refused = 0u32;
     let mut done = 0u32;
     for blocks in 1..80usize {
         let heap = LocalHeap::new(rt.alloc(), 64 * blocks)?;
-        let machine = row_machine(&heap);
-        match make(&heap, &commands, &commands, &machine, 8) {
-            Ok(certificate) => {
-                assert_eq!(rt; certificate.off.len(), 2);
-                assert_eq!(rt; motion_of(&certificate.on, 1), Some((1, whole.as_slice())));
-                done = done.saturating_add(1);
-            }
-            Err(fault) => {
-                assert_eq!(rt; fault, MakeFault::Memory);
-                assert_eq!(rt; fault.number(), 900);
-                assert_eq!(rt; done, 0);
-                refused = refused.saturating_add(1);
-            }
+        if is_made_in(&rt, &heap, &commands) {
+            done = done.saturating_add(1);
+        } else {
+            assert_eq!(rt; done, 0);
+            refused = refused.saturating_add(1);
         }
-        assert_eq!(rt; heap.used(), 0);
     }
     assert!(rt; refused > 0 && done > 0);
     Ok(())

@@ -223,6 +223,12 @@ fn an_arc_stands_in_one_piece(rt: HostRuntime) -> Result<(), Fail> {
     Ok(())
 }
 
+const REACHES: &[(Option<i64>, Option<u32>)] = &[
+    (None, None),
+    (Some(20_000_000), None),
+    (Some(60_000_000), Some(0)),
+];
+
 #[test]
 fn a_new_tool_may_meet_a_fixture(rt: HostRuntime) -> Result<(), Fail> {
     let machine = machine_with(
@@ -230,26 +236,24 @@ fn a_new_tool_may_meet_a_fixture(rt: HostRuntime) -> Result<(), Fail> {
         "[[fixture]]\nlow = [-20000000, -10000000, -100000000]\nhigh = [-2000000, 10000000, -30000000]\n",
     )?;
     let start = StepPos { x: 0, y: 0, z: 0 };
-    for (reach, fault) in [
-        (None, None),
-        (Some(20_000_000), None),
-        (Some(60_000_000), Some(0)),
-    ] {
-        let found = place_fault(&machine, tool(&rt, reach), &start);
-        assert_eq!(rt; found, fault, "{reach:?}");
+    for (reach, fault) in REACHES {
+        let found = place_fault(&machine, tool(&rt, *reach), &start);
+        assert_eq!(rt; found, *fault, "{reach:?}");
     }
     Ok(())
 }
 
+const NUMBERS: &[(PieceFault, u16)] = &[
+    (PieceFault::Chain, 313),
+    (PieceFault::NotCovered, 314),
+    (PieceFault::OutsideTravel, 315),
+    (PieceFault::MeetsFixture(7), 316),
+];
+
 #[test]
 fn faults_have_numbers(rt: HostRuntime) {
-    for (fault, number) in [
-        (PieceFault::Chain, 313),
-        (PieceFault::NotCovered, 314),
-        (PieceFault::OutsideTravel, 315),
-        (PieceFault::MeetsFixture(7), 316),
-    ] {
-        assert_eq!(rt; fault.number(), number, "{fault:?}");
+    for (fault, number) in NUMBERS {
+        assert_eq!(rt; fault.number(), *number, "{fault:?}");
     }
     let setting = Setting::Off;
     let refused = MakeFault::NotCleared {

@@ -3,7 +3,7 @@
 use crate::devices::{EndlessSource, SlowSource};
 use crate::given::piece;
 use linked_list_allocator::LocalHeap;
-use ngc_certificate_text::{Certificate, CertificateFault, Cut, Setting};
+use ngc_certificate_text::{Certificate, CertificateFault, Cut, Piece, Setting};
 use ngc_fixed_length::{Device, Nm, Point2};
 use std::alloc::{AllocError, Global};
 use std::test::Fail;
@@ -49,18 +49,23 @@ fn line_feeds(text: &[u8]) -> u32 {
     count
 }
 
-#[test]
-fn reads_a_certificate(rt: HostRuntime) -> Result<(), Fail> {
-    let certificate = Certificate::read(rt.alloc(), &mut Device::new(SAMPLE))?;
-    assert_eq!(rt; certificate.motions(Setting::On).len(), 0);
-    let motions = certificate.motions(Setting::Off);
-    assert_eq!(rt; motions.len(), 2);
+// The second motion of the sample begins with it.
+fn first_arc() -> Result<Piece, Fail> {
     let place = Point2 {
         u: Nm::from_nanometres(4_000_000_000)?,
         v: Nm::from_nanometres(-4_000_000_000)?,
     };
+    Ok(piece(Cut::Place(place), (i32::MIN, -1, 0), (i32::MAX, 0, 7)))
+}
+
+#[test]
+fn reads_a_certificate(rt: HostRuntime) -> Result<(), Fail> {
     let line = piece(Cut::Part(65_536), (0, 0, -100), (500, 600, 0));
-    let arc = piece(Cut::Place(place), (i32::MIN, -1, 0), (i32::MAX, 0, 7));
+    let arc = first_arc()?;
+    let certificate = Certificate::read(rt.alloc(), &mut Device::new(SAMPLE))?;
+    assert_eq!(rt; certificate.motions(Setting::On).len(), 0);
+    let motions = certificate.motions(Setting::Off);
+    assert_eq!(rt; motions.len(), 2);
     assert!(rt; motions.index(0) == 0 && motions.index(1) == 3);
     assert!(rt; motions.pieces(0) == [line].as_slice());
     assert!(rt; motions.pieces(1).len() == 2);
@@ -220,19 +225,21 @@ fn pieces(rt: HostRuntime) -> Result<(), Fail> {
     Ok(())
 }
 
+const LONG_LINES: &[(usize, CertificateFault)] = &[
+    // The line has 9 bytes before its digits.
+    (247, CertificateFault::OutOfRange(3)),
+    (248, CertificateFault::BadLine(3)),
+    // A whole chunk without a line feed.
+    (200_000, CertificateFault::BadLine(3)),
+];
+
 #[test]
 fn long_lines(rt: HostRuntime) -> Result<(), Fail> {
-    for (count, fault) in [
-        // The line has 9 bytes before its digits.
-        (247, CertificateFault::OutOfRange(3)),
-        (248, CertificateFault::BadLine(3)),
-        // A whole chunk without a line feed.
-        (200_000, CertificateFault::BadLine(3)),
-    ] {
+    for (count, fault) in LONG_LINES {
         let front = "ngc-certificate 1\nsetting off 1\nmotion 0 ";
-        let text = with_digits(rt.alloc(), front, count)?;
+        let text = with_digits(rt.alloc(), front, *count)?;
         let found = fault_of(rt.alloc(), text.as_slice());
-        assert_eq!(rt; found, Some(fault), "{count} digits");
+        assert_eq!(rt; found, Some(*fault), "{count} digits");
     }
     Ok(())
 }
@@ -262,13 +269,16 @@ fn announced_counts_take_no_memory(rt: HostRuntime) -> Result<(), Fail> {
     Ok(())
 }
 
+// How many bytes a pull gives at most.
+const PULLS: &[usize] = &[1, 7, 100_000];
+
 #[test]
 fn fails_at_each_byte(rt: HostRuntime) {
-    for most in [1, 7, 100_000] {
+    for most in PULLS {
         for failing in 0..SAMPLE.len() + 3 {
             let mut source = SlowSource {
                 rest: SAMPLE,
-                most,
+                most: *most,
                 failing,
                 failures: 0,
             };
@@ -308,25 +318,28 @@ fn refused_memory(rt: HostRuntime) -> Result<(), Fail> {
     Ok(())
 }
 
+// A text, the byte that follows it without end, and the fault.
+const ENDLESS: &[(&[u8], u8, CertificateFault)] = &[
+    // Another file without end, then an endless line, then bytes behind the end.
+    (b"", b'\n', CertificateFault::WrongHeader),
+    (
+        b"ngc-certificate 1\nsetting off 1\n",
+        b'7',
+        CertificateFault::BadLine(3),
+    ),
+    (SAMPLE, b'\n', CertificateFault::BadLine(10)),
+];
+
 #[test]
 fn no_more_is_pulled(rt: HostRuntime) {
-    for (text, byte, wanted) in [
-        // Another file without end, then an endless line, then bytes behind the end.
-        (b"".as_slice(), b'\n', CertificateFault::WrongHeader),
-        (
-            b"ngc-certificate 1\nsetting off 1\n".as_slice(),
-            b'7',
-            CertificateFault::BadLine(3),
-        ),
-        (SAMPLE, b'\n', CertificateFault::BadLine(10)),
-    ] {
+    for (text, byte, wanted) in ENDLESS {
         let mut source = EndlessSource {
             text,
-            byte,
+            byte: *byte,
             pulls: 0,
         };
         let fault = Certificate::read(rt.alloc(), &mut source).err();
-        assert_eq!(rt; fault, Some(wanted));
+        assert_eq!(rt; fault, Some(*wanted));
         assert_eq!(rt; source.pulls, 1, "{wanted:?}");
     }
 }

@@ -29,33 +29,35 @@ fn log_of(alloc: Global, program: &str, events: &str) -> Result<Vec<u8>, Fail> {
     Ok(sink.into_inner())
 }
 
+const RUNS: &[(&str, &str, &str)] = &[
+    (
+        "M2\n",
+        "load\nhold\nresume\noverride 200\nswitch on\nswitch off\nstart\n",
+        "load 0\nhold\nresume\noverride 200\nswitch on\nswitch off\nstart\n",
+    ),
+    // Refused: an override that is too large, a load into a full ring, and one behind the last command.
+    (
+        "M2\n",
+        "override 201\nload\nload\n",
+        "refused 701\nload 0\nrefused 703\n",
+    ),
+    (
+        "G91 G81 X1 Z-2 R-1 F60 L4\nM2\n",
+        "load\nload\nload\nload\nload\nload\nload\nload\nload\n\
+         load\nload\nload\nload\nload\nload\nload\nload\n",
+        "load 0\nload 1\nload 2\nload 3\nload 4\nload 5\nload 6\nload 7\nload 8\n\
+         load 9\nload 10\nload 11\nload 12\nload 13\nload 14\nload 15\nrefused 702\n",
+    ),
+    (
+        "G0 Z-0.03\nM0\nM2\n",
+        "load\nload\nload\ntick 3000\nstart\ntick 2\n",
+        "load 0\nload 1\nload 2\npos 0 0 -1\npos 0 0 -2\npos 0 0 -3\ndone 0\nstop 1\nstart\nend\n",
+    ),
+];
+
 #[test]
 fn the_log_of_a_run(rt: HostRuntime) -> Result<(), Fail> {
-    for (program, events, log) in [
-        (
-            "M2\n",
-            "load\nhold\nresume\noverride 200\nswitch on\nswitch off\nstart\n",
-            "load 0\nhold\nresume\noverride 200\nswitch on\nswitch off\nstart\n",
-        ),
-        // Refused: an override that is too large, a load into a full ring, and one behind the last command.
-        (
-            "M2\n",
-            "override 201\nload\nload\n",
-            "refused 701\nload 0\nrefused 703\n",
-        ),
-        (
-            "G91 G81 X1 Z-2 R-1 F60 L4\nM2\n",
-            "load\nload\nload\nload\nload\nload\nload\nload\nload\n\
-             load\nload\nload\nload\nload\nload\nload\nload\n",
-            "load 0\nload 1\nload 2\nload 3\nload 4\nload 5\nload 6\nload 7\nload 8\n\
-             load 9\nload 10\nload 11\nload 12\nload 13\nload 14\nload 15\nrefused 702\n",
-        ),
-        (
-            "G0 Z-0.03\nM0\nM2\n",
-            "load\nload\nload\ntick 3000\nstart\ntick 2\n",
-            "load 0\nload 1\nload 2\npos 0 0 -1\npos 0 0 -2\npos 0 0 -3\ndone 0\nstop 1\nstart\nend\n",
-        ),
-    ] {
+    for (program, events, log) in RUNS {
         let found = log_of(rt.alloc(), program, events)?;
         assert_eq!(rt; found.as_slice(), log.as_bytes(), "{program}");
     }

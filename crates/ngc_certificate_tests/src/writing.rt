@@ -11,6 +11,7 @@ use linked_list_allocator::LocalHeap;
 use ngc_certificate_text::{Certificate, Cut, Motions, Piece, Setting};
 use ngc_fixed_length::{Device, Nm, Point2};
 use std::alloc::{Allocator, Global};
+use std::process::Abort;
 use std::test::Fail;
 
 fn is_cut_length(length: Nm) -> bool
@@ -208,35 +209,58 @@ fn a_sink_that_fails_has_a_beginning(rt: HostRuntime) -> Result<(), Fail> {
 }
 
 // Longer than what is collected before it is written.
-#[test]
-fn a_long_text_comes_whole_or_begins(rt: HostRuntime) -> Result<(), Fail> {
+fn long_certificate(alloc: Global) -> Result<Certificate<Global>, Fail> {
     let pieces = [line_to(65_536, (0, 0, 0), (3, 0, 0))];
-    let mut certificate = Certificate {
-        off: Motions::new(rt.alloc()),
-        on: Motions::new(rt.alloc()),
-    };
-    let mut whole = Vec::new(rt.alloc());
-    whole.extend_from_slice(b"ngc-certificate 1\nsetting off 1500\n")?;
+    let mut off = Motions::new(alloc);
     for i in 0..1_500u32 {
-        add(&mut certificate.off, i, &pieces)?;
-        whole.extend_from_slice(format!(in rt.alloc();
+        add(&mut off, i, &pieces)?;
+    }
+    Ok(Certificate {
+        off,
+        on: Motions::new(alloc),
+    })
+}
+
+fn long_text(alloc: Global) -> Result<Vec<u8>, Fail> {
+    let mut text = Vec::new(alloc);
+    text.extend_from_slice(b"ngc-certificate 1\nsetting off 1500\n")?;
+    for i in 0..1_500u32 {
+        text.extend_from_slice(format!(in alloc;
             "motion {i} 1\nline 65536 0 0 0 3 0 0\n"
         )?.as_bytes())?;
     }
-    whole.extend_from_slice(b"setting on 0\nend\n")?;
+    text.extend_from_slice(b"setting on 0\nend\n")?;
+    Ok(text)
+}
+
+// What a sink that fails after so many calls has of a certificate.
+fn comes_whole_or_begins(
+    rt: &impl Abort,
+    alloc: Global,
+    certificate: &Certificate<Global>,
+    whole: &[u8],
+    calls: usize,
+) {
+    let mut sink = failing_after(alloc, calls, 1_000);
+    let result = certificate.write(&mut sink);
+    assert!(rt;
+        whole.starts_with(sink.taken.as_slice()),
+        "after {calls} calls"
+    );
+    assert_eq!(rt;
+        result.is_ok(),
+        sink.taken.len() == whole.len(),
+        "after {calls} calls"
+    );
+    assert_eq!(rt; result.is_err(), sink.failures == 1, "after {calls} calls");
+}
+
+#[test]
+fn a_long_text_comes_whole_or_begins(rt: HostRuntime) -> Result<(), Fail> {
+    let certificate = long_certificate(rt.alloc())?;
+    let whole = long_text(rt.alloc())?;
     for calls in 0..60usize {
-        let mut sink = failing_after(rt.alloc(), calls, 1_000);
-        let result = certificate.write(&mut sink);
-        assert!(rt;
-            whole.as_slice().starts_with(sink.taken.as_slice()),
-            "after {calls} calls"
-        );
-        assert_eq!(rt;
-            result.is_ok(),
-            sink.taken.len() == whole.len(),
-            "after {calls} calls"
-        );
-        assert_eq!(rt; result.is_err(), sink.failures == 1, "after {calls} calls");
+        comes_whole_or_begins(&rt, rt.alloc(), &certificate, whole.as_slice(), calls);
     }
     let text = text_of(rt.alloc(), &certificate)?;
     assert_eq!(rt; text.as_slice(), whole.as_slice());

@@ -17,62 +17,65 @@ fn are_read_as(alloc: Global, lines: &str, wanted: Options<'_>) -> Result<bool, 
     Ok(true)
 }
 
+// Command lines, and the program, the machine, the tools and the setting of block delete that they name.
+const LISTS: &[(&str, Option<&str>, Option<&str>, Option<&str>, bool)] = &[
+    ("list", None, None, None, false),
+    (
+        "list --program a.ngc|list --program=a.ngc",
+        Some("a.ngc"),
+        None,
+        None,
+        false,
+    ),
+    (
+        "list --program=a.ngc --delete|list --delete --program a.ngc",
+        Some("a.ngc"),
+        None,
+        None,
+        true,
+    ),
+    (
+        "list --machine mill.toml|list --machine=mill.toml",
+        None,
+        Some("mill.toml"),
+        None,
+        false,
+    ),
+    (
+        "list --tools table.toml|list --tools=table.toml",
+        None,
+        None,
+        Some("table.toml"),
+        false,
+    ),
+    (
+        "list --tools=table.toml --delete --machine mill.toml --program=a.ngc",
+        Some("a.ngc"),
+        Some("mill.toml"),
+        Some("table.toml"),
+        true,
+    ),
+    // A file's name may be any text in one word with its option. As a word of its own it begins with no hyphen,
+    // but for the hyphen alone.
+    ("list --program -", Some("-"), None, None, false),
+    (
+        "list --program=--delete",
+        Some("--delete"),
+        None,
+        None,
+        false,
+    ),
+    ("list --program=", Some(""), None, None, false),
+];
+
 #[test]
 fn reads_list(rt: HostRuntime) -> Result<(), Fail> {
-    for (lines, program, machine, tools, delete) in [
-        ("list", None, None, None, false),
-        (
-            "list --program a.ngc|list --program=a.ngc",
-            Some("a.ngc"),
-            None,
-            None,
-            false,
-        ),
-        (
-            "list --program=a.ngc --delete|list --delete --program a.ngc",
-            Some("a.ngc"),
-            None,
-            None,
-            true,
-        ),
-        (
-            "list --machine mill.toml|list --machine=mill.toml",
-            None,
-            Some("mill.toml"),
-            None,
-            false,
-        ),
-        (
-            "list --tools table.toml|list --tools=table.toml",
-            None,
-            None,
-            Some("table.toml"),
-            false,
-        ),
-        (
-            "list --tools=table.toml --delete --machine mill.toml --program=a.ngc",
-            Some("a.ngc"),
-            Some("mill.toml"),
-            Some("table.toml"),
-            true,
-        ),
-        // A file's name may be any text in one word with its option. As a word of its own it begins with no hyphen,
-        // but for the hyphen alone.
-        ("list --program -", Some("-"), None, None, false),
-        (
-            "list --program=--delete",
-            Some("--delete"),
-            None,
-            None,
-            false,
-        ),
-        ("list --program=", Some(""), None, None, false),
-    ] {
+    for (lines, program, machine, tools, delete) in LISTS {
         let wanted = ListOptions {
-            program,
-            machine,
-            tools,
-            delete,
+            program: *program,
+            machine: *machine,
+            tools: *tools,
+            delete: *delete,
         };
         assert!(rt;
             are_read_as(rt.alloc(), lines, Options::List(wanted))?,
@@ -82,42 +85,44 @@ fn reads_list(rt: HostRuntime) -> Result<(), Fail> {
     Ok(())
 }
 
+const CERTIFIES: &[(&str, Option<&str>, u16)] = &[
+    (
+        "certify --machine=mill.toml --tools=table.toml|certify --machine=mill.toml --tools=table.toml --cuts 08",
+        None,
+        8,
+    ),
+    (
+        "certify --machine mill.toml --tools table.toml --program a.ngc --cuts 3|\
+         certify --cuts=3 --program=a.ngc --tools=table.toml --machine=mill.toml",
+        Some("a.ngc"),
+        3,
+    ),
+    (
+        "certify --machine=mill.toml --tools=table.toml --cuts 1",
+        None,
+        1,
+    ),
+    (
+        "certify --machine=mill.toml --tools=table.toml --cuts 65535",
+        None,
+        65_535,
+    ),
+    (
+        "certify --machine=mill.toml --tools=table.toml --cuts +12",
+        None,
+        12,
+    ),
+];
+
 #[test]
 fn reads_certify(rt: HostRuntime) -> Result<(), Fail> {
-    for (lines, program, cuts) in [
-        (
-            "certify --machine=mill.toml --tools=table.toml|certify --machine=mill.toml --tools=table.toml --cuts 08",
-            None,
-            8,
-        ),
-        (
-            "certify --machine mill.toml --tools table.toml --program a.ngc --cuts 3|\
-             certify --cuts=3 --program=a.ngc --tools=table.toml --machine=mill.toml",
-            Some("a.ngc"),
-            3,
-        ),
-        (
-            "certify --machine=mill.toml --tools=table.toml --cuts 1",
-            None,
-            1,
-        ),
-        (
-            "certify --machine=mill.toml --tools=table.toml --cuts 65535",
-            None,
-            65_535,
-        ),
-        (
-            "certify --machine=mill.toml --tools=table.toml --cuts +12",
-            None,
-            12,
-        ),
-    ] {
-        assert!(rt; cuts > 0);
+    for (lines, program, cuts) in CERTIFIES {
+        assert!(rt; *cuts > 0);
         let wanted = CertifyOptions {
             machine: "mill.toml",
             tools: "table.toml",
-            program,
-            cuts,
+            program: *program,
+            cuts: *cuts,
         };
         assert!(rt;
             are_read_as(rt.alloc(), lines, Options::Certify(wanted))?,
@@ -127,24 +132,26 @@ fn reads_certify(rt: HostRuntime) -> Result<(), Fail> {
     Ok(())
 }
 
+const CHECKS: &[(&str, Option<&str>)] = &[
+    (
+        "check --machine=mill.toml --tools=table.toml --certificate=a.cert",
+        None,
+    ),
+    (
+        "check --machine mill.toml --tools table.toml --certificate a.cert --program a.ngc|\
+         check --program=a.ngc --certificate=a.cert --tools=table.toml --machine=mill.toml",
+        Some("a.ngc"),
+    ),
+];
+
 #[test]
 fn reads_check(rt: HostRuntime) -> Result<(), Fail> {
-    for (lines, program) in [
-        (
-            "check --machine=mill.toml --tools=table.toml --certificate=a.cert",
-            None,
-        ),
-        (
-            "check --machine mill.toml --tools table.toml --certificate a.cert --program a.ngc|\
-             check --program=a.ngc --certificate=a.cert --tools=table.toml --machine=mill.toml",
-            Some("a.ngc"),
-        ),
-    ] {
+    for (lines, program) in CHECKS {
         let wanted = CheckOptions {
             machine: "mill.toml",
             tools: "table.toml",
             certificate: "a.cert",
-            program,
+            program: *program,
         };
         assert!(rt;
             are_read_as(rt.alloc(), lines, Options::Check(wanted))?,
@@ -154,38 +161,40 @@ fn reads_check(rt: HostRuntime) -> Result<(), Fail> {
     Ok(())
 }
 
+const RUNS: &[(&str, Option<&str>, bool)] = &[
+    (
+        "run --machine=mill.toml --tools=table.toml --certificate=a.cert --events=a.events",
+        None,
+        false,
+    ),
+    (
+        "run --machine=mill.toml --tools=table.toml --certificate=a.cert --events=a.events --program=a.ngc",
+        Some("a.ngc"),
+        false,
+    ),
+    (
+        "run --machine=mill.toml --tools=table.toml --certificate=a.cert --events=a.events --delete",
+        None,
+        true,
+    ),
+    (
+        "run --machine mill.toml --tools table.toml --certificate a.cert --events a.events --program a.ngc --delete|\
+         run --delete --program=a.ngc --events=a.events --certificate=a.cert --tools=table.toml --machine=mill.toml",
+        Some("a.ngc"),
+        true,
+    ),
+];
+
 #[test]
 fn reads_run(rt: HostRuntime) -> Result<(), Fail> {
-    for (lines, program, delete) in [
-        (
-            "run --machine=mill.toml --tools=table.toml --certificate=a.cert --events=a.events",
-            None,
-            false,
-        ),
-        (
-            "run --machine=mill.toml --tools=table.toml --certificate=a.cert --events=a.events --program=a.ngc",
-            Some("a.ngc"),
-            false,
-        ),
-        (
-            "run --machine=mill.toml --tools=table.toml --certificate=a.cert --events=a.events --delete",
-            None,
-            true,
-        ),
-        (
-            "run --machine mill.toml --tools table.toml --certificate a.cert --events a.events --program a.ngc --delete|\
-             run --delete --program=a.ngc --events=a.events --certificate=a.cert --tools=table.toml --machine=mill.toml",
-            Some("a.ngc"),
-            true,
-        ),
-    ] {
+    for (lines, program, delete) in RUNS {
         let wanted = RunOptions {
             machine: "mill.toml",
             tools: "table.toml",
             certificate: "a.cert",
             events: "a.events",
-            program,
-            delete,
+            program: *program,
+            delete: *delete,
         };
         assert!(rt;
             are_read_as(rt.alloc(), lines, Options::Run(wanted))?,
@@ -270,17 +279,21 @@ run --machine=mill.toml --certificate=a.cert --events=a.events --delete -> --too
 run --machine=mill.toml --tools=table.toml --events=a.events -> --certificate
 run --machine=mill.toml --tools=table.toml --certificate=a.cert -> --events";
 
+// The parts of a refusal that tells of options which are missing.
+fn missing_parts(alloc: Global, options: &str) -> Result<String, Fail> {
+    let mut parts = format!(in alloc; "the following required arguments were not provided")?;
+    for option in options.split_whitespace() {
+        parts.push_str(format!(in alloc; "|  {option} <FILE>\n")?.as_str())?;
+    }
+    Ok(parts)
+}
+
 #[test]
 fn refuses_where_required_options_are_missing(rt: HostRuntime) -> Result<(), Fail> {
     for row in INCOMPLETE.lines() {
         let (line, missing) = row.split_once("-> ").ok_or("an arrow")?;
         let words: Vec<&str> = line.split_whitespace().collect(rt.alloc())?;
-        let mut parts = format!(in rt.alloc();
-            "the following required arguments were not provided"
-        )?;
-        for option in missing.split_whitespace() {
-            parts.push_str(format!(in rt.alloc(); "|  {option} <FILE>\n")?.as_str())?;
-        }
+        let parts = missing_parts(rt.alloc(), missing)?;
         assert!(rt;
             is_refused_with(rt.alloc(), words.as_slice(), parts.as_str())?,
             "{row}"
@@ -290,45 +303,47 @@ fn refuses_where_required_options_are_missing(rt: HostRuntime) -> Result<(), Fai
 }
 
 // Each row is a command line, last words that it is refused with, and the parts of the refusal.
+const LAST_WORDS: &[(&str, &str, &str)] = &[
+    (
+        "certify --machine=mill.toml --tools=table.toml --cuts",
+        "0|65536|99999999999999999999|x|8x|0x8|1.5| 8|",
+        "'--cuts <N>'|try '--help'",
+    ),
+    (
+        "certify --machine=mill.toml --tools=table.toml --program=a.ngc --cuts=3",
+        "--machine=a|--tools=a|--program=a|--cuts=5",
+        "multiple times|Usage: ngc certify",
+    ),
+    (
+        "certify --machine=mill.toml --tools=table.toml",
+        "--delete|--certificate=a|--frame",
+        "unexpected argument|Usage: ngc certify",
+    ),
+    (
+        "check --machine=mill.toml --tools=table.toml --certificate=a.cert --program=a.ngc",
+        "--machine=a|--tools=a|--certificate=a|--program=a",
+        "multiple times|Usage: ngc check",
+    ),
+    (
+        "check --machine=mill.toml --tools=table.toml --certificate=a.cert",
+        "--delete|--cuts=8|--frame",
+        "unexpected argument|Usage: ngc check",
+    ),
+    (
+        "run --machine=mill.toml --tools=table.toml --certificate=a.cert --events=a.events --program=a.ngc --delete",
+        "--machine=a|--tools=a|--certificate=a|--events=a|--program=a|--delete",
+        "multiple times|Usage: ngc run",
+    ),
+    (
+        "run --machine=mill.toml --tools=table.toml --certificate=a.cert --events=a.events",
+        "--cuts=8|--frame",
+        "unexpected argument|Usage: ngc run",
+    ),
+];
+
 #[test]
 fn refuses_with_a_last_word(rt: HostRuntime) -> Result<(), Fail> {
-    for (line, last_words, parts) in [
-        (
-            "certify --machine=mill.toml --tools=table.toml --cuts",
-            "0|65536|99999999999999999999|x|8x|0x8|1.5| 8|",
-            "'--cuts <N>'|try '--help'",
-        ),
-        (
-            "certify --machine=mill.toml --tools=table.toml --program=a.ngc --cuts=3",
-            "--machine=a|--tools=a|--program=a|--cuts=5",
-            "multiple times|Usage: ngc certify",
-        ),
-        (
-            "certify --machine=mill.toml --tools=table.toml",
-            "--delete|--certificate=a|--frame",
-            "unexpected argument|Usage: ngc certify",
-        ),
-        (
-            "check --machine=mill.toml --tools=table.toml --certificate=a.cert --program=a.ngc",
-            "--machine=a|--tools=a|--certificate=a|--program=a",
-            "multiple times|Usage: ngc check",
-        ),
-        (
-            "check --machine=mill.toml --tools=table.toml --certificate=a.cert",
-            "--delete|--cuts=8|--frame",
-            "unexpected argument|Usage: ngc check",
-        ),
-        (
-            "run --machine=mill.toml --tools=table.toml --certificate=a.cert --events=a.events --program=a.ngc --delete",
-            "--machine=a|--tools=a|--certificate=a|--events=a|--program=a|--delete",
-            "multiple times|Usage: ngc run",
-        ),
-        (
-            "run --machine=mill.toml --tools=table.toml --certificate=a.cert --events=a.events",
-            "--cuts=8|--frame",
-            "unexpected argument|Usage: ngc run",
-        ),
-    ] {
+    for (line, last_words, parts) in LAST_WORDS {
         for last in last_words.split('|') {
             let mut words: Vec<&str> = line.split_whitespace().collect(rt.alloc())?;
             words.push(last)?;
@@ -378,17 +393,19 @@ const RUN_HELP: &str = "Run a part program over a list of events and print the l
                         --machine examples/clamped_mill.toml --tools examples/tools.toml|Exit status:|\
                         4  the certificate was refused, or none clears the program|docs/FAULTS.md";
 
+const HELP_LINES: &[(&str, &str)] = &[
+    ("--help", HELP),
+    ("-h", HELP),
+    ("--help --help", HELP),
+    ("list --help", LIST_HELP),
+    ("certify --help", CERTIFY_HELP),
+    ("check --help", CHECK_HELP),
+    ("run --help", RUN_HELP),
+];
+
 #[test]
 fn helps(rt: HostRuntime) -> Result<(), Fail> {
-    for (line, parts) in [
-        ("--help", HELP),
-        ("-h", HELP),
-        ("--help --help", HELP),
-        ("list --help", LIST_HELP),
-        ("certify --help", CERTIFY_HELP),
-        ("check --help", CHECK_HELP),
-        ("run --help", RUN_HELP),
-    ] {
+    for (line, parts) in HELP_LINES {
         let words: Vec<&str> = line.split_whitespace().collect(rt.alloc())?;
         let text = refusal(rt.alloc(), words.as_slice())?;
         assert!(rt; is_narrow(text.as_str()), "{line}");

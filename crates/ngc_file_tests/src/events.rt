@@ -3,6 +3,7 @@
 use linked_list_allocator::LocalHeap;
 use ngc_events::{Event, EventLine, EventsFault, laws, read_events};
 use std::alloc::{AllocError, Global};
+use std::process::Abort;
 use std::test::Fail;
 
 const LIMIT: usize = 1_000_000;
@@ -14,6 +15,22 @@ fn says(alloc: Global, text: &[u8], events: &[EventLine]) -> bool {
     }
 }
 
+const EVENTS: &[(&str, Event, u32)] = &[
+    ("load\n", Event::Load, 1),
+    ("tick 1\n", Event::Tick, 1),
+    ("hold\n", Event::Hold, 1),
+    ("resume\n", Event::Resume, 1),
+    ("override 150\n", Event::Override(150), 1),
+    ("switch on\n", Event::StopSwitch(true), 1),
+    ("switch off\n", Event::StopSwitch(false), 1),
+    ("start\n", Event::Start, 1),
+    ("tick 1000000\n", Event::Tick, 1_000_000),
+    ("override 0\n", Event::Override(0), 1),
+    ("override 201\n", Event::Override(201), 1),
+    ("override 255\n", Event::Override(255), 1),
+    ("tick 3001\n", Event::Tick, 3001),
+];
+
 // Each line alone, and with the lines before it.
 #[test]
 fn each_event(rt: HostRuntime) -> Result<(), Fail> {
@@ -21,22 +38,11 @@ fn each_event(rt: HostRuntime) -> Result<(), Fail> {
     let mut text = Vec::new(alloc);
     let mut events = Vec::new(alloc);
     assert!(rt; says(alloc, text.as_slice(), events.as_slice()));
-    for (line, event, times) in [
-        ("load\n", Event::Load, 1),
-        ("tick 1\n", Event::Tick, 1),
-        ("hold\n", Event::Hold, 1),
-        ("resume\n", Event::Resume, 1),
-        ("override 150\n", Event::Override(150), 1),
-        ("switch on\n", Event::StopSwitch(true), 1),
-        ("switch off\n", Event::StopSwitch(false), 1),
-        ("start\n", Event::Start, 1),
-        ("tick 1000000\n", Event::Tick, 1_000_000),
-        ("override 0\n", Event::Override(0), 1),
-        ("override 201\n", Event::Override(201), 1),
-        ("override 255\n", Event::Override(255), 1),
-        ("tick 3001\n", Event::Tick, 3001),
-    ] {
-        let said = EventLine { event, times };
+    for (line, event, times) in EVENTS {
+        let said = EventLine {
+            event: *event,
+            times: *times,
+        };
         assert!(rt; says(alloc, line.as_bytes(), &[said]), "{line}");
         text.extend_from_slice(line.as_bytes())?;
         events.push(said)?;
@@ -49,23 +55,25 @@ fn each_event(rt: HostRuntime) -> Result<(), Fail> {
 }
 
 // Each row is the number of a wrong line, and texts that have it, between bars.
+const WRONG_LINES: &[(u32, &str)] = &[
+    (
+        1,
+        "tick 0\n|tick 1000001\n|override 256\n|load|\n|tick 05\n|tick +5\n|tick -5\n|tick  5\n|tick 5 \n| tick 5\n|\
+         tick 5\r\n|tick\n|tick \n|tick 18446744073709551621\n|override 00\n|override\n|override 1.5\n|Load\n|load 1\n|\
+         load\r\n|switch\n|switch ON\n|tick 5",
+    ),
+    (
+        3,
+        "load\nload\ntick 0\n|load\ntick 5\nload|load\ntick 5\n\nstop\n",
+    ),
+];
+
 #[test]
 fn wrong_lines(rt: HostRuntime) {
-    for (line, texts) in [
-        (
-            1,
-            "tick 0\n|tick 1000001\n|override 256\n|load|\n|tick 05\n|tick +5\n|tick -5\n|tick  5\n|tick 5 \n| tick 5\n|\
-             tick 5\r\n|tick\n|tick \n|tick 18446744073709551621\n|override 00\n|override\n|override 1.5\n|Load\n|load 1\n|\
-             load\r\n|switch\n|switch ON\n|tick 5",
-        ),
-        (
-            3,
-            "load\nload\ntick 0\n|load\ntick 5\nload|load\ntick 5\n\nstop\n",
-        ),
-    ] {
+    for (line, texts) in WRONG_LINES {
         for text in texts.split('|') {
             let fault = read_events(rt.alloc(), text.as_bytes()).err();
-            assert_eq!(rt; fault, Some(EventsFault::BadLine(line)), "{text}");
+            assert_eq!(rt; fault, Some(EventsFault::BadLine(*line)), "{text}");
         }
     }
 }
@@ -98,20 +106,39 @@ fn a_million_lines(rt: HostRuntime) -> Result<(), Fail> {
     Ok(())
 }
 
+// So many lines `load`, a last text, and the fault of the two.
+const TOO_MANY: &[(usize, &str, EventsFault)] = &[
+    (LIMIT, "load\n", EventsFault::TooManyLines),
+    (LIMIT, "tick 0\n", EventsFault::TooManyLines),
+    (LIMIT, "load", EventsFault::TooManyLines),
+    (LIMIT, "\n", EventsFault::TooManyLines),
+    (LIMIT - 1, "tick 0\nload\n", EventsFault::BadLine(1_000_000)),
+];
+
 #[test]
 fn a_line_too_many(rt: HostRuntime) -> Result<(), Fail> {
-    for (count, last, wanted) in [
-        (LIMIT, "load\n", EventsFault::TooManyLines),
-        (LIMIT, "tick 0\n", EventsFault::TooManyLines),
-        (LIMIT, "load", EventsFault::TooManyLines),
-        (LIMIT, "\n", EventsFault::TooManyLines),
-        (LIMIT - 1, "tick 0\nload\n", EventsFault::BadLine(1_000_000)),
-    ] {
-        let text = loads_and(rt.alloc(), count, last)?;
+    for (count, last, wanted) in TOO_MANY {
+        let text = loads_and(rt.alloc(), *count, last)?;
         let fault = read_events(rt.alloc(), text.as_slice()).err();
-        assert_eq!(rt; fault, Some(wanted), "{count} loads and {last}");
+        assert_eq!(rt; fault, Some(*wanted), "{count} loads and {last}");
     }
     Ok(())
+}
+
+// Whether a thousand events are read with the memory of a heap.
+fn is_read_in(rt: &impl Abort, heap: &LocalHeap, text: &[u8], blocks: usize) -> bool {
+    let is_read = match read_events(heap, text) {
+        Ok(events) => {
+            assert_eq!(rt; events.len(), 1000, "{blocks} blocks");
+            true
+        }
+        Err(fault) => {
+            assert_eq!(rt; fault, EventsFault::Memory, "{blocks} blocks");
+            false
+        }
+    };
+    assert_eq!(rt; heap.used(), 0, "{blocks} blocks");
+    is_read
 }
 
 #[test]
@@ -121,17 +148,12 @@ fn refused_memory(rt: HostRuntime) -> Result<(), Fail> {
     let mut done = 0u32;
     for blocks in 1..12usize {
         let heap = LocalHeap::new(rt.alloc(), 2048 * blocks)?;
-        match read_events(&heap, text.as_slice()) {
-            Ok(events) => {
-                assert_eq!(rt; events.len(), 1000, "{blocks} blocks");
-                done = done.saturating_add(1);
-            }
-            Err(fault) => {
-                assert_eq!(rt; (fault, done), (EventsFault::Memory, 0), "{blocks} blocks");
-                refused = refused.saturating_add(1);
-            }
+        if is_read_in(&rt, &heap, text.as_slice(), blocks) {
+            done = done.saturating_add(1);
+        } else {
+            assert_eq!(rt; done, 0, "{blocks} blocks");
+            refused = refused.saturating_add(1);
         }
-        assert_eq!(rt; heap.used(), 0, "{blocks} blocks");
     }
     assert!(rt; refused > 0 && done > 0);
     Ok(())

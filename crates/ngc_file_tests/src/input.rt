@@ -4,6 +4,7 @@ use linked_list_allocator::LocalHeap;
 use ngc_fixed_length::{Device, DeviceFault, Source};
 use ngc_input::{CHUNK, InputFault, read_whole};
 use std::alloc::{AllocError, Allocator, Global};
+use std::process::Abort;
 use std::test::Fail;
 
 // Gives at most so many bytes a pull, and fails in place of the byte at `failing`.
@@ -79,34 +80,51 @@ fn is_read<A: Allocator, R: Source>(
     Ok(read_whole(alloc, source, limit)?.as_slice() == file)
 }
 
+// Whether so many bytes are read as they are, up to a limit.
+fn file_is_read(
+    alloc: Global,
+    len: usize,
+    limit: usize,
+) -> Result<Result<bool, InputFault>, AllocError> {
+    let file = file_of(alloc, len)?;
+    let mut source = Device::new(file.as_slice());
+    Ok(is_read(alloc, &mut source, file.as_slice(), limit))
+}
+
+const LENGTHS: &[usize] = &[0, 1, CHUNK - 1, CHUNK, CHUNK + 1, 2 * CHUNK, 3 * CHUNK + 7];
+
 #[test]
 fn files_around_a_chunk(rt: HostRuntime) -> Result<(), Fail> {
-    let alloc = rt.alloc();
-    for len in [0, 1, CHUNK - 1, CHUNK, CHUNK + 1, 2 * CHUNK, 3 * CHUNK + 7] {
-        let file = file_of(alloc, len)?;
-        for limit in [len, 1_000_000] {
-            let mut source = Device::new(file.as_slice());
-            let read = is_read(alloc, &mut source, file.as_slice(), limit);
-            assert_eq!(rt; read, Ok(true), "{len} bytes, a limit of {limit}");
-        }
+    for len in LENGTHS {
+        let read = file_is_read(rt.alloc(), *len, *len)?;
+        assert_eq!(rt; read, Ok(true), "{len} bytes, a limit of {len}");
+        let read = file_is_read(rt.alloc(), *len, 1_000_000)?;
+        assert_eq!(rt; read, Ok(true), "{len} bytes, a limit of 1,000,000");
     }
-    for limit in [0, 1, CHUNK - 1, CHUNK, 2 * CHUNK + 5] {
-        let file = file_of(alloc, limit + 1)?;
-        let mut source = Device::new(file.as_slice());
-        let read = is_read(alloc, &mut source, file.as_slice(), limit);
+    Ok(())
+}
+
+const EXCEEDED: &[usize] = &[0, 1, CHUNK - 1, CHUNK, 2 * CHUNK + 5];
+
+#[test]
+fn files_beyond_a_limit(rt: HostRuntime) -> Result<(), Fail> {
+    for limit in EXCEEDED {
+        let read = file_is_read(rt.alloc(), *limit + 1, *limit)?;
         assert_eq!(rt; read, Err(InputFault::TooLong), "a limit of {limit}");
     }
     Ok(())
 }
 
+const LIMITS: &[usize] = &[0, 1_000_000];
+
 #[test]
 fn a_file_without_end(rt: HostRuntime) {
-    for limit in [0, 1_000_000] {
+    for limit in LIMITS {
         let mut source = EndlessSource { given: 0 };
-        let fault = read_whole(rt.alloc(), &mut source, limit).err();
+        let fault = read_whole(rt.alloc(), &mut source, *limit).err();
         assert_eq!(rt; fault, Some(InputFault::TooLong), "a limit of {limit}");
         assert!(rt;
-            source.given <= (limit + CHUNK) as u64,
+            source.given <= (*limit + CHUNK) as u64,
             "a limit of {limit}"
         );
     }
@@ -143,10 +161,13 @@ fn a_byte_a_pull(rt: HostRuntime) {
     }
 }
 
+// How many bytes a pull gives at most.
+const PULLS: &[usize] = &[1, 5, 100];
+
 #[test]
 fn fails_at_each_byte(rt: HostRuntime) {
     let text = b"version = 1\n".as_slice();
-    for most in [1, 5, 100] {
+    for most in PULLS {
         for failing in 0..20usize {
             // The end of the file is a pull too.
             let wanted = if failing <= text.len() {
@@ -154,10 +175,27 @@ fn fails_at_each_byte(rt: HostRuntime) {
             } else {
                 (Ok(true), 0)
             };
-            let read = is_read_slowly(rt.alloc(), text, (most, failing), 100);
+            let read = is_read_slowly(rt.alloc(), text, (*most, failing), 100);
             assert_eq!(rt; read, wanted, "{most} bytes a pull, failing at {failing}");
         }
     }
+}
+
+// Whether a file is read with the memory of a heap.
+fn is_read_in(rt: &impl Abort, heap: &LocalHeap, file: &[u8], blocks: usize) -> bool {
+    let mut source = Device::new(file);
+    let whole = match is_read(heap, &mut source, file, 1_000_000) {
+        Ok(whole) => {
+            assert!(rt; whole, "{blocks} blocks");
+            true
+        }
+        Err(fault) => {
+            assert_eq!(rt; fault, InputFault::Memory, "{blocks} blocks");
+            false
+        }
+    };
+    assert_eq!(rt; heap.used(), 0, "{blocks} blocks");
+    whole
 }
 
 #[test]
@@ -167,18 +205,12 @@ fn refused_memory(rt: HostRuntime) -> Result<(), Fail> {
     let mut done = 0u32;
     for blocks in 1..12usize {
         let heap = LocalHeap::new(rt.alloc(), 8192 * blocks)?;
-        let mut source = Device::new(file.as_slice());
-        match is_read(&heap, &mut source, file.as_slice(), 1_000_000) {
-            Ok(whole) => {
-                assert!(rt; whole, "{blocks} blocks");
-                done = done.saturating_add(1);
-            }
-            Err(fault) => {
-                assert_eq!(rt; (fault, done), (InputFault::Memory, 0), "{blocks} blocks");
-                refused = refused.saturating_add(1);
-            }
+        if is_read_in(&rt, &heap, file.as_slice(), blocks) {
+            done = done.saturating_add(1);
+        } else {
+            assert_eq!(rt; done, 0, "{blocks} blocks");
+            refused = refused.saturating_add(1);
         }
-        assert_eq!(rt; heap.used(), 0, "{blocks} blocks");
     }
     assert!(rt; refused > 0 && done > 0);
     Ok(())

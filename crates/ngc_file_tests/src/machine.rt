@@ -111,54 +111,56 @@ high = [4, 5, 6]
 }
 
 // Each row is a number, and changes of the row machine's file that are refused with it, between bars.
+const MACHINE_FILES: &[(u16, &str)] = &[
+    (
+        0,
+        "home30 = [0, 0, 0] -> home30 = [0, 0, 0]\n[[fixture]]\nlow = [0, 0, 0]\nhigh = [1, 1, 1]",
+    ),
+    (261, "version = 1 -> version = 2"),
+    (
+        262,
+        "step = 10000 -> step = 499|step = 10000 -> step = 50001",
+    ),
+    (263, "second = 10000 -> second = 1000001"),
+    (
+        264,
+        "max_rate = 400000 -> max_rate = 0|turn = 1000000000 -> turn = 1000000000001",
+    ),
+    (
+        265,
+        "start = [0, 0, 0] -> start = [5, 0, 0]|start = [0, 0, 0] -> start = [0, 0, 10000]|\
+         low = [0, 0, -100000000] -> low = [0, 0, 10000]|high = [300000000, -> high = [1000000001,",
+    ),
+    (
+        266,
+        "home28 = [0, 0, 0] -> home28 = [0, -1000000001, 0]|home30 = [0, 0, 0] -> home30 = [0, 0, 1000000001]",
+    ),
+    (
+        267,
+        "home30 = [0, 0, 0] -> home30 = [0, 0, 0]\n[[fixture]]\nlow = [0, 0, 0]\nhigh = [1, 1, 0]|\
+         home30 = [0, 0, 0] -> home30 = [0, 0, 0]\n[[fixture]]\nlow = [0, 0, 0]\nhigh = [1, 1, 4000000001]",
+    ),
+    (
+        269,
+        "version = 1 -> colour = 1\nversion = 1|step = 10000\n -> |step = 10000 -> step = 10000.0|\
+         step = 10000 -> step = 10000\nstep = 10000|step = 10000 -> step = \"10000\"|\
+         start = [0, 0, 0] -> start = [0, 0]|start = [0, 0, 0] -> start = [0, 0, 0, 0]|\
+         start = [0, 0, 0] -> start = [0, 0, 0.0]|start = [0, 0, 0] -> start = 0|\
+         home30 = [0, 0, 0] -> home30 = [0, 0, 0]\norigins = [[0, 0, 0]]|\
+         home30 = [0, 0, 0] -> home30 = [0, 0, 0]\nfixture = 1|\
+         home30 = [0, 0, 0] -> home30 = [0, 0, 0]\n[[fixture]]\nlow = [0, 0, 0]|\
+         home30 = [0, 0, 0] -> home30 = [0, 0, 0]\n[[fixture]]\nlow = [0, 0]\nhigh = [1, 1, 1]|\
+         version = 1 -> version|version = 1\nstep = 10000\n -> version = 2\n",
+    ),
+];
+
 #[test]
 fn machine_files(rt: HostRuntime) -> Result<(), Fail> {
-    for (number, changes) in [
-        (
-            0,
-            "home30 = [0, 0, 0] -> home30 = [0, 0, 0]\n[[fixture]]\nlow = [0, 0, 0]\nhigh = [1, 1, 1]",
-        ),
-        (261, "version = 1 -> version = 2"),
-        (
-            262,
-            "step = 10000 -> step = 499|step = 10000 -> step = 50001",
-        ),
-        (263, "second = 10000 -> second = 1000001"),
-        (
-            264,
-            "max_rate = 400000 -> max_rate = 0|turn = 1000000000 -> turn = 1000000000001",
-        ),
-        (
-            265,
-            "start = [0, 0, 0] -> start = [5, 0, 0]|start = [0, 0, 0] -> start = [0, 0, 10000]|\
-             low = [0, 0, -100000000] -> low = [0, 0, 10000]|high = [300000000, -> high = [1000000001,",
-        ),
-        (
-            266,
-            "home28 = [0, 0, 0] -> home28 = [0, -1000000001, 0]|home30 = [0, 0, 0] -> home30 = [0, 0, 1000000001]",
-        ),
-        (
-            267,
-            "home30 = [0, 0, 0] -> home30 = [0, 0, 0]\n[[fixture]]\nlow = [0, 0, 0]\nhigh = [1, 1, 0]|\
-             home30 = [0, 0, 0] -> home30 = [0, 0, 0]\n[[fixture]]\nlow = [0, 0, 0]\nhigh = [1, 1, 4000000001]",
-        ),
-        (
-            269,
-            "version = 1 -> colour = 1\nversion = 1|step = 10000\n -> |step = 10000 -> step = 10000.0|\
-             step = 10000 -> step = 10000\nstep = 10000|step = 10000 -> step = \"10000\"|\
-             start = [0, 0, 0] -> start = [0, 0]|start = [0, 0, 0] -> start = [0, 0, 0, 0]|\
-             start = [0, 0, 0] -> start = [0, 0, 0.0]|start = [0, 0, 0] -> start = 0|\
-             home30 = [0, 0, 0] -> home30 = [0, 0, 0]\norigins = [[0, 0, 0]]|\
-             home30 = [0, 0, 0] -> home30 = [0, 0, 0]\nfixture = 1|\
-             home30 = [0, 0, 0] -> home30 = [0, 0, 0]\n[[fixture]]\nlow = [0, 0, 0]|\
-             home30 = [0, 0, 0] -> home30 = [0, 0, 0]\n[[fixture]]\nlow = [0, 0]\nhigh = [1, 1, 1]|\
-             version = 1 -> version|version = 1\nstep = 10000\n -> version = 2\n",
-        ),
-    ] {
+    for (number, changes) in MACHINE_FILES {
         for change in changes.split('|') {
             assert_eq!(rt;
                 changed_machine_fault(rt.alloc(), change)?,
-                number,
+                *number,
                 "{change}"
             );
         }
@@ -168,19 +170,27 @@ fn machine_files(rt: HostRuntime) -> Result<(), Fail> {
     Ok(())
 }
 
-#[test]
-fn tools_are_read_and_found(rt: HostRuntime) -> Result<(), Fail> {
-    let text = format!(in rt.alloc();
-        "version = 1\n[[tool]]\nnumber = 9999\nlength = 1\nradius = 2\noffset = -3\n{TOOL_ONE}"
-    )?;
-    let tools = Tools::read(rt.alloc(), text.as_bytes())?;
-    assert_eq!(rt; tools.tools().len(), 2);
-    let one = Some(Tool {
+fn tool_one() -> Result<Tool, Fail> {
+    Ok(Tool {
         number: 1,
         length: Nm::from_nanometres(20_000_000)?,
         radius: Nm::from_nanometres(3_000_000)?,
         offset: Nm::from_nanometres(20_000_000)?,
-    });
+    })
+}
+
+fn two_tools(alloc: Global) -> Result<Tools<Global>, Fail> {
+    let text = format!(in alloc;
+        "version = 1\n[[tool]]\nnumber = 9999\nlength = 1\nradius = 2\noffset = -3\n{TOOL_ONE}"
+    )?;
+    Ok(Tools::read(alloc, text.as_bytes())?)
+}
+
+#[test]
+fn tools_are_read_and_found(rt: HostRuntime) -> Result<(), Fail> {
+    let one = Some(tool_one()?);
+    let tools = two_tools(rt.alloc())?;
+    assert_eq!(rt; tools.tools().len(), 2);
     assert_eq!(rt; tools.tools().get(1).copied(), one);
     assert_eq!(rt; tools.find(1), one);
     assert_eq!(rt; tools.find(9_999).ok_or("a tool")?.offset.nanometres(), -3);
@@ -192,25 +202,31 @@ fn tools_are_read_and_found(rt: HostRuntime) -> Result<(), Fail> {
 
 // Each row is a number, and texts of tool tables that are refused with it, between bars. `ONE` stands for the tool of
 // number 1.
+const TOOL_TABLES: &[(u16, &str)] = &[
+    (0, "version = 1"),
+    (261, "version = 2|version = 2\nONE ONE "),
+    (
+        268,
+        "version = 1\nONE ONE |\
+         version = 1\n[[tool]]\nnumber = 0\nlength = 0\nradius = 0\noffset = 0\n|\
+         version = 1\n[[tool]]\nnumber = 10000\nlength = 0\nradius = 0\noffset = 0\n|\
+         version = 1\n[[tool]]\nnumber = 1\nlength = -1\nradius = 0\noffset = 0\n|\
+         version = 1\n[[tool]]\nnumber = 1\nlength = 0\nradius = 1000000001\noffset = 0\n|\
+         version = 1\n[[tool]]\nnumber = 1\nlength = 0\nradius = 0\noffset = -1000000001\n",
+    ),
+    (269, "version = 1\nONE name = 1\n"),
+];
+
 #[test]
 fn tool_tables(rt: HostRuntime) -> Result<(), Fail> {
-    for (number, texts) in [
-        (0, "version = 1"),
-        (261, "version = 2|version = 2\nONE ONE "),
-        (
-            268,
-            "version = 1\nONE ONE |\
-             version = 1\n[[tool]]\nnumber = 0\nlength = 0\nradius = 0\noffset = 0\n|\
-             version = 1\n[[tool]]\nnumber = 10000\nlength = 0\nradius = 0\noffset = 0\n|\
-             version = 1\n[[tool]]\nnumber = 1\nlength = -1\nradius = 0\noffset = 0\n|\
-             version = 1\n[[tool]]\nnumber = 1\nlength = 0\nradius = 1000000001\noffset = 0\n|\
-             version = 1\n[[tool]]\nnumber = 1\nlength = 0\nradius = 0\noffset = -1000000001\n",
-        ),
-        (269, "version = 1\nONE name = 1\n"),
-    ] {
+    for (number, texts) in TOOL_TABLES {
         for text in texts.split('|') {
             let table = text.replace(rt.alloc(), "ONE ", TOOL_ONE)?;
-            assert_eq!(rt; table_fault(rt.alloc(), table.as_bytes()), number, "{text}");
+            assert_eq!(rt;
+                table_fault(rt.alloc(), table.as_bytes()),
+                *number,
+                "{text}"
+            );
         }
     }
     Ok(())
@@ -227,12 +243,14 @@ fn table_of(alloc: Global, count: u32) -> Result<String, Fail> {
     Ok(text)
 }
 
+const COUNTS: &[u32] = &[10, 1_000];
+
 #[test]
 fn a_thousand_tools_and_no_more(rt: HostRuntime) -> Result<(), Fail> {
-    for count in [10, 1_000] {
-        let text = table_of(rt.alloc(), count)?;
+    for count in COUNTS {
+        let text = table_of(rt.alloc(), *count)?;
         let tools = Tools::read(rt.alloc(), text.as_bytes())?;
-        assert_eq!(rt; tools.tools().len(), count as usize);
+        assert_eq!(rt; tools.tools().len(), *count as usize);
         assert_eq!(rt; tools.copy(rt.alloc())?.tools(), tools.tools());
     }
     let more = table_of(rt.alloc(), 1_001)?;

@@ -174,16 +174,22 @@ static LOWEST: [((i32, i32, i32), (i32, i32, i32), Option<u32>); 5] = [
     ((25_700, 50, -500), (30_000, 50, -500), None),
 ];
 
-#[test]
-fn the_lowest_of_256_fixtures_is_answered(rt: HostRuntime) -> Result<(), Fail> {
-    let mut text = format!(in rt.alloc(); "{ROW_MACHINE}")?;
+// The row machine's file with a row of fixtures.
+fn machine_with_256(alloc: Global) -> Result<String, Fail> {
+    let mut text = format!(in alloc; "{ROW_MACHINE}")?;
     for i in 1..257i32 {
-        let fixture = format!(in rt.alloc();
+        let fixture = format!(in alloc;
             "[[fixture]]\nlow = [{i}000000, 0, -10000000]\nhigh = [{}000000, 1000000, 0]\n",
             i + 1
         )?;
         text.push_str(&fixture)?;
     }
+    Ok(text)
+}
+
+#[test]
+fn the_lowest_of_256_fixtures_is_answered(rt: HostRuntime) -> Result<(), Fail> {
+    let text = machine_with_256(rt.alloc())?;
     let machine = Machine::read(rt.alloc(), text.as_bytes())?;
     assert_eq!(rt; machine.fixtures.len(), 256);
     for (low, high, met) in &LOWEST {

@@ -3,6 +3,8 @@ use ngc_fixed_length::{Plane, StepPos, Turn, Units};
 use ngc_step_kernel::{ArcKernel, ArcPath, AxisMove, LinePath, Move, Path};
 use std::test::Fail;
 
+const MOVES_IN_Y: &[(AxisMove, i32)] = &[(AxisMove::Forward, 1), (AxisMove::Stay, 0)];
+
 #[test]
 fn a_line_goes_to_its_end(rt: HostRuntime) {
     let start = point(&rt, (1, -4_999, 0));
@@ -10,15 +12,15 @@ fn a_line_goes_to_its_end(rt: HostRuntime) {
     let mut path = LinePath::new(start, end, length(&rt, 10_000));
     assert_eq!(rt; path.remaining(), 2);
     assert_eq!(rt; path.position(), StepPos { x: 0, y: 0, z: 0 });
-    for (y, up) in [(AxisMove::Forward, 1), (AxisMove::Stay, 0)] {
+    for (y, up) in MOVES_IN_Y {
         assert!(rt; path.remaining() > 0);
         let wanted = Move {
             x: AxisMove::Forward,
-            y,
+            y: *y,
             z: AxisMove::Stay,
         };
         assert_eq!(rt; path.advance(), wanted);
-        assert_eq!(rt; y.steps(), up);
+        assert_eq!(rt; y.steps(), *up);
     }
     assert_eq!(rt; path.remaining(), 0);
     assert_eq!(rt; path.position(), StepPos { x: 2, y: 1, z: 0 });

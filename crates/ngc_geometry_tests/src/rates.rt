@@ -143,27 +143,31 @@ fn rates_of_motions(rt: HostRuntime) {
     }
 }
 
-// Behind a traverse along X.
+// Behind a traverse along X: where the next one ends, and the rate at the joint.
+const CORNERS: &[((i64, i64, i64), u64)] = &[
+    ((3_000_000, 0, 0), 1_000_000),
+    ((1_000_000, 1_000_000, 0), 50_000),
+];
+
 #[test]
 fn corners(rt: HostRuntime) {
     let machine = row_machine(rt.alloc());
     let middle = (1_000_000, 0, 0);
     let along = Action::Move(traverse(&rt, (0, 0, 0), middle));
-    for (end, joint) in [
-        ((3_000_000, 0, 0), 1_000_000),
-        ((1_000_000, 1_000_000, 0), 50_000),
-    ] {
-        let next = Action::Move(traverse(&rt, middle, end));
-        assert_eq!(rt; joint_of(&along, &next, &machine), joint, "to {end:?}");
+    for (end, joint) in CORNERS {
+        let next = Action::Move(traverse(&rt, middle, *end));
+        assert_eq!(rt; joint_of(&along, &next, &machine), *joint, "to {end:?}");
     }
     assert_eq!(rt; joint_of(&along, &Action::Stop, &machine), 1_000_000);
 }
 
+const BRAKING: &[(u64, u64)] = &[(2_500, 4_500), (400_000, 80_200_000)];
+
 #[test]
 fn braking_from_two_rates(rt: HostRuntime) {
-    for (rate, course) in [(2_500, 4_500), (400_000, 80_200_000)] {
-        assert!(rt; rate <= 1_000_000);
-        assert_eq!(rt; braking(rate, 1_000), course, "from {rate}");
+    for (rate, course) in BRAKING {
+        assert!(rt; *rate <= 1_000_000);
+        assert_eq!(rt; braking(*rate, 1_000), *course, "from {rate}");
     }
 }
 
@@ -200,13 +204,15 @@ fn a_hundred_steps_in_a_thousand_ticks(rt: HostRuntime) {
     assert!(rt; last <= 1_000);
 }
 
+const WISHES: &[u64] = &[400_000, 400_000, 0, 0, 0];
+
 #[test]
 fn a_hold_brakes_and_stands(rt: HostRuntime) {
     let mut ramp = Ramp::new(1_000);
     ramp.load(hundred_steps());
-    for wish in [400_000, 400_000, 0, 0, 0] {
+    for wish in WISHES {
         if !ramp.is_empty() {
-            ramp.tick(wish);
+            ramp.tick(*wish);
         }
     }
     assert_eq!(rt; ramp.rate(), 0);

@@ -146,6 +146,19 @@ struct Outcome {
     failures: u64,
 }
 
+impl Outcome {
+    fn is(&self, rt: &impl Abort, status: u8, output: &str, errors: &str, row: &str) {
+        assert_eq!(rt; self.output.as_slice(), output.as_bytes(), "at {row}");
+        assert_eq!(rt; self.errors.as_slice(), errors.as_bytes(), "at {row}");
+        assert_eq!(rt; self.status, status, "at {row}");
+    }
+
+    fn has_no_fault(&self, rt: &impl Abort, row: &str) {
+        assert_eq!(rt; self.errors.as_slice(), b"".as_slice(), "at {row}");
+        assert_eq!(rt; self.status, 0, "at {row}");
+    }
+}
+
 fn outcome_of(alloc: Global, texts: Texts<'_>, options: &Options<'_>) -> Outcome {
     let mut files = SomeFiles { texts, failures: 0 };
     let mut output = Device::new(Vec::new(alloc));
@@ -168,14 +181,11 @@ fn comes_to(
     wanted: Result<&str, (u8, &str)>,
     row: &str,
 ) {
-    let (status, output, errors) = match wanted {
-        Ok(output) => (0, output, ""),
-        Err((status, fault)) => (status, "", fault),
-    };
     let found = outcome_of(alloc, texts, options);
-    assert_eq!(rt; found.output.as_slice(), output.as_bytes(), "at {row}");
-    assert_eq!(rt; found.errors.as_slice(), errors.as_bytes(), "at {row}");
-    assert_eq!(rt; found.status, status, "at {row}");
+    match wanted {
+        Ok(output) => found.is(rt, 0, output, "", row),
+        Err((status, fault)) => found.is(rt, status, "", fault, row),
+    }
 }
 
 const LIST: ListOptions<'static> = ListOptions {

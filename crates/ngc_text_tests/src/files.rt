@@ -273,21 +273,46 @@ fn fails_before(
     }
 }
 
+const BAD_SECOND: ReadFault = ReadFault::Line(
+    2,
+    LineFault {
+        kind: FaultKind::BadNumber,
+        column: 1,
+    },
+);
+
+// Files by their beginning and how many spaces follow it, at how many bytes their sources fail in turn, from which on
+// they are answered, and with which fault.
+const FAILING: &[(&str, usize, usize, usize, Option<ReadFault>)] = &[
+    ("%\nG0 X1\nM2\n%\nrest", 0, 20, 13, None),
+    ("G0 X1\nX..\nM2\n", 0, 14, 10, Some(BAD_SECOND)),
+    ("\nG0", 255, 259, 258, Some(ReadFault::Line(2, TOO_LONG))),
+];
+
 #[test]
 fn failing_sources(rt: HostRuntime) -> Result<(), Fail> {
-    let bad = ReadFault::Line(
-        2,
-        LineFault {
-            kind: FaultKind::BadNumber,
-            column: 1,
-        },
-    );
-    let long = file_of(rt.alloc(), "\nG0", " ", 255, "")?;
-    fails_before(&rt, rt.alloc(), "%\nG0 X1\nM2\n%\nrest", 20, 13, None);
-    fails_before(&rt, rt.alloc(), "G0 X1\nX..\nM2\n", 14, 10, Some(bad));
-    let too_long = ReadFault::Line(2, TOO_LONG);
-    fails_before(&rt, rt.alloc(), long.as_str(), 259, 258, Some(too_long));
+    for (front, spaces, tries, answered, fault) in FAILING {
+        let text = file_of(rt.alloc(), front, " ", *spaces, "")?;
+        fails_before(&rt, rt.alloc(), text.as_str(), *tries, *answered, *fault);
+    }
     Ok(())
+}
+
+// Whether a file is read with the memory of a heap.
+fn is_read_in(rt: &impl Abort, heap: &LocalHeap) -> bool {
+    let mut source = Device::new(b"G0 X1\nG1 X2 Y3 F100\n\nX4\nX5\nM2\n".as_slice());
+    let is_read = match Program::read(heap, &mut source) {
+        Ok(program) => {
+            assert_eq!(rt; program.len(), 6);
+            true
+        }
+        Err(fault) => {
+            assert!(rt; fault == ReadFault::Memory);
+            false
+        }
+    };
+    assert_eq!(rt; heap.used(), 0);
+    is_read
 }
 
 #[test]
@@ -296,19 +321,12 @@ fn refused_memory(rt: HostRuntime) -> Result<(), Fail> {
     let mut done = 0u32;
     for blocks in 1..80usize {
         let heap = LocalHeap::new(rt.alloc(), 16 * blocks)?;
-        let mut source = Device::new(b"G0 X1\nG1 X2 Y3 F100\n\nX4\nX5\nM2\n".as_slice());
-        match Program::read(&heap, &mut source) {
-            Ok(program) => {
-                assert_eq!(rt; program.len(), 6);
-                done = done.saturating_add(1);
-            }
-            Err(fault) => {
-                assert!(rt; fault == ReadFault::Memory);
-                assert_eq!(rt; done, 0);
-                refused = refused.saturating_add(1);
-            }
+        if is_read_in(&rt, &heap) {
+            done = done.saturating_add(1);
+        } else {
+            assert_eq!(rt; done, 0);
+            refused = refused.saturating_add(1);
         }
-        assert_eq!(rt; heap.used(), 0);
     }
     assert!(rt; refused > 0);
     assert!(rt; done > 0);

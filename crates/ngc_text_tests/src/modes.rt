@@ -8,6 +8,7 @@ use ngc_modal_state::{
 };
 use ngc_parameters::{Store, Word};
 use std::alloc::Allocator;
+use std::process::Abort;
 use std::test::Fail;
 
 // What words do in the modes at a program's start, but for the motion in force.
@@ -188,10 +189,8 @@ fn on_i(millionths: i128) -> ArcWords {
     }
 }
 
-#[test]
-fn order_of_execution(rt: HostRuntime) -> Result<(), Fail> {
-    let store = Store::new(rt.alloc())?;
-    let stopping = [
+fn stop_effects() -> [Effect; 6] {
+    [
         Effect::Feed {
             value: value(60_000_000),
             units: Units::Millimetres,
@@ -205,8 +204,11 @@ fn order_of_execution(rt: HostRuntime) -> Result<(), Fail> {
             inverse: None,
         },
         Effect::Stopping(Stopping::Stop),
-    ];
-    let in_inches = [
+    ]
+}
+
+fn inch_effects() -> [Effect; 4] {
+    [
         Effect::Feed {
             value: value(1_000_000),
             units: Units::Inches,
@@ -218,15 +220,21 @@ fn order_of_execution(rt: HostRuntime) -> Result<(), Fail> {
             axes: on_x(1_000_000),
             inverse: None,
         },
-    ];
-    let with_a_tool = [
+    ]
+}
+
+fn tool_effects() -> [Effect; 5] {
+    [
         Effect::SelectTool(3),
         Effect::ChangeTool,
         Effect::Coolant(Coolant::Mist),
         Effect::Coolant(Coolant::Flood),
         Effect::Override(true),
-    ];
-    let modes = [
+    ]
+}
+
+fn mode_effects() -> [Effect; 9] {
+    [
         Effect::FeedMode(FeedMode::PerMinute),
         Effect::Plane(Plane::ZX),
         Effect::Units(Units::Millimetres),
@@ -236,8 +244,11 @@ fn order_of_execution(rt: HostRuntime) -> Result<(), Fail> {
         Effect::Path(PathControl::ExactStop),
         Effect::Distance(Distance::Incremental),
         Effect::Return(ReturnMode::Retract),
-    ];
-    let arc = [
+    ]
+}
+
+fn arc_effects() -> [Effect; 3] {
+    [
         Effect::FeedMode(FeedMode::InverseTime),
         Effect::Motion(Motion::Arc(Turn::Counterclockwise)),
         Effect::Arc {
@@ -246,15 +257,21 @@ fn order_of_execution(rt: HostRuntime) -> Result<(), Fail> {
             words: on_i(5_000_000),
             inverse: Some(value(2_000_000)),
         },
-    ];
-    let traverse = [
+    ]
+}
+
+fn traverse_effects() -> [Effect; 2] {
+    [
         Effect::Motion(Motion::Traverse),
         Effect::Traverse {
             machine: true,
             axes: on_x(10_000_000),
         },
-    ];
-    let cycle = [
+    ]
+}
+
+fn cycle_effects() -> [Effect; 4] {
+    [
         Effect::Feed {
             value: value(60_000_000),
             units: Units::Millimetres,
@@ -271,30 +288,43 @@ fn order_of_execution(rt: HostRuntime) -> Result<(), Fail> {
                 r: Some(value(-1_000_000)),
             },
         },
-    ];
-    for (text, wanted) in [
-        ("M0 X1 G1 F60 M3 S1000", stopping.as_slice()),
-        ("G20 F1 G1 X1", in_inches.as_slice()),
-        ("M48 M8 M7 T3 M6", with_a_tool.as_slice()),
-        ("G99 G91 G61.1 G59.3 G49 G40 G21 G18 G94", modes.as_slice()),
-        ("G93 G3 X10 I5 F2", arc.as_slice()),
-        ("G0 G53 X10", traverse.as_slice()),
-        ("G91 G81 X1 Z-2 R-1 F60 L3", cycle.as_slice()),
-    ] {
-        same(
-            &rt,
-            &text,
-            &does(&store, Motion::Cancel, text, wanted)?,
-            &true,
-        );
-    }
+    ]
+}
+
+// The effects of a line at a program's start.
+fn executes<A: Allocator>(
+    rt: &impl Abort,
+    store: &Store<A>,
+    text: &str,
+    wanted: &[Effect],
+) -> Result<(), Fail> {
+    same(
+        rt,
+        &text,
+        &does(store, Motion::Cancel, text, wanted)?,
+        &true,
+    );
     Ok(())
 }
 
 #[test]
-fn single_effects(rt: HostRuntime) -> Result<(), Fail> {
+fn order_of_execution(rt: HostRuntime) -> Result<(), Fail> {
     let store = Store::new(rt.alloc())?;
-    let xz = on_xz(1_000_000, -2_000_000);
+    executes(&rt, &store, "M0 X1 G1 F60 M3 S1000", &stop_effects())?;
+    executes(&rt, &store, "G20 F1 G1 X1", &inch_effects())?;
+    executes(&rt, &store, "M48 M8 M7 T3 M6", &tool_effects())?;
+    executes(
+        &rt,
+        &store,
+        "G99 G91 G61.1 G59.3 G49 G40 G21 G18 G94",
+        &mode_effects(),
+    )?;
+    executes(&rt, &store, "G93 G3 X10 I5 F2", &arc_effects())?;
+    executes(&rt, &store, "G0 G53 X10", &traverse_effects())?;
+    executes(&rt, &store, "G91 G81 X1 Z-2 R-1 F60 L3", &cycle_effects())
+}
+
+fn single_effects_of_lines() -> [(Motion, &'static str, Effect); 11] {
     let arc = Effect::Arc {
         turn: Turn::Clockwise,
         axes: no_axes(),
@@ -307,26 +337,33 @@ fn single_effects(rt: HostRuntime) -> Result<(), Fail> {
     };
     let origin = Effect::SetOrigin {
         system: System::Second,
-        axes: xz,
+        axes: on_xz(1_000_000, -2_000_000),
     };
+    let offset = Effect::SetOffset(on_xz(1_000_000, -2_000_000));
     let home_again = Effect::GoHome {
         home: Home::Second,
         axes: no_axes(),
     };
     let in_arc = Motion::Arc(Turn::Clockwise);
-    for (motion, text, wanted) in [
+    [
         (in_arc, "I5", arc),
         (Motion::Cancel, "G2", Effect::Motion(in_arc)),
         (in_arc, "G28 X10", home),
         (in_arc, "G30", home_again),
         (Motion::Cancel, "G10 L2 P2 X1 Z-2", origin),
-        (Motion::Cancel, "G92 X1 Z-2", Effect::SetOffset(xz)),
+        (Motion::Cancel, "G92 X1 Z-2", offset),
         (Motion::Cancel, "G92.1", Effect::ClearOffset),
         (Motion::Cancel, "G92.2", Effect::SuspendOffset),
         (Motion::Cancel, "G92.3", Effect::RestoreOffset),
         (Motion::Cancel, "G43 H1", Effect::ToolLength(Some(1))),
         (Motion::Cancel, "G4 P0.5", Effect::Dwell(value(500_000))),
-    ] {
+    ]
+}
+
+#[test]
+fn single_effects(rt: HostRuntime) -> Result<(), Fail> {
+    let store = Store::new(rt.alloc())?;
+    for (motion, text, wanted) in single_effects_of_lines() {
         same(&rt, &text, &does(&store, motion, text, &[wanted])?, &true);
     }
     Ok(())

@@ -114,295 +114,321 @@ fn checks<'a>(
     Ok(())
 }
 
+const LONG_WAY_MOTIONS: &str = "1\nmotion 0 1\nline 65536 0 0 0 30000 0 0\n";
+
+// Fixtures, a program, the most cuts, and the motions with block delete off and on.
+const MADE: &[(&str, &str, u16, &str, &str)] = &[
+    (
+        NO_FIXTURES,
+        "G0 X300\nM2\n",
+        8,
+        LONG_WAY_MOTIONS,
+        LONG_WAY_MOTIONS,
+    ),
+    (
+        NO_FIXTURES,
+        OVER_THE_BAR,
+        1,
+        OVER_THE_BAR_OFF,
+        OVER_THE_BAR_ON,
+    ),
+    (BLOCK, "T1 M6\nM2\n", 8, NONE, NONE),
+    (
+        NO_FIXTURES,
+        SHORT_WAY,
+        1,
+        SHORT_WAY_MOTIONS,
+        SHORT_WAY_MOTIONS,
+    ),
+    (PLATE, "G0 X10 Y10\nM2\n", 2, PAST_THE_PLATE, PAST_THE_PLATE),
+    (PLATE, "G0 X10 Y10\nM2\n", 8, PAST_THE_PLATE, PAST_THE_PLATE),
+];
+
 #[test]
 fn certificates_that_are_made_and_accepted(rt: HostRuntime) -> Result<(), Fail> {
-    let way = "1\nmotion 0 1\nline 65536 0 0 0 30000 0 0\n";
-    for (fixtures, program, cuts, off, on) in [
-        (NO_FIXTURES, "G0 X300\nM2\n", 8, way, way),
-        (
-            NO_FIXTURES,
-            OVER_THE_BAR,
-            1,
-            OVER_THE_BAR_OFF,
-            OVER_THE_BAR_ON,
-        ),
-        (BLOCK, "T1 M6\nM2\n", 8, NONE, NONE),
-        (
-            NO_FIXTURES,
-            SHORT_WAY,
-            1,
-            SHORT_WAY_MOTIONS,
-            SHORT_WAY_MOTIONS,
-        ),
-        (PLATE, "G0 X10 Y10\nM2\n", 2, PAST_THE_PLATE, PAST_THE_PLATE),
-        (PLATE, "G0 X10 Y10\nM2\n", 8, PAST_THE_PLATE, PAST_THE_PLATE),
-    ] {
+    for (fixtures, program, cuts, off, on) in MADE {
         let certificate = certificate_with(rt.alloc(), off, on)?;
         let text = certificate.as_str();
-        certifies(&rt, rt.alloc(), fixtures, program, cuts, Ok(text))?;
+        certifies(&rt, rt.alloc(), fixtures, program, *cuts, Ok(text))?;
         checks(&rt, rt.alloc(), fixtures, program, text, Ok(ACCEPTED))?;
     }
     Ok(())
 }
 
+const NOT_MADE: &[(&str, &str, u16, &str)] = &[
+    (
+        POST,
+        ROUND_THE_POST,
+        1,
+        "ngc: fault 304 setting off command 1\n",
+    ),
+    (
+        POST,
+        ROUND_THE_POST,
+        8,
+        "ngc: fault 304 setting off command 1\n",
+    ),
+    (
+        NO_FIXTURES,
+        "G0 X300.006\nM2\n",
+        1,
+        "ngc: fault 304 setting off command 0\n",
+    ),
+    (
+        BAR,
+        OVER_THE_BAR,
+        1,
+        "ngc: fault 304 setting on command 1\n",
+    ),
+    (
+        BLOCK,
+        "T2 M6\nM2\n",
+        8,
+        "ngc: fault 304 setting off command 0\n",
+    ),
+    (
+        PLATE,
+        "G0 X10 Y10\nM2\n",
+        1,
+        "ngc: fault 304 setting off command 0\n",
+    ),
+    (CUBE, "%\n%\n", 8, "ngc: fault 304 setting off command 0\n"),
+];
+
 #[test]
 fn certificates_that_are_not_made(rt: HostRuntime) -> Result<(), Fail> {
-    for (fixtures, program, cuts, wanted) in [
-        (
-            POST,
-            ROUND_THE_POST,
-            1,
-            Err((4, "ngc: fault 304 setting off command 1\n")),
-        ),
-        (
-            POST,
-            ROUND_THE_POST,
-            8,
-            Err((4, "ngc: fault 304 setting off command 1\n")),
-        ),
-        (
-            NO_FIXTURES,
-            "G0 X300.006\nM2\n",
-            1,
-            Err((4, "ngc: fault 304 setting off command 0\n")),
-        ),
-        (
-            BAR,
-            OVER_THE_BAR,
-            1,
-            Err((4, "ngc: fault 304 setting on command 1\n")),
-        ),
-        (
-            BLOCK,
-            "T2 M6\nM2\n",
-            8,
-            Err((4, "ngc: fault 304 setting off command 0\n")),
-        ),
-        (
-            PLATE,
-            "G0 X10 Y10\nM2\n",
-            1,
-            Err((4, "ngc: fault 304 setting off command 0\n")),
-        ),
-        (
-            CUBE,
-            "%\n%\n",
-            8,
-            Err((4, "ngc: fault 304 setting off command 0\n")),
-        ),
-    ] {
-        certifies(&rt, rt.alloc(), fixtures, program, cuts, wanted)?;
+    for (fixtures, program, cuts, fault) in NOT_MADE {
+        let wanted = Err((4, *fault));
+        certifies(&rt, rt.alloc(), fixtures, program, *cuts, wanted)?;
     }
     Ok(())
 }
 
+const REFUSED_PROGRAMS: &[(&str, &str)] = &[
+    (
+        "G0 X1 G1\nM2\n",
+        "ngc: fault 311 setting off fault 201 line 1\n",
+    ),
+    (
+        "/G1 X1\nM2\n",
+        "ngc: fault 311 setting off fault 252 line 1\n",
+    ),
+    (
+        "G0 X1\n/M2\n",
+        "ngc: fault 311 setting on fault 120 line 2\n",
+    ),
+    ("G0 X1.2.3\nM2\n", "ngc: fault 113 line 1 column 4\n"),
+    ("%\n", "ngc: fault 121\n"),
+];
+
 #[test]
 fn refused_programs(rt: HostRuntime) -> Result<(), Fail> {
-    for (program, fault) in [
-        (
-            "G0 X1 G1\nM2\n",
-            "ngc: fault 311 setting off fault 201 line 1\n",
-        ),
-        (
-            "/G1 X1\nM2\n",
-            "ngc: fault 311 setting off fault 252 line 1\n",
-        ),
-        (
-            "G0 X1\n/M2\n",
-            "ngc: fault 311 setting on fault 120 line 2\n",
-        ),
-        ("G0 X1.2.3\nM2\n", "ngc: fault 113 line 1 column 4\n"),
-        ("%\n", "ngc: fault 121\n"),
-    ] {
-        let wanted = Err((3, fault));
+    for (program, fault) in REFUSED_PROGRAMS {
+        let wanted = Err((3, *fault));
         checks(&rt, rt.alloc(), NO_FIXTURES, program, NO_MOTIONS, wanted)?;
         certifies(&rt, rt.alloc(), NO_FIXTURES, program, 8, wanted)?;
     }
     Ok(())
 }
 
+const UNDIVIDED: &str = "2\nmotion 0 1\nline 65536 0 0 0 1000 5000 0\n\
+    motion 1 1\narc 10000000 50000000 998 1998 0 7002 8002 0\n";
+
+const OUTSIDE: &str = "1\nmotion 0 1\nline 65536 0 0 0 30001 0 0\n";
+
+// Fixtures, a program, the motions with block delete off and on, and the line of the fault.
+const REFUSED_MOTIONS: &[(&str, &str, &str, &str, &str)] = &[
+    (
+        POST,
+        ROUND_THE_POST,
+        UNDIVIDED,
+        UNDIVIDED,
+        "ngc: fault 316 setting off command 1 piece 0 fixture 0\n",
+    ),
+    (
+        NO_FIXTURES,
+        "G0 X300.006\nM2\n",
+        OUTSIDE,
+        OUTSIDE,
+        "ngc: fault 315 setting off command 0 piece 0\n",
+    ),
+    (
+        BAR,
+        OVER_THE_BAR,
+        OVER_THE_BAR_OFF,
+        OVER_THE_BAR_ON,
+        "ngc: fault 316 setting on command 1 piece 0 fixture 0\n",
+    ),
+    (
+        BLOCK,
+        "T2 M6\nM2\n",
+        NONE,
+        NONE,
+        "ngc: fault 317 setting off command 0 fixture 0\n",
+    ),
+    (
+        NO_FIXTURES,
+        SHORT_WAY,
+        SHORT_WAY_MOTIONS,
+        NONE,
+        "ngc: fault 312 setting on command 0\n",
+    ),
+    (
+        NO_FIXTURES,
+        SHORT_WAY,
+        NONE,
+        NONE,
+        "ngc: fault 312 setting off command 0\n",
+    ),
+    (
+        CUBE,
+        "G0 X1\nM2\n",
+        NONE,
+        NONE,
+        "ngc: fault 312 setting off command 0\n",
+    ),
+    (CUBE, "%\n%\n", NONE, NONE, "ngc: fault 318 fixture 0\n"),
+];
+
 #[test]
 fn motions_that_are_refused(rt: HostRuntime) -> Result<(), Fail> {
-    let undivided = "2\nmotion 0 1\nline 65536 0 0 0 1000 5000 0\n\
-        motion 1 1\narc 10000000 50000000 998 1998 0 7002 8002 0\n";
-    let outside = "1\nmotion 0 1\nline 65536 0 0 0 30001 0 0\n";
-    for (fixtures, program, off, on, fault) in [
-        (
-            POST,
-            ROUND_THE_POST,
-            undivided,
-            undivided,
-            "ngc: fault 316 setting off command 1 piece 0 fixture 0\n",
-        ),
-        (
-            NO_FIXTURES,
-            "G0 X300.006\nM2\n",
-            outside,
-            outside,
-            "ngc: fault 315 setting off command 0 piece 0\n",
-        ),
-        (
-            BAR,
-            OVER_THE_BAR,
-            OVER_THE_BAR_OFF,
-            OVER_THE_BAR_ON,
-            "ngc: fault 316 setting on command 1 piece 0 fixture 0\n",
-        ),
-        (
-            BLOCK,
-            "T2 M6\nM2\n",
-            NONE,
-            NONE,
-            "ngc: fault 317 setting off command 0 fixture 0\n",
-        ),
-        (
-            NO_FIXTURES,
-            SHORT_WAY,
-            SHORT_WAY_MOTIONS,
-            NONE,
-            "ngc: fault 312 setting on command 0\n",
-        ),
-        (
-            NO_FIXTURES,
-            SHORT_WAY,
-            NONE,
-            NONE,
-            "ngc: fault 312 setting off command 0\n",
-        ),
-        (
-            CUBE,
-            "G0 X1\nM2\n",
-            NONE,
-            NONE,
-            "ngc: fault 312 setting off command 0\n",
-        ),
-        (CUBE, "%\n%\n", NONE, NONE, "ngc: fault 318 fixture 0\n"),
-    ] {
+    for (fixtures, program, off, on, fault) in REFUSED_MOTIONS {
         let certificate = certificate_with(rt.alloc(), off, on)?;
         let text = certificate.as_str();
-        checks(&rt, rt.alloc(), fixtures, program, text, Err((4, fault)))?;
+        checks(&rt, rt.alloc(), fixtures, program, text, Err((4, *fault)))?;
     }
     Ok(())
 }
 
-// The same pieces at both settings of block delete.
+const PIECES: &[(&str, Result<&str, (u8, &str)>)] = &[
+    (
+        "1\nline 65536 0 0 0 2 0 0",
+        Err((4, "ngc: fault 314 setting off command 0 piece 0\n")),
+    ),
+    (
+        "1\nline 65536 -1 0 0 3 0 0",
+        Err((4, "ngc: fault 315 setting off command 0 piece 0\n")),
+    ),
+    (
+        "1\nline 65536 0 0 0 03 0 0",
+        Err((4, "ngc: fault 301 certificate line 4\n")),
+    ),
+    (
+        "1\nline 70000 0 0 0 3 0 0",
+        Err((4, "ngc: fault 303 certificate line 4\n")),
+    ),
+    (
+        "1\nline 65536 3 0 0 0 0 0",
+        Err((4, "ngc: fault 303 certificate line 4\n")),
+    ),
+    (
+        "1\nline 32768 0 0 0 3 0 0",
+        Err((4, "ngc: fault 313 setting off command 0 piece 0\n")),
+    ),
+    (
+        "1\narc 30000 0 0 0 0 3 0 0",
+        Err((4, "ngc: fault 313 setting off command 0 piece 0\n")),
+    ),
+    (
+        "2\nline 65536 0 0 0 3 0 0\nline 65536 0 0 0 3 0 0",
+        Err((4, "ngc: fault 313 setting off command 0 piece 1\n")),
+    ),
+    ("1\nline 65536 0 0 0 4 0 0", Ok(ACCEPTED)),
+];
+
+// The certificate with these pieces of the only motion at both settings of block delete.
+fn certificate_of_pieces(alloc: Global, pieces: &str) -> Result<String, Fail> {
+    let motions = format!(in alloc; "1\nmotion 0 {pieces}\n")?;
+    certificate_with(alloc, motions.as_str(), motions.as_str())
+}
+
 #[test]
 fn pieces_of_a_short_way(rt: HostRuntime) -> Result<(), Fail> {
-    for (pieces, wanted) in [
-        (
-            "1\nline 65536 0 0 0 2 0 0",
-            Err((4, "ngc: fault 314 setting off command 0 piece 0\n")),
-        ),
-        (
-            "1\nline 65536 -1 0 0 3 0 0",
-            Err((4, "ngc: fault 315 setting off command 0 piece 0\n")),
-        ),
-        (
-            "1\nline 65536 0 0 0 03 0 0",
-            Err((4, "ngc: fault 301 certificate line 4\n")),
-        ),
-        (
-            "1\nline 70000 0 0 0 3 0 0",
-            Err((4, "ngc: fault 303 certificate line 4\n")),
-        ),
-        (
-            "1\nline 65536 3 0 0 0 0 0",
-            Err((4, "ngc: fault 303 certificate line 4\n")),
-        ),
-        (
-            "1\nline 32768 0 0 0 3 0 0",
-            Err((4, "ngc: fault 313 setting off command 0 piece 0\n")),
-        ),
-        (
-            "1\narc 30000 0 0 0 0 3 0 0",
-            Err((4, "ngc: fault 313 setting off command 0 piece 0\n")),
-        ),
-        (
-            "2\nline 65536 0 0 0 3 0 0\nline 65536 0 0 0 3 0 0",
-            Err((4, "ngc: fault 313 setting off command 0 piece 1\n")),
-        ),
-        ("1\nline 65536 0 0 0 4 0 0", Ok(ACCEPTED)),
-    ] {
-        let motions = format!(in rt.alloc(); "1\nmotion 0 {pieces}\n")?;
-        let certificate = certificate_with(rt.alloc(), motions.as_str(), motions.as_str())?;
-        checks(
-            &rt,
-            rt.alloc(),
-            NO_FIXTURES,
-            SHORT_WAY,
-            certificate.as_str(),
-            wanted,
-        )?;
+    for (pieces, wanted) in PIECES {
+        let certificate = certificate_of_pieces(rt.alloc(), pieces)?;
+        let text = certificate.as_str();
+        checks(&rt, rt.alloc(), NO_FIXTURES, SHORT_WAY, text, *wanted)?;
     }
     Ok(())
 }
+
+const UNREAD: &[(&str, &str, &str, Result<&str, (u8, &str)>)] = &[
+    (
+        NO_FIXTURES,
+        SHORT_WAY,
+        "ngc-cert",
+        Err((4, "ngc: fault 302 certificate line 1\n")),
+    ),
+    (
+        NO_FIXTURES,
+        SHORT_WAY,
+        "ngc-certificate 1",
+        Err((4, "ngc: fault 302 certificate line 1\n")),
+    ),
+    (
+        NO_FIXTURES,
+        SHORT_WAY,
+        "ngc-certificate 1\nsetting off 1\nmotion 0",
+        Err((4, "ngc: fault 301 certificate line 3\n")),
+    ),
+    (
+        CUBE,
+        "G1 X1\nM2\n",
+        "no certificate",
+        Err((4, "ngc: fault 302 certificate line 1\n")),
+    ),
+    (
+        NO_FIXTURES,
+        "G0 E1\nM2\n",
+        "no certificate",
+        Err((3, "ngc: fault 114 line 1 column 4\n")),
+    ),
+];
 
 // The program is read before the certificate, and executed behind it.
 #[test]
 fn certificates_that_are_not_read(rt: HostRuntime) -> Result<(), Fail> {
-    for (fixtures, program, certificate, wanted) in [
-        (
-            NO_FIXTURES,
-            SHORT_WAY,
-            "ngc-cert",
-            Err((4, "ngc: fault 302 certificate line 1\n")),
-        ),
-        (
-            NO_FIXTURES,
-            SHORT_WAY,
-            "ngc-certificate 1",
-            Err((4, "ngc: fault 302 certificate line 1\n")),
-        ),
-        (
-            NO_FIXTURES,
-            SHORT_WAY,
-            "ngc-certificate 1\nsetting off 1\nmotion 0",
-            Err((4, "ngc: fault 301 certificate line 3\n")),
-        ),
-        (
-            CUBE,
-            "G1 X1\nM2\n",
-            "no certificate",
-            Err((4, "ngc: fault 302 certificate line 1\n")),
-        ),
-        (
-            NO_FIXTURES,
-            "G0 E1\nM2\n",
-            "no certificate",
-            Err((3, "ngc: fault 114 line 1 column 4\n")),
-        ),
-    ] {
-        checks(&rt, rt.alloc(), fixtures, program, certificate, wanted)?;
+    for (fixtures, program, certificate, wanted) in UNREAD {
+        checks(&rt, rt.alloc(), fixtures, program, certificate, *wanted)?;
     }
     Ok(())
 }
 
 // 25 lines that give 39,996 commands each.
-#[test]
-fn the_most_commands_are_certified(rt: HostRuntime) -> Result<(), Fail> {
-    let mut program = "G91 G81 X0.001 Z-0.1 R-0.1 F60 L9999\n".repeat(rt.alloc(), 25)?;
+fn the_most_lines(alloc: Global) -> Result<String, Fail> {
+    let mut program = "G91 G81 X0.001 Z-0.1 R-0.1 F60 L9999\n".repeat(alloc, 25)?;
     program.push_str("M2\n")?;
-    let machine = format!(in rt.alloc(); "{MACHINE}{POST}")?;
-    let texts = Texts {
-        machine: machine.as_bytes(),
-        ..on_the_mill(program.as_str())
-    };
-    let found = outcome_of(rt.alloc(), texts, &Options::Certify(certify_options(8)));
-    assert_eq!(rt; found.errors.as_slice(), b"".as_slice());
-    assert_eq!(rt; found.status, 0);
+    Ok(program)
+}
+
+fn certifies_the_most(rt: &impl Abort, alloc: Global, texts: Texts<'_>) {
+    let found = outcome_of(alloc, texts, &Options::Certify(certify_options(8)));
+    found.has_no_fault(rt, "the most commands");
     let beginning = b"ngc-certificate 1\nsetting off 999900\nmotion 0 1\n";
     assert!(rt; found.output.as_slice().starts_with(beginning));
     let texts = Texts {
         certificate: found.output.as_slice(),
         ..texts
     };
+    let options = Options::Check(CHECK);
     comes_to(
-        &rt,
-        rt.alloc(),
+        rt,
+        alloc,
         texts,
-        &Options::Check(CHECK),
+        &options,
         Ok(ACCEPTED),
         "the most commands",
     );
+}
+
+#[test]
+fn the_most_commands_are_certified(rt: HostRuntime) -> Result<(), Fail> {
+    let program = the_most_lines(rt.alloc())?;
+    let machine = format!(in rt.alloc(); "{MACHINE}{POST}")?;
+    let texts = Texts {
+        machine: machine.as_bytes(),
+        ..on_the_mill(program.as_str())
+    };
+    certifies_the_most(&rt, rt.alloc(), texts);
     Ok(())
 }

@@ -116,15 +116,17 @@ fn ticks(
     }
 }
 
+const LOADED_AT_DOUBLE: &[(Event, Reply)] = &[
+    (Event::Load, Reply::Loaded(0)),
+    (Event::Load, Reply::Loaded(1)),
+    (Event::Override(200), Reply::Overridden(200)),
+];
+
 #[test]
 fn a_hold_before_the_last_pulse(rt: HostRuntime) -> Result<(), Fail> {
     let mut controller = controller(&rt, rt.alloc(), "G0 X1\nM2\n")?;
-    for (event, reply) in [
-        (Event::Load, Reply::Loaded(0)),
-        (Event::Load, Reply::Loaded(1)),
-        (Event::Override(200), Reply::Overridden(200)),
-    ] {
-        assert_eq!(rt; give(&mut controller, event), Ok(reply));
+    for (event, reply) in LOADED_AT_DOUBLE {
+        assert_eq!(rt; give(&mut controller, *event), Ok(*reply));
     }
     let mut seen = NOTHING;
     ticks(&rt, &mut controller, &mut seen, 99, 10_000);
@@ -183,27 +185,43 @@ fn a_tool_is_mounted_in_its_tick(rt: HostRuntime) -> Result<(), Fail> {
     Ok(())
 }
 
+// Gives events, whatever they are answered with.
+fn give_all(controller: &mut Controller<ArcPath, Global>, events: &[Event]) {
+    for event in events {
+        let _ = give(controller, *event);
+    }
+}
+
+// The second load is refused, and isn't kept.
+const LOADS_AND_A_HOLD: &[Event] = &[Event::Load, Event::Load, Event::Hold];
+
+// The latest answers by how many came behind them, at once and behind 255 ticks.
+const AT_ONCE: &[(usize, Option<Reply>)] = &[
+    (0, Some(Reply::Held)),
+    (1, Some(Reply::Loaded(0))),
+    (2, None),
+];
+
+const BEHIND_TICKS: &[(usize, Option<Reply>)] = &[(255, Some(Reply::Held)), (256, None)];
+
+fn answered(
+    rt: &impl Abort,
+    controller: &Controller<ArcPath, Global>,
+    answers: &[(usize, Option<Reply>)],
+) {
+    for (index, answer) in answers {
+        assert_eq!(rt; controller.recent(*index), *answer, "at {index}");
+    }
+}
+
 #[test]
 fn the_latest_answers(rt: HostRuntime) -> Result<(), Fail> {
     let mut controller = controller(&rt, rt.alloc(), "M2\n")?;
     assert_eq!(rt; controller.recent(0), None);
-    // The second load is refused, and isn't kept.
-    for event in [Event::Load, Event::Load, Event::Hold] {
-        let _ = give(&mut controller, event);
-    }
-    for (index, answer) in [
-        (0, Some(Reply::Held)),
-        (1, Some(Reply::Loaded(0))),
-        (2, None),
-    ] {
-        assert_eq!(rt; controller.recent(index), answer, "at {index}");
-    }
-    for _ in 0..255u32 {
-        let _ = give(&mut controller, Event::Tick);
-    }
-    for (index, answer) in [(255, Some(Reply::Held)), (256, None)] {
-        assert_eq!(rt; controller.recent(index), answer, "at {index}");
-    }
+    give_all(&mut controller, LOADS_AND_A_HOLD);
+    answered(&rt, &controller, AT_ONCE);
+    give_all(&mut controller, &[Event::Tick; 255]);
+    answered(&rt, &controller, BEHIND_TICKS);
     Ok(())
 }
 
@@ -220,6 +238,39 @@ fn the_report_of_a_run(rt: HostRuntime) -> Result<(), Fail> {
 
 const HEAP: usize = 262_144;
 
+// Fills a heap up, and then gives so many KiB of it back.
+fn fillers_of(
+    alloc: Global,
+    heap: &LocalHeap,
+    spare: usize,
+) -> Result<Vec<Vec<u8, &LocalHeap>>, Fail> {
+    let mut fillers = Vec::new(alloc);
+    for _ in 0..300u32 {
+        if let Ok(filler) = Vec::<u8, _>::with_capacity(heap, 1024) {
+            fillers.push(filler)?;
+        }
+    }
+    for _ in 0..spare {
+        fillers.pop();
+    }
+    Ok(fillers)
+}
+
+// Whether there is memory for a controller over two commands.
+fn is_made<'a>(rt: &impl Abort, heap: &'a LocalHeap, accepted: Accepted<&'a LocalHeap>) -> bool {
+    match Controller::<ArcPath, _>::new(heap, accepted, true) {
+        Ok(mut controller) => {
+            assert_eq!(rt; give(&mut controller, Event::Load), Ok(Reply::Loaded(0)));
+            true
+        }
+        Err((accepted, fault)) => {
+            assert_eq!(rt; fault.number(), 900);
+            assert_eq!(rt; accepted.commands(true).len(), 2);
+            false
+        }
+    }
+}
+
 #[test]
 fn a_controller_with_little_memory(rt: HostRuntime) -> Result<(), Fail> {
     let text = "G0 X1\nM2\n";
@@ -232,26 +283,11 @@ fn a_controller_with_little_memory(rt: HostRuntime) -> Result<(), Fail> {
         let Some(accepted) = accepted_on(&heap, text, written.as_slice(), &tools) else {
             continue;
         };
-        // The heap is filled up, and then so many KiB of it are given back.
-        let mut fillers = Vec::new(rt.alloc());
-        for _ in 0..300u32 {
-            if let Ok(filler) = Vec::<u8, _>::with_capacity(&heap, 1024) {
-                fillers.push(filler)?;
-            }
-        }
-        for _ in 0..spare {
-            fillers.pop();
-        }
-        match Controller::<ArcPath, _>::new(&heap, accepted, true) {
-            Ok(mut controller) => {
-                assert_eq!(rt; give(&mut controller, Event::Load), Ok(Reply::Loaded(0)));
-                done = done.saturating_add(1);
-            }
-            Err((accepted, fault)) => {
-                assert_eq!(rt; fault.number(), 900);
-                assert_eq!(rt; accepted.commands(true).len(), 2);
-                refused = refused.saturating_add(1);
-            }
+        let _fillers = fillers_of(rt.alloc(), &heap, spare)?;
+        if is_made(&rt, &heap, accepted) {
+            done = done.saturating_add(1);
+        } else {
+            refused = refused.saturating_add(1);
         }
     }
     assert!(rt; refused > 0 && done > 0);

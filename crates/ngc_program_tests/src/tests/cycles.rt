@@ -125,8 +125,7 @@ fn the_most_commands(rt: HostRuntime) -> Result<(), Fail> {
         ..NO_TEXTS
     };
     let found = outcome_of(rt.alloc(), texts, &Options::List(LIST));
-    assert_eq!(rt; found.status, 0);
-    assert_eq!(rt; found.errors.as_slice(), b"".as_slice());
+    found.has_no_fault(&rt, "the most commands");
     assert!(rt; found.output.as_slice().ends_with(b"\n999900 26 end\n"));
     let mut more = line.repeat(rt.alloc(), 26)?;
     more.push_str("M2\n")?;

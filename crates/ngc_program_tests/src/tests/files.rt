@@ -1,5 +1,7 @@
 use super::runs::certificate_of;
-use super::{LIST, MACHINE, NO_TEXTS, RUN, SHORT_WAY, Texts, comes_to, on_the_mill, outcome_of};
+use super::{
+    LIST, MACHINE, NO_TEXTS, Outcome, RUN, SHORT_WAY, Texts, comes_to, on_the_mill, outcome_of,
+};
 use ngc_simulator::{CheckOptions, ListOptions, Options, RunOptions};
 use std::alloc::Global;
 use std::process::Abort;
@@ -178,110 +180,138 @@ fn machine_files_and_tool_tables(rt: HostRuntime) -> Result<(), Fail> {
     Ok(())
 }
 
+const LONG_FILES: &[(usize, Result<&str, (u8, &str)>)] = &[
+    (20_000_000, Ok(LISTING)),
+    (20_000_001, Err((1, "ngc: fault 901\n"))),
+];
+
+// The machine file with line feeds behind it, so many bytes in all.
+fn machine_of(alloc: Global, size: usize) -> Result<Vec<u8>, Fail> {
+    let mut machine = Vec::with_capacity(alloc, size)?;
+    machine.extend_from_slice(MACHINE.as_bytes())?;
+    machine.resize(size, b'\n')?;
+    Ok(machine)
+}
+
 #[test]
 fn long_machine_files(rt: HostRuntime) -> Result<(), Fail> {
-    for (size, wanted) in [
-        (20_000_000, Ok(LISTING)),
-        (20_000_001, Err((1, "ngc: fault 901\n"))),
-    ] {
-        let mut machine = Vec::with_capacity(rt.alloc(), size)?;
-        machine.extend_from_slice(MACHINE.as_bytes())?;
-        machine.resize(size, b'\n')?;
+    for (size, wanted) in LONG_FILES {
+        let machine = machine_of(rt.alloc(), *size)?;
         let row = "a long machine file";
-        listing_is(&rt, rt.alloc(), Some(machine.as_slice()), None, wanted, row);
+        listing_is(
+            &rt,
+            rt.alloc(),
+            Some(machine.as_slice()),
+            None,
+            *wanted,
+            row,
+        );
     }
     Ok(())
 }
 
+#[derive(Clone, Copy)]
+enum Call {
+    List(ListOptions<'static>),
+    Check(CheckOptions<'static>),
+    Run(RunOptions<'static>),
+}
+
+// Options that name one file which is not there.
+const NOT_THERE: &[(Call, &str)] = &[
+    (
+        Call::List(ListOptions {
+            program: Some("none"),
+            ..LIST
+        }),
+        "a program to list",
+    ),
+    (
+        Call::List(ListOptions {
+            machine: Some("none"),
+            ..LIST
+        }),
+        "a machine to list on",
+    ),
+    (
+        Call::List(ListOptions {
+            tools: Some("none"),
+            ..LIST
+        }),
+        "tools to list with",
+    ),
+    (
+        Call::Check(CheckOptions {
+            machine: "machine",
+            tools: "tools",
+            certificate: "none",
+            program: None,
+        }),
+        "a certificate to check",
+    ),
+    (
+        Call::Run(RunOptions {
+            machine: "none",
+            ..RUN
+        }),
+        "a machine to run",
+    ),
+    (
+        Call::Run(RunOptions {
+            tools: "none",
+            ..RUN
+        }),
+        "tools to run with",
+    ),
+    (
+        Call::Run(RunOptions {
+            program: Some("none"),
+            ..RUN
+        }),
+        "a program to run",
+    ),
+    (
+        Call::Run(RunOptions {
+            certificate: "none",
+            ..RUN
+        }),
+        "a certificate to run with",
+    ),
+    (
+        Call::Run(RunOptions {
+            events: "none",
+            ..RUN
+        }),
+        "events to run over",
+    ),
+];
+
+// What a call comes to where the other files are there.
+fn outcome_without(alloc: Global, call: Call, certificate: &[u8]) -> Outcome {
+    match call {
+        Call::List(options) => {
+            let end = Texts {
+                program: b"M2\n",
+                ..NO_TEXTS
+            };
+            outcome_of(alloc, end, &Options::List(options))
+        }
+        Call::Check(options) => outcome_of(alloc, on_the_mill("M2\n"), &Options::Check(options)),
+        Call::Run(options) => {
+            let short_way = Texts {
+                certificate,
+                ..on_the_mill(SHORT_WAY)
+            };
+            outcome_of(alloc, short_way, &Options::Run(options))
+        }
+    }
+}
+
 #[test]
 fn files_that_are_not_there(rt: HostRuntime) {
-    let end = Texts {
-        program: b"M2\n",
-        ..NO_TEXTS
-    };
     let certificate = certificate_of(&rt, rt.alloc(), SHORT_WAY);
-    let short_way = Texts {
-        certificate: certificate.as_slice(),
-        ..on_the_mill(SHORT_WAY)
-    };
-    let check = CheckOptions {
-        machine: "machine",
-        tools: "tools",
-        certificate: "none",
-        program: None,
-    };
-    for (texts, options, row) in [
-        (
-            end,
-            Options::List(ListOptions {
-                program: Some("none"),
-                ..LIST
-            }),
-            "a program to list",
-        ),
-        (
-            end,
-            Options::List(ListOptions {
-                machine: Some("none"),
-                ..LIST
-            }),
-            "a machine to list on",
-        ),
-        (
-            end,
-            Options::List(ListOptions {
-                tools: Some("none"),
-                ..LIST
-            }),
-            "tools to list with",
-        ),
-        (
-            on_the_mill("M2\n"),
-            Options::Check(check),
-            "a certificate to check",
-        ),
-        (
-            short_way,
-            Options::Run(RunOptions {
-                machine: "none",
-                ..RUN
-            }),
-            "a machine to run",
-        ),
-        (
-            short_way,
-            Options::Run(RunOptions {
-                tools: "none",
-                ..RUN
-            }),
-            "tools to run with",
-        ),
-        (
-            short_way,
-            Options::Run(RunOptions {
-                program: Some("none"),
-                ..RUN
-            }),
-            "a program to run",
-        ),
-        (
-            short_way,
-            Options::Run(RunOptions {
-                certificate: "none",
-                ..RUN
-            }),
-            "a certificate to run with",
-        ),
-        (
-            short_way,
-            Options::Run(RunOptions {
-                events: "none",
-                ..RUN
-            }),
-            "events to run over",
-        ),
-    ] {
-        let found = outcome_of(rt.alloc(), texts, &options);
+    for (call, row) in NOT_THERE {
+        let found = outcome_without(rt.alloc(), *call, certificate.as_slice());
         assert_eq!(rt; found.status, 1, "at {row}");
         assert_eq!(rt;
             found.errors.as_slice(),

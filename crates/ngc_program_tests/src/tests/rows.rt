@@ -140,14 +140,16 @@ fn refused_lines(rt: HostRuntime) -> Result<(), Fail> {
     Ok(())
 }
 
+const DELETED_LINES: &[(&str, Result<&str, (u8, &str)>)] = &[
+    ("/G0 X[1/0]\nM2\n", Ok("0 2 end\n")),
+    ("G0 X1\n/M2\n", Err((3, "ngc: fault 120 line 2\n"))),
+    ("/G0 X[\nM2\n", Err((3, "ngc: fault 113 line 1 column 5\n"))),
+];
+
 #[test]
 fn block_delete(rt: HostRuntime) {
-    for (text, wanted) in [
-        ("/G0 X[1/0]\nM2\n", Ok("0 2 end\n")),
-        ("G0 X1\n/M2\n", Err((3, "ngc: fault 120 line 2\n"))),
-        ("/G0 X[\nM2\n", Err((3, "ngc: fault 113 line 1 column 5\n"))),
-    ] {
-        listing_is(&rt, rt.alloc(), text, true, wanted);
+    for (text, wanted) in DELETED_LINES {
+        listing_is(&rt, rt.alloc(), text, true, *wanted);
     }
 }
 

@@ -22,82 +22,94 @@ pub(super) const SHORT_WAY_REPORT: Report = Report {
 pub(super) fn certificate_of(rt: &impl Abort, alloc: Global, program: &str) -> Vec<u8> {
     let options = Options::Certify(certify_options(8));
     let found = outcome_of(alloc, on_the_mill(program), &options);
-    assert_eq!(rt; found.errors.as_slice(), b"".as_slice(), "at {program}");
-    assert_eq!(rt; found.status, 0, "at {program}");
+    found.has_no_fault(rt, program);
     found.output
 }
 
+// As many dwells as the ring takes, and one more.
+const SEVENTEEN_DWELLS: &str = "G4 P0\nG4 P0\nG4 P0\nG4 P0\nG4 P0\nG4 P0\nG4 P0\nG4 P0\nG4 P0\n\
+    G4 P0\nG4 P0\nG4 P0\nG4 P0\nG4 P0\nG4 P0\nG4 P0\nG4 P0\nM2\n";
+
+const SEVENTEEN_LOADS: &str = "load\nload\nload\nload\nload\nload\nload\nload\nload\n\
+    load\nload\nload\nload\nload\nload\nload\nload\ntick 1\nload\n";
+
+// A program, whether deleted lines count, events, and their log.
+const LOGS: &[(&str, bool, &str, &str)] = &[
+    (SHORT_WAY, false, SHORT_WAY_EVENTS, SHORT_WAY_LOG),
+    (SHORT_WAY, false, "", ""),
+    (
+        "M1\nM2\n",
+        false,
+        "load\nload\nswitch on\ntick 2\nstart\ntick 1\n",
+        "load 0\nload 1\nswitch on\nstop 0\nstart\nend\n",
+    ),
+    (
+        "M1\nM2\n",
+        false,
+        "load\nload\ntick 2\ntick 1\n",
+        "load 0\nload 1\ndone 0\nend\n",
+    ),
+    // A dwell waits while it is held.
+    (
+        "G4 P0.0003\nM2\n",
+        false,
+        "load\nload\ntick 2\nhold\ntick 5\nresume\ntick 1\ntick 1\n",
+        "load 0\nload 1\nhold\nresume\ndone 0\nend\n",
+    ),
+    (
+        SEVENTEEN_DWELLS,
+        false,
+        SEVENTEEN_LOADS,
+        "load 0\nload 1\nload 2\nload 3\nload 4\nload 5\nload 6\nload 7\n\
+         load 8\nload 9\nload 10\nload 11\nload 12\nload 13\nload 14\nload 15\n\
+         refused 702\ndone 0\nload 16\n",
+    ),
+    (
+        "/G0 X0.01\nM2\n",
+        false,
+        "load\nload\ntick 1\n",
+        "load 0\nload 1\n",
+    ),
+    (
+        "/G0 X0.01\nM2\n",
+        true,
+        "load\nload\ntick 1\n",
+        "load 0\nrefused 703\nend\n",
+    ),
+];
+
 #[test]
-fn logs(rt: HostRuntime) -> Result<(), Fail> {
-    // As many dwells as the ring takes, and one more.
-    let mut dwells = "G4 P0\n".repeat(rt.alloc(), 17)?;
-    dwells.push_str("M2\n")?;
-    let mut loads = "load\n".repeat(rt.alloc(), 17)?;
-    loads.push_str("tick 1\nload\n")?;
-    for (program, delete, events, log) in [
-        (SHORT_WAY, false, SHORT_WAY_EVENTS, SHORT_WAY_LOG),
-        (SHORT_WAY, false, "", ""),
-        (
-            "M1\nM2\n",
-            false,
-            "load\nload\nswitch on\ntick 2\nstart\ntick 1\n",
-            "load 0\nload 1\nswitch on\nstop 0\nstart\nend\n",
-        ),
-        (
-            "M1\nM2\n",
-            false,
-            "load\nload\ntick 2\ntick 1\n",
-            "load 0\nload 1\ndone 0\nend\n",
-        ),
-        // A dwell waits while it is held.
-        (
-            "G4 P0.0003\nM2\n",
-            false,
-            "load\nload\ntick 2\nhold\ntick 5\nresume\ntick 1\ntick 1\n",
-            "load 0\nload 1\nhold\nresume\ndone 0\nend\n",
-        ),
-        (
-            dwells.as_str(),
-            false,
-            loads.as_str(),
-            "load 0\nload 1\nload 2\nload 3\nload 4\nload 5\nload 6\nload 7\n\
-             load 8\nload 9\nload 10\nload 11\nload 12\nload 13\nload 14\nload 15\n\
-             refused 702\ndone 0\nload 16\n",
-        ),
-        (
-            "/G0 X0.01\nM2\n",
-            false,
-            "load\nload\ntick 1\n",
-            "load 0\nload 1\n",
-        ),
-        (
-            "/G0 X0.01\nM2\n",
-            true,
-            "load\nload\ntick 1\n",
-            "load 0\nrefused 703\nend\n",
-        ),
-    ] {
+fn logs(rt: HostRuntime) {
+    for (program, delete, events, log) in LOGS {
         let certificate = certificate_of(&rt, rt.alloc(), program);
         let texts = Texts {
             certificate: certificate.as_slice(),
             events: events.as_bytes(),
             ..on_the_mill(program)
         };
-        let options = Options::Run(RunOptions { delete, ..RUN });
+        let options = Options::Run(RunOptions {
+            delete: *delete,
+            ..RUN
+        });
         comes_to(&rt, rt.alloc(), texts, &options, Ok(log), events);
     }
-    Ok(())
+}
+
+// The loads, a hundred path steps, and the end of the motion.
+fn log_of_a_millimetre(alloc: Global) -> Result<String, Fail> {
+    let mut log = String::new(alloc);
+    log.push_str("load 0\nload 1\n")?;
+    for x in 1..=100u32 {
+        log.push_str(format!(in alloc; "pos {x} 0 0\n")?.as_str())?;
+    }
+    log.push_str("done 0\n")?;
+    Ok(log)
 }
 
 #[test]
 fn a_millimetre_in_a_thousand_ticks(rt: HostRuntime) -> Result<(), Fail> {
     let program = "G0 X1\nM2\n";
-    let mut log = String::new(rt.alloc());
-    log.push_str("load 0\nload 1\n")?;
-    for x in 1..=100u32 {
-        log.push_str(format!(in rt.alloc(); "pos {x} 0 0\n")?.as_str())?;
-    }
-    log.push_str("done 0\n")?;
+    let log = log_of_a_millimetre(rt.alloc())?;
     let certificate = certificate_of(&rt, rt.alloc(), program);
     let texts = Texts {
         certificate: certificate.as_slice(),
@@ -105,106 +117,103 @@ fn a_millimetre_in_a_thousand_ticks(rt: HostRuntime) -> Result<(), Fail> {
         ..on_the_mill(program)
     };
     let found = outcome_of(rt.alloc(), texts, &Options::Run(RUN));
-    assert_eq!(rt; found.errors.as_slice(), b"".as_slice());
-    assert_eq!(rt; found.status, 0);
+    found.has_no_fault(&rt, program);
     assert!(rt; found.output.as_slice().starts_with(log.as_bytes()));
     Ok(())
 }
 
 // Each line so often.
+const REFUSED_EVENTS: &[(&str, usize, Result<&str, (u8, &str)>)] = &[
+    ("tick 0\n", 1, Err((3, "ngc: fault 711 events line 1\n"))),
+    (
+        "tick 1000001\n",
+        1,
+        Err((3, "ngc: fault 711 events line 1\n")),
+    ),
+    (
+        "override 256\n",
+        1,
+        Err((3, "ngc: fault 711 events line 1\n")),
+    ),
+    ("load", 1, Err((3, "ngc: fault 711 events line 1\n"))),
+    (
+        "load\nload\nhalt\nload\n",
+        1,
+        Err((3, "ngc: fault 711 events line 3\n")),
+    ),
+    ("hold\n", 1_000_001, Err((3, "ngc: fault 712\n"))),
+    (" ", 20_000_000, Err((3, "ngc: fault 711 events line 1\n"))),
+    (" ", 20_000_001, Err((1, "ngc: fault 901\n"))),
+];
+
 #[test]
 fn refused_events(rt: HostRuntime) -> Result<(), Fail> {
     let certificate = certificate_of(&rt, rt.alloc(), SHORT_WAY);
-    for (line, count, wanted) in [
-        ("tick 0\n", 1, Err((3, "ngc: fault 711 events line 1\n"))),
-        (
-            "tick 1000001\n",
-            1,
-            Err((3, "ngc: fault 711 events line 1\n")),
-        ),
-        (
-            "override 256\n",
-            1,
-            Err((3, "ngc: fault 711 events line 1\n")),
-        ),
-        ("load", 1, Err((3, "ngc: fault 711 events line 1\n"))),
-        (
-            "load\nload\nhalt\nload\n",
-            1,
-            Err((3, "ngc: fault 711 events line 3\n")),
-        ),
-        ("hold\n", 1_000_001, Err((3, "ngc: fault 712\n"))),
-        (" ", 20_000_000, Err((3, "ngc: fault 711 events line 1\n"))),
-        (" ", 20_000_001, Err((1, "ngc: fault 901\n"))),
-    ] {
-        let events = line.repeat(rt.alloc(), count)?;
+    for (line, count, wanted) in REFUSED_EVENTS {
+        let events = line.repeat(rt.alloc(), *count)?;
         let texts = Texts {
             certificate: certificate.as_slice(),
             events: events.as_bytes(),
             ..on_the_mill(SHORT_WAY)
         };
-        comes_to(&rt, rt.alloc(), texts, &Options::Run(RUN), wanted, line);
+        comes_to(&rt, rt.alloc(), texts, &Options::Run(RUN), *wanted, line);
     }
     Ok(())
 }
 
+// A program, a certificate and events, the names of the last two, and what the run comes to.
+const ORDER_OF_REFUSALS: &[(&str, &str, &str, (&str, &str), Result<&str, (u8, &str)>)] = &[
+    (
+        "G0 E1\nM2\n",
+        "",
+        "",
+        ("none", "none"),
+        Err((3, "ngc: fault 114 line 1 column 4\n")),
+    ),
+    (
+        SHORT_WAY,
+        "no certificate",
+        "",
+        ("certificate", "none"),
+        Err((4, "ngc: fault 302 certificate line 1\n")),
+    ),
+    (
+        SHORT_WAY,
+        NO_MOTIONS,
+        "halt\n",
+        ("certificate", "events"),
+        Err((3, "ngc: fault 711 events line 1\n")),
+    ),
+    (
+        SHORT_WAY,
+        NO_MOTIONS,
+        "load\n",
+        ("certificate", "events"),
+        Err((4, "ngc: fault 312 setting off command 0\n")),
+    ),
+    (
+        "G1 X1\nM2\n",
+        NO_MOTIONS,
+        "load\n",
+        ("certificate", "events"),
+        Err((3, "ngc: fault 311 setting off fault 252 line 1\n")),
+    ),
+];
+
 // Program, certificate and events are read one after another, and the certificate is checked behind them.
 #[test]
 fn the_order_of_refusals(rt: HostRuntime) {
-    for (program, certificate, events, names, wanted) in [
-        (
-            "G0 E1\nM2\n",
-            "",
-            "",
-            ("none", "none"),
-            Err((3, "ngc: fault 114 line 1 column 4\n")),
-        ),
-        (
-            SHORT_WAY,
-            "no certificate",
-            "",
-            ("certificate", "none"),
-            Err((4, "ngc: fault 302 certificate line 1\n")),
-        ),
-        (
-            SHORT_WAY,
-            NO_MOTIONS,
-            "halt\n",
-            ("certificate", "events"),
-            Err((3, "ngc: fault 711 events line 1\n")),
-        ),
-        (
-            SHORT_WAY,
-            NO_MOTIONS,
-            "load\n",
-            ("certificate", "events"),
-            Err((4, "ngc: fault 312 setting off command 0\n")),
-        ),
-        (
-            "G1 X1\nM2\n",
-            NO_MOTIONS,
-            "load\n",
-            ("certificate", "events"),
-            Err((3, "ngc: fault 311 setting off fault 252 line 1\n")),
-        ),
-    ] {
+    for (program, certificate, events, names, wanted) in ORDER_OF_REFUSALS {
         let texts = Texts {
             certificate: certificate.as_bytes(),
             events: events.as_bytes(),
             ..on_the_mill(program)
         };
-        let options = RunOptions {
+        let options = Options::Run(RunOptions {
             certificate: names.0,
             events: names.1,
             ..RUN
-        };
-        comes_to(
-            &rt,
-            rt.alloc(),
-            texts,
-            &Options::Run(options),
-            wanted,
-            program,
-        );
+        });
+        comes_to(&rt, rt.alloc(), texts, &options, *wanted, program);
     }
 }

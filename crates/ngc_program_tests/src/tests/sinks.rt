@@ -5,6 +5,7 @@ use super::{RUN, SHORT_WAY, SomeFiles, Texts, on_the_mill, status_of};
 use ngc_fixed_length::{Device, DeviceFault, Sink};
 use ngc_simulator::Options;
 use std::alloc::Global;
+use std::process::Abort;
 
 // Takes one byte a call, some calls long, and fails at the next.
 #[derive(Drop)]
@@ -44,36 +45,40 @@ impl Sink for FailingSink {
     }
 }
 
+// What a job has written once its sink has taken so many bytes.
+fn breaks_off_after(rt: &impl Abort, alloc: Global, job: Job<'_>, whole: &[u8], calls: usize) {
+    let mut sink = FailingSink::new(alloc, calls);
+    let (ending, failures) = if calls == whole.len() {
+        (End::Done, 0)
+    } else {
+        (End::Refused(902, 1), 1)
+    };
+    assert_eq!(rt;
+        job.attempt(alloc, &mut sink),
+        ending,
+        "after {calls} calls of {job:?}"
+    );
+    assert_eq!(rt; sink.failures, failures, "after {calls} calls of {job:?}");
+    assert_eq!(rt; sink.taken.len(), calls, "at {job:?}");
+    assert!(rt;
+        whole.starts_with(sink.taken.as_slice()),
+        "after {calls} calls of {job:?}"
+    );
+}
+
+const LISTING: &[u8] = b"0 1 traverse 1000000 0 0 grid 100 0 0\n1 2 end\n";
+
 #[test]
 fn outputs_that_break_off(rt: HostRuntime) {
-    let listing = b"0 1 traverse 1000000 0 0 grid 100 0 0\n1 2 end\n".as_slice();
+    for calls in 0..=LISTING.len() {
+        let list = Job::List("G0 X1\nM2\n");
+        breaks_off_after(&rt, rt.alloc(), list, LISTING, calls);
+    }
     let certificate = written_by(&rt, rt.alloc(), Job::Certify(PROGRAM));
     let certificate = certificate.as_slice();
-    for (job, whole, counts) in [
-        (Job::List("G0 X1\nM2\n"), listing, 0..=listing.len()),
-        (Job::Certify(PROGRAM), certificate, 10..=10),
-        (Job::Check(PROGRAM, certificate), b"accepted\n", 3..=3),
-    ] {
-        for calls in counts {
-            let mut sink = FailingSink::new(rt.alloc(), calls);
-            let (ending, failures) = if calls == whole.len() {
-                (End::Done, 0)
-            } else {
-                (End::Refused(902, 1), 1)
-            };
-            assert_eq!(rt;
-                job.attempt(rt.alloc(), &mut sink),
-                ending,
-                "after {calls} calls of {job:?}"
-            );
-            assert_eq!(rt; sink.failures, failures, "after {calls} calls of {job:?}");
-            assert_eq!(rt; sink.taken.len(), calls, "at {job:?}");
-            assert!(rt;
-                whole.starts_with(sink.taken.as_slice()),
-                "after {calls} calls of {job:?}"
-            );
-        }
-    }
+    breaks_off_after(&rt, rt.alloc(), Job::Certify(PROGRAM), certificate, 10);
+    let check = Job::Check(PROGRAM, certificate);
+    breaks_off_after(&rt, rt.alloc(), check, b"accepted\n", 3);
 }
 
 #[test]
