@@ -142,13 +142,7 @@ fn covers_arc(shared: &Shared, arc: &Arc, stretch: &Stretch, end: &Cut, outer: &
 }
 
 /// A piece's box holds the box that it needs at least.
-pub(crate) fn covers(
-    step: Nm,
-    way: &Way,
-    shared: &Shared,
-    stretch: &Stretch,
-    piece: &Piece,
-) -> bool
+pub(crate) fn covers(step: Nm, way: &Way, shared: &Shared, stretch: &Stretch, piece: &Piece) -> bool
     requires step { IsStep step }
     requires shared { IsShared step way.now stretch.now.several shared.now }
     ensures { result ≡ holds_box piece.now.bounds (box_derived step way.now stretch.now piece.now.end) }

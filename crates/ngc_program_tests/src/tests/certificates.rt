@@ -352,6 +352,123 @@ fn pieces_of_a_short_way(rt: HostRuntime) -> Result<(), Fail> {
     Ok(())
 }
 
+const HALF_CIRCLE: &str = "G0 X10 Y50\nG2 X20 Y50 I5 J0 F60\nM2\n";
+
+const FULL_CIRCLE: &str = "G0 X10 Y50\nG2 X10 Y50 I5 J0 F60\nM2\n";
+
+// Behind a first motion to X10 Y50: the pieces of an arc.
+const PIECES_OF_ARCS: &[(&str, &str, &str, Result<&str, (u8, &str)>)] = &[
+    (
+        NO_FIXTURES,
+        HALF_CIRCLE,
+        "2\narc 15000000 55000000 998 4998 0 1502 5502 0\n\
+            arc 20000000 50000000 1498 4998 0 2002 5502 0",
+        Ok(ACCEPTED),
+    ),
+    (
+        NO_FIXTURES,
+        HALF_CIRCLE,
+        "2\narc 15000000 55010000 998 4998 0 1502 5503 0\n\
+            arc 20000000 50000000 1498 4998 0 2002 5503 0",
+        Ok(ACCEPTED),
+    ),
+    (
+        NO_FIXTURES,
+        HALF_CIRCLE,
+        "2\narc 15000000 55010000 998 4998 0 1502 5502 0\n\
+            arc 20000000 50000000 1498 4998 0 2002 5502 0",
+        Err((4, "ngc: fault 314 setting off command 1 piece 0\n")),
+    ),
+    (
+        NO_FIXTURES,
+        HALF_CIRCLE,
+        "2\narc 15000000 55010001 998 4998 0 1502 5503 0\n\
+            arc 20000000 50000000 1498 4998 0 2002 5503 0",
+        Err((4, "ngc: fault 313 setting off command 1 piece 0\n")),
+    ),
+    (
+        NO_FIXTURES,
+        HALF_CIRCLE,
+        "2\narc 12000000 54000000 998 4998 0 1502 5502 0\n\
+            arc 20000000 50000000 998 4998 0 2002 5502 0",
+        Err((4, "ngc: fault 313 setting off command 1 piece 1\n")),
+    ),
+    (
+        NO_FIXTURES,
+        HALF_CIRCLE,
+        "3\narc 15000000 55000000 998 4998 0 1502 5502 0\n\
+            arc 15000000 55000000 998 4998 0 1502 5502 0\n\
+            arc 20000000 50000000 1498 4998 0 2002 5502 0",
+        Err((4, "ngc: fault 313 setting off command 1 piece 1\n")),
+    ),
+    (
+        NO_FIXTURES,
+        HALF_CIRCLE,
+        "2\narc 15000000 55000000 998 4998 0 1502 5502 0\n\
+            arc 20000000 49999999 1498 4998 0 2002 5502 0",
+        Err((4, "ngc: fault 313 setting off command 1 piece 1\n")),
+    ),
+    (
+        NO_FIXTURES,
+        HALF_CIRCLE,
+        "2\narc 4000000000 4000000000 998 4998 0 1502 5502 0\n\
+            arc 20000000 50000000 1498 4998 0 2002 5502 0",
+        Err((4, "ngc: fault 313 setting off command 1 piece 0\n")),
+    ),
+    (
+        NO_FIXTURES,
+        FULL_CIRCLE,
+        "2\narc 12000000 54000000 998 4998 0 1202 5402 0\n\
+            arc 10000000 50000000 998 4998 0 1202 5402 0",
+        Err((4, "ngc: fault 313 setting off command 1 piece 1\n")),
+    ),
+    // Eighths of a circle round a fixture.
+    (
+        POST,
+        ROUND_THE_POST,
+        "8\narc 18786797 71213203 998 4998 0 1880 7123 0\n\
+            arc 40000000 80000000 1877 7120 0 4002 8002 0\n\
+            arc 61213203 71213203 3998 7120 0 6123 8002 0\n\
+            arc 70000000 50000000 6120 4998 0 7002 7123 0\n\
+            arc 61213203 28786797 6120 2877 0 7002 5002 0\n\
+            arc 40000000 20000000 3998 1998 0 6123 2880 0\n\
+            arc 18786797 28786797 1877 1998 0 4002 2880 0\n\
+            arc 10000000 50000000 998 2877 0 1880 5002 0",
+        Ok(ACCEPTED),
+    ),
+    // Its quarters fill the circle's own box.
+    (
+        POST,
+        ROUND_THE_POST,
+        "4\narc 40000000 80000000 998 4998 0 4002 8002 0\n\
+            arc 70000000 50000000 3998 4998 0 7002 8002 0\n\
+            arc 40000000 20000000 3998 1998 0 7002 5002 0\n\
+            arc 10000000 50000000 998 1998 0 4002 5002 0",
+        Err((
+            4,
+            "ngc: fault 316 setting off command 1 piece 0 fixture 0\n",
+        )),
+    ),
+];
+
+// The certificate of a motion to X10 Y50 and of these pieces behind it, at both settings of block delete.
+fn certificate_of_an_arc(alloc: Global, pieces: &str) -> Result<String, Fail> {
+    let motions = format!(in alloc;
+        "2\nmotion 0 1\nline 65536 0 0 0 1000 5000 0\nmotion 1 {pieces}\n"
+    )?;
+    certificate_with(alloc, motions.as_str(), motions.as_str())
+}
+
+#[test]
+fn pieces_of_arcs(rt: HostRuntime) -> Result<(), Fail> {
+    for (fixtures, program, pieces, wanted) in PIECES_OF_ARCS {
+        let certificate = certificate_of_an_arc(rt.alloc(), pieces)?;
+        let text = certificate.as_str();
+        checks(&rt, rt.alloc(), fixtures, program, text, *wanted)?;
+    }
+    Ok(())
+}
+
 const UNREAD: &[(&str, &str, &str, Result<&str, (u8, &str)>)] = &[
     (
         NO_FIXTURES,
