@@ -1,6 +1,6 @@
-ghost use Rattle.std.specs.Prelude.{◌≡◌, ◌≤◌, ◌≤ℤ◌, pos, ◌+ℤ◌, ◌-ℤ◌, int_lt, unsigned_abs};
+ghost use Rattle.std.specs.Prelude.{◌≡◌, ◌≤◌, ◌≤ℤ◌, pos, ◌+ℤ◌, ◌-ℤ◌, int_lt, unsigned_abs, IsTrue};
 ghost use Rattle.std.specs.Int.{int_min, int_max};
-ghost use Rattle.ngc_fixed_length.specs.Boxes.{grid_above, grid_below};
+ghost use Rattle.ngc_fixed_length.specs.Boxes.{grid_above, grid_below, is_below};
 ghost use Rattle.ngc_fixed_length.specs.Length.{IsStep};
 ghost use Rattle.ngc_arc_geometry.specs.Axes.{along};
 ghost use Rattle.ngc_arc_geometry.specs.CutArc.{share_quadrant, is_in_band, turns_on, passes_start, is_inner_cut, cut_follows, is_large, cut_box};
@@ -128,7 +128,8 @@ impl GridArc {
     /// The box of a piece from one point of the plane to another: in the plane that of both points, grown by the margin; on
     /// the third axis from one end's grid point to the other's.
     pub fn cut_box(&self, from: &Point2, to: &Point2) -> GridBox
-        ensures { result ≡ cut_box self.now.step self.now.arc from.now to.now }
+        ensures value { result ≡ cut_box self.now.step self.now.arc from.now to.now }
+        ensures ordered { IsTrue (is_below result.low result.high) }
     {
         let u = self.range_between(PlaneAxis::U, from, to);
         let v = self.range_between(PlaneAxis::V, from, to);

@@ -1,6 +1,6 @@
-ghost use Rattle.std.specs.Prelude.{◌≡◌, ◌*◌, ◌^◌, ◌<◌, ◌≤◌, pos, ◌≤ℤ◌, ◌+ℤ◌, ◌*ℤ◌, ◌-ℤ◌, unsigned_abs, fold, map};
+ghost use Rattle.std.specs.Prelude.{◌≡◌, ◌*◌, ◌^◌, ◌<◌, ◌≤◌, pos, ◌≤ℤ◌, ◌+ℤ◌, ◌*ℤ◌, ◌-ℤ◌, unsigned_abs, fold, map, IsTrue};
 ghost use Rattle.std.specs.Int.{int_min, int_max};
-ghost use Rattle.ngc_fixed_length.specs.Boxes.{grid_above, grid_below};
+ghost use Rattle.ngc_fixed_length.specs.Boxes.{grid_above, grid_below, is_below};
 ghost use Rattle.ngc_fixed_length.specs.Length.{IsStep};
 
 use ngc_fixed_length::{GridBox, Nm, Plane, Point2, StepPos};
@@ -71,6 +71,7 @@ impl GridRange {
     pub(crate) fn in_space(plane: Plane, u: &GridRange, v: &GridRange, w: &GridRange) -> GridBox
         ensures low { result.low ≡ grid_at plane u.now.low v.now.low w.now.low }
         ensures high { result.high ≡ grid_at plane u.now.high v.now.high w.now.high }
+        ensures ordered { IsTrue (is_below result.low result.high) }
     {
         let (x, y, z) = match plane {
             Plane::XY => (u, v, w),

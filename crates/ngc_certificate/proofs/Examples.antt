@@ -1,6 +1,6 @@
 -- Worked pieces on a mill of 300 mm with steps of 0.01 mm, by computing the definitions.
-use Rattle.std.proofs.Common.{◌≡◌, ℕ, ℤ, pos, negsuc, List, [], ◌∷◌, Some, None, Ok, Err, refl}
-use Rattle.std.specs.Prelude.{codes}
+use Rattle.std.proofs.Common.{◌≡◌, ◌∙◌, ap, ap₂, ℕ, ℤ, pos, negsuc, List, [], ◌∷◌, Some, None, Ok, Err, refl}
+use Rattle.std.specs.Prelude.{codes, Result}
 use Rattle.std.specs.Fmt.{digits}
 use Rattle.ngc_fixed_length.specs.Roots.{whole_root, whole_root_above}
 use Rattle.ngc_fixed_length.specs.Places.{zero_point}
@@ -18,11 +18,12 @@ use Rattle.ngc_canonical.specs.declared.movement.Way.TheVariants.{Line, Arc}
 use Rattle.ngc_certificate_text.specs.declared.piece.Cut.TheVariants.{Part, Place}
 use Rattle.ngc_certificate_text.specs.declared.piece.Piece.{Piece}
 use Rattle.ngc_certificate_text.specs.declared.piece.Setting.TheVariants.{Off, On}
-use Rattle.ngc_certificate_text.specs.Certificate.{CertificateData}
+use Rattle.ngc_certificate_text.specs.Certificate.{Entry, CertificateData}
 use Rattle.ngc_certificate_text.specs.Spelling.{spelling}
+use Rattle.ngc_certificate.specs.declared.fault.MakeFault.{MakeFault}
 use Rattle.ngc_certificate.specs.declared.fault.MakeFault.TheVariants.{NotCleared}
 use Rattle.ngc_certificate.specs.declared.fault.PieceFault.TheVariants.{Chain, NotCovered, OutsideTravel, MeetsFixture}
-use Rattle.ngc_certificate.specs.Made.{pieces_of, tries, made}
+use Rattle.ngc_certificate.specs.Made.{pieces_of, cleared, tries, with_pieces, join_settings, IsSettingMade, IsMade}
 use Rattle.ngc_certificate.specs.PieceFault.{pieces_fault, at_piece}
 
 abbrev point : ℤ → ℤ → ℤ → Point3
@@ -96,15 +97,18 @@ slanted_clear = refl
 abbrev one_line : List Command
 one_line = record { line = 1; action = Move (record { way = slanted; pace = Rapid }) } ∷ []
 
-in_one_piece : made beside 1 one_line one_line ≡ Err (NotCleared Off 0)
-in_one_piece = refl
+one_motion : (most : ℕ) (says : Result (List Entry) ℕ) → IsSettingMade beside most one_line says → says ≡ with_pieces 0 (cleared beside most None slanted) (Ok [])
+one_motion most says made = made.4 ∙ ap₂ (with_pieces 0) made.2 made.3
 
-in_two_pieces : made beside 2 one_line one_line ≡ Ok (both (pieces_of (pos 10000) slanted 2))
-in_two_pieces = refl
+in_one_piece : (says : Result CertificateData MakeFault) → IsMade beside 1 one_line one_line says → says ≡ Err (NotCleared Off 0)
+in_one_piece says made = made.4 ∙ ap₂ join_settings (one_motion 1 made.0 made.2) (one_motion 1 made.1 made.3)
+
+in_two_pieces : (says : Result CertificateData MakeFault) → IsMade beside 2 one_line one_line says → says ≡ Ok (both (pieces_of (pos 10000) slanted 2))
+in_two_pieces says made = made.4 ∙ ap₂ join_settings (one_motion 2 made.0 made.2) (one_motion 2 made.1 made.3)
 
 -- the line is there at one setting alone
-at_one_setting : made beside 1 [] one_line ≡ Err (NotCleared On 0)
-at_one_setting = refl
+at_one_setting : (says : Result CertificateData MakeFault) → IsMade beside 1 [] one_line says → says ≡ Err (NotCleared On 0)
+at_one_setting says made = made.4 ∙ ap₂ join_settings made.2 (one_motion 1 made.1 made.3)
 
 -- ---- a full circle round a fixture, in one piece
 
@@ -127,8 +131,9 @@ circle_met = refl
 
 -- ---- the start, and tool changes there
 
-start_met : made (with_fixture (point (negsuc 999999) (negsuc 999999) (negsuc 999999)) (point (pos 1000000) (pos 1000000) (pos 1000000))) 8 [] [] ≡ Err (NotCleared Off 0)
-start_met = refl
+start_met : (says : Result CertificateData MakeFault) → IsMade (with_fixture (point (negsuc 999999) (negsuc 999999) (negsuc 999999)) (point (pos 1000000) (pos 1000000) (pos 1000000))) 8 [] [] says →
+    says ≡ Err (NotCleared Off 0)
+start_met says made = made.4
 
 abbrev below : MachineFile
 below = with_fixture (point (negsuc 19999999) (negsuc 9999999) (negsuc 99999999)) (point (negsuc 1999999) (pos 10000000) (negsuc 29999999))
@@ -137,11 +142,11 @@ abbrev mounted : ℕ → ℤ → List Command
 mounted number length = record { line = 1; action = Mount (Some (record { number = number; length = length; radius = pos 3000000; offset = pos 0 })) } ∷ []
 
 -- a tool of 60 mm reaches into the fixture, one of 20 mm does not
-long_tool : made below 8 (mounted 2 (pos 60000000)) [] ≡ Err (NotCleared Off 0)
-long_tool = refl
+long_tool : (says : Result CertificateData MakeFault) → IsMade below 8 (mounted 2 (pos 60000000)) [] says → says ≡ Err (NotCleared Off 0)
+long_tool says made = made.4 ∙ ap (λ first. join_settings first made.1) made.2.2
 
-short_tool : made below 8 (mounted 1 (pos 20000000)) [] ≡ Ok (record { off = []; on = [] })
-short_tool = refl
+short_tool : (says : Result CertificateData MakeFault) → IsMade below 8 (mounted 1 (pos 20000000)) [] says → says ≡ Ok (record { off = []; on = [] })
+short_tool says made = made.4 ∙ ap₂ join_settings (made.2.2 ∙ made.2.1) made.3
 
 -- ---- numbers of pieces
 

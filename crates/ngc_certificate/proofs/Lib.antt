@@ -20,3 +20,5 @@ pub mod Cleared
 pub mod MadeLaws
 mod Examples
 pub mod ArcEnds
+pub mod SomeMade
+pub mod Oks

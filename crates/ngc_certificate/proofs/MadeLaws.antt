@@ -1,5 +1,5 @@
 -- What the made certificate says: it is valid, and it is there where each motion clears undivided.
-use Rattle.std.proofs.Common.{◌≡◌, inl, inr, ℕ, ◌+◌, ◌<◌, ◌≤◌, refl, ap, ap₂, sym, subst, ◌∙◌, arith, List, [], ◌∷◌, ◌++◌, map, Some, None, Ok, Err, true}
+use Rattle.std.proofs.Common.{◌≡◌, inl, inr, ℕ, ◌+◌, ◌<◌, ◌≤◌, refl, ap, ap₂, sym, subst, ◌∙◌, arith, List, [], ◌∷◌, ◌++◌, map, Some, None, Ok, Err, true, false}
 use Rattle.std.specs.Prelude.{Option, Result, option_map, Bool, nat_lt}
 use Rattle.std.specs.List.{find, filter}
 use Rattle.std.specs.Option.{is_none}
@@ -12,6 +12,7 @@ use Rattle.ngc_machine.specs.declared.tools.Tool.{Tool}
 use Rattle.ngc_canonical.specs.declared.command.Command.{Command}
 use Rattle.ngc_canonical.specs.declared.movement.Motion.{Motion}
 use Rattle.ngc_canonical.specs.declared.movement.Way.{Way}
+use Rattle.ngc_canonical.specs.declared.movement.Way.TheVariants.{Line, Arc}
 use Rattle.ngc_canonical.specs.declared.command.Action.{Action}
 use Rattle.ngc_canonical.specs.declared.command.Action.TheVariants.{Move, Mount}
 use Rattle.ngc_canonical.specs.Movement.{actions_of, motion_indices, end_of}
@@ -25,11 +26,12 @@ use Rattle.ngc_certificate.specs.declared.maker.Refusal.{Refusal}
 use Rattle.ngc_certificate.specs.declared.maker.Refusal.TheVariants as refusals
 use Rattle.ngc_certificate.specs.PieceFault.{pieces_fault, place_fault, ArePiecesValid}
 use Rattle.ngc_certificate.specs.Valid.{AreClearFrom, IsValid}
-use Rattle.ngc_certificate.specs.Made.{pieces_of, cleared, with_entry, with_pieces, unless_met, made_from, setting_made, join_settings, from_start, made, GivesMade, clears_from, clears_undivided}
+use Rattle.ngc_certificate.specs.Made.{pieces_of, cleared, with_entry, with_pieces, unless_met, MayFind, IsMadeFrom, IsSettingMade, join_settings, from_start, IsMade, GivesMade, clears_from, clears_undivided}
 use Rattle.ngc_certificate.specs.Making.{is_clear_in, GivesSetting, fault_at}
 use Rattle.ngc_certificate.proofs.NoFault.{clear_at}
 use Rattle.ngc_certificate.proofs.Truths.{both}
-use Rattle.ngc_certificate.proofs.Cleared.{cleared_valid, none_of}
+use Rattle.ngc_certificate.proofs.Cleared.{found_valid, none_of}
+use Rattle.ngc_certificate.proofs.SomeMade.{some_made}
 
 err_ok : {X E : Type 0} (x : X) (e : E) → Err e ≡ Ok x → ⊥
 err_ok x e h = cc
@@ -78,26 +80,26 @@ entry_more machine k tool place m actions pieces later entries valid rest all =
     subst (AreMade machine k tool place (Move m ∷ actions)) (sym all)
     (record { indices = ap (λ ks. k ∷ ks) rest.indices; clear = (valid, rest.clear) })
 
-are_made : (machine : MachineFile) (most k : ℕ) (tool : Option Tool) (place : Point3) (actions : List Action) (entries : List Entry) → 1 ≤ most → most ≤ 65535 →
-    made_from machine most k tool place actions ≡ Ok entries → AreMade machine k tool place actions entries
-are_made machine most k tool place [] entries least greatest h =
-    record { indices = ap (map (λ (entry : Entry). entry.index)) (same_ok entries [] (made_from machine most k tool place []) h refl); clear = tt }
-are_made machine most k tool place (Mount new ∷ actions) entries least greatest h =
-    let u = unmet (place_fault machine new (grid machine.step place)) k (made_from machine most (k + 1) new place actions) entries h in
-    let rest = are_made machine most (k + 1) new place actions entries least greatest (sym u.same) in
+are_made : (machine : MachineFile) (most k : ℕ) (tool : Option Tool) (place : Point3) (actions : List Action) (says : Result (List Entry) ℕ) (entries : List Entry) → 1 ≤ most → most ≤ 65535 →
+    IsMadeFrom machine most k tool place actions says → says ≡ Ok entries → AreMade machine k tool place actions entries
+are_made machine most k tool place [] says entries least greatest made h =
+    record { indices = ap (map (λ (entry : Entry). entry.index)) (same_ok entries [] says h made); clear = tt }
+are_made machine most k tool place (Mount new ∷ actions) says entries least greatest made h =
+    let u = unmet (place_fault machine new (grid machine.step place)) k made.0 entries (sym made.2 ∙ h) in
+    let rest = are_made machine most (k + 1) new place actions made.0 entries least greatest made.1 (sym u.same) in
     record { indices = rest.indices; clear = (clear_at machine new (grid machine.step place) u.none, rest.clear) }
-are_made machine most k tool place (Move m ∷ actions) entries least greatest h =
-    let c = pieces_in_front k (cleared machine most tool m.way) (made_from machine most (k + 1) tool (end_of m.way) actions) entries h in
-    let rest = are_made machine most (k + 1) tool (end_of m.way) actions c.front.later least greatest c.front.made in
-    entry_more machine k tool place m actions c.pieces c.front.later entries (cleared_valid machine most tool m.way c.pieces least greatest c.is) rest c.front.all
-are_made machine most k tool place (_ ∷ actions) entries least greatest h =
-    let rest = are_made machine most (k + 1) tool place actions entries least greatest h in
+are_made machine most k tool place (Move m ∷ actions) says entries least greatest made h =
+    let c = pieces_in_front k made.0 made.1 entries (sym made.4 ∙ h) in
+    let rest = are_made machine most (k + 1) tool (end_of m.way) actions made.1 c.front.later least greatest made.3 c.front.made in
+    entry_more machine k tool place m actions c.pieces c.front.later entries (found_valid machine most tool m.way made.0 c.pieces least greatest made.2 c.is) rest c.front.all
+are_made machine most k tool place (_ ∷ actions) says entries least greatest made h =
+    let rest = are_made machine most (k + 1) tool place actions says entries least greatest made h in
     record { indices = rest.indices; clear = rest.clear }
 
 valid_setting : (machine : MachineFile) (most : ℕ) (commands : List Command) (entries : List Entry) → 1 ≤ most → most ≤ 65535 →
-    place_fault machine None (grid machine.step machine.start) ≡ None → setting_made machine most commands ≡ Ok entries → IsValid machine commands entries
+    place_fault machine None (grid machine.step machine.start) ≡ None → IsSettingMade machine most commands (Ok entries) → IsValid machine commands entries
 valid_setting machine most commands entries least greatest start h =
-    let made = are_made machine most 0 None machine.start (actions_of commands) entries least greatest h in
+    let made = are_made machine most 0 None machine.start (actions_of commands) (Ok entries) entries least greatest h refl in
     record { motions = made.indices; start = clear_at machine None (grid machine.step machine.start) start; clear = made.clear }
 
 -- ---- motions that clear undivided
@@ -122,85 +124,119 @@ cleared_undivided machine most tool w least clear = elim (cases_lt 1 most) [
       subst (λ n. cleared machine n tool w ≡ Some (pieces_of machine.step w 1)) e (only_one (pieces_of machine.step w) (is_clear_in machine tool w) 1 clear)
 ]
 
--- a list is made
-abbrev IsMade : Result (List Entry) ℕ → Type 0
-IsMade r = (entries : List Entry) × (r ≡ Ok entries)
+found_undivided : (machine : MachineFile) (most : ℕ) (tool : Option Tool) (w : Way) (found : Option (List Piece)) → 1 ≤ most → is_clear_in machine tool w 1 ≡ true →
+    MayFind machine most tool w found → found ≡ Some (pieces_of machine.step w 1)
+found_undivided machine most tool (Line b e) found least clear may = may ∙ cleared_undivided machine most tool (Line b e) least clear
+found_undivided machine most tool (Arc a) found least clear may = may.whole clear
 
-made_more : (k : ℕ) (pieces : List Piece) (found : Option (List Piece)) (rest : Result (List Entry) ℕ) → found ≡ Some pieces → IsMade rest → IsMade (with_pieces k found rest)
-made_more k pieces found rest e r =
-    (record { index = k; pieces = pieces } ∷ r.0, ap₂ (with_pieces k) e r.1)
+-- a list, and no refusal
+abbrev IsList : Result (List Entry) ℕ → Type 0
+IsList r = (entries : List Entry) × (r ≡ Ok entries)
 
-all_made : (machine : MachineFile) (most k : ℕ) (tool : Option Tool) (place : Point3) (actions : List Action) → 1 ≤ most →
-    clears_from machine tool place actions ≡ true → IsMade (made_from machine most k tool place actions)
-all_made machine most k tool place [] least h = ([], refl)
-all_made machine most k tool place (Mount new ∷ actions) least h =
+list_more : (k : ℕ) (pieces : List Piece) (found : Option (List Piece)) (rest : Result (List Entry) ℕ) → found ≡ Some pieces → IsList rest → IsList (with_pieces k found rest)
+list_more k pieces found rest e r = (record { index = k; pieces = pieces } ∷ r.0, ap₂ (with_pieces k) e r.1)
+
+all_made : (machine : MachineFile) (most k : ℕ) (tool : Option Tool) (place : Point3) (actions : List Action) (says : Result (List Entry) ℕ) → 1 ≤ most →
+    clears_from machine tool place actions ≡ true → IsMadeFrom machine most k tool place actions says → IsList says
+all_made machine most k tool place [] says least h made = ([], made)
+all_made machine most k tool place (Mount new ∷ actions) says least h made =
     let e = both (is_none (place_fault machine new (grid machine.step place))) (clears_from machine new place actions) h in
-    let rest = all_made machine most (k + 1) new place actions least e.1 in
-    (rest.0, ap (λ o. unless_met o k (made_from machine most (k + 1) new place actions)) (none_of (place_fault machine new (grid machine.step place)) e.0) ∙ rest.1)
-all_made machine most k tool place (Move m ∷ actions) least h =
+    let rest = all_made machine most (k + 1) new place actions made.0 least e.1 made.1 in
+    (rest.0, made.2 ∙ ap (λ o. unless_met o k made.0) (none_of (place_fault machine new (grid machine.step place)) e.0) ∙ rest.1)
+all_made machine most k tool place (Move m ∷ actions) says least h made =
     let e = both (is_none (pieces_fault machine tool m.way (pieces_of machine.step m.way 1))) (clears_from machine tool (end_of m.way) actions) h in
-    made_more k (pieces_of machine.step m.way 1) (cleared machine most tool m.way) (made_from machine most (k + 1) tool (end_of m.way) actions)
-    (cleared_undivided machine most tool m.way least e.0) (all_made machine most (k + 1) tool (end_of m.way) actions least e.1)
-all_made machine most k tool place (_ ∷ actions) least h = all_made machine most (k + 1) tool place actions least h
+    let rest = all_made machine most (k + 1) tool (end_of m.way) actions made.1 least e.1 made.3 in
+    let more = list_more k (pieces_of machine.step m.way 1) made.0 made.1 (found_undivided machine most tool m.way made.0 least e.0 made.2) rest in
+    (more.0, made.4 ∙ more.1)
+all_made machine most k tool place (_ ∷ actions) says least h made = all_made machine most (k + 1) tool place actions says least h made
 
-pub undivided_made : (machine : MachineFile) (most : ℕ) (off on : List Command) → 1 ≤ most → clears_undivided machine off ≡ true → clears_undivided machine on ≡ true →
-    (c : CertificateData) × (made machine most off on ≡ Ok c)
-undivided_made machine most off on least a b =
+undivided_made : (machine : MachineFile) (most : ℕ) (off on : List Command) (says : Result CertificateData MakeFault) → 1 ≤ most →
+    clears_undivided machine off ≡ true → clears_undivided machine on ≡ true → IsMade machine most off on says → (c : CertificateData) × (says ≡ Ok c)
+undivided_made machine most off on says least a b made =
     let start = place_fault machine None (grid machine.step machine.start) in
     let e = both (is_none start) (clears_from machine None machine.start (actions_of off)) a in
     let f = both (is_none start) (clears_from machine None machine.start (actions_of on)) b in
-    let p = all_made machine most 0 None machine.start (actions_of off) least e.1 in
-    let q = all_made machine most 0 None machine.start (actions_of on) least f.1 in
-    (record { off = p.0; on = q.0 }, ap (λ o. from_start o (join_settings (setting_made machine most off) (setting_made machine most on))) (none_of start e.0) ∙ ap₂ join_settings p.1 q.1)
-
-ok_err : {X E : Type 0} (x : X) (e : E) (r : Result X E) → r ≡ Ok x → r ≡ Err e → ⊥
-ok_err x e r h i = cc
+    let p = all_made machine most 0 None machine.start (actions_of off) made.0 least e.1 made.2 in
+    let q = all_made machine most 0 None machine.start (actions_of on) made.1 least f.1 made.3 in
+    (record { off = p.0; on = q.0 }, made.4 ∙ ap (λ o. from_start o (join_settings made.0 made.1)) (none_of start e.0) ∙ ap₂ join_settings p.1 q.1)
 
 -- where a setting is refused, not all motions clear undivided
 refused_undivided : (machine : MachineFile) (most : ℕ) (off on : List Command) (s : Setting) (refusal : Refusal) → 1 ≤ most →
-    GivesMade {X = CertificateData} (λ c. c) (Err (fault_at s refusal)) (made machine most off on) →
+    GivesMade {X = CertificateData} (λ c. c) (Err (fault_at s refusal)) (IsMade machine most off on) →
     clears_undivided machine off ≡ true → clears_undivided machine on ≡ true → fault_at s refusal ≡ Memory
 refused_undivided machine most off on s (refusals.NotCleared k) least h a b =
-    let m = undivided_made machine most off on least a b in
-    absurd (ok_err m.0 (NotCleared s k) (made machine most off on) m.1 h)
+    let m = undivided_made machine most off on (Err (NotCleared s k)) least a b h in
+    absurd (err_ok m.0 (NotCleared s k) m.1)
 refused_undivided machine most off on s refusals.Memory least h a b = refl
-
-off_refused : (machine : MachineFile) (most : ℕ) (off on : List Command) (refusal : Refusal) →
-    is_none (place_fault machine None (grid machine.step machine.start)) ≡ true → GivesSetting {X = List Entry} (λ m. m) (Err refusal) (setting_made machine most off) →
-    GivesMade {X = CertificateData} (λ c. c) (Err (fault_at Off refusal)) (made machine most off on)
-off_refused machine most off on (refusals.NotCleared k) start h =
-    let e = none_of (place_fault machine None (grid machine.step machine.start)) start in
-    ap₂ (λ o r. from_start o (join_settings r (setting_made machine most on))) e h
-off_refused machine most off on refusals.Memory start h = tt
-
-on_refused : (machine : MachineFile) (most : ℕ) (off on : List Command) (entries : List Entry) (refusal : Refusal) →
-    is_none (place_fault machine None (grid machine.step machine.start)) ≡ true → setting_made machine most off ≡ Ok entries → GivesSetting {X = List Entry} (λ m. m) (Err refusal) (setting_made machine most on) →
-    GivesMade {X = CertificateData} (λ c. c) (Err (fault_at On refusal)) (made machine most off on)
-on_refused machine most off on entries (refusals.NotCleared k) start first h =
-    let e = none_of (place_fault machine None (grid machine.step machine.start)) start in
-    ap (λ o. from_start o (join_settings (setting_made machine most off) (setting_made machine most on))) e ∙ ap₂ join_settings first h
-on_refused machine most off on entries refusals.Memory start first h = tt
 
 -- ---- the answers of the maker, from what it found at the start and at the settings
 
+no_fixture : (machine : MachineFile) (clear : Bool) → clear ≡ is_none (place_fault machine None (grid machine.step machine.start)) → clear ≡ true →
+    place_fault machine None (grid machine.step machine.start) ≡ None
+no_fixture machine clear start here = none_of (place_fault machine None (grid machine.step machine.start)) (sym start ∙ here)
+
+met_start : (found : Option ℕ) (rest : Result CertificateData MakeFault) → is_none found ≡ false → Err (NotCleared Off 0) ≡ from_start found rest
+met_start None rest h = absurd (true≢false h)
+  where
+    true≢false : true ≡ false → ⊥
+    true≢false k = cc
+met_start (Some fixture) rest h = refl
+
+pub start_refused : (machine : MachineFile) (most : ℕ) (off on : List Command) (clear : Bool) → clear ≡ is_none (place_fault machine None (grid machine.step machine.start)) → clear ≡ false →
+    IsMade machine most off on (Err (NotCleared Off 0))
+start_refused machine most off on clear start here =
+    let first = some_made machine most 0 None machine.start (actions_of off) in
+    let second = some_made machine most 0 None machine.start (actions_of on) in
+    (first.0, second.0, first.1, second.1, met_start (place_fault machine None (grid machine.step machine.start)) (join_settings first.0 second.0) (sym start ∙ here))
+
+pub off_refused : {X : Type 0} (view : X → CertificateData) (machine : MachineFile) (most : ℕ) (off on : List Command) (clear : Bool) (refusal : Refusal) (fault : MakeFault) →
+    clear ≡ is_none (place_fault machine None (grid machine.step machine.start)) → clear ≡ true →
+    GivesSetting {X = List Entry} (λ m. m) (Err refusal) (IsSettingMade machine most off) → fault ≡ fault_at Off refusal →
+    GivesMade view (Err fault) (IsMade machine most off on)
+off_refused view machine most off on clear refusal fault start here h same =
+    subst (λ f. GivesMade view (Err f) (IsMade machine most off on)) (sym same) (at_off refusal h)
+  where
+    at_off : (r : Refusal) → GivesSetting {X = List Entry} (λ m. m) (Err r) (IsSettingMade machine most off) → GivesMade view (Err (fault_at Off r)) (IsMade machine most off on)
+    at_off (refusals.NotCleared k) made =
+        let second = some_made machine most 0 None machine.start (actions_of on) in
+        (Err k, second.0, made, second.1, ap (λ o. from_start o (join_settings (Err k) second.0)) (sym (no_fixture machine clear start here)))
+    at_off refusals.Memory made = tt
+
+pub on_refused : {X : Type 0} (view : X → CertificateData) (machine : MachineFile) (most : ℕ) (off on : List Command) (clear : Bool) (entries : List Entry) (refusal : Refusal) (fault : MakeFault) →
+    clear ≡ is_none (place_fault machine None (grid machine.step machine.start)) → clear ≡ true → IsSettingMade machine most off (Ok entries) →
+    GivesSetting {X = List Entry} (λ m. m) (Err refusal) (IsSettingMade machine most on) → fault ≡ fault_at On refusal →
+    GivesMade view (Err fault) (IsMade machine most off on)
+on_refused view machine most off on clear entries refusal fault start here first h same =
+    subst (λ f. GivesMade view (Err f) (IsMade machine most off on)) (sym same) (at_on refusal h)
+  where
+    at_on : (r : Refusal) → GivesSetting {X = List Entry} (λ m. m) (Err r) (IsSettingMade machine most on) → GivesMade view (Err (fault_at On r)) (IsMade machine most off on)
+    at_on (refusals.NotCleared k) made = (Ok entries, Err k, first, made, ap (λ o. from_start o (join_settings (Ok entries) (Err k))) (sym (no_fixture machine clear start here)))
+    at_on refusals.Memory made = tt
+
+pub both_made : (machine : MachineFile) (most : ℕ) (off on : List Command) (clear : Bool) (off_entries on_entries : List Entry) →
+    clear ≡ is_none (place_fault machine None (grid machine.step machine.start)) → clear ≡ true →
+    IsSettingMade machine most off (Ok off_entries) → IsSettingMade machine most on (Ok on_entries) → IsMade machine most off on (Ok (record { off = off_entries; on = on_entries }))
+both_made machine most off on clear off_entries on_entries start here first second =
+    (Ok off_entries, Ok on_entries, first, second, ap (λ o. from_start o (join_settings (Ok off_entries) (Ok on_entries))) (sym (no_fixture machine clear start here)))
+
 pub off_undivided : (machine : MachineFile) (most : ℕ) (off on : List Command) (clear : Bool) (refusal : Refusal) (fault : MakeFault) → 1 ≤ most →
     clear ≡ is_none (place_fault machine None (grid machine.step machine.start)) → clear ≡ true →
-    GivesSetting {X = List Entry} (λ m. m) (Err refusal) (setting_made machine most off) → fault ≡ fault_at Off refusal →
+    GivesSetting {X = List Entry} (λ m. m) (Err refusal) (IsSettingMade machine most off) → fault ≡ fault_at Off refusal →
     clears_undivided machine off ≡ true → clears_undivided machine on ≡ true → fault ≡ Memory
 off_undivided machine most off on clear refusal fault least start here given same a b =
-    same ∙ refused_undivided machine most off on Off refusal least (off_refused machine most off on refusal (sym start ∙ here) given) a b
+    same ∙ refused_undivided machine most off on Off refusal least (off_refused {X = CertificateData} (λ c. c) machine most off on clear refusal (fault_at Off refusal) start here given refl) a b
 
 pub on_undivided : (machine : MachineFile) (most : ℕ) (off on : List Command) (clear : Bool) (entries : List Entry) (refusal : Refusal) (fault : MakeFault) → 1 ≤ most →
     clear ≡ is_none (place_fault machine None (grid machine.step machine.start)) → clear ≡ true →
-    setting_made machine most off ≡ Ok entries → GivesSetting {X = List Entry} (λ m. m) (Err refusal) (setting_made machine most on) → fault ≡ fault_at On refusal →
+    IsSettingMade machine most off (Ok entries) → GivesSetting {X = List Entry} (λ m. m) (Err refusal) (IsSettingMade machine most on) → fault ≡ fault_at On refusal →
     clears_undivided machine off ≡ true → clears_undivided machine on ≡ true → fault ≡ Memory
 on_undivided machine most off on clear entries refusal fault least start here first given same a b =
-    same ∙ refused_undivided machine most off on On refusal least (on_refused machine most off on entries refusal (sym start ∙ here) first given) a b
+    same ∙ refused_undivided machine most off on On refusal least (on_refused {X = CertificateData} (λ c. c) machine most off on clear entries refusal (fault_at On refusal) start here first given refl) a b
 
 pub both_valid : (machine : MachineFile) (most : ℕ) (off on : List Command) (clear : Bool) (off_entries on_entries : List Entry) → 1 ≤ most → most ≤ 65535 →
     clear ≡ is_none (place_fault machine None (grid machine.step machine.start)) → clear ≡ true →
-    setting_made machine most off ≡ Ok off_entries → setting_made machine most on ≡ Ok on_entries →
+    IsSettingMade machine most off (Ok off_entries) → IsSettingMade machine most on (Ok on_entries) →
     IsValid machine off off_entries × IsValid machine on on_entries
 both_valid machine most off on clear off_entries on_entries least greatest start here first second =
-    let e = none_of (place_fault machine None (grid machine.step machine.start)) (sym start ∙ here) in
+    let e = no_fixture machine clear start here in
     (valid_setting machine most off off_entries least greatest e first, valid_setting machine most on on_entries least greatest e second)

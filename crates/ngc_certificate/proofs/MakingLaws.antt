@@ -1,17 +1,26 @@
 -- From one command to the next.
-use Rattle.std.proofs.Common.{◌≡◌, ℕ, ◌+◌, ◌≤◌, refl, ap, sym, ◌∙◌, List, [], ◌∷◌, ◌++◌, length, Some, None, Ok, Err, arith, append_assoc, length-append}
-use Rattle.std.specs.Prelude.{Option, Result}
+use Rattle.std.proofs.Common.{◌≡◌, ℕ, ◌+◌, ◌≤◌, ◌<◌, refl, ap, sym, subst, ◌∙◌, drop, get_or, add-one, drop-cons, List, [], ◌∷◌, ◌++◌, length, Some, None, Ok, Err, arith, append_assoc, append-nil, length-append}
+use Rattle.std.specs.Prelude.{Option, Result, Bool, true, false}
+use Rattle.std.specs.Option.{is_none}
+use Rattle.ngc_fixed_length.specs.Grid.{grid}
 use Rattle.ngc_fixed_length.specs.declared.points.Point3.{Point3}
 use Rattle.ngc_machine.specs.Machine.{MachineFile}
 use Rattle.ngc_machine.specs.declared.tools.Tool.{Tool}
 use Rattle.ngc_canonical.specs.declared.movement.Motion.{Motion}
 use Rattle.ngc_canonical.specs.declared.command.Action.{Action}
-use Rattle.ngc_canonical.specs.declared.command.Action.TheVariants.{Move}
-use Rattle.ngc_canonical.specs.Movement.{end_of}
+use Rattle.ngc_canonical.specs.declared.command.Action.TheVariants.{Move, Mount}
+use Rattle.ngc_canonical.specs.declared.command.Command.{Command}
+use Rattle.ngc_canonical.specs.Movement.{actions_of, end_of}
+use Rattle.std.proofs.Math.ListN.{drop_of_length-le}
 use Rattle.ngc_certificate_text.specs.declared.piece.Piece.{Piece}
 use Rattle.ngc_certificate_text.specs.Certificate.{Entry}
-use Rattle.ngc_certificate.specs.Made.{cleared, with_entry, with_pieces, made_from}
-use Rattle.ngc_certificate.specs.Making.{behind}
+use Rattle.ngc_certificate.specs.PieceFault.{place_fault}
+use Rattle.ngc_certificate.specs.Made.{with_entry, unless_met, MayFind, IsMadeFrom, IsSettingMade}
+use Rattle.ngc_certificate.specs.Making.{behind, IsGivenFrom, Leads, GivesSetting}
+use Rattle.ngc_certificate.specs.declared.maker.Progress.{Progress}
+use Rattle.ngc_certificate.specs.declared.maker.Refusal.{Refusal}
+use Rattle.ngc_certificate.specs.declared.maker.Refusal.TheVariants.{NotCleared, Memory}
+use Rattle.ngc_certificate.proofs.SomeMade.{some_made}
 
 behind_entry : (motions : List Entry) (k : ℕ) (pieces : List Piece) (r : Result (List Entry) ℕ) →
     behind motions (with_entry k pieces r) ≡ behind (motions ++ (record { index = k; pieces = pieces } ∷ [])) r
@@ -20,23 +29,66 @@ behind_entry motions k pieces (Ok rest) =
     ap (λ (l : List Entry). Ok l) (sym (append_assoc motions (e ∷ []) rest))
 behind_entry motions k pieces (Err refused) = refl
 
--- a motion that is cleared
-pub goes_on : (machine : MachineFile) (most k : ℕ) (tool : Option Tool) (place new_place : Point3) (motions new_motions : List Entry) (m : Motion) (pieces same : List Piece) (actions : List Action) →
-    cleared machine most tool m.way ≡ Some pieces → same ≡ pieces → new_motions ≡ motions ++ (record { index = k; pieces = same } ∷ []) → new_place ≡ end_of m.way →
-    behind motions (made_from machine most k tool place (Move m ∷ actions)) ≡ behind new_motions (made_from machine most (k + 1) tool new_place actions)
-goes_on machine most k tool place new_place motions new_motions m pieces same actions clear same_pieces added ends =
-    let rest = made_from machine most (k + 1) tool (end_of m.way) actions in
-    ap (λ o. behind motions (with_pieces k o rest)) clear
-    ∙ behind_entry motions k pieces rest
-    ∙ ap (λ ps. behind (motions ++ (record { index = k; pieces = ps } ∷ [])) rest) (sym same_pieces)
-    ∙ ap (λ ms. behind ms rest) (sym added)
-    ∙ ap (λ p. behind new_motions (made_from machine most (k + 1) tool p actions)) (sym ends)
+-- a motion for which pieces are found
+pub goes_on : (machine : MachineFile) (most k : ℕ) (tool : Option Tool) (place new_place : Point3) (motions new_motions : List Entry) (m : Motion) (pieces same : List Piece) (actions : List Action) (says rest : Result (List Entry) ℕ) →
+    MayFind machine most tool m.way (Some pieces) → same ≡ pieces → new_motions ≡ motions ++ (record { index = k; pieces = same } ∷ []) → new_place ≡ end_of m.way →
+    IsMadeFrom machine most (k + 1) tool new_place actions rest → says ≡ behind new_motions rest →
+    (all : Result (List Entry) ℕ) × IsMadeFrom machine most k tool place (Move m ∷ actions) all × (says ≡ behind motions all)
+goes_on machine most k tool place new_place motions new_motions m pieces same actions says rest found same_pieces added ends made e = (
+  with_entry k pieces rest,
+  (Some pieces, rest, found, subst (λ p. IsMadeFrom machine most (k + 1) tool p actions rest) ends made, refl),
+  e ∙ ap (λ ms. behind ms rest) added ∙ ap (λ ps. behind (motions ++ (record { index = k; pieces = ps } ∷ [])) rest) same_pieces ∙ sym (behind_entry motions k pieces rest),
+)
 
--- one that isn't
+-- one for which none are found
 pub stops : (machine : MachineFile) (most k : ℕ) (tool : Option Tool) (place : Point3) (motions : List Entry) (m : Motion) (actions : List Action) →
-    cleared machine most tool m.way ≡ None → behind motions (made_from machine most k tool place (Move m ∷ actions)) ≡ Err k
-stops machine most k tool place motions m actions clear =
-    ap (λ o. behind motions (with_pieces k o (made_from machine most (k + 1) tool (end_of m.way) actions))) clear
+    MayFind machine most tool m.way None → (all : Result (List Entry) ℕ) × IsMadeFrom machine most k tool place (Move m ∷ actions) all × (Err k ≡ behind motions all)
+stops machine most k tool place motions m actions found =
+    let rest = some_made machine most (k + 1) tool (end_of m.way) actions in
+    (Err k, (None, rest.0, found, rest.1, refl), refl)
+
+met : (found : Option ℕ) (k : ℕ) (motions : List Entry) (rest : Result (List Entry) ℕ) → is_none found ≡ false → Err k ≡ behind motions (unless_met found k rest)
+met None k motions rest h = absurd (true≢false h)
+  where
+    true≢false : true ≡ false → ⊥
+    true≢false e = cc
+met (Some fixture) k motions rest h = refl
+
+-- a tool that meets a fixture
+pub not_mounted : (machine : MachineFile) (most k : ℕ) (tool new : Option Tool) (place : Point3) (motions : List Entry) (actions : List Action) →
+    is_none (place_fault machine new (grid machine.step place)) ≡ false →
+    (all : Result (List Entry) ℕ) × IsMadeFrom machine most k tool place (Mount new ∷ actions) all × (Err k ≡ behind motions all)
+not_mounted machine most k tool new place motions actions h =
+    let rest = some_made machine most (k + 1) new place actions in
+    let found = place_fault machine new (grid machine.step place) in
+    (unless_met found k rest.0, (rest.0, rest.1, refl), met found k motions rest.0 h)
+
+-- ---- all commands of a setting
+
+pub nothing_before : (says rest : Result (List Entry) ℕ) → says ≡ behind [] rest → says ≡ rest
+nothing_before says (Ok rest) e = e
+nothing_before says (Err k) e = e
+
+pub nothing_behind : (motions : List Entry) → (rest : Result (List Entry) ℕ) × (rest ≡ Ok []) × (Ok motions ≡ behind motions rest)
+nothing_behind motions = (Ok [], refl, ap (λ (l : List Entry). Ok l) (sym (append-nil motions)))
 
 pub one_longer : (motions new_motions : List Entry) (e : Entry) → new_motions ≡ motions ++ (e ∷ []) → length new_motions ≤ length motions + 1
 one_longer motions new_motions e h = rw h (rw (length-append motions (e ∷ [])) (omega arith))
+
+-- what the commands from the next one on do
+pub next_action : (i : ℕ) (commands : List Command) (c : Command) → i < length commands → c ≡ get_or commands i c →
+    actions_of (drop i commands) ≡ c.action ∷ actions_of (drop (i + 1) commands)
+next_action i commands c h e =
+    let split = drop-cons commands i c h in
+    let first : drop i commands ≡ c ∷ drop (i + 1) commands = rw (split, ← e, add-one) refl in
+    ap actions_of first
+
+pub none_left : (i : ℕ) (commands : List Command) → length commands ≤ i → actions_of (drop i commands) ≡ []
+none_left i commands h = ap actions_of (drop_of_length-le commands {i = i} h)
+
+-- a command that isn't cleared
+pub stopped : {A : Type 0} (machine : MachineFile) (most k : ℕ) (commands : List Command) (action : Action) (left later : List Action) (old new : Progress A) (refusal : Refusal) →
+    ((says : Result (List Entry) ℕ) → IsGivenFrom machine most k old left says → IsSettingMade machine most commands says) → left ≡ action ∷ later →
+    Leads machine most k action old (Err refusal) new → GivesSetting {X = List Entry} (λ m. m) (Err refusal) (IsSettingMade machine most commands)
+stopped machine most k commands action left later old new (NotCleared n) leads split h = leads (Err n) (subst (λ actions. IsGivenFrom machine most k old actions (Err n)) (sym split) (h later))
+stopped machine most k commands action left later old new Memory leads split h = tt

@@ -1,9 +1,10 @@
 -- The certificate that is made for the commands of a program at both settings of block delete. Our own.
-use Rattle.std.specs.Prelude.{◌≡◌, ℕ, zero, suc, ◌+◌, ◌*◌, ◌/◌, nat_lt, ℤ, List, [], ◌∷◌, ◌++◌, Option, Some, None, option_map, Result, Ok, Err, Bool, true, ◌&&◌}
+use Rattle.std.specs.Prelude.{◌≡◌, ℕ, zero, suc, ◌+◌, ◌*◌, ◌/◌, ◌≤◌, nat_lt, ℤ, List, [], ◌∷◌, ◌++◌, length, Option, Some, None, option_map, Result, Ok, Err, Bool, true, false, ◌&&◌}
 use Rattle.std.specs.List.{find, filter}
 use Rattle.std.specs.Option.{is_none}
 use Rattle.ngc_fixed_length.specs.Grid.{grid}
 use Rattle.ngc_fixed_length.specs.declared.points.Point3.{Point3}
+use Rattle.ngc_arc_geometry.specs.Shape.{ArcShape}
 use Rattle.ngc_arc_geometry.specs.Shape as shapes
 use Rattle.ngc_arc_geometry.specs.Swept.{swept_box}
 use Rattle.ngc_machine.specs.Machine.{MachineFile}
@@ -33,7 +34,7 @@ line_pieces_from step b e c k zero = []
 line_pieces_from step b e c k (suc left) =
     line_piece step b e (WHOLE * k / c) (WHOLE * (k + 1) / c) ∷ line_pieces_from step b e c (k + 1) left
 
--- a motion in c pieces; an arc stands in one
+-- a motion undivided, or a line in c pieces
 abbrev pub pieces_of : ℤ → Way → ℕ → List Piece
 pieces_of step (Line b e) c = line_pieces_from step b e c 0 c
 pieces_of step (Arc a) c = record { end = Place (shapes.end_of a); bounds = swept_box step a } ∷ []
@@ -64,18 +65,44 @@ abbrev pub unless_met : Option ℕ → ℕ → Result (List Entry) ℕ → Resul
 unless_met None k rest = rest
 unless_met (Some fixture) k rest = Err k
 
--- From command k on, with the tool mounted and the place reached so far: each motion with its pieces, or the first command that
--- isn't cleared, a motion for which no try clears or a tool change that meets a fixture.
-abbrev pub made_from : MachineFile → ℕ → ℕ → Option Tool → Point3 → List Action → Result (List Entry) ℕ
-made_from machine most k tool place [] = Ok []
-made_from machine most k tool place (Mount new ∷ actions) =
-    unless_met (place_fault machine new (grid machine.step place)) k (made_from machine most (k + 1) new place actions)
-made_from machine most k tool place (Move m ∷ actions) =
-    with_pieces k (cleared machine most tool m.way) (made_from machine most (k + 1) tool (end_of m.way) actions)
-made_from machine most k tool place (_ ∷ actions) = made_from machine most (k + 1) tool place actions
+-- ---- what may be found for a motion
 
-abbrev pub setting_made : MachineFile → ℕ → List Command → Result (List Entry) ℕ
-setting_made machine most commands = made_from machine most 0 None machine.start (actions_of commands)
+-- an arc in several pieces, as many as are allowed, that no refusal meets
+pub record IsCutClear (machine : MachineFile) (most : ℕ) (tool : Option Tool) (a : ArcShape) (pieces : List Piece) : Type 0 where
+  pub few : length pieces ≤ most
+  pub clear : pieces_fault machine tool (Arc a) pieces ≡ None
+
+-- such pieces, or none
+abbrev pub MayCut : MachineFile → ℕ → Option Tool → ArcShape → Option (List Piece) → Type 0
+MayCut machine most tool a None = Unit {0}
+MayCut machine most tool a (Some pieces) = IsCutClear machine most tool a pieces
+
+-- an arc stands in one piece where that clears; else where it is cut is free
+pub record MayStand (machine : MachineFile) (most : ℕ) (tool : Option Tool) (a : ArcShape) (found : Option (List Piece)) : Type 0 where
+  pub whole : is_none (pieces_fault machine tool (Arc a) (pieces_of machine.step (Arc a) 1)) ≡ true → found ≡ Some (pieces_of machine.step (Arc a) 1)
+  pub cut : is_none (pieces_fault machine tool (Arc a) (pieces_of machine.step (Arc a) 1)) ≡ false → MayCut machine most tool a found
+
+-- a line stands in the first try that no refusal meets
+abbrev pub MayFind : MachineFile → ℕ → Option Tool → Way → Option (List Piece) → Type 0
+MayFind machine most tool (Line b e) found = found ≡ cleared machine most tool (Line b e)
+MayFind machine most tool (Arc a) found = MayStand machine most tool a found
+
+-- ---- what may be made
+
+-- From command k on, with the tool mounted and the place reached so far: each motion with pieces that may be found for it, or the
+-- first command that isn't cleared, a motion for which none are found or a tool change that meets a fixture.
+abbrev pub IsMadeFrom : MachineFile → ℕ → ℕ → Option Tool → Point3 → List Action → Result (List Entry) ℕ → Type 0
+IsMadeFrom machine most k tool place [] says = says ≡ Ok []
+IsMadeFrom machine most k tool place (Mount new ∷ actions) says =
+    (rest : Result (List Entry) ℕ) × IsMadeFrom machine most (k + 1) new place actions rest
+    × (says ≡ unless_met (place_fault machine new (grid machine.step place)) k rest)
+IsMadeFrom machine most k tool place (Move m ∷ actions) says =
+    (found : Option (List Piece)) × (rest : Result (List Entry) ℕ) × MayFind machine most tool m.way found
+    × IsMadeFrom machine most (k + 1) tool (end_of m.way) actions rest × (says ≡ with_pieces k found rest)
+IsMadeFrom machine most k tool place (_ ∷ actions) says = IsMadeFrom machine most (k + 1) tool place actions says
+
+abbrev pub IsSettingMade : MachineFile → ℕ → List Command → Result (List Entry) ℕ → Type 0
+IsSettingMade machine most commands says = IsMadeFrom machine most 0 None machine.start (actions_of commands) says
 
 -- both settings, or the first command that isn't cleared; that of a start point which isn't clear is command 0, block delete off
 abbrev pub join_settings : Result (List Entry) ℕ → Result (List Entry) ℕ → Result CertificateData MakeFault
@@ -87,16 +114,16 @@ abbrev pub from_start : Option ℕ → Result CertificateData MakeFault → Resu
 from_start None rest = rest
 from_start (Some fixture) rest = Err (NotCleared Off 0)
 
-abbrev pub made : MachineFile → ℕ → List Command → List Command → Result CertificateData MakeFault
-made machine most off on =
-    from_start (place_fault machine None (grid machine.step machine.start))
-    (join_settings (setting_made machine most off) (setting_made machine most on))
+abbrev pub IsMade : MachineFile → ℕ → List Command → List Command → Result CertificateData MakeFault → Type 0
+IsMade machine most off on says =
+    (first : Result (List Entry) ℕ) × (second : Result (List Entry) ℕ) × IsSettingMade machine most off first × IsSettingMade machine most on second
+    × (says ≡ from_start (place_fault machine None (grid machine.step machine.start)) (join_settings first second))
 
--- the definition's answer, unless memory ran out
-abbrev pub GivesMade : {X : Type 0} → (X → CertificateData) → Result X MakeFault → Result CertificateData MakeFault → Type 0
-GivesMade view (Ok x) says = says ≡ Ok (view x)
-GivesMade view (Err (NotCleared s k)) says = says ≡ Err (NotCleared s k)
-GivesMade view (Err Memory) says = Unit {0}
+-- an answer that may be given, unless memory ran out
+abbrev pub GivesMade : {X : Type 0} → (X → CertificateData) → Result X MakeFault → (Result CertificateData MakeFault → Type 0) → Type 0
+GivesMade view (Ok x) May = May (Ok (view x))
+GivesMade view (Err (NotCleared s k)) May = May (Err (NotCleared s k))
+GivesMade view (Err Memory) May = Unit {0}
 
 -- start and tool changes are clear, and every motion's undivided box clears
 abbrev pub clears_from : MachineFile → Option Tool → Point3 → List Action → Bool

@@ -20,7 +20,7 @@ use Rattle.ngc_certificate.specs.declared.maker.Progress.{Progress}
 use Rattle.ngc_certificate.specs.declared.maker.Refusal.{Refusal}
 use Rattle.ngc_certificate.specs.declared.maker.Refusal.TheVariants.{NotCleared, Memory}
 use Rattle.ngc_certificate.specs.PieceFault.{pieces_fault, place_fault}
-use Rattle.ngc_certificate.specs.Made.{pieces_of, made_from}
+use Rattle.ngc_certificate.specs.Made.{pieces_of, IsMadeFrom}
 
 -- an arc in one piece
 abbrev pub whole_arc : ℤ → ArcShape → Piece
@@ -43,22 +43,24 @@ abbrev pub behind : List Entry → Result (List Entry) ℕ → Result (List Entr
 behind entries (Ok rest) = Ok (entries ++ rest)
 behind entries (Err k) = Err k
 
--- what a setting gives, from command k on, where the commands that are left do this
-abbrev pub given_from : {A : Type 0} → MachineFile → ℕ → ℕ → Progress A → List Action → Result (List Entry) ℕ
-given_from machine most k p actions = behind p.motions (made_from machine most k p.tool p.place actions)
+-- what a setting may give, from command k on, where the commands that are left do this
+abbrev pub IsGivenFrom : {A : Type 0} → MachineFile → ℕ → ℕ → Progress A → List Action → Result (List Entry) ℕ → Type 0
+IsGivenFrom machine most k p actions says =
+    (rest : Result (List Entry) ℕ) × IsMadeFrom machine most k p.tool p.place actions rest × (says ≡ behind p.motions rest)
 
 -- command k leads on, or it isn't cleared, unless memory ran out
 abbrev pub Leads : {A : Type 0} → MachineFile → ℕ → ℕ → Action → Progress A → Result (Unit {0}) Refusal → Progress A → Type 0
-Leads machine most k d old (Ok done) new =
-    ((actions : List Action) → given_from machine most k old (d ∷ actions) ≡ given_from machine most (k + 1) new actions) × (length new.motions ≤ length old.motions + 1)
-Leads machine most k d old (Err (NotCleared command)) new = (actions : List Action) → given_from machine most k old (d ∷ actions) ≡ Err command
-Leads machine most k d old (Err Memory) new = Unit {0}
+Leads machine most k action old (Ok done) new =
+    ((actions : List Action) (says : Result (List Entry) ℕ) → IsGivenFrom machine most (k + 1) new actions says → IsGivenFrom machine most k old (action ∷ actions) says)
+    × (length new.motions ≤ length old.motions + 1)
+Leads machine most k action old (Err (NotCleared command)) new = (actions : List Action) → IsGivenFrom machine most k old (action ∷ actions) (Err command)
+Leads machine most k action old (Err Memory) new = Unit {0}
 
--- the answer that is due, unless memory ran out
-abbrev pub GivesSetting : {X : Type 0} → (X → List Entry) → Result X Refusal → Result (List Entry) ℕ → Type 0
-GivesSetting view (Ok x) says = says ≡ Ok (view x)
-GivesSetting view (Err (NotCleared command)) says = says ≡ Err command
-GivesSetting view (Err Memory) says = Unit {0}
+-- an answer that may be given, unless memory ran out
+abbrev pub GivesSetting : {X : Type 0} → (X → List Entry) → Result X Refusal → (Result (List Entry) ℕ → Type 0) → Type 0
+GivesSetting view (Ok x) May = May (Ok (view x))
+GivesSetting view (Err (NotCleared command)) May = May (Err command)
+GivesSetting view (Err Memory) May = Unit {0}
 
 -- what a refusal at a setting is
 abbrev pub fault_at : Setting → Refusal → MakeFault

@@ -4,12 +4,16 @@
 mod bounds;
 mod chain;
 mod cuts;
+mod cutting;
 mod derived;
 mod divide;
 mod fault;
+mod finding;
+mod furthest;
 pub mod laws;
 mod maker;
 mod pieces;
+mod quadrant;
 mod shared;
 mod stretch;
 

@@ -5,21 +5,16 @@ ghost use Rattle.ngc_canonical.specs.State.{COMMAND_LIMIT};
 ghost use Rattle.ngc_certificate_text.specs.Certificate.{INDEX_LIMIT, MOTION_LIMIT};
 ghost use Rattle.ngc_certificate_text.specs.Contents.{said_of};
 ghost use Rattle.ngc_certificate.specs.Valid.{IsValid};
-ghost use Rattle.ngc_certificate.specs.Made.{pieces_of, cleared, setting_made, made, GivesMade, clears_undivided};
-ghost use Rattle.ngc_certificate.specs.Making.{is_clear_at, is_clear_in, pieces_where, Leads, GivesSetting, fault_at};
+ghost use Rattle.ngc_certificate.specs.Made.{IsSettingMade, IsMade, GivesMade, clears_undivided};
+ghost use Rattle.ngc_certificate.specs.Making.{is_clear_at, Leads, GivesSetting, fault_at};
 
-use crate::divide::divide;
 use crate::fault::MakeFault;
-use crate::pieces::{pieces_fault, place_fault};
-use ngc_canonical::{Action, Command, Machine, Motion, Tool, Way};
+use crate::finding::find_clear;
+use crate::pieces::place_fault;
+use ngc_canonical::{Action, Command, Machine, Motion, Tool};
 use ngc_certificate_text::{Certificate, Motions, Piece, Setting};
 use ngc_fixed_length::Point3;
-use std::alloc::{AllocError, Allocator};
-
-/// In how many pieces a motion is tried, where that is less than the most.
-const POWERS_OF_TWO: [u16; 16] = [
-    1, 2, 4, 8, 16, 32, 64, 128, 256, 512, 1024, 2048, 4096, 8192, 16384, 32768,
-];
+use std::alloc::Allocator;
 
 /// Why a setting has no motions with pieces: it doesn't clear this command, counted from 0, or memory ran out.
 #[derive(Clone, Copy, Debug)]
@@ -41,44 +36,6 @@ fn is_clear_at<A: Allocator>(machine: &Machine<A>, tool: &Option<Tool>, place: &
     ensures { result ≡ is_clear_at (file_of machine.now) tool.now place.now }
 {
     place_fault(machine, *tool, &place.to_grid(machine.step)).is_none()
-}
-
-// Makes `pieces` those of a motion in `count`, and answers whether no refusal meets them.
-fn clears_in<A: Allocator>(
-    machine: &Machine<A>,
-    tool: &Option<Tool>,
-    way: &Way,
-    count: u16,
-    pieces: &mut Vec<Piece, A>,
-) -> Result<bool, AllocError>
-    requires { 1 ≤ count }
-    ensures pieces { IfOk result (λ clear. pieces.new.items ≡ pieces_of machine.now.step way.now count) }
-    ensures clear { IfOk result (λ free. free ≡ is_clear_in (file_of machine.now) tool.now way.now count) }
-{
-    divide(machine.step, way, count, pieces)?;
-    Ok(pieces_fault(machine, *tool, way, pieces.as_slice()).is_none())
-}
-
-// Makes `pieces` those of a motion in the first number of pieces that no refusal meets, and answers whether there is one.
-fn find_clear<A: Allocator>(
-    machine: &Machine<A>,
-    tool: &Option<Tool>,
-    way: &Way,
-    most: u16,
-    pieces: &mut Vec<Piece, A>,
-) -> Result<bool, AllocError>
-    requires { 1 ≤ most }
-    ensures { IfOk result (λ clear. cleared (file_of machine.now) most tool.now way.now ≡ pieces_where clear pieces.new.items) }
-{
-    for count in POWERS_OF_TWO {
-        if count >= most {
-            continue;
-        }
-        if clears_in(machine, tool, way, count, pieces)? {
-            return Ok(true);
-        }
-    }
-    clears_in(machine, tool, way, most, pieces)
 }
 
 impl<A: Allocator + Copy> Progress<A> {
@@ -108,7 +65,7 @@ impl<A: Allocator> Progress<A> {
         Ok(())
     }
 
-    // A motion, in as few pieces as clear it. `pieces` is room for them.
+    // A motion, in pieces that clear it. `pieces` is room for them.
     fn move_along(
         &mut self,
         machine: &Machine<A>,
@@ -167,7 +124,7 @@ fn setting_motions<A: Allocator + Copy>(
 ) -> Result<Motions<A>, Refusal>
     requires most { 1 ≤ most }
     requires count { length commands.now ≤ COMMAND_LIMIT }
-    ensures { GivesSetting (λ v. v) result (setting_made (file_of machine.now) most commands.now) }
+    ensures { GivesSetting (λ v. v) result (IsSettingMade (file_of machine.now) most commands.now) }
 {
     let mut progress = Progress::at_start(alloc, machine);
     for (index, command) in commands.iter().enumerate() {
@@ -193,7 +150,8 @@ fn fault_at(setting: Setting, refusal: Refusal) -> MakeFault
 /// cleared (304), or 900.
 ///
 /// A line is tried in 1, 2, 4 .. pieces of about one length below `cuts`, and then in `cuts`, of which the first number that
-/// clears is taken; an arc stands in one piece. `cuts` is at least 1. Each setting has at most a million commands.
+/// clears is taken. An arc stands in one piece where that clears it; else it is cut into at most `cuts`, where a way is found.
+/// `cuts` is at least 1. Each setting has at most a million commands.
 pub fn make<A: Allocator + Copy>(
     alloc: A,
     off: &[Command],
@@ -204,7 +162,7 @@ pub fn make<A: Allocator + Copy>(
     requires cuts { 1 ≤ cuts }
     requires off { length off.now ≤ COMMAND_LIMIT }
     requires on { length on.now ≤ COMMAND_LIMIT }
-    ensures made { GivesMade said_of result (made (file_of machine.now) cuts off.now on.now) }
+    ensures made { GivesMade said_of result (IsMade (file_of machine.now) cuts off.now on.now) }
     ensures valid { IfOk result (λ c. IsValid (file_of machine.now) off.now (said_of c).off × IsValid (file_of machine.now) on.now (said_of c).on) }
     ensures undivided { clears_undivided (file_of machine.now) off.now ≡ true → clears_undivided (file_of machine.now) on.now ≡ true → MatchResult result (λ c. Unit {0}) (λ e. e ≡ MakeFault.Memory) }
 {

@@ -16,7 +16,7 @@ use Rattle.ngc_certificate_text.specs.Spelling.{spelling}
 use Rattle.ngc_certificate_text.specs.declared.piece.Setting.TheVariants.{Off, On}
 use Rattle.ngc_certificate.specs.declared.fault.MakeFault.{MakeFault}
 use Rattle.ngc_certificate.specs.declared.fault.MakeFault.TheVariants.{NotCleared, Memory}
-use Rattle.ngc_certificate.specs.Made.{made, GivesMade}
+use Rattle.ngc_certificate.specs.Made.{IsMade, GivesMade}
 use Rattle.ngc_certificate.specs.Valid.{IsValid}
 use Rattle.ngc_checker.specs.declared.fault.CheckFault.{CheckFault}
 use Rattle.ngc_checker.specs.Accepted.{AcceptedData, Answers}
@@ -52,7 +52,7 @@ means_both setup bytes text off on is_text have off_means on_means = record {
 
 pub made_for : (setup : Setup) (bytes : List ℕ) (cuts : ℕ) (text : ProgramText) (off given_off on given_on : List Command) (c : CertificateData)
     → given_off ≡ off → given_on ≡ on → program_of bytes ≡ Ok text → HaveReadings text.lines → Means text setup false (Ok off) → Means text setup true (Ok on)
-    → made setup.machine cuts given_off given_on ≡ Ok c → IsValid setup.machine given_off c.off → IsValid setup.machine given_on c.on → IsMadeFor setup bytes cuts c
+    → IsMade setup.machine cuts given_off given_on (Ok c) → IsValid setup.machine given_off c.off → IsValid setup.machine given_on c.on → IsMadeFor setup bytes cuts c
 made_for setup bytes cuts text off given_off on given_on c same_off same_on is_text have off_means on_means is_made off_valid on_valid = record {
   off = given_off;
   on = given_on;
@@ -77,7 +77,7 @@ keeps_same (Some bytes) = refl
 
 pub not_made : {X : Type 0} (view : X → CertificateData) (setup : Setup) (bytes : List ℕ) (cuts : ℕ) (known : Option (List ℕ)) (text : ProgramText) (off given_off on given_on : List Command) (fault : MakeFault)
     → given_off ≡ off → given_on ≡ on → program_of bytes ≡ Ok text → HaveReadings text.lines → Means text setup false (Ok off) → Means text setup true (Ok on)
-    → GivesMade view (Err fault) (made setup.machine cuts given_off given_on) → Certifies setup bytes cuts known known (Err (certifies.Make fault))
+    → GivesMade view (Err fault) (IsMade setup.machine cuts given_off given_on) → Certifies setup bytes cuts known known (Err (certifies.Make fault))
 not_made view setup bytes cuts known text off given_off on given_on Memory same_off same_on is_text have off_means on_means says = (tt, keeps_same known)
 not_made view setup bytes cuts known text off given_off on given_on (NotCleared s k) same_off same_on is_text have off_means on_means says = (
   (

@@ -20,7 +20,7 @@ use Rattle.ngc_certificate_text.specs.Said.{certificate_said}
 use Rattle.ngc_certificate_text.specs.Spelling.{spelling}
 use Rattle.ngc_certificate.specs.declared.fault.MakeFault.{MakeFault}
 use Rattle.ngc_certificate.specs.declared.fault.MakeFault.TheVariants.{NotCleared, Memory}
-use Rattle.ngc_certificate.specs.Made.{made}
+use Rattle.ngc_certificate.specs.Made.{IsMade}
 use Rattle.ngc_certificate.specs.Valid.{IsValid}
 use Rattle.ngc_checker.specs.Accepted.{IsFirst}
 use Rattle.ngc_checker.specs.FirstRefusal.{first_refusal}
@@ -51,7 +51,7 @@ pub record IsMadeFor (setup : Setup) (bytes : List ℕ) (cuts : ℕ) (c : Certif
   pub off : List Command
   pub on : List Command
   pub means : AreMeanings setup bytes off on
-  pub made : made setup.machine cuts off on ≡ Ok c
+  pub made : IsMade setup.machine cuts off on (Ok c)
   pub off_valid : IsValid setup.machine off c.off
   pub on_valid : IsValid setup.machine on c.on
 
@@ -69,7 +69,7 @@ refused_at setting programs.Memory = certifies.Make Memory
 abbrev pub IsNotMade : Setup → List ℕ → ℕ → MakeFault → Type 0
 IsNotMade setup bytes cuts Memory = Unit {0}
 IsNotMade setup bytes cuts (NotCleared s k) =
-    (off : List Command) × (on : List Command) × AreMeanings setup bytes off on × (made setup.machine cuts off on ≡ Err (NotCleared s k))
+    (off : List Command) × (on : List Command) × AreMeanings setup bytes off on × IsMade setup.machine cuts off on (Err (NotCleared s k))
 
 -- Of a program's file and a sink: the text of its certificate was written, or a beginning of it where the sink failed; where
 -- none is made, what was written is as it was.

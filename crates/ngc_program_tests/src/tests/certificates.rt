@@ -165,7 +165,7 @@ const NOT_MADE: &[(&str, &str, u16, &str)] = &[
     (
         POST,
         ROUND_THE_POST,
-        8,
+        7,
         "ngc: fault 304 setting off command 1\n",
     ),
     (
@@ -465,6 +465,65 @@ fn pieces_of_arcs(rt: HostRuntime) -> Result<(), Fail> {
         let certificate = certificate_of_an_arc(rt.alloc(), pieces)?;
         let text = certificate.as_str();
         checks(&rt, rt.alloc(), fixtures, program, text, *wanted)?;
+    }
+    Ok(())
+}
+
+// Arcs round a fixture: in which program, in how many pieces at most, and how the certificate says the arc.
+const CUT_ARCS: &[(&str, u16, &[u8])] = &[
+    (ROUND_THE_POST, 8, b"\nmotion 1 8\narc "),
+    (ROUND_THE_POST, 100, b"\nmotion 1 8\narc "),
+    (
+        "G0 X10 Y50\nG3 X10 Y50 I30 J0 F600\nM2\n",
+        8,
+        b"\nmotion 1 8\narc ",
+    ),
+    (
+        "G0 X10 Y50\nG2 X10 Y50 Z-5 I30 J0 F600\nM2\n",
+        8,
+        b"\nmotion 1 8\narc ",
+    ),
+];
+
+fn holds(text: &[u8], part: &[u8]) -> bool {
+    text.windows(part.len()).any(|window| window == part)
+}
+
+// What is made for them is accepted.
+fn is_cut_and_accepted(
+    rt: &impl Abort,
+    alloc: Global,
+    program: &str,
+    cuts: u16,
+    beginning: &[u8],
+) -> Result<(), Fail> {
+    let machine = format!(in alloc; "{MACHINE}{POST}")?;
+    let texts = Texts {
+        machine: machine.as_bytes(),
+        ..on_the_mill(program)
+    };
+    let found = outcome_of(alloc, texts, &Options::Certify(certify_options(cuts)));
+    found.has_no_fault(rt, program);
+    assert!(rt; holds(found.output.as_slice(), beginning), "at {program}");
+    let texts = Texts {
+        certificate: found.output.as_slice(),
+        ..texts
+    };
+    comes_to(
+        rt,
+        alloc,
+        texts,
+        &Options::Check(CHECK),
+        Ok(ACCEPTED),
+        program,
+    );
+    Ok(())
+}
+
+#[test]
+fn arcs_that_are_cut(rt: HostRuntime) -> Result<(), Fail> {
+    for (program, cuts, beginning) in CUT_ARCS {
+        is_cut_and_accepted(&rt, rt.alloc(), program, *cuts, beginning)?;
     }
     Ok(())
 }

@@ -11,5 +11,5 @@ returns-in-Some c = λ step h.
     let large = sym c.is_large.ensures ∙ c.if-is_large.true in
     let box = box_is step c.args.arc.now c.args.stretch.now c.place_of.result g (sym c.in-Some.is ∙ h.cut) large in
     c.holds.ensures
-    ∙ ap (holds_box c.args.outer.now) (c.cut_box.ensures ∙ ap (λ b. cut_box g.step g.arc b c.place_of.result) c.place_of-begin.ensures ∙ box)
+    ∙ ap (holds_box c.args.outer.now) (c.cut_box.ensures.value ∙ ap (λ b. cut_box g.step g.arc b c.place_of.result) c.place_of-begin.ensures ∙ box)
     ∙ ap (λ q. holds_box c.args.outer.now (box_of_arc step c.args.arc.now c.args.stretch.now q)) c.place_of.ensures

@@ -1,7 +1,27 @@
 use Rattle.std.proofs.Common.{arith}
 use Rattle.ngc_machine.specs.Machine.{file_of}
-use Rattle.ngc_certificate.proofs.MadeLaws.{off_undivided, on_undivided, both_valid}
+use Rattle.ngc_certificate_text.specs.Certificate.{CertificateData}
+use Rattle.ngc_certificate.proofs.MadeLaws.{start_refused, off_refused, on_refused, both_made, off_undivided, on_undivided, both_valid}
 use Rattle.ngc_certificate.proofs.maker.make.Goals as goal
+
+pub returns-then-not-is_clear_at-clause-made : goal.returns-then-not-is_clear_at-clause-made
+returns-then-not-is_clear_at-clause-made g c =
+    start_refused (file_of c.args.machine.now) c.args.cuts c.args.off.now c.args.on.now c.is_clear_at.result c.is_clear_at.ensures c.if-not-is_clear_at.true
+
+pub returns-in-Err-clause-made : goal.returns-in-Err-clause-made
+returns-in-Err-clause-made g c =
+    off_refused {X = CertificateData} (λ x. x) (file_of c.args.machine.now) c.args.cuts c.args.off.now c.args.on.now c.is_clear_at.result c.in-Err.refusal c.fault_at.result
+    c.is_clear_at.ensures c.if-not-is_clear_at.false c.in-Err.ensures c.fault_at.ensures
+
+pub returns-in-Err-setting_motions-clause-made : goal.returns-in-Err-setting_motions-clause-made
+returns-in-Err-setting_motions-clause-made g c =
+    on_refused {X = CertificateData} (λ x. x) (file_of c.args.machine.now) c.args.cuts c.args.off.now c.args.on.now c.is_clear_at.result c.in-Ok.motions c.in-Err-setting_motions.refusal c.fault_at-in-Err-setting_motions.result
+    c.is_clear_at.ensures c.if-not-is_clear_at.false c.in-Ok.ensures c.in-Err-setting_motions.ensures c.fault_at-in-Err-setting_motions.ensures
+
+pub returns-clause-made : goal.returns-clause-made
+returns-clause-made g c =
+    both_made (file_of c.args.machine.now) c.args.cuts c.args.off.now c.args.on.now c.is_clear_at.result c.in-Ok.motions c.in-Ok-setting_motions.motions
+    c.is_clear_at.ensures c.if-not-is_clear_at.false c.in-Ok.ensures c.in-Ok-setting_motions.ensures
 
 pub returns-in-Err-clause-undivided : goal.returns-in-Err-clause-undivided
 returns-in-Err-clause-undivided g c =

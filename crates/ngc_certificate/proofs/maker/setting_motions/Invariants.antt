@@ -1,13 +1,14 @@
-use Rattle.std.proofs.Common.{◌≡◌, ◌≤◌, length}
-use Rattle.std.specs.Prelude.{drop}
+use Rattle.std.proofs.Common.{◌≡◌, ◌≤◌, ℕ, List, length}
+use Rattle.std.specs.Prelude.{drop, Result}
 use Rattle.ngc_machine.specs.Machine.{file_of}
 use Rattle.ngc_canonical.specs.Movement.{actions_of}
-use Rattle.ngc_certificate.specs.Made.{setting_made}
-use Rattle.ngc_certificate.specs.Making.{given_from}
+use Rattle.ngc_certificate_text.specs.Certificate.{Entry}
+use Rattle.ngc_certificate.specs.Made.{IsSettingMade}
+use Rattle.ngc_certificate.specs.Making.{IsGivenFrom}
 use Rattle.ngc_certificate.proofs.maker.setting_motions.Given as goal
 
 abbrev pub invariant-loop-index : goal.invariant-loop-index
 invariant-loop-index g l = record {
-  leads : setting_made (file_of l.machine) l.most l.commands ≡ given_from (file_of l.machine) l.most l.index l.progress (actions_of (drop l.index l.commands));
+  leads : (says : Result (List Entry) ℕ) → IsGivenFrom (file_of l.machine) l.most l.index l.progress (actions_of (drop l.index l.commands)) says → IsSettingMade (file_of l.machine) l.most l.commands says;
   count : length l.progress.motions ≤ l.index;
 }

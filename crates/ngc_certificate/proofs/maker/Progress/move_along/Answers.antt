@@ -1,24 +1,35 @@
-use Rattle.std.proofs.Common.{◌∙◌, ap, sym, subst, List, arith}
+use Rattle.std.proofs.Common.{◌∙◌, ap, sym, subst, List, arith, Bool}
 use Rattle.ngc_machine.specs.Machine.{file_of}
 use Rattle.ngc_certificate_text.specs.declared.piece.Piece.{Piece}
 use Rattle.ngc_certificate_text.specs.Certificate.{IsEntry}
-use Rattle.ngc_certificate.proofs.Cleared.{cleared_entry}
+use Rattle.ngc_certificate.specs.Made.{MayFind}
 use Rattle.ngc_certificate.specs.Making.{pieces_where}
-use Rattle.ngc_certificate.proofs.MakingLaws.{goes_on, one_longer}
+use Rattle.ngc_certificate.proofs.Cleared.{found_entry}
+use Rattle.ngc_certificate.proofs.MakingLaws.{goes_on, stops, one_longer}
 use Rattle.ngc_certificate.proofs.maker.Progress.move_along.Goals as goal
 
 pub push-requires-clause-entry : goal.push-requires-clause-entry
 push-requires-clause-entry g c =
-    let machine = c.args.machine.now in
-    let clear = c.in-Ok-true.ensures ∙ ap (λ b. pieces_where b c.find_clear.new.pieces.items) c.in-Ok-true.field-0-test in
+    let machine = file_of c.args.machine.now in
+    let items = c.find_clear.new.pieces.items in
+    let found = subst (λ b. MayFind machine c.args.most c.args.self.now.tool c.args.motion.now.way (pieces_where b items)) c.in-Ok-true.field-0-test c.in-Ok-true.ensures.found in
     subst (λ (ps : List Piece). IsEntry (record { index = c.args.index; pieces = ps })) (sym c.as_slice.ensures.value)
-    (cleared_entry (file_of machine) c.args.most c.args.index c.args.self.now.tool c.args.motion.now.way c.find_clear.new.pieces.items machine.step_in_range machine.travel_in_range
-    c.requires.index c.requires.most (omega (arith, c.ranges.most.fits)) clear)
+    (found_entry machine c.args.most c.args.index c.args.self.now.tool c.args.motion.now.way items c.requires.index c.requires.most (omega (arith, c.ranges.most.fits)) found
+    (c.in-Ok-true.ensures.good c.in-Ok-true.field-0-test))
+
+pub returns-in-Ok-false : goal.returns-in-Ok-false
+returns-in-Ok-false g c = λ actions.
+    let machine = file_of c.args.machine.now in
+    stops machine c.args.most c.args.index c.args.self.now.tool c.args.self.now.place c.args.self.now.motions c.args.motion.now actions
+    (subst (λ b. MayFind machine c.args.most c.args.self.now.tool c.args.motion.now.way (pieces_where b c.find_clear.new.pieces.items)) c.in-Ok-false.field-0-test c.in-Ok-false.ensures.found)
 
 pub returns : goal.returns
 returns g c = (
-  λ ds. goes_on (file_of c.args.machine.now) c.args.most c.args.index c.args.self.now.tool c.args.self.now.place c.end-self.result c.args.self.now.motions c.push.new.self c.args.motion.now c.find_clear.new.pieces.items c.as_slice.result.now ds
-      (c.in-Ok-true.ensures ∙ ap (λ b. pieces_where b c.find_clear.new.pieces.items) c.in-Ok-true.field-0-test)
-      c.as_slice.ensures.value c.in-Ok.ensures.ok c.end-self.ensures,
+  λ actions says given.
+      let machine = file_of c.args.machine.now in
+      let items = c.find_clear.new.pieces.items in
+      goes_on machine c.args.most c.args.index c.args.self.now.tool c.args.self.now.place c.end-self.result c.args.self.now.motions c.push.new.self c.args.motion.now items c.as_slice.result.now actions says given.0
+      (subst (λ b. MayFind machine c.args.most c.args.self.now.tool c.args.motion.now.way (pieces_where b items)) c.in-Ok-true.field-0-test c.in-Ok-true.ensures.found)
+      c.as_slice.ensures.value c.in-Ok.ensures.ok c.end-self.ensures given.1 given.2,
   one_longer c.args.self.now.motions c.push.new.self (record { index = c.args.index; pieces = c.as_slice.result.now }) c.in-Ok.ensures.ok,
 )

@@ -3,7 +3,7 @@ use Rattle.std.specs.Prelude.{drop}
 use Rattle.ngc_machine.specs.Machine.{file_of}
 use Rattle.ngc_certificate.specs.Made.{cleared, powers_of_two}
 use Rattle.ngc_certificate.proofs.Tries.{cleared_from}
-use Rattle.ngc_certificate.proofs.maker.find_clear.Given as goal
+use Rattle.ngc_certificate.proofs.finding.find_count.Given as goal
 
 abbrev pub invariant-loop-count : goal.invariant-loop-count
 invariant-loop-count g l =

@@ -1,7 +1,7 @@
 use Rattle.std.proofs.Common.{◌∙◌, sym}
 use Rattle.ngc_machine.specs.Machine.{file_of}
 use Rattle.ngc_certificate.proofs.Tries.{skipped, refused, taken}
-use Rattle.ngc_certificate.proofs.maker.find_clear.Goals as goal
+use Rattle.ngc_certificate.proofs.finding.find_count.Goals as goal
 
 pub loop-count-preserved-then-count-most : goal.loop-count-preserved-then-count-most
 loop-count-preserved-then-count-most g c =

@@ -1,7 +1,7 @@
 use Rattle.std.proofs.Common.{arith, List, length, subst, sym, ◌∙◌, ◌≤◌}
 use Rattle.ngc_certificate_text.specs.declared.piece.Piece.{Piece}
 use Rattle.ngc_certificate.proofs.Division.{few}
-use Rattle.ngc_certificate.proofs.maker.clears_in.Goals as goal
+use Rattle.ngc_certificate.proofs.finding.clears_in.Goals as goal
 
 pub pieces_fault-requires : goal.pieces_fault-requires
 pieces_fault-requires g c =

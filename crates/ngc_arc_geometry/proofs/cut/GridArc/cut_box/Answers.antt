@@ -1,5 +1,0 @@
-use Rattle.std.proofs.Common.{rules}
-use Rattle.ngc_arc_geometry.proofs.cut.GridArc.cut_box.Goals as goal
-
-pub returns : goal.returns
-returns c = search rules

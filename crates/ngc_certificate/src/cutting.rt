@@ -1,0 +1,153 @@
+//! Arcs cut into pieces that clear.
+ghost use Rattle.std.specs.Prelude.{◌≡◌, ◌≤◌, IfOk, IfSome, IsTrue, length};
+ghost use Rattle.std.specs.List.{list_all};
+ghost use Rattle.ngc_fixed_length.specs.Signed.{is_within};
+ghost use Rattle.ngc_certificate_text.specs.Certificate.{good_cut, good_piece};
+
+use crate::chain::place_of;
+use crate::furthest::{Band, Begin};
+use crate::quadrant::{Quadrant, Spot};
+use ngc_arc_geometry::{Arc, GridArc};
+use ngc_certificate_text::{Cut, Piece};
+use ngc_fixed_length::{Nm, Point2};
+use ngc_machine::{Machine, Tool};
+use std::alloc::{AllocError, Allocator};
+
+/// How far from zero cuts lie, in nanometres.
+const CUT_LIMIT: u64 = 4_000_000_000;
+
+/// How far from the centre the pieces of an arc meet where it crosses an axis: a step inside the arc or a step outside.
+#[derive(Clone, Copy, Debug, PartialEq, Eq)]
+pub(crate) enum Stops {
+    Inner,
+    Outer,
+}
+
+/// An arc that is cut for a machine and a tool.
+#[derive(Drop)]
+struct Cutter<'a, A: Allocator> {
+    machine: &'a Machine<A>,
+    tool: &'a Option<Tool>,
+    arc: &'a Arc,
+    on_grid: GridArc,
+    band: Band,
+    stop_at: u64,
+    ghost stop_in_range: { stop_at ≤ 200000000000 },
+}
+
+fn is_within_limit(coordinate: Nm) -> bool
+    ensures { result ≡ is_within CUT_LIMIT coordinate }
+{
+    coordinate.nanometres().unsigned_abs() <= CUT_LIMIT
+}
+
+/// Whether a certificate can say this cut.
+fn is_good_cut(place: &Point2) -> bool
+    ensures { result ≡ good_cut (Cut.Place place.now) }
+{
+    is_within_limit(place.u) && is_within_limit(place.v)
+}
+
+impl<A: Allocator> Cutter<'_, A> {
+    /// Where the piece that begins at a spot may go at most: the arc's end if it lies ahead in the same quadrant, else the
+    /// axis ahead.
+    fn stop_ahead(&self, quadrant: &Quadrant, spot: &Spot) -> Spot {
+        let end = self.arc.end().in_plane(self.arc.plane());
+        if let Some(end) = quadrant.spot_of(&end) {
+            if spot.is_before(&end) {
+                return end;
+            }
+        }
+        Spot {
+            x: 0,
+            y: self.stop_at,
+        }
+    }
+
+    /// As far as a piece from a point may go.
+    fn furthest(&self, point: &Point2) -> Option<Point2> {
+        let quadrant = Quadrant::ahead_of(self.arc, point);
+        let spot = quadrant.spot_of(point)?;
+        let begin = Begin {
+            machine: self.machine,
+            tool: self.tool,
+            arc: &self.on_grid,
+            band: self.band,
+            quadrant,
+            point: *point,
+            spot,
+        };
+        begin.furthest(&self.stop_ahead(&quadrant, &spot))
+    }
+
+    /// The piece from a point on that goes as far as it may, where a certificate can say its cut.
+    fn next_piece(&self, point: &Point2) -> Option<Piece>
+        ensures { IfSome result (λ p. IsTrue (good_piece p)) }
+    {
+        let place = self.furthest(point)?;
+        if !is_good_cut(&place) {
+            return None;
+        }
+        Some(Piece {
+            end: Cut::Place(place),
+            bounds: self.on_grid.cut_box(point, &place),
+        })
+    }
+}
+
+impl<'a, A: Allocator> Cutter<'a, A> {
+    fn new(
+        machine: &'a Machine<A>,
+        tool: &'a Option<Tool>,
+        arc: &'a Arc,
+        stops: Stops,
+    ) -> Cutter<'a, A> {
+        let band = Band::of(arc, machine.step.nanometres().unsigned_abs());
+        let stop_at = match stops {
+            Stops::Inner => band.inner,
+            Stops::Outer => band.outer,
+        };
+        Cutter {
+            machine,
+            tool,
+            arc,
+            on_grid: GridArc::new(*arc, machine.step),
+            band,
+            stop_at,
+        }
+    }
+}
+
+/// Fills `pieces` with an arc that is cut into at most `most` of them, each as long as clears it, by way of the quadrant
+/// directions ahead, and answers whether several pieces reach its end. Where they don't, what stands in `pieces` says nothing.
+pub(crate) fn cut_arc<A: Allocator>(
+    machine: &Machine<A>,
+    tool: &Option<Tool>,
+    arc: &Arc,
+    most: u16,
+    stops: Stops,
+    pieces: &mut Vec<Piece, A>,
+) -> Result<bool, AllocError>
+    ensures few { IfOk result (λ reached. length pieces.new.items ≤ most) }
+    ensures good { IfOk result (λ reached. IsTrue (list_all good_piece pieces.new.items)) }
+{
+    pieces.clear();
+    let cutter = Cutter::new(machine, tool, arc, stops);
+    // The pieces of a small arc all need the box of the whole.
+    if !cutter.on_grid.is_large() {
+        return Ok(false);
+    }
+    let mut point = arc.start().in_plane(arc.plane());
+    for _ in 0..most {
+        let piece = match cutter.next_piece(&point) {
+            Some(piece) => piece,
+            None => return Ok(false),
+        };
+        pieces.push(piece)?;
+        point = place_of(arc, &piece.end);
+        if arc.ends_at(&point) {
+            return Ok(pieces.len() > 1);
+        }
+    }
+    Ok(false)
+}
