@@ -41,7 +41,7 @@ use Rattle.ngc_canonical.specs.declared.movement.Way.TheVariants as ways
 use Rattle.ngc_canonical.specs.Joined.{IsLastIfEnd, EndIsLast}
 use Rattle.ngc_canonical.specs.Movement.{end_of as moved_to}
 use Rattle.ngc_canonical.specs.Steps.{faulted, refuse_if}
-use Rattle.ngc_canonical.specs.State.{Setup, State, emit, at_place, go, traverse_to, unseries}
+use Rattle.ngc_canonical.specs.State.{Setup, State, emit, at_place, motion_in, go, traverse_to, unseries}
 use Rattle.ngc_canonical.specs.Spindle.{spindle_state, tell_speed, turn_of, mount, mount_found, change_tool, with_coolant}
 use Rattle.ngc_canonical.specs.Places.{axis_lengths, end_of, with_frames, set_origin, set_offset, tool_length, home_of, stands, go_home}
 use Rattle.ngc_canonical.specs.Motions.{traverse, feed_in, straight}
@@ -105,7 +105,7 @@ passes a s h not_end =
 
 moves : (w : Way) (pace : Pace) (s : State) → Open s → IfOk (go w pace s) Open
 moves w pace s h =
-    let a : Action = actions.Move (record { way = w; pace = pace }) in
+    let a : Action = actions.Move (motion_in s.modes.path w pace) in
     onward Open Open (emit a s) (λ t. Ok (at_place (moved_to w) t)) (passes a s h tt) (λ t h_t. h_t)
 
 -- ---- spindle, coolant and tools

@@ -14,7 +14,7 @@ use Rattle.ngc_canonical.specs.declared.movement.Way.{Way}
 use Rattle.ngc_canonical.specs.Joined.{IsEvenIfArc, HaveEvenRadii}
 use Rattle.ngc_canonical.specs.Movement.{start_of, end_of, actions_of, ways_of, AreJoined}
 use Rattle.ngc_canonical.specs.Steps.{◌>>=◌}
-use Rattle.ngc_canonical.specs.State.{State, COMMAND_LIMIT, with_command, emit, at_place, go}
+use Rattle.ngc_canonical.specs.State.{State, COMMAND_LIMIT, with_command, emit, at_place, motion_in, go}
 
 -- where ways lead to that begin at p
 abbrev pub led_to : Point3 → List Way → Point3
@@ -110,7 +110,7 @@ stays p a s h still =
 -- a motion, after which they stand at its end
 pub moves : (p : Point3) (w : Way) (pace : Pace) (s : State) → Holds p s → start_of w ≡ s.place → IsEvenIfArc w → IfOk (go w pace s) (Holds p)
 moves p w pace s h begins even =
-    let a : Action = Move (record { way = w; pace = pace }) in
+    let a : Action = Move (motion_in s.modes.path w pace) in
     onward (λ t. IsTrail p t.commands (end_of w)) (Holds p) (emit a s) (λ t. Ok (at_place (end_of w) t))
     (emitted (λ t. IsTrail p t.commands (end_of w)) a s
     (λ room. added p s.place (end_of w) s.commands (record { line = s.line; action = a }) h (record { joined = (begins, tt); ends = refl; radii = (even, tt) }) room))

@@ -1,9 +1,11 @@
 -- What holds between two effects of a program.
-use Rattle.std.specs.Prelude.{ℕ, ℤ, pos, nat_lt, List, [], ◌∷◌, ◌++◌, length, Option, None, Result, Ok, Err, Bool, false, if◌then◌else◌}
+use Rattle.std.specs.Prelude.{ℕ, ℤ, pos, nat_lt, List, [], ◌∷◌, ◌++◌, length, Option, None, Result, Ok, Err, Bool, true, false, if◌then◌else◌}
 use Rattle.ngc_fixed_length.specs.declared.modes.Turn.{Turn}
 use Rattle.ngc_fixed_length.specs.declared.points.Point3.{Point3}
 use Rattle.ngc_machine.specs.Machine.{MachineFile}
 use Rattle.ngc_machine.specs.declared.tools.Tool.{Tool}
+use Rattle.ngc_modal_state.specs.declared.code.PathControl.{PathControl}
+use Rattle.ngc_modal_state.specs.declared.code.PathControl.TheVariants.{ExactStop}
 use Rattle.ngc_modal_state.specs.declared.modes.Modes.{Modes}
 use Rattle.ngc_modal_state.specs.Start.{start_modes}
 use Rattle.ngc_offsets.specs.Offsets.{Offsets}
@@ -15,6 +17,7 @@ use Rattle.ngc_canonical.specs.declared.command.Command.{Command}
 use Rattle.ngc_canonical.specs.declared.command.CoolantState.{CoolantState}
 use Rattle.ngc_canonical.specs.declared.command.CoolantState.TheVariants.{Off}
 use Rattle.ngc_canonical.specs.declared.fault.Fault.{Fault}
+use Rattle.ngc_canonical.specs.declared.movement.Motion.{Motion}
 use Rattle.ngc_canonical.specs.declared.movement.Pace.{Pace}
 use Rattle.ngc_canonical.specs.declared.movement.Pace.TheVariants.{Rapid}
 use Rattle.ngc_canonical.specs.declared.movement.Way.{Way}
@@ -91,10 +94,18 @@ unseries s = record s { series = None }
 abbrev pub at_place : Point3 → State → State
 at_place end s = record s { place = end }
 
+-- the axes stop at the end of each motion in exact stop mode (NISTIR 6556, 3.5.14)
+abbrev pub stops_in : PathControl → Bool
+stops_in ExactStop = true
+stops_in _ = false
+
+abbrev pub motion_in : PathControl → Way → Pace → Motion
+motion_in path way pace = record { way = way; pace = pace; stop = stops_in path }
+
 -- a motion, after which the axes stand at its end
 abbrev pub go : Way → Pace → State → Result State Fault
 go way pace s = do
-  t ← emit (Move (record { way = way; pace = pace })) s
+  t ← emit (Move (motion_in s.modes.path way pace)) s
   Ok (at_place (end_of way) t)
 
 -- a traverse to a place of the machine

@@ -12,7 +12,7 @@ use crate::movement::{Motion, Pace, Way};
 use crate::state::{Interpreter, Kept, Refusal};
 use ngc_fixed_length::{Nm, Point3, Value};
 use ngc_machine::Machine;
-use ngc_modal_state::Modes;
+use ngc_modal_state::{Modes, PathControl};
 use ngc_offsets::Frames;
 use ngc_parameters::Store;
 use std::alloc::{AllocError, Allocator};
@@ -79,13 +79,14 @@ impl<A: Allocator> Interpreter<A> {
         self.place = *place;
     }
 
-    /// A motion, after which the axes stand at its end.
+    /// A motion, after which the axes stand at its end, and stop there in exact stop mode.
     pub(crate) fn go(&mut self, way: Way, pace: Pace) -> Result<(), Refusal>
         requires { IsMachinePlace (end_of way) }
         ensures value { Becomes result (state_of self.new) (gone way pace (state_of self.old)) }
         ensures frames { OnOk result ((state_of self.new).frames ≡ (state_of self.old).frames) }
     {
-        match self.emit(Action::Move(Motion { way, pace })) {
+        let stop = matches!(self.modes.path, PathControl::ExactStop);
+        match self.emit(Action::Move(Motion { way, pace, stop })) {
             Ok(()) => {
                 self.stand_at(&way.end());
                 Ok(())

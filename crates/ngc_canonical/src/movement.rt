@@ -25,11 +25,13 @@ pub enum Way {
     Arc(Arc),
 }
 
-/// A motion: the way of the axes, and its pace.
+/// A motion: the way of the axes, its pace, and whether the axes stop at its end.
 #[derive(Clone, Copy, Debug, PartialEq, Eq)]
 pub struct Motion {
     pub way: Way,
     pub pace: Pace,
+    /// Under G61.1.
+    pub stop: bool,
 }
 
 impl Way {

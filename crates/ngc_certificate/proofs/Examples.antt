@@ -1,5 +1,5 @@
 -- Worked pieces on a mill of 300 mm with steps of 0.01 mm, by computing the definitions.
-use Rattle.std.proofs.Common.{◌≡◌, ◌∙◌, ap, ap₂, ℕ, ℤ, pos, negsuc, List, [], ◌∷◌, Some, None, Ok, Err, refl}
+use Rattle.std.proofs.Common.{◌≡◌, ◌∙◌, ap, ap₂, ℕ, ℤ, pos, negsuc, List, [], ◌∷◌, false, Some, None, Ok, Err, refl}
 use Rattle.std.specs.Prelude.{codes, Result}
 use Rattle.std.specs.Fmt.{digits}
 use Rattle.ngc_fixed_length.specs.Roots.{whole_root, whole_root_above}
@@ -95,7 +95,7 @@ slanted_clear : pieces_fault beside None slanted (pieces_of (pos 10000) slanted 
 slanted_clear = refl
 
 abbrev one_line : List Command
-one_line = record { line = 1; action = Move (record { way = slanted; pace = Rapid }) } ∷ []
+one_line = record { line = 1; action = Move (record { way = slanted; pace = Rapid; stop = false }) } ∷ []
 
 one_motion : (most : ℕ) (says : Result (List Entry) ℕ) → IsSettingMade beside most one_line says → says ≡ with_pieces 0 (cleared beside most None slanted) (Ok [])
 one_motion most says made = made.4 ∙ ap₂ (with_pieces 0) made.2 made.3

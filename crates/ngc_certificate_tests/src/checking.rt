@@ -82,6 +82,7 @@ fn what_was_accepted_is_told(rt: HostRuntime) -> Result<(), Fail> {
     let motion = Motion {
         way,
         pace: Pace::Rapid,
+        stop: false,
     };
     let commands = [
         Command {

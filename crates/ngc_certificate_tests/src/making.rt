@@ -20,9 +20,10 @@ const STOP: Command = Command {
 };
 
 fn motion(line: u32, way: Way, pace: Pace) -> Command {
+    let stop = false;
     Command {
         line,
-        action: Action::Move(Motion { way, pace }),
+        action: Action::Move(Motion { way, pace, stop }),
     }
 }
 

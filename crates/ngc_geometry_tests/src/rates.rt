@@ -38,6 +38,7 @@ fn traverse(rt: &impl Abort, start: (i64, i64, i64), end: (i64, i64, i64)) -> Mo
     Motion {
         way,
         pace: Pace::Rapid,
+        stop: false,
     }
 }
 
@@ -51,6 +52,7 @@ fn motion_on(rt: &impl Abort, course: Course) -> Result<Motion, ArcFault> {
             Ok(Motion {
                 way,
                 pace: Pace::Feed(feed),
+                stop: false,
             })
         }
         Course::Arc(centre, x, z) => {
@@ -60,6 +62,7 @@ fn motion_on(rt: &impl Abort, course: Course) -> Result<Motion, ArcFault> {
             Ok(Motion {
                 way: Way::Arc(arc),
                 pace: Pace::Feed(MINUTE),
+                stop: false,
             })
         }
         Course::Traverse(x) => Ok(traverse(rt, (0, 0, 0), (x, 0, 0))),

@@ -1,5 +1,5 @@
 -- Caps, bounds and braking on worked motions, by computing the definitions.
-use Rattle.std.proofs.Common.{◌≡◌, ℤ, pos, refl}
+use Rattle.std.proofs.Common.{◌≡◌, ℤ, pos, false, refl}
 use Rattle.ngc_fixed_length.specs.Roots.{whole_root, whole_root_above}
 use Rattle.ngc_fixed_length.specs.declared.modes.Plane.TheVariants.{XY}
 use Rattle.ngc_fixed_length.specs.declared.modes.Turn.TheVariants.{Clockwise}
@@ -21,13 +21,13 @@ abbrev at : ℤ → ℤ → ℤ → Point3
 at x y z = record { x = x; y = y; z = z }
 
 abbrev traverse : Point3 → Point3 → Action
-traverse start end = Move (record { way = ways.Line start end; pace = paces.Rapid })
+traverse start end = Move (record { way = ways.Line start end; pace = paces.Rapid; stop = false })
 
 abbrev feed : Point3 → Feed → Action
-feed end f = Move (record { way = ways.Line (at (pos 0) (pos 0) (pos 0)) end; pace = paces.Feed f })
+feed end f = Move (record { way = ways.Line (at (pos 0) (pos 0) (pos 0)) end; pace = paces.Feed f; stop = false })
 
 abbrev along : ArcShape → Feed → Action
-along a f = Move (record { way = ways.Arc a; pace = paces.Feed f })
+along a f = Move (record { way = ways.Arc a; pace = paces.Feed f; stop = false })
 
 -- about a point on the x axis, from zero
 abbrev arc : ℤ → Point3 → ArcShape
