@@ -1,5 +1,5 @@
 -- Caps, bounds and braking on worked motions, by computing the definitions.
-use Rattle.std.proofs.Common.{◌≡◌, ℤ, pos, false, refl}
+use Rattle.std.proofs.Common.{◌≡◌, ℕ, ℤ, pos, Bool, true, false, [], ◌∷◌, refl}
 use Rattle.ngc_fixed_length.specs.Roots.{whole_root, whole_root_above}
 use Rattle.ngc_fixed_length.specs.declared.modes.Plane.TheVariants.{XY}
 use Rattle.ngc_fixed_length.specs.declared.modes.Turn.TheVariants.{Clockwise}
@@ -16,6 +16,8 @@ use Rattle.ngc_planner.specs.Braking.{braking, braking_terms}
 use Rattle.ngc_planner.specs.Caps.{cap_of}
 use Rattle.ngc_planner.specs.Bounds.{turn_rate, bound_of, target_at, least_travel}
 use Rattle.ngc_planner.specs.Joints.{joint_of}
+use Rattle.ngc_planner.specs.Reach.{reach, free}
+use Rattle.ngc_planner.specs.declared.leg.Leg.{Leg}
 
 abbrev at : ℤ → ℤ → ℤ → Point3
 at x y z = record { x = x; y = y; z = z }
@@ -99,3 +101,20 @@ joint_back = refl
 
 joint_straight : joint_of row_machine (traverse (at (pos 0) (pos 0) (pos 0)) (at (pos 1000000) (pos 0) (pos 0))) (traverse (at (pos 1000000) (pos 0) (pos 0)) (at (pos 3000000) (pos 0) (pos 0))) ≡ 1000000
 joint_straight = refl
+
+-- a leg of so many path steps, with a bound, and with this joint at both of its ends
+abbrev leg : ℕ → ℕ → ℕ → Bool → Leg
+leg millionths bound joint joined = record { millionths = millionths; bound = bound; entry = joint; exit = joint; joined = joined }
+
+-- a corner stops the rates above it, a slow leg those above its bound, and a stop ends what is known
+reach_on : reach 7 (leg 2000000 400000 50000 true ∷ leg 3000000 20000 1000000 true ∷ leg 5000000 400000 1000000 false ∷ []) ≡ 5000007
+reach_on = refl
+
+free_at_corner : free 50000 7 (leg 1000000 400000 50000 false) (leg 2000000 400000 50000 true ∷ leg 3000000 20000 1000000 true ∷ []) ≡ 2000007
+free_at_corner = refl
+
+free_above_corner : free 50001 7 (leg 1000000 400000 50000 false) (leg 2000000 400000 50000 true ∷ leg 3000000 20000 1000000 true ∷ []) ≡ 7
+free_above_corner = refl
+
+free_slow : free 20000 7 (leg 1000000 400000 50000 false) (leg 2000000 400000 50000 true ∷ leg 3000000 20000 1000000 true ∷ []) ≡ 5000007
+free_slow = refl

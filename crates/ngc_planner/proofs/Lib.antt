@@ -5,3 +5,5 @@ pub mod CoordinateLaws
 pub mod Examples
 pub mod Points
 pub mod RampLaws
+pub mod ReachLaws
+pub mod StateLaws

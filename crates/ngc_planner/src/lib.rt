@@ -9,6 +9,7 @@ pub mod laws;
 mod leg;
 mod ramp;
 mod slowing;
+mod stretch;
 
 pub use bounds::{bound_of, target_at, turn_rate};
 pub use caps::cap_of;
