@@ -1,21 +1,15 @@
 -- The rules of rates: millionths of a path step a tick. Our own.
-use Rattle.std.specs.Prelude.{◌≡◌, ℕ, zero, suc, ◌+◌, ◌-◌, ◌≤◌, ◌<◌, min, max, ◌==◌, List, [], ◌∷◌, Option, None, if◌then◌else◌}
-use Rattle.ngc_canonical.specs.declared.command.Command.{Command}
+use Rattle.std.specs.Prelude.{◌≡◌, ℕ, suc, ◌+◌, ◌-◌, ◌≤◌, ◌<◌, min, max, ◌==◌, List, [], ◌∷◌, true, if◌then◌else◌}
 use Rattle.ngc_planner.specs.Braking.{braking}
 use Rattle.ngc_planner.specs.Bounds.{IsWithinBounds, bound_of, target_at}
 use Rattle.ngc_planner.specs.Joints.{joint_before, joint_after}
 use Rattle.ngc_behaviour.specs.State.{Job, Queued, State, command_at, path_steps, millionths, effective}
-use Rattle.ngc_behaviour.specs.Reach.{reach, free}
+use Rattle.ngc_behaviour.specs.Reach.{before, flows_into, reach, free}
 
--- the command before the head
-abbrev pub before : Job → ℕ → Option Command
-before job zero = None
-before job (suc k) = command_at job k
-
--- the next motion is within its bounds too, where the tick goes on into it
-abbrev pub GoesOnInto : Job → ℕ → List Queued → Type 0
-GoesOnInto job v [] = ⊥
-GoesOnInto job v (l ∷ ls) = IsWithinBounds job.machine l.command.action (path_steps l) v
+-- the way goes on into the next motion, which is within its bounds too
+abbrev pub GoesOnInto : Job → ℕ → Queued → List Queued → Type 0
+GoesOnInto job v l [] = ⊥
+GoesOnInto job v l (k ∷ ks) = (flows_into l k ≡ true) × IsWithinBounds job.machine k.command.action (path_steps k) v
 
 -- the rate v of a tick at whose start l is the head
 pub record KeepsRateRules (job : Job) (l : Queued) (ls : List Queued) (s : State) (v : ℕ) : Type 0 where
@@ -25,7 +19,7 @@ pub record KeepsRateRules (job : Job) (l : Queued) (ls : List Queued) (s : State
   -- the first tick on a motion, and the last
   pub enters : s.travelled ≡ 0 → v ≤ joint_before job.machine (before job s.done) l.command
   pub leaves : millionths l ≤ s.travelled + v → v ≤ joint_after job.machine l.command (command_at job (suc s.done))
-  pub goes_on : millionths l < s.travelled + v → GoesOnInto job v ls
+  pub goes_on : millionths l < s.travelled + v → GoesOnInto job v l ls
 
 -- nothing is to be travelled while held
 abbrev pub target : Job → Queued → State → ℕ
@@ -45,6 +39,6 @@ pace job l s = min (min (s.rate + job.machine.change) (target job l s)) (head_bo
 -- the rates that a tick may travel on the head
 pub record MayTravel (job : Job) (l : Queued) (ls : List Queued) (s : State) (v : ℕ) : Type 0 where
   pub rules : KeepsRateRules job l ls s v
-  pub brakes : braking v job.machine.change ≤ reach l ls s
+  pub brakes : braking v job.machine.change ≤ reach job l ls s
   pub aims : v ≤ max (target job l s) (s.rate - job.machine.change)
   pub keeps_pace : braking (pace job l s) job.machine.change < free job (pace job l s) l ls s → pace job l s ≤ v

@@ -1,26 +1,52 @@
--- How far the way is loaded, and how far a rate may go on. Our own.
-use Rattle.std.specs.Prelude.{ℕ, ◌+◌, ◌-◌, nat_le, List, [], ◌∷◌, sum_by, ◌&&◌, if◌then◌else◌}
+-- The ring's motions as the legs of a ramp: how far the way is loaded, and how far a rate may go on. Our own.
+use Rattle.std.specs.Prelude.{ℕ, zero, suc, ◌-◌, nat_lt, List, [], ◌∷◌, Option, None, Bool, false, not, ◌&&◌, if◌then◌else◌}
+use Rattle.ngc_canonical.specs.declared.command.Action.{Action}
+use Rattle.ngc_canonical.specs.declared.command.Action.TheVariants.{Move}
+use Rattle.ngc_canonical.specs.declared.command.Command.{Command}
+use Rattle.ngc_planner.specs.declared.leg.Leg.{Leg}
 use Rattle.ngc_planner.specs.Bounds.{bound_of}
-use Rattle.ngc_planner.specs.Joints.{joint_of}
-use Rattle.ngc_behaviour.specs.State.{Job, Queued, State, path_steps, millionths}
+use Rattle.ngc_planner.specs.Joints.{joint_before, joint_after}
+use Rattle.ngc_planner.specs.Reach as legs
+use Rattle.ngc_behaviour.specs.State.{Job, Queued, State, command_at, path_steps, millionths}
 
--- the motions after the head that the way goes on into: none yet, so each motion ends at a rate that a tick can stop
-abbrev pub followers : Queued → List Queued → List Queued
-followers l ks = []
+-- the command before command k
+abbrev pub before : Job → ℕ → Option Command
+before job zero = None
+before job (suc k) = command_at job k
+
+-- the axes stop at the end of a motion in exact stop mode (NISTIR 6556, 3.5.14)
+abbrev pub stops : Action → Bool
+stops (Move m) = m.stop
+stops _ = false
+
+-- the way goes on from a loaded command into the next one without a stop, where both are motions with path steps
+abbrev pub flows_into : Queued → Queued → Bool
+flows_into l k = nat_lt 0 (path_steps l) && (not (stops l.command.action) && nat_lt 0 (path_steps k))
+
+-- command k as a leg: bound at its ends by its neighbours in the list of commands, loaded or not
+abbrev pub leg_of : Job → ℕ → Bool → Queued → Leg
+leg_of job k joined l = record {
+  millionths = millionths l;
+  bound = bound_of job.machine l.command.action (path_steps l);
+  entry = joint_before job.machine (before job k) l.command;
+  exit = joint_after job.machine l.command (command_at job (suc k));
+  joined = joined;
+}
+
+-- the legs of what is loaded behind l, of which the first is command k
+abbrev pub legs_behind : Job → ℕ → Queued → List Queued → List Leg
+legs_behind job k l [] = []
+legs_behind job k l (m ∷ ms) =
+    if nat_lt 0 (path_steps m) then leg_of job k (flows_into l m) m ∷ legs_behind job (suc k) m ms else legs_behind job (suc k) m ms
 
 -- what is left of the head
 abbrev pub rest : Queued → State → ℕ
 rest l s = millionths l - s.travelled
 
-abbrev pub reach : Queued → List Queued → State → ℕ
-reach l ls s = rest l s + sum_by millionths (followers l ls)
+-- the way that is loaded, up to the first stop
+abbrev pub reach : Job → Queued → List Queued → State → ℕ
+reach job l ls s = legs.reach (rest l s) (legs_behind job (suc s.done) l ls)
 
--- the way up to the first motion that the rate w may not enter
-abbrev pub free_way : Job → ℕ → Queued → List Queued → ℕ
-free_way job w l [] = 0
-free_way job w l (k ∷ ks) =
-    if nat_le w (joint_of job.machine l.command.action k.command.action) && nat_le w (bound_of job.machine k.command.action (path_steps k))
-    then millionths k + free_way job w k ks else 0
-
+-- the part of it before the first motion that the rate w may not enter
 abbrev pub free : Job → ℕ → Queued → List Queued → State → ℕ
-free job w l ls s = rest l s + free_way job w l (followers l ls)
+free job w l ls s = legs.free w (rest l s) (leg_of job s.done false l) (legs_behind job (suc s.done) l ls)
