@@ -174,28 +174,33 @@ fn braking_from_two_rates(rt: HostRuntime) {
     }
 }
 
-fn hundred_steps() -> Leg
+// A traverse of a hundred steps, with a joint at both of its ends.
+fn hundred_steps(joint: u64, joined: bool) -> Leg
+    requires { 1 ≤ joint }
     ensures { IsLeg result }
 {
     Leg {
         millionths: 100_000_000,
         bound: 400_000,
-        entry: 1_000_000,
-        exit: 1_000_000,
-        joined: false,
+        entry: joint,
+        exit: joint,
+        joined,
     }
 }
+
+const OPEN: u64 = 1_000_000;
 
 #[test]
 fn a_hundred_steps_in_a_thousand_ticks(rt: HostRuntime) {
     let mut ramp = Ramp::new(1_000);
-    ramp.load(hundred_steps());
+    ramp.load(hundred_steps(OPEN, false));
     let mut steps: u32 = 0;
     let mut last = 0;
     for _ in 0..1_000 {
         if !ramp.is_empty() {
             let travel = ramp.tick(400_000);
             assert!(rt; travel.rate.abs_diff(last) <= 1_000);
+            assert!(rt; travel.ended == ramp.is_empty());
             last = travel.rate;
             if travel.due && steps < 1_000 {
                 steps += 1;
@@ -212,7 +217,7 @@ const WISHES: &[u64] = &[400_000, 400_000, 0, 0, 0];
 #[test]
 fn a_hold_brakes_and_stands(rt: HostRuntime) {
     let mut ramp = Ramp::new(1_000);
-    ramp.load(hundred_steps());
+    ramp.load(hundred_steps(OPEN, false));
     for wish in WISHES {
         if !ramp.is_empty() {
             ramp.tick(*wish);
@@ -222,4 +227,84 @@ fn a_hold_brakes_and_stands(rt: HostRuntime) {
     assert_eq!(rt; ramp.untravelled(), 99_996_000);
     ramp.rest();
     assert_eq!(rt; ramp.rate(), 0);
+}
+
+// Two legs of a hundred steps: the joint between them and whether the way goes on there, in fewer ticks than so many, and the
+// least and greatest rate at the end of the first.
+const JOINTS: &[(u64, bool, u32, u64, u64)] = &[
+    (1_000_000, true, 920, 300_000, 400_000),
+    (50_000, true, 1_250, 49_000, 50_000),
+    (1_000_000, false, 1_300, 0, 1_000),
+];
+
+// How many ticks two legs take, and the rate at the end of the first.
+fn two_legs(joint: u64, joined: bool) -> (u32, u64)
+    requires { 1 ≤ joint }
+{
+    let mut ramp = Ramp::new(1_000);
+    ramp.load(hundred_steps(joint, false));
+    ramp.load(hundred_steps(joint, joined));
+    let mut ticks: u32 = 0;
+    let mut at_end = 0;
+    for _ in 0..2_000 {
+        if !ramp.is_empty() && ticks < 2_000 {
+            let travel = ramp.tick(400_000);
+            ticks += 1;
+            if travel.ended && ramp.len() == 1 {
+                at_end = travel.rate;
+            }
+        }
+    }
+    (ticks, at_end)
+}
+
+#[test]
+fn over_a_joint(rt: HostRuntime) {
+    for (joint, joined, ticks, least, greatest) in JOINTS {
+        assert!(rt; *joint >= 1);
+        let (taken, at_end) = two_legs(*joint, *joined);
+        assert!(rt; taken < *ticks, "{taken} ticks over {joint}");
+        assert!(rt; *least <= at_end && at_end <= *greatest, "{at_end} at {joint}");
+    }
+}
+
+// With 400 ticks to reach the greatest rate and 400 to brake, and at that rate between, it would be 2,899.
+#[test]
+fn ten_legs_without_a_stop(rt: HostRuntime) {
+    let mut ramp = Ramp::new(1_000);
+    for i in 0..10 {
+        if ramp.len() < 16 {
+            ramp.load(hundred_steps(OPEN, i > 0));
+        }
+    }
+    let mut ticks: u32 = 0;
+    for _ in 0..5_000 {
+        if !ramp.is_empty() && ticks < 5_000 {
+            ramp.tick(400_000);
+            ticks += 1;
+        }
+    }
+    assert!(rt; ramp.is_empty() && ramp.rate() <= 1_000);
+    assert!(rt; 2_899 <= ticks && ticks <= 2_910, "{ticks}");
+}
+
+#[test]
+fn a_slow_leg_ahead(rt: HostRuntime) {
+    let mut ramp = Ramp::new(1_000);
+    ramp.load(hundred_steps(OPEN, false));
+    ramp.load(Leg {
+        millionths: 10_000_000,
+        bound: 20_000,
+        entry: 1_000_000,
+        exit: 1_000_000,
+        joined: true,
+    });
+    for _ in 0..3_000 {
+        if !ramp.is_empty() {
+            let first = ramp.len() == 2;
+            let travel = ramp.tick(400_000);
+            assert!(rt; travel.rate <= 20_000 || first && !travel.ended);
+        }
+    }
+    assert!(rt; ramp.is_empty());
 }

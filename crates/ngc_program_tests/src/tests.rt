@@ -11,6 +11,7 @@ mod cycles;
 mod files;
 mod interpreter;
 mod jobs;
+mod looking_ahead;
 mod memory;
 mod rows;
 mod runs;

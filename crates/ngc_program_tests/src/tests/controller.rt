@@ -37,7 +37,7 @@ fn accepted_on<A: Allocator + Copy>(
     check(alloc, &program, &row_machine(alloc), tools, &certificate).ok()
 }
 
-fn controller(
+pub(super) fn controller(
     rt: &impl Abort,
     alloc: Global,
     text: &str,
@@ -52,7 +52,7 @@ fn controller(
 }
 
 // `event` without its clauses: they would make the proof of each test longer.
-fn give<A: Allocator + Copy>(
+pub(super) fn give<A: Allocator + Copy>(
     controller: &mut Controller<ArcPath, A>,
     event: Event,
 ) -> Result<Reply, EventFault> {
@@ -186,7 +186,7 @@ fn a_tool_is_mounted_in_its_tick(rt: HostRuntime) -> Result<(), Fail> {
 }
 
 // Gives events, whatever they are answered with.
-fn give_all(controller: &mut Controller<ArcPath, Global>, events: &[Event]) {
+pub(super) fn give_all(controller: &mut Controller<ArcPath, Global>, events: &[Event]) {
     for event in events {
         let _ = give(controller, *event);
     }
