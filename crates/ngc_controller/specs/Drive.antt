@@ -1,41 +1,29 @@
--- The ramp of the motion at the head, and the rate that it is to reach. Our own.
-use Rattle.std.specs.Prelude.{◌≡◌, ℕ, suc, ◌≤◌, nat_lt, List, [], ◌∷◌, false, if◌then◌else◌}
+-- The ramp of the motions in the ring, and the rate that the head is to reach. Our own.
+use Rattle.std.specs.Prelude.{◌≡◌, ℕ, suc, ◌≤◌, nat_lt, List, [], ◌∷◌, Bool, not, ◌&&◌, if◌then◌else◌}
 use Rattle.ngc_machine.specs.Machine.{MachineFile}
 use Rattle.ngc_planner.specs.declared.leg.Leg.{Leg}
-use Rattle.ngc_planner.specs.Bounds.{bound_of, target_at}
-use Rattle.ngc_planner.specs.Joints.{joint_before, joint_after}
-use Rattle.ngc_planner.specs.Ramp.{loaded}
-use Rattle.ngc_behaviour.specs.State.{Job, Queued, command_at, path_steps, millionths}
-use Rattle.ngc_behaviour.specs.RateRules.{before}
-use Rattle.ngc_controller.specs.declared.drive.Drive.{Drive}
+use Rattle.ngc_planner.specs.Bounds.{target_at}
+use Rattle.ngc_planner.specs.Ramp.{RampState, loaded}
+use Rattle.ngc_behaviour.specs.State.{Job, Queued, path_steps}
+use Rattle.ngc_behaviour.specs.Reach.{stops, leg_of, legs_behind}
 
--- command k as a leg of the ramp: bound at its ends by its neighbours in the list of commands, loaded or not
-abbrev pub leg_of : Job → ℕ → Queued → Leg
-leg_of job k l = record {
-  millionths = millionths l;
-  bound = bound_of job.machine l.command.action (path_steps l);
-  entry = joint_before job.machine (before job k) l.command;
-  exit = joint_after job.machine l.command (command_at job (suc k));
-  joined = false;
-}
+-- the way goes on from a command without a stop, where a motion with path steps follows
+abbrev pub flows_on : Queued → Bool
+flows_on l = nat_lt 0 (path_steps l) && not (stops l.command.action)
 
--- the legs of a ring whose head is command k
-abbrev pub legs_of : Job → ℕ → List Queued → List Leg
-legs_of job k [] = []
-legs_of job k (l ∷ ls) = if nat_lt 0 (path_steps l) then leg_of job k l ∷ [] else []
+-- it goes on from the last of these, or did before them
+abbrev pub last_flows_on : Bool → List Queued → Bool
+last_flows_on before [] = before
+last_flows_on before (l ∷ ls) = last_flows_on (flows_on l) ls
 
--- the head begins, at an override in percent
-abbrev pub begun : Job → ℕ → ℕ → List Queued → Drive → Drive
-begun job k percent [] d = d
-begun job k percent (l ∷ ls) d =
-    if nat_lt 0 (path_steps l)
-    then record { ramp = loaded d.ramp (leg_of job k l); target = target_at job.machine l.command.action (path_steps l) percent }
-    else d
+-- the legs of a ring whose head is command k; whether the way came into the head without a stop is past
+abbrev pub legs_of : Job → ℕ → Bool → List Queued → List Leg
+legs_of job k joined [] = []
+legs_of job k joined (l ∷ ls) = if nat_lt 0 (path_steps l) then leg_of job k joined l ∷ legs_behind job (suc k) l ls else legs_behind job (suc k) l ls
 
--- a command is put behind these
-abbrev pub with_one_more : Job → ℕ → ℕ → List Queued → Queued → Drive → Drive
-with_one_more job k percent [] l d = begun job k percent (l ∷ []) d
-with_one_more job k percent (h ∷ hs) l d = d
+-- command k is loaded: a motion with path steps comes onto the ramp
+abbrev pub with_one_more : Job → ℕ → Bool → Queued → RampState → RampState
+with_one_more job k joined l ramp = if nat_lt 0 (path_steps l) then loaded ramp (leg_of job k joined l) else ramp
 
 -- the target is that of the head
 abbrev pub IsTarget : MachineFile → ℕ → List Queued → ℕ → Type 0

@@ -1,31 +1,31 @@
 -- What the fields of a controller stand for, and what they keep. Our own.
-use Rattle.std.specs.Prelude.{◌≡◌, ℕ, ◌+◌, ◌-◌, ◌/◌, ◌^◌, ◌≤◌, List, [], ◌∷◌, length, Option, true}
+use Rattle.std.specs.Prelude.{◌≡◌, ℕ, ◌+◌, ◌-◌, ◌/◌, ◌^◌, ◌≤◌, List, [], ◌∷◌, length, Option, nat_lt, Bool, true, if◌then◌else◌}
 use Rattle.ngc_fixed_length.specs.declared.points.StepPos.{StepPos}
 use Rattle.ngc_canonical.specs.declared.command.Action.{Action}
 use Rattle.ngc_canonical.specs.declared.command.Action.TheVariants as actions
 use Rattle.ngc_machine.specs.MachineRanges.{IsMachine}
 use Rattle.ngc_machine.specs.declared.tools.Tool.{Tool}
 use Rattle.ngc_planner.specs.Caps.{MILLION}
-use Rattle.ngc_planner.specs.Ramp.{IsRest}
+use Rattle.ngc_planner.specs.Ramp.{RampState, IsRest, next_rest}
 use Rattle.ngc_behaviour.specs.State.{Job, State, Queued, path_steps, millionths}
 use Rattle.ngc_behaviour.specs.Progress.{TravelsAtLeast}
 use Rattle.ngc_behaviour.specs.Step.{Outcome, Travels}
 use Rattle.ngc_controller.specs.declared.drive.Drive.{Drive}
 use Rattle.ngc_controller.specs.declared.panel.Panel.{Panel}
-use Rattle.ngc_controller.specs.Drive.{legs_of, IsTarget}
+use Rattle.ngc_controller.specs.Drive.{legs_of, last_flows_on, IsTarget}
 use Rattle.ngc_controller.specs.Panel.{effective_at}
-use Rattle.ngc_controller.specs.Ring.{RingData}
+use Rattle.ngc_controller.specs.Ring.{RingData, IsMoving}
 
--- the millionths of a path step of the head
-abbrev pub total : List Queued → ℕ
-total [] = 0
-total (l ∷ ls) = millionths l
+-- what is travelled of the head, where it is a motion with path steps; it is the first leg of the ramp then
+abbrev pub travelled_of : List Queued → RampState → ℕ
+travelled_of [] ramp = 0
+travelled_of (l ∷ ls) ramp = if nat_lt 0 (path_steps l) then millionths l - ramp.rest else 0
 
 abbrev pub state_of : ℕ → RingData → Drive → ℕ → StepPos → Option Tool → Panel → State
 state_of done ring drive dwelt position tool panel = record {
   done = done;
   ring = ring.loaded;
-  travelled = total ring.loaded - drive.ramp.rest;
+  travelled = travelled_of ring.loaded drive.ramp;
   dwelt = dwelt;
   position = position;
   rate = drive.ramp.rate;
@@ -41,13 +41,17 @@ state_of done ring drive dwelt position tool panel = record {
 abbrev pub DWELL_LIMIT : ℕ
 DWELL_LIMIT = 2 ^ 100
 
--- what the fields keep: the ramp is on the head, where that is a motion with path steps
+-- what the fields keep: the ramp is on the head, where that is a motion with path steps; otherwise nothing travels, and the
+-- motions behind the head are still whole
 pub record IsInOrder (job : Job) (done : ℕ) (ring : RingData) (drive : Drive) (dwelt : ℕ) (panel : Panel) : Type 0 where
   pub machine : IsMachine job.machine
   pub change : drive.ramp.change ≡ job.machine.change
-  pub legs : drive.ramp.legs ≡ legs_of job done ring.loaded
+  pub legs : (joined : Bool) × (drive.ramp.legs ≡ legs_of job done joined ring.loaded)
   pub left : IsRest drive.ramp.rest drive.ramp.legs
-  pub place : ring.place ≡ (total ring.loaded - drive.ramp.rest) / MILLION
+  pub slow : (IsMoving ring.loaded → ⊥) → drive.ramp.rate ≤ job.machine.change
+  pub whole : (IsMoving ring.loaded → ⊥) → drive.ramp.rest ≡ next_rest 0 drive.ramp.legs
+  pub flows_on : drive.flows_on ≡ last_flows_on drive.flows_on ring.loaded
+  pub place : ring.place ≡ travelled_of ring.loaded drive.ramp / MILLION
   pub target : IsTarget job.machine (effective_at panel) ring.loaded drive.target
   pub few : done + length ring.loaded ≤ length job.commands
   pub brief : dwelt ≤ DWELL_LIMIT

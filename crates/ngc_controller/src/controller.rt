@@ -179,7 +179,7 @@ impl<K: ArcKernel + Drop, A: Allocator + Copy> Controller<K, A> {
         if self.panel.stopped {
             return self.rest();
         }
-        if !self.progress.drive.ramp.is_empty() {
+        if self.progress.ring.moves() {
             return self.travel();
         }
         if self.panel.held {
@@ -214,17 +214,15 @@ impl<K: ArcKernel + Drop, A: Allocator + Copy> Controller<K, A> {
         let travel = self.progress.drive.ramp.tick(wish);
         self.position = self.progress.ring.follow(travel.due);
         let position = travel.due.then_some(self.position);
-        if !self.progress.drive.ramp.is_empty() {
+        if !travel.ended {
             return Reply::Ticked {
                 position,
                 ending: None,
             };
         }
         let ending = Some(Ending::Done(self.progress.done));
-        let machine = self.accepted.machine();
-        let commands = self.accepted.commands(self.block_delete);
         self.progress
-            .leave(commands, self.panel.effective(), machine);
+            .leave(self.panel.effective(), self.accepted.machine());
         Reply::Ticked { position, ending }
     }
 
@@ -245,9 +243,7 @@ impl<K: ArcKernel + Drop, A: Allocator + Copy> Controller<K, A> {
         let ending = Some(ending_of(&action, self.progress.done, self.panel.stop_switch));
         self.tool = tool_after(&action, self.tool);
         self.panel = panel_after(&action, self.panel);
-        let commands = self.accepted.commands(self.block_delete);
-        self.progress
-            .leave(commands, self.panel.effective(), machine);
+        self.progress.leave(self.panel.effective(), machine);
         Reply::Ticked {
             position: None,
             ending,

@@ -1,26 +1,39 @@
 //! The ramp, and how motions come onto it.
-ghost use Rattle.std.specs.Prelude.{◌≡◌, ◌≤◌, ◌+◌, ◌⊎◌, [], ◌∷◌};
+ghost use Rattle.std.specs.Prelude.{◌≡◌, ◌≤◌, ◌<◌, ◌+◌, length};
 ghost use Rattle.ngc_machine.specs.Machine.{file_of};
 ghost use Rattle.ngc_planner.specs.Joints.{joint_before, joint_after};
 ghost use Rattle.ngc_planner.specs.Leg.{IsLeg};
+ghost use Rattle.ngc_planner.specs.Ramp.{LEGS};
 ghost use Rattle.ngc_behaviour.specs.Headline.{job_of};
 ghost use Rattle.ngc_behaviour.specs.State.{path_steps, command_at};
-ghost use Rattle.ngc_behaviour.specs.RateRules.{before};
-ghost use Rattle.ngc_controller.specs.Drive.{leg_of, begun};
+ghost use Rattle.ngc_behaviour.specs.Reach.{before, stops, leg_of};
+ghost use Rattle.ngc_controller.specs.Drive.{flows_on, with_one_more};
 
 use crate::route::Loaded;
-use ngc_canonical::Command;
+use ngc_canonical::{Action, Command};
 use ngc_machine::Machine;
-use ngc_planner::{Leg, Ramp, bound_of, joint_of, target_at};
+use ngc_planner::{Leg, Ramp, bound_of, joint_of};
 use ngc_step_kernel::ArcKernel;
 use std::alloc::Allocator;
 
-/// The ramp of the motion at the head of the ring, and the rate that it is to reach.
+/// The ramp of the motions in the ring, and the rate that the head is to reach.
 #[derive(Drop)]
 pub struct Drive {
     pub ramp: Ramp,
     /// In millionths of a path step a tick. It is kept, so that a tick need not compute it.
     pub target: u64,
+    /// Whether the command that was loaded last is a motion with path steps at whose end the axes need not stop.
+    pub flows_on: bool,
+}
+
+// Whether the axes stop at the end of an action that is a motion.
+fn stops(action: &Action) -> bool
+    ensures { result ≡ stops action.now }
+{
+    match action {
+        Action::Move(motion) => motion.stop,
+        _ => false,
+    }
 }
 
 // The greatest rate of the first tick of the motion at an index.
@@ -58,57 +71,56 @@ fn exit_of<A: Allocator>(
     }
 }
 
-// The motion at an index, as a leg of the ramp.
+// The motion at an index, as a leg of the ramp: whether the way comes into it without a stop is `joined`.
 fn leg_of<K: ArcKernel + Drop, A: Allocator>(
     commands: &[Command],
     index: u32,
-    head: &Loaded<K>,
+    joined: bool,
+    loaded: &Loaded<K>,
     machine: &Machine<A>,
 ) -> Leg
-    requires { 1 ≤ path_steps head.now.queued }
-    ensures value { result ≡ leg_of (job_of (file_of machine.now) commands.now) index head.now.queued }
+    requires { 1 ≤ path_steps loaded.now.queued }
+    ensures value { result ≡ leg_of (job_of (file_of machine.now) commands.now) index joined loaded.now.queued }
     ensures leg { IsLeg result }
 {
-    let command = head.command();
-    let steps = head.path_steps();
+    let command = loaded.command();
+    let steps = loaded.path_steps();
     Leg {
         millionths: steps * 1_000_000,
         bound: bound_of(&command.action, steps, machine),
         entry: entry_of(commands, index, command, machine),
         exit: exit_of(commands, index, command, machine),
-        joined: false,
+        joined,
     }
 }
 
 impl Drive {
-    /// The command at an index becomes the head, at an override in percent. The ramp must be empty; a motion with path
-    /// steps comes onto it.
-    pub fn begin<K: ArcKernel + Drop, A: Allocator>(
+    /// One more command is loaded, at an index. A motion with path steps comes onto the ramp, which must have room.
+    pub fn load<K: ArcKernel + Drop, A: Allocator>(
         &mut self,
-        head: &Loaded<K>,
+        loaded: &Loaded<K>,
         index: u32,
         commands: &[Command],
-        percent: u8,
         machine: &Machine<A>,
     )
-        requires { self.old.ramp.legs ≡ [] }
-        ensures { self.new ≡ begun (job_of (file_of machine.now) commands.now) index percent (head.now.queued ∷ []) self.old }
+        requires { length self.old.ramp.legs < LEGS }
+        ensures ramp { self.new.ramp ≡ with_one_more (job_of (file_of machine.now) commands.now) index self.old.flows_on loaded.now.queued self.old.ramp }
+        ensures target { self.new.target ≡ self.old.target }
+        ensures flows_on { self.new.flows_on ≡ flows_on loaded.now.queued }
     {
-        let steps = head.path_steps();
-        if steps > 0 {
-            self.ramp.load(leg_of(commands, index, head, machine));
-            self.target = target_at(&head.command().action, steps, percent, machine);
+        let moves = loaded.path_steps() > 0;
+        if moves {
+            self.ramp
+                .load(leg_of(commands, index, self.flows_on, loaded, machine));
         }
+        self.flows_on = moves && !stops(&loaded.command().action);
     }
 
-    /// A tick in which nothing travels. The ramp must be empty or stand still.
+    /// A tick in which nothing travels. The last rate must be at most the change.
     pub fn halt(&mut self)
-        requires { (self.old.ramp.legs ≡ []) ⊎ (self.old.ramp.rate ≡ 0) }
-        ensures new { self.new ≡ record self.old { ramp = record self.old.ramp { rate = 0 } } }
-        ensures slow { self.old.ramp.rate ≤ self.old.ramp.change }
+        requires { self.old.ramp.rate ≤ self.old.ramp.change }
+        ensures { self.new ≡ record self.old { ramp = record self.old.ramp { rate = 0 } } }
     {
-        // The call tells the proof that an empty ramp can stop.
-        let _rate = self.ramp.rate();
         self.ramp.rest();
     }
 }

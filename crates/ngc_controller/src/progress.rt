@@ -4,7 +4,7 @@ ghost use Rattle.ngc_machine.specs.Machine.{file_of};
 ghost use Rattle.ngc_planner.specs.Caps.{MILLION};
 ghost use Rattle.ngc_behaviour.specs.Headline.{job_of};
 ghost use Rattle.ngc_behaviour.specs.State.{RING};
-ghost use Rattle.ngc_controller.specs.Drive.{begun, with_one_more, IsTarget};
+ghost use Rattle.ngc_controller.specs.Drive.{flows_on, with_one_more, IsTarget};
 ghost use Rattle.ngc_controller.specs.Opening.{IsOpening};
 ghost use Rattle.ngc_controller.specs.Ring.{action_of};
 
@@ -41,6 +41,7 @@ impl<K: ArcKernel + Drop, A: Allocator> Progress<K, A> {
             drive: Drive {
                 ramp: Ramp::new(change),
                 target: 0,
+                flows_on: false,
             },
             done: 0,
             dwelt: 0,
@@ -57,21 +58,7 @@ impl<K: ArcKernel + Drop, A: Allocator> Progress<K, A> {
         }
     }
 
-    // The head begins.
-    fn begin<B: Allocator>(&mut self, commands: &[Command], percent: u8, machine: &Machine<B>)
-        requires { self.old.drive.ramp.legs ≡ [] }
-        ensures ring { self.new.ring ≡ self.old.ring }
-        ensures done { self.new.done ≡ self.old.done }
-        ensures dwelt { self.new.dwelt ≡ self.old.dwelt }
-        ensures drive { self.new.drive ≡ begun (job_of (file_of machine.now) commands.now) self.old.done percent self.old.ring.loaded self.old.drive }
-    {
-        if let Some(head) = self.ring.head() {
-            self.drive
-                .begin(head, self.done, commands, percent, machine);
-        }
-    }
-
-    /// Puts a command into the ring, which must have room. It begins at once where it is the only one.
+    /// Puts a command into the ring, which must have room.
     pub fn load<B: Allocator>(
         &mut self,
         loaded: Loaded<K>,
@@ -80,35 +67,42 @@ impl<K: ArcKernel + Drop, A: Allocator> Progress<K, A> {
         machine: &Machine<B>,
     )
         requires room { length self.old.ring.loaded < RING }
+        requires legs { length self.old.drive.ramp.legs ≤ length self.old.ring.loaded }
+        requires few { self.old.done + length self.old.ring.loaded < 2 ^ 32 }
         requires beginning { loaded.place ≡ 0 }
-        requires idle { self.old.ring.loaded ≡ [] → self.old.drive.ramp.legs ≡ [] }
+        requires aimed { IsTarget (file_of machine.now) percent self.old.ring.loaded self.old.drive.target }
         ensures loaded { self.new.ring.loaded ≡ self.old.ring.loaded ++ loaded.queued ∷ [] }
         ensures place { self.new.ring.place ≡ self.old.ring.place }
         ensures done { self.new.done ≡ self.old.done }
         ensures dwelt { self.new.dwelt ≡ self.old.dwelt }
-        ensures drive { self.new.drive ≡ with_one_more (job_of (file_of machine.now) commands.now) self.old.done percent self.old.ring.loaded loaded.queued self.old.drive }
+        ensures ramp { self.new.drive.ramp ≡ with_one_more (job_of (file_of machine.now) commands.now) (self.old.done + length self.old.ring.loaded) self.old.drive.flows_on loaded.queued self.old.drive.ramp }
+        ensures flows_on { self.new.drive.flows_on ≡ flows_on loaded.queued }
+        ensures target { IsTarget (file_of machine.now) percent self.new.ring.loaded self.new.drive.target }
     {
-        if self.ring.len() == 0 {
-            self.drive
-                .begin(&loaded, self.done, commands, percent, machine);
-        }
+        let waiting = self.ring.len();
+        self.drive
+            .load(&loaded, self.done + waiting, commands, machine);
         self.ring.push(loaded);
+        if waiting == 0 {
+            self.aim(percent, machine);
+        }
     }
 
-    /// The head is done, and the next command begins. Nothing of a motion may be left.
-    pub fn leave<B: Allocator>(&mut self, commands: &[Command], percent: u8, machine: &Machine<B>)
-        requires idle { self.old.drive.ramp.legs ≡ [] }
-        requires few { self.old.done + 1 < 2 ^ 32 }
+    /// The head is done, and the next command becomes the head.
+    pub fn leave<B: Allocator>(&mut self, percent: u8, machine: &Machine<B>)
+        requires { self.old.done + 1 < 2 ^ 32 }
         ensures loaded { self.new.ring.loaded ≡ drop 1 self.old.ring.loaded }
         ensures place { self.new.ring.place ≡ 0 }
         ensures done { self.new.done ≡ self.old.done + 1 }
         ensures dwelt { self.new.dwelt ≡ 0 }
-        ensures drive { self.new.drive ≡ begun (job_of (file_of machine.now) commands.now) (self.old.done + 1) percent (drop 1 self.old.ring.loaded) self.old.drive }
+        ensures ramp { self.new.drive.ramp ≡ self.old.drive.ramp }
+        ensures flows_on { self.new.drive.flows_on ≡ self.old.drive.flows_on }
+        ensures target { IsTarget (file_of machine.now) percent self.new.ring.loaded self.new.drive.target }
     {
         self.ring.leave();
         self.done += 1;
         self.dwelt = 0;
-        self.begin(commands, percent, machine);
+        self.aim(percent, machine);
     }
 
     /// The head is to reach another rate, at an override in percent.
@@ -117,6 +111,7 @@ impl<K: ArcKernel + Drop, A: Allocator> Progress<K, A> {
         ensures done { self.new.done ≡ self.old.done }
         ensures dwelt { self.new.dwelt ≡ self.old.dwelt }
         ensures ramp { self.new.drive.ramp ≡ self.old.drive.ramp }
+        ensures flows_on { self.new.drive.flows_on ≡ self.old.drive.flows_on }
         ensures target { IsTarget (file_of machine.now) percent self.old.ring.loaded self.new.drive.target }
     {
         if let Some(head) = self.ring.head() {

@@ -1,5 +1,5 @@
 //! The commands that are loaded and not done.
-ghost use Rattle.std.specs.Prelude.{◌≡◌, ◌≤◌, ◌<◌, ◌++◌, ◌∷◌, [], length, drop, true, IfOk, option_copied};
+ghost use Rattle.std.specs.Prelude.{◌≡◌, ◌≤◌, ◌<◌, ◌++◌, ◌∷◌, [], length, drop, true, IsTrue, ◌↔◌, IfOk, option_copied};
 ghost use Rattle.ngc_behaviour.specs.State.{RING};
 ghost use Rattle.ngc_controller.specs.Loaded.{next_place};
 ghost use Rattle.ngc_controller.specs.Ring.{RingData, IsMoving, IsPointOn, HasNext, head_of};
@@ -82,6 +82,16 @@ impl<K: ArcKernel + Drop, A: Allocator> Ring<K, A> {
         ensures { option_copied result ≡ head_of self.now.loaded self.now.place }
     {
         self.head.as_ref()
+    }
+
+    /// Whether the head is a motion with path steps.
+    pub fn moves(&self) -> bool
+        ensures { IsTrue result ↔ IsMoving self.now.loaded }
+    {
+        match &self.head {
+            Some(head) => head.path_steps() > 0,
+            None => false,
+        }
     }
 
     /// Goes one place on along the head's path, if it is due, and answers the point there. The head must be a motion with
