@@ -59,6 +59,9 @@ const SLOW: (u64, u64) = (0, 1_000);
 // More than a stop takes.
 const FAST: (u64, u64) = (1_001, 400_000);
 
+// A tick that goes past a corner is one of both motions, and the next one may be faster by the change.
+const PAST_A_CORNER: (u64, u64) = (0, 51_000);
+
 // Of a motion: the bounds of its first rate, of its last, and its greatest.
 type Limits = ((u64, u64), (u64, u64), u64);
 
@@ -104,14 +107,15 @@ const PASSAGES: &[(&str, u32, u32, &[Limits])] = &[
         2_000,
         &[(SLOW, SLOW, 400_000)],
     ),
-    // A quarter of a circle of 10 mm from a line that meets it without a corner is a corner all the same.
+    // Where a line meets an arc it is a corner, though the arc goes on as the line ends.
     (
-        "F6000 G1 X10\nG3 X20 Y10 J10\nM2\n",
-        3,
+        "G0 Y5\nF6000 G1 X10\nG3 X20 Y15 J10\nM2\n",
+        4,
         20_000,
         &[
             (SLOW, (49_000, 50_000), 400_000),
-            ((0, 50_000), SLOW, 400_000),
+            (PAST_A_CORNER, (49_000, 50_000), 400_000),
+            (PAST_A_CORNER, SLOW, 400_000),
         ],
     ),
 ];
