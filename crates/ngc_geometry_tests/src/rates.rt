@@ -208,23 +208,29 @@ fn a_hundred_steps_in_a_thousand_ticks(rt: HostRuntime) {
         }
     }
     assert_eq!(rt; steps, 100);
-    assert!(rt; ramp.is_empty() && ramp.untravelled() == 0);
-    assert!(rt; last <= 1_000);
+    assert!(rt; ramp.is_empty() && last <= 1_000);
 }
 
-const WISHES: &[u64] = &[400_000, 400_000, 0, 0, 0];
+// And the rate that comes of each.
+const WISHES: &[(u64, u64)] = &[
+    (400_000, 1_000),
+    (400_000, 2_000),
+    (0, 1_000),
+    (0, 0),
+    (0, 0),
+];
 
 #[test]
 fn a_hold_brakes_and_stands(rt: HostRuntime) {
     let mut ramp = Ramp::new(1_000);
     ramp.load(hundred_steps(OPEN, false));
-    for wish in WISHES {
+    for (wish, rate) in WISHES {
         if !ramp.is_empty() {
-            ramp.tick(*wish);
+            assert_eq!(rt; ramp.tick(*wish).rate, *rate);
         }
     }
     assert_eq!(rt; ramp.rate(), 0);
-    assert_eq!(rt; ramp.untravelled(), 99_996_000);
+    assert!(rt; !ramp.is_empty());
     ramp.rest();
     assert_eq!(rt; ramp.rate(), 0);
 }
