@@ -3,6 +3,7 @@ pub mod Heads
 pub mod SafeRun
 pub mod SafePositions
 pub mod Settings
+pub mod RampFit
 pub mod RatesOfRun
 pub mod Travel
 pub mod Rings
