@@ -19,7 +19,7 @@ use Rattle.ngc_behaviour.specs.State.{Job, Queued, State, RING, loaded, command_
 use Rattle.ngc_behaviour.specs.Step.{Outcome, Step, LoadCommand, MayTake, Rests, Finishes, Dwells, Serves, Travels, HeadTick, TickBy, popped, after, ending, ends_at, pulse, place_before, place_after, ticks_of}
 use Rattle.ngc_behaviour.specs.Run.{position_in}
 use Rattle.ngc_behaviour.proofs.Cases.{match_with}
-use Rattle.ngc_behaviour.proofs.RatesOfRun.{Fits, within_rest}
+use Rattle.ngc_behaviour.proofs.RatesOfRun.{Fits, GoesOver, goes_over, travel_small}
 
 -- what the way depends on in a state
 pub record Spot : Type 0 where
@@ -80,16 +80,19 @@ pub record GoesOn (old new : Spot) (o : Outcome) : Type 0 where
   pub is : new ≡ spot_of old.done (head ∷ others) (old.travelled + rate) (point head.path ((old.travelled + rate) / MILLION))
   pub some : 0 < path_steps head
   pub small : rate ≤ MILLION
-  pub short : old.travelled + rate ≤ millionths head
+  pub short : old.travelled + rate < millionths head
   pub emits : position_in o ≡ emitted head.path (old.travelled / MILLION) ((old.travelled + rate) / MILLION)
   pub no_end : tells_end o ≡ false
 
+-- with what is beyond travelled on the next
 pub record Arrives (old new : Spot) (o : Outcome) : Type 0 where
   pub head : Queued
   pub others : List Queued
+  pub over : ℕ
   pub was : old ≡ spot_of old.done (head ∷ others) old.travelled old.position
-  pub is : new ≡ spot_of (suc old.done) others 0 (point head.path (path_steps head))
+  pub is : new ≡ spot_of (suc old.done) others over (point head.path (path_steps head))
   pub some : 0 < path_steps head
+  pub beyond : GoesOver head others over
   pub near : path_steps head ≤ old.travelled / MILLION + 1
   pub emits : position_in o ≡ emitted head.path (old.travelled / MILLION) (path_steps head)
   pub ends : tells_end o ≡ true → ends_program head.command.action ≡ true
@@ -149,39 +152,40 @@ two_cases true E f g = f refl
 two_cases false E f g = g refl
 
 on_way : (job : Job) (l : Queued) (ls : List Queued) (old : State) (o : Outcome) (new : State) → IsMachine job.machine → old.ring ≡ l ∷ ls → 0 < path_steps l →
-    old.travelled ≤ millionths l → Travels job l ls old o new → Effect job (spot old) (spot new) o
+    old.travelled ≤ millionths l - 1 → Travels job l ls old o new → Effect job (spot old) (spot new) o
 on_way job l ls old o new m e some f t =
     let t0 = old.travelled in
     let v = new.rate in
-    let slow : v ≤ MILLION = let i = t.may.rules.within.greatest in omega (arith, i, m.max_rate.greatest) in
-    let in_reach : t0 + v ≤ millionths l = within_rest job l ls old o new t f in
+    let slow : v ≤ MILLION = travel_small job l ls old o new m.max_rate.greatest t in
+    let over = t0 + v - millionths l in
     let was : spot old ≡ spot_of old.done (l ∷ ls) t0 old.position = ap (λ r. spot_of old.done r t0 old.position) e in
-    let done = popped (t0 + v - millionths l) (record old { rate = v; position = point l.path (place_after l old v) }) in
+    let done = popped over (record old { rate = v; position = point l.path (place_after l old v) }) in
     let on : State = record old { rate = v; position = point l.path (place_after l old v); travelled = t0 + v } in
     let says = ap position_in t.says ∙ said_position (nat_lt (place_before old) (place_after l old v)) (point l.path (place_after l old v)) (ends_at l old v) in
     two_cases (nat_le (millionths l) (t0 + v)) (Effect job (spot old) (spot new) o)
     (λ b.
-    let full : t0 + v ≡ millionths l = grind (arith, nat_tests) in
+    let full : millionths l ≤ t0 + v = grind (arith, nat_tests) in
     let whole : place_after l old v ≡ path_steps l = omega (arith, full) in
-    let none_left : t0 + v - millionths l ≡ 0 = omega (arith, full) in
     let rest : drop 1 old.ring ≡ ls = ap (drop 1) e in
-    let is : spot new ≡ spot_of (suc old.done) ls 0 (point l.path (path_steps l)) =
+    let is : spot new ≡ spot_of (suc old.done) ls over (point l.path (path_steps l)) =
     ap spot (t.goes_on ∙ chosen (nat_le (millionths l) (t0 + v)) done on b)
-    ∙ ap (λ r. spot_of (suc old.done) r (t0 + v - millionths l) (point l.path (place_after l old v))) rest
-    ∙ ap (λ k. spot_of (suc old.done) ls k (point l.path (place_after l old v))) none_left
-    ∙ ap (λ k. spot_of (suc old.done) ls 0 (point l.path k)) whole in
+    ∙ ap (λ r. spot_of (suc old.done) r over (point l.path (place_after l old v))) rest
+    ∙ ap (λ k. spot_of (suc old.done) ls over (point l.path k)) whole in
     arrives (record {
       head = l;
       others = ls;
+      over = over;
       was = was;
       is = is;
       some = some;
+      beyond = goes_over job l ls old o new slow some f t;
       near = omega (arith, full, slow);
       emits = says ∙ ap (emitted l.path (t0 / MILLION)) whole;
       ends = λ h. only_end l.command.action old (sym (ap tells_end t.says ∙ said_end (pulse l old v) (nat_le (millionths l) (t0 + v)) (ending l.command.action old) b) ∙ h);
     }))
     (λ b.
-    let part : place_after l old v ≡ (t0 + v) / MILLION = omega (arith, in_reach) in
+    let short : t0 + v < millionths l = grind (arith, nat_tests) in
+    let part : place_after l old v ≡ (t0 + v) / MILLION = omega (arith, short) in
     let is : spot new ≡ spot_of old.done (l ∷ ls) (t0 + v) (point l.path ((t0 + v) / MILLION)) =
     ap spot (t.goes_on ∙ other (nat_le (millionths l) (t0 + v)) done on b)
     ∙ ap (λ r. spot_of old.done r (t0 + v) (point l.path (place_after l old v))) e
@@ -194,7 +198,7 @@ on_way job l ls old o new m e some f t =
       is = is;
       some = some;
       small = slow;
-      short = in_reach;
+      short = short;
       emits = says ∙ ap (emitted l.path (t0 / MILLION)) part;
       no_end = ap tells_end t.says ∙ said_none (pulse l old v) (nat_le (millionths l) (t0 + v)) (ending l.command.action old) b;
     }))
@@ -221,7 +225,7 @@ finished job l ls old o new e z f = passes (record {
 })
 
 on_head : (job : Job) (l : Queued) (ls : List Queued) (old : State) (o : Outcome) (new : State) → IsMachine job.machine → old.ring ≡ l ∷ ls →
-    old.travelled ≤ millionths l → HeadTick job l ls old o new → Effect job (spot old) (spot new) o
+    old.travelled ≤ millionths l - 1 → HeadTick job l ls old o new → Effect job (spot old) (spot new) o
 on_head job l ls old o new m e f t =
     elim (match_with (nat_lt 0 (path_steps l)) (Travels job l ls old o new) (MatchBool old.held (Rests job old o new) (Serves job l.command.action old o new)) t) [
       | inl u ↦ on_way job l ls old o new m e (let b = u.0 in grind (arith, nat_tests)) f u.1

@@ -1,5 +1,5 @@
 -- A motion is done within so many ticks in which the machine is free.
-use Rattle.std.proofs.Common.{◌≡◌, ◌⊎◌, inl, inr, ℕ, zero, suc, ◌+◌, ◌-◌, ◌*◌, ◌<◌, ◌≤◌, ap, subst, sym, ◌∙◌, arith, refl, List, [], ◌∷◌, ◌++◌, length, Some, None, true, false, Bool, min}
+use Rattle.std.proofs.Common.{◌≡◌, ◌⊎◌, inl, inr, ℕ, zero, suc, ◌+◌, ◌-◌, ◌*◌, ◌<◌, ◌≤◌, ap, subst, sym, ◌∙◌, arith, refl, List, [], ◌∷◌, length, Some, None, true, false, Bool, min}
 use Rattle.std.specs.Prelude.{Option, MatchBool, nat_lt, nat_le, not, ◌&&◌, if◌then◌else◌, slice_index_or, slice_get}
 use Rattle.std.specs.List.{All}
 use Rattle.std.proofs.lemmas.Bool.{cases_lt, and_parts, not-true, ltb-true, eqb-true, false≢true}
@@ -11,6 +11,7 @@ use Rattle.std.proofs.Math.Nat.{div-mul-le_self}
 use Rattle.ngc_canonical.specs.declared.command.Command.{Command}
 use Rattle.ngc_canonical.specs.declared.command.Action.{Action}
 use Rattle.ngc_canonical.specs.declared.command.Action.TheVariants.{Move}
+use Rattle.ngc_planner.specs.Caps.{MILLION}
 use Rattle.ngc_planner.specs.Bounds.{IsMotion}
 use Rattle.ngc_planner.proofs.BoundLaws.{may_travel_least}
 use Rattle.ngc_events.specs.declared.event.Event.{Event}
@@ -45,81 +46,60 @@ ticks_next x m p h =
 
 -- ---- what any event leaves
 
--- something is left of the head, once it was begun
-abbrev pub IsPartWay : List Queued → ℕ → Type 0
-IsPartWay [] travelled = Unit {0}
-IsPartWay (l ∷ ls) travelled = 0 < travelled → travelled < millionths l
-
 -- command k goes on, or the next one is at the head
 abbrev GoesAhead : State → State → Type 0
-GoesAhead old new = IsPartWay new.ring new.travelled × (((new.done ≡ old.done) × (old.travelled ≤ new.travelled)) ⊎ (new.done ≡ suc old.done))
+GoesAhead old new = ((new.done ≡ old.done) × (old.travelled ≤ new.travelled)) ⊎ (new.done ≡ suc old.done)
 
-none_way : (ring : List Queued) (travelled : ℕ) → travelled ≡ 0 → IsPartWay ring travelled
-none_way [] travelled e = tt
-none_way (l ∷ ls) travelled e = λ h. absurd (omega (arith, h, e))
+same_ahead : (old : State) → GoesAhead old old
+same_ahead old = inl (refl, omega arith)
 
-more_way : (ring : List Queued) (l : Queued) (travelled : ℕ) → Fits ring travelled → IsPartWay ring travelled → IsPartWay (ring ++ l ∷ []) travelled
-more_way [] l travelled f w = λ h. absurd (omega (arith, h, f))
-more_way (k ∷ ks) l travelled f w = w
-
-same_ahead : (old : State) → IsPartWay old.ring old.travelled → GoesAhead old old
-same_ahead old w = (w, inl (refl, omega arith))
-
-travel_ahead : (job : Job) (l : Queued) (ls : List Queued) (old : State) (o : Outcome) (new : State) → old.ring ≡ l ∷ ls → old.travelled ≤ millionths l →
-    Travels job l ls old o new → GoesAhead old new
-travel_ahead job l ls old o new e f t =
-    let m = moved job l ls old o new t f in
+travel_ahead : (job : Job) (l : Queued) (ls : List Queued) (old : State) (o : Outcome) (new : State) → Travels job l ls old o new → GoesAhead old new
+travel_ahead job l ls old o new t =
+    let m = moved job l ls old o new t in
     elim (m.state) [
-      | inl s ↦ (none_way new.ring new.travelled s.3, inr s.1)
-      | inr s ↦ (subst (λ r. IsPartWay r new.travelled) (sym (s.1 ∙ e)) (λ h. let t = s.2 in let b = s.3 in omega (arith, t, b)), inl (s.0, let t = s.2 in omega (arith, t)))
+      | inl s ↦ inr s.1
+      | inr s ↦ inl (s.0, let t = s.2 in omega (arith, t))
     ]
 
 finish_ahead : (l : Queued) (old new : State) → new ≡ after l.command.action (record (popped 0 old) { rate = 0 }) → GoesAhead old new
 finish_ahead l old new n =
-    let a = after_stays l.command.action (record (popped 0 old) { rate = 0 }) in
-    let done : new.done ≡ suc old.done = ap (λ (s : State). s.done) n ∙ a.0 in
-    let travelled : new.travelled ≡ 0 = ap (λ (s : State). s.travelled) n ∙ a.2 in
-    (none_way new.ring new.travelled travelled, inr done)
+    let a = after_stays l.command.action (record (popped 0 old) { rate = 0 }) in inr (ap (λ (s : State). s.done) n ∙ a.0)
 
-head_ahead : (job : Job) (l : Queued) (ls : List Queued) (old : State) (o : Outcome) (new : State) → old.ring ≡ l ∷ ls → old.travelled ≤ millionths l →
-    IsPartWay old.ring old.travelled → HeadTick job l ls old o new → GoesAhead old new
-head_ahead job l ls old o new e f w t =
+head_ahead : (job : Job) (l : Queued) (ls : List Queued) (old : State) (o : Outcome) (new : State) → HeadTick job l ls old o new → GoesAhead old new
+head_ahead job l ls old o new t =
     elim (match_with (nat_lt 0 (path_steps l)) (Travels job l ls old o new) (MatchBool old.held (Rests job old o new) (Serves job l.command.action old o new)) t) [
-      | inl u ↦ travel_ahead job l ls old o new e f u.1
+      | inl u ↦ travel_ahead job l ls old o new u.1
       | inr u ↦ elim (match_with old.held (Rests job old o new) (Serves job l.command.action old o new) u.1) [
-        | inl r ↦ subst (GoesAhead old) (sym r.1.stands) (same_ahead old w)
+        | inl r ↦ subst (GoesAhead old) (sym r.1.stands) (same_ahead old)
         | inr r ↦ elim (match_with (nat_lt (suc old.dwelt) (ticks_of job l.command.action)) (Dwells job old o new) (Finishes job l.command.action old o new) r.1) [
-          | inl d ↦ subst (GoesAhead old) (sym d.1.counts) (same_ahead old w)
+          | inl d ↦ subst (GoesAhead old) (sym d.1.counts) (same_ahead old)
           | inr d ↦ finish_ahead l old new d.1.goes_on
         ]
       ]
     ]
 
-tick_ahead : (job : Job) (stopped : Bool) (ring : List Queued) (old : State) (o : Outcome) (new : State) → old.ring ≡ ring → Fits ring old.travelled →
-    IsPartWay old.ring old.travelled → TickBy job stopped ring old o new → GoesAhead old new
-tick_ahead job true ring old o new e f w t = subst (GoesAhead old) (sym t.stands) (same_ahead old w)
-tick_ahead job false [] old o new e f w t = subst (GoesAhead old) (sym t.stands) (same_ahead old w)
-tick_ahead job false (l ∷ ls) old o new e f w t = head_ahead job l ls old o new e f w t
+tick_ahead : (job : Job) (stopped : Bool) (ring : List Queued) (old : State) (o : Outcome) (new : State) → TickBy job stopped ring old o new → GoesAhead old new
+tick_ahead job true ring old o new t = subst (GoesAhead old) (sym t.stands) (same_ahead old)
+tick_ahead job false [] old o new t = subst (GoesAhead old) (sym t.stands) (same_ahead old)
+tick_ahead job false (l ∷ ls) old o new t = head_ahead job l ls old o new t
 
-load_ahead : (job : Job) (old : State) (next : Option Command) (o : Outcome) (new : State) → Fits old.ring old.travelled → IsPartWay old.ring old.travelled →
-    LoadCommand job old next o new → GoesAhead old new
-load_ahead job old None o new f w t = subst (GoesAhead old) (sym t.1) (same_ahead old w)
-load_ahead job old (Some c) o new f w t = elim (match_with (nat_lt (length old.ring) RING) _ _ t) [
-  | inl u ↦ subst (GoesAhead old) (sym u.1.3) (more_way old.ring (record { command = c; path = u.1.0 }) old.travelled f w, inl (refl, omega arith))
-  | inr u ↦ subst (GoesAhead old) (sym u.1.1) (same_ahead old w)
+load_ahead : (job : Job) (old : State) (next : Option Command) (o : Outcome) (new : State) → LoadCommand job old next o new → GoesAhead old new
+load_ahead job old None o new t = subst (GoesAhead old) (sym t.1) (same_ahead old)
+load_ahead job old (Some c) o new t = elim (match_with (nat_lt (length old.ring) RING) _ _ t) [
+  | inl u ↦ subst (GoesAhead old) (sym u.1.3) (inl (refl, omega arith))
+  | inr u ↦ subst (GoesAhead old) (sym u.1.1) (same_ahead old)
 ]
 
-event_ahead : (job : Job) (old : State) (e : Event) (o : Outcome) (new : State) → Fits old.ring old.travelled → IsPartWay old.ring old.travelled →
-    Step job old e o new → GoesAhead old new
-event_ahead job old Load o new f w t = load_ahead job old (command_at job (loaded old)) o new f w t
-event_ahead job old Tick o new f w t = tick_ahead job old.stopped old.ring old o new refl f w t
-event_ahead job old Hold o new f w t = subst (GoesAhead old) (sym t.1) (same_ahead old w)
-event_ahead job old Resume o new f w t = subst (GoesAhead old) (sym t.1) (same_ahead old w)
-event_ahead job old Start o new f w t = subst (GoesAhead old) (sym t.1) (same_ahead old w)
-event_ahead job old (StopSwitch on) o new f w t = subst (GoesAhead old) (sym t.1) (same_ahead old w)
-event_ahead job old (Override n) o new f w t = elim (match_with (nat_le n 200) _ _ t) [
-  | inl u ↦ subst (GoesAhead old) (sym u.1.1) (same_ahead old w)
-  | inr u ↦ subst (GoesAhead old) (sym u.1.1) (same_ahead old w)
+event_ahead : (job : Job) (old : State) (e : Event) (o : Outcome) (new : State) → Step job old e o new → GoesAhead old new
+event_ahead job old Load o new t = load_ahead job old (command_at job (loaded old)) o new t
+event_ahead job old Tick o new t = tick_ahead job old.stopped old.ring old o new t
+event_ahead job old Hold o new t = subst (GoesAhead old) (sym t.1) (same_ahead old)
+event_ahead job old Resume o new t = subst (GoesAhead old) (sym t.1) (same_ahead old)
+event_ahead job old Start o new t = subst (GoesAhead old) (sym t.1) (same_ahead old)
+event_ahead job old (StopSwitch on) o new t = subst (GoesAhead old) (sym t.1) (same_ahead old)
+event_ahead job old (Override n) o new t = elim (match_with (nat_le n 200) _ _ t) [
+  | inl u ↦ subst (GoesAhead old) (sym u.1.1) (same_ahead old)
+  | inr u ↦ subst (GoesAhead old) (sym u.1.1) (same_ahead old)
 ]
 
 -- ---- what a tick leaves that is given while the machine is free
@@ -136,62 +116,57 @@ free_is s h =
     let b = and_parts (not s.stopped) (nat_lt 0 (effective s)) a.1 in
     record { not_held = not-true s.held a.0; not_stopped = not-true s.stopped b.0; some_override = ltb-true 0 (effective s) b.1 }
 
-short : (travelled x : ℕ) → (0 < travelled → travelled < x) → 0 < x → travelled < x
-short zero x h p = p
-short (suc t) x h p = h (omega arith)
-
 -- where command k is at the head, it is this one
 abbrev Shows : ℕ → Queued → State → List Queued → Type 0
 Shows k l s [] = Unit {0}
 Shows k l s (m ∷ ms) = s.done ≡ k → m ≡ l
 
-travel_counts : (job : Job) (k : ℕ) (l : Queued) (ls : List Queued) (old : State) (o : Outcome) (new : State) → old.travelled ≤ millionths l →
-    (0 < old.travelled → old.travelled < millionths l) → 1 ≤ path_steps l → old.done ≡ k → min (least_rate job l) (rest l old) ≤ new.rate → Travels job l ls old o new →
+travel_counts : (job : Job) (k : ℕ) (l : Queued) (ls : List Queued) (old : State) (o : Outcome) (new : State) → old.travelled ≤ millionths l - 1 →
+    1 ≤ path_steps l → old.done ≡ k → min (least_rate job l) (rest l old) ≤ new.rate → Travels job l ls old o new →
     Counts k (millionths l) (least_rate job l) old new
-travel_counts job k l ls old o new f w some head least t =
-    let s = short old.travelled (millionths l) w (omega (arith, some)) in
-    let m = moved job l ls old o new t f in
+travel_counts job k l ls old o new f some head least t =
+    let m = moved job l ls old o new t in
     record {
       head = head;
-      some = s;
+      some = omega (arith, f, some);
       moves = elim (m.state) [
         | inl g ↦ inl g.1
         | inr g ↦ let a = g.2 in let b = g.3 in inr (g.0, omega (arith, a, b, least), omega (arith, a, b))
       ];
     }
 
-head_counts : (job : Job) (k : ℕ) (l : Queued) (ls : List Queued) (old : State) (o : Outcome) (new : State) → old.travelled ≤ millionths l →
-    (0 < old.travelled → old.travelled < millionths l) → 1 ≤ path_steps l → old.done ≡ k → IsFree old → TravelsAtLeast job (l ∷ ls) old new.rate →
+head_counts : (job : Job) (k : ℕ) (l : Queued) (ls : List Queued) (old : State) (o : Outcome) (new : State) → old.travelled ≤ millionths l - 1 →
+    1 ≤ path_steps l → old.done ≡ k → IsFree old → TravelsAtLeast job (l ∷ ls) old new.rate →
     HeadTick job l ls old o new → Counts k (millionths l) (least_rate job l) old new
-head_counts job k l ls old o new f w some head free g t =
+head_counts job k l ls old o new f some head free g t =
     elim (match_with (nat_lt 0 (path_steps l)) (Travels job l ls old o new) (MatchBool old.held (Rests job old o new) (Serves job l.command.action old o new)) t) [
-      | inl u ↦ travel_counts job k l ls old o new f w some head (g free (omega (arith, some))) u.1
+      | inl u ↦ travel_counts job k l ls old o new f some head (g free (omega (arith, some))) u.1
       | inr u ↦ absurd (let z : path_steps l ≡ 0 = let b = u.0 in grind (arith, nat_tests) in omega (arith, z, some))
     ]
 
 tick_counts : (job : Job) (k : ℕ) (l : Queued) (ring : List Queued) (old : State) (o : Outcome) (new : State) → Fits ring old.travelled →
-    IsPartWay ring old.travelled → 1 ≤ path_steps l → Shows k l old ring → has_head k old ring ≡ true → IsFree old → TravelsAtLeast job ring old new.rate →
+    1 ≤ path_steps l → Shows k l old ring → has_head k old ring ≡ true → IsFree old → TravelsAtLeast job ring old new.rate →
     TickBy job false ring old o new → Counts k (millionths l) (least_rate job l) old new
-tick_counts job k l [] old o new f w some shows h free g t = absurd (false≢true h)
-tick_counts job k l (m ∷ ms) old o new f w some shows h free g t =
+tick_counts job k l [] old o new f some shows h free g t = absurd (false≢true h)
+tick_counts job k l (m ∷ ms) old o new f some shows h free g t =
     let head = eqb-true old.done k h in
     let same = shows head in
     subst (λ n. Counts k (millionths n) (least_rate job n) old new) same
-    (head_counts job k m ms old o new f w (subst (λ n. 1 ≤ path_steps n) (sym same) some) head free g t)
+    (head_counts job k m ms old o new f (subst (λ n. 1 ≤ path_steps n) (sym same) some) head free g t)
 
 event_counts : (job : Job) (k : ℕ) (l : Queued) (old : State) (e : Event) (o : Outcome) (new : State) → Fits old.ring old.travelled →
-    IsPartWay old.ring old.travelled → 1 ≤ path_steps l → Shows k l old old.ring → Step job old e o new → GoesOn job old e new →
+    1 ≤ path_steps l → Shows k l old old.ring → Step job old e o new → GoesOn job old e new →
     (is_tick e && (has_head k old old.ring && is_free old)) ≡ true → Counts k (millionths l) (least_rate job l) old new
-event_counts job k l old Tick o new f w some shows t g h =
+event_counts job k l old Tick o new f some shows t g h =
     let a = and_parts (has_head k old old.ring) (is_free old) h in
     let free = free_is old a.1 in
-    tick_counts job k l old.ring old o new f w some shows a.0 free g (subst (λ b. TickBy job b old.ring old o new) free.not_stopped t)
-event_counts job k l old Load o new f w some shows t g h = absurd (false≢true h)
-event_counts job k l old Hold o new f w some shows t g h = absurd (false≢true h)
-event_counts job k l old Resume o new f w some shows t g h = absurd (false≢true h)
-event_counts job k l old Start o new f w some shows t g h = absurd (false≢true h)
-event_counts job k l old (StopSwitch on) o new f w some shows t g h = absurd (false≢true h)
-event_counts job k l old (Override q) o new f w some shows t g h = absurd (false≢true h)
+    tick_counts job k l old.ring old o new f some shows a.0 free g (subst (λ b. TickBy job b old.ring old o new) free.not_stopped t)
+event_counts job k l old Load o new f some shows t g h = absurd (false≢true h)
+event_counts job k l old Hold o new f some shows t g h = absurd (false≢true h)
+event_counts job k l old Resume o new f some shows t g h = absurd (false≢true h)
+event_counts job k l old Start o new f some shows t g h = absurd (false≢true h)
+event_counts job k l old (StopSwitch on) o new f some shows t g h = absurd (false≢true h)
+event_counts job k l old (Override q) o new f some shows t g h = absurd (false≢true h)
 
 -- ---- runs
 
@@ -240,24 +215,23 @@ next_bounded : (k x m : ℕ) (old new : State) (ticks : ℕ) (b : Bool) → 1 �
     IsBounded k x m old ((if b then 1 else 0) + ticks)
 next_bounded k x m old new ticks true p c g i = counted_bounded k x m old new ticks p (c refl) i
 next_bounded k x m old new ticks false p c g i =
-    let e : ticks ≡ 0 + ticks = omega arith in subst (IsBounded k x m old) e (other_bounded k x m old new ticks p g.1 i)
+    let e : ticks ≡ 0 + ticks = omega arith in subst (IsBounded k x m old) e (other_bounded k x m old new ticks p g i)
 
 none_bounded : (k x m : ℕ) (s : State) → IsBounded k x m s 0
 none_bounded k x m s = record { past = λ h. refl; now = λ h. omega arith; later = λ h. omega arith }
 
-run_bounded : (job : Job) (k : ℕ) (l : Queued) (old : State) (es : List Event) (os : List Outcome) (states : List State) → Fits old.ring old.travelled →
-    IsPartWay old.ring old.travelled → 1 ≤ path_steps l → 1 ≤ least_rate job l → Shows k l old old.ring → All (λ (s : State). Shows k l s s.ring) states →
+run_bounded : (job : Job) (k : ℕ) (l : Queued) (old : State) (es : List Event) (os : List Outcome) (states : List State) → job.machine.max_rate ≤ MILLION →
+    Fits old.ring old.travelled → 1 ≤ path_steps l → 1 ≤ least_rate job l → Shows k l old old.ring → All (λ (s : State). Shows k l s s.ring) states →
     Run job old es os states → KeepGoing job old es states → IsBounded k (millionths l) (least_rate job l) old (free_ticks k old es states)
-run_bounded job k l old [] os states f w some least shows all r g = none_bounded k (millionths l) (least_rate job l) old
-run_bounded job k l old (e ∷ es) os [] f w some least shows all r g = none_bounded k (millionths l) (least_rate job l) old
-run_bounded job k l old (e ∷ es) [] (new ∷ states) f w some least shows all r g = absurd r
-run_bounded job k l old (e ∷ es) (o ∷ os) (new ∷ states) f w some least shows all r g =
-    let a = event_ahead job old e o new f w r.0 in
-    let fits = event_keeps job old e o new f r.0 in
-    let i = run_bounded job k l new es os states fits.1 a.0 some least (All-head (λ (s : State). Shows k l s s.ring) new states all)
+run_bounded job k l old [] os states small f some least shows all r g = none_bounded k (millionths l) (least_rate job l) old
+run_bounded job k l old (e ∷ es) os [] small f some least shows all r g = none_bounded k (millionths l) (least_rate job l) old
+run_bounded job k l old (e ∷ es) [] (new ∷ states) small f some least shows all r g = absurd r
+run_bounded job k l old (e ∷ es) (o ∷ os) (new ∷ states) small f some least shows all r g =
+    let fits = event_keeps job old e o new small f r.0 in
+    let i = run_bounded job k l new es os states small fits.1 some least (All-head (λ (s : State). Shows k l s s.ring) new states all)
     (All-tail (λ (s : State). Shows k l s s.ring) new states all) r.1 g.1 in
     next_bounded k (millionths l) (least_rate job l) old new (free_ticks k new es states) (is_tick e && (has_head k old old.ring && is_free old)) least
-    (event_counts job k l old e o new f w some shows r.0 g.0) a i
+    (event_counts job k l old e o new f some shows r.0 g.0) (event_ahead job old e o new r.0) i
 
 -- command k is at the head as no other
 shown : (k : ℕ) (l : Queued) (states : List State) → ((m : Queued) → ComesToHead k m states → m ≡ l) → All (λ (s : State). Shows k l s s.ring) states
@@ -274,10 +248,10 @@ from_start job zero x m ticks p b =
 from_start job (suc j) x m ticks p b = b.later (omega arith)
 
 pub ends_in_time : EndsInTime
-ends_in_time job es os states r g k l c some least =
+ends_in_time job machine es os states r g k l c some least =
     let heads = shown k l states (keep_paths job es os states r k l c).no_other in
     from_start job k (millionths l) (least_rate job l) (free_ticks k (opening job.machine) es states) least
-    (run_bounded job k l (opening job.machine) es os states refl tt some least tt heads r g)
+    (run_bounded job k l (opening job.machine) es os states machine.max_rate.greatest refl some least tt heads r g)
 
 -- ---- on a machine within its ranges
 
@@ -289,4 +263,4 @@ moves job l _ e take some = absurd (let none = ap length take in omega (arith, n
 pub machines_run_in_time : MachinesRunInTime
 machines_run_in_time job m es os states r g k l c some =
     let is_motion = moves job l l.command.action refl (keep_paths job es os states r k l c).path some in
-    ends_in_time job es os states r g k l c some (may_travel_least job.machine l.command.action l.command.action (path_steps l) 1 m is_motion).some
+    ends_in_time job m es os states r g k l c some (may_travel_least job.machine l.command.action l.command.action (path_steps l) 1 m is_motion).some

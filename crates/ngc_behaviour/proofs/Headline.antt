@@ -20,7 +20,7 @@ runs_safely : (machine : MachineFile) (commands : List Command) (entries : List 
     AreJoined machine.start (ways_of (actions_of commands)) → HaveEvenRadii (ways_of (actions_of commands)) → EndIsLast commands → RunsSafely (job_of machine commands)
 runs_safely machine commands entries m v j even e events outcomes states r = record {
   safe = positions_safe machine commands entries m v j even events outcomes states r;
-  rates = rates_of_run (job_of machine commands) events outcomes states r;
+  rates = rates_of_run (job_of machine commands) m events outcomes states r;
   pulse_rules = pulse_rules (job_of machine commands) m j events outcomes states r;
   way = way_begins machine commands m (are_arcs machine commands entries m v even) j events outcomes states r;
   ended = way_ended machine commands m j e events outcomes states r;

@@ -19,14 +19,14 @@ use Rattle.ngc_planner.specs.Pulses.{is_stepping, is_path_step, KeepsPulseRules}
 use Rattle.ngc_events.specs.declared.event.Event.{Event}
 use Rattle.ngc_events.specs.declared.event.Event.TheVariants.{Load, Tick, Hold, Resume, Override, StopSwitch, Start}
 use Rattle.ngc_behaviour.specs.State.{Job, Queued, State, opening, loaded, command_at, path_steps, millionths, RING}
-use Rattle.ngc_behaviour.specs.Step.{Outcome, Step, LoadCommand, MayTake, Rests, Finishes, Dwells, Serves, Travels, HeadTick, TickBy, popped, after, ticks_of}
+use Rattle.ngc_behaviour.specs.Step.{Outcome, Step, LoadCommand, MayTake, Rests, Finishes, Dwells, Serves, Travels, HeadTick, TickBy, popped, after, place_after, ticks_of}
 use Rattle.ngc_behaviour.specs.Run.{Run, step_to, pulses}
 use Rattle.ngc_behaviour.specs.Safety.{TickKeeps}
 use Rattle.ngc_behaviour.specs.Progress.{is_tick}
 use Rattle.ngc_behaviour.proofs.Cases.{match_with}
 use Rattle.ngc_behaviour.proofs.SafeRun.{RingFits, one_more}
 use Rattle.ngc_behaviour.proofs.Heads.{next_at, has_ends}
-use Rattle.ngc_behaviour.proofs.RatesOfRun.{Fits, after_stays, event_keeps, within_rest}
+use Rattle.ngc_behaviour.proofs.RatesOfRun.{Fits, GoesOver, after_stays, event_keeps, flows_some, goes_over, over_small, none_over}
 use Rattle.ngc_behaviour.proofs.Travel.{moved}
 use Rattle.ngc_behaviour.proofs.Windows.{ArePaced, one_window, two_windows}
 
@@ -156,16 +156,29 @@ at_state job s done ring travelled position d r t p w =
     (subst (λ x. Walks job done ring x s.position) (sym t)
     (subst (λ x. Walks job done ring travelled x) (sym p) w)))
 
-next_walks : (job : Job) (done : ℕ) (ring : List Queued) (position : StepPos) (cs : List Command) → ((k : ℕ) → command_at job (done + k) ≡ slice_get cs k) →
-    RingFits job cs ring → Continues job (actions_of cs) position → Walks job done ring 0 position
-next_walks job done ring position cs at fits c = record {
+-- what goes beyond the path of l stays at the first point of the next one
+on_next : (job : Job) (l : Queued) (ring : List Queued) (over : ℕ) (position : StepPos) (cs : List Command) (place : Point3) →
+    AreJoined place (ways_of (actions_of cs)) →
+    RingFits job cs ring → position ≡ grid job.machine.step place → GoesOver l ring over → 0 < over → IsOnHead ring over position
+on_next job l [] over position cs place joined fits e g h = absurd (omega (arith, g, h))
+on_next job l (k ∷ ks) over position [] place joined fits e g h = absurd fits
+on_next job l (k ∷ ks) over position (c ∷ cs) place joined fits e g h =
+    let into = g h in
+    let small = into.1 in
+    let first : 0 ≡ over / MILLION = omega (arith, small) in
+    e ∙ sym (begins_at job c.action (actions_of cs) k.path place joined fits.1 (flows_some l k into.0)) ∙ ap (point k.path) first
+
+next_walks : (job : Job) (done : ℕ) (l : Queued) (ring : List Queued) (over : ℕ) (position : StepPos) (cs : List Command) →
+    ((k : ℕ) → command_at job (done + k) ≡ slice_get cs k) → RingFits job cs ring → Continues job (actions_of cs) position → GoesOver l ring over →
+    Walks job done ring over position
+next_walks job done l ring over position cs at fits c g = record {
   left = cs;
   place = c.0;
   at = at;
   joined = c.1;
   fits = fits;
   begins = λ e. c.2;
-  goes_on = λ h. absurd (omega (arith, h));
+  goes_on = λ h. on_next job l ring over position cs c.0 c.1 fits c.2 g h;
 }
 
 head_path : (job : Job) (l : Queued) (ls : List Queued) (left : List Command) (place : Point3) (travelled : ℕ) (position : StepPos) →
@@ -182,34 +195,41 @@ head_units : (job : Job) (l : Queued) (ls : List Queued) (left : List Command) (
 head_units job l ls [] k fits h = absurd fits
 head_units job l ls (c ∷ cs) k fits h = unit_at job c.action l.path k fits.1 h
 
-travel_advances : (job : Job) (l : Queued) (ls : List Queued) (old : State) (o : Outcome) (new : State) → old.ring ≡ l ∷ ls → old.travelled ≤ millionths l →
+travel_advances : (job : Job) (l : Queued) (ls : List Queued) (old : State) (o : Outcome) (new : State) → old.ring ≡ l ∷ ls → old.travelled ≤ millionths l - 1 →
     new.rate ≤ MILLION → 0 < path_steps l → WalksIn job old → Travels job l ls old o new → Advances old new
 travel_advances job l ls old o new e f small p walks t =
-    let m = moved job l ls old o new t f in
-    let w = within_rest job l ls old o new t f in
+    let m = moved job l ls old o new t in
+    let over = over_small l ls (old.travelled + new.rate - millionths l) (goes_over job l ls old o new small p f t) in
+    let place : place_after l old new.rate ≡ (old.travelled + new.rate) / MILLION = omega (arith, over) in
     let fits : RingFits job walks.left (l ∷ ls) = subst (RingFits job walks.left) e walks.fits in
     let at = head_path job l ls walks.left walks.place old.travelled old.position walks.joined fits p walks.begins
     (λ h. subst (λ r. IsOnHead r old.travelled old.position) e (walks.goes_on h)) in
-    let c = path_advances old new l.path at m.position small (λ h. head_units job l ls walks.left (old.travelled / MILLION) fits (omega (arith, h, w))) in
+    let c = path_advances old new l.path at (m.position ∙ ap (point l.path) place) small
+    (λ h. head_units job l ls walks.left (old.travelled / MILLION) fits (omega (arith, p, f))) in
     elim (m.state) [
-      | inl s ↦ record { counts = c; whole = path_steps l; goes_on = omega (arith, s.0, s.3) }
+      | inl s ↦ let full = s.0 in let left = s.3 in record { counts = c; whole = path_steps l; goes_on = omega (arith, full, left) }
       | inr s ↦ record { counts = c; whole = 0; goes_on = omega (arith, s.2) }
     ]
 
-travel_walks : (job : Job) (l : Queued) (ls : List Queued) (old : State) (o : Outcome) (new : State) → old.ring ≡ l ∷ ls → old.travelled ≤ millionths l →
-    0 < path_steps l → (left : List Command) (place : Point3) → ((k : ℕ) → command_at job (old.done + k) ≡ slice_get left k) →
+travel_walks : (job : Job) (l : Queued) (ls : List Queued) (old : State) (o : Outcome) (new : State) → old.ring ≡ l ∷ ls → old.travelled ≤ millionths l - 1 →
+    new.rate ≤ MILLION → 0 < path_steps l → (left : List Command) (place : Point3) → ((k : ℕ) → command_at job (old.done + k) ≡ slice_get left k) →
     AreJoined place (ways_of (actions_of left)) → RingFits job left (l ∷ ls) → Travels job l ls old o new → WalksIn job new
-travel_walks job l ls old o new e f p [] place at joined fits t = absurd fits
-travel_walks job l ls old o new e f p (c ∷ cs) place at joined fits t =
-    let m = moved job l ls old o new t f in
+travel_walks job l ls old o new e f small p [] place at joined fits t = absurd fits
+travel_walks job l ls old o new e f small p (c ∷ cs) place at joined fits t =
+    let m = moved job l ls old o new t in
+    let over = old.travelled + new.rate - millionths l in
     elim (m.state) [
       | inl s ↦
-          let k : (old.travelled + new.rate) / MILLION ≡ path_steps l = omega (arith, s.0) in
-          at_state job new (suc old.done) ls 0 (point l.path (path_steps l)) s.1 (s.2 ∙ ap (drop 1) e) s.3 (m.position ∙ ap (point l.path) k)
-          (next_walks job (suc old.done) ls (point l.path (path_steps l)) cs (next_at job old.done c cs at) fits.2
-          (ends_at_next job c.action (actions_of cs) l.path place joined fits.1 p))
+          let full = s.0 in
+          let k : place_after l old new.rate ≡ path_steps l = omega (arith, full) in
+          at_state job new (suc old.done) ls over (point l.path (path_steps l)) s.1 (s.2 ∙ ap (drop 1) e) s.3 (m.position ∙ ap (point l.path) k)
+          (next_walks job (suc old.done) l ls over (point l.path (path_steps l)) cs (next_at job old.done c cs at) fits.2
+          (ends_at_next job c.action (actions_of cs) l.path place joined fits.1 p) (goes_over job l ls old o new small p f t))
       | inr s ↦
-          at_state job new old.done (l ∷ ls) (old.travelled + new.rate) (point l.path ((old.travelled + new.rate) / MILLION)) s.0 (s.1 ∙ e) s.2 m.position (record {
+          let short = s.3 in
+          let k : place_after l old new.rate ≡ (old.travelled + new.rate) / MILLION = omega (arith, short) in
+          at_state job new old.done (l ∷ ls) (old.travelled + new.rate) (point l.path ((old.travelled + new.rate) / MILLION)) s.0 (s.1 ∙ e) s.2
+          (m.position ∙ ap (point l.path) k) (record {
             left = c ∷ cs;
             place = place;
             at = at;
@@ -226,10 +246,11 @@ finish_walks : (job : Job) (l : Queued) (ls : List Queued) (done : ℕ) (travell
     RingFits job left (l ∷ ls) → position ≡ grid job.machine.step place → Walks job (suc done) ls 0 position
 finish_walks job l ls done travelled position z t [] place at joined fits b = absurd fits
 finish_walks job l ls done travelled position z t (c ∷ cs) place at joined fits b =
-    next_walks job (suc done) ls position cs (next_at job done c cs at) fits.2
-    (stays_at_next job c.action (actions_of cs) l.path place position joined fits.1 z b)
+    next_walks job (suc done) l ls 0 position cs (next_at job done c cs at) fits.2
+    (stays_at_next job c.action (actions_of cs) l.path place position joined fits.1 z b) (none_over l ls)
 
-finish_both : (job : Job) (l : Queued) (ls : List Queued) (old new : State) → old.ring ≡ l ∷ ls → old.travelled ≤ millionths l → path_steps l ≡ 0 → WalksIn job old →
+finish_both : (job : Job) (l : Queued) (ls : List Queued) (old new : State) → old.ring ≡ l ∷ ls → old.travelled ≤ millionths l - 1 → path_steps l ≡ 0 →
+    WalksIn job old →
     new ≡ after l.command.action (record (popped 0 old) { rate = 0 }) → Both job old new
 finish_both job l ls old new e f z walks n =
     let a = after_stays l.command.action (record (popped 0 old) { rate = 0 }) in
@@ -247,14 +268,15 @@ finish_both job l ls old new e f z walks n =
 rest_both : (job : Job) (old new : State) → WalksIn job old → new ≡ record old { rate = 0 } → Both job old new
 rest_both job old new walks n = subst (Both job old) (sym n) (still_advances old (record old { rate = 0 }) refl refl refl, walks)
 
-head_both : (job : Job) (l : Queued) (ls : List Queued) (old : State) (o : Outcome) (new : State) → old.ring ≡ l ∷ ls → old.travelled ≤ millionths l → new.rate ≤ MILLION →
+head_both : (job : Job) (l : Queued) (ls : List Queued) (old : State) (o : Outcome) (new : State) → old.ring ≡ l ∷ ls → old.travelled ≤ millionths l - 1 →
+    new.rate ≤ MILLION →
     WalksIn job old → HeadTick job l ls old o new → Both job old new
 head_both job l ls old o new e f small walks t =
     elim (match_with (nat_lt 0 (path_steps l)) (Travels job l ls old o new) (MatchBool old.held (Rests job old o new) (Serves job l.command.action old o new)) t) [
       | inl u ↦
           let p : 0 < path_steps l = let b = u.0 in grind (arith, nat_tests) in (
             travel_advances job l ls old o new e f small p walks u.1,
-            travel_walks job l ls old o new e f p walks.left walks.place walks.at walks.joined (subst (RingFits job walks.left) e walks.fits) u.1,
+            travel_walks job l ls old o new e f small p walks.left walks.place walks.at walks.joined (subst (RingFits job walks.left) e walks.fits) u.1,
           )
       | inr u ↦ elim (match_with old.held (Rests job old o new) (Serves job l.command.action old o new) u.1) [
         | inl r ↦ rest_both job old new walks r.1.stands
@@ -347,7 +369,7 @@ run_goes job q old [] os states m f w r = ([], tt)
 run_goes job q old (e ∷ es) os [] m f w r = ([], tt)
 run_goes job q old (e ∷ es) [] (new ∷ states) m f w r = absurd r
 run_goes job q old (Tick ∷ es) (o ∷ os) (new ∷ states) m f w r =
-    let k = event_keeps job old Tick o new f r.0 in
+    let k = event_keeps job old Tick o new m f r.0 in
     let b = rate_bounds job old.ring old new.rate k.0 in let most = b.0 in
     let t = tick_both job old.stopped old.ring old o new refl f (omega (arith, most, m)) w r.0 in
     let c = t.0.counts in let g = t.0.goes_on in
@@ -360,22 +382,22 @@ run_goes job q old (Tick ∷ es) (o ∷ os) (new ∷ states) m f w r =
       ),
     )
 run_goes job q old (Load ∷ es) (o ∷ os) (new ∷ states) m f w r =
-    let n = waits job old Load o new refl w r.0 in let k = event_keeps job old Load o new f r.0 in
+    let n = waits job old Load o new refl w r.0 in let k = event_keeps job old Load o new m f r.0 in
     goes_on_from job q old new (pulses new.position es states) n (run_goes job q new es os states m k.1 n.0 r.1)
 run_goes job q old (Hold ∷ es) (o ∷ os) (new ∷ states) m f w r =
-    let n = waits job old Hold o new refl w r.0 in let k = event_keeps job old Hold o new f r.0 in
+    let n = waits job old Hold o new refl w r.0 in let k = event_keeps job old Hold o new m f r.0 in
     goes_on_from job q old new (pulses new.position es states) n (run_goes job q new es os states m k.1 n.0 r.1)
 run_goes job q old (Resume ∷ es) (o ∷ os) (new ∷ states) m f w r =
-    let n = waits job old Resume o new refl w r.0 in let k = event_keeps job old Resume o new f r.0 in
+    let n = waits job old Resume o new refl w r.0 in let k = event_keeps job old Resume o new m f r.0 in
     goes_on_from job q old new (pulses new.position es states) n (run_goes job q new es os states m k.1 n.0 r.1)
 run_goes job q old (Start ∷ es) (o ∷ os) (new ∷ states) m f w r =
-    let n = waits job old Start o new refl w r.0 in let k = event_keeps job old Start o new f r.0 in
+    let n = waits job old Start o new refl w r.0 in let k = event_keeps job old Start o new m f r.0 in
     goes_on_from job q old new (pulses new.position es states) n (run_goes job q new es os states m k.1 n.0 r.1)
 run_goes job q old (StopSwitch on ∷ es) (o ∷ os) (new ∷ states) m f w r =
-    let n = waits job old (StopSwitch on) o new refl w r.0 in let k = event_keeps job old (StopSwitch on) o new f r.0 in
+    let n = waits job old (StopSwitch on) o new refl w r.0 in let k = event_keeps job old (StopSwitch on) o new m f r.0 in
     goes_on_from job q old new (pulses new.position es states) n (run_goes job q new es os states m k.1 n.0 r.1)
 run_goes job q old (Override p ∷ es) (o ∷ os) (new ∷ states) m f w r =
-    let n = waits job old (Override p) o new refl w r.0 in let k = event_keeps job old (Override p) o new f r.0 in
+    let n = waits job old (Override p) o new refl w r.0 in let k = event_keeps job old (Override p) o new m f r.0 in
     goes_on_from job q old new (pulses new.position es states) n (run_goes job q new es os states m k.1 n.0 r.1)
 
 opening_walks : (job : Job) → AreJoined job.machine.start (ways_of (actions_of job.commands)) → WalksIn job (opening job.machine)

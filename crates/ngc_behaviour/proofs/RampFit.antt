@@ -39,7 +39,8 @@ IsStop l = (path_steps l ≡ 0) ⊎ (stops l.command.action ≡ true)
 
 -- so it flows into no command
 pub flows_nowhere : (l m : Queued) → IsStop l → flows_into l m ≡ false
-flows_nowhere l m (inl z) = off_by (nat_lt 0 (path_steps l)) (stops l.command.action) (nat_lt 0 (path_steps m)) (inl (le-ltb 0 (path_steps l) (omega (arith, z))))
+flows_nowhere l m (inl z) =
+    off_by (nat_lt 0 (path_steps l)) (stops l.command.action) (nat_lt 0 (path_steps m)) (inl (le-ltb 0 (path_steps l) (omega (arith, z))))
 flows_nowhere l m (inr s) = off_by (nat_lt 0 (path_steps l)) (stops l.command.action) (nat_lt 0 (path_steps m)) (inr s)
 
 unjoined_by : (b : Bool) (x : Leg) (xs others : List Leg) → x.joined ≡ false → (b ≡ false → ahead others ≡ 0) → ahead (cond b (x ∷ xs) others) ≡ 0
@@ -50,12 +51,14 @@ unjoined_by false x xs others off none = none refl
 pub unjoined : (job : Job) (k : ℕ) (l : Queued) (ls : List Queued) → IsStop l → ahead (legs_behind job k l ls) ≡ 0
 unjoined job k l [] stop = refl
 unjoined job k l (m ∷ ms) stop =
-    unjoined_by (nat_lt 0 (path_steps m)) (leg_of job k (flows_into l m) m) (legs_behind job (suc k) m ms) (legs_behind job (suc k) m ms) (flows_nowhere l m stop)
+    let behind = legs_behind job (suc k) m ms in
+    unjoined_by (nat_lt 0 (path_steps m)) (leg_of job k (flows_into l m) m) behind behind (flows_nowhere l m stop)
     (λ b. unjoined job (suc k) m ms (inl (none_left (path_steps m) b)))
 
 -- ---- into the next command
 
-never_by : (b : Bool) (v : ℕ) (x : Leg) (xs others : List Leg) → x.joined ≡ false → (b ≡ false → GoesOnLeg v others → ⊥) → GoesOnLeg v (cond b (x ∷ xs) others) → ⊥
+never_by : (b : Bool) (v : ℕ) (x : Leg) (xs others : List Leg) → x.joined ≡ false → (b ≡ false → GoesOnLeg v others → ⊥) →
+    GoesOnLeg v (cond b (x ∷ xs) others) → ⊥
 never_by true v x xs others off none h = true≢false (sym h.0 ∙ off)
 never_by false v x xs others off none h = none refl h
 
@@ -63,7 +66,8 @@ never_by false v x xs others off none h = none refl h
 never_goes_on : (job : Job) (k v : ℕ) (l : Queued) (ls : List Queued) → IsStop l → GoesOnLeg v (legs_behind job k l ls) → ⊥
 never_goes_on job k v l [] stop h = h
 never_goes_on job k v l (m ∷ ms) stop h =
-    never_by (nat_lt 0 (path_steps m)) v (leg_of job k (flows_into l m) m) (legs_behind job (suc k) m ms) (legs_behind job (suc k) m ms) (flows_nowhere l m stop)
+    let behind = legs_behind job (suc k) m ms in
+    never_by (nat_lt 0 (path_steps m)) v (leg_of job k (flows_into l m) m) behind behind (flows_nowhere l m stop)
     (λ b. never_goes_on job (suc k) v m ms (inl (none_left (path_steps m) b))) h
 
 into_by : (b : Bool) (job : Job) (v : ℕ) (l m : Queued) (x : Leg) (xs others : List Leg) → IsMachine job.machine → x.joined ≡ flows_into l m →
@@ -77,7 +81,8 @@ into_by false job v l m x xs others machine on most none h = absurd (none refl h
 pub goes_into : (job : Job) (k v : ℕ) (l : Queued) (ls : List Queued) → IsMachine job.machine → GoesOnLeg v (legs_behind job k l ls) → GoesOnInto job v l ls
 goes_into job k v l [] machine h = h
 goes_into job k v l (m ∷ ms) machine h =
-    into_by (nat_lt 0 (path_steps m)) job v l m (leg_of job k (flows_into l m) m) (legs_behind job (suc k) m ms) (legs_behind job (suc k) m ms) machine refl refl
+    let behind = legs_behind job (suc k) m ms in
+    into_by (nat_lt 0 (path_steps m)) job v l m (leg_of job k (flows_into l m) m) behind behind machine refl refl
     (λ b. never_goes_on job (suc k) v m ms (inl (none_left (path_steps m) b))) h
 
 -- ---- a tick
@@ -86,7 +91,8 @@ goes_into job k v l (m ∷ ms) machine h =
 same_test : (t r m : ℕ) → r ≡ m - t → t ≤ m → (t == 0) ≡ (r == m)
 same_test t r m e f = grind (arith, nat_tests)
 
-same_bound : (job : Job) (joined : Bool) (l : Queued) (s : State) (r : ℕ) → r ≡ rest l s → s.travelled ≤ millionths l → head_bound job l s ≡ tick_bound (leg_of job s.done joined l) r
+same_bound : (job : Job) (joined : Bool) (l : Queued) (s : State) (r : ℕ) → r ≡ rest l s → s.travelled ≤ millionths l →
+    head_bound job l s ≡ tick_bound (leg_of job s.done joined l) r
 same_bound job joined l s r left within =
     let bound = bound_of job.machine l.command.action (path_steps l) in
     let entry = joint_before job.machine (before job s.done) l.command in
@@ -102,8 +108,9 @@ same_pace r a w b s c x d e f g h = cc
 paced : (p q v way other have there : ℕ) → p ≡ q → way ≡ other → have ≡ there → (other < there → q ≤ v) → way < have → p ≤ v
 paced p q v way other have there e f g h less = omega (arith, h (omega arith))
 
--- A ramp with the ring's motions as its legs travels at rates that the machine may travel.
-pub may_travel : (job : Job) (l : Queued) (ls : List Queued) (s : State) (r : RampState) (joined : Bool) (wish v : ℕ) → IsMachine job.machine → 1 ≤ path_steps l →
+-- a ramp with the ring's motions as its legs travels at rates that the machine may travel
+pub may_travel : (job : Job) (l : Queued) (ls : List Queued) (s : State) (r : RampState) (joined : Bool) (wish v : ℕ) → IsMachine job.machine →
+    1 ≤ path_steps l →
     r.change ≡ job.machine.change → r.rate ≡ s.rate → r.rest ≡ rest l s → s.travelled ≤ millionths l → wish ≡ target job l s →
     MayTick r wish (leg_of job s.done joined l) (legs_behind job (suc s.done) l ls) v → MayTravel job l ls s v
 may_travel job l ls s r joined wish v machine some change rate left within aim may =
@@ -112,7 +119,8 @@ may_travel job l ls s r joined wish v machine some change rate left within aim m
     let bound : head_bound job l s ≡ tick_bound leg r.rest = same_bound job joined l s r.rest left within in
     let low = tick_bound_greatest leg r.rest in
     let same : pace job l s ≡ ramp_pace r wish leg =
-    same_pace s.rate job.machine.change (target job l s) (head_bound job l s) r.rate r.change wish (tick_bound leg r.rest) (sym rate) (sym change) (sym aim) bound in
+    same_pace s.rate job.machine.change (target job l s) (head_bound job l s) r.rate r.change wish (tick_bound leg r.rest)
+    (sym rate) (sym change) (sym aim) bound in
     let clear : free job (pace job l s) l ls s ≡ ramp_free (ramp_pace r wish leg) r.rest leg legs = ap₂ (λ p n. ramp_free p n leg legs) same (sym left) in
     record {
       rules = record {
@@ -141,7 +149,7 @@ after_least : (m : MachineFile) (c : Command) (a : Option Command) (least : ℕ)
 after_least m c None least small each = small
 after_least m c (Some d) least small each = each d
 
--- While the machine is free it travels at least the least travel of a motion, whatever lies behind it.
+-- while the machine is free it travels at least the least travel of a motion, whatever lies behind it
 pub travels_at_least : (job : Job) (l : Queued) (ls : List Queued) (s : State) (r : RampState) (joined : Bool) (wish v : ℕ) → IsMachine job.machine →
     IsMotion l.command.action → 1 ≤ path_steps l → r.change ≡ job.machine.change → r.rate ≡ s.rate → r.rest ≡ rest l s → s.travelled ≤ millionths l →
     wish ≡ target job l s → MayTick r wish (leg_of job s.done joined l) (legs_behind job (suc s.done) l ls) v → TravelsAtLeast job (l ∷ ls) s v
@@ -167,7 +175,8 @@ few_by false x xs n p = omega arith
 -- no more legs than commands
 pub no_more_legs : (job : Job) (k : ℕ) (l : Queued) (ls : List Queued) → length (legs_behind job k l ls) ≤ length ls
 no_more_legs job k l [] = omega arith
-no_more_legs job k l (m ∷ ms) = few_by (nat_lt 0 (path_steps m)) (leg_of job k (flows_into l m) m) (legs_behind job (suc k) m ms) (length ms) (no_more_legs job (suc k) m ms)
+no_more_legs job k l (m ∷ ms) =
+    few_by (nat_lt 0 (path_steps m)) (leg_of job k (flows_into l m) m) (legs_behind job (suc k) m ms) (length ms) (no_more_legs job (suc k) m ms)
 
 -- the last of l and those behind it
 abbrev pub last_behind : Queued → List Queued → Queued
@@ -196,7 +205,9 @@ one_more job k l ls q some =
     legs_more job k l ls q ∙ ap (λ b. legs_behind job k l ls ++ cond b (x ∷ []) []) (lt-ltb 0 (path_steps q) (omega (arith, some)))
 
 -- any other command has none
-pub none_more : (job : Job) (k : ℕ) (l : Queued) (ls : List Queued) (q : Queued) → path_steps q ≡ 0 → legs_behind job k l (ls ++ q ∷ []) ≡ legs_behind job k l ls
+pub none_more : (job : Job) (k : ℕ) (l : Queued) (ls : List Queued) (q : Queued) → path_steps q ≡ 0 →
+    legs_behind job k l (ls ++ q ∷ []) ≡ legs_behind job k l ls
 none_more job k l ls q none =
     let x = leg_of job (k + length ls) (flows_into (last_behind l ls) q) q in
-    legs_more job k l ls q ∙ ap (λ b. legs_behind job k l ls ++ cond b (x ∷ []) []) (le-ltb 0 (path_steps q) (omega (arith, none))) ∙ append-nil (legs_behind job k l ls)
+    legs_more job k l ls q ∙ ap (λ b. legs_behind job k l ls ++ cond b (x ∷ []) []) (le-ltb 0 (path_steps q) (omega (arith, none)))
+    ∙ append-nil (legs_behind job k l ls)

@@ -28,7 +28,7 @@ use Rattle.ngc_behaviour.specs.Run.{Run, positions, position_in}
 use Rattle.ngc_behaviour.specs.Safety.{start_of_job, AreWholePath, BeginPath}
 use Rattle.ngc_behaviour.specs.Headline.{job_of}
 use Rattle.ngc_behaviour.proofs.SafeRun.{RingFits, one_more, path_ends, ends_last, still_ends}
-use Rattle.ngc_behaviour.proofs.RatesOfRun.{Fits}
+use Rattle.ngc_behaviour.proofs.RatesOfRun.{Fits, GoesOver, over_small, over_fits}
 use Rattle.ngc_behaviour.proofs.Effects.{Spot, spot_of, spot, tells_end, ends_program, emitted, Effect, stands, grows, goes_on, arrives, passes, effect_of}
 use Rattle.ngc_behaviour.proofs.Arcs.{AreArcs, arcs_left}
 use Rattle.ngc_behaviour.proofs.MotionPaths.{begins_at, none_before, with_pulse, path_length, path_then, some_path}
@@ -72,20 +72,23 @@ first_point : (job : Job) (d : Action) (cs : List Command) (place : Point3) (pat
 first_point job (Move m) cs place path j may some = (path_ends job m.way path may).2 ∙ ap (grid job.machine.step) j.0
 first_point job _ cs place path j may some = absurd (let e = ap length may in omega (arith, e, some))
 
-begins_here : (job : Job) (left : List Command) (ring : List Queued) (place : Point3) (p : StepPos) → AreJoined place (ways_of (actions_of left)) → RingFits job left ring →
-    p ≡ grid job.machine.step place → IsHere job place ring 0 p
-begins_here job left [] place p j f e = e
-begins_here job [] (l ∷ ls) place p j f e = absurd f
-begins_here job (c ∷ cs) (l ∷ ls) place p j f e = (λ z. e, λ some. e ∙ sym (first_point job c.action cs place l.path j f.1 some))
+begins_here : (job : Job) (left : List Command) (ring : List Queued) (place : Point3) (t : ℕ) (p : StepPos) → AreJoined place (ways_of (actions_of left)) →
+    RingFits job left ring → t < MILLION → p ≡ grid job.machine.step place → IsHere job place ring t p
+begins_here job left [] place t p j f small e = e
+begins_here job [] (l ∷ ls) place t p j f small e = absurd f
+begins_here job (c ∷ cs) (l ∷ ls) place t p j f small e =
+    let first : 0 ≡ t / MILLION = omega (arith, small) in
+    (λ z. e, λ some. e ∙ sym (first_point job c.action cs place l.path j f.1 some) ∙ ap (point l.path) first)
 
 none_walked : (ring : List Queued) → Fits ring 0
 none_walked [] = refl
 none_walked (l ∷ ls) = omega arith
 
-begins : (job : Job) (left : List Command) (ring : List Queued) (place : Point3) (p : StepPos) → AreJoined place (ways_of (actions_of left)) → RingFits job left ring →
-    p ≡ grid job.machine.step place → Walks job left ring 0 p
-begins job left ring place p j f e =
-    record { place = place; joined = j; fits = f; short = none_walked ring; here = begins_here job left ring place p j f e }
+-- less than a path step of the head was walked
+begins : (job : Job) (left : List Command) (ring : List Queued) (place : Point3) (t : ℕ) (p : StepPos) → AreJoined place (ways_of (actions_of left)) →
+    RingFits job left ring → Fits ring t → t < MILLION → p ≡ grid job.machine.step place → Walks job left ring t p
+begins job left ring place t p j f short small e =
+    record { place = place; joined = j; fits = f; short = short; here = begins_here job left ring place t p j f small e }
 
 -- ---- each case keeps it
 
@@ -95,7 +98,7 @@ more_walked (k ∷ ks) l t f = f
 
 first_loaded : (job : Job) (left : List Command) (l : Queued) (place : Point3) (t : ℕ) (p : StepPos) → AreJoined place (ways_of (actions_of left)) → RingFits job left (l ∷ []) →
     t ≡ 0 → p ≡ grid job.machine.step place → IsHere job place (l ∷ []) t p
-first_loaded job left l place t p j f z e = subst (λ k. IsHere job place (l ∷ []) k p) (sym z) (begins_here job left (l ∷ []) place p j f e)
+first_loaded job left l place t p j f z e = begins_here job left (l ∷ []) place t p j f (omega (arith, z)) e
 
 still_here : (job : Job) (left : List Command) (ring : List Queued) (l : Queued) (place : Point3) (t : ℕ) (p : StepPos) → AreJoined place (ways_of (actions_of left)) →
     RingFits job left (ring ++ l ∷ []) → Fits ring t → IsHere job place ring t p → IsHere job place (ring ++ l ∷ []) t p
@@ -115,22 +118,25 @@ walks_grown job left ring t p c path w e may =
       here = still_here job left ring l w.place t p w.joined f w.short w.here;
     }
 
-walks_on : (job : Job) (left : List Command) (l : Queued) (ls : List Queued) (t v : ℕ) (p : StepPos) → Walks job left (l ∷ ls) t p → 0 < path_steps l → t + v ≤ millionths l →
+walks_on : (job : Job) (left : List Command) (l : Queued) (ls : List Queued) (t v : ℕ) (p : StepPos) → Walks job left (l ∷ ls) t p → 0 < path_steps l →
+    t + v < millionths l →
     Walks job left (l ∷ ls) (t + v) (point l.path ((t + v) / MILLION))
 walks_on job left l ls t v p w some short =
-    record { place = w.place; joined = w.joined; fits = w.fits; short = short; here = (λ z. absurd (omega (arith, z, some)), λ s. refl) }
+    record { place = w.place; joined = w.joined; fits = w.fits; short = omega (arith, short); here = (λ z. absurd (omega (arith, z, some)), λ s. refl) }
 
 -- the command behind the head
-walks_arrived : (job : Job) (d : Action) (cs : List Command) (l : Queued) (ls : List Queued) (place : Point3) → AreJoined place (ways_of (d ∷ actions_of cs)) → MayTake job d l.path →
-    RingFits job cs ls → 0 < path_steps l → Walks job cs ls 0 (point l.path (path_steps l))
-walks_arrived job (Move m) cs l ls place j may f some = begins job cs ls (end_of m.way) (point l.path (path_steps l)) j.1 f (ends_last job m.way l.path may)
-walks_arrived job _ cs l ls place j may f some = absurd (let e = ap length may in omega (arith, e, some))
+walks_arrived : (job : Job) (d : Action) (cs : List Command) (l : Queued) (ls : List Queued) (place : Point3) (over : ℕ) →
+    AreJoined place (ways_of (d ∷ actions_of cs)) →
+    MayTake job d l.path → RingFits job cs ls → 0 < path_steps l → GoesOver l ls over → Walks job cs ls over (point l.path (path_steps l))
+walks_arrived job (Move m) cs l ls place over j may f some g =
+    begins job cs ls (end_of m.way) over (point l.path (path_steps l)) j.1 f (over_fits l ls over g) (over_small l ls over g) (ends_last job m.way l.path may)
+walks_arrived job _ cs l ls place over j may f some g = absurd (let e = ap length may in omega (arith, e, some))
 
 walks_passed : (job : Job) (d : Action) (cs : List Command) (l : Queued) (ls : List Queued) (place : Point3) (p : StepPos) → AreJoined place (ways_of (d ∷ actions_of cs)) →
     MayTake job d l.path → RingFits job cs ls → path_steps l ≡ 0 → p ≡ grid job.machine.step place → Walks job cs ls 0 p
 walks_passed job (Move m) cs l ls place p j may f z e =
-    begins job cs ls (end_of m.way) p j.1 f (e ∙ ap (grid job.machine.step) (sym j.0) ∙ still_ends job m.way l.path may z)
-walks_passed job _ cs l ls place p j may f z e = begins job cs ls place p j f e
+    begins job cs ls (end_of m.way) 0 p j.1 f (none_walked ls) (omega arith) (e ∙ ap (grid job.machine.step) (sym j.0) ∙ still_ends job m.way l.path may z)
+walks_passed job _ cs l ls place p j may f z e = begins job cs ls place 0 p j f (none_walked ls) (omega arith) e
 
 -- ---- from the way of the next state to that of this one
 
@@ -149,24 +155,26 @@ on_path job way l ls place t p j may short here =
       | inr some ↦ here.1 some
     ]
 
-all_head : (job : Job) (d : Action) (cs : List Command) (l : Queued) (ls : List Queued) (place : Point3) (p : StepPos) (points : List StepPos) →
-    AreJoined place (ways_of (d ∷ actions_of cs)) → MayTake job d l.path → IsHere job place (l ∷ ls) 0 p → HeadWay job l d cs 0 p points →
-    IsPathOfAll job.machine.step p (ways_of (d ∷ actions_of cs)) points
-all_head job (Move m) cs l ls place p points j may here w =
-    path_then job m.way (ways_of (actions_of cs)) p l.path w.0 points may (sym (on_path job m.way l ls place 0 p j.0 may (omega arith) here)) w.1 w.2
-all_head job _ cs l ls place p points j may here w = w
+all_head : (job : Job) (d : Action) (cs : List Command) (l : Queued) (ls : List Queued) (place : Point3) (t : ℕ) (p : StepPos) (points : List StepPos) →
+    t < MILLION → t ≤ millionths l → AreJoined place (ways_of (d ∷ actions_of cs)) → MayTake job d l.path → IsHere job place (l ∷ ls) t p →
+    HeadWay job l d cs t p points → IsPathOfAll job.machine.step p (ways_of (d ∷ actions_of cs)) points
+all_head job (Move m) cs l ls place t p points small short j may here w =
+    let first : t / MILLION ≡ 0 = omega (arith, small) in
+    let starts : point l.path 0 ≡ p = ap (point l.path) (sym first) ∙ sym (on_path job m.way l ls place t p j.0 may short here) in
+    path_then job m.way (ways_of (actions_of cs)) p l.path w.0 points may starts w.1 (w.2 ∙ ap (λ k. drop k (take (path_steps l) l.path) ++ w.0) first)
+all_head job _ cs l ls place t p points small short j may here w = w
 
--- where nothing of the head was walked, the way is a path of all that is left
-all_way : (job : Job) (left : List Command) (ring : List Queued) (p : StepPos) (points : List StepPos) → Walks job left ring 0 p → WayFrom job left ring 0 p points →
-    IsPathOfAll job.machine.step p (ways_of (actions_of left)) points
-all_way job left [] p points w way = way
-all_way job [] (l ∷ ls) p points w way = absurd way
-all_way job (c ∷ cs) (l ∷ ls) p points w way = all_head job c.action cs l ls w.place p points w.joined w.fits.1 w.here way
+-- where less than a path step of the head was walked, the way is a path of all that is left
+all_way : (job : Job) (left : List Command) (ring : List Queued) (t : ℕ) (p : StepPos) (points : List StepPos) → t < MILLION → Walks job left ring t p →
+    WayFrom job left ring t p points → IsPathOfAll job.machine.step p (ways_of (actions_of left)) points
+all_way job left [] t p points small w way = way
+all_way job [] (l ∷ ls) t p points small w way = absurd way
+all_way job (c ∷ cs) (l ∷ ls) t p points small w way =
+    let short = w.short in all_head job c.action cs l ls w.place t p points small (omega (arith, short)) w.joined w.fits.1 w.here way
 
 back_grown : (job : Job) (left : List Command) (ring : List Queued) (l : Queued) (t : ℕ) (p : StepPos) (points : List StepPos) → Fits ring t → Walks job left (ring ++ l ∷ []) t p →
     WayFrom job left (ring ++ l ∷ []) t p points → WayFrom job left ring t p points
-back_grown job left [] l t p points z w way =
-    all_way job left (l ∷ []) p points (subst (λ k. Walks job left (l ∷ []) k p) z w) (subst (λ k. WayFrom job left (l ∷ []) k p points) z way)
+back_grown job left [] l t p points z w way = all_way job left (l ∷ []) t p points (omega (arith, z)) w way
 back_grown job [] (k ∷ ks) l t p points z w way = absurd way
 back_grown job (c ∷ cs) (k ∷ ks) l t p points z w way = way
 
@@ -222,7 +230,8 @@ some_way : (job : Job) → IsStep job.machine.step → (left : List Command) (ri
     (later : List StepPos) × WayFrom job left ring t p (p ∷ later)
 some_way job s left [] t p arcs w = some_path job s (ways_of (actions_of left)) w.place p arcs w.joined w.here
 some_way job s [] (l ∷ ls) t p arcs w = absurd w.fits
-some_way job s (c ∷ cs) (l ∷ ls) t p arcs w = way_ahead job s c.action cs l ls w.place t p arcs w.joined w.fits.1 w.short w.here
+some_way job s (c ∷ cs) (l ∷ ls) t p arcs w =
+    let short = w.short in way_ahead job s c.action cs l ls w.place t p arcs w.joined w.fits.1 (omega (arith, short)) w.here
 
 -- where nothing is left the position alone is the way
 no_way : (job : Job) (left : List Command) (ring : List Queued) (t : ℕ) (p : StepPos) → left ≡ [] → Walks job left ring t p → WayFrom job left ring t p (p ∷ [])
@@ -251,11 +260,11 @@ WalksIn job s = Walks job (left_of job s.done) s.ring s.travelled s.position
 abbrev WayIn : Job → Spot → List StepPos → Type 0
 WayIn job s points = WayFrom job (left_of job s.done) s.ring s.travelled s.position points
 
-after_arrival : (job : Job) (left next : List Command) (l : Queued) (ls : List Queued) (t : ℕ) (p : StepPos) → next ≡ drop 1 left → 0 < path_steps l →
-    Walks job left (l ∷ ls) t p → Walks job next ls 0 (point l.path (path_steps l))
-after_arrival job [] next l ls t p e some w = absurd w.fits
-after_arrival job (c ∷ cs) next l ls t p e some w =
-    subst (λ n. Walks job n ls 0 (point l.path (path_steps l))) (sym e) (walks_arrived job c.action cs l ls w.place w.joined w.fits.1 w.fits.2 some)
+after_arrival : (job : Job) (left next : List Command) (l : Queued) (ls : List Queued) (t over : ℕ) (p : StepPos) → next ≡ drop 1 left → 0 < path_steps l →
+    GoesOver l ls over → Walks job left (l ∷ ls) t p → Walks job next ls over (point l.path (path_steps l))
+after_arrival job [] next l ls t over p e some g w = absurd w.fits
+after_arrival job (c ∷ cs) next l ls t over p e some g w =
+    subst (λ n. Walks job n ls over (point l.path (path_steps l))) (sym e) (walks_arrived job c.action cs l ls w.place over w.joined w.fits.1 w.fits.2 some g)
 
 after_pass : (job : Job) (left next : List Command) (l : Queued) (ls : List Queued) (t : ℕ) (p : StepPos) → next ≡ drop 1 left → path_steps l ≡ 0 →
     Walks job left (l ∷ ls) t p → Walks job next ls 0 p
@@ -263,29 +272,35 @@ after_pass job [] next l ls t p e z w = absurd w.fits
 after_pass job (c ∷ cs) next l ls t p e z w =
     subst (λ n. Walks job n ls 0 p) (sym e) (walks_passed job c.action cs l ls w.place p w.joined w.fits.1 w.fits.2 z (w.here.0 z))
 
-before_on : (job : Job) (left : List Command) (l : Queued) (ls : List Queued) (t v : ℕ) (p : StepPos) (tail : List StepPos) → 0 < path_steps l → v ≤ MILLION → t + v ≤ millionths l →
+before_on : (job : Job) (left : List Command) (l : Queued) (ls : List Queued) (t v : ℕ) (p : StepPos) (tail : List StepPos) → 0 < path_steps l → v ≤ MILLION →
+    t + v < millionths l →
     Walks job left (l ∷ ls) t p → WayFrom job left (l ∷ ls) (t + v) (point l.path ((t + v) / MILLION)) (point l.path ((t + v) / MILLION) ∷ tail) →
     WayFrom job left (l ∷ ls) t p (p ∷ (emitted l.path (t / MILLION) ((t + v) / MILLION) ++ tail))
 before_on job [] l ls t v p tail some small short w way = absurd way
-before_on job (c ∷ cs) l ls t v p tail some small short w way = back_on job c.action cs l t v p tail w.fits.1 some small short (w.here.1 some) way
+before_on job (c ∷ cs) l ls t v p tail some small short w way =
+    back_on job c.action cs l t v p tail w.fits.1 some small (omega (arith, short)) (w.here.1 some) way
 
-before_arrival : (job : Job) (left next : List Command) (l : Queued) (ls : List Queued) (t : ℕ) (p : StepPos) (tail : List StepPos) → next ≡ drop 1 left → 0 < path_steps l →
-    path_steps l ≤ t / MILLION + 1 → Walks job left (l ∷ ls) t p → WayFrom job next ls 0 (point l.path (path_steps l)) (point l.path (path_steps l) ∷ tail) →
+before_arrival : (job : Job) (left next : List Command) (l : Queued) (ls : List Queued) (t over : ℕ) (p : StepPos) (tail : List StepPos) →
+    next ≡ drop 1 left → 0 < path_steps l →
+    GoesOver l ls over → path_steps l ≤ t / MILLION + 1 → Walks job left (l ∷ ls) t p →
+    WayFrom job next ls over (point l.path (path_steps l)) (point l.path (path_steps l) ∷ tail) →
     WayFrom job left (l ∷ ls) t p (p ∷ (emitted l.path (t / MILLION) (path_steps l) ++ tail))
-before_arrival job [] next l ls t p tail e some near w way = absurd w.fits
-before_arrival job (c ∷ cs) next l ls t p tail e some near w way =
+before_arrival job [] next l ls t over p tail e some g near w way = absurd w.fits
+before_arrival job (c ∷ cs) next l ls t over p tail e some g near w way =
     let q = point l.path (path_steps l) in
-    back_arrived job c.action cs l t p tail w.fits.1 some w.short near (w.here.1 some)
+    let short = w.short in
+    back_arrived job c.action cs l t p tail w.fits.1 some (omega (arith, short)) near (w.here.1 some)
     (subst (λ n. IsPathOfAll job.machine.step q (ways_of (actions_of n)) (q ∷ tail)) e
-    (all_way job next ls q (q ∷ tail) (after_arrival job (c ∷ cs) next l ls t p e some w) way))
+    (all_way job next ls over q (q ∷ tail) (over_small l ls over g) (after_arrival job (c ∷ cs) next l ls t over p e some g w) way))
 
 before_pass : (job : Job) (left next : List Command) (l : Queued) (ls : List Queued) (t : ℕ) (p : StepPos) (tail : List StepPos) → next ≡ drop 1 left → path_steps l ≡ 0 →
     Walks job left (l ∷ ls) t p → WayFrom job next ls 0 p (p ∷ tail) → WayFrom job left (l ∷ ls) t p (p ∷ tail)
 before_pass job [] next l ls t p tail e z w way = absurd w.fits
 before_pass job (c ∷ cs) next l ls t p tail e z w way =
-    back_passed job c.action cs l ls w.place t p tail w.joined w.fits.1 w.here w.short z
+    let short = w.short in
+    back_passed job c.action cs l ls w.place t p tail w.joined w.fits.1 w.here (omega (arith, short)) z
     (subst (λ n. IsPathOfAll job.machine.step p (ways_of (actions_of n)) (p ∷ tail)) e
-    (all_way job next ls p (p ∷ tail) (after_pass job (c ∷ cs) next l ls t p e z w) way))
+    (all_way job next ls 0 p (p ∷ tail) (omega arith) (after_pass job (c ∷ cs) next l ls t p e z w) way))
 
 kept : (job : Job) (old new : Spot) (o : Outcome) → Effect job old new o → WalksIn job old → WalksIn job new
 kept job old new o (stands e) w = subst (WalksIn job) (sym e.same) w
@@ -298,7 +313,8 @@ kept job old new o (goes_on e) w =
     (walks_on job (left_of job old.done) e.head e.others old.travelled e.rate old.position (subst (WalksIn job) e.was w) e.some e.short)
 kept job old new o (arrives e) w =
     subst (WalksIn job) (sym e.is)
-    (after_arrival job (left_of job old.done) (left_of job (suc old.done)) e.head e.others old.travelled old.position (next_left old.done job.commands) e.some (subst (WalksIn job) e.was w))
+    (after_arrival job (left_of job old.done) (left_of job (suc old.done)) e.head e.others old.travelled e.over old.position (next_left old.done job.commands)
+    e.some e.beyond (subst (WalksIn job) e.was w))
 kept job old new o (passes e) w =
     subst (WalksIn job) (sym e.is)
     (after_pass job (left_of job old.done) (left_of job (suc old.done)) e.head e.others old.travelled old.position (next_left old.done job.commands) e.none (subst (WalksIn job) e.was w))
@@ -322,7 +338,8 @@ back job old new o tail (goes_on e) w way =
 back job old new o tail (arrives e) w way =
     subst (WayOn job (position_in o ++ tail)) (sym e.was)
     (subst (λ out. WayOn job (out ++ tail) (spot_of old.done (e.head ∷ e.others) old.travelled old.position)) (sym e.emits)
-    (before_arrival job (left_of job old.done) (left_of job (suc old.done)) e.head e.others old.travelled old.position tail (next_left old.done job.commands) e.some e.near
+    (before_arrival job (left_of job old.done) (left_of job (suc old.done)) e.head e.others old.travelled e.over old.position tail
+    (next_left old.done job.commands) e.some e.beyond e.near
     (subst (WalksIn job) e.was w) (subst (WayOn job tail) e.is way)))
 back job old new o tail (passes e) w way =
     subst (WayOn job (position_in o ++ tail)) (sym e.was)
@@ -417,7 +434,7 @@ ended job old (e ∷ es) (o ∷ os) (new ∷ states) m last w r end =
 -- ---- from the opening state
 
 opens : (machine : MachineFile) (commands : List Command) → AreJoined machine.start (ways_of (actions_of commands)) → WalksIn (job_of machine commands) (spot (opening machine))
-opens machine commands j = begins (job_of machine commands) commands [] machine.start (start_of_job (job_of machine commands)) j tt refl
+opens machine commands j = begins (job_of machine commands) commands [] machine.start 0 (start_of_job (job_of machine commands)) j tt refl (omega arith) refl
 
 -- The positions of a run begin a path of the program.
 pub way_begins : (machine : MachineFile) (commands : List Command) → IsMachine machine → AreArcs (ways_of (actions_of commands)) → AreJoined machine.start (ways_of (actions_of commands)) →

@@ -35,9 +35,9 @@ Headline = (program : Program) (setup : Setup) (c : CertificateData) → IsMachi
 abbrev pub AcceptedRunsSafely : Type 0
 AcceptedRunsSafely = (a : AcceptedData) → IsAccepted a → (block_delete : Bool) → RunsSafely (job_of a.machine (commands_at block_delete a))
 
--- Every tick of every run keeps the rules of rates, whatever the commands.
+-- On every machine within its ranges every tick of every run keeps the rules of rates, whatever the commands.
 abbrev pub KeepRatesAlways : Type 0
-KeepRatesAlways = (job : Job) (events : List Event) (outcomes : List Outcome) (states : List State) →
+KeepRatesAlways = (job : Job) → IsMachine job.machine → (events : List Event) (outcomes : List Outcome) (states : List State) →
     Run job (opening job.machine) events outcomes states → KeepRates job (opening job.machine) events states
 
 -- In every run a loaded command that comes to the head keeps its path.
@@ -46,9 +46,10 @@ KeepPaths = (job : Job) (events : List Event) (outcomes : List Outcome) (states 
     Run job (opening job.machine) events outcomes states →
     (k : ℕ) (l : Queued) → ComesToHead k l states → KeepsPath job k l states
 
--- In every run that keeps going, a motion with path steps and a least rate is done within so many free ticks.
+-- On every machine within its ranges, in every run that keeps going, a motion with path steps and a least rate is done within
+-- so many free ticks.
 abbrev pub EndsInTime : Type 0
-EndsInTime = (job : Job) (events : List Event) (outcomes : List Outcome) (states : List State) →
+EndsInTime = (job : Job) → IsMachine job.machine → (events : List Event) (outcomes : List Outcome) (states : List State) →
     Run job (opening job.machine) events outcomes states → KeepGoing job (opening job.machine) events states →
     (k : ℕ) (l : Queued) → ComesToHead k l states → 1 ≤ path_steps l → 1 ≤ least_rate job l →
     free_ticks k (opening job.machine) events states ≤ most_ticks job l

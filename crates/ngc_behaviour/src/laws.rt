@@ -13,7 +13,7 @@ pub fn accepted_runs_safely()
     ensures { AcceptedRunsSafely }
 {}
 
-/// Every tick of every run keeps the rules of rates, also where nothing was accepted.
+/// Every tick of every run keeps the rules of rates on a machine within its ranges, also where nothing was accepted.
 pub fn rates()
     ensures { KeepRatesAlways }
 {}
@@ -23,13 +23,13 @@ pub fn keep_paths()
     ensures { KeepPaths }
 {}
 
-/// A motion that comes to the head is done within so many ticks in which the machine is neither held nor stopped, at an
-/// override of at least 1, where each such tick goes on at its least rate.
+/// A motion that comes to the head of a machine within its ranges is done within so many ticks in which the machine is neither
+/// held nor stopped, at an override of at least 1, where each such tick goes on at its least rate.
 pub fn ends_in_time()
     ensures { EndsInTime }
 {}
 
-/// So it is of every motion on a machine whose rates are within their ranges: its least rate is at least 1.
+/// So it is of every motion on such a machine: its least rate is at least 1.
 pub fn machines_run_in_time()
     ensures { MachinesRunInTime }
 {}
