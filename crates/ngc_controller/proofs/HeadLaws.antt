@@ -1,60 +1,68 @@
 -- A tick on the motion at the head, by what the fields of a controller keep.
-use Rattle.std.proofs.Common.{◌≡◌, ℕ, suc, ◌+◌, ◌-◌, ◌/◌, ◌≤◌, ◌<◌, ◌≢◌, min, List, [], ◌∷◌, length, drop, Option, Some, None, Bool, true, false, cond, refl, ap, sym, subst, ◌∙◌, inl, inr, arith}
-use Rattle.std.specs.Prelude.{◌↔◌, IsTrue, Ok, if◌then◌else◌}
+use Rattle.std.proofs.Common.{◌≡◌, ℕ, suc, ◌+◌, ◌-◌, ◌/◌, ◌≤◌, ◌<◌, min, nat_le, List, [], ◌∷◌, length, drop, Option, Some, None, Bool, true, false, cond, refl, ap, sym, subst, ◌∙◌, arith}
+use Rattle.std.specs.Prelude.{Ok, not, if◌then◌else◌}
 use Rattle.std.specs.Bool.{then_some}
-use Rattle.std.proofs.lemmas.Bool.{cases_lt, lt-ltb, le-ltb}
+use Rattle.std.proofs.lemmas.Bool.{lt-ltb, le-ltb}
+use Rattle.std.proofs.lemmas.Bool.Decides.{nat_tests}
 use Rattle.ngc_fixed_length.specs.declared.points.StepPos.{StepPos}
 use Rattle.ngc_machine.specs.MachineRanges.{IsMachine}
 use Rattle.ngc_machine.specs.declared.tools.Tool.{Tool}
 use Rattle.ngc_planner.specs.declared.leg.Leg.{Leg}
 use Rattle.ngc_planner.specs.Caps.{MILLION}
-use Rattle.ngc_planner.specs.Ramp.{RampState, IsRest, TicksTo, ticked}
+use Rattle.ngc_planner.specs.Ramp.{RampState, IsRest, TicksTo, next_rest, ticked}
+use Rattle.ngc_planner.proofs.RampLaws.{ends_slowly}
 use Rattle.ngc_behaviour.specs.State.{Job, Queued, State, millionths, effective}
+use Rattle.ngc_behaviour.specs.Reach.{leg_of, legs_behind}
 use Rattle.ngc_behaviour.specs.declared.reply.Ending.TheVariants.{Done}
 use Rattle.ngc_behaviour.specs.declared.reply.Reply.TheVariants.{Ticked}
 use Rattle.ngc_controller.specs.declared.drive.Drive.{Drive}
 use Rattle.ngc_controller.specs.declared.panel.Panel.{Panel}
-use Rattle.ngc_controller.specs.Drive.{leg_of, legs_of, IsTarget}
-use Rattle.ngc_controller.specs.Fields.{total, state_of, IsInOrder, TravelsOn}
+use Rattle.ngc_controller.specs.Drive.{legs_of, IsTarget}
+use Rattle.ngc_controller.specs.Fields.{travelled_of, state_of, IsInOrder, TravelsOn}
 use Rattle.ngc_controller.specs.Loaded.{next_place}
 use Rattle.ngc_controller.specs.Ring.{RingData, IsMoving, IsPointOn}
-use Rattle.ngc_controller.proofs.OrderLaws.{moving_legs, same_ring}
+use Rattle.ngc_controller.proofs.LegLaws.{moving_legs, moving_travelled, behind_is, behind_left, none_ahead, travelled_over}
+use Rattle.ngc_controller.proofs.OrderLaws.{IsLeft, same_ring}
 use Rattle.ngc_controller.proofs.TravelLaws.{IsTravel, has_travelled, goes_on, ends_there}
 
 -- what is known of a tick of the ramp r to s, with this ring
-pub record IsTravelOn (job : Job) (ring : List Queued) (old : State) (r s : RampState) (wish aimed v place : ℕ) (due : Bool) (next : ℕ) (p : StepPos) : Type 0 where
+pub record IsTravelOn (job : Job) (ring : List Queued) (old : State) (r s : RampState) (wish aimed v place : ℕ) (due ended : Bool) (next : ℕ) (p : StepPos) : Type 0 where
   pub machine : IsMachine job.machine
   pub moves : IsMoving ring
-  pub legs : r.legs ≡ legs_of job old.done ring
+  pub legs : (joined : Bool) × (r.legs ≡ legs_of job old.done joined ring)
   pub left : IsRest r.rest r.legs
   pub change : r.change ≡ job.machine.change
   pub rate : r.rate ≡ old.rate
-  pub at : old.travelled ≡ total ring - r.rest
+  pub at : old.travelled ≡ travelled_of ring r.rest
   pub place_at : place ≡ old.travelled / MILLION
   pub aim : wish ≡ (if old.held then 0 else aimed)
   pub target : IsTarget job.machine (effective old) ring aimed
-  pub tick : (head : Leg) (legs : List Leg) → r.legs ≡ head ∷ legs → TicksTo r wish head legs v due s
+  pub tick : (head : Leg) (legs : List Leg) → r.legs ≡ head ∷ legs → TicksTo r wish head legs v due ended s
   pub place_next : next ≡ next_place place due
   pub point_at : IsPointOn ring next p
 
-one_leg : (job : Job) (l : Queued) (ls : List Queued) (old : State) (r s : RampState) (wish aimed v place : ℕ) (due : Bool) (next : ℕ) (p : StepPos) → IsTravelOn job (l ∷ ls) old r s wish aimed v place due next p → r.legs ≡ leg_of job old.done l ∷ []
-one_leg job l ls old r s wish aimed v place due next p h = h.legs ∙ moving_legs job old.done l ls h.moves
+first_leg : (job : Job) (l : Queued) (ls : List Queued) (old : State) (r s : RampState) (wish aimed v place : ℕ) (due ended : Bool) (next : ℕ) (p : StepPos) (h : IsTravelOn job (l ∷ ls) old r s wish aimed v place due ended next p) →
+    r.legs ≡ leg_of job old.done h.legs.0 l ∷ legs_behind job (suc old.done) l ls
+first_leg job l ls old r s wish aimed v place due ended next p h = h.legs.1 ∙ moving_legs job old.done h.legs.0 l ls h.moves
 
-travel : (job : Job) (l : Queued) (ls : List Queued) (old : State) (r s : RampState) (wish aimed v place : ℕ) (due : Bool) (next : ℕ) (p : StepPos) → IsTravelOn job (l ∷ ls) old r s wish aimed v place due next p → IsTravel job l old r s wish v place due next p
-travel job l ls old r s wish aimed v place due next p h =
-    let legs = one_leg job l ls old r s wish aimed v place due next p h in
-    let left : IsRest r.rest (leg_of job old.done l ∷ []) = subst (λ ks. IsRest r.rest ks) legs h.left in
+travel : (job : Job) (l : Queued) (ls : List Queued) (old : State) (r s : RampState) (wish aimed v place : ℕ) (due ended : Bool) (next : ℕ) (p : StepPos) (h : IsTravelOn job (l ∷ ls) old r s wish aimed v place due ended next p) →
+    IsTravel job l ls old r s h.legs.0 wish v place due ended next p
+travel job l ls old r s wish aimed v place due ended next p h =
+    let legs = first_leg job l ls old r s wish aimed v place due ended next p h in
+    let left : IsRest r.rest (leg_of job old.done h.legs.0 l ∷ legs_behind job (suc old.done) l ls) = subst (λ ks. IsRest r.rest ks) legs h.left in
     record {
       machine = h.machine;
       motion = h.point_at.1;
+      moves = h.moves;
+      legs = legs;
       change = h.change;
       rate = h.rate;
       some = left.0;
       within = left.1;
-      at = h.at;
+      at = h.at ∙ moving_travelled l ls r.rest h.moves;
       place_at = h.place_at;
       aim = h.aim ∙ ap (λ t. if old.held then 0 else t) (h.target h.moves);
-      tick = h.tick (leg_of job old.done l) [] legs;
+      tick = h.tick (leg_of job old.done h.legs.0 l) (legs_behind job (suc old.done) l ls) legs;
       place_next = h.place_next;
       point_at = h.point_at.0;
     }
@@ -68,16 +76,18 @@ pub record Goes (r s : RampState) (v : ℕ) : Type 0 where
   pub legs : s.legs ≡ r.legs
   pub change : s.change ≡ r.change
 
-pub record Ends (r s : RampState) (v : ℕ) : Type 0 where
+pub record Ends (r s : RampState) (behind : List Leg) (v : ℕ) : Type 0 where
   pub all : r.rest ≤ v
   pub rate : s.rate ≡ v
-  pub rest : s.rest ≡ 0
-  pub legs : s.legs ≡ []
+  pub rest : s.rest ≡ next_rest (v - r.rest) behind
+  pub legs : s.legs ≡ behind
   pub change : s.change ≡ r.change
 
-goes : (r s : RampState) (v : ℕ) → v < r.rest → s ≡ ticked r [] v → Goes r s v
-goes r s v less e =
-    let whole : s ≡ record r { rate = v; rest = r.rest - v } = e ∙ ap (λ b. cond b (record r { rate = v; rest = r.rest - v }) (record r { rate = v; rest = 0; legs = [] })) (lt-ltb v r.rest less) in
+goes : (r s : RampState) (legs : List Leg) (v : ℕ) (ended : Bool) → ended ≡ nat_le r.rest v → ended ≡ false → s ≡ ticked r legs v → Goes r s v
+goes r s legs v ended test on e =
+    let less : v < r.rest = grind (arith, nat_tests) in
+    let ends : RampState = record r { rate = v; rest = next_rest (v - r.rest) legs; legs = legs } in
+    let whole : s ≡ record r { rate = v; rest = r.rest - v } = e ∙ ap (λ b. cond b (record r { rate = v; rest = r.rest - v }) ends) (lt-ltb v r.rest less) in
     record {
       less = less;
       rate = ap (λ (x : RampState). x.rate) whole;
@@ -86,9 +96,11 @@ goes r s v less e =
       change = ap (λ (x : RampState). x.change) whole;
     }
 
-ends : (r s : RampState) (v : ℕ) → r.rest ≤ v → s ≡ ticked r [] v → Ends r s v
-ends r s v all e =
-    let whole : s ≡ record r { rate = v; rest = 0; legs = [] } = e ∙ ap (λ b. cond b (record r { rate = v; rest = r.rest - v }) (record r { rate = v; rest = 0; legs = [] })) (le-ltb v r.rest all) in
+ends : (r s : RampState) (legs : List Leg) (v : ℕ) (ended : Bool) → ended ≡ nat_le r.rest v → ended ≡ true → s ≡ ticked r legs v → Ends r s legs v
+ends r s legs v ended test done e =
+    let all : r.rest ≤ v = grind (arith, nat_tests) in
+    let there : RampState = record r { rate = v; rest = next_rest (v - r.rest) legs; legs = legs } in
+    let whole : s ≡ there = e ∙ ap (λ b. cond b (record r { rate = v; rest = r.rest - v }) there) (le-ltb v r.rest all) in
     record {
       all = all;
       rate = ap (λ (x : RampState). x.rate) whole;
@@ -97,54 +109,54 @@ ends r s v all e =
       change = ap (λ (x : RampState). x.change) whole;
     }
 
-goes_if : (r s : RampState) (v : ℕ) → s ≡ ticked r [] v → s.legs ≢ [] → Goes r s v
-goes_if r s v e some = elim (cases_lt v r.rest) [
-  | inl less ↦ goes r s v less e
-  | inr all ↦ (let none = (ends r s v all e).legs in absurd (some none))
-]
+-- what a test of the end says
+pub goes_if : (ended : Bool) → not ended ≡ true → ended ≡ false
+goes_if true h = sym h
+goes_if false h = refl
 
-ends_if : (r s : RampState) (v : ℕ) (leg : Leg) → r.legs ≡ leg ∷ [] → s ≡ ticked r [] v → s.legs ≡ [] → Ends r s v
-ends_if r s v leg one e none = elim (cases_lt v r.rest) [
-  | inl less ↦ (let same = (goes r s v less e).legs in cc)
-  | inr all ↦ ends r s v all e
-]
+pub ends_if : (ended : Bool) → not ended ≡ false → ended ≡ true
+ends_if true h = refl
+ends_if false h = sym h
 
 -- ---- where the motion goes on
 
-pub travel_goes_on : (job : Job) (ring : List Queued) (old new : State) (r s : RampState) (wish aimed v place : ℕ) (due : Bool) (next : ℕ) (p : StepPos) (t : ℕ) (xs : List Queued) → IsTravelOn job ring old r s wish aimed v place due next p →
-    s.legs ≢ [] → t ≡ total xs - s.rest → xs ≡ ring → ring ≡ old.ring → new ≡ record old { ring = xs; rate = s.rate; position = p; travelled = t } →
+pub travel_goes_on : (job : Job) (ring : List Queued) (old new : State) (r s : RampState) (wish aimed v place : ℕ) (due ended : Bool) (next : ℕ) (p : StepPos) (t : ℕ) (xs : List Queued) → IsTravelOn job ring old r s wish aimed v place due ended next p →
+    ended ≡ false → t ≡ travelled_of xs s.rest → xs ≡ ring → ring ≡ old.ring → new ≡ record old { ring = xs; rate = s.rate; position = p; travelled = t } →
     TravelsOn job ring old (Ok (Ticked (then_some due p) None)) new
-travel_goes_on job [] old new r s wish aimed v place due next p t xs h some far queue same is = elim h.moves [ ]
-travel_goes_on job (l ∷ ls) old new r s wish aimed v place due next p t xs h some far queue same is =
-    let k = travel job l ls old r s wish aimed v place due next p h in
-    let has = has_travelled job l ls old r s wish v place due next p k in
-    let g = goes_if r s v k.tick.next some in
-    let whole : total xs ≡ millionths l = ap total queue in
+travel_goes_on job [] old new r s wish aimed v place due ended next p t xs h on far queue same is = elim h.moves [ ]
+travel_goes_on job (l ∷ ls) old new r s wish aimed v place due ended next p t xs h on far queue same is =
+    let k = travel job l ls old r s wish aimed v place due ended next p h in
+    let has = has_travelled job l ls old r s h.legs.0 wish v place due ended next p k in
+    let g = goes r s (legs_behind job (suc old.done) l ls) v ended k.tick.ends on k.tick.next in
+    let there : t ≡ millionths l - s.rest = far ∙ ap (λ ys. travelled_of ys s.rest) queue ∙ moving_travelled l ls s.rest h.moves in
     let rate : new.rate ≡ v = ap (λ (x : State). x.rate) is ∙ g.rate in
-    (goes_on job l ls old new r v next due p t xs s.rate has k.at k.within g.less (omega (arith, g.rest, g.less, k.at, k.within)) (queue ∙ same) g.rate is, rw rate has.least)
+    (goes_on job l ls old new r v next due p t xs s.rate has k.at k.within g.less (omega (arith, there, g.rest, g.less, k.at, k.within)) (queue ∙ same) g.rate is, rw rate has.least)
 
--- the place that the ring is at
-place_on : (job : Job) (ring : List Queued) (old : State) (r s : RampState) (wish aimed v place : ℕ) (due : Bool) (next : ℕ) (p : StepPos) → IsTravelOn job ring old r s wish aimed v place due next p → s.legs ≢ [] →
-    (next ≡ (total ring - s.rest) / MILLION) × (s.legs ≡ r.legs) × (s.change ≡ r.change) × IsRest s.rest s.legs
-place_on job [] old r s wish aimed v place due next p h some = elim h.moves [ ]
-place_on job (l ∷ ls) old r s wish aimed v place due next p h some =
-    let k = travel job l ls old r s wish aimed v place due next p h in
-    let has = has_travelled job l ls old r s wish v place due next p k in
-    let g = goes_if r s v k.tick.next some in
-    let legs = one_leg job l ls old r s wish aimed v place due next p h in
-    let far : min (old.travelled + v) (millionths l) ≡ millionths l - s.rest = omega (arith, g.rest, g.less, k.at, k.within) in
-    (has.place ∙ ap (λ x. x / MILLION) far, g.legs, g.change, subst (λ ks. IsRest s.rest ks) (sym (g.legs ∙ legs)) (omega (arith, g.rest, g.less), omega (arith, g.rest, k.within)))
+-- what the ramp and the ring keep
+place_on : (job : Job) (ring : List Queued) (old : State) (r s : RampState) (wish aimed v place : ℕ) (due ended : Bool) (next : ℕ) (p : StepPos) → IsTravelOn job ring old r s wish aimed v place due ended next p → ended ≡ false →
+    (next ≡ travelled_of ring s.rest / MILLION) × (s.legs ≡ r.legs) × (s.change ≡ r.change) × IsRest s.rest s.legs
+place_on job [] old r s wish aimed v place due ended next p h on = elim h.moves [ ]
+place_on job (l ∷ ls) old r s wish aimed v place due ended next p h on =
+    let k = travel job l ls old r s wish aimed v place due ended next p h in
+    let has = has_travelled job l ls old r s h.legs.0 wish v place due ended next p k in
+    let g = goes r s (legs_behind job (suc old.done) l ls) v ended k.tick.ends on k.tick.next in
+    let there = moving_travelled l ls s.rest h.moves in
+    let far : min (old.travelled + v) (millionths l) ≡ travelled_of (l ∷ ls) s.rest = omega (arith, there, g.rest, g.less, k.at, k.within) in
+    (has.place ∙ ap (λ x. x / MILLION) far, g.legs, g.change, subst (λ ks. IsRest s.rest ks) (sym (g.legs ∙ k.legs)) (omega (arith, g.rest, g.less), omega (arith, g.rest, k.within)))
 
-pub order_goes_on : (job : Job) (done : ℕ) (ring after : RingData) (drive : Drive) (dwelt : ℕ) (panel : Panel) (old : State) (s : RampState) (wish v : ℕ) (due : Bool) (p : StepPos) → IsInOrder job done ring drive dwelt panel →
-    IsTravelOn job ring.loaded old drive.ramp s wish drive.target v ring.place due after.place p → s.legs ≢ [] → after.loaded ≡ ring.loaded → panel.stopped ≡ false →
-    IsInOrder job done after (record { ramp = s; target = drive.target }) dwelt panel
-order_goes_on job done ring after drive dwelt panel old s wish v due p o h some queue runs =
-    let on = place_on job ring.loaded old drive.ramp s wish drive.target v ring.place due after.place p h some in
-    let here : IsInOrder job done (record { loaded = ring.loaded; place = after.place }) (record { ramp = s; target = drive.target }) dwelt panel = record {
+pub order_goes_on : (job : Job) (done : ℕ) (ring after : RingData) (drive : Drive) (dwelt : ℕ) (panel : Panel) (old : State) (s : RampState) (wish v : ℕ) (due ended : Bool) (p : StepPos) → IsInOrder job done ring drive dwelt panel →
+    IsTravelOn job ring.loaded old drive.ramp s wish drive.target v ring.place due ended after.place p → ended ≡ false → after.loaded ≡ ring.loaded → panel.stopped ≡ false →
+    IsInOrder job done after (record { ramp = s; target = drive.target; flows_on = drive.flows_on }) dwelt panel
+order_goes_on job done ring after drive dwelt panel old s wish v due ended p o h go queue runs =
+    let on = place_on job ring.loaded old drive.ramp s wish drive.target v ring.place due ended after.place p h go in
+    let here : IsInOrder job done (record { loaded = ring.loaded; place = after.place }) (record { ramp = s; target = drive.target; flows_on = drive.flows_on }) dwelt panel = record {
       machine = o.machine;
       change = on.2 ∙ o.change;
-      legs = on.1 ∙ o.legs;
+      legs = (o.legs.0, on.1 ∙ o.legs.1);
       left = on.3;
+      slow = λ still. absurd (still h.moves);
+      whole = λ still. absurd (still h.moves);
+      flows_on = o.flows_on;
       place = on.0;
       target = o.target;
       few = o.few;
@@ -155,38 +167,61 @@ order_goes_on job done ring after drive dwelt panel old s wish v due p o h some 
 
 -- ---- where it ends
 
-pub record EndsOn (ring : List Queued) (r s : RampState) (v : ℕ) : Type 0 where
+pub record EndsOn (job : Job) (done : ℕ) (ring : List Queued) (r s : RampState) (v : ℕ) : Type 0 where
   pub rate : s.rate ≡ v
-  pub rest : s.rest ≡ 0
-  pub change : s.change ≡ r.change
+  pub all : r.rest ≤ v
+  pub left : IsLeft job (suc done) (drop 1 ring) s
+  pub travelled : travelled_of (drop 1 ring) s.rest ≡ v - r.rest
+  pub place : travelled_of (drop 1 ring) s.rest / MILLION ≡ 0
   pub some : 1 ≤ length ring
 
-pub ends_on : (job : Job) (ring : List Queued) (old : State) (r s : RampState) (wish aimed v place : ℕ) (due : Bool) (next : ℕ) (p : StepPos) → IsTravelOn job ring old r s wish aimed v place due next p → s.legs ≡ [] → EndsOn ring r s v
-ends_on job [] old r s wish aimed v place due next p h none = elim h.moves [ ]
-ends_on job (l ∷ ls) old r s wish aimed v place due next p h none =
-    let k = travel job l ls old r s wish aimed v place due next p h in
-    let e = ends_if r s v (leg_of job old.done l) (one_leg job l ls old r s wish aimed v place due next p h) k.tick.next none in
-    record { rate = e.rate; rest = e.rest; change = e.change; some = omega arith }
+pub ends_on : (job : Job) (ring : List Queued) (old : State) (r s : RampState) (wish aimed v place : ℕ) (due ended : Bool) (next : ℕ) (p : StepPos) → IsTravelOn job ring old r s wish aimed v place due ended next p → ended ≡ true → EndsOn job old.done ring r s v
+ends_on job [] old r s wish aimed v place due ended next p h done = elim h.moves [ ]
+ends_on job (l ∷ ls) old r s wish aimed v place due ended next p h done =
+    let k = travel job l ls old r s wish aimed v place due ended next p h in
+    let has = has_travelled job l ls old r s h.legs.0 wish v place due ended next p k in
+    let behind = legs_behind job (suc old.done) l ls in
+    let e = ends r s behind v ended k.tick.ends done k.tick.next in
+    let few : v - r.rest < MILLION = omega (arith, has.small, k.some) in
+    let some : 1 ≤ r.change = omega (arith, k.change, h.machine.change.least) in
+    let b = behind_is job (suc old.done) l ls in
+    let rest : s.rest ≡ next_rest (v - r.rest) s.legs = e.rest ∙ ap (λ ks. next_rest (v - r.rest) ks) (sym e.legs) in
+    let slows : (IsMoving ls → ⊥) → (v ≡ r.rest) × (v ≤ r.change) = λ still. ends_slowly r wish (leg_of job old.done h.legs.0 l) behind v some k.tick.may (none_ahead job (suc old.done) l ls still) e.all in
+    let none : (IsMoving ls → ⊥) → v - r.rest ≡ 0 = λ still. (let slow = slows still in omega (arith, slow.0)) in
+    let far = travelled_over job (suc old.done) b.0 ls s (v - r.rest) (e.legs ∙ b.1) rest few none in
+    record {
+      rate = e.rate;
+      all = e.all;
+      left = record {
+        change = e.change ∙ k.change;
+        legs = (b.0, e.legs ∙ b.1);
+        left = subst (λ ks. IsRest s.rest ks) (sym e.legs) (subst (λ n. IsRest n behind) (sym e.rest) (behind_left job (suc old.done) l ls (v - r.rest) few));
+        slow = λ still. (let slow = slows still in omega (arith, e.rate, slow.1, k.change));
+        whole = λ still. rest ∙ ap (λ n. next_rest n s.legs) (none still);
+      };
+      travelled = far;
+      place = omega (arith, far, few);
+      some = omega arith;
+    }
 
-pub travel_ends : (job : Job) (ring : List Queued) (old new : State) (r s : RampState) (wish aimed v place : ℕ) (due : Bool) (next : ℕ) (p : StepPos) (t : ℕ) (xs : List Queued) (w k d : ℕ) → IsTravelOn job ring old r s wish aimed v place due next p →
-    s.legs ≡ [] → t ≡ 0 → xs ≡ drop 1 ring → ring ≡ old.ring → w ≡ s.rate → k ≡ suc old.done → d ≡ 0 → new ≡ record old { done = k; ring = xs; rate = w; position = p; travelled = t; dwelt = d } →
+pub travel_ends : (job : Job) (ring : List Queued) (old new : State) (r s : RampState) (wish aimed v place : ℕ) (due ended : Bool) (next : ℕ) (p : StepPos) (t : ℕ) (xs : List Queued) (w k d : ℕ) → IsTravelOn job ring old r s wish aimed v place due ended next p →
+    EndsOn job old.done ring r s v → t ≡ v - r.rest → xs ≡ drop 1 ring → ring ≡ old.ring → w ≡ s.rate → k ≡ suc old.done → d ≡ 0 → new ≡ record old { done = k; ring = xs; rate = w; position = p; travelled = t; dwelt = d } →
     TravelsOn job ring old (Ok (Ticked (then_some due p) (Some (Done old.done)))) new
-travel_ends job [] old new r s wish aimed v place due next p t xs w k d h none zero queue same rate more brief is = elim h.moves [ ]
-travel_ends job (l ∷ ls) old new r s wish aimed v place due next p t xs w k d h none zero queue same rate more brief is =
-    let i = travel job l ls old r s wish aimed v place due next p h in
-    let has = has_travelled job l ls old r s wish v place due next p i in
-    let e = ends_if r s v (leg_of job old.done l) (one_leg job l ls old r s wish aimed v place due next p h) i.tick.next none in
+travel_ends job [] old new r s wish aimed v place due ended next p t xs w k d h e beyond queue same rate more brief is = elim h.moves [ ]
+travel_ends job (l ∷ ls) old new r s wish aimed v place due ended next p t xs w k d h e beyond queue same rate more brief is =
+    let i = travel job l ls old r s wish aimed v place due ended next p h in
+    let has = has_travelled job l ls old r s h.legs.0 wish v place due ended next p i in
     let there : new.rate ≡ v = ap (λ (x : State). x.rate) is ∙ rate ∙ e.rate in
-    (ends_there job l ls old new r v next due p t xs w k d has i.motion i.at i.within e.all zero (queue ∙ ap (λ ys. drop 1 ys) same) (rate ∙ e.rate) more brief is, rw there has.least)
+    (ends_there job l ls old new r v next due p t xs w k d has i.motion i.at i.within e.all beyond (queue ∙ ap (λ ys. drop 1 ys) same) (rate ∙ e.rate) more brief is, rw there has.least)
 
 -- ---- from the fields
 
-pub travels_by : (job : Job) (done : ℕ) (ring after : RingData) (drive : Drive) (dwelt : ℕ) (position : StepPos) (tool : Option Tool) (panel : Panel) (s : RampState) (wish v : ℕ) (due : Bool) (p : StepPos) →
+pub travels_by : (job : Job) (done : ℕ) (ring after : RingData) (drive : Drive) (dwelt : ℕ) (position : StepPos) (tool : Option Tool) (panel : Panel) (s : RampState) (wish v : ℕ) (due ended : Bool) (p : StepPos) →
     IsInOrder job done ring drive dwelt panel → IsMoving ring.loaded → wish ≡ (if panel.held then 0 else drive.target) →
-    ((head : Leg) (legs : List Leg) → drive.ramp.legs ≡ head ∷ legs → TicksTo drive.ramp wish head legs v due s) →
+    ((head : Leg) (legs : List Leg) → drive.ramp.legs ≡ head ∷ legs → TicksTo drive.ramp wish head legs v due ended s) →
     after.loaded ≡ ring.loaded → after.place ≡ next_place ring.place due → IsPointOn after.loaded after.place p →
-    IsTravelOn job ring.loaded (state_of done ring drive dwelt position tool panel) drive.ramp s wish drive.target v ring.place due after.place p
-travels_by job done ring after drive dwelt position tool panel s wish v due p o moves aim tick queue place point = record {
+    IsTravelOn job ring.loaded (state_of done ring drive dwelt position tool panel) drive.ramp s wish drive.target v ring.place due ended after.place p
+travels_by job done ring after drive dwelt position tool panel s wish v due ended p o moves aim tick queue place point = record {
   machine = o.machine;
   moves = moves;
   legs = o.legs;
@@ -201,11 +236,3 @@ travels_by job done ring after drive dwelt position tool panel s wish v due p o 
   place_next = place;
   point_at = subst (λ xs. IsPointOn xs after.place p) queue point;
 }
-
--- ---- whether a leg is there
-
-pub some_leg : (b : Bool) (legs : List Leg) → b ≡ false → (IsTrue b ↔ (legs ≡ [])) → legs ≢ []
-some_leg b legs test h = λ e. (let yes = h.1 e in cc)
-
-pub no_leg : (b : Bool) (legs : List Leg) → b ≡ true → (IsTrue b ↔ (legs ≡ [])) → legs ≡ []
-no_leg b legs test h = h.0 test

@@ -1,3 +1,4 @@
+pub mod LegLaws
 pub mod TravelLaws
 pub mod OrderLaws
 pub mod HeadLaws

@@ -1,161 +1,114 @@
 -- What the fields of a controller keep.
-use Rattle.std.proofs.Common.{◌≡◌, ℕ, suc, ◌+◌, ◌-◌, ◌/◌, ◌≤◌, ◌<◌, ◌≢◌, nat_lt, List, [], ◌∷◌, ◌++◌, length, drop, Option, Some, true, false, cond, refl, ap, ap₂, sym, subst, ◌∙◌, inl, inr, length-drop, length-append, MatchBool, arith}
-use Rattle.std.proofs.lemmas.Bool.{cases_lt, lt-ltb, le-ltb}
+use Rattle.std.proofs.Common.{◌≡◌, ℕ, suc, ◌+◌, ◌/◌, ◌≤◌, ◌<◌, nat_lt, List, [], ◌∷◌, ◌++◌, length, drop, Option, Some, Bool, true, false, refl, ap, ap₂, sym, subst, ◌∙◌, length-drop, length-append, MatchBool, arith}
+use Rattle.std.proofs.lemmas.Bool.{lt-ltb, le-ltb}
+use Rattle.std.specs.Prelude.{Ok, Err}
+use Rattle.ngc_fixed_length.specs.declared.points.StepPos.{StepPos}
 use Rattle.ngc_machine.specs.Machine.{MachineFile}
+use Rattle.ngc_machine.specs.MachineRanges.{IsMachine}
+use Rattle.ngc_machine.specs.declared.tools.Tool.{Tool}
 use Rattle.ngc_canonical.specs.declared.command.Command.{Command}
 use Rattle.ngc_canonical.specs.declared.command.Action.{Action}
 use Rattle.ngc_canonical.specs.declared.command.Action.TheVariants.{Move}
-use Rattle.ngc_machine.specs.declared.tools.Tool.{Tool}
-use Rattle.std.specs.Prelude.{Ok, Err}
-use Rattle.ngc_fixed_length.specs.declared.points.StepPos.{StepPos}
+use Rattle.ngc_planner.specs.Caps.{MILLION}
+use Rattle.ngc_planner.specs.Ramp.{RampState, IsRest, next_rest}
 use Rattle.ngc_behaviour.specs.declared.reply.Reply.TheVariants.{Loaded}
 use Rattle.ngc_behaviour.specs.declared.fault.EventFault.TheVariants.{RingFull}
 use Rattle.ngc_behaviour.specs.Headline.{job_of}
+use Rattle.ngc_behaviour.specs.State.{Job, Queued, State, RING, command_at}
 use Rattle.ngc_behaviour.specs.Step.{Outcome, MayTake, LoadCommand, Dwells, Finishes, Serves, after, popped, ticks_of}
-use Rattle.ngc_machine.specs.MachineRanges.{IsMachine}
-use Rattle.ngc_planner.specs.declared.leg.Leg.{Leg}
-use Rattle.ngc_planner.specs.Bounds.{target_at}
-use Rattle.ngc_planner.specs.Caps.{MILLION}
-use Rattle.ngc_planner.specs.Ramp.{IsRest, loaded, rest_with}
-use Rattle.ngc_behaviour.specs.State.{Job, Queued, State, RING, command_at, path_steps, millionths}
 use Rattle.ngc_controller.specs.declared.drive.Drive.{Drive}
-use Rattle.ngc_controller.specs.Drive.{leg_of, legs_of, begun, with_one_more, IsTarget}
 use Rattle.ngc_controller.specs.declared.panel.Panel.{Panel}
+use Rattle.ngc_controller.specs.Drive.{flows_on, last_flows_on, legs_of, with_one_more, IsTarget}
+use Rattle.ngc_controller.specs.Fields.{travelled_of, state_of, DWELL_LIMIT, IsInOrder, IsServed, panel_after, tool_after}
 use Rattle.ngc_controller.specs.Panel.{effective_at}
-use Rattle.ngc_controller.specs.Fields.{total, state_of, IsInOrder, IsServed, panel_after, tool_after}
 use Rattle.ngc_controller.specs.Ring.{RingData, IsMoving}
+use Rattle.ngc_controller.proofs.LegLaws.{still_legs, behind_is, travelled_over, few_legs, last_of_rest, last_of_more, legs_of_more, has_one_more, travelled_more}
 
--- the drive is on the head, at its beginning
-pub record IsBegun (job : Job) (k percent : ℕ) (ring : List Queued) (old new : Drive) : Type 0 where
-  pub legs : new.ramp.legs ≡ legs_of job k ring
-  pub change : new.ramp.change ≡ old.ramp.change
-  pub rate : new.ramp.rate ≡ old.ramp.rate
-  pub all : new.ramp.rest ≡ total ring
-  pub left : IsRest new.ramp.rest new.ramp.legs
-  pub target : IsTarget job.machine percent ring new.target
+-- what the ramp keeps
+pub record IsLeft (job : Job) (done : ℕ) (ring : List Queued) (ramp : RampState) : Type 0 where
+  pub change : ramp.change ≡ job.machine.change
+  pub legs : (joined : Bool) × (ramp.legs ≡ legs_of job done joined ring)
+  pub left : IsRest ramp.rest ramp.legs
+  pub slow : (IsMoving ring → ⊥) → ramp.rate ≤ job.machine.change
+  pub whole : (IsMoving ring → ⊥) → ramp.rest ≡ next_rest 0 ramp.legs
 
--- nothing is left of no leg
-pub none_left : (rest : ℕ) (legs : List Leg) → legs ≡ [] → IsRest rest legs → rest ≡ 0
-none_left rest [] e h = h
-none_left rest (l ∷ ls) e h = cc
-
--- ---- the legs of a ring
-
-pub moving_legs : (job : Job) (k : ℕ) (l : Queued) (ls : List Queued) → 1 ≤ path_steps l → legs_of job k (l ∷ ls) ≡ leg_of job k l ∷ []
-moving_legs job k l ls some = ap (λ b. cond b (leg_of job k l ∷ []) []) (lt-ltb 0 (path_steps l) some)
-
-pub still_legs : (job : Job) (k : ℕ) (l : Queued) (ls : List Queued) → path_steps l ≤ 0 → legs_of job k (l ∷ ls) ≡ []
-still_legs job k l ls none = ap (λ b. cond b (leg_of job k l ∷ []) []) (le-ltb 0 (path_steps l) none)
-
--- a ring whose head moves has a leg
-pub moves_on : (job : Job) (k : ℕ) (ring : List Queued) → legs_of job k ring ≢ [] → IsMoving ring
-moves_on job k [] some = absurd (some refl)
-moves_on job k (l ∷ ls) some = elim (cases_lt 0 (path_steps l)) [
-  | inl more ↦ more
-  | inr none ↦ absurd (some (still_legs job k l ls none))
-]
-
-pub moves_not : (job : Job) (k : ℕ) (ring : List Queued) → legs_of job k ring ≡ [] → IsMoving ring → ⊥
-moves_not job k [] none some = elim some [ ]
-moves_not job k (l ∷ ls) none some = let leg = moving_legs job k l ls some in cc
-
-pub at_rest : (job : Job) (k : ℕ) (ring : List Queued) → (IsMoving ring → ⊥) → legs_of job k ring ≡ []
-at_rest job k [] still = refl
-at_rest job k (l ∷ ls) still = still_legs job k l ls (omega arith)
-
--- ---- the head begins
-
-begun_moving : (job : Job) (k percent : ℕ) (l : Queued) (ls : List Queued) (old new : Drive) → 1 ≤ path_steps l → old.ramp.legs ≡ [] → new ≡ begun job k percent (l ∷ ls) old → IsBegun job k percent (l ∷ ls) old new
-begun_moving job k percent l ls old new some none is =
-    let leg = leg_of job k l in
-    let t = target_at job.machine l.command.action (path_steps l) percent in
-    let there : Drive = record { ramp = loaded old.ramp leg; target = t } in
-    let e : new ≡ there = is ∙ ap (λ b. cond b there old) (lt-ltb 0 (path_steps l) some) in
-    let legs : new.ramp.legs ≡ leg ∷ [] = ap (λ (d : Drive). d.ramp.legs) e ∙ ap (λ ks. ks ++ leg ∷ []) none in
-    let all : new.ramp.rest ≡ millionths l = ap (λ (d : Drive). d.ramp.rest) e ∙ ap (λ ks. rest_with old.ramp.rest ks leg) none in
-    record {
-      legs = legs ∙ sym (moving_legs job k l ls some);
-      change = ap (λ (d : Drive). d.ramp.change) e;
-      rate = ap (λ (d : Drive). d.ramp.rate) e;
-      all = all;
-      left = subst (λ ks. IsRest new.ramp.rest ks) (sym legs) (omega arith, omega arith);
-      target = λ h. ap (λ (d : Drive). d.target) e;
-    }
-
-begun_still : (job : Job) (k percent : ℕ) (l : Queued) (ls : List Queued) (old new : Drive) → path_steps l ≤ 0 → old.ramp.legs ≡ [] → old.ramp.rest ≡ 0 → new ≡ begun job k percent (l ∷ ls) old → IsBegun job k percent (l ∷ ls) old new
-begun_still job k percent l ls old new still none zero is =
-    let leg = leg_of job k l in
-    let t = target_at job.machine l.command.action (path_steps l) percent in
-    let there : Drive = record { ramp = loaded old.ramp leg; target = t } in
-    let e : new ≡ old = is ∙ ap (λ b. cond b there old) (le-ltb 0 (path_steps l) still) in
-    let legs : new.ramp.legs ≡ [] = ap (λ (d : Drive). d.ramp.legs) e ∙ none in
-    let all : new.ramp.rest ≡ 0 = ap (λ (d : Drive). d.ramp.rest) e ∙ zero in
-    record {
-      legs = legs ∙ sym (still_legs job k l ls still);
-      change = ap (λ (d : Drive). d.ramp.change) e;
-      rate = ap (λ (d : Drive). d.ramp.rate) e;
-      all = omega arith;
-      left = subst (λ ks. IsRest new.ramp.rest ks) (sym legs) all;
-      target = λ h. absurd (omega arith);
-    }
-
-begun_alone : (job : Job) (k percent : ℕ) (old new : Drive) → old.ramp.legs ≡ [] → old.ramp.rest ≡ 0 → new ≡ old → IsBegun job k percent [] old new
-begun_alone job k percent old new none zero e =
-    let legs : new.ramp.legs ≡ [] = ap (λ (d : Drive). d.ramp.legs) e ∙ none in
-    let all : new.ramp.rest ≡ 0 = ap (λ (d : Drive). d.ramp.rest) e ∙ zero in
-    record {
-      legs = legs;
-      change = ap (λ (d : Drive). d.ramp.change) e;
-      rate = ap (λ (d : Drive). d.ramp.rate) e;
-      all = all;
-      left = subst (λ ks. IsRest new.ramp.rest ks) (sym legs) all;
-      target = tt;
-    }
-
-pub is_begun : (job : Job) (k percent : ℕ) (ring : List Queued) (old new : Drive) → old.ramp.legs ≡ [] → IsRest old.ramp.rest old.ramp.legs → new ≡ begun job k percent ring old → IsBegun job k percent ring old new
-is_begun job k percent [] old new none rest is = begun_alone job k percent old new none (none_left old.ramp.rest old.ramp.legs none rest) is
-is_begun job k percent (l ∷ ls) old new none rest is = elim (cases_lt 0 (path_steps l)) [
-  | inl more ↦ begun_moving job k percent l ls old new more none is
-  | inr still ↦ begun_still job k percent l ls old new still none (none_left old.ramp.rest old.ramp.legs none rest) is
-]
-
-pub begins_as : (machine asked : MachineFile) (commands given : List Command) (k percent counted : ℕ) (queue ring : List Queued) (was old new : Drive) →
-    new ≡ begun (job_of asked given) k counted queue was → asked ≡ machine → given ≡ commands → counted ≡ percent → queue ≡ ring → was ≡ old → new ≡ begun (job_of machine commands) k percent ring old
-begins_as machine asked commands given k percent counted queue ring was old new h e f g i j = rw (sym e, sym f, sym g, sym i, sym j) h
-
--- ---- the head leaves, and the next command begins
+-- ---- the head leaves, and the next command is the head
 
 pub same_ring : (r : RingData) (xs : List Queued) (p : ℕ) → r.loaded ≡ xs → r.place ≡ p → r ≡ record { loaded = xs; place = p }
 same_ring r xs p e f = ap₂ (λ (ys : List Queued) (q : ℕ). record { loaded = ys; place = q }) e f
 
-pub left_order : (job : Job) (done : ℕ) (ring : List Queued) (drive : Drive) (panel : Panel) (next : ℕ) (after : RingData) (new : Drive) (dwelt : ℕ) →
-    IsMachine job.machine → drive.ramp.legs ≡ [] → IsRest drive.ramp.rest drive.ramp.legs → drive.ramp.change ≡ job.machine.change → (panel.stopped ≡ true → drive.ramp.rate ≡ 0) →
+same_drive : (d : Drive) (r : RampState) (b : Bool) → d.ramp ≡ r → d.flows_on ≡ b → d ≡ record { ramp = r; target = d.target; flows_on = b }
+same_drive d r b e f = ap₂ (λ (x : RampState) (y : Bool). record { ramp = x; target = d.target; flows_on = y }) e f
+
+last_of_drop : (b : Bool) (ring : List Queued) → b ≡ last_flows_on b ring → b ≡ last_flows_on b (drop 1 ring)
+last_of_drop b [] h = refl
+last_of_drop b (l ∷ ls) h = last_of_rest b l ls h
+
+pub left_order : (job : Job) (done : ℕ) (ring : List Queued) (ramp : RampState) (on : Bool) (panel : Panel) (next : ℕ) (after : RingData) (new : Drive) (dwelt : ℕ) →
+    IsMachine job.machine → IsLeft job (suc done) (drop 1 ring) ramp → travelled_of (drop 1 ring) ramp.rest / MILLION ≡ 0 → on ≡ last_flows_on on ring → (panel.stopped ≡ true → ramp.rate ≡ 0) →
     done + length ring ≤ length job.commands → 1 ≤ length ring →
-    after.loaded ≡ drop 1 ring → after.place ≡ 0 → next ≡ done + 1 → dwelt ≡ 0 → new ≡ begun job (done + 1) (effective_at panel) (drop 1 ring) drive →
+    after.loaded ≡ drop 1 ring → after.place ≡ 0 → next ≡ done + 1 → dwelt ≡ 0 → new.ramp ≡ ramp → new.flows_on ≡ on → IsTarget job.machine (effective_at panel) after.loaded new.target →
     IsInOrder job next after new dwelt panel
-left_order job done ring drive panel next after new dwelt machine none rest change still few some queue place more brief is =
-    let b = is_begun job (done + 1) (effective_at panel) (drop 1 ring) drive new none rest is in
-    let here : RingData = record { loaded = drop 1 ring; place = 0 } in
-    let zero : total (drop 1 ring) - new.ramp.rest ≡ 0 = omega (arith, b.all) in
+left_order job done ring ramp on panel next after new dwelt machine o zero last still few some queue place more brief same flows target =
     let shorter = length-drop 1 ring in
-    let order : IsInOrder job (done + 1) here new 0 panel = record {
+    let then : next ≡ suc done = omega arith in
+    let order : IsInOrder job (suc done) (record { loaded = drop 1 ring; place = 0 }) (record { ramp = ramp; target = new.target; flows_on = on }) 0 panel = record {
       machine = machine;
-      change = b.change ∙ change;
-      legs = b.legs;
-      left = b.left;
-      place = sym (ap (λ x. x / MILLION) zero);
-      target = b.target;
+      change = o.change;
+      legs = o.legs;
+      left = o.left;
+      slow = o.slow;
+      whole = o.whole;
+      flows_on = last_of_drop on ring last;
+      place = sym zero;
+      target = subst (λ xs. IsTarget job.machine (effective_at panel) xs new.target) queue target;
       few = omega arith;
       brief = omega arith;
-      still = λ stopped. b.rate ∙ still stopped;
+      still = still;
     } in
-    rw (more, brief, same_ring after (drop 1 ring) 0 queue place) order
+    rw (then, brief, same_ring after (drop 1 ring) 0 queue place, same_drive new ramp on same flows) order
+
+pub target_as : (machine asked : MachineFile) (percent counted : ℕ) (ring : List Queued) (target : ℕ) → IsTarget asked counted ring target → asked ≡ machine → counted ≡ percent → IsTarget machine percent ring target
+target_as machine asked percent counted ring target h e f = rw (sym e, sym f) h
 
 -- ---- a command that travels nothing
 
-pub served_legs : (job : Job) (k : ℕ) (ring : List Queued) (a : Action) → IsServed ring a → legs_of job k ring ≡ []
-served_legs job k [] a served = elim served [ ]
-served_legs job k (l ∷ ls) a served = still_legs job k l ls (omega (arith, served.1))
+pub served_still : (ring : List Queued) (a : Action) → IsServed ring a → IsMoving ring → ⊥
+served_still [] a served moves = moves
+served_still (l ∷ ls) a served moves = omega (arith, served.1, moves)
+
+left_behind : (job : Job) (done : ℕ) (ring : List Queued) (ramp : RampState) (a : Action) → IsServed ring a → ramp.change ≡ job.machine.change → (joined : Bool) → ramp.legs ≡ legs_of job done joined ring → IsRest ramp.rest ramp.legs → ramp.rest ≡ next_rest 0 ramp.legs →
+    IsLeft job (suc done) (drop 1 ring) (record ramp { rate = 0 }) × (travelled_of (drop 1 ring) ramp.rest ≡ 0)
+left_behind job done [] ramp a served change joined legs left whole = elim served [ ]
+left_behind job done (l ∷ ls) ramp a served change joined legs left whole =
+    let b = behind_is job (suc done) l ls in
+    let are : ramp.legs ≡ legs_of job (suc done) b.0 ls = legs ∙ still_legs job done joined l ls (omega (arith, served.1)) ∙ b.1 in (
+      record { change = change; legs = (b.0, are); left = left; slow = λ still. omega arith; whole = λ still. whole },
+      travelled_over job (suc done) b.0 ls (record ramp { rate = 0 }) 0 are whole (omega arith) (λ still. refl),
+    )
+
+pub rests_still : (job : Job) (done : ℕ) (ring : RingData) (drive new : Drive) (dwelt n : ℕ) (panel : Panel) → IsInOrder job done ring drive dwelt panel → new ≡ record drive { ramp = record drive.ramp { rate = 0 } } → n ≤ DWELL_LIMIT → IsInOrder job done ring new n panel
+rests_still job done ring drive new dwelt n panel o is brief =
+    let here : IsInOrder job done ring (record drive { ramp = record drive.ramp { rate = 0 } }) n panel = record {
+      machine = o.machine;
+      change = o.change;
+      legs = o.legs;
+      left = o.left;
+      slow = λ still. omega arith;
+      whole = o.whole;
+      flows_on = o.flows_on;
+      place = o.place;
+      target = o.target;
+      few = o.few;
+      brief = brief;
+      still = λ stopped. refl;
+    } in
+    rw is here
+
+pub served_left : (job : Job) (done : ℕ) (ring : RingData) (drive : Drive) (dwelt : ℕ) (panel : Panel) (a : Action) → IsInOrder job done ring drive dwelt panel → IsServed ring.loaded a →
+    IsLeft job (suc done) (drop 1 ring.loaded) (record drive.ramp { rate = 0 }) × (travelled_of (drop 1 ring.loaded) drive.ramp.rest ≡ 0)
+served_left job done ring drive dwelt panel a o served =
+    left_behind job done ring.loaded drive.ramp a served o.change o.legs.0 o.legs.1 o.left (o.whole (served_still ring.loaded a served))
 
 pub served_some : (ring : List Queued) (a : Action) → IsServed ring a → 1 ≤ length ring
 served_some [] a served = elim served [ ]
@@ -182,74 +135,70 @@ finished a s tool mounted panel set k xs w t d e1 e2 e3 e4 e5 e6 e7 =
     let whole : with_panel (record s { done = k; ring = xs; rate = w; travelled = t; dwelt = d }) mounted set ≡ with_panel (record s { done = suc s.done; ring = drop 1 s.ring; rate = 0; travelled = 0; dwelt = 0 }) (tool_after a tool) (panel_after a panel) = cc in
     whole ∙ after_by a (record s { done = suc s.done; ring = drop 1 s.ring; rate = 0; travelled = 0; dwelt = 0 }) tool panel
 
--- ---- a command more
-
-pub more_as : (machine asked : MachineFile) (commands given : List Command) (k percent counted : ℕ) (ring : List Queued) (q : Queued) (old new : Drive) →
-    new ≡ with_one_more (job_of asked given) k counted ring q old → asked ≡ machine → given ≡ commands → counted ≡ percent → new ≡ with_one_more (job_of machine commands) k percent ring q old
-more_as machine asked commands given k percent counted ring q old new h e f g = rw (sym e, sym f, sym g) h
-
-pub more_order : (job : Job) (done : ℕ) (ring : List Queued) (place : ℕ) (drive : Drive) (dwelt : ℕ) (panel : Panel) (q : Queued) (d : Drive) → IsInOrder job done (record { loaded = ring; place = place }) drive dwelt panel →
-    d ≡ with_one_more job done (effective_at panel) ring q drive → done + length ring < length job.commands → IsInOrder job done (record { loaded = ring ++ q ∷ []; place = place }) d dwelt panel
-more_order job done [] place drive dwelt panel q d o is less =
-    let b = is_begun job done (effective_at panel) (q ∷ []) drive d o.legs o.left is in
-    let none = none_left drive.ramp.rest drive.ramp.legs o.legs o.left in
-    let zero : 0 - drive.ramp.rest ≡ total (q ∷ []) - d.ramp.rest = omega (arith, b.all) in
-    record {
-      machine = o.machine;
-      change = b.change ∙ o.change;
-      legs = b.legs;
-      left = b.left;
-      place = o.place ∙ ap (λ x. x / MILLION) zero;
-      target = b.target;
-      few = omega arith;
-      brief = o.brief;
-      still = λ stopped. b.rate ∙ o.still stopped;
-    }
-more_order job done (l ∷ ls) place drive dwelt panel q d o is less =
-    let more = length-append ls (q ∷ []) in
-    let order : IsInOrder job done (record { loaded = l ∷ ls ++ q ∷ []; place = place }) drive dwelt panel = record {
-      machine = o.machine;
-      change = o.change;
-      legs = o.legs;
-      left = o.left;
-      place = o.place;
-      target = o.target;
-      few = omega arith;
-      brief = o.brief;
-      still = o.still;
-    } in
-    rw is order
-
 pub serves_done : (job : Job) (a : Action) (old new : State) (outcome : Outcome) → nat_lt (suc old.dwelt) (ticks_of job a) ≡ false → Finishes job a old outcome new → Serves job a old outcome new
 serves_done job a old new outcome over h = subst (λ t. MatchBool t (Dwells job old outcome new) (Finishes job a old outcome new)) (sym over) h
 
-pub loaded_order : (job : Job) (done : ℕ) (ring : RingData) (drive : Drive) (dwelt : ℕ) (panel : Panel) (q : Queued) (k : ℕ) (after : RingData) (d : Drive) (n : ℕ) → IsInOrder job done ring drive dwelt panel →
-    d ≡ with_one_more job done (effective_at panel) ring.loaded q drive → done + length ring.loaded < length job.commands → k ≡ done → n ≡ dwelt → after.loaded ≡ ring.loaded ++ q ∷ [] → after.place ≡ ring.place →
-    IsInOrder job k after d n panel
-loaded_order job done ring drive dwelt panel q k after d n o is less same brief queue place =
-    rw (same, brief, same_ring after (ring.loaded ++ q ∷ []) ring.place queue place) (more_order job done ring.loaded ring.place drive dwelt panel q d o is less)
+-- ---- a command more
 
-total_more : (ring : List Queued) (q : Queued) (job : Job) (k percent : ℕ) (drive d : Drive) → drive.ramp.legs ≡ legs_of job k ring → IsRest drive.ramp.rest drive.ramp.legs → d ≡ with_one_more job k percent ring q drive →
-    (total (ring ++ q ∷ []) - d.ramp.rest ≡ total ring - drive.ramp.rest) × (d.ramp.rate ≡ drive.ramp.rate)
-total_more [] q job k percent drive d legs left is =
-    let b = is_begun job k percent (q ∷ []) drive d legs left is in
-    (omega (arith, b.all), b.rate)
-total_more (l ∷ ls) q job k percent drive d legs left is = (ap (λ (x : Drive). millionths l - x.ramp.rest) is, ap (λ (x : Drive). x.ramp.rate) is)
+pub few_on : (job : Job) (done : ℕ) (ring : RingData) (drive : Drive) (dwelt : ℕ) (panel : Panel) → IsInOrder job done ring drive dwelt panel → length drive.ramp.legs ≤ length ring.loaded
+few_on job done ring drive dwelt panel o = let few = few_legs job done o.legs.0 ring.loaded in omega (arith, few, ap length o.legs.1)
+
+pub more_as : (machine asked : MachineFile) (commands given : List Command) (k : ℕ) (on : Bool) (q : Queued) (old new : RampState) →
+    new ≡ with_one_more (job_of asked given) k on q old → asked ≡ machine → given ≡ commands → new ≡ with_one_more (job_of machine commands) k on q old
+more_as machine asked commands given k on q old new h e f = rw (sym e, sym f) h
+
+still_before : (ring : List Queued) (q : Queued) → (IsMoving (ring ++ q ∷ []) → ⊥) → IsMoving ring → ⊥
+still_before [] q still moves = moves
+still_before (l ∷ ls) q still moves = still moves
+
+pub loaded_order : (job : Job) (done : ℕ) (ring : RingData) (drive : Drive) (dwelt : ℕ) (panel : Panel) (q : Queued) (k : ℕ) (after : RingData) (d : Drive) (n : ℕ) → IsInOrder job done ring drive dwelt panel →
+    d.ramp ≡ with_one_more job (done + length ring.loaded) drive.flows_on q drive.ramp → d.flows_on ≡ flows_on q → IsTarget job.machine (effective_at panel) after.loaded d.target →
+    done + length ring.loaded < length job.commands → k ≡ done → n ≡ dwelt → after.loaded ≡ ring.loaded ++ q ∷ [] → after.place ≡ ring.place →
+    IsInOrder job k after d n panel
+loaded_order job done ring drive dwelt panel q k after d n o is flows target less same brief queue place =
+    let all = ring.loaded ++ q ∷ [] in
+    let more = length-append ring.loaded (q ∷ []) in
+    let has = has_one_more job (done + length ring.loaded) drive.flows_on q drive.ramp d.ramp is in
+    let legs = legs_of_more job done o.legs.0 drive.flows_on ring.loaded q drive.ramp o.legs.1 o.flows_on in
+    let far = travelled_more job done (done + length ring.loaded) o.legs.0 drive.flows_on ring.loaded q drive.ramp d.ramp o.legs.1 is in
+    let here : IsInOrder job done (record { loaded = all; place = ring.place }) d dwelt panel = record {
+      machine = o.machine;
+      change = has.change ∙ o.change;
+      legs = (legs.0, ap (λ (x : RampState). x.legs) is ∙ legs.1);
+      left = has.left o.left;
+      slow = λ still. (let slow = o.slow (still_before ring.loaded q still) in omega (arith, has.rate, slow));
+      whole = λ still. has.whole (o.whole (still_before ring.loaded q still));
+      flows_on = flows ∙ sym (last_of_more d.flows_on ring.loaded q);
+      place = o.place ∙ ap (λ x. x / MILLION) (sym far);
+      target = subst (λ xs. IsTarget job.machine (effective_at panel) xs d.target) queue target;
+      few = omega arith;
+      brief = o.brief;
+      still = λ stopped. has.rate ∙ o.still stopped;
+    } in
+    rw (same, brief, same_ring after all ring.place queue place) here
 
 -- the state after a load
 pub loads : (job : Job) (done : ℕ) (ring : RingData) (drive : Drive) (dwelt : ℕ) (position : StepPos) (tool : Option Tool) (panel : Panel) (c : Command) (q : Queued) (k : ℕ) (after : RingData) (d : Drive) (n : ℕ) →
     IsInOrder job done ring drive dwelt panel → command_at job (done + length ring.loaded) ≡ Some c → length ring.loaded < RING → q.command ≡ c → MayTake job c.action q.path →
-    d ≡ with_one_more job done (effective_at panel) ring.loaded q drive → k ≡ done → n ≡ dwelt → after.loaded ≡ ring.loaded ++ q ∷ [] →
+    d.ramp ≡ with_one_more job (done + length ring.loaded) drive.flows_on q drive.ramp → k ≡ done → n ≡ dwelt → after.loaded ≡ ring.loaded ++ q ∷ [] →
     LoadCommand job (state_of done ring drive dwelt position tool panel) (command_at job (done + length ring.loaded)) (Ok (Loaded (done + length ring.loaded))) (state_of k after d n position tool panel)
 loads job done ring drive dwelt position tool panel c q k after d n o found room same takes is more brief queue =
     let old = state_of done ring drive dwelt position tool panel in
     let new = state_of k after d n position tool panel in
     let out : Outcome = Ok (Loaded (done + length ring.loaded)) in
-    let t = total_more ring.loaded q job done (effective_at panel) drive d o.legs o.left is in
-    let far : total after.loaded - d.ramp.rest ≡ total ring.loaded - drive.ramp.rest = ap (λ xs. total xs - d.ramp.rest) queue ∙ t.0 in
-    let rate = t.1 in
+    let has = has_one_more job (done + length ring.loaded) drive.flows_on q drive.ramp d.ramp is in
+    let far : travelled_of after.loaded d.ramp.rest ≡ travelled_of ring.loaded drive.ramp.rest = ap (λ xs. travelled_of xs d.ramp.rest) queue ∙ travelled_more job done (done + length ring.loaded) o.legs.0 drive.flows_on ring.loaded q drive.ramp d.ramp o.legs.1 is in
+    let rate = has.rate in
     let own : after.loaded ≡ ring.loaded ++ record { command = c; path = q.path } ∷ [] = queue ∙ ap (λ x. ring.loaded ++ record { command = x; path = q.path } ∷ []) same in
     let whole : new ≡ record old { ring = ring.loaded ++ record { command = c; path = q.path } ∷ [] } = cc in
     subst (λ found. LoadCommand job old found out new) (sym found)
     (subst (λ b. MatchBool b ((path : List StepPos) × MayTake job c.action path × (out ≡ Ok (Loaded (done + length ring.loaded))) × (new ≡ record old { ring = ring.loaded ++ record { command = c; path = path } ∷ [] })) ((out ≡ Err RingFull) × (new ≡ old))) (sym (lt-ltb (length ring.loaded) RING room))
     (q.path, takes, refl, whole))
+
+-- where there is no room
+pub loads_not : (job : Job) (old new : State) (c : Command) (found : Option Command) → found ≡ Some c → RING ≤ length old.ring → new ≡ old → LoadCommand job old found (Err RingFull) new
+loads_not job old new c found is full same =
+    let out : Outcome = Err RingFull in
+    subst (λ f. LoadCommand job old f out new) (sym is)
+    (subst (λ b. MatchBool b ((path : List StepPos) × MayTake job c.action path × (out ≡ Ok (Loaded (old.done + length old.ring))) × (new ≡ record old { ring = old.ring ++ record { command = c; path = path } ∷ [] })) ((out ≡ Err RingFull) × (new ≡ old))) (sym (le-ltb (length old.ring) RING full))
+    (refl, same))

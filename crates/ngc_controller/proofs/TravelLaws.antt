@@ -1,102 +1,26 @@
 -- A tick on a motion: the ramp's rules give the machine's.
-use Rattle.std.proofs.Common.{◌≡◌, ℕ, suc, ◌+◌, ◌-◌, ◌/◌, ◌≤◌, ◌<◌, min, ◌==◌, nat_lt, nat_le, List, [], ◌∷◌, Option, Some, None, Bool, true, false, cond, refl, ap, ap₂, sym, ◌∙◌, inl, inr, drop, arith}
-use Rattle.std.proofs.lemmas.Bool.{cases_lt}
+use Rattle.std.proofs.Common.{◌≡◌, ℕ, suc, ◌+◌, ◌-◌, ◌/◌, ◌≤◌, ◌<◌, min, nat_lt, nat_le, List, ◌∷◌, Option, Some, None, Bool, true, false, cond, refl, ap, ap₂, sym, ◌∙◌, drop, arith}
 use Rattle.std.proofs.lemmas.Bool.Decides.{nat_tests}
 use Rattle.std.specs.Prelude.{Ok, if◌then◌else◌}
 use Rattle.std.specs.Bool.{then_some}
 use Rattle.ngc_fixed_length.specs.declared.points.StepPos.{StepPos}
 use Rattle.ngc_fixed_length.specs.LinePath.{point}
-use Rattle.ngc_machine.specs.Machine.{MachineFile}
 use Rattle.ngc_machine.specs.MachineRanges.{IsMachine}
-use Rattle.ngc_canonical.specs.declared.command.Command.{Command}
 use Rattle.ngc_canonical.specs.declared.command.Action.{Action}
 use Rattle.ngc_canonical.specs.declared.command.Action.TheVariants as actions
-use Rattle.ngc_planner.specs.Braking.{braking}
-use Rattle.ngc_planner.specs.Bounds.{IsMotion, IsLeastTravel, bound_of, least_travel}
+use Rattle.ngc_planner.specs.Bounds.{IsMotion}
 use Rattle.ngc_planner.specs.Caps.{MILLION}
-use Rattle.ngc_planner.specs.Joints.{joint_before, joint_after}
-use Rattle.ngc_planner.specs.declared.leg.Leg.{Leg}
-use Rattle.ngc_planner.specs.Leg.{tick_bound}
-use Rattle.ngc_planner.specs.Ramp.{RampState, MayTick, TicksTo, pace as ramp_pace}
-use Rattle.ngc_planner.proofs.BoundLaws.{greatest_bound, may_travel_least}
-use Rattle.ngc_planner.proofs.RampLaws.{tick_bound_greatest}
-use Rattle.ngc_behaviour.specs.State.{Job, Queued, State, command_at, path_steps, millionths, effective}
+use Rattle.ngc_planner.specs.Ramp.{RampState, TicksTo}
+use Rattle.ngc_behaviour.specs.State.{Job, Queued, State, path_steps, millionths}
 use Rattle.ngc_behaviour.specs.Progress.{TravelsAtLeast}
-use Rattle.ngc_behaviour.specs.RateRules.{before, target, head_bound, pace, MayTravel}
-use Rattle.ngc_behaviour.specs.Reach.{rest}
+use Rattle.ngc_behaviour.specs.RateRules.{target, MayTravel}
+use Rattle.ngc_behaviour.specs.Reach.{leg_of, legs_behind}
 use Rattle.ngc_behaviour.specs.declared.reply.Ending.{Ending}
 use Rattle.ngc_behaviour.specs.declared.reply.Ending.TheVariants.{Done}
 use Rattle.ngc_behaviour.specs.declared.reply.Reply.TheVariants.{Ticked}
 use Rattle.ngc_behaviour.specs.Step.{Outcome, Travels, place_after, pulse, ends_at, ending, moved_by, popped}
-use Rattle.ngc_controller.specs.Drive.{leg_of}
+use Rattle.ngc_behaviour.proofs.RampFit.{may_travel, travels_at_least}
 use Rattle.ngc_controller.specs.Loaded.{next_place}
-
--- nothing is travelled where all is left
-same_test : (t r m : ℕ) → t ≡ m - r → r ≤ m → (t == 0) ≡ (r == m)
-same_test t r m e f = grind (arith, nat_tests)
-
-same_bound : (job : Job) (l : Queued) (s : State) (r : ℕ) → s.travelled ≡ millionths l - r → r ≤ millionths l → head_bound job l s ≡ tick_bound (leg_of job s.done l) r
-same_bound job l s r at within =
-    let bound = bound_of job.machine l.command.action (path_steps l) in
-    let entry = joint_before job.machine (before job s.done) l.command in
-    ap (λ b. cond b (min bound entry) bound) (same_test s.travelled r (millionths l) at within)
-
-entered : (bound entry r m v : ℕ) (b : Bool) → b ≡ (r == m) → r ≡ m → v ≤ cond b (min bound entry) bound → v ≤ entry
-entered bound entry r m v true test all h = omega arith
-entered bound entry r m v false test all h = absurd (grind (arith, nat_tests))
-
-same_pace : (r a w b s c x d : ℕ) → r ≡ s → a ≡ c → w ≡ x → b ≡ d → min (min (r + a) w) b ≡ min (min (s + c) x) d
-same_pace r a w b s c x d e f g h = cc
-
-keeps : (p q way other left r v : ℕ) → p ≡ q → way ≡ other → left ≡ r → (other < r + 0 → q ≤ v) → way < left + 0 → p ≤ v
-keeps p q way other left r v e f g h less = omega (arith, h (omega arith))
-
-pub may_travel : (job : Job) (l : Queued) (ls : List Queued) (s : State) (r : RampState) (wish v : ℕ) → IsMachine job.machine → r.change ≡ job.machine.change → r.rate ≡ s.rate → s.travelled ≡ millionths l - r.rest → 1 ≤ r.rest → r.rest ≤ millionths l → wish ≡ target job l s → MayTick r wish (leg_of job s.done l) [] v → MayTravel job l ls s v
-may_travel job l ls s r wish v machine change rate at some within aim may =
-    let leg = leg_of job s.done l in
-    let left : rest l s ≡ r.rest = omega arith in
-    let bound : head_bound job l s ≡ tick_bound leg r.rest = same_bound job l s r.rest at within in
-    let low = tick_bound_greatest leg r.rest in
-    let same : pace job l s ≡ ramp_pace r wish leg = same_pace s.rate job.machine.change (target job l s) (head_bound job l s) r.rate r.change wish (tick_bound leg r.rest) (sym rate) (sym change) (sym aim) bound in
-    let brakes : braking v job.machine.change ≤ r.rest = rw (sym change) (omega (arith, may.brakes)) in
-    record {
-      rules = record {
-        faster = omega (arith, may.faster);
-        slower = omega (arith, may.slower);
-        within = (greatest_bound job.machine l.command.action (path_steps l) v machine).0 (omega (arith, may.within, low));
-        enters = λ none. entered leg.bound leg.entry r.rest leg.millionths v (r.rest == leg.millionths) refl (omega arith) may.within;
-        leaves = λ ends. may.leaves (omega arith);
-        goes_on = λ over. absurd (may.goes_on (omega arith));
-      };
-      brakes = omega arith;
-      aims = omega (arith, may.aims);
-      keeps_pace = keeps (pace job l s) (ramp_pace r wish leg) (braking (pace job l s) job.machine.change) (braking (ramp_pace r wish leg) r.change) (rest l s) r.rest v same (ap₂ braking same (sym change)) left may.keeps_pace;
-    }
-
--- ---- how far it goes at least
-
-before_least : (m : MachineFile) (b : Option Command) (c : Command) (least : ℕ) → least ≤ MILLION → ((d : Command) → least ≤ joint_before m (Some d) c) → least ≤ joint_before m b c
-before_least m None c least small each = small
-before_least m (Some d) c least small each = each d
-
-after_least : (m : MachineFile) (c : Command) (a : Option Command) (least : ℕ) → least ≤ MILLION → ((d : Command) → least ≤ joint_after m c (Some d)) → least ≤ joint_after m c a
-after_least m c None least small each = small
-after_least m c (Some d) least small each = each d
-
-pub travels_at_least : (job : Job) (l : Queued) (ls : List Queued) (s : State) (r : RampState) (wish v : ℕ) → IsMachine job.machine → IsMotion l.command.action → r.change ≡ job.machine.change → s.travelled ≡ millionths l - r.rest → r.rest ≤ millionths l → wish ≡ target job l s → MayTick r wish (leg_of job s.done l) [] v → TravelsAtLeast job (l ∷ ls) s v
-travels_at_least job l ls s r wish v machine moves change at within aim may = λ free some.
-    let m = job.machine in
-    let c = l.command in
-    let n = path_steps l in
-    let least = least_travel m c.action n in
-    let law : (d : Command) → IsLeastTravel m c.action d.action n (effective s) = λ d. may_travel_least m c.action d.action n (effective s) machine moves in
-    let own = law c in
-    let small : least ≤ MILLION = omega (arith, own.change, machine.change.greatest) in
-    let wished : least ≤ wish = rw (aim, free.not_held) (own.target free.some_override) in
-    let entry = before_least m (before job s.done) c least small (λ d. (law d).entry) in
-    let exit = after_least m c (command_at job (suc s.done)) least small (λ d. (law d).exit) in
-    let left : rest l s ≡ r.rest = omega arith in
-    omega (arith, may.at_least, own.change, own.bound)
 
 -- ---- the place on the path
 
@@ -147,16 +71,12 @@ done_with false s t e h = (cc, cc)
 
 -- ---- the whole tick
 
-at_most_rest : (r : RampState) (wish : ℕ) (leg : Leg) (v : ℕ) → MayTick r wish leg [] v → v ≤ r.rest
-at_most_rest r wish leg v may = elim (cases_lt r.rest v) [
-  | inl over ↦ absurd (may.goes_on over)
-  | inr fits ↦ fits
-]
-
--- what is known of a tick of the ramp r to s, with the head l
-pub record IsTravel (job : Job) (l : Queued) (old : State) (r s : RampState) (wish v place : ℕ) (due : Bool) (next : ℕ) (p : StepPos) : Type 0 where
+-- what is known of a tick of the ramp r to s, with the head l and the others behind it
+pub record IsTravel (job : Job) (l : Queued) (ls : List Queued) (old : State) (r s : RampState) (joined : Bool) (wish v place : ℕ) (due ended : Bool) (next : ℕ) (p : StepPos) : Type 0 where
   pub machine : IsMachine job.machine
   pub motion : IsMotion l.command.action
+  pub moves : 1 ≤ path_steps l
+  pub legs : r.legs ≡ leg_of job old.done joined l ∷ legs_behind job (suc old.done) l ls
   pub change : r.change ≡ job.machine.change
   pub rate : r.rate ≡ old.rate
   pub some : 1 ≤ r.rest
@@ -164,15 +84,14 @@ pub record IsTravel (job : Job) (l : Queued) (old : State) (r s : RampState) (wi
   pub at : old.travelled ≡ millionths l - r.rest
   pub place_at : place ≡ old.travelled / MILLION
   pub aim : wish ≡ target job l old
-  pub tick : TicksTo r wish (leg_of job old.done l) [] v due s
+  pub tick : TicksTo r wish (leg_of job old.done joined l) (legs_behind job (suc old.done) l ls) v due ended s
   pub place_next : next ≡ next_place place due
   pub point_at : p ≡ point l.path next
 
 -- what follows
-pub record HasTravelled (job : Job) (l : Queued) (ls : List Queued) (old : State) (r : RampState) (v next : ℕ) (due : Bool) (p : StepPos) : Type 0 where
+pub record HasTravelled (job : Job) (l : Queued) (ls : List Queued) (old : State) (v next : ℕ) (due : Bool) (p : StepPos) : Type 0 where
   pub may : MayTravel job l ls old v
   pub least : TravelsAtLeast job (l ∷ ls) old v
-  pub fits : v ≤ r.rest
   pub small : v ≤ MILLION
   pub place : next ≡ place_after l old v
   pub point_at : p ≡ point l.path (place_after l old v)
@@ -181,19 +100,18 @@ pub record HasTravelled (job : Job) (l : Queued) (ls : List Queued) (old : State
 same_due : (leg_whole rest t v : ℕ) (due : Bool) → t ≡ leg_whole - rest → due ≡ nat_lt ((leg_whole - rest) / MILLION) (min (leg_whole - rest + v) leg_whole / MILLION) → due ≡ nat_lt (t / MILLION) (min (t + v) leg_whole / MILLION)
 same_due w rest t v due e h = rw e h
 
-pub has_travelled : (job : Job) (l : Queued) (ls : List Queued) (old : State) (r s : RampState) (wish v place : ℕ) (due : Bool) (next : ℕ) (p : StepPos) → IsTravel job l old r s wish v place due next p → HasTravelled job l ls old r v next due p
-has_travelled job l ls old r s wish v place due next p h =
-    let leg = leg_of job old.done l in
-    let may = may_travel job l ls old r wish v h.machine h.change h.rate h.at h.some h.within h.aim h.tick.may in
-    let fits : v ≤ r.rest = at_most_rest r wish leg v h.tick.may in
+pub has_travelled : (job : Job) (l : Queued) (ls : List Queued) (old : State) (r s : RampState) (joined : Bool) (wish v place : ℕ) (due ended : Bool) (next : ℕ) (p : StepPos) → IsTravel job l ls old r s joined wish v place due ended next p → HasTravelled job l ls old v next due p
+has_travelled job l ls old r s joined wish v place due ended next p h =
+    let left : r.rest ≡ millionths l - old.travelled = omega (arith, h.at, h.within) in
+    let within : old.travelled ≤ millionths l = omega (arith, h.at) in
+    let may = may_travel job l ls old r joined wish v h.machine h.moves h.change h.rate left within h.aim h.tick.may in
     let small : v ≤ MILLION = omega (arith, may.rules.within.greatest, h.machine.max_rate.greatest) in
     let told = same_due (millionths l) r.rest old.travelled v due h.at h.tick.tells in
-    let there : next ≡ place_after l old v = h.place_next ∙ place_is old.travelled v (millionths l) place due h.place_at (omega arith) small told in
+    let there : next ≡ place_after l old v = h.place_next ∙ place_is old.travelled v (millionths l) place due h.place_at within small told in
     let point_at : p ≡ point l.path (place_after l old v) = h.point_at ∙ ap (λ k. point l.path k) there in
     record {
       may = may;
-      least = travels_at_least job l ls old r wish v h.machine h.motion h.change h.at h.within h.aim h.tick.may;
-      fits = fits;
+      least = travels_at_least job l ls old r joined wish v h.machine h.motion h.moves h.change h.rate left within h.aim h.tick.may;
       small = small;
       place = there;
       point_at = point_at;
@@ -201,7 +119,7 @@ has_travelled job l ls old r s wish v place due next p h =
     }
 
 -- the motion goes on
-pub goes_on : (job : Job) (l : Queued) (ls : List Queued) (old new : State) (r : RampState) (v next : ℕ) (due : Bool) (p : StepPos) (t : ℕ) (xs : List Queued) (w : ℕ) → HasTravelled job l ls old r v next due p →
+pub goes_on : (job : Job) (l : Queued) (ls : List Queued) (old new : State) (r : RampState) (v next : ℕ) (due : Bool) (p : StepPos) (t : ℕ) (xs : List Queued) (w : ℕ) → HasTravelled job l ls old v next due p →
     old.travelled ≡ millionths l - r.rest → r.rest ≤ millionths l → v < r.rest → t ≡ old.travelled + v → xs ≡ old.ring → w ≡ v →
     new ≡ record old { ring = xs; rate = w; position = p; travelled = t } →
     Travels job l ls old (Ok (Ticked (then_some due p) None)) new
@@ -218,15 +136,15 @@ goes_on job l ls old new r v next due p t xs w h at within less far same rate is
     travels_to job l ls old new (Ok (Ticked (then_some due p) None)) v h.may (state ∙ sym by.0) (ap₂ (λ a b. Ok (Ticked a b)) h.says (sym by.1))
 
 -- the motion ends
-pub ends_there : (job : Job) (l : Queued) (ls : List Queued) (old new : State) (r : RampState) (v next : ℕ) (due : Bool) (p : StepPos) (t : ℕ) (xs : List Queued) (w k d : ℕ) → HasTravelled job l ls old r v next due p →
-    IsMotion l.command.action → old.travelled ≡ millionths l - r.rest → r.rest ≤ millionths l → r.rest ≤ v → t ≡ 0 → xs ≡ drop 1 old.ring → w ≡ v → k ≡ suc old.done → d ≡ 0 →
+pub ends_there : (job : Job) (l : Queued) (ls : List Queued) (old new : State) (r : RampState) (v next : ℕ) (due : Bool) (p : StepPos) (t : ℕ) (xs : List Queued) (w k d : ℕ) → HasTravelled job l ls old v next due p →
+    IsMotion l.command.action → old.travelled ≡ millionths l - r.rest → r.rest ≤ millionths l → r.rest ≤ v → t ≡ v - r.rest → xs ≡ drop 1 old.ring → w ≡ v → k ≡ suc old.done → d ≡ 0 →
     new ≡ record old { done = k; ring = xs; rate = w; position = p; travelled = t; dwelt = d } →
     Travels job l ls old (Ok (Ticked (then_some due p) (Some (Done old.done)))) new
-ends_there job l ls old new r v next due p t xs w k d h motion at within ends none same rate more brief is =
-    let over : nat_le (millionths l) (old.travelled + v) ≡ true = grind (arith, nat_tests, h.fits) in
+ends_there job l ls old new r v next due p t xs w k d h motion at within ends beyond same rate more brief is =
+    let over : nat_le (millionths l) (old.travelled + v) ≡ true = grind (arith, nat_tests) in
     let place = point l.path (place_after l old v) in
     let there : State = record old { rate = v; position = place } in
-    let left : t ≡ old.travelled + v - millionths l = omega (arith, h.fits) in
+    let left : t ≡ old.travelled + v - millionths l = omega arith in
     let by = done_with (nat_le (millionths l) (old.travelled + v)) (popped (old.travelled + v - millionths l) there) (record there { travelled = old.travelled + v }) (Some (ending l.command.action old)) over in
     let state : new ≡ popped (old.travelled + v - millionths l) there =
     is ∙ ap (λ (ys : List Queued). record old { done = k; ring = ys; rate = w; position = p; travelled = t; dwelt = d }) same

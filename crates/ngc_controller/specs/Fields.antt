@@ -6,7 +6,7 @@ use Rattle.ngc_canonical.specs.declared.command.Action.TheVariants as actions
 use Rattle.ngc_machine.specs.MachineRanges.{IsMachine}
 use Rattle.ngc_machine.specs.declared.tools.Tool.{Tool}
 use Rattle.ngc_planner.specs.Caps.{MILLION}
-use Rattle.ngc_planner.specs.Ramp.{RampState, IsRest, next_rest}
+use Rattle.ngc_planner.specs.Ramp.{IsRest, next_rest}
 use Rattle.ngc_behaviour.specs.State.{Job, State, Queued, path_steps, millionths}
 use Rattle.ngc_behaviour.specs.Progress.{TravelsAtLeast}
 use Rattle.ngc_behaviour.specs.Step.{Outcome, Travels}
@@ -16,16 +16,17 @@ use Rattle.ngc_controller.specs.Drive.{legs_of, last_flows_on, IsTarget}
 use Rattle.ngc_controller.specs.Panel.{effective_at}
 use Rattle.ngc_controller.specs.Ring.{RingData, IsMoving}
 
--- what is travelled of the head, where it is a motion with path steps; it is the first leg of the ramp then
-abbrev pub travelled_of : List Queued → RampState → ℕ
-travelled_of [] ramp = 0
-travelled_of (l ∷ ls) ramp = if nat_lt 0 (path_steps l) then millionths l - ramp.rest else 0
+-- what is travelled of the head, with so much left of the ramp's first leg: that is the head's, where it is a motion with
+-- path steps, and else nothing is travelled
+abbrev pub travelled_of : List Queued → ℕ → ℕ
+travelled_of [] rest = 0
+travelled_of (l ∷ ls) rest = if nat_lt 0 (path_steps l) then millionths l - rest else 0
 
 abbrev pub state_of : ℕ → RingData → Drive → ℕ → StepPos → Option Tool → Panel → State
 state_of done ring drive dwelt position tool panel = record {
   done = done;
   ring = ring.loaded;
-  travelled = travelled_of ring.loaded drive.ramp;
+  travelled = travelled_of ring.loaded drive.ramp.rest;
   dwelt = dwelt;
   position = position;
   rate = drive.ramp.rate;
@@ -51,7 +52,7 @@ pub record IsInOrder (job : Job) (done : ℕ) (ring : RingData) (drive : Drive) 
   pub slow : (IsMoving ring.loaded → ⊥) → drive.ramp.rate ≤ job.machine.change
   pub whole : (IsMoving ring.loaded → ⊥) → drive.ramp.rest ≡ next_rest 0 drive.ramp.legs
   pub flows_on : drive.flows_on ≡ last_flows_on drive.flows_on ring.loaded
-  pub place : ring.place ≡ travelled_of ring.loaded drive.ramp / MILLION
+  pub place : ring.place ≡ travelled_of ring.loaded drive.ramp.rest / MILLION
   pub target : IsTarget job.machine (effective_at panel) ring.loaded drive.target
   pub few : done + length ring.loaded ≤ length job.commands
   pub brief : dwelt ≤ DWELL_LIMIT
