@@ -79,16 +79,16 @@ impl<K: ArcKernel + Drop, A: Allocator> Progress<K, A> {
         ensures flows_on { self.new.drive.flows_on ≡ flows_on loaded.queued }
         ensures target { IsTarget (file_of machine.now) percent self.new.ring.loaded self.new.drive.target }
     {
-        let waiting = self.ring.len();
+        let ahead = self.ring.len();
         self.drive
-            .load(&loaded, self.done + waiting, commands, machine);
+            .load(&loaded, self.done + ahead, commands, machine);
         self.ring.push(loaded);
-        if waiting == 0 {
+        if ahead == 0 {
             self.aim(percent, machine);
         }
     }
 
-    /// The head is done, and the next command becomes the head.
+    /// The head is done, and the next command becomes the head. What a tick travelled beyond the end is on the ramp.
     pub fn leave<B: Allocator>(&mut self, percent: u8, machine: &Machine<B>)
         requires { self.old.done + 1 < 2 ^ 32 }
         ensures loaded { self.new.ring.loaded ≡ drop 1 self.old.ring.loaded }
