@@ -270,7 +270,10 @@ fn over_a_joint(rt: HostRuntime) {
         assert!(rt; *joint >= 1);
         let (taken, at_end) = two_legs(*joint, *joined);
         assert!(rt; taken < *ticks, "{taken} ticks over {joint}");
-        assert!(rt; *least <= at_end && at_end <= *greatest, "{at_end} at {joint}");
+        assert!(rt;
+            *least <= at_end && at_end <= *greatest,
+            "{at_end} at {joint}"
+        );
     }
 }
 

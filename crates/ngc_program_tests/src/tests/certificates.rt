@@ -486,7 +486,7 @@ const CUT_ARCS: &[(&str, u16, &[u8])] = &[
 ];
 
 fn holds(text: &[u8], part: &[u8]) -> bool {
-    text.windows(part.len()).any(|window| window == part)
+    text.windows(part.len().max(1)).any(|window| window == part)
 }
 
 // What is made for them is accepted.

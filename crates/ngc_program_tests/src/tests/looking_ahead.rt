@@ -16,11 +16,7 @@ struct Passage {
 }
 
 // Ticks until a command is done, but no more than so many.
-fn pass(
-    controller: &mut Controller<ArcPath, Global>,
-    command: u32,
-    most: u32,
-) -> Option<Passage> {
+fn pass(controller: &mut Controller<ArcPath, Global>, command: u32, most: u32) -> Option<Passage> {
     let mut seen: Option<Passage> = None;
     for _ in 0..most {
         let reply = give(controller, Event::Tick);
@@ -47,9 +43,11 @@ fn pass(
     None
 }
 
-const TEN_LINES: &str = "G0 X1\nG0 X2\nG0 X3\nG0 X4\nG0 X5\nG0 X6\nG0 X7\nG0 X8\nG0 X9\nG0 X10\nM2\n";
+const TEN_LINES: &str =
+    "G0 X1\nG0 X2\nG0 X3\nG0 X4\nG0 X5\nG0 X6\nG0 X7\nG0 X8\nG0 X9\nG0 X10\nM2\n";
 
-const TEN_STOPS: &str = "G61.1\nG0 X1\nG0 X2\nG0 X3\nG0 X4\nG0 X5\nG0 X6\nG0 X7\nG0 X8\nG0 X9\nG0 X10\nM2\n";
+const TEN_STOPS: &str =
+    "G61.1\nG0 X1\nG0 X2\nG0 X3\nG0 X4\nG0 X5\nG0 X6\nG0 X7\nG0 X8\nG0 X9\nG0 X10\nM2\n";
 
 const ANY: (u64, u64) = (0, 400_000);
 
@@ -99,7 +97,12 @@ const PASSAGES: &[(&str, u32, u32, &[Limits])] = &[
         &[(SLOW, FAST, 400_000), ((0, 20_000), SLOW, 20_000)],
     ),
     // A dwell, a stop and a motion without path steps end what is looked at.
-    ("G0 X1\nG4 P0\nG0 X2\nM2\n", 4, 2_000, &[(SLOW, SLOW, 400_000)]),
+    (
+        "G0 X1\nG4 P0\nG0 X2\nM2\n",
+        4,
+        2_000,
+        &[(SLOW, SLOW, 400_000)],
+    ),
     ("G0 X1\nM1\nG0 X2\nM2\n", 4, 2_000, &[(SLOW, SLOW, 400_000)]),
     (
         "G0 X1\nG0 X1.001\nG0 X2\nM2\n",
@@ -127,7 +130,11 @@ fn is_within(rt: &impl Abort, rate: u64, bounds: (u64, u64), row: &str) {
 fn keeps_limits(rt: &impl Abort, passage: &Passage, limits: &Limits, row: &str) {
     is_within(rt, passage.first, limits.0, row);
     is_within(rt, passage.last, limits.1, row);
-    assert!(rt; passage.greatest <= limits.2, "{} at {row}", passage.greatest);
+    assert!(rt;
+        passage.greatest <= limits.2,
+        "{} at {row}",
+        passage.greatest
+    );
 }
 
 fn load(controller: &mut Controller<ArcPath, Global>, count: u32) {
@@ -202,7 +209,14 @@ fn unrest_round_a_corner(rt: HostRuntime) -> Result<(), Fail> {
     }
     assert!(rt; ended);
     assert_eq!(rt; pulses, 200);
-    assert_eq!(rt; controller.position(), StepPos { x: 100, y: 100, z: 0 });
+    assert_eq!(rt;
+        controller.position(),
+        StepPos {
+            x: 100,
+            y: 100,
+            z: 0
+        }
+    );
     Ok(())
 }
 
@@ -217,6 +231,13 @@ fn a_load_behind_each_end(rt: HostRuntime) -> Result<(), Fail> {
             None => assert!(rt; false, "{k} isn't done"),
         }
     }
-    assert_eq!(rt; controller.position(), StepPos { x: 1000, y: 0, z: 0 });
+    assert_eq!(rt;
+        controller.position(),
+        StepPos {
+            x: 1000,
+            y: 0,
+            z: 0
+        }
+    );
     Ok(())
 }
