@@ -1,4 +1,4 @@
-ghost use Rattle.std.specs.Prelude.{◌≡◌, ◌≤◌, ◌+◌, int_lt, unsigned_abs};
+ghost use Rattle.std.specs.Prelude.{◌≡◌, ◌≤◌, ◌+◌, int_lt, pos, ◌*ℤ◌, unsigned_abs};
 ghost use Rattle.ngc_fixed_length.specs.Limits.{IsLength};
 ghost use Rattle.ngc_fixed_length.specs.Signed.{greater, same};
 ghost use Rattle.ngc_canned_cycles.specs.Heights.{place_before, relative as relative_to, retract_of, bottom_of, repeat_on_axis as repeat_along, repeat_place, site_of, AreLengths};
@@ -31,6 +31,14 @@ pub(crate) fn higher(a: Nm, b: Nm) -> Nm
     if is_below(a, b) { b } else { a }
 }
 
+/// A length so many times over, in nanometres.
+pub(crate) fn times(count: u64, length: Nm) -> i128
+    ensures value { result ≡ pos count *ℤ length }
+    ensures bound { unsigned_abs result ≤ 2000000000000000000000000000000 }
+{
+    i128::from(count) * i128::from(length.nanometres())
+}
+
 // A length as it stands after G90, and added to a height after G91.
 fn relative(distance: Distance, base: i128, length: Nm) -> i128
     requires { unsigned_abs base ≤ 200000000000 }
@@ -52,13 +60,10 @@ fn repeat_on_axis(distance: Distance, repeat: u32, before: Nm, given: Option<Nm>
     let before = i128::from(before.nanometres());
     match given {
         None => before,
-        Some(length) => {
-            let length = i128::from(length.nanometres());
-            match distance {
-                Distance::Absolute => length,
-                Distance::Incremental => before + i128::from(repeat) * length,
-            }
-        }
+        Some(length) => match distance {
+            Distance::Absolute => i128::from(length.nanometres()),
+            Distance::Incremental => before + times(u64::from(repeat), length),
+        },
     }
 }
 

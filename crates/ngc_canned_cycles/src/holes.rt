@@ -6,7 +6,7 @@ ghost use Rattle.ngc_canned_cycles.specs.Refusals.{bad_peck};
 ghost use Rattle.ngc_canned_cycles.specs.Moves.{approach, hole_limit};
 
 use crate::cycle::{CycleMove, Hole, Site};
-use crate::heights::{is_same, length};
+use crate::heights::{is_same, length, times};
 use crate::refusals::peck_count;
 use ngc_fixed_length::Nm;
 use smallvec::SmallVec;
@@ -49,8 +49,7 @@ impl Site {
         ensures value { result ≡ self.now.retract -ℤ (pos index *ℤ peck) }
         ensures length { IsLength self.now.retract }
     {
-        let depth = i128::from(index) * i128::from(peck.nanometres());
-        i128::from(self.retract.nanometres()) - depth
+        i128::from(self.retract.nanometres()) - times(index, peck)
     }
 
     // How deep a peck, counted from 1, goes.
