@@ -12,7 +12,7 @@ use ngc_line_reader::Letter;
 use ngc_parameters::Word;
 
 /// The words X, Y, Z of a line.
-#[derive(Clone, Copy, Debug, PartialEq, Eq)]
+#[derive(Clone, Copy, PartialEq, Eq)]
 pub struct AxisWords {
     pub x: Option<Value>,
     pub y: Option<Value>,
@@ -20,7 +20,7 @@ pub struct AxisWords {
 }
 
 /// A line's words: of each modal group its code, of each letter its value.
-#[derive(Clone, Copy, Debug, PartialEq, Eq)]
+#[derive(Clone, Copy, PartialEq, Eq)]
 pub struct Block {
     pub motion: Option<Motion>,
     pub plane: Option<Plane>,

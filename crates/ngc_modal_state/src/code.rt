@@ -33,7 +33,7 @@ pub enum Motion {
 }
 
 /// The tool length offset.
-#[derive(Clone, Copy, Debug, PartialEq, Eq)]
+#[derive(Clone, Copy, PartialEq, Eq)]
 pub enum LengthCode {
     /// G43
     Apply,
@@ -42,7 +42,7 @@ pub enum LengthCode {
 }
 
 /// How a path is followed where two motions meet.
-#[derive(Clone, Copy, Debug, PartialEq, Eq)]
+#[derive(Clone, Copy, PartialEq, Eq)]
 pub enum PathControl {
     /// G61
     ExactPath,
@@ -53,7 +53,7 @@ pub enum PathControl {
 }
 
 /// The codes that hold for their line alone.
-#[derive(Clone, Copy, Debug, PartialEq, Eq)]
+#[derive(Clone, Copy, PartialEq, Eq)]
 pub enum Once {
     /// G4
     Dwell,
@@ -76,7 +76,7 @@ pub enum Once {
 }
 
 /// What stops a program.
-#[derive(Clone, Copy, Debug, PartialEq, Eq)]
+#[derive(Clone, Copy, PartialEq, Eq)]
 pub enum Stopping {
     /// M0, M60
     Stop,
@@ -107,7 +107,7 @@ pub enum Coolant {
 }
 
 /// A G or M code. Those of one variant are a modal group.
-#[derive(Clone, Copy, Debug, PartialEq, Eq)]
+#[derive(Clone, Copy, PartialEq, Eq)]
 pub enum Code {
     Motion(Motion),
     Plane(Plane),
