@@ -20,7 +20,7 @@ pub struct AxisWords {
 }
 
 /// A line's words: of each modal group its code, of each letter its value.
-#[derive(Clone, Copy, PartialEq, Eq)]
+#[derive(Clone, Copy)]
 pub struct Block {
     pub motion: Option<Motion>,
     pub plane: Option<Plane>,

@@ -107,7 +107,7 @@ pub enum Coolant {
 }
 
 /// A G or M code. Those of one variant are a modal group.
-#[derive(Clone, Copy, PartialEq, Eq)]
+#[derive(Clone, Copy)]
 pub enum Code {
     Motion(Motion),
     Plane(Plane),
