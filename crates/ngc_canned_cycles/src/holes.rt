@@ -1,4 +1,4 @@
-ghost use Rattle.std.specs.Prelude.{◌≡◌, ◌≤◌, ◌+◌, ◌*◌, ◌++◌, ◌∷◌, [], false, unsigned_abs, pos, ◌+ℤ◌, ◌-ℤ◌, ◌*ℤ◌, ◌<ℤ◌};
+ghost use Rattle.std.specs.Prelude.{◌≡◌, ◌≤◌, ◌+◌, ◌*◌, ◌++◌, ◌∷◌, [], false, unsigned_abs, int_lt, pos, ◌+ℤ◌, ◌-ℤ◌, ◌*ℤ◌, ◌<ℤ◌};
 ghost use Rattle.smallvec.specs.SmallVec.{HasRoomFor, small_vec_len};
 ghost use Rattle.ngc_fixed_length.specs.Limits.{LENGTH_LIMIT, IsLength};
 ghost use Rattle.ngc_canned_cycles.specs.Holes.{traverse_to, feed_to, peck_count as pecks_over, peck_depth as depth_of, back_down, peck as peck_moves, pecks, hole_moves};
@@ -65,6 +65,14 @@ impl Site {
         }
     }
 
+    // Whether the tool goes back down by traverse before it feeds on.
+    fn goes_back_down(&self, depth: Nm) -> bool
+        ensures value { result ≡ int_lt (depth +ℤ pos 254000) self.now.retract }
+        ensures length { IsLength self.now.retract }
+    {
+        back_height(depth) < i128::from(self.retract.nanometres())
+    }
+
     // To 254,000 nm above the last depth, unless that is at or above R.
     fn add_way_down<A: Allocator>(&self, moves: &mut SmallVec<CycleMove, 16, A>, depth: Nm)
         requires { HasRoomFor moves.old 1 }
@@ -72,9 +80,9 @@ impl Site {
         ensures len { small_vec_len moves.new ≤ small_vec_len moves.old + 1 }
         ensures capacity { moves.new.capacity ≡ moves.old.capacity }
     {
-        let back = back_height(depth);
-        if back < i128::from(self.retract.nanometres()) {
-            add(moves, self.traverse(length(back)));
+        if self.goes_back_down(depth) {
+            let back = length(back_height(depth));
+            add(moves, self.traverse(back));
         }
     }
 
