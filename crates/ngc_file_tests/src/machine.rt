@@ -1,7 +1,7 @@
 //! What no clause of `ngc_machine` says: that calls succeed, the keys of the files, and the texts of faults.
 use linked_list_allocator::LocalHeap;
 use ngc_fixed_length::{Nm, Point3};
-use ngc_machine::{FileFault, Machine, Tool, Tools, row_machine};
+use ngc_machine::{AxisRates, FileFault, Machine, Part, Parts, Tool, Tools, row_machine};
 use std::alloc::Global;
 use std::test::Fail;
 
@@ -62,6 +62,7 @@ fn are_same(one: &Machine<Global>, other: &Machine<Global>) -> bool {
     one.step == other.step
         && one.ticks_per_second == other.ticks_per_second
         && one.max_rate == other.max_rate
+        && one.axis_rates == other.axis_rates
         && one.change == other.change
         && one.corner == other.corner
         && one.turn == other.turn
@@ -81,6 +82,21 @@ fn the_row_machine_and_its_file_are_one(rt: HostRuntime) -> Result<(), Fail> {
     assert_eq!(rt; file.step.nanometres(), 10_000);
     assert_eq!(rt; nanometres(file.low), [0, 0, -100_000_000]);
     assert_eq!(rt; nanometres(file.high), [300_000_000, 300_000_000, 0]);
+    Ok(())
+}
+
+#[test]
+fn rates_of_the_axes_are_read(rt: HostRuntime) -> Result<(), Fail> {
+    let (_, keys) = ROW_MACHINE.split_once("version = 1").ok_or("a version")?;
+    let text = format!(in rt.alloc(); "version = 2\naxis_rate = [400001, 1, 1000000]{keys}")?;
+    let machine = Machine::read(rt.alloc(), text.as_bytes())?;
+    let rates = AxisRates {
+        x: 400_001,
+        y: 1,
+        z: 1_000_000,
+    };
+    assert_eq!(rt; machine.axis_rates, rates);
+    assert_eq!(rt; machine.max_rate, 400_000);
     Ok(())
 }
 
@@ -116,7 +132,11 @@ const MACHINE_FILES: &[(u16, &str)] = &[
         0,
         "home30 = [0, 0, 0] -> home30 = [0, 0, 0]\n[[fixture]]\nlow = [0, 0, 0]\nhigh = [1, 1, 1]",
     ),
-    (261, "version = 1 -> version = 2"),
+    (
+        0,
+        "version = 1 -> version = 2\naxis_rate = [400001, 1, 1000000]",
+    ),
+    (261, "version = 1 -> version = 0|version = 1 -> version = 3"),
     (
         262,
         "step = 10000 -> step = 499|step = 10000 -> step = 50001",
@@ -124,7 +144,9 @@ const MACHINE_FILES: &[(u16, &str)] = &[
     (263, "second = 10000 -> second = 1000001"),
     (
         264,
-        "max_rate = 400000 -> max_rate = 0|turn = 1000000000 -> turn = 1000000000001",
+        "max_rate = 400000 -> max_rate = 0|turn = 1000000000 -> turn = 1000000000001|\
+         version = 1 -> version = 2\naxis_rate = [0, 1, 1]|version = 1 -> version = 2\naxis_rate = [1, 1000001, 1]|\
+         version = 1 -> version = 2\naxis_rate = [1, 1, 0]",
     ),
     (
         265,
@@ -150,6 +172,9 @@ const MACHINE_FILES: &[(u16, &str)] = &[
          home30 = [0, 0, 0] -> home30 = [0, 0, 0]\nfixture = 1|\
          home30 = [0, 0, 0] -> home30 = [0, 0, 0]\n[[fixture]]\nlow = [0, 0, 0]|\
          home30 = [0, 0, 0] -> home30 = [0, 0, 0]\n[[fixture]]\nlow = [0, 0]\nhigh = [1, 1, 1]|\
+         version = 1 -> version = 2|version = 1 -> version = 2\naxis_rate = [1, 1]|\
+         version = 1 -> version = 2\naxis_rate = [1, 1, 1, 1]|version = 1 -> version = 1\naxis_rate = [1, 1, 1]|\
+         version = 1 -> version = 3\naxis_rate = [1, 1, 1]|\
          version = 1 -> version|version = 1\nstep = 10000\n -> version = 2\n",
     ),
 ];
@@ -173,9 +198,12 @@ fn machine_files(rt: HostRuntime) -> Result<(), Fail> {
 fn tool_one() -> Result<Tool, Fail> {
     Ok(Tool {
         number: 1,
-        length: Nm::from_nanometres(20_000_000)?,
-        radius: Nm::from_nanometres(3_000_000)?,
         offset: Nm::from_nanometres(20_000_000)?,
+        bottom: Nm::from_nanometres(-20_000_000)?,
+        parts: Parts::one(Part {
+            length: Nm::from_nanometres(20_000_000)?,
+            radius: Nm::from_nanometres(3_000_000)?,
+        }),
     })
 }
 
@@ -204,7 +232,14 @@ fn tools_are_read_and_found(rt: HostRuntime) -> Result<(), Fail> {
 // number 1.
 const TOOL_TABLES: &[(u16, &str)] = &[
     (0, "version = 1"),
-    (261, "version = 2|version = 2\nONE ONE "),
+    (
+        0,
+        "version = 2|version = 1\nONE |version = 2\nTWO |version = 2\nFOUR ",
+    ),
+    (
+        261,
+        "version = 3|version = 3\nONE ONE |version = 0\nONE |version = -1",
+    ),
     (
         268,
         "version = 1\nONE ONE |\
@@ -214,14 +249,86 @@ const TOOL_TABLES: &[(u16, &str)] = &[
          version = 1\n[[tool]]\nnumber = 1\nlength = 0\nradius = 1000000001\noffset = 0\n|\
          version = 1\n[[tool]]\nnumber = 1\nlength = 0\nradius = 0\noffset = -1000000001\n",
     ),
-    (269, "version = 1\nONE name = 1\n"),
+    (
+        268,
+        "version = 2\nTWO TWO |\
+         version = 2\n[[tool]]\nnumber = 0\noffset = 0\nbottom = 0\nparts = [{ length = 0, radius = 0 }]\n|\
+         version = 2\n[[tool]]\nnumber = 1\noffset = 1000000001\nbottom = 0\nparts = [{ length = 0, radius = 0 }]\n|\
+         version = 2\n[[tool]]\nnumber = 1\noffset = 0\nbottom = 1\nparts = [{ length = 0, radius = 0 }]\n|\
+         version = 2\n[[tool]]\nnumber = 1\noffset = 0\nbottom = -1000000001\nparts = [{ length = 0, radius = 0 }]\n|\
+         version = 2\n[[tool]]\nnumber = 1\noffset = 0\nbottom = 0\nparts = [{ length = -1, radius = 0 }]\n|\
+         version = 2\n[[tool]]\nnumber = 1\noffset = 0\nbottom = 0\nparts = [{ length = 1000000001, radius = 0 }]\n|\
+         version = 2\n[[tool]]\nnumber = 1\noffset = 0\nbottom = 0\nparts = [{ length = 0, radius = -1 }]\n|\
+         version = 2\n[[tool]]\nnumber = 1\noffset = 0\nbottom = 0\nparts = [{ length = 0, radius = 0 }, { length = 0, radius = 1000000001 }]\n|\
+         version = 2\n[[tool]]\nnumber = 1\noffset = 0\nbottom = 0\nparts = []\n|\
+         version = 2\n[[tool]]\nnumber = 1\noffset = 0\nbottom = 0\nparts = [{ length = 0, radius = 0 }, { length = 0, radius = 0 }, { length = 0, radius = 0 }, { length = 0, radius = 0 }, { length = 0, radius = 0 }]\n",
+    ),
+    (
+        269,
+        "version = 1\nONE name = 1\n|\
+         version = 2\nONE |\
+         version = 1\nTWO |\
+         version = 3\nTWO |\
+         version = 2\nTWO length = 0\n|\
+         version = 1\nONE bottom = 0\n|\
+         version = 1\nONE parts = []\n|\
+         version = 2\n[[tool]]\nnumber = 1\noffset = 0\nparts = [{ length = 0, radius = 0 }]\n|\
+         version = 2\n[[tool]]\nnumber = 1\nbottom = 0\nparts = [{ length = 0, radius = 0 }]\n|\
+         version = 2\n[[tool]]\nnumber = 1\noffset = 0\nbottom = 0\n|\
+         version = 2\n[[tool]]\nnumber = 1\noffset = 0\nbottom = 0\nparts = 1\n|\
+         version = 2\n[[tool]]\nnumber = 1\noffset = 0\nbottom = 0\nparts = [1]\n|\
+         version = 2\n[[tool]]\nnumber = 1\noffset = 0\nbottom = 0\nparts = [{ length = 0 }]\n|\
+         version = 2\n[[tool]]\nnumber = 1\noffset = 0\nbottom = 1\nparts = [{ length = 0, radius = 0, name = 1 }]\n",
+    ),
 ];
+
+// The tool of number 1 in version 2.
+const TOOL_TWO: &str =
+    "[[tool]]\nnumber = 1\noffset = 20000000\nbottom = -20000000\nparts = [{ length = 20000000, radius = 3000000 }]\n";
+
+// Four parts, as large as parts may be.
+const TOOL_FOUR: &str = "[[tool]]\nnumber = 9999\noffset = 1000000000\nbottom = -1000000000\n\
+    parts = [{ length = 1000000000, radius = 1000000000 }, { length = 0, radius = 0 }, \
+    { length = 1000000000, radius = 0 }, { length = 0, radius = 1000000000 }]\n";
+
+#[test]
+fn both_versions_say_the_same(rt: HostRuntime) -> Result<(), Fail> {
+    let first = format!(in rt.alloc(); "version = 1\n{TOOL_ONE}")?;
+    let second = format!(in rt.alloc(); "version = 2\n{TOOL_TWO}")?;
+    let first = Tools::read(rt.alloc(), first.as_bytes())?;
+    let second = Tools::read(rt.alloc(), second.as_bytes())?;
+    assert_eq!(rt; first.tools(), second.tools());
+    assert_eq!(rt; second.find(1), Some(tool_one()?));
+    Ok(())
+}
+
+#[test]
+fn four_parts_are_read(rt: HostRuntime) -> Result<(), Fail> {
+    let text = format!(in rt.alloc(); "version = 2\n{TOOL_FOUR}")?;
+    let tools = Tools::read(rt.alloc(), text.as_bytes())?;
+    let tool = tools.find(9_999).ok_or("a tool")?;
+    assert_eq!(rt; tool.bottom.nanometres(), -1_000_000_000);
+    let parts = tool.parts.as_slice();
+    assert_eq!(rt; parts.len(), 4);
+    assert_eq!(rt;
+        parts.get(2).ok_or("a part")?.length.nanometres(),
+        1_000_000_000
+    );
+    assert_eq!(rt;
+        parts.get(3).ok_or("a part")?.radius.nanometres(),
+        1_000_000_000
+    );
+    Ok(())
+}
 
 #[test]
 fn tool_tables(rt: HostRuntime) -> Result<(), Fail> {
     for (number, texts) in TOOL_TABLES {
         for text in texts.split('|') {
-            let table = text.replace(rt.alloc(), "ONE ", TOOL_ONE)?;
+            let table = text
+                .replace(rt.alloc(), "ONE ", TOOL_ONE)?
+                .replace(rt.alloc(), "TWO ", TOOL_TWO)?
+                .replace(rt.alloc(), "FOUR ", TOOL_FOUR)?;
             assert_eq!(rt;
                 table_fault(rt.alloc(), table.as_bytes()),
                 *number,

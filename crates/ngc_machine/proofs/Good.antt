@@ -10,8 +10,10 @@ use Rattle.ngc_fixed_length.specs.Signed.{is_within, is_zero}
 use Rattle.ngc_machine.specs.Ranges.{PLACE_LIMIT, CORNER_LIMIT, IsFrom, IsSized, IsAtMost, IsBelow, IsOnGrid, IsTravel, IsFixture}
 use Rattle.ngc_machine.specs.Numbers.{from_to}
 use Rattle.ngc_machine.specs.Refusals.{◌>>◌, refuse_unless}
-use Rattle.ngc_machine.specs.MachineText.{MachineValues, is_sized, is_at_most, is_below, is_multiple, is_on_grid, good_travel, good_fixture, good_fixtures, machine_ranges, place_of, fixture_of, IsGood}
+use Rattle.ngc_machine.specs.MachineText.{MachineValues, is_sized, is_at_most, is_below, is_multiple, is_on_grid, is_rate, good_axis_rates, good_travel, good_fixture, good_fixtures, machine_ranges, place_of, fixture_of, AreFrom, IsGood}
+use Rattle.ngc_machine.specs.ToolText.{ToolNumbers, TableValues, good_part, good_parts, good_tool, good_tools, table_ranges, IsPartEntry, ArePartEntries, IsEntry, AreEntries}
 use Rattle.ngc_machine.specs.declared.fault.FileFault.{FileFault}
+use Rattle.ngc_machine.specs.declared.tool_contents.PartEntry.{PartEntry}
 use Rattle.ngc_machine.specs.declared.machine_contents.Coordinates.{Coordinates}
 use Rattle.ngc_machine.specs.declared.machine_contents.Corners.{Corners}
 use Rattle.ngc_machine.specs.declared.machine_contents.MachinePoints.{MachinePoints}
@@ -35,6 +37,10 @@ from : (low high z : ℤ) → from_to low high z ≡ true → IsFrom low high z
 from low high z h =
     let (l, g) = and_parts (int_le low z) (int_le z high) h in
     record { least = less _ _ l; greatest = less _ _ g }
+
+a_rate : (z : ℤ) → is_rate z ≡ true → IsFrom (pos 1) (pos 1000000) z
+unfolding is_rate
+a_rate z h = from _ _ z h
 
 three : (a b c : Bool) → (a && b && c) ≡ true → (a ≡ true) × (b ≡ true) × (c ≡ true)
 three true true true h = (refl, refl, refl)
@@ -81,6 +87,11 @@ travel step p h =
       start_on_grid = on_grid _ _ grid;
     }
 
+axis_rates : (p : Coordinates) → good_axis_rates p ≡ true → AreFrom (pos 1) (pos 1000000) p
+axis_rates p h =
+    let (x, y, z) = three (is_rate p.x) (is_rate p.y) (is_rate p.z) h in
+    record { x = a_rate _ x; y = a_rate _ y; z = a_rate _ z }
+
 a_fixture : (f : Corners) → good_fixture f ≡ true → IsFixture (fixture_of f)
 a_fixture f h =
     let (low, high, order) = three (is_sized CORNER_LIMIT f.low) (is_sized CORNER_LIMIT f.high) (is_below f.low f.high) h in
@@ -99,16 +110,18 @@ IsGood-from_ranges m h =
     let (places, h1) = passes _ _ _ h2 in
     let fixtures : good_fixtures m.fixtures ≡ true = passes_last _ _ h1 in
     let in_step = from (pos 500) (pos 50000) m.numbers.step step in
-    let (rates3, turn) = and_parts _ (from_to (pos 1) (pos 1000000000000) m.numbers.turn) rates in
-    let (max_rate, change, corner) = three (from_to (pos 1) (pos 1000000) m.numbers.max_rate) (from_to (pos 1) (pos 1000000) m.numbers.change) (from_to (pos 1) (pos 1000000) m.numbers.corner) rates3 in
+    let (rates4, axes) = and_parts _ (good_axis_rates m.axis_rates) rates in
+    let (rates3, turn) = and_parts _ (from_to (pos 1) (pos 1000000000000) m.numbers.turn) rates4 in
+    let (max_rate, change, corner) = three (is_rate m.numbers.max_rate) (is_rate m.numbers.change) (is_rate m.numbers.corner) rates3 in
     let (home28, home30, origins) = three (is_sized PLACE_LIMIT m.points.home28) (is_sized PLACE_LIMIT m.points.home30) (list_all (is_sized PLACE_LIMIT) m.origins) places in
     let (count, each) = and_parts _ (list_all good_fixture m.fixtures) fixtures in
     record {
       step = record { least = in_step.least; greatest = in_step.greatest };
-      ticks_per_second = from _ _ _ ticks;
-      max_rate = from _ _ _ max_rate;
-      change = from _ _ _ change;
-      corner = from _ _ _ corner;
+      ticks_per_second = a_rate _ ticks;
+      max_rate = a_rate _ max_rate;
+      axis_rates = axis_rates m.axis_rates axes;
+      change = a_rate _ change;
+      corner = a_rate _ corner;
       turn = from _ _ _ turn;
       travel = travel m.numbers.step m.points limits;
       home28 = sized _ _ home28;
@@ -117,3 +130,26 @@ IsGood-from_ranges m h =
       fixture_count = leb-true _ _ count;
       fixtures = each_passes _ _ a_fixture m.fixtures each;
     }
+
+a_part : (p : PartEntry) → good_part p ≡ true → IsPartEntry p
+a_part p h =
+    let (l, r) = and_parts _ _ h in
+    record { length = from _ _ _ l; radius = from _ _ _ r }
+
+some_parts : (ps : List PartEntry) → good_parts ps ≡ true → ArePartEntries ps
+some_parts ps h =
+    let (least, greatest, each) = three _ _ _ h in
+    record { least = leb-true _ _ least; greatest = leb-true _ _ greatest; each = each_passes _ _ a_part ps each }
+
+an_entry : (t : ToolNumbers) → good_tool t ≡ true → IsEntry t
+an_entry t h =
+    let (h3, parts) = and_parts _ (good_parts t.parts) h in
+    let (number, offset, bottom) = three _ _ _ h3 in
+    record { number = from _ _ _ number; offset = leb-true _ _ offset; bottom = from _ _ _ bottom; parts = some_parts t.parts parts }
+
+pub AreEntries-from_ranges : (t : TableValues) → table_ranges t ≡ Ok tt → AreEntries t.tools
+AreEntries-from_ranges t h =
+    let (_, last) = passes _ _ _ h in
+    let good : good_tools t.tools ≡ true = passes_last _ _ last in
+    let (count, each, different) = three _ _ _ good in
+    record { count = leb-true _ _ count; each = each_passes _ _ an_entry t.tools each; different = different }

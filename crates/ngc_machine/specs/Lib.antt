@@ -1,4 +1,5 @@
 pub mod Numbers
+pub mod Parts
 pub mod Faults
 pub mod Ranges
 pub mod Machine

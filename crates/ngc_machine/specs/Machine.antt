@@ -3,6 +3,7 @@ use Rattle.std.specs.Prelude.{ℕ, ℤ, pos, negsuc, List, []}
 use Rattle.std.specs.Prelude.{replicate}
 use Rattle.ngc_fixed_length.specs.Places.{zero_point}
 use Rattle.ngc_fixed_length.specs.declared.points.Point3.{Point3}
+use Rattle.ngc_machine.specs.declared.machine.AxisRates.{AxisRates}
 use Rattle.ngc_machine.specs.declared.machine.Fixture.{Fixture}
 use Rattle.ngc_machine.specs.declared.machine.Machine.{Machine}
 
@@ -10,6 +11,7 @@ pub record MachineFile : Type 0 where
   pub step : ℤ
   pub ticks_per_second : ℕ
   pub max_rate : ℕ
+  pub axis_rates : AxisRates
   pub change : ℕ
   pub corner : ℕ
   pub turn : ℕ
@@ -27,6 +29,7 @@ file_of m = record {
   step = m.step;
   ticks_per_second = m.ticks_per_second;
   max_rate = m.max_rate;
+  axis_rates = m.axis_rates;
   change = m.change;
   corner = m.corner;
   turn = m.turn;
@@ -45,6 +48,7 @@ row_machine = record {
   step = pos 10000;
   ticks_per_second = 10000;
   max_rate = 400000;
+  axis_rates = record { x = 1000000; y = 1000000; z = 1000000 };
   change = 1000;
   corner = 50000;
   turn = 1000000000;

@@ -1,12 +1,13 @@
 -- What every machine that is read holds to. Our own.
 use Rattle.ngc_fixed_length.specs.Length.{IsStep}
 use Rattle.ngc_machine.specs.Machine.{MachineFile}
-use Rattle.ngc_machine.specs.Ranges.{IsRate, IsArcBound, IsTravel, AreFixtures}
+use Rattle.ngc_machine.specs.Ranges.{IsRate, AreRates, IsArcBound, IsTravel, AreFixtures}
 
 pub record IsMachine (m : MachineFile) : Type 0 where
   pub step : IsStep m.step
   pub ticks_per_second : IsRate m.ticks_per_second
   pub max_rate : IsRate m.max_rate
+  pub axis_rates : AreRates m.axis_rates
   pub change : IsRate m.change
   pub corner : IsRate m.corner
   pub turn : IsArcBound m.turn

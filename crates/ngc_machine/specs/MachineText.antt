@@ -1,10 +1,11 @@
--- What a machine file says. Our own.
-use Rattle.std.specs.Prelude.{ℕ, ◌==◌, ◌≤◌, nat_le, ℤ, pos, unsigned_abs, int_le, int_lt, int_rem, List, [], ◌∷◌, length, map, replicate, Option, Some, None, Result, Ok, Err, Bool, ◌&&◌, codes, if◌then◌else◌}
+-- What a machine file of version 1 or 2 says. Our own.
+use Rattle.std.specs.Prelude.{ℕ, ◌==◌, ◌≤◌, nat_le, ℤ, pos, unsigned_abs, int_le, int_lt, int_rem, List, [], ◌∷◌, length, map, replicate, Option, Some, None, Result, Ok, Err, Bool, ◌&&◌, ◌||◌, codes, if◌then◌else◌}
 use Rattle.std.specs.List.{All, list_all}
 use Rattle.std.specs.Ordering.{int_eq}
 use Rattle.toml.specs.Data.{Data, array, Items, get}
 use Rattle.ngc_fixed_length.specs.Signed.{is_within, is_zero}
 use Rattle.ngc_fixed_length.specs.declared.points.Point3.{Point3}
+use Rattle.ngc_machine.specs.declared.machine.AxisRates.{AxisRates}
 use Rattle.ngc_machine.specs.declared.machine.Fixture.{Fixture}
 use Rattle.ngc_machine.specs.declared.machine_contents.Coordinates.{Coordinates}
 use Rattle.ngc_machine.specs.declared.machine_contents.Corners.{Corners}
@@ -24,18 +25,34 @@ use Rattle.ngc_machine.specs.Tree.{◌>>=◌, tree_of, known, whole_at, coordina
 
 pub record MachineValues : Type 0 where
   pub numbers : MachineNumbers
+  pub axis_rates : Coordinates
   pub points : MachinePoints
   pub origins : List Coordinates
   pub fixtures : List Corners
 
 abbrev pub values_of : MachineContents → MachineValues
-values_of c = record { numbers = c.numbers; points = c.points; origins = c.origins; fixtures = c.fixtures.items }
+values_of c = record { numbers = c.numbers; axis_rates = c.axis_rates; points = c.points; origins = c.origins; fixtures = c.fixtures.items }
 
-abbrev pub machine_keys : List (List ℕ)
-machine_keys =
+-- the keys of version 1
+abbrev pub common_keys : List (List ℕ)
+common_keys =
     codes "version" ∷ codes "step" ∷ codes "ticks_per_second" ∷ codes "max_rate" ∷ codes "change" ∷ codes "corner" ∷
     codes "turn" ∷ codes "low" ∷ codes "high" ∷ codes "start" ∷ codes "home28" ∷ codes "home30" ∷ codes "origins" ∷
     codes "fixture" ∷ []
+
+-- version 2 has rates of the axes, and no other version does
+abbrev pub has_axis_rates : ℤ → Bool
+has_axis_rates version = int_eq version (pos 2)
+
+unfoldable pub machine_keys : ℤ → List (List ℕ)
+machine_keys version = if has_axis_rates version then codes "axis_rate" ∷ common_keys else common_keys
+
+-- three numbers, which bound no rate where the version has none
+unfoldable pub machine_axis_rates : ℤ → Data → Option Coordinates
+machine_axis_rates version tree =
+    if has_axis_rates version
+    then coordinates_at (codes "axis_rate") tree
+    else Some (record { x = pos 1000000; y = pos 1000000; z = pos 1000000 })
 
 abbrev pub machine_numbers : Data → Option MachineNumbers
 machine_numbers tree = do
@@ -92,12 +109,13 @@ machine_fixtures tree = list_at corners (codes "fixture") tree
 
 abbrev pub machine_values : Data → Option MachineValues
 machine_values root = do
-  tree ← known machine_keys root
-  numbers ← machine_numbers tree
+  numbers ← machine_numbers root
+  tree ← known (machine_keys numbers.version) root
+  axis_rates ← machine_axis_rates numbers.version tree
   points ← machine_points tree
   origins ← machine_origins tree
   fixtures ← machine_fixtures tree
-  Some (record { numbers = numbers; points = points; origins = origins; fixtures = fixtures })
+  Some (record { numbers = numbers; axis_rates = axis_rates; points = points; origins = origins; fixtures = fixtures })
 
 -- ---- ranges
 
@@ -116,10 +134,19 @@ is_multiple step c = is_zero (int_rem c step)
 abbrev pub is_on_grid : ℤ → Coordinates → Bool
 is_on_grid step p = is_multiple step p.x && is_multiple step p.y && is_multiple step p.z
 
-abbrev pub good_rates : MachineNumbers → Bool
-good_rates n =
-    from_to (pos 1) (pos 1000000) n.max_rate && from_to (pos 1) (pos 1000000) n.change &&
-    from_to (pos 1) (pos 1000000) n.corner && from_to (pos 1) (pos 1000000000000) n.turn
+unfoldable pub good_version : ℤ → Bool
+good_version version = int_eq version (pos 1) || has_axis_rates version
+
+unfoldable pub is_rate : ℤ → Bool
+is_rate z = from_to (pos 1) (pos 1000000) z
+
+abbrev pub good_axis_rates : Coordinates → Bool
+good_axis_rates rates = is_rate rates.x && is_rate rates.y && is_rate rates.z
+
+abbrev pub good_rates : MachineValues → Bool
+good_rates m =
+    is_rate m.numbers.max_rate && is_rate m.numbers.change && is_rate m.numbers.corner &&
+    from_to (pos 1) (pos 1000000000000) m.numbers.turn && good_axis_rates m.axis_rates
 
 abbrev pub good_travel : ℤ → MachinePoints → Bool
 good_travel step p =
@@ -140,10 +167,10 @@ good_fixtures fixtures = nat_le (length fixtures) 256 && list_all good_fixture f
 -- the first refusal
 abbrev pub machine_ranges : MachineValues → Result (Unit {0}) FileFault
 machine_ranges m =
-    refuse_unless (int_eq m.numbers.version (pos 1)) Version >>
+    refuse_unless (good_version m.numbers.version) Version >>
     (refuse_unless (from_to (pos 500) (pos 50000) m.numbers.step) Step >>
-    (refuse_unless (from_to (pos 1) (pos 1000000) m.numbers.ticks_per_second) TicksPerSecond >>
-    (refuse_unless (good_rates m.numbers) Rates >>
+    (refuse_unless (is_rate m.numbers.ticks_per_second) TicksPerSecond >>
+    (refuse_unless (good_rates m) Rates >>
     (refuse_unless (good_travel m.numbers.step m.points) Travel >>
     (refuse_unless (good_places m) Places >>
     refuse_unless (good_fixtures m.fixtures) Fixtures)))))
@@ -153,6 +180,9 @@ machine_ranges m =
 abbrev pub place_of : Coordinates → Point3
 place_of p = record { x = p.x; y = p.y; z = p.z }
 
+abbrev pub axis_rates_of : Coordinates → AxisRates
+axis_rates_of p = record { x = unsigned_abs p.x; y = unsigned_abs p.y; z = unsigned_abs p.z }
+
 abbrev pub fixture_of : Corners → Fixture
 fixture_of f = record { low = place_of f.low; high = place_of f.high }
 
@@ -161,6 +191,7 @@ machine_from m = record {
   step = m.numbers.step;
   ticks_per_second = unsigned_abs m.numbers.ticks_per_second;
   max_rate = unsigned_abs m.numbers.max_rate;
+  axis_rates = axis_rates_of m.axis_rates;
   change = unsigned_abs m.numbers.change;
   corner = unsigned_abs m.numbers.corner;
   turn = unsigned_abs m.numbers.turn;
@@ -173,11 +204,18 @@ machine_from m = record {
   fixtures = map fixture_of m.fixtures;
 }
 
+-- each of three numbers is between two
+pub record AreFrom (low high : ℤ) (p : Coordinates) : Type 0 where
+  pub x : IsFrom low high p.x
+  pub y : IsFrom low high p.y
+  pub z : IsFrom low high p.z
+
 -- the same as facts
 pub record IsGood (m : MachineValues) : Type 0 where
   pub step : IsStep m.numbers.step
   pub ticks_per_second : IsFrom (pos 1) (pos 1000000) m.numbers.ticks_per_second
   pub max_rate : IsFrom (pos 1) (pos 1000000) m.numbers.max_rate
+  pub axis_rates : AreFrom (pos 1) (pos 1000000) m.axis_rates
   pub change : IsFrom (pos 1) (pos 1000000) m.numbers.change
   pub corner : IsFrom (pos 1) (pos 1000000) m.numbers.corner
   pub turn : IsFrom (pos 1) (pos 1000000000000) m.numbers.turn

@@ -1,8 +1,10 @@
 -- How large the numbers of a machine and of its tools may be. Our own.
-use Rattle.std.specs.Prelude.{ℕ, ◌≤◌, ℤ, pos, ◌≤ℤ◌, ◌<ℤ◌, unsigned_abs, int_rem, ◌≡◌, List, length, map}
+use Rattle.std.specs.Prelude.{ℕ, ◌≤◌, ℤ, pos, negsuc, ◌≤ℤ◌, ◌<ℤ◌, unsigned_abs, int_rem, ◌≡◌, List, length, map}
 use Rattle.std.specs.List.{All}
 use Rattle.ngc_fixed_length.specs.declared.points.Point3.{Point3}
+use Rattle.ngc_machine.specs.declared.machine.AxisRates.{AxisRates}
 use Rattle.ngc_machine.specs.declared.machine.Fixture.{Fixture}
+use Rattle.ngc_machine.specs.declared.parts.Part.{Part}
 use Rattle.ngc_machine.specs.declared.tools.Tool.{Tool}
 use Rattle.ngc_machine.specs.Numbers.{AreDifferent}
 
@@ -23,6 +25,12 @@ pub record IsFrom (low high z : ℤ) : Type 0 where
 pub record IsRate (rate : ℕ) : Type 0 where
   pub least : 1 ≤ rate
   pub greatest : rate ≤ 1000000
+
+-- a rate of each axis
+pub record AreRates (rates : AxisRates) : Type 0 where
+  pub x : IsRate rates.x
+  pub y : IsRate rates.y
+  pub z : IsRate rates.z
 
 -- the bound of rates on arcs
 pub record IsArcBound (turn : ℕ) : Type 0 where
@@ -71,14 +79,22 @@ pub record AreFixtures (fixtures : List Fixture) : Type 0 where
   pub count : length fixtures ≤ 256
   pub each : All IsFixture fixtures
 
+pub record IsPart (p : Part) : Type 0 where
+  pub length : IsFrom (pos 0) (pos 1000000000) p.length
+  pub radius : IsFrom (pos 0) (pos 1000000000) p.radius
+
+-- the parts of a tool: one to four
+pub record AreParts (parts : List Part) : Type 0 where
+  pub least : 1 ≤ length parts
+  pub greatest : length parts ≤ 4
+  pub each : All IsPart parts
+
 pub record IsTool (t : Tool) : Type 0 where
   pub number_least : 1 ≤ t.number
   pub number_greatest : t.number ≤ 9999
-  pub length_least : pos 0 ≤ℤ t.length
-  pub length_greatest : t.length ≤ℤ pos 1000000000
-  pub radius_least : pos 0 ≤ℤ t.radius
-  pub radius_greatest : t.radius ≤ℤ pos 1000000000
   pub offset_sized : unsigned_abs t.offset ≤ 1000000000
+  pub bottom : IsFrom (negsuc 999999999) (pos 0) t.bottom
+  pub parts : AreParts t.parts
 
 pub record AreTools (tools : List Tool) : Type 0 where
   pub count : length tools ≤ 1000

@@ -5,7 +5,7 @@ use thiserror::Error;
 /// Why a machine file or a tool table is refused.
 #[derive(Clone, Copy, Debug, PartialEq, Eq, Error)]
 pub enum FileFault {
-    /// 261: not 1.
+    /// 261: not 1, nor 2 where that is known.
     #[error("the version is unknown")]
     Version,
     /// 262: not 500 to 50,000 nm.
@@ -26,7 +26,7 @@ pub enum FileFault {
     /// 267: over 4*10^9 nm in size, a low corner that is not below the high one, or over 256 fixtures.
     #[error("a fixture is out of range, or there are too many")]
     Fixtures,
-    /// 268: a number out of range or given twice, or over 1,000 tools.
+    /// 268: a number out of range or given twice, a tool without parts or with over four, or over 1,000 tools.
     #[error("a tool is out of range or given twice, or there are too many")]
     Tools,
     /// 269: not a TOML document, or a key that is unknown, missing or of the wrong kind or length.

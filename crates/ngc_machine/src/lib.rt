@@ -7,6 +7,7 @@ mod machine_contents;
 mod machine_ranges;
 mod machine_reader;
 mod numbers;
+mod parts;
 mod small_mill;
 mod tool_contents;
 mod tool_ranges;
@@ -15,6 +16,7 @@ mod tools;
 mod tree;
 
 pub use fault::FileFault;
-pub use machine::{Fixture, Machine};
+pub use machine::{AxisRates, Fixture, Machine};
+pub use parts::{Part, Parts};
 pub use small_mill::row_machine;
 pub use tools::{Tool, Tools};

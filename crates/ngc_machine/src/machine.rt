@@ -1,7 +1,7 @@
 ghost use Rattle.std.specs.Prelude.{◌≡◌};
 ghost use Rattle.std.specs.List.{All};
 ghost use Rattle.ngc_fixed_length.specs.Length.{IsStep};
-ghost use Rattle.ngc_machine.specs.Ranges.{PLACE_LIMIT, IsRate, IsArcBound, IsTravel, IsSized, AreFixtures};
+ghost use Rattle.ngc_machine.specs.Ranges.{PLACE_LIMIT, IsRate, AreRates, IsArcBound, IsTravel, IsSized, AreFixtures};
 
 use ngc_fixed_length::{Nm, Point3};
 use std::alloc::{AllocError, Allocator};
@@ -13,6 +13,14 @@ pub struct Fixture {
     pub high: Point3,
 }
 
+/// The greatest rate at which each axis may take part in a motion, in millionths of a path step a tick, each 1 to 1,000,000.
+#[derive(Clone, Copy, Debug, PartialEq, Eq)]
+pub struct AxisRates {
+    pub x: u32,
+    pub y: u32,
+    pub z: u32,
+}
+
 /// A machine. Lengths are nanometres, rates millionths of a path step a tick.
 #[derive(Drop)]
 pub struct Machine<A: Allocator> {
@@ -22,6 +30,8 @@ pub struct Machine<A: Allocator> {
     pub ticks_per_second: u32,
     /// The greatest rate, 1 to 1,000,000.
     pub max_rate: u32,
+    /// The greatest rate of motions that may move an axis, for each axis, 1 to 1,000,000.
+    pub axis_rates: AxisRates,
     /// The greatest change of the rate in a tick, 1 to 1,000,000.
     pub change: u32,
     /// The greatest rate at a change of direction, 1 to 1,000,000.
@@ -45,6 +55,7 @@ pub struct Machine<A: Allocator> {
     ghost step_in_range: { IsStep step },
     ghost ticks_in_range: { IsRate ticks_per_second },
     ghost max_rate_in_range: { IsRate max_rate },
+    ghost axis_rates_in_range: { AreRates axis_rates },
     ghost change_in_range: { IsRate change },
     ghost corner_in_range: { IsRate corner },
     ghost turn_in_range: { IsArcBound turn },
@@ -78,6 +89,7 @@ impl<A: Allocator + Copy> Machine<A> {
             step: self.step,
             ticks_per_second: self.ticks_per_second,
             max_rate: self.max_rate,
+            axis_rates: self.axis_rates,
             change: self.change,
             corner: self.corner,
             turn: self.turn,

@@ -2,7 +2,7 @@ ghost use Rattle.std.specs.Prelude.{◌≡◌, IfOk, IfErr, IsSome, codes, Some,
 ghost use Rattle.toml.specs.Data.{get};
 ghost use Rattle.toml.specs.View.{view, items_view};
 ghost use Rattle.ngc_machine.specs.Tree.{has_only};
-ghost use Rattle.ngc_machine.specs.MachineText.{values_of, machine_numbers, machine_points, machine_origins, corners, machine_keys, machine_values, nine_coordinates};
+ghost use Rattle.ngc_machine.specs.MachineText.{values_of, machine_numbers, machine_points, machine_origins, has_axis_rates, machine_axis_rates, corners, machine_keys, machine_values, nine_coordinates};
 
 use crate::tree::{Entry, coordinates, coordinates_at, entries_at, has_only, whole_at};
 use std::alloc::{AllocError, Global};
@@ -49,6 +49,7 @@ pub struct MachinePoints {
 #[derive(Drop)]
 pub struct MachineContents {
     pub numbers: MachineNumbers,
+    pub axis_rates: Coordinates,
     pub points: MachinePoints,
     pub origins: [Coordinates; 9],
     pub fixtures: Vec<Corners>,
@@ -80,6 +81,29 @@ fn machine_numbers(tree: &Value) -> Option<MachineNumbers>
         corner: whole_at(tree, "corner")?,
         turn: whole_at(tree, "turn")?,
     })
+}
+
+/// Whether the version has rates of the axes.
+fn has_axis_rates(numbers: &MachineNumbers) -> bool
+    ensures { result ≡ has_axis_rates numbers.now.version }
+{
+    numbers.version == 2
+}
+
+/// The rates of the axes: those of a file of version 2, and of any other version those that bound no rate.
+#[tactic(auto, unfolding(crate::specs::MachineText::machine_axis_rates))]
+fn machine_axis_rates(numbers: &MachineNumbers, tree: &Value) -> Option<Coordinates>
+    ensures { result ≡ machine_axis_rates numbers.now.version (view tree.now) }
+{
+    if has_axis_rates(numbers) {
+        coordinates_at(tree, "axis_rate")
+    } else {
+        Some(Coordinates {
+            x: 1_000_000,
+            y: 1_000_000,
+            z: 1_000_000,
+        })
+    }
 }
 
 fn machine_points(tree: &Value) -> Option<MachinePoints>
@@ -122,28 +146,33 @@ fn machine_origins(tree: &Value) -> Option<[Coordinates; 9]>
     }
 }
 
-fn has_machine_keys(tree: &Value) -> bool
-    ensures { result ≡ has_only machine_keys (view tree.now) }
+/// The keys of version 2, of which version 1 has all but the first.
+const KEYS: [&str; 15] = [
+    "axis_rate",
+    "version",
+    "step",
+    "ticks_per_second",
+    "max_rate",
+    "change",
+    "corner",
+    "turn",
+    "low",
+    "high",
+    "start",
+    "home28",
+    "home30",
+    "origins",
+    "fixture",
+];
+
+fn has_machine_keys(numbers: &MachineNumbers, tree: &Value) -> bool
+    ensures { result ≡ has_only (machine_keys numbers.now.version) (view tree.now) }
 {
-    has_only(
-        tree,
-        &[
-            "version",
-            "step",
-            "ticks_per_second",
-            "max_rate",
-            "change",
-            "corner",
-            "turn",
-            "low",
-            "high",
-            "start",
-            "home28",
-            "home30",
-            "origins",
-            "fixture",
-        ],
-    )
+    if has_axis_rates(numbers) {
+        has_only(tree, &KEYS)
+    } else {
+        has_only(tree, &KEYS[1..])
+    }
 }
 
 impl MachineContents {
@@ -152,19 +181,23 @@ impl MachineContents {
         ensures contents { IfOk result (λ o. option_map values_of o ≡ machine_values (view tree.now)) }
         ensures memory { IfErr result (λ _. IsSome (get (codes "fixture") (view tree.now))) }
     {
-        if !has_machine_keys(tree) {
+        let Some(numbers) = machine_numbers(tree) else {
+            return Ok(None);
+        };
+        if !has_machine_keys(&numbers, tree) {
             return Ok(None);
         }
         let fixtures = entries_at(alloc, tree, "fixture")?;
         match (
-            machine_numbers(tree),
+            machine_axis_rates(&numbers, tree),
             machine_points(tree),
             machine_origins(tree),
             fixtures,
         ) {
-            (Some(numbers), Some(points), Some(origins), Some(fixtures)) => {
+            (Some(axis_rates), Some(points), Some(origins), Some(fixtures)) => {
                 Ok(Some(MachineContents {
                     numbers,
+                    axis_rates,
                     points,
                     origins,
                     fixtures,

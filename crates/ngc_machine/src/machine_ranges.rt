@@ -4,11 +4,11 @@ ghost use Rattle.std.specs.Ordering.{int_eq};
 ghost use Rattle.ngc_fixed_length.specs.Length.{IsStep};
 ghost use Rattle.ngc_machine.specs.Machine.{file_of};
 ghost use Rattle.ngc_machine.specs.Numbers.{from_to};
-ghost use Rattle.ngc_machine.specs.Ranges.{CORNER_LIMIT, IsFrom, IsRate, IsArcBound, IsSized, IsFixture, PLACE_LIMIT};
-ghost use Rattle.ngc_machine.specs.MachineText.{values_of, is_sized, is_at_most, is_below, is_multiple, is_on_grid, good_rates, good_travel, good_places, good_fixture, good_fixtures, machine_ranges, machine_from, place_of, fixture_of, IsGood};
+ghost use Rattle.ngc_machine.specs.Ranges.{CORNER_LIMIT, IsFrom, IsRate, AreRates, IsArcBound, IsSized, IsFixture, PLACE_LIMIT};
+ghost use Rattle.ngc_machine.specs.MachineText.{values_of, is_sized, is_at_most, is_below, is_multiple, is_on_grid, good_version, is_rate, good_axis_rates, good_rates, good_travel, good_places, good_fixture, good_fixtures, machine_ranges, machine_from, place_of, axis_rates_of, fixture_of, AreFrom, IsGood};
 
 use crate::fault::FileFault;
-use crate::machine::{Fixture, Machine};
+use crate::machine::{AxisRates, Fixture, Machine};
 use crate::machine_contents::{
     Coordinates, Corners, MachineContents, MachineNumbers, MachinePoints,
 };
@@ -56,10 +56,11 @@ fn is_on_grid(step: i64, point: &Coordinates) -> bool
     is_multiple(step, point.x) && is_multiple(step, point.y) && is_multiple(step, point.z)
 }
 
+#[tactic(auto, unfolding(crate::specs::MachineText::good_version))]
 fn is_version_good(numbers: &MachineNumbers) -> bool
-    ensures { result ≡ int_eq numbers.now.version (pos 1) }
+    ensures { result ≡ good_version numbers.now.version }
 {
-    numbers.version == 1
+    numbers.version == 1 || numbers.version == 2
 }
 
 fn is_step_good(numbers: &MachineNumbers) -> bool
@@ -68,19 +69,33 @@ fn is_step_good(numbers: &MachineNumbers) -> bool
     is_from_to(500, 50_000, numbers.step)
 }
 
-fn are_ticks_good(numbers: &MachineNumbers) -> bool
-    ensures { result ≡ from_to (pos 1) (pos 1000000) numbers.now.ticks_per_second }
+#[tactic(auto, unfolding(crate::specs::MachineText::is_rate))]
+fn is_rate(value: i64) -> bool
+    ensures { result ≡ is_rate value }
 {
-    is_from_to(1, 1_000_000, numbers.ticks_per_second)
+    is_from_to(1, 1_000_000, value)
 }
 
-fn are_rates_good(numbers: &MachineNumbers) -> bool
-    ensures { result ≡ good_rates numbers.now }
+fn are_ticks_good(numbers: &MachineNumbers) -> bool
+    ensures { result ≡ is_rate numbers.now.ticks_per_second }
 {
-    is_from_to(1, 1_000_000, numbers.max_rate)
-        && is_from_to(1, 1_000_000, numbers.change)
-        && is_from_to(1, 1_000_000, numbers.corner)
-        && is_from_to(1, 1_000_000_000_000, numbers.turn)
+    is_rate(numbers.ticks_per_second)
+}
+
+fn are_axis_rates_good(rates: &Coordinates) -> bool
+    ensures { result ≡ good_axis_rates rates.now }
+{
+    is_rate(rates.x) && is_rate(rates.y) && is_rate(rates.z)
+}
+
+fn are_rates_good(contents: &MachineContents) -> bool
+    ensures { result ≡ good_rates (values_of contents.now) }
+{
+    is_rate(contents.numbers.max_rate)
+        && is_rate(contents.numbers.change)
+        && is_rate(contents.numbers.corner)
+        && is_from_to(1, 1_000_000_000_000, contents.numbers.turn)
+        && are_axis_rates_good(&contents.axis_rates)
 }
 
 fn is_travel_good(numbers: &MachineNumbers, points: &MachinePoints) -> bool
@@ -143,6 +158,18 @@ fn rate(value: i64) -> u32
     ensures range { IsRate result }
 {
     value as u32
+}
+
+fn axis_rates(rates: &Coordinates) -> AxisRates
+    requires { AreFrom (pos 1) (pos 1000000) rates.now }
+    ensures value { result ≡ axis_rates_of rates.now }
+    ensures range { AreRates result }
+{
+    AxisRates {
+        x: rate(rates.x),
+        y: rate(rates.y),
+        z: rate(rates.z),
+    }
 }
 
 fn arc_bound(value: i64) -> u64
@@ -210,7 +237,7 @@ impl MachineContents {
         if !are_ticks_good(&self.numbers) {
             return Err(FileFault::TicksPerSecond);
         }
-        if !are_rates_good(&self.numbers) {
+        if !are_rates_good(self) {
             return Err(FileFault::Rates);
         }
         if !is_travel_good(&self.numbers, &self.points) {
@@ -235,6 +262,7 @@ impl MachineContents {
             step: step_length(&self.numbers),
             ticks_per_second: rate(self.numbers.ticks_per_second),
             max_rate: rate(self.numbers.max_rate),
+            axis_rates: axis_rates(&self.axis_rates),
             change: rate(self.numbers.change),
             corner: rate(self.numbers.corner),
             turn: arc_bound(self.numbers.turn),

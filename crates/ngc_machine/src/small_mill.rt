@@ -2,7 +2,7 @@ ghost use Rattle.std.specs.Prelude.{◌≡◌};
 ghost use Rattle.ngc_machine.specs.Machine.{file_of, row_machine as row_file};
 ghost use Rattle.ngc_fixed_length.specs.Places.{zero_point as zero_place};
 
-use crate::machine::Machine;
+use crate::machine::{AxisRates, Machine};
 use crate::numbers::length;
 use ngc_fixed_length::Point3;
 use std::alloc::Allocator;
@@ -32,10 +32,16 @@ pub fn row_machine<A: Allocator>(alloc: A) -> Machine<A>
         y: length(300_000_000),
         z: length(0),
     };
+    let axis_rates = AxisRates {
+        x: 1_000_000,
+        y: 1_000_000,
+        z: 1_000_000,
+    };
     Machine {
         step: length(10_000),
         ticks_per_second: 10_000,
         max_rate: 400_000,
+        axis_rates,
         change: 1_000,
         corner: 50_000,
         turn: 1_000_000_000,

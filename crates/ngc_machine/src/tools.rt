@@ -1,5 +1,6 @@
 ghost use Rattle.ngc_machine.specs.Ranges.{AreTools};
 
+use crate::parts::Parts;
 use ngc_fixed_length::Nm;
 use std::alloc::{AllocError, Allocator};
 
@@ -8,12 +9,12 @@ use std::alloc::{AllocError, Allocator};
 pub struct Tool {
     /// 1 to 9,999.
     pub number: u32,
-    /// The body below the controlled point, 0 to 10^9.
-    pub length: Nm,
-    /// 0 to 10^9.
-    pub radius: Nm,
     /// What G43 takes, -10^9 to 10^9.
     pub offset: Nm,
+    /// Where the lowest part begins, above the controlled point: -10^9 to 0.
+    pub bottom: Nm,
+    /// The body, from the bottom up.
+    pub parts: Parts,
 }
 
 /// A tool table: at most 1,000 tools, their numbers all different.

@@ -8,6 +8,7 @@ invariant_of-result c = record {
   step_in_range = rw c.step_length.ensures c.requires.step;
   ticks_in_range = c.rate.ensures.range;
   max_rate_in_range = c.rate-2.ensures.range;
+  axis_rates_in_range = c.axis_rates.ensures.range;
   change_in_range = c.rate-3.ensures.range;
   corner_in_range = c.rate-4.ensures.range;
   turn_in_range = c.arc_bound.ensures.range;

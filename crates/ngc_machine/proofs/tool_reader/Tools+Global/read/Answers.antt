@@ -1,5 +1,11 @@
+use Rattle.std.proofs.Common.{sym, ◌∙◌}
+use Rattle.ngc_machine.specs.ToolText.{values_of}
+use Rattle.ngc_machine.proofs.Good.{AreEntries-from_ranges}
 use Rattle.ngc_machine.proofs.Blank.{table-blank}
 use Rattle.ngc_machine.proofs.tool_reader.Tools+Global.read.Goals as goal
+
+pub tools-requires : goal.tools-requires
+tools-requires c = AreEntries-from_ranges (values_of c.in-Ok-Some.contents) (sym c.check.ensures ∙ c.in_ok-check.was)
 
 pub returns-in_err-check-clause-blank : goal.returns-in_err-check-clause-blank
 returns-in_err-check-clause-blank c =

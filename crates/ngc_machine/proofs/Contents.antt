@@ -1,0 +1,38 @@
+-- What stands in a machine file, part by part.
+use Rattle.std.proofs.Common.{◌≡◌, ◌∙◌, ℤ, List, ◌∷◌, true, false, cond, codes, Option, Some, None, ap, sym}
+use Rattle.toml.specs.Data.{Data}
+use Rattle.ngc_machine.specs.Tree.{◌>>=◌, known, has_only}
+use Rattle.ngc_machine.specs.MachineText.{common_keys, has_axis_rates, machine_keys, machine_numbers, machine_axis_rates, machine_points, machine_origins, machine_fixtures, machine_values}
+use Rattle.ngc_machine.specs.declared.machine_contents.Coordinates.{Coordinates}
+use Rattle.ngc_machine.specs.declared.machine_contents.Corners.{Corners}
+use Rattle.ngc_machine.specs.declared.machine_contents.MachineNumbers.{MachineNumbers}
+use Rattle.ngc_machine.specs.declared.machine_contents.MachinePoints.{MachinePoints}
+
+-- ---- which keys are known
+
+pub keys_two : (version : ℤ) → has_axis_rates version ≡ true → machine_keys version ≡ codes "axis_rate" ∷ common_keys
+unfolding machine_keys
+keys_two version h = ap (λ b. cond b (codes "axis_rate" ∷ common_keys) common_keys) h
+
+pub keys_one : (version : ℤ) → has_axis_rates version ≡ false → machine_keys version ≡ common_keys
+unfolding machine_keys
+keys_one version h = ap (λ b. cond b (codes "axis_rate" ∷ common_keys) common_keys) h
+
+-- ---- all parts are there
+
+there : {A B : Type 0} (o : Option A) (x : A) (f : A → Option B) → Some x ≡ o → (o >>= f) ≡ f x
+there (Some y) x f h = let e : y ≡ x = cc in ap f e
+there None x f h = cc
+
+pub values_read : (d : Data) (numbers : MachineNumbers) (rates : Coordinates) (points : MachinePoints) (origins : List Coordinates) (fixtures : List Corners)
+    → Some numbers ≡ machine_numbers d → has_only (machine_keys numbers.version) d ≡ true → Some rates ≡ machine_axis_rates numbers.version d
+    → Some points ≡ machine_points d → Some origins ≡ machine_origins d → Some fixtures ≡ machine_fixtures d
+    → Some (record { numbers = numbers; axis_rates = rates; points = points; origins = origins; fixtures = fixtures }) ≡ machine_values d
+values_read d numbers rates points origins fixtures n k r p o f =
+    sym (
+    there (machine_numbers d) numbers _ n
+    ∙ there (known (machine_keys numbers.version) d) d _ (sym (ap (λ b. cond b (Some d) None) k))
+    ∙ there (machine_axis_rates numbers.version d) rates _ r
+    ∙ there (machine_points d) points _ p
+    ∙ there (machine_origins d) origins _ o
+    ∙ there (machine_fixtures d) fixtures _ f)
