@@ -138,14 +138,15 @@ start_met says made = made.4
 abbrev below : MachineFile
 below = with_fixture (point (negsuc 19999999) (negsuc 9999999) (negsuc 99999999)) (point (negsuc 1999999) (pos 10000000) (negsuc 29999999))
 
-abbrev mounted : ℕ → ℤ → List Command
-mounted number length = record { line = 1; action = Mount (Some (record { number = number; length = length; radius = pos 3000000; offset = pos 0 })) } ∷ []
+abbrev mounted : ℕ → ℤ → ℤ → List Command
+mounted number bottom length =
+    record { line = 1; action = Mount (Some (record { number = number; offset = pos 0; bottom = bottom; parts = record { length = length; radius = pos 3000000 } ∷ [] })) } ∷ []
 
 -- a tool of 60 mm reaches into the fixture, one of 20 mm does not
-long_tool : (says : Result CertificateData MakeFault) → IsMade below 8 (mounted 2 (pos 60000000)) [] says → says ≡ Err (NotCleared Off 0)
+long_tool : (says : Result CertificateData MakeFault) → IsMade below 8 (mounted 2 (negsuc 59999999) (pos 60000000)) [] says → says ≡ Err (NotCleared Off 0)
 long_tool says made = made.4 ∙ ap (λ first. join_settings first made.1) made.2.2
 
-short_tool : (says : Result CertificateData MakeFault) → IsMade below 8 (mounted 1 (pos 20000000)) [] says → says ≡ Ok (record { off = []; on = [] })
+short_tool : (says : Result CertificateData MakeFault) → IsMade below 8 (mounted 1 (negsuc 19999999) (pos 20000000)) [] says → says ≡ Ok (record { off = []; on = [] })
 short_tool says made = made.4 ∙ ap₂ join_settings (made.2.2 ∙ made.2.1) made.3
 
 -- ---- numbers of pieces

@@ -1,5 +1,5 @@
 -- Each place in the derived box of a valid piece is safe.
-use Rattle.std.proofs.Common.{ℕ, suc, ◌≤◌, arith, refl, Some, None, true, ℤ, pos, negsuc, ◌*ℤ◌, ◌≤ℤ◌}
+use Rattle.std.proofs.Common.{ℕ, suc, ◌≤◌, arith, refl, Some, None, true, ℤ, pos, negsuc, ◌+ℤ◌, ◌*ℤ◌, ◌≤ℤ◌, List, [], ◌∷◌}
 use Rattle.std.specs.Prelude.{Option, IsTrue, int_le}
 use Rattle.std.specs.List.{list_all}
 use Rattle.std.proofs.lemmas.Int.{ints}
@@ -8,10 +8,11 @@ use Rattle.ngc_fixed_length.specs.declared.points.StepPos.{StepPos}
 use Rattle.ngc_fixed_length.specs.declared.points.GridBox.{GridBox}
 use Rattle.ngc_fixed_length.specs.Boxes.{IsIn, holds_box, only}
 use Rattle.ngc_machine.specs.declared.machine.Fixture.{Fixture}
+use Rattle.ngc_machine.specs.declared.parts.Part.{Part}
 use Rattle.ngc_machine.specs.declared.tools.Tool.{Tool}
 use Rattle.ngc_machine.specs.Machine.{MachineFile}
 use Rattle.ngc_canonical.specs.declared.movement.Way.{Way}
-use Rattle.ngc_collision.specs.Body.{Solid, span, filled, bodies, are_apart, clears, is_in_travel, IsSafe}
+use Rattle.ngc_collision.specs.Body.{Solid, span, filled, stacked, bodies, are_apart, clears, is_in_travel, IsSafe}
 use Rattle.ngc_certificate_text.specs.declared.piece.Piece.{Piece}
 use Rattle.ngc_certificate.specs.declared.stretch.Stretch.{Stretch}
 use Rattle.ngc_certificate.specs.DerivedBox.{derived_box}
@@ -65,8 +66,8 @@ span_within step b q p k = record {
   z_high = scale_by step q.z b.high.z p k.z_high;
 }
 
-filled_within : (t : Tool) (b c : Solid) → Within b c → Within (filled t b) (filled t c)
-filled_within t b c w = record {
+filled_within : (part : Part) (foot : ℤ) (b c : Solid) → Within b c → Within (filled part foot b) (filled part foot c)
+filled_within part foot b c w = record {
   x_low = omega (arith, ints, w.x_low);
   x_high = omega (arith, ints, w.x_high);
   y_low = omega (arith, ints, w.y_low);
@@ -90,11 +91,18 @@ apart_within f b c w =
     (or_to _ _ _ _ (test_down b.high.z f.low.z c.high.z w.z_high)
     (test_up f.high.z b.low.z c.low.z w.z_low)))))
 
+-- part by part, what is apart from the boxes over a place is apart from those over a place within it
+stacked_within : (f : Fixture) (foot : ℤ) (parts : List Part) (b c : Solid) → Within b c → IsTrue (list_all (are_apart f) (stacked foot parts b)) → IsTrue (list_all (are_apart f) (stacked foot parts c))
+stacked_within f foot [] b c w h = refl
+stacked_within f foot (part ∷ parts) b c w h =
+    let e = both (are_apart f (filled part foot b)) (list_all (are_apart f) (stacked (foot +ℤ part.length) parts b)) h in
+    and (are_apart f (filled part foot c)) (list_all (are_apart f) (stacked (foot +ℤ part.length) parts c))
+    (apart_within f (filled part foot b) (filled part foot c) (filled_within part foot b c w) e.0)
+    (stacked_within f (foot +ℤ part.length) parts b c w e.1)
+
 bodies_within : (f : Fixture) (tool : Option Tool) (b c : Solid) → Within b c → IsTrue (list_all (are_apart f) (bodies tool b)) → IsTrue (list_all (are_apart f) (bodies tool c))
 bodies_within f None b c w h = let e = both (are_apart f b) true h in and (are_apart f c) true (apart_within f b c w e.0) refl
-bodies_within f (Some t) b c w h =
-    let e = both (are_apart f (filled t b)) true h in
-    and (are_apart f (filled t c)) true (apart_within f (filled t b) (filled t c) (filled_within t b c w) e.0) refl
+bodies_within f (Some t) b c w h = stacked_within f t.bottom t.parts b c w h
 
 -- a place in a box that is within travel and clear is safe
 pub safe_in_box : (machine : MachineFile) (tool : Option Tool) (b : GridBox) (q : StepPos) → pos 1 ≤ℤ machine.step → IsIn b q →

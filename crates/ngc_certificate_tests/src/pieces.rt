@@ -7,7 +7,7 @@ use ngc_certificate::{
     place_fault,
 };
 use ngc_fixed_length::{Nm, Point2, StepPos};
-use ngc_machine::{Machine, Tool, row_machine};
+use ngc_machine::{Machine, Part, Parts, Tool, row_machine};
 use std::alloc::Global;
 use std::process::Abort;
 use std::test::Fail;
@@ -46,11 +46,15 @@ fn line(rt: &impl Abort, x: i64, y: i64) -> Way {
 }
 
 fn tool(rt: &impl Abort, reach: Option<i64>) -> Option<Tool> {
+    let reach = reach?;
     Some(Tool {
         number: 1,
-        length: length(rt, reach?),
-        radius: length(rt, 3_000_000),
         offset: Nm::zero(),
+        bottom: length(rt, 0i64.saturating_sub(reach)),
+        parts: Parts::one(Part {
+            length: length(rt, reach),
+            radius: length(rt, 3_000_000),
+        }),
     })
 }
 

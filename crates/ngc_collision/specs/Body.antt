@@ -7,6 +7,7 @@ use Rattle.ngc_fixed_length.specs.declared.points.Point3.{Point3}
 use Rattle.ngc_fixed_length.specs.declared.points.StepPos.{StepPos}
 use Rattle.ngc_machine.specs.Machine.{MachineFile}
 use Rattle.ngc_machine.specs.declared.machine.Fixture.{Fixture}
+use Rattle.ngc_machine.specs.declared.parts.Part.{Part}
 use Rattle.ngc_machine.specs.declared.tools.Tool.{Tool}
 
 -- a box in nanometres; a point is a box too
@@ -21,17 +22,23 @@ nanometres_of step p = record { x = p.x *ℤ step; y = p.y *ℤ step; z = p.z *�
 abbrev pub span : ℤ → GridBox → Solid
 span step b = record { low = nanometres_of step b.low; high = nanometres_of step b.high }
 
--- the box that a tool's body fills while its controlled point goes all over a box: the radius to each side, the length below
-abbrev pub filled : Tool → Solid → Solid
-filled tool b = record {
-  low = record { x = b.low.x -ℤ tool.radius; y = b.low.y -ℤ tool.radius; z = b.low.z -ℤ tool.length };
-  high = record { x = b.high.x +ℤ tool.radius; y = b.high.y +ℤ tool.radius; z = b.high.z };
+-- the box that a part fills, its foot so far above the controlled point, while that point goes all over a box: the radius to
+-- each side, the length above the foot
+abbrev pub filled : Part → ℤ → Solid → Solid
+filled part foot b = record {
+  low = record { x = b.low.x -ℤ part.radius; y = b.low.y -ℤ part.radius; z = b.low.z +ℤ foot };
+  high = record { x = b.high.x +ℤ part.radius; y = b.high.y +ℤ part.radius; z = b.high.z +ℤ foot +ℤ part.length };
 }
+
+-- each part stands on the one before
+abbrev pub stacked : ℤ → List Part → Solid → List Solid
+stacked foot [] b = []
+stacked foot (part ∷ parts) b = filled part foot b ∷ stacked (foot +ℤ part.length) parts b
 
 -- the boxes of a body, one for each part of the tool; without a tool the controlled point itself
 abbrev pub bodies : Option Tool → Solid → List Solid
 bodies None b = b ∷ []
-bodies (Some tool) b = filled tool b ∷ []
+bodies (Some tool) b = stacked tool.bottom tool.parts b
 
 -- on some axis one lies beyond the other; they may touch
 abbrev pub are_apart : Fixture → Solid → Bool

@@ -15,6 +15,10 @@ solid_of s = record { low = place_of s.low; high = place_of s.high }
 abbrev pub REACH : ℕ
 REACH = 107374182400000
 
+-- how far from the controlled point a part may begin
+abbrev pub FOOT_REACH : ℕ
+FOOT_REACH = 1000000000000
+
 pub record IsReached (p : Place) : Type 0 where
   pub x : unsigned_abs p.x ≤ REACH
   pub y : unsigned_abs p.y ≤ REACH

@@ -1,13 +1,15 @@
-ghost use Rattle.std.specs.Prelude.{◌≡◌, ◌∷◌, [], ◌≤◌, ◌*ℤ◌, ◌+ℤ◌, ◌-ℤ◌, unsigned_abs, int_le, ◌||◌};
+ghost use Rattle.std.specs.Prelude.{◌≡◌, ◌≤◌, ◌+◌, ◌*◌, ◌*ℤ◌, ◌+ℤ◌, ◌-ℤ◌, map, unsigned_abs, int_le, ◌||◌};
+ghost use Rattle.std.specs.List.{list_all};
 ghost use Rattle.ngc_fixed_length.specs.Length.{IsStep};
-ghost use Rattle.ngc_collision.specs.Body.{nanometres_of, bodies, span, filled, are_apart, is_below};
-ghost use Rattle.ngc_collision.specs.Inside.{place_of, solid_of, REACH, IsReached};
+ghost use Rattle.ngc_collision.specs.Body.{nanometres_of, bodies, span, filled, stacked, are_apart, is_below};
+ghost use Rattle.ngc_collision.specs.Inside.{place_of, solid_of, REACH, FOOT_REACH, IsReached};
 
+use arrayvec::ArrayVec;
 use ngc_fixed_length::{GridBox, Nm, Point3, StepPos};
-use ngc_machine::{Fixture, Tool};
+use ngc_machine::{Fixture, Part, Tool};
 
 /// A place of the machine, in nanometres.
-#[derive(Clone, Copy)]
+#[derive(Clone, Copy, Default)]
 pub(crate) struct Place {
     x: i64,
     y: i64,
@@ -15,7 +17,7 @@ pub(crate) struct Place {
 }
 
 /// A box, in nanometres.
-#[derive(Clone, Copy)]
+#[derive(Clone, Copy, Default)]
 pub(crate) struct Solid {
     low: Place,
     high: Place,
@@ -40,10 +42,29 @@ fn lowered(coordinate: i64, by: Nm) -> i64
 
 /// A coordinate so much higher.
 fn raised(coordinate: i64, by: Nm) -> i64
-    requires { unsigned_abs coordinate ≤ REACH }
+    requires { unsigned_abs coordinate ≤ 2 * REACH }
     ensures { result ≡ coordinate +ℤ by }
 {
     coordinate + by.nanometres()
+}
+
+/// Where the foot of a part stands whose height above the controlled point is this.
+fn foot_at(coordinate: i64, foot: i64) -> i64
+    requires coordinate { unsigned_abs coordinate ≤ REACH }
+    requires foot { unsigned_abs foot ≤ FOOT_REACH }
+    ensures value { result ≡ coordinate +ℤ foot }
+    ensures bound { unsigned_abs result ≤ 2 * REACH }
+{
+    coordinate + foot
+}
+
+/// Where the part on top of this one begins.
+fn top_of(part: &Part, foot: i64) -> i64
+    requires { unsigned_abs foot ≤ FOOT_REACH }
+    ensures value { result ≡ foot +ℤ part.now.length }
+    ensures bound { unsigned_abs result ≤ unsigned_abs foot + 100000000000 }
+{
+    foot + part.length.nanometres()
 }
 
 impl Place {
@@ -71,27 +92,29 @@ impl Place {
         }
     }
 
-    /// The lowest corner of a tool's body whose controlled point stands here: the radius to each side, the length below.
-    fn lowest_filled(&self, tool: &Tool) -> Place
-        requires { IsReached self.now }
-        ensures { place_of result ≡ (filled tool.now (record { low = place_of self.now; high = place_of self.now })).low }
+    /// The lowest corner of a part whose foot stands so far above the controlled point, which is here.
+    fn lowest_filled(&self, part: &Part, foot: i64) -> Place
+        requires here { IsReached self.now }
+        requires foot { unsigned_abs foot ≤ FOOT_REACH }
+        ensures { place_of result ≡ (filled part.now foot (record { low = place_of self.now; high = place_of self.now })).low }
     {
         Place {
-            x: lowered(self.x, tool.radius),
-            y: lowered(self.y, tool.radius),
-            z: lowered(self.z, tool.length),
+            x: lowered(self.x, part.radius),
+            y: lowered(self.y, part.radius),
+            z: foot_at(self.z, foot),
         }
     }
 
-    /// The highest corner of a tool's body whose controlled point stands here.
-    fn highest_filled(&self, tool: &Tool) -> Place
-        requires { IsReached self.now }
-        ensures { place_of result ≡ (filled tool.now (record { low = place_of self.now; high = place_of self.now })).high }
+    /// The highest corner of a part whose foot stands so far above the controlled point, which is here.
+    fn highest_filled(&self, part: &Part, foot: i64) -> Place
+        requires here { IsReached self.now }
+        requires foot { unsigned_abs foot ≤ FOOT_REACH }
+        ensures { place_of result ≡ (filled part.now foot (record { low = place_of self.now; high = place_of self.now })).high }
     {
         Place {
-            x: raised(self.x, tool.radius),
-            y: raised(self.y, tool.radius),
-            z: self.z,
+            x: raised(self.x, part.radius),
+            y: raised(self.y, part.radius),
+            z: raised(foot_at(self.z, foot), part.length),
         }
     }
 
@@ -117,29 +140,50 @@ impl Solid {
         }
     }
 
-    /// The box that a tool's body fills while its controlled point goes all over this one: the radius to each side, the
-    /// length below.
-    fn filled(&self, tool: &Tool) -> Solid
+    /// The box that a part fills, its foot so far above the controlled point, while that point goes all over this box: the
+    /// radius to each side, the length above the foot.
+    fn filled(&self, part: &Part, foot: i64) -> Solid
         requires low { IsReached self.now.low }
         requires high { IsReached self.now.high }
-        ensures { solid_of result ≡ filled tool.now (solid_of self.now) }
+        requires foot { unsigned_abs foot ≤ FOOT_REACH }
+        ensures { solid_of result ≡ filled part.now foot (solid_of self.now) }
     {
         Solid {
-            low: self.low.lowest_filled(tool),
-            high: self.high.highest_filled(tool),
+            low: self.low.lowest_filled(part, foot),
+            high: self.high.highest_filled(part, foot),
         }
     }
 
-    /// The box that the body of a tool, or the controlled point alone, fills while that point goes all over a box of grid
+    /// The boxes that the parts of a tool fill while its controlled point goes all over this one: each part stands on the one
+    /// before.
+    fn stacked(&self, tool: &Tool) -> ArrayVec<Solid, 4>
+        requires low { IsReached self.now.low }
+        requires high { IsReached self.now.high }
+        ensures { stacked tool.now.bottom tool.now.parts (solid_of self.now) ≡ map solid_of result.items }
+    {
+        let mut foot = tool.bottom.nanometres();
+        let mut solids = ArrayVec::new();
+        for part in tool.parts.as_slice() {
+            solids.push(self.filled(part, foot));
+            foot = top_of(part, foot);
+        }
+        solids
+    }
+
+    /// The boxes that the parts of a tool, or the controlled point alone, fill while that point goes all over a box of grid
     /// points.
-    pub(crate) fn swept(step: Nm, tool: Option<Tool>, bounds: &GridBox) -> Solid
+    pub(crate) fn swept(step: Nm, tool: Option<Tool>, bounds: &GridBox) -> ArrayVec<Solid, 4>
         requires { IsStep step }
-        ensures { bodies tool (span step bounds.now) ≡ solid_of result ∷ [] }
+        ensures { bodies tool (span step bounds.now) ≡ map solid_of result.items }
     {
         let points = Solid::spanned(step, bounds);
         match tool {
-            None => points,
-            Some(tool) => points.filled(&tool),
+            None => {
+                let mut point = ArrayVec::new();
+                point.push(points);
+                point
+            }
+            Some(tool) => points.stacked(&tool),
         }
     }
 
@@ -176,7 +220,7 @@ impl Solid {
     }
 
     /// On some axis one lies beyond the other; they may touch.
-    pub(crate) fn is_apart(&self, fixture: &Fixture) -> bool
+    fn is_apart(&self, fixture: &Fixture) -> bool
         ensures { result ≡ are_apart fixture.now (solid_of self.now) }
     {
         let fixture = Solid::of_fixture(fixture);
@@ -184,4 +228,16 @@ impl Solid {
             || self.is_before_or_behind(&fixture)
             || self.is_above_or_below(&fixture)
     }
+}
+
+/// Each of these boxes lies beyond the fixture on some axis; they may touch.
+pub(crate) fn are_apart(solids: &[Solid], fixture: &Fixture) -> bool
+    ensures { result ≡ list_all (are_apart fixture.now) (map solid_of solids.now) }
+{
+    for solid in solids {
+        if !solid.is_apart(fixture) {
+            return false;
+        }
+    }
+    true
 }

@@ -1,7 +1,7 @@
 use crate::given::{grid_box, length};
 use ngc_collision::{first_met, is_in_travel};
 use ngc_fixed_length::Nm;
-use ngc_machine::{Machine, Tool, row_machine};
+use ngc_machine::{Machine, Part, Parts, Tool, row_machine};
 use std::alloc::Global;
 use std::process::Abort;
 use std::test::Fail;
@@ -36,13 +36,20 @@ const BESIDE_A_LINE: &str = "low = [8000000, 0, -1000000]
 high = [10000000, 2000000, 1000000]
 ";
 
+fn part(rt: &impl Abort, size: (i64, i64)) -> Part {
+    Part {
+        length: length(rt, size.0),
+        radius: length(rt, size.1),
+    }
+}
+
 fn tool(rt: &impl Abort, size: Option<(i64, i64)>) -> Option<Tool> {
     let (reach, radius) = size?;
     Some(Tool {
         number: 1,
-        length: length(rt, reach),
-        radius: length(rt, radius),
         offset: Nm::zero(),
+        bottom: length(rt, 0i64.saturating_sub(reach)),
+        parts: Parts::one(part(rt, (reach, radius))),
     })
 }
 
@@ -162,6 +169,88 @@ fn bodies_and_one_fixture(rt: HostRuntime) -> Result<(), Fail> {
         let machine = machine_with(rt.alloc(), fixture)?;
         let found = first_met(&machine, tool(&rt, *size), &grid_box(*low, *high));
         assert_eq!(rt; found, *met, "{size:?} from {low:?} to {high:?}");
+    }
+    Ok(())
+}
+
+// A cutter and its holder.
+const HOLDER: (i64, &[(i64, i64)]) = (
+    -60_000_000,
+    &[(40_000_000, 1_000_000), (20_000_000, 10_000_000)],
+);
+
+// Four parts as large as parts may be.
+const LARGEST: (i64, &[(i64, i64)]) = (-1_000_000_000, &[(1_000_000_000, 1_000_000_000); 4]);
+
+static STACKED: [(
+    &str,
+    (i64, &[(i64, i64)]),
+    (i32, i32, i32),
+    (i32, i32, i32),
+    Option<u32>,
+); 8] = [
+    // The holder ends 20 mm below the controlled point: it touches a fixture that is 30 mm below zero at -10 mm.
+    (
+        BESIDE_THE_START,
+        HOLDER,
+        (0, 0, -1_000),
+        (0, 0, -1_000),
+        None,
+    ),
+    (
+        BESIDE_THE_START,
+        HOLDER,
+        (0, 0, -1_001),
+        (0, 0, -1_001),
+        Some(0),
+    ),
+    (BESIDE_THE_START, HOLDER, (0, 0, -2_000), (0, 0, 0), Some(0)),
+    // Beside it the cutter passes where the holder doesn't.
+    (BESIDE_THE_START, HOLDER, (0, 0, -900), (100, 0, -900), None),
+    (
+        BESIDE_THE_START,
+        HOLDER,
+        (800, 0, -2_000),
+        (800, 0, -2_000),
+        None,
+    ),
+    (
+        BESIDE_THE_START,
+        HOLDER,
+        (799, 0, -2_000),
+        (799, 0, -2_000),
+        Some(0),
+    ),
+    (BESIDE_THE_START, LARGEST, (0, 0, 0), (0, 0, 0), Some(0)),
+    (
+        BESIDE_THE_START,
+        LARGEST,
+        (i32::MAX, i32::MIN, i32::MAX),
+        (i32::MAX, i32::MIN, i32::MAX),
+        None,
+    ),
+];
+
+fn stacked(rt: &impl Abort, alloc: Global, body: &(i64, &[(i64, i64)])) -> Result<Tool, Fail> {
+    let mut parts = Vec::new(alloc);
+    for size in body.1 {
+        parts.push(part(rt, *size))?;
+    }
+    Ok(Tool {
+        number: 1,
+        offset: Nm::zero(),
+        bottom: length(rt, body.0),
+        parts: Parts::of(parts.as_slice()).ok_or("one to four parts")?,
+    })
+}
+
+#[test]
+fn tools_of_several_parts(rt: HostRuntime) -> Result<(), Fail> {
+    for (fixture, body, low, high, met) in &STACKED {
+        let machine = machine_with(rt.alloc(), fixture)?;
+        let tool = stacked(&rt, rt.alloc(), body)?;
+        let found = first_met(&machine, Some(tool), &grid_box(*low, *high));
+        assert_eq!(rt; found, *met, "{body:?} from {low:?} to {high:?}");
     }
     Ok(())
 }

@@ -4,6 +4,8 @@
 #[cfg(test)]
 mod arcs;
 #[cfg(test)]
+mod axes;
+#[cfg(test)]
 mod collisions;
 #[cfg(test)]
 mod cuts;
