@@ -1,5 +1,5 @@
 -- The greatest rate of a motion, and the least that it travels.
-use Rattle.std.proofs.Common.{◌≡◌, ℕ, zero, suc, ◌+◌, ◌*◌, ◌/◌, ◌^◌, ◌≤◌, ◌<◌, ◌↔◌, ◌==◌, nat_le, max, unsigned_abs, Bool, true, false, cond, arith, refl}
+use Rattle.std.proofs.Common.{◌≡◌, ℕ, zero, suc, ◌+◌, ◌*◌, ◌/◌, ◌^◌, ◌≤◌, ◌<◌, ◌↔◌, ◌==◌, nat_le, min, max, unsigned_abs, IsTrue, Bool, true, false, cond, arith, refl}
 use Rattle.std.proofs.lemmas.Bool.Decides.{nat_tests}
 use Rattle.std.proofs.lemmas.Int.{ints}
 use Rattle.std.proofs.lemmas.Nat.{mul-le}
@@ -9,6 +9,7 @@ use Rattle.ngc_fixed_length.proofs.RootLaws.{at_most, whole_root-greatest}
 use Rattle.ngc_arc_geometry.specs.Radii.{inner_radius}
 use Rattle.ngc_machine.specs.Machine.{MachineFile, file_of}
 use Rattle.ngc_machine.specs.declared.machine.Machine.{Machine}
+use Rattle.ngc_machine.specs.declared.machine.AxisRates.{AxisRates}
 use Rattle.ngc_machine.specs.MachineRanges.{IsMachine}
 use Rattle.ngc_canonical.specs.declared.command.Action.{Action}
 use Rattle.ngc_canonical.specs.declared.command.Action.TheVariants.{Move}
@@ -16,6 +17,8 @@ use Rattle.ngc_canonical.specs.declared.movement.Pace.{Pace}
 use Rattle.ngc_canonical.specs.declared.movement.Pace.TheVariants as paces
 use Rattle.ngc_canonical.specs.declared.movement.Way.{Way}
 use Rattle.ngc_canonical.specs.declared.movement.Way.TheVariants.{Line, Arc}
+use Rattle.ngc_planner.specs.Axes.{IsWithinAxes, MayMoveAxes, rate_where, least_rate, axes_of, axes_bound}
+use Rattle.ngc_planner.specs.declared.axes.Axes.{Axes}
 use Rattle.ngc_planner.specs.Caps.{MILLION, motion_cap, cap_of}
 use Rattle.ngc_planner.specs.Bounds.{MayTurnOn, MayTurn, IsGreatestBound, IsMotion, turn_rate, turn_bound, bound_of, target_at, MayTravelLeast}
 use Rattle.ngc_planner.specs.Joints.{goes_straight_on, joint_of}
@@ -71,14 +74,44 @@ turns : (m : MachineFile) (a : Action) (v : ℕ) → IsMachine m → v ≤ MILLI
 turns m (Move motion) v ranges small = turns_on m motion.way v ranges small
 turns m _ v ranges small = (λ h. tt, λ h. small)
 
+-- ---- the axes
+
+one_axis : (moves : Bool) (rate v : ℕ) → v ≤ MILLION → (v ≤ rate_where moves rate) ↔ (IsTrue moves → v ≤ rate)
+one_axis true rate v small = (λ h t. h, λ h. h refl)
+one_axis false rate v small = (λ h t. cc, λ h. small)
+
+least_of : (x y z v : ℕ) → v ≤ min x (min y z) → (v ≤ x) × ((v ≤ y) × (v ≤ z))
+least_of x y z v h = (omega arith, (omega arith, omega arith))
+
+below_least : (x y z v : ℕ) → v ≤ x → v ≤ y → v ≤ z → v ≤ min x (min y z)
+below_least x y z v a b c = omega arith
+
+within_axes : (rates : AxisRates) (axes : Axes) (v : ℕ) → v ≤ MILLION → (v ≤ least_rate rates axes) ↔ IsWithinAxes rates axes v
+within_axes rates axes v small =
+    let x = one_axis axes.x rates.x v small in
+    let y = one_axis axes.y rates.y v small in
+    let z = one_axis axes.z rates.z v small in (
+      λ less. (
+          let each = least_of (rate_where axes.x rates.x) (rate_where axes.y rates.y) (rate_where axes.z rates.z) v less in
+          record { x = x.0 each.0; y = y.0 each.1.0; z = z.0 each.1.1 }),
+      λ within. below_least (rate_where axes.x rates.x) (rate_where axes.y rates.y) (rate_where axes.z rates.z) v (x.1 within.x) (y.1 within.y) (z.1 within.z),
+    )
+
+moves_axes : (m : MachineFile) (a : Action) (v : ℕ) → v ≤ MILLION → (v ≤ axes_bound m a) ↔ MayMoveAxes m a v
+moves_axes m (Move motion) v small = within_axes m.axis_rates (axes_of m.step motion.way) v small
+moves_axes m _ v small = (λ h. tt, λ h. small)
+
 pub greatest_bound : IsGreatestBound
 greatest_bound m action n v ranges = (
   λ less. record {
     greatest = omega arith;
+    axes = (moves_axes m action v (omega (arith, ranges.max_rate.greatest))).0 (omega arith);
     feed = omega arith;
     turns = (turns m action v ranges (omega (arith, ranges.max_rate.greatest))).0 (omega arith);
   },
-  λ within. (let turned = (turns m action v ranges (omega (arith, within.greatest, ranges.max_rate.greatest))).1 within.turns in omega (arith, within.greatest, within.feed, turned)),
+  λ within. (let turned = (turns m action v ranges (omega (arith, within.greatest, ranges.max_rate.greatest))).1 within.turns in
+      let moved = (moves_axes m action v (omega (arith, within.greatest, ranges.max_rate.greatest))).1 within.axes in
+      omega (arith, within.greatest, within.feed, turned, moved)),
 )
 
 -- ---- what is travelled at least
@@ -97,6 +130,13 @@ may_turn m _ ranges = tt
 turn_some : (m : MachineFile) (a : Action) → IsMachine m → 1 ≤ turn_bound m a
 turn_some m a ranges = (turns m a 1 ranges (omega arith)).1 (may_turn m a ranges)
 
+may_move_axes : (m : MachineFile) (a : Action) → IsMachine m → MayMoveAxes m a 1
+may_move_axes m (Move motion) ranges = record { x = λ t. ranges.axis_rates.x.least; y = λ t. ranges.axis_rates.y.least; z = λ t. ranges.axis_rates.z.least }
+may_move_axes m _ ranges = tt
+
+pub axes_some : (m : MachineFile) (a : Action) → IsMachine m → 1 ≤ axes_bound m a
+axes_some m a ranges = (moves_axes m a 1 (omega arith)).1 (may_move_axes m a ranges)
+
 motion_cap_some : (w : Way) (p : Pace) (n : ℕ) (m : MachineFile) → 1 ≤ m.max_rate → 1 ≤ motion_cap w p n m
 motion_cap_some w paces.Rapid n m some = some
 motion_cap_some w (paces.Feed f) n m some = omega arith
@@ -110,7 +150,8 @@ pub bound_some : (a : Action) (n : ℕ) (m : MachineFile) → IsMachine m → Is
 bound_some a n m ranges moves =
     let cap = cap_some a n m moves ranges.max_rate.least in
     let turn = turn_some m a ranges in
-    omega (arith, ranges.max_rate.least, cap, turn)
+    let axes = axes_some m a ranges in
+    omega (arith, ranges.max_rate.least, cap, turn, axes)
 
 more_percent : (none : Bool) (cap percent : ℕ) → none ≡ (percent == 0) → 1 ≤ percent → max 1 (cap * 1 / 100) ≤ cond none 0 (max 1 (cap * percent / 100))
 more_percent true cap percent test some = absurd (grind (arith, nat_tests))
@@ -128,8 +169,9 @@ pub may_travel_least : MayTravelLeast
 may_travel_least m action next n percent ranges moves =
     let cap = cap_some action n m moves ranges.max_rate.least in
     let turn = turn_some m action ranges in
+    let axes = axes_some m action ranges in
     record {
-      some = omega (arith, ranges.change.least, ranges.corner.least, ranges.max_rate.least, turn);
+      some = omega (arith, ranges.change.least, ranges.corner.least, ranges.max_rate.least, turn, axes);
       change = omega arith;
       target = λ one. (let more = more_percent (percent == 0) (cap_of action n m) percent refl one in omega (arith, more));
       bound = omega (arith, cap);
@@ -150,6 +192,7 @@ ranges_of m = record {
   step = m.step_in_range;
   ticks_per_second = m.ticks_in_range;
   max_rate = m.max_rate_in_range;
+  axis_rates = m.axis_rates_in_range;
   change = m.change_in_range;
   corner = m.corner_in_range;
   turn = m.turn_in_range;

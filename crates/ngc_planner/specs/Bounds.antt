@@ -10,6 +10,7 @@ use Rattle.ngc_canonical.specs.declared.command.Action.TheVariants.{Move}
 use Rattle.ngc_canonical.specs.declared.movement.Motion.{Motion}
 use Rattle.ngc_canonical.specs.declared.movement.Way.{Way}
 use Rattle.ngc_canonical.specs.declared.movement.Way.TheVariants.{Line, Arc}
+use Rattle.ngc_planner.specs.Axes.{MayMoveAxes, axes_bound}
 use Rattle.ngc_planner.specs.Caps.{MILLION, cap_of}
 use Rattle.ngc_planner.specs.Joints.{joint_of}
 
@@ -25,6 +26,7 @@ MayTurn machine _ v = Unit {0}
 -- the rates of a tick that travels on a motion of n path steps
 pub record IsWithinBounds (machine : MachineFile) (action : Action) (n v : ℕ) : Type 0 where
   pub greatest : v ≤ machine.max_rate
+  pub axes : MayMoveAxes machine action v
   pub feed : v ≤ 2 * cap_of action n machine
   pub turns : MayTurn machine action v
 
@@ -40,8 +42,12 @@ abbrev pub turn_bound : MachineFile → Action → ℕ
 turn_bound machine (Move m) = turn_rate machine m.way
 turn_bound machine _ = MILLION
 
+-- the machine's greatest rate on the axes that a motion may move
+abbrev pub greatest_rate : MachineFile → Action → ℕ
+greatest_rate machine action = min machine.max_rate (axes_bound machine action)
+
 abbrev pub bound_of : MachineFile → Action → ℕ → ℕ
-bound_of machine action n = min (min machine.max_rate (2 * cap_of action n machine)) (turn_bound machine action)
+bound_of machine action n = min (min (greatest_rate machine action) (2 * cap_of action n machine)) (turn_bound machine action)
 
 -- a cap under an override in percent, at least 1 unless the override is 0
 abbrev pub overridden : ℕ → ℕ → ℕ
@@ -50,7 +56,7 @@ overridden cap percent = if percent == 0 then 0 else max 1 (cap * percent / 100)
 -- the rate that a tick of a motion of n path steps is to reach
 abbrev pub target_at : MachineFile → Action → ℕ → ℕ → ℕ
 target_at machine action n percent =
-    min (min (overridden (cap_of action n machine) percent) machine.max_rate) (turn_bound machine action)
+    min (min (overridden (cap_of action n machine) percent) (greatest_rate machine action)) (turn_bound machine action)
 
 -- the rate that a motion of n path steps has in each of its ticks at least, if its end allows it
 abbrev pub least_travel : MachineFile → Action → ℕ → ℕ

@@ -1,3 +1,4 @@
+pub mod Axes
 pub mod Braking
 pub mod Caps
 pub mod Bounds

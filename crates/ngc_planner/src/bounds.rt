@@ -1,8 +1,10 @@
 ghost use Rattle.std.specs.Prelude.{◌≡◌, ◌≤◌, ◌<◌, ◌^◌};
 ghost use Rattle.ngc_machine.specs.Machine.{file_of};
+ghost use Rattle.ngc_planner.specs.Axes.{axes_bound};
 ghost use Rattle.ngc_planner.specs.Caps.{MILLION, STEPS_LIMIT};
-ghost use Rattle.ngc_planner.specs.Bounds.{IsMotion, arc_rate, turn_rate, turn_bound, bound_of, overridden, target_at};
+ghost use Rattle.ngc_planner.specs.Bounds.{IsMotion, arc_rate, turn_rate, turn_bound, greatest_rate, bound_of, overridden, target_at};
 
+use crate::axes::axes_rate;
 use crate::caps::cap_of;
 use ngc_arc_geometry::Arc;
 use ngc_canonical::{Action, Way};
@@ -41,8 +43,26 @@ fn turn_bound<A: Allocator>(action: &Action, machine: &Machine<A>) -> u64
     }
 }
 
-/// The greatest rate of any tick on a motion of `n` path steps, at most 10^9: the machine's greatest rate, twice the feed
-/// cap, or what the turn on an arc allows. It is 0 for an action that is no motion.
+/// The least rate of the axes that a motion may move, and 1,000,000 for an action that is none.
+fn axes_bound<A: Allocator>(action: &Action, machine: &Machine<A>) -> u32
+    ensures { result ≡ axes_bound (file_of machine.now) action.now }
+{
+    match action {
+        Action::Move(motion) => axes_rate(&motion.way, machine),
+        _ => 1_000_000,
+    }
+}
+
+/// The machine's greatest rate on the axes that a motion may move.
+fn greatest_rate<A: Allocator>(action: &Action, machine: &Machine<A>) -> u32
+    ensures value { result ≡ greatest_rate (file_of machine.now) action.now }
+    ensures greatest { result ≤ MILLION }
+{
+    machine.max_rate.min(axes_bound(action, machine))
+}
+
+/// The greatest rate of any tick on a motion of `n` path steps, at most 10^9: the machine's greatest rate, that of an axis
+/// which it may move, twice the feed cap, or what the turn on an arc allows. It is 0 for an action that is no motion.
 pub fn bound_of<A: Allocator>(action: &Action, n: u64, machine: &Machine<A>) -> u64
     requires { n ≤ STEPS_LIMIT }
     ensures value { result ≡ bound_of (file_of machine.now) action.now n }
@@ -50,7 +70,7 @@ pub fn bound_of<A: Allocator>(action: &Action, n: u64, machine: &Machine<A>) -> 
     ensures greatest { result ≤ MILLION }
 {
     let twice = 2 * cap_of(action, n, machine);
-    let greatest = u128::from(machine.max_rate).min(twice) as u64;
+    let greatest = u128::from(greatest_rate(action, machine)).min(twice) as u64;
     greatest.min(turn_bound(action, machine))
 }
 
@@ -74,6 +94,6 @@ pub fn target_at<A: Allocator>(action: &Action, n: u64, percent: u8, machine: &M
     ensures greatest { result ≤ MILLION }
 {
     let wanted = overridden(cap_of(action, n, machine), percent);
-    let greatest = wanted.min(u128::from(machine.max_rate)) as u64;
+    let greatest = wanted.min(u128::from(greatest_rate(action, machine))) as u64;
     greatest.min(turn_bound(action, machine))
 }

@@ -7,4 +7,4 @@ pub returns-clause-least : goal.returns-clause-least
 returns-clause-least g c = λ moves some. (
     let least = target_some c.args.action.now c.args.n c.args.percent (file_of c.args.machine.now) (ranges_of c.args.machine.now) moves some in
     let wanted = rw c.cap_of.ensures.value at c.overridden-wanted.ensures in
-    omega (arith, least, wanted))
+    omega (arith, least, wanted, c.greatest_rate.ensures.value))
