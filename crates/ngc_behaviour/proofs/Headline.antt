@@ -12,7 +12,7 @@ use Rattle.ngc_behaviour.specs.Headline.{job_of, RunsSafely, Headline, AcceptedR
 use Rattle.ngc_behaviour.proofs.Arcs.{are_arcs}
 use Rattle.ngc_behaviour.proofs.SafePositions.{positions_safe}
 use Rattle.ngc_behaviour.proofs.RatesOfRun.{rates_of_run}
-use Rattle.ngc_behaviour.proofs.PulseRules.{pulse_rules}
+use Rattle.ngc_behaviour.proofs.AxisRules.{pulse_rules}
 use Rattle.ngc_behaviour.proofs.Way.{way_begins, way_ended}
 use Rattle.ngc_behaviour.proofs.Settings.{entries_at, setting_is_valid, setting_is_joined, setting_is_even}
 

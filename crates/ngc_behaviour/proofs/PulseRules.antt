@@ -1,21 +1,19 @@
--- The pulses of a run keep their rules.
+-- The ticks of a run walk the joined paths of its motions: each path step is a million that the travelled millionths fill.
 use Rattle.std.proofs.Common.{◌≡◌, ℕ, zero, suc, ◌+◌, ◌-◌, ◌*◌, ◌/◌, ◌<◌, ◌≤◌, inl, inr, ap, subst, sym, ◌∙◌, arith, refl, List, [], ◌∷◌, ◌++◌, length, drop, Some, None, true, false, Bool, cond, ℤ}
-use Rattle.std.specs.Prelude.{Option, MatchBool, nat_lt, nat_le, slice_get, take, count_by, unsigned_abs, ◌-ℤ◌, ◌||◌}
-use Rattle.std.proofs.lemmas.Bool.{cases_lt, cases_Bool, or_parts, or_from, or_left, or_right, ltb-false, le-ltb, false≢true}
+use Rattle.std.specs.Prelude.{Option, MatchBool, nat_lt, nat_le, slice_get, take, unsigned_abs, ◌-ℤ◌, ◌||◌}
+use Rattle.std.proofs.lemmas.Bool.{cases_lt, cases_Bool, or_parts, or_from, ltb-false, le-ltb, false≢true}
 use Rattle.std.proofs.lemmas.Bool.Decides.{nat_tests}
 use Rattle.std.proofs.lemmas.Int.{ints}
-use Rattle.std.proofs.lemmas.List.Sums.{sum_by-cons}
 use Rattle.ngc_fixed_length.specs.declared.points.StepPos.{StepPos}
 use Rattle.ngc_fixed_length.specs.declared.points.Point3.{Point3}
 use Rattle.ngc_fixed_length.specs.Grid.{grid}
 use Rattle.ngc_fixed_length.specs.LinePath.{point, IsUnitMove}
-use Rattle.ngc_machine.specs.MachineRanges.{IsMachine}
 use Rattle.ngc_canonical.specs.declared.command.Command.{Command}
 use Rattle.ngc_canonical.specs.Movement.{actions_of, ways_of, end_of, AreJoined}
 use Rattle.ngc_canonical.specs.declared.command.Action.{Action}
 use Rattle.ngc_canonical.specs.declared.command.Action.TheVariants.{Move}
 use Rattle.ngc_planner.specs.Caps.{MILLION}
-use Rattle.ngc_planner.specs.Pulses.{is_stepping, is_path_step, KeepsPulseRules}
+use Rattle.ngc_planner.specs.Pulses.{is_stepping, is_path_step}
 use Rattle.ngc_events.specs.declared.event.Event.{Event}
 use Rattle.ngc_events.specs.declared.event.Event.TheVariants.{Load, Tick, Hold, Resume, Override, StopSwitch, Start}
 use Rattle.ngc_behaviour.specs.State.{Job, Queued, State, opening, loaded, command_at, path_steps, millionths, RING}
@@ -28,14 +26,14 @@ use Rattle.ngc_behaviour.proofs.SafeRun.{RingFits, one_more}
 use Rattle.ngc_behaviour.proofs.Heads.{next_at, has_ends}
 use Rattle.ngc_behaviour.proofs.RatesOfRun.{Fits, GoesOver, after_stays, event_keeps, flows_some, goes_over, over_small, none_over}
 use Rattle.ngc_behaviour.proofs.Travel.{moved}
-use Rattle.ngc_behaviour.proofs.Windows.{ArePaced, one_window, two_windows}
+use Rattle.ngc_behaviour.proofs.Windows.{ArePaced}
 
 -- ---- path steps
 
 same_axis : (a b : ℤ) → is_stepping (b -ℤ a) ≡ false → a ≡ b
 same_axis a b h = let l : unsigned_abs (b -ℤ a) ≤ 0 = ltb-false 0 (unsigned_abs (b -ℤ a)) h in omega (arith, ints, l)
 
-still_axis : (a : ℤ) → is_stepping (a -ℤ a) ≡ false
+pub still_axis : (a : ℤ) → is_stepping (a -ℤ a) ≡ false
 still_axis a = le-ltb 0 (unsigned_abs (a -ℤ a)) (omega (arith, ints))
 
 abbrev made : ℤ → ℤ → ℤ → StepPos
@@ -114,7 +112,7 @@ pub record Advances (old new : State) : Type 0 where
   pub whole : ℕ
   pub goes_on : whole * MILLION + new.travelled ≡ old.travelled + new.rate
 
-abbrev Both : Job → State → State → Type 0
+abbrev pub Both : Job → State → State → Type 0
 Both job old new = Advances old new × WalksIn job new
 
 abbrev passes : Bool → ℕ
@@ -181,7 +179,7 @@ next_walks job done l ring over position cs at fits c g = record {
   goes_on = λ h. on_next job l ring over position cs c.0 c.1 fits c.2 g h;
 }
 
-head_path : (job : Job) (l : Queued) (ls : List Queued) (left : List Command) (place : Point3) (travelled : ℕ) (position : StepPos) →
+pub head_path : (job : Job) (l : Queued) (ls : List Queued) (left : List Command) (place : Point3) (travelled : ℕ) (position : StepPos) →
     AreJoined place (ways_of (actions_of left)) → RingFits job left (l ∷ ls) → 0 < path_steps l → (travelled ≡ 0 → position ≡ grid job.machine.step place) →
     (0 < travelled → position ≡ point l.path (travelled / MILLION)) → position ≡ point l.path (travelled / MILLION)
 head_path job l ls [] place travelled position joined fits p begins goes_on = absurd fits
@@ -287,7 +285,7 @@ head_both job l ls old o new e f small walks t =
       ]
     ]
 
-tick_both : (job : Job) (stopped : Bool) (ring : List Queued) (old : State) (o : Outcome) (new : State) → old.ring ≡ ring → Fits ring old.travelled → new.rate ≤ MILLION →
+pub tick_both : (job : Job) (stopped : Bool) (ring : List Queued) (old : State) (o : Outcome) (new : State) → old.ring ≡ ring → Fits ring old.travelled → new.rate ≤ MILLION →
     WalksIn job old → TickBy job stopped ring old o new → Both job old new
 tick_both job true ring old o new e f small walks t = rest_both job old new walks t.stands
 tick_both job false [] old o new e f small walks t = rest_both job old new walks t.stands
@@ -322,16 +320,16 @@ load_walks job old (Some c) o new e walks t =
 -- ---- runs
 
 -- the bounds on a tick's rate
-rate_bounds : (job : Job) (ring : List Queued) (old : State) (v : ℕ) → TickKeeps job ring old v → (v ≤ job.machine.max_rate) × (v ≤ old.rate + job.machine.change) × (old.rate ≤ v + job.machine.change)
+pub rate_bounds : (job : Job) (ring : List Queued) (old : State) (v : ℕ) → TickKeeps job ring old v → (v ≤ job.machine.max_rate) × (v ≤ old.rate + job.machine.change) × (old.rate ≤ v + job.machine.change)
 rate_bounds job [] old v k = let z = k.0 in let s = k.1 in (omega (arith, z), omega (arith, z), omega (arith, s))
 rate_bounds job (l ∷ ls) old v k = (k.within.greatest, k.faster, k.slower)
 
 -- the rates at which a list of ticks goes on from a state
-abbrev Goes : Job → ℕ → State → List StepPos → Type 0
-Goes job q s ticks = (vs : List ℕ) × ArePaced is_path_step job.machine.change job.machine.max_rate (q * MILLION + s.travelled) s.rate vs ticks
+abbrev pub Goes : Job → ℕ → State → List StepPos → Type 0
+Goes job q s ticks = (vs : List ℕ) × ArePaced is_path_step job.machine.change (q * MILLION + s.travelled) s.rate vs ticks
 
 -- an event that is no tick
-abbrev Waits : Job → State → State → Type 0
+abbrev pub Waits : Job → State → State → Type 0
 Waits job old new = WalksIn job new × (new.travelled ≡ old.travelled) × (new.rate ≡ old.rate)
 
 load_waits : (job : Job) (old : State) (next : Option Command) (o : Outcome) (new : State) → LoadCommand job old next o new → (new.travelled ≡ old.travelled) × (new.rate ≡ old.rate)
@@ -345,11 +343,11 @@ load_waits job old (Some c) o new t =
 goes_on_from : (job : Job) (q : ℕ) (old new : State) (ticks : List StepPos) → Waits job old new → Goes job q new ticks → Goes job q old ticks
 goes_on_from job q old new ticks w g = (
   g.0,
-  subst (λ t. ArePaced is_path_step job.machine.change job.machine.max_rate (q * MILLION + t) old.rate g.0 ticks) w.1
-      (subst (λ r. ArePaced is_path_step job.machine.change job.machine.max_rate (q * MILLION + new.travelled) r g.0 ticks) w.2 g.1),
+  subst (λ t. ArePaced is_path_step job.machine.change (q * MILLION + t) old.rate g.0 ticks) w.1
+      (subst (λ r. ArePaced is_path_step job.machine.change (q * MILLION + new.travelled) r g.0 ticks) w.2 g.1),
 )
 
-waits : (job : Job) (old : State) (e : Event) (o : Outcome) (new : State) → is_tick e ≡ false → WalksIn job old → Step job old e o new → Waits job old new
+pub waits : (job : Job) (old : State) (e : Event) (o : Outcome) (new : State) → is_tick e ≡ false → WalksIn job old → Step job old e o new → Waits job old new
 waits job old Tick o new n walks t = absurd (false≢true (sym n))
 waits job old Load o new n walks t =
     let w = load_waits job old (command_at job (loaded old)) o new t in
@@ -363,7 +361,7 @@ waits job old (Override n) o new z walks t = elim (match_with (nat_le n 200) _ _
   | inr u ↦ subst (Waits job old) (sym u.1.1) (walks, refl, refl)
 ]
 
-run_goes : (job : Job) (q : ℕ) (old : State) (es : List Event) (os : List Outcome) (states : List State) → job.machine.max_rate ≤ MILLION → Fits old.ring old.travelled →
+pub run_goes : (job : Job) (q : ℕ) (old : State) (es : List Event) (os : List Outcome) (states : List State) → job.machine.max_rate ≤ MILLION → Fits old.ring old.travelled →
     WalksIn job old → Run job old es os states → Goes job q old (pulses old.position es states)
 run_goes job q old [] os states m f w r = ([], tt)
 run_goes job q old (e ∷ es) os [] m f w r = ([], tt)
@@ -377,8 +375,8 @@ run_goes job q old (Tick ∷ es) (o ∷ os) (new ∷ states) m f w r =
     let s : (q + t.0.whole) * MILLION + new.travelled ≡ q * MILLION + old.travelled + new.rate = omega (arith, g) in (
       new.rate ∷ i.0,
       (
-        record { most = b.0; faster = b.1; slower = b.2; counts = omega (arith, c) },
-        subst (λ x. ArePaced is_path_step job.machine.change job.machine.max_rate x new.rate i.0 (pulses new.position es states)) s i.1,
+        record { faster = b.1; slower = b.2; counts = omega (arith, c) },
+        subst (λ x. ArePaced is_path_step job.machine.change x new.rate i.0 (pulses new.position es states)) s i.1,
       ),
     )
 run_goes job q old (Load ∷ es) (o ∷ os) (new ∷ states) m f w r =
@@ -400,7 +398,7 @@ run_goes job q old (Override p ∷ es) (o ∷ os) (new ∷ states) m f w r =
     let n = waits job old (Override p) o new refl w r.0 in let k = event_keeps job old (Override p) o new m f r.0 in
     goes_on_from job q old new (pulses new.position es states) n (run_goes job q new es os states m k.1 n.0 r.1)
 
-opening_walks : (job : Job) → AreJoined job.machine.start (ways_of (actions_of job.commands)) → WalksIn job (opening job.machine)
+pub opening_walks : (job : Job) → AreJoined job.machine.start (ways_of (actions_of job.commands)) → WalksIn job (opening job.machine)
 opening_walks job joined = record {
   left = job.commands;
   place = job.machine.start;
@@ -410,40 +408,3 @@ opening_walks job joined = record {
   begins = λ e. refl;
   goes_on = λ h. absurd (omega (arith, h));
 }
-
--- ---- the rules
-
-fewer : (test : StepPos → Bool) → ((p : StepPos) → test p ≡ true → is_path_step p ≡ true) → (ps : List StepPos) → count_by test ps ≤ count_by is_path_step ps
-fewer test f [] = omega arith
-fewer test f (p ∷ ps) =
-    let i = fewer test f ps in
-    let a = sum_by-cons (λ q. cond (test q) 1 0) p ps in let b = sum_by-cons (λ q. cond (is_path_step q) 1 0) p ps in
-    let one : passes (test p) ≤ passes (is_path_step p) = at_most (test p) (is_path_step p) (f p) in
-    omega (arith, i, a, b, one)
-  where
-    at_most : (b c : Bool) → (b ≡ true → c ≡ true) → passes b ≤ passes c
-    at_most true true h = omega arith
-    at_most true false h = absurd (false≢true (h refl))
-    at_most false true h = omega arith
-    at_most false false h = omega arith
-
-pub pulse_rules : (job : Job) → IsMachine job.machine → AreJoined job.machine.start (ways_of (actions_of job.commands)) → (es : List Event) (os : List Outcome) (states : List State) →
-    Run job (opening job.machine) es os states → KeepsPulseRules job.machine (pulses (grid job.machine.step job.machine.start) es states)
-pulse_rules job machine joined es os states r =
-    let ticks : List StepPos = pulses (grid job.machine.step job.machine.start) es states in
-    let a = job.machine.change in let m = job.machine.max_rate in
-    let g = run_goes job 0 (opening job.machine) es os states machine.max_rate.greatest refl (opening_walks job joined) r in
-    let one = one_window is_path_step a m (0 * MILLION + 0) 0 g.0 ticks g.1 in
-    let two = two_windows is_path_step a m (0 * MILLION + 0) 0 g.0 ticks g.1 in
-    record {
-      x = λ i n l. let f = fewer (λ p. is_stepping p.x) (λ p h. or_left (is_stepping p.x) (is_stepping p.y || is_stepping p.z) h) (take n (drop i ticks)) in
-          let b = one i n in omega (arith, f, b);
-      y = λ i n l. let f = fewer (λ p. is_stepping p.y)
-          (λ p h. or_right (is_stepping p.x) (is_stepping p.y || is_stepping p.z) (or_left (is_stepping p.y) (is_stepping p.z) h)) (take n (drop i ticks)) in
-          let b = one i n in omega (arith, f, b);
-      z = λ i n l. let f = fewer (λ p. is_stepping p.z)
-          (λ p h. or_right (is_stepping p.x) (is_stepping p.y || is_stepping p.z) (or_right (is_stepping p.y) (is_stepping p.z) h)) (take n (drop i ticks)) in
-          let b = one i n in omega (arith, f, b);
-      faster = λ i n l. (two i n l).0;
-      slower = λ i n l. (two i n l).1;
-    }

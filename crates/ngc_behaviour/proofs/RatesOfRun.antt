@@ -10,6 +10,7 @@ use Rattle.ngc_canonical.specs.declared.movement.Way.{Way}
 use Rattle.ngc_canonical.specs.declared.movement.Way.TheVariants.{Line, Arc}
 use Rattle.ngc_canonical.specs.declared.command.Action.{Action}
 use Rattle.ngc_canonical.specs.declared.command.Action.TheVariants.{Move}
+use Rattle.ngc_planner.specs.Axes.{MayMoveAxes}
 use Rattle.ngc_planner.specs.Caps.{MILLION}
 use Rattle.ngc_planner.specs.Bounds.{MayTurnOn, MayTurn}
 use Rattle.ngc_events.specs.declared.event.Event.{Event}
@@ -41,11 +42,15 @@ still : (machine : MachineFile) (a : Action) → MayTurn machine a 0
 still machine (Move m) = still_on machine m.way
 still machine _ = tt
 
+still_axes : (machine : MachineFile) (a : Action) → MayMoveAxes machine a 0
+still_axes machine (Move m) = record { x = λ h. omega arith; y = λ h. omega arith; z = λ h. omega arith }
+still_axes machine _ = tt
+
 resting : (job : Job) (l : Queued) (ls : List Queued) (s : State) → s.rate ≤ job.machine.change → s.travelled ≤ millionths l - 1 → KeepsRateRules job l ls s 0
 resting job l ls s slow f = record {
   faster = omega arith;
   slower = omega (arith, slow);
-  within = record { greatest = omega arith; feed = omega arith; turns = still job.machine l.command.action };
+  within = record { greatest = omega arith; axes = still_axes job.machine l.command.action; feed = omega arith; turns = still job.machine l.command.action };
   enters = λ e. omega arith;
   leaves = λ h. omega arith;
   goes_on = λ h. absurd (omega (arith, h, f));
