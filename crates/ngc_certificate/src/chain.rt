@@ -1,11 +1,11 @@
 ghost use Rattle.std.specs.Prelude.{◌≡◌, ℤ};
 ghost use Rattle.ngc_canonical.specs.declared.movement.Way.TheVariants as ways;
 ghost use Rattle.ngc_certificate.specs.Chain.{first_cut as first_cut_of, part_of, place_of, line_follows as line_goes_on, arc_follows as arc_goes_on, follows as goes_on};
-ghost use Rattle.ngc_certificate.specs.Shared.{cut_arc as cut_arc_of, IsShared};
+ghost use Rattle.ngc_certificate.specs.Shared.{shared_of};
 
 use crate::shared::Shared;
 use crate::stretch::Stretch;
-use ngc_arc_geometry::{Arc, GridArc};
+use ngc_arc_geometry::Arc;
 use ngc_canonical::Way;
 use ngc_certificate_text::Cut;
 use ngc_fixed_length::Point2;
@@ -51,18 +51,20 @@ fn line_follows(last: bool, from: u32, to: u32) -> bool
 }
 
 /// An arc in one piece ends where the arc does; one in several goes round by its cuts.
-fn arc_follows(arc: &Arc, cut_arc: &Option<GridArc>, stretch: &Stretch, place: &Point2) -> bool
-    ensures { (step : ℤ) → cut_arc.now ≡ cut_arc_of step (ways.Arc arc.now) stretch.now.several → result ≡ arc_goes_on step arc.now stretch.now place.now }
+fn arc_follows(arc: &Arc, shared: &Shared, stretch: &Stretch, place: &Point2) -> bool
+    ensures { (step : ℤ) → shared.now ≡ shared_of step (ways.Arc arc.now) stretch.now.several → result ≡ arc_goes_on step arc.now stretch.now place.now }
 {
-    match cut_arc {
-        Some(cut_arc) => cut_arc.cut_follows(stretch.last, &place_of(arc, &stretch.begin), place),
-        None => arc.ends_at(place),
+    match shared {
+        Shared::Cut(cut_arc) => {
+            cut_arc.cut_follows(stretch.last, &place_of(arc, &stretch.begin), place)
+        }
+        Shared::Whole(_) => arc.ends_at(place),
     }
 }
 
 /// The piece that ends at a cut is of the motion's kind, and follows the one before it.
 pub(crate) fn follows(way: &Way, shared: &Shared, stretch: &Stretch, cut: &Cut) -> bool
-    ensures { (step : ℤ) → IsShared step way.now stretch.now.several shared.now → result ≡ goes_on step way.now stretch.now cut.now }
+    ensures { (step : ℤ) → shared.now ≡ shared_of step way.now stretch.now.several → result ≡ goes_on step way.now stretch.now cut.now }
 {
     match (way, cut) {
         (Way::Line { .. }, Cut::Part(part)) => line_follows(
@@ -70,7 +72,7 @@ pub(crate) fn follows(way: &Way, shared: &Shared, stretch: &Stretch, cut: &Cut) 
             part_of(&stretch.begin),
             *part,
         ),
-        (Way::Arc(arc), Cut::Place(place)) => arc_follows(arc, &shared.cut_arc, stretch, place),
+        (Way::Arc(arc), Cut::Place(place)) => arc_follows(arc, shared, stretch, place),
         (Way::Line { .. }, Cut::Place(_)) | (Way::Arc(_), Cut::Part(_)) => false,
     }
 }

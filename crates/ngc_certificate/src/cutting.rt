@@ -6,6 +6,7 @@ ghost use Rattle.ngc_certificate_text.specs.Certificate.{good_cut, good_piece};
 
 use crate::chain::place_of;
 use crate::furthest::{Band, Begin};
+use crate::limits::Block;
 use crate::quadrant::{Quadrant, Spot};
 use ngc_arc_geometry::{Arc, GridArc};
 use ngc_certificate_text::{Cut, Piece};
@@ -68,14 +69,17 @@ impl<A: Allocator> Cutter<'_, A> {
     fn furthest(&self, point: &Point2) -> Option<Point2> {
         let quadrant = Quadrant::ahead_of(self.arc, point);
         let spot = quadrant.spot_of(point)?;
+        let least = Block::of_grid(self.machine.step, &self.on_grid.cut_box(point, point));
         let begin = Begin {
             machine: self.machine,
             tool: self.tool,
             arc: &self.on_grid,
+            plane: self.arc.plane(),
             band: self.band,
             quadrant,
             point: *point,
             spot,
+            least: quadrant.sight_of(self.arc.plane(), &least),
         };
         begin.furthest(&self.stop_ahead(&quadrant, &spot))
     }

@@ -1,4 +1,4 @@
-ghost use Rattle.std.specs.Prelude.{◌≡◌, ℤ, FitsSigned};
+ghost use Rattle.std.specs.Prelude.{◌≡◌, FitsSigned};
 ghost use Rattle.ngc_canonical.specs.declared.movement.Way.TheVariants as ways;
 ghost use Rattle.std.specs.Int.{w32, int_max, int_min};
 ghost use Rattle.ngc_fixed_length.specs.Grid.{grid};
@@ -7,7 +7,7 @@ ghost use Rattle.ngc_fixed_length.specs.Boxes.{box_of, common_box, holds_box, le
 ghost use Rattle.ngc_certificate.specs.Chain.{place_of as place_of_cut};
 ghost use Rattle.ngc_certificate.specs.DerivedBox.{low_between, high_between, line_box as box_of_line, arc_box as box_of_arc, derived_box as box_derived};
 ghost use Rattle.ngc_certificate.specs.Inside.{IsOnLine, IsNarrow, box_grown, corner_of, bounds_of, whole_box as box_of_whole};
-ghost use Rattle.ngc_certificate.specs.Shared.{IsShared};
+ghost use Rattle.ngc_certificate.specs.Shared.{shared_of};
 
 use crate::bounds::{Bounds, Corner};
 use crate::chain::place_of;
@@ -129,29 +129,40 @@ fn covers_line(
 }
 
 /// A box of grid points holds the piece of an arc that it is given for.
-fn covers_arc(shared: &Shared, arc: &Arc, stretch: &Stretch, end: &Cut, outer: &GridBox) -> bool
-    ensures { (step : ℤ) → IsShared step (ways.Arc arc.now) stretch.now.several shared.now → result ≡ holds_box outer.now (box_of_arc step arc.now stretch.now (place_of_cut arc.now end.now)) }
+fn covers_arc(
+    step: Nm,
+    arc: &Arc,
+    shared: &Shared,
+    stretch: &Stretch,
+    end: &Cut,
+    outer: &GridBox,
+) -> bool
+    requires step { IsStep step }
+    requires shared { shared.now ≡ shared_of step (ways.Arc arc.now) stretch.now.several }
+    ensures { result ≡ holds_box outer.now (box_of_arc step arc.now stretch.now (place_of_cut arc.now end.now)) }
 {
-    match &shared.cut_arc {
-        Some(cut_arc) if cut_arc.is_large() => {
+    match shared {
+        Shared::Cut(cut_arc) if cut_arc.is_large() => {
             let begin = place_of(arc, &stretch.begin);
             outer.holds(&cut_arc.cut_box(&begin, &place_of(arc, end)))
         }
-        Some(_) | None => outer.holds(&shared.whole),
+        Shared::Cut(_) => outer.holds(&arc.swept_box(step)),
+        Shared::Whole(whole) => outer.holds(whole),
     }
 }
 
 /// A piece's box holds the box that it needs at least.
 pub(crate) fn covers(step: Nm, way: &Way, shared: &Shared, stretch: &Stretch, piece: &Piece) -> bool
     requires step { IsStep step }
-    requires shared { IsShared step way.now stretch.now.several shared.now }
+    requires shared { shared.now ≡ shared_of step way.now stretch.now.several }
     ensures { result ≡ holds_box piece.now.bounds (box_derived step way.now stretch.now piece.now.end) }
 {
-    match way {
-        Way::Line { start, end } => {
+    match (way, shared) {
+        (Way::Line { start, end }, Shared::Whole(whole)) => {
             let cuts = Cuts::of(&stretch.begin, &piece.end);
-            covers_line(step, start, end, &cuts, &shared.whole, &piece.bounds)
+            covers_line(step, start, end, &cuts, whole, &piece.bounds)
         }
-        Way::Arc(arc) => covers_arc(shared, arc, stretch, &piece.end, &piece.bounds),
+        (Way::Line { .. }, Shared::Cut(_)) => unreachable!(),
+        (Way::Arc(arc), _) => covers_arc(step, arc, shared, stretch, &piece.end, &piece.bounds),
     }
 }

@@ -1,42 +1,40 @@
 //! How far a piece of an arc may go.
-ghost use Rattle.std.specs.Prelude.{◌≡◌, ◌≤◌};
+ghost use Rattle.std.specs.Prelude.{◌+◌, ◌≤◌, unsigned_abs};
+ghost use Rattle.ngc_fixed_length.specs.Length.{IsStep};
 
-use crate::quadrant::{Quadrant, Spot};
+use crate::limits::Block;
+use crate::quadrant::{Quadrant, Sight, Spot};
 use ngc_arc_geometry::{Arc, GridArc};
 use ngc_collision::{first_met, is_in_travel};
-use ngc_fixed_length::{Point2, root_ceil, root_floor};
-use ngc_machine::{Machine, Tool};
+use ngc_fixed_length::{Nm, Plane, Point2, root_ceil, root_floor};
+use ngc_machine::{Fixture, Machine, Part, Tool};
 use std::alloc::Allocator;
 
-/// So many halvings bring any two distances within 125 nm.
-const MOST_HALVINGS: u32 = 32;
+/// Farther along an axis than anything lies, in nanometres.
+const FAR: i64 = 1_000_000_000_000_000;
 
-/// Half way between two distances.
-fn middle(x: u64, y: u64) -> u64
-    requires x { x ≤ 200000000000 }
-    requires y { y ≤ 200000000000 }
-    ensures { result ≤ 200000000000 }
-{
-    (x + y) / 2
-}
-
-/// How far from the centre cuts may lie, and where stops do.
+/// How far from the centre cuts may lie, and how far the boxes of pieces reach beyond their cuts.
 #[derive(Clone, Copy)]
 pub(crate) struct Band {
     pub(crate) inner: u64,
     pub(crate) outer: u64,
+    margin: u64,
     ghost inner_in_range: { inner ≤ 200000000000 },
     ghost outer_in_range: { outer ≤ 200000000000 },
+    ghost margin_in_range: { margin ≤ 200000000000 },
 }
 
 impl Band {
-    /// From a step below the inner radius to a step above the outer one.
+    /// From a step below the inner radius to a step above the outer one; the margin is two steps and what lies between the
+    /// radii.
     pub(crate) fn of(arc: &Arc, step: u64) -> Band
         requires { step ≤ 50000 }
     {
+        let (inner, outer) = (arc.inner_radius(), arc.outer_radius());
         Band {
-            inner: arc.inner_radius().saturating_sub(step),
-            outer: arc.outer_radius() + step,
+            inner: inner.saturating_sub(step),
+            outer: outer + step,
+            margin: 2 * step + outer.saturating_sub(inner),
         }
     }
 
@@ -59,11 +57,62 @@ impl Band {
     }
 }
 
+/// The first coordinate after the greatest multiple of the step that lies below a coordinate. The sides of boxes are multiples,
+/// and one that is found for a coordinate from there on doesn't lie below the given one.
+fn after_multiple_below(step: Nm, coordinate: i64) -> i64
+    requires step { IsStep step }
+    requires coordinate { unsigned_abs coordinate ≤ 200000000000000 }
+    ensures { unsigned_abs result ≤ 200000000100001 }
+{
+    let step = step.nanometres();
+    coordinate + (-coordinate).rem_euclid(step) - step + 1
+}
+
+/// Where the part on top of this one begins.
+fn top_of(part: &Part, foot: i64) -> i64
+    requires { unsigned_abs foot ≤ 500000000000 }
+    ensures { unsigned_abs result ≤ unsigned_abs foot + 100000000000 }
+{
+    foot + part.length.nanometres()
+}
+
 fn square(x: u64) -> u128
-    requires { x ≤ 200000000000 }
-    ensures { result ≤ 40000000000000000000000 }
+    requires { x ≤ 2000000000000000 }
+    ensures { result ≤ 4000000000000000000000000000000 }
 {
     u128::from(x) * u128::from(x)
+}
+
+/// A piece is stopped where its end lies both nearer along x than here, and farther along y.
+#[derive(Clone, Copy)]
+struct Limit {
+    x: i64,
+    y: i64,
+    ghost x_in_range: { unsigned_abs x ≤ 1000000000000000 },
+    ghost y_in_range: { unsigned_abs y ≤ 1000000000000000 },
+}
+
+impl Limit {
+    /// The square of the least x that the inside of a band may come to, from a spot on and before a stop.
+    fn nearest(&self, band: &Band, from: &Spot, stop: &Spot) -> u128
+        ensures { result ≤ 4000000000000000000000000000000 }
+    {
+        if self.x <= 0 || stop.y as i64 <= self.y {
+            return 0;
+        }
+        let nearest = square(self.x.unsigned_abs());
+        if self.y < from.y as i64 {
+            return nearest;
+        }
+        nearest.min(square(band.inner).saturating_sub(square(self.y.unsigned_abs())))
+    }
+
+    /// The greatest y that a piece may come to at x.
+    fn highest(&self, x: u64) -> i64
+        requires { x ≤ 200000000000 }
+    {
+        if (x as i64) < self.x { self.y } else { FAR }
+    }
 }
 
 /// Where a piece of an arc begins, in a quadrant.
@@ -72,10 +121,13 @@ pub(crate) struct Begin<'a, A: Allocator> {
     pub(crate) machine: &'a Machine<A>,
     pub(crate) tool: &'a Option<Tool>,
     pub(crate) arc: &'a GridArc,
+    pub(crate) plane: Plane,
     pub(crate) band: Band,
     pub(crate) quadrant: Quadrant,
     pub(crate) point: Point2,
     pub(crate) spot: Spot,
+    /// The box of a piece that would end where it begins.
+    pub(crate) least: Sight,
 }
 
 impl<A: Allocator> Begin<'_, A> {
@@ -91,64 +143,118 @@ impl<A: Allocator> Begin<'_, A> {
         }
     }
 
-    /// How near two distances are enough.
-    fn slack(&self) -> u64 {
-        self.machine.step.nanometres().unsigned_abs() / 8
+    /// The least x at which a piece's box doesn't reach below a coordinate.
+    fn least_x(&self, bound: i64) -> i64
+        requires { unsigned_abs bound ≤ 200000000000000 }
+        ensures { unsigned_abs result ≤ 1000000000000000 }
+    {
+        let side = after_multiple_below(self.machine.step, bound);
+        side - self.quadrant.centre_seen().0 + self.band.margin as i64
     }
 
-    /// The first spot at x that the way along the inside of the band comes to.
-    fn inside_at(&self, x: u64, stop: &Spot) -> Spot
+    /// The greatest y at which it doesn't reach above a coordinate.
+    fn greatest_y(&self, bound: i64) -> i64
+        requires { unsigned_abs bound ≤ 200000000000000 }
+        ensures { unsigned_abs result ≤ 1000000000000000 }
+    {
+        let side = -after_multiple_below(self.machine.step, -bound);
+        side - self.quadrant.centre_seen().1 - self.band.margin as i64
+    }
+
+    /// What stops pieces from here at the travel limits.
+    fn travel_limits(&self) -> [Limit; 2] {
+        let travel = Block::between(&self.machine.low, &self.machine.high);
+        let travel = self.quadrant.sight_of(self.plane, &travel);
+        let before = Limit {
+            x: self.least_x(travel.x.low),
+            y: -1,
+        };
+        let beyond = Limit {
+            x: FAR,
+            y: self.greatest_y(travel.y.high),
+        };
+        [before, beyond]
+    }
+
+    /// What stops pieces from here where the controlled point may not stand in a block, if that may stop any.
+    fn limit_at(&self, block: &Block) -> Option<Limit> {
+        let kept_from = self.quadrant.sight_of(self.plane, block);
+        if self.least.x.high <= kept_from.x.low
+            || kept_from.y.high <= self.least.y.low
+            || !self.least.height.overlaps(&kept_from.height)
+        {
+            return None;
+        }
+        Some(Limit {
+            x: self.least_x(kept_from.x.high),
+            y: self.greatest_y(kept_from.y.low),
+        })
+    }
+
+    /// What stops pieces from here at a fixture, for each part of the tool.
+    fn limits_at(&self, fixture: &Fixture) -> [Option<Limit>; 4] {
+        let mut limits = [None; 4];
+        let Some(tool) = self.tool else {
+            limits[0] = self.limit_at(&Block::between(&fixture.low, &fixture.high));
+            return limits;
+        };
+        let mut foot = tool.bottom.nanometres();
+        for (i, part) in tool.parts.as_slice().iter().enumerate() {
+            limits[i] = self.limit_at(&Block::kept_from(fixture, part, foot));
+            foot = top_of(part, foot);
+        }
+        limits
+    }
+
+    /// The square of the least x that the way along the inside of the band may come to past a fixture, before a stop.
+    fn nearest_past(&self, fixture: &Fixture, stop: &Spot) -> u128
+        ensures { result ≤ 4000000000000000000000000000000 }
+    {
+        let mut least = 0;
+        for limit in self.limits_at(fixture).iter().flatten() {
+            least = least.max(limit.nearest(&self.band, &self.spot, stop));
+        }
+        least
+    }
+
+    /// The least x that it may come to past all of them.
+    fn nearest_inside(&self, stop: &Spot) -> u64
+        ensures { result ≤ 200000000000 }
+    {
+        let [before, beyond] = self.travel_limits();
+        // Not in the direction of a stop on the axis.
+        let mut least = square(stop.x.max(1))
+            .max(before.nearest(&self.band, &self.spot, stop))
+            .max(beyond.nearest(&self.band, &self.spot, stop));
+        for fixture in &self.machine.fixtures {
+            least = least.max(self.nearest_past(fixture, stop));
+        }
+        root_ceil(least).min(self.spot.x)
+    }
+
+    /// The greatest y that the way straight up at x may come to beside a fixture.
+    fn highest_beside(&self, fixture: &Fixture, x: u64) -> i64
         requires { x ≤ 200000000000 }
     {
-        let low = self.band.low_at(x, stop.y);
-        Spot {
-            x,
-            y: low.max(self.spot.y),
+        let mut highest = FAR;
+        for limit in self.limits_at(fixture).iter().flatten() {
+            highest = highest.min(limit.highest(x));
         }
+        highest
     }
 
-    /// Of the spots along the inside of the band, before the stop, the last that clears.
-    fn last_inside(&self, stop: &Spot) -> Spot {
-        // Not in the direction of a stop on the axis.
-        let least = stop.x.max(1);
-        let mut clear = self.spot.x;
-        let mut blocked = least.min(self.spot.x);
-        for _ in 0..MOST_HALVINGS {
-            if clear.abs_diff(blocked) <= self.slack() {
-                break;
-            }
-            let middle = middle(clear, blocked);
-            if self.clears_to(&self.inside_at(middle, stop)) {
-                clear = middle;
-            } else {
-                blocked = middle;
-            }
+    /// The greatest y that it may come to, at most a given one.
+    fn highest_above(&self, x: u64, most: u64) -> u64
+        requires x { x ≤ 200000000000 }
+        requires most { most ≤ 200000000000 }
+        ensures { result ≤ most }
+    {
+        let [before, beyond] = self.travel_limits();
+        let mut highest = before.highest(x).min(beyond.highest(x));
+        for fixture in &self.machine.fixtures {
+            highest = highest.min(self.highest_beside(fixture, x));
         }
-        self.inside_at(clear, stop)
-    }
-
-    /// Straight up from a spot that clears, the last that does, within the band and not above the stop.
-    fn last_above(&self, spot: &Spot, stop: &Spot) -> Spot {
-        let x = spot.x;
-        let highest = self.band.high_at(x, stop.y).max(spot.y);
-        let top = Spot { x, y: highest };
-        if self.clears_to(&top) {
-            return top;
-        }
-        let mut clear = spot.y;
-        let mut blocked = highest;
-        for _ in 0..MOST_HALVINGS {
-            if clear.abs_diff(blocked) <= self.slack() {
-                break;
-            }
-            let y = middle(clear, blocked);
-            if self.clears_to(&Spot { x, y }) {
-                clear = y;
-            } else {
-                blocked = y;
-            }
-        }
-        Spot { x, y: clear }
+        highest.clamp(0, most as i64) as u64
     }
 
     /// The furthest point towards a stop that a piece from here may go to, and `None` where that leads nowhere.
@@ -160,8 +266,13 @@ impl<A: Allocator> Begin<'_, A> {
         if self.clears_to(stop) {
             return self.quadrant.point_at(stop);
         }
-        let inside = self.last_inside(stop);
-        let spot = self.last_above(&inside, stop);
+        let x = self.nearest_inside(stop);
+        let lowest = self.band.low_at(x, stop.y).max(self.spot.y);
+        let highest = self.highest_above(x, self.band.high_at(x, stop.y));
+        let spot = Spot {
+            x,
+            y: highest.max(lowest),
+        };
         if self.spot.is_before(&spot) && spot.is_before(stop) {
             self.quadrant.point_at(&spot)
         } else {

@@ -11,6 +11,7 @@ mod fault;
 mod finding;
 mod furthest;
 pub mod laws;
+mod limits;
 mod maker;
 mod pieces;
 mod quadrant;

@@ -3,7 +3,7 @@ ghost use Rattle.ngc_machine.specs.Machine.{file_of};
 ghost use Rattle.ngc_certificate_text.specs.Certificate.{PIECE_LIMIT};
 ghost use Rattle.ngc_certificate.specs.PieceFault.{piece_fault as fault_of, pieces_fault as fault_of_all, place_fault as met_at};
 ghost use Rattle.ngc_certificate.specs.Inside.{fault_of_some};
-ghost use Rattle.ngc_certificate.specs.Shared.{IsShared};
+ghost use Rattle.ngc_certificate.specs.Shared.{shared_of};
 
 use crate::chain::{first_cut, follows};
 use crate::derived::covers;
@@ -26,7 +26,7 @@ fn fault_within<A: Allocator>(
     stretch: &Stretch,
     piece: &Piece,
 ) -> Option<PieceFault>
-    requires { IsShared machine.now.step way.now stretch.now.several shared.now }
+    requires { shared.now ≡ shared_of machine.now.step way.now stretch.now.several }
     ensures { result ≡ fault_of (file_of machine.now) tool.now way.now stretch.now piece.now }
 {
     if !follows(way, shared, stretch, &piece.end) {

@@ -1,8 +1,9 @@
 //! Quadrants about the centre of an arc, as the arc goes through them.
 ghost use Rattle.std.specs.Prelude.{◌≡◌, ◌≤◌, unsigned_abs};
 
+use crate::limits::{Block, Span};
 use ngc_arc_geometry::Arc;
-use ngc_fixed_length::{Nm, Point2, Turn};
+use ngc_fixed_length::{Nm, Plane, Point2, Turn};
 
 /// A point of a quadrant by its distances from the centre, of which x falls and y rises as the arc goes on.
 #[derive(Clone, Copy)]
@@ -23,6 +24,14 @@ pub(crate) struct Quadrant {
     above_in_v: bool,
     /// The arc comes to it along the axis of u.
     from_u: bool,
+}
+
+/// A box as a quadrant sees it: along its axes, x and y as those of spots, coordinates rise away from the centre.
+#[derive(Clone, Copy)]
+pub(crate) struct Sight {
+    pub(crate) x: Span,
+    pub(crate) y: Span,
+    pub(crate) height: Span,
 }
 
 /// How far a coordinate lies above another.
@@ -79,6 +88,25 @@ impl Quadrant {
             above_in_v: above != mirrored,
             from_u,
         }
+    }
+
+    /// A box as it is seen from here, where the arc lies in a plane.
+    pub(crate) fn sight_of(&self, plane: Plane, block: &Block) -> Sight {
+        let (u, v, height) = block.in_plane(plane);
+        let (u, v) = (u.seen(self.above_in_u), v.seen(self.above_in_v));
+        let (x, y) = if self.from_u { (u, v) } else { (v, u) };
+        Sight { x, y, height }
+    }
+
+    /// The centre's coordinates along x and y, as they are seen from here.
+    pub(crate) fn centre_seen(&self) -> (i64, i64)
+        ensures x { unsigned_abs result.0 ≤ 100000000000 }
+        ensures y { unsigned_abs result.1 ≤ 100000000000 }
+    {
+        let (u, v) = (self.centre.u.nanometres(), self.centre.v.nanometres());
+        let u = if self.above_in_u { u } else { -u };
+        let v = if self.above_in_v { v } else { -v };
+        if self.from_u { (u, v) } else { (v, u) }
     }
 
     /// A point's spot, if it lies in the quadrant.

@@ -1,5 +1,6 @@
+ghost use Rattle.std.specs.Prelude.{◌≡◌};
 ghost use Rattle.ngc_fixed_length.specs.Length.{IsStep};
-ghost use Rattle.ngc_certificate.specs.Shared.{IsShared};
+ghost use Rattle.ngc_certificate.specs.Shared.{shared_of};
 
 use crate::derived::whole_box;
 use ngc_arc_geometry::GridArc;
@@ -8,26 +9,22 @@ use ngc_fixed_length::{GridBox, Nm};
 
 /// What the pieces of a motion share, so that it is found once.
 #[derive(Debug, Drop)]
-pub(crate) struct Shared {
+pub(crate) enum Shared {
     /// The box of the motion in one piece.
-    pub(crate) whole: GridBox,
+    Whole(GridBox),
     /// An arc that is cut into several pieces.
-    pub(crate) cut_arc: Option<GridArc>,
+    Cut(GridArc),
 }
 
 impl Shared {
     /// What the pieces of a motion share, of which there are several or one.
     pub(crate) fn of(step: Nm, way: &Way, several: bool) -> Shared
         requires { IsStep step }
-        ensures { IsShared step way.now several result }
+        ensures { result ≡ shared_of step way.now several }
     {
-        let cut_arc = match way {
-            Way::Arc(arc) if several => Some(GridArc::new(*arc, step)),
-            Way::Arc(_) | Way::Line { .. } => None,
-        };
-        Shared {
-            whole: whole_box(step, way),
-            cut_arc,
+        match way {
+            Way::Arc(arc) if several => Shared::Cut(GridArc::new(*arc, step)),
+            Way::Arc(_) | Way::Line { .. } => Shared::Whole(whole_box(step, way)),
         }
     }
 }
