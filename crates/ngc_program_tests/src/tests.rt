@@ -15,6 +15,7 @@ mod looking_ahead;
 mod memory;
 mod rows;
 mod runs;
+mod second_versions;
 mod sinks;
 
 const MACHINE: &str = "version = 1

@@ -14,7 +14,7 @@ low = [40000000, -10000000, -50000000]
 high = [60000000, 10000000, -10000000]
 ";
 
-const BLOCK: &str = "[[fixture]]
+pub(super) const BLOCK: &str = "[[fixture]]
 low = [-20000000, -10000000, -100000000]
 high = [-2000000, 10000000, -30000000]
 ";
@@ -57,7 +57,7 @@ pub(super) const NO_MOTIONS: &str = "ngc-certificate 1\nsetting off 0\nsetting o
 
 const ACCEPTED: &str = "accepted\n";
 
-const CHECK: CheckOptions<'static> = CheckOptions {
+pub(super) const CHECK: CheckOptions<'static> = CheckOptions {
     machine: "machine",
     tools: "tools",
     certificate: "certificate",
@@ -65,7 +65,7 @@ const CHECK: CheckOptions<'static> = CheckOptions {
 };
 
 // The certificate with these motions at either setting of block delete.
-fn certificate_with(alloc: Global, off: &str, on: &str) -> Result<String, Fail> {
+pub(super) fn certificate_with(alloc: Global, off: &str, on: &str) -> Result<String, Fail> {
     Ok(format!(in alloc; "ngc-certificate 1\nsetting off {off}setting on {on}end\n")?)
 }
 

@@ -138,7 +138,7 @@ const FILES: &[(Option<&[u8]>, Option<&str>, Result<&str, (u8, &str)>, &str)] = 
     (None, Some("version = 1\n"), Ok(LISTING), "no tools"),
     (
         None,
-        Some("version = 2\n"),
+        Some("version = 3\n"),
         Err((3, "ngc: fault 261 tools\n")),
         "another version",
     ),
