@@ -43,8 +43,13 @@ const MACHINE_LINES: &[(&str, &str, Result<&str, (u8, &str)>)] = &[
     ),
     (
         "version = 1",
-        "version = 2",
+        "version = 3",
         Err((3, "ngc: fault 261 machine\n")),
+    ),
+    (
+        "version = 1",
+        "version = 2",
+        Err((3, "ngc: fault 269 machine\n")),
     ),
     (
         "step = 10000",
