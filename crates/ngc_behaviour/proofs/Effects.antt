@@ -12,9 +12,9 @@ use Rattle.ngc_canonical.specs.declared.command.Command.{Command}
 use Rattle.ngc_planner.specs.Caps.{MILLION}
 use Rattle.ngc_events.specs.declared.event.Event.{Event}
 use Rattle.ngc_events.specs.declared.event.Event.TheVariants.{Load, Tick, Hold, Resume, Override, StopSwitch, Start}
-use Rattle.ngc_behaviour.specs.declared.reply.Ending.{Ending}
-use Rattle.ngc_behaviour.specs.declared.reply.Ending.TheVariants.{Done, Stopped, End}
-use Rattle.ngc_behaviour.specs.declared.reply.Reply.TheVariants.{Loaded, Ticked, Held, Resumed, Overridden, Switched, Started}
+use Rattle.ngc_events.specs.declared.reply.Ending.{Ending}
+use Rattle.ngc_events.specs.declared.reply.Ending.TheVariants.{Done, Stopped, End}
+use Rattle.ngc_events.specs.declared.reply.Reply.TheVariants.{Loaded, Ticked, Held, Resumed, Overridden, Switched, Started}
 use Rattle.ngc_behaviour.specs.State.{Job, Queued, State, RING, loaded, command_at, path_steps, millionths}
 use Rattle.ngc_behaviour.specs.Step.{Outcome, Step, LoadCommand, MayTake, Rests, Finishes, Dwells, Serves, Travels, HeadTick, TickBy, popped, after, ending, ends_at, pulse, place_before, place_after, ticks_of}
 use Rattle.ngc_behaviour.specs.Run.{position_in}

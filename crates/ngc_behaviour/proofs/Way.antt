@@ -20,8 +20,8 @@ use Rattle.ngc_canonical.specs.Joined.{IsLastIfEnd, EndIsLast}
 use Rattle.ngc_canonical.specs.ProgramPath.{IsPathOf, IsPathOfAll}
 use Rattle.ngc_planner.specs.Caps.{MILLION}
 use Rattle.ngc_events.specs.declared.event.Event.{Event}
-use Rattle.ngc_behaviour.specs.declared.reply.Ending.TheVariants.{End}
-use Rattle.ngc_behaviour.specs.declared.reply.Reply.TheVariants.{Ticked}
+use Rattle.ngc_events.specs.declared.reply.Ending.TheVariants.{End}
+use Rattle.ngc_events.specs.declared.reply.Reply.TheVariants.{Ticked}
 use Rattle.ngc_behaviour.specs.State.{Job, Queued, State, opening, path_steps, millionths}
 use Rattle.ngc_behaviour.specs.Step.{Outcome, MayTake}
 use Rattle.ngc_behaviour.specs.Run.{Run, positions, position_in}

@@ -1,4 +1,3 @@
-pub mod Faults
 pub mod State
 pub mod Reach
 pub mod RateRules

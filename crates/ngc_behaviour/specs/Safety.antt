@@ -9,8 +9,8 @@ use Rattle.ngc_collision.specs.Body.{IsSafe}
 use Rattle.ngc_planner.specs.Pulses.{KeepsPulseRules}
 use Rattle.ngc_events.specs.declared.event.Event.{Event}
 use Rattle.ngc_events.specs.declared.event.Event.TheVariants.{Load, Tick, Hold, Resume, Override, StopSwitch, Start}
-use Rattle.ngc_behaviour.specs.declared.reply.Ending.TheVariants.{End}
-use Rattle.ngc_behaviour.specs.declared.reply.Reply.TheVariants.{Ticked}
+use Rattle.ngc_events.specs.declared.reply.Ending.TheVariants.{End}
+use Rattle.ngc_events.specs.declared.reply.Reply.TheVariants.{Ticked}
 use Rattle.ngc_behaviour.specs.State.{Job, Queued, State, opening}
 use Rattle.ngc_behaviour.specs.RateRules.{KeepsRateRules}
 use Rattle.ngc_behaviour.specs.Step.{Outcome}

@@ -9,12 +9,12 @@ use Rattle.ngc_canonical.specs.ProgramPath.{IsPathOf}
 use Rattle.ngc_planner.specs.Caps.{MILLION}
 use Rattle.ngc_events.specs.declared.event.Event.{Event}
 use Rattle.ngc_events.specs.declared.event.Event.TheVariants.{Load, Tick, Hold, Resume, Override, StopSwitch, Start}
-use Rattle.ngc_behaviour.specs.declared.reply.Ending.{Ending}
-use Rattle.ngc_behaviour.specs.declared.reply.Ending.TheVariants.{Done, Stopped, End}
-use Rattle.ngc_behaviour.specs.declared.reply.Reply.{Reply}
-use Rattle.ngc_behaviour.specs.declared.reply.Reply.TheVariants.{Loaded, Ticked, Held, Resumed, Overridden, Switched, Started}
-use Rattle.ngc_behaviour.specs.declared.fault.EventFault.{EventFault}
-use Rattle.ngc_behaviour.specs.declared.fault.EventFault.TheVariants.{OverrideTooLarge, RingFull, AllLoaded}
+use Rattle.ngc_events.specs.declared.reply.Ending.{Ending}
+use Rattle.ngc_events.specs.declared.reply.Ending.TheVariants.{Done, Stopped, End}
+use Rattle.ngc_events.specs.declared.reply.Reply.{Reply}
+use Rattle.ngc_events.specs.declared.reply.Reply.TheVariants.{Loaded, Ticked, Held, Resumed, Overridden, Switched, Started}
+use Rattle.ngc_events.specs.declared.event_fault.EventFault.{EventFault}
+use Rattle.ngc_events.specs.declared.event_fault.EventFault.TheVariants.{OverrideTooLarge, RingFull, AllLoaded}
 use Rattle.ngc_behaviour.specs.State.{Job, State, Queued, RING, loaded, command_at, path_steps, millionths}
 use Rattle.ngc_behaviour.specs.RateRules.{MayTravel}
 

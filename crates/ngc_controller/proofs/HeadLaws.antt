@@ -13,8 +13,8 @@ use Rattle.ngc_planner.specs.Ramp.{RampState, IsRest, TicksTo, next_rest, ticked
 use Rattle.ngc_planner.proofs.RampLaws.{ends_slowly}
 use Rattle.ngc_behaviour.specs.State.{Job, Queued, State, millionths, effective}
 use Rattle.ngc_behaviour.specs.Reach.{leg_of, legs_behind}
-use Rattle.ngc_behaviour.specs.declared.reply.Ending.TheVariants.{Done}
-use Rattle.ngc_behaviour.specs.declared.reply.Reply.TheVariants.{Ticked}
+use Rattle.ngc_events.specs.declared.reply.Ending.TheVariants.{Done}
+use Rattle.ngc_events.specs.declared.reply.Reply.TheVariants.{Ticked}
 use Rattle.ngc_controller.specs.declared.drive.Drive.{Drive}
 use Rattle.ngc_controller.specs.declared.panel.Panel.{Panel}
 use Rattle.ngc_controller.specs.Drive.{legs_of, IsTarget}

@@ -11,8 +11,8 @@ use Rattle.ngc_canonical.specs.declared.command.Action.{Action}
 use Rattle.ngc_canonical.specs.declared.command.Action.TheVariants.{Move}
 use Rattle.ngc_planner.specs.Caps.{MILLION}
 use Rattle.ngc_planner.specs.Ramp.{RampState, IsRest, next_rest}
-use Rattle.ngc_behaviour.specs.declared.reply.Reply.TheVariants.{Loaded}
-use Rattle.ngc_behaviour.specs.declared.fault.EventFault.TheVariants.{RingFull}
+use Rattle.ngc_events.specs.declared.reply.Reply.TheVariants.{Loaded}
+use Rattle.ngc_events.specs.declared.event_fault.EventFault.TheVariants.{RingFull}
 use Rattle.ngc_behaviour.specs.Headline.{job_of}
 use Rattle.ngc_behaviour.specs.State.{Job, Queued, State, RING, command_at}
 use Rattle.ngc_behaviour.specs.Step.{Outcome, MayTake, LoadCommand, Dwells, Finishes, Serves, after, popped, ticks_of}

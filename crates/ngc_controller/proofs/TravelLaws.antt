@@ -15,9 +15,9 @@ use Rattle.ngc_behaviour.specs.State.{Job, Queued, State, path_steps, millionths
 use Rattle.ngc_behaviour.specs.Progress.{TravelsAtLeast}
 use Rattle.ngc_behaviour.specs.RateRules.{target, MayTravel}
 use Rattle.ngc_behaviour.specs.Reach.{leg_of, legs_behind}
-use Rattle.ngc_behaviour.specs.declared.reply.Ending.{Ending}
-use Rattle.ngc_behaviour.specs.declared.reply.Ending.TheVariants.{Done}
-use Rattle.ngc_behaviour.specs.declared.reply.Reply.TheVariants.{Ticked}
+use Rattle.ngc_events.specs.declared.reply.Ending.{Ending}
+use Rattle.ngc_events.specs.declared.reply.Ending.TheVariants.{Done}
+use Rattle.ngc_events.specs.declared.reply.Reply.TheVariants.{Ticked}
 use Rattle.ngc_behaviour.specs.Step.{Outcome, Travels, place_after, pulse, ends_at, ending, moved_by, popped}
 use Rattle.ngc_behaviour.proofs.RampFit.{may_travel, travels_at_least}
 use Rattle.ngc_controller.specs.Loaded.{next_place}

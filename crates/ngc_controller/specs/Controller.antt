@@ -1,6 +1,6 @@
 -- What a controller stands for. Our own.
 use Rattle.std.specs.Prelude.{ℕ, ◌-◌, List, length, nat_lt, Option, None, slice_get, if◌then◌else◌}
-use Rattle.ngc_behaviour.specs.declared.reply.Reply.{Reply}
+use Rattle.ngc_events.specs.declared.reply.Reply.{Reply}
 use Rattle.ngc_behaviour.specs.State.{Job, State}
 
 -- what it runs, the machine's state, and the latest replies to events that were taken, the last one last

@@ -2,10 +2,10 @@
 use Rattle.std.specs.Prelude.{ℕ, List, [], ◌++◌, flat_map, decimal, codes, Option, Some, None, Ok, Err, Bool, true, false}
 use Rattle.std.specs.Fmt.{signed_decimal}
 use Rattle.ngc_fixed_length.specs.declared.points.StepPos.{StepPos}
-use Rattle.ngc_behaviour.specs.declared.reply.Ending.{Ending}
-use Rattle.ngc_behaviour.specs.declared.reply.Ending.TheVariants.{Done, Stopped, End}
-use Rattle.ngc_behaviour.specs.declared.reply.Reply.TheVariants.{Loaded, Ticked, Held, Resumed, Overridden, Switched, Started}
-use Rattle.ngc_behaviour.specs.Faults.{number_of}
+use Rattle.ngc_events.specs.declared.reply.Ending.{Ending}
+use Rattle.ngc_events.specs.declared.reply.Ending.TheVariants.{Done, Stopped, End}
+use Rattle.ngc_events.specs.declared.reply.Reply.TheVariants.{Loaded, Ticked, Held, Resumed, Overridden, Switched, Started}
+use Rattle.ngc_events.specs.Faults.{event_fault_number}
 use Rattle.ngc_behaviour.specs.Step.{Outcome}
 
 abbrev pub numbered_line : List ℕ → ℕ → List ℕ
@@ -33,7 +33,7 @@ text_of (Ok Resumed) = codes "resume\n"
 text_of (Ok (Overridden n)) = numbered_line (codes "override") n
 text_of (Ok (Switched on)) = switch_text on
 text_of (Ok Started) = codes "start\n"
-text_of (Err e) = numbered_line (codes "refused") (number_of e)
+text_of (Err e) = numbered_line (codes "refused") (event_fault_number e)
 
 abbrev pub log : List Outcome → List ℕ
 log outcomes = flat_map text_of outcomes

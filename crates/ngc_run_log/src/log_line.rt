@@ -4,7 +4,7 @@ ghost use Rattle.std.specs.Fmt.{signed_decimal};
 ghost use Rattle.ngc_output.specs.Collected.{CHUNK_SIZE, HasLineRoom};
 ghost use Rattle.ngc_run_log.specs.Log.{numbered_line, ending_text, position_text, switch_text, text_of};
 
-use ngc_behaviour::{Ending, EventFault, Reply};
+use ngc_events::{Ending, EventFault, Reply};
 use ngc_fixed_length::StepPos;
 use ngc_output::Chunk;
 

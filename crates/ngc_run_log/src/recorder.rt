@@ -8,8 +8,7 @@ ghost use Rattle.ngc_run_log.specs.Recording.{AreAtMost, Collects, Counts};
 
 use crate::log_line::add_outcome;
 use crate::report::Report;
-use ngc_behaviour::{EventFault, Reply};
-use ngc_events::Event;
+use ngc_events::{Event, EventFault, Reply};
 use ngc_fixed_length::{Sink, StepPos, WriteFault};
 use ngc_output::Chunk;
 

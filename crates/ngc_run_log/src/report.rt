@@ -2,8 +2,7 @@ ghost use Rattle.std.specs.Prelude.{◌≡◌, ◌^◌, [], ◌∷◌};
 ghost use Rattle.ngc_run_log.specs.Recording.{AreAtMost, Counts};
 ghost use Rattle.ngc_run_log.specs.Runs.{number_of};
 
-use ngc_behaviour::{EventFault, Reply};
-use ngc_events::Event;
+use ngc_events::{Event, EventFault, Reply};
 use ngc_fixed_length::{StepPos, WriteFault};
 use thiserror::Error;
 

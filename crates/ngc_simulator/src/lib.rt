@@ -21,7 +21,6 @@ pub use fault::AnswerFault;
 pub use files::Files;
 pub use lister::{ListFault, list};
 pub use listing::write_list;
-pub use ngc_behaviour::{Ending, EventFault, Reply};
 pub use ngc_canonical::{
     Action, Command, CoolantState, Fault, Feed, Motion, Pace, ProgramFault, SpindleState, Way,
     interpret,
@@ -33,7 +32,7 @@ pub use ngc_command_line::{
     CertifyOptions, CheckOptions, ListOptions, Options, RunOptions, UsageFault, read_options,
 };
 pub use ngc_controller::{Controller, MemoryFault};
-pub use ngc_events::{Event, EventLine, EventsFault, read_events};
+pub use ngc_events::{Ending, Event, EventFault, EventLine, EventsFault, Reply, read_events};
 pub use ngc_machine::{FileFault, Fixture, Machine, Tool, Tools, row_machine};
 pub use ngc_run_log::{Report, RunFault, run};
 pub use ngc_step_kernel::{ArcKernel, ArcPath};

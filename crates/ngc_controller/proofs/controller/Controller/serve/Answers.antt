@@ -2,7 +2,7 @@ use Rattle.std.proofs.Common.{arith, refl, false, sym, subst, ap, ◌∙◌, ◌
 use Rattle.std.specs.Prelude.{Ok}
 use Rattle.ngc_behaviour.specs.Headline.{job_of}
 use Rattle.ngc_behaviour.specs.Step.{Finishes, ticks_of}
-use Rattle.ngc_behaviour.specs.declared.reply.Reply.TheVariants.{Ticked}
+use Rattle.ngc_events.specs.declared.reply.Reply.TheVariants.{Ticked}
 use Rattle.ngc_checker.specs.Accepted.{commands_at}
 use Rattle.ngc_machine.specs.Machine.{MachineFile}
 use Rattle.ngc_planner.specs.Caps.{MILLION}

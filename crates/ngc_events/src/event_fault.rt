@@ -1,5 +1,5 @@
 ghost use Rattle.std.specs.Prelude.{◌≡◌};
-ghost use Rattle.ngc_behaviour.specs.Faults.{number_of};
+ghost use Rattle.ngc_events.specs.Faults.{event_fault_number};
 
 use thiserror::Error;
 
@@ -20,7 +20,7 @@ pub enum EventFault {
 impl EventFault {
     /// The fault's number.
     pub fn number(&self) -> u16
-        ensures { result ≡ number_of self.now }
+        ensures { result ≡ event_fault_number self.now }
     {
         match self {
             EventFault::OverrideTooLarge => 701,
