@@ -154,7 +154,7 @@ impl StepPos {
 }
 
 impl GridBox {
-    ghost use Rattle.ngc_fixed_length.specs.Boxes.{box_of, common_box, holds_box, only};
+    ghost use Rattle.ngc_fixed_length.specs.Boxes.{box_of, holds_box, only};
 
     /// The box of one point.
     pub fn only(point: StepPos) -> GridBox
@@ -173,16 +173,6 @@ impl GridBox {
         GridBox {
             low: point.lesser(other),
             high: point.greater(other),
-        }
-    }
-
-    /// What two boxes share.
-    pub fn common(&self, other: &GridBox) -> GridBox
-        ensures { result ≡ common_box self.now other.now }
-    {
-        GridBox {
-            low: self.low.greater(&other.low),
-            high: self.high.lesser(&other.high),
         }
     }
 
