@@ -1,10 +1,12 @@
 -- Lines that bytes make, and the first line feed among them.
-use Rattle.std.proofs.Common.{◌≡◌, ◌≢◌, ℕ, zero, suc, ◌<◌, ◌≤◌, ap, true, false, Some, None, List, [], ◌∷◌, ◌++◌, length, take, drop, refl, arith}
-use Rattle.std.specs.Prelude.{◌==◌, slice_index}
+use Rattle.std.proofs.Common.{◌≡◌, ◌≢◌, ℕ, zero, suc, ◌<◌, ◌≤◌, ap, Bool, true, false, Some, None, List, [], ◌∷◌, ◌++◌, length, take, drop, refl, sym, ◌∙◌, append_assoc, length-append, arith}
+use Rattle.std.specs.Prelude.{◌==◌, nat_le, slice_index}
 use Rattle.std.proofs.lemmas.Bool.Decides.{nat_tests}
+use Rattle.std.proofs.lemmas.List.{append-nil}
 use Rattle.memchr.specs.Find.{IsFirstByte, is_byte}
 use Rattle.ngc_line_reader.specs.Program.{split_lines, with_first}
-use Rattle.ngc_line_reader.specs.Load.{NoFeed, IsSplit}
+use Rattle.ngc_line_reader.specs.Pieces.{firm_behind, firm_lines}
+use Rattle.ngc_line_reader.specs.Load.{NoFeed, GoesOn, PartsLines, IsSplit}
 
 not_feed : (b : ℕ) → b ≢ 10 → (b == 10) ≡ false
 not_feed b h = grind (arith, nat_tests)
@@ -46,7 +48,7 @@ pub feed_within : (bytes : List ℕ) (k : ℕ) → IsFirstByte (is_byte 10) byte
 feed_within bytes k h = h.0.high
 
 -- a line feed ends the line
-pub split_here : (cur rest : List ℕ) → NoFeed cur → split_lines (cur ++ (10 ∷ rest)) ≡ cur ∷ split_lines rest
+split_here : (cur rest : List ℕ) → NoFeed cur → split_lines (cur ++ (10 ∷ rest)) ≡ cur ∷ split_lines rest
 split_here [] rest h = refl
 split_here (b ∷ cur) rest h = rw (not_feed b h.0, split_here cur rest h.1) refl
 
@@ -55,21 +57,63 @@ pub split_last : (b : ℕ) (cur : List ℕ) → NoFeed (b ∷ cur) → split_lin
 split_last b [] h = rw (not_feed b h.0) refl
 split_last b (c ∷ cur) h = rw (not_feed b h.0, split_last c cur h.1) refl
 
--- a line that goes on
-pub record GoesOn (cur rest : List ℕ) : Type 0 where
-  pub more : List ℕ
-  pub lines : List (List ℕ)
-  pub split : split_lines (cur ++ rest) ≡ (cur ++ more) ∷ lines
-
 first_line : (b : ℕ) (ls : List (List ℕ)) → (more : List ℕ) × (lines : List (List ℕ)) × (with_first b ls ≡ (b ∷ more) ∷ lines)
 first_line b [] = ([], [], refl)
 first_line b (l ∷ ls) = (l, ls, refl)
 
-pub split_on : (b : ℕ) (cur rest : List ℕ) → NoFeed (b ∷ cur) → GoesOn (b ∷ cur) rest
-split_on b [] rest h = let f = first_line b (split_lines rest) in record { more = f.0; lines = f.1; split = rw (not_feed b h.0) f.2 }
+-- a line that goes on
+split_on : (b : ℕ) (cur rest : List ℕ) → NoFeed (b ∷ cur) → GoesOn split_lines (b ∷ cur) rest
+split_on b [] rest h = let f = first_line b (split_lines rest) in record { more = f.0; behind = f.1; split = rw (not_feed b h.0) f.2 }
 split_on b (c ∷ cur) rest h =
     let g = split_on c cur rest h.1 in
-    record { more = g.more; lines = g.lines; split = rw (not_feed b h.0, g.split) refl }
+    record { more = g.more; behind = g.behind; split = rw (not_feed b h.0, g.split) refl }
+
+split_long : (line rest : List ℕ) → NoFeed line → 256 < length line → GoesOn split_lines line rest
+split_long [] rest h long = absurd (omega (arith, long))
+split_long (b ∷ line) rest h long = split_on b line rest h
+
+pub split_parts : PartsLines split_lines
+split_parts = record { ends = split_here; long = split_long }
+
+-- the lines that stand, behind more bytes of a line
+firm_on : (begun line rest : List ℕ) → NoFeed line → firm_behind begun (line ++ rest) ≡ firm_behind (begun ++ line) rest
+firm_on begun [] rest h = ap (λ (l : List ℕ). firm_behind l rest) (sym (append-nil begun))
+firm_on begun (b ∷ line) rest h =
+    rw (not_feed b h.0) (firm_on (begun ++ (b ∷ [])) line rest h.1 ∙ ap (λ (l : List ℕ). firm_behind l rest) (append_assoc begun (b ∷ []) line))
+
+firm_here : (line rest : List ℕ) → NoFeed line → firm_lines (line ++ (10 ∷ rest)) ≡ line ∷ firm_lines rest
+firm_here line rest h = firm_on [] line (10 ∷ rest) h
+
+-- a line that is too long stands
+record Stands (line rest : List ℕ) : Type 0 where
+  more : List ℕ
+  behind : List (List ℕ)
+  split : firm_behind line rest ≡ (line ++ more) ∷ behind
+
+stands_more : (b : ℕ) (line rest : List ℕ) (x : Bool) → (b == 10) ≡ x → Stands (line ++ (b ∷ [])) rest → Stands line (b ∷ rest)
+stands_more b line rest true e s = record { more = []; behind = firm_lines rest; split = rw e (ap (λ (l : List ℕ). l ∷ firm_lines rest) (sym (append-nil line))) }
+stands_more b line rest false e s =
+    record { more = b ∷ s.more; behind = s.behind; split = rw e (s.split ∙ ap (λ (l : List ℕ). l ∷ s.behind) (append_assoc line (b ∷ []) s.more)) }
+
+stands : (line rest : List ℕ) → 256 < length line → Stands line rest
+stands line [] long =
+    let e : nat_le (length line) 256 ≡ false = grind (arith, nat_tests) in
+    record { more = []; behind = []; split = rw e (ap (λ (l : List ℕ). l ∷ []) (sym (append-nil line))) }
+stands line (b ∷ rest) long = stands_more b line rest (b == 10) refl (stands (line ++ (b ∷ [])) rest (omega (arith, length-append line (b ∷ []))))
+
+firm_long : (line rest : List ℕ) → NoFeed line → 256 < length line → GoesOn firm_lines line rest
+firm_long line rest h long =
+    let s = stands line rest long in
+    record { more = s.more; behind = s.behind; split = firm_on [] line rest h ∙ s.split }
+
+pub firm_parts : PartsLines firm_lines
+firm_parts = record { ends = firm_here; long = firm_long }
+
+-- a line that has begun, and isn't too long yet, does not stand
+pub firm_begun : (line : List ℕ) → NoFeed line → length line ≤ 256 → firm_lines line ≡ []
+firm_begun line h short =
+    let e : nat_le (length line) 256 ≡ true = grind (arith, nat_tests) in
+    ap firm_lines (sym (append-nil line)) ∙ firm_on [] line [] h ∙ rw e refl
 
 pub feedless_both : (xs ys : List ℕ) → NoFeed xs → NoFeed ys → NoFeed (xs ++ ys)
 feedless_both [] ys h k = k

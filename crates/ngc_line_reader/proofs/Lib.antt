@@ -14,9 +14,11 @@ pub mod RefusedLaws
 mod Examples
 mod FileExamples
 pub mod Blanks
+pub mod Readings
 pub mod StoredLaws
 pub mod SymbolLaws
 pub mod KeptLaws
 pub mod Feeds
 pub mod Walk
 pub mod LoadLaws
+pub mod ReaderLaws

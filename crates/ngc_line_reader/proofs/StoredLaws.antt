@@ -9,7 +9,9 @@ use Rattle.ngc_line_reader.specs.declared.program.parts.LineParts.{LineParts}
 use Rattle.ngc_line_reader.specs.declared.program.stored.LineEnd.{LineEnd}
 use Rattle.ngc_line_reader.specs.Program.{Line}
 use Rattle.ngc_line_reader.specs.ReadLine.{line_read}
+use Rattle.ngc_line_reader.specs.ProgramText.{HaveReadings}
 use Rattle.ngc_line_reader.specs.Stored.{line_of, lines_from, start_from, are_ends, is_read, is_stored}
+use Rattle.ngc_line_reader.proofs.Readings.{have_readings}
 
 pub length-lines_from : (bytes : List ℕ) (start : ℕ) (ends : List LineEnd) → length (lines_from bytes start ends) ≡ length ends
 length-lines_from bytes start [] = refl
@@ -117,6 +119,10 @@ stored_pushed number parts bytes new ends h short read =
 
 pub stored_size : (bytes : List ℕ) (ends : List LineEnd) → is_stored bytes ends ≡ true → length bytes ≤ 256 * length ends
 stored_size bytes ends h = (parts_of bytes ends h).few
+
+-- each stored line has a reading
+pub stored_readings : (bytes : List ℕ) (ends : List LineEnd) → is_stored bytes ends ≡ true → HaveReadings (lines_from bytes 0 ends)
+stored_readings bytes ends h = have_readings (lines_from bytes 0 ends) (parts_of bytes ends h).read
 
 -- the line of an index
 line_at : (bytes : List ℕ) (start : ℕ) (ends : List LineEnd) (i : ℕ) (e : LineEnd) → i < length ends → e ≡ get_or ends i e

@@ -1,17 +1,22 @@
 -- The lines of a file, one by one, and what the whole file says.
-use Rattle.std.proofs.Common.{◌≡◌, ℕ, suc, ◌+◌, ap, subst, Bool, true, false, Option, Some, None, List, [], ◌∷◌, ◌++◌, length, take, Ok, Err, refl, sym, ◌∙◌, append_assoc, arith}
+use Rattle.std.proofs.Common.{◌≡◌, ℕ, suc, ◌+◌, ap, subst, Bool, true, false, Option, Some, None, List, [], ◌∷◌, ◌++◌, length, take, Result, Ok, Err, refl, sym, ◌∙◌, append_assoc, arith}
 use Rattle.std.specs.Prelude.{if◌then◌else◌, ◌&&◌, nat_le, not, take_while}
 use Rattle.std.specs.List.{list_any, prefix_len}
+use Rattle.std.specs.Option.{option_or}
 use Rattle.std.proofs.lemmas.List.{append-nil}
+use Rattle.ngc_line_reader.specs.declared.fault.LineFault.{LineFault}
 use Rattle.ngc_line_reader.specs.declared.program.fault.ReadFault.{ReadFault}
 use Rattle.ngc_line_reader.specs.declared.program.fault.ReadFault.TheVariants as faults
 use Rattle.ngc_line_reader.specs.declared.program.phase.Phase.{Phase}
 use Rattle.ngc_line_reader.specs.declared.program.phase.Phase.TheVariants.{Start, Marked, Unmarked}
 use Rattle.ngc_line_reader.specs.Text.{text}
 use Rattle.ngc_line_reader.specs.Program.{Line, split_lines, numbered, is_percent_line, is_marked, without_mark, read_lines, lacks_end, is_percent_text, is_blank_text}
-use Rattle.ngc_line_reader.specs.ProgramText.{Outcome, fault_of, first_fault, fault_or, program_of}
+use Rattle.ngc_line_reader.specs.ScanLine.{Said}
+use Rattle.ngc_line_reader.specs.ReadLine.{line_read}
+use Rattle.ngc_line_reader.specs.ProgramText.{Outcome, refusal_in, fault_of, first_fault, fault_or, text_of_lines, program_of}
+use Rattle.ngc_line_reader.specs.Pieces.{firm_lines, fault_so_far}
 use Rattle.ngc_line_reader.specs.Stored.{line_of}
-use Rattle.ngc_line_reader.specs.Load.{is_percent, is_blank, number_in, phase_after, at_end, at_percent, with_line, walk}
+use Rattle.ngc_line_reader.specs.Load.{is_percent, is_blank, number_in, phase_after, at_end, at_percent, with_line, walk, standing}
 
 pub walk_end : (phase : Phase) (done : ℕ) (found : List Line) → walk phase done found [] ≡ at_end phase found
 unfolding walk
@@ -150,6 +155,33 @@ start_walk [] done found = walk_end Start done found ∙ ap (λ (l : List Line).
 start_walk (b ∷ ls) done found =
     start_step b ls done found (is_percent b) (is_blank b) (fault_of done (line_of (done + 1) b)) refl refl refl (start_walk ls (done + 1) (with_line found (line_of (done + 1) b)))
 
--- the walk over all lines of a file is what the file says
+-- the walk over lines gives the first fault of those that are read, or what they say
+pub walk_lines : (ls : List (List ℕ)) → walk Start 0 [] ls ≡ fault_or (first_fault 0 (read_lines (numbered 1 ls))) (text_of_lines (numbered 1 ls))
+walk_lines ls = start_walk ls 0 []
+
+-- over all lines of a file it is what the file says
 pub walk_program : (bytes : List ℕ) → walk Start 0 [] (split_lines bytes) ≡ program_of bytes
-walk_program bytes = start_walk (split_lines bytes) 0 []
+walk_program bytes = walk_lines (split_lines bytes)
+
+-- the fault that stands is the first one
+standing_first : (done : ℕ) (lines : List Line) (o : Outcome) → standing o ≡ None → standing (fault_or (first_fault done lines) o) ≡ first_fault done lines
+standing_first done [] o h = h
+standing_first done (line ∷ lines) o h = by_line (nat_le 100000 done) (line_read line.bytes) (standing_first (done + 1) lines o h) where
+  by_line : (x : Bool) (r : Result Said LineFault) → standing (fault_or (first_fault (done + 1) lines) o) ≡ first_fault (done + 1) lines
+      → standing (fault_or (option_or (if x then Some faults.TooManyLines else refusal_in line.number r) (first_fault (done + 1) lines)) o)
+      ≡ option_or (if x then Some faults.TooManyLines else refusal_in line.number r) (first_fault (done + 1) lines)
+  by_line true r next = refl
+  by_line false (Ok said) next = next
+  by_line false (Err fault) next = refl
+
+standing_text : (lines : List Line) → standing (text_of_lines lines) ≡ None
+standing_text lines = by_end (lacks_end lines) where
+  by_end : (x : Bool) → standing (if x then Err faults.NoEnd else Ok (record { lines = read_lines lines; marked = is_marked lines })) ≡ None
+  by_end true = refl
+  by_end false = refl
+
+-- the fault that stands in the firm lines
+pub walk_firm : (bytes : List ℕ) → fault_so_far bytes ≡ standing (walk Start 0 [] (firm_lines bytes))
+walk_firm bytes =
+    let lines = numbered 1 (firm_lines bytes) in
+    sym (ap standing (walk_lines (firm_lines bytes)) ∙ standing_first 0 (read_lines lines) (text_of_lines lines) (standing_text lines))

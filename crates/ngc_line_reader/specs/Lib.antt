@@ -16,5 +16,8 @@ pub mod ReadFaults
 pub mod Stored
 pub mod ProgramView
 pub mod Load
+pub mod Pieces
+pub mod Reader
+pub mod ReaderView
 pub mod Fault
 pub mod Refused

@@ -10,8 +10,8 @@ use Rattle.ngc_line_reader.specs.declared.program.loader.Step.TheVariants.{More,
 use Rattle.ngc_line_reader.specs.declared.program.loader.LinesSoFar.{LinesSoFar}
 use Rattle.ngc_line_reader.specs.declared.program.loader.Loader.{Loader}
 use Rattle.ngc_line_reader.specs.Text.{text}
-use Rattle.ngc_line_reader.specs.Program.{Line, split_lines, is_percent_text, is_blank_text}
-use Rattle.ngc_line_reader.specs.ProgramText.{ProgramText, Outcome, fault_of, fault_or, program_of, HaveReadings}
+use Rattle.ngc_line_reader.specs.Program.{Line, is_percent_text, is_blank_text}
+use Rattle.ngc_line_reader.specs.ProgramText.{ProgramText, Outcome, fault_of, fault_or}
 use Rattle.ngc_line_reader.specs.ProgramView.{lines_in, FaultIs}
 use Rattle.ngc_line_reader.specs.Stored.{line_of}
 
@@ -95,25 +95,44 @@ RefusedBy why faults.NoEnd = ⊥
 RefusedBy why faults.Memory = Unit {0}
 RefusedBy why faults.Device = ⊥
 
--- what comes of these bytes behind those so far
-abbrev pub resumed : {A : Type 0} → Loader A → List ℕ → Outcome
-resumed l bytes = walked l.found (split_lines (l.cut.items ++ bytes))
-
 -- no byte ends a line
 abbrev pub NoFeed : List ℕ → Type 0
 NoFeed bytes = AllByRecursion (λ b. b ≢ 10) bytes
+
+-- the first line of some bytes begins so
+pub record GoesOn (lines : List ℕ → List (List ℕ)) (line rest : List ℕ) : Type 0 where
+  pub more : List ℕ
+  pub behind : List (List ℕ)
+  pub split : lines (line ++ rest) ≡ (line ++ more) ∷ behind
+
+-- A way to part bytes into lines: a line feed ends one, and one that is too long already goes on whatever follows.
+pub record PartsLines (lines : List ℕ → List (List ℕ)) : Type 0 where
+  pub ends : (line rest : List ℕ) → NoFeed line → lines (line ++ (10 ∷ rest)) ≡ line ∷ lines rest
+  pub long : (line rest : List ℕ) → NoFeed line → 256 < length line → GoesOn lines line rest
+
+-- what comes of these bytes, parted into lines in this way, behind those so far
+abbrev pub resumed : {A : Type 0} → (List ℕ → List (List ℕ)) → Loader A → List ℕ → Outcome
+resumed lines l bytes = walked l.found (lines (l.cut.items ++ bytes))
+
+-- a fault that stands whatever follows
+abbrev pub standing : Outcome → Option ReadFault
+standing (Ok text) = None
+standing (Err (faults.Line n f)) = Some (faults.Line n f)
+standing (Err faults.NoEnd) = None
+standing (Err faults.TooManyLines) = Some faults.TooManyLines
+standing (Err faults.Memory) = None
+standing (Err faults.Device) = None
+
+-- a fault of the lines so far, or want of memory
+abbrev pub IsOfLines : ReadFault → Type 0
+IsOfLines fault = (fault ≢ faults.NoEnd) × (fault ≢ faults.Device)
 
 -- bytes that a line feed parts
 pub record IsSplit (bytes line behind : List ℕ) : Type 0 where
   pub feedless : NoFeed line
   pub parts : bytes ≡ line ++ (10 ∷ behind)
 
-pub record IsGoing {A : Type 0} (l : LinesSoFar A) : Type 0 where
-  pub few : length (lines_in l.lines) ≤ 100000
-  pub readings : HaveReadings (lines_in l.lines)
-
 pub record IsLoading {A : Type 0} (l : Loader A) : Type 0 where
-  pub going : IsGoing l.found
   pub feedless : NoFeed l.cut.items
   pub short : length l.cut.items ≤ 256
 
@@ -134,9 +153,3 @@ abbrev pub StepGives : Result Step ReadFault → Outcome → Outcome → Program
 StepGives (Ok More) before after now = before ≡ after
 StepGives (Ok End) before after now = before ≡ Ok now
 StepGives (Err fault) before after now = FaultIs fault before
-
--- what the source's bytes were comes of those that are left, behind what was read
-abbrev pub Follows : {A : Type 0} → Option (List ℕ) → Option (List ℕ) → Loader A → Type 0
-Follows None left l = Unit {0}
-Follows (Some all) None l = ⊥
-Follows (Some all) (Some left) l = program_of all ≡ resumed l left

@@ -15,5 +15,5 @@ pub use fault::{FaultKind, LineFault};
 pub use letter::Letter;
 pub use line::reading::read_line;
 pub use line::{Line, LineView, RawSetting, RawWord};
-pub use program::{Program, ReadFault};
+pub use program::{Program, ProgramReader, ReadFault};
 pub use token::{Operator, Symbol, Token};

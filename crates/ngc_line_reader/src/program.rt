@@ -9,7 +9,6 @@ ghost use Rattle.ngc_line_reader.specs.ProgramView.{text_in, lines_in, OutcomeIs
 ghost use Rattle.ngc_line_reader.specs.declared.program.fault.ReadFault.TheVariants.{Device};
 
 use crate::line::Line;
-use crate::program::loader::{Loader, Step};
 use crate::program::stored::StoredLines;
 use ngc_fixed_length::Source;
 use std::alloc::Allocator;
@@ -18,9 +17,11 @@ mod fault;
 mod loader;
 mod parts;
 mod phase;
+mod reader;
 mod stored;
 
 pub use fault::ReadFault;
+pub use reader::ProgramReader;
 
 /// A part program: the lines that are read.
 #[derive(Drop)]
@@ -79,8 +80,10 @@ impl<A: Allocator> Program<A> {
         self.lines.load(index, line)
     }
 
+    #[tactic(auto, using(crate::proofs::StoredLaws::stored_readings))]
     fn new(lines: StoredLines<A>, marked: bool) -> Program<A>
-        ensures { text_in result ≡ record { lines = lines_in lines; marked = marked } }
+        ensures text { text_in result ≡ record { lines = lines_in lines; marked = marked } }
+        ensures readings { HaveReadings (text_in result).lines }
     {
         Program { lines, marked }
     }
@@ -97,8 +100,7 @@ impl<A: Allocator> Program<A> {
         // Only a source that failed is said to have failed.
         ensures device { result ≡ Err Device → Rises (R.failures source.old) (R.failures source.new) }
     {
-        let mut loader = Loader::new(alloc);
-        let mut reading = Line::empty();
+        let mut reader = ProgramReader::new(alloc);
         let mut chunk = [0u8; 65_536];
         loop {
             let count = match source.pull(&mut chunk) {
@@ -106,13 +108,16 @@ impl<A: Allocator> Program<A> {
                 Err(_) => return Err(ReadFault::Device),
             };
             if count == 0 {
-                return loader.finish(&mut reading);
+                return reader.finish();
             }
-            match loader.feed(&chunk[..count], &mut reading) {
-                Ok(Step::More) => {}
-                Ok(Step::End) => return Ok(loader.into_program()),
+            match reader.feed(&chunk[..count]) {
+                Ok(()) => {}
                 Err(fault) => return Err(fault),
             }
+            if reader.has_ended() {
+                break;
+            }
         }
+        reader.finish()
     }
 }

@@ -1,10 +1,12 @@
-ghost use Rattle.std.specs.Prelude.{◌≡◌, ◌≢◌, ℕ, ◌+◌, ◌≤◌, ◌<◌, List, [], ◌∷◌, ◌++◌, length, IfOk, IfErr, OnOk, MatchOption, MatchResult, true, None, Ok};
-ghost use Rattle.ngc_line_reader.specs.ProgramText.{HaveReadings, HasReading, fault_of, program_of};
+ghost use Rattle.std.specs.Prelude.{◌≡◌, ◌≢◌, ℕ, ◌+◌, ◌≤◌, ◌<◌, List, [], ◌∷◌, ◌++◌, length, IfOk, IfErr, OnOk, MatchOption, MatchResult, true, None, Ok, Err};
+ghost use Rattle.ngc_line_reader.specs.ProgramText.{HaveReadings, fault_of, program_of};
 ghost use Rattle.ngc_line_reader.specs.ReadLine.{line_read};
 ghost use Rattle.ngc_line_reader.specs.ScanLine.{said_of};
 ghost use Rattle.ngc_line_reader.specs.ProgramView.{text_in, lines_in, FaultIs, OutcomeIs};
 ghost use Rattle.ngc_line_reader.specs.Stored.{line_of};
-ghost use Rattle.ngc_line_reader.specs.Load.{is_percent as is_percent_line, number_in, ended, next_line, TakesLine, RefusedBy, StepGives, walked, resumed, IsGoing, IsLoading, IsSplit, NoFeed, room_behind, room_of};
+ghost use Rattle.ngc_line_reader.specs.Load.{is_percent as is_percent_line, number_in, ended, next_line, TakesLine, RefusedBy, StepGives, walked, resumed, standing, IsOfLines, PartsLines, IsLoading, IsSplit, NoFeed, room_behind, room_of};
+ghost use Rattle.ngc_line_reader.specs.Pieces.{firm_lines, fault_so_far};
+ghost use Rattle.ngc_line_reader.specs.Program.{split_lines};
 
 use crate::fault::{FaultKind, LineFault};
 use crate::line::Line;
@@ -54,7 +56,6 @@ fn check_line(phase: Phase, done: usize, bytes: &[u8], reading: &mut Line) -> Re
     ensures number { IfOk result (λ n. n ≡ number_in phase done) }
     ensures few { OnOk result (done < 100000) }
     ensures sound { OnOk result (fault_of done (line_of (number_in phase done) bytes.now) ≡ None) }
-    ensures read { OnOk result (HasReading (line_of (number_in phase done) bytes.now)) }
     ensures held { OnOk result (line_read bytes.now ≡ Ok (said_of reading.new)) }
     ensures refused { IfErr result (λ e. RefusedBy (fault_of done (line_of (number_in phase done) bytes.now)) e) }
 {
@@ -63,11 +64,7 @@ fn check_line(phase: Phase, done: usize, bytes: &[u8], reading: &mut Line) -> Re
     }
     let number = phase.number(done);
     match reading.read(bytes) {
-        Ok(()) => {
-            // The array of words says that there are at most 64.
-            let _words = reading.words.as_slice();
-            Ok(number)
-        }
+        Ok(()) => Ok(number),
         Err(fault) => Err(ReadFault::Line(number, fault)),
     }
 }
@@ -87,9 +84,7 @@ impl<A: Allocator> LinesSoFar<A> {
 
     // The next line, which is no `%` line.
     fn read_line(&mut self, bytes: &[u8], reading: &mut Line) -> Result<(), ReadFault>
-        requires { IsGoing self.old }
         ensures taken { OnOk result (TakesLine self.old self.new bytes.now) }
-        ensures going { OnOk result (IsGoing self.new) }
         ensures refused { IfErr result (λ e. RefusedBy (fault_of (length (lines_in self.old.lines)) (next_line self.old bytes.now)) e) }
     {
         match check_line(self.phase, self.lines.len(), bytes, reading) {
@@ -106,9 +101,7 @@ impl<A: Allocator> LinesSoFar<A> {
 
     // A `%` line marks the file in front, and ends its text later.
     fn take_percent(&mut self) -> Step
-        requires { IsGoing self.old }
         ensures step { (ls : List (List ℕ)) (bytes : List ℕ) → is_percent_line bytes ≡ true → StepGives (Ok result) (walked self.old (bytes ∷ ls)) (walked self.new ls) (ended self.new) }
-        ensures going { IsGoing self.new }
         ensures progress { result ≡ Step.More → room_behind self.new + 257 ≤ room_behind self.old }
     {
         match self.phase {
@@ -122,10 +115,8 @@ impl<A: Allocator> LinesSoFar<A> {
 
     // The next line.
     fn take_line(&mut self, bytes: &[u8], reading: &mut Line) -> Result<Step, ReadFault>
-        requires { IsGoing self.old }
         ensures step { (ls : List (List ℕ)) → StepGives result (walked self.old (bytes.now ∷ ls)) (walked self.new ls) (ended self.new) }
-        ensures going { OnOk result (IsGoing self.new) }
-        ensures quiet { IfErr result (λ e. e ≢ ReadFault.Device) }
+        ensures quiet { IfErr result (λ e. IsOfLines e) }
         ensures progress { result ≡ Ok Step.More → room_behind self.new + length bytes.now + 1 ≤ room_behind self.old }
     {
         if is_percent(bytes) {
@@ -139,9 +130,8 @@ impl<A: Allocator> LinesSoFar<A> {
 
     // Why a line of more than 256 bytes is refused.
     fn long_line(&self) -> ReadFault
-        requires { IsGoing self.now }
         ensures value { (bytes : List ℕ) → 256 < length bytes → RefusedBy (fault_of (length (lines_in self.now.lines)) (next_line self.now bytes)) result }
-        ensures quiet { result ≢ ReadFault.Device }
+        ensures quiet { IsOfLines result }
     {
         if self.lines.len() >= LINES {
             return ReadFault::TooManyLines;
@@ -154,7 +144,6 @@ impl<A: Allocator> LinesSoFar<A> {
     }
 
     fn into_program(self) -> Program<A>
-        requires { IsGoing self }
         ensures text { text_in result ≡ ended self }
         ensures readings { HaveReadings (text_in result).lines }
     {
@@ -165,10 +154,9 @@ impl<A: Allocator> LinesSoFar<A> {
     // No line comes any more.
     #[tactic(auto, using(crate::proofs::Walk::walk_end))]
     fn finish(self) -> Result<Program<A>, ReadFault>
-        requires { IsGoing self }
         ensures text { OutcomeIs result (walked self []) }
         ensures readings { IfOk result (λ p. HaveReadings (text_in p).lines) }
-        ensures quiet { IfErr result (λ e. e ≢ ReadFault.Device) }
+        ensures quiet { result ≢ Err ReadFault.Device }
     {
         if self.phase == Phase::Marked {
             return Err(ReadFault::NoEnd);
@@ -182,7 +170,8 @@ impl<A: Allocator> Loader<A> {
     where
         A: Copy,
         ensures loading { IsLoading result }
-        ensures begins { (bytes : List ℕ) → program_of bytes ≡ resumed result bytes }
+        ensures begins { (bytes : List ℕ) → program_of bytes ≡ resumed split_lines result bytes }
+        ensures firm { (bytes : List ℕ) → fault_so_far bytes ≡ standing (resumed firm_lines result bytes) }
     {
         Loader {
             found: LinesSoFar::new(alloc),
@@ -194,9 +183,9 @@ impl<A: Allocator> Loader<A> {
     fn keep(&mut self, piece: &[u8]) -> Result<(), ReadFault>
         requires loading { IsLoading self.old }
         requires feedless { NoFeed piece.now }
-        ensures step { (rest : List ℕ) → MatchResult result (λ _. resumed self.old (piece.now ++ rest) ≡ resumed self.new rest) (λ e. FaultIs e (resumed self.old (piece.now ++ rest))) }
+        ensures step { (lines : List ℕ → List (List ℕ)) → PartsLines lines → (rest : List ℕ) → MatchResult result (λ _. resumed lines self.old (piece.now ++ rest) ≡ resumed lines self.new rest) (λ e. FaultIs e (resumed lines self.old (piece.now ++ rest))) }
         ensures loading { OnOk result (IsLoading self.new) }
-        ensures quiet { IfErr result (λ e. e ≢ ReadFault.Device) }
+        ensures quiet { IfErr result (λ e. IsOfLines e) }
         ensures progress { OnOk result (room_of self.new + length piece.now ≤ room_of self.old) }
     {
         match self.cut.try_extend_from_slice(piece) {
@@ -210,8 +199,7 @@ impl<A: Allocator> Loader<A> {
         requires { IsLoading self.old }
         ensures step { (ls : List (List ℕ)) → StepGives result (walked self.old.found (self.old.cut.items ∷ ls)) (walked self.new.found ls) (ended self.new.found) }
         ensures empty { OnOk result (self.new.cut.items ≡ []) }
-        ensures going { OnOk result (IsGoing self.new.found) }
-        ensures quiet { IfErr result (λ e. e ≢ ReadFault.Device) }
+        ensures quiet { IfErr result (λ e. IsOfLines e) }
         ensures progress { result ≡ Ok Step.More → room_of self.new + 1 ≤ room_of self.old }
     {
         match self.found.take_line(self.cut.as_slice(), reading) {
@@ -227,9 +215,9 @@ impl<A: Allocator> Loader<A> {
     fn end_line(&mut self, piece: &[u8], reading: &mut Line) -> Result<Step, ReadFault>
         requires loading { IsLoading self.old }
         requires feedless { NoFeed piece.now }
-        ensures step { (rest : List ℕ) → StepGives result (resumed self.old (piece.now ++ (10 ∷ rest))) (resumed self.new rest) (ended self.new.found) }
+        ensures step { (lines : List ℕ → List (List ℕ)) → PartsLines lines → (rest : List ℕ) → StepGives result (resumed lines self.old (piece.now ++ (10 ∷ rest))) (resumed lines self.new rest) (ended self.new.found) }
         ensures loading { OnOk result (IsLoading self.new) }
-        ensures quiet { IfErr result (λ e. e ≢ ReadFault.Device) }
+        ensures quiet { IfErr result (λ e. IsOfLines e) }
         ensures progress { result ≡ Ok Step.More → room_of self.new + length piece.now + 1 ≤ room_of self.old }
     {
         if self.cut.is_empty() {
@@ -244,9 +232,9 @@ impl<A: Allocator> Loader<A> {
     /// More bytes of the file.
     pub(crate) fn feed(&mut self, chunk: &[u8], reading: &mut Line) -> Result<Step, ReadFault>
         requires { IsLoading self.old }
-        ensures step { (rest : List ℕ) → StepGives result (resumed self.old (chunk.now ++ rest)) (resumed self.new rest) (ended self.new.found) }
+        ensures step { (lines : List ℕ → List (List ℕ)) → PartsLines lines → (rest : List ℕ) → StepGives result (resumed lines self.old (chunk.now ++ rest)) (resumed lines self.new rest) (ended self.new.found) }
         ensures loading { OnOk result (IsLoading self.new) }
-        ensures quiet { IfErr result (λ e. e ≢ ReadFault.Device) }
+        ensures quiet { IfErr result (λ e. IsOfLines e) }
         ensures progress { result ≡ Ok Step.More → room_of self.new + length chunk.now ≤ room_of self.old }
     {
         let mut rest = chunk;
@@ -265,7 +253,6 @@ impl<A: Allocator> Loader<A> {
 
     /// The program, where the text has ended.
     pub(crate) fn into_program(self) -> Program<A>
-        requires { IsGoing self.found }
         ensures text { text_in result ≡ ended self.found }
         ensures readings { HaveReadings (text_in result).lines }
     {
@@ -276,9 +263,9 @@ impl<A: Allocator> Loader<A> {
     /// The program, where no byte comes any more.
     pub(crate) fn finish(mut self, reading: &mut Line) -> Result<Program<A>, ReadFault>
         requires { IsLoading self }
-        ensures text { OutcomeIs result (resumed self []) }
+        ensures text { OutcomeIs result (resumed split_lines self []) }
         ensures readings { IfOk result (λ p. HaveReadings (text_in p).lines) }
-        ensures quiet { IfErr result (λ e. e ≢ ReadFault.Device) }
+        ensures quiet { result ≢ Err ReadFault.Device }
     {
         if self.cut.is_empty() {
             let Loader { found, cut: _ } = self;

@@ -1,14 +1,13 @@
 -- What is left of the source comes to what all of it does.
 use Rattle.std.proofs.Common.{◌≡◌}
-use Rattle.ngc_line_reader.specs.Load.{IsLoading, room_of, Follows}
+use Rattle.ngc_line_reader.specs.ReaderView.{room_in, Follows}
 use Rattle.ngc_line_reader.proofs.program.Program.read.Given as goal
 
 abbrev pub invariant-loop-count : goal.invariant-loop-count
 invariant-loop-count g l = record {
-  text : Follows (g.R.Source.remaining l.initial.source) (g.R.Source.remaining l.source) l.loader;
-  loading : IsLoading l.loader;
+  text : Follows (g.R.Source.remaining l.initial.source) (g.R.Source.remaining l.source) l.reader;
   failures : g.R.Source.failures l.source ≡ g.R.Source.failures l.initial.source;
 }
 
 abbrev pub decreases-loop-count : goal.decreases-loop-count
-decreases-loop-count g l = room_of l.loader
+decreases-loop-count g l = room_in l.reader
