@@ -2,6 +2,7 @@
 use Rattle.std.proofs.Common.{◌≡◌, ℕ, List, [], ◌∷◌, map, true, false, refl}
 use Rattle.std.specs.Prelude.{codes}
 use Rattle.ngc_line_reader.specs.Program.{lines_of, read_lines, lacks_end}
+use Rattle.ngc_line_reader.specs.Pieces.{firm_lines}
 
 abbrev read_bytes : List ℕ → List (List ℕ)
 read_bytes bytes = map (λ line. line.bytes) (read_lines (lines_of bytes))
@@ -20,3 +21,6 @@ lone_percent = refl
 
 empty_marked : lacks_end (lines_of (codes "%\n%\nno such (")) ≡ false
 empty_marked = refl
+
+begun_line : firm_lines (codes "G0 X1\n\nX2") ≡ codes "G0 X1" ∷ ([] ∷ [])
+begun_line = refl

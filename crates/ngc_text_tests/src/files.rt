@@ -8,7 +8,7 @@ use std::alloc::Global;
 use std::process::Abort;
 use std::test::Fail;
 
-fn read(alloc: Global, bytes: &[u8]) -> Result<Program<Global>, ReadFault> {
+pub fn read(alloc: Global, bytes: &[u8]) -> Result<Program<Global>, ReadFault> {
     Program::read(alloc, &mut Device::new(bytes))
 }
 
@@ -28,7 +28,7 @@ fn read_slowly(
 }
 
 // How many lines are read, and whether the file is marked.
-type Shape = Result<(usize, bool), ReadFault>;
+pub type Shape = Result<(usize, bool), ReadFault>;
 
 fn shape(alloc: Global, bytes: &[u8]) -> Shape {
     let program = read(alloc, bytes)?;
@@ -66,7 +66,7 @@ const BAD_END: ReadFault = ReadFault::Line(
     },
 );
 
-const FILES: &[(&str, Shape)] = &[
+pub const FILES: &[(&str, Shape)] = &[
     ("G0 X1\n\n(a)\nM2", Ok((4, false))),
     ("\n%\nG0 X1\n%\nno such (", Ok((2, true))),
     (" %\t\r\nM2\n\t% ", Ok((1, true))),
@@ -130,7 +130,7 @@ const LONG_FILES: &[(&str, &str, usize, &str, Shape)] = &[
     ("", "X1\n", 100_000, "bad (", Err(ReadFault::TooManyLines)),
 ];
 
-fn file_of(
+pub fn file_of(
     alloc: Global,
     front: &str,
     piece: &str,
@@ -233,7 +233,7 @@ fn faults(rt: HostRuntime) -> Result<(), Fail> {
     Ok(())
 }
 
-fn are_same(one: &Program<Global>, other: &Program<Global>) -> bool {
+pub fn are_same(one: &Program<Global>, other: &Program<Global>) -> bool {
     for index in 0..one.len() {
         if !has_line(other, index, one.number(index), one.bytes(index)) {
             return false;

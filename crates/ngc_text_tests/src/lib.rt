@@ -22,4 +22,6 @@ mod numbers;
 #[cfg(test)]
 mod parameters;
 #[cfg(test)]
+mod pieces;
+#[cfg(test)]
 mod values;
