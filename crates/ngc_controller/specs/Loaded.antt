@@ -1,9 +1,12 @@
 -- A loaded command with its path and the place on it. Our own.
 use Rattle.std.specs.Prelude.{◌≡◌, ℕ, ◌+◌, ◌≤◌, List, [], Bool, if◌then◌else◌}
+use Rattle.std.specs.List.{AllByRecursion}
 use Rattle.ngc_fixed_length.specs.declared.points.StepPos.{StepPos}
 use Rattle.ngc_planner.specs.Bounds.{IsMotion}
 use Rattle.ngc_planner.specs.Caps.{STEPS_LIMIT}
-use Rattle.ngc_behaviour.specs.State.{Queued, path_steps}
+use Rattle.ngc_events.specs.declared.event.Event.{Event}
+use Rattle.ngc_events.specs.declared.event.Event.TheVariants.{Load, Tick, Hold, Resume, Override, StopSwitch, Start}
+use Rattle.ngc_behaviour.specs.State.{State, Queued, path_steps}
 use Rattle.ngc_controller.specs.declared.route.Route.{Route}
 use Rattle.ngc_controller.specs.declared.route.Route.TheVariants.{Line, Arc, Still}
 
@@ -32,3 +35,17 @@ pub record IsLoaded (queued : Queued) (steps : ℕ) : Type 0 where
   pub count : steps ≡ path_steps queued
   pub few : steps ≤ STEPS_LIMIT
   pub moves : 1 ≤ steps → IsMotion queued.command.action
+
+-- each of these paths has at most so many path steps
+abbrev pub AreShort : List Queued → Type 0
+AreShort queue = AllByRecursion (λ (l : Queued). path_steps l ≤ STEPS_LIMIT) queue
+
+-- so has the path of a command that an event loads
+abbrev pub LoadsShort : Event → State → State → Type 0
+LoadsShort Load old new = AreShort old.ring → AreShort new.ring
+LoadsShort Tick old new = Unit {0}
+LoadsShort Hold old new = Unit {0}
+LoadsShort Resume old new = Unit {0}
+LoadsShort (Override n) old new = Unit {0}
+LoadsShort (StopSwitch on) old new = Unit {0}
+LoadsShort Start old new = Unit {0}

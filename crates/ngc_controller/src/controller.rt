@@ -1,4 +1,4 @@
-ghost use Rattle.std.specs.Prelude.{◌≡◌, ◌++◌, ◌∷◌, [], true, false, Ok, IfOk, IfErr, OnErr};
+ghost use Rattle.std.specs.Prelude.{◌≡◌, ◌≤◌, ◌++◌, ◌∷◌, [], true, false, Ok, IfOk, IfErr, OnErr};
 ghost use Rattle.circular_buffer.specs.Buffer.{keep_last};
 ghost use Rattle.ngc_behaviour.specs.Headline.{job_of};
 ghost use Rattle.ngc_behaviour.specs.Progress.{GoesOn, TravelsAtLeast};
@@ -6,7 +6,8 @@ ghost use Rattle.ngc_behaviour.specs.State.{opening, command_at, loaded};
 ghost use Rattle.ngc_behaviour.specs.Step.{Step, LoadCommand, Rests, Serves, TickBy};
 ghost use Rattle.ngc_checker.specs.Accepted.{commands_at};
 ghost use Rattle.ngc_controller.specs.Controller.{KEPT, from_the_last};
-ghost use Rattle.ngc_controller.specs.Fields.{TravelsOn, IsServed};
+ghost use Rattle.ngc_controller.specs.Fields.{DWELL_LIMIT, TravelsOn, IsServed};
+ghost use Rattle.ngc_controller.specs.Loaded.{AreShort, LoadsShort};
 ghost use Rattle.ngc_controller.specs.Ring.{IsMoving};
 
 use crate::ending::{dwells_on, ending_of, panel_after, tool_after};
@@ -105,6 +106,7 @@ impl<K: ArcKernel + Drop, A: Allocator + Copy> Controller<K, A> {
         ensures job { self.new.job ≡ self.old.job }
         ensures step { Step self.old.job self.old.state event result self.new.state }
         ensures goes_on { GoesOn self.old.job self.old.state event self.new.state }
+        ensures short { LoadsShort event self.old.state self.new.state }
         ensures recent { IfOk result (λ reply. self.new.recent ≡ keep_last KEPT (self.old.recent ++ reply ∷ [])) }
         ensures refused { OnErr result (self.new ≡ self.old) }
     {
@@ -121,6 +123,7 @@ impl<K: ArcKernel + Drop, A: Allocator + Copy> Controller<K, A> {
         ensures recent { self.new.recent ≡ self.old.recent }
         ensures step { Step self.old.job self.old.state event result self.new.state }
         ensures goes_on { GoesOn self.old.job self.old.state event self.new.state }
+        ensures short { LoadsShort event self.old.state self.new.state }
         ensures refused { OnErr result (self.new ≡ self.old) }
     {
         match event {
@@ -151,6 +154,7 @@ impl<K: ArcKernel + Drop, A: Allocator + Copy> Controller<K, A> {
         ensures job { self.new.job ≡ self.old.job }
         ensures recent { self.new.recent ≡ self.old.recent }
         ensures loads { LoadCommand self.old.job self.old.state (command_at self.old.job (loaded self.old.state)) result self.new.state }
+        ensures short { AreShort self.old.state.ring → AreShort self.new.state.ring }
         ensures refused { OnErr result (self.new ≡ self.old) }
     {
         let machine = self.accepted.machine();
@@ -277,6 +281,14 @@ impl<K: ArcKernel + Drop, A: Allocator + Copy> Controller<K, A> {
         ensures { result ≡ self.now.state.rate }
     {
         self.progress.drive.ramp.rate()
+    }
+
+    /// How many ticks the command at the head has dwelt, at most 2^100.
+    pub fn dwelt(&self) -> u128
+        ensures value { result ≡ self.now.state.dwelt }
+        ensures few { result ≤ DWELL_LIMIT }
+    {
+        self.progress.dwelt
     }
 
     /// The tool that is mounted.

@@ -102,6 +102,7 @@ impl<K: ArcKernel + Drop> Loaded<K> {
         ensures command { result.queued.command ≡ command.now }
         ensures takes { (job : Job) → job.machine.step ≡ step → MayTake job command.now.action result.queued.path }
         ensures place { result.place ≡ 0 }
+        ensures few { path_steps result.queued ≤ STEPS_LIMIT }
     {
         let route = Route::of(&command.action, step);
         let steps = route.path_steps();
