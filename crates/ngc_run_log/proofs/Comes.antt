@@ -56,7 +56,7 @@ is_run job s t events outcomes safe in_time opens stretch =
       in_time = in_time events outcomes stretch.states runs goes_on;
     }
 
-reports : (job : Job) (s : State) (a b : Recorder) (events : List Event) (outcomes : List Outcome) → AreNew job s a → Counts events outcomes a.report b.report → Reports job events outcomes b.report
+pub reports : (job : Job) (s : State) (a b : Recorder) (events : List Event) (outcomes : List Outcome) → AreNew job s a → Counts events outcomes a.report b.report → Reports job events outcomes b.report
 reports job s a b events outcomes new counts =
     let place : a.report.position ≡ (opening job.machine).position = ap (λ (r : Report). r.position) new.report ∙ ap (λ (x : State). x.position) new.opens in
     record {
@@ -67,7 +67,7 @@ reports job s a b events outcomes new counts =
     }
 
 -- the log is what was written and what is still collected
-log_is : (job : Job) (s : State) (a b : Recorder) (x y : Option (List ℕ)) (outcomes : List Outcome) → AreNew job s a → (k : Collects x y a.chunk (log outcomes) b.chunk) → k.front ++ b.chunk ≡ log outcomes
+pub log_is : (job : Job) (s : State) (a b : Recorder) (x y : Option (List ℕ)) (outcomes : List Outcome) → AreNew job s a → (k : Collects x y a.chunk (log outcomes) b.chunk) → k.front ++ b.chunk ≡ log outcomes
 log_is job s a b x y outcomes new k = sym k.splits ∙ ap (λ l. l ++ log outcomes) new.chunk
 
 all_taken : (lines : List EventLine) (i : ℕ) → length lines ≤ i → events_of (take i lines) ≡ events_of lines

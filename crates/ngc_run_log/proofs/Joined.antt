@@ -21,7 +21,7 @@ use Rattle.ngc_run_log.specs.Recording.{last_state, Stretch, Counts, AreAtMost, 
 
 -- ---- lists
 
-count_by-append : {X : Type 0} (p : X → Bool) (xs ys : List X) → count_by p (xs ++ ys) ≡ count_by p xs + count_by p ys
+pub count_by-append : {X : Type 0} (p : X → Bool) (xs ys : List X) → count_by p (xs ++ ys) ≡ count_by p xs + count_by p ys
 count_by-append p xs ys = sum_by-append (λ x. cond (p x) 1 0) xs ys
 
 last_state-append : (s : State) (xs ys : List State) → last_state s (xs ++ ys) ≡ last_state (last_state s xs) ys
@@ -59,7 +59,7 @@ same_lengths job s [] [] (x ∷ xs) r = absurd r
 same_lengths job s (e ∷ es) [] xs r = absurd r
 same_lengths job s (e ∷ es) (o ∷ os) [] r = absurd r
 
-stretches_joined : (job : Job) (s t u : State) (es fs : List Event) (os ps : List Outcome) → Stretch job s t es os → Stretch job t u fs ps → Stretch job s u (es ++ fs) (os ++ ps)
+pub stretches_joined : (job : Job) (s t u : State) (es fs : List Event) (os ps : List Outcome) → Stretch job s t es os → Stretch job t u fs ps → Stretch job s u (es ++ fs) (os ++ ps)
 stretches_joined job s t u es fs os ps a b =
     let R : State → Type 0 = λ x. Run job x fs ps b.states in
     let K : State → Type 0 = λ x. KeepGoing job x fs b.states in
@@ -72,7 +72,7 @@ stretches_joined job s t u es fs os ps a b =
 
 -- ---- counts
 
-counts_joined : (es fs : List Event) (os ps : List Outcome) (r s t : Report) → Counts es os r s → Counts fs ps s t → Counts (es ++ fs) (os ++ ps) r t
+pub counts_joined : (es fs : List Event) (os ps : List Outcome) (r s t : Report) → Counts es os r s → Counts fs ps s t → Counts (es ++ fs) (os ++ ps) r t
 counts_joined es fs os ps r s t a b =
     let places : positions (os ++ ps) ≡ positions os ++ positions ps = flat_map-append position_in os ps in
     record {
@@ -89,7 +89,7 @@ few_positions (o ∷ os) few = omega (arith, few o, few_positions os few, length
 
 -- ---- the log
 
-collected_both : (a b c : Option (List ℕ)) (x y z s t : List ℕ) → Collects a b x s y → Collects b c y t z → Collects a c x (s ++ t) z
+pub collected_both : (a b c : Option (List ℕ)) (x y z s t : List ℕ) → Collects a b x s y → Collects b c y t z → Collects a c x (s ++ t) z
 collected_both a b c x y z s t p q = record {
   front = p.front ++ q.front;
   writes = appends_both a b c p.front q.front p.writes q.writes;
@@ -98,7 +98,7 @@ collected_both a b c x y z s t p q = record {
 }
 
 -- a write that failed leaves a beginning of all
-begun_after : (a b c : Option (List ℕ)) (x y s t : List ℕ) → Collects a b x s y → AppendsBeginning b c (y ++ t) → AppendsBeginning a c (x ++ (s ++ t))
+pub begun_after : (a b c : Option (List ℕ)) (x y s t : List ℕ) → Collects a b x s y → AppendsBeginning b c (y ++ t) → AppendsBeginning a c (x ++ (s ++ t))
 begun_after a b c x y s t p q =
     let P : List ℕ → Type 0 = λ text. AppendsBeginning a c text in
     let whole : p.front ++ ((y ++ t) ++ []) ≡ x ++ (s ++ t) =
@@ -143,7 +143,7 @@ nothing_recorded job s a x = record {
   collects = record { front = []; writes = Appends-nil x; splits = append-nil a.chunk };
 }
 
-one_step : (job : Job) (s t : State) (e : Event) (o : Outcome) → Step job s e o t → GoesOn job s e t → Stretch job s t (e ∷ []) (o ∷ [])
+pub one_step : (job : Job) (s t : State) (e : Event) (o : Outcome) → Step job s e o t → GoesOn job s e t → Stretch job s t (e ∷ []) (o ∷ [])
 one_step job s t e o does goes = record { states = t ∷ []; runs = (does, tt); goes_on = (goes, tt); last = refl }
 
 -- one event

@@ -2,3 +2,7 @@ pub mod Added
 pub mod Joined
 pub mod Turns
 pub mod Comes
+-- a run that goes through the program by itself
+pub mod Ticks
+pub mod Untouched
+pub mod WholeRun

@@ -1,3 +1,5 @@
 pub mod Log
 pub mod Recording
 pub mod Runs
+pub mod Through
+pub mod Stretches

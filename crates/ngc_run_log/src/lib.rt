@@ -5,6 +5,8 @@ mod log_line;
 mod recorder;
 mod report;
 mod runner;
+mod through;
 
 pub use report::{Report, RunFault};
 pub use runner::run;
+pub use through::run_through;

@@ -1,0 +1,312 @@
+-- Loads, ticks and starts: none is refused, and the machine stays untouched.
+use Rattle.std.proofs.Common.{◌≡◌, inl, inr, ℕ, ◌+◌, ◌^◌, ◌<◌, ◌≤◌, ap, subst, sym, ◌∙◌, arith, refl, List, [], ◌∷◌, ◌++◌, length, length-append, length-drop, drop, Option, Some, None, Ok, Err, true, false, Bool, count_by}
+use Rattle.std.specs.Prelude.{MatchBool, nat_lt, slice_get, cond}
+use Rattle.std.specs.List.{AllByRecursion}
+use Rattle.std.proofs.lemmas.Bool.{lt-ltb}
+use Rattle.std.proofs.lemmas.List.{append_assoc, append-nil}
+use Rattle.std.proofs.KnownBytes.{Appends-nil}
+use Rattle.std.proofs.lemmas.Grind.{flat_map-append}
+use Rattle.std.proofs.lemmas.Option.{slice_get_cases}
+use Rattle.ngc_fixed_length.specs.declared.points.StepPos.{StepPos}
+use Rattle.ngc_fixed_length.specs.Written.{AppendsBeginning}
+use Rattle.ngc_canonical.specs.declared.command.Command.{Command}
+use Rattle.ngc_planner.specs.Caps.{STEPS_LIMIT}
+use Rattle.ngc_events.specs.declared.event.Event.{Event}
+use Rattle.ngc_events.specs.declared.event.Event.TheVariants.{Load, Tick, Start}
+use Rattle.ngc_behaviour.specs.declared.reply.Ending.{Ending}
+use Rattle.ngc_behaviour.specs.declared.reply.Reply.{Reply}
+use Rattle.ngc_behaviour.specs.declared.reply.Reply.TheVariants.{Loaded, Ticked, Started}
+use Rattle.ngc_behaviour.specs.declared.fault.EventFault.TheVariants.{RingFull}
+use Rattle.ngc_behaviour.specs.State.{Job, Queued, State, RING, loaded, command_at, path_steps}
+use Rattle.ngc_behaviour.specs.Step.{Outcome, Step, LoadCommand, MayTake}
+use Rattle.ngc_controller.specs.Controller.{ControllerData}
+use Rattle.ngc_controller.specs.Fields.{DWELL_LIMIT}
+use Rattle.ngc_controller.specs.Loaded.{AreShort}
+use Rattle.ngc_run_log.specs.declared.report.Report.{Report}
+use Rattle.ngc_run_log.specs.declared.recorder.Recorder.{Recorder}
+use Rattle.ngc_run_log.specs.Log.{log, text_of}
+use Rattle.ngc_run_log.specs.Runs.{is_refusal}
+use Rattle.ngc_run_log.specs.Recording.{Stretch, AreAtMost, Collects}
+use Rattle.ngc_run_log.specs.Through.{IsLoadTickOrStart}
+use Rattle.ngc_run_log.specs.Stretches.{IsUntouched, IsGiven, IsGivenLast, GoesBy, BreaksOff, TicksBy, spent, ending_in, does_in, SPENT_LIMIT}
+use Rattle.ngc_run_log.proofs.Joined.{one_step, stretches_joined, counts_joined, collected_both, begun_after, count_by-append, few_more}
+use Rattle.ngc_run_log.proofs.Ticks.{Goes, HasLeft, tick_goes}
+
+-- ---- lists
+
+all_both : {X : Type 0} (P : X → Type 0) (xs ys : List X) → AllByRecursion P xs → AllByRecursion P ys → AllByRecursion P (xs ++ ys)
+all_both P [] ys a b = b
+all_both P (x ∷ xs) ys a b = (a.0, all_both P xs ys a.1 b)
+
+all_behind : {X : Type 0} (P : X → Type 0) (xs : List X) → AllByRecursion P xs → AllByRecursion P (drop 1 xs)
+all_behind P [] a = tt
+all_behind P (x ∷ xs) a = a.1
+
+-- ---- a load
+
+-- the next command comes into the ring
+pub record Comes (job : Job) (old : State) (o : Outcome) (new : State) : Type 0 where
+  pub says : o ≡ Ok (Loaded (loaded old))
+  pub added : Queued
+  pub takes : MayTake job added.command.action added.path
+  pub is : new ≡ record old { ring = old.ring ++ added ∷ [] }
+
+load_by : (b : Bool) (job : Job) (old : State) (c : Command) (o : Outcome) (new : State) → b ≡ true →
+    MatchBool b
+    ((path : List StepPos) × MayTake job c.action path × (o ≡ Ok (Loaded (loaded old))) × (new ≡ record old { ring = old.ring ++ record { command = c; path = path } ∷ [] }))
+    ((o ≡ Err RingFull) × (new ≡ old)) → Comes job old o new
+load_by true job old c o new room t = record { says = t.2; added = record { command = c; path = t.0 }; takes = t.1; is = t.3 }
+load_by false job old c o new room t = cc
+
+load_comes : (job : Job) (old : State) (o : Outcome) (new : State) (c : Command) → command_at job (loaded old) ≡ Some c → length old.ring < RING → Step job old Load o new → Comes job old o new
+load_comes job old o new c found room t =
+    load_by (nat_lt (length old.ring) RING) job old c o new (lt-ltb (length old.ring) RING room) (subst (λ next. LoadCommand job old next o new) found t)
+
+found_within : (xs : List Command) (k : ℕ) → k < length xs → (c : Command) × (slice_get xs k ≡ Some c)
+found_within xs k h = elim ((slice_get_cases xs k).1) [
+  | inl f ↦ (f.0, f.2)
+  | inr p ↦ absurd (let past = p.0 in omega (arith, h, past))
+]
+
+pub comes : (job : Job) (old : State) (o : Outcome) (new : State) → loaded old < length job.commands → length old.ring < RING → Step job old Load o new → Comes job old o new
+comes job old o new left room t = let f = found_within job.commands (loaded old) left in load_comes job old o new f.0 f.1 room t
+
+-- ---- the machine stays untouched
+
+untouched_load : (job : Job) (old : State) (o : Outcome) (new : State) → IsUntouched job old → Comes job old o new → AreShort new.ring → IsUntouched job new
+untouched_load job old o new u c short =
+    let ring : new.ring ≡ old.ring ++ c.added ∷ [] = ap (λ (s : State). s.ring) c.is in
+    let t : new.travelled ≡ old.travelled = ap (λ (s : State). s.travelled) c.is in
+    let d : new.dwelt ≡ old.dwelt = ap (λ (s : State). s.dwelt) c.is in
+    record {
+      machine = u.machine;
+      not_held = ap (λ (s : State). s.held) c.is ∙ u.not_held;
+      percent = ap (λ (s : State). s.percent) c.is ∙ u.percent;
+      paths = subst (AllByRecursion (λ (l : Queued). MayTake job l.command.action l.path)) (sym ring) (all_both (λ (l : Queued). MayTake job l.command.action l.path) old.ring (c.added ∷ []) u.paths (c.takes, tt));
+      short = short;
+      travelled = omega (arith, t, u.travelled);
+      dwelt = omega (arith, d, u.dwelt);
+    }
+
+untouched_start : (job : Job) (old new : State) → IsUntouched job old → new ≡ record old { stopped = false } → IsUntouched job new
+untouched_start job old new u is =
+    let here : IsUntouched job (record old { stopped = false }) = record {
+      machine = u.machine;
+      not_held = u.not_held;
+      percent = u.percent;
+      paths = u.paths;
+      short = u.short;
+      travelled = u.travelled;
+      dwelt = u.dwelt;
+    } in
+    subst (IsUntouched job) (sym is) here
+
+all_left : (P : Queued → Type 0) (ended : Option Ending) (old new : State) → HasLeft ended old new → AllByRecursion P old.ring → AllByRecursion P new.ring
+all_left P None old new h a = subst (AllByRecursion P) (sym h.1) a
+all_left P (Some e) old new h a = subst (AllByRecursion P) (sym h.1) (all_behind P old.ring a)
+
+untouched_tick : (job : Job) (old : State) (o : Outcome) (new : State) → IsUntouched job old → Goes old o new → new.dwelt ≤ DWELL_LIMIT → IsUntouched job new
+untouched_tick job old o new u g brief = record {
+  machine = u.machine;
+  not_held = g.held ∙ u.not_held;
+  percent = g.percent ∙ u.percent;
+  paths = all_left (λ (l : Queued). MayTake job l.command.action l.path) g.ended old new g.ring u.paths;
+  short = all_left (λ (l : Queued). path_steps l ≤ STEPS_LIMIT) g.ended old new g.ring u.short;
+  travelled = g.travelled;
+  dwelt = brief;
+}
+
+-- ---- one event
+
+counted_fine : (o : Outcome) → is_refusal o ≡ false → count_by is_refusal (o ∷ []) ≡ 0
+counted_fine o fine = ap (λ b. 0 + cond b 1 0) fine
+
+goes_one : (event : Event) (o : Outcome) (loads does : ℕ) (old new : ControllerData) (a b : Recorder) (x y : Option (List ℕ)) → IsGiven event old new a b x y o → IsLoadTickOrStart event → is_refusal o ≡ false →
+    IsUntouched old.job new.state → new.state.done ≡ old.state.done + does → length new.state.ring + does ≡ length old.state.ring + loads → GoesBy 1 loads does old new a b x y
+goes_one event o loads does old new a b x y g kind fine u done ring =
+    let C : List ℕ → Type 0 = λ text. Collects x y a.chunk text b.chunk in
+    let J : Job → Type 0 = λ j. IsUntouched j new.state in
+    record {
+      events = event ∷ [];
+      outcomes = o ∷ [];
+      kinds = (kind, tt);
+      few = omega arith;
+      none_refused = counted_fine o fine;
+      job = g.job;
+      stretch = one_step old.job old.state new.state event o g.step g.goes_on;
+      counts = g.counts;
+      collects = subst C (sym (append-nil (text_of o))) g.collects;
+      untouched = subst J (sym g.job) u;
+      done = done;
+      ring = ring;
+    }
+
+breaks_one : (event : Event) (old : ControllerData) (a : Recorder) (x y : Option (List ℕ)) (g : IsGivenLast event old a x y) → IsLoadTickOrStart event → is_refusal g.outcome ≡ false → BreaksOff old a x y
+breaks_one event old a x y g kind fine =
+    let w = g.logged in
+    record {
+      events = event ∷ [];
+      outcomes = g.outcome ∷ [];
+      reached = g.reached;
+      kinds = (kind, tt);
+      none_refused = counted_fine g.outcome fine;
+      stretch = one_step old.job old.state g.reached event g.outcome g.step g.goes_on;
+      logged = (w.0, w.1 ++ log (g.outcome ∷ []), ap (λ l. l ++ log (g.outcome ∷ [])) w.2 ∙ append_assoc w.0 w.1 (log (g.outcome ∷ [])), w.3);
+    }
+
+fine_as : (o : Outcome) (r : Reply) → o ≡ Ok r → is_refusal o ≡ false
+fine_as o r e = ap is_refusal e
+
+-- ---- a load
+
+pub load_goes : (old new : ControllerData) (a b : Recorder) (x y : Option (List ℕ)) (o : Outcome) → IsUntouched old.job old.state → length old.state.ring < RING → loaded old.state < length old.job.commands →
+    IsGiven Load old new a b x y o → GoesBy 1 1 0 old new a b x y
+load_goes old new a b x y o u room left g =
+    let c = comes old.job old.state o new.state left room g.step in
+    let done : new.state.done ≡ old.state.done = ap (λ (s : State). s.done) c.is in
+    let ring : length new.state.ring ≡ length (old.state.ring ++ c.added ∷ []) = ap (λ (s : State). length s.ring) c.is in
+    let more = length-append old.state.ring (c.added ∷ []) in
+    goes_one Load o 1 0 old new a b x y g tt (fine_as o (Loaded (loaded old.state)) c.says) (untouched_load old.job old.state o new.state u c (g.short u.short)) (omega (arith, done)) (omega (arith, ring, more))
+
+pub load_runs : (old new : ControllerData) (a b : Recorder) (x y : Option (List ℕ)) (o : Outcome) → old.state.stopped ≡ false → length old.state.ring < RING → loaded old.state < length old.job.commands →
+    IsGiven Load old new a b x y o → new.state.stopped ≡ false
+load_runs old new a b x y o runs room left g = ap (λ (s : State). s.stopped) (comes old.job old.state o new.state left room g.step).is ∙ runs
+
+pub load_breaks : (old : ControllerData) (a : Recorder) (x y : Option (List ℕ)) → length old.state.ring < RING → loaded old.state < length old.job.commands → IsGivenLast Load old a x y → BreaksOff old a x y
+load_breaks old a x y room left g =
+    breaks_one Load old a x y g tt (fine_as g.outcome (Loaded (loaded old.state)) (comes old.job old.state g.outcome g.reached left room g.step).says)
+
+-- ---- a start
+
+pub start_goes : (old new : ControllerData) (a b : Recorder) (x y : Option (List ℕ)) (o : Outcome) → IsUntouched old.job old.state → IsGiven Start old new a b x y o → GoesBy 1 0 0 old new a b x y
+start_goes old new a b x y o u g =
+    let is : new.state ≡ record old.state { stopped = false } = g.step.1 in
+    let done : new.state.done ≡ old.state.done = ap (λ (s : State). s.done) is in
+    let ring : length new.state.ring ≡ length old.state.ring = ap (λ (s : State). length s.ring) is in
+    goes_one Start o 0 0 old new a b x y g tt (fine_as o Started g.step.0) (untouched_start old.job old.state new.state u is) (omega (arith, done)) (omega (arith, ring))
+
+pub start_runs : (old new : ControllerData) (a b : Recorder) (x y : Option (List ℕ)) (o : Outcome) → IsGiven Start old new a b x y o → new.state.stopped ≡ false
+start_runs old new a b x y o g = ap (λ (s : State). s.stopped) g.step.1
+
+pub start_breaks : (old : ControllerData) (a : Recorder) (x y : Option (List ℕ)) → IsGivenLast Start old a x y → BreaksOff old a x y
+start_breaks old a x y g = breaks_one Start old a x y g tt (fine_as g.outcome Started g.step.0)
+
+-- ---- a tick
+
+done_left : (ended : Option Ending) (old new : State) → HasLeft ended old new → 1 ≤ length old.ring → (new.done ≡ old.done + does_in ended) × (length new.ring + does_in ended ≡ length old.ring)
+done_left None old new h some = let d = h.0 in let r : length new.ring ≡ length old.ring = ap length h.1 in (omega (arith, d), omega (arith, r))
+done_left (Some e) old new h some =
+    let d = h.0 in
+    let r : length new.ring ≡ length (drop 1 old.ring) = ap length h.1 in
+    let less = length-drop 1 old.ring in
+    (omega (arith, d), omega (arith, r, less, some))
+
+pub tick_ticks : (old new : ControllerData) (a b : Recorder) (x y : Option (List ℕ)) (o : Outcome) → IsUntouched old.job old.state → old.state.stopped ≡ false → 1 ≤ length old.state.ring →
+    IsGiven Tick old new a b x y o → TicksBy old new a b x y (ending_in o)
+tick_ticks old new a b x y o u runs some g =
+    let t = tick_goes old.job old.state o new.state u runs some g.step g.goes_on in
+    let left = done_left t.ended old.state new.state t.ring some in
+    let ring = left.1 in
+    let same : t.ended ≡ ending_in o = sym (ap ending_in t.says) in
+    let here : TicksBy old new a b x y t.ended = record {
+      goes = goes_one Tick o 0 (does_in t.ended) old new a b x y g tt (fine_as o (Ticked t.position t.ended) t.says) (untouched_tick old.job old.state o new.state u t g.dwelt) left.0 (omega (arith, ring));
+      leaves = t.leaves;
+    } in
+    subst (TicksBy old new a b x y) same here
+
+pub tick_breaks : (old : ControllerData) (a : Recorder) (x y : Option (List ℕ)) → IsUntouched old.job old.state → old.state.stopped ≡ false → 1 ≤ length old.state.ring → IsGivenLast Tick old a x y → BreaksOff old a x y
+tick_breaks old a x y u runs some g =
+    let t = tick_goes old.job old.state g.outcome g.reached u runs some g.step g.goes_on in
+    breaks_one Tick old a x y g tt (fine_as g.outcome (Ticked t.position t.ended) t.says)
+
+-- ---- one stretch and then another
+
+pub none_yet : (n : ℕ) (old : ControllerData) (a : Recorder) (x : Option (List ℕ)) → IsUntouched old.job old.state → GoesBy n 0 0 old old a a x x
+none_yet n old a x u = record {
+  events = [];
+  outcomes = [];
+  kinds = tt;
+  few = omega arith;
+  none_refused = refl;
+  job = refl;
+  stretch = record { states = []; runs = tt; goes_on = tt; last = refl };
+  counts = record { ticks = omega arith; path_steps = omega arith; refused = omega arith; position = refl };
+  collects = record { front = []; writes = Appends-nil x; splits = append-nil a.chunk };
+  untouched = u;
+  done = omega arith;
+  ring = omega arith;
+}
+
+pub goes_both : (n m k p q r f g d : ℕ) (old mid new : ControllerData) (a b c : Recorder) (x y z : Option (List ℕ)) → GoesBy n p f old mid a b x y → GoesBy m q g mid new b c y z →
+    n + m ≤ k → r ≡ p + q → d ≡ f + g → GoesBy k r d old new a c x z
+goes_both n m k p q r f g d old mid new a b c x y z s t enough loads does =
+    let C : List ℕ → Type 0 = λ text. Collects x z a.chunk text c.chunk in
+    let S : Job → Type 0 = λ j. Stretch j mid.state new.state t.events t.outcomes in
+    let events = length-append s.events t.events in
+    let refused = count_by-append is_refusal s.outcomes t.outcomes in
+    record {
+      events = s.events ++ t.events;
+      outcomes = s.outcomes ++ t.outcomes;
+      kinds = all_both IsLoadTickOrStart s.events t.events s.kinds t.kinds;
+      few = omega (arith, events, s.few, t.few, enough);
+      none_refused = omega (arith, refused, s.none_refused, t.none_refused);
+      job = t.job ∙ s.job;
+      stretch = stretches_joined old.job old.state mid.state new.state s.events t.events s.outcomes t.outcomes s.stretch (subst S s.job t.stretch);
+      counts = counts_joined s.events t.events s.outcomes t.outcomes a.report b.report c.report s.counts t.counts;
+      collects = subst C (sym (flat_map-append text_of s.outcomes t.outcomes)) (collected_both x y z a.chunk b.chunk c.chunk (log s.outcomes) (log t.outcomes) s.collects t.collects);
+      untouched = t.untouched;
+      done = omega (arith, s.done, t.done, does);
+      ring = omega (arith, s.ring, t.ring, loads, does);
+    }
+
+pub breaks_later : (n p f : ℕ) (old mid : ControllerData) (a b : Recorder) (x y z : Option (List ℕ)) → GoesBy n p f old mid a b x y → BreaksOff mid b y z → BreaksOff old a x z
+breaks_later n p f old mid a b x y z s t =
+    let P : List ℕ → Type 0 = λ text. AppendsBeginning x z (a.chunk ++ text) in
+    let S : Job → Type 0 = λ j. Stretch j mid.state t.reached t.events t.outcomes in
+    let refused = count_by-append is_refusal s.outcomes t.outcomes in
+    record {
+      events = s.events ++ t.events;
+      outcomes = s.outcomes ++ t.outcomes;
+      reached = t.reached;
+      kinds = all_both IsLoadTickOrStart s.events t.events s.kinds t.kinds;
+      none_refused = omega (arith, refused, s.none_refused, t.none_refused);
+      stretch = stretches_joined old.job old.state mid.state t.reached s.events t.events s.outcomes t.outcomes s.stretch (subst S s.job t.stretch);
+      logged = subst P (sym (flat_map-append text_of s.outcomes t.outcomes)) (begun_after x y z a.chunk b.chunk (log s.outcomes) (log t.outcomes) s.collects t.logged);
+    }
+
+-- how large the counts are behind it
+pub few_behind : (n p f m k : ℕ) (old new : ControllerData) (a b : Recorder) (x y : Option (List ℕ)) → GoesBy n p f old new a b x y → AreAtMost m a.report → m + n ≤ k → AreAtMost k b.report
+few_behind n p f m k old new a b x y s few h =
+    few_more old.job old.state new.state a b x y s.events m k (record { outcomes = s.outcomes; stretch = s.stretch; counts = s.counts; collects = s.collects }) few (omega (arith, s.few, h))
+
+pub at_most_more : (n m : ℕ) (r : Report) → AreAtMost n r → n ≤ m → AreAtMost m r
+at_most_more n m r few h = record { ticks = omega (arith, few.ticks, h); path_steps = omega (arith, few.path_steps, h); refused = omega (arith, few.refused, h) }
+
+-- ---- what is spent
+
+pub spent_little : (job : Job) (s : State) → IsUntouched job s → spent s ≤ SPENT_LIMIT
+spent_little job s u = omega (arith, u.travelled, u.dwelt)
+
+-- ---- ticks on one head
+
+-- one more tick, in which no command ended
+pub tick_more : (ended : Option Ending) (old mid new : ControllerData) (a b c : Recorder) (x y z : Option (List ℕ)) → ended ≡ None → GoesBy (spent mid.state) 0 0 old mid a b x y → TicksBy mid new b c y z ended →
+    GoesBy (spent new.state) 0 0 old new a c x z × (new.state.stopped ≡ false)
+tick_more ended old mid new a b c x y z none s t =
+    let here : TicksBy mid new b c y z None = subst (TicksBy mid new b c y z) none t in
+    let spends = here.leaves.spends in (
+      goes_both (spent mid.state) 1 (spent new.state) 0 0 0 0 0 0 old mid new a b c x y z s here.goes (omega (arith, spends)) refl refl,
+      here.leaves.running,
+    )
+
+-- the tick in which the command ended
+pub tick_last : (ended : Option Ending) (e : Ending) (old mid new : ControllerData) (a b c : Recorder) (x y z : Option (List ℕ)) → ended ≡ Some e → GoesBy (spent mid.state) 0 0 old mid a b x y →
+    TicksBy mid new b c y z ended → GoesBy (SPENT_LIMIT + 1) 0 1 old new a c x z
+tick_last ended e old mid new a b c x y z some s t =
+    let here : TicksBy mid new b c y z (Some e) = subst (TicksBy mid new b c y z) some t in
+    let little = spent_little mid.job mid.state s.untouched in
+    goes_both (spent mid.state) 1 (SPENT_LIMIT + 1) 0 0 0 0 1 1 old mid new a b c x y z s here.goes (omega (arith, little)) refl refl
+
+-- and a start behind it
+pub head_done : (old mid new : ControllerData) (a b c : Recorder) (x y z : Option (List ℕ)) → GoesBy (SPENT_LIMIT + 1) 0 1 old mid a b x y → GoesBy 1 0 0 mid new b c y z → GoesBy (2 ^ 102) 0 1 old new a c x z
+head_done old mid new a b c x y z s t = goes_both (SPENT_LIMIT + 1) 1 (2 ^ 102) 0 0 0 1 0 1 old mid new a b c x y z s t (omega arith) refl refl

@@ -1,0 +1,112 @@
+-- What a run through a program comes to, from what is recorded of it.
+use Rattle.std.proofs.Common.{◌≡◌, ◌≤◌, ℕ, List, [], ◌++◌, length, Option, Bool, true, false, ap, sym, subst, ◌∙◌, arith, refl}
+use Rattle.std.proofs.lemmas.List.{append-nil}
+use Rattle.std.specs.Io.KnownBytes.{Appends}
+use Rattle.ngc_fixed_length.specs.Written.{AppendsBeginning}
+use Rattle.ngc_fixed_length.proofs.Appended.{appends_both, begins_after}
+use Rattle.ngc_machine.specs.MachineRanges.{IsMachine}
+use Rattle.ngc_canonical.specs.State.{COMMAND_LIMIT}
+use Rattle.ngc_checker.specs.Accepted.{AcceptedData, IsAccepted, commands_at}
+use Rattle.ngc_events.specs.declared.event.Event.{Event}
+use Rattle.ngc_behaviour.specs.Headline.{job_of, RunsSafely, RunsInTime}
+use Rattle.ngc_behaviour.specs.State.{Job, State, opening}
+use Rattle.ngc_behaviour.specs.Step.{Outcome}
+use Rattle.ngc_behaviour.specs.Run.{Run}
+use Rattle.ngc_behaviour.specs.Progress.{KeepGoing}
+use Rattle.ngc_controller.specs.Controller.{ControllerData}
+use Rattle.ngc_run_log.specs.declared.report.Report.{Report}
+use Rattle.ngc_run_log.specs.declared.recorder.Recorder.{Recorder}
+use Rattle.ngc_run_log.specs.Log.{log}
+use Rattle.ngc_run_log.specs.Runs.{IsRun, Reports}
+use Rattle.ngc_run_log.specs.Recording.{last_state, Stretch}
+use Rattle.ngc_run_log.specs.Through.{IsLoggedThrough, IsBrokenOff}
+use Rattle.ngc_run_log.specs.Stretches.{IsUntouched, GoesBy, BreaksOff}
+use Rattle.ngc_run_log.proofs.Comes.{AreNew, log_is, reports}
+
+-- before the first event
+pub opening_untouched : (job : Job) (s : State) → IsMachine job.machine → s ≡ opening job.machine → IsUntouched job s
+opening_untouched job s machine opens =
+    let here : IsUntouched job (opening job.machine) = record {
+      machine = machine;
+      not_held = refl;
+      percent = refl;
+      paths = tt;
+      short = tt;
+      travelled = omega arith;
+      dwelt = omega arith;
+    } in
+    subst (IsUntouched job) (sym opens) here
+
+opens_runs : (job : Job) (s t : State) (events : List Event) (outcomes : List Outcome) → RunsSafely job → RunsInTime job → s ≡ opening job.machine → Stretch job s t events outcomes →
+    (run : IsRun job events outcomes) × (t ≡ last_state (opening job.machine) run.states)
+opens_runs job s t events outcomes safe in_time opens stretch =
+    let R : State → Type 0 = λ x. Run job x events outcomes stretch.states in
+    let K : State → Type 0 = λ x. KeepGoing job x events stretch.states in
+    let runs : Run job (opening job.machine) events outcomes stretch.states = subst R opens stretch.runs in
+    let goes_on : KeepGoing job (opening job.machine) events stretch.states = subst K opens stretch.goes_on in
+    let run : IsRun job events outcomes = record {
+      states = stretch.states;
+      runs = runs;
+      is_safe = safe events outcomes stretch.states runs;
+      goes_on = goes_on;
+      in_time = in_time events outcomes stretch.states runs goes_on;
+    } in
+    (run, stretch.last ∙ ap (λ (x : State). last_state x stretch.states) opens)
+
+-- all is done and written
+pub through_logged : (n count : ℕ) (old new : ControllerData) (a b : Recorder) (x y z : Option (List ℕ)) (report : Report) → AreNew old.job old.state a → RunsSafely old.job → RunsInTime old.job →
+    count ≡ length old.job.commands → GoesBy n count count old new a b x y → Appends y z b.chunk → report ≡ b.report → IsLoggedThrough old.job x z report
+through_logged n count old new a b x y z report are_new safe in_time all s wrote same =
+    let P : List ℕ → Type 0 = λ text. Appends x z text in
+    let R : Report → Type 0 = λ r. Reports old.job s.events s.outcomes r in
+    let r = opens_runs old.job old.state new.state s.events s.outcomes safe in_time are_new.opens s.stretch in
+    let none : old.state.done ≡ 0 = ap (λ (x : State). x.done) are_new.opens in
+    let done : new.state.done ≡ length old.job.commands = omega (arith, s.done, none, all) in
+    record {
+      events = s.events;
+      outcomes = s.outcomes;
+      smooth = record { run = r.0; kinds = s.kinds; none_refused = s.none_refused };
+      done = ap (λ (x : State). x.done) (sym r.1) ∙ done;
+      logged = subst P (log_is old.job old.state a b x y s.outcomes are_new s.collects) (appends_both x y z s.collects.front b.chunk s.collects.writes wrote);
+      reports = subst R (sym same) (reports old.job old.state a b s.events s.outcomes are_new s.counts);
+    }
+
+-- all is done, and then a write failed
+pub through_unwritten : (n count : ℕ) (old new : ControllerData) (a b : Recorder) (x y z : Option (List ℕ)) → AreNew old.job old.state a → RunsSafely old.job → RunsInTime old.job →
+    GoesBy n count count old new a b x y → AppendsBeginning y z b.chunk → IsBrokenOff old.job x z
+through_unwritten n count old new a b x y z are_new safe in_time s wrote =
+    let front : List ℕ = s.collects.front in
+    let P : List ℕ → Type 0 = λ text. AppendsBeginning x z text in
+    let text : front ++ (b.chunk ++ []) ≡ log s.outcomes = ap (λ l. front ++ l) (append-nil b.chunk) ∙ log_is old.job old.state a b x y s.outcomes are_new s.collects in
+    record {
+      given = s.events;
+      outcomes = s.outcomes;
+      smooth = record { run = (opens_runs old.job old.state new.state s.events s.outcomes safe in_time are_new.opens s.stretch).0; kinds = s.kinds; none_refused = s.none_refused };
+      logged = subst P text (begins_after x y z front b.chunk [] s.collects.writes wrote);
+    }
+
+-- a write failed before all was done
+pub through_broken : (old : ControllerData) (a : Recorder) (x z : Option (List ℕ)) → AreNew old.job old.state a → RunsSafely old.job → RunsInTime old.job → BreaksOff old a x z → IsBrokenOff old.job x z
+through_broken old a x z are_new safe in_time s =
+    let P : List ℕ → Type 0 = λ chunk. AppendsBeginning x z (chunk ++ log s.outcomes) in
+    record {
+      given = s.events;
+      outcomes = s.outcomes;
+      smooth = record { run = (opens_runs old.job old.state s.reached s.events s.outcomes safe in_time are_new.opens s.stretch).0; kinds = s.kinds; none_refused = s.none_refused };
+      logged = subst P are_new.chunk s.logged;
+    }
+
+-- ---- of what was accepted
+
+pub few_accepted : (a : AcceptedData) (block_delete : Bool) → IsAccepted a → length (commands_at block_delete a) ≤ COMMAND_LIMIT
+few_accepted a false ok = ok.off_commands.count
+few_accepted a true ok = ok.on_commands.count
+
+pub machine_of : (a : AcceptedData) (block_delete : Bool) (job : Job) → IsAccepted a → job ≡ job_of a.machine (commands_at block_delete a) → IsMachine job.machine
+machine_of a block_delete job ok same = subst (λ (j : Job). IsMachine j.machine) (sym same) ok.machine
+
+pub through_as : (job asked : Job) (x y : Option (List ℕ)) (report : Report) → job ≡ asked → IsLoggedThrough job x y report → IsLoggedThrough asked x y report
+through_as job asked x y report same = subst (λ (j : Job). IsLoggedThrough j x y report) same
+
+pub broken_off_as : (job asked : Job) (x y : Option (List ℕ)) → job ≡ asked → IsBrokenOff job x y → IsBrokenOff asked x y
+broken_off_as job asked x y same = subst (λ (j : Job). IsBrokenOff j x y) same

@@ -1,0 +1,123 @@
+-- How a run goes on that nobody touches: from one event to a later one. Our own.
+use Rattle.std.specs.Prelude.{◌≡◌, ℕ, ◌+◌, ◌*◌, ◌^◌, ◌≤◌, ◌<◌, List, [], ◌∷◌, ◌++◌, length, count_by, Option, None, Some, Ok, Err, Bool, true, false}
+use Rattle.std.specs.List.{AllByRecursion}
+use Rattle.ngc_fixed_length.specs.Written.{AppendsBeginning}
+use Rattle.ngc_machine.specs.MachineRanges.{IsMachine}
+use Rattle.ngc_planner.specs.Caps.{MILLION, STEPS_LIMIT}
+use Rattle.ngc_events.specs.declared.event.Event.{Event}
+use Rattle.ngc_behaviour.specs.declared.reply.Ending.{Ending}
+use Rattle.ngc_behaviour.specs.declared.reply.Ending.TheVariants.{Done, Stopped, End}
+use Rattle.ngc_behaviour.specs.declared.reply.Reply.TheVariants.{Loaded, Ticked, Held, Resumed, Overridden, Switched, Started}
+use Rattle.ngc_behaviour.specs.State.{Job, Queued, State}
+use Rattle.ngc_behaviour.specs.Step.{Outcome, Step, MayTake}
+use Rattle.ngc_behaviour.specs.Progress.{GoesOn}
+use Rattle.ngc_controller.specs.Controller.{ControllerData}
+use Rattle.ngc_controller.specs.Fields.{DWELL_LIMIT}
+use Rattle.ngc_controller.specs.Loaded.{AreShort, LoadsShort}
+use Rattle.ngc_run_log.specs.declared.recorder.Recorder.{Recorder}
+use Rattle.ngc_run_log.specs.Log.{log, text_of}
+use Rattle.ngc_run_log.specs.Recording.{Stretch, Counts, Collects}
+use Rattle.ngc_run_log.specs.Runs.{is_refusal}
+use Rattle.ngc_run_log.specs.Through.{IsLoadTickOrStart}
+
+-- the machine goes at an override of 100 percent, the motions that are loaded are on their paths, and what is done of the head is
+-- within bounds
+pub record IsUntouched (job : Job) (s : State) : Type 0 where
+  pub machine : IsMachine job.machine
+  pub not_held : s.held ≡ false
+  pub percent : s.percent ≡ 100
+  pub paths : AllByRecursion (λ (l : Queued). MayTake job l.command.action l.path) s.ring
+  pub short : AreShort s.ring
+  pub travelled : s.travelled ≤ STEPS_LIMIT * MILLION
+  pub dwelt : s.dwelt ≤ DWELL_LIMIT
+
+-- what is done of the head: the millionths that were travelled, or the ticks that were dwelt
+abbrev pub spent : State → ℕ
+spent s = s.travelled + s.dwelt
+
+-- more than is spent on any head
+abbrev pub SPENT_LIMIT : ℕ
+SPENT_LIMIT = 2 ^ 101
+
+-- how a command ended in an outcome, if one did
+abbrev pub ending_in : Outcome → Option Ending
+ending_in (Ok (Ticked p ending)) = ending
+ending_in (Ok (Loaded k)) = None
+ending_in (Ok Held) = None
+ending_in (Ok Resumed) = None
+ending_in (Ok (Overridden n)) = None
+ending_in (Ok (Switched on)) = None
+ending_in (Ok Started) = None
+ending_in (Err e) = None
+
+abbrev pub is_stop : Ending → Bool
+is_stop (Stopped k) = true
+is_stop (Done k) = false
+is_stop End = false
+
+-- ---- one event
+
+-- it was given, and what came of it is recorded
+pub record IsGiven (event : Event) (old new : ControllerData) (before after : Recorder) (written now : Option (List ℕ)) (outcome : Outcome) : Type 0 where
+  pub job : new.job ≡ old.job
+  pub step : Step old.job old.state event outcome new.state
+  pub goes_on : GoesOn old.job old.state event new.state
+  pub short : LoadsShort event old.state new.state
+  pub dwelt : new.state.dwelt ≤ DWELL_LIMIT
+  pub counts : Counts (event ∷ []) (outcome ∷ []) before.report after.report
+  pub collects : Collects written now before.chunk (text_of outcome) after.chunk
+
+-- it was given, and then a write failed
+pub record IsGivenLast (event : Event) (old : ControllerData) (before : Recorder) (written now : Option (List ℕ)) : Type 0 where
+  pub outcome : Outcome
+  pub reached : State
+  pub step : Step old.job old.state event outcome reached
+  pub goes_on : GoesOn old.job old.state event reached
+  pub logged : AppendsBeginning written now before.chunk
+
+-- ---- several events
+
+-- at most n events were given and recorded, by which so many commands were loaded and so many done
+pub record GoesBy (n loads does : ℕ) (old new : ControllerData) (before after : Recorder) (written now : Option (List ℕ)) : Type 0 where
+  pub events : List Event
+  pub outcomes : List Outcome
+  pub kinds : AllByRecursion IsLoadTickOrStart events
+  pub few : length events ≤ n
+  pub none_refused : count_by is_refusal outcomes ≡ 0
+  pub job : new.job ≡ old.job
+  pub stretch : Stretch old.job old.state new.state events outcomes
+  pub counts : Counts events outcomes before.report after.report
+  pub collects : Collects written now before.chunk (log outcomes) after.chunk
+  pub untouched : IsUntouched new.job new.state
+  pub done : new.state.done ≡ old.state.done + does
+  pub ring : length new.state.ring + does ≡ length old.state.ring + loads
+
+-- some events were given, and then a write failed
+pub record BreaksOff (old : ControllerData) (before : Recorder) (written now : Option (List ℕ)) : Type 0 where
+  pub events : List Event
+  pub outcomes : List Outcome
+  pub reached : State
+  pub kinds : AllByRecursion IsLoadTickOrStart events
+  pub none_refused : count_by is_refusal outcomes ≡ 0
+  pub stretch : Stretch old.job old.state reached events outcomes
+  pub logged : AppendsBeginning written now (before.chunk ++ log outcomes)
+
+-- ---- what a tick leaves
+
+-- the head goes on
+pub record Works (old new : State) : Type 0 where
+  pub running : new.stopped ≡ false
+  pub spends : spent old < spent new
+
+-- what a tick leaves, by how a command ended in it: without a stop the machine isn't stopped
+abbrev pub LeavesBy : Option Ending → State → State → Type 0
+LeavesBy None old new = Works old new
+LeavesBy (Some ending) old new = is_stop ending ≡ false → new.stopped ≡ false
+
+abbrev pub does_in : Option Ending → ℕ
+does_in None = 0
+does_in (Some ending) = 1
+
+pub record TicksBy (old new : ControllerData) (before after : Recorder) (written now : Option (List ℕ)) (ending : Option Ending) : Type 0 where
+  pub goes : GoesBy 1 0 (does_in ending) old new before after written now
+  pub leaves : LeavesBy ending old.state new.state

@@ -1,0 +1,53 @@
+-- What a run comes to that goes through the program by itself. Our own.
+use Rattle.std.specs.Prelude.{◌≡◌, ℕ, List, length, count_by, Option, Ok, Err, Result}
+use Rattle.std.specs.List.{AllByRecursion}
+use Rattle.std.specs.Io.KnownBytes.{Appends, Keeps}
+use Rattle.ngc_fixed_length.specs.Written.{AppendsBeginning}
+use Rattle.ngc_events.specs.declared.event.Event.{Event}
+use Rattle.ngc_events.specs.declared.event.Event.TheVariants.{Load, Tick, Hold, Resume, Override, StopSwitch, Start}
+use Rattle.ngc_behaviour.specs.State.{Job, opening}
+use Rattle.ngc_behaviour.specs.Step.{Outcome}
+use Rattle.ngc_run_log.specs.declared.report.Report.{Report}
+use Rattle.ngc_run_log.specs.declared.report.RunFault.{RunFault}
+use Rattle.ngc_run_log.specs.declared.report.RunFault.TheVariants.{Memory, Write}
+use Rattle.ngc_run_log.specs.Log.{log}
+use Rattle.ngc_run_log.specs.Recording.{last_state}
+use Rattle.ngc_run_log.specs.Runs.{is_refusal, IsRun, Reports}
+
+-- nobody touches the panel but to start again
+abbrev pub IsLoadTickOrStart : Event → Type 0
+IsLoadTickOrStart Load = Unit {0}
+IsLoadTickOrStart Tick = Unit {0}
+IsLoadTickOrStart Start = Unit {0}
+IsLoadTickOrStart Hold = ⊥
+IsLoadTickOrStart Resume = ⊥
+IsLoadTickOrStart (Override n) = ⊥
+IsLoadTickOrStart (StopSwitch on) = ⊥
+
+-- a run over such events, none of which is refused
+pub record IsSmoothRun (job : Job) (events : List Event) (outcomes : List Outcome) : Type 0 where
+  pub run : IsRun job events outcomes
+  pub kinds : AllByRecursion IsLoadTickOrStart events
+  pub none_refused : count_by is_refusal outcomes ≡ 0
+
+-- every command is done at the end, and what was written is the log of what came of all events
+pub record IsLoggedThrough (job : Job) (old new : Option (List ℕ)) (report : Report) : Type 0 where
+  pub events : List Event
+  pub outcomes : List Outcome
+  pub smooth : IsSmoothRun job events outcomes
+  pub done : (last_state (opening job.machine) smooth.run.states).done ≡ length job.commands
+  pub logged : Appends old new (log outcomes)
+  pub reports : Reports job events outcomes report
+
+-- some such events were given, and what was written begins the log of what came of them
+pub record IsBrokenOff (job : Job) (old new : Option (List ℕ)) : Type 0 where
+  pub given : List Event
+  pub outcomes : List Outcome
+  pub smooth : IsSmoothRun job given outcomes
+  pub logged : AppendsBeginning old new (log outcomes)
+
+-- What it comes to, of the bytes of its sink where they are known. That memory ran out says that nothing was written.
+abbrev pub GoesThrough : Job → Option (List ℕ) → Option (List ℕ) → Result Report RunFault → Type 0
+GoesThrough job old new (Ok report) = IsLoggedThrough job old new report
+GoesThrough job old new (Err (Write fault)) = IsBrokenOff job old new
+GoesThrough job old new (Err Memory) = Keeps old new

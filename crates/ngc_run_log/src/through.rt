@@ -1,0 +1,326 @@
+//! A run through a whole program, in which nobody touches the panel but to start again behind a stop.
+ghost use Rattle.std.specs.Prelude.{◌≡◌, ◌≤◌, ◌<◌, ◌+◌, ◌-◌, ◌*◌, ◌^◌, min, length, false, OnOk, OnErr, IfOk};
+ghost use Rattle.ngc_behaviour.specs.Headline.{job_of, RunsInTime, RunsSafely};
+ghost use Rattle.ngc_behaviour.specs.State.{RING, loaded, opening};
+ghost use Rattle.ngc_canonical.specs.State.{COMMAND_LIMIT};
+ghost use Rattle.ngc_checker.specs.Accepted.{commands_at};
+ghost use Rattle.ngc_fixed_length.specs.Failures.{CountsFailure};
+ghost use Rattle.ngc_machine.specs.MachineRanges.{IsMachine};
+ghost use Rattle.ngc_run_log.specs.Recording.{AreAtMost};
+ghost use Rattle.ngc_run_log.specs.Runs.{FailsByWriting};
+ghost use Rattle.ngc_run_log.specs.Stretches.{IsUntouched, IsGiven, IsGivenLast, GoesBy, BreaksOff, TicksBy, ending_in, is_stop};
+ghost use Rattle.ngc_run_log.specs.Through.{IsLoggedThrough, IsBrokenOff, GoesThrough};
+
+use crate::recorder::Recorder;
+use crate::report::{Report, RunFault};
+use ngc_behaviour::{Ending, EventFault, Reply};
+use ngc_checker::Accepted;
+use ngc_controller::Controller;
+use ngc_events::Event;
+use ngc_fixed_length::{Sink, WriteFault};
+use ngc_step_kernel::ArcPath;
+use std::alloc::Allocator;
+
+/// How many commands may be loaded and not done.
+const RING: usize = 16;
+
+// Gives an event, and records what came of it.
+fn give<A: Allocator + Copy, W: Sink>(
+    controller: &mut Controller<ArcPath, A>,
+    event: Event,
+    recorder: &mut Recorder,
+    sink: &mut W,
+) -> Result<Result<Reply, EventFault>, WriteFault>
+    requires { AreAtMost (2 ^ 126) recorder.old.report }
+    ensures given { IfOk result (IsGiven event controller.old controller.new recorder.old recorder.new (W.written sink.old) (W.written sink.new)) }
+    ensures fault { OnErr result (IsGivenLast event controller.old recorder.old (W.written sink.old) (W.written sink.new)) }
+    ensures failures { CountsFailure (W.failures sink.old) (W.failures sink.new) result }
+{
+    let outcome = controller.event(event);
+    // No command dwells for ever.
+    let _dwelt = controller.dwelt();
+    match recorder.add(event, &outcome, sink) {
+        Ok(()) => Ok(outcome),
+        Err(fault) => Err(fault),
+    }
+}
+
+// Loads the next command, for which there must be room.
+fn load_next<A: Allocator + Copy, W: Sink>(
+    controller: &mut Controller<ArcPath, A>,
+    recorder: &mut Recorder,
+    sink: &mut W,
+) -> Result<(), WriteFault>
+    requires untouched { IsUntouched controller.old.job controller.old.state }
+    requires runs { controller.old.state.stopped ≡ false }
+    requires room { length controller.old.state.ring < RING }
+    requires left { loaded controller.old.state < length controller.old.job.commands }
+    requires few { AreAtMost (2 ^ 126) recorder.old.report }
+    ensures goes { OnOk result (GoesBy 1 1 0 controller.old controller.new recorder.old recorder.new (W.written sink.old) (W.written sink.new)) }
+    ensures runs { OnOk result (controller.new.state.stopped ≡ false) }
+    ensures fault { OnErr result (BreaksOff controller.old recorder.old (W.written sink.old) (W.written sink.new)) }
+    ensures failures { CountsFailure (W.failures sink.old) (W.failures sink.new) result }
+{
+    match give(controller, Event::Load, recorder, sink) {
+        Ok(_) => Ok(()),
+        Err(fault) => Err(fault),
+    }
+}
+
+// Starts again.
+fn start_again<A: Allocator + Copy, W: Sink>(
+    controller: &mut Controller<ArcPath, A>,
+    recorder: &mut Recorder,
+    sink: &mut W,
+) -> Result<(), WriteFault>
+    requires untouched { IsUntouched controller.old.job controller.old.state }
+    requires few { AreAtMost (2 ^ 126) recorder.old.report }
+    ensures goes { OnOk result (GoesBy 1 0 0 controller.old controller.new recorder.old recorder.new (W.written sink.old) (W.written sink.new)) }
+    ensures runs { OnOk result (controller.new.state.stopped ≡ false) }
+    ensures fault { OnErr result (BreaksOff controller.old recorder.old (W.written sink.old) (W.written sink.new)) }
+    ensures failures { CountsFailure (W.failures sink.old) (W.failures sink.new) result }
+{
+    match give(controller, Event::Start, recorder, sink) {
+        Ok(_) => Ok(()),
+        Err(fault) => Err(fault),
+    }
+}
+
+// How a command ended in an outcome, if one did.
+fn ending_in(outcome: &Result<Reply, EventFault>) -> Option<Ending>
+    ensures { result ≡ ending_in outcome.now }
+{
+    match outcome {
+        Ok(Reply::Ticked { ending, .. }) => *ending,
+        _ => None,
+    }
+}
+
+// Gives a tick, and answers how a command ended in it, if one did.
+fn tick<A: Allocator + Copy, W: Sink>(
+    controller: &mut Controller<ArcPath, A>,
+    recorder: &mut Recorder,
+    sink: &mut W,
+) -> Result<Option<Ending>, WriteFault>
+    requires untouched { IsUntouched controller.old.job controller.old.state }
+    requires runs { controller.old.state.stopped ≡ false }
+    requires some { 1 ≤ length controller.old.state.ring }
+    requires few { AreAtMost (2 ^ 126) recorder.old.report }
+    ensures ticks { IfOk result (TicksBy controller.old controller.new recorder.old recorder.new (W.written sink.old) (W.written sink.new)) }
+    ensures fault { OnErr result (BreaksOff controller.old recorder.old (W.written sink.old) (W.written sink.new)) }
+    ensures failures { CountsFailure (W.failures sink.old) (W.failures sink.new) result }
+{
+    match give(controller, Event::Tick, recorder, sink) {
+        Ok(outcome) => Ok(ending_in(&outcome)),
+        Err(fault) => Err(fault),
+    }
+}
+
+// Starts again where a command ended by a stop.
+fn go_on_behind<A: Allocator + Copy, W: Sink>(
+    ending: Ending,
+    controller: &mut Controller<ArcPath, A>,
+    recorder: &mut Recorder,
+    sink: &mut W,
+) -> Result<(), WriteFault>
+    requires untouched { IsUntouched controller.old.job controller.old.state }
+    requires runs { is_stop ending ≡ false → controller.old.state.stopped ≡ false }
+    requires few { AreAtMost (2 ^ 126) recorder.old.report }
+    ensures goes { OnOk result (GoesBy 1 0 0 controller.old controller.new recorder.old recorder.new (W.written sink.old) (W.written sink.new)) }
+    ensures runs { OnOk result (controller.new.state.stopped ≡ false) }
+    ensures fault { OnErr result (BreaksOff controller.old recorder.old (W.written sink.old) (W.written sink.new)) }
+    ensures failures { CountsFailure (W.failures sink.old) (W.failures sink.new) result }
+{
+    match ending {
+        Ending::Stopped(_) => start_again(controller, recorder, sink),
+        Ending::Done(_) => Ok(()),
+        Ending::End => Ok(()),
+    }
+}
+
+// Gives ticks until the command at the head is done, and starts again if it was a stop.
+fn finish_head<A: Allocator + Copy, W: Sink>(
+    controller: &mut Controller<ArcPath, A>,
+    recorder: &mut Recorder,
+    sink: &mut W,
+) -> Result<(), WriteFault>
+    requires untouched { IsUntouched controller.old.job controller.old.state }
+    requires runs { controller.old.state.stopped ≡ false }
+    requires some { 1 ≤ length controller.old.state.ring }
+    requires few { AreAtMost (2 ^ 125) recorder.old.report }
+    ensures goes { OnOk result (GoesBy (2 ^ 102) 0 1 controller.old controller.new recorder.old recorder.new (W.written sink.old) (W.written sink.new)) }
+    ensures runs { OnOk result (controller.new.state.stopped ≡ false) }
+    ensures fault { OnErr result (BreaksOff controller.old recorder.old (W.written sink.old) (W.written sink.new)) }
+    ensures failures { CountsFailure (W.failures sink.old) (W.failures sink.new) result }
+{
+    'ticks: loop {
+        let ended = match tick(controller, recorder, sink) {
+            Ok(ended) => ended,
+            Err(fault) => return Err(fault),
+        };
+        if let Some(ending) = ended {
+            return go_on_behind(ending, controller, recorder, sink);
+        }
+    }
+}
+
+// Loads so many commands.
+fn fill_ring<A: Allocator + Copy, W: Sink>(
+    controller: &mut Controller<ArcPath, A>,
+    count: usize,
+    recorder: &mut Recorder,
+    sink: &mut W,
+) -> Result<(), WriteFault>
+    requires room { length controller.old.state.ring + count ≤ RING }
+    requires left { loaded controller.old.state + count ≤ length controller.old.job.commands }
+    requires untouched { IsUntouched controller.old.job controller.old.state }
+    requires runs { controller.old.state.stopped ≡ false }
+    requires few { AreAtMost (2 ^ 120) recorder.old.report }
+    ensures goes { OnOk result (GoesBy count count 0 controller.old controller.new recorder.old recorder.new (W.written sink.old) (W.written sink.new)) }
+    ensures runs { OnOk result (controller.new.state.stopped ≡ false) }
+    ensures fault { OnErr result (BreaksOff controller.old recorder.old (W.written sink.old) (W.written sink.new)) }
+    ensures failures { CountsFailure (W.failures sink.old) (W.failures sink.new) result }
+{
+    for _command in 0..count {
+        match load_next(controller, recorder, sink) {
+            Ok(()) => {}
+            Err(fault) => return Err(fault),
+        }
+    }
+    Ok(())
+}
+
+// Loads so many commands more, each behind the end of one before it.
+fn keep_full<A: Allocator + Copy, W: Sink>(
+    controller: &mut Controller<ArcPath, A>,
+    count: usize,
+    recorder: &mut Recorder,
+    sink: &mut W,
+) -> Result<(), WriteFault>
+    requires some { 0 < count → 1 ≤ length controller.old.state.ring }
+    requires room { length controller.old.state.ring ≤ RING }
+    requires left { loaded controller.old.state + count ≤ length controller.old.job.commands }
+    requires few_commands { count ≤ COMMAND_LIMIT }
+    requires untouched { IsUntouched controller.old.job controller.old.state }
+    requires runs { controller.old.state.stopped ≡ false }
+    requires few { AreAtMost (2 ^ 121) recorder.old.report }
+    ensures goes { OnOk result (GoesBy (count * 2 ^ 103) count count controller.old controller.new recorder.old recorder.new (W.written sink.old) (W.written sink.new)) }
+    ensures runs { OnOk result (controller.new.state.stopped ≡ false) }
+    ensures fault { OnErr result (BreaksOff controller.old recorder.old (W.written sink.old) (W.written sink.new)) }
+    ensures failures { CountsFailure (W.failures sink.old) (W.failures sink.new) result }
+{
+    for _command in 0..count {
+        match finish_head(controller, recorder, sink) {
+            Ok(()) => {}
+            Err(fault) => return Err(fault),
+        }
+        match load_next(controller, recorder, sink) {
+            Ok(()) => {}
+            Err(fault) => return Err(fault),
+        }
+    }
+    Ok(())
+}
+
+// Goes on until so many commands are done.
+fn finish<A: Allocator + Copy, W: Sink>(
+    controller: &mut Controller<ArcPath, A>,
+    count: usize,
+    recorder: &mut Recorder,
+    sink: &mut W,
+) -> Result<(), WriteFault>
+    requires loaded { count ≤ length controller.old.state.ring }
+    requires small { count ≤ RING }
+    requires untouched { IsUntouched controller.old.job controller.old.state }
+    requires runs { controller.old.state.stopped ≡ false }
+    requires few { AreAtMost (2 ^ 124) recorder.old.report }
+    ensures goes { OnOk result (GoesBy (count * 2 ^ 103) 0 count controller.old controller.new recorder.old recorder.new (W.written sink.old) (W.written sink.new)) }
+    ensures fault { OnErr result (BreaksOff controller.old recorder.old (W.written sink.old) (W.written sink.new)) }
+    ensures failures { CountsFailure (W.failures sink.old) (W.failures sink.new) result }
+{
+    for _command in 0..count {
+        match finish_head(controller, recorder, sink) {
+            Ok(()) => {}
+            Err(fault) => return Err(fault),
+        }
+    }
+    Ok(())
+}
+
+// Gives the events that take all commands, of which there are so many, to their end.
+fn go_on<A: Allocator + Copy, W: Sink>(
+    controller: &mut Controller<ArcPath, A>,
+    count: usize,
+    recorder: &mut Recorder,
+    sink: &mut W,
+) -> Result<(), WriteFault>
+    requires count { count ≡ length controller.old.job.commands }
+    requires few_commands { count ≤ COMMAND_LIMIT }
+    requires none_loaded { length controller.old.state.ring ≡ 0 }
+    requires none_done { controller.old.state.done ≡ 0 }
+    requires untouched { IsUntouched controller.old.job controller.old.state }
+    requires runs { controller.old.state.stopped ≡ false }
+    requires few { AreAtMost 0 recorder.old.report }
+    ensures goes { OnOk result (GoesBy (2 ^ 125) count count controller.old controller.new recorder.old recorder.new (W.written sink.old) (W.written sink.new)) }
+    ensures fault { OnErr result (BreaksOff controller.old recorder.old (W.written sink.old) (W.written sink.new)) }
+    ensures failures { CountsFailure (W.failures sink.old) (W.failures sink.new) result }
+{
+    let first = count.min(RING);
+    match fill_ring(controller, first, recorder, sink) {
+        Ok(()) => {}
+        Err(fault) => return Err(fault),
+    }
+    match keep_full(controller, count - first, recorder, sink) {
+        Ok(()) => {}
+        Err(fault) => return Err(fault),
+    }
+    finish(controller, first, recorder, sink)
+}
+
+// Goes through all commands, of which there are so many.
+fn go_through<A: Allocator + Copy, W: Sink>(
+    controller: &mut Controller<ArcPath, A>,
+    count: usize,
+    sink: &mut W,
+) -> Result<Report, WriteFault>
+    requires opens { controller.old.state ≡ opening controller.old.job.machine }
+    requires machine { IsMachine controller.old.job.machine }
+    requires safe { RunsSafely controller.old.job }
+    requires in_time { RunsInTime controller.old.job }
+    requires count { count ≡ length controller.old.job.commands }
+    requires few_commands { count ≤ COMMAND_LIMIT }
+    ensures logged { IfOk result (IsLoggedThrough controller.old.job (W.written sink.old) (W.written sink.new)) }
+    ensures broken { OnErr result (IsBrokenOff controller.old.job (W.written sink.old) (W.written sink.new)) }
+    ensures failures { CountsFailure (W.failures sink.old) (W.failures sink.new) result }
+{
+    let mut recorder = Recorder::new(controller.position());
+    match go_on(controller, count, &mut recorder, sink) {
+        Ok(()) => {}
+        Err(fault) => return Err(fault),
+    }
+    recorder.finish(sink)
+}
+
+/// Runs what was accepted through to its end, at a setting of block delete, and writes the log: the ring is kept full while
+/// commands are left, each command gets the ticks that it takes, and behind each stop the machine is started again.
+pub fn run_through<A: Allocator + Copy, W: Sink>(
+    alloc: A,
+    accepted: Accepted<A>,
+    block_delete: bool,
+    sink: &mut W,
+) -> Result<Report, RunFault>
+    ensures goes_through { GoesThrough (job_of accepted.machine (commands_at block_delete accepted)) (W.written sink.old) (W.written sink.new) result }
+    ensures counts { FailsByWriting result (W.failures sink.old) (W.failures sink.new) }
+{
+    // What holds of all that was accepted makes the run a safe one, which is done in time.
+    let _machine = accepted.machine();
+    let count = accepted.commands(block_delete).len();
+    let mut controller = match Controller::<ArcPath, A>::new(alloc, accepted, block_delete) {
+        Ok(controller) => controller,
+        Err(_) => return Err(RunFault::Memory),
+    };
+    match go_through(&mut controller, count, sink) {
+        Ok(report) => Ok(report),
+        Err(fault) => Err(RunFault::Write(fault)),
+    }
+}
