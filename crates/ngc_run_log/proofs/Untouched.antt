@@ -1,5 +1,5 @@
 -- Loads, ticks and starts: none is refused, and the machine stays untouched.
-use Rattle.std.proofs.Common.{◌≡◌, inl, inr, ℕ, ◌+◌, ◌^◌, ◌<◌, ◌≤◌, ap, subst, sym, ◌∙◌, arith, refl, List, [], ◌∷◌, ◌++◌, length, length-append, length-drop, drop, Option, Some, None, Ok, Err, true, false, Bool, count_by}
+use Rattle.std.proofs.Common.{◌≡◌, ◌⊎◌, inl, inr, ℕ, zero, suc, ◌+◌, ◌^◌, ◌<◌, ◌≤◌, ap, subst, sym, ◌∙◌, arith, refl, List, [], ◌∷◌, ◌++◌, length, length-append, length-drop, drop, Option, Some, None, Ok, Err, true, false, Bool, count_by}
 use Rattle.std.specs.Prelude.{MatchBool, nat_lt, slice_get, cond}
 use Rattle.std.specs.List.{AllByRecursion}
 use Rattle.std.proofs.lemmas.Bool.{lt-ltb}
@@ -13,7 +13,9 @@ use Rattle.ngc_canonical.specs.declared.command.Command.{Command}
 use Rattle.ngc_planner.specs.Caps.{STEPS_LIMIT}
 use Rattle.ngc_events.specs.declared.event.Event.{Event}
 use Rattle.ngc_events.specs.declared.event.Event.TheVariants.{Load, Tick, Start}
+use Rattle.ngc_canonical.specs.declared.command.Action.TheVariants as actions
 use Rattle.ngc_behaviour.specs.declared.reply.Ending.{Ending}
+use Rattle.ngc_behaviour.specs.declared.reply.Ending.TheVariants.{Stopped, End}
 use Rattle.ngc_behaviour.specs.declared.reply.Reply.{Reply}
 use Rattle.ngc_behaviour.specs.declared.reply.Reply.TheVariants.{Loaded, Ticked, Started}
 use Rattle.ngc_behaviour.specs.declared.fault.EventFault.TheVariants.{RingFull}
@@ -27,20 +29,30 @@ use Rattle.ngc_run_log.specs.declared.recorder.Recorder.{Recorder}
 use Rattle.ngc_run_log.specs.Log.{log, text_of}
 use Rattle.ngc_run_log.specs.Runs.{is_refusal}
 use Rattle.ngc_run_log.specs.Recording.{Stretch, AreAtMost, Collects}
-use Rattle.ngc_run_log.specs.Through.{IsLoadTickOrStart}
-use Rattle.ngc_run_log.specs.Stretches.{IsUntouched, IsGiven, IsGivenLast, GoesBy, BreaksOff, TicksBy, spent, ending_in, does_in, SPENT_LIMIT}
+use Rattle.ngc_run_log.specs.Through.{IsLoadTickOrStart, TellsEnd}
+use Rattle.ngc_run_log.specs.Stretches.{IsUntouched, IsGiven, IsGivenLast, GoesBy, BreaksOff, TicksBy, Works, spent, ending_in, is_stop, does_in, SPENT_LIMIT, TellsBy, TellsHead, GoesBehind, FinishesHead, Finishes}
 use Rattle.ngc_run_log.proofs.Joined.{one_step, stretches_joined, counts_joined, collected_both, begun_after, count_by-append, few_more}
 use Rattle.ngc_run_log.proofs.Ticks.{Goes, HasLeft, tick_goes}
 
 -- ---- lists
 
-all_both : {X : Type 0} (P : X → Type 0) (xs ys : List X) → AllByRecursion P xs → AllByRecursion P ys → AllByRecursion P (xs ++ ys)
+pub all_both : {X : Type 0} (P : X → Type 0) (xs ys : List X) → AllByRecursion P xs → AllByRecursion P ys → AllByRecursion P (xs ++ ys)
 all_both P [] ys a b = b
 all_both P (x ∷ xs) ys a b = (a.0, all_both P xs ys a.1 b)
 
 all_behind : {X : Type 0} (P : X → Type 0) (xs : List X) → AllByRecursion P xs → AllByRecursion P (drop 1 xs)
 all_behind P [] a = tt
 all_behind P (x ∷ xs) a = a.1
+
+get_cases : (xs : List Queued) (x : Queued) (i : ℕ) (l : Queued) → slice_get (xs ++ x ∷ []) i ≡ Some l → (slice_get xs i ≡ Some l) ⊎ ((i ≡ length xs) × (x ≡ l))
+get_cases [] x zero l e = inr (refl, cc)
+get_cases [] x (suc i) l e = cc
+get_cases (y ∷ xs) x zero l e = inl e
+get_cases (y ∷ xs) x (suc i) l e = elim (get_cases xs x i l e) [ inl g ↦ inl g | inr g ↦ inr (omega (arith, g.0), g.1) ]
+
+get_behind : (xs : List Queued) (i : ℕ) → slice_get (drop 1 xs) i ≡ slice_get xs (suc i)
+get_behind [] i = refl
+get_behind (x ∷ xs) i = refl
 
 -- ---- a load
 
@@ -49,18 +61,19 @@ pub record Comes (job : Job) (old : State) (o : Outcome) (new : State) : Type 0 
   pub says : o ≡ Ok (Loaded (loaded old))
   pub added : Queued
   pub takes : MayTake job added.command.action added.path
+  pub next : command_at job (loaded old) ≡ Some added.command
   pub is : new ≡ record old { ring = old.ring ++ added ∷ [] }
 
-load_by : (b : Bool) (job : Job) (old : State) (c : Command) (o : Outcome) (new : State) → b ≡ true →
+load_by : (b : Bool) (job : Job) (old : State) (c : Command) (o : Outcome) (new : State) → command_at job (loaded old) ≡ Some c → b ≡ true →
     MatchBool b
     ((path : List StepPos) × MayTake job c.action path × (o ≡ Ok (Loaded (loaded old))) × (new ≡ record old { ring = old.ring ++ record { command = c; path = path } ∷ [] }))
     ((o ≡ Err RingFull) × (new ≡ old)) → Comes job old o new
-load_by true job old c o new room t = record { says = t.2; added = record { command = c; path = t.0 }; takes = t.1; is = t.3 }
-load_by false job old c o new room t = cc
+load_by true job old c o new found room t = record { says = t.2; added = record { command = c; path = t.0 }; takes = t.1; next = found; is = t.3 }
+load_by false job old c o new found room t = cc
 
 load_comes : (job : Job) (old : State) (o : Outcome) (new : State) (c : Command) → command_at job (loaded old) ≡ Some c → length old.ring < RING → Step job old Load o new → Comes job old o new
 load_comes job old o new c found room t =
-    load_by (nat_lt (length old.ring) RING) job old c o new (lt-ltb (length old.ring) RING room) (subst (λ next. LoadCommand job old next o new) found t)
+    load_by (nat_lt (length old.ring) RING) job old c o new found (lt-ltb (length old.ring) RING room) (subst (λ next. LoadCommand job old next o new) found t)
 
 found_within : (xs : List Command) (k : ℕ) → k < length xs → (c : Command) × (slice_get xs k ≡ Some c)
 found_within xs k h = elim ((slice_get_cases xs k).1) [
@@ -73,6 +86,25 @@ comes job old o new left room t = let f = found_within job.commands (loaded old)
 
 -- ---- the machine stays untouched
 
+abbrev AreNext : Job → State → Type 0
+AreNext job s = (i : ℕ) (l : Queued) → slice_get s.ring i ≡ Some l → command_at job (s.done + i) ≡ Some l.command
+
+next_load : (job : Job) (old : State) (o : Outcome) (new : State) → AreNext job old → Comes job old o new → AreNext job new
+next_load job old o new h c = λ i l at.
+    let done : new.done ≡ old.done = ap (λ (s : State). s.done) c.is in
+    let ring : new.ring ≡ old.ring ++ c.added ∷ [] = ap (λ (s : State). s.ring) c.is in
+    ap (λ n. command_at job (n + i)) done ∙ (elim (get_cases old.ring c.added i l (ap (λ xs. slice_get xs i) (sym ring) ∙ at)) [
+      | inl was ↦ h i l was
+      | inr is ↦ ap (λ n. command_at job (old.done + n)) is.0 ∙ c.next ∙ ap (λ (m : Queued). Some m.command) is.1
+    ])
+
+next_tick : (job : Job) (ended : Option Ending) (old new : State) → AreNext job old → HasLeft ended old new → AreNext job new
+next_tick job None old new h left = λ i l at.
+    ap (λ n. command_at job (n + i)) left.0 ∙ h i l (ap (λ xs. slice_get xs i) (sym left.1) ∙ at)
+next_tick job (Some e) old new h left = λ i l at.
+    let n : new.done + i ≡ old.done + suc i = let d = left.0 in omega (arith, d) in
+    ap (command_at job) n ∙ h (suc i) l (sym (get_behind old.ring i) ∙ ap (λ xs. slice_get xs i) (sym left.1) ∙ at)
+
 untouched_load : (job : Job) (old : State) (o : Outcome) (new : State) → IsUntouched job old → Comes job old o new → AreShort new.ring → IsUntouched job new
 untouched_load job old o new u c short =
     let ring : new.ring ≡ old.ring ++ c.added ∷ [] = ap (λ (s : State). s.ring) c.is in
@@ -82,6 +114,7 @@ untouched_load job old o new u c short =
       machine = u.machine;
       not_held = ap (λ (s : State). s.held) c.is ∙ u.not_held;
       percent = ap (λ (s : State). s.percent) c.is ∙ u.percent;
+      commands = next_load job old o new u.commands c;
       paths = subst (AllByRecursion (λ (l : Queued). MayTake job l.command.action l.path)) (sym ring) (all_both (λ (l : Queued). MayTake job l.command.action l.path) old.ring (c.added ∷ []) u.paths (c.takes, tt));
       short = short;
       travelled = omega (arith, t, u.travelled);
@@ -94,6 +127,7 @@ untouched_start job old new u is =
       machine = u.machine;
       not_held = u.not_held;
       percent = u.percent;
+      commands = u.commands;
       paths = u.paths;
       short = u.short;
       travelled = u.travelled;
@@ -105,23 +139,24 @@ all_left : (P : Queued → Type 0) (ended : Option Ending) (old new : State) →
 all_left P None old new h a = subst (AllByRecursion P) (sym h.1) a
 all_left P (Some e) old new h a = subst (AllByRecursion P) (sym h.1) (all_behind P old.ring a)
 
-untouched_tick : (job : Job) (old : State) (o : Outcome) (new : State) → IsUntouched job old → Goes old o new → new.dwelt ≤ DWELL_LIMIT → IsUntouched job new
+untouched_tick : (job : Job) (old : State) (o : Outcome) (new : State) → IsUntouched job old → Goes old.ring old o new → new.dwelt ≤ DWELL_LIMIT → IsUntouched job new
 untouched_tick job old o new u g brief = record {
   machine = u.machine;
   not_held = g.held ∙ u.not_held;
   percent = g.percent ∙ u.percent;
-  paths = all_left (λ (l : Queued). MayTake job l.command.action l.path) g.ended old new g.ring u.paths;
-  short = all_left (λ (l : Queued). path_steps l ≤ STEPS_LIMIT) g.ended old new g.ring u.short;
+  commands = next_tick job g.ended old new u.commands g.left;
+  paths = all_left (λ (l : Queued). MayTake job l.command.action l.path) g.ended old new g.left u.paths;
+  short = all_left (λ (l : Queued). path_steps l ≤ STEPS_LIMIT) g.ended old new g.left u.short;
   travelled = g.travelled;
   dwelt = brief;
 }
 
 -- ---- one event
 
-counted_fine : (o : Outcome) → is_refusal o ≡ false → count_by is_refusal (o ∷ []) ≡ 0
+pub counted_fine : (o : Outcome) → is_refusal o ≡ false → count_by is_refusal (o ∷ []) ≡ 0
 counted_fine o fine = ap (λ b. 0 + cond b 1 0) fine
 
-goes_one : (event : Event) (o : Outcome) (loads does : ℕ) (old new : ControllerData) (a b : Recorder) (x y : Option (List ℕ)) → IsGiven event old new a b x y o → IsLoadTickOrStart event → is_refusal o ≡ false →
+abbrev pub goes_one : (event : Event) (o : Outcome) (loads does : ℕ) (old new : ControllerData) (a b : Recorder) (x y : Option (List ℕ)) → IsGiven event old new a b x y o → IsLoadTickOrStart event → is_refusal o ≡ false →
     IsUntouched old.job new.state → new.state.done ≡ old.state.done + does → length new.state.ring + does ≡ length old.state.ring + loads → GoesBy 1 loads does old new a b x y
 goes_one event o loads does old new a b x y g kind fine u done ring =
     let C : List ℕ → Type 0 = λ text. Collects x y a.chunk text b.chunk in
@@ -205,12 +240,13 @@ pub tick_ticks : (old new : ControllerData) (a b : Recorder) (x y : Option (List
     IsGiven Tick old new a b x y o → TicksBy old new a b x y (ending_in o)
 tick_ticks old new a b x y o u runs some g =
     let t = tick_goes old.job old.state o new.state u runs some g.step g.goes_on in
-    let left = done_left t.ended old.state new.state t.ring some in
+    let left = done_left t.ended old.state new.state t.left some in
     let ring = left.1 in
     let same : t.ended ≡ ending_in o = sym (ap ending_in t.says) in
     let here : TicksBy old new a b x y t.ended = record {
       goes = goes_one Tick o 0 (does_in t.ended) old new a b x y g tt (fine_as o (Ticked t.position t.ended) t.says) (untouched_tick old.job old.state o new.state u t g.dwelt) left.0 (omega (arith, ring));
       leaves = t.leaves;
+      tells = t.tells;
     } in
     subst (TicksBy old new a b x y) same here
 
@@ -221,7 +257,7 @@ tick_breaks old a x y u runs some g =
 
 -- ---- one stretch and then another
 
-pub none_yet : (n : ℕ) (old : ControllerData) (a : Recorder) (x : Option (List ℕ)) → IsUntouched old.job old.state → GoesBy n 0 0 old old a a x x
+abbrev pub none_yet : (n : ℕ) (old : ControllerData) (a : Recorder) (x : Option (List ℕ)) → IsUntouched old.job old.state → GoesBy n 0 0 old old a a x x
 none_yet n old a x u = record {
   events = [];
   outcomes = [];
@@ -237,7 +273,7 @@ none_yet n old a x u = record {
   ring = omega arith;
 }
 
-pub goes_both : (n m k p q r f g d : ℕ) (old mid new : ControllerData) (a b c : Recorder) (x y z : Option (List ℕ)) → GoesBy n p f old mid a b x y → GoesBy m q g mid new b c y z →
+abbrev pub goes_both : (n m k p q r f g d : ℕ) (old mid new : ControllerData) (a b c : Recorder) (x y z : Option (List ℕ)) → GoesBy n p f old mid a b x y → GoesBy m q g mid new b c y z →
     n + m ≤ k → r ≡ p + q → d ≡ f + g → GoesBy k r d old new a c x z
 goes_both n m k p q r f g d old mid new a b c x y z s t enough loads does =
     let C : List ℕ → Type 0 = λ text. Collects x z a.chunk text c.chunk in
@@ -287,26 +323,96 @@ at_most_more n m r few h = record { ticks = omega (arith, few.ticks, h); path_st
 pub spent_little : (job : Job) (s : State) → IsUntouched job s → spent s ≤ SPENT_LIMIT
 spent_little job s u = omega (arith, u.travelled, u.dwelt)
 
+-- ---- the end told
+
+tells_behind : (xs ys : List Outcome) → TellsEnd ys → TellsEnd (xs ++ ys)
+tells_behind xs ys t = (xs ++ t.0, ap (λ l. xs ++ l) t.1 ∙ sym (append_assoc xs t.0 (Ok (Ticked None (Some End)) ∷ [])))
+
+tells_before : (xs ys : List Outcome) → ys ≡ [] → TellsEnd xs → TellsEnd (xs ++ ys)
+tells_before xs ys none t = (t.0, ap (λ l. xs ++ l) none ∙ append-nil xs ∙ t.1)
+
+by_behind : (e : Ending) (ring : List Queued) (xs ys : List Outcome) → TellsBy (Some e) ring ys → TellsBy (Some e) ring (xs ++ ys)
+by_behind e [] xs ys h = tt
+by_behind e (l ∷ ls) xs ys h = λ end. (let told = h end in (told.0, tells_behind xs ys told.1))
+
+head_told : (e : Ending) (ring : List Queued) (xs ys : List Outcome) → TellsBy (Some e) ring xs → (is_stop e ≡ false → ys ≡ []) → TellsHead ring (xs ++ ys)
+head_told e [] xs ys h none = tt
+head_told e (l ∷ ls) xs ys h none = λ end. (let told = h end in tells_before xs ys (none (ap is_stop told.0)) told.1)
+
 -- ---- ticks on one head
 
 -- one more tick, in which no command ended
 pub tick_more : (ended : Option Ending) (old mid new : ControllerData) (a b c : Recorder) (x y z : Option (List ℕ)) → ended ≡ None → GoesBy (spent mid.state) 0 0 old mid a b x y → TicksBy mid new b c y z ended →
-    GoesBy (spent new.state) 0 0 old new a c x z × (new.state.stopped ≡ false)
+    GoesBy (spent new.state) 0 0 old new a c x z × Works mid.state new.state
 tick_more ended old mid new a b c x y z none s t =
     let here : TicksBy mid new b c y z None = subst (TicksBy mid new b c y z) none t in
     let spends = here.leaves.spends in (
       goes_both (spent mid.state) 1 (spent new.state) 0 0 0 0 0 0 old mid new a b c x y z s here.goes (omega (arith, spends)) refl refl,
-      here.leaves.running,
+      here.leaves,
     )
 
+-- the head is done
+pub record EndsHead (e : Ending) (old new : ControllerData) (a b : Recorder) (x y : Option (List ℕ)) : Type 0 where
+  pub goes : GoesBy (SPENT_LIMIT + 1) 0 1 old new a b x y
+  pub tells : TellsBy (Some e) old.state.ring goes.outcomes
+
 -- the tick in which the command ended
-pub tick_last : (ended : Option Ending) (e : Ending) (old mid new : ControllerData) (a b c : Recorder) (x y z : Option (List ℕ)) → ended ≡ Some e → GoesBy (spent mid.state) 0 0 old mid a b x y →
-    TicksBy mid new b c y z ended → GoesBy (SPENT_LIMIT + 1) 0 1 old new a c x z
-tick_last ended e old mid new a b c x y z some s t =
+pub tick_last : (ended : Option Ending) (e : Ending) (old mid new : ControllerData) (a b c : Recorder) (x y z : Option (List ℕ)) → ended ≡ Some e → mid.state.ring ≡ old.state.ring →
+    GoesBy (spent mid.state) 0 0 old mid a b x y → TicksBy mid new b c y z ended → EndsHead e old new a c x z
+tick_last ended e old mid new a b c x y z some same s t =
     let here : TicksBy mid new b c y z (Some e) = subst (TicksBy mid new b c y z) some t in
     let little = spent_little mid.job mid.state s.untouched in
-    goes_both (spent mid.state) 1 (SPENT_LIMIT + 1) 0 0 0 0 1 1 old mid new a b c x y z s here.goes (omega (arith, little)) refl refl
+    let R : List Queued → Type 0 = λ ring. TellsBy (Some e) ring (s.outcomes ++ here.goes.outcomes) in
+    record {
+      goes = goes_both (spent mid.state) 1 (SPENT_LIMIT + 1) 0 0 0 0 1 1 old mid new a b c x y z s here.goes (omega (arith, little)) refl refl;
+      tells = subst R same (by_behind e mid.state.ring s.outcomes here.goes.outcomes here.tells);
+    }
 
 -- and a start behind it
-pub head_done : (old mid new : ControllerData) (a b c : Recorder) (x y z : Option (List ℕ)) → GoesBy (SPENT_LIMIT + 1) 0 1 old mid a b x y → GoesBy 1 0 0 mid new b c y z → GoesBy (2 ^ 102) 0 1 old new a c x z
-head_done old mid new a b c x y z s t = goes_both (SPENT_LIMIT + 1) 1 (2 ^ 102) 0 0 0 1 0 1 old mid new a b c x y z s t (omega arith) refl refl
+pub head_done : (e : Ending) (old mid new : ControllerData) (a b c : Recorder) (x y z : Option (List ℕ)) → EndsHead e old mid a b x y → GoesBehind e mid new b c y z → FinishesHead old new a c x z
+head_done e old mid new a b c x y z s t = record {
+  goes = goes_both (SPENT_LIMIT + 1) 1 (2 ^ 102) 0 0 0 1 0 1 old mid new a b c x y z s.goes t.goes (omega arith) refl refl;
+  told = head_told e old.state.ring s.goes.outcomes t.goes.outcomes s.tells t.nothing;
+}
+
+pub started_behind : (ending : Ending) (k : ℕ) (old new : ControllerData) (a b : Recorder) (x y : Option (List ℕ)) → ending ≡ Stopped k → GoesBy 1 0 0 old new a b x y → GoesBehind ending old new a b x y
+started_behind ending k old new a b x y is s = record {
+  goes = s;
+  nothing = λ quiet. (let stops : is_stop ending ≡ true = ap is_stop is in cc);
+}
+
+pub nothing_behind : (ending : Ending) (old : ControllerData) (a : Recorder) (x : Option (List ℕ)) → IsUntouched old.job old.state → GoesBehind ending old old a a x x
+nothing_behind ending old a x u = record { goes = none_yet 1 old a x u; nothing = λ _. refl }
+
+-- ---- several heads
+
+first_told : (job : Job) (s : State) (ring : List Queued) (outcomes : List Outcome) (c : Command) → s.ring ≡ ring → AreNext job s → 1 ≤ length ring → command_at job s.done ≡ Some c → c.action ≡ actions.End →
+    TellsHead ring outcomes → TellsEnd outcomes
+first_told job s [] outcomes c is next some at end told = absurd (omega (arith, some))
+first_told job s (l ∷ ls) outcomes c is next some at end told =
+    let place : s.done ≡ s.done + 0 = omega arith in
+    let head : Some c ≡ Some l.command = sym at ∙ ap (command_at job) place ∙ next 0 l (ap (λ xs. slice_get xs 0) is) in
+    let same : l.command ≡ c = cc in
+    told (ap (λ (x : Command). x.action) same ∙ end)
+
+pub none_finished : (n : ℕ) (old : ControllerData) (a : Recorder) (x : Option (List ℕ)) → IsUntouched old.job old.state → Finishes n 0 0 old old a a x x
+none_finished n old a x u = record { goes = none_yet n old a x u; told = λ some. absurd (omega (arith, some)) }
+
+pub one_more_finished : (n k i j : ℕ) (old mid new : ControllerData) (a b c : Recorder) (x y z : Option (List ℕ)) → 1 ≤ length mid.state.ring → Finishes n 0 i old mid a b x y → FinishesHead mid new b c y z →
+    n + 2 ^ 102 ≤ k → j ≡ i + 1 → Finishes k 0 j old new a c x z
+one_more_finished n k i j old mid new a b c x y z some s t enough more = record {
+  goes = goes_both n (2 ^ 102) k 0 0 0 i 1 j old mid new a b c x y z s.goes t.goes enough refl more;
+  told = λ _ p command last at end.
+      (let done = t.goes.done in
+      let place : mid.state.done ≡ p = omega (arith, last, done) in
+      let found : command_at mid.job mid.state.done ≡ Some command = ap (command_at mid.job) place ∙ ap (λ (j : Job). command_at j p) s.goes.job ∙ at in
+      tells_behind s.goes.outcomes t.goes.outcomes (first_told mid.job mid.state mid.state.ring t.goes.outcomes command refl s.goes.untouched.commands some found end t.told));
+}
+
+pub finished_behind : (n m k p q r f g d : ℕ) (old mid new : ControllerData) (a b c : Recorder) (x y z : Option (List ℕ)) → GoesBy n p f old mid a b x y → Finishes m q g mid new b c y z →
+    n + m ≤ k → r ≡ p + q → d ≡ f + g → (0 < d → 0 < g) → Finishes k r d old new a c x z
+finished_behind n m k p q r f g d old mid new a b c x y z s t enough loads does more = record {
+  goes = goes_both n m k p q r f g d old mid new a b c x y z s t.goes enough loads does;
+  told = λ some i command last at end.
+      tells_behind s.outcomes t.goes.outcomes (t.told (more some) i command last (ap (λ (j : Job). command_at j i) s.job ∙ at) end);
+}

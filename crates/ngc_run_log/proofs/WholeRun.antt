@@ -20,7 +20,7 @@ use Rattle.ngc_run_log.specs.Log.{log}
 use Rattle.ngc_run_log.specs.Runs.{IsRun, Reports}
 use Rattle.ngc_run_log.specs.Recording.{last_state, Stretch}
 use Rattle.ngc_run_log.specs.Through.{IsLoggedThrough, IsBrokenOff}
-use Rattle.ngc_run_log.specs.Stretches.{IsUntouched, GoesBy, BreaksOff}
+use Rattle.ngc_run_log.specs.Stretches.{IsUntouched, GoesBy, BreaksOff, Finishes}
 use Rattle.ngc_run_log.proofs.Comes.{AreNew, log_is, reports}
 
 -- before the first event
@@ -30,6 +30,7 @@ opening_untouched job s machine opens =
       machine = machine;
       not_held = refl;
       percent = refl;
+      commands = λ i l at. (cc);
       paths = tt;
       short = tt;
       travelled = omega arith;
@@ -55,8 +56,9 @@ opens_runs job s t events outcomes safe in_time opens stretch =
 
 -- all is done and written
 pub through_logged : (n count : ℕ) (old new : ControllerData) (a b : Recorder) (x y z : Option (List ℕ)) (report : Report) → AreNew old.job old.state a → RunsSafely old.job → RunsInTime old.job →
-    count ≡ length old.job.commands → GoesBy n count count old new a b x y → Appends y z b.chunk → report ≡ b.report → IsLoggedThrough old.job x z report
-through_logged n count old new a b x y z report are_new safe in_time all s wrote same =
+    count ≡ length old.job.commands → Finishes n count count old new a b x y → Appends y z b.chunk → report ≡ b.report → IsLoggedThrough old.job x z report
+through_logged n count old new a b x y z report are_new safe in_time all ended wrote same =
+    let s : GoesBy n count count old new a b x y = ended.goes in
     let P : List ℕ → Type 0 = λ text. Appends x z text in
     let R : Report → Type 0 = λ r. Reports old.job s.events s.outcomes r in
     let r = opens_runs old.job old.state new.state s.events s.outcomes safe in_time are_new.opens s.stretch in
@@ -67,14 +69,16 @@ through_logged n count old new a b x y z report are_new safe in_time all s wrote
       outcomes = s.outcomes;
       smooth = record { run = r.0; kinds = s.kinds; none_refused = s.none_refused };
       done = ap (λ (x : State). x.done) (sym r.1) ∙ done;
+      told = λ k c last at end. ended.told (omega (arith, last, all)) k c (last ∙ sym done) at end;
       logged = subst P (log_is old.job old.state a b x y s.outcomes are_new s.collects) (appends_both x y z s.collects.front b.chunk s.collects.writes wrote);
       reports = subst R (sym same) (reports old.job old.state a b s.events s.outcomes are_new s.counts);
     }
 
 -- all is done, and then a write failed
 pub through_unwritten : (n count : ℕ) (old new : ControllerData) (a b : Recorder) (x y z : Option (List ℕ)) → AreNew old.job old.state a → RunsSafely old.job → RunsInTime old.job →
-    GoesBy n count count old new a b x y → AppendsBeginning y z b.chunk → IsBrokenOff old.job x z
-through_unwritten n count old new a b x y z are_new safe in_time s wrote =
+    Finishes n count count old new a b x y → AppendsBeginning y z b.chunk → IsBrokenOff old.job x z
+through_unwritten n count old new a b x y z are_new safe in_time ended wrote =
+    let s : GoesBy n count count old new a b x y = ended.goes in
     let front : List ℕ = s.collects.front in
     let P : List ℕ → Type 0 = λ text. AppendsBeginning x z text in
     let text : front ++ (b.chunk ++ []) ≡ log s.outcomes = ap (λ l. front ++ l) (append-nil b.chunk) ∙ log_is old.job old.state a b x y s.outcomes are_new s.collects in

@@ -1,14 +1,16 @@
 -- How a run goes on that nobody touches: from one event to a later one. Our own.
-use Rattle.std.specs.Prelude.{◌≡◌, ℕ, ◌+◌, ◌*◌, ◌^◌, ◌≤◌, ◌<◌, List, [], ◌∷◌, ◌++◌, length, count_by, Option, None, Some, Ok, Err, Bool, true, false}
+use Rattle.std.specs.Prelude.{◌≡◌, ℕ, suc, slice_get, ◌+◌, ◌*◌, ◌^◌, ◌≤◌, ◌<◌, List, [], ◌∷◌, ◌++◌, length, count_by, Option, None, Some, Ok, Err, Bool, true, false}
 use Rattle.std.specs.List.{AllByRecursion}
 use Rattle.ngc_fixed_length.specs.Written.{AppendsBeginning}
 use Rattle.ngc_machine.specs.MachineRanges.{IsMachine}
+use Rattle.ngc_canonical.specs.declared.command.Action.TheVariants as actions
+use Rattle.ngc_canonical.specs.declared.command.Command.{Command}
 use Rattle.ngc_planner.specs.Caps.{MILLION, STEPS_LIMIT}
 use Rattle.ngc_events.specs.declared.event.Event.{Event}
 use Rattle.ngc_behaviour.specs.declared.reply.Ending.{Ending}
 use Rattle.ngc_behaviour.specs.declared.reply.Ending.TheVariants.{Done, Stopped, End}
 use Rattle.ngc_behaviour.specs.declared.reply.Reply.TheVariants.{Loaded, Ticked, Held, Resumed, Overridden, Switched, Started}
-use Rattle.ngc_behaviour.specs.State.{Job, Queued, State}
+use Rattle.ngc_behaviour.specs.State.{Job, Queued, State, command_at}
 use Rattle.ngc_behaviour.specs.Step.{Outcome, Step, MayTake}
 use Rattle.ngc_behaviour.specs.Progress.{GoesOn}
 use Rattle.ngc_controller.specs.Controller.{ControllerData}
@@ -18,14 +20,15 @@ use Rattle.ngc_run_log.specs.declared.recorder.Recorder.{Recorder}
 use Rattle.ngc_run_log.specs.Log.{log, text_of}
 use Rattle.ngc_run_log.specs.Recording.{Stretch, Counts, Collects}
 use Rattle.ngc_run_log.specs.Runs.{is_refusal}
-use Rattle.ngc_run_log.specs.Through.{IsLoadTickOrStart}
+use Rattle.ngc_run_log.specs.Through.{IsLoadTickOrStart, TellsEnd}
 
--- the machine goes at an override of 100 percent, the motions that are loaded are on their paths, and what is done of the head is
+-- the machine goes at an override of 100 percent, what is loaded are the job's next commands, each on its path, and what is done of the head is
 -- within bounds
 pub record IsUntouched (job : Job) (s : State) : Type 0 where
   pub machine : IsMachine job.machine
   pub not_held : s.held ≡ false
   pub percent : s.percent ≡ 100
+  pub commands : (i : ℕ) (l : Queued) → slice_get s.ring i ≡ Some l → command_at job (s.done + i) ≡ Some l.command
   pub paths : AllByRecursion (λ (l : Queued). MayTake job l.command.action l.path) s.ring
   pub short : AreShort s.ring
   pub travelled : s.travelled ≤ STEPS_LIMIT * MILLION
@@ -107,12 +110,19 @@ pub record BreaksOff (old : ControllerData) (before : Recorder) (written now : O
 -- the head goes on
 pub record Works (old new : State) : Type 0 where
   pub running : new.stopped ≡ false
+  pub ring : new.ring ≡ old.ring
   pub spends : spent old < spent new
 
 -- what a tick leaves, by how a command ended in it: without a stop the machine isn't stopped
 abbrev pub LeavesBy : Option Ending → State → State → Type 0
 LeavesBy None old new = Works old new
 LeavesBy (Some ending) old new = is_stop ending ≡ false → new.stopped ≡ false
+
+-- where the head that ended is the program's end, that is told last
+abbrev pub TellsBy : Option Ending → List Queued → List Outcome → Type 0
+TellsBy None ring outcomes = Unit {0}
+TellsBy (Some ending) [] outcomes = Unit {0}
+TellsBy (Some ending) (l ∷ ls) outcomes = l.command.action ≡ actions.End → (ending ≡ End) × TellsEnd outcomes
 
 abbrev pub does_in : Option Ending → ℕ
 does_in None = 0
@@ -121,3 +131,28 @@ does_in (Some ending) = 1
 pub record TicksBy (old new : ControllerData) (before after : Recorder) (written now : Option (List ℕ)) (ending : Option Ending) : Type 0 where
   pub goes : GoesBy 1 0 (does_in ending) old new before after written now
   pub leaves : LeavesBy ending old.state new.state
+  pub tells : TellsBy ending old.state.ring goes.outcomes
+
+-- ---- what comes behind an ending
+
+-- nothing where it is no stop
+pub record GoesBehind (ending : Ending) (old new : ControllerData) (before after : Recorder) (written now : Option (List ℕ)) : Type 0 where
+  pub goes : GoesBy 1 0 0 old new before after written now
+  pub nothing : is_stop ending ≡ false → goes.outcomes ≡ []
+
+-- the head is done
+abbrev pub TellsHead : List Queued → List Outcome → Type 0
+TellsHead [] outcomes = Unit {0}
+TellsHead (l ∷ ls) outcomes = l.command.action ≡ actions.End → TellsEnd outcomes
+
+pub record FinishesHead (old new : ControllerData) (before after : Recorder) (written now : Option (List ℕ)) : Type 0 where
+  pub goes : GoesBy (2 ^ 102) 0 1 old new before after written now
+  pub told : TellsHead old.state.ring goes.outcomes
+
+-- the last command that is done
+abbrev pub TellsDone : Job → ℕ → List Outcome → Type 0
+TellsDone job done outcomes = (k : ℕ) (c : Command) → suc k ≡ done → command_at job k ≡ Some c → c.action ≡ actions.End → TellsEnd outcomes
+
+pub record Finishes (n loads does : ℕ) (old new : ControllerData) (before after : Recorder) (written now : Option (List ℕ)) : Type 0 where
+  pub goes : GoesBy n loads does old new before after written now
+  pub told : 0 < does → TellsDone old.job new.state.done goes.outcomes

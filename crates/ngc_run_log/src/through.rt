@@ -8,7 +8,7 @@ ghost use Rattle.ngc_fixed_length.specs.Failures.{CountsFailure};
 ghost use Rattle.ngc_machine.specs.MachineRanges.{IsMachine};
 ghost use Rattle.ngc_run_log.specs.Recording.{AreAtMost};
 ghost use Rattle.ngc_run_log.specs.Runs.{FailsByWriting};
-ghost use Rattle.ngc_run_log.specs.Stretches.{IsUntouched, IsGiven, IsGivenLast, GoesBy, BreaksOff, TicksBy, ending_in, is_stop};
+ghost use Rattle.ngc_run_log.specs.Stretches.{IsUntouched, IsGiven, IsGivenLast, GoesBy, BreaksOff, TicksBy, GoesBehind, FinishesHead, Finishes, ending_in, is_stop};
 ghost use Rattle.ngc_run_log.specs.Through.{IsLoggedThrough, IsBrokenOff, GoesThrough};
 
 use crate::recorder::Recorder;
@@ -126,7 +126,7 @@ fn go_on_behind<A: Allocator + Copy, W: Sink>(
     requires untouched { IsUntouched controller.old.job controller.old.state }
     requires runs { is_stop ending ≡ false → controller.old.state.stopped ≡ false }
     requires few { AreAtMost (2 ^ 126) recorder.old.report }
-    ensures goes { OnOk result (GoesBy 1 0 0 controller.old controller.new recorder.old recorder.new (W.written sink.old) (W.written sink.new)) }
+    ensures goes { OnOk result (GoesBehind ending controller.old controller.new recorder.old recorder.new (W.written sink.old) (W.written sink.new)) }
     ensures runs { OnOk result (controller.new.state.stopped ≡ false) }
     ensures fault { OnErr result (BreaksOff controller.old recorder.old (W.written sink.old) (W.written sink.new)) }
     ensures failures { CountsFailure (W.failures sink.old) (W.failures sink.new) result }
@@ -148,7 +148,7 @@ fn finish_head<A: Allocator + Copy, W: Sink>(
     requires runs { controller.old.state.stopped ≡ false }
     requires some { 1 ≤ length controller.old.state.ring }
     requires few { AreAtMost (2 ^ 125) recorder.old.report }
-    ensures goes { OnOk result (GoesBy (2 ^ 102) 0 1 controller.old controller.new recorder.old recorder.new (W.written sink.old) (W.written sink.new)) }
+    ensures goes { OnOk result (FinishesHead controller.old controller.new recorder.old recorder.new (W.written sink.old) (W.written sink.new)) }
     ensures runs { OnOk result (controller.new.state.stopped ≡ false) }
     ensures fault { OnErr result (BreaksOff controller.old recorder.old (W.written sink.old) (W.written sink.new)) }
     ensures failures { CountsFailure (W.failures sink.old) (W.failures sink.new) result }
@@ -234,7 +234,7 @@ fn finish<A: Allocator + Copy, W: Sink>(
     requires untouched { IsUntouched controller.old.job controller.old.state }
     requires runs { controller.old.state.stopped ≡ false }
     requires few { AreAtMost (2 ^ 124) recorder.old.report }
-    ensures goes { OnOk result (GoesBy (count * 2 ^ 103) 0 count controller.old controller.new recorder.old recorder.new (W.written sink.old) (W.written sink.new)) }
+    ensures goes { OnOk result (Finishes (count * 2 ^ 103) 0 count controller.old controller.new recorder.old recorder.new (W.written sink.old) (W.written sink.new)) }
     ensures fault { OnErr result (BreaksOff controller.old recorder.old (W.written sink.old) (W.written sink.new)) }
     ensures failures { CountsFailure (W.failures sink.old) (W.failures sink.new) result }
 {
@@ -261,7 +261,7 @@ fn go_on<A: Allocator + Copy, W: Sink>(
     requires untouched { IsUntouched controller.old.job controller.old.state }
     requires runs { controller.old.state.stopped ≡ false }
     requires few { AreAtMost 0 recorder.old.report }
-    ensures goes { OnOk result (GoesBy (2 ^ 125) count count controller.old controller.new recorder.old recorder.new (W.written sink.old) (W.written sink.new)) }
+    ensures goes { OnOk result (Finishes (2 ^ 125) count count controller.old controller.new recorder.old recorder.new (W.written sink.old) (W.written sink.new)) }
     ensures fault { OnErr result (BreaksOff controller.old recorder.old (W.written sink.old) (W.written sink.new)) }
     ensures failures { CountsFailure (W.failures sink.old) (W.failures sink.new) result }
 {

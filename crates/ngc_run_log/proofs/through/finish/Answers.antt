@@ -1,26 +1,26 @@
 use Rattle.std.proofs.Common.{◌^◌, arith, rules, refl}
-use Rattle.ngc_run_log.proofs.Untouched.{none_yet, goes_both, breaks_later, few_behind}
+use Rattle.ngc_run_log.proofs.Untouched.{none_finished, one_more_finished, breaks_later, few_behind}
 use Rattle.ngc_run_log.proofs.through.finish.Goals as goal
 
 pub loop-command-init : goal.loop-command-init
 loop-command-init g c = record {
-  goes = none_yet _ _ _ _ c.requires.untouched;
+  goes = none_finished _ _ _ _ c.requires.untouched;
   running = c.requires.runs;
   failures = refl;
 }
 
 pub finish_head-requires-clause-few : goal.finish_head-requires-clause-few
-finish_head-requires-clause-few g c = few_behind _ _ _ (2 ^ 124) (2 ^ 125) _ _ _ _ _ _ c.loop-command.invariant.goes c.requires.few (omega (arith, c.requires.small))
+finish_head-requires-clause-few g c = few_behind _ _ _ (2 ^ 124) (2 ^ 125) _ _ _ _ _ _ c.loop-command.invariant.goes.goes c.requires.few (omega (arith, c.requires.small))
 
 pub finish_head-requires-clause-some : goal.finish_head-requires-clause-some
-finish_head-requires-clause-some g c = omega (arith, c.loop-command.invariant.goes.ring, c.requires.loaded)
+finish_head-requires-clause-some g c = omega (arith, c.loop-command.invariant.goes.goes.ring, c.requires.loaded)
 
 pub loop-command-preserved : goal.loop-command-preserved
 loop-command-preserved g c = record {
-  goes = goes_both _ (2 ^ 102) _ 0 0 0 _ 1 _ _ _ _ _ _ _ _ _ _ c.loop-command.invariant.goes c.in-Ok.ensures.goes (omega arith) (omega arith) (omega arith);
+  goes = one_more_finished _ _ _ _ _ _ _ _ _ _ _ _ _ (omega (arith, c.loop-command.invariant.goes.goes.ring, c.requires.loaded)) c.loop-command.invariant.goes c.in-Ok.ensures.goes (omega arith) (omega arith);
   running = c.in-Ok.ensures.runs;
   failures = search rules;
 }
 
 pub returns-in-Err-clause-fault : goal.returns-in-Err-clause-fault
-returns-in-Err-clause-fault g c = breaks_later _ _ _ _ _ _ _ _ _ _ c.loop-command.invariant.goes c.in-Err.ensures.fault
+returns-in-Err-clause-fault g c = breaks_later _ _ _ _ _ _ _ _ _ _ c.loop-command.invariant.goes.goes c.in-Err.ensures.fault

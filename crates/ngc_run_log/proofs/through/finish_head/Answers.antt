@@ -1,4 +1,4 @@
-use Rattle.std.proofs.Common.{◌^◌, arith, rules, refl}
+use Rattle.std.proofs.Common.{◌^◌, arith, rules, refl, ◌∙◌}
 use Rattle.std.proofs.lemmas.Result.{on_ok_weaker, on_err_weaker}
 use Rattle.ngc_run_log.proofs.Untouched.{none_yet, breaks_later, few_behind, spent_little, tick_more, tick_last, head_done}
 use Rattle.ngc_run_log.proofs.through.finish_head.Goals as goal
@@ -6,6 +6,7 @@ use Rattle.ngc_run_log.proofs.through.finish_head.Goals as goal
 pub ticks-init : goal.ticks-init
 ticks-init g c = record {
   goes = none_yet _ _ _ _ c.requires.untouched;
+  same = refl;
   running = c.requires.runs;
   failures = refl;
 }
@@ -23,18 +24,19 @@ ticks-preserved g c =
     let more = tick_more _ _ _ _ _ _ _ _ _ _ c.in_default.is c.ticks.invariant.goes c.in-Ok.ensures.ticks in
     record {
       goes = more.0;
-      running = more.1;
+      same = more.1.ring ∙ c.ticks.invariant.same;
+      running = more.1.running;
       failures = search rules;
     }
 
 pub go_on_behind-requires-clause-few : goal.go_on_behind-requires-clause-few
 go_on_behind-requires-clause-few g c =
-    few_behind _ _ _ (2 ^ 125) (2 ^ 126) _ _ _ _ _ _ (tick_last _ _ _ _ _ _ _ _ _ _ _ c.in-Some.is c.ticks.invariant.goes c.in-Ok.ensures.ticks) c.requires.few (omega arith)
+    few_behind _ _ _ (2 ^ 125) (2 ^ 126) _ _ _ _ _ _ (tick_last _ _ _ _ _ _ _ _ _ _ _ c.in-Some.is c.ticks.invariant.same c.ticks.invariant.goes c.in-Ok.ensures.ticks).goes c.requires.few (omega arith)
 
 pub returns-in-Some-clause-goes : goal.returns-in-Some-clause-goes
 returns-in-Some-clause-goes g c =
-    on_ok_weaker c.go_on_behind.result (head_done _ _ _ _ _ _ _ _ _ (tick_last _ _ _ _ _ _ _ _ _ _ _ c.in-Some.is c.ticks.invariant.goes c.in-Ok.ensures.ticks)) c.go_on_behind.ensures.goes
+    on_ok_weaker c.go_on_behind.result (head_done _ _ _ _ _ _ _ _ _ _ (tick_last _ _ _ _ _ _ _ _ _ _ _ c.in-Some.is c.ticks.invariant.same c.ticks.invariant.goes c.in-Ok.ensures.ticks)) c.go_on_behind.ensures.goes
 
 pub returns-in-Some-clause-fault : goal.returns-in-Some-clause-fault
 returns-in-Some-clause-fault g c =
-    on_err_weaker c.go_on_behind.result (breaks_later _ _ _ _ _ _ _ _ _ _ (tick_last _ _ _ _ _ _ _ _ _ _ _ c.in-Some.is c.ticks.invariant.goes c.in-Ok.ensures.ticks)) c.go_on_behind.ensures.fault
+    on_err_weaker c.go_on_behind.result (breaks_later _ _ _ _ _ _ _ _ _ _ (tick_last _ _ _ _ _ _ _ _ _ _ _ c.in-Some.is c.ticks.invariant.same c.ticks.invariant.goes c.in-Ok.ensures.ticks).goes) c.go_on_behind.ensures.fault

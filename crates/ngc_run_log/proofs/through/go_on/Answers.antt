@@ -1,6 +1,6 @@
 use Rattle.std.proofs.Common.{◌+◌, ◌-◌, ◌*◌, ◌^◌, arith}
 use Rattle.std.proofs.lemmas.Result.{on_ok_weaker, on_err_weaker}
-use Rattle.ngc_run_log.proofs.Untouched.{goes_both, breaks_later, few_behind, at_most_more}
+use Rattle.ngc_run_log.proofs.Untouched.{goes_both, breaks_later, few_behind, at_most_more, finished_behind}
 use Rattle.ngc_run_log.proofs.through.go_on.Goals as goal
 
 pub fill_ring-requires-clause-few : goal.fill_ring-requires-clause-few
@@ -23,7 +23,7 @@ returns-clause-goes g c =
     let count = c.args.count in
     let least = c.min-first.ensures in
     let loaded = goes_both first ((count - first) * 2 ^ 103) (first + (count - first) * 2 ^ 103) first (count - first) count 0 (count - first) (count - first) _ _ _ _ _ _ _ _ _ c.in-Ok.ensures.goes c.in-Ok-keep_full.ensures.goes (omega arith) (omega (arith, least)) (omega arith) in
-    on_ok_weaker c.finish.result (λ last. goes_both _ (first * 2 ^ 103) (2 ^ 125) count 0 count (count - first) first count _ _ _ _ _ _ _ _ _ loaded last (omega (arith, least, c.requires.few_commands)) (omega arith) (omega (arith, least))) c.finish.ensures.goes
+    on_ok_weaker c.finish.result (λ last. finished_behind _ (first * 2 ^ 103) (2 ^ 125) count 0 count (count - first) first count _ _ _ _ _ _ _ _ _ loaded last (omega (arith, least, c.requires.few_commands)) (omega arith) (omega (arith, least)) (λ some. omega (arith, least, some))) c.finish.ensures.goes
 
 pub returns-clause-fault : goal.returns-clause-fault
 returns-clause-fault g c =
