@@ -13,9 +13,9 @@ use Rattle.ngc_planner.specs.Caps.{MILLION, STEPS_LIMIT}
 use Rattle.ngc_planner.specs.Bounds.{IsMotion, least_travel}
 use Rattle.ngc_planner.proofs.BoundLaws.{may_travel_least}
 use Rattle.ngc_events.specs.declared.event.Event.TheVariants.{Tick}
-use Rattle.ngc_behaviour.specs.declared.reply.Ending.{Ending}
-use Rattle.ngc_behaviour.specs.declared.reply.Ending.TheVariants.{Done, Stopped, End}
-use Rattle.ngc_behaviour.specs.declared.reply.Reply.TheVariants.{Ticked}
+use Rattle.ngc_events.specs.declared.reply.Ending.{Ending}
+use Rattle.ngc_events.specs.declared.reply.Ending.TheVariants.{Done, Stopped, End}
+use Rattle.ngc_events.specs.declared.reply.Reply.TheVariants.{Ticked}
 use Rattle.ngc_behaviour.specs.State.{Job, Queued, State, path_steps, millionths}
 use Rattle.ngc_behaviour.specs.Reach.{rest}
 use Rattle.ngc_behaviour.specs.Step.{Outcome, Step, MayTake, Rests, Finishes, Dwells, Serves, Travels, HeadTick, TickBy, popped, after, ending, pulse, place_after, ticks_of}

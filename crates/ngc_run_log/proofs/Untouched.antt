@@ -14,11 +14,11 @@ use Rattle.ngc_planner.specs.Caps.{STEPS_LIMIT}
 use Rattle.ngc_events.specs.declared.event.Event.{Event}
 use Rattle.ngc_events.specs.declared.event.Event.TheVariants.{Load, Tick, Start}
 use Rattle.ngc_canonical.specs.declared.command.Action.TheVariants as actions
-use Rattle.ngc_behaviour.specs.declared.reply.Ending.{Ending}
-use Rattle.ngc_behaviour.specs.declared.reply.Ending.TheVariants.{Stopped, End}
-use Rattle.ngc_behaviour.specs.declared.reply.Reply.{Reply}
-use Rattle.ngc_behaviour.specs.declared.reply.Reply.TheVariants.{Loaded, Ticked, Started}
-use Rattle.ngc_behaviour.specs.declared.fault.EventFault.TheVariants.{RingFull}
+use Rattle.ngc_events.specs.declared.reply.Ending.{Ending}
+use Rattle.ngc_events.specs.declared.reply.Ending.TheVariants.{Stopped, End}
+use Rattle.ngc_events.specs.declared.reply.Reply.{Reply}
+use Rattle.ngc_events.specs.declared.reply.Reply.TheVariants.{Loaded, Ticked, Started}
+use Rattle.ngc_events.specs.declared.event_fault.EventFault.TheVariants.{RingFull}
 use Rattle.ngc_behaviour.specs.State.{Job, Queued, State, RING, loaded, command_at, path_steps}
 use Rattle.ngc_behaviour.specs.Step.{Outcome, Step, LoadCommand, MayTake}
 use Rattle.ngc_controller.specs.Controller.{ControllerData}

@@ -7,8 +7,8 @@ use Rattle.ngc_events.specs.declared.event.Event.{Event}
 use Rattle.ngc_events.specs.declared.event.Event.TheVariants.{Load, Tick, Hold, Resume, Override, StopSwitch, Start}
 use Rattle.ngc_canonical.specs.declared.command.Action.TheVariants as actions
 use Rattle.ngc_canonical.specs.declared.command.Command.{Command}
-use Rattle.ngc_behaviour.specs.declared.reply.Ending.TheVariants.{End}
-use Rattle.ngc_behaviour.specs.declared.reply.Reply.TheVariants.{Ticked}
+use Rattle.ngc_events.specs.declared.reply.Ending.TheVariants.{End}
+use Rattle.ngc_events.specs.declared.reply.Reply.TheVariants.{Ticked}
 use Rattle.ngc_behaviour.specs.State.{Job, opening}
 use Rattle.ngc_behaviour.specs.Step.{Outcome}
 use Rattle.ngc_run_log.specs.declared.report.Report.{Report}

@@ -13,10 +13,9 @@ ghost use Rattle.ngc_run_log.specs.Through.{IsLoggedThrough, IsBrokenOff, GoesTh
 
 use crate::recorder::Recorder;
 use crate::report::{Report, RunFault};
-use ngc_behaviour::{Ending, EventFault, Reply};
 use ngc_checker::Accepted;
 use ngc_controller::Controller;
-use ngc_events::Event;
+use ngc_events::{Ending, Event, EventFault, Reply};
 use ngc_fixed_length::{Sink, WriteFault};
 use ngc_step_kernel::ArcPath;
 use std::alloc::Allocator;
