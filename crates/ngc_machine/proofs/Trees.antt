@@ -100,3 +100,26 @@ nine-all vs done i h e d inv =
     let whole : take i done ≡ done = take_all i done (omega arith) in
     let all : each coordinates (items_view vs) ≡ Some done = rw (none, whole, append-nil) at inv in
     rw (all, d)
+
+-- the loops that read entries: one more
+pub entries-more : {A : Type 0} (read : Data → Option A) (vs : List Value) (done : List A) (i : ℕ) (v : Value) (x : A) → i < length vs → v ≡ get_or vs i v → Some x ≡ read (view v)
+    → each read (items_view vs) ≡ option_map (λ xs. done ++ xs) (each read (items_view (drop i vs)))
+    → each read (items_view vs) ≡ option_map (λ xs. (done ++ x ∷ []) ++ xs) (each read (items_view (drop (i + 1) vs)))
+entries-more read vs done i v x h at e inv =
+    inv ∙ ap (option_map (λ xs. done ++ xs)) (each-more read vs i v x h at e) ∙ added_before done x (each read (items_view (drop (i + 1) vs)))
+
+-- one that isn't right
+pub entries-none : {A : Type 0} (read : Data → Option A) (vs : List Value) (done : List A) (i : ℕ) (v : Value) → i < length vs → v ≡ get_or vs i v → None ≡ read (view v)
+    → each read (items_view vs) ≡ option_map (λ xs. done ++ xs) (each read (items_view (drop i vs)))
+    → None ≡ each read (items_view vs)
+entries-none read vs done i v h at e inv =
+    let none : each read (items_view (drop i vs)) ≡ None = rw (drop_more vs i v h, ← at, ← e) in
+    rw (inv, none)
+
+-- all of them
+pub entries-all : {A : Type 0} (read : Data → Option A) (vs : List Value) (done : List A) (i : ℕ) → length vs ≤ i
+    → each read (items_view vs) ≡ option_map (λ xs. done ++ xs) (each read (items_view (drop i vs)))
+    → Some done ≡ each read (items_view vs)
+entries-all read vs done i h inv =
+    let none : drop i vs ≡ [] = drop_all i vs h in
+    rw (inv, none, append-nil done)
