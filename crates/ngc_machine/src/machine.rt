@@ -74,13 +74,13 @@ fn copied(origins: &[Point3; 9]) -> [Point3; 9]
     copy
 }
 
-impl<A: Allocator + Copy> Machine<A> {
+impl<A: Allocator> Machine<A> {
     ghost use Rattle.std.specs.Prelude.{IfOk};
     ghost use Rattle.ngc_machine.specs.Machine.{file_of};
     ghost use Rattle.ngc_machine.specs.MachineRanges.{IsMachine};
 
-    /// The same machine once more, whose fixtures take memory of their own. It fails where memory is refused.
-    pub fn copy(&self, alloc: A) -> Result<Machine<A>, AllocError>
+    /// The same machine once more, whose fixtures take memory of any allocator. It fails where memory is refused.
+    pub fn copy<B: Allocator>(&self, alloc: B) -> Result<Machine<B>, AllocError>
         ensures same { IfOk result (λ m. file_of m ≡ file_of self.now) }
         ensures range { IsMachine (file_of self.now) }
     {

@@ -58,12 +58,12 @@ impl<A: Allocator> Tools<A> {
     }
 }
 
-impl<A: Allocator + Copy> Tools<A> {
+impl<A: Allocator> Tools<A> {
     ghost use Rattle.std.specs.Prelude.{◌≡◌, IfOk};
     ghost use Rattle.ngc_machine.specs.Tools.{tools_of};
 
-    /// The same table once more, in memory of its own. It fails where memory is refused.
-    pub fn copy(&self, alloc: A) -> Result<Tools<A>, AllocError>
+    /// The same table once more, in memory of any allocator. It fails where memory is refused.
+    pub fn copy<B: Allocator>(&self, alloc: B) -> Result<Tools<B>, AllocError>
         ensures same { IfOk result (λ t. tools_of t ≡ tools_of self.now) }
     {
         let tools = Vec::from_slice(alloc, self.tools())?;
