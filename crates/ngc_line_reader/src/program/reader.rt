@@ -27,8 +27,9 @@ pub enum State {
 /// let program = reader.finish()?;
 /// ```
 ///
-/// The program is the one that `Program::read` reads from all pieces joined: here it has the line `G0 X15`. A line may be cut
-/// anywhere, and a piece may have no bytes. After a fault, want of memory among them, each later call answers it again.
+/// The program is the one that `Program::read` reads from all pieces joined: here it has the line
+/// `G0 X15`. A line may be cut anywhere, and a piece may have no bytes. After a fault, want of
+/// memory among them, each later call answers it again.
 #[derive(Drop)]
 pub struct ProgramReader<A: Allocator> {
     loader: Loader<A>,
@@ -61,8 +62,9 @@ impl<A: Allocator> ProgramReader<A> {
         }
     }
 
-    /// Takes the next bytes of the file, any number of them. A fault is answered as soon as it stands: by the piece with the line
-    /// feed that ends its line, or with the 257th byte of a line that is too long. Once the text has ended, no byte is judged.
+    /// Takes the next bytes of the file, any number of them. A fault is answered as soon as it
+    /// stands: by the piece with the line feed that ends its line, or with the 257th byte of a line
+    /// that is too long. Once the text has ended, no byte is judged.
     pub fn feed(&mut self, piece: &[u8]) -> Result<(), ReadFault>
         // The fault is that of the lines so far, and where none stands, none is answered.
         ensures answer { AnswerIs result (fault_in self.old piece.now) }
@@ -100,7 +102,8 @@ impl<A: Allocator> ProgramReader<A> {
         matches!(self.state, State::Ended)
     }
 
-    /// The program, where no byte comes any more; else the fault that was answered, or that of the last line or of a missing end.
+    /// The program, where no byte comes any more; else the fault that was answered, or that of the
+    /// last line or of a missing end.
     pub fn finish(self) -> Result<Program<A>, ReadFault>
         // The answer is what the pieces say together, but for want of memory.
         ensures text { OutcomeIs result (outcome_in self []) }
