@@ -6,7 +6,7 @@ use ngc_events::read_events;
 use ngc_fixed_length::Device;
 use ngc_line_reader::Program;
 use ngc_machine::{Tools, row_machine};
-use ngc_run_log::run;
+use ngc_run_log::{run, run_through};
 use std::alloc::Global;
 use std::test::Fail;
 
@@ -59,6 +59,33 @@ const RUNS: &[(&str, &str, &str)] = &[
 fn the_log_of_a_run(rt: HostRuntime) -> Result<(), Fail> {
     for (program, events, log) in RUNS {
         let found = log_of(rt.alloc(), program, events)?;
+        assert_eq!(rt; found.as_slice(), log.as_bytes(), "{program}");
+    }
+    Ok(())
+}
+
+const RUNS_THROUGH: &[(&str, &str)] = &[
+    (
+        "G0 Z-0.03\nM0\nM2\n",
+        "load 0\nload 1\nload 2\npos 0 0 -1\npos 0 0 -2\npos 0 0 -3\ndone 0\nstop 1\nstart\nend\n",
+    ),
+    // More commands than the ring takes.
+    (
+        "M8\nM8\nM8\nM8\nM8\nM8\nM8\nM8\nM8\nM8\nM8\nM8\nM8\nM8\nM8\nM8\nG4 P0.001\nM2\n",
+        "load 0\nload 1\nload 2\nload 3\nload 4\nload 5\nload 6\nload 7\nload 8\n\
+         load 9\nload 10\nload 11\nload 12\nload 13\nload 14\nload 15\n\
+         done 0\nload 16\ndone 1\nload 17\ndone 2\ndone 3\ndone 4\ndone 5\ndone 6\ndone 7\ndone 8\n\
+         done 9\ndone 10\ndone 11\ndone 12\ndone 13\ndone 14\ndone 15\ndone 16\nend\n",
+    ),
+];
+
+#[test]
+fn the_log_of_a_run_through(rt: HostRuntime) -> Result<(), Fail> {
+    for (program, log) in RUNS_THROUGH {
+        let accepted = accepted(rt.alloc(), program)?;
+        let mut sink = Device::new(Vec::new(rt.alloc()));
+        run_through(rt.alloc(), accepted, false, &mut sink)?;
+        let found = sink.into_inner();
         assert_eq!(rt; found.as_slice(), log.as_bytes(), "{program}");
     }
     Ok(())
