@@ -1,4 +1,4 @@
-//! A run through a whole program, in which nobody touches the panel but to start again behind a stop.
+//! A run through a whole program: nobody touches the panel but to start again behind a stop.
 ghost use Rattle.std.specs.Prelude.{◌≡◌, ◌≤◌, ◌<◌, ◌+◌, ◌-◌, ◌*◌, ◌^◌, min, length, false, OnOk, OnErr, IfOk};
 ghost use Rattle.ngc_behaviour.specs.Headline.{job_of, RunsInTime, RunsSafely};
 ghost use Rattle.ngc_behaviour.specs.State.{RING, loaded, opening};
@@ -300,8 +300,10 @@ fn go_through<A: Allocator + Copy, W: Sink>(
     recorder.finish(sink)
 }
 
-/// Runs what was accepted through to its end, at a setting of block delete, and writes the log: the ring is kept full while
-/// commands are left, each command gets the ticks that it takes, and behind each stop the machine is started again.
+/// Runs what was accepted through to its end, at a setting of block delete, and writes the log: the
+/// ring is kept full while commands are left, each command gets the ticks that it takes, and behind
+/// each stop the machine is started again. Want of memory is 900, with nothing written; where a write
+/// failed (902) a beginning of the log is written.
 pub fn run_through<A: Allocator + Copy, W: Sink>(
     alloc: A,
     accepted: Accepted<A>,
