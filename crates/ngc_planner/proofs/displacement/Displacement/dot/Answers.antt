@@ -3,6 +3,9 @@ use Rattle.std.proofs.lemmas.Int.{ints}
 use Rattle.ngc_planner.proofs.CoordinateLaws.{kept, kept_sum}
 use Rattle.ngc_planner.proofs.displacement.Displacement.dot.Goals as goal
 
+pub overflow_add-result : goal.overflow_add-result
+overflow_add-result c = omega (arith, ints)
+
 pub overflow_add-result-2 : goal.overflow_add-result-2
 overflow_add-result-2 c = omega (arith, ints)
 
