@@ -5,6 +5,7 @@ use std::alloc::Global;
 use std::process::Abort;
 
 mod arcs;
+mod broken_off;
 mod certificates;
 mod controller;
 mod cycles;

@@ -4,7 +4,7 @@ use std::alloc::Global;
 use std::process::Abort;
 use std::test::Fail;
 
-const POST: &str = "[[fixture]]
+pub(super) const POST: &str = "[[fixture]]
 low = [38000000, 48000000, -50000000]
 high = [42000000, 52000000, 10000000]
 ";
@@ -31,7 +31,7 @@ high = [10000000, 2000000, 1000000]
 
 const NO_FIXTURES: &str = "";
 
-const ROUND_THE_POST: &str = "G0 X10 Y50\nG2 X10 Y50 I30 J0 F600\nM2\n";
+pub(super) const ROUND_THE_POST: &str = "G0 X10 Y50\nG2 X10 Y50 I30 J0 F600\nM2\n";
 
 const OVER_THE_BAR: &str = "G0 Z-20\n/G0 Z0\nG0 X100\nM2\n";
 
@@ -52,6 +52,11 @@ const PAST_THE_PLATE: &str = "1\nmotion 0 2\n\
     line 65536 499 499 0 1000 1000 0\n";
 
 const NONE: &str = "0\n";
+
+// The certificate of a short way, in one piece at either setting.
+pub(super) const SHORT_WAY_CERTIFICATE: &[u8] = b"ngc-certificate 1\n\
+    setting off 1\nmotion 0 1\nline 65536 0 0 0 3 0 0\n\
+    setting on 1\nmotion 0 1\nline 65536 0 0 0 3 0 0\nend\n";
 
 pub(super) const NO_MOTIONS: &str = "ngc-certificate 1\nsetting off 0\nsetting on 0\nend\n";
 
@@ -334,6 +339,19 @@ const PIECES: &[(&str, Result<&str, (u8, &str)>)] = &[
         Err((4, "ngc: fault 313 setting off command 0 piece 1\n")),
     ),
     ("1\nline 65536 0 0 0 4 0 0", Ok(ACCEPTED)),
+    (
+        "1\nline 65536 -2147483648 -2147483648 -2147483648 2147483647 2147483647 2147483647",
+        Err((4, "ngc: fault 315 setting off command 0 piece 0\n")),
+    ),
+    (
+        "1\nline 65536 0 0 0 777777777777777777777777777777 0 0",
+        Err((4, "ngc: fault 303 certificate line 4\n")),
+    ),
+    // More pieces are announced than stand there.
+    (
+        "65535\nline 65536 0 0 0 3 0 0",
+        Err((4, "ngc: fault 301 certificate line 5\n")),
+    ),
 ];
 
 // The certificate with these pieces of the only motion at both settings of block delete.
@@ -411,9 +429,16 @@ const PIECES_OF_ARCS: &[(&str, &str, &str, Result<&str, (u8, &str)>)] = &[
     (
         NO_FIXTURES,
         HALF_CIRCLE,
-        "2\narc 4000000000 4000000000 998 4998 0 1502 5502 0\n\
+        "2\narc 4000000000 -4000000000 998 4998 0 1502 5502 0\n\
             arc 20000000 50000000 1498 4998 0 2002 5502 0",
         Err((4, "ngc: fault 313 setting off command 1 piece 0\n")),
+    ),
+    (
+        NO_FIXTURES,
+        HALF_CIRCLE,
+        "2\narc 4000000001 -4000000000 998 4998 0 1502 5502 0\n\
+            arc 20000000 50000000 1498 4998 0 2002 5502 0",
+        Err((4, "ngc: fault 303 certificate line 6\n")),
     ),
     (
         NO_FIXTURES,
@@ -485,7 +510,7 @@ const CUT_ARCS: &[(&str, u16, &[u8])] = &[
     ),
 ];
 
-fn holds(text: &[u8], part: &[u8]) -> bool {
+pub(super) fn holds(text: &[u8], part: &[u8]) -> bool {
     text.windows(part.len().max(1)).any(|window| window == part)
 }
 
@@ -545,6 +570,12 @@ const UNREAD: &[(&str, &str, &str, Result<&str, (u8, &str)>)] = &[
         NO_FIXTURES,
         SHORT_WAY,
         "ngc-certificate 1\nsetting off 1\nmotion 0",
+        Err((4, "ngc: fault 301 certificate line 3\n")),
+    ),
+    (
+        NO_FIXTURES,
+        SHORT_WAY,
+        "ngc-certificate 1\nsetting off 1000000\n",
         Err((4, "ngc: fault 301 certificate line 3\n")),
     ),
     (

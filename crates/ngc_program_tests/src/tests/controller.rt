@@ -1,6 +1,6 @@
 //! The controller event by event: what it answers, where it stands, and its rates.
 use super::SHORT_WAY;
-use super::jobs::{End, Job, certify_text, written_by};
+use super::jobs::{End, Job, Shop, certify_text, written_by};
 use super::runs::{SHORT_WAY_EVENTS, SHORT_WAY_LOG, SHORT_WAY_REPORT};
 use linked_list_allocator::LocalHeap;
 use ngc_fixed_length::{Device, StepPos};
@@ -19,11 +19,13 @@ const TOOLS: &[u8] =
 // What is accepted of a program on the built-in machine, with the certificate that is made for it.
 fn accepted(rt: &impl Abort, alloc: Global, text: &str) -> Result<Accepted<Global>, Fail> {
     let tools = Tools::read(alloc, TOOLS)?;
+    let machine = row_machine(alloc);
+    let shop = Shop { machine, tools };
     let mut written = Device::new(Vec::new(alloc));
-    let ending = certify_text(alloc, text, &tools, &mut written);
+    let ending = certify_text(alloc, text, &shop, &mut written);
     assert_eq!(rt; ending, End::Done, "at {text}");
     let written = written.into_inner();
-    Ok(accepted_on(alloc, text, written.as_slice(), &tools).ok_or("not accepted")?)
+    Ok(accepted_on(alloc, text, written.as_slice(), &shop.tools).ok_or("not accepted")?)
 }
 
 fn accepted_on<A: Allocator + Copy>(
@@ -149,6 +151,30 @@ fn a_traverse_of_a_hundred_steps_within_a_thousand_ticks(rt: HostRuntime) -> Res
     ticks(&rt, &mut controller, &mut seen, u32::MAX, 1000);
     assert!(rt; seen.ended);
     assert_eq!(rt; seen.pulses, 100);
+    Ok(())
+}
+
+const OVERRIDES: &[Event] = &[Event::Override(0), Event::Override(200)];
+
+// The rate changes by at most 1,000 a tick, and the motion ends.
+#[test]
+fn a_traverse_that_is_held_up_by_overrides(rt: HostRuntime) -> Result<(), Fail> {
+    let mut controller = controller(&rt, rt.alloc(), SHORT_WAY)?;
+    let _ = give(&mut controller, Event::Load);
+    let _ = give(&mut controller, Event::Load);
+    let mut ended = false;
+    for _ in 0..3_000u32 {
+        for event in OVERRIDES {
+            let _ = give(&mut controller, *event);
+            let before = controller.rate();
+            let reply = give(&mut controller, Event::Tick);
+            assert!(rt; controller.rate().abs_diff(before) <= 1000);
+            if let Ok(Reply::Ticked { ending, .. }) = reply {
+                ended = ended || ending == Some(Ending::Done(0));
+            }
+        }
+    }
+    assert!(rt; ended);
     Ok(())
 }
 

@@ -2,7 +2,7 @@ use super::runs::certificate_of;
 use super::{
     LIST, MACHINE, NO_TEXTS, Outcome, RUN, SHORT_WAY, Texts, comes_to, on_the_mill, outcome_of,
 };
-use ngc_simulator::{CheckOptions, ListOptions, Options, RunOptions};
+use ngc_simulator::{CertifyOptions, CheckOptions, ListOptions, Options, RunOptions};
 use std::alloc::Global;
 use std::process::Abort;
 use std::test::Fail;
@@ -218,6 +218,8 @@ fn long_machine_files(rt: HostRuntime) -> Result<(), Fail> {
 #[derive(Clone, Copy)]
 enum Call {
     List(ListOptions<'static>),
+    // With a machine file, a tool table and a program.
+    Certify(&'static str, &'static str, Option<&'static str>),
     Check(CheckOptions<'static>),
     Run(RunOptions<'static>),
 }
@@ -244,6 +246,18 @@ const NOT_THERE: &[(Call, &str)] = &[
             ..LIST
         }),
         "tools to list with",
+    ),
+    (
+        Call::Certify("none", "tools", None),
+        "a machine to certify on",
+    ),
+    (
+        Call::Certify("machine", "none", None),
+        "tools to certify with",
+    ),
+    (
+        Call::Certify("machine", "tools", Some("none")),
+        "a program to certify",
     ),
     (
         Call::Check(CheckOptions {
@@ -300,6 +314,15 @@ fn outcome_without(alloc: Global, call: Call, certificate: &[u8]) -> Outcome {
                 ..NO_TEXTS
             };
             outcome_of(alloc, end, &Options::List(options))
+        }
+        Call::Certify(machine, tools, program) => {
+            let options = CertifyOptions {
+                machine,
+                tools,
+                program,
+                cuts: 8,
+            };
+            outcome_of(alloc, on_the_mill("M2\n"), &Options::Certify(options))
         }
         Call::Check(options) => outcome_of(alloc, on_the_mill("M2\n"), &Options::Check(options)),
         Call::Run(options) => {

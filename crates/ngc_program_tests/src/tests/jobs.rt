@@ -2,7 +2,7 @@
 use ngc_fixed_length::{Device, Sink};
 use ngc_line_reader::Program;
 use ngc_simulator::{
-    Certificate, Report, Tools, certify, check_program, list, row_machine, run_program,
+    Certificate, Machine, Report, Tools, certify, check_program, list, row_machine, run_program,
 };
 use std::alloc::{Allocator, Global};
 use std::process::Abort;
@@ -29,15 +29,41 @@ pub(super) enum End {
 }
 
 impl Job<'_> {
+    // On the built-in machine, without tools.
     pub(super) fn attempt<A: Allocator + Copy, W: Sink>(&self, alloc: A, output: &mut W) -> End {
-        let tools = Tools::empty(alloc);
+        let shop = Shop::built_in(alloc);
+        self.attempt_on(alloc, &shop, output)
+    }
+
+    pub(super) fn attempt_on<A: Allocator + Copy, W: Sink>(
+        &self,
+        alloc: A,
+        shop: &Shop<A>,
+        output: &mut W,
+    ) -> End {
         match *self {
-            Job::List(text) => list_text(alloc, text, &tools, output),
-            Job::Certify(text) => certify_text(alloc, text, &tools, output),
-            Job::Check(text, certificate) => check_text(alloc, text, certificate, &tools, output),
+            Job::List(text) => list_text(alloc, text, shop, output),
+            Job::Certify(text) => certify_text(alloc, text, shop, output),
+            Job::Check(text, certificate) => check_text(alloc, text, certificate, shop, output),
             Job::Run(text, certificate, events) => {
-                run_text(alloc, text, certificate, events, &tools, output)
+                run_text(alloc, text, certificate, events, shop, output)
             }
+        }
+    }
+}
+
+// A machine and its tools.
+#[derive(Drop)]
+pub(super) struct Shop<A: Allocator> {
+    pub(super) machine: Machine<A>,
+    pub(super) tools: Tools<A>,
+}
+
+impl<A: Allocator + Copy> Shop<A> {
+    fn built_in(alloc: A) -> Shop<A> {
+        Shop {
+            machine: row_machine(alloc),
+            tools: Tools::empty(alloc),
         }
     }
 }
@@ -45,15 +71,15 @@ impl Job<'_> {
 fn list_text<A: Allocator + Copy, W: Sink>(
     alloc: A,
     text: &str,
-    tools: &Tools<A>,
+    shop: &Shop<A>,
     output: &mut W,
 ) -> End {
     let mut source = Device::new(text.as_bytes());
     match list(
         alloc,
         &mut source,
-        &row_machine(alloc),
-        tools,
+        &shop.machine,
+        &shop.tools,
         false,
         output,
     ) {
@@ -65,11 +91,11 @@ fn list_text<A: Allocator + Copy, W: Sink>(
 pub(super) fn certify_text<A: Allocator + Copy, W: Sink>(
     alloc: A,
     text: &str,
-    tools: &Tools<A>,
+    shop: &Shop<A>,
     output: &mut W,
 ) -> End {
     let mut source = Device::new(text.as_bytes());
-    match certify(alloc, &mut source, &row_machine(alloc), tools, 8, output) {
+    match certify(alloc, &mut source, &shop.machine, &shop.tools, 8, output) {
         Ok(()) => End::Done,
         Err(fault) => End::Refused(fault.number(), fault.status()),
     }
@@ -79,7 +105,7 @@ fn check_text<A: Allocator + Copy, W: Sink>(
     alloc: A,
     text: &str,
     certificate: &[u8],
-    tools: &Tools<A>,
+    shop: &Shop<A>,
     output: &mut W,
 ) -> End {
     let program = match Program::read(alloc, &mut Device::new(text.as_bytes())) {
@@ -90,8 +116,8 @@ fn check_text<A: Allocator + Copy, W: Sink>(
     match check_program(
         alloc,
         &program,
-        &row_machine(alloc),
-        tools,
+        &shop.machine,
+        &shop.tools,
         &mut source,
         output,
     ) {
@@ -105,7 +131,7 @@ fn run_text<A: Allocator + Copy, W: Sink>(
     text: &str,
     certificate: &[u8],
     events: &str,
-    tools: &Tools<A>,
+    shop: &Shop<A>,
     output: &mut W,
 ) -> End {
     let program = match Program::read(alloc, &mut Device::new(text.as_bytes())) {
@@ -116,12 +142,11 @@ fn run_text<A: Allocator + Copy, W: Sink>(
         Ok(certificate) => certificate,
         Err(fault) => return End::Unread(fault.number()),
     };
-    let machine = row_machine(alloc);
     match run_program(
         alloc,
         &program,
-        &machine,
-        tools,
+        &shop.machine,
+        &shop.tools,
         &certificate,
         events.as_bytes(),
         false,

@@ -1,4 +1,4 @@
-use super::certificates::NO_MOTIONS;
+use super::certificates::{NO_MOTIONS, holds};
 use super::{RUN, SHORT_WAY, Texts, certify_options, comes_to, on_the_mill, outcome_of};
 use ngc_fixed_length::StepPos;
 use ngc_simulator::{Options, Report, RunOptions};
@@ -119,6 +119,30 @@ fn a_millimetre_in_a_thousand_ticks(rt: HostRuntime) -> Result<(), Fail> {
     let found = outcome_of(rt.alloc(), texts, &Options::Run(RUN));
     found.has_no_fault(&rt, program);
     assert!(rt; found.output.as_slice().starts_with(log.as_bytes()));
+    Ok(())
+}
+
+// Given over and over, with a tick in which the axes may move.
+const UNREST: &[&str] = &[
+    "hold\ntick 1\nresume\ntick 1\n",
+    "override 0\ntick 1\noverride 200\ntick 1\n",
+];
+
+#[test]
+fn a_motion_that_is_held_up_again_and_again_ends(rt: HostRuntime) -> Result<(), Fail> {
+    let certificate = certificate_of(&rt, rt.alloc(), SHORT_WAY);
+    for unrest in UNREST {
+        let unrest = unrest.repeat(rt.alloc(), 3_000)?;
+        let events = format!(in rt.alloc(); "load\nload\n{unrest}")?;
+        let texts = Texts {
+            certificate: certificate.as_slice(),
+            events: events.as_bytes(),
+            ..on_the_mill(SHORT_WAY)
+        };
+        let found = outcome_of(rt.alloc(), texts, &Options::Run(RUN));
+        found.has_no_fault(&rt, "unrest");
+        assert!(rt; holds(found.output.as_slice(), b"\npos 3 0 0\ndone 0\n"));
+    }
     Ok(())
 }
 

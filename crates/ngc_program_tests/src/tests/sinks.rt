@@ -1,5 +1,6 @@
 //! Sinks that fail: what is written is a beginning.
-use super::jobs::{End, Job, PROGRAM, written_by};
+use super::certificates::SHORT_WAY_CERTIFICATE;
+use super::jobs::{End, Job};
 use super::runs::{SHORT_WAY_EVENTS, SHORT_WAY_LOG, certificate_of};
 use super::{RUN, SHORT_WAY, SomeFiles, Texts, on_the_mill, status_of};
 use ngc_fixed_length::{Device, DeviceFault, Sink};
@@ -74,11 +75,14 @@ fn outputs_that_break_off(rt: HostRuntime) {
         let list = Job::List("G0 X1\nM2\n");
         breaks_off_after(&rt, rt.alloc(), list, LISTING, calls);
     }
-    let certificate = written_by(&rt, rt.alloc(), Job::Certify(PROGRAM));
-    let certificate = certificate.as_slice();
-    breaks_off_after(&rt, rt.alloc(), Job::Certify(PROGRAM), certificate, 10);
-    let check = Job::Check(PROGRAM, certificate);
-    breaks_off_after(&rt, rt.alloc(), check, b"accepted\n", 3);
+    for calls in 0..=SHORT_WAY_CERTIFICATE.len() {
+        let certify = Job::Certify(SHORT_WAY);
+        breaks_off_after(&rt, rt.alloc(), certify, SHORT_WAY_CERTIFICATE, calls);
+    }
+    for calls in 0..=9usize {
+        let check = Job::Check(SHORT_WAY, SHORT_WAY_CERTIFICATE);
+        breaks_off_after(&rt, rt.alloc(), check, b"accepted\n", calls);
+    }
 }
 
 #[test]

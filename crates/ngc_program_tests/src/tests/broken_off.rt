@@ -1,0 +1,329 @@
+//! Files that break off: sources that fail at each byte in turn, and files of which only a beginning is there.
+use super::certificates::{CHECK, POST, ROUND_THE_POST};
+use super::{
+    LIST, MACHINE, RUN, Texts, certify_options, comes_to, on_the_mill, outcome_of, status_of,
+};
+use ngc_fixed_length::{Device, DeviceFault, Source};
+use ngc_line_reader::ReadFault;
+use ngc_simulator::{Files, ListOptions, Options};
+use std::alloc::Global;
+use std::process::Abort;
+use std::test::Fail;
+
+// Gives a byte a pull, and fails in place of the byte at `failing`.
+#[derive(Drop)]
+struct FailingText<'a> {
+    rest: &'a [u8],
+    failing: usize,
+    failures: u64,
+}
+
+impl Source for FailingText<'_> {
+    ghost use Rattle.std.specs.Prelude.{None};
+
+    ghost remaining = { λ _. None };
+
+    ghost failures = { λ s. s.failures };
+
+    fn pull(&mut self, buf: &mut [u8]) -> Result<usize, DeviceFault> {
+        if self.failing == 0 {
+            self.failures = self.failures.saturating_add(1);
+            return Err(DeviceFault);
+        }
+        let count = self.rest.len().min(buf.len()).min(1);
+        let (now, later) = self.rest.split_at(count);
+        buf[..count].copy_from_slice(now);
+        self.rest = later;
+        self.failing -= count;
+        Ok(count)
+    }
+}
+
+#[derive(Clone, Copy, Debug, PartialEq, Eq)]
+enum Named {
+    Program,
+    Machine,
+    Tools,
+    Certificate,
+    Events,
+}
+
+// Files of which one fails.
+#[derive(Drop)]
+struct FailingFiles<'a> {
+    texts: Texts<'a>,
+    failing: Named,
+    at: usize,
+}
+
+impl<'a> Files for FailingFiles<'a> {
+    ghost use Rattle.std.specs.Prelude.{None};
+
+    type R = FailingText<'a>;
+
+    ghost failures = { λ _. 0 };
+
+    ghost bytes = { λ _ _. None };
+
+    fn source(&mut self, name: Option<&str>) -> Result<FailingText<'a>, ReadFault> {
+        let (rest, file) = match name {
+            Some("machine") => (self.texts.machine, Named::Machine),
+            Some("tools") => (self.texts.tools, Named::Tools),
+            Some("certificate") => (self.texts.certificate, Named::Certificate),
+            Some("events") => (self.texts.events, Named::Events),
+            _ => (self.texts.program, Named::Program),
+        };
+        let failing = if file == self.failing {
+            self.at
+        } else {
+            usize::MAX
+        };
+        Ok(FailingText {
+            rest,
+            failing,
+            failures: 0,
+        })
+    }
+}
+
+const LIST_ON_THE_MILL: ListOptions<'static> = ListOptions {
+    machine: Some("machine"),
+    tools: Some("tools"),
+    ..LIST
+};
+
+#[derive(Clone, Copy, Debug)]
+enum Asked {
+    List,
+    Certify,
+    Check,
+    Run,
+}
+
+impl Asked {
+    fn options(self) -> Options<'static> {
+        match self {
+            Asked::List => Options::List(LIST_ON_THE_MILL),
+            Asked::Certify => Options::Certify(certify_options(8)),
+            Asked::Check => Options::Check(CHECK),
+            Asked::Run => Options::Run(RUN),
+        }
+    }
+}
+
+// Files that each command reads.
+const READ: &[(Asked, Named)] = &[
+    (Asked::List, Named::Machine),
+    (Asked::List, Named::Tools),
+    (Asked::List, Named::Program),
+    (Asked::Certify, Named::Tools),
+    (Asked::Certify, Named::Program),
+    (Asked::Check, Named::Program),
+    (Asked::Check, Named::Certificate),
+    (Asked::Run, Named::Program),
+    (Asked::Run, Named::Certificate),
+    (Asked::Run, Named::Events),
+];
+
+fn text_of(texts: Texts<'_>, file: Named) -> &[u8] {
+    match file {
+        Named::Program => texts.program,
+        Named::Machine => texts.machine,
+        Named::Tools => texts.tools,
+        Named::Certificate => texts.certificate,
+        Named::Events => texts.events,
+    }
+}
+
+// What a command comes to where a file fails in place of a byte.
+fn is_broken_off(
+    rt: &impl Abort,
+    alloc: Global,
+    asked: Asked,
+    mut files: FailingFiles<'_>,
+    wanted: (u8, &str),
+) {
+    let (file, at) = (files.failing, files.at);
+    let mut output = Device::new(Vec::new(alloc));
+    let mut errors = Device::new(Vec::new(alloc));
+    let status = status_of(
+        alloc,
+        &asked.options(),
+        &mut files,
+        &mut output,
+        &mut errors,
+    );
+    assert_eq!(rt;
+        errors.into_inner().as_slice(),
+        wanted.1.as_bytes(),
+        "{file:?} at {at}"
+    );
+    assert_eq!(rt;
+        output.into_inner().as_slice(),
+        b"".as_slice(),
+        "{file:?} at {at}"
+    );
+    assert_eq!(rt; status, wanted.0, "{file:?} at {at}");
+}
+
+const UNREAD: (u8, &str) = (1, "ngc: fault 901\n");
+
+// The end of a file is a pull too.
+fn breaks_off_at_each_byte(
+    rt: &impl Abort,
+    alloc: Global,
+    asked: Asked,
+    texts: Texts<'_>,
+    failing: Named,
+) {
+    for at in 0..=text_of(texts, failing).len() {
+        let files = FailingFiles { texts, failing, at };
+        is_broken_off(rt, alloc, asked, files, UNREAD);
+    }
+}
+
+// The certificate that is made for the way round the post on a machine.
+fn certificate_of_the_way(rt: &impl Abort, alloc: Global, machine: &str) -> Vec<u8> {
+    let texts = Texts {
+        machine: machine.as_bytes(),
+        ..on_the_mill(ROUND_THE_POST)
+    };
+    let made = outcome_of(alloc, texts, &Options::Certify(certify_options(8)));
+    made.has_no_fault(rt, ROUND_THE_POST);
+    made.output
+}
+
+#[test]
+fn sources_that_fail_at_each_byte(rt: HostRuntime) -> Result<(), Fail> {
+    let machine = format!(in rt.alloc(); "{MACHINE}{POST}")?;
+    let certificate = certificate_of_the_way(&rt, rt.alloc(), machine.as_str());
+    let texts = Texts {
+        machine: machine.as_bytes(),
+        certificate: certificate.as_slice(),
+        events: b"load\nload\nload\ntick 1000\n",
+        ..on_the_mill(ROUND_THE_POST)
+    };
+    for (asked, file) in READ {
+        breaks_off_at_each_byte(&rt, rt.alloc(), *asked, texts, *file);
+    }
+    Ok(())
+}
+
+// A file that is at fault, how many bytes tell it, and what is answered from then on.
+const AT_FAULT: &[(Asked, Named, &[u8], usize, (u8, &str))] = &[
+    (
+        Asked::List,
+        Named::Program,
+        b"G0 X1.2.3\nG0",
+        10,
+        (3, "ngc: fault 113 line 1 column 4\n"),
+    ),
+    (
+        Asked::Check,
+        Named::Certificate,
+        b"ngc-certificate 3\nsetting",
+        18,
+        (4, "ngc: fault 302 certificate line 1\n"),
+    ),
+];
+
+#[test]
+fn faults_before_a_source_fails(rt: HostRuntime) {
+    for (asked, failing, text, told, fault) in AT_FAULT {
+        let mut texts = on_the_mill(ROUND_THE_POST);
+        if *failing == Named::Program {
+            texts.program = text;
+        }
+        texts.certificate = text;
+        for at in 0..=text.len() {
+            let files = FailingFiles {
+                texts,
+                failing: *failing,
+                at,
+            };
+            let wanted = if at < *told { UNREAD } else { *fault };
+            is_broken_off(&rt, rt.alloc(), *asked, files, wanted);
+        }
+    }
+}
+
+const WAY: &str = "0 1 traverse 10000000 50000000 0 grid 1000 5000 0\n\
+    1 2 arc cw xy 40000000 50000000 to 10000000 50000000 0 grid 1000 5000 0 permin 600000000\n\
+    2 3 end\n";
+
+// What the beginnings of the way's program come to that have fewer than so many bytes, and no fewer than those before.
+const BEGINNINGS: &[(usize, Result<&str, (u8, &str)>)] = &[
+    (1, Err((3, "ngc: fault 120 line 0\n"))),
+    (2, Err((3, "ngc: fault 113 line 1 column 1\n"))),
+    (4, Err((3, "ngc: fault 120 line 1\n"))),
+    (5, Err((3, "ngc: fault 113 line 1 column 4\n"))),
+    (8, Err((3, "ngc: fault 120 line 1\n"))),
+    (9, Err((3, "ngc: fault 113 line 1 column 8\n"))),
+    (12, Err((3, "ngc: fault 120 line 1\n"))),
+    (13, Err((3, "ngc: fault 113 line 2 column 1\n"))),
+    (15, Err((3, "ngc: fault 120 line 2\n"))),
+    (16, Err((3, "ngc: fault 113 line 2 column 4\n"))),
+    (19, Err((3, "ngc: fault 252 line 2\n"))),
+    (20, Err((3, "ngc: fault 113 line 2 column 8\n"))),
+    (23, Err((3, "ngc: fault 252 line 2\n"))),
+    (24, Err((3, "ngc: fault 113 line 2 column 12\n"))),
+    (27, Err((3, "ngc: fault 252 line 2\n"))),
+    (28, Err((3, "ngc: fault 113 line 2 column 16\n"))),
+    (30, Err((3, "ngc: fault 252 line 2\n"))),
+    (31, Err((3, "ngc: fault 113 line 2 column 19\n"))),
+    (35, Err((3, "ngc: fault 120 line 2\n"))),
+    (36, Err((3, "ngc: fault 113 line 3 column 1\n"))),
+    (38, Ok(WAY)),
+];
+
+#[test]
+fn beginnings_of_a_program(rt: HostRuntime) {
+    let whole = ROUND_THE_POST.as_bytes();
+    let mut first = 0usize;
+    for (end, wanted) in BEGINNINGS {
+        for len in first..*end {
+            let texts = Texts {
+                program: &whole[..len.min(whole.len())],
+                ..on_the_mill("")
+            };
+            let options = Options::List(LIST_ON_THE_MILL);
+            comes_to(&rt, rt.alloc(), texts, &options, *wanted, ROUND_THE_POST);
+        }
+        first = *end;
+    }
+    assert!(rt; first > whole.len());
+}
+
+fn line_feeds(text: &[u8]) -> usize {
+    text.iter().filter(|byte| **byte == b'\n').count()
+}
+
+#[test]
+fn beginnings_of_a_certificate(rt: HostRuntime) -> Result<(), Fail> {
+    let machine = format!(in rt.alloc(); "{MACHINE}{POST}")?;
+    let certificate = certificate_of_the_way(&rt, rt.alloc(), machine.as_str());
+    for len in 0..certificate.len() {
+        let beginning = &certificate.as_slice()[..len];
+        let texts = Texts {
+            certificate: beginning,
+            ..on_the_mill(ROUND_THE_POST)
+        };
+        let fault = match line_feeds(beginning) {
+            0 => format!(in rt.alloc(); "ngc: fault 302 certificate line 1\n")?,
+            count => format!(in rt.alloc();
+                "ngc: fault 301 certificate line {}\n",
+                count.saturating_add(1)
+            )?,
+        };
+        let options = Options::Check(CHECK);
+        comes_to(
+            &rt,
+            rt.alloc(),
+            texts,
+            &options,
+            Err((4, fault.as_str())),
+            "a beginning",
+        );
+    }
+    Ok(())
+}
