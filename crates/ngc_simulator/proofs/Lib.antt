@@ -6,3 +6,4 @@ pub mod SetupLaws
 pub mod JobLaws
 pub mod FileLaws
 pub mod RunLaws
+pub mod UnreadLaws

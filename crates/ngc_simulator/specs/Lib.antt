@@ -7,3 +7,4 @@ pub mod Setups
 pub mod Shops
 pub mod Status
 pub mod Answers
+pub mod Unread

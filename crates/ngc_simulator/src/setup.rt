@@ -1,11 +1,12 @@
 //! The machine and its tools, from the files that the command line names.
-ghost use Rattle.std.specs.Prelude.{◌≡◌, [], IfOk, IfSome, Some, option_map};
+ghost use Rattle.std.specs.Prelude.{◌≡◌, [], IfErr, IfOk, IfSome, OnOk, Some, option_map};
 ghost use Rattle.ngc_machine.specs.Machine.{row_machine as row_file};
 ghost use Rattle.ngc_machine.specs.MachineText.{machine_file};
 ghost use Rattle.ngc_machine.specs.ToolText.{tool_table};
 ghost use Rattle.ngc_machine.specs.Machine.{file_of};
 ghost use Rattle.ngc_simulator.specs.Setups.{IfSaid, GivesSetup, KeepsFiles};
 ghost use Rattle.ngc_simulator.specs.Shops.{GivesShop, machine_answer, tools_answer};
+ghost use Rattle.ngc_simulator.specs.Unread.{SourceFails, TellsUnread, TellsSetupUnread, TellsShopUnread};
 ghost use Rattle.ngc_machine.specs.Tools.{tools_of};
 
 use crate::fault::{AnswerFault, SetupFault};
@@ -28,6 +29,9 @@ const FILE_LIMIT: usize = 20_000_000;
 pub fn bytes_of<F: Files>(alloc: Global, name: &str, files: &mut F) -> Result<Vec<u8>, InputFault>
     ensures value { IfSome (F.bytes files.old (Some name.now)) (λ bytes. IfOk result (λ v. v.items ≡ bytes)) }
     ensures keeps { KeepsFiles (F.bytes files.old) (F.bytes files.new) }
+    ensures counts { OnOk result (F.failures files.new ≡ F.failures files.old) }
+    // It isn't read only where it can't be opened, its source fails, or it is too long.
+    ensures unread { IfErr result (TellsUnread (SourceFails F.R.remaining F.R.failures) (F.bytes files.old (Some name.now)) (F.failures files.old) (F.failures files.new)) }
 {
     let mut source = match files.source(Some(name)) {
         Ok(source) => source,
@@ -43,6 +47,8 @@ fn named_machine<F: Files>(
 ) -> Result<Machine<Global>, SetupFault>
     ensures value { IfSome (F.bytes files.old (Some name.now)) (λ bytes. GivesSetup file_of result (machine_file bytes)) }
     ensures keeps { KeepsFiles (F.bytes files.old) (F.bytes files.new) }
+    ensures counts { OnOk result (F.failures files.new ≡ F.failures files.old) }
+    ensures unread { IfErr result (TellsSetupUnread (SourceFails F.R.remaining F.R.failures) (F.bytes files.old (Some name.now)) (F.failures files.old) (F.failures files.new)) }
 {
     match bytes_of(alloc, name, files) {
         Ok(bytes) => match Machine::read(alloc, bytes.as_slice()) {
@@ -60,6 +66,8 @@ fn named_tools<F: Files>(
 ) -> Result<Tools<Global>, SetupFault>
     ensures value { IfSome (F.bytes files.old (Some name.now)) (λ bytes. GivesSetup tools_of result (tool_table bytes)) }
     ensures keeps { KeepsFiles (F.bytes files.old) (F.bytes files.new) }
+    ensures counts { OnOk result (F.failures files.new ≡ F.failures files.old) }
+    ensures unread { IfErr result (TellsSetupUnread (SourceFails F.R.remaining F.R.failures) (F.bytes files.old (Some name.now)) (F.failures files.old) (F.failures files.new)) }
 {
     match bytes_of(alloc, name, files) {
         Ok(bytes) => match Tools::read(alloc, bytes.as_slice()) {
@@ -78,6 +86,8 @@ pub fn read_machine<F: Files>(
 ) -> Result<Machine<Global>, SetupFault>
     ensures value { IfSaid machine_file row_file (F.bytes files.old) (option_map (λ n. n.now) name.entry) (GivesSetup file_of result) }
     ensures keeps { KeepsFiles (F.bytes files.old) (F.bytes files.new) }
+    ensures counts { OnOk result (F.failures files.new ≡ F.failures files.old) }
+    ensures unread { IfErr result (TellsSetupUnread (SourceFails F.R.remaining F.R.failures) (F.bytes files.old (option_map (λ n. n.now) name.entry)) (F.failures files.old) (F.failures files.new)) }
 {
     match name {
         None => Ok(row_machine(alloc)),
@@ -93,6 +103,8 @@ pub fn read_tools<F: Files>(
 ) -> Result<Tools<Global>, SetupFault>
     ensures value { IfSaid tool_table [] (F.bytes files.old) (option_map (λ n. n.now) name.entry) (GivesSetup tools_of result) }
     ensures keeps { KeepsFiles (F.bytes files.old) (F.bytes files.new) }
+    ensures counts { OnOk result (F.failures files.new ≡ F.failures files.old) }
+    ensures unread { IfErr result (TellsSetupUnread (SourceFails F.R.remaining F.R.failures) (F.bytes files.old (option_map (λ n. n.now) name.entry)) (F.failures files.old) (F.failures files.new)) }
 {
     match name {
         None => Ok(Tools::empty(alloc)),
@@ -127,6 +139,9 @@ pub fn read_shop<F: Files>(
 ) -> Result<Shop, AnswerFault>
     ensures said { GivesShop (F.bytes files.old) (option_map (λ n. n.now) machine.entry) (option_map (λ n. n.now) tools.entry) result }
     ensures keeps { KeepsFiles (F.bytes files.old) (F.bytes files.new) }
+    ensures counts { OnOk result (F.failures files.new ≡ F.failures files.old) }
+    // One of them isn't read only where it can't be opened, its source fails, or it is too long; the machine file goes first.
+    ensures unread { IfErr result (TellsShopUnread (SourceFails F.R.remaining F.R.failures) (F.bytes files.old) (option_map (λ n. n.now) machine.entry) (option_map (λ n. n.now) tools.entry) (F.failures files.old) (F.failures files.new)) }
 {
     let machine = match read_machine(alloc, machine, files) {
         Ok(machine) => machine,
