@@ -18,7 +18,7 @@ use Rattle.clap.proofs.ValueTestLemmas.{Accepts-accepts}
 use Rattle.ngc_command_line.specs.CommandLine.{certify_words, check_words, list_words, ngc_app, run_words}
 use Rattle.ngc_command_line.specs.Meant.{AreCuts, AreCutsInRange, AreOptions, AsksForCertify, AsksForCheck, AsksForList, AsksForRun, IsTaken, is_set}
 use Rattle.ngc_command_line.specs.declared.options.Options.{Options}
-use Rattle.ngc_command_line.specs.declared.options.Options.TheVariants.{Certify as ToCertify, Check as ToCheck, List as ToList, Run as ToRun}
+use Rattle.ngc_command_line.specs.declared.options.Options.TheVariants.{Certify as ToCertify, Check as ToCheck, List as ToList, Run as ToRun, RunThrough as ToRunThrough}
 use Rattle.ngc_command_line.proofs.Whole.{other_name}
 
 -- the words are taken, and this holds of the subcommand that they name
@@ -58,6 +58,7 @@ list_asked program machine tools delete (Some found) (ToList list) finds are =
 list_asked program machine tools delete (Some found) (ToCertify certify) finds are = other_name (codes "list") (codes "certify") (sym finds.0 ∙ are.0) (λ lengths. omega (arith, lengths))
 list_asked program machine tools delete (Some found) (ToCheck check) finds are = other_name (codes "list") (codes "check") (sym finds.0 ∙ are.0) (λ lengths. omega (arith, lengths))
 list_asked program machine tools delete (Some found) (ToRun run) finds are = other_name (codes "list") (codes "run") (sym finds.0 ∙ are.0) (λ lengths. omega (arith, lengths))
+list_asked program machine tools delete (Some found) (ToRunThrough run) finds are = other_name (codes "list") (codes "run") (sym finds.0 ∙ are.0) (λ lengths. omega (arith, lengths))
 
 pub list_taken : (words : List Text) (program machine tools : Option Text) (delete : Bool) → words ≡ list_words program machine tools delete → IsTaken words
 list_taken words program machine tools delete spelled = subst IsTaken (sym spelled) (list_spells program machine tools delete).0
@@ -90,6 +91,7 @@ check_asked machine tools certificate program (Some found) (ToCheck check) finds
 check_asked machine tools certificate program (Some found) (ToCertify certify) finds are = other_name (codes "check") (codes "certify") (sym finds.0 ∙ are.0) (λ lengths. omega (arith, lengths))
 check_asked machine tools certificate program (Some found) (ToList list) finds are = other_name (codes "check") (codes "list") (sym finds.0 ∙ are.0) (λ lengths. omega (arith, lengths))
 check_asked machine tools certificate program (Some found) (ToRun run) finds are = other_name (codes "check") (codes "run") (sym finds.0 ∙ are.0) (λ lengths. omega (arith, lengths))
+check_asked machine tools certificate program (Some found) (ToRunThrough run) finds are = other_name (codes "check") (codes "run") (sym finds.0 ∙ are.0) (λ lengths. omega (arith, lengths))
 
 pub check_taken : (words : List Text) (machine tools certificate : Text) (program : Option Text) → words ≡ check_words machine tools certificate program → IsTaken words
 check_taken words machine tools certificate program spelled = subst IsTaken (sym spelled) (check_spells machine tools certificate program).0
@@ -101,28 +103,41 @@ check_read words machine tools certificate program options spelled are =
     check_asked machine tools certificate program _ options (check_spells machine tools certificate program).1 (subst Are spelled are)
 
 -- the values of `run` that were found are these
-abbrev FindsRun : Text → Text → Text → Text → Option Text → Bool → Option (Text × List Row) → Type 0
+abbrev FindsRun : Text → Text → Text → Option Text → Option Text → Bool → Option (Text × List Row) → Type 0
 FindsRun machine tools certificate events program delete None = ⊥
 FindsRun machine tools certificate events program delete (Some found) = (found.0 ≡ codes "run") × (first_of (codes "machine") found.1 ≡ Some machine)
     × (first_of (codes "tools") found.1 ≡ Some tools) × (first_of (codes "certificate") found.1 ≡ Some certificate)
-    × (first_of (codes "events") found.1 ≡ Some events) × (first_of (codes "program") found.1 ≡ program) × (is_set (codes "delete") found.1 ≡ delete)
+    × (first_of (codes "events") found.1 ≡ events) × (first_of (codes "program") found.1 ≡ program) × (is_set (codes "delete") found.1 ≡ delete)
 
-run_spells : (machine tools certificate events : Text) (program : Option Text) (delete : Bool)
+run_spells : (machine tools certificate : Text) (events program : Option Text) (delete : Bool)
     → Spells (run_words machine tools certificate events program delete) (FindsRun machine tools certificate events program delete)
 unfolding clap_on_literals
-run_spells machine tools certificate events None false = (refl, (refl, refl, refl, refl, refl, refl, refl))
-run_spells machine tools certificate events None true = (refl, (refl, refl, refl, refl, refl, refl, refl))
-run_spells machine tools certificate events (Some program) false = (refl, (refl, refl, refl, refl, refl, refl, refl))
-run_spells machine tools certificate events (Some program) true = (refl, (refl, refl, refl, refl, refl, refl, refl))
+run_spells machine tools certificate None None false = (refl, (refl, refl, refl, refl, refl, refl, refl))
+run_spells machine tools certificate None None true = (refl, (refl, refl, refl, refl, refl, refl, refl))
+run_spells machine tools certificate None (Some program) false = (refl, (refl, refl, refl, refl, refl, refl, refl))
+run_spells machine tools certificate None (Some program) true = (refl, (refl, refl, refl, refl, refl, refl, refl))
+run_spells machine tools certificate (Some events) None false = (refl, (refl, refl, refl, refl, refl, refl, refl))
+run_spells machine tools certificate (Some events) None true = (refl, (refl, refl, refl, refl, refl, refl, refl))
+run_spells machine tools certificate (Some events) (Some program) false = (refl, (refl, refl, refl, refl, refl, refl, refl))
+run_spells machine tools certificate (Some events) (Some program) true = (refl, (refl, refl, refl, refl, refl, refl, refl))
 
-run_asked : (machine tools certificate events : Text) (program : Option Text) (delete : Bool) (found : Option (Text × List Row)) (options : Options)
+run_asked : (machine tools certificate : Text) (events program : Option Text) (delete : Bool) (found : Option (Text × List Row)) (options : Options)
     → FindsRun machine tools certificate events program delete found → AreOptions found options → AsksForRun machine tools certificate events program delete options
 run_asked machine tools certificate events program delete None options finds are = absurd finds
-run_asked machine tools certificate events program delete (Some found) (ToRun run) finds are = (
+run_asked machine tools certificate (Some events) program delete (Some found) (ToRun run) finds are = (
   same_text _ _ _ are.1.machine finds.1,
   same_text _ _ _ are.1.tools finds.2,
   same_text _ _ _ are.1.certificate finds.3,
   same_text _ _ _ are.1.events finds.4,
+  are.1.program ∙ finds.5,
+  are.1.delete ∙ finds.6,
+)
+run_asked machine tools certificate None program delete (Some found) (ToRun run) finds are = let h : Some run.events.now ≡ None = are.1.events ∙ finds.4 in cc
+run_asked machine tools certificate (Some events) program delete (Some found) (ToRunThrough run) finds are = let h : None ≡ Some events = are.1.events ∙ finds.4 in cc
+run_asked machine tools certificate None program delete (Some found) (ToRunThrough run) finds are = (
+  same_text _ _ _ are.1.machine finds.1,
+  same_text _ _ _ are.1.tools finds.2,
+  same_text _ _ _ are.1.certificate finds.3,
   are.1.program ∙ finds.5,
   are.1.delete ∙ finds.6,
 )
@@ -133,12 +148,12 @@ run_asked machine tools certificate events program delete (Some found) (ToCertif
 run_asked machine tools certificate events program delete (Some found) (ToCheck check) finds are =
     other_name (codes "run") (codes "check") (sym finds.0 ∙ are.0) (λ lengths. omega (arith, lengths))
 
-pub run_taken : (words : List Text) (machine tools certificate events : Text) (program : Option Text) (delete : Bool)
+pub run_taken : (words : List Text) (machine tools certificate : Text) (events program : Option Text) (delete : Bool)
     → words ≡ run_words machine tools certificate events program delete → IsTaken words
 run_taken words machine tools certificate events program delete spelled =
     subst IsTaken (sym spelled) (run_spells machine tools certificate events program delete).0
 
-pub run_read : (words : List Text) (machine tools certificate events : Text) (program : Option Text) (delete : Bool) (options : Options)
+pub run_read : (words : List Text) (machine tools certificate : Text) (events program : Option Text) (delete : Bool) (options : Options)
     → words ≡ run_words machine tools certificate events program delete → AreOptions (subcommand_of ngc_app words) options
     → AsksForRun machine tools certificate events program delete options
 run_read words machine tools certificate events program delete options spelled are =
@@ -219,6 +234,8 @@ certify_asked machine tools program cuts (Some found) (ToList list) range finds 
 certify_asked machine tools program cuts (Some found) (ToCheck check) range finds are =
     other_name (codes "certify") (codes "check") (sym finds.0 ∙ are.0) (λ lengths. omega (arith, lengths))
 certify_asked machine tools program cuts (Some found) (ToRun run) range finds are =
+    other_name (codes "certify") (codes "run") (sym finds.0 ∙ are.0) (λ lengths. omega (arith, lengths))
+certify_asked machine tools program cuts (Some found) (ToRunThrough run) range finds are =
     other_name (codes "certify") (codes "run") (sym finds.0 ∙ are.0) (λ lengths. omega (arith, lengths))
 
 pub certify_taken : (words : List Text) (machine tools : Text) (program : Option Text) (cuts : Option ℕ) → AreCutsInRange cuts

@@ -101,12 +101,10 @@ run_values words none =
     let (filled, required) = level_is_filled FitsCuts run_shape run_sound words none in
     let (machine, others) = neither_true _ _ required in
     let (tools, more) = neither_true _ _ others in
-    let (certificate, two) = neither_true _ _ more in
-    let (events, rest) = neither_true _ _ two in (
+    let (certificate, rest) = neither_true _ _ more in (
       given_has_value FitsCuts (codes "machine") rows filled (is_true _ machine),
       given_has_value FitsCuts (codes "tools") rows filled (is_true _ tools),
       given_has_value FitsCuts (codes "certificate") rows filled (is_true _ certificate),
-      given_has_value FitsCuts (codes "events") rows filled (is_true _ events),
     )
 
 -- names of other lengths are other names

@@ -40,11 +40,11 @@ check_app = fold with_rule (new_app (codes "check"))
     (required_file (codes "machine") ∷ required_file (codes "tools")
     ∷ required_file (codes "certificate") ∷ file_option (codes "program") ∷ [])
 
--- `run --machine FILE --tools FILE --certificate FILE --events FILE [--program FILE] [--delete]`
+-- `run --machine FILE --tools FILE --certificate FILE [--events FILE] [--program FILE] [--delete]`
 abbrev pub run_app : App
 run_app = fold with_rule (new_app (codes "run"))
     (required_file (codes "machine") ∷ required_file (codes "tools")
-    ∷ required_file (codes "certificate") ∷ required_file (codes "events")
+    ∷ required_file (codes "certificate") ∷ file_option (codes "events")
     ∷ file_option (codes "program") ∷ flag (codes "delete") ∷ [])
 
 -- the words begin after the program's name, and name a subcommand
@@ -95,8 +95,9 @@ check_words machine tools certificate program = codes "check"
     ∷ (codes "--certificate=" ++ certificate) ∷ file_words (codes "--program=") program
 
 -- the words of `ngc run` with these options, in one spelling
-abbrev pub run_words : Text → Text → Text → Text → Option Text → Bool → List Text
+abbrev pub run_words : Text → Text → Text → Option Text → Option Text → Bool → List Text
 run_words machine tools certificate events program delete = codes "run"
     ∷ (codes "--machine=" ++ machine) ∷ (codes "--tools=" ++ tools)
-    ∷ (codes "--certificate=" ++ certificate) ∷ (codes "--events=" ++ events)
-    ∷ (file_words (codes "--program=") program ++ flag_words (codes "--delete") delete)
+    ∷ (codes "--certificate=" ++ certificate)
+    ∷ (file_words (codes "--events=") events ++ file_words (codes "--program=") program
+    ++ flag_words (codes "--delete") delete)

@@ -12,7 +12,9 @@ use Rattle.ngc_command_line.specs.declared.options.ListOptions.{ListOptions}
 use Rattle.ngc_command_line.specs.declared.options.RunOptions.{RunOptions}
 use Rattle.ngc_command_line.specs.declared.options.Options.{Options}
 use Rattle.ngc_command_line.specs.declared.options.Options.TheVariants.{List as ToList, Certify as ToCertify}
+use Rattle.ngc_command_line.specs.declared.options.RunThroughOptions.{RunThroughOptions}
 use Rattle.ngc_command_line.specs.declared.options.Options.TheVariants.{Check as ToCheck, Run as ToRun}
+use Rattle.ngc_command_line.specs.declared.options.Options.TheVariants.{RunThrough as ToRunThrough}
 use Rattle.ngc_command_line.specs.declared.UsageFault.{UsageFault}
 use Rattle.ngc_command_line.specs.declared.UsageFault.TheVariants.{Usage, Memory}
 
@@ -52,7 +54,7 @@ pub record AreCheckOptions (rows : List Row) (options : CheckOptions) : Type 0 w
   pub certificate : Some options.certificate.now ≡ first_of (codes "certificate") rows
   pub program : option_map (λ name. name.now) options.program ≡ first_of (codes "program") rows
 
--- each option of `run` by the first value that was found under its own name
+-- each option of `run` with events by the first value that was found under its own name
 pub record AreRunOptions (rows : List Row) (options : RunOptions) : Type 0 where
   pub machine : Some options.machine.now ≡ first_of (codes "machine") rows
   pub tools : Some options.tools.now ≡ first_of (codes "tools") rows
@@ -60,6 +62,21 @@ pub record AreRunOptions (rows : List Row) (options : RunOptions) : Type 0 where
   pub events : Some options.events.now ≡ first_of (codes "events") rows
   pub program : option_map (λ name. name.now) options.program ≡ first_of (codes "program") rows
   pub delete : options.delete ≡ is_set (codes "delete") rows
+
+-- and of `run` without events
+pub record AreRunThroughOptions (rows : List Row) (options : RunThroughOptions) : Type 0 where
+  pub machine : Some options.machine.now ≡ first_of (codes "machine") rows
+  pub tools : Some options.tools.now ≡ first_of (codes "tools") rows
+  pub certificate : Some options.certificate.now ≡ first_of (codes "certificate") rows
+  pub events : None ≡ first_of (codes "events") rows
+  pub program : option_map (λ name. name.now) options.program ≡ first_of (codes "program") rows
+  pub delete : options.delete ≡ is_set (codes "delete") rows
+
+-- the options are those of `run`, of one or the other
+abbrev pub AreRunsOptions : List Row → Options → Type 0
+AreRunsOptions rows (ToRun run) = AreRunOptions rows run
+AreRunsOptions rows (ToRunThrough run) = AreRunThroughOptions rows run
+AreRunsOptions rows other = ⊥
 
 -- a value was found under the name
 abbrev pub HasValue : Text → List Row → Type 0
@@ -78,7 +95,7 @@ HasCheckValues rows = HasValue (codes "machine") rows × HasValue (codes "tools"
 -- what is found for `run` where the words are taken
 abbrev pub HasRunValues : List Row → Type 0
 HasRunValues rows = HasValue (codes "machine") rows × HasValue (codes "tools") rows
-    × HasValue (codes "certificate") rows × HasValue (codes "events") rows
+    × HasValue (codes "certificate") rows
 
 -- a subcommand of these has the name
 abbrev pub IsNameAmong : List Shape → Text → Type 0
@@ -100,6 +117,8 @@ AreOptions (Some found) (ToCertify certify) =
     (found.0 ≡ codes "certify") × AreCertifyOptions found.1 certify
 AreOptions (Some found) (ToCheck check) = (found.0 ≡ codes "check") × AreCheckOptions found.1 check
 AreOptions (Some found) (ToRun run) = (found.0 ≡ codes "run") × AreRunOptions found.1 run
+AreOptions (Some found) (ToRunThrough run) =
+    (found.0 ≡ codes "run") × AreRunThroughOptions found.1 run
 
 -- `list` is asked for, with these options
 abbrev pub AsksForList : Option Text → Option Text → Option Text → Bool → Options → Type 0
@@ -127,10 +146,14 @@ AsksForCheck machine tools certificate program (ToCheck check) =
 AsksForCheck machine tools certificate program other = ⊥
 
 -- `run` is asked for, with these options
-abbrev pub AsksForRun : Text → Text → Text → Text → Option Text → Bool → Options → Type 0
-AsksForRun machine tools certificate events program delete (ToRun run) =
+abbrev pub AsksForRun : Text → Text → Text → Option Text → Option Text → Bool → Options → Type 0
+AsksForRun machine tools certificate (Some events) program delete (ToRun run) =
     (run.machine.now ≡ machine) × (run.tools.now ≡ tools)
     × (run.certificate.now ≡ certificate) × (run.events.now ≡ events)
+    × (option_map (λ name. name.now) run.program ≡ program) × (run.delete ≡ delete)
+AsksForRun machine tools certificate None program delete (ToRunThrough run) =
+    (run.machine.now ≡ machine) × (run.tools.now ≡ tools)
+    × (run.certificate.now ≡ certificate)
     × (option_map (λ name. name.now) run.program ≡ program) × (run.delete ≡ delete)
 AsksForRun machine tools certificate events program delete other = ⊥
 

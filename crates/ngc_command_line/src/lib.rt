@@ -26,7 +26,9 @@ use check::{check_command, check_options};
 use clap::error::ErrorKind;
 use clap::{ArgMatches, Command};
 use list::{list_command, list_options};
-pub use options::{CertifyOptions, CheckOptions, ListOptions, Options, RunOptions};
+pub use options::{
+    CertifyOptions, CheckOptions, ListOptions, Options, RunOptions, RunThroughOptions,
+};
 use run::{run_command, run_options};
 use std::alloc::{AllocError, Global};
 use thiserror::Error;
@@ -99,7 +101,7 @@ fn options_of<'a>(name: &str, found: &ArgMatches<'a>) -> Options<'a>
         "list" => Options::List(list_options(found)),
         "certify" => Options::Certify(certify_options(found)),
         "check" => Options::Check(check_options(found)),
-        "run" => Options::Run(run_options(found)),
+        "run" => run_options(found),
         _ => unreachable!(),
     }
 }
@@ -136,8 +138,8 @@ pub fn read_options<'a>(alloc: Global, words: &'a [&'a str]) -> Result<Options<'
         → MatchResult result (AsksForCheck machine tools certificate program)
         (λ fault. fault ≡ UsageFault.Memory) }
     // `run --machine=FILE --tools=FILE --certificate=FILE --events=FILE --program=FILE --delete` is
-    // read as it is spelled, where the last two may be left out.
-    ensures spelled_run { (machine tools certificate events : Text) (program : Option Text)
+    // read as it is spelled, where the last three may be left out.
+    ensures spelled_run { (machine tools certificate : Text) (events program : Option Text)
         (delete : Bool)
         → texts words.entry.now ≡ run_words machine tools certificate events program delete
         → MatchResult result (AsksForRun machine tools certificate events program delete)

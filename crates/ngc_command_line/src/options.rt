@@ -11,8 +11,10 @@ pub enum Options<'a> {
     Certify(CertifyOptions<'a>),
     /// `ngc check`: check a certificate of a part program.
     Check(CheckOptions<'a>),
-    /// `ngc run`: run a part program on the machine over a list of events.
+    /// `ngc run` with events: run a part program on the machine over a list of events.
     Run(RunOptions<'a>),
+    /// `ngc run` without events: run a part program through to its end.
+    RunThrough(RunThroughOptions<'a>),
 }
 
 /// The options of `ngc list`.
@@ -55,7 +57,7 @@ pub struct CheckOptions<'a> {
     pub program: Option<&'a str>,
 }
 
-/// The options of `ngc run`.
+/// The options of `ngc run` with events.
 #[derive(Clone, Copy, Debug, PartialEq, Eq)]
 pub struct RunOptions<'a> {
     /// The machine file.
@@ -66,6 +68,21 @@ pub struct RunOptions<'a> {
     pub certificate: &'a str,
     /// The file of the events.
     pub events: &'a str,
+    /// The file of the part program. With none it comes from standard input.
+    pub program: Option<&'a str>,
+    /// Whether block delete is on, so that lines that begin with `/` are left out.
+    pub delete: bool,
+}
+
+/// The options of `ngc run` without events.
+#[derive(Clone, Copy, Debug, PartialEq, Eq)]
+pub struct RunThroughOptions<'a> {
+    /// The machine file.
+    pub machine: &'a str,
+    /// The file of the tool table.
+    pub tools: &'a str,
+    /// The file of the certificate.
+    pub certificate: &'a str,
     /// The file of the part program. With none it comes from standard input.
     pub program: Option<&'a str>,
     /// Whether block delete is on, so that lines that begin with `/` are left out.

@@ -2,24 +2,24 @@
 
 ghost use Rattle.std.specs.Prelude.{◌≡◌, IfOk, codes};
 ghost use Rattle.clap.specs.Words.{app_of, found_of, rows_of, rule_of};
-ghost use Rattle.ngc_command_line.specs.CommandLine.{required_file, run_app};
-ghost use Rattle.ngc_command_line.specs.Meant.{AreRunOptions, HasRunValues};
+ghost use Rattle.ngc_command_line.specs.CommandLine.{file_option, run_app};
+ghost use Rattle.ngc_command_line.specs.Meant.{AreRunsOptions, HasRunValues};
 
-use crate::RunOptions;
 use crate::arguments::{
-    certificate_argument, delete_argument, flag_is_set, help_end, program_argument, required,
-    required_argument, required_machine_argument, required_tools_argument, subcommand,
+    certificate_argument, delete_argument, file_argument, flag_is_set, help_end, program_argument,
+    required, required_machine_argument, required_tools_argument, subcommand,
 };
+use crate::options::{Options, RunOptions, RunThroughOptions};
 use clap::{Arg, ArgMatches, Command};
 use std::alloc::{AllocError, Global};
 
 fn events_argument<'a>(alloc: Global) -> Arg<'a>
-    ensures { rule_of result ≡ required_file (codes "events") }
+    ensures { rule_of result ≡ file_option (codes "events") }
 {
-    required_argument(
+    file_argument(
         alloc,
         "events",
-        "List of events: what is done at the panel, and when",
+        "List of events: what is done at the panel, and when\n[default: run the program through]",
     )
 }
 
@@ -29,7 +29,7 @@ pub(crate) fn run_command<'a>(alloc: Global) -> Result<Command<'a>, AllocError>
     subcommand(
         alloc,
         "run",
-        "Run a part program over a list of events and print the log",
+        "Run a part program, through or over a list of events, and print the log",
         help_end!(
             "  ngc run --program examples/slot.ngc --certificate slot.cert \\
     --events examples/slot.events \\
@@ -38,7 +38,7 @@ pub(crate) fn run_command<'a>(alloc: Global) -> Result<Command<'a>, AllocError>
     )
     // The line that `clap` makes is wider than 80 columns.
     .override_usage(
-        "ngc run [OPTIONS] --machine <FILE> --tools <FILE>\n               --certificate <FILE> --events <FILE>",
+        "ngc run [OPTIONS] --machine <FILE> --tools <FILE>\n               --certificate <FILE>",
     )
     .arg(required_machine_argument(alloc))?
     .arg(required_tools_argument(alloc))?
@@ -48,16 +48,31 @@ pub(crate) fn run_command<'a>(alloc: Global) -> Result<Command<'a>, AllocError>
     .arg(delete_argument(alloc))
 }
 
-pub(crate) fn run_options<'a>(found: &ArgMatches<'a>) -> RunOptions<'a>
+// With events, or through to the program's end.
+pub(crate) fn run_options<'a>(found: &ArgMatches<'a>) -> Options<'a>
     requires { HasRunValues (rows_of (found_of found.now)) }
-    ensures { AreRunOptions (rows_of (found_of found.now)) result }
+    ensures { AreRunsOptions (rows_of (found_of found.now)) result }
 {
-    RunOptions {
-        machine: required(found, "machine"),
-        tools: required(found, "tools"),
-        certificate: required(found, "certificate"),
-        events: required(found, "events"),
-        program: found.get_str("program"),
-        delete: flag_is_set(found, "delete"),
+    let machine = required(found, "machine");
+    let tools = required(found, "tools");
+    let certificate = required(found, "certificate");
+    let program = found.get_str("program");
+    let delete = flag_is_set(found, "delete");
+    match found.get_str("events") {
+        Some(events) => Options::Run(RunOptions {
+            machine,
+            tools,
+            certificate,
+            events,
+            program,
+            delete,
+        }),
+        None => Options::RunThrough(RunThroughOptions {
+            machine,
+            tools,
+            certificate,
+            program,
+            delete,
+        }),
     }
 }

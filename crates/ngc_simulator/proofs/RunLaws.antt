@@ -1,4 +1,4 @@
--- What running a program over events comes to, from what its parts come to.
+-- What running a program over events, or to its end, comes to, from what its parts come to.
 use Rattle.std.proofs.Common.{◌≡◌, ℕ, List, Option, Some, None, Bool, true, false, Result, Ok, Err, IfSome, ap, subst, ◌∙◌}
 use Rattle.std.specs.Prelude.{option_map}
 use Rattle.ngc_line_reader.specs.ProgramText.{ProgramText, program_of, HaveReadings}
@@ -14,6 +14,7 @@ use Rattle.ngc_certificate_text.specs.declared.fault.CertificateFault.TheVariant
 use Rattle.ngc_checker.specs.Accepted.{AcceptedData, Keeps as CheckerKeeps, commands_at}
 use Rattle.ngc_checker.specs.declared.fault.CheckFault.{CheckFault}
 use Rattle.ngc_command_line.specs.declared.options.RunOptions.{RunOptions}
+use Rattle.ngc_command_line.specs.declared.options.RunThroughOptions.{RunThroughOptions}
 use Rattle.ngc_events.specs.Events.{events_said}
 use Rattle.ngc_events.specs.Given.{GivesEvents}
 use Rattle.ngc_events.specs.declared.event.EventLine.{EventLine}
@@ -21,11 +22,12 @@ use Rattle.ngc_events.specs.declared.fault.EventsFault.{EventsFault}
 use Rattle.ngc_events.specs.declared.fault.EventsFault.TheVariants as texts
 use Rattle.ngc_behaviour.specs.Headline.{job_of}
 use Rattle.ngc_run_log.specs.Runs.{ComesTo}
+use Rattle.ngc_run_log.specs.Through.{GoesThrough}
 use Rattle.ngc_run_log.specs.declared.report.Report.{Report}
 use Rattle.ngc_run_log.specs.declared.report.RunFault.{RunFault}
-use Rattle.ngc_simulator.specs.Answers.{RunsOn}
+use Rattle.ngc_simulator.specs.Answers.{RunsOn, RunsThroughOn}
 use Rattle.ngc_simulator.specs.Jobs.{IsNoCertificate}
-use Rattle.ngc_simulator.specs.Running.{IsAcceptedJob, RunsOver, AreNoEvents, Runs}
+use Rattle.ngc_simulator.specs.Running.{IsAcceptedJob, RunsOver, RunsWhole, AreNoEvents, Runs, RunsThrough}
 use Rattle.ngc_simulator.specs.Setups.{FileBytes, KeepsFiles, KeepsNamed}
 use Rattle.ngc_simulator.specs.Shops.{GivesShop}
 use Rattle.ngc_simulator.specs.declared.running.RunningFault.{RunningFault}
@@ -144,3 +146,56 @@ ran_files bytes after later last options shop old new outcome P Q R said keeps n
     (keeps (option_map (λ n. n.now) options.program))
     (named options.certificate.now ∙ keeps (Some options.certificate.now))
     (kept (Some options.events.now) ∙ named options.events.now ∙ keeps (Some options.events.now)) on p q r)
+
+-- ---- to the end
+
+pub through_refused : (setup : Setup) (bytes text : List ℕ) (block_delete : Bool) (known : Option (List ℕ)) (program : ProgramText) (c : CertificateData) (fault : CheckFault)
+    → program_of bytes ≡ Ok program → HaveReadings program.lines → certificate_said text ≡ Ok c → Says program setup c (Err fault)
+    → RunsThrough setup bytes text block_delete known known (Err (running.Check fault))
+through_refused setup bytes text block_delete known program c fault is_text have said says = (
+  record {
+    program = program_said program have.readings;
+    certificate = c;
+    given = given bytes text program c is_text have said;
+    first = says have.readings have.are;
+  },
+  keeps_same known,
+)
+
+pub went_through : (setup : Setup) (bytes text : List ℕ) (block_delete : Bool) (old new : Option (List ℕ)) (program : ProgramText) (c : CertificateData) (a : AcceptedData) (result : Result Report RunFault)
+    → program_of bytes ≡ Ok program → HaveReadings program.lines → certificate_said text ≡ Ok c → Says program setup c (Ok a)
+    → GoesThrough (job_of a.machine (commands_at block_delete a)) old new result
+    → RunsWhole setup bytes text block_delete old new result
+went_through setup bytes text block_delete old new program c a result is_text have said says goes = record {
+  job = job_of a.machine (commands_at block_delete a);
+  accepted = accepted_job setup bytes text block_delete program c a is_text have said says;
+  goes_through = goes;
+}
+
+-- of two files, where each is opened after the one before it
+on_two_files : (first second known source : Option (List ℕ)) (P Q : List ℕ → Type 0) (S : List ℕ → List ℕ → Type 0)
+    → known ≡ first → source ≡ second → ((a b : List ℕ) → P a → Q b → S a b) → IfSome known P → IfSome source Q → IfSome first (λ a. IfSome second (S a))
+on_two_files first second known source P Q S is_first is_second on p q =
+    subst (λ (k : Option (List ℕ)). IfSome k (λ a. IfSome second (S a))) is_first (subst (λ (k : Option (List ℕ)). IfSome known (λ a. IfSome k (S a))) is_second (on_both known source p q))
+  where
+    on_last : (source : Option (List ℕ)) (a : List ℕ) → P a → IfSome source Q → IfSome source (S a)
+    on_last None a p q = tt
+    on_last (Some b) a p q = on a b p q
+
+    on_both : (known source : Option (List ℕ)) → IfSome known P → IfSome source Q → IfSome known (λ a. IfSome source (S a))
+    on_both None source p q = tt
+    on_both (Some a) source p q = on_last source a p q
+
+-- of what was read: the shop, then the program and the certificate
+pub went_files : (bytes after later : FileBytes) (options : RunThroughOptions) (shop : Shop) (old new : Option (List ℕ)) (outcome : Result Report RunningFault) (P Q : List ℕ → Type 0)
+    → GivesShop bytes (Some options.machine.now) (Some options.tools.now) (Ok shop) → KeepsFiles bytes after → KeepsNamed after later
+    → IfSome (after (option_map (λ n. n.now) options.program)) P → IfSome (later (Some options.certificate.now)) Q
+    → ((a b : List ℕ) → P a → Q b → RunsThrough (setup_of shop.machine shop.tools) a b options.delete old new outcome)
+    → RunsThroughOn bytes options old new outcome
+went_files bytes after later options shop old new outcome P Q said keeps named p q on =
+    on_setup bytes (Some options.machine.now) (Some options.tools.now) (setup_of shop.machine shop.tools)
+    (λ setup. IfSome (bytes (option_map (λ n. n.now) options.program)) (λ a. IfSome (bytes (Some options.certificate.now)) (λ b. RunsThrough setup a b options.delete old new outcome)))
+    said.0 said.1
+    (on_two_files _ _ _ _ P Q (λ a b. RunsThrough (setup_of shop.machine shop.tools) a b options.delete old new outcome)
+    (keeps (option_map (λ n. n.now) options.program))
+    (named options.certificate.now ∙ keeps (Some options.certificate.now)) on p q)

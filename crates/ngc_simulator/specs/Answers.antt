@@ -5,6 +5,7 @@ use Rattle.ngc_command_line.specs.declared.options.ListOptions.{ListOptions}
 use Rattle.ngc_command_line.specs.declared.options.CertifyOptions.{CertifyOptions}
 use Rattle.ngc_command_line.specs.declared.options.CheckOptions.{CheckOptions}
 use Rattle.ngc_command_line.specs.declared.options.RunOptions.{RunOptions}
+use Rattle.ngc_command_line.specs.declared.options.RunThroughOptions.{RunThroughOptions}
 use Rattle.ngc_command_line.specs.declared.options.Options.{Options}
 use Rattle.ngc_command_line.specs.declared.options.Options.TheVariants as commands
 use Rattle.ngc_fixed_length.specs.Failures.{Rises}
@@ -19,7 +20,7 @@ use Rattle.ngc_simulator.specs.declared.fault.AnswerFault.TheVariants as answers
 use Rattle.ngc_simulator.specs.Faults.{fault_line, answer_status}
 use Rattle.ngc_simulator.specs.Lists.{Lists, FailsByWriting}
 use Rattle.ngc_simulator.specs.Jobs.{Certifies, FailsByCertifying, Checks, FailsByChecking}
-use Rattle.ngc_simulator.specs.Running.{Runs, FailsByRunning}
+use Rattle.ngc_simulator.specs.Running.{Runs, RunsThrough, FailsByRunning}
 use Rattle.ngc_simulator.specs.Setups.{FileBytes, OnSetup}
 use Rattle.ngc_simulator.specs.Shops.{RefusesShop}
 
@@ -47,6 +48,12 @@ RunsOn bytes options old new outcome =
     IfSome (bytes (Some options.certificate.now)) (λ certificate.
     IfSome (bytes (Some options.events.now)) (λ events. Runs setup text certificate events options.delete old new outcome))))
 
+abbrev pub RunsThroughOn : FileBytes → RunThroughOptions → Option (List ℕ) → Option (List ℕ) → Result Report RunningFault → Type 0
+RunsThroughOn bytes options old new outcome =
+    OnSetup bytes (Some options.machine.now) (Some options.tools.now) (λ setup.
+    IfSome (bytes (option_map (λ name. name.now) options.program)) (λ text.
+    IfSome (bytes (Some options.certificate.now)) (λ certificate. RunsThrough setup text certificate options.delete old new outcome)))
+
 -- A machine file or tool table that is refused leaves what was written as it was, and so does a file that isn't read.
 abbrev pub StopsEarly : FileBytes → Option (List ℕ) → Option (List ℕ) → Option (List ℕ) → Option (List ℕ) → AnswerFault → Type 0
 StopsEarly bytes machine tools old new fault = RefusesShop bytes machine tools fault × Keeps old new
@@ -73,11 +80,17 @@ RunComes bytes options old new (Ok u) = (report : Report) × RunsOn bytes option
 RunComes bytes options old new (Err (answers.Run fault)) = RunsOn bytes options old new (Err fault)
 RunComes bytes options old new (Err fault) = StopsEarly bytes (Some options.machine.now) (Some options.tools.now) old new fault
 
+abbrev pub RunThroughComes : FileBytes → RunThroughOptions → Option (List ℕ) → Option (List ℕ) → Result (Unit {0}) AnswerFault → Type 0
+RunThroughComes bytes options old new (Ok u) = (report : Report) × RunsThroughOn bytes options old new (Ok report)
+RunThroughComes bytes options old new (Err (answers.Run fault)) = RunsThroughOn bytes options old new (Err fault)
+RunThroughComes bytes options old new (Err fault) = StopsEarly bytes (Some options.machine.now) (Some options.tools.now) old new fault
+
 abbrev pub ComesBy : FileBytes → Options → Option (List ℕ) → Option (List ℕ) → Result (Unit {0}) AnswerFault → Type 0
 ComesBy bytes (commands.List options) old new outcome = ListComes bytes options old new outcome
 ComesBy bytes (commands.Certify options) old new outcome = CertifyComes bytes options old new outcome
 ComesBy bytes (commands.Check options) old new outcome = CheckComes bytes options old new outcome
 ComesBy bytes (commands.Run options) old new outcome = RunComes bytes options old new outcome
+ComesBy bytes (commands.RunThrough options) old new outcome = RunThroughComes bytes options old new outcome
 
 -- the first sink's count of failures rose where a write failed, and else it is what it was
 abbrev pub FailsByOutput : Result (Unit {0}) AnswerFault → ℕ → ℕ → Type 0

@@ -1,4 +1,4 @@
--- What running a program over events comes to. Our own.
+-- What running a program over events, or to its end, comes to. Our own.
 use Rattle.std.specs.Prelude.{◌≡◌, ℕ, List, Option, None, Result, Ok, Err, Bool}
 use Rattle.std.specs.Io.KnownBytes.{Keeps}
 use Rattle.ngc_line_reader.specs.ProgramText.{program_of}
@@ -19,6 +19,7 @@ use Rattle.ngc_behaviour.specs.Headline.{job_of}
 use Rattle.ngc_run_log.specs.declared.report.Report.{Report}
 use Rattle.ngc_run_log.specs.declared.report.RunFault.{RunFault}
 use Rattle.ngc_run_log.specs.Runs.{ComesTo, FailsByWriting}
+use Rattle.ngc_run_log.specs.Through.{GoesThrough}
 use Rattle.ngc_simulator.specs.declared.running.RunningFault.{RunningFault}
 use Rattle.ngc_simulator.specs.declared.running.RunningFault.TheVariants as running
 use Rattle.ngc_simulator.specs.Jobs.{AreGiven, IsNoCertificate}
@@ -61,6 +62,19 @@ pub record IsRefusedRun (setup : Setup) (bytes text events : List ℕ) (fault : 
   pub given : AreGiven bytes text program certificate
   pub first : IsFirst fault (first_refusal program setup certificate)
 
+-- the run of such a job to its end, and what it came to
+pub record RunsWhole (setup : Setup) (bytes text : List ℕ) (block_delete : Bool) (old new : Option (List ℕ)) (result : Result Report RunFault) : Type 0 where
+  pub job : Job
+  pub accepted : IsAcceptedJob setup bytes text block_delete job
+  pub goes_through : GoesThrough job old new result
+
+-- the first refusal of the two files
+pub record IsRefusedWhole (setup : Setup) (bytes text : List ℕ) (fault : CheckFault) : Type 0 where
+  pub program : ProgramLines
+  pub certificate : CertificateData
+  pub given : AreGiven bytes text program certificate
+  pub first : IsFirst fault (first_refusal program setup certificate)
+
 -- Of a program's file, a certificate's file, an events file and a sink: the log of the run was written, or a beginning of it where
 -- the sink failed; where there is no run, what was written is as it was.
 abbrev pub Runs : Setup → List ℕ → List ℕ → List ℕ → Bool → Option (List ℕ) → Option (List ℕ) → Result Report RunningFault → Type 0
@@ -70,6 +84,15 @@ Runs setup bytes text events block_delete old new (Err (running.Certificate faul
 Runs setup bytes text events block_delete old new (Err (running.Events fault)) = (AreRead bytes text × AreNoEvents events fault) × Keeps old new
 Runs setup bytes text events block_delete old new (Err (running.Check fault)) = IsRefusedRun setup bytes text events fault × Keeps old new
 Runs setup bytes text events block_delete old new (Err (running.Run fault)) = RunsOver setup bytes text events block_delete old new (Err fault)
+
+-- Of a program's file, a certificate's file and a sink: the same of a run to the end.
+abbrev pub RunsThrough : Setup → List ℕ → List ℕ → Bool → Option (List ℕ) → Option (List ℕ) → Result Report RunningFault → Type 0
+RunsThrough setup bytes text block_delete old new (Ok report) = RunsWhole setup bytes text block_delete old new (Ok report)
+RunsThrough setup bytes text block_delete old new (Err (running.Read fault)) = FaultIs fault (program_of bytes) × Keeps old new
+RunsThrough setup bytes text block_delete old new (Err (running.Certificate fault)) = IsNoCertificate text fault × Keeps old new
+RunsThrough setup bytes text block_delete old new (Err (running.Events fault)) = ⊥
+RunsThrough setup bytes text block_delete old new (Err (running.Check fault)) = IsRefusedWhole setup bytes text fault × Keeps old new
+RunsThrough setup bytes text block_delete old new (Err (running.Run fault)) = RunsWhole setup bytes text block_delete old new (Err fault)
 
 -- the sink's count of failures rose where a write failed, and else it is what it was
 abbrev pub FailsByRunning : Result Report RunningFault → ℕ → ℕ → Type 0

@@ -14,6 +14,7 @@ mod report_certificates;
 mod report_runs;
 mod running;
 mod setup;
+mod through;
 
 pub use certifier::{CertifyFault, certify};
 pub use checking::{CheckingFault, check_program};
@@ -29,12 +30,14 @@ pub use ngc_certificate::{MakeFault, PieceFault, Setting};
 pub use ngc_certificate_text::{Certificate, CertificateFault};
 pub use ngc_checker::{Accepted, CheckFault, check};
 pub use ngc_command_line::{
-    CertifyOptions, CheckOptions, ListOptions, Options, RunOptions, UsageFault, read_options,
+    CertifyOptions, CheckOptions, ListOptions, Options, RunOptions, RunThroughOptions, UsageFault,
+    read_options,
 };
 pub use ngc_controller::{Controller, MemoryFault};
 pub use ngc_events::{Ending, Event, EventFault, EventLine, EventsFault, Reply, read_events};
 pub use ngc_machine::{FileFault, Fixture, Machine, Tool, Tools, row_machine};
-pub use ngc_run_log::{Report, RunFault, run};
+pub use ngc_run_log::{Report, RunFault, run, run_through};
 pub use ngc_step_kernel::{ArcKernel, ArcPath};
 pub use program::answer;
 pub use running::{RunningFault, run_program};
+pub use through::run_program_through;

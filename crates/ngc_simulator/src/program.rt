@@ -9,6 +9,7 @@ use crate::files::Files;
 use crate::lister::list_files;
 use crate::report::add_fault_line;
 use crate::running::run_files;
+use crate::through::run_through_files;
 use ngc_command_line::Options;
 use ngc_fixed_length::Sink;
 use ngc_output::Chunk;
@@ -28,6 +29,7 @@ fn run_command<F: Files, W: Sink>(
         Options::Certify(options) => certify_files(alloc, options, files, output),
         Options::Check(options) => check_files(alloc, options, files, output),
         Options::Run(options) => run_files(alloc, options, files, output),
+        Options::RunThrough(options) => run_through_files(alloc, options, files, output),
     }
 }
 

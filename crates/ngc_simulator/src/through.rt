@@ -1,0 +1,84 @@
+ghost use Rattle.std.specs.Prelude.{◌≡◌, List, Ok, ℕ};
+ghost use Rattle.ngc_canonical.specs.Interpreter.{setup_of};
+ghost use Rattle.ngc_certificate_text.specs.Contents.{said_of};
+ghost use Rattle.ngc_certificate_text.specs.Said.{certificate_said};
+ghost use Rattle.ngc_line_reader.specs.ProgramText.{program_of, HaveReadings};
+ghost use Rattle.ngc_line_reader.specs.ProgramView.{text_in};
+ghost use Rattle.ngc_simulator.specs.Answers.{RunThroughComes, FailsByOutput};
+ghost use Rattle.ngc_simulator.specs.Running.{RunsThrough, FailsByRunning};
+
+use crate::fault::AnswerFault;
+use crate::files::Files;
+use crate::opening::{read_certificate, read_program};
+use crate::running::RunningFault;
+use crate::setup::read_shop;
+use ngc_certificate_text::Certificate;
+use ngc_checker::check;
+use ngc_command_line::RunThroughOptions;
+use ngc_fixed_length::Sink;
+use ngc_line_reader::Program;
+use ngc_machine::{Machine, Tools};
+use ngc_run_log::{Report, run_through};
+use std::alloc::{Allocator, Global};
+
+/// Runs a program through to its end on a machine with its tools, at a setting of block delete, and writes the log. It is run
+/// only where the certificate shows that it is safe, and else nothing is written; where a write fails, a beginning of the log
+/// is written.
+pub fn run_program_through<A: Allocator + Copy, W: Sink>(
+    alloc: A,
+    program: &Program<A>,
+    machine: &Machine<A>,
+    tools: &Tools<A>,
+    certificate: &Certificate<A>,
+    block_delete: bool,
+    output: &mut W,
+) -> Result<Report, RunningFault>
+    // Whatever files the program and the certificate were read from: the answer is that of these.
+    ensures runs { (bytes text : List ℕ) → program_of bytes ≡ Ok (text_in program.now) → HaveReadings (text_in program.now).lines → certificate_said text ≡ Ok (said_of certificate.now) → RunsThrough (setup_of machine.now tools.now) bytes text block_delete (W.written output.old) (W.written output.new) result }
+    ensures sink { FailsByRunning result (W.failures output.old) (W.failures output.new) }
+{
+    let accepted = match check(alloc, program, machine, tools, certificate) {
+        Ok(accepted) => accepted,
+        Err(fault) => return Err(RunningFault::Check(fault)),
+    };
+    match run_through(alloc, accepted, block_delete, output) {
+        Ok(report) => Ok(report),
+        Err(fault) => Err(RunningFault::Run(fault)),
+    }
+}
+
+// The log of a run to the end. Each file is read before the next one is opened.
+pub(crate) fn run_through_files<F: Files, W: Sink>(
+    alloc: Global,
+    options: &RunThroughOptions<'_>,
+    files: &mut F,
+    output: &mut W,
+) -> Result<(), AnswerFault>
+    ensures comes { RunThroughComes (F.bytes files.old) options.now (W.written output.old) (W.written output.new) result }
+    ensures sink { FailsByOutput result (W.failures output.old) (W.failures output.new) }
+{
+    let shop = match read_shop(alloc, Some(options.machine), Some(options.tools), files) {
+        Ok(shop) => shop,
+        Err(fault) => return Err(fault),
+    };
+    let program = match read_program(alloc, options.program, files) {
+        Ok(program) => program,
+        Err(fault) => return Err(AnswerFault::Run(RunningFault::Read(fault))),
+    };
+    let certificate = match read_certificate(alloc, options.certificate, files) {
+        Ok(certificate) => certificate,
+        Err(fault) => return Err(AnswerFault::Run(RunningFault::Certificate(fault))),
+    };
+    match run_program_through(
+        alloc,
+        &program,
+        &shop.machine,
+        &shop.tools,
+        &certificate,
+        options.delete,
+        output,
+    ) {
+        Ok(_) => Ok(()),
+        Err(fault) => Err(AnswerFault::Run(fault)),
+    }
+}
