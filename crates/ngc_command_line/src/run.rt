@@ -29,16 +29,11 @@ pub(crate) fn run_command<'a>(alloc: Global) -> Result<Command<'a>, AllocError>
     subcommand(
         alloc,
         "run",
-        "Run a part program, through or over a list of events, and print the log",
+        "Run a part program through, or over events, and print the log",
         help_end!(
             "  ngc run --program examples/slot.ngc --certificate slot.cert \\
-    --events examples/slot.events \\
     --machine examples/clamped_mill.toml --tools examples/tools.toml"
         ),
-    )
-    // The line that `clap` makes is wider than 80 columns.
-    .override_usage(
-        "ngc run [OPTIONS] --machine <FILE> --tools <FILE>\n               --certificate <FILE>",
     )
     .arg(required_machine_argument(alloc))?
     .arg(required_tools_argument(alloc))?

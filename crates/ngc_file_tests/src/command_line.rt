@@ -1,7 +1,8 @@
 //! What no clause of `ngc_command_line` says: spellings, refusals and their texts. Want of memory is not tested, since
 //! `clap` allocates by `Global`, which no test can make run out.
 use ngc_command_line::{
-    CertifyOptions, CheckOptions, ListOptions, Options, RunOptions, UsageFault, read_options,
+    CertifyOptions, CheckOptions, ListOptions, Options, RunOptions, RunThroughOptions, UsageFault,
+    read_options,
 };
 use std::alloc::{AllocError, Global};
 use std::test::Fail;
@@ -204,6 +205,38 @@ fn reads_run(rt: HostRuntime) -> Result<(), Fail> {
     Ok(())
 }
 
+const RUNS_THROUGH: &[(&str, Option<&str>, bool)] = &[
+    (
+        "run --machine=mill.toml --tools=table.toml --certificate=a.cert",
+        None,
+        false,
+    ),
+    (
+        "run --machine=mill.toml --tools=table.toml --certificate=a.cert --program=a.ngc --delete|\
+         run --delete --certificate a.cert --program a.ngc --tools table.toml --machine mill.toml",
+        Some("a.ngc"),
+        true,
+    ),
+];
+
+#[test]
+fn reads_run_without_events(rt: HostRuntime) -> Result<(), Fail> {
+    for (lines, program, delete) in RUNS_THROUGH {
+        let wanted = RunThroughOptions {
+            machine: "mill.toml",
+            tools: "table.toml",
+            certificate: "a.cert",
+            program: *program,
+            delete: *delete,
+        };
+        assert!(rt;
+            are_read_as(rt.alloc(), lines, Options::RunThrough(wanted))?,
+            "{lines}"
+        );
+    }
+    Ok(())
+}
+
 // The text that the words are refused with by the number 720, and else none.
 fn refusal(alloc: Global, words: &[&str]) -> Result<String, AllocError> {
     match read_options(alloc, words) {
@@ -277,7 +310,7 @@ check --machine=mill.toml --tools=table.toml -> --certificate
 run --tools=table.toml --certificate=a.cert --events=a.events --program=a.ngc -> --machine
 run --machine=mill.toml --certificate=a.cert --events=a.events --delete -> --tools
 run --machine=mill.toml --tools=table.toml --events=a.events -> --certificate
-run --machine=mill.toml --tools=table.toml --certificate=a.cert -> --events";
+run --delete -> --machine --tools --certificate";
 
 // The parts of a refusal that tells of options which are missing.
 fn missing_parts(alloc: Global, options: &str) -> Result<String, Fail> {
@@ -385,11 +418,12 @@ const CHECK_HELP: &str =
                           --machine examples/clamped_mill.toml --tools examples/tools.toml|Exit status:|\
                           4  the certificate was refused, or none clears the program|docs/FAULTS.md";
 
-const RUN_HELP: &str = "Run a part program over a list of events and print the log|\
-                        Usage: ngc run [OPTIONS] --machine <FILE> --tools <FILE>\n| --certificate <FILE> --events <FILE>\n|\
-                        --machine <FILE>|--tools <FILE>|--certificate <FILE>|--events <FILE>|--program <FILE>|\
+const RUN_HELP: &str = "Run a part program through, or over events, and print the log|\
+                        Usage: ngc run [OPTIONS] --machine <FILE> --tools <FILE> --certificate <FILE>|\
+                        --machine <FILE>|--tools <FILE>|--certificate <FILE>|--events <FILE>|\
+                        [default: run the program through]|--program <FILE>|\
                         [default: standard input]|--delete|[default: off]|\
-                        ngc run --program examples/slot.ngc --certificate slot.cert|--events examples/slot.events|\
+                        ngc run --program examples/slot.ngc --certificate slot.cert|\
                         --machine examples/clamped_mill.toml --tools examples/tools.toml|Exit status:|\
                         4  the certificate was refused, or none clears the program|docs/FAULTS.md";
 
