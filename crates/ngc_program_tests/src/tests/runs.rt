@@ -1,7 +1,7 @@
 use super::certificates::{NO_MOTIONS, holds};
 use super::{RUN, SHORT_WAY, Texts, certify_options, comes_to, on_the_mill, outcome_of};
 use ngc_fixed_length::StepPos;
-use ngc_simulator::{Options, Report, RunOptions};
+use ngc_simulator::{Options, Report, RunOptions, RunThroughOptions};
 use std::alloc::Global;
 use std::process::Abort;
 use std::test::Fail;
@@ -239,5 +239,38 @@ fn the_order_of_refusals(rt: HostRuntime) {
             ..RUN
         });
         comes_to(&rt, rt.alloc(), texts, &options, *wanted, program);
+    }
+}
+
+const RUN_THROUGH: RunThroughOptions<'static> = RunThroughOptions {
+    machine: "machine",
+    tools: "tools",
+    certificate: "certificate",
+    program: None,
+    delete: false,
+};
+
+// Programs and the logs of their runs without events.
+const WHOLE_RUNS: &[(&str, &str)] = &[
+    (
+        SHORT_WAY,
+        "load 0\nload 1\npos 1 0 0\npos 2 0 0\npos 3 0 0\ndone 0\nend\n",
+    ),
+    (
+        "M0\nM1\nM2\n",
+        "load 0\nload 1\nload 2\nstop 0\nstart\ndone 1\nend\n",
+    ),
+];
+
+#[test]
+fn runs_without_events(rt: HostRuntime) {
+    for (program, log) in WHOLE_RUNS {
+        let certificate = certificate_of(&rt, rt.alloc(), program);
+        let texts = Texts {
+            certificate: certificate.as_slice(),
+            ..on_the_mill(program)
+        };
+        let options = Options::RunThrough(RUN_THROUGH);
+        comes_to(&rt, rt.alloc(), texts, &options, Ok(*log), program);
     }
 }
