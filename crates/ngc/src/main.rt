@@ -2,8 +2,11 @@
 #![tactic(auto)]
 
 mod host;
+mod output;
 
 use crate::host::HostFiles;
+use crate::output::Output;
+use arrayvec::ArrayVec;
 use ngc_fixed_length::{Device, write_all};
 use ngc_simulator::{UsageFault, answer, read_options};
 use std::process::ExitCode;
@@ -36,9 +39,14 @@ fn answer_words(rt: &HostRuntime) -> Result<u8, UsageFault> {
     }
     let options = read_options(rt.alloc(), names.as_slice())?;
     let mut files = HostFiles::new(rt);
-    let mut output = Device::new(rt.stdout());
-    let mut errors = Device::new(rt.stderr());
-    Ok(answer(rt.alloc(), &options, &mut files, &mut output, &mut errors))
+    let mut output = Output::new(rt.stdout());
+    // A line or two, told only where somebody still reads the output.
+    let mut told = Device::new(ArrayVec::<u8, 512>::new());
+    let status = answer(rt.alloc(), &options, &mut files, &mut output, &mut told);
+    if !output.is_closed() {
+        let _ = write_all(&mut Device::new(rt.stderr()), told.into_inner().as_slice());
+    }
+    Ok(status)
 }
 
 fn main(rt: HostRuntime) -> ExitCode {

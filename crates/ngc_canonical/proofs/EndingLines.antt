@@ -1,4 +1,4 @@
--- Nothing is executed after the end of a program.
+-- A program ends with the end, and nothing is executed after it.
 use Rattle.std.proofs.Common.{◌≡◌, ℕ, List, [], ◌∷◌, Option, Some, None, Bool, true, false, Result, Ok, Err, refl, sym, subst}
 use Rattle.std.proofs.lemmas.Result.{IfOk-at_ok}
 use Rattle.std.specs.Prelude.{IfOk, ◌&&◌, if◌then◌else◌}
@@ -10,18 +10,18 @@ use Rattle.ngc_canonical.specs.declared.command.Command.{Command}
 use Rattle.ngc_canonical.specs.declared.fault.Fault.{Fault}
 use Rattle.ngc_canonical.specs.declared.fault.Fault.TheVariants.{Value}
 use Rattle.ngc_canonical.specs.declared.fault.ProgramFault.{ProgramFault}
-use Rattle.ngc_canonical.specs.Joined.{EndIsLast, EndsLast}
-use Rattle.ngc_canonical.specs.Meaning.{NumberedLine, Program, effects_of, with_settings, execute, at_line, remaining, after_line, commands_of, past_last, go_on, then_lines, from_state, GivesMeaning}
+use Rattle.ngc_canonical.specs.Joined.{EndIsLast, HasEnd, EndsLast, HaveEnd}
+use Rattle.ngc_canonical.specs.Meaning.{NumberedLine, Program, effects_of, with_settings, execute, at_line, remaining, after_line, commands_of, past_last, go_on, then_lines, from_state, meaning, GivesMeaning}
 use Rattle.ngc_canonical.specs.Perform.{run}
 use Rattle.ngc_canonical.specs.State.{Setup, State, start_state, emit}
 use Rattle.ngc_canonical.specs.Steps.{faulted}
 use Rattle.ngc_canonical.proofs.Ending.{StopIsLast, stops_last}
-use Rattle.ngc_canonical.proofs.EndingSteps.{HasNoEnd, Open, Left, last_behind, left_open, run_left}
+use Rattle.ngc_canonical.proofs.EndingSteps.{HasNoEnd, Open, Left, IsEndOnly, ended_by, left_open, run_left}
 use Rattle.ngc_canonical.proofs.Joining.{onward, after, emitted}
 
--- nothing comes after the end of the commands
+-- the end stands behind all other commands
 abbrev pub Ends : State → Type 0
-Ends s = EndIsLast s.commands
+Ends s = IsEndOnly s.commands
 
 start_open : (machine : MachineFile) → Open (start_state machine)
 start_open machine = record { running = refl; no_end = tt }
@@ -45,10 +45,10 @@ after_line_left setup block_delete number r s h = by_test (block_delete && r.del
 
 past_last_ends : (mark : Option ℕ) (count : ℕ) (s : State) → HasNoEnd s.commands → IfOk (past_last mark count s) Ends
 past_last_ends None count s none = tt
-past_last_ends (Some line) count s none = at_line_left Ends line (emit End (record s { line = line })) (emitted Ends End (record s { line = line }) (λ room. last_behind s.commands (record { line = line; action = End }) none))
+past_last_ends (Some line) count s none = at_line_left Ends line (emit End (record s { line = line })) (emitted Ends End (record s { line = line }) (λ room. ended_by s.commands line none))
 
 go_on_ends : (ended : Bool) (s : State) (rest : State → Result State ProgramFault) → s.ended ≡ ended → Left s → ((t : State) → Open t → IfOk (rest t) Ends) → IfOk (go_on ended s rest) Ends
-go_on_ends true s rest e h on = h.last
+go_on_ends true s rest e h on = (h.last, h.has_end e)
 go_on_ends false s rest e h on = on s (record { running = e; no_end = h.no_end e })
 
 then_lines_ends : (r : Result State ProgramFault) (rest : State → Result State ProgramFault) → IfOk r Left → ((t : State) → Open t → IfOk (rest t) Ends) → IfOk (then_lines r rest) Ends
@@ -66,8 +66,8 @@ from_state_ends setup program (line ∷ lines) s h =
 same_commands : (a b : List Command) → (let x : Result (List Command) ProgramFault = Ok a in let y : Result (List Command) ProgramFault = Ok b in x ≡ y) → a ≡ b
 same_commands a b e = cc
 
-commands_end : (r : Result State ProgramFault) (commands : List Command) → IfOk r Ends → commands_of r ≡ Ok commands → EndIsLast commands
-commands_end (Ok s) commands h e = subst EndIsLast (same_commands s.commands commands e) h
+commands_end : (r : Result State ProgramFault) (commands : List Command) → IfOk r Ends → commands_of r ≡ Ok commands → IsEndOnly commands
+commands_end (Ok s) commands h e = subst IsEndOnly (same_commands s.commands commands e) h
 commands_end (Err fault) commands h e = absurd (cc e)
 
 -- ---- the commands that are handed out
@@ -79,19 +79,34 @@ pub line_ended : (setup : Setup) (block_delete : Bool) (number : ℕ) (r : Readi
     → after_line setup block_delete number r s ≡ Ok t → commands ≡ t.commands → EndIsLast commands
 line_ended setup block_delete number r s t commands running none e same = subst EndIsLast (sym same) (line_left setup block_delete number r s t running none e).last
 
+pub line_has_end : (setup : Setup) (block_delete : Bool) (number : ℕ) (r : Reading) (s t : State) (commands : List Command) → s.ended ≡ false → HasNoEnd s.commands
+    → after_line setup block_delete number r s ≡ Ok t → t.ended ≡ true → commands ≡ t.commands → HasEnd commands
+line_has_end setup block_delete number r s t commands running none e over same = subst HasEnd (sym same) ((line_left setup block_delete number r s t running none e).has_end over)
+
 pub line_on : (setup : Setup) (block_delete : Bool) (number : ℕ) (r : Reading) (s t : State) → s.ended ≡ false → HasNoEnd s.commands
     → after_line setup block_delete number r s ≡ Ok t → t.ended ≡ false → HasNoEnd t.commands
 line_on setup block_delete number r s t running none e on = (line_left setup block_delete number r s t running none e).no_end on
 
 pub finished_ended : {X : Type 0} (mark : Option ℕ) (count : ℕ) (s : State) (view : X → List Command) (result : Result X ProgramFault) → HasNoEnd s.commands
     → GivesMeaning view result (commands_of (past_last mark count s)) → IfOk result (λ v. EndIsLast (view v))
-finished_ended mark count s view (Ok v) none says = commands_end (past_last mark count s) (view v) (past_last_ends mark count s none) says
+finished_ended mark count s view (Ok v) none says = (commands_end (past_last mark count s) (view v) (past_last_ends mark count s none) says).0
 finished_ended mark count s view (Err e) none says = tt
 
--- ---- the law
+pub finished_has_end : {X : Type 0} (mark : Option ℕ) (count : ℕ) (s : State) (view : X → List Command) (result : Result X ProgramFault) → HasNoEnd s.commands
+    → GivesMeaning view result (commands_of (past_last mark count s)) → IfOk result (λ v. HasEnd (view v))
+finished_has_end mark count s view (Ok v) none says = (commands_end (past_last mark count s) (view v) (past_last_ends mark count s none) says).1
+finished_has_end mark count s view (Err e) none says = tt
 
-pub ends_last : EndsLast
-ends_last program setup block_delete commands e =
+-- ---- the laws
+
+end_only : (program : Program) (setup : Setup) (block_delete : Bool) (commands : List Command) → meaning program setup block_delete ≡ Ok commands → IsEndOnly commands
+end_only program setup block_delete commands e =
     commands_end (from_state setup program (remaining block_delete program.lines) (start_state setup.machine)) commands
     (from_state_ends setup program (remaining block_delete program.lines) (start_state setup.machine) (start_open setup.machine))
     e
+
+pub ends_last : EndsLast
+ends_last program setup block_delete commands e = (end_only program setup block_delete commands e).0
+
+pub have_end : HaveEnd
+have_end program setup block_delete commands e = (end_only program setup block_delete commands e).1

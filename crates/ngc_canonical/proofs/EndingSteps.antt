@@ -38,7 +38,7 @@ use Rattle.ngc_canonical.specs.declared.movement.Pace.{Pace}
 use Rattle.ngc_canonical.specs.declared.movement.Pace.TheVariants as paces
 use Rattle.ngc_canonical.specs.declared.movement.Way.{Way}
 use Rattle.ngc_canonical.specs.declared.movement.Way.TheVariants as ways
-use Rattle.ngc_canonical.specs.Joined.{IsLastIfEnd, EndIsLast}
+use Rattle.ngc_canonical.specs.Joined.{IsLastIfEnd, EndIsLast, HasEnd}
 use Rattle.ngc_canonical.specs.Movement.{end_of as moved_to}
 use Rattle.ngc_canonical.specs.Steps.{faulted, refuse_if}
 use Rattle.ngc_canonical.specs.State.{Setup, State, emit, at_place, motion_in, go, traverse_to, unseries}
@@ -68,6 +68,11 @@ pub record IsOpen (cs : List Command) (ended : Bool) : Type 0 where
 pub record IsLeft (cs : List Command) (ended : Bool) : Type 0 where
   pub last : EndIsLast cs
   pub no_end : ended ≡ false → HasNoEnd cs
+  pub has_end : ended ≡ true → HasEnd cs
+
+-- the end stands last, and nowhere else
+abbrev pub IsEndOnly : List Command → Type 0
+IsEndOnly cs = EndIsLast cs × HasEnd cs
 
 abbrev pub Open : State → Type 0
 Open s = IsOpen s.commands s.ended
@@ -96,7 +101,12 @@ last_of_none [] none = tt
 last_of_none (c ∷ cs) none = (not_last c.action cs none.0, last_of_none cs none.1)
 
 pub left_open : (s : State) → Open s → Left s
-left_open s h = record { last = last_of_none s.commands h.no_end; no_end = λ _. h.no_end }
+left_open s h = record { last = last_of_none s.commands h.no_end; no_end = λ _. h.no_end; has_end = λ e. absurd (cc (h.running, e)) }
+
+pub ended_by : (cs : List Command) (line : ℕ) → HasNoEnd cs → IsEndOnly (cs ++ (record { line = line; action = actions.End } ∷ []))
+ended_by cs line none =
+    let last : Command = record { line = line; action = actions.End } in
+    (last_behind cs last none, record { before = cs; last = last; are = refl; is_end = refl })
 
 -- an action that is no end
 passes : (a : Action) (s : State) → Open s → IsNotEnd a → IfOk (emit a s) Open
@@ -224,9 +234,9 @@ stop_left : (code : Stopping) (s : State) → Open s → IfOk (stop code s) Left
 stop_left stops.Stop s h = IfOk-weaker (emit actions.Stop s) Open Left left_open (passes actions.Stop s h tt)
 stop_left stops.OptionalStop s h = IfOk-weaker (emit actions.OptionalStop s) Open Left left_open (passes actions.OptionalStop s h tt)
 stop_left stops.End s h =
-    onward (λ t. EndIsLast t.commands) Left (emit actions.End s) (λ t. Ok (record t { ended = true }))
-    (emitted (λ t. EndIsLast t.commands) actions.End s (λ room. last_behind s.commands (record { line = s.line; action = actions.End }) h.no_end))
-    (λ t last. record { last = last; no_end = λ e. absurd (cc e) })
+    onward (λ t. IsEndOnly t.commands) Left (emit actions.End s) (λ t. Ok (record t { ended = true }))
+    (emitted (λ t. IsEndOnly t.commands) actions.End s (λ room. ended_by s.commands s.line h.no_end))
+    (λ t only. record { last = only.0; no_end = λ e. absurd (cc e); has_end = λ e. only.1 })
 
 -- a stop is performed last, and another effect leaves the program open
 step_left : (setup : Setup) (effect : Effect) (later : List Effect) (s : State) → IsLastIfStop effect later → Open s → ((t : State) → Open t → IfOk (run setup later t) Left)

@@ -1,5 +1,5 @@
 -- What holds of the commands of every program. Our own.
-use Rattle.std.specs.Prelude.{◌≡◌, ◌≤◌, List, [], ◌∷◌, length, Ok, Bool}
+use Rattle.std.specs.Prelude.{◌≡◌, ◌≤◌, List, [], ◌∷◌, ◌++◌, length, Ok, Bool}
 use Rattle.ngc_arc_geometry.specs.Radii.{HasEvenRadii}
 use Rattle.ngc_canonical.specs.declared.command.Action.{Action}
 use Rattle.ngc_canonical.specs.declared.command.Action.TheVariants.{End}
@@ -43,7 +43,18 @@ abbrev pub EndIsLast : List Command → Type 0
 EndIsLast [] = Unit {0}
 EndIsLast (c ∷ cs) = IsLastIfEnd c.action cs × EndIsLast cs
 
--- of every program
+-- the last command is the end
+pub record HasEnd (commands : List Command) : Type 0 where
+  pub before : List Command
+  pub last : Command
+  pub are : commands ≡ before ++ last ∷ []
+  pub is_end : last.action ≡ End
+
+-- both of every program
 abbrev pub EndsLast : Type 0
 EndsLast = (program : Program) (setup : Setup) (block_delete : Bool) (commands : List Command) → meaning program setup block_delete ≡ Ok commands
     → EndIsLast commands
+
+abbrev pub HaveEnd : Type 0
+HaveEnd = (program : Program) (setup : Setup) (block_delete : Bool) (commands : List Command) → meaning program setup block_delete ≡ Ok commands
+    → HasEnd commands

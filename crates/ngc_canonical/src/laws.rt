@@ -1,5 +1,5 @@
 //! Laws about the definitions alone.
-ghost use Rattle.ngc_canonical.specs.Joined.{Joined, ArcsHaveEvenRadii, FewCommands, EndsLast};
+ghost use Rattle.ngc_canonical.specs.Joined.{Joined, ArcsHaveEvenRadii, FewCommands, EndsLast, HaveEnd};
 
 /// The motions of a program are joined: the first begins at the machine's start point, and each further one where the motion
 /// before it ends.
@@ -21,4 +21,9 @@ pub fn few_commands()
 /// The end is a program's last command.
 pub fn ends_last()
     ensures { EndsLast }
+{}
+
+/// The last command of a program is the end.
+pub fn have_end()
+    ensures { HaveEnd }
 {}

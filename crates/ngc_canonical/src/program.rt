@@ -10,7 +10,7 @@ ghost use Rattle.ngc_parameters.specs.Stored.{pairs_of, changes_of};
 ghost use Rattle.ngc_canonical.specs.Meaning.{effects_of as effects_in, execute as executed, with_settings, after_line, past_last, commands_of, GivesMeaning, GivesEffects, meaning, program_said, mark_of as marked_at};
 ghost use Rattle.ngc_canonical.specs.Interpreter.{setup_of, state_of, Becomes, BecomesAt};
 ghost use Rattle.ngc_canonical.specs.Movement.{actions_of, ways_of, AreJoined};
-ghost use Rattle.ngc_canonical.specs.Joined.{HaveEvenRadii, EndIsLast};
+ghost use Rattle.ngc_canonical.specs.Joined.{HaveEvenRadii, EndIsLast, HasEnd};
 
 use crate::command::{Action, Command};
 use crate::fault::{Fault, ProgramFault};
@@ -165,6 +165,8 @@ pub fn interpret<A: Allocator + Copy>(
     ensures count { IfOk result (λ v. length v.items ≤ 1000000) }
     // Nothing comes after the end.
     ensures ended { IfOk result (λ v. EndIsLast v.items) }
+    // The last command is the end.
+    ensures has_end { IfOk result (λ v. HasEnd v.items) }
 {
     let Ok(mut interpreter) = Interpreter::new(alloc, machine) else {
         return Err(ProgramFault::Memory);

@@ -5,7 +5,7 @@ use Rattle.ngc_machine.specs.Machine.{MachineFile}
 use Rattle.ngc_machine.specs.MachineRanges.{IsMachine}
 use Rattle.ngc_machine.specs.declared.tools.Tool.{Tool}
 use Rattle.ngc_canonical.specs.declared.command.Command.{Command}
-use Rattle.ngc_canonical.specs.Joined.{HaveEvenRadii, EndIsLast}
+use Rattle.ngc_canonical.specs.Joined.{HaveEvenRadii, EndIsLast, HasEnd}
 use Rattle.ngc_canonical.specs.Meaning.{Program, meaning}
 use Rattle.ngc_canonical.specs.Movement.{actions_of, ways_of, AreJoined}
 use Rattle.ngc_canonical.specs.State.{Setup, COMMAND_LIMIT}
@@ -26,13 +26,14 @@ abbrev pub commands_at : Bool → AcceptedData → List Command
 commands_at false a = a.off
 commands_at true a = a.on
 
--- a setting's commands: there are few enough, each motion begins where the one before it ends, each arc has even radii, and
--- nothing comes after the end
+-- a setting's commands: there are few enough, each motion begins where the one before it ends, each arc has even radii,
+-- the last one is the end, and nothing comes after an end
 pub record AreCommands (start : Point3) (commands : List Command) : Type 0 where
   pub count : length commands ≤ COMMAND_LIMIT
   pub joined : AreJoined start (ways_of (actions_of commands))
   pub radii : HaveEvenRadii (ways_of (actions_of commands))
   pub ended : EndIsLast commands
+  pub has_end : HasEnd commands
 
 -- what holds of all that was accepted: some certificate is valid for both settings
 pub record IsAccepted (a : AcceptedData) : Type 0 where

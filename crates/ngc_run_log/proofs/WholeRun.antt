@@ -1,10 +1,13 @@
 -- What a run through a program comes to, from what is recorded of it.
-use Rattle.std.proofs.Common.{◌≡◌, ◌≤◌, ℕ, List, [], ◌++◌, length, Option, Bool, true, false, ap, sym, subst, ◌∙◌, arith, refl}
+use Rattle.std.proofs.Common.{◌≡◌, ◌≤◌, ℕ, suc, List, [], ◌∷◌, ◌++◌, length, Option, Some, Bool, true, false, ap, sym, subst, ◌∙◌, arith, refl}
 use Rattle.std.proofs.lemmas.List.{append-nil}
+use Rattle.std.specs.Prelude.{slice_get}
 use Rattle.std.specs.Io.KnownBytes.{Appends}
 use Rattle.ngc_fixed_length.specs.Written.{AppendsBeginning}
 use Rattle.ngc_fixed_length.proofs.Appended.{appends_both, begins_after}
 use Rattle.ngc_machine.specs.MachineRanges.{IsMachine}
+use Rattle.ngc_canonical.specs.declared.command.Command.{Command}
+use Rattle.ngc_canonical.specs.Joined.{HasEnd}
 use Rattle.ngc_canonical.specs.State.{COMMAND_LIMIT}
 use Rattle.ngc_checker.specs.Accepted.{AcceptedData, IsAccepted, commands_at}
 use Rattle.ngc_events.specs.declared.event.Event.{Event}
@@ -54,22 +57,33 @@ opens_runs job s t events outcomes safe in_time opens stretch =
     } in
     (run, stretch.last ∙ ap (λ (x : State). last_state x stretch.states) opens)
 
+-- where the last command stands
+count_to : (before : List Command) (last : Command) → suc (length before) ≡ length (before ++ last ∷ [])
+count_to [] last = refl
+count_to (c ∷ before) last = ap suc (count_to before last)
+
+last_at : (before : List Command) (last : Command) → slice_get (before ++ last ∷ []) (length before) ≡ Some last
+last_at [] last = refl
+last_at (c ∷ before) last = last_at before last
+
 -- all is done and written
-pub through_logged : (n count : ℕ) (old new : ControllerData) (a b : Recorder) (x y z : Option (List ℕ)) (report : Report) → AreNew old.job old.state a → RunsSafely old.job → RunsInTime old.job →
+pub through_logged : (n count : ℕ) (old new : ControllerData) (a b : Recorder) (x y z : Option (List ℕ)) (report : Report) → AreNew old.job old.state a → RunsSafely old.job → RunsInTime old.job → HasEnd old.job.commands →
     count ≡ length old.job.commands → Finishes n count count old new a b x y → Appends y z b.chunk → report ≡ b.report → IsLoggedThrough old.job x z report
-through_logged n count old new a b x y z report are_new safe in_time all ended wrote same =
+through_logged n count old new a b x y z report are_new safe in_time has_end all ended wrote same =
     let s : GoesBy n count count old new a b x y = ended.goes in
     let P : List ℕ → Type 0 = λ text. Appends x z text in
     let R : Report → Type 0 = λ r. Reports old.job s.events s.outcomes r in
     let r = opens_runs old.job old.state new.state s.events s.outcomes safe in_time are_new.opens s.stretch in
     let none : old.state.done ≡ 0 = ap (λ (x : State). x.done) are_new.opens in
     let done : new.state.done ≡ length old.job.commands = omega (arith, s.done, none, all) in
+    let before : List Command = has_end.before in
+    let is_count : suc (length before) ≡ length old.job.commands = count_to before has_end.last ∙ ap (λ (commands : List Command). length commands) (sym has_end.are) in
     record {
       events = s.events;
       outcomes = s.outcomes;
       smooth = record { run = r.0; kinds = s.kinds; none_refused = s.none_refused };
       done = ap (λ (x : State). x.done) (sym r.1) ∙ done;
-      told = λ k c last at end. ended.told (omega (arith, last, all)) k c (last ∙ sym done) at end;
+      told = ended.told (omega (arith, is_count, all)) (length before) has_end.last (is_count ∙ sym done) (ap (λ commands. slice_get commands (length before)) has_end.are ∙ last_at before has_end.last) has_end.is_end;
       logged = subst P (log_is old.job old.state a b x y s.outcomes are_new s.collects) (appends_both x y z s.collects.front b.chunk s.collects.writes wrote);
       reports = subst R (sym same) (reports old.job old.state a b s.events s.outcomes are_new s.counts);
     }
@@ -105,6 +119,12 @@ through_broken old a x z are_new safe in_time s =
 pub few_accepted : (a : AcceptedData) (block_delete : Bool) → IsAccepted a → length (commands_at block_delete a) ≤ COMMAND_LIMIT
 few_accepted a false ok = ok.off_commands.count
 few_accepted a true ok = ok.on_commands.count
+
+pub end_of : (a : AcceptedData) (block_delete : Bool) (job : Job) → IsAccepted a → job ≡ job_of a.machine (commands_at block_delete a) → HasEnd job.commands
+end_of a block_delete job ok same = subst (λ (j : Job). HasEnd j.commands) (sym same) (at block_delete) where
+  at : (block_delete : Bool) → HasEnd (commands_at block_delete a)
+  at false = ok.off_commands.has_end
+  at true = ok.on_commands.has_end
 
 pub machine_of : (a : AcceptedData) (block_delete : Bool) (job : Job) → IsAccepted a → job ≡ job_of a.machine (commands_at block_delete a) → IsMachine job.machine
 machine_of a block_delete job ok same = subst (λ (j : Job). IsMachine j.machine) (sym same) ok.machine

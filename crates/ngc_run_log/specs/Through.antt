@@ -1,12 +1,10 @@
 -- What a run comes to that goes through the program by itself. Our own.
-use Rattle.std.specs.Prelude.{◌≡◌, ℕ, suc, List, [], ◌∷◌, ◌++◌, length, count_by, slice_get, Option, Some, None, Ok, Err, Result}
+use Rattle.std.specs.Prelude.{◌≡◌, ℕ, List, [], ◌∷◌, ◌++◌, length, count_by, Option, Some, None, Ok, Err, Result}
 use Rattle.std.specs.List.{AllByRecursion}
 use Rattle.std.specs.Io.KnownBytes.{Appends, Keeps}
 use Rattle.ngc_fixed_length.specs.Written.{AppendsBeginning}
 use Rattle.ngc_events.specs.declared.event.Event.{Event}
 use Rattle.ngc_events.specs.declared.event.Event.TheVariants.{Load, Tick, Hold, Resume, Override, StopSwitch, Start}
-use Rattle.ngc_canonical.specs.declared.command.Action.TheVariants as actions
-use Rattle.ngc_canonical.specs.declared.command.Command.{Command}
 use Rattle.ngc_events.specs.declared.reply.Ending.TheVariants.{End}
 use Rattle.ngc_events.specs.declared.reply.Reply.TheVariants.{Ticked}
 use Rattle.ngc_behaviour.specs.State.{Job, opening}
@@ -38,18 +36,13 @@ pub record IsSmoothRun (job : Job) (events : List Event) (outcomes : List Outcom
 abbrev pub TellsEnd : List Outcome → Type 0
 TellsEnd outcomes = (before : List Outcome) × (outcomes ≡ before ++ Ok (Ticked None (Some End)) ∷ [])
 
--- it does where the last of these commands is the end
-abbrev pub TellsEndOf : List Command → List Outcome → Type 0
-TellsEndOf commands outcomes =
-    (k : ℕ) (c : Command) → suc k ≡ length commands → slice_get commands k ≡ Some c → c.action ≡ actions.End → TellsEnd outcomes
-
 -- every command is done at the end, which is told last, and what was written is the log of what came of all events
 pub record IsLoggedThrough (job : Job) (old new : Option (List ℕ)) (report : Report) : Type 0 where
   pub events : List Event
   pub outcomes : List Outcome
   pub smooth : IsSmoothRun job events outcomes
   pub done : (last_state (opening job.machine) smooth.run.states).done ≡ length job.commands
-  pub told : TellsEndOf job.commands outcomes
+  pub told : TellsEnd outcomes
   pub logged : Appends old new (log outcomes)
   pub reports : Reports job events outcomes report
 

@@ -2,6 +2,7 @@
 ghost use Rattle.std.specs.Prelude.{◌≡◌, ◌≤◌, ◌<◌, ◌+◌, ◌-◌, ◌*◌, ◌^◌, min, length, false, OnOk, OnErr, IfOk};
 ghost use Rattle.ngc_behaviour.specs.Headline.{job_of, RunsInTime, RunsSafely};
 ghost use Rattle.ngc_behaviour.specs.State.{RING, loaded, opening};
+ghost use Rattle.ngc_canonical.specs.Joined.{HasEnd};
 ghost use Rattle.ngc_canonical.specs.State.{COMMAND_LIMIT};
 ghost use Rattle.ngc_checker.specs.Accepted.{commands_at};
 ghost use Rattle.ngc_fixed_length.specs.Failures.{CountsFailure};
@@ -286,6 +287,7 @@ fn go_through<A: Allocator + Copy, W: Sink>(
     requires machine { IsMachine controller.old.job.machine }
     requires safe { RunsSafely controller.old.job }
     requires in_time { RunsInTime controller.old.job }
+    requires has_end { HasEnd controller.old.job.commands }
     requires count { count ≡ length controller.old.job.commands }
     requires few_commands { count ≤ COMMAND_LIMIT }
     ensures logged { IfOk result (IsLoggedThrough controller.old.job (W.written sink.old) (W.written sink.new)) }

@@ -1,11 +1,11 @@
-use Rattle.std.proofs.Common.{◌≡◌, ◌≤◌, ap, ap₂, sym, subst, ◌∙◌, Ok, Result, List, length, arith}
+use Rattle.std.proofs.Common.{rules, true, ◌≡◌, ◌≤◌, ap, ap₂, sym, subst, ◌∙◌, Ok, Result, List, length, arith}
 use Rattle.ngc_line_reader.specs.ProgramView.{text_in}
 use Rattle.ngc_machine.specs.Machine.{file_of}
 use Rattle.ngc_canonical.specs.declared.command.Command.{Command}
 use Rattle.ngc_canonical.specs.declared.fault.ProgramFault.{ProgramFault}
 use Rattle.ngc_canonical.specs.Meaning.{meaning, program_said, past_last, commands_of, GivesMeaning}
 use Rattle.ngc_canonical.specs.Interpreter.{setup_of, state_of}
-use Rattle.ngc_canonical.proofs.EndingLines.{line_ended, line_on, finished_ended}
+use Rattle.ngc_canonical.proofs.EndingLines.{line_ended, line_has_end, line_on, finished_ended, finished_has_end}
 use Rattle.ngc_canonical.proofs.JoinedLines.{went_on, handed_out, finished_joined, finished_radii, finished_few}
 use Rattle.ngc_canonical.proofs.Lines.{NextLine, next_line, line_at, bytes_at, seen, left_refused, left_ended, left_on, left_none, refused_fails}
 use Rattle.ngc_canonical.proofs.program.interpret.Goals as goal
@@ -111,3 +111,15 @@ returns-then-interpreter-clause-ended g c =
 pub returns-clause-ended : goal.returns-clause-ended
 returns-clause-ended g c =
     finished_ended c.mark_of.result c.len.result (state_of c.loop-index.interpreter) (λ v. v.items) c.finish.result c.loop-index.invariant.no_end c.finish.ensures
+
+pub returns-then-interpreter-clause-has_end : goal.returns-then-interpreter-clause-has_end
+returns-then-interpreter-clause-has_end g c =
+    let here = line_at (text_in c.args.program.now).lines c.loop-index.index c.number.result c.number.ensures in
+    let shows = seen here.line.bytes (c.load.ensures here.line.bytes (bytes_at _ c.loop-index.index c.number.result here)) c.view.ensures.deleted c.view.ensures.parts in
+    let over : c.take_line.new.self.ended ≡ true = search rules in
+    line_has_end (setup_of c.args.machine.now c.args.tools.now) c.args.block_delete c.number.result shows.reading (state_of c.loop-index.interpreter) (state_of c.take_line.new.self) _
+    c.loop-index.invariant.running c.loop-index.invariant.no_end (c.in-Ok-take_line.ensures here.line.bytes shows shows.reading shows.reads) over c.into_commands.ensures
+
+pub returns-clause-has_end : goal.returns-clause-has_end
+returns-clause-has_end g c =
+    finished_has_end c.mark_of.result c.len.result (state_of c.loop-index.interpreter) (λ v. v.items) c.finish.result c.loop-index.invariant.no_end c.finish.ensures

@@ -39,4 +39,4 @@ returns-clause-logged g c =
     let controller = c.args.controller.now in
     let new : AreNew controller.job controller.state c.new-recorder.result = new_recorder controller.job controller.state c.new-recorder.result _ c.requires.opens c.position.ensures c.new-recorder.ensures.report c.new-recorder.ensures.chunk in
     if_ok_both _ _ c.finish.result c.finish.ensures.report c.finish.ensures.ok
-    (λ report same wrote. through_logged _ _ _ _ _ _ _ _ _ report new c.requires.safe c.requires.in_time c.requires.count c.in-Ok.ensures.goes wrote same)
+    (λ report same wrote. through_logged _ _ _ _ _ _ _ _ _ report new c.requires.safe c.requires.in_time c.requires.has_end c.requires.count c.in-Ok.ensures.goes wrote same)

@@ -1,5 +1,5 @@
 use Rattle.ngc_run_log.proofs.Comes.{safe_of, in_time_of, opens_of}
-use Rattle.ngc_run_log.proofs.WholeRun.{machine_of, through_as, broken_off_as}
+use Rattle.ngc_run_log.proofs.WholeRun.{machine_of, end_of, through_as, broken_off_as}
 use Rattle.ngc_run_log.proofs.through.run_through.Goals as goal
 
 pub go_through-requires-clause-safe : goal.go_through-requires-clause-safe
@@ -13,6 +13,9 @@ go_through-requires-clause-opens g c = opens_of c.args.accepted c.args.block_del
 
 pub go_through-requires-clause-machine : goal.go_through-requires-clause-machine
 go_through-requires-clause-machine g c = machine_of c.args.accepted c.args.block_delete _ c.machine-machine.ensures.accepted c.in-Ok.ensures.made.0
+
+pub go_through-requires-clause-has_end : goal.go_through-requires-clause-has_end
+go_through-requires-clause-has_end g c = end_of c.args.accepted c.args.block_delete _ c.machine-machine.ensures.accepted c.in-Ok.ensures.made.0
 
 pub returns-in-Ok-go_through-clause-goes_through : goal.returns-in-Ok-go_through-clause-goes_through
 returns-in-Ok-go_through-clause-goes_through g c = through_as _ _ _ _ _ c.in-Ok.ensures.made.0 c.in-Ok-go_through.ensures.logged
