@@ -7,3 +7,4 @@ pub mod JoinedLines
 pub mod Ending
 pub mod EndingSteps
 pub mod EndingLines
+pub mod BlockDelete

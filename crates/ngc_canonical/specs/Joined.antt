@@ -1,12 +1,12 @@
 -- What holds of the commands of every program. Our own.
-use Rattle.std.specs.Prelude.{◌≡◌, ◌≤◌, List, [], ◌∷◌, ◌++◌, length, Ok, Bool}
+use Rattle.std.specs.Prelude.{◌≡◌, ◌≤◌, List, [], ◌∷◌, ◌++◌, length, Ok, Bool, true, false}
 use Rattle.ngc_arc_geometry.specs.Radii.{HasEvenRadii}
 use Rattle.ngc_canonical.specs.declared.command.Action.{Action}
 use Rattle.ngc_canonical.specs.declared.command.Action.TheVariants.{End}
 use Rattle.ngc_canonical.specs.declared.command.Command.{Command}
 use Rattle.ngc_canonical.specs.declared.movement.Way.{Way}
 use Rattle.ngc_canonical.specs.declared.movement.Way.TheVariants.{Line, Arc}
-use Rattle.ngc_canonical.specs.Meaning.{Program, meaning}
+use Rattle.ngc_canonical.specs.Meaning.{Program, meaning, has_deleted}
 use Rattle.ngc_canonical.specs.Movement.{actions_of, ways_of, AreJoined}
 use Rattle.ngc_canonical.specs.State.{Setup, COMMAND_LIMIT}
 
@@ -58,3 +58,7 @@ EndsLast = (program : Program) (setup : Setup) (block_delete : Bool) (commands :
 abbrev pub HaveEnd : Type 0
 HaveEnd = (program : Program) (setup : Setup) (block_delete : Bool) (commands : List Command) → meaning program setup block_delete ≡ Ok commands
     → HasEnd commands
+
+-- where no line begins with / a program means the same at both settings of block delete
+abbrev pub SameAtBoth : Type 0
+SameAtBoth = (program : Program) (setup : Setup) → has_deleted program.lines ≡ false → meaning program setup true ≡ meaning program setup false

@@ -1,5 +1,5 @@
 -- The meaning of a program: its commands, or its first fault and that fault's line (NISTIR 6556, 3.8 and 3.6.1).
-use Rattle.std.specs.Prelude.{◌≡◌, ℕ, ◌+◌, ℤ, List, [], ◌∷◌, length, Option, Some, None, Result, Ok, Err, Bool, true, false, ◌&&◌, if◌then◌else◌}
+use Rattle.std.specs.Prelude.{◌≡◌, ℕ, ◌+◌, ℤ, List, [], ◌∷◌, length, Option, Some, None, Result, Ok, Err, Bool, true, false, ◌&&◌, ◌||◌, if◌then◌else◌}
 use Rattle.ngc_line_reader.specs.Grammar.{Item, Reading}
 use Rattle.ngc_line_reader.specs.Program.{Line}
 use Rattle.ngc_line_reader.specs.ProgramText.{ProgramText}
@@ -58,6 +58,11 @@ abbrev pub remaining : Bool → List NumberedLine → List NumberedLine
 remaining block_delete [] = []
 remaining block_delete (line ∷ lines) =
     let rest = remaining block_delete lines in if block_delete && line.reading.deleted then rest else line ∷ rest
+
+-- a line begins with /
+abbrev pub has_deleted : List NumberedLine → Bool
+has_deleted [] = false
+has_deleted (line ∷ lines) = line.reading.deleted || has_deleted lines
 
 -- a line, unless block delete takes it out
 abbrev pub after_line : Setup → Bool → ℕ → Reading → State → Result State ProgramFault

@@ -1,5 +1,5 @@
 //! Laws about the definitions alone.
-ghost use Rattle.ngc_canonical.specs.Joined.{Joined, ArcsHaveEvenRadii, FewCommands, EndsLast, HaveEnd};
+ghost use Rattle.ngc_canonical.specs.Joined.{Joined, ArcsHaveEvenRadii, FewCommands, EndsLast, HaveEnd, SameAtBoth};
 
 /// The motions of a program are joined: the first begins at the machine's start point, and each further one where the motion
 /// before it ends.
@@ -26,4 +26,9 @@ pub fn ends_last()
 /// The last command of a program is the end.
 pub fn have_end()
     ensures { HaveEnd }
+{}
+
+/// A program of which no line begins with `/` means the same at both settings of block delete.
+pub fn same_at_both()
+    ensures { SameAtBoth }
 {}

@@ -4,6 +4,7 @@
 mod arcs;
 mod command;
 mod cycles;
+mod deleted;
 mod fault;
 mod interpreter;
 pub mod laws;
@@ -16,6 +17,7 @@ mod spindle;
 mod state;
 
 pub use command::{Action, Command, CoolantState, SpindleState};
+pub use deleted::has_deleted_lines;
 pub use fault::{Fault, ProgramFault};
 pub use movement::{Feed, Motion, Pace, Way};
 pub use ngc_machine::{FileFault, Fixture, Machine, Tool, Tools, row_machine};

@@ -213,6 +213,11 @@ on_refused view machine most off on clear entries refusal fault start here first
     at_on (refusals.NotCleared k) made = (Ok entries, Err k, first, made, ap (λ o. from_start o (join_settings (Ok entries) (Err k))) (sym (no_fixture machine clear start here)))
     at_on refusals.Memory made = tt
 
+-- what was copied was made too
+pub copied_made : (machine : MachineFile) (most : ℕ) (commands : List Command) (entries same : List Entry) → same ≡ entries →
+    IsSettingMade machine most commands (Ok entries) → IsSettingMade machine most commands (Ok same)
+copied_made machine most commands entries same is made = subst (λ (l : List Entry). IsSettingMade machine most commands (Ok l)) (sym is) made
+
 pub both_made : (machine : MachineFile) (most : ℕ) (off on : List Command) (clear : Bool) (off_entries on_entries : List Entry) →
     clear ≡ is_none (place_fault machine None (grid machine.step machine.start)) → clear ≡ true →
     IsSettingMade machine most off (Ok off_entries) → IsSettingMade machine most on (Ok on_entries) → IsMade machine most off on (Ok (record { off = off_entries; on = on_entries }))

@@ -183,3 +183,32 @@ pub fn make<A: Allocator + Copy>(
     };
     Ok(Certificate { off, on })
 }
+
+/// The same of a program that has these commands at both settings: what is found for one serves the other.
+pub fn make_alike<A: Allocator + Copy>(
+    alloc: A,
+    commands: &[Command],
+    machine: &Machine<A>,
+    cuts: u16,
+) -> Result<Certificate<A>, MakeFault>
+    requires cuts { 1 ≤ cuts }
+    requires count { length commands.now ≤ COMMAND_LIMIT }
+    ensures made { GivesMade said_of result (IsMade (file_of machine.now) cuts commands.now commands.now) }
+    ensures valid { IfOk result (λ c. IsValid (file_of machine.now) commands.now (said_of c).off × IsValid (file_of machine.now) commands.now (said_of c).on) }
+    ensures undivided { clears_undivided (file_of machine.now) commands.now ≡ true → MatchResult result (λ c. Unit {0}) (λ e. e ≡ MakeFault.Memory) }
+{
+    if !is_clear_at(machine, &None, &machine.start) {
+        return Err(MakeFault::NotCleared {
+            setting: Setting::Off,
+            command: 0,
+        });
+    }
+    let off = match setting_motions(alloc, commands, machine, cuts, &mut Vec::new(alloc)) {
+        Ok(motions) => motions,
+        Err(refusal) => return Err(fault_at(Setting::Off, refusal)),
+    };
+    match off.copy(alloc) {
+        Ok(on) => Ok(Certificate { off, on }),
+        Err(_) => Err(MakeFault::Memory),
+    }
+}

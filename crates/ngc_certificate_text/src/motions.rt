@@ -1,4 +1,4 @@
-ghost use Rattle.std.specs.Prelude.{◌≡◌, ◌<◌, ◌≤◌, ◌++◌, ◌∷◌, ◌↔◌, [], length, IsTrue, OnOk, OnErr};
+ghost use Rattle.std.specs.Prelude.{◌≡◌, ◌<◌, ◌≤◌, ◌++◌, ◌∷◌, ◌↔◌, [], length, IsTrue, IfOk, OnOk, OnErr};
 ghost use Rattle.std.specs.List.{list_all};
 ghost use Rattle.ngc_certificate_text.specs.Certificate.{IsEntry, entry_at, good_piece, MOTION_LIMIT, PIECE_LIMIT};
 
@@ -43,6 +43,15 @@ impl<A: Allocator + Copy> Motions<A> {
             held: Vec::new(alloc),
             pieces: Vec::new(alloc),
         }
+    }
+
+    /// The same motions, with memory of `alloc`.
+    pub fn copy(&self, alloc: A) -> Result<Motions<A>, AllocError>
+        ensures { IfOk result (λ m. m ≡ self.now) }
+    {
+        let held = Vec::from_slice(alloc, self.held.as_slice())?;
+        let pieces = Vec::from_slice(alloc, self.pieces.as_slice())?;
+        Ok(Motions { held, pieces })
     }
 }
 

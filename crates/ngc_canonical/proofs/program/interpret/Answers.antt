@@ -1,4 +1,4 @@
-use Rattle.std.proofs.Common.{rules, true, ◌≡◌, ◌≤◌, ap, ap₂, sym, subst, ◌∙◌, Ok, Result, List, length, arith}
+use Rattle.std.proofs.Common.{◌≡◌, ◌≤◌, ap, ap₂, sym, subst, ◌∙◌, Ok, Result, List, length, arith}
 use Rattle.ngc_line_reader.specs.ProgramView.{text_in}
 use Rattle.ngc_machine.specs.Machine.{file_of}
 use Rattle.ngc_canonical.specs.declared.command.Command.{Command}
@@ -116,9 +116,8 @@ pub returns-then-interpreter-clause-has_end : goal.returns-then-interpreter-clau
 returns-then-interpreter-clause-has_end g c =
     let here = line_at (text_in c.args.program.now).lines c.loop-index.index c.number.result c.number.ensures in
     let shows = seen here.line.bytes (c.load.ensures here.line.bytes (bytes_at _ c.loop-index.index c.number.result here)) c.view.ensures.deleted c.view.ensures.parts in
-    let over : c.take_line.new.self.ended ≡ true = search rules in
     line_has_end (setup_of c.args.machine.now c.args.tools.now) c.args.block_delete c.number.result shows.reading (state_of c.loop-index.interpreter) (state_of c.take_line.new.self) _
-    c.loop-index.invariant.running c.loop-index.invariant.no_end (c.in-Ok-take_line.ensures here.line.bytes shows shows.reading shows.reads) over c.into_commands.ensures
+    c.loop-index.invariant.running c.loop-index.invariant.no_end (c.in-Ok-take_line.ensures here.line.bytes shows shows.reading shows.reads) c.if-interpreter.true c.into_commands.ensures
 
 pub returns-clause-has_end : goal.returns-clause-has_end
 returns-clause-has_end g c =
