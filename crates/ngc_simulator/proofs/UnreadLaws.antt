@@ -1,24 +1,188 @@
--- Why the files of a run aren't read, from why each of them isn't.
-use Rattle.std.proofs.Common.{◌≡◌, ℕ, List, Option, Some, Result, Ok, inl, inr, subst, sym}
-use Rattle.ngc_machine.specs.Machine.{MachineFile, row_machine}
+-- Which file of a run isn't read, from what is told of each.
+use Rattle.std.proofs.Common.{◌≡◌, ℕ, List, [], ◌∷◌, ◌++◌, Option, Some, None, Result, Ok, Err, IfSome, inl, inr, refl, ap, subst, sym, ◌∙◌}
+use Rattle.std.specs.Prelude.{MatchOption, IsOk}
+use Rattle.ngc_certificate_text.specs.declared.fault.CertificateFault.{CertificateFault}
+use Rattle.ngc_certificate_text.specs.declared.fault.CertificateFault.TheVariants as texts
+use Rattle.ngc_input.specs.declared.fault.InputFault.{InputFault}
+use Rattle.ngc_line_reader.specs.declared.program.fault.ReadFault.{ReadFault}
+use Rattle.ngc_line_reader.specs.declared.program.fault.ReadFault.TheVariants as reads
+use Rattle.ngc_machine.specs.Machine.{MachineFile}
 use Rattle.ngc_machine.specs.MachineText.{machine_file}
-use Rattle.ngc_simulator.specs.Setups.{FileBytes, KeepsFiles, IfMachine}
-use Rattle.ngc_simulator.specs.Shops.{tools_answer}
-use Rattle.ngc_simulator.specs.Unread.{IsRead, TellsSetupUnread, TellsShopUnread}
+use Rattle.ngc_machine.specs.ToolText.{tool_table}
+use Rattle.ngc_simulator.specs.Setups.{FileBytes, IfMachine, KeepsFiles}
+use Rattle.ngc_simulator.specs.Shops.{GivesShop, machine_answer, tools_answer}
+use Rattle.ngc_simulator.specs.Jobs.{NeverReads}
+use Rattle.ngc_simulator.specs.Running.{ReadsNoFile}
+use Rattle.ngc_simulator.specs.Unread.{Kind, OfMachine, OfTools, OfProgram, OfCertificate, IsReadAs, Input, setup_input, shop_inputs, AtFirst, TellsKindUnread, TellsFirstUnread, FailsBy, FailsByInput, program_unread, certificate_unread, setup_unread}
+use Rattle.ngc_simulator.specs.declared.certifier.CertifyFault.{CertifyFault}
+use Rattle.ngc_simulator.specs.declared.certifier.CertifyFault.TheVariants as certifies
+use Rattle.ngc_simulator.specs.declared.checking.CheckingFault.{CheckingFault}
+use Rattle.ngc_simulator.specs.declared.checking.CheckingFault.TheVariants as checks
 use Rattle.ngc_simulator.specs.declared.fault.AnswerFault.{AnswerFault}
+use Rattle.ngc_simulator.specs.declared.fault.AnswerFault.TheVariants as answers
 use Rattle.ngc_simulator.specs.declared.fault.SetupFault.{SetupFault}
 use Rattle.ngc_simulator.specs.declared.fault.SetupFault.TheVariants.{Refused, Unread}
-use Rattle.ngc_simulator.proofs.SetupLaws.{said_weaker}
+use Rattle.ngc_simulator.specs.declared.lister.ListFault.{ListFault}
+use Rattle.ngc_simulator.specs.declared.lister.ListFault.TheVariants as lists
+use Rattle.ngc_simulator.specs.declared.running.RunningFault.{RunningFault}
+use Rattle.ngc_simulator.specs.declared.running.RunningFault.TheVariants as running
+use Rattle.ngc_simulator.specs.declared.setup.Shop.{Shop}
+use Rattle.ngc_simulator.proofs.JobLaws.{if_known}
+
+-- each of these files is read
+abbrev pub AllRead : FileBytes → List Input → Type 0
+AllRead bytes [] = Unit {0}
+AllRead bytes (input ∷ more) = IfSome (bytes input.name) (IsReadAs input.kind) × AllRead bytes more
+
+-- what one file by itself, or the only one of some, tells
+abbrev pub Told : (Option (List ℕ) → Type 0) → FileBytes → List Input → ℕ → ℕ → Option InputFault → Type 0
+Told fails bytes files old new why = MatchOption why (new ≡ old) (TellsFirstUnread fails bytes files old new)
+
+pub first_before : (P : Kind → Option (List ℕ) → Type 0) (bytes : FileBytes) (files more : List Input) → AtFirst P bytes files → AtFirst P bytes (files ++ more)
+first_before P bytes [] more first = absurd first
+first_before P bytes (input ∷ files) more (inl p) = inl p
+first_before P bytes (input ∷ files) more (inr (read, first)) = inr (read, first_before P bytes files more first)
+
+pub first_behind : (P : Kind → Option (List ℕ) → Type 0) (bytes : FileBytes) (files more : List Input) → AllRead bytes files → AtFirst P bytes more → AtFirst P bytes (files ++ more)
+first_behind P bytes [] more all first = first
+first_behind P bytes (input ∷ files) more (read, all) first = inr (read, first_behind P bytes files more all first)
+
+pub all_read : (bytes : FileBytes) (files more : List Input) → AllRead bytes files → AllRead bytes more → AllRead bytes (files ++ more)
+all_read bytes [] more all all_more = all_more
+all_read bytes (input ∷ files) more (read, all) all_more = (read, all_read bytes files more all all_more)
+
+-- further files stand behind
+pub told_before : (fails : Option (List ℕ) → Type 0) (bytes : FileBytes) (files more : List Input) (old new : ℕ) (why : Option InputFault)
+    → Told fails bytes files old new why → Told fails bytes (files ++ more) old new why
+told_before fails bytes files more old new None told = told
+told_before fails bytes files more old new (Some fault) told = first_before (λ kind known. TellsKindUnread fails kind known old new fault) bytes files more told
+
+-- a file by itself, behind files that were read and before others
+pub told_behind : (fails : Option (List ℕ) → Type 0) (bytes after : FileBytes) (files : List Input) (kind : Kind) (name : Option (List ℕ)) (more : List Input) (old mid new : ℕ) (why : Option InputFault)
+    → AllRead bytes files → after name ≡ bytes name → mid ≡ old
+    → Told fails after (record { kind = kind; name = name } ∷ []) mid new why → Told fails bytes (files ++ record { kind = kind; name = name } ∷ more) old new why
+told_behind fails bytes after files kind name more old mid new None all same_bytes same told = told ∙ same
+told_behind fails bytes after files kind name more old mid new (Some fault) all same_bytes same (inl tells) =
+    first_behind (λ k known. TellsKindUnread fails k known old new fault) bytes files (record { kind = kind; name = name } ∷ more) all
+    (inl (subst (λ n. TellsKindUnread fails kind (bytes name) n new fault) same (subst (λ (known : Option (List ℕ)). TellsKindUnread fails kind known mid new fault) same_bytes tells)))
+told_behind fails bytes after files kind name more old mid new (Some fault) all same_bytes same (inr (read, none)) = absurd none
+
+-- ---- that a file was read
+
+is_ok_of : {T E : Type 0} (says : Result T E) (value : T) → says ≡ Ok value → IsOk says
+is_ok_of says value is = subst IsOk (sym is) refl
+
+-- a file said something
+pub is_read : {T E : Type 0} (read : List ℕ → Result T E) (value : T) (known source : Option (List ℕ)) → source ≡ known
+    → IfSome source (λ text. read text ≡ Ok value) → IfSome known (λ text. IsOk (read text))
+is_read read value known source same said =
+    if_known known (λ text. read text ≡ Ok value) (λ text. IsOk (read text)) (λ text is. is_ok_of (read text) value is)
+    (subst (λ (k : Option (List ℕ)). IfSome k (λ text. read text ≡ Ok value)) same said)
+
+pub shop_read : (bytes : FileBytes) (machine tools : Option (List ℕ)) (shop : Shop) → GivesShop bytes machine tools (Ok shop) → AllRead bytes (shop_inputs machine tools)
+shop_read bytes None None shop said = tt
+shop_read bytes None (Some t) shop said = (is_read tool_table _ (bytes (Some t)) (bytes (Some t)) refl said.1, tt)
+shop_read bytes (Some m) None shop said = (is_read machine_file _ (bytes (Some m)) (bytes (Some m)) refl said.0, tt)
+shop_read bytes (Some m) (Some t) shop said =
+    (is_read machine_file _ (bytes (Some m)) (bytes (Some m)) refl said.0, (is_read tool_table _ (bytes (Some t)) (bytes (Some t)) refl said.1, tt))
+
+-- ---- the machine file and the tool table
+
+pub machine_told : (fails : Option (List ℕ) → Type 0) (bytes : FileBytes) (machine tools : Option (List ℕ)) (old new : ℕ) (fault : SetupFault) (answer : AnswerFault)
+    → answer ≡ machine_answer fault → Told fails bytes (setup_input OfMachine machine) old new (setup_unread fault)
+    → FailsByInput {T = Shop} fails bytes (shop_inputs machine tools) old new (Err answer)
+machine_told fails bytes machine tools old new fault answer is told =
+    subst (λ a. FailsByInput {T = Shop} fails bytes (shop_inputs machine tools) old new (Err a)) (sym is) (of_fault fault told)
+  where
+    of_fault : (fault : SetupFault) → Told fails bytes (setup_input OfMachine machine) old new (setup_unread fault)
+        → FailsByInput {T = Shop} fails bytes (shop_inputs machine tools) old new (Err (machine_answer fault))
+    of_fault (Refused e) told = told
+    of_fault (Unread e) told = told_before fails bytes (setup_input OfMachine machine) (setup_input OfTools tools) old new (Some e) told
 
 -- the tool table, behind a machine file that was read
-pub tools_unread : (fails : Option (List ℕ) → Type 0) (bytes after : FileBytes) (machine tools : Option (List ℕ)) (old mid new : ℕ) (m : MachineFile) (fault : SetupFault) (answer : AnswerFault)
-    → answer ≡ tools_answer fault → IfMachine bytes machine (λ says. says ≡ Ok m) → KeepsFiles bytes after → mid ≡ old
-    → TellsSetupUnread fails (after tools) mid new fault → TellsShopUnread fails bytes machine tools old new answer
-tools_unread fails bytes after machine tools old mid new m fault answer is said keeps same tells =
-    subst (TellsShopUnread fails bytes machine tools old new) (sym is)
-    (of_fault fault (subst (λ n. TellsSetupUnread fails (bytes tools) n new fault) same (subst (λ (known : Option (List ℕ)). TellsSetupUnread fails known mid new fault) (keeps tools) tells)))
+pub tools_told : (fails : Option (List ℕ) → Type 0) (bytes after : FileBytes) (machine tools : Option (List ℕ)) (old mid new : ℕ) (fault : SetupFault) (answer : AnswerFault)
+    → answer ≡ tools_answer fault → AllRead bytes (setup_input OfMachine machine) → KeepsFiles bytes after → mid ≡ old
+    → Told fails after (setup_input OfTools tools) mid new (setup_unread fault)
+    → FailsByInput {T = Shop} fails bytes (shop_inputs machine tools) old new (Err answer)
+tools_told fails bytes after machine tools old mid new fault answer is read keeps same told =
+    subst (λ a. FailsByInput {T = Shop} fails bytes (shop_inputs machine tools) old new (Err a)) (sym is) (of_fault tools fault told)
   where
-    of_fault : (fault : SetupFault) → TellsSetupUnread fails (bytes tools) old new fault → TellsShopUnread fails bytes machine tools old new (tools_answer fault)
-    of_fault (Refused e) tells = tells
-    of_fault (Unread e) tells =
-        inr (said_weaker machine_file row_machine bytes machine (λ says. says ≡ Ok m) IsRead (λ says is. (m, is)) said, tells)
+    of_fault : (tools : Option (List ℕ)) (fault : SetupFault) → Told fails after (setup_input OfTools tools) mid new (setup_unread fault)
+        → FailsByInput {T = Shop} fails bytes (shop_inputs machine tools) old new (Err (tools_answer fault))
+    of_fault tools (Refused e) told = told ∙ same
+    of_fault None (Unread e) told = absurd told
+    of_fault (Some name) (Unread e) told =
+        told_behind fails bytes after (setup_input OfMachine machine) OfTools (Some name) [] old mid new (Some e) read (keeps (Some name)) same told
+
+pub machine_read : (bytes : FileBytes) (machine : Option (List ℕ)) (m : MachineFile) → IfMachine bytes machine (λ says. says ≡ Ok m) → AllRead bytes (setup_input OfMachine machine)
+machine_read bytes None m said = tt
+machine_read bytes (Some name) m said = (is_read machine_file m (bytes (Some name)) (bytes (Some name)) refl said, tt)
+
+-- ---- programs and certificates
+
+-- of the source that a program was read from
+pub program_failed : (fails : Option (List ℕ) → Type 0) (bytes : FileBytes) (name : Option (List ℕ)) (old new : ℕ) (fault : ReadFault)
+    → new ≡ old → (fault ≡ reads.Device → fails (bytes name)) → Told fails bytes (record { kind = OfProgram; name = name } ∷ []) old new (program_unread fault)
+program_failed fails bytes name old new (reads.Line line e) same failed = same
+program_failed fails bytes name old new reads.NoEnd same failed = same
+program_failed fails bytes name old new reads.TooManyLines same failed = same
+program_failed fails bytes name old new reads.Memory same failed = same
+program_failed fails bytes name old new reads.Device same failed = inl (inr (same, failed refl))
+
+pub program_tried : {T : Type 0} (fails : Option (List ℕ) → Type 0) (bytes : FileBytes) (name : Option (List ℕ)) (old new : ℕ) (outcome : Result T ReadFault)
+    → new ≡ old → (outcome ≡ Err reads.Device → fails (bytes name)) → FailsBy program_unread fails bytes (record { kind = OfProgram; name = name } ∷ []) old new outcome
+program_tried fails bytes name old new (Ok program) same failed = same
+program_tried fails bytes name old new (Err fault) same failed = program_failed fails bytes name old new fault same (λ is. failed (ap Err is))
+
+-- of the source that a certificate was read from
+pub certificate_failed : (fails : Option (List ℕ) → Type 0) (bytes : FileBytes) (name : Option (List ℕ)) (old new : ℕ) (fault : CertificateFault)
+    → new ≡ old → (fault ≡ texts.ReadFailed → fails (bytes name)) → Told fails bytes (record { kind = OfCertificate; name = name } ∷ []) old new (certificate_unread fault)
+certificate_failed fails bytes name old new texts.Memory same failed = same
+certificate_failed fails bytes name old new texts.WrongHeader same failed = same
+certificate_failed fails bytes name old new (texts.BadLine line) same failed = same
+certificate_failed fails bytes name old new (texts.OutOfRange line) same failed = same
+certificate_failed fails bytes name old new texts.ReadFailed same failed = inl (inr (same, failed refl))
+
+pub certificate_tried : {T : Type 0} (fails : Option (List ℕ) → Type 0) (bytes : FileBytes) (name : Option (List ℕ)) (old new : ℕ) (outcome : Result T CertificateFault)
+    → new ≡ old → (outcome ≡ Err texts.ReadFailed → fails (bytes name)) → FailsBy certificate_unread fails bytes (record { kind = OfCertificate; name = name } ∷ []) old new outcome
+certificate_tried fails bytes name old new (Ok certificate) same failed = same
+certificate_tried fails bytes name old new (Err fault) same failed = certificate_failed fails bytes name old new fault same (λ is. failed (ap Err is))
+
+-- ---- what a fault of a command tells, where its last file was opened behind files that were read
+
+pub list_told : (fails : Option (List ℕ) → Type 0) (bytes : FileBytes) (files : List Input) (name : Option (List ℕ)) (old new : ℕ) (fault : ListFault)
+    → AllRead bytes files → new ≡ old → (fault ≡ lists.Read reads.Device → fails (bytes name))
+    → FailsByInput {T = Unit {0}} fails bytes (files ++ record { kind = OfProgram; name = name } ∷ []) old new (Err (answers.List fault))
+list_told fails bytes files name old new (lists.Read e) all same failed =
+    told_behind fails bytes bytes files OfProgram name [] old old new (program_unread e) all refl refl
+    (program_failed fails bytes name old new e same (λ is. failed (ap lists.Read is)))
+list_told fails bytes files name old new (lists.Program e) all same failed = same
+list_told fails bytes files name old new (lists.Write e) all same failed = same
+
+pub certify_told : (fails : Option (List ℕ) → Type 0) (bytes : FileBytes) (files : List Input) (name : Option (List ℕ)) (old new : ℕ) (fault : CertifyFault)
+    → AllRead bytes files → new ≡ old → (fault ≡ certifies.Read reads.Device → fails (bytes name))
+    → FailsByInput {T = Unit {0}} fails bytes (files ++ record { kind = OfProgram; name = name } ∷ []) old new (Err (answers.Certify fault))
+certify_told fails bytes files name old new (certifies.Read e) all same failed =
+    told_behind fails bytes bytes files OfProgram name [] old old new (program_unread e) all refl refl
+    (program_failed fails bytes name old new e same (λ is. failed (ap certifies.Read is)))
+certify_told fails bytes files name old new (certifies.Program setting e) all same failed = same
+certify_told fails bytes files name old new (certifies.Make e) all same failed = same
+certify_told fails bytes files name old new (certifies.Write e) all same failed = same
+
+pub check_told : (fails : Option (List ℕ) → Type 0) (bytes : FileBytes) (files : List Input) (name : Option (List ℕ)) (old new : ℕ) (fault : CheckingFault)
+    → NeverReads {T = Unit {0}} (Err fault) → AllRead bytes files → new ≡ old → (fault ≡ checks.Certificate texts.ReadFailed → fails (bytes name))
+    → FailsByInput {T = Unit {0}} fails bytes (files ++ record { kind = OfCertificate; name = name } ∷ []) old new (Err (answers.Check fault))
+check_told fails bytes files name old new (checks.Read e) never all same failed = absurd never
+check_told fails bytes files name old new (checks.Certificate e) never all same failed =
+    told_behind fails bytes bytes files OfCertificate name [] old old new (certificate_unread e) all refl refl
+    (certificate_failed fails bytes name old new e same (λ is. failed (ap checks.Certificate is)))
+check_told fails bytes files name old new (checks.Check e) never all same failed = same
+check_told fails bytes files name old new (checks.Write e) never all same failed = same
+
+pub run_told : (fails : Option (List ℕ) → Type 0) (bytes : FileBytes) (files : List Input) (old new : ℕ) (fault : RunningFault)
+    → ReadsNoFile {T = Unit {0}} (Err fault) → new ≡ old → FailsByInput {T = Unit {0}} fails bytes files old new (Err (answers.Run fault))
+run_told fails bytes files old new (running.Read e) never same = absurd never
+run_told fails bytes files old new (running.Certificate e) never same = absurd never
+run_told fails bytes files old new (running.Events e) never same = same
+run_told fails bytes files old new (running.Check e) never same = same
+run_told fails bytes files old new (running.Run e) never same = same

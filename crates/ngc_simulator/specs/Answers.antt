@@ -1,5 +1,5 @@
 -- What a run of the program comes to.
-use Rattle.std.specs.Prelude.{◌≡◌, ◌⊎◌, ℕ, List, Option, Some, Result, Ok, Err, IfSome, option_map}
+use Rattle.std.specs.Prelude.{◌≡◌, ◌⊎◌, ℕ, List, [], ◌∷◌, ◌++◌, Option, Some, Result, Ok, Err, IfSome, option_map}
 use Rattle.std.specs.Io.KnownBytes.{Appends, Keeps}
 use Rattle.ngc_command_line.specs.declared.options.ListOptions.{ListOptions}
 use Rattle.ngc_command_line.specs.declared.options.CertifyOptions.{CertifyOptions}
@@ -23,6 +23,7 @@ use Rattle.ngc_simulator.specs.Jobs.{Certifies, FailsByCertifying, Checks, Fails
 use Rattle.ngc_simulator.specs.Running.{Runs, RunsThrough, FailsByRunning}
 use Rattle.ngc_simulator.specs.Setups.{FileBytes, OnSetup}
 use Rattle.ngc_simulator.specs.Shops.{RefusesShop}
+use Rattle.ngc_simulator.specs.Unread.{Input, OfProgram, OfCertificate, OfEvents, shop_inputs, FailsByInput}
 
 -- what `list`, `certify`, `check` and `run` come to on the files that they name
 abbrev pub ListsOn : FileBytes → ListOptions → Option (List ℕ) → Option (List ℕ) → Result (Unit {0}) ListFault → Type 0
@@ -103,6 +104,47 @@ FailsByOutput (Err (answers.Machine fault)) old new = new ≡ old
 FailsByOutput (Err (answers.Tools fault)) old new = new ≡ old
 FailsByOutput (Err (answers.Input fault)) old new = new ≡ old
 
+-- the files of a command, in the order in which they are read
+abbrev pub program_input : Option (List ℕ) → Input
+program_input name = record { kind = OfProgram; name = name }
+
+abbrev pub certificate_input : List ℕ → Input
+certificate_input name = record { kind = OfCertificate; name = Some name }
+
+abbrev pub events_input : List ℕ → Input
+events_input name = record { kind = OfEvents; name = Some name }
+
+abbrev pub list_inputs : ListOptions → List Input
+list_inputs options =
+    shop_inputs (option_map (λ name. name.now) options.machine) (option_map (λ name. name.now) options.tools)
+    ++ program_input (option_map (λ name. name.now) options.program) ∷ []
+
+abbrev pub certify_inputs : CertifyOptions → List Input
+certify_inputs options =
+    shop_inputs (Some options.machine.now) (Some options.tools.now) ++ program_input (option_map (λ name. name.now) options.program) ∷ []
+
+abbrev pub check_inputs : CheckOptions → List Input
+check_inputs options =
+    shop_inputs (Some options.machine.now) (Some options.tools.now)
+    ++ program_input (option_map (λ name. name.now) options.program) ∷ certificate_input options.certificate.now ∷ []
+
+abbrev pub run_inputs : RunOptions → List Input
+run_inputs options =
+    shop_inputs (Some options.machine.now) (Some options.tools.now)
+    ++ program_input (option_map (λ name. name.now) options.program) ∷ certificate_input options.certificate.now ∷ events_input options.events.now ∷ []
+
+abbrev pub run_through_inputs : RunThroughOptions → List Input
+run_through_inputs options =
+    shop_inputs (Some options.machine.now) (Some options.tools.now)
+    ++ program_input (option_map (λ name. name.now) options.program) ∷ certificate_input options.certificate.now ∷ []
+
+abbrev pub inputs_of : Options → List Input
+inputs_of (commands.List options) = list_inputs options
+inputs_of (commands.Certify options) = certify_inputs options
+inputs_of (commands.Check options) = check_inputs options
+inputs_of (commands.Run options) = run_inputs options
+inputs_of (commands.RunThrough options) = run_through_inputs options
+
 -- What a sink had taken and has taken now, where it is known, and how often it had failed and has failed now.
 pub record Taking : Type 0 where
   pub old : Option (List ℕ)
@@ -126,10 +168,19 @@ abbrev pub Tells : Result (Unit {0}) AnswerFault → Taking → Type 0
 Tells (Ok u) sink = (sink.new ≡ sink.old) × (sink.failures_now ≡ sink.failures)
 Tells (Err fault) sink = Takes sink (fault_line fault)
 
--- What the run came to, with the output, the status and the second sink that go with it.
-pub record Answers (bytes : FileBytes) (options : Options) (output errors : Taking) (status : ℕ) : Type 0 where
+-- What files are given: their bytes, where they are known, which of them have a source that fails, and how often one couldn't be
+-- opened before and now.
+pub record Given : Type 1 where
+  pub bytes : FileBytes
+  pub fails : Option (List ℕ) → Type 0
+  pub failures : ℕ
+  pub failures_now : ℕ
+
+-- What the run came to, with the files that weren't read, the output, the status and the second sink that go with it.
+pub record Answers (files : Given) (options : Options) (output errors : Taking) (status : ℕ) : Type 0 where
   pub outcome : Result (Unit {0}) AnswerFault
-  pub comes : ComesBy bytes options output.old output.new outcome
+  pub comes : ComesBy files.bytes options output.old output.new outcome
+  pub unread : FailsByInput files.fails files.bytes (inputs_of options) files.failures files.failures_now outcome
   pub counts : FailsByOutput outcome output.failures output.failures_now
   pub says : status ≡ status_of outcome
   pub tells : Tells outcome errors

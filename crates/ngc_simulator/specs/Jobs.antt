@@ -132,3 +132,11 @@ FailsByChecking (Err (checks.Read fault)) old new = new ≡ old
 FailsByChecking (Err (checks.Certificate fault)) old new = new ≡ old
 FailsByChecking (Err (checks.Check fault)) old new = new ≡ old
 FailsByChecking (Err (checks.Write fault)) old new = Rises old new
+
+-- the program is given, and so isn't read
+abbrev pub NeverReads : {T : Type 0} → Result T CheckingFault → Type 0
+NeverReads (Ok value) = Unit {0}
+NeverReads (Err (checks.Read fault)) = ⊥
+NeverReads (Err (checks.Certificate fault)) = Unit {0}
+NeverReads (Err (checks.Check fault)) = Unit {0}
+NeverReads (Err (checks.Write fault)) = Unit {0}

@@ -102,3 +102,12 @@ FailsByRunning (Err (running.Certificate fault)) old new = new ≡ old
 FailsByRunning (Err (running.Events fault)) old new = new ≡ old
 FailsByRunning (Err (running.Check fault)) old new = new ≡ old
 FailsByRunning (Err (running.Run fault)) old new = FailsByWriting (Err fault) old new
+
+-- program and certificate are given, and so aren't read
+abbrev pub ReadsNoFile : {T : Type 0} → Result T RunningFault → Type 0
+ReadsNoFile (Ok value) = Unit {0}
+ReadsNoFile (Err (running.Read fault)) = ⊥
+ReadsNoFile (Err (running.Certificate fault)) = ⊥
+ReadsNoFile (Err (running.Events fault)) = Unit {0}
+ReadsNoFile (Err (running.Check fault)) = Unit {0}
+ReadsNoFile (Err (running.Run fault)) = Unit {0}

@@ -1,18 +1,66 @@
--- Why a file isn't read. Our own.
-use Rattle.std.specs.Prelude.{◌≡◌, ◌<◌, ◌⊎◌, ℕ, List, length, Option, Result, Ok, IfSome}
+-- Which file isn't read, and why. Our own.
+use Rattle.std.specs.Prelude.{◌≡◌, ◌<◌, ◌⊎◌, ℕ, List, [], ◌∷◌, ◌++◌, length, Option, Some, None, MatchOption, Result, Ok, Err, IsOk, IfSome}
+use Rattle.ngc_certificate_text.specs.Said.{certificate_said}
+use Rattle.ngc_certificate_text.specs.declared.fault.CertificateFault.{CertificateFault}
+use Rattle.ngc_certificate_text.specs.declared.fault.CertificateFault.TheVariants as texts
+use Rattle.ngc_events.specs.Events.{events_said}
 use Rattle.ngc_fixed_length.specs.Failures.{Rises}
 use Rattle.ngc_input.specs.declared.fault.InputFault.{InputFault}
 use Rattle.ngc_input.specs.declared.fault.InputFault.TheVariants as inputs
-use Rattle.ngc_machine.specs.declared.fault.FileFault.{FileFault}
+use Rattle.ngc_line_reader.specs.ProgramText.{program_of}
+use Rattle.ngc_line_reader.specs.declared.program.fault.ReadFault.{ReadFault}
+use Rattle.ngc_line_reader.specs.declared.program.fault.ReadFault.TheVariants as reads
+use Rattle.ngc_machine.specs.MachineText.{machine_file}
+use Rattle.ngc_machine.specs.ToolText.{tool_table}
+use Rattle.ngc_simulator.specs.declared.certifier.CertifyFault.TheVariants as certifies
+use Rattle.ngc_simulator.specs.declared.checking.CheckingFault.TheVariants as checks
 use Rattle.ngc_simulator.specs.declared.fault.AnswerFault.{AnswerFault}
 use Rattle.ngc_simulator.specs.declared.fault.AnswerFault.TheVariants as answers
 use Rattle.ngc_simulator.specs.declared.fault.SetupFault.{SetupFault}
 use Rattle.ngc_simulator.specs.declared.fault.SetupFault.TheVariants.{Refused, Unread}
-use Rattle.ngc_simulator.specs.Setups.{FileBytes, IfMachine}
+use Rattle.ngc_simulator.specs.declared.lister.ListFault.TheVariants as lists
+use Rattle.ngc_simulator.specs.declared.running.RunningFault.TheVariants as running
+use Rattle.ngc_simulator.specs.declared.setup.TheConstants.{FILE_LIMIT}
+use Rattle.ngc_simulator.specs.Setups.{FileBytes}
 
--- how many bytes of a machine file, a tool table or an events file are read
-abbrev pub LONGEST_FILE : ℕ
-LONGEST_FILE = 20000000
+-- ---- the files of a command
+
+-- what a file is read as
+pub data Kind : Type 0 where
+  OfMachine : Kind
+  OfTools : Kind
+  OfProgram : Kind
+  OfCertificate : Kind
+  OfEvents : Kind
+
+-- what a text is read as is not refused
+abbrev pub IsReadAs : Kind → List ℕ → Type 0
+IsReadAs OfMachine text = IsOk (machine_file text)
+IsReadAs OfTools text = IsOk (tool_table text)
+IsReadAs OfProgram text = IsOk (program_of text)
+IsReadAs OfCertificate text = IsOk (certificate_said text)
+IsReadAs OfEvents text = IsOk (events_said text)
+
+-- a file that a command reads: what it is read as, and its name, or standard input
+pub record Input : Type 0 where
+  pub kind : Kind
+  pub name : Option (List ℕ)
+
+-- a machine file or a tool table, where one is named
+abbrev pub setup_input : Kind → Option (List ℕ) → List Input
+setup_input kind None = []
+setup_input kind (Some name) = record { kind = kind; name = Some name } ∷ []
+
+abbrev pub shop_inputs : Option (List ℕ) → Option (List ℕ) → List Input
+shop_inputs machine tools = setup_input OfMachine machine ++ setup_input OfTools tools
+
+-- P of one of these files, and those before it are read and not refused
+abbrev pub AtFirst : (Kind → Option (List ℕ) → Type 0) → FileBytes → List Input → Type 0
+AtFirst P bytes [] = ⊥
+AtFirst P bytes (input ∷ more) =
+    P input.kind (bytes input.name) ⊎ (IfSome (bytes input.name) (IsReadAs input.kind) × AtFirst P bytes more)
+
+-- ---- why a file isn't read
 
 -- a source that gave these bytes when it was opened failed later on
 pub record SourceFails {S : Type 0} (remaining : S → Option (List ℕ)) (failures : S → ℕ) (known : Option (List ℕ)) : Type 0 where
@@ -29,23 +77,53 @@ IsUnread fails known old new = Rises old new ⊎ ((new ≡ old) × fails known)
 abbrev pub TellsUnread : (Option (List ℕ) → Type 0) → Option (List ℕ) → ℕ → ℕ → InputFault → Type 0
 TellsUnread fails known old new inputs.Memory = new ≡ old
 TellsUnread fails known old new inputs.Device = IsUnread fails known old new
-TellsUnread fails known old new inputs.TooLong = (new ≡ old) × IfSome known (λ bytes. LONGEST_FILE < length bytes)
+TellsUnread fails known old new inputs.TooLong = (new ≡ old) × IfSome known (λ bytes. FILE_LIMIT < length bytes)
 
-abbrev pub TellsSetupUnread : (Option (List ℕ) → Type 0) → Option (List ℕ) → ℕ → ℕ → SetupFault → Type 0
-TellsSetupUnread fails known old new (Refused fault) = new ≡ old
-TellsSetupUnread fails known old new (Unread fault) = TellsUnread fails known old new fault
+-- the same of a file that is read as such; a program and a certificate are never too long
+abbrev pub TellsKindUnread : (Option (List ℕ) → Type 0) → Kind → Option (List ℕ) → ℕ → ℕ → InputFault → Type 0
+TellsKindUnread fails OfProgram known old new inputs.TooLong = ⊥
+TellsKindUnread fails OfCertificate known old new inputs.TooLong = ⊥
+TellsKindUnread fails kind known old new fault = TellsUnread fails known old new fault
 
--- what a file says is no refusal
-abbrev pub IsRead : {T : Type 0} → Result T FileFault → Type 0
-IsRead {T = T} says = (value : T) × (says ≡ Ok value)
+-- the first of these files that isn't read
+abbrev pub TellsFirstUnread : (Option (List ℕ) → Type 0) → FileBytes → List Input → ℕ → ℕ → InputFault → Type 0
+TellsFirstUnread fails bytes files old new fault = AtFirst (λ kind known. TellsKindUnread fails kind known old new fault) bytes files
 
--- the machine file isn't read, or it is and the tool table isn't
-abbrev pub TellsShopUnread : (Option (List ℕ) → Type 0) → FileBytes → Option (List ℕ) → Option (List ℕ) → ℕ → ℕ → AnswerFault → Type 0
-TellsShopUnread fails bytes machine tools old new (answers.Input fault) =
-    TellsUnread fails (bytes machine) old new fault ⊎ (IfMachine bytes machine IsRead × TellsUnread fails (bytes tools) old new fault)
-TellsShopUnread fails bytes machine tools old new (answers.Machine fault) = new ≡ old
-TellsShopUnread fails bytes machine tools old new (answers.Tools fault) = new ≡ old
-TellsShopUnread fails bytes machine tools old new (answers.List fault) = new ≡ old
-TellsShopUnread fails bytes machine tools old new (answers.Certify fault) = new ≡ old
-TellsShopUnread fails bytes machine tools old new (answers.Check fault) = new ≡ old
-TellsShopUnread fails bytes machine tools old new (answers.Run fault) = new ≡ old
+-- ---- what a fault says of it: 901, and 900 where a file is read whole; other faults say that all that was opened was read
+
+abbrev pub program_unread : ReadFault → Option InputFault
+program_unread (reads.Line line fault) = None
+program_unread reads.NoEnd = None
+program_unread reads.TooManyLines = None
+program_unread reads.Memory = None
+program_unread reads.Device = Some inputs.Device
+
+abbrev pub certificate_unread : CertificateFault → Option InputFault
+certificate_unread texts.Memory = None
+certificate_unread texts.ReadFailed = Some inputs.Device
+certificate_unread texts.WrongHeader = None
+certificate_unread (texts.BadLine line) = None
+certificate_unread (texts.OutOfRange line) = None
+
+abbrev pub setup_unread : SetupFault → Option InputFault
+setup_unread (Refused fault) = None
+setup_unread (Unread fault) = Some fault
+
+abbrev pub unread_by : AnswerFault → Option InputFault
+unread_by (answers.Input fault) = Some fault
+unread_by (answers.List (lists.Read fault)) = program_unread fault
+unread_by (answers.Certify (certifies.Read fault)) = program_unread fault
+unread_by (answers.Check (checks.Read fault)) = program_unread fault
+unread_by (answers.Check (checks.Certificate fault)) = certificate_unread fault
+unread_by (answers.Run (running.Read fault)) = program_unread fault
+unread_by (answers.Run (running.Certificate fault)) = certificate_unread fault
+unread_by _ = None
+
+-- The count of files that couldn't be opened rose where one couldn't, and else it is what it was. Where the outcome tells that a file
+-- isn't read, the first one that isn't is so.
+abbrev pub FailsBy : {T E : Type 0} → (E → Option InputFault) → (Option (List ℕ) → Type 0) → FileBytes → List Input → ℕ → ℕ → Result T E → Type 0
+FailsBy unread fails bytes files old new (Ok value) = new ≡ old
+FailsBy unread fails bytes files old new (Err fault) = MatchOption (unread fault) (new ≡ old) (TellsFirstUnread fails bytes files old new)
+
+abbrev pub FailsByInput : {T : Type 0} → (Option (List ℕ) → Type 0) → FileBytes → List Input → ℕ → ℕ → Result T AnswerFault → Type 0
+FailsByInput fails bytes files old new outcome = FailsBy unread_by fails bytes files old new outcome

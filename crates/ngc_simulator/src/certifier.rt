@@ -2,8 +2,9 @@ ghost use Rattle.std.specs.Prelude.{◌≡◌, ◌≤◌, IfSome, Err};
 ghost use Rattle.ngc_canonical.specs.Interpreter.{setup_of};
 ghost use Rattle.ngc_fixed_length.specs.Failures.{Rises};
 ghost use Rattle.ngc_line_reader.specs.declared.program.fault.ReadFault.TheVariants.{Device};
-ghost use Rattle.ngc_simulator.specs.Answers.{CertifyComes, FailsByOutput};
+ghost use Rattle.ngc_simulator.specs.Answers.{CertifyComes, FailsByOutput, certify_inputs};
 ghost use Rattle.ngc_simulator.specs.Jobs.{Certifies, FailsByCertifying, refused_at};
+ghost use Rattle.ngc_simulator.specs.Unread.{FailsByInput, SourceFails};
 
 use crate::fault::AnswerFault;
 use crate::files::Files;
@@ -96,6 +97,7 @@ pub(crate) fn certify_files<F: Files, W: Sink>(
 ) -> Result<(), AnswerFault>
     requires { 1 ≤ options.now.cuts }
     ensures comes { CertifyComes (F.bytes files.old) options.now (W.written output.old) (W.written output.new) result }
+    ensures unread { FailsByInput (SourceFails F.R.remaining F.R.failures) (F.bytes files.old) (certify_inputs options.now) (F.failures files.old) (F.failures files.new) result }
     ensures sink { FailsByOutput result (W.failures output.old) (W.failures output.new) }
 {
     let shop = match read_shop(alloc, Some(options.machine), Some(options.tools), files) {

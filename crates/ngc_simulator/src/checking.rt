@@ -4,8 +4,9 @@ ghost use Rattle.ngc_certificate_text.specs.declared.fault.CertificateFault.TheV
 ghost use Rattle.ngc_fixed_length.specs.Failures.{Rises};
 ghost use Rattle.ngc_line_reader.specs.ProgramText.{program_of, HaveReadings};
 ghost use Rattle.ngc_line_reader.specs.ProgramView.{text_in};
-ghost use Rattle.ngc_simulator.specs.Answers.{CheckComes, FailsByOutput};
-ghost use Rattle.ngc_simulator.specs.Jobs.{Checks, FailsByChecking};
+ghost use Rattle.ngc_simulator.specs.Answers.{CheckComes, FailsByOutput, check_inputs};
+ghost use Rattle.ngc_simulator.specs.Jobs.{Checks, FailsByChecking, NeverReads};
+ghost use Rattle.ngc_simulator.specs.Unread.{FailsByInput, SourceFails};
 
 use crate::fault::AnswerFault;
 use crate::files::Files;
@@ -53,6 +54,7 @@ pub fn check_program<A: Allocator + Copy, S: Source, W: Sink>(
     // A fault of reading or writing comes only from a device that failed.
     ensures source { result ≡ Err (CheckingFault.Certificate ReadFailed) → Rises (S.failures certificate.old) (S.failures certificate.new) }
     ensures sink { FailsByChecking result (W.failures output.old) (W.failures output.new) }
+    ensures given { NeverReads result }
 {
     let certificate = match Certificate::read(alloc, certificate) {
         Ok(certificate) => certificate,
@@ -76,6 +78,7 @@ pub(crate) fn check_files<F: Files, W: Sink>(
     output: &mut W,
 ) -> Result<(), AnswerFault>
     ensures comes { CheckComes (F.bytes files.old) options.now (W.written output.old) (W.written output.new) result }
+    ensures unread { FailsByInput (SourceFails F.R.remaining F.R.failures) (F.bytes files.old) (check_inputs options.now) (F.failures files.old) (F.failures files.new) result }
     ensures sink { FailsByOutput result (W.failures output.old) (W.failures output.new) }
 {
     let shop = match read_shop(alloc, Some(options.machine), Some(options.tools), files) {

@@ -2,8 +2,9 @@ ghost use Rattle.std.specs.Prelude.{◌≡◌, IfSome, Err};
 ghost use Rattle.ngc_canonical.specs.Interpreter.{setup_of};
 ghost use Rattle.ngc_fixed_length.specs.Failures.{Rises};
 ghost use Rattle.ngc_line_reader.specs.declared.program.fault.ReadFault.TheVariants.{Device};
-ghost use Rattle.ngc_simulator.specs.Answers.{ListComes, FailsByOutput};
+ghost use Rattle.ngc_simulator.specs.Answers.{ListComes, FailsByOutput, list_inputs};
 ghost use Rattle.ngc_simulator.specs.Lists.{Lists, FailsByWriting};
+ghost use Rattle.ngc_simulator.specs.Unread.{FailsByInput, SourceFails};
 
 use crate::fault::AnswerFault;
 use crate::files::Files;
@@ -72,6 +73,7 @@ pub(crate) fn list_files<F: Files, W: Sink>(
     output: &mut W,
 ) -> Result<(), AnswerFault>
     ensures comes { ListComes (F.bytes files.old) options.now (W.written output.old) (W.written output.new) result }
+    ensures unread { FailsByInput (SourceFails F.R.remaining F.R.failures) (F.bytes files.old) (list_inputs options.now) (F.failures files.old) (F.failures files.new) result }
     ensures sink { FailsByOutput result (W.failures output.old) (W.failures output.new) }
 {
     let shop = match read_shop(alloc, options.machine, options.tools, files) {

@@ -1,14 +1,12 @@
 //! Programs and certificates, from the files that the command line names.
-ghost use Rattle.std.specs.Prelude.{◌≡◌, Err, IfOk, IfSome, OnOk, Some, option_map};
+ghost use Rattle.std.specs.Prelude.{[], ◌∷◌, IfOk, IfSome, Some, option_map};
 ghost use Rattle.ngc_certificate_text.specs.Contents.{said_of};
 ghost use Rattle.ngc_certificate_text.specs.Given.{GivesCertificate};
 ghost use Rattle.ngc_certificate_text.specs.Said.{certificate_said};
 ghost use Rattle.ngc_line_reader.specs.ProgramText.{program_of, HaveReadings};
 ghost use Rattle.ngc_line_reader.specs.ProgramView.{text_in, OutcomeIs};
-ghost use Rattle.ngc_certificate_text.specs.declared.fault.CertificateFault.TheVariants.{ReadFailed};
-ghost use Rattle.ngc_line_reader.specs.declared.program.fault.ReadFault.TheVariants.{Device};
 ghost use Rattle.ngc_simulator.specs.Setups.{KeepsFiles, KeepsNamed};
-ghost use Rattle.ngc_simulator.specs.Unread.{IsUnread, SourceFails};
+ghost use Rattle.ngc_simulator.specs.Unread.{FailsBy, OfCertificate, OfProgram, SourceFails, certificate_unread, program_unread};
 
 use crate::files::Files;
 use ngc_certificate_text::{Certificate, CertificateFault};
@@ -24,9 +22,8 @@ pub fn read_program<F: Files>(
     ensures text { IfSome (F.bytes files.old (option_map (λ n. n.now) name.entry)) (λ bytes. OutcomeIs result (program_of bytes)) }
     ensures readings { IfOk result (λ p. HaveReadings (text_in p).lines) }
     ensures named { KeepsNamed (F.bytes files.old) (F.bytes files.new) }
-    ensures counts { OnOk result (F.failures files.new ≡ F.failures files.old) }
     // 901 comes only where the file can't be opened or its source fails.
-    ensures unread { result ≡ Err Device → IsUnread (SourceFails F.R.remaining F.R.failures) (F.bytes files.old (option_map (λ n. n.now) name.entry)) (F.failures files.old) (F.failures files.new) }
+    ensures unread { FailsBy program_unread (SourceFails F.R.remaining F.R.failures) (F.bytes files.old) (record { kind = OfProgram; name = option_map (λ n. n.now) name.entry } ∷ []) (F.failures files.old) (F.failures files.new) result }
 {
     match files.source(name) {
         Ok(mut source) => Program::read(alloc, &mut source),
@@ -42,9 +39,8 @@ pub fn read_certificate<F: Files>(
 ) -> Result<Certificate<Global>, CertificateFault>
     ensures said { IfSome (F.bytes files.old (Some name.now)) (λ bytes. GivesCertificate said_of result (certificate_said bytes)) }
     ensures keeps { KeepsFiles (F.bytes files.old) (F.bytes files.new) }
-    ensures counts { OnOk result (F.failures files.new ≡ F.failures files.old) }
     // 901 comes only where the file can't be opened or its source fails.
-    ensures unread { result ≡ Err ReadFailed → IsUnread (SourceFails F.R.remaining F.R.failures) (F.bytes files.old (Some name.now)) (F.failures files.old) (F.failures files.new) }
+    ensures unread { FailsBy certificate_unread (SourceFails F.R.remaining F.R.failures) (F.bytes files.old) (record { kind = OfCertificate; name = Some name.now } ∷ []) (F.failures files.old) (F.failures files.new) result }
 {
     match files.source(Some(name)) {
         Ok(mut source) => Certificate::read(alloc, &mut source),

@@ -1,6 +1,7 @@
 ghost use Rattle.std.specs.Prelude.{◌≡◌};
-ghost use Rattle.ngc_simulator.specs.Answers.{Answers, ComesBy, FailsByOutput};
+ghost use Rattle.ngc_simulator.specs.Answers.{Answers, ComesBy, FailsByOutput, inputs_of};
 ghost use Rattle.ngc_simulator.specs.Status.{IsStatus};
+ghost use Rattle.ngc_simulator.specs.Unread.{FailsByInput, SourceFails};
 
 use crate::certifier::certify_files;
 use crate::checking::check_files;
@@ -22,6 +23,7 @@ fn run_command<F: Files, W: Sink>(
     output: &mut W,
 ) -> Result<(), AnswerFault>
     ensures comes { ComesBy (F.bytes files.old) options.now (W.written output.old) (W.written output.new) result }
+    ensures unread { FailsByInput (SourceFails F.R.remaining F.R.failures) (F.bytes files.old) (inputs_of options.now) (F.failures files.old) (F.failures files.new) result }
     ensures sink { FailsByOutput result (W.failures output.old) (W.failures output.new) }
 {
     match options {
@@ -44,7 +46,7 @@ pub fn answer<F: Files, W: Sink, E: Sink>(
     errors: &mut E,
 ) -> u8
     // Of the files that the options name: the listing, the certificate, the word that it is accepted, the log of the run, or a fault, and the status and the second sink tell which.
-    ensures answers { Answers (F.bytes files.old) options.now (record { old = W.written output.old; new = W.written output.new; failures = W.failures output.old; failures_now = W.failures output.new }) (record { old = E.written errors.old; new = E.written errors.new; failures = E.failures errors.old; failures_now = E.failures errors.new }) result }
+    ensures answers { Answers (record { bytes = F.bytes files.old; fails = SourceFails F.R.remaining F.R.failures; failures = F.failures files.old; failures_now = F.failures files.new }) options.now (record { old = W.written output.old; new = W.written output.new; failures = W.failures output.old; failures_now = W.failures output.new }) (record { old = E.written errors.old; new = E.written errors.new; failures = E.failures errors.old; failures_now = E.failures errors.new }) result }
     ensures status { IsStatus result }
     // A run that is done has written what it had to, and nothing to the second sink.
     ensures done { result ≡ 0 → W.failures output.new ≡ W.failures output.old }

@@ -4,8 +4,9 @@ ghost use Rattle.ngc_certificate_text.specs.Contents.{said_of};
 ghost use Rattle.ngc_certificate_text.specs.Said.{certificate_said};
 ghost use Rattle.ngc_line_reader.specs.ProgramText.{program_of, HaveReadings};
 ghost use Rattle.ngc_line_reader.specs.ProgramView.{text_in};
-ghost use Rattle.ngc_simulator.specs.Answers.{RunComes, FailsByOutput};
-ghost use Rattle.ngc_simulator.specs.Running.{Runs, FailsByRunning};
+ghost use Rattle.ngc_simulator.specs.Answers.{RunComes, FailsByOutput, run_inputs};
+ghost use Rattle.ngc_simulator.specs.Running.{Runs, FailsByRunning, ReadsNoFile};
+ghost use Rattle.ngc_simulator.specs.Unread.{FailsByInput, SourceFails};
 
 use crate::fault::AnswerFault;
 use crate::files::Files;
@@ -58,6 +59,7 @@ pub fn run_program<A: Allocator + Copy, W: Sink>(
     // Whatever files the program and the certificate were read from: the answer is that of these and of the events.
     ensures runs { (bytes text : List ℕ) → program_of bytes ≡ Ok (text_in program.now) → HaveReadings (text_in program.now).lines → certificate_said text ≡ Ok (said_of certificate.now) → Runs (setup_of machine.now tools.now) bytes text events.now block_delete (W.written output.old) (W.written output.new) result }
     ensures sink { FailsByRunning result (W.failures output.old) (W.failures output.new) }
+    ensures given { ReadsNoFile result }
 {
     let lines = match read_events(alloc, events) {
         Ok(lines) => lines,
@@ -81,6 +83,7 @@ pub(crate) fn run_files<F: Files, W: Sink>(
     output: &mut W,
 ) -> Result<(), AnswerFault>
     ensures comes { RunComes (F.bytes files.old) options.now (W.written output.old) (W.written output.new) result }
+    ensures unread { FailsByInput (SourceFails F.R.remaining F.R.failures) (F.bytes files.old) (run_inputs options.now) (F.failures files.old) (F.failures files.new) result }
     ensures sink { FailsByOutput result (W.failures output.old) (W.failures output.new) }
 {
     let shop = match read_shop(alloc, Some(options.machine), Some(options.tools), files) {

@@ -6,7 +6,7 @@ ghost use Rattle.ngc_machine.specs.ToolText.{tool_table};
 ghost use Rattle.ngc_machine.specs.Machine.{file_of};
 ghost use Rattle.ngc_simulator.specs.Setups.{IfSaid, GivesSetup, KeepsFiles};
 ghost use Rattle.ngc_simulator.specs.Shops.{GivesShop, machine_answer, tools_answer};
-ghost use Rattle.ngc_simulator.specs.Unread.{SourceFails, TellsUnread, TellsSetupUnread, TellsShopUnread};
+ghost use Rattle.ngc_simulator.specs.Unread.{FailsBy, FailsByInput, OfMachine, OfTools, SourceFails, TellsUnread, setup_input, setup_unread, shop_inputs};
 ghost use Rattle.ngc_machine.specs.Tools.{tools_of};
 
 use crate::fault::{AnswerFault, SetupFault};
@@ -47,8 +47,7 @@ fn named_machine<F: Files>(
 ) -> Result<Machine<Global>, SetupFault>
     ensures value { IfSome (F.bytes files.old (Some name.now)) (λ bytes. GivesSetup file_of result (machine_file bytes)) }
     ensures keeps { KeepsFiles (F.bytes files.old) (F.bytes files.new) }
-    ensures counts { OnOk result (F.failures files.new ≡ F.failures files.old) }
-    ensures unread { IfErr result (TellsSetupUnread (SourceFails F.R.remaining F.R.failures) (F.bytes files.old (Some name.now)) (F.failures files.old) (F.failures files.new)) }
+    ensures unread { FailsBy setup_unread (SourceFails F.R.remaining F.R.failures) (F.bytes files.old) (setup_input OfMachine (Some name.now)) (F.failures files.old) (F.failures files.new) result }
 {
     match bytes_of(alloc, name, files) {
         Ok(bytes) => match Machine::read(alloc, bytes.as_slice()) {
@@ -66,8 +65,7 @@ fn named_tools<F: Files>(
 ) -> Result<Tools<Global>, SetupFault>
     ensures value { IfSome (F.bytes files.old (Some name.now)) (λ bytes. GivesSetup tools_of result (tool_table bytes)) }
     ensures keeps { KeepsFiles (F.bytes files.old) (F.bytes files.new) }
-    ensures counts { OnOk result (F.failures files.new ≡ F.failures files.old) }
-    ensures unread { IfErr result (TellsSetupUnread (SourceFails F.R.remaining F.R.failures) (F.bytes files.old (Some name.now)) (F.failures files.old) (F.failures files.new)) }
+    ensures unread { FailsBy setup_unread (SourceFails F.R.remaining F.R.failures) (F.bytes files.old) (setup_input OfTools (Some name.now)) (F.failures files.old) (F.failures files.new) result }
 {
     match bytes_of(alloc, name, files) {
         Ok(bytes) => match Tools::read(alloc, bytes.as_slice()) {
@@ -86,8 +84,7 @@ pub fn read_machine<F: Files>(
 ) -> Result<Machine<Global>, SetupFault>
     ensures value { IfSaid machine_file row_file (F.bytes files.old) (option_map (λ n. n.now) name.entry) (GivesSetup file_of result) }
     ensures keeps { KeepsFiles (F.bytes files.old) (F.bytes files.new) }
-    ensures counts { OnOk result (F.failures files.new ≡ F.failures files.old) }
-    ensures unread { IfErr result (TellsSetupUnread (SourceFails F.R.remaining F.R.failures) (F.bytes files.old (option_map (λ n. n.now) name.entry)) (F.failures files.old) (F.failures files.new)) }
+    ensures unread { FailsBy setup_unread (SourceFails F.R.remaining F.R.failures) (F.bytes files.old) (setup_input OfMachine (option_map (λ n. n.now) name.entry)) (F.failures files.old) (F.failures files.new) result }
 {
     match name {
         None => Ok(row_machine(alloc)),
@@ -103,8 +100,7 @@ pub fn read_tools<F: Files>(
 ) -> Result<Tools<Global>, SetupFault>
     ensures value { IfSaid tool_table [] (F.bytes files.old) (option_map (λ n. n.now) name.entry) (GivesSetup tools_of result) }
     ensures keeps { KeepsFiles (F.bytes files.old) (F.bytes files.new) }
-    ensures counts { OnOk result (F.failures files.new ≡ F.failures files.old) }
-    ensures unread { IfErr result (TellsSetupUnread (SourceFails F.R.remaining F.R.failures) (F.bytes files.old (option_map (λ n. n.now) name.entry)) (F.failures files.old) (F.failures files.new)) }
+    ensures unread { FailsBy setup_unread (SourceFails F.R.remaining F.R.failures) (F.bytes files.old) (setup_input OfTools (option_map (λ n. n.now) name.entry)) (F.failures files.old) (F.failures files.new) result }
 {
     match name {
         None => Ok(Tools::empty(alloc)),
@@ -139,9 +135,8 @@ pub fn read_shop<F: Files>(
 ) -> Result<Shop, AnswerFault>
     ensures said { GivesShop (F.bytes files.old) (option_map (λ n. n.now) machine.entry) (option_map (λ n. n.now) tools.entry) result }
     ensures keeps { KeepsFiles (F.bytes files.old) (F.bytes files.new) }
-    ensures counts { OnOk result (F.failures files.new ≡ F.failures files.old) }
-    // One of them isn't read only where it can't be opened, its source fails, or it is too long; the machine file goes first.
-    ensures unread { IfErr result (TellsShopUnread (SourceFails F.R.remaining F.R.failures) (F.bytes files.old) (option_map (λ n. n.now) machine.entry) (option_map (λ n. n.now) tools.entry) (F.failures files.old) (F.failures files.new)) }
+    // The first that isn't read can't be opened, its source fails, or it is too long.
+    ensures unread { FailsByInput (SourceFails F.R.remaining F.R.failures) (F.bytes files.old) (shop_inputs (option_map (λ n. n.now) machine.entry) (option_map (λ n. n.now) tools.entry)) (F.failures files.old) (F.failures files.new) result }
 {
     let machine = match read_machine(alloc, machine, files) {
         Ok(machine) => machine,

@@ -4,8 +4,9 @@ ghost use Rattle.ngc_certificate_text.specs.Contents.{said_of};
 ghost use Rattle.ngc_certificate_text.specs.Said.{certificate_said};
 ghost use Rattle.ngc_line_reader.specs.ProgramText.{program_of, HaveReadings};
 ghost use Rattle.ngc_line_reader.specs.ProgramView.{text_in};
-ghost use Rattle.ngc_simulator.specs.Answers.{RunThroughComes, FailsByOutput};
-ghost use Rattle.ngc_simulator.specs.Running.{RunsThrough, FailsByRunning};
+ghost use Rattle.ngc_simulator.specs.Answers.{RunThroughComes, FailsByOutput, run_through_inputs};
+ghost use Rattle.ngc_simulator.specs.Running.{RunsThrough, FailsByRunning, ReadsNoFile};
+ghost use Rattle.ngc_simulator.specs.Unread.{FailsByInput, SourceFails};
 
 use crate::fault::AnswerFault;
 use crate::files::Files;
@@ -36,6 +37,7 @@ pub fn run_program_through<A: Allocator + Copy, W: Sink>(
     // Whatever files the program and the certificate were read from: the answer is that of these.
     ensures runs { (bytes text : List ℕ) → program_of bytes ≡ Ok (text_in program.now) → HaveReadings (text_in program.now).lines → certificate_said text ≡ Ok (said_of certificate.now) → RunsThrough (setup_of machine.now tools.now) bytes text block_delete (W.written output.old) (W.written output.new) result }
     ensures sink { FailsByRunning result (W.failures output.old) (W.failures output.new) }
+    ensures given { ReadsNoFile result }
 {
     let accepted = match check(alloc, program, machine, tools, certificate) {
         Ok(accepted) => accepted,
@@ -55,6 +57,7 @@ pub(crate) fn run_through_files<F: Files, W: Sink>(
     output: &mut W,
 ) -> Result<(), AnswerFault>
     ensures comes { RunThroughComes (F.bytes files.old) options.now (W.written output.old) (W.written output.new) result }
+    ensures unread { FailsByInput (SourceFails F.R.remaining F.R.failures) (F.bytes files.old) (run_through_inputs options.now) (F.failures files.old) (F.failures files.new) result }
     ensures sink { FailsByOutput result (W.failures output.old) (W.failures output.new) }
 {
     let shop = match read_shop(alloc, Some(options.machine), Some(options.tools), files) {

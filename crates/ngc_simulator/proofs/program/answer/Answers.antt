@@ -7,6 +7,7 @@ pub returns-in-Err-clause-answers : goal.returns-in-Err-clause-answers
 returns-in-Err-clause-answers g c = record {
   outcome = Err c.in-Err.fault;
   comes = search rules;
+  unread = c.in-Err.ensures.unread;
   counts = c.in-Err.ensures.sink;
   says = c.status.ensures;
   tells =

@@ -1,10 +1,15 @@
-use Rattle.std.proofs.Common.{Ok, Err, refl}
+use Rattle.std.proofs.Common.{[], ◌∷◌, ◌++◌, Some, Ok, Err, refl, ◌∙◌}
 use Rattle.std.specs.contracts.alloc.Global
 use Rattle.ngc_certificate_text.specs.Contents.{said_of}
 use Rattle.ngc_simulator.specs.declared.running.RunningFault.TheVariants as running
 use Rattle.ngc_simulator.proofs.FileLaws.{all_known}
 use Rattle.ngc_simulator.proofs.JobLaws.{keeps_same}
 use Rattle.ngc_simulator.proofs.RunLaws.{no_certificate, went_files}
+use Rattle.ngc_simulator.specs.Answers.{certificate_input, program_input, run_through_inputs}
+use Rattle.ngc_simulator.specs.Unread.{OfCertificate, OfProgram, SourceFails, certificate_unread, program_unread, shop_inputs, unread_by}
+use Rattle.ngc_simulator.proofs.UnreadLaws.{all_read, is_read, run_told, shop_read, told_before, told_behind}
+use Rattle.std.specs.Prelude.{option_map}
+use Rattle.ngc_line_reader.specs.ProgramText.{program_of}
 use Rattle.ngc_simulator.proofs.through.run_through_files.Goals as goal
 
 pub returns-in-Err-read_program-clause-comes : goal.returns-in-Err-read_program-clause-comes
@@ -36,3 +41,22 @@ returns-clause-comes g c =
     c.in-Ok.ensures.said c.read_shop.ensures.keeps c.read_program.ensures.named
     c.in-Ok-read_program.ensures.text c.in-Ok-read_certificate.ensures.said
     (λ a b is_text said. c.in-Err-run_program_through.ensures.runs a b is_text c.in-Ok-read_program.ensures.readings said)
+
+pub returns-in-Err-clause-unread : goal.returns-in-Err-clause-unread
+returns-in-Err-clause-unread g c =
+    told_before (SourceFails g.F.R.Source.remaining g.F.R.Source.failures) (g.F.Files.bytes c.args.files.now) (shop_inputs (Some c.args.options.now.machine.now) (Some c.args.options.now.tools.now)) (program_input (option_map (λ n. n.now) c.args.options.now.program) ∷ certificate_input c.args.options.now.certificate.now ∷ []) _ _ (unread_by c.in-Err.fault) c.in-Err.ensures.unread
+
+pub returns-in-Err-read_program-clause-unread : goal.returns-in-Err-read_program-clause-unread
+returns-in-Err-read_program-clause-unread g c =
+    told_behind (SourceFails g.F.R.Source.remaining g.F.R.Source.failures) (g.F.Files.bytes c.args.files.now) (g.F.Files.bytes c.read_shop.new.files) (shop_inputs (Some c.args.options.now.machine.now) (Some c.args.options.now.tools.now)) OfProgram (option_map (λ n. n.now) c.args.options.now.program) (certificate_input c.args.options.now.certificate.now ∷ []) _ _ _ (program_unread c.in-Err-read_program.fault)
+    (shop_read (g.F.Files.bytes c.args.files.now) (Some c.args.options.now.machine.now) (Some c.args.options.now.tools.now) c.in-Ok.shop c.in-Ok.ensures.said) (c.read_shop.ensures.keeps (option_map (λ n. n.now) c.args.options.now.program)) c.in-Ok.ensures.unread c.in-Err-read_program.ensures.unread
+
+pub returns-in-Err-read_certificate-clause-unread : goal.returns-in-Err-read_certificate-clause-unread
+returns-in-Err-read_certificate-clause-unread g c =
+    told_behind (SourceFails g.F.R.Source.remaining g.F.R.Source.failures) (g.F.Files.bytes c.args.files.now) (g.F.Files.bytes c.read_program.new.files) (shop_inputs (Some c.args.options.now.machine.now) (Some c.args.options.now.tools.now) ++ program_input (option_map (λ n. n.now) c.args.options.now.program) ∷ []) OfCertificate (Some c.args.options.now.certificate.now) ([]) _ _ _ (certificate_unread c.in-Err-read_certificate.fault)
+    (all_read (g.F.Files.bytes c.args.files.now) (shop_inputs (Some c.args.options.now.machine.now) (Some c.args.options.now.tools.now)) (program_input (option_map (λ n. n.now) c.args.options.now.program) ∷ []) (shop_read (g.F.Files.bytes c.args.files.now) (Some c.args.options.now.machine.now) (Some c.args.options.now.tools.now) c.in-Ok.shop c.in-Ok.ensures.said) (is_read program_of _ (g.F.Files.bytes c.args.files.now (option_map (λ n. n.now) c.args.options.now.program)) (g.F.Files.bytes c.read_shop.new.files (option_map (λ n. n.now) c.args.options.now.program)) (c.read_shop.ensures.keeps (option_map (λ n. n.now) c.args.options.now.program)) c.in-Ok-read_program.ensures.text, tt))
+    (c.read_program.ensures.named c.args.options.now.certificate.now ∙ c.read_shop.ensures.keeps (Some c.args.options.now.certificate.now)) (c.in-Ok-read_program.ensures.unread ∙ c.in-Ok.ensures.unread) c.in-Err-read_certificate.ensures.unread
+
+pub returns-clause-unread : goal.returns-clause-unread
+returns-clause-unread g c =
+    run_told (SourceFails g.F.R.Source.remaining g.F.R.Source.failures) (g.F.Files.bytes c.args.files.now) (run_through_inputs c.args.options.now) _ _ c.in-Err-run_program_through.fault c.in-Err-run_program_through.ensures.given (c.in-Ok-read_certificate.ensures.unread ∙ c.in-Ok-read_program.ensures.unread ∙ c.in-Ok.ensures.unread)
