@@ -1,5 +1,5 @@
 -- What certifying and checking a program come to, from what their parts come to.
-use Rattle.std.proofs.Common.{◌≡◌, ℕ, List, Option, Some, None, Bool, true, false, Result, Ok, Err, IfSome, refl, subst, sym}
+use Rattle.std.proofs.Common.{◌≡◌, ℕ, List, Option, Some, None, Bool, true, false, Result, Ok, Err, IfSome, refl, subst, sym, ◌∙◌}
 use Rattle.std.specs.Io.KnownBytes.{Appends, Keeps}
 use Rattle.ngc_fixed_length.specs.Written.{AppendsBeginning}
 use Rattle.ngc_fixed_length.specs.declared.writing.WriteFault.{WriteFault}
@@ -9,7 +9,8 @@ use Rattle.ngc_canonical.specs.declared.command.Command.{Command}
 use Rattle.ngc_canonical.specs.declared.fault.ProgramFault.{ProgramFault}
 use Rattle.ngc_canonical.specs.declared.fault.ProgramFault.TheVariants as programs
 use Rattle.ngc_canonical.specs.State.{Setup}
-use Rattle.ngc_canonical.specs.Meaning.{meaning, program_said, Fails}
+use Rattle.ngc_canonical.proofs.BlockDelete.{same_at_both}
+use Rattle.ngc_canonical.specs.Meaning.{meaning, program_said, has_deleted, Fails}
 use Rattle.ngc_certificate_text.specs.Certificate.{CertificateData}
 use Rattle.ngc_certificate_text.specs.Said.{certificate_said}
 use Rattle.ngc_certificate_text.specs.Spelling.{spelling}
@@ -23,7 +24,7 @@ use Rattle.ngc_checker.specs.Accepted.{AcceptedData, Answers}
 use Rattle.ngc_simulator.specs.declared.certifier.CertifyFault.{CertifyFault}
 use Rattle.ngc_simulator.specs.declared.certifier.CertifyFault.TheVariants as certifies
 use Rattle.ngc_simulator.specs.declared.checking.CheckingFault.TheVariants as checks
-use Rattle.ngc_simulator.specs.Jobs.{IsProgram, AreMeanings, IsMadeFor, refused_at, Certifies, AreGiven, IsAcceptedText, Checks, accepted_text}
+use Rattle.ngc_simulator.specs.Jobs.{IsProgram, AreMeanings, IsMadeFor, WhyNotMade, refused_at, Certifies, AreGiven, IsAcceptedText, Checks, accepted_text}
 use Rattle.ngc_simulator.proofs.ListLaws.{Means}
 
 pub if_known : (known : Option (List ℕ)) (P Q : List ℕ → Type 0) → ((bytes : List ℕ) → P bytes → Q bytes) → IfSome known P → IfSome known Q
@@ -75,49 +76,53 @@ pub keeps_same : (known : Option (List ℕ)) → Keeps known known
 keeps_same None = tt
 keeps_same (Some bytes) = refl
 
-pub not_made : {X : Type 0} (view : X → CertificateData) (setup : Setup) (bytes : List ℕ) (cuts : ℕ) (known : Option (List ℕ)) (text : ProgramText) (off given_off on given_on : List Command) (fault : MakeFault)
+pub not_made : {X : Type 0} (view : X → CertificateData) (setup : Setup) (bytes : List ℕ) (cuts : ℕ) (text : ProgramText) (off given_off on given_on : List Command) (fault : MakeFault)
     → given_off ≡ off → given_on ≡ on → program_of bytes ≡ Ok text → HaveReadings text.lines → Means text setup false (Ok off) → Means text setup true (Ok on)
-    → GivesMade view (Err fault) (IsMade setup.machine cuts given_off given_on) → Certifies setup bytes cuts known known (Err (certifies.Make fault))
-not_made view setup bytes cuts known text off given_off on given_on Memory same_off same_on is_text have off_means on_means says = (tt, keeps_same known)
-not_made view setup bytes cuts known text off given_off on given_on (NotCleared s k) same_off same_on is_text have off_means on_means says = (
-  (
-    given_off,
-    given_on,
-    means_both setup bytes text given_off given_on is_text have
-        (subst (λ l. Means text setup false (Ok l)) (sym same_off) off_means) (subst (λ l. Means text setup true (Ok l)) (sym same_on) on_means),
-    says,
-  ),
-  keeps_same known,
+    → GivesMade view (Err fault) (IsMade setup.machine cuts given_off given_on) → WhyNotMade setup bytes cuts (certifies.Make fault)
+not_made view setup bytes cuts text off given_off on given_on Memory same_off same_on is_text have off_means on_means says = tt
+not_made view setup bytes cuts text off given_off on given_on (NotCleared s k) same_off same_on is_text have off_means on_means says = (
+  given_off,
+  given_on,
+  means_both setup bytes text given_off given_on is_text have
+      (subst (λ l. Means text setup false (Ok l)) (sym same_off) off_means) (subst (λ l. Means text setup true (Ok l)) (sym same_on) on_means),
+  says,
 )
+
+-- where no line begins with / the commands are the same at both settings
+pub means_alike : (text : ProgramText) (setup : Setup) (commands : List Command) (found : Bool) → found ≡ false
+    → ((rs : List Reading) → AreReadings text.lines rs → found ≡ has_deleted (program_said text rs).lines) → Means text setup false (Ok commands) → Means text setup true (Ok commands)
+means_alike text setup commands found none is_found off_means = λ rs are.
+    same_at_both (program_said text rs) setup (sym (is_found rs are) ∙ none) ∙ off_means rs are
 
 -- each list of readings of the lines fails so
 abbrev FailsSo : ProgramText → Setup → Bool → ProgramFault → Type 0
 FailsSo text setup block_delete fault = (rs : List Reading) → AreReadings text.lines rs → Fails fault (meaning (program_said text rs) setup block_delete)
 
-refused_off_by : (setup : Setup) (bytes : List ℕ) (cuts : ℕ) (known : Option (List ℕ)) (text : ProgramText) (fault : ProgramFault)
-    → program_of bytes ≡ Ok text → HaveReadings text.lines → FailsSo text setup false fault → Certifies setup bytes cuts known known (Err (refused_at Off fault))
-refused_off_by setup bytes cuts known text programs.Memory is_text have fails = (tt, keeps_same known)
-refused_off_by setup bytes cuts known text (programs.At line e) is_text have fails =
-    ((program_said text have.readings, is_program bytes text is_text have, fails have.readings have.are), keeps_same known)
+refused_off_by : (setup : Setup) (bytes : List ℕ) (cuts : ℕ) (text : ProgramText) (fault : ProgramFault)
+    → program_of bytes ≡ Ok text → HaveReadings text.lines → FailsSo text setup false fault → WhyNotMade setup bytes cuts (refused_at Off fault)
+refused_off_by setup bytes cuts text programs.Memory is_text have fails = tt
+refused_off_by setup bytes cuts text (programs.At line e) is_text have fails = (program_said text have.readings, is_program bytes text is_text have, fails have.readings have.are)
 
-refused_on_by : (setup : Setup) (bytes : List ℕ) (cuts : ℕ) (known : Option (List ℕ)) (text : ProgramText) (off : List Command) (fault : ProgramFault)
+refused_on_by : (setup : Setup) (bytes : List ℕ) (cuts : ℕ) (text : ProgramText) (off : List Command) (fault : ProgramFault)
     → program_of bytes ≡ Ok text → HaveReadings text.lines → Means text setup false (Ok off) → FailsSo text setup true fault
-    → Certifies setup bytes cuts known known (Err (refused_at On fault))
-refused_on_by setup bytes cuts known text off programs.Memory is_text have off_means fails = (tt, keeps_same known)
-refused_on_by setup bytes cuts known text off (programs.At line e) is_text have off_means fails =
-    ((program_said text have.readings, is_program bytes text is_text have, (off, off_means have.readings have.are, fails have.readings have.are)), keeps_same known)
+    → WhyNotMade setup bytes cuts (refused_at On fault)
+refused_on_by setup bytes cuts text off programs.Memory is_text have off_means fails = tt
+refused_on_by setup bytes cuts text off (programs.At line e) is_text have off_means fails =
+    (program_said text have.readings, is_program bytes text is_text have, (off, off_means have.readings have.are, fails have.readings have.are))
 
-pub refused_off : (setup : Setup) (bytes : List ℕ) (cuts : ℕ) (known : Option (List ℕ)) (text : ProgramText) (fault : ProgramFault) (told : CertifyFault)
-    → told ≡ refused_at Off fault → program_of bytes ≡ Ok text → HaveReadings text.lines → FailsSo text setup false fault
-    → Certifies setup bytes cuts known known (Err told)
-refused_off setup bytes cuts known text fault told is is_text have fails =
-    subst (λ t. Certifies setup bytes cuts known known (Err t)) (sym is) (refused_off_by setup bytes cuts known text fault is_text have fails)
+pub refused_off : (setup : Setup) (bytes : List ℕ) (cuts : ℕ) (text : ProgramText) (fault : ProgramFault) (told : CertifyFault)
+    → told ≡ refused_at Off fault → program_of bytes ≡ Ok text → HaveReadings text.lines → FailsSo text setup false fault → WhyNotMade setup bytes cuts told
+refused_off setup bytes cuts text fault told is is_text have fails = subst (WhyNotMade setup bytes cuts) (sym is) (refused_off_by setup bytes cuts text fault is_text have fails)
 
-pub refused_on : (setup : Setup) (bytes : List ℕ) (cuts : ℕ) (known : Option (List ℕ)) (text : ProgramText) (off : List Command) (fault : ProgramFault) (told : CertifyFault)
-    → told ≡ refused_at On fault → program_of bytes ≡ Ok text → HaveReadings text.lines → Means text setup false (Ok off) → FailsSo text setup true fault
-    → Certifies setup bytes cuts known known (Err told)
-refused_on setup bytes cuts known text off fault told is is_text have off_means fails =
-    subst (λ t. Certifies setup bytes cuts known known (Err t)) (sym is) (refused_on_by setup bytes cuts known text off fault is_text have off_means fails)
+pub refused_on : (setup : Setup) (bytes : List ℕ) (cuts : ℕ) (text : ProgramText) (off : List Command) (fault : ProgramFault) (told : CertifyFault)
+    → told ≡ refused_at On fault → program_of bytes ≡ Ok text → HaveReadings text.lines → Means text setup false (Ok off) → FailsSo text setup true fault → WhyNotMade setup bytes cuts told
+refused_on setup bytes cuts text off fault told is is_text have off_means fails = subst (WhyNotMade setup bytes cuts) (sym is) (refused_on_by setup bytes cuts text off fault is_text have off_means fails)
+
+pub nothing_certified : (setup : Setup) (bytes : List ℕ) (cuts : ℕ) (known : Option (List ℕ)) (fault : CertifyFault) → WhyNotMade setup bytes cuts fault → Certifies setup bytes cuts known known (Err fault)
+nothing_certified setup bytes cuts known (certifies.Read fault) why = absurd why
+nothing_certified setup bytes cuts known (certifies.Program setting fault) why = (why, keeps_same known)
+nothing_certified setup bytes cuts known (certifies.Make fault) why = (why, keeps_same known)
+nothing_certified setup bytes cuts known (certifies.Write fault) why = absurd why
 
 -- ---- checking
 

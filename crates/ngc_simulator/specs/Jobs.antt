@@ -71,14 +71,20 @@ IsNotMade setup bytes cuts Memory = Unit {0}
 IsNotMade setup bytes cuts (NotCleared s k) =
     (off : List Command) × (on : List Command) × AreMeanings setup bytes off on × IsMade setup.machine cuts off on (Err (NotCleared s k))
 
+-- why no certificate is made for a file's program: it is refused, or it isn't cleared
+abbrev pub WhyNotMade : Setup → List ℕ → ℕ → CertifyFault → Type 0
+WhyNotMade setup bytes cuts (certifies.Read fault) = ⊥
+WhyNotMade setup bytes cuts (certifies.Program setting fault) = (program : ProgramLines) × IsProgram bytes program × IsRefusedAt setup program setting fault
+WhyNotMade setup bytes cuts (certifies.Make fault) = IsNotMade setup bytes cuts fault
+WhyNotMade setup bytes cuts (certifies.Write fault) = ⊥
+
 -- Of a program's file and a sink: the text of its certificate was written, or a beginning of it where the sink failed; where
 -- none is made, what was written is as it was.
 abbrev pub Certifies : Setup → List ℕ → ℕ → Option (List ℕ) → Option (List ℕ) → Result (Unit {0}) CertifyFault → Type 0
 Certifies setup bytes cuts old new (Ok u) = (c : CertificateData) × IsMadeFor setup bytes cuts c × Appends old new (spelling c)
 Certifies setup bytes cuts old new (Err (certifies.Read fault)) = FaultIs fault (program_of bytes) × Keeps old new
-Certifies setup bytes cuts old new (Err (certifies.Program setting fault)) =
-    ((program : ProgramLines) × IsProgram bytes program × IsRefusedAt setup program setting fault) × Keeps old new
-Certifies setup bytes cuts old new (Err (certifies.Make fault)) = IsNotMade setup bytes cuts fault × Keeps old new
+Certifies setup bytes cuts old new (Err (certifies.Program setting fault)) = WhyNotMade setup bytes cuts (certifies.Program setting fault) × Keeps old new
+Certifies setup bytes cuts old new (Err (certifies.Make fault)) = WhyNotMade setup bytes cuts (certifies.Make fault) × Keeps old new
 Certifies setup bytes cuts old new (Err (certifies.Write fault)) =
     (c : CertificateData) × IsMadeFor setup bytes cuts c × AppendsBeginning old new (spelling c)
 
@@ -89,6 +95,14 @@ FailsByCertifying (Err (certifies.Read fault)) old new = new ≡ old
 FailsByCertifying (Err (certifies.Program setting fault)) old new = new ≡ old
 FailsByCertifying (Err (certifies.Make fault)) old new = new ≡ old
 FailsByCertifying (Err (certifies.Write fault)) old new = Rises old new
+
+-- no device is used to make a certificate
+abbrev pub UsesNoDevice : {T : Type 0} → Result T CertifyFault → Type 0
+UsesNoDevice (Ok value) = Unit {0}
+UsesNoDevice (Err (certifies.Read fault)) = ⊥
+UsesNoDevice (Err (certifies.Program setting fault)) = Unit {0}
+UsesNoDevice (Err (certifies.Make fault)) = Unit {0}
+UsesNoDevice (Err (certifies.Write fault)) = ⊥
 
 -- ---- checking
 

@@ -1,16 +1,20 @@
-ghost use Rattle.std.specs.Prelude.{◌≡◌, ◌≤◌, IfSome, Err};
+ghost use Rattle.std.specs.Prelude.{◌≡◌, ◌≤◌, ℕ, List, IfSome, Ok, Err, MatchResult};
 ghost use Rattle.ngc_canonical.specs.Interpreter.{setup_of};
+ghost use Rattle.ngc_certificate_text.specs.Contents.{said_of};
 ghost use Rattle.ngc_fixed_length.specs.Failures.{Rises};
+ghost use Rattle.ngc_line_reader.specs.ProgramText.{program_of, HaveReadings};
+ghost use Rattle.ngc_line_reader.specs.ProgramView.{text_in};
 ghost use Rattle.ngc_line_reader.specs.declared.program.fault.ReadFault.TheVariants.{Device};
 ghost use Rattle.ngc_simulator.specs.Answers.{CertifyComes, FailsByOutput, certify_inputs};
-ghost use Rattle.ngc_simulator.specs.Jobs.{Certifies, FailsByCertifying, refused_at};
+ghost use Rattle.ngc_simulator.specs.Jobs.{Certifies, FailsByCertifying, IsMadeFor, UsesNoDevice, WhyNotMade, refused_at};
 ghost use Rattle.ngc_simulator.specs.Unread.{FailsByInput, SourceFails};
 
 use crate::fault::AnswerFault;
 use crate::files::Files;
 use crate::setup::read_shop;
-use ngc_canonical::{ProgramFault, interpret};
-use ngc_certificate::{MakeFault, Setting, make};
+use ngc_canonical::{ProgramFault, has_deleted_lines, interpret};
+use ngc_certificate::{MakeFault, Setting, make, make_alike};
+use ngc_certificate_text::Certificate;
 use ngc_command_line::CertifyOptions;
 use ngc_fixed_length::{Sink, Source, WriteFault};
 use ngc_input::InputFault;
@@ -49,6 +53,39 @@ fn refused(setting: Setting, fault: ProgramFault) -> CertifyFault
     }
 }
 
+// The certificate of a program. Where block delete changes nothing, what is found serves both settings.
+fn made<A: Allocator + Copy>(
+    alloc: A,
+    program: &Program<A>,
+    machine: &Machine<A>,
+    tools: &Tools<A>,
+    cuts: u16,
+) -> Result<Certificate<A>, CertifyFault>
+    requires { 1 ≤ cuts }
+    // Whatever file the program was read from.
+    ensures made { (bytes : List ℕ) → program_of bytes ≡ Ok (text_in program.now) → HaveReadings (text_in program.now).lines → MatchResult result (λ c. IsMadeFor (setup_of machine.now tools.now) bytes cuts (said_of c)) (WhyNotMade (setup_of machine.now tools.now) bytes cuts) }
+    ensures devices { UsesNoDevice result }
+{
+    let off = match interpret(alloc, program, machine, tools, false) {
+        Ok(commands) => commands,
+        Err(fault) => return Err(refused(Setting::Off, fault)),
+    };
+    if !has_deleted_lines(program) {
+        match make_alike(alloc, off.as_slice(), machine, cuts) {
+            Ok(certificate) => return Ok(certificate),
+            Err(fault) => return Err(CertifyFault::Make(fault)),
+        }
+    }
+    let on = match interpret(alloc, program, machine, tools, true) {
+        Ok(commands) => commands,
+        Err(fault) => return Err(refused(Setting::On, fault)),
+    };
+    match make(alloc, off.as_slice(), on.as_slice(), machine, cuts) {
+        Ok(certificate) => Ok(certificate),
+        Err(fault) => Err(CertifyFault::Make(fault)),
+    }
+}
+
 /// Writes the certificate of a program on a machine with its tools, in which a straight motion stands in at most `cuts`
 /// pieces. Nothing is written where there is none; where a write fails, a beginning is written.
 pub fn certify<A: Allocator + Copy, R: Source, W: Sink>(
@@ -70,17 +107,9 @@ pub fn certify<A: Allocator + Copy, R: Source, W: Sink>(
         Ok(program) => program,
         Err(fault) => return Err(CertifyFault::Read(fault)),
     };
-    let off = match interpret(alloc, &program, machine, tools, false) {
-        Ok(commands) => commands,
-        Err(fault) => return Err(refused(Setting::Off, fault)),
-    };
-    let on = match interpret(alloc, &program, machine, tools, true) {
-        Ok(commands) => commands,
-        Err(fault) => return Err(refused(Setting::On, fault)),
-    };
-    let certificate = match make(alloc, off.as_slice(), on.as_slice(), machine, cuts) {
+    let certificate = match made(alloc, &program, machine, tools, cuts) {
         Ok(certificate) => certificate,
-        Err(fault) => return Err(CertifyFault::Make(fault)),
+        Err(fault) => return Err(fault),
     };
     match certificate.write(output) {
         Ok(()) => Ok(()),
