@@ -10,3 +10,9 @@ pub triple_added : (old a b c d e : List ℕ) (x y z : ℤ)
 triple_added old a b c d e x y z ha hb hc hd he =
     he ∙ ap (λ l. l ++ signed_decimal z) (hd ∙ ap (λ l. l ++ codes " ") (hc ∙ ap (λ l. l ++ signed_decimal y) (hb ∙ ap (λ l. l ++ codes " ") ha)))
     ∙ simp append_assoc
+
+pub five_added : (old a b c d e p q r s t : List ℕ)
+    → a ≡ old ++ p → b ≡ a ++ q → c ≡ b ++ r → d ≡ c ++ s → e ≡ d ++ t
+    → e ≡ old ++ (p ++ q ++ r ++ s ++ t)
+five_added old a b c d e p q r s t ha hb hc hd he =
+    he ∙ ap (λ l. l ++ t) (hd ∙ ap (λ l. l ++ s) (hc ∙ ap (λ l. l ++ r) (hb ∙ ap (λ l. l ++ q) ha))) ∙ simp append_assoc

@@ -25,13 +25,14 @@ use Rattle.ngc_run_log.specs.Runs.{ComesTo}
 use Rattle.ngc_run_log.specs.Through.{GoesThrough}
 use Rattle.ngc_run_log.specs.declared.report.Report.{Report}
 use Rattle.ngc_run_log.specs.declared.report.RunFault.{RunFault}
-use Rattle.ngc_simulator.specs.Answers.{RunsOn, RunsThroughOn}
+use Rattle.ngc_simulator.specs.Answers.{IsTimeOf, IsTimeOn, RunsOn, RunsThroughOn}
 use Rattle.ngc_simulator.specs.Jobs.{IsNoCertificate}
 use Rattle.ngc_simulator.specs.Running.{IsAcceptedJob, RunsOver, RunsWhole, AreNoEvents, Runs, RunsThrough}
 use Rattle.ngc_simulator.specs.Setups.{FileBytes, KeepsFiles, KeepsNamed}
 use Rattle.ngc_simulator.specs.Shops.{GivesShop}
 use Rattle.ngc_simulator.specs.declared.running.RunningFault.{RunningFault}
 use Rattle.ngc_simulator.specs.declared.running.RunningFault.TheVariants as running
+use Rattle.ngc_simulator.specs.declared.done.RunTime.{RunTime}
 use Rattle.ngc_simulator.specs.declared.setup.Shop.{Shop}
 use Rattle.ngc_simulator.proofs.JobLaws.{Says, given, keeps_same}
 use Rattle.ngc_simulator.proofs.SetupLaws.{on_setup}
@@ -199,3 +200,11 @@ went_files bytes after later options shop old new outcome P Q said keeps named p
     (on_two_files _ _ _ _ P Q (λ a b. RunsThrough (setup_of shop.machine shop.tools) a b options.delete old new outcome)
     (keeps (option_map (λ n. n.now) options.program))
     (named options.certificate.now ∙ keeps (Some options.certificate.now)) on p q)
+
+-- the time that is told of it
+pub run_timed : (bytes : FileBytes) (options : RunThroughOptions) (shop : Shop) (report : Report) (time : RunTime)
+    → GivesShop bytes (Some options.machine.now) (Some options.tools.now) (Ok shop)
+    → time.ticks ≡ report.ticks → time.ticks_per_second ≡ shop.machine.ticks_per_second → IsTimeOn bytes options report time
+run_timed bytes options shop report time said ticks per_second =
+    on_setup bytes (Some options.machine.now) (Some options.tools.now) (setup_of shop.machine shop.tools) (λ setup. IsTimeOf setup report time)
+    said.0 said.1 (record { ticks = ticks; ticks_per_second = per_second })

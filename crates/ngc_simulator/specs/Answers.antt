@@ -17,12 +17,17 @@ use Rattle.ngc_simulator.specs.declared.checking.CheckingFault.{CheckingFault}
 use Rattle.ngc_simulator.specs.declared.running.RunningFault.{RunningFault}
 use Rattle.ngc_simulator.specs.declared.fault.AnswerFault.{AnswerFault}
 use Rattle.ngc_simulator.specs.declared.fault.AnswerFault.TheVariants as answers
+use Rattle.ngc_simulator.specs.declared.done.Done.{Done}
+use Rattle.ngc_simulator.specs.declared.done.Done.TheVariants.{Quietly, RunThrough}
+use Rattle.ngc_simulator.specs.declared.done.RunTime.{RunTime}
 use Rattle.ngc_simulator.specs.Faults.{fault_line, answer_status}
 use Rattle.ngc_simulator.specs.Lists.{Lists, FailsByWriting}
 use Rattle.ngc_simulator.specs.Jobs.{Certifies, FailsByCertifying, Checks, FailsByChecking}
 use Rattle.ngc_simulator.specs.Running.{Runs, RunsThrough, FailsByRunning}
+use Rattle.ngc_canonical.specs.State.{Setup}
 use Rattle.ngc_simulator.specs.Setups.{FileBytes, OnSetup}
 use Rattle.ngc_simulator.specs.Shops.{RefusesShop}
+use Rattle.ngc_simulator.specs.Times.{time_line}
 use Rattle.ngc_simulator.specs.Unread.{Input, OfProgram, OfCertificate, OfEvents, shop_inputs, FailsByInput}
 
 -- what `list`, `certify`, `check` and `run` come to on the files that they name
@@ -59,34 +64,49 @@ RunsThroughOn bytes options old new outcome =
 abbrev pub StopsEarly : FileBytes → Option (List ℕ) → Option (List ℕ) → Option (List ℕ) → Option (List ℕ) → AnswerFault → Type 0
 StopsEarly bytes machine tools old new fault = RefusesShop bytes machine tools fault × Keeps old new
 
-abbrev pub ListComes : FileBytes → ListOptions → Option (List ℕ) → Option (List ℕ) → Result (Unit {0}) AnswerFault → Type 0
-ListComes bytes options old new (Ok u) = ListsOn bytes options old new (Ok u)
+abbrev pub ListComes : FileBytes → ListOptions → Option (List ℕ) → Option (List ℕ) → Result Done AnswerFault → Type 0
+ListComes bytes options old new (Ok Quietly) = ListsOn bytes options old new (Ok tt)
+ListComes bytes options old new (Ok (RunThrough time)) = ⊥
 ListComes bytes options old new (Err (answers.List fault)) = ListsOn bytes options old new (Err fault)
 ListComes bytes options old new (Err fault) =
     StopsEarly bytes (option_map (λ name. name.now) options.machine) (option_map (λ name. name.now) options.tools) old new fault
 
-abbrev pub CertifyComes : FileBytes → CertifyOptions → Option (List ℕ) → Option (List ℕ) → Result (Unit {0}) AnswerFault → Type 0
-CertifyComes bytes options old new (Ok u) = CertifiesOn bytes options old new (Ok u)
+abbrev pub CertifyComes : FileBytes → CertifyOptions → Option (List ℕ) → Option (List ℕ) → Result Done AnswerFault → Type 0
+CertifyComes bytes options old new (Ok Quietly) = CertifiesOn bytes options old new (Ok tt)
+CertifyComes bytes options old new (Ok (RunThrough time)) = ⊥
 CertifyComes bytes options old new (Err (answers.Certify fault)) = CertifiesOn bytes options old new (Err fault)
 CertifyComes bytes options old new (Err fault) = StopsEarly bytes (Some options.machine.now) (Some options.tools.now) old new fault
 
-abbrev pub CheckComes : FileBytes → CheckOptions → Option (List ℕ) → Option (List ℕ) → Result (Unit {0}) AnswerFault → Type 0
-CheckComes bytes options old new (Ok u) = ChecksOn bytes options old new (Ok u)
+abbrev pub CheckComes : FileBytes → CheckOptions → Option (List ℕ) → Option (List ℕ) → Result Done AnswerFault → Type 0
+CheckComes bytes options old new (Ok Quietly) = ChecksOn bytes options old new (Ok tt)
+CheckComes bytes options old new (Ok (RunThrough time)) = ⊥
 CheckComes bytes options old new (Err (answers.Check fault)) = ChecksOn bytes options old new (Err fault)
 CheckComes bytes options old new (Err fault) = StopsEarly bytes (Some options.machine.now) (Some options.tools.now) old new fault
 
--- a run that is done has a report, which the program does not write
-abbrev pub RunComes : FileBytes → RunOptions → Option (List ℕ) → Option (List ℕ) → Result (Unit {0}) AnswerFault → Type 0
-RunComes bytes options old new (Ok u) = (report : Report) × RunsOn bytes options old new (Ok report)
+-- a run over events has a report, which the program does not write
+abbrev pub RunComes : FileBytes → RunOptions → Option (List ℕ) → Option (List ℕ) → Result Done AnswerFault → Type 0
+RunComes bytes options old new (Ok Quietly) = (report : Report) × RunsOn bytes options old new (Ok report)
+RunComes bytes options old new (Ok (RunThrough time)) = ⊥
 RunComes bytes options old new (Err (answers.Run fault)) = RunsOn bytes options old new (Err fault)
 RunComes bytes options old new (Err fault) = StopsEarly bytes (Some options.machine.now) (Some options.tools.now) old new fault
 
-abbrev pub RunThroughComes : FileBytes → RunThroughOptions → Option (List ℕ) → Option (List ℕ) → Result (Unit {0}) AnswerFault → Type 0
-RunThroughComes bytes options old new (Ok u) = (report : Report) × RunsThroughOn bytes options old new (Ok report)
+-- the run's ticks, and how many of them its machine gives a second
+pub record IsTimeOf (setup : Setup) (report : Report) (time : RunTime) : Type 0 where
+  pub ticks : time.ticks ≡ report.ticks
+  pub ticks_per_second : time.ticks_per_second ≡ setup.machine.ticks_per_second
+
+abbrev pub IsTimeOn : FileBytes → RunThroughOptions → Report → RunTime → Type 0
+IsTimeOn bytes options report time = OnSetup bytes (Some options.machine.now) (Some options.tools.now) (λ setup. IsTimeOf setup report time)
+
+-- of a run to the end the program tells the time
+abbrev pub RunThroughComes : FileBytes → RunThroughOptions → Option (List ℕ) → Option (List ℕ) → Result Done AnswerFault → Type 0
+RunThroughComes bytes options old new (Ok Quietly) = ⊥
+RunThroughComes bytes options old new (Ok (RunThrough time)) =
+    (report : Report) × RunsThroughOn bytes options old new (Ok report) × IsTimeOn bytes options report time
 RunThroughComes bytes options old new (Err (answers.Run fault)) = RunsThroughOn bytes options old new (Err fault)
 RunThroughComes bytes options old new (Err fault) = StopsEarly bytes (Some options.machine.now) (Some options.tools.now) old new fault
 
-abbrev pub ComesBy : FileBytes → Options → Option (List ℕ) → Option (List ℕ) → Result (Unit {0}) AnswerFault → Type 0
+abbrev pub ComesBy : FileBytes → Options → Option (List ℕ) → Option (List ℕ) → Result Done AnswerFault → Type 0
 ComesBy bytes (commands.List options) old new outcome = ListComes bytes options old new outcome
 ComesBy bytes (commands.Certify options) old new outcome = CertifyComes bytes options old new outcome
 ComesBy bytes (commands.Check options) old new outcome = CheckComes bytes options old new outcome
@@ -94,8 +114,8 @@ ComesBy bytes (commands.Run options) old new outcome = RunComes bytes options ol
 ComesBy bytes (commands.RunThrough options) old new outcome = RunThroughComes bytes options old new outcome
 
 -- the first sink's count of failures rose where a write failed, and else it is what it was
-abbrev pub FailsByOutput : Result (Unit {0}) AnswerFault → ℕ → ℕ → Type 0
-FailsByOutput (Ok u) old new = new ≡ old
+abbrev pub FailsByOutput : Result Done AnswerFault → ℕ → ℕ → Type 0
+FailsByOutput (Ok done) old new = new ≡ old
 FailsByOutput (Err (answers.List fault)) old new = FailsByWriting (Err fault) old new
 FailsByOutput (Err (answers.Certify fault)) old new = FailsByCertifying (Err fault) old new
 FailsByOutput (Err (answers.Check fault)) old new = FailsByChecking (Err fault) old new
@@ -153,8 +173,8 @@ pub record Taking : Type 0 where
   pub failures_now : ℕ
 
 -- the exit status of what a run came to
-abbrev pub status_of : Result (Unit {0}) AnswerFault → ℕ
-status_of (Ok u) = 0
+abbrev pub status_of : Result Done AnswerFault → ℕ
+status_of (Ok done) = 0
 status_of (Err fault) = answer_status fault
 
 -- the whole text was written, or the sink failed behind a beginning of it
@@ -163,9 +183,18 @@ Takes sink text =
     (Appends sink.old sink.new text × (sink.failures_now ≡ sink.failures)) ⊎
     (AppendsBeginning sink.old sink.new text × Rises sink.failures sink.failures_now)
 
--- nothing where what was asked is done, and else the line that tells the fault
-abbrev pub Tells : Result (Unit {0}) AnswerFault → Taking → Type 0
-Tells (Ok u) sink = (sink.new ≡ sink.old) × (sink.failures_now ≡ sink.failures)
+-- the commands of which nothing is told where they are done
+abbrev pub IsQuiet : Options → Type 0
+IsQuiet (commands.List options) = Unit {0}
+IsQuiet (commands.Certify options) = Unit {0}
+IsQuiet (commands.Check options) = Unit {0}
+IsQuiet (commands.Run options) = Unit {0}
+IsQuiet (commands.RunThrough options) = ⊥
+
+-- nothing or the time where what was asked is done, and else the line that tells the fault
+abbrev pub Tells : Result Done AnswerFault → Taking → Type 0
+Tells (Ok Quietly) sink = (sink.new ≡ sink.old) × (sink.failures_now ≡ sink.failures)
+Tells (Ok (RunThrough time)) sink = Takes sink (time_line time)
 Tells (Err fault) sink = Takes sink (fault_line fault)
 
 -- What files are given: their bytes, where they are known, which of them have a source that fails, and how often one couldn't be
@@ -178,7 +207,7 @@ pub record Given : Type 1 where
 
 -- What the run came to, with the files that weren't read, the output, the status and the second sink that go with it.
 pub record Answers (files : Given) (options : Options) (output errors : Taking) (status : ℕ) : Type 0 where
-  pub outcome : Result (Unit {0}) AnswerFault
+  pub outcome : Result Done AnswerFault
   pub comes : ComesBy files.bytes options output.old output.new outcome
   pub unread : FailsByInput files.fails files.bytes (inputs_of options) files.failures files.failures_now outcome
   pub counts : FailsByOutput outcome output.failures output.failures_now

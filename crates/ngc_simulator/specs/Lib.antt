@@ -8,3 +8,4 @@ pub mod Shops
 pub mod Status
 pub mod Answers
 pub mod Unread
+pub mod Times

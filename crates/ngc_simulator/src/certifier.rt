@@ -9,6 +9,7 @@ ghost use Rattle.ngc_simulator.specs.Answers.{CertifyComes, FailsByOutput, certi
 ghost use Rattle.ngc_simulator.specs.Jobs.{Certifies, FailsByCertifying, IsMadeFor, UsesNoDevice, WhyNotMade, refused_at};
 ghost use Rattle.ngc_simulator.specs.Unread.{FailsByInput, SourceFails};
 
+use crate::done::Done;
 use crate::fault::AnswerFault;
 use crate::files::Files;
 use crate::setup::read_shop;
@@ -123,7 +124,7 @@ pub(crate) fn certify_files<F: Files, W: Sink>(
     options: &CertifyOptions<'_>,
     files: &mut F,
     output: &mut W,
-) -> Result<(), AnswerFault>
+) -> Result<Done, AnswerFault>
     requires { 1 ≤ options.now.cuts }
     ensures comes { CertifyComes (F.bytes files.old) options.now (W.written output.old) (W.written output.new) result }
     ensures unread { FailsByInput (SourceFails F.R.remaining F.R.failures) (F.bytes files.old) (certify_inputs options.now) (F.failures files.old) (F.failures files.new) result }
@@ -145,7 +146,7 @@ pub(crate) fn certify_files<F: Files, W: Sink>(
         options.cuts,
         output,
     ) {
-        Ok(()) => Ok(()),
+        Ok(()) => Ok(Done::Quietly),
         Err(fault) => Err(AnswerFault::Certify(fault)),
     }
 }

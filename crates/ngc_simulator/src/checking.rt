@@ -8,6 +8,7 @@ ghost use Rattle.ngc_simulator.specs.Answers.{CheckComes, FailsByOutput, check_i
 ghost use Rattle.ngc_simulator.specs.Jobs.{Checks, FailsByChecking, NeverReads};
 ghost use Rattle.ngc_simulator.specs.Unread.{FailsByInput, SourceFails};
 
+use crate::done::Done;
 use crate::fault::AnswerFault;
 use crate::files::Files;
 use crate::opening::read_program;
@@ -76,7 +77,7 @@ pub(crate) fn check_files<F: Files, W: Sink>(
     options: &CheckOptions<'_>,
     files: &mut F,
     output: &mut W,
-) -> Result<(), AnswerFault>
+) -> Result<Done, AnswerFault>
     ensures comes { CheckComes (F.bytes files.old) options.now (W.written output.old) (W.written output.new) result }
     ensures unread { FailsByInput (SourceFails F.R.remaining F.R.failures) (F.bytes files.old) (check_inputs options.now) (F.failures files.old) (F.failures files.new) result }
     ensures sink { FailsByOutput result (W.failures output.old) (W.failures output.new) }
@@ -101,7 +102,7 @@ pub(crate) fn check_files<F: Files, W: Sink>(
         &mut certificate,
         output,
     ) {
-        Ok(()) => Ok(()),
+        Ok(()) => Ok(Done::Quietly),
         Err(fault) => Err(AnswerFault::Check(fault)),
     }
 }

@@ -3,6 +3,7 @@
 
 mod certifier;
 mod checking;
+mod done;
 mod fault;
 mod files;
 mod lister;
@@ -12,12 +13,14 @@ mod program;
 mod report;
 mod report_certificates;
 mod report_runs;
+mod report_time;
 mod running;
 mod setup;
 mod through;
 
 pub use certifier::{CertifyFault, certify};
 pub use checking::{CheckingFault, check_program};
+pub use done::{Done, RunTime};
 pub use fault::AnswerFault;
 pub use files::Files;
 pub use lister::{ListFault, list};

@@ -6,6 +6,7 @@ ghost use Rattle.ngc_simulator.specs.Answers.{ListComes, FailsByOutput, list_inp
 ghost use Rattle.ngc_simulator.specs.Lists.{Lists, FailsByWriting};
 ghost use Rattle.ngc_simulator.specs.Unread.{FailsByInput, SourceFails};
 
+use crate::done::Done;
 use crate::fault::AnswerFault;
 use crate::files::Files;
 use crate::listing::write_list;
@@ -71,7 +72,7 @@ pub(crate) fn list_files<F: Files, W: Sink>(
     options: &ListOptions<'_>,
     files: &mut F,
     output: &mut W,
-) -> Result<(), AnswerFault>
+) -> Result<Done, AnswerFault>
     ensures comes { ListComes (F.bytes files.old) options.now (W.written output.old) (W.written output.new) result }
     ensures unread { FailsByInput (SourceFails F.R.remaining F.R.failures) (F.bytes files.old) (list_inputs options.now) (F.failures files.old) (F.failures files.new) result }
     ensures sink { FailsByOutput result (W.failures output.old) (W.failures output.new) }
@@ -92,7 +93,7 @@ pub(crate) fn list_files<F: Files, W: Sink>(
         options.delete,
         output,
     ) {
-        Ok(()) => Ok(()),
+        Ok(()) => Ok(Done::Quietly),
         Err(fault) => Err(AnswerFault::List(fault)),
     }
 }

@@ -1,14 +1,16 @@
 ghost use Rattle.std.specs.Prelude.{◌≡◌};
-ghost use Rattle.ngc_simulator.specs.Answers.{Answers, ComesBy, FailsByOutput, inputs_of};
+ghost use Rattle.ngc_simulator.specs.Answers.{Answers, ComesBy, FailsByOutput, IsQuiet, inputs_of};
 ghost use Rattle.ngc_simulator.specs.Status.{IsStatus};
 ghost use Rattle.ngc_simulator.specs.Unread.{FailsByInput, SourceFails};
 
 use crate::certifier::certify_files;
 use crate::checking::check_files;
+use crate::done::Done;
 use crate::fault::AnswerFault;
 use crate::files::Files;
 use crate::lister::list_files;
 use crate::report::add_fault_line;
+use crate::report_time::add_time_line;
 use crate::running::run_files;
 use crate::through::run_through_files;
 use ngc_command_line::Options;
@@ -21,7 +23,7 @@ fn run_command<F: Files, W: Sink>(
     options: &Options<'_>,
     files: &mut F,
     output: &mut W,
-) -> Result<(), AnswerFault>
+) -> Result<Done, AnswerFault>
     ensures comes { ComesBy (F.bytes files.old) options.now (W.written output.old) (W.written output.new) result }
     ensures unread { FailsByInput (SourceFails F.R.remaining F.R.failures) (F.bytes files.old) (inputs_of options.now) (F.failures files.old) (F.failures files.new) result }
     ensures sink { FailsByOutput result (W.failures output.old) (W.failures output.new) }
@@ -35,7 +37,8 @@ fn run_command<F: Files, W: Sink>(
     }
 }
 
-/// Does what the options ask: writes output to the first sink, and the line of a fault to the second. It answers the exit
+/// Does what the options ask: writes output to the first sink, and the line of a fault, or of the time of a run to the end, to
+/// the second. It answers the exit
 /// status: 0 for done, 1 for input, output or memory, 3 for a file or a program that is refused, 4 for a certificate that is
 /// refused or isn't made.
 pub fn answer<F: Files, W: Sink, E: Sink>(
@@ -48,12 +51,18 @@ pub fn answer<F: Files, W: Sink, E: Sink>(
     // Of the files that the options name: the listing, the certificate, the word that it is accepted, the log of the run, or a fault, and the status and the second sink tell which.
     ensures answers { Answers (record { bytes = F.bytes files.old; fails = SourceFails F.R.remaining F.R.failures; failures = F.failures files.old; failures_now = F.failures files.new }) options.now (record { old = W.written output.old; new = W.written output.new; failures = W.failures output.old; failures_now = W.failures output.new }) (record { old = E.written errors.old; new = E.written errors.new; failures = E.failures errors.old; failures_now = E.failures errors.new }) result }
     ensures status { IsStatus result }
-    // A run that is done has written what it had to, and nothing to the second sink.
+    // What is done has written what it had to, and nothing to the second sink but the time of a run to the end.
     ensures done { result ≡ 0 → W.failures output.new ≡ W.failures output.old }
-    ensures quiet { result ≡ 0 → E.written errors.new ≡ E.written errors.old }
+    ensures quiet { IsQuiet options.now → result ≡ 0 → E.written errors.new ≡ E.written errors.old }
 {
     match run_command(alloc, options, files, output) {
-        Ok(()) => 0,
+        Ok(Done::Quietly) => 0,
+        Ok(Done::RunThrough(time)) => {
+            let mut chunk = Chunk::new();
+            add_time_line(&mut chunk, &time);
+            let _ = chunk.write_out(errors);
+            0
+        }
         Err(fault) => {
             let mut chunk = Chunk::new();
             add_fault_line(&mut chunk, &fault);

@@ -8,6 +8,7 @@ ghost use Rattle.ngc_simulator.specs.Answers.{RunComes, FailsByOutput, run_input
 ghost use Rattle.ngc_simulator.specs.Running.{Runs, FailsByRunning, ReadsNoFile};
 ghost use Rattle.ngc_simulator.specs.Unread.{FailsByInput, SourceFails};
 
+use crate::done::Done;
 use crate::fault::AnswerFault;
 use crate::files::Files;
 use crate::opening::{read_certificate, read_program};
@@ -81,7 +82,7 @@ pub(crate) fn run_files<F: Files, W: Sink>(
     options: &RunOptions<'_>,
     files: &mut F,
     output: &mut W,
-) -> Result<(), AnswerFault>
+) -> Result<Done, AnswerFault>
     ensures comes { RunComes (F.bytes files.old) options.now (W.written output.old) (W.written output.new) result }
     ensures unread { FailsByInput (SourceFails F.R.remaining F.R.failures) (F.bytes files.old) (run_inputs options.now) (F.failures files.old) (F.failures files.new) result }
     ensures sink { FailsByOutput result (W.failures output.old) (W.failures output.new) }
@@ -112,7 +113,7 @@ pub(crate) fn run_files<F: Files, W: Sink>(
         options.delete,
         output,
     ) {
-        Ok(_) => Ok(()),
+        Ok(_) => Ok(Done::Quietly),
         Err(fault) => Err(AnswerFault::Run(fault)),
     }
 }

@@ -8,6 +8,7 @@ ghost use Rattle.ngc_simulator.specs.Answers.{RunThroughComes, FailsByOutput, ru
 ghost use Rattle.ngc_simulator.specs.Running.{RunsThrough, FailsByRunning, ReadsNoFile};
 ghost use Rattle.ngc_simulator.specs.Unread.{FailsByInput, SourceFails};
 
+use crate::done::{Done, RunTime};
 use crate::fault::AnswerFault;
 use crate::files::Files;
 use crate::opening::{read_certificate, read_program};
@@ -49,13 +50,13 @@ pub fn run_program_through<A: Allocator + Copy, W: Sink>(
     }
 }
 
-// The log of a run to the end. Each file is read before the next one is opened.
+// The log of a run to the end, and how long it took. Each file is read before the next one is opened.
 pub(crate) fn run_through_files<F: Files, W: Sink>(
     alloc: Global,
     options: &RunThroughOptions<'_>,
     files: &mut F,
     output: &mut W,
-) -> Result<(), AnswerFault>
+) -> Result<Done, AnswerFault>
     ensures comes { RunThroughComes (F.bytes files.old) options.now (W.written output.old) (W.written output.new) result }
     ensures unread { FailsByInput (SourceFails F.R.remaining F.R.failures) (F.bytes files.old) (run_through_inputs options.now) (F.failures files.old) (F.failures files.new) result }
     ensures sink { FailsByOutput result (W.failures output.old) (W.failures output.new) }
@@ -81,7 +82,10 @@ pub(crate) fn run_through_files<F: Files, W: Sink>(
         options.delete,
         output,
     ) {
-        Ok(_) => Ok(()),
+        Ok(report) => Ok(Done::RunThrough(RunTime {
+            ticks: report.ticks,
+            ticks_per_second: shop.machine.ticks_per_second,
+        })),
         Err(fault) => Err(AnswerFault::Run(fault)),
     }
 }

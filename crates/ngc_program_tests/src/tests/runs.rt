@@ -1,5 +1,5 @@
 use super::certificates::{NO_MOTIONS, holds};
-use super::{RUN, SHORT_WAY, Texts, certify_options, comes_to, on_the_mill, outcome_of};
+use super::{MACHINE, Outcome, RUN, SHORT_WAY, Texts, certify_options, comes_to, on_the_mill, outcome_of};
 use ngc_fixed_length::StepPos;
 use ngc_simulator::{Options, Report, RunOptions, RunThroughOptions};
 use std::alloc::Global;
@@ -262,15 +262,54 @@ const WHOLE_RUNS: &[(&str, &str)] = &[
     ),
 ];
 
+// What a run without events comes to on the mill, at so many ticks a second.
+fn whole_run(
+    rt: &impl Abort,
+    alloc: Global,
+    ticks_per_second: u32,
+    program: &str,
+) -> Result<Outcome, Fail> {
+    let rate = format!(in alloc; "ticks_per_second = {ticks_per_second}\n")?;
+    let machine = MACHINE.replace(alloc, "ticks_per_second = 10000\n", rate.as_str())?;
+    let certificate = certificate_of(rt, alloc, program);
+    let texts = Texts {
+        machine: machine.as_bytes(),
+        certificate: certificate.as_slice(),
+        ..on_the_mill(program)
+    };
+    let options = Options::RunThrough(RUN_THROUGH);
+    Ok(outcome_of(alloc, texts, &options))
+}
+
 #[test]
-fn runs_without_events(rt: HostRuntime) {
+fn runs_without_events(rt: HostRuntime) -> Result<(), Fail> {
     for (program, log) in WHOLE_RUNS {
-        let certificate = certificate_of(&rt, rt.alloc(), program);
-        let texts = Texts {
-            certificate: certificate.as_slice(),
-            ..on_the_mill(program)
-        };
-        let options = Options::RunThrough(RUN_THROUGH);
-        comes_to(&rt, rt.alloc(), texts, &options, Ok(*log), program);
+        let found = whole_run(&rt, rt.alloc(), 10_000, program)?;
+        assert_eq!(rt; found.status, 0, "at {program}");
+        assert_eq!(rt; found.output.as_slice(), log.as_bytes(), "at {program}");
     }
+    Ok(())
+}
+
+// Ticks a second, a program, and the time of its run without events. A dwell takes its ticks, at least one, and each other
+// command of these takes one.
+const TIMES: &[(u32, &str, &str)] = &[
+    (10_000, "M0\nM1\nM2\n", "ngc: ticks 3 time 0:00:00.000\n"),
+    (3, "G4 P0\nM2\n", "ngc: ticks 2 time 0:00:00.666\n"),
+    (1_000, "G4 P0.049\nM2\n", "ngc: ticks 50 time 0:00:00.050\n"),
+    (1_000, "G4 P59.998\nM2\n", "ngc: ticks 59999 time 0:00:59.999\n"),
+    (1_000, "G4 P59.999\nM2\n", "ngc: ticks 60000 time 0:01:00.000\n"),
+    (1, "G4 P3598\nM2\n", "ngc: ticks 3599 time 0:59:59.000\n"),
+    (8, "G4 P3661.5\nM2\n", "ngc: ticks 29293 time 1:01:01.625\n"),
+    (1, "G4 P45296\nM2\n", "ngc: ticks 45297 time 12:34:57.000\n"),
+];
+
+#[test]
+fn the_time_of_runs_without_events(rt: HostRuntime) -> Result<(), Fail> {
+    for (ticks_per_second, program, time) in TIMES {
+        let found = whole_run(&rt, rt.alloc(), *ticks_per_second, program)?;
+        assert_eq!(rt; found.errors.as_slice(), time.as_bytes(), "at {program}");
+        assert_eq!(rt; found.status, 0, "at {program}");
+    }
+    Ok(())
 }

@@ -4,7 +4,7 @@ use Rattle.ngc_certificate_text.specs.Contents.{said_of}
 use Rattle.ngc_simulator.specs.declared.running.RunningFault.TheVariants as running
 use Rattle.ngc_simulator.proofs.FileLaws.{all_known}
 use Rattle.ngc_simulator.proofs.JobLaws.{keeps_same}
-use Rattle.ngc_simulator.proofs.RunLaws.{no_certificate, went_files}
+use Rattle.ngc_simulator.proofs.RunLaws.{no_certificate, run_timed, went_files}
 use Rattle.ngc_simulator.specs.Answers.{certificate_input, program_input, run_through_inputs}
 use Rattle.ngc_simulator.specs.Unread.{OfCertificate, OfProgram, SourceFails, certificate_unread, program_unread, shop_inputs, unread_by}
 use Rattle.ngc_simulator.proofs.UnreadLaws.{all_read, is_read, run_told, shop_read, told_before, told_behind}
@@ -28,11 +28,12 @@ returns-in-Err-read_certificate-clause-comes g c =
 
 pub returns-in-Ok-run_program_through-clause-comes : goal.returns-in-Ok-run_program_through-clause-comes
 returns-in-Ok-run_program_through-clause-comes g c = (
-  c.in-Ok-run_program_through.field-0,
-  went_files (g.F.Files.bytes c.args.files.now) (g.F.Files.bytes c.read_shop.new.files) (g.F.Files.bytes c.read_program.new.files) c.args.options.now c.in-Ok.shop (g.W.Sink.written c.args.output.now) (g.W.Sink.written c.run_program_through.new.output) (Ok c.in-Ok-run_program_through.field-0) _ _
+  c.in-Ok-run_program_through.report,
+  went_files (g.F.Files.bytes c.args.files.now) (g.F.Files.bytes c.read_shop.new.files) (g.F.Files.bytes c.read_program.new.files) c.args.options.now c.in-Ok.shop (g.W.Sink.written c.args.output.now) (g.W.Sink.written c.run_program_through.new.output) (Ok c.in-Ok-run_program_through.report) _ _
       c.in-Ok.ensures.said c.read_shop.ensures.keeps c.read_program.ensures.named
       c.in-Ok-read_program.ensures.text c.in-Ok-read_certificate.ensures.said
       (λ a b is_text said. c.in-Ok-run_program_through.ensures.runs a b is_text c.in-Ok-read_program.ensures.readings said),
+  run_timed (g.F.Files.bytes c.args.files.now) c.args.options.now c.in-Ok.shop c.in-Ok-run_program_through.report _ c.in-Ok.ensures.said refl refl,
 )
 
 pub returns-clause-comes : goal.returns-clause-comes

@@ -1,0 +1,18 @@
+ghost use Rattle.std.specs.Prelude.{◌≤◌};
+
+/// How long a run took: its ticks, and how many of them the machine gives a second.
+#[derive(Clone, Copy, Debug, PartialEq, Eq)]
+pub struct RunTime {
+    pub ticks: u128,
+    pub ticks_per_second: u32,
+    ghost some_ticks: { 1 ≤ ticks_per_second },
+}
+
+/// What is done where nothing is refused.
+#[derive(Clone, Copy, Debug, PartialEq, Eq)]
+pub enum Done {
+    /// What is written says it all.
+    Quietly,
+    /// A program was run through to its end, and took so long.
+    RunThrough(RunTime),
+}
