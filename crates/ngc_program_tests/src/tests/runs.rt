@@ -1,5 +1,7 @@
 use super::certificates::{NO_MOTIONS, holds};
-use super::{MACHINE, Outcome, RUN, SHORT_WAY, Texts, certify_options, comes_to, on_the_mill, outcome_of};
+use super::{
+    MACHINE, Outcome, RUN, SHORT_WAY, Texts, certify_options, comes_to, on_the_mill, outcome_of,
+};
 use ngc_fixed_length::StepPos;
 use ngc_simulator::{Options, Report, RunOptions, RunThroughOptions};
 use std::alloc::Global;
@@ -297,8 +299,16 @@ const TIMES: &[(u32, &str, &str)] = &[
     (10_000, "M0\nM1\nM2\n", "ngc: ticks 3 time 0:00:00.000\n"),
     (3, "G4 P0\nM2\n", "ngc: ticks 2 time 0:00:00.666\n"),
     (1_000, "G4 P0.049\nM2\n", "ngc: ticks 50 time 0:00:00.050\n"),
-    (1_000, "G4 P59.998\nM2\n", "ngc: ticks 59999 time 0:00:59.999\n"),
-    (1_000, "G4 P59.999\nM2\n", "ngc: ticks 60000 time 0:01:00.000\n"),
+    (
+        1_000,
+        "G4 P59.998\nM2\n",
+        "ngc: ticks 59999 time 0:00:59.999\n",
+    ),
+    (
+        1_000,
+        "G4 P59.999\nM2\n",
+        "ngc: ticks 60000 time 0:01:00.000\n",
+    ),
     (1, "G4 P3598\nM2\n", "ngc: ticks 3599 time 0:59:59.000\n"),
     (8, "G4 P3661.5\nM2\n", "ngc: ticks 29293 time 1:01:01.625\n"),
     (1, "G4 P45296\nM2\n", "ngc: ticks 45297 time 12:34:57.000\n"),
