@@ -1,11 +1,11 @@
 -- The first line feed among bytes.
-use Rattle.std.proofs.Common.{◌≡◌, ℕ, zero, suc, ◌+◌, ◌<◌, ◌≤◌, ap, true, Some, None, List, [], ◌∷◌, ◌++◌, length, take, drop, refl, sym, ◌∙◌, arith}
+use Rattle.std.proofs.Common.{◌≡◌, ℕ, zero, suc, ◌<◌, ◌≤◌, ap, true, Some, None, List, [], ◌∷◌, ◌++◌, length, take, drop, refl, sym, ◌∙◌, arith}
 use Rattle.std.specs.Prelude.{◌==◌, not, slice_index}
 use Rattle.std.proofs.lemmas.Bool.{and_from}
 use Rattle.std.proofs.lemmas.Bool.Decides.{nat_tests}
 use Rattle.std.proofs.lemmas.List.{take_all}
 use Rattle.memchr.specs.Find.{IsFirstByte, is_byte}
-use Rattle.ngc_certificate_text.specs.Pulled.{is_feedless}
+use Rattle.ngc_certificate_text.specs.Parted.{is_feedless, IsSplit}
 
 other_byte : (b : ℕ) → ((b == 10) ≡ true → ⊥) → not (b == 10) ≡ true
 other_byte b h = grind (arith, nat_tests)
@@ -20,30 +20,20 @@ feedless_front [] (suc n) h none = absurd (omega (arith, h))
 feedless_front (b ∷ bytes) (suc n) h none =
     and_from _ _ (other_byte b (none 0 (omega arith))) (feedless_front bytes n (omega arith) (λ k l. none (suc k) (omega arith)))
 
-parted : (bytes : List ℕ) (k : ℕ) → k < length bytes → slice_index bytes k ≡ 10 → bytes ≡ take k bytes ++ (10 ∷ drop (k + 1) bytes)
+parted : (bytes : List ℕ) (k : ℕ) → k < length bytes → slice_index bytes k ≡ 10 → bytes ≡ take k bytes ++ (10 ∷ drop 1 (drop k bytes))
 parted [] k h e = absurd (omega (arith, h))
 parted (b ∷ bytes) zero h e = ap (λ x. x ∷ bytes) e
-parted (b ∷ bytes) (suc k) h e = ap (λ l. b ∷ l) (parted bytes k (omega arith) e) ∙ ap (λ n. (b ∷ take k bytes) ++ (10 ∷ drop n (b ∷ bytes))) (sym (by_one k)) where
-  by_one : (k : ℕ) → suc k + 1 ≡ suc (k + 1)
-  by_one k = omega arith
+parted (b ∷ bytes) (suc k) h e = ap (λ l. b ∷ l) (parted bytes k (omega arith) e)
 
 pub no_feed_found : (bytes : List ℕ) → IsFirstByte (is_byte 10) bytes None → is_feedless bytes ≡ true
 no_feed_found bytes h =
     ap is_feedless (sym (take_all (length bytes) bytes (omega arith))) ∙ feedless_front bytes (length bytes) (omega arith) (λ k l. h k (omega arith) l)
 
-pub feed_found : (bytes : List ℕ) (k : ℕ) → IsFirstByte (is_byte 10) bytes (Some k) → (bytes ≡ take k bytes ++ (10 ∷ drop (k + 1) bytes)) × (is_feedless (take k bytes) ≡ true)
-feed_found bytes k h = (parted bytes k h.0.high (feed_byte _ h.1), feedless_front bytes k (omega (arith, h.0.high)) (λ j l. h.0.before j (omega arith) l))
+pub feed_found : (bytes : List ℕ) (k : ℕ) → IsFirstByte (is_byte 10) bytes (Some k) → IsSplit bytes (take k bytes) (drop 1 (drop k bytes))
+feed_found bytes k h = record {
+  feedless = feedless_front bytes k (omega (arith, h.0.high)) (λ j l. h.0.before j (omega arith) l);
+  parts = parted bytes k h.0.high (feed_byte _ h.1);
+}
 
 pub feed_within : (bytes : List ℕ) (k : ℕ) → IsFirstByte (is_byte 10) bytes (Some k) → k < length bytes
 feed_within bytes k h = h.0.high
-
-pub no_room : (n : ℕ) → (n ≤ 256 → ⊥) → 256 < n
-no_room n h = omega arith
-
--- a window whose first line feed is found
-pub cut_found : (window bytes : List ℕ) (k : ℕ) → bytes ≡ window → IsFirstByte (is_byte 10) bytes (Some k)
-    → (window ≡ take k bytes ++ (10 ∷ drop (k + 1) window)) × (is_feedless (take k bytes) ≡ true)
-cut_found window bytes k e h = let f = feed_found bytes k h in (sym e ∙ f.0 ∙ ap (λ (w : List ℕ). take k bytes ++ (10 ∷ drop (k + 1) w)) e, f.1)
-
-pub cut_open : (window bytes : List ℕ) → bytes ≡ window → IsFirstByte (is_byte 10) bytes None → is_feedless window ≡ true
-cut_open window bytes e h = ap is_feedless (sym e) ∙ no_feed_found bytes h

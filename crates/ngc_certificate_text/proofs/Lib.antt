@@ -10,9 +10,11 @@ pub mod PartLemmas
 pub mod ClampLaws
 pub mod WordLemmas
 pub mod Feeds
-pub mod InputLaws
-pub mod FollowLaws
-pub mod ReadLaws
+pub mod AheadLaws
+pub mod FoundLaws
+pub mod Parting
+pub mod TextLaws
+pub mod ReaderLaws
 mod Examples
 pub mod Fronts
 pub mod Spelled

@@ -1,9 +1,8 @@
 -- What a certificate says: for both settings of block delete the motions in order, each with its pieces. Our own.
-use Rattle.std.specs.Prelude.{ℕ, nat_le, ◌≤◌, ℤ, pos, negsuc, nat_lt, List, [], length, slice_index_or, IsTrue, Bool, ◌&&◌}
+use Rattle.std.specs.Prelude.{ℕ, nat_le, ◌≤◌, List, [], length, slice_index_or, IsTrue, Bool, ◌&&◌}
 use Rattle.std.specs.List.{All, list_all}
 use Rattle.ngc_fixed_length.specs.Boxes.{is_below}
 use Rattle.ngc_fixed_length.specs.Signed.{is_within}
-use Rattle.ngc_fixed_length.specs.declared.points.GridBox.{GridBox}
 use Rattle.ngc_certificate_text.specs.declared.piece.Cut.{Cut}
 use Rattle.ngc_certificate_text.specs.declared.piece.Cut.TheVariants.{Part, Place}
 use Rattle.ngc_certificate_text.specs.declared.piece.Piece.{Piece}

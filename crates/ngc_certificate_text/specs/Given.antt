@@ -5,7 +5,6 @@ use Rattle.ngc_certificate_text.specs.declared.fault.CertificateFault.{Certifica
 use Rattle.ngc_certificate_text.specs.declared.fault.CertificateFault.TheVariants.{WrongHeader, BadLine, OutOfRange}
 use Rattle.ngc_certificate_text.specs.declared.fault.CertificateFault.TheVariants.{Memory, ReadFailed}
 use Rattle.ngc_certificate_text.specs.Certificate.{CertificateData}
-use Rattle.ngc_certificate_text.specs.Contents.{said_of}
 
 -- the answer is what the text says, but for want of memory and the source's failure
 abbrev pub GivesCertificate : {A : Type 0} → (Certificate A → CertificateData) → Result (Certificate A) CertificateFault
@@ -16,8 +15,3 @@ GivesCertificate view (Err (BadLine n)) says = says ≡ Err (BadLine n)
 GivesCertificate view (Err (OutOfRange n)) says = says ≡ Err (OutOfRange n)
 GivesCertificate view (Err Memory) says = Unit {0}
 GivesCertificate view (Err ReadFailed) says = Unit {0}
-
--- what a certificate that was read says
-abbrev pub data_of : {A : Type 0} → Result (Certificate A) CertificateFault → Result CertificateData CertificateFault
-data_of (Ok c) = Ok (said_of c)
-data_of (Err fault) = Err fault

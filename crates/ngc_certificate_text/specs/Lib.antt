@@ -6,10 +6,12 @@ pub mod Faults
 pub mod Number
 pub mod Lines
 pub mod Said
-pub mod Window
 pub mod Clamped
 pub mod Parts
 pub mod Pulled
-pub mod Follows
+pub mod Ahead
+pub mod Parted
+pub mod Reader
+pub mod ReaderView
 pub mod Given
 pub mod Collects

@@ -2,18 +2,21 @@
 #![tactic(auto)]
 
 mod certificate;
+mod expected;
 mod fault;
-mod input;
+mod found;
 pub mod laws;
 mod lines;
 mod motions;
 mod number;
 mod piece;
 mod read;
-mod window;
+mod reader;
+mod text;
 mod write;
 
 pub use certificate::Certificate;
 pub use fault::CertificateFault;
 pub use motions::Motions;
 pub use piece::{Cut, Piece, Setting};
+pub use reader::CertificateReader;

@@ -1,0 +1,13 @@
+-- What is left of the source comes to what all of it does.
+use Rattle.std.proofs.Common.{◌≡◌}
+use Rattle.ngc_certificate_text.specs.ReaderView.{room_in, Goes}
+use Rattle.ngc_certificate_text.proofs.certificate.Certificate.read.Given as goal
+
+abbrev pub invariant-loop-count : goal.invariant-loop-count
+invariant-loop-count g l = record {
+  text : Goes (g.R.Source.remaining l.initial.source) (g.R.Source.remaining l.source) l.reader;
+  failures : g.R.Source.failures l.source ≡ g.R.Source.failures l.initial.source;
+}
+
+abbrev pub decreases-loop-count : goal.decreases-loop-count
+decreases-loop-count g l = room_in l.reader

@@ -1,0 +1,59 @@
+-- A certificate's text that comes in pieces of any size: what stands of it already. It is our own that a fault is answered as
+-- soon as it stands.
+use Rattle.std.specs.Prelude.{◌≡◌, ℕ, ◌-◌, ◌*◌, ◌≤◌, ◌<◌, ◌==◌, nat_le, List, [], ◌∷◌, ◌++◌, length, IsTrue, Bool, not, if◌then◌else◌}
+use Rattle.std.specs.List.{list_all}
+use Rattle.ngc_certificate_text.specs.declared.text.TextSoFar.{TextSoFar}
+use Rattle.ngc_certificate_text.specs.Ahead.{Outcome, said_behind, IsExpecting, lines_ahead}
+use Rattle.ngc_certificate_text.specs.Said.{lines_of}
+
+-- The bytes that stand whatever follows, behind the beginning of a line: those of lines that a line feed ends, and of a line that
+-- has more than 256 bytes already.
+abbrev pub firm_behind : List ℕ → List ℕ → List ℕ
+firm_behind line [] = if nat_le (length line) 256 then [] else line
+firm_behind line (b ∷ bytes) =
+    if b == 10 then line ++ (10 ∷ firm_behind [] bytes) else firm_behind (line ++ (b ∷ [])) bytes
+
+abbrev pub firm : List ℕ → List ℕ
+firm bytes = firm_behind [] bytes
+
+-- the lines of the bytes that stand and of others behind them
+abbrev pub firm_lines : List ℕ → List ℕ → List (List ℕ)
+firm_lines rest bytes = lines_of (firm bytes ++ rest)
+
+-- ---- lines
+
+-- no byte is a line feed
+abbrev pub is_feedless : List ℕ → Bool
+is_feedless bytes = list_all (λ b. not (b == 10)) bytes
+
+-- bytes that a line feed parts
+pub record IsSplit (bytes line behind : List ℕ) : Type 0 where
+  pub feedless : IsTrue (is_feedless line)
+  pub parts : bytes ≡ line ++ (10 ∷ behind)
+
+-- the first of some lines begins so
+pub record GoesOn (lines : List (List ℕ)) (line : List ℕ) : Type 0 where
+  pub more : List ℕ
+  pub behind : List (List ℕ)
+  pub split : lines ≡ (line ++ more) ∷ behind
+
+-- A way to part bytes into lines: a line feed ends one, and one that is too long already goes on whatever follows.
+pub record PartsLines (lines : List ℕ → List (List ℕ)) : Type 0 where
+  pub ends : (line rest : List ℕ) → IsTrue (is_feedless line) → lines (line ++ (10 ∷ rest)) ≡ line ∷ lines rest
+  pub long : (line rest : List ℕ) → IsTrue (is_feedless line) → 256 < length line → GoesOn (lines (line ++ rest)) line
+  pub some : (bytes : List ℕ) → GoesOn (lines bytes) []
+
+-- ---- the lines so far, and the beginning of one more
+
+-- what comes of these bytes, parted into lines in this way, behind those so far
+abbrev pub resumed : {A : Type 0} → (List ℕ → List (List ℕ)) → TextSoFar A → List ℕ → Outcome
+resumed lines t bytes = said_behind t.found (lines (t.cut.items ++ bytes))
+
+pub record IsReading {A : Type 0} (t : TextSoFar A) : Type 0 where
+  pub expecting : IsExpecting t.found
+  pub feedless : IsTrue (is_feedless t.cut.items)
+  pub short : length t.cut.items ≤ 256
+
+-- how many bytes more can be taken at most
+abbrev pub room_of : {A : Type 0} → TextSoFar A → ℕ
+room_of t = 257 * lines_ahead t.found.expected - length t.cut.items

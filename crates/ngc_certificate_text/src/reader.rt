@@ -1,0 +1,107 @@
+ghost use Rattle.std.specs.Prelude.{◌≡◌, ◌≢◌, Some, None};
+ghost use Rattle.std.proofs.Props.{props};
+ghost use Rattle.ngc_certificate_text.specs.Parted.{IsReading};
+ghost use Rattle.ngc_certificate_text.specs.declared.fault.CertificateFault.TheVariants.{ReadFailed};
+
+use crate::certificate::Certificate;
+use crate::fault::CertificateFault;
+use crate::text::TextSoFar;
+use std::alloc::Allocator;
+
+/// A certificate that comes in pieces of any size.
+///
+/// ```text
+/// let mut reader = CertificateReader::new(alloc);
+/// reader.feed(b"ngc-certificate 1\nsetting off 0\nset")?;
+/// reader.feed(b"ting on 0\nend\n")?;
+/// let certificate = reader.finish()?;
+/// ```
+///
+/// The certificate is the one that `Certificate::read` reads from all pieces joined. A line may be
+/// cut anywhere, and a piece may have no bytes. After a fault, want of memory among them, each
+/// later call answers it again.
+#[derive(Drop)]
+pub struct CertificateReader<A: Allocator> {
+    text: TextSoFar<A>,
+    refusal: Option<CertificateFault>,
+    ghost reading: { refusal ≡ None → IsReading text } by { Prim.hlevel props },
+    ghost no_device: { refusal ≢ Some ReadFailed } by { Prim.hlevel props },
+}
+
+impl<A: Allocator> CertificateReader<A> {
+    ghost use Rattle.std.specs.Prelude.{ℕ, List, [], ◌+◌, ◌≤◌, ◌++◌, length, IsTrue, MatchResult, OnOk, IfSome, Err};
+    ghost use Rattle.std.specs.Result.{result_err};
+    ghost use Rattle.ngc_certificate_text.specs.Ahead.{FaultIs};
+    ghost use Rattle.ngc_certificate_text.specs.Contents.{said_of};
+    ghost use Rattle.ngc_certificate_text.specs.Given.{GivesCertificate};
+    ghost use Rattle.ngc_certificate_text.specs.Parted.{firm};
+    ghost use Rattle.ngc_certificate_text.specs.ReaderView.{outcome_in, firm_in, refusal_in, room_in, AnswerIs};
+    ghost use Rattle.ngc_certificate_text.specs.Said.{certificate_said};
+
+    /// A reader that was fed nothing yet.
+    pub fn new(alloc: A) -> CertificateReader<A>
+    where
+        A: Copy,
+        ensures text { (bytes : List ℕ) → certificate_said bytes ≡ outcome_in result bytes }
+        ensures firm { (bytes rest : List ℕ) → certificate_said (firm bytes ++ rest) ≡ firm_in result bytes rest }
+        ensures going { refusal_in result ≡ None }
+    {
+        CertificateReader {
+            text: TextSoFar::new(alloc),
+            refusal: None,
+        }
+    }
+
+    /// Takes the next bytes of the text, any number of them. A fault is answered as soon as it
+    /// stands: by the piece with the line feed that ends its line, or with the 257th byte of a line
+    /// that is too long.
+    pub fn feed(&mut self, piece: &[u8]) -> Result<(), CertificateFault>
+        // The fault is the one that the lines so far have whatever follows, and where they have none, none is answered.
+        ensures answer { AnswerIs result (firm_in self.old piece.now) }
+        ensures firm { OnOk result ((more rest : List ℕ) → firm_in self.old (piece.now ++ more) rest ≡ firm_in self.new more rest) }
+        // Whatever follows, the text comes to the same as if this piece stood in front of it: a fault stays.
+        ensures text { (rest : List ℕ) → MatchResult result (λ _. outcome_in self.old (piece.now ++ rest) ≡ outcome_in self.new rest) (λ fault. FaultIs fault (outcome_in self.old (piece.now ++ rest))) }
+        // A fault is kept, also want of memory, and answered again.
+        ensures refusal { refusal_in self.new ≡ result_err result }
+        ensures again { IfSome (refusal_in self.old) (λ fault. result ≡ Err fault) }
+        ensures device { result ≢ Err ReadFailed }
+        // A text is no longer than its lines may be.
+        ensures room { OnOk result (room_in self.new + length piece.now ≤ room_in self.old) }
+    {
+        match self.refusal {
+            None => match self.text.feed(piece) {
+                Ok(()) => Ok(()),
+                Err(fault) => {
+                    self.refusal = Some(fault);
+                    Err(fault)
+                }
+            },
+            Some(fault) => Err(fault),
+        }
+    }
+
+    // Whether bytes stand behind the end, so that what follows changes nothing.
+    pub(crate) fn goes_too_far(&self) -> bool
+        ensures { IsTrue result → (rest : List ℕ) → outcome_in self.now rest ≡ outcome_in self.now [] }
+    {
+        match self.refusal {
+            None => self.text.goes_too_far(),
+            Some(_) => true,
+        }
+    }
+
+    /// The certificate, where no byte comes any more; else the fault that was answered, or that of
+    /// a line that is missing or lacks its line feed.
+    pub fn finish(self) -> Result<Certificate<A>, CertificateFault>
+        // The answer is what the pieces say together, but for want of memory.
+        ensures said { GivesCertificate said_of result (outcome_in self []) }
+        ensures again { IfSome (refusal_in self) (λ fault. result ≡ Err fault) }
+        ensures device { result ≢ Err ReadFailed }
+    {
+        let CertificateReader { text, refusal } = self;
+        match refusal {
+            None => text.finish(),
+            Some(fault) => Err(fault),
+        }
+    }
+}
