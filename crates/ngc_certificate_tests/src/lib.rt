@@ -6,6 +6,8 @@ mod checking;
 #[cfg(test)]
 mod devices;
 #[cfg(test)]
+mod feeding;
+#[cfg(test)]
 mod given;
 #[cfg(test)]
 mod making;

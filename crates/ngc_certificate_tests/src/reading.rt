@@ -8,7 +8,7 @@ use ngc_fixed_length::{Device, Nm, Point2};
 use std::alloc::{AllocError, Global};
 use std::test::Fail;
 
-const SAMPLE: &[u8] = b"ngc-certificate 1\n\
+pub(crate) const SAMPLE: &[u8] = b"ngc-certificate 1\n\
     setting off 2\n\
     motion 0 1\n\
     line 65536 0 0 -100 500 600 0\n\
@@ -73,7 +73,7 @@ fn reads_a_certificate(rt: HostRuntime) -> Result<(), Fail> {
     Ok(())
 }
 
-static TEXTS: [(&str, Option<CertificateFault>); 26] = [
+pub(crate) static TEXTS: [(&str, Option<CertificateFault>); 26] = [
     ("", WRONG_HEADER),
     ("ngc-certificate 1", WRONG_HEADER),
     (
