@@ -1,5 +1,5 @@
 -- The options are read back from the words that spell them.
-use Rattle.std.proofs.Common.{◌≡◌, ◌==◌, ◌∙◌, [], ◌∷◌, cond, drop, if◌then◌else◌, ℕ, Bool, true, false, List, Option, Some, None, refl, subst, sym, codes, ◌≤◌, ◌<◌, ◌^◌, ap, option_map, arith}
+use Rattle.std.proofs.Common.{◌≡◌, ◌==◌, ◌∙◌, [], ◌∷◌, cond, drop, if◌then◌else◌, ℕ, Bool, true, false, List, Option, Some, None, refl, inl, inr, subst, sym, codes, ◌≤◌, ◌<◌, ◌^◌, ap, option_map, arith}
 use Rattle.std.specs.Prelude.{unwrap_or}
 use Rattle.std.specs.Fmt.{decimal}
 use Rattle.std.specs.Str.Parse.{IsNumeral, digits_value, without_leading_plus}
@@ -15,11 +15,11 @@ use Rattle.std.proofs.lemmas.Bool.{ne_eqb}
 use Rattle.std.proofs.lemmas.Str.Parse.{digit_from_value}
 use Rattle.clap.specs.declared.builder.value_parser.ValueParser.TheVariants.{Unsigned}
 use Rattle.clap.proofs.ValueTestLemmas.{Accepts-accepts}
-use Rattle.ngc_command_line.specs.CommandLine.{certify_words, check_words, list_words, ngc_app, run_words}
-use Rattle.ngc_command_line.specs.Meant.{AreCuts, AreCutsInRange, AreOptions, AsksForCertify, AsksForCheck, AsksForList, AsksForRun, IsTaken, is_set}
+use Rattle.ngc_command_line.specs.CommandLine.{certify_words, check_words, help_words, list_words, ngc_app, run_words}
+use Rattle.ngc_command_line.specs.Meant.{AreCommands, AreCuts, AreCutsInRange, AreOptions, AsksForCertify, AsksForCheck, AsksForHelp, AsksForList, AsksForRun, IsTaken, is_set}
 use Rattle.ngc_command_line.specs.declared.options.Options.{Options}
-use Rattle.ngc_command_line.specs.declared.options.Options.TheVariants.{Certify as ToCertify, Check as ToCheck, List as ToList, Run as ToRun, RunThrough as ToRunThrough}
-use Rattle.ngc_command_line.proofs.Whole.{other_name}
+use Rattle.ngc_command_line.specs.declared.options.Options.TheVariants.{Certify as ToCertify, Check as ToCheck, Explain as ToExplain, Help as ToHelp, List as ToList, Run as ToRun, RunThrough as ToRunThrough, Version as ToVersion}
+use Rattle.ngc_command_line.proofs.Whole.{other_letter, other_name}
 
 -- the words are taken, and this holds of the subcommand that they name
 abbrev Spells : List Text → (Option (Text × List Row) → Type 0) → Type 0
@@ -59,6 +59,9 @@ list_asked program machine tools delete (Some found) (ToCertify certify) finds a
 list_asked program machine tools delete (Some found) (ToCheck check) finds are = other_name (codes "list") (codes "check") (sym finds.0 ∙ are.0) (λ lengths. omega (arith, lengths))
 list_asked program machine tools delete (Some found) (ToRun run) finds are = other_name (codes "list") (codes "run") (sym finds.0 ∙ are.0) (λ lengths. omega (arith, lengths))
 list_asked program machine tools delete (Some found) (ToRunThrough run) finds are = other_name (codes "list") (codes "run") (sym finds.0 ∙ are.0) (λ lengths. omega (arith, lengths))
+list_asked program machine tools delete (Some found) (ToExplain number) finds are = other_name (codes "list") (codes "explain") (sym finds.0 ∙ are.0) (λ differ. omega (arith, differ))
+list_asked program machine tools delete (Some found) (ToHelp command) finds are = other_letter (codes "list") (codes "help") (sym finds.0 ∙ are.0) (λ differ. omega (arith, differ))
+list_asked program machine tools delete (Some found) ToVersion finds are = other_name (codes "list") (codes "version") (sym finds.0 ∙ are) (λ differ. omega (arith, differ))
 
 pub list_taken : (words : List Text) (program machine tools : Option Text) (delete : Bool) → words ≡ list_words program machine tools delete → IsTaken words
 list_taken words program machine tools delete spelled = subst IsTaken (sym spelled) (list_spells program machine tools delete).0
@@ -92,6 +95,9 @@ check_asked machine tools certificate program (Some found) (ToCertify certify) f
 check_asked machine tools certificate program (Some found) (ToList list) finds are = other_name (codes "check") (codes "list") (sym finds.0 ∙ are.0) (λ lengths. omega (arith, lengths))
 check_asked machine tools certificate program (Some found) (ToRun run) finds are = other_name (codes "check") (codes "run") (sym finds.0 ∙ are.0) (λ lengths. omega (arith, lengths))
 check_asked machine tools certificate program (Some found) (ToRunThrough run) finds are = other_name (codes "check") (codes "run") (sym finds.0 ∙ are.0) (λ lengths. omega (arith, lengths))
+check_asked machine tools certificate program (Some found) (ToExplain number) finds are = other_name (codes "check") (codes "explain") (sym finds.0 ∙ are.0) (λ differ. omega (arith, differ))
+check_asked machine tools certificate program (Some found) (ToHelp command) finds are = other_name (codes "check") (codes "help") (sym finds.0 ∙ are.0) (λ differ. omega (arith, differ))
+check_asked machine tools certificate program (Some found) ToVersion finds are = other_name (codes "check") (codes "version") (sym finds.0 ∙ are) (λ differ. omega (arith, differ))
 
 pub check_taken : (words : List Text) (machine tools certificate : Text) (program : Option Text) → words ≡ check_words machine tools certificate program → IsTaken words
 check_taken words machine tools certificate program spelled = subst IsTaken (sym spelled) (check_spells machine tools certificate program).0
@@ -147,6 +153,9 @@ run_asked machine tools certificate events program delete (Some found) (ToCertif
     other_name (codes "run") (codes "certify") (sym finds.0 ∙ are.0) (λ lengths. omega (arith, lengths))
 run_asked machine tools certificate events program delete (Some found) (ToCheck check) finds are =
     other_name (codes "run") (codes "check") (sym finds.0 ∙ are.0) (λ lengths. omega (arith, lengths))
+run_asked machine tools certificate events program delete (Some found) (ToExplain number) finds are = other_name (codes "run") (codes "explain") (sym finds.0 ∙ are.0) (λ differ. omega (arith, differ))
+run_asked machine tools certificate events program delete (Some found) (ToHelp command) finds are = other_name (codes "run") (codes "help") (sym finds.0 ∙ are.0) (λ differ. omega (arith, differ))
+run_asked machine tools certificate events program delete (Some found) ToVersion finds are = other_name (codes "run") (codes "version") (sym finds.0 ∙ are) (λ differ. omega (arith, differ))
 
 pub run_taken : (words : List Text) (machine tools certificate : Text) (events program : Option Text) (delete : Bool)
     → words ≡ run_words machine tools certificate events program delete → IsTaken words
@@ -237,6 +246,9 @@ certify_asked machine tools program cuts (Some found) (ToRun run) range finds ar
     other_name (codes "certify") (codes "run") (sym finds.0 ∙ are.0) (λ lengths. omega (arith, lengths))
 certify_asked machine tools program cuts (Some found) (ToRunThrough run) range finds are =
     other_name (codes "certify") (codes "run") (sym finds.0 ∙ are.0) (λ lengths. omega (arith, lengths))
+certify_asked machine tools program cuts (Some found) (ToExplain number) range finds are = other_letter (codes "certify") (codes "explain") (sym finds.0 ∙ are.0) (λ differ. omega (arith, differ))
+certify_asked machine tools program cuts (Some found) (ToHelp command) range finds are = other_name (codes "certify") (codes "help") (sym finds.0 ∙ are.0) (λ differ. omega (arith, differ))
+certify_asked machine tools program cuts (Some found) ToVersion range finds are = other_letter (codes "certify") (codes "version") (sym finds.0 ∙ are) (λ differ. omega (arith, differ))
 
 pub certify_taken : (words : List Text) (machine tools : Text) (program : Option Text) (cuts : Option ℕ) → AreCutsInRange cuts
     → words ≡ certify_words machine tools program cuts → IsTaken words
@@ -247,3 +259,73 @@ pub certify_read : (words : List Text) (machine tools : Text) (program : Option 
 certify_read words machine tools program cuts options range spelled are =
     let Are : List Text → Type 0 = λ ws. AreOptions (subcommand_of ngc_app ws) options in
     certify_asked machine tools program cuts _ options range (certify_finds machine tools program cuts) (subst Are spelled are)
+
+-- the command whose help was asked for is this
+abbrev FindsHelp : Option Text → Option (Text × List Row) → Type 0
+FindsHelp command None = ⊥
+FindsHelp command (Some found) = (found.0 ≡ codes "help") × (first_of (codes "command") found.1 ≡ command)
+
+help_on : (command name : Text) → command ≡ name → Spells (help_words (Some name)) (FindsHelp (Some name)) → Spells (help_words (Some command)) (FindsHelp (Some command))
+help_on command name same spells = subst (λ (c : Text). Spells (help_words (Some c)) (FindsHelp (Some c))) (sym same) spells
+
+help_spells : (command : Option Text) → AreCommands command → Spells (help_words command) (FindsHelp command)
+unfolding clap_on_literals
+help_spells None among = (refl, (refl, refl))
+help_spells (Some command) among = elim among [
+  | inl same ↦ help_on command (codes "list") same (refl, (refl, refl))
+  | inr (inl same) ↦ help_on command (codes "certify") same (refl, (refl, refl))
+  | inr (inr (inl same)) ↦ help_on command (codes "check") same (refl, (refl, refl))
+  | inr (inr (inr (inl same))) ↦ help_on command (codes "run") same (refl, (refl, refl))
+  | inr (inr (inr (inr (inl same)))) ↦ help_on command (codes "explain") same (refl, (refl, refl))
+  | inr (inr (inr (inr (inr (inl same))))) ↦ help_on command (codes "help") same (refl, (refl, refl))
+  | inr (inr (inr (inr (inr (inr (inl same)))))) ↦ help_on command (codes "version") same (refl, (refl, refl))
+  | inr (inr (inr (inr (inr (inr (inr none)))))) ↦ absurd none
+]
+
+help_asked : (command : Option Text) (found : Option (Text × List Row)) (options : Options) → FindsHelp command found → AreOptions found options → AsksForHelp command options
+help_asked command None options finds are = absurd finds
+help_asked command (Some found) (ToHelp asked) finds are = are.1 ∙ finds.1
+help_asked command (Some found) (ToList list) finds are = other_letter (codes "help") (codes "list") (sym finds.0 ∙ are.0) (λ differ. omega (arith, differ))
+help_asked command (Some found) (ToCertify certify) finds are = other_name (codes "help") (codes "certify") (sym finds.0 ∙ are.0) (λ differ. omega (arith, differ))
+help_asked command (Some found) (ToCheck check) finds are = other_name (codes "help") (codes "check") (sym finds.0 ∙ are.0) (λ differ. omega (arith, differ))
+help_asked command (Some found) (ToRun run) finds are = other_name (codes "help") (codes "run") (sym finds.0 ∙ are.0) (λ differ. omega (arith, differ))
+help_asked command (Some found) (ToRunThrough run) finds are = other_name (codes "help") (codes "run") (sym finds.0 ∙ are.0) (λ differ. omega (arith, differ))
+help_asked command (Some found) (ToExplain number) finds are = other_name (codes "help") (codes "explain") (sym finds.0 ∙ are.0) (λ differ. omega (arith, differ))
+help_asked command (Some found) ToVersion finds are = other_name (codes "help") (codes "version") (sym finds.0 ∙ are) (λ differ. omega (arith, differ))
+
+pub help_taken : (words : List Text) (command : Option Text) → AreCommands command → words ≡ help_words command → IsTaken words
+help_taken words command among spelled = subst IsTaken (sym spelled) (help_spells command among).0
+
+pub help_read : (words : List Text) (command : Option Text) (options : Options) → AreCommands command → words ≡ help_words command
+    → AreOptions (subcommand_of ngc_app words) options → AsksForHelp command options
+help_read words command options among spelled are =
+    let Are : List Text → Type 0 = λ ws. AreOptions (subcommand_of ngc_app ws) options in
+    help_asked command _ options (help_spells command among).1 (subst Are spelled are)
+
+-- the subcommand that was found is `version`
+abbrev FindsVersion : Option (Text × List Row) → Type 0
+FindsVersion None = ⊥
+FindsVersion (Some found) = found.0 ≡ codes "version"
+
+version_spells : Spells (codes "version" ∷ []) FindsVersion
+unfolding clap_on_literals
+version_spells = (refl, refl)
+
+version_asked : (found : Option (Text × List Row)) (options : Options) → FindsVersion found → AreOptions found options → options ≡ ToVersion
+version_asked None options finds are = absurd finds
+version_asked (Some found) ToVersion finds are = refl
+version_asked (Some found) (ToList list) finds are = other_name (codes "version") (codes "list") (sym finds ∙ are.0) (λ differ. omega (arith, differ))
+version_asked (Some found) (ToCertify certify) finds are = other_letter (codes "version") (codes "certify") (sym finds ∙ are.0) (λ differ. omega (arith, differ))
+version_asked (Some found) (ToCheck check) finds are = other_name (codes "version") (codes "check") (sym finds ∙ are.0) (λ differ. omega (arith, differ))
+version_asked (Some found) (ToRun run) finds are = other_name (codes "version") (codes "run") (sym finds ∙ are.0) (λ differ. omega (arith, differ))
+version_asked (Some found) (ToRunThrough run) finds are = other_name (codes "version") (codes "run") (sym finds ∙ are.0) (λ differ. omega (arith, differ))
+version_asked (Some found) (ToExplain number) finds are = other_letter (codes "version") (codes "explain") (sym finds ∙ are.0) (λ differ. omega (arith, differ))
+version_asked (Some found) (ToHelp command) finds are = other_name (codes "version") (codes "help") (sym finds ∙ are.0) (λ differ. omega (arith, differ))
+
+pub version_taken : (words : List Text) → words ≡ codes "version" ∷ [] → IsTaken words
+version_taken words spelled = subst IsTaken (sym spelled) version_spells.0
+
+pub version_read : (words : List Text) (options : Options) → words ≡ codes "version" ∷ [] → AreOptions (subcommand_of ngc_app words) options → options ≡ ToVersion
+version_read words options spelled are =
+    let Are : List Text → Type 0 = λ ws. AreOptions (subcommand_of ngc_app ws) options in
+    version_asked _ options version_spells.1 (subst Are spelled are)

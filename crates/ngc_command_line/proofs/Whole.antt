@@ -1,5 +1,5 @@
 -- A subcommand of words that are taken has the values that it requires.
-use Rattle.std.proofs.Common.{◌≡◌, ◌⊎◌, Bool, true, false, List, [], ◌∷◌, Option, Some, None, is_some, refl, inl, inr, subst, ap, length, sym, ◌∙◌, if◌then◌else◌, codes, option_map, arith}
+use Rattle.std.proofs.Common.{◌≡◌, ◌⊎◌, Bool, true, false, List, [], ◌∷◌, Option, Some, None, is_some, refl, inl, inr, subst, ap, length, sym, ◌∙◌, get_or, if◌then◌else◌, codes, option_map, arith}
 use Rattle.std.specs.Prelude.{find}
 use Rattle.std.specs.List.{slice_index_or}
 use Rattle.std.specs.Str.{bytes_eq}
@@ -10,9 +10,9 @@ use Rattle.clap.specs.Faults.{entered_fault, level_fault}
 use Rattle.clap.specs.Simple.{built, entered, label_of, names_of, new_shape, rows_at}
 use Rattle.clap.specs.Walk.{answers_to, nothing_held, rows_after, stop_after}
 use Rattle.ngc_command_line.specs.CommandLine.{ngc_app}
-use Rattle.ngc_command_line.specs.Meant.{HasCertifyValues, HasCheckValues, HasRunValues, IsTaken, IsWhole}
+use Rattle.ngc_command_line.specs.Meant.{HasCertifyValues, HasCheckValues, HasExplainValues, HasRunValues, IsTaken, IsWhole}
 use Rattle.ngc_command_line.proofs.Filled.{AreSound}
-use Rattle.ngc_command_line.proofs.Rules.{FitsCuts, below_passes, cuts_fit, cuts_in_range, flag_is_sound, given_has_value, help_is_sound, is_true, level_is_filled, neither_true, set_is_sound}
+use Rattle.ngc_command_line.proofs.Rules.{FitsCuts, FitsNumber, below_passes, cuts_fit, cuts_in_range, flag_is_sound, given_has_value, help_is_sound, is_true, level_is_filled, neither_true, number_fits, number_in_range, set_is_sound}
 
 -- what was found are the rows of one of these, at words in which it finds no fault
 abbrev IsOneOf : List Shape → Text × List Row → Type 0
@@ -44,6 +44,14 @@ check_shape = slice_index_or (built ngc_app).subs 2 (new_shape [])
 
 abbrev run_shape : Shape
 run_shape = slice_index_or (built ngc_app).subs 3 (new_shape [])
+
+abbrev explain_shape : Shape
+explain_shape = slice_index_or (built ngc_app).subs 4 (new_shape [])
+
+explain_sound : AreSound FitsNumber explain_shape.rules
+explain_sound =
+    let number = set_is_sound FitsNumber _ refl refl refl (λ v none same. number_fits v none) in
+    (number, (help_is_sound FitsNumber _ refl refl, tt))
 
 -- another name than that of the cuts
 no_cuts : (id text : Text) → bytes_eq id (codes "cuts") ≡ false → FitsCuts id text
@@ -107,6 +115,17 @@ run_values words none =
       given_has_value FitsCuts (codes "certificate") rows filled (is_true _ certificate),
     )
 
+explain_values : (words : List Text) → level_fault explain_shape [] nothing_held words false [] ≡ [] → HasExplainValues (rows_after explain_shape.rules [] words)
+explain_values words none =
+    let rows = rows_after explain_shape.rules [] words in
+    let (filled, required) = level_is_filled FitsNumber explain_shape explain_sound words none in
+    let (number, rest) = neither_true _ _ required in
+    (given_has_value FitsNumber (codes "number") rows filled (is_true _ number), number_in_range (codes "number") 1 999 rows filled)
+
+-- names that begin otherwise are other names
+pub other_letter : {X : Type 0} (a b : Text) → a ≡ b → (get_or a 0 0 ≡ get_or b 0 0 → ⊥) → X
+other_letter a b same differ = absurd (differ (ap (λ name. get_or name 0 0) same))
+
 -- names of other lengths are other names
 pub other_name : {X : Type 0} (a b : Text) → a ≡ b → (length a ≡ length b → ⊥) → X
 other_name a b same differ = absurd (differ (ap length same))
@@ -118,26 +137,51 @@ one_whole found one = elim one [
     certify = λ same. other_name (codes "list") (codes "certify") same (λ lengths. omega (arith, lengths));
     check = λ same. other_name (codes "list") (codes "check") same (λ lengths. omega (arith, lengths));
     run = λ same. other_name (codes "list") (codes "run") same (λ lengths. omega (arith, lengths));
+    explain = λ same. other_name (codes "list") (codes "explain") same (λ lengths. omega (arith, lengths));
   })
   | inr (inl certify) ↦ subst (λ (f : Text × List Row). IsWhole f.0 f.1) certify.1 (record {
     named = inr (inl refl);
     certify = λ same. certify_values certify.0 certify.2;
     check = λ same. other_name (codes "certify") (codes "check") same (λ lengths. omega (arith, lengths));
     run = λ same. other_name (codes "certify") (codes "run") same (λ lengths. omega (arith, lengths));
+    explain = λ same. other_letter (codes "certify") (codes "explain") same (λ letters. omega (arith, letters));
   })
   | inr (inr (inl check)) ↦ subst (λ (f : Text × List Row). IsWhole f.0 f.1) check.1 (record {
     named = inr (inr (inl refl));
     certify = λ same. other_name (codes "check") (codes "certify") same (λ lengths. omega (arith, lengths));
     check = λ same. check_values check.0 check.2;
     run = λ same. other_name (codes "check") (codes "run") same (λ lengths. omega (arith, lengths));
+    explain = λ same. other_name (codes "check") (codes "explain") same (λ lengths. omega (arith, lengths));
   })
   | inr (inr (inr (inl run))) ↦ subst (λ (f : Text × List Row). IsWhole f.0 f.1) run.1 (record {
     named = inr (inr (inr (inl refl)));
     certify = λ same. other_name (codes "run") (codes "certify") same (λ lengths. omega (arith, lengths));
     check = λ same. other_name (codes "run") (codes "check") same (λ lengths. omega (arith, lengths));
     run = λ same. run_values run.0 run.2;
+    explain = λ same. other_name (codes "run") (codes "explain") same (λ lengths. omega (arith, lengths));
   })
-  | inr (inr (inr (inr none))) ↦ absurd none
+  | inr (inr (inr (inr (inl explain)))) ↦ subst (λ (f : Text × List Row). IsWhole f.0 f.1) explain.1 (record {
+    named = inr (inr (inr (inr (inl refl))));
+    certify = λ same. other_letter (codes "explain") (codes "certify") same (λ letters. omega (arith, letters));
+    check = λ same. other_name (codes "explain") (codes "check") same (λ lengths. omega (arith, lengths));
+    run = λ same. other_name (codes "explain") (codes "run") same (λ lengths. omega (arith, lengths));
+    explain = λ same. explain_values explain.0 explain.2;
+  })
+  | inr (inr (inr (inr (inr (inl help))))) ↦ subst (λ (f : Text × List Row). IsWhole f.0 f.1) help.1 (record {
+    named = inr (inr (inr (inr (inr (inl refl)))));
+    certify = λ same. other_name (codes "help") (codes "certify") same (λ lengths. omega (arith, lengths));
+    check = λ same. other_name (codes "help") (codes "check") same (λ lengths. omega (arith, lengths));
+    run = λ same. other_name (codes "help") (codes "run") same (λ lengths. omega (arith, lengths));
+    explain = λ same. other_name (codes "help") (codes "explain") same (λ lengths. omega (arith, lengths));
+  })
+  | inr (inr (inr (inr (inr (inr (inl version)))))) ↦ subst (λ (f : Text × List Row). IsWhole f.0 f.1) version.1 (record {
+    named = inr (inr (inr (inr (inr (inr (inl refl))))));
+    certify = λ same. other_letter (codes "version") (codes "certify") same (λ letters. omega (arith, letters));
+    check = λ same. other_name (codes "version") (codes "check") same (λ lengths. omega (arith, lengths));
+    run = λ same. other_name (codes "version") (codes "run") same (λ lengths. omega (arith, lengths));
+    explain = λ same. other_letter (codes "version") (codes "explain") same (λ letters. omega (arith, letters));
+  })
+  | inr (inr (inr (inr (inr (inr (inr none)))))) ↦ absurd none
 ]
 
 -- the subcommand that taken words name

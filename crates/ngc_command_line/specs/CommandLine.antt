@@ -47,6 +47,27 @@ run_app = fold with_rule (new_app (codes "run"))
     ∷ required_file (codes "certificate") ∷ file_option (codes "events")
     ∷ file_option (codes "program") ∷ flag (codes "delete") ∷ [])
 
+-- `N`, a number from 1 to 999, which may not be left out
+abbrev pub number_argument : Rule
+number_argument = record (new_rule (codes "number")) {
+  value_names = 1;
+  action = Some Set;
+  parser = Some (Unsigned 1 999);
+  required = true;
+}
+
+-- `[COMMAND]`
+abbrev pub command_argument : Rule
+command_argument = record (new_rule (codes "command")) { value_names = 1; action = Some Set }
+
+-- `explain N`
+abbrev pub explain_app : App
+explain_app = with_rule (new_app (codes "explain")) number_argument
+
+-- `help [COMMAND]`
+abbrev pub help_app : App
+help_app = with_rule (new_app (codes "help")) command_argument
+
 -- the words begin after the program's name, and name a subcommand
 abbrev pub ngc_settings : App
 ngc_settings = let bare : App = new_app (codes "ngc") in record bare {
@@ -57,10 +78,11 @@ ngc_settings = let bare : App = new_app (codes "ngc") in record bare {
   };
 }
 
--- `ngc list ..`, `ngc certify ..`, `ngc check ..` and `ngc run ..`
+-- the program's commands: `ngc list ..`, `ngc certify ..`, `ngc check ..`, `ngc run ..`, `ngc explain ..`, `ngc help ..` and
+-- `ngc version`
 abbrev pub ngc_app : App
-ngc_app = with_subcommand (with_subcommand (with_subcommand (with_subcommand ngc_settings
-    list_app.top) certify_app.top) check_app.top) run_app.top
+ngc_app = fold with_subcommand ngc_settings (list_app.top ∷ certify_app.top ∷ check_app.top ∷ run_app.top ∷ explain_app.top
+    ∷ help_app.top ∷ (new_app (codes "version")).top ∷ [])
 
 -- the one word `--NAME=FILE`, where there is a file and `beginning` is `--NAME=`
 abbrev pub file_words : Text → Option Text → List Text
@@ -93,6 +115,11 @@ abbrev pub check_words : Text → Text → Text → Option Text → List Text
 check_words machine tools certificate program = codes "check"
     ∷ (codes "--machine=" ++ machine) ∷ (codes "--tools=" ++ tools)
     ∷ (codes "--certificate=" ++ certificate) ∷ file_words (codes "--program=") program
+
+-- the words of `ngc help` and `ngc help COMMAND`
+abbrev pub help_words : Option Text → List Text
+help_words None = codes "help" ∷ []
+help_words (Some command) = codes "help" ∷ command ∷ []
 
 -- the words of `ngc run` with these options, in one spelling
 abbrev pub run_words : Text → Text → Text → Option Text → Option Text → Bool → List Text

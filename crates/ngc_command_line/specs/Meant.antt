@@ -15,6 +15,8 @@ use Rattle.ngc_command_line.specs.declared.options.Options.TheVariants.{List as 
 use Rattle.ngc_command_line.specs.declared.options.RunThroughOptions.{RunThroughOptions}
 use Rattle.ngc_command_line.specs.declared.options.Options.TheVariants.{Check as ToCheck, Run as ToRun}
 use Rattle.ngc_command_line.specs.declared.options.Options.TheVariants.{RunThrough as ToRunThrough}
+use Rattle.ngc_command_line.specs.declared.options.Options.TheVariants.{Explain as ToExplain, Help as ToHelp}
+use Rattle.ngc_command_line.specs.declared.options.Options.TheVariants.{Version as ToVersion}
 use Rattle.ngc_command_line.specs.declared.UsageFault.{UsageFault}
 use Rattle.ngc_command_line.specs.declared.UsageFault.TheVariants.{Usage, Memory}
 
@@ -46,6 +48,12 @@ pub record AreCertifyOptions (rows : List Row) (options : CertifyOptions) : Type
   pub tools : Some options.tools.now ≡ first_of (codes "tools") rows
   pub program : option_map (λ name. name.now) options.program ≡ first_of (codes "program") rows
   pub cuts : AreCuts (first_of (codes "cuts") rows) options.cuts
+
+-- the number whose decimal the text is; a plus sign may stand before it
+abbrev pub IsNumber : Option Text → ℕ → Type 0
+IsNumber None number = ⊥
+IsNumber (Some text) number = IsNumeral 10 (without_leading_plus text)
+    × (number ≡ digits_value 10 (without_leading_plus text)) × (1 ≤ number) × (number ≤ 999)
 
 -- each option of `check` by the first value that was found under its own name
 pub record AreCheckOptions (rows : List Row) (options : CheckOptions) : Type 0 where
@@ -97,6 +105,11 @@ abbrev pub HasRunValues : List Row → Type 0
 HasRunValues rows = HasValue (codes "machine") rows × HasValue (codes "tools") rows
     × HasValue (codes "certificate") rows
 
+-- what is found for `explain` where the words are taken
+abbrev pub HasExplainValues : List Row → Type 0
+HasExplainValues rows = HasValue (codes "number") rows
+    × IfSome (first_of (codes "number") rows) (IsUnsignedIn 1 999)
+
 -- a subcommand of these has the name
 abbrev pub IsNameAmong : List Shape → Text → Type 0
 IsNameAmong [] name = ⊥
@@ -108,6 +121,7 @@ pub record IsWhole (name : Text) (rows : List Row) : Type 0 where
   pub certify : name ≡ codes "certify" → HasCertifyValues rows
   pub check : name ≡ codes "check" → HasCheckValues rows
   pub run : name ≡ codes "run" → HasRunValues rows
+  pub explain : name ≡ codes "explain" → HasExplainValues rows
 
 -- the options are those of the subcommand that was found, and there is one
 abbrev pub AreOptions : Option (Text × List Row) → Options → Type 0
@@ -119,6 +133,11 @@ AreOptions (Some found) (ToCheck check) = (found.0 ≡ codes "check") × AreChec
 AreOptions (Some found) (ToRun run) = (found.0 ≡ codes "run") × AreRunOptions found.1 run
 AreOptions (Some found) (ToRunThrough run) =
     (found.0 ≡ codes "run") × AreRunThroughOptions found.1 run
+AreOptions (Some found) (ToExplain number) =
+    (found.0 ≡ codes "explain") × IsNumber (first_of (codes "number") found.1) number
+AreOptions (Some found) (ToHelp command) = (found.0 ≡ codes "help")
+    × (option_map (λ name. name.now) command ≡ first_of (codes "command") found.1)
+AreOptions (Some found) ToVersion = found.0 ≡ codes "version"
 
 -- `list` is asked for, with these options
 abbrev pub AsksForList : Option Text → Option Text → Option Text → Bool → Options → Type 0
@@ -156,6 +175,15 @@ AsksForRun machine tools certificate None program delete (ToRunThrough run) =
     × (run.certificate.now ≡ certificate)
     × (option_map (λ name. name.now) run.program ≡ program) × (run.delete ≡ delete)
 AsksForRun machine tools certificate events program delete other = ⊥
+
+-- `help` is asked for, of this command
+abbrev pub AsksForHelp : Option Text → Options → Type 0
+AsksForHelp command (ToHelp asked) = option_map (λ name. name.now) asked ≡ command
+AsksForHelp command other = ⊥
+
+-- a command, where one is given, is one of the program's
+abbrev pub AreCommands : Option Text → Type 0
+AreCommands command = IfSome command (IsNameAmong ngc_app.subs)
 
 -- the number of cuts, where one is given, is from 1 to 65,535
 abbrev pub AreCutsInRange : Option ℕ → Type 0

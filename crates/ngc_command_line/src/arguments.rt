@@ -24,7 +24,7 @@ Exit status:
   4  the certificate was refused, or none clears the program
 
 A refusal names its fault by a number, as in `ngc: fault 113 line 7 column 4`.
-The file docs/FAULTS.md explains each number."
+`ngc explain 113` explains it."
         )
     };
 }

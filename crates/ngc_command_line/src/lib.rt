@@ -4,18 +4,21 @@
 //! text that `clap` gives.
 #![tactic(auto)]
 
-ghost use Rattle.std.specs.Prelude.{◌≡◌, Bool, IfOk, IsOkUnless, MatchResult, OnOk, Option, Some, ℕ};
+ghost use Rattle.std.specs.Prelude.{◌≡◌, Bool, IfOk, IsOkUnless, MatchResult, OnOk, Option, Some, ℕ, codes, ◌∷◌, []};
 ghost use Rattle.clap.specs.Words.{Text, app_of, found_of, kind_of, rows_of, subcommand_of};
 ghost use Rattle.clap.specs.Walk.{texts};
-ghost use Rattle.ngc_command_line.specs.CommandLine.{certify_words, check_words, list_words};
+ghost use Rattle.ngc_command_line.specs.CommandLine.{certify_words, check_words, help_words, list_words};
 ghost use Rattle.ngc_command_line.specs.CommandLine.{ngc_app, ngc_settings, run_words};
 ghost use Rattle.ngc_command_line.specs.Meant.{AreCutsInRange, AreOptions, AsksForCertify};
-ghost use Rattle.ngc_command_line.specs.Meant.{AsksForCheck, AsksForList, AsksForRun};
+ghost use Rattle.ngc_command_line.specs.Meant.{AsksForCheck, AsksForList, AsksForRun, AsksForHelp};
+ghost use Rattle.ngc_command_line.specs.Meant.{AreCommands};
 ghost use Rattle.ngc_command_line.specs.Meant.{IsTaken, IsWhole, usage_fault_number};
 
 mod arguments;
 mod certify;
 mod check;
+mod explain;
+mod guide;
 mod list;
 mod options;
 mod run;
@@ -25,6 +28,8 @@ use certify::{certify_command, certify_options};
 use check::{check_command, check_options};
 use clap::error::ErrorKind;
 use clap::{ArgMatches, Command};
+use explain::{explain_command, explained_number};
+use guide::{help_command, topic, version_command};
 use list::{list_command, list_options};
 pub use options::{
     CertifyOptions, CheckOptions, ListOptions, Options, RunOptions, RunThroughOptions,
@@ -77,7 +82,10 @@ fn ngc_command<'a>(alloc: Global) -> Result<Command<'a>, AllocError>
         .subcommand(list_command(alloc)?)?
         .subcommand(certify_command(alloc)?)?
         .subcommand(check_command(alloc)?)?
-        .subcommand(run_command(alloc)?)
+        .subcommand(run_command(alloc)?)?
+        .subcommand(explain_command(alloc)?)?
+        .subcommand(help_command(alloc)?)?
+        .subcommand(version_command(alloc))
 }
 
 fn usage_fault(alloc: Global, error: clap::Error) -> UsageFault
@@ -102,6 +110,9 @@ fn options_of<'a>(name: &str, found: &ArgMatches<'a>) -> Options<'a>
         "certify" => Options::Certify(certify_options(found)),
         "check" => Options::Check(check_options(found)),
         "run" => run_options(found),
+        "explain" => Options::Explain(explained_number(found)),
+        "help" => Options::Help(topic(found)),
+        "version" => Options::Version,
         _ => unreachable!(),
     }
 }
@@ -143,6 +154,13 @@ pub fn read_options<'a>(alloc: Global, words: &'a [&'a str]) -> Result<Options<'
         (delete : Bool)
         → texts words.entry.now ≡ run_words machine tools certificate events program delete
         → MatchResult result (AsksForRun machine tools certificate events program delete)
+        (λ fault. fault ≡ UsageFault.Memory) }
+    // So are `help`, `help COMMAND` with the name of a command, and `version`.
+    ensures spelled_help { (command : Option Text) → AreCommands command
+        → texts words.entry.now ≡ help_words command
+        → MatchResult result (AsksForHelp command) (λ fault. fault ≡ UsageFault.Memory) }
+    ensures spelled_version { texts words.entry.now ≡ codes "version" ∷ []
+        → MatchResult result (λ options. options ≡ Options.Version)
         (λ fault. fault ≡ UsageFault.Memory) }
 {
     let Ok(command) = ngc_command(alloc) else {

@@ -15,6 +15,12 @@ pub enum Options<'a> {
     Run(RunOptions<'a>),
     /// `ngc run` without events: run a part program through to its end.
     RunThrough(RunThroughOptions<'a>),
+    /// `ngc explain`: print what is told of the fault with this number, 1 to 999.
+    Explain(u16),
+    /// `ngc help`: print the help of a command. With none it is that of the program.
+    Help(Option<&'a str>),
+    /// `ngc version`: print the program's name and version.
+    Version,
 }
 
 /// The options of `ngc list`.
