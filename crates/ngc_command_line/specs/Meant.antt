@@ -17,6 +17,8 @@ use Rattle.ngc_command_line.specs.declared.options.Options.TheVariants.{Check as
 use Rattle.ngc_command_line.specs.declared.options.Options.TheVariants.{RunThrough as ToRunThrough}
 use Rattle.ngc_command_line.specs.declared.options.Options.TheVariants.{Explain as ToExplain, Help as ToHelp}
 use Rattle.ngc_command_line.specs.declared.options.Options.TheVariants.{Version as ToVersion}
+use Rattle.ngc_command_line.specs.declared.HelpFault.{HelpFault}
+use Rattle.ngc_command_line.specs.declared.HelpFault.TheVariants as help_faults
 use Rattle.ngc_command_line.specs.declared.UsageFault.{UsageFault}
 use Rattle.ngc_command_line.specs.declared.UsageFault.TheVariants.{Usage, Memory}
 
@@ -193,3 +195,7 @@ AreCutsInRange cuts = IfSome cuts (λ number. (1 ≤ number) × (number ≤ 6553
 abbrev pub usage_fault_number : UsageFault → ℕ
 usage_fault_number (Usage text) = 720
 usage_fault_number Memory = 900
+
+abbrev pub help_fault_number : HelpFault → ℕ
+help_fault_number help_faults.Unknown = 722
+help_fault_number help_faults.Memory = 900

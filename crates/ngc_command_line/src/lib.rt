@@ -11,7 +11,7 @@ ghost use Rattle.ngc_command_line.specs.CommandLine.{certify_words, check_words,
 ghost use Rattle.ngc_command_line.specs.CommandLine.{ngc_app, ngc_settings, run_words};
 ghost use Rattle.ngc_command_line.specs.Meant.{AreCutsInRange, AreOptions, AsksForCertify};
 ghost use Rattle.ngc_command_line.specs.Meant.{AsksForCheck, AsksForList, AsksForRun, AsksForHelp};
-ghost use Rattle.ngc_command_line.specs.Meant.{AreCommands};
+ghost use Rattle.ngc_command_line.specs.Meant.{AreCommands, help_fault_number};
 ghost use Rattle.ngc_command_line.specs.Meant.{IsTaken, IsWhole, usage_fault_number};
 
 mod arguments;
@@ -58,6 +58,29 @@ impl UsageFault {
         match self {
             UsageFault::Usage(_) => 720,
             UsageFault::Memory => 900,
+        }
+    }
+}
+
+/// Why no help is given.
+#[derive(Clone, Copy, Debug, PartialEq, Eq, Error)]
+pub enum HelpFault {
+    /// No command has the name: 722.
+    #[error("no command has this name")]
+    Unknown,
+    /// Memory ran out: 900.
+    #[error("out of memory")]
+    Memory,
+}
+
+impl HelpFault {
+    /// The number of the fault.
+    pub fn number(&self) -> u16
+        ensures { result ≡ help_fault_number self.now }
+    {
+        match self {
+            HelpFault::Unknown => 722,
+            HelpFault::Memory => 900,
         }
     }
 }
@@ -173,5 +196,39 @@ pub fn read_options<'a>(alloc: Global, words: &'a [&'a str]) -> Result<Options<'
     match matches.subcommand() {
         Some((name, found)) => Ok(options_of(name, found)),
         None => unreachable!(),
+    }
+}
+
+fn text_of_help(alloc: Global, error: clap::Error) -> Result<String, HelpFault> {
+    if error.kind() == ErrorKind::OutOfMemory {
+        return Err(HelpFault::Memory);
+    }
+    if error.kind() != ErrorKind::DisplayHelp {
+        return Err(HelpFault::Unknown);
+    }
+    match format!(in alloc; "{error}") {
+        Ok(text) => Ok(text),
+        Err(_) => Err(HelpFault::Memory),
+    }
+}
+
+// The help that these words ask for.
+fn help_of<'a>(alloc: Global, words: &'a [&'a str]) -> Result<String, HelpFault> {
+    let Ok(command) = ngc_command(alloc) else {
+        return Err(HelpFault::Memory);
+    };
+    match command.try_get_matches_from(words) {
+        Ok(_matches) => Err(HelpFault::Unknown),
+        Err(error) => text_of_help(alloc, error),
+    }
+}
+
+/// The help of a command, or with none that of the program: the text that `--help` behind the command's name gives.
+///
+/// The texts are shown by tests.
+pub fn help_text(alloc: Global, command: Option<&str>) -> Result<String, HelpFault> {
+    match command {
+        Some(name) => help_of(alloc, &[name, "--help"]),
+        None => help_of(alloc, &["--help"]),
     }
 }
