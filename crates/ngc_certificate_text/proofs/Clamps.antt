@@ -123,12 +123,3 @@ not_space text h =
 
 pub no_space : (text : List ℕ) → position (λ b. b == 32) text ≡ None → fields text ≡ text ∷ []
 no_space text h = split_last 32 text (not_space text h)
-
-pub skipped : (chunk : List ℕ) (start end count : ℕ) → start ≤ end → end ≤ length chunk → count ≤ length (take (end - start) (drop start chunk))
-    → take (end - (start + count)) (drop (start + count) chunk) ≡ drop count (take (end - start) (drop start chunk))
-skipped chunk start end count low high fits =
-    let n : length (take (end - start) (drop start chunk)) ≡ min (end - start) (length (drop start chunk)) = length-take (end - start) (drop start chunk) in
-    let whole : end - start ≡ count + (end - (start + count)) = omega (arith, n, fits) in
-    ap (take (end - (start + count))) (sym (drop-drop count start chunk))
-    ∙ sym (drop-take count (end - (start + count)) (drop start chunk))
-    ∙ ap (λ (k : ℕ). drop count (take k (drop start chunk))) (sym whole)

@@ -34,6 +34,3 @@ feed_found bytes k h = record {
   feedless = feedless_front bytes k (omega (arith, h.0.high)) (λ j l. h.0.before j (omega arith) l);
   parts = parted bytes k h.0.high (feed_byte _ h.1);
 }
-
-pub feed_within : (bytes : List ℕ) (k : ℕ) → IsFirstByte (is_byte 10) bytes (Some k) → k < length bytes
-feed_within bytes k h = h.0.high

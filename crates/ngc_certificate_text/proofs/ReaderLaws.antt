@@ -79,20 +79,6 @@ none_stands next.Nothing pieces c number fault may all = absurd (cc (sym (ended_
 
 -- ---- a piece
 
-pub fault_self : (fault : CertificateFault) → FaultIs fault (Err fault)
-fault_self faults.WrongHeader = refl
-fault_self (faults.BadLine n) = refl
-fault_self (faults.OutOfRange n) = refl
-fault_self faults.Memory = tt
-fault_self faults.ReadFailed = tt
-
-pub answer_self : (fault : CertificateFault) → AnswerIs (Err fault) (λ rest. Err fault)
-answer_self faults.WrongHeader = λ rest. refl
-answer_self (faults.BadLine n) = λ rest. refl
-answer_self (faults.OutOfRange n) = λ rest. refl
-answer_self faults.Memory = tt
-answer_self faults.ReadFailed = λ rest. refl
-
 abbrev failed_as : CertificateFault → Result (Unit {0}) CertificateFault
 failed_as fault = Err fault
 

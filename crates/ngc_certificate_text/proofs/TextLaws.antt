@@ -109,10 +109,6 @@ module _ {A : Type 0} where
       let said = wrong_said l.expected l.pieces.items (said_of l.certificate) l.number (t.cut.items ∷ []) reading.expecting tt (λ _. one_left t.cut.items some) in
       gives_fault A fault _ (wrong_is l.expected l.number fault _ is (ap (λ (ls : List (List ℕ)). said_behind l ls) (only_line t.cut.items reading.feedless) ∙ said))
 
-  -- every line is whole
-  pub no_last_line : (t : TextSoFar A) (result : Result (Certificate A) CertificateFault) → t.cut.items ≡ [] → GivesCertificate said_of result (said_behind t.found ([] ∷ [])) → GivesCertificate said_of result (resumed lines_of t [])
-  no_last_line t result e h = subst (λ (c : List ℕ). GivesCertificate said_of result (said_behind t.found (lines_of (c ++ [])))) (sym e) h
-
   -- bytes behind the end are a fault, whatever follows
   too_far : (t : TextSoFar A) (rest : List ℕ) → t.found.expected ≡ next.Nothing → 0 < length t.cut.items → IsReading t → resumed lines_of t rest ≡ Err (wrong_line t.found.expected t.found.number)
   too_far t rest e some reading =

@@ -125,13 +125,17 @@ abbrev pub IsExpecting : {A : Type 0} → LinesSoFar A → Type 0
 IsExpecting l = MayExpect l.expected l.pieces.items (said_of l.certificate)
 
 -- how many lines may come: a motion takes at most 65,536
+abbrev pub LINES_OF_MOTIONS : ℕ
+LINES_OF_MOTIONS = 65536 * MOTION_LIMIT
+
+-- the end, and one line behind it that is refused; in front of them the other setting
 abbrev pub lines_behind : Setting → ℕ
-lines_behind Off = 65536000003
+lines_behind Off = LINES_OF_MOTIONS + 3
 lines_behind On = 2
 
 abbrev pub lines_ahead : Expected → ℕ
-lines_ahead next.Header = 131072000005
-lines_ahead (next.Setting s) = 65536000001 + lines_behind s
+lines_ahead next.Header = 2 * LINES_OF_MOTIONS + 5
+lines_ahead (next.Setting s) = LINES_OF_MOTIONS + 1 + lines_behind s
 lines_ahead (next.Motion s left) = 65536 * left + lines_behind s
 lines_ahead (next.Piece b) = b.pieces_left + 65536 * b.motions_left + lines_behind b.setting
 lines_ahead next.End = 2

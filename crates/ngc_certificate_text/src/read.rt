@@ -41,6 +41,7 @@ impl<A: Allocator + Copy> Certificate<A> {
                 Ok(()) => {}
                 Err(fault) => return Err(fault),
             }
+            // Bytes behind the end are a fault before their line is whole.
             if reader.goes_too_far() {
                 break;
             }
