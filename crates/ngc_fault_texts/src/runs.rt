@@ -88,6 +88,14 @@ pub(crate) fn shell() -> &'static [Row]
             mend: "Look for the number that the line of the fault has behind the word `fault`.",
         },
         Row {
+            number: 722,
+            rule: "The name that `ngc help` is given is that of a command (our own).",
+            example: "command `ngc help print`",
+            answer: "`ngc: fault 722`",
+            place: Some("3"),
+            mend: "`ngc help` lists the commands.",
+        },
+        Row {
             number: 900,
             rule: "There is enough memory for the files and the commands (our own).",
             example: "command `ngc list` in a shell after `ulimit -v 8000`, with a program of 100,000 lines",
@@ -113,8 +121,8 @@ pub(crate) fn shell() -> &'static [Row]
             example: "command `ngc list >/dev/full`",
             answer: "`ngc: fault 902`",
             place: Some("1"),
-            mend: "Make room on the disk. A pipe that was closed too early, as by `head`, gives it too. What was\n\
-             written is a beginning of it.",
+            mend: "Make room on the disk. What was written is a beginning of it. Where a pipe was closed, as by\n\
+             `head`, the status is the same, but no line is written.",
         },
     ];
     ROWS

@@ -237,6 +237,36 @@ fn reads_run_without_events(rt: HostRuntime) -> Result<(), Fail> {
     Ok(())
 }
 
+const EXPLAINS: &[(&str, u16)] = &[
+    ("explain 113|explain 0113|explain +113|explain -- 113", 113),
+    ("explain 1", 1),
+    ("explain 999", 999),
+];
+
+const TOPICS: &[(&str, Option<&str>)] = &[
+    ("help", None),
+    ("help list|help -- list", Some("list")),
+    ("help print", Some("print")),
+];
+
+#[test]
+fn reads_explain_help_and_version(rt: HostRuntime) -> Result<(), Fail> {
+    for (lines, number) in EXPLAINS {
+        assert!(rt;
+            are_read_as(rt.alloc(), lines, Options::Explain(*number))?,
+            "{lines}"
+        );
+    }
+    for (lines, command) in TOPICS {
+        assert!(rt;
+            are_read_as(rt.alloc(), lines, Options::Help(*command))?,
+            "{lines}"
+        );
+    }
+    assert!(rt; are_read_as(rt.alloc(), "version", Options::Version)?);
+    Ok(())
+}
+
 // The text that the words are refused with by the number 720, and else none.
 fn refusal(alloc: Global, words: &[&str]) -> Result<String, AllocError> {
     match read_options(alloc, words) {
@@ -267,7 +297,11 @@ fn is_refused_with(alloc: Global, words: &[&str], parts: &str) -> Result<bool, A
 const REFUSALS: &str = "\
 -> requires a subcommand|Usage: ngc <COMMAND>
 print -> 'print'|Usage: ngc <COMMAND>
-help -> 'help'|Usage: ngc <COMMAND>
+explain -> the following required arguments were not provided|  <N>|Usage: ngc explain <N>
+explain 113 114 -> '114'|Usage: ngc explain <N>
+explain --number=113 -> '--number'|Usage: ngc explain <N>
+help list check -> 'check'|Usage: ngc help [COMMAND]
+version 1 -> '1'|Usage: ngc version
 --delete list -> '--delete'|Usage: ngc <COMMAND>
 --cuts=8 certify -> '--cuts'|Usage: ngc <COMMAND>
 list --frame -> '--frame'|Usage: ngc list [OPTIONS]
@@ -338,6 +372,11 @@ fn refuses_where_required_options_are_missing(rt: HostRuntime) -> Result<(), Fai
 // Each row is a command line, last words that it is refused with, and the parts of the refusal.
 const LAST_WORDS: &[(&str, &str, &str)] = &[
     (
+        "explain",
+        "0|1000|99999999999999999999|x|8x|1.5| 8|",
+        "'<N>'|try '--help'",
+    ),
+    (
         "certify --machine=mill.toml --tools=table.toml --cuts",
         "0|65536|99999999999999999999|x|8x|0x8|1.5| 8|",
         "'--cuts <N>'|try '--help'",
@@ -395,28 +434,28 @@ fn is_narrow(text: &str) -> bool {
 
 const HELP: &str =
     "List, certify, check and run part programs in RS274/NGC|Usage: ngc <COMMAND>|  list |  certify |  check |\
-                    \x20 run |ngc list --program examples/facing.ngc|Exit status:|0  done|1  input|2  the command line|\
-                    3  the part program|4  the certificate was refused, or none clears the program|docs/FAULTS.md";
+                    \x20 run |  explain |  help |  version |ngc list --program examples/facing.ngc|Exit status:|0  done|1  input|2  the command line|\
+                    3  the part program|4  the certificate was refused, or none clears the program|`ngc explain 113` explains it.";
 
 const LIST_HELP: &str =
     "Usage: ngc list [OPTIONS]|--program <FILE>|[default: standard input]|--machine <FILE>|\
                          [default: a built-in small mill]|--tools <FILE>|[default: no tools]|--delete|[default: off]|\
                          ngc list --program examples/facing.ngc|Exit status:|\
-                         4  the certificate was refused, or none clears the program|docs/FAULTS.md";
+                         4  the certificate was refused, or none clears the program|`ngc explain 113` explains it.";
 
 const CERTIFY_HELP: &str =
     "Usage: ngc certify [OPTIONS] --machine <FILE> --tools <FILE>|--machine <FILE>|--tools <FILE>|\
                             --program <FILE>|[default: standard input]|--cuts <N>|[default: 8]|\
                             ngc certify --program examples/slot.ngc|\
                             --machine examples/clamped_mill.toml --tools examples/tools.toml|Exit status:|\
-                            4  the certificate was refused, or none clears the program|docs/FAULTS.md";
+                            4  the certificate was refused, or none clears the program|`ngc explain 113` explains it.";
 
 const CHECK_HELP: &str =
     "Usage: ngc check [OPTIONS] --machine <FILE> --tools <FILE> --certificate <FILE>|\
                           --machine <FILE>|--tools <FILE>|--certificate <FILE>|--program <FILE>|\
                           [default: standard input]|ngc check --program examples/slot.ngc --certificate slot.cert|\
                           --machine examples/clamped_mill.toml --tools examples/tools.toml|Exit status:|\
-                          4  the certificate was refused, or none clears the program|docs/FAULTS.md";
+                          4  the certificate was refused, or none clears the program|`ngc explain 113` explains it.";
 
 const RUN_HELP: &str = "Run a part program through, or over events, and print the log|\
                         Usage: ngc run [OPTIONS] --machine <FILE> --tools <FILE> --certificate <FILE>|\
@@ -425,7 +464,18 @@ const RUN_HELP: &str = "Run a part program through, or over events, and print th
                         [default: standard input]|--delete|[default: off]|\
                         ngc run --program examples/slot.ngc --certificate slot.cert|\
                         --machine examples/clamped_mill.toml --tools examples/tools.toml|Exit status:|\
-                        4  the certificate was refused, or none clears the program|docs/FAULTS.md";
+                        4  the certificate was refused, or none clears the program|`ngc explain 113` explains it.";
+
+const EXPLAIN_HELP: &str =
+    "Print the rule of a fault, an example, and what to do|Usage: ngc explain <N>|\
+                            <N>|Number of a fault|ngc explain 113|Exit status:|`ngc explain 113` explains it.";
+
+const HELP_HELP: &str =
+    "Print the help of a command|Usage: ngc help [COMMAND]|[COMMAND]|[default: all of them]|\
+                         ngc help list|Exit status:|`ngc explain 113` explains it.";
+
+const VERSION_HELP: &str =
+    "Print the name and the version of the program|Usage: ngc version|ngc version|Exit status:";
 
 const HELP_LINES: &[(&str, &str)] = &[
     ("--help", HELP),
@@ -435,6 +485,9 @@ const HELP_LINES: &[(&str, &str)] = &[
     ("certify --help", CERTIFY_HELP),
     ("check --help", CHECK_HELP),
     ("run --help", RUN_HELP),
+    ("explain --help", EXPLAIN_HELP),
+    ("help --help", HELP_HELP),
+    ("version --help", VERSION_HELP),
 ];
 
 #[test]

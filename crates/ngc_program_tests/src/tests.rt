@@ -10,6 +10,7 @@ mod certificates;
 mod controller;
 mod cycles;
 mod files;
+mod guides;
 mod interpreter;
 mod jobs;
 mod looking_ahead;

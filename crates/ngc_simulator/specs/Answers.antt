@@ -1,5 +1,5 @@
 -- What a run of the program comes to.
-use Rattle.std.specs.Prelude.{◌≡◌, ◌⊎◌, ℕ, List, [], ◌∷◌, ◌++◌, Option, Some, Result, Ok, Err, IfSome, option_map}
+use Rattle.std.specs.Prelude.{◌≡◌, ◌⊎◌, ℕ, false, List, [], ◌∷◌, ◌++◌, Option, Some, Result, Ok, Err, IfSome, option_map}
 use Rattle.std.specs.Io.KnownBytes.{Appends, Keeps}
 use Rattle.ngc_command_line.specs.declared.options.ListOptions.{ListOptions}
 use Rattle.ngc_command_line.specs.declared.options.CertifyOptions.{CertifyOptions}
@@ -8,6 +8,9 @@ use Rattle.ngc_command_line.specs.declared.options.RunOptions.{RunOptions}
 use Rattle.ngc_command_line.specs.declared.options.RunThroughOptions.{RunThroughOptions}
 use Rattle.ngc_command_line.specs.declared.options.Options.{Options}
 use Rattle.ngc_command_line.specs.declared.options.Options.TheVariants as commands
+use Rattle.ngc_fault_texts.specs.Numbers.{is_fault}
+use Rattle.ngc_fault_texts.specs.Told.{FailsByWriting as FailsByExplaining, Tells as TellsFault}
+use Rattle.ngc_fault_texts.specs.declared.telling.ExplainFault.TheVariants.{Unknown}
 use Rattle.ngc_fixed_length.specs.Failures.{Rises}
 use Rattle.ngc_fixed_length.specs.Written.{AppendsBeginning}
 use Rattle.ngc_run_log.specs.declared.report.Report.{Report}
@@ -20,6 +23,8 @@ use Rattle.ngc_simulator.specs.declared.fault.AnswerFault.TheVariants as answers
 use Rattle.ngc_simulator.specs.declared.done.Done.{Done}
 use Rattle.ngc_simulator.specs.declared.done.Done.TheVariants.{Quietly, RunThrough}
 use Rattle.ngc_simulator.specs.declared.done.RunTime.{RunTime}
+use Rattle.ngc_simulator.specs.declared.guide.GuideFault.TheVariants as guides
+use Rattle.ngc_simulator.specs.Guides.{FailsByGuiding, Guides, version_text}
 use Rattle.ngc_simulator.specs.Faults.{fault_line, answer_status}
 use Rattle.ngc_simulator.specs.Lists.{Lists, FailsByWriting}
 use Rattle.ngc_simulator.specs.Jobs.{Certifies, FailsByCertifying, Checks, FailsByChecking}
@@ -106,12 +111,34 @@ RunThroughComes bytes options old new (Ok (RunThrough time)) =
 RunThroughComes bytes options old new (Err (answers.Run fault)) = RunsThroughOn bytes options old new (Err fault)
 RunThroughComes bytes options old new (Err fault) = StopsEarly bytes (Some options.machine.now) (Some options.tools.now) old new fault
 
+-- `explain` reads no file, and neither do `help` and `version`
+abbrev pub ExplainComes : ℕ → Option (List ℕ) → Option (List ℕ) → Result Done AnswerFault → Type 0
+ExplainComes number old new (Ok Quietly) = TellsFault number old new (Ok tt)
+ExplainComes number old new (Ok (RunThrough time)) = ⊥
+ExplainComes number old new (Err (answers.Explain fault)) = TellsFault number old new (Err fault) × (fault ≡ Unknown → is_fault number ≡ false)
+ExplainComes number old new (Err fault) = ⊥
+
+abbrev pub HelpComes : Option (List ℕ) → Option (List ℕ) → Result Done AnswerFault → Type 0
+HelpComes old new (Ok Quietly) = Guides old new (Ok tt)
+HelpComes old new (Ok (RunThrough time)) = ⊥
+HelpComes old new (Err (answers.Guide fault)) = Guides old new (Err fault)
+HelpComes old new (Err fault) = ⊥
+
+abbrev pub VersionComes : Option (List ℕ) → Option (List ℕ) → Result Done AnswerFault → Type 0
+VersionComes old new (Ok Quietly) = Appends old new version_text
+VersionComes old new (Ok (RunThrough time)) = ⊥
+VersionComes old new (Err (answers.Guide (guides.Write fault))) = AppendsBeginning old new version_text
+VersionComes old new (Err fault) = ⊥
+
 abbrev pub ComesBy : FileBytes → Options → Option (List ℕ) → Option (List ℕ) → Result Done AnswerFault → Type 0
 ComesBy bytes (commands.List options) old new outcome = ListComes bytes options old new outcome
 ComesBy bytes (commands.Certify options) old new outcome = CertifyComes bytes options old new outcome
 ComesBy bytes (commands.Check options) old new outcome = CheckComes bytes options old new outcome
 ComesBy bytes (commands.Run options) old new outcome = RunComes bytes options old new outcome
 ComesBy bytes (commands.RunThrough options) old new outcome = RunThroughComes bytes options old new outcome
+ComesBy bytes (commands.Explain number) old new outcome = ExplainComes number old new outcome
+ComesBy bytes (commands.Help command) old new outcome = HelpComes old new outcome
+ComesBy bytes commands.Version old new outcome = VersionComes old new outcome
 
 -- the first sink's count of failures rose where a write failed, and else it is what it was
 abbrev pub FailsByOutput : Result Done AnswerFault → ℕ → ℕ → Type 0
@@ -120,6 +147,8 @@ FailsByOutput (Err (answers.List fault)) old new = FailsByWriting (Err fault) ol
 FailsByOutput (Err (answers.Certify fault)) old new = FailsByCertifying (Err fault) old new
 FailsByOutput (Err (answers.Check fault)) old new = FailsByChecking (Err fault) old new
 FailsByOutput (Err (answers.Run fault)) old new = FailsByRunning (Err fault) old new
+FailsByOutput (Err (answers.Explain fault)) old new = FailsByExplaining (Err fault) old new
+FailsByOutput (Err (answers.Guide fault)) old new = FailsByGuiding (Err fault) old new
 FailsByOutput (Err (answers.Machine fault)) old new = new ≡ old
 FailsByOutput (Err (answers.Tools fault)) old new = new ≡ old
 FailsByOutput (Err (answers.Input fault)) old new = new ≡ old
@@ -164,6 +193,9 @@ inputs_of (commands.Certify options) = certify_inputs options
 inputs_of (commands.Check options) = check_inputs options
 inputs_of (commands.Run options) = run_inputs options
 inputs_of (commands.RunThrough options) = run_through_inputs options
+inputs_of (commands.Explain number) = []
+inputs_of (commands.Help command) = []
+inputs_of commands.Version = []
 
 -- What a sink had taken and has taken now, where it is known, and how often it had failed and has failed now.
 pub record Taking : Type 0 where
@@ -190,6 +222,9 @@ IsQuiet (commands.Certify options) = Unit {0}
 IsQuiet (commands.Check options) = Unit {0}
 IsQuiet (commands.Run options) = Unit {0}
 IsQuiet (commands.RunThrough options) = ⊥
+IsQuiet (commands.Explain number) = Unit {0}
+IsQuiet (commands.Help command) = Unit {0}
+IsQuiet commands.Version = Unit {0}
 
 -- nothing or the time where what was asked is done, and else the line that tells the fault
 abbrev pub Tells : Result Done AnswerFault → Taking → Type 0

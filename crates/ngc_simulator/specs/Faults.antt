@@ -35,6 +35,13 @@ use Rattle.ngc_simulator.specs.declared.lister.ListFault.{ListFault}
 use Rattle.ngc_simulator.specs.declared.lister.ListFault.TheVariants as lists
 use Rattle.ngc_simulator.specs.declared.running.RunningFault.{RunningFault}
 use Rattle.ngc_simulator.specs.declared.running.RunningFault.TheVariants as running
+use Rattle.ngc_command_line.specs.Meant.{help_fault_number}
+use Rattle.ngc_command_line.specs.declared.HelpFault.TheVariants as helps
+use Rattle.ngc_fault_texts.specs.Told.{explain_fault_number}
+use Rattle.ngc_fault_texts.specs.declared.telling.ExplainFault.{ExplainFault}
+use Rattle.ngc_fault_texts.specs.declared.telling.ExplainFault.TheVariants as explains
+use Rattle.ngc_simulator.specs.declared.guide.GuideFault.{GuideFault}
+use Rattle.ngc_simulator.specs.declared.guide.GuideFault.TheVariants as guides
 use Rattle.ngc_simulator.specs.declared.fault.AnswerFault.{AnswerFault}
 use Rattle.ngc_simulator.specs.declared.fault.AnswerFault.TheVariants as answers
 
@@ -62,6 +69,10 @@ running_number (running.Events e) = events_number e
 running_number (running.Check e) = check_number e
 running_number (running.Run e) = run_number e
 
+abbrev pub guide_number : GuideFault → ℕ
+guide_number (guides.Help e) = help_fault_number e
+guide_number (guides.Write e) = 902
+
 abbrev pub answer_number : AnswerFault → ℕ
 answer_number (answers.Machine e) = file_number e
 answer_number (answers.Tools e) = file_number e
@@ -70,6 +81,8 @@ answer_number (answers.List e) = list_number e
 answer_number (answers.Certify e) = certify_number e
 answer_number (answers.Check e) = checking_number e
 answer_number (answers.Run e) = running_number e
+answer_number (answers.Explain e) = explain_fault_number e
+answer_number (answers.Guide e) = guide_number e
 
 -- where a fault stands: a line and a column, a line, a file, or nowhere
 abbrev pub read_place : ReadFault → List ℕ
@@ -162,6 +175,8 @@ answer_place (answers.List e) = list_place e
 answer_place (answers.Certify e) = certify_place e
 answer_place (answers.Check e) = checking_place e
 answer_place (answers.Run e) = running_place e
+answer_place (answers.Explain e) = codes ""
+answer_place (answers.Guide e) = codes ""
 
 -- the line that tells a fault
 abbrev pub fault_line : AnswerFault → List ℕ
@@ -229,6 +244,15 @@ abbrev pub file_status : FileFault → ℕ
 file_status files.Memory = 1
 file_status _ = 3
 
+abbrev pub explain_status : ExplainFault → ℕ
+explain_status explains.Unknown = 3
+explain_status (explains.Write e) = 1
+
+abbrev pub guide_status : GuideFault → ℕ
+guide_status (guides.Help helps.Unknown) = 3
+guide_status (guides.Help helps.Memory) = 1
+guide_status (guides.Write e) = 1
+
 abbrev pub answer_status : AnswerFault → ℕ
 answer_status (answers.Machine e) = file_status e
 answer_status (answers.Tools e) = file_status e
@@ -237,3 +261,5 @@ answer_status (answers.List e) = list_status e
 answer_status (answers.Certify e) = certify_status e
 answer_status (answers.Check e) = checking_status e
 answer_status (answers.Run e) = running_status e
+answer_status (answers.Explain e) = explain_status e
+answer_status (answers.Guide e) = guide_status e

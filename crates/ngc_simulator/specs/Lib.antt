@@ -1,6 +1,7 @@
 pub mod Listing
 pub mod Faults
 pub mod Lists
+pub mod Guides
 pub mod Jobs
 pub mod Running
 pub mod Setups

@@ -26,6 +26,8 @@ RefusesShop bytes machine tools (answers.List e) = ⊥
 RefusesShop bytes machine tools (answers.Certify e) = ⊥
 RefusesShop bytes machine tools (answers.Check e) = ⊥
 RefusesShop bytes machine tools (answers.Run e) = ⊥
+RefusesShop bytes machine tools (answers.Explain e) = ⊥
+RefusesShop bytes machine tools (answers.Guide e) = ⊥
 
 abbrev pub GivesShop : FileBytes → Option (List ℕ) → Option (List ℕ) → Result Shop AnswerFault → Type 0
 GivesShop bytes machine tools (Ok shop) =

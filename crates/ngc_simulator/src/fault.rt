@@ -1,7 +1,9 @@
 use crate::certifier::CertifyFault;
 use crate::checking::CheckingFault;
+use crate::guide::GuideFault;
 use crate::lister::ListFault;
 use crate::running::RunningFault;
+use ngc_fault_texts::ExplainFault;
 use ngc_input::InputFault;
 use ngc_machine::FileFault;
 use thiserror::Error;
@@ -30,6 +32,12 @@ pub enum AnswerFault {
     /// The program isn't run, or its log isn't written.
     #[error(transparent)]
     Run(RunningFault),
+    /// A fault isn't explained: 721, 902.
+    #[error(transparent)]
+    Explain(ExplainFault),
+    /// No help or version is written: 722, 900, 902.
+    #[error(transparent)]
+    Guide(GuideFault),
 }
 
 /// Why a machine file or a tool table gives nothing.

@@ -6,6 +6,7 @@ mod checking;
 mod done;
 mod fault;
 mod files;
+mod guide;
 mod lister;
 mod listing;
 mod opening;
@@ -23,6 +24,7 @@ pub use checking::{CheckingFault, check_program};
 pub use done::{Done, RunTime};
 pub use fault::AnswerFault;
 pub use files::Files;
+pub use guide::GuideFault;
 pub use lister::{ListFault, list};
 pub use listing::write_list;
 pub use ngc_canonical::{
@@ -33,11 +35,12 @@ pub use ngc_certificate::{MakeFault, PieceFault, Setting};
 pub use ngc_certificate_text::{Certificate, CertificateFault};
 pub use ngc_checker::{Accepted, CheckFault, check};
 pub use ngc_command_line::{
-    CertifyOptions, CheckOptions, ListOptions, Options, RunOptions, RunThroughOptions, UsageFault,
-    read_options,
+    CertifyOptions, CheckOptions, HelpFault, ListOptions, Options, RunOptions, RunThroughOptions,
+    UsageFault, help_text, read_options,
 };
 pub use ngc_controller::{Controller, MemoryFault};
 pub use ngc_events::{Ending, Event, EventFault, EventLine, EventsFault, Reply, read_events};
+pub use ngc_fault_texts::{ExplainFault, explain};
 pub use ngc_machine::{FileFault, Fixture, Machine, Tool, Tools, row_machine};
 pub use ngc_run_log::{Report, RunFault, run, run_through};
 pub use ngc_step_kernel::{ArcKernel, ArcPath};

@@ -8,12 +8,14 @@ use crate::checking::check_files;
 use crate::done::Done;
 use crate::fault::AnswerFault;
 use crate::files::Files;
+use crate::guide::{GuideFault, write_help, write_version};
 use crate::lister::list_files;
 use crate::report::add_fault_line;
 use crate::report_time::add_time_line;
 use crate::running::run_files;
 use crate::through::run_through_files;
 use ngc_command_line::Options;
+use ngc_fault_texts::explain;
 use ngc_fixed_length::Sink;
 use ngc_output::Chunk;
 use std::alloc::Global;
@@ -34,12 +36,23 @@ fn run_command<F: Files, W: Sink>(
         Options::Check(options) => check_files(alloc, options, files, output),
         Options::Run(options) => run_files(alloc, options, files, output),
         Options::RunThrough(options) => run_through_files(alloc, options, files, output),
+        Options::Explain(number) => match explain(*number, output) {
+            Ok(()) => Ok(Done::Quietly),
+            Err(fault) => Err(AnswerFault::Explain(fault)),
+        },
+        Options::Help(command) => match write_help(alloc, *command, output) {
+            Ok(()) => Ok(Done::Quietly),
+            Err(fault) => Err(AnswerFault::Guide(fault)),
+        },
+        Options::Version => match write_version(output) {
+            Ok(()) => Ok(Done::Quietly),
+            Err(fault) => Err(AnswerFault::Guide(GuideFault::Write(fault))),
+        },
     }
 }
 
 /// Does what the options ask: writes output to the first sink, and the line of a fault, or of the time of a run to the end, to
-/// the second. It answers the exit
-/// status: 0 for done, 1 for input, output or memory, 3 for a file or a program that is refused, 4 for a certificate that is
+/// the second. It answers the exit status: 0 for done, 1 for input, output or memory, 3 for a file or a program that is refused, 4 for a certificate that is
 /// refused or isn't made.
 pub fn answer<F: Files, W: Sink, E: Sink>(
     alloc: Global,

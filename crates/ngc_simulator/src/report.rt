@@ -1,13 +1,16 @@
 //! What the program tells of a fault.
 ghost use Rattle.std.specs.Prelude.{◌≡◌, ◌+◌, ◌≤◌, ◌++◌, length, decimal, codes};
 ghost use Rattle.ngc_output.specs.Collected.{CHUNK_SIZE};
-ghost use Rattle.ngc_simulator.specs.Faults.{list_number, list_place, fault_line, list_status, read_place, read_status, program_place, answer_number, answer_place, answer_status, file_place, file_status};
+ghost use Rattle.ngc_simulator.specs.Faults.{list_number, list_place, fault_line, list_status, read_place, read_status, program_place, answer_number, answer_place, answer_status, file_place, file_status, guide_number, guide_status, explain_status};
 
 use crate::fault::AnswerFault;
+use crate::guide::GuideFault;
 use crate::lister::ListFault;
 use crate::report_certificates::{add_certify_place, add_checking_place};
 use crate::report_runs::add_running_place;
 use ngc_canonical::ProgramFault;
+use ngc_command_line::HelpFault;
+use ngc_fault_texts::ExplainFault;
 use ngc_line_reader::ReadFault;
 use ngc_machine::FileFault;
 use ngc_output::Chunk;
@@ -49,6 +52,8 @@ impl AnswerFault {
             AnswerFault::Certify(fault) => fault.number(),
             AnswerFault::Check(fault) => fault.number(),
             AnswerFault::Run(fault) => fault.number(),
+            AnswerFault::Explain(fault) => fault.number(),
+            AnswerFault::Guide(fault) => fault.number(),
         }
     }
 
@@ -64,7 +69,41 @@ impl AnswerFault {
             AnswerFault::Certify(fault) => fault.status(),
             AnswerFault::Check(fault) => fault.status(),
             AnswerFault::Run(fault) => fault.status(),
+            AnswerFault::Explain(fault) => status_of_explaining(fault),
+            AnswerFault::Guide(fault) => fault.status(),
         }
+    }
+}
+
+impl GuideFault {
+    /// The fault's number.
+    pub fn number(&self) -> u16
+        ensures { result ≡ guide_number self.now }
+    {
+        match self {
+            GuideFault::Help(fault) => fault.number(),
+            GuideFault::Write(fault) => fault.number(),
+        }
+    }
+
+    /// The exit status: 3 for a command that isn't known, 1 for memory and output.
+    pub fn status(&self) -> u8
+        ensures { result ≡ guide_status self.now }
+    {
+        match self {
+            GuideFault::Help(HelpFault::Unknown) => 3,
+            GuideFault::Help(HelpFault::Memory) => 1,
+            GuideFault::Write(_) => 1,
+        }
+    }
+}
+
+fn status_of_explaining(fault: &ExplainFault) -> u8
+    ensures { result ≡ explain_status fault.now }
+{
+    match fault {
+        ExplainFault::Unknown => 3,
+        ExplainFault::Write(_) => 1,
     }
 }
 
@@ -139,7 +178,7 @@ fn add_place(chunk: &mut Chunk, fault: &AnswerFault)
     match fault {
         AnswerFault::Machine(fault) => add_file_place(chunk, b" machine", fault),
         AnswerFault::Tools(fault) => add_file_place(chunk, b" tools", fault),
-        AnswerFault::Input(_) => {}
+        AnswerFault::Input(_) | AnswerFault::Explain(_) | AnswerFault::Guide(_) => {}
         AnswerFault::List(fault) => add_list_place(chunk, fault),
         AnswerFault::Certify(fault) => add_certify_place(chunk, fault),
         AnswerFault::Check(fault) => add_checking_place(chunk, fault),

@@ -2,7 +2,7 @@
 use super::certificates::SHORT_WAY_CERTIFICATE;
 use super::jobs::{End, Job};
 use super::runs::{SHORT_WAY_EVENTS, SHORT_WAY_LOG, certificate_of};
-use super::{RUN, SHORT_WAY, SomeFiles, Texts, on_the_mill, status_of};
+use super::{NO_TEXTS, RUN, SHORT_WAY, SomeFiles, Texts, on_the_mill, outcome_of, status_of};
 use ngc_fixed_length::{Device, DeviceFault, Sink};
 use ngc_simulator::Options;
 use std::alloc::Global;
@@ -108,5 +108,29 @@ fn a_log_that_breaks_off(rt: HostRuntime) {
         assert_eq!(rt; sink.taken.as_slice(), &log[..calls]);
         assert_eq!(rt; errors.into_inner().as_slice(), fault.as_bytes());
         assert_eq!(rt; status, expected, "after {calls} calls");
+    }
+}
+
+fn guide_breaks_off_after(rt: &impl Abort, alloc: Global, options: &Options<'_>, whole: &[u8], calls: usize) {
+    let mut files = SomeFiles {
+        texts: NO_TEXTS,
+        failures: 0,
+    };
+    let mut sink = FailingSink::new(alloc, calls);
+    let mut errors = Device::new(Vec::new(alloc));
+    let status = status_of(alloc, options, &mut files, &mut sink, &mut errors);
+    assert!(rt; whole.starts_with(sink.taken.as_slice()), "after {calls} calls");
+    assert_eq!(rt; sink.taken.len(), calls);
+    assert_eq!(rt; errors.into_inner().as_slice(), b"ngc: fault 902\n".as_slice());
+    assert_eq!(rt; status, 1, "after {calls} calls");
+}
+
+#[test]
+fn guides_that_break_off(rt: HostRuntime) {
+    for options in [Options::Explain(102), Options::Version, Options::Help(Some("list"))] {
+        let whole = outcome_of(rt.alloc(), NO_TEXTS, &options).output;
+        for calls in 0..whole.len() {
+            guide_breaks_off_after(&rt, rt.alloc(), &options, whole.as_slice(), calls);
+        }
     }
 }

@@ -1,0 +1,48 @@
+//! The help of a command, and the program's version.
+ghost use Rattle.std.specs.Prelude.{◌≡◌, OnErr, OnOk};
+ghost use Rattle.std.specs.Io.KnownBytes.{Appends};
+ghost use Rattle.ngc_fixed_length.specs.Failures.{CountsFailure};
+ghost use Rattle.ngc_fixed_length.specs.Written.{AppendsBeginning};
+ghost use Rattle.ngc_simulator.specs.Guides.{FailsByGuiding, Guides, version_text};
+
+use ngc_command_line::{HelpFault, help_text};
+use ngc_fixed_length::{Sink, WriteFault, write_all};
+use std::alloc::Global;
+use thiserror::Error;
+
+/// Why no help or version is written.
+#[derive(Clone, Copy, Debug, PartialEq, Eq, Error)]
+pub enum GuideFault {
+    /// 722, 900
+    #[error(transparent)]
+    Help(HelpFault),
+    /// 902
+    #[error(transparent)]
+    Write(WriteFault),
+}
+
+pub(crate) fn write_help<W: Sink>(
+    alloc: Global,
+    command: Option<&str>,
+    output: &mut W,
+) -> Result<(), GuideFault>
+    ensures guides { Guides (W.written output.old) (W.written output.new) result }
+    ensures sink { FailsByGuiding result (W.failures output.old) (W.failures output.new) }
+{
+    let text = match help_text(alloc, command) {
+        Ok(text) => text,
+        Err(fault) => return Err(GuideFault::Help(fault)),
+    };
+    match write_all(output, text.as_bytes()) {
+        Ok(()) => Ok(()),
+        Err(fault) => Err(GuideFault::Write(fault)),
+    }
+}
+
+pub(crate) fn write_version<W: Sink>(output: &mut W) -> Result<(), WriteFault>
+    ensures ok { OnOk result (Appends (W.written output.old) (W.written output.new) version_text) }
+    ensures fault { OnErr result (AppendsBeginning (W.written output.old) (W.written output.new) version_text) }
+    ensures counts { CountsFailure (W.failures output.old) (W.failures output.new) result }
+{
+    write_all(output, b"ngc 0.1.0\n")
+}
