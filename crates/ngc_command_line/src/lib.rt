@@ -228,6 +228,8 @@ fn help_of<'a>(alloc: Global, words: &'a [&'a str]) -> Result<String, HelpFault>
 /// The texts are shown by tests.
 pub fn help_text(alloc: Global, command: Option<&str>) -> Result<String, HelpFault> {
     match command {
+        // An option is no command's name.
+        Some(name) if name.starts_with("-") => Err(HelpFault::Unknown),
         Some(name) => help_of(alloc, &[name, "--help"]),
         None => help_of(alloc, &["--help"]),
     }
