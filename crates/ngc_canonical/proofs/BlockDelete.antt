@@ -1,17 +1,17 @@
 -- Where no line begins with / block delete changes nothing.
-use Rattle.std.proofs.Common.{◌≡◌, ℕ, zero, suc, ◌+◌, ◌<◌, ◌≤◌, List, [], ◌∷◌, length, drop, Option, Some, Bool, true, false, refl, ap, sym, ◌∙◌, arith}
+use Rattle.std.proofs.Common.{◌≡◌, ℕ, zero, suc, ◌+◌, ◌<◌, ◌≤◌, List, [], ◌∷◌, length, drop, Some, Bool, true, false, refl, ap, sym, ◌∙◌, arith}
 use Rattle.std.proofs.Math.ListN.{drop_of_length-le}
 use Rattle.std.specs.Prelude.{slice_get, ◌||◌, if◌then◌else◌}
 use Rattle.std.specs.Option.{option_map}
-use Rattle.ngc_line_reader.specs.Grammar.{Reading, Reads}
+use Rattle.ngc_line_reader.specs.Grammar.{Reading}
 use Rattle.ngc_line_reader.specs.Program.{Line}
 use Rattle.ngc_line_reader.specs.ProgramText.{AreReadings}
 use Rattle.ngc_line_reader.specs.ScanLine.{Parts}
 use Rattle.ngc_line_reader.specs.Shown.{ShowsReading}
 use Rattle.ngc_line_reader.proofs.UniqueLine.{one_reading}
 use Rattle.ngc_canonical.specs.Joined.{SameAtBoth}
-use Rattle.ngc_canonical.specs.Meaning.{NumberedLine, Program, commands_of, from_state, has_deleted, remaining, with_readings}
-use Rattle.ngc_canonical.specs.State.{Setup, start_state}
+use Rattle.ngc_canonical.specs.Meaning.{NumberedLine, commands_of, from_state, has_deleted, remaining, with_readings}
+use Rattle.ngc_canonical.specs.State.{start_state}
 use Rattle.ngc_canonical.proofs.Lines.{NextLine, next_line}
 
 -- ---- the law

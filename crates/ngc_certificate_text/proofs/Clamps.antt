@@ -14,7 +14,6 @@ use Rattle.ngc_certificate_text.specs.Number.{fields, size_in, negated, number_i
 use Rattle.ngc_certificate_text.specs.Clamped.{limited_size, clamped, minus_tail}
 use Rattle.ngc_certificate_text.proofs.NumberLaws.{lacks}
 use Rattle.ngc_certificate_text.proofs.FieldLaws.{split_last}
-use Rattle.std.proofs.lemmas.List.{drop-take, drop-drop, length-take}
 
 -- a byte that is no digit
 pub digits_fail : (ds : List ℕ) (i : ℕ) → i < length ds → is_ascii_digit (get_or ds i 0) ≡ false → all_ascii_digits ds ≡ false

@@ -1,8 +1,8 @@
-use Rattle.std.proofs.Common.{◌≡◌, ◌+◌, ◌<◌, ◌≤◌, Bool, List, length, drop, ap, sym, ◌∙◌, arith}
+use Rattle.std.proofs.Common.{◌+◌, ◌<◌, Bool, length, drop, ap, sym, ◌∙◌, arith}
 use Rattle.std.specs.Prelude.{◌||◌}
 use Rattle.ngc_line_reader.specs.ProgramView.{text_in}
 use Rattle.ngc_canonical.specs.Meaning.{has_deleted, with_readings}
-use Rattle.ngc_canonical.proofs.BlockDelete.{seen_line, bytes_seen, next_seen, deleted_from, none_from}
+use Rattle.ngc_canonical.proofs.BlockDelete.{seen_line, bytes_seen, next_seen, deleted_from}
 use Rattle.ngc_canonical.proofs.Lines.{seen}
 use Rattle.ngc_canonical.proofs.deleted.has_deleted_lines.Goals as goal
 
