@@ -9,7 +9,7 @@ use Rattle.ngc_fixed_length.specs.Grid.{grid}
 use Rattle.ngc_fixed_length.specs.Length.{IsStep}
 use Rattle.ngc_arc_geometry.specs.Shape.{ArcShape, start_of, end_of}
 use Rattle.ngc_arc_geometry.specs.Swept.{swept_box}
-use Rattle.ngc_arc_geometry.specs.CutArc.{cut_box, cut_follows, turns_on, is_end, is_large}
+use Rattle.ngc_arc_geometry.specs.CutArc.{cut_box, turns_on, is_end, is_large}
 use Rattle.ngc_arc_geometry.proofs.CutChain.{at_end}
 use Rattle.ngc_arc_geometry.proofs.CutEnds.{start_in_cut, end_in_cut}
 use Rattle.ngc_arc_geometry.proofs.CutSeen.{both}
@@ -23,7 +23,7 @@ use Rattle.ngc_certificate_text.specs.declared.piece.Cut.TheVariants.{Part, Plac
 use Rattle.ngc_certificate_text.specs.declared.piece.Piece.{Piece}
 use Rattle.ngc_certificate.specs.Chain.{stretch, first_cut, place_of, follows}
 use Rattle.ngc_certificate.specs.DerivedBox.{arc_box}
-use Rattle.ngc_certificate.specs.PieceFault.{AreValidFrom, IsPieceValid}
+use Rattle.ngc_certificate.specs.PieceFault.{AreValidFrom}
 use Rattle.ngc_certificate.proofs.SafeInPiece.{safe_in_piece}
 
 in_either : (b : Bool) (x y : GridBox) (p : StepPos) → IsIn x p → IsIn y p → IsIn (if b then x else y) p

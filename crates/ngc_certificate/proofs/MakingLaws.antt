@@ -1,6 +1,6 @@
 -- From one command to the next.
 use Rattle.std.proofs.Common.{◌≡◌, ℕ, ◌+◌, ◌≤◌, ◌<◌, refl, ap, sym, subst, ◌∙◌, drop, get_or, add-one, drop-cons, List, [], ◌∷◌, ◌++◌, length, Some, None, Ok, Err, arith, append_assoc, append-nil, length-append}
-use Rattle.std.specs.Prelude.{Option, Result, Bool, true, false}
+use Rattle.std.specs.Prelude.{Option, Result, true, false}
 use Rattle.std.specs.Option.{is_none}
 use Rattle.ngc_fixed_length.specs.Grid.{grid}
 use Rattle.ngc_fixed_length.specs.declared.points.Point3.{Point3}

@@ -1,4 +1,4 @@
-use Rattle.std.proofs.Common.{ap, sym, ◌∙◌, ◌≡◌}
+use Rattle.std.proofs.Common.{ap, sym, ◌∙◌}
 use Rattle.ngc_fixed_length.specs.Boxes.{holds_box}
 use Rattle.ngc_arc_geometry.specs.CutArc.{cut_box}
 use Rattle.ngc_certificate.specs.DerivedBox.{arc_box as box_of_arc}

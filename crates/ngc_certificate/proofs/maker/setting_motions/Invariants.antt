@@ -1,4 +1,4 @@
-use Rattle.std.proofs.Common.{◌≡◌, ◌≤◌, ℕ, List, length}
+use Rattle.std.proofs.Common.{◌≤◌, ℕ, List, length}
 use Rattle.std.specs.Prelude.{drop, Result}
 use Rattle.ngc_machine.specs.Machine.{file_of}
 use Rattle.ngc_canonical.specs.Movement.{actions_of}

@@ -1,4 +1,4 @@
-use Rattle.std.proofs.Common.{◌∙◌, ap, sym, subst, List, arith, Bool}
+use Rattle.std.proofs.Common.{sym, subst, List, arith}
 use Rattle.ngc_machine.specs.Machine.{file_of}
 use Rattle.ngc_certificate_text.specs.declared.piece.Piece.{Piece}
 use Rattle.ngc_certificate_text.specs.Certificate.{IsEntry}
