@@ -49,7 +49,14 @@ fn explains(rt: HostRuntime) {
 
 #[test]
 fn tells_the_version(rt: HostRuntime) {
-    comes_to(&rt, rt.alloc(), NO_TEXTS, &Options::Version, Ok("ngc 0.1.0\n"), "version");
+    comes_to(
+        &rt,
+        rt.alloc(),
+        NO_TEXTS,
+        &Options::Version,
+        Ok("ngc 0.1.0\n"),
+        "version",
+    );
 }
 
 #[test]
@@ -97,7 +104,10 @@ fn explains_each_fault(rt: HostRuntime) -> Result<(), Fail> {
         let heading = format!(in rt.alloc(); "Fault {number} (")?;
         let text = std::str::from_utf8(found.output.as_slice()).map_err(|_| "text")?;
         if is_answered(number) {
-            assert!(rt; found.status == 0 && is_explanation(text, heading.as_str()), "{number}");
+            assert!(rt;
+                found.status == 0 && is_explanation(text, heading.as_str()),
+                "{number}"
+            );
         } else {
             assert!(rt; found.status == 3 && text.is_empty(), "{number}");
         }
@@ -112,17 +122,38 @@ fn helps(rt: &impl Abort, alloc: Global, command: Option<&str>, beginning: &str,
     let text = found.output.as_slice();
     assert!(rt; text.starts_with(beginning.as_bytes()), "{usage}");
     assert!(rt;
-        text.windows(usage.len()).any(|part| part == usage.as_bytes()),
+        text.windows(usage.len())
+            .any(|part| part == usage.as_bytes()),
         "{usage}"
     );
 }
 
 const HELPS: &[(Option<&str>, &str, &str)] = &[
-    (None, "List, certify, check and run", "Usage: ngc <COMMAND>\n"),
-    (Some("list"), "Print the commands of a part program", "Usage: ngc list [OPTIONS]\n"),
-    (Some("explain"), "Print the rule of a fault", "Usage: ngc explain <N>\n"),
-    (Some("help"), "Print the help of a command", "Usage: ngc help [COMMAND]\n"),
-    (Some("version"), "Print the name and the version", "Usage: ngc version\n"),
+    (
+        None,
+        "List, certify, check and run",
+        "Usage: ngc <COMMAND>\n",
+    ),
+    (
+        Some("list"),
+        "Print the commands of a part program",
+        "Usage: ngc list [OPTIONS]\n",
+    ),
+    (
+        Some("explain"),
+        "Print the rule of a fault",
+        "Usage: ngc explain <N>\n",
+    ),
+    (
+        Some("help"),
+        "Print the help of a command",
+        "Usage: ngc help [COMMAND]\n",
+    ),
+    (
+        Some("version"),
+        "Print the name and the version",
+        "Usage: ngc version\n",
+    ),
 ];
 
 #[test]

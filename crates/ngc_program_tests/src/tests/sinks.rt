@@ -111,7 +111,13 @@ fn a_log_that_breaks_off(rt: HostRuntime) {
     }
 }
 
-fn guide_breaks_off_after(rt: &impl Abort, alloc: Global, options: &Options<'_>, whole: &[u8], calls: usize) {
+fn guide_breaks_off_after(
+    rt: &impl Abort,
+    alloc: Global,
+    options: &Options<'_>,
+    whole: &[u8],
+    calls: usize,
+) {
     let mut files = SomeFiles {
         texts: NO_TEXTS,
         failures: 0,
@@ -119,15 +125,25 @@ fn guide_breaks_off_after(rt: &impl Abort, alloc: Global, options: &Options<'_>,
     let mut sink = FailingSink::new(alloc, calls);
     let mut errors = Device::new(Vec::new(alloc));
     let status = status_of(alloc, options, &mut files, &mut sink, &mut errors);
-    assert!(rt; whole.starts_with(sink.taken.as_slice()), "after {calls} calls");
+    assert!(rt;
+        whole.starts_with(sink.taken.as_slice()),
+        "after {calls} calls"
+    );
     assert_eq!(rt; sink.taken.len(), calls);
-    assert_eq!(rt; errors.into_inner().as_slice(), b"ngc: fault 902\n".as_slice());
+    assert_eq!(rt;
+        errors.into_inner().as_slice(),
+        b"ngc: fault 902\n".as_slice()
+    );
     assert_eq!(rt; status, 1, "after {calls} calls");
 }
 
 #[test]
 fn guides_that_break_off(rt: HostRuntime) {
-    for options in [Options::Explain(102), Options::Version, Options::Help(Some("list"))] {
+    for options in [
+        Options::Explain(102),
+        Options::Version,
+        Options::Help(Some("list")),
+    ] {
         let whole = outcome_of(rt.alloc(), NO_TEXTS, &options).output;
         for calls in 0..whole.len() {
             guide_breaks_off_after(&rt, rt.alloc(), &options, whole.as_slice(), calls);
