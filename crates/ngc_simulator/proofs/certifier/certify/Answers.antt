@@ -1,6 +1,6 @@
 use Rattle.ngc_canonical.specs.Interpreter.{setup_of}
 use Rattle.ngc_certificate_text.specs.Contents.{said_of}
-use Rattle.ngc_simulator.proofs.JobLaws.{if_known, certified, certifying_stopped, nothing_certified}
+use Rattle.ngc_simulator.proofs.JobLaws.{if_known, certified, certifying_stopped}
 use Rattle.ngc_simulator.proofs.certifier.certify.Goals as goal
 
 pub returns-in-Ok-write-clause-certifies : goal.returns-in-Ok-write-clause-certifies
