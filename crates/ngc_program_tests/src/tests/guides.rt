@@ -1,4 +1,5 @@
 //! `ngc explain`, `ngc help` and `ngc version`, which read no file.
+use super::certificates::holds;
 use super::{NO_TEXTS, Outcome, comes_to, outcome_of};
 use ngc_simulator::Options;
 use std::alloc::Global;
@@ -121,11 +122,7 @@ fn helps(rt: &impl Abort, alloc: Global, command: Option<&str>, beginning: &str,
     found.has_no_fault(rt, usage);
     let text = found.output.as_slice();
     assert!(rt; text.starts_with(beginning.as_bytes()), "{usage}");
-    assert!(rt;
-        text.windows(usage.len())
-            .any(|part| part == usage.as_bytes()),
-        "{usage}"
-    );
+    assert!(rt; holds(text, usage.as_bytes()), "{usage}");
 }
 
 const HELPS: &[(Option<&str>, &str, &str)] = &[
