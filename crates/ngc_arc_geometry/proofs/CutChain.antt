@@ -1,6 +1,6 @@
 -- The law of cut arcs: some piece's box holds each point of band and sector.
 use Rattle.std.proofs.Common.{◌≡◌, ℕ, zero, suc, ◌+◌, ◌-◌, ◌*◌, ◌<◌, ◌≤◌, inl, inr, ap, ap₂, arith, refl, subst, ℤ, pos, negsuc, ◌+ℤ◌, ◌-ℤ◌, ◌*ℤ◌, neg_ℤ, ◌≤ℤ◌, unsigned_abs, sym, ◌∙◌, ◌⊎◌, Bool, true, false, List, [], ◌∷◌}
-use Rattle.std.specs.Prelude.{IsTrue, ◌&&◌, ◌||◌, not, int_le, int_lt, nat_le, if◌then◌else◌, Any}
+use Rattle.std.specs.Prelude.{IsTrue, ◌&&◌, ◌||◌, not, int_le, int_lt, if◌then◌else◌, Any}
 use Rattle.std.specs.Int.{int_min, int_max}
 use Rattle.std.proofs.lemmas.Int.{ints, clamps}
 use Rattle.std.proofs.lemmas.Bool.Decides.{nat_tests}
@@ -17,9 +17,9 @@ use Rattle.ngc_arc_geometry.specs.Sector.{turn_from, is_ahead, is_full, in_secto
 use Rattle.ngc_arc_geometry.specs.Swept.{margin, start_height, end_height}
 use Rattle.ngc_arc_geometry.specs.GridPlaces.{seen, height_of}
 use Rattle.ngc_arc_geometry.specs.ArcBand.{leeway, spread, IsInBand}
-use Rattle.ngc_arc_geometry.specs.ArcSides.{IsByAnEnd, IsBetweenEnds}
+use Rattle.ngc_arc_geometry.specs.ArcSides.{IsBetweenEnds}
 use Rattle.ngc_arc_geometry.specs.ArcPath.{IsArcOf}
-use Rattle.ngc_arc_geometry.specs.CutArc.{is_in_band, share_quadrant, turns_on, passes_start, is_inner_cut, is_end, cut_follows, cut_box, is_large, IsCutChain, cut_boxes, CoveredByCuts}
+use Rattle.ngc_arc_geometry.specs.CutArc.{is_in_band, share_quadrant, turns_on, passes_start, is_inner_cut, is_end, cut_follows, cut_box, IsCutChain, cut_boxes, CoveredByCuts}
 use Rattle.ngc_arc_geometry.proofs.CutInts.{three_turns}
 use Rattle.ngc_arc_geometry.proofs.Squares.{first_within, second_within}
 use Rattle.ngc_arc_geometry.proofs.CutSigns.{onward, backward}

@@ -8,7 +8,7 @@ use Rattle.ngc_fixed_length.specs.Grid.{grid}
 use Rattle.ngc_fixed_length.specs.Length.{IsStep}
 use Rattle.ngc_fixed_length.specs.Rounding.{nearest}
 use Rattle.ngc_arc_geometry.specs.Shape.{ArcShape, start_of, end_of}
-use Rattle.ngc_arc_geometry.specs.Swept.{margin, start_height, end_height}
+use Rattle.ngc_arc_geometry.specs.Swept.{margin}
 use Rattle.ngc_arc_geometry.specs.CutArc.{cut_box}
 use Rattle.ngc_arc_geometry.proofs.SweptEnds.{above_inside, inside_below, place_between}
 

@@ -1,10 +1,9 @@
 -- The worked pieces of a half circle, computed.
-use Rattle.std.proofs.Common.{◌≡◌, refl, true, false, pos, negsuc, ◌∷◌, []}
+use Rattle.std.proofs.Common.{◌≡◌, refl, true, false, pos, negsuc}
 use Rattle.ngc_fixed_length.specs.Roots.{root_of_digits, whole_root, whole_root_above}
 use Rattle.ngc_fixed_length.specs.declared.modes.Plane.TheVariants.{XY}
 use Rattle.ngc_fixed_length.specs.declared.modes.Turn.TheVariants.{Clockwise}
 use Rattle.ngc_fixed_length.specs.declared.points.Point2.{Point2}
-use Rattle.ngc_fixed_length.specs.declared.points.GridBox.{GridBox}
 use Rattle.ngc_arc_geometry.specs.Shape.{ArcShape, start_of, end_of}
 use Rattle.ngc_arc_geometry.specs.CutArc.{cut_follows, cut_box}
 

@@ -1,5 +1,5 @@
 -- Pieces of an arc that is cut. Our own.
-use Rattle.std.specs.Prelude.{ℕ, ◌+◌, ◌-◌, ◌*◌, ◌<◌, ◌≤◌, nat_le, ℤ, pos, ◌+ℤ◌, ◌-ℤ◌, ◌*ℤ◌, ◌≤ℤ◌, int_le, int_lt, unsigned_abs, List, [], ◌∷◌, length, Bool, true, false, not, ◌&&◌, if◌then◌else◌, IsTrue, Any}
+use Rattle.std.specs.Prelude.{ℕ, ◌+◌, ◌-◌, ◌*◌, ◌<◌, nat_le, ℤ, pos, ◌+ℤ◌, ◌-ℤ◌, ◌*ℤ◌, ◌≤ℤ◌, int_le, int_lt, unsigned_abs, List, [], ◌∷◌, length, Bool, true, false, not, ◌&&◌, if◌then◌else◌, IsTrue, Any}
 use Rattle.std.specs.Int.{int_min, int_max}
 use Rattle.ngc_fixed_length.specs.Places.{from}
 use Rattle.ngc_fixed_length.specs.Signed.{same}

@@ -4,7 +4,6 @@ use Rattle.std.specs.Int.{int_min, int_max}
 use Rattle.ngc_fixed_length.specs.Length.{IsStep}
 use Rattle.ngc_arc_geometry.specs.declared.cut.GridArc.TheInside.{Inside}
 use Rattle.ngc_arc_geometry.specs.Shape.{ArcShape}
-use Rattle.ngc_arc_geometry.specs.Inside.{shape_of}
 use Rattle.ngc_arc_geometry.specs.Radii.{inner_radius, outer_radius}
 use Rattle.ngc_arc_geometry.specs.Swept.{margin, start_height, end_height}
 

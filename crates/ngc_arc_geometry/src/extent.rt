@@ -94,7 +94,7 @@ impl GridRange {
 }
 
 /// An axis of the plane.
-#[derive(Clone, Copy, Debug, PartialEq, Eq)]
+#[derive(Clone, Copy)]
 pub(crate) enum PlaneAxis {
     U,
     V,

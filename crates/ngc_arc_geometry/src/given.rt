@@ -5,14 +5,14 @@ use crate::way::Way;
 use ngc_fixed_length::{Nm, Plane, Point2, Point3, Turn, Units};
 
 /// The lengths of I, J and K that belong to the plane, along its axes u and v.
-#[derive(Clone, Copy, Debug, PartialEq, Eq)]
+#[derive(Clone, Copy)]
 pub struct Offsets {
     pub u: Option<Nm>,
     pub v: Option<Nm>,
 }
 
 /// What both formats of an arc are given: plane, sense of turning, ends, and whether an axis word of the plane stands.
-#[derive(Clone, Copy, Debug, PartialEq, Eq)]
+#[derive(Clone, Copy)]
 pub struct Ends {
     pub plane: Plane,
     pub turn: Turn,

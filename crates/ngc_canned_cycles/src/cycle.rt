@@ -18,7 +18,7 @@ pub enum Hole {
 }
 
 /// A line's cycle, by its words and the modes in force.
-#[derive(Clone, Copy, Debug, PartialEq, Eq)]
+#[derive(Clone, Copy)]
 pub struct Cycle {
     pub hole: Hole,
     pub plane: Plane,
@@ -37,7 +37,7 @@ pub struct Cycle {
 
 /// Where a cycle begins: the programmed place before the line, the programmed height before the series of cycles, and
 /// whether the spindle turns.
-#[derive(Clone, Copy, Debug, PartialEq, Eq)]
+#[derive(Clone, Copy)]
 pub struct Start {
     pub place: Point3,
     pub series: Nm,
@@ -46,7 +46,7 @@ pub struct Start {
 
 /// Where a hole is made, in programmed coordinates: its place in the plane, the heights of R and of the bottom, and the
 /// height to which the tool clears behind it.
-#[derive(Clone, Copy, Debug, PartialEq, Eq)]
+#[derive(Clone, Copy)]
 pub struct Site {
     pub plane: Plane,
     pub place: Point2,

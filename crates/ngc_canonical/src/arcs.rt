@@ -49,7 +49,6 @@ fn along_v(plane: Plane, words: &ArcWords) -> Option<Value>
 }
 
 impl<A: Allocator + Copy> Interpreter<A> {
-    #[tactic(auto, using(crate::proofs::ArcLaws::end_of_radius))]
     fn arc_by_radius(&self, radius: Nm, ends: &Ends) -> Result<Arc, Fault>
         requires { IsEnds ends.now }
         ensures value { result ≡ faulted Fault.Arc (radius_format (state_of self.now).modes.units ends.now radius) }
@@ -61,7 +60,6 @@ impl<A: Allocator + Copy> Interpreter<A> {
         }
     }
 
-    #[tactic(auto, using(crate::proofs::ArcLaws::end_of_centre))]
     fn arc_by_centre(&self, offsets: &Offsets, ends: &Ends) -> Result<Arc, Fault>
         requires { IsEnds ends.now }
         ensures value { result ≡ faulted Fault.Arc (centre_format (state_of self.now).modes.units ends.now offsets.now) }

@@ -12,14 +12,14 @@ use ngc_parameters::Store;
 use std::alloc::Allocator;
 
 /// Why a line isn't executed: what it breaks, or want of memory.
-#[derive(Clone, Copy, PartialEq, Eq)]
+#[derive(Clone, Copy)]
 pub enum Refusal {
     Breaks(Fault),
     Memory,
 }
 
 /// R, the bottom, P and Q of a canned cycle, for the lines that leave them out.
-#[derive(Clone, Copy, PartialEq, Eq)]
+#[derive(Clone, Copy)]
 pub struct Kept {
     pub retract: Nm,
     pub bottom: Nm,

@@ -1,6 +1,6 @@
 use crate::given::{grid_box, length};
 use ngc_collision::{first_met, is_in_travel};
-use ngc_fixed_length::Nm;
+use ngc_fixed_length::{GridBox, Nm};
 use ngc_machine::{Machine, Part, Parts, Tool, row_machine};
 use std::alloc::Global;
 use std::process::Abort;
@@ -247,12 +247,22 @@ fn stacked(rt: &impl Abort, alloc: Global, body: &(i64, &[(i64, i64)])) -> Resul
 #[test]
 fn tools_of_several_parts(rt: HostRuntime) -> Result<(), Fail> {
     for (fixture, body, low, high, met) in &STACKED {
-        let machine = machine_with(rt.alloc(), fixture)?;
         let tool = stacked(&rt, rt.alloc(), body)?;
-        let found = first_met(&machine, Some(tool), &grid_box(*low, *high));
-        assert_eq!(rt; found, *met, "{body:?} from {low:?} to {high:?}");
+        let found = met_among(rt.alloc(), fixture, tool, &grid_box(*low, *high))?;
+        assert!(rt; found == *met, "{body:?} from {low:?} to {high:?}");
     }
     Ok(())
+}
+
+// The first fixture of the row machine, with one fixture more, that a tool meets.
+fn met_among(
+    alloc: Global,
+    fixture: &str,
+    tool: Tool,
+    grid_box: &GridBox,
+) -> Result<Option<u32>, Fail> {
+    let machine = machine_with(alloc, fixture)?;
+    Ok(first_met(&machine, Some(tool), grid_box))
 }
 
 static LOWEST: [((i32, i32, i32), (i32, i32, i32), Option<u32>); 5] = [
@@ -263,8 +273,13 @@ static LOWEST: [((i32, i32, i32), (i32, i32, i32), Option<u32>); 5] = [
     ((25_700, 50, -500), (30_000, 50, -500), None),
 ];
 
-// The row machine's file with a row of fixtures.
-fn machine_with_256(alloc: Global) -> Result<String, Fail> {
+// The row machine with a row of fixtures.
+fn machine_with_256(alloc: Global) -> Result<Machine<Global>, Fail> {
+    let text = text_with_256(alloc)?;
+    Ok(Machine::read(alloc, text.as_bytes())?)
+}
+
+fn text_with_256(alloc: Global) -> Result<String, Fail> {
     let mut text = format!(in alloc; "{ROW_MACHINE}")?;
     for i in 1..257i32 {
         let fixture = format!(in alloc;
@@ -278,12 +293,11 @@ fn machine_with_256(alloc: Global) -> Result<String, Fail> {
 
 #[test]
 fn the_lowest_of_256_fixtures_is_answered(rt: HostRuntime) -> Result<(), Fail> {
-    let text = machine_with_256(rt.alloc())?;
-    let machine = Machine::read(rt.alloc(), text.as_bytes())?;
-    assert_eq!(rt; machine.fixtures.len(), 256);
+    let machine = machine_with_256(rt.alloc())?;
+    assert!(rt; machine.fixtures.len() == 256);
     for (low, high, met) in &LOWEST {
         let found = first_met(&machine, None, &grid_box(*low, *high));
-        assert_eq!(rt; found, *met, "from {low:?} to {high:?}");
+        assert!(rt; found == *met, "from {low:?} to {high:?}");
     }
     Ok(())
 }

@@ -238,16 +238,27 @@ fn stays_in_band<K: ArcKernel>(path: &mut K, arc: &Arc, step: u16, band: (u64, u
     is_in
 }
 
+// Whether the path about an arc has at least so many moves, keeps to the band, and ends.
+fn is_followed<K: ArcKernel + Drop>(
+    rt: &impl Abort,
+    arc: &Arc,
+    step: u16,
+    band: (u64, u64),
+    moves: u64,
+) -> bool {
+    assert!(rt; 500 <= step && step <= 50_000);
+    let mut path = K::new(arc, length(rt, i64::from(step)));
+    let has_moves = path.remaining() >= moves;
+    let is_in = stays_in_band(&mut path, arc, step, band);
+    has_moves && is_in && path.remaining() == 0
+}
+
 fn follow_arcs<K: ArcKernel + Drop>(rt: &impl Abort) -> Result<(), Fail> {
     for (plane, turn, start, end, format, step, band, moves) in &ARCS {
         let ends = ends(rt, *plane, *turn, *start, *end);
         let arc = arc(rt, Units::Millimetres, &ends, *format)?;
-        assert!(rt; 500 <= *step && *step <= 50_000);
-        let mut path = K::new(&arc, length(rt, i64::from(*step)));
-        assert!(rt; path.remaining() >= *moves, "to {end:?} by {format:?}");
-        let is_in = stays_in_band(&mut path, &arc, *step, *band);
-        assert!(rt; is_in, "to {end:?} by {format:?}");
-        assert_eq!(rt; path.remaining(), 0);
+        let is_followed = is_followed::<K>(rt, &arc, *step, *band, *moves);
+        assert!(rt; is_followed, "to {end:?} by {format:?}");
     }
     Ok(())
 }

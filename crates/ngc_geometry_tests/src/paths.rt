@@ -5,25 +5,29 @@ use std::test::Fail;
 
 const MOVES_IN_Y: &[(AxisMove, i32)] = &[(AxisMove::Forward, 1), (AxisMove::Stay, 0)];
 
-#[test]
-fn a_line_goes_to_its_end(rt: HostRuntime) {
-    let start = point(&rt, (1, -4_999, 0));
-    let end = point(&rt, (20_001, 5_000, 0));
-    let mut path = LinePath::new(start, end, length(&rt, 10_000));
-    assert_eq!(rt; path.remaining(), 2);
-    assert_eq!(rt; path.position(), StepPos { x: 0, y: 0, z: 0 });
-    for (y, up) in MOVES_IN_Y {
-        assert!(rt; path.remaining() > 0);
+// Whether the path takes these moves one after another, each a step forward in x.
+fn takes(path: &mut LinePath, moves_in_y: &[(AxisMove, i32)]) -> bool {
+    let mut is_so = true;
+    for (y, up) in moves_in_y {
         let wanted = Move {
             x: AxisMove::Forward,
             y: *y,
             z: AxisMove::Stay,
         };
-        assert_eq!(rt; path.advance(), wanted);
-        assert_eq!(rt; y.steps(), *up);
+        let is_next = path.remaining() > 0 && path.advance() == wanted;
+        is_so = is_so && is_next && y.steps() == *up;
     }
-    assert_eq!(rt; path.remaining(), 0);
-    assert_eq!(rt; path.position(), StepPos { x: 2, y: 1, z: 0 });
+    is_so
+}
+
+#[test]
+fn a_line_goes_to_its_end(rt: HostRuntime) {
+    let start = point(&rt, (1, -4_999, 0));
+    let end = point(&rt, (20_001, 5_000, 0));
+    let mut path = LinePath::new(start, end, length(&rt, 10_000));
+    assert!(rt; path.remaining() == 2 && path.position() == StepPos { x: 0, y: 0, z: 0 });
+    assert!(rt; takes(&mut path, MOVES_IN_Y));
+    assert!(rt; path.remaining() == 0 && path.position() == StepPos { x: 2, y: 1, z: 0 });
 }
 
 // Roots are taken for a half circle, and none on the way.
@@ -36,12 +40,15 @@ fn roots_are_taken_at_first(rt: HostRuntime) -> Result<(), Fail> {
     let mut path = ArcPath::new(&half, length(&rt, 10_000));
     let roots = path.roots();
     assert!(rt; 0 < roots && roots <= 16);
+    run_to_its_end(&mut path);
+    assert!(rt; path.remaining() == 0 && path.roots() == roots);
+    Ok(())
+}
+
+fn run_to_its_end(path: &mut ArcPath) {
     for _ in 0..path.remaining() {
         if path.remaining() > 0 {
             path.advance();
         }
     }
-    assert_eq!(rt; path.remaining(), 0);
-    assert_eq!(rt; path.roots(), roots);
-    Ok(())
 }

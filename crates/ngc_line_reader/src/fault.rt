@@ -59,7 +59,7 @@ impl LineFault {
 }
 
 /// Why an item is refused: for itself, or for an unknown character with so many bytes left.
-#[derive(Clone, Copy, Debug, PartialEq, Eq)]
+#[derive(Clone, Copy)]
 pub enum Refusal {
     OfItem(FaultKind),
     AtByte(usize),

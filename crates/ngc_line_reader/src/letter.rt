@@ -2,7 +2,7 @@ ghost use Rattle.std.specs.Prelude.{◌≡◌};
 ghost use Rattle.ngc_line_reader.specs.Letter.{letter_of as letter_spelled};
 
 /// A letter that begins a word. N begins a line number, and E, O, U, V and W begin nothing.
-#[derive(Clone, Copy, Debug, PartialEq, Eq)]
+#[derive(Clone, Copy, PartialEq, Eq)]
 pub enum Letter {
     A,
     B,

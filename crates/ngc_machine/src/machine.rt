@@ -7,7 +7,7 @@ use ngc_fixed_length::{Nm, Point3};
 use std::alloc::{AllocError, Allocator};
 
 /// A box that tools must stay out of, in nanometres.
-#[derive(Clone, Copy, Debug, PartialEq, Eq)]
+#[derive(Clone, Copy, PartialEq, Eq)]
 pub struct Fixture {
     pub low: Point3,
     pub high: Point3,

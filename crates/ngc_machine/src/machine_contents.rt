@@ -9,7 +9,7 @@ use std::alloc::{AllocError, Global};
 use toml::Value;
 
 /// Three whole numbers of a file, of any size.
-#[derive(Clone, Copy, Debug, PartialEq, Eq)]
+#[derive(Clone, Copy)]
 pub struct Coordinates {
     pub x: i64,
     pub y: i64,
@@ -17,14 +17,14 @@ pub struct Coordinates {
 }
 
 /// The corners of a fixture, of any size.
-#[derive(Clone, Copy, Debug, PartialEq, Eq)]
+#[derive(Clone, Copy)]
 pub struct Corners {
     pub low: Coordinates,
     pub high: Coordinates,
 }
 
 /// The single numbers of a machine file, of any size.
-#[derive(Clone, Copy, Debug, PartialEq, Eq)]
+#[derive(Clone, Copy)]
 pub struct MachineNumbers {
     pub version: i64,
     pub step: i64,
@@ -36,7 +36,7 @@ pub struct MachineNumbers {
 }
 
 /// The single points of a machine file, of any size.
-#[derive(Clone, Copy, Debug, PartialEq, Eq)]
+#[derive(Clone, Copy)]
 pub struct MachinePoints {
     pub low: Coordinates,
     pub high: Coordinates,

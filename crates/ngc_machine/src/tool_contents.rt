@@ -9,7 +9,7 @@ use std::alloc::{AllocError, Global};
 use toml::Value;
 
 /// A part of a tool as the file gives it, of any size.
-#[derive(Clone, Copy, Debug, PartialEq, Eq)]
+#[derive(Clone, Copy)]
 pub struct PartEntry {
     pub length: i64,
     pub radius: i64,

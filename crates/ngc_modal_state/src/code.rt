@@ -87,7 +87,7 @@ pub enum Stopping {
 }
 
 /// What the spindle does.
-#[derive(Clone, Copy, Debug, PartialEq, Eq)]
+#[derive(Clone, Copy, PartialEq, Eq)]
 pub enum Spindle {
     /// M3 clockwise, M4 counterclockwise.
     Start(Turn),
@@ -96,7 +96,7 @@ pub enum Spindle {
 }
 
 /// What the coolant does.
-#[derive(Clone, Copy, Debug, PartialEq, Eq)]
+#[derive(Clone, Copy, PartialEq, Eq)]
 pub enum Coolant {
     /// M7
     Mist,

@@ -4,7 +4,7 @@ ghost use Rattle.ngc_modal_state.specs.Letters.{when as bits_when};
 use bitflags::{Flag, Flags, bitflag_items};
 
 /// Letters that a line may have no use for.
-#[derive(Clone, Copy, PartialEq, Eq)]
+#[derive(Clone, Copy)]
 pub struct Letters(u8);
 
 bitflag_items! {

@@ -4,7 +4,7 @@ use crate::code::{Motion, PathControl};
 use ngc_fixed_length::{Distance, FeedMode, Plane, ReturnMode, Units};
 
 /// The modes in force that say what a line's words mean.
-#[derive(Clone, Copy, PartialEq, Eq)]
+#[derive(Clone, Copy)]
 pub struct Modes {
     pub motion: Motion,
     pub plane: Plane,

@@ -13,7 +13,7 @@ use std::marker::Model;
 /// Where programmed coordinates lie in the machine: the origins of the nine coordinate systems, which of them is active,
 /// the axis offset in force and the one that G92 saved, and the tool length offset, on Z. Each is at most 4*10^9 nm in
 /// size.
-#[derive(Clone, Copy, Debug, PartialEq, Eq)]
+#[derive(Clone, Copy)]
 pub struct Frames {
     pub origins: [Point3; 9],
     pub active: System,

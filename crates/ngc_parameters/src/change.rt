@@ -3,7 +3,7 @@ ghost use Rattle.std.specs.Prelude.{◌≡◌, ◌≤◌, pos};
 use ngc_fixed_length::Value;
 
 /// A parameter's index, from 1 to 5160, and its new value.
-#[derive(Clone, Copy, Debug, PartialEq, Eq)]
+#[derive(Clone, Copy)]
 pub struct Change {
     pub index: usize,
     pub value: Value,

@@ -19,7 +19,7 @@ use std::alloc::Allocator;
 const COUNT: usize = 5161;
 
 /// A word's letter and value.
-#[derive(Clone, Copy, Debug, PartialEq, Eq)]
+#[derive(Clone, Copy, PartialEq, Eq)]
 pub struct Word {
     pub letter: Letter,
     pub value: Value,

@@ -13,7 +13,7 @@ use ngc_wheel::{ColumnWheel, SquareWheel, Wheel};
 use std::marker::Model;
 
 /// A path that follows an arc with a wheel about its centre.
-#[derive(Debug, Drop)]
+#[derive(Drop)]
 pub struct RoundPath<W: Wheel + Drop> {
     plane: Plane,
     turn: Turn,

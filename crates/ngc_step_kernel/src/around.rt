@@ -19,7 +19,7 @@ use crate::view::View;
 use ngc_wheel::{Quadrant, Spoke, Wheel};
 
 /// Where a wheel begins: a grid point, and the same about the centre.
-#[derive(Clone, Copy, Debug)]
+#[derive(Clone, Copy)]
 struct Entry {
     spot: Spot,
     spoke: Spoke,

@@ -4,7 +4,7 @@ use crate::spot::{PlaneMove, Spot};
 use ngc_wheel::Wheel;
 
 /// A place on an arc's way over the grid of its plane.
-#[derive(Debug, Drop)]
+#[derive(Drop)]
 pub(crate) struct Course<W> {
     pub plan: Plan,
     pub at: Spot,

@@ -4,7 +4,7 @@ use ngc_wheel::{Spoke, Wheel};
 
 /// An arc's way over the grid of its plane: straight to a joint at the radius of its end, onto the wheel, round with it, and
 /// straight to the end.
-#[derive(Clone, Copy, Debug)]
+#[derive(Clone, Copy)]
 pub(crate) struct Plan {
     pub start: Spot,
     pub joint: Spot,

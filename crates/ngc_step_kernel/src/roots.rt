@@ -3,7 +3,7 @@ ghost use Rattle.std.specs.Prelude.{◌≡◌, ℕ, ◌+◌, ◌*◌, ◌^◌, �
 use ngc_fixed_length::root_ceil;
 
 /// Takes all roots that the way round an arc needs, and counts them.
-#[derive(Debug, Drop)]
+#[derive(Drop)]
 pub(crate) struct Roots {
     pub taken: u64,
 }

@@ -5,14 +5,14 @@ use crate::moves::AxisMove;
 use ngc_wheel::{Quadrant, Roll};
 
 /// A grid point of a plane, in steps.
-#[derive(Clone, Copy, Debug, PartialEq, Eq)]
+#[derive(Clone, Copy)]
 pub(crate) struct Spot {
     pub u: i32,
     pub v: i32,
 }
 
 /// A move in a plane, by at most one step on each axis.
-#[derive(Clone, Copy, Debug, PartialEq, Eq)]
+#[derive(Clone, Copy)]
 pub(crate) struct PlaneMove {
     pub u: AxisMove,
     pub v: AxisMove,

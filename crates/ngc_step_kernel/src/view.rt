@@ -11,7 +11,7 @@ use ngc_fixed_length::{Point2, Turn, rounded_quotient};
 
 /// An arc about its centre, as one that turns from u towards v: a clockwise one is seen in the mirror. Where its centre lies,
 /// and the ways from there to its start and its end, in nanometres.
-#[derive(Clone, Copy, Debug)]
+#[derive(Clone, Copy)]
 pub(crate) struct View {
     pub centre: Way,
     pub start: Way,

@@ -4,7 +4,7 @@ use ngc_fixed_length::root_floor;
 use std::marker::Model;
 
 /// At a coordinate along one axis, how far along the other the limit reaches.
-#[derive(Clone, Copy, Debug)]
+#[derive(Clone, Copy)]
 struct Column {
     at: u64,
     reach: u64,
@@ -12,7 +12,7 @@ struct Column {
 
 /// A wheel that finds how far the limit reaches in each column of the point's greater coordinate, by a root, and keeps that as
 /// long as the point stays in the column.
-#[derive(Debug, Drop)]
+#[derive(Drop)]
 pub struct ColumnWheel {
     spoke: Spoke,
     step: u64,

@@ -1,6 +1,6 @@
 /// A quadrant of the plane about a centre, from u on in the sense of turning. Each has the half axis that it begins with, and
 /// not the one that it ends with.
-#[derive(Clone, Copy, Debug, PartialEq, Eq)]
+#[derive(Clone, Copy)]
 pub enum Quadrant {
     First,
     Second,
@@ -10,7 +10,7 @@ pub enum Quadrant {
 
 /// A point about a centre, by its quadrant: `x` along the half axis that the quadrant begins with, `y` along the next one,
 /// both in nanometres. So in each quadrant a point that goes round loses x and gains y.
-#[derive(Clone, Copy, Debug, PartialEq, Eq)]
+#[derive(Clone, Copy)]
 pub struct Spoke {
     pub quadrant: Quadrant,
     pub x: u64,
@@ -19,7 +19,7 @@ pub struct Spoke {
 
 /// A move of a point that goes round: along the second half axis away from the centre, along the first towards it, both at
 /// once, or over the second half axis into the next quadrant.
-#[derive(Clone, Copy, Debug, PartialEq, Eq)]
+#[derive(Clone, Copy)]
 pub enum Roll {
     Outward,
     Diagonal,

@@ -5,7 +5,7 @@ use crate::wheel::Wheel;
 use std::marker::Model;
 
 /// A wheel that keeps the squared distance of its point from the centre by additions.
-#[derive(Debug, Drop)]
+#[derive(Drop)]
 pub struct SquareWheel {
     spoke: Spoke,
     step: u64,

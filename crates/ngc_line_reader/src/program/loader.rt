@@ -21,7 +21,7 @@ use std::alloc::Allocator;
 const LINES: usize = 100_000;
 
 // Whether the text goes on.
-#[derive(Clone, Copy, Debug, PartialEq, Eq)]
+#[derive(Clone, Copy)]
 pub enum Step {
     More,
     End,

@@ -20,7 +20,7 @@ pub enum Kind {
 }
 
 /// Where the words, settings, symbols and numbers of a line lie, and whether block delete takes it out.
-#[derive(Clone, Copy, Debug, PartialEq, Eq)]
+#[derive(Clone, Copy)]
 pub struct LineParts {
     pub words: u32,
     pub settings: u32,

@@ -2,7 +2,7 @@ ghost use Rattle.std.specs.Prelude.{◌≡◌, ◌≤◌};
 ghost use Rattle.ngc_line_reader.specs.Load.{is_blank as is_blank_line, is_percent as is_percent_line, phase_after, number_in, after_blanks};
 
 /// Whether the lines so far are blank; else whether the first other one was a `%`.
-#[derive(Clone, Copy, Debug, PartialEq, Eq)]
+#[derive(Clone, Copy)]
 pub enum Phase {
     Start,
     Marked,

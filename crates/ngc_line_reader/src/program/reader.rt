@@ -11,7 +11,7 @@ use crate::program::loader::{Loader, Step};
 use std::alloc::Allocator;
 
 /// Whether the text goes on, has ended, or is refused.
-#[derive(Clone, Copy, Debug, PartialEq, Eq)]
+#[derive(Clone, Copy)]
 pub enum State {
     Going,
     Ended,

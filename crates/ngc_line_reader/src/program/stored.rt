@@ -12,7 +12,7 @@ use crate::program::parts::{LineParts, PartLists};
 use std::alloc::{AllocError, Allocator};
 
 /// The number of a line, where its bytes end, and where what it says lies.
-#[derive(Clone, Copy, Debug, PartialEq, Eq)]
+#[derive(Clone, Copy)]
 pub struct LineEnd {
     pub number: u32,
     pub end: u32,

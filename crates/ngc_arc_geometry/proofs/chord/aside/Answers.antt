@@ -1,5 +1,6 @@
-use Rattle.std.proofs.Common.{◌≡◌, ◌-◌, ◌*◌, ◌≤◌, unsigned_abs, to_z, arith}
-use Rattle.std.specs.Int.{w64}
+use Rattle.std.proofs.Common.{◌≡◌, ◌-◌, ◌*◌, ◌≤◌, unsigned_abs, to_z, Fits, ℕ, arith}
+use Rattle.std.specs.Int.{w64, w128}
+use Rattle.std.proofs.lemmas.Nat.{mul-le}
 use Rattle.std.proofs.lemmas.Int.{ints}
 use Rattle.ngc_arc_geometry.proofs.ChordLemmas.{aside_square, aside_bound}
 use Rattle.ngc_arc_geometry.proofs.chord.aside.Goals as goal
@@ -20,3 +21,25 @@ returns-clause-square c =
     let small = aside_bound (unsigned_abs c.args.part * unsigned_abs c.args.part) c.args.square c.args.chord_square c.root_floor.result c.requires.chord c.requires.reached c.requires.limit c.requires.part (square c) in
     let kept : unsigned_abs (to_z w64 c.root_floor.result) ≡ c.root_floor.result = omega (arith, ints, small) in
     rw kept (square c)
+
+-- the products are below 2^128
+part_small : (k2 q d2 : ℕ) → k2 ≤ d2 → d2 ≤ 4 * q → q ≤ 4000000000000000000 → k2 ≤ 16000000000000000000
+part_small k2 q d2 part reached limit = omega arith
+
+product_fits : (k2 q d2 : ℕ) → k2 ≤ d2 → d2 ≤ 4 * q → q ≤ 4000000000000000000 → Fits w128 (k2 * (4 * q - d2))
+product_fits k2 q d2 part reached limit =
+    let p : k2 * (4 * q - d2) ≤ 16000000000000000000 * 16000000000000000000 = mul-le k2 (4 * q - d2) 16000000000000000000 16000000000000000000 (part_small k2 q d2 part reached limit) (omega arith) in
+    omega (arith, ints, p)
+
+size_square : (c : goal.After-from-size) → c.from-size.result * c.from-size.result ≤ c.args.chord_square
+size_square c =
+    let size : c.from-size.result ≡ unsigned_abs c.args.part = omega (arith, ints) in
+    rw size c.requires.part
+
+pub overflow_mul-size : goal.overflow_mul-size
+overflow_mul-size c =
+    let small = part_small (c.from-size.result * c.from-size.result) c.args.square c.args.chord_square (size_square c) c.requires.reached c.requires.limit in
+    omega (arith, ints, small)
+
+pub overflow_mul-size-2 : goal.overflow_mul-size-2
+overflow_mul-size-2 c = product_fits (c.from-size.result * c.from-size.result) c.args.square c.args.chord_square (size_square c) c.requires.reached c.requires.limit

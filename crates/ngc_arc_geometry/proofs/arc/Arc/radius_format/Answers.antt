@@ -1,4 +1,4 @@
-use Rattle.std.proofs.Common.{◌≡◌, ◌<◌, ◌≤◌, ◌*◌, false, not, Ok, ◌∙◌, ap, sym, unsigned_abs, arith}
+use Rattle.std.proofs.Common.{◌≡◌, ◌<◌, ◌≤◌, ◌*◌, false, not, Ok, ◌∙◌, ap, sym, unsigned_abs, arith, rules}
 use Rattle.std.proofs.lemmas.Int.{ints}
 use Rattle.ngc_fixed_length.specs.declared.points.Point2.{Point2}
 use Rattle.ngc_arc_geometry.specs.declared.fault.ArcFault.TheVariants.{NoAxisWord, EndIsStart, RadiusOutOfRange}
@@ -6,6 +6,7 @@ use Rattle.ngc_arc_geometry.specs.Centre.{arc_about, chord_square, radius_centre
 use Rattle.ngc_arc_geometry.specs.Faults.{◌>>=◌}
 use Rattle.ngc_arc_geometry.specs.Tolerance.{tolerance}
 use Rattle.ngc_arc_geometry.specs.Radii.{with_equal_radii}
+use Rattle.ngc_arc_geometry.proofs.Machine.{square_fits}
 use Rattle.ngc_arc_geometry.proofs.Steps.{four_pass, not_zero, not_over}
 use Rattle.ngc_arc_geometry.proofs.arc.Arc.radius_format.Goals as goal
 
@@ -25,3 +26,18 @@ returns c =
     let rest = λ (centre : Point2). with_equal_radii t (arc_about e centre) in
     let passed = four_pass (not e.has_axis_word) _ _ _ NoAxisWord EndIsStart RadiusOutOfRange RadiusOutOfRange (radius_centre t e r >>= rest) word (not_zero (chord_square e) chord) (not_zero (unsigned_abs r) some) (not_over 4000000000000000000 (unsigned_abs r * unsigned_abs r) limit) in
     last ∙ sym (passed ∙ ap (λ found. found >>= rest) found)
+
+pub overflow_mul-size : goal.overflow_mul-size
+overflow_mul-size c = square_fits c.from-size.result (omega (arith, ints))
+
+pub returns-then-not-ends : goal.returns-then-not-ends
+returns-then-not-ends c = search rules
+
+pub returns-then-square-eq0 : goal.returns-then-square-eq0
+returns-then-square-eq0 c = search rules
+
+pub returns-then-size-eq0 : goal.returns-then-size-eq0
+returns-then-size-eq0 c = search rules
+
+pub returns-then-size-gt-SQUARE_LIMIT : goal.returns-then-size-gt-SQUARE_LIMIT
+returns-then-size-gt-SQUARE_LIMIT c = search rules

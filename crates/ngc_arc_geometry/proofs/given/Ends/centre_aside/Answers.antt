@@ -4,8 +4,15 @@ use Rattle.ngc_fixed_length.specs.declared.points.Point2.{Point2}
 use Rattle.ngc_arc_geometry.specs.Centre.{start_in, end_in, middle}
 use Rattle.ngc_arc_geometry.proofs.CentreLemmas.{halfway_within}
 use Rattle.ngc_arc_geometry.proofs.CentreRange.{range_aside}
-use Rattle.ngc_arc_geometry.proofs.Planes.{v_near}
+use Rattle.ngc_arc_geometry.proofs.Planes.{u_near, v_near}
 use Rattle.ngc_arc_geometry.proofs.given.Ends.centre_aside.Goals as goal
+
+pub moved-requires : goal.moved-requires
+moved-requires c =
+    let e = c.args.self.now in
+    let half = halfway_within (start_in e).u (end_in e).u 90000000000 (u_near e.plane e.start c.requires.ends.start) (u_near e.plane e.end c.requires.ends.end) in
+    let middle_is = ap (λ (p : Point2). p.u) c.middle-middle.ensures in
+    omega (arith, ints, half, middle_is, c.offset_from_middle-offset.ensures.short.u_bound)
 
 pub moved-requires-2 : goal.moved-requires-2
 moved-requires-2 c =

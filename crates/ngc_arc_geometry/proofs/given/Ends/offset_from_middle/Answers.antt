@@ -1,14 +1,35 @@
-use Rattle.std.proofs.Common.{◌≡◌, ◌≤◌, ◌*ℤ◌, neg_ℤ, unsigned_abs, to_z, of_z, arith, ap, ◌∙◌}
+use Rattle.std.proofs.Common.{◌≡◌, ◌≤◌, ℕ, ℤ, ◌*◌, ◌*ℤ◌, neg_ℤ, unsigned_abs, to_z, of_z, arith, ap, ◌∙◌}
 use Rattle.std.specs.Int.{w64, int_signum}
 use Rattle.std.proofs.lemmas.Int.{ints}
 use Rattle.ngc_fixed_length.specs.declared.points.Point2.{Point2}
 use Rattle.ngc_arc_geometry.specs.Chord.{aside as aside_of, side as side_of}
 use Rattle.ngc_arc_geometry.specs.Centre.{chord, chord_square}
 use Rattle.ngc_arc_geometry.proofs.ChordLemmas.{aside_less}
-use Rattle.ngc_arc_geometry.proofs.Machine.{kept, negated, size_of_negative}
+use Rattle.ngc_arc_geometry.proofs.Machine.{kept, negated, negated_fits, size_of_negative}
+use Rattle.ngc_arc_geometry.proofs.Squares.{square_sum}
+use Rattle.ngc_fixed_length.specs.Places.{dot}
 use Rattle.ngc_arc_geometry.proofs.Points.{same_point}
 use Rattle.ngc_arc_geometry.proofs.given.Ends.offset_from_middle.Goals.{After-new, After-signed_aside-v}
 use Rattle.ngc_arc_geometry.proofs.given.Ends.offset_from_middle.Goals as goal
+
+-- the parts of a chord are no longer than it
+of_v : (p : Point2) (z : ℤ) (n : ℕ) → z ≡ p.v → unsigned_abs z ≤ 400000000000 → n ≡ unsigned_abs (dot p p) → unsigned_abs (to_z w64 (of_z w64 z)) * unsigned_abs (to_z w64 (of_z w64 z)) ≤ n
+of_v p z n is bound square =
+    let kept : to_z w64 (of_z w64 z) ≡ z = omega (arith, ints) in
+    let sum = square_sum p.u p.v in
+    rw (kept, is, square, sum) (omega arith)
+
+of_u : (p : Point2) (z : ℤ) (n : ℕ) → z ≡ p.u → unsigned_abs z ≤ 400000000000 → n ≡ unsigned_abs (dot p p) → unsigned_abs (to_z w64 (of_z w64 z)) * unsigned_abs (to_z w64 (of_z w64 z)) ≤ n
+of_u p z n is bound square =
+    let kept : to_z w64 (of_z w64 z) ≡ z = omega (arith, ints) in
+    let sum = square_sum p.u p.v in
+    rw (kept, is, square, sum) (omega arith)
+
+pub aside-requires-clause-part : goal.aside-requires-clause-part
+aside-requires-clause-part c = of_v c.chord-chord.result c.v-2.result c.square-square_of_chord.result c.v-2.ensures.value c.v-2.ensures.bound c.square-square_of_chord.ensures
+
+pub aside-requires-2-clause-part : goal.aside-requires-2-clause-part
+aside-requires-2-clause-part c = of_u c.chord-chord.result c.u-2.result c.square-square_of_chord.result c.u-2.ensures.value c.u-2.ensures.bound c.square-square_of_chord.ensures
 
 first_bound : (c : After-signed_aside-v) → unsigned_abs c.signed_aside-u.result ≤ 2000000000
 first_bound c =
@@ -19,6 +40,15 @@ pub new-requires-clause-u : goal.new-requires-clause-u
 new-requires-clause-u c =
     let small = first_bound c in
     rw (negated c.signed_aside-u.result small, size_of_negative c.signed_aside-u.result) (omega (arith, small))
+
+pub overflow_sub-u : goal.overflow_sub-u
+overflow_sub-u c = negated_fits c.signed_aside-u.result (first_bound c)
+
+pub new-requires-clause-v : goal.new-requires-clause-v
+new-requires-clause-v c =
+    let aside = kept c.aside-2.result c.aside-2.ensures.bound in
+    let small : unsigned_abs c.signed_aside-v.result ≤ 2000000000 = omega (arith, ap unsigned_abs aside) in
+    rw (kept c.signed_aside-v.result small) (omega (arith, small))
 
 first : (c : After-new) → c.signed_aside-u.result ≡ side_of c.args.self.now.turn c.args.is_long *ℤ int_signum (chord c.args.self.now).v *ℤ aside_of c.args.square (chord_square c.args.self.now) (chord c.args.self.now).v
 first c =

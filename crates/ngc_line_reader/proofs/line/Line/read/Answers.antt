@@ -1,3 +1,4 @@
+use Rattle.std.proofs.Common.{rules}
 use Rattle.ngc_line_reader.proofs.LineLaws.{gives_reading, finds_reading}
 use Rattle.ngc_line_reader.proofs.RefusedLaws.{large_is_written, many_are_written}
 use Rattle.ngc_line_reader.proofs.line.Line.read.Goals as goal
@@ -13,3 +14,6 @@ returns-clause-large c = large_is_written c.args.bytes.now _ _ c.text_at.new.lin
 
 pub returns-clause-many : goal.returns-clause-many
 returns-clause-many c = many_are_written c.args.bytes.now _ _ c.text_at.new.line c.text_at.result c.fill_text-length.ensures.bytes c.text_at.ensures.reads
+
+pub returns-then-bytes-gt-LINE_LENGTH-clause-first : goal.returns-then-bytes-gt-LINE_LENGTH-clause-first
+returns-then-bytes-gt-LINE_LENGTH-clause-first c = search rules

@@ -1,4 +1,6 @@
-use Rattle.std.proofs.Common.{ap, ◌∙◌, map}
+use Rattle.std.proofs.lemmas.Grind.{common_steps}
+use Rattle.std.proofs.lemmas.Int.{ints}
+use Rattle.std.proofs.Common.{ap, ◌∙◌, map, arith}
 use Rattle.ngc_machine.specs.MachineText.{fixture_of}
 use Rattle.ngc_machine.proofs.Ranges.{origins_in_range, fixtures_in_range}
 use Rattle.ngc_machine.proofs.machine_contents.MachineContents.machine.Goals as goal
@@ -18,3 +20,6 @@ invariant_of-result c = record {
   origins_in_range = origins_in_range _ _ c.origins.ensures c.requires.origins;
   fixtures_in_range = fixtures_in_range _ _ (c.in_ok-fixtures.ensures ∙ ap (map fixture_of) c.as_slice.ensures.value) c.requires.fixture_count c.requires.fixtures;
 }
+
+pub returns : goal.returns
+returns c = grind (arith, ints, common_steps)

@@ -1,3 +1,4 @@
+use Rattle.std.proofs.Common.{rules}
 use Rattle.ngc_line_reader.proofs.ReaderLaws.{more_answer, more_firm, more_text, end_answer, end_firm, end_text, fault_answer, fault_text}
 use Rattle.ngc_line_reader.proofs.program.reader.ProgramReader.feed.Goals as goal
 
@@ -24,3 +25,6 @@ returns-in-Err-clause-answer g c = fault_answer c.args.self.now.state c.args.sel
 
 pub returns-in-Err-clause-text : goal.returns-in-Err-clause-text
 returns-in-Err-clause-text g c = fault_text c.args.self.now.state c.args.self.now.loader c.feed.new.self c.args.piece.now c.feed.result c.in-Err.fault c.in-Going.is c.feed.ensures.step c.in-Err.is
+
+pub returns-in-Err-clause-refusal : goal.returns-in-Err-clause-refusal
+returns-in-Err-clause-refusal g c = search rules
