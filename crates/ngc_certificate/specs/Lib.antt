@@ -9,3 +9,4 @@ pub mod Covered
 pub mod Made
 pub mod Making
 pub mod Shared
+pub mod PieceJudging

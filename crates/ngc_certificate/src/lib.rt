@@ -21,5 +21,5 @@ mod stretch;
 pub use fault::{MakeFault, PieceFault, PieceRefusal};
 pub use maker::{make, make_alike};
 pub use ngc_certificate_text::{Certificate, Cut, Motions, Piece, Setting};
-pub use pieces::{piece_fault, pieces_fault, place_fault};
+pub use pieces::{PieceJudge, piece_fault, pieces_fault, place_fault};
 pub use stretch::Stretch;

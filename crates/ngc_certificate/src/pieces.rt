@@ -11,7 +11,7 @@ use crate::fault::{PieceFault, PieceRefusal};
 use crate::shared::Shared;
 use crate::stretch::Stretch;
 use ngc_canonical::Way;
-use ngc_certificate_text::Piece;
+use ngc_certificate_text::{Cut, Piece};
 use ngc_collision::{first_met, is_in_travel};
 use ngc_fixed_length::{GridBox, StepPos};
 use ngc_machine::{Machine, Tool};
@@ -55,6 +55,85 @@ pub fn piece_fault<A: Allocator>(
     fault_within(machine, &tool, way, &shared, stretch, piece)
 }
 
+/// The pieces of a motion, judged one by one as they come.
+#[derive(Debug, Drop)]
+pub struct PieceJudge {
+    tool: Option<Tool>,
+    way: Way,
+    several: bool,
+    shared: Shared,
+    begin: Cut,
+    judged: u32,
+}
+
+impl PieceJudge {
+    ghost use Rattle.std.specs.Prelude.{List, ◌∷◌, ◌+◌, ◌<◌};
+    ghost use Rattle.ngc_certificate_text.specs.declared.piece.Piece.{Piece};
+    ghost use Rattle.ngc_certificate.specs.Chain.{are_several};
+    ghost use Rattle.ngc_certificate.specs.PieceFault.{◌or◌};
+    ghost use Rattle.ngc_certificate.specs.PieceJudging.{IsJudging, fault_ahead, is_empty, judged_by};
+
+    /// No piece has come yet of a motion that has several pieces or one.
+    pub fn new<A: Allocator>(
+        machine: &Machine<A>,
+        tool: Option<Tool>,
+        way: &Way,
+        several: bool,
+    ) -> PieceJudge
+        ensures judging { IsJudging (file_of machine.now) result }
+        ensures begins { (p : Piece) (ps : List Piece) → are_several (p ∷ ps) ≡ several → fault_ahead (file_of machine.now) result (p ∷ ps) ≡ fault_of_all (file_of machine.now) tool way.now (p ∷ ps) }
+        ensures none { judged_by result ≡ 0 }
+    {
+        PieceJudge {
+            tool,
+            way: *way,
+            several,
+            shared: Shared::of(machine.step, way, several),
+            begin: first_cut(way),
+            judged: 0,
+        }
+    }
+
+    /// The first refusal of the next piece, which is the motion's last one or isn't, on the machine that the judge was made
+    /// for.
+    pub fn next<A: Allocator>(
+        &mut self,
+        machine: &Machine<A>,
+        piece: &Piece,
+        last: bool,
+    ) -> Option<PieceRefusal>
+        requires judging { IsJudging (file_of machine.now) self.old }
+        requires few { judged_by self.old < PIECE_LIMIT }
+        ensures judging { IsJudging (file_of machine.now) self.new }
+        ensures one { judged_by self.new ≡ judged_by self.old + 1 }
+        // Whatever pieces come behind it.
+        ensures first { (rest : List Piece) → last ≡ is_empty rest → fault_ahead (file_of machine.now) self.old (piece.now ∷ rest) ≡ (result or fault_ahead (file_of machine.now) self.new rest) }
+    {
+        let stretch = Stretch {
+            begin: self.begin,
+            several: self.several,
+            last,
+        };
+        let number = self.judged;
+        self.begin = piece.end;
+        self.judged += 1;
+        match fault_within(
+            machine,
+            &self.tool,
+            &self.way,
+            &self.shared,
+            &stretch,
+            piece,
+        ) {
+            Some(fault) => Some(PieceRefusal {
+                piece: number,
+                fault,
+            }),
+            None => None,
+        }
+    }
+}
+
 /// The first refusal of the pieces of a motion, or `None` also where there are none.
 fn first_refusal<A: Allocator>(
     machine: &Machine<A>,
@@ -65,23 +144,11 @@ fn first_refusal<A: Allocator>(
     requires { length pieces.now ≤ PIECE_LIMIT }
     ensures { result ≡ fault_of_some (file_of machine.now) tool way.now pieces.now }
 {
-    let several = pieces.len() > 1;
-    let shared = Shared::of(machine.step, way, several);
-    let mut begin = first_cut(way);
+    let mut judge = PieceJudge::new(machine, tool, way, pieces.len() > 1);
     for (i, piece) in pieces.iter().enumerate() {
-        let last = i + 1 == pieces.len();
-        let stretch = Stretch {
-            begin,
-            several,
-            last,
-        };
-        if let Some(fault) = fault_within(machine, &tool, way, &shared, &stretch, piece) {
-            return Some(PieceRefusal {
-                piece: i as u32,
-                fault,
-            });
+        if let Some(refusal) = judge.next(machine, piece, i + 1 == pieces.len()) {
+            return Some(refusal);
         }
-        begin = piece.end;
     }
     None
 }

@@ -11,6 +11,7 @@ pub mod ClampLaws
 pub mod WordLemmas
 pub mod Feeds
 pub mod AheadLaws
+pub mod NextLaws
 pub mod FoundLaws
 pub mod Parting
 pub mod TextLaws

@@ -1,24 +1,21 @@
--- What a piece does to a reader of a certificate.
+-- What a piece does to a reader of a certificate's text.
 use Rattle.std.proofs.Common.{◌≡◌, ℕ, ap, subst, Option, None, Result, Ok, Err, List, [], ◌∷◌, ◌++◌, refl, sym, ◌∙◌, arith}
 use Rattle.std.specs.Prelude.{codes}
 use Rattle.std.proofs.lemmas.List.{append-nil}
+use Rattle.ngc_certificate_text.specs.declared.certificate_lines.CertificateLines.{CertificateLines}
 use Rattle.ngc_certificate_text.specs.declared.expected.Expected.{Expected}
 use Rattle.ngc_certificate_text.specs.declared.expected.Expected.TheVariants as next
 use Rattle.ngc_certificate_text.specs.declared.fault.CertificateFault.{CertificateFault}
 use Rattle.ngc_certificate_text.specs.declared.fault.CertificateFault.TheVariants as faults
 use Rattle.ngc_certificate_text.specs.declared.lines.LineFlaw.TheVariants.{Range}
-use Rattle.ngc_certificate_text.specs.declared.piece.Piece.{Piece}
 use Rattle.ngc_certificate_text.specs.declared.piece.Setting.{Setting}
 use Rattle.ngc_certificate_text.specs.declared.piece.Setting.TheVariants.{Off, On}
-use Rattle.ngc_certificate_text.specs.declared.text.TextSoFar.{TextSoFar}
-use Rattle.ngc_certificate_text.specs.Ahead.{Outcome, name_of, said_from, wrong_line, MayExpect, FaultIs, StepGives}
-use Rattle.ngc_certificate_text.specs.Certificate.{CertificateData}
-use Rattle.ngc_certificate_text.specs.Contents.{said_of}
+use Rattle.ngc_certificate_text.specs.Ahead.{Rest, Left, left_from, made_with, name_of, wrong_line, IsSound}
 use Rattle.ngc_certificate_text.specs.Lines.{numbers_in, setting_said, motion_said, piece_said}
+use Rattle.ngc_certificate_text.specs.LinesView.{left_by, IsReading}
 use Rattle.ngc_certificate_text.specs.Number.{number_in}
-use Rattle.ngc_certificate_text.specs.Parted.{firm, firm_lines, PartsLines, resumed, IsReading}
-use Rattle.ngc_certificate_text.specs.Reader.{outcome_by, firm_by}
-use Rattle.ngc_certificate_text.specs.ReaderView.{Stands, AnswerIs}
+use Rattle.ngc_certificate_text.specs.Parted.{firm, firm_lines, PartsLines}
+use Rattle.ngc_certificate_text.specs.Reader.{Saying, outcome_by, firm_by, FaultIs, StepGives, Stands, AnswerIs}
 use Rattle.ngc_certificate_text.specs.Said.{lines_of}
 use Rattle.ngc_certificate_text.proofs.AheadLaws.{wrong_said, ended_said, header_read, setting_flawed, motion_flawed, piece_flawed, end_read}
 use Rattle.ngc_certificate_text.proofs.LineLaws.{end_reads}
@@ -39,43 +36,59 @@ no_part : piece_said (codes "line 0 0 0 0 0 0 0") ≡ Err Range
 unfolding piece_said numbers_in number_in
 no_part = refl
 
-two_faults : (o p : Outcome) (fault a b : CertificateFault) → o ≡ Err a → p ≡ Err b → o ≡ Err fault → p ≡ Err fault → a ≡ b
+two_faults : (o p : Left) (fault a b : CertificateFault) → o ≡ Err a → p ≡ Err b → o ≡ Err fault → p ≡ Err fault → a ≡ b
 two_faults o p fault a b e f h k = cc (e, f, h, k)
 
 -- the line that comes next is missing, or is out of its range
 differ : (n : ℕ) → faults.BadLine n ≡ faults.OutOfRange n → ⊥
 differ n e = cc e
 
-bad : (e : Expected) (pieces : List Piece) (c : CertificateData) (number : ℕ) (fault : CertificateFault) (line : List ℕ) → wrong_line e number ≡ faults.BadLine number → MayExpect e pieces c
-    → (e ≡ next.Nothing → ⊥) → said_from e pieces c number (line ∷ [] ∷ []) ≡ Err (faults.OutOfRange number) → lines_of (line ++ codes "\n") ≡ line ∷ [] ∷ []
-    → ((rest : List ℕ) → said_from e pieces c number (lines_of rest) ≡ Err fault) → ⊥
-bad e pieces c number fault line is may never out lines all =
-    let missing : said_from e pieces c number (lines_of []) ≡ Err (faults.BadLine number) =
-    wrong_said e pieces c number ([] ∷ []) may tt (λ x. absurd (never x)) ∙ ap (λ (f : CertificateFault). wrong f) is in
-    let huge : said_from e pieces c number (lines_of (line ++ codes "\n")) ≡ Err (faults.OutOfRange number) = ap (λ (ls : List (List ℕ)). said_from e pieces c number ls) lines ∙ out in
+bad : (e : Expected) (number : ℕ) (fault : CertificateFault) (line : List ℕ) → wrong_line e number ≡ faults.BadLine number → IsSound e number
+    → (e ≡ next.Nothing → ⊥) → left_from e number (line ∷ [] ∷ []) ≡ Err (faults.OutOfRange number) → lines_of (line ++ codes "\n") ≡ line ∷ [] ∷ []
+    → ((rest : List ℕ) → left_from e number (lines_of rest) ≡ Err fault) → ⊥
+bad e number fault line is sound never out lines all =
+    let missing : left_from e number (lines_of []) ≡ Err (faults.BadLine number) =
+    wrong_said e number ([] ∷ []) sound tt (λ x. absurd (never x)) ∙ ap (λ (f : CertificateFault). wrong f) is in
+    let huge : left_from e number (lines_of (line ++ codes "\n")) ≡ Err (faults.OutOfRange number) = ap (λ (ls : List (List ℕ)). left_from e number ls) lines ∙ out in
     differ number (two_faults _ _ fault (faults.BadLine number) (faults.OutOfRange number) missing huge (all []) (all (line ++ codes "\n"))) where
-      wrong : CertificateFault → Outcome
+      wrong : CertificateFault → Left
       wrong f = Err f
 
-pub none_stands : (e : Expected) (pieces : List Piece) (c : CertificateData) (number : ℕ) (fault : CertificateFault) → MayExpect e pieces c → ((rest : List ℕ) → said_from e pieces c number (lines_of rest) ≡ Err fault) → ⊥
-none_stands next.Header pieces c number fault may all =
-    let missing = wrong_said next.Header pieces c number ([] ∷ []) may tt (λ x. absurd (cc x)) in
-    let behind = header_read pieces c (codes "ngc-certificate 1") [] [] number refl ∙ wrong_said (next.Setting Off) pieces c 2 ([] ∷ []) (setting_may pieces c may) tt (λ x. absurd (cc x)) in
+none_stands : (e : Expected) (number : ℕ) (fault : CertificateFault) → IsSound e number → ((rest : List ℕ) → left_from e number (lines_of rest) ≡ Err fault) → ⊥
+none_stands next.Header number fault sound all =
+    let missing = wrong_said next.Header number ([] ∷ []) sound tt (λ x. absurd (cc x)) in
+    let behind = header_read (codes "ngc-certificate 1") [] [] number refl ∙ wrong_said (next.Setting Off) 2 ([] ∷ []) setting_sound tt (λ x. absurd (cc x)) in
     let same = two_faults _ _ fault faults.WrongHeader (faults.BadLine 2) missing behind (all []) (all (codes "ngc-certificate 1\n")) in absurd (cc same) where
-      setting_may : (pieces : List Piece) (c : CertificateData) → MayExpect next.Header pieces c → MayExpect (next.Setting Off) pieces c
-      setting_may pieces c may = record { room = record { off = may.room.off; on = may.room.on }; motion = λ t k x. absurd (cc x); piece = λ b x. absurd (cc x) }
-none_stands (next.Setting Off) pieces c number fault may all =
-    bad (next.Setting Off) pieces c number fault (codes "setting off 9999999") refl may (λ x. cc x) (setting_flawed pieces c number (codes "setting off 9999999") [] [] Range (omega arith) Off (huge_setting Off)) refl all
-none_stands (next.Setting On) pieces c number fault may all =
-    bad (next.Setting On) pieces c number fault (codes "setting on 9999999") refl may (λ x. cc x) (setting_flawed pieces c number (codes "setting on 9999999") [] [] Range (omega arith) On (huge_setting On)) refl all
-none_stands (next.Motion s n) pieces c number fault may all =
-    bad (next.Motion s n) pieces c number fault (codes "motion 9999999 1") refl may (λ x. cc x) (motion_flawed pieces c number (codes "motion 9999999 1") [] [] Range (omega arith) s n (may.motion s n refl) huge_motion) refl all
-none_stands (next.Piece b) pieces c number fault may all =
-    bad (next.Piece b) pieces c number fault (codes "line 0 0 0 0 0 0 0") refl may (λ x. cc x) (piece_flawed pieces c number (codes "line 0 0 0 0 0 0 0") [] [] Range (omega arith) b (may.piece b refl).some no_part) refl all
-none_stands next.End pieces c number fault may all =
-    let good = end_read pieces c (codes "end") [] [] number (omega arith) end_reads ∙ ended_said next.Nothing pieces c _ refl in
+      setting_sound : IsSound (next.Setting Off) 2
+      setting_sound = record { first = λ x. absurd (cc x); motion = λ t k x. absurd (cc x); piece = λ b x. absurd (cc x) }
+none_stands (next.Setting Off) number fault sound all =
+    bad (next.Setting Off) number fault (codes "setting off 9999999") refl sound (λ x. cc x) (setting_flawed number (codes "setting off 9999999") [] [] Range (omega arith) Off (huge_setting Off)) refl all
+none_stands (next.Setting On) number fault sound all =
+    bad (next.Setting On) number fault (codes "setting on 9999999") refl sound (λ x. cc x) (setting_flawed number (codes "setting on 9999999") [] [] Range (omega arith) On (huge_setting On)) refl all
+none_stands (next.Motion s n) number fault sound all =
+    bad (next.Motion s n) number fault (codes "motion 9999999 1") refl sound (λ x. cc x) (motion_flawed number (codes "motion 9999999 1") [] [] Range (omega arith) s n (sound.motion s n refl) huge_motion) refl all
+none_stands (next.Piece b) number fault sound all =
+    bad (next.Piece b) number fault (codes "line 0 0 0 0 0 0 0") refl sound (λ x. cc x) (piece_flawed number (codes "line 0 0 0 0 0 0 0") [] [] Range (omega arith) b (sound.piece b refl) no_part) refl all
+none_stands next.End number fault sound all =
+    let good = end_read (codes "end") [] [] number (omega arith) end_reads ∙ ended_said next.Nothing _ refl in
     absurd (cc (sym good ∙ all (codes "end\n")))
-none_stands next.Nothing pieces c number fault may all = absurd (cc (sym (ended_said next.Nothing pieces c number refl) ∙ all []))
+none_stands next.Nothing number fault sound all = absurd (cc (sym (ended_said next.Nothing number refl) ∙ all []))
+
+made_err : {X : Type 0} (f : Rest → X) (o : Left) (fault : CertificateFault) → made_with f o ≡ Err fault → o ≡ Err fault
+made_err f (Ok r) fault h = absurd (cc h)
+made_err f (Err other) fault h = let same : other ≡ fault = cc h in ap (λ (x : CertificateFault). refused x) same where
+  refused : CertificateFault → Left
+  refused x = Err x
+
+-- no fault stands behind whole lines
+abbrev pub IsQuiet : {X : Type 0} → Saying X → Type 0
+IsQuiet says = (fault : CertificateFault) → ((rest : List ℕ) → says (firm_lines rest) [] ≡ Err fault) → ⊥
+
+pub lines_quiet : {X : Type 0} (r : CertificateLines) (f : Rest → X) → IsReading r → IsQuiet (λ lines bytes. made_with f (left_by lines r bytes))
+lines_quiet r f reading fault all =
+    let none : firm (r.cut.items ++ []) ≡ [] = ap firm (append-nil r.cut.items) ∙ firm_begun r.cut.items reading.feedless reading.short in
+    none_stands r.next.expected r.next.number fault reading.sound
+    (λ rest. ap (λ (b : List ℕ). left_from r.next.expected r.next.number (lines_of (b ++ rest))) (sym none) ∙ made_err f _ fault (all rest))
 
 -- ---- a piece
 
@@ -83,34 +96,26 @@ abbrev failed_as : CertificateFault → Result (Unit {0}) CertificateFault
 failed_as fault = Err fault
 
 -- a fault that is the text's whatever follows
-stands_as : (fault : CertificateFault) (says : List ℕ → Outcome) → (fault ≡ faults.ReadFailed → ⊥) → ((rest : List ℕ) → FaultIs fault (says rest)) → AnswerIs (Err fault) says
+stands_as : {X : Type 0} (fault : CertificateFault) (says : List ℕ → Result X CertificateFault) → (fault ≡ faults.ReadFailed → ⊥) → ((rest : List ℕ) → FaultIs fault (says rest)) → AnswerIs (Err fault) says
 stands_as faults.WrongHeader says h is = is
 stands_as (faults.BadLine n) says h is = is
 stands_as (faults.OutOfRange n) says h is = is
 stands_as faults.Memory says h is = tt
 stands_as faults.ReadFailed says h is = absurd (h refl)
 
-module _ {A : Type 0} where
+module _ {X : Type 0} where
   -- a piece leads from a text to another
-  abbrev pub Leads : TextSoFar A → TextSoFar A → List ℕ → Result (Unit {0}) CertificateFault → Type 0
-  Leads old new piece result = (lines : List ℕ → List (List ℕ)) → PartsLines lines → (rest : List ℕ) → StepGives result (resumed lines old (piece ++ rest)) (resumed lines new rest)
+  abbrev pub Leads : Saying X → Saying X → List ℕ → Result (Unit {0}) CertificateFault → Type 0
+  Leads old new piece result = (lines : List ℕ → List (List ℕ)) → PartsLines lines → (rest : List ℕ) → StepGives result (old lines (piece ++ rest)) (new lines rest)
 
-  at_step : (old new : TextSoFar A) (piece : List ℕ) (result other : Result (Unit {0}) CertificateFault) → Leads old new piece result → result ≡ other → Leads old new piece other
-  at_step old new piece result other leads e = λ lines parts rest. subst (λ (r : Result (Unit {0}) CertificateFault). StepGives r (resumed lines old (piece ++ rest)) (resumed lines new rest)) e (leads lines parts rest)
+  at_step : (old new : Saying X) (piece : List ℕ) (result other : Result (Unit {0}) CertificateFault) → Leads old new piece result → result ≡ other → Leads old new piece other
+  at_step old new piece result other leads e = λ lines parts rest. subst (λ (r : Result (Unit {0}) CertificateFault). StepGives r (old lines (piece ++ rest)) (new lines rest)) e (leads lines parts rest)
 
-  -- no fault stands behind whole lines
-  nothing_stands : (t : TextSoFar A) (fault : CertificateFault) → IsReading t → ((rest : List ℕ) → resumed (firm_lines rest) t [] ≡ Err fault) → ⊥
-  nothing_stands t fault reading all =
-      let l = t.found in
-      let none : firm (t.cut.items ++ []) ≡ [] = ap firm (append-nil t.cut.items) ∙ firm_begun t.cut.items reading.feedless reading.short in
-      none_stands l.expected l.pieces.items (said_of l.certificate) l.number fault reading.expecting
-      (λ rest. ap (λ (b : List ℕ). said_from l.expected l.pieces.items (said_of l.certificate) l.number (lines_of (b ++ rest))) (sym none) ∙ all rest)
-
-  module _ (refusal : Option CertificateFault) (old new : TextSoFar A) (piece : List ℕ) (result : Result (Unit {0}) CertificateFault) (going : refusal ≡ None) (leads : Leads old new piece result) where
-    pub more_answer : result ≡ Ok tt → IsReading new → (fault : CertificateFault) → Stands fault (firm_by refusal old piece) → ⊥
-    more_answer is reading fault all = nothing_stands new fault reading (λ rest.
+  module _ (refusal : Option CertificateFault) (old new : Saying X) (piece : List ℕ) (result : Result (Unit {0}) CertificateFault) (going : refusal ≡ None) (leads : Leads old new piece result) where
+    pub more_answer : result ≡ Ok tt → IsQuiet new → (fault : CertificateFault) → Stands fault (firm_by refusal old piece) → ⊥
+    more_answer is quiet fault all = quiet fault (λ rest.
         sym (at_step old new piece result (Ok tt) leads is (firm_lines rest) (firm_parts rest) [])
-        ∙ ap (λ (bytes : List ℕ). resumed (firm_lines rest) old bytes) (append-nil piece)
+        ∙ ap (λ (bytes : List ℕ). old (firm_lines rest) bytes) (append-nil piece)
         ∙ ap (λ (r : Option CertificateFault). firm_by r old piece rest) (sym going) ∙ all rest)
 
     pub more_firm : result ≡ Ok tt → (more rest : List ℕ) → firm_by refusal old (piece ++ more) rest ≡ firm_by refusal new more rest
@@ -126,7 +131,7 @@ module _ {A : Type 0} where
     pub fault_answer : (fault : CertificateFault) → result ≡ Err fault → (result ≡ Err faults.ReadFailed → ⊥) → AnswerIs (Err fault) (firm_by refusal old piece)
     fault_answer fault is quiet = stands_as fault (firm_by refusal old piece) (λ e. quiet (is ∙ ap (λ (f : CertificateFault). failed_as f) e)) (λ rest.
         subst (λ (r : Option CertificateFault). FaultIs fault (firm_by r old piece rest)) (sym going)
-        (subst (λ (bytes : List ℕ). FaultIs fault (resumed (firm_lines rest) old bytes)) (append-nil piece)
+        (subst (λ (bytes : List ℕ). FaultIs fault (old (firm_lines rest) bytes)) (append-nil piece)
         (at_step old new piece result (Err fault) leads is (firm_lines rest) (firm_parts rest) [])))
 
     pub fault_text : (fault : CertificateFault) → result ≡ Err fault → (rest : List ℕ) → FaultIs fault (outcome_by refusal old (piece ++ rest))

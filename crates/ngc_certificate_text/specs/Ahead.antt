@@ -1,74 +1,90 @@
--- What a certificate's text comes to behind the lines that were read, by the line that comes next. Our own.
-use Rattle.std.specs.Prelude.{◌≡◌, ℕ, ◌+◌, ◌*◌, ◌≤◌, zero, suc, List, [], ◌∷◌, ◌++◌, length, codes, Result, Ok, Err, IsTrue}
-use Rattle.std.specs.List.{list_all}
+-- What is left of a certificate behind the lines that were read, by the line that comes next. Our own.
+use Rattle.std.specs.Prelude.{◌≡◌, ℕ, ◌+◌, ◌*◌, ◌≤◌, zero, suc, List, [], ◌++◌, codes, Result, Ok, Err}
 use Rattle.ngc_certificate_text.specs.declared.expected.Expected.{Expected}
 use Rattle.ngc_certificate_text.specs.declared.expected.Expected.TheVariants as next
 use Rattle.ngc_certificate_text.specs.declared.expected.BegunMotion.{BegunMotion}
 use Rattle.ngc_certificate_text.specs.declared.fault.CertificateFault.{CertificateFault}
 use Rattle.ngc_certificate_text.specs.declared.fault.CertificateFault.TheVariants as faults
-use Rattle.ngc_certificate_text.specs.declared.found.LinesSoFar.{LinesSoFar}
 use Rattle.ngc_certificate_text.specs.declared.piece.Piece.{Piece}
 use Rattle.ngc_certificate_text.specs.declared.piece.Setting.{Setting}
 use Rattle.ngc_certificate_text.specs.declared.piece.Setting.TheVariants.{Off, On}
-use Rattle.ngc_certificate_text.specs.Certificate.{Entry, CertificateData, INDEX_LIMIT, PIECE_LIMIT, MOTION_LIMIT, good_piece}
-use Rattle.ngc_certificate_text.specs.Contents.{said_of}
+use Rattle.ngc_certificate_text.specs.Certificate.{Entry, CertificateData, MOTION_LIMIT}
 use Rattle.ngc_certificate_text.specs.Lines.{piece_said, end_said}
 use Rattle.ngc_certificate_text.specs.Said.{Place, Said, then_read, line_at, several, entry_at, setting_at, header_in, ended}
 
--- what a certificate's text comes to
-abbrev pub Outcome : Type 0
-Outcome = Result CertificateData CertificateFault
+-- the pieces that come yet of a motion that has begun, and the motions that come behind it
+pub record Rest : Type 0 where
+  pub pieces : List Piece
+  pub off : List Entry
+  pub on : List Entry
+
+abbrev pub nothing_left : Rest
+nothing_left = record { pieces = []; off = []; on = [] }
+
+-- a text's certificate, where nothing of it was read yet
+abbrev pub certificate_of : Rest → CertificateData
+certificate_of r = record { off = r.off; on = r.on }
+
+-- these motions of a setting come first, and none has begun
+abbrev pub with_motions : Setting → List Entry → Rest → Rest
+with_motions Off more r = record { pieces = []; off = more ++ r.off; on = r.on }
+with_motions On more r = record { pieces = []; off = r.off; on = more ++ r.on }
+
+abbrev pub with_pieces : List Piece → Rest → Rest
+with_pieces pieces r = record { pieces = pieces; off = r.off; on = r.on }
+
+-- what is made of what a part of the text says
+abbrev pub said_with : {X Y : Type 0} → (X → Y) → Said X → Said Y
+said_with f s = then_read s (λ r q. Ok (f r, q))
 
 abbrev pub name_of : Setting → List ℕ
 name_of Off = codes "off"
 name_of On = codes "on"
 
--- these motions come behind those of a setting
-abbrev pub with_motions : Setting → List Entry → CertificateData → CertificateData
-with_motions Off more c = record { off = c.off ++ more; on = c.on }
-with_motions On more c = record { off = c.off; on = c.on ++ more }
-
-abbrev pub with_motion : BegunMotion → List Piece → CertificateData → CertificateData
-with_motion b pieces c = with_motions b.setting (record { index = b.index; pieces = pieces } ∷ []) c
-
 -- the last line
-unfoldable pub end_ahead : CertificateData → Place → Said CertificateData
-end_ahead c p = then_read (line_at end_said p) (λ _ q. Ok (c, q))
+unfoldable pub end_ahead : Place → Said Rest
+end_ahead p = then_read (line_at end_said p) (λ _ q. Ok (nothing_left, q))
 
 -- what stands behind a setting: the other one, or the last line
-unfoldable pub behind : Setting → CertificateData → Place → Said CertificateData
-behind Off c p = then_read (setting_at (codes "on") p) (λ more q. end_ahead (with_motions On more c) q)
-behind On c p = end_ahead c p
+unfoldable pub behind : Setting → Place → Said Rest
+behind Off p = then_read (setting_at (codes "on") p) (λ more q. said_with (with_motions On more) (end_ahead q))
+behind On p = end_ahead p
 
 -- a setting, and what stands behind it
-unfoldable pub setting_ahead : Setting → CertificateData → Place → Said CertificateData
-setting_ahead s c p = then_read (setting_at (name_of s) p) (λ more q. behind s (with_motions s more c) q)
+unfoldable pub setting_ahead : Setting → Place → Said Rest
+setting_ahead s p = then_read (setting_at (name_of s) p) (λ more q. said_with (with_motions s more) (behind s q))
 
 -- so many motions of a setting
-unfoldable pub motions_ahead : Setting → ℕ → CertificateData → Place → Said CertificateData
-motions_ahead s left c p = then_read (several entry_at left p) (λ more q. behind s (with_motions s more c) q)
+unfoldable pub motions_ahead : Setting → ℕ → Place → Said Rest
+motions_ahead s left p = then_read (several entry_at left p) (λ more q. said_with (with_motions s more) (behind s q))
 
--- so many pieces of a motion behind these, and the motions behind it
-unfoldable pub pieces_ahead : BegunMotion → List Piece → CertificateData → Place → Said CertificateData
-pieces_ahead b pieces c p =
-    then_read (several (line_at piece_said) b.pieces_left p) (λ more q.
-    motions_ahead b.setting b.motions_left (with_motion b (pieces ++ more) c) q)
+-- the pieces that are left of a motion, and the motions behind it
+unfoldable pub pieces_ahead : BegunMotion → Place → Said Rest
+pieces_ahead b p =
+    then_read (several (line_at piece_said) b.pieces_left p) (λ pieces q.
+    said_with (with_pieces pieces) (motions_ahead b.setting b.motions_left q))
 
 -- what comes of the text from this line on
-unfoldable pub ahead : Expected → List Piece → CertificateData → Place → Said CertificateData
-ahead next.Header pieces c p = then_read (header_in p.left) (λ _ q. setting_ahead Off c q)
-ahead (next.Setting s) pieces c p = setting_ahead s c p
-ahead (next.Motion s left) pieces c p = motions_ahead s left c p
-ahead (next.Piece b) pieces c p = pieces_ahead b pieces c p
-ahead next.End pieces c p = end_ahead c p
-ahead next.Nothing pieces c p = Ok (c, p)
+unfoldable pub ahead : Expected → Place → Said Rest
+ahead next.Header p = then_read (header_in p.left) (λ _ q. setting_ahead Off q)
+ahead (next.Setting s) p = setting_ahead s p
+ahead (next.Motion s left) p = motions_ahead s left p
+ahead (next.Piece b) p = pieces_ahead b p
+ahead next.End p = end_ahead p
+ahead next.Nothing p = Ok (nothing_left, p)
 
--- what these lines come to behind those so far
-abbrev pub said_from : Expected → List Piece → CertificateData → ℕ → List (List ℕ) → Outcome
-said_from e pieces c number lines = ended (ahead e pieces c (record { number = number; left = lines }))
+-- what a text says from some line on, or the first line at fault
+abbrev pub Left : Type 0
+Left = Result Rest CertificateFault
 
-abbrev pub said_behind : {A : Type 0} → LinesSoFar A → List (List ℕ) → Outcome
-said_behind l lines = said_from l.expected l.pieces.items (said_of l.certificate) l.number lines
+-- what is left in these lines
+abbrev pub left_from : Expected → ℕ → List (List ℕ) → Left
+left_from e number lines = ended (ahead e (record { number = number; left = lines }))
+
+-- what is made of what a text says
+abbrev pub made_with : {X Y : Type 0} → (X → Y) → Result X CertificateFault → Result Y CertificateFault
+made_with f (Ok x) = Ok (f x)
+made_with f (Err fault) = Err fault
 
 -- ---- the line that comes next
 
@@ -89,40 +105,11 @@ wrong_line (next.Piece b) number = faults.BadLine number
 wrong_line next.End number = faults.BadLine number
 wrong_line next.Nothing number = faults.BadLine number
 
--- while so many motions of one setting are to come, how many of another may
-abbrev pub may_come_at : Setting → ℕ → Setting → ℕ
-may_come_at Off left Off = left
-may_come_at Off left On = MOTION_LIMIT
-may_come_at On left Off = 0
-may_come_at On left On = left
-
-abbrev pub may_come : Expected → Setting → ℕ
-may_come next.Header s = MOTION_LIMIT
-may_come (next.Setting t) s = may_come_at t MOTION_LIMIT s
-may_come (next.Motion t left) s = may_come_at t left s
-may_come (next.Piece b) s = may_come_at b.setting (b.motions_left + 1) s
-may_come next.End s = 0
-may_come next.Nothing s = 0
-
-pub record IsBegun (b : BegunMotion) (pieces : List Piece) : Type 0 where
-  pub index : b.index ≤ INDEX_LIMIT
-  pub some : 1 ≤ b.pieces_left
-  pub few : length pieces + b.pieces_left ≤ PIECE_LIMIT
-  pub good : IsTrue (list_all good_piece pieces)
-
--- a certificate has room for what may come
-pub record HasRoom (e : Expected) (c : CertificateData) : Type 0 where
-  pub off : length c.off + may_come e Off ≤ MOTION_LIMIT
-  pub on : length c.on + may_come e On ≤ MOTION_LIMIT
-
--- what is expected may come behind what was read
-pub record MayExpect (e : Expected) (pieces : List Piece) (c : CertificateData) : Type 0 where
-  pub room : HasRoom e c
+-- a motion or a piece that comes next is counted, and the first line has the first number
+pub record IsSound (e : Expected) (number : ℕ) : Type 0 where
+  pub first : e ≡ next.Header → number ≡ 1
   pub motion : (s : Setting) (left : ℕ) → e ≡ next.Motion s left → 1 ≤ left
-  pub piece : (b : BegunMotion) → e ≡ next.Piece b → IsBegun b pieces
-
-abbrev pub IsExpecting : {A : Type 0} → LinesSoFar A → Type 0
-IsExpecting l = MayExpect l.expected l.pieces.items (said_of l.certificate)
+  pub piece : (b : BegunMotion) → e ≡ next.Piece b → 1 ≤ b.pieces_left
 
 -- how many lines may come: a motion takes at most 65,536
 abbrev pub LINES_OF_MOTIONS : ℕ
@@ -140,18 +127,3 @@ lines_ahead (next.Motion s left) = 65536 * left + lines_behind s
 lines_ahead (next.Piece b) = b.pieces_left + 65536 * b.motions_left + lines_behind b.setting
 lines_ahead next.End = 2
 lines_ahead next.Nothing = 1
-
--- ---- a step
-
--- a fault is that of the text, but for want of memory and the source's failure
-abbrev pub FaultIs : CertificateFault → Outcome → Type 0
-FaultIs faults.WrongHeader says = says ≡ Err faults.WrongHeader
-FaultIs (faults.BadLine n) says = says ≡ Err (faults.BadLine n)
-FaultIs (faults.OutOfRange n) says = says ≡ Err (faults.OutOfRange n)
-FaultIs faults.Memory says = Unit {0}
-FaultIs faults.ReadFailed says = Unit {0}
-
--- what came of the text is still to come, or the answer is its fault
-abbrev pub StepGives : Result (Unit {0}) CertificateFault → Outcome → Outcome → Type 0
-StepGives (Ok done) before after = before ≡ after
-StepGives (Err fault) before after = FaultIs fault before

@@ -10,6 +10,10 @@ pub mod Clamped
 pub mod Parts
 pub mod Pulled
 pub mod Ahead
+pub mod Told
+pub mod Found
+pub mod LinesView
+pub mod Resumed
 pub mod Parted
 pub mod Reader
 pub mod ReaderView

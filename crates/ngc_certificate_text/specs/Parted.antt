@@ -1,9 +1,7 @@
 -- A certificate's text that comes in pieces of any size: what stands of it already. It is our own that a fault is answered as
 -- soon as it stands.
-use Rattle.std.specs.Prelude.{◌≡◌, ℕ, ◌-◌, ◌*◌, ◌≤◌, ◌<◌, ◌==◌, nat_le, List, [], ◌∷◌, ◌++◌, length, IsTrue, Bool, not, if◌then◌else◌}
+use Rattle.std.specs.Prelude.{◌≡◌, ℕ, ◌<◌, ◌==◌, nat_le, List, [], ◌∷◌, ◌++◌, length, IsTrue, Bool, not, if◌then◌else◌}
 use Rattle.std.specs.List.{list_all}
-use Rattle.ngc_certificate_text.specs.declared.text.TextSoFar.{TextSoFar}
-use Rattle.ngc_certificate_text.specs.Ahead.{Outcome, said_behind, IsExpecting, lines_ahead}
 use Rattle.ngc_certificate_text.specs.Said.{lines_of}
 
 -- The bytes that stand whatever follows, behind the beginning of a line: those of lines that a line feed ends, and of a line that
@@ -42,18 +40,3 @@ pub record PartsLines (lines : List ℕ → List (List ℕ)) : Type 0 where
   pub ends : (line rest : List ℕ) → IsTrue (is_feedless line) → lines (line ++ (10 ∷ rest)) ≡ line ∷ lines rest
   pub long : (line rest : List ℕ) → IsTrue (is_feedless line) → 256 < length line → GoesOn (lines (line ++ rest)) line
   pub some : (bytes : List ℕ) → GoesOn (lines bytes) []
-
--- ---- the lines so far, and the beginning of one more
-
--- what comes of these bytes, parted into lines in this way, behind those so far
-abbrev pub resumed : {A : Type 0} → (List ℕ → List (List ℕ)) → TextSoFar A → List ℕ → Outcome
-resumed lines t bytes = said_behind t.found (lines (t.cut.items ++ bytes))
-
-pub record IsReading {A : Type 0} (t : TextSoFar A) : Type 0 where
-  pub expecting : IsExpecting t.found
-  pub feedless : IsTrue (is_feedless t.cut.items)
-  pub short : length t.cut.items ≤ 256
-
--- how many bytes more can be taken at most
-abbrev pub room_of : {A : Type 0} → TextSoFar A → ℕ
-room_of t = 257 * lines_ahead t.found.expected - length t.cut.items

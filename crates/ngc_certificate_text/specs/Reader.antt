@@ -1,17 +1,48 @@
--- What a reader of a certificate will answer, by its state.
-use Rattle.std.specs.Prelude.{ℕ, List, Option, Some, None, Err}
+-- What a reader of a certificate's text will answer, by the fault that it answered and what it makes of the lines. Our own.
+use Rattle.std.specs.Prelude.{◌≡◌, ℕ, List, Option, Some, None, Result, Ok, Err}
 use Rattle.ngc_certificate_text.specs.declared.fault.CertificateFault.{CertificateFault}
-use Rattle.ngc_certificate_text.specs.declared.text.TextSoFar.{TextSoFar}
-use Rattle.ngc_certificate_text.specs.Ahead.{Outcome}
-use Rattle.ngc_certificate_text.specs.Parted.{firm_lines, resumed}
+use Rattle.ngc_certificate_text.specs.declared.fault.CertificateFault.TheVariants as faults
+use Rattle.ngc_certificate_text.specs.Parted.{firm_lines}
 use Rattle.ngc_certificate_text.specs.Said.{lines_of}
 
+-- what bytes come to, by the way in which they are parted into lines
+abbrev pub Saying : Type 0 → Type 0
+Saying X = (List ℕ → List (List ℕ)) → List ℕ → Result X CertificateFault
+
 -- what the text comes to if these bytes follow and no more
-abbrev pub outcome_by : {A : Type 0} → Option CertificateFault → TextSoFar A → List ℕ → Outcome
-outcome_by None t rest = resumed lines_of t rest
-outcome_by (Some fault) t rest = Err fault
+abbrev pub outcome_by : {X : Type 0} → Option CertificateFault → Saying X → List ℕ → Result X CertificateFault
+outcome_by None says rest = says lines_of rest
+outcome_by (Some fault) says rest = Err fault
 
 -- what it comes to if those bytes follow what stands once these have come
-abbrev pub firm_by : {A : Type 0} → Option CertificateFault → TextSoFar A → List ℕ → List ℕ → Outcome
-firm_by None t bytes rest = resumed (firm_lines rest) t bytes
-firm_by (Some fault) t bytes rest = Err fault
+abbrev pub firm_by : {X : Type 0} → Option CertificateFault → Saying X → List ℕ → List ℕ → Result X CertificateFault
+firm_by None says bytes rest = says (firm_lines rest) bytes
+firm_by (Some fault) says bytes rest = Err fault
+
+-- ---- a step
+
+-- a fault is that of the text, but for want of memory and the source's failure
+abbrev pub FaultIs : {X : Type 0} → CertificateFault → Result X CertificateFault → Type 0
+FaultIs faults.WrongHeader says = says ≡ Err faults.WrongHeader
+FaultIs (faults.BadLine n) says = says ≡ Err (faults.BadLine n)
+FaultIs (faults.OutOfRange n) says = says ≡ Err (faults.OutOfRange n)
+FaultIs faults.Memory says = Unit {0}
+FaultIs faults.ReadFailed says = Unit {0}
+
+-- what came of the text is still to come, or the answer is its fault
+abbrev pub StepGives : {X : Type 0} → Result (Unit {0}) CertificateFault → Result X CertificateFault → Result X CertificateFault → Type 0
+StepGives (Ok done) before after = before ≡ after
+StepGives (Err fault) before after = FaultIs fault before
+
+-- a text is refused so whatever bytes follow
+abbrev pub Stands : {X : Type 0} → CertificateFault → (List ℕ → Result X CertificateFault) → Type 0
+Stands fault says = (rest : List ℕ) → says rest ≡ Err fault
+
+-- The answer is the fault that stands whatever follows, or that none does, but for want of memory.
+abbrev pub AnswerIs : {X : Type 0} → Result (Unit {0}) CertificateFault → (List ℕ → Result X CertificateFault) → Type 0
+AnswerIs (Ok done) says = (fault : CertificateFault) → ¬ Stands fault says
+AnswerIs (Err faults.WrongHeader) says = Stands faults.WrongHeader says
+AnswerIs (Err (faults.BadLine n)) says = Stands (faults.BadLine n) says
+AnswerIs (Err (faults.OutOfRange n)) says = Stands (faults.OutOfRange n) says
+AnswerIs (Err faults.Memory) says = Unit {0}
+AnswerIs (Err faults.ReadFailed) says = Stands faults.ReadFailed says

@@ -1,20 +1,24 @@
 -- What a reader of a certificate will answer, as functions of the bytes that follow. Our own.
-use Rattle.std.specs.Prelude.{◌≡◌, ℕ, List, Option, Some, None, Result, Ok, Err}
+use Rattle.std.specs.Prelude.{◌≡◌, ℕ, List, Option, Some, None, Result}
 use Rattle.ngc_certificate_text.specs.declared.fault.CertificateFault.{CertificateFault}
-use Rattle.ngc_certificate_text.specs.declared.fault.CertificateFault.TheVariants as faults
 use Rattle.ngc_certificate_text.specs.declared.reader.CertificateReader.{CertificateReader}
-use Rattle.ngc_certificate_text.specs.Ahead.{Outcome}
-use Rattle.ngc_certificate_text.specs.Parted.{room_of}
+use Rattle.ngc_certificate_text.specs.Certificate.{CertificateData}
+use Rattle.ngc_certificate_text.specs.LinesView.{room_of}
 use Rattle.ngc_certificate_text.specs.Reader.{outcome_by, firm_by}
+use Rattle.ngc_certificate_text.specs.Resumed.{resumed}
 use Rattle.ngc_certificate_text.specs.Said.{certificate_said}
+
+-- what a certificate's text comes to
+abbrev pub Outcome : Type 0
+Outcome = Result CertificateData CertificateFault
 
 -- what the text comes to if these bytes follow those that were fed, and no more
 abbrev pub outcome_in : {A : Type 0} → CertificateReader A → List ℕ → Outcome
-outcome_in r rest = outcome_by r.refusal r.text rest
+outcome_in r rest = outcome_by r.refusal (resumed r.text) rest
 
 -- what it comes to if those bytes follow what stands of the text once these have come
 abbrev pub firm_in : {A : Type 0} → CertificateReader A → List ℕ → List ℕ → Outcome
-firm_in r bytes rest = firm_by r.refusal r.text bytes rest
+firm_in r bytes rest = firm_by r.refusal (resumed r.text) bytes rest
 
 -- the fault that was answered already
 abbrev pub refusal_in : {A : Type 0} → CertificateReader A → Option CertificateFault
@@ -22,20 +26,7 @@ refusal_in r = r.refusal
 
 -- how many bytes more the text can have at most
 abbrev pub room_in : {A : Type 0} → CertificateReader A → ℕ
-room_in r = room_of r.text
-
--- a text is refused so whatever bytes follow
-abbrev pub Stands : CertificateFault → (List ℕ → Outcome) → Type 0
-Stands fault says = (rest : List ℕ) → says rest ≡ Err fault
-
--- The answer is the fault that stands whatever follows, or that none does, but for want of memory.
-abbrev pub AnswerIs : Result (Unit {0}) CertificateFault → (List ℕ → Outcome) → Type 0
-AnswerIs (Ok done) says = (fault : CertificateFault) → ¬ Stands fault says
-AnswerIs (Err faults.WrongHeader) says = Stands faults.WrongHeader says
-AnswerIs (Err (faults.BadLine n)) says = Stands (faults.BadLine n) says
-AnswerIs (Err (faults.OutOfRange n)) says = Stands (faults.OutOfRange n) says
-AnswerIs (Err faults.Memory) says = Unit {0}
-AnswerIs (Err faults.ReadFailed) says = Stands faults.ReadFailed says
+room_in r = room_of r.text.lines
 
 -- what a source's bytes come to comes of those that are left, behind those that were fed
 abbrev pub Goes : {A : Type 0} → Option (List ℕ) → Option (List ℕ) → CertificateReader A → Type 0

@@ -80,7 +80,8 @@ settings_at p =
     then_read (setting_at (codes "on") q) (λ on r.
     then_read (line_at end_said r) (λ _ s. Ok (record { off = off; on = on }, s))))
 
-abbrev pub ended : Said CertificateData → Result CertificateData CertificateFault
+-- behind it stands nothing
+abbrev pub ended : {X : Type 0} → Said X → Result X CertificateFault
 ended (Ok r) = if nothing_in r.1.left then Ok r.0 else Err (BadLine r.1.number)
 ended (Err fault) = Err fault
 

@@ -2,21 +2,27 @@
 #![tactic(auto)]
 
 mod certificate;
+mod certificate_lines;
 mod expected;
 mod fault;
 mod found;
 pub mod laws;
 mod lines;
 mod motions;
+mod next_line;
 mod number;
 mod piece;
 mod read;
 mod reader;
 mod text;
+mod told;
 mod write;
 
 pub use certificate::Certificate;
+pub use certificate_lines::CertificateLines;
+pub use expected::{BegunMotion, Expected};
 pub use fault::CertificateFault;
 pub use motions::Motions;
 pub use piece::{Cut, Piece, Setting};
 pub use reader::CertificateReader;
+pub use told::Told;

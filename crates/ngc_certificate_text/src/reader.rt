@@ -1,6 +1,6 @@
 ghost use Rattle.std.specs.Prelude.{◌≡◌, ◌≢◌, Some, None};
 ghost use Rattle.std.proofs.Props.{props};
-ghost use Rattle.ngc_certificate_text.specs.Parted.{IsReading};
+ghost use Rattle.ngc_certificate_text.specs.Resumed.{IsResuming};
 ghost use Rattle.ngc_certificate_text.specs.declared.fault.CertificateFault.TheVariants.{ReadFailed};
 
 use crate::certificate::Certificate;
@@ -24,18 +24,18 @@ use std::alloc::Allocator;
 pub struct CertificateReader<A: Allocator> {
     text: TextSoFar<A>,
     refusal: Option<CertificateFault>,
-    ghost reading: { refusal ≡ None → IsReading text } by { Prim.hlevel props },
+    ghost reading: { refusal ≡ None → IsResuming text } by { Prim.hlevel props },
     ghost no_device: { refusal ≢ Some ReadFailed } by { Prim.hlevel props },
 }
 
 impl<A: Allocator> CertificateReader<A> {
     ghost use Rattle.std.specs.Prelude.{ℕ, List, [], ◌+◌, ◌≤◌, ◌++◌, length, IsTrue, MatchResult, OnOk, IfSome, Err};
     ghost use Rattle.std.specs.Result.{result_err};
-    ghost use Rattle.ngc_certificate_text.specs.Ahead.{FaultIs};
+    ghost use Rattle.ngc_certificate_text.specs.Reader.{AnswerIs, FaultIs};
     ghost use Rattle.ngc_certificate_text.specs.Contents.{said_of};
     ghost use Rattle.ngc_certificate_text.specs.Given.{GivesCertificate};
     ghost use Rattle.ngc_certificate_text.specs.Parted.{firm};
-    ghost use Rattle.ngc_certificate_text.specs.ReaderView.{outcome_in, firm_in, refusal_in, room_in, AnswerIs};
+    ghost use Rattle.ngc_certificate_text.specs.ReaderView.{outcome_in, firm_in, refusal_in, room_in};
     ghost use Rattle.ngc_certificate_text.specs.Said.{certificate_said};
 
     /// A reader that was fed nothing yet.

@@ -1,2 +1,6 @@
 pub mod NoRefusal
 pub mod Acceptance
+pub mod WalkLaws
+pub mod JudgeLaws
+pub mod LineJudging
+pub mod AnswerLaw

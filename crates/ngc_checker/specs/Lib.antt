@@ -4,3 +4,8 @@ pub mod Accepted
 pub mod Validity
 pub mod Progress
 pub mod Held
+pub mod Walking
+pub mod Following
+pub mod Judging
+pub mod Checked
+pub mod CheckView

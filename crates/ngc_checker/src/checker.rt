@@ -21,7 +21,7 @@ use ngc_line_reader::Program;
 use ngc_machine::{Machine, Tools};
 use std::alloc::Allocator;
 
-fn program_fault(setting: Setting, fault: ProgramFault) -> CheckFault
+pub(crate) fn program_fault(setting: Setting, fault: ProgramFault) -> CheckFault
     ensures { result ≡ program_fault setting fault }
 {
     match fault {

@@ -2,13 +2,22 @@
 #![tactic(auto)]
 
 mod accepted;
+mod check_fault;
+mod check_reader;
 mod checker;
+mod command_walk;
 mod fault;
+mod judge;
+mod judged_lines;
 pub mod laws;
 mod motions;
 mod setting;
+mod setting_judge;
 mod walk;
 
 pub use accepted::Accepted;
+pub use check_fault::CheckReadFault;
+pub use check_reader::CheckReader;
 pub use checker::check;
-pub use fault::CheckFault;
+pub use fault::{CheckFault, MemoryFault};
+pub use setting::setting_fault;

@@ -13,8 +13,8 @@ use ngc_certificate_text::Motions;
 use ngc_machine::Machine;
 use std::alloc::Allocator;
 
-// The start point, where no tool is mounted yet.
-fn start_fault<A: Allocator>(machine: &Machine<A>) -> Option<CheckFault>
+/// The start point, where no tool is mounted yet.
+pub(crate) fn start_fault<A: Allocator>(machine: &Machine<A>) -> Option<CheckFault>
     ensures { result ≡ start_fault (file_of machine.now) }
 {
     match place_fault(machine, None, &machine.start.to_grid(machine.step)) {

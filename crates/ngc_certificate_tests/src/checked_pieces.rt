@@ -1,0 +1,211 @@
+//! What no clause says: that a certificate is checked as its text comes, in pieces of any size, that a fault of the text stays,
+//! and that refused memory is told.
+use linked_list_allocator::LocalHeap;
+use ngc_certificate_text::{Certificate, CertificateFault};
+use ngc_checker::{CheckReadFault, CheckReader, MemoryFault, check};
+use ngc_fixed_length::Device;
+use ngc_line_reader::Program;
+use ngc_machine::{Machine, Tools, row_machine};
+use std::alloc::Global;
+use std::process::Abort;
+use std::test::Fail;
+
+const SIZES: &[usize] = &[1, 2, 3, 255, 65_536];
+
+// What `check` answers for a certificate that is read whole.
+fn whole_answer(
+    alloc: Global,
+    program: &Program<Global>,
+    machine: &Machine<Global>,
+    text: &[u8],
+) -> Option<CheckReadFault> {
+    match Certificate::read(alloc, &mut Device::new(text)) {
+        Ok(certificate) => {
+            let tools = Tools::empty(alloc);
+            let checked = check(alloc, program, machine, &tools, &certificate);
+            checked.err().map(CheckReadFault::Check)
+        }
+        Err(fault) => Some(CheckReadFault::Certificate(fault)),
+    }
+}
+
+// What is answered for pieces of this size, where what follows a fault is fed too, and pieces of no bytes.
+fn pieces_answer(
+    alloc: Global,
+    program: &Program<Global>,
+    machine: &Machine<Global>,
+    text: &[u8],
+    size: usize,
+) -> Result<Option<CheckReadFault>, MemoryFault> {
+    let tools = Tools::empty(alloc);
+    let mut reader = CheckReader::new(alloc, program, machine, &tools)?;
+    for piece in text.chunks(size.max(1)) {
+        let _ = reader.feed(piece);
+        let _ = reader.feed(b"");
+    }
+    Ok(reader.finish().err())
+}
+
+const ACCEPTED: &[u8] = b"ngc-certificate 1
+setting off 1
+motion 0 1
+line 65536 0 0 0 100 0 0
+setting on 1
+motion 0 1
+line 65536 0 0 0 100 0 0
+end
+";
+
+// A program, the certificate's settings and last line, and the number of the refusal.
+const ROWS: &[(&str, &str, Option<u16>)] = &[
+    ("M2\n", "setting off 0\nsetting on 0\nend\n", None),
+    (
+        "G0 X1 M2\n",
+        "setting off 1\nmotion 0 2\nline 32768 0 0 0 51 0 0\nline 65536 49 0 0 100 0 0\n\
+         setting on 1\nmotion 0 1\nline 65536 0 0 0 100 0 0\nend\n",
+        None,
+    ),
+    // The text goes before the program, and the program before the motions.
+    ("G0 X1 X2 M2\n", "setting off 1\nend\n", Some(301)),
+    (
+        "G0 X400 M2\n",
+        "setting off 0\nsetting on 0\nend\n",
+        Some(312),
+    ),
+    (
+        "G0 X1 T1 M6 M2\n",
+        "setting off 0\nsetting on 0\nend\n",
+        Some(311),
+    ),
+    // The motions differ.
+    (
+        "G0 X1 M2\n",
+        "setting off 0\nsetting on 0\nend\n",
+        Some(312),
+    ),
+    (
+        "G0 X1 M2\n",
+        "setting off 1\nmotion 1 1\nline 65536 0 0 0 100 0 0\nsetting on 0\nend\n",
+        Some(312),
+    ),
+    // A piece of block delete on is refused, and before it the motions with block delete off.
+    (
+        "G0 X1 M2\n",
+        "setting off 0\nsetting on 1\nmotion 0 1\nline 65535 0 0 0 100 0 0\nend\n",
+        Some(312),
+    ),
+    // A piece is refused, and before it a motion too many of the same setting.
+    (
+        "G0 X1 M2\n",
+        "setting off 2\nmotion 0 1\nline 65535 0 0 0 100 0 0\nmotion 1 1\nline 65536 0 0 0 100 0 0\n\
+         setting on 0\nend\n",
+        Some(312),
+    ),
+    // A piece is refused, and before the motions of block delete on.
+    (
+        "G0 X1 M2\n",
+        "setting off 1\nmotion 0 1\nline 65535 0 0 0 100 0 0\nsetting on 0\nend\n",
+        Some(313),
+    ),
+    (
+        "G0 X1 M2\n",
+        "setting off 1\nmotion 0 2\nline 32768 0 0 0 51 0 0\nline 65536 60 0 0 100 0 0\n\
+         setting on 0\nend\n",
+        Some(314),
+    ),
+    (
+        "G0 X1 M2\n",
+        "setting off 1\nmotion 0 1\nline 65536 -1 0 0 100 0 0\nsetting on 0\nend\n",
+        Some(315),
+    ),
+    // A piece is refused, and then the text.
+    (
+        "G0 X1 M2\n",
+        "setting off 1\nmotion 0 1\nline 65535 0 0 0 100 0 0\nsetting on 0\nend \n",
+        Some(301),
+    ),
+    (
+        "G0 X1 M2\n",
+        "setting off 1\nmotion 0 1\nline 65537 0 0 0 100 0 0\nsetting on 0\nend\n",
+        Some(303),
+    ),
+];
+
+#[test]
+fn certificates_checked_in_pieces(rt: HostRuntime) -> Result<(), Fail> {
+    let machine = row_machine(rt.alloc());
+    for (program, lines, number) in ROWS {
+        let text = format!(in rt.alloc(); "ngc-certificate 1\n{lines}")?;
+        let program = Program::read(rt.alloc(), &mut Device::new(program.as_bytes()))?;
+        let wanted = whole_answer(rt.alloc(), &program, &machine, text.as_bytes());
+        assert_eq!(rt; wanted.map(|fault| fault.number()), *number, "{lines}");
+        for size in SIZES {
+            let found = pieces_answer(rt.alloc(), &program, &machine, text.as_bytes(), *size)?;
+            assert_eq!(rt; found, wanted, "{lines} in pieces of {size}");
+        }
+    }
+    Ok(())
+}
+
+// What is fed, piece by piece, and the answer to each.
+const STAYING: &[(&str, Result<(), CertificateFault>)] = &[
+    ("", Ok(())),
+    ("ngc-certificate 1\nsetting off 1", Ok(())),
+    ("", Ok(())),
+    ("0\nmotion 0 1\nline 6", Ok(())),
+    ("5537 0 0 0 0 0 0\n", Err(CertificateFault::OutOfRange(4))),
+    ("", Err(CertificateFault::OutOfRange(4))),
+    ("end\n", Err(CertificateFault::OutOfRange(4))),
+];
+
+#[test]
+fn a_fault_of_the_text_stays(rt: HostRuntime) -> Result<(), Fail> {
+    let program = Program::read(rt.alloc(), &mut Device::new(b"G0 X1 M2\n".as_slice()))?;
+    let machine = row_machine(rt.alloc());
+    let tools = Tools::empty(rt.alloc());
+    let mut reader = CheckReader::new(rt.alloc(), &program, &machine, &tools)?;
+    for (piece, wanted) in STAYING {
+        let found = reader.feed(piece.as_bytes());
+        assert_eq!(rt; found, *wanted, "{piece:?}");
+    }
+    let end = reader.finish().err();
+    let fault = CertificateFault::OutOfRange(4);
+    assert_eq!(rt; end, Some(CheckReadFault::Certificate(fault)));
+    Ok(())
+}
+
+// Whether a heap has memory for the reader and what it reads for; `None` where it doesn't even hold the program.
+fn accepts_in(rt: &impl Abort, heap: &LocalHeap) -> Option<bool> {
+    let program = Program::read(heap, &mut Device::new(b"G0 X1 M2\n".as_slice())).ok()?;
+    let machine = row_machine(heap);
+    let tools = Tools::empty(heap);
+    let Ok(mut reader) = CheckReader::new(heap, &program, &machine, &tools) else {
+        return Some(false);
+    };
+    let used = heap.used();
+    assert!(rt; reader.feed(ACCEPTED).is_ok());
+    assert_eq!(rt; heap.used(), used);
+    assert!(rt; reader.finish().is_ok());
+    Some(true)
+}
+
+// With little memory, and then with more and more: none, and from some size on yes. Feeding asks for none.
+#[test]
+fn refused_memory_of_a_reader_is_told(rt: HostRuntime) -> Result<(), Fail> {
+    let mut refused = 0u32;
+    let mut done = 0u32;
+    for count in 1..160usize {
+        let heap = LocalHeap::new(rt.alloc(), 288 * count)?;
+        match accepts_in(&rt, &heap) {
+            Some(true) => done = done.saturating_add(1),
+            Some(false) => {
+                assert_eq!(rt; done, 0);
+                refused = refused.saturating_add(1);
+            }
+            None => assert_eq!(rt; refused, 0),
+        }
+        assert_eq!(rt; heap.used(), 0);
+    }
+    assert!(rt; refused > 0 && done > 0);
+    Ok(())
+}

@@ -1,0 +1,26 @@
+use Rattle.std.proofs.Common.{◌≡◌, ◌++◌, ◌∙◌, arith}
+use Rattle.ngc_certificate_text.specs.Found.{heard, heard_in}
+use Rattle.ngc_certificate_text.specs.LinesView.{left_by, expected_in}
+use Rattle.ngc_certificate_text.proofs.FoundLaws.{told_leads, told_expects}
+use Rattle.ngc_certificate_text.proofs.text.TextSoFar.feed.Goals as goal
+
+pub lines-preserved : goal.lines-preserved
+lines-preserved g c =
+    let old = c.lines.self in
+    let next = c.next.new.self in
+    let told = c.in-Ok-Some.told in
+    let step = rw c.in-Ok-Some.field-0-is at c.in-Ok-Some.ensures.step in
+    let expected = rw c.in-Ok-Some.field-0-is at c.in-Ok-Some.ensures.expected in
+    let room = rw c.in-Ok-Some.field-0-is at c.in-Ok-Some.ensures.room in
+    let hears : heard_in c.take.new.self ≡ heard told (heard_in old.found) = c.in-Ok.ensures in
+    record {
+      text = λ lines parts rest.
+          c.lines.invariant.text lines parts rest
+          ∙ told_leads (expected_in old.lines) (expected_in next) told (heard_in old.found) (heard_in c.take.new.self) (left_by lines old.lines (c.lines.rest.now ++ rest)) (left_by lines next (c.in-Ok-Some.behind.now ++ rest))
+          expected.0 expected.1 hears (step lines parts rest);
+      reading = record {
+        reading = c.in-Ok-Some.ensures.reading;
+        expecting = told_expects (expected_in old.lines) (expected_in next) told (heard_in old.found) (heard_in c.take.new.self) expected.0 expected.1 hears c.lines.invariant.reading.expecting;
+      };
+      room = omega (arith, room);
+    }

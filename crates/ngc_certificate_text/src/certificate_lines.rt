@@ -1,0 +1,155 @@
+ghost use Rattle.std.specs.Prelude.{◌≡◌, ◌≢◌, ℕ, ◌+◌, ◌<◌, ◌≤◌, List, [], ◌∷◌, ◌++◌, length, IsTrue, IfOk, IfSome, OnOk, MatchOption, MatchResult, Ok, Err};
+ghost use Rattle.ngc_certificate_text.specs.Ahead.{certificate_of, left_from, made_with, nothing_left};
+ghost use Rattle.ngc_certificate_text.specs.declared.expected.Expected.TheVariants as expect;
+ghost use Rattle.ngc_certificate_text.specs.LinesView.{left_by, expected_in, IsReading, room_of};
+ghost use Rattle.ngc_certificate_text.specs.Parted.{firm, firm_lines, is_feedless, IsSplit, PartsLines};
+ghost use Rattle.ngc_certificate_text.specs.Said.{lines_of, certificate_said};
+ghost use Rattle.ngc_certificate_text.specs.Told.{IsFront, IsNext, Tells, behind_told};
+
+use crate::fault::CertificateFault;
+use crate::next_line::NextLine;
+use crate::told::Told;
+use arrayvec::ArrayVec;
+use memchr::memchr;
+
+/// The lines of a certificate's text that comes in pieces of any size: each is read as soon as its line feed has come. Of
+/// the text no more is kept than a line that a piece's end cut, and of the certificate nothing.
+#[derive(Drop)]
+pub struct CertificateLines {
+    next: NextLine,
+    cut: ArrayVec<u8, 256>,
+}
+
+// The first line of some bytes, and what stands behind its line feed.
+fn split_line(bytes: &[u8]) -> Option<(&[u8], &[u8])>
+    ensures { MatchOption result (IsTrue (is_feedless bytes.now)) (λ p. IsSplit bytes.now p.0.now p.1.now) }
+{
+    let end = memchr(b'\n', bytes)?;
+    let (line, rest) = bytes.split_at(end);
+    Some((line, &rest[1..]))
+}
+
+impl CertificateLines {
+    /// Nothing of the text has come yet.
+    pub fn new() -> CertificateLines
+        ensures reading { IsReading result }
+        ensures expected { expected_in result ≡ expect.Header }
+        ensures text { (bytes : List ℕ) → certificate_said bytes ≡ made_with certificate_of (left_by lines_of result bytes) }
+        ensures firm { (bytes rest : List ℕ) → certificate_said (firm bytes ++ rest) ≡ made_with certificate_of (left_by (firm_lines rest) result bytes) }
+    {
+        CertificateLines {
+            next: NextLine::first(),
+            cut: ArrayVec::new(),
+        }
+    }
+
+    // More of the line that is cut.
+    fn keep(&mut self, bytes: &[u8]) -> Result<(), CertificateFault>
+        requires reading { IsReading self.old }
+        requires feedless { IsTrue (is_feedless bytes.now) }
+        ensures step { (lines : List ℕ → List (List ℕ)) → PartsLines lines → (rest : List ℕ) → MatchResult result (λ _. left_by lines self.old (bytes.now ++ rest) ≡ left_by lines self.new rest) (λ fault. left_by lines self.old (bytes.now ++ rest) ≡ Err fault) }
+        ensures expected { OnOk result (expected_in self.new ≡ expected_in self.old) }
+        ensures reading { OnOk result (IsReading self.new) }
+        ensures room { OnOk result (room_of self.new + length bytes.now ≤ room_of self.old) }
+        ensures memory { result ≢ Err CertificateFault.Memory }
+        ensures device { result ≢ Err CertificateFault.ReadFailed }
+    {
+        match self.cut.try_extend_from_slice(bytes) {
+            Ok(()) => Ok(()),
+            Err(_) => Err(self.next.wrong_line()),
+        }
+    }
+
+    // The line that is cut ends here.
+    fn end_cut(&mut self) -> Result<Told, CertificateFault>
+        requires { IsReading self.old }
+        ensures step { (next : List ℕ) (left : List (List ℕ)) → Tells result (left_from self.old.next.expected self.old.next.number (self.old.cut.items ∷ next ∷ left)) (left_from self.new.next.expected self.new.next.number (next ∷ left)) }
+        ensures expected { IfOk result (λ told. IsNext (expected_in self.old) told × (expected_in self.new ≡ behind_told told)) }
+        ensures empty { OnOk result (self.new.cut.items ≡ []) }
+        ensures reading { OnOk result (IsReading self.new) }
+        ensures room { OnOk result (room_of self.new + 1 ≤ room_of self.old) }
+        ensures memory { result ≢ Err CertificateFault.Memory }
+        ensures device { result ≢ Err CertificateFault.ReadFailed }
+    {
+        match self.next.read(self.cut.as_slice()) {
+            Ok(told) => {
+                self.cut.clear();
+                Ok(told)
+            }
+            Err(fault) => Err(fault),
+        }
+    }
+
+    // Bytes that a line feed ends.
+    fn end_line(&mut self, bytes: &[u8]) -> Result<Told, CertificateFault>
+        requires reading { IsReading self.old }
+        requires feedless { IsTrue (is_feedless bytes.now) }
+        ensures step { (lines : List ℕ → List (List ℕ)) → PartsLines lines → (rest : List ℕ) → Tells result (left_by lines self.old (bytes.now ++ (10 ∷ rest))) (left_by lines self.new rest) }
+        ensures expected { IfOk result (λ told. IsNext (expected_in self.old) told × (expected_in self.new ≡ behind_told told)) }
+        ensures reading { OnOk result (IsReading self.new) }
+        ensures room { OnOk result (room_of self.new + length bytes.now + 1 ≤ room_of self.old) }
+        ensures memory { result ≢ Err CertificateFault.Memory }
+        ensures device { result ≢ Err CertificateFault.ReadFailed }
+    {
+        if self.cut.is_empty() {
+            return self.next.read(bytes);
+        }
+        match self.keep(bytes) {
+            Ok(()) => self.end_cut(),
+            Err(fault) => Err(fault),
+        }
+    }
+
+    /// What the first line tells that ends in these bytes, with the bytes behind it; or `None` where no line ends in them,
+    /// and they are kept. A fault is answered as soon as it stands: with its line's line feed, or with the 257th byte of a
+    /// line that is too long. Behind a fault there is nothing more to ask.
+    pub fn next<'a>(
+        &mut self,
+        bytes: &'a [u8],
+    ) -> Result<Option<(Told, &'a [u8])>, CertificateFault>
+        requires { IsReading self.old }
+        // However the bytes that follow are parted into lines.
+        ensures step { (lines : List ℕ → List (List ℕ)) → PartsLines lines → (rest : List ℕ) → MatchResult result (λ o. MatchOption o (left_by lines self.old (bytes.now ++ rest) ≡ left_by lines self.new rest) (λ p. IsFront p.0 (left_by lines self.old (bytes.now ++ rest)) (left_by lines self.new (p.1.now ++ rest)))) (λ fault. left_by lines self.old (bytes.now ++ rest) ≡ Err fault) }
+        ensures expected { IfOk result (λ o. MatchOption o (expected_in self.new ≡ expected_in self.old) (λ p. IsNext (expected_in self.old) p.0 × (expected_in self.new ≡ behind_told p.0))) }
+        ensures reading { OnOk result (IsReading self.new) }
+        // A text is no longer than its lines may be.
+        ensures room { IfOk result (λ o. MatchOption o (room_of self.new + length bytes.now ≤ room_of self.old) (λ p. room_of self.new + length bytes.now ≤ room_of self.old + length p.1.now)) }
+        ensures shorter { IfOk result (λ o. IfSome o (λ p. length p.1.now < length bytes.now)) }
+        ensures memory { result ≢ Err CertificateFault.Memory }
+        ensures device { result ≢ Err CertificateFault.ReadFailed }
+    {
+        match split_line(bytes) {
+            Some((line, behind)) => match self.end_line(line) {
+                Ok(told) => Ok(Some((told, behind))),
+                Err(fault) => Err(fault),
+            },
+            None => match self.keep(bytes) {
+                Ok(()) => Ok(None),
+                Err(fault) => Err(fault),
+            },
+        }
+    }
+
+    /// Whether bytes stand behind the end of the text, so that what follows changes nothing.
+    pub fn goes_too_far(&self) -> bool
+        ensures { IsTrue result → IsReading self.now → (rest : List ℕ) → left_by lines_of self.now rest ≡ left_by lines_of self.now [] }
+    {
+        self.next.has_ended() && !self.cut.is_empty()
+    }
+
+    /// Whether the text has ended, where no byte comes any more; else the fault of a line that is missing or lacks its line
+    /// feed.
+    pub fn finish(&self) -> Result<(), CertificateFault>
+        requires { IsReading self.now }
+        ensures said { MatchResult result (λ _. left_by lines_of self.now [] ≡ Ok nothing_left) (λ fault. left_by lines_of self.now [] ≡ Err fault) }
+        ensures ended { OnOk result (expected_in self.now ≡ expect.Nothing) }
+        ensures memory { result ≢ Err CertificateFault.Memory }
+        ensures device { result ≢ Err CertificateFault.ReadFailed }
+    {
+        if self.next.has_ended() && self.cut.is_empty() {
+            Ok(())
+        } else {
+            Err(self.next.wrong_line())
+        }
+    }
+}

@@ -1,0 +1,161 @@
+ghost use Rattle.std.specs.Prelude.{◌≡◌, ◌≢◌, ◌+◌, ◌-◌, ◌≤◌, ◌∷◌, ℕ, List, length, MatchResult, OnOk, IfOk, Err, IsTrue, ◌↔◌};
+ghost use Rattle.ngc_certificate_text.specs.Ahead.{name_of, wrong_line, IsSound, left_from, lines_ahead};
+ghost use Rattle.ngc_certificate_text.specs.Lines.{motion_said, setting_said, piece_said, end_said};
+ghost use Rattle.ngc_certificate_text.specs.Said.{next_number};
+ghost use Rattle.ngc_certificate_text.specs.Told.{IsNext, Tells, behind_told, fault_of, told_by, told_with, motion_told};
+
+use crate::expected::{BegunMotion, Expected};
+use crate::fault::CertificateFault;
+use crate::lines::{LineFlaw, end_line, is_text, motion_line, piece_line, setting_line};
+use crate::piece::Setting;
+use crate::told::Told;
+
+const LINE_BYTES: usize = 256;
+
+/// Which line of a certificate comes next, and its number from 1.
+#[derive(Clone, Copy)]
+pub struct NextLine {
+    pub expected: Expected,
+    pub number: u32,
+}
+
+fn name(setting: Setting) -> &'static [u8]
+    ensures { result.now ≡ name_of setting }
+{
+    match setting {
+        Setting::Off => b"off",
+        Setting::On => b"on",
+    }
+}
+
+fn header(line: &[u8]) -> Result<Told, LineFlaw>
+    ensures { result ≡ told_by Expected.Header line.now }
+{
+    if is_text(line, b"ngc-certificate 1") {
+        Ok(Told::Header)
+    } else {
+        Err(LineFlaw::Spelling)
+    }
+}
+
+fn setting_told(setting: Setting, line: &[u8]) -> Result<Told, LineFlaw>
+    ensures { result ≡ told_with (Told.Setting setting) (setting_said (name_of setting) line.now) }
+{
+    match setting_line(name(setting), line) {
+        Ok(count) => Ok(Told::Setting(setting, count)),
+        Err(flaw) => Err(flaw),
+    }
+}
+
+// One of so many motions.
+fn motion_told(setting: Setting, left: u32, line: &[u8]) -> Result<Told, LineFlaw>
+    requires { 1 ≤ left }
+    ensures { result ≡ told_with (motion_told setting left) (motion_said line.now) }
+{
+    match motion_line(line) {
+        Ok(motion) => Ok(Told::Motion(BegunMotion {
+            setting,
+            index: motion.index,
+            pieces_left: motion.pieces,
+            motions_left: left - 1,
+        })),
+        Err(flaw) => Err(flaw),
+    }
+}
+
+fn piece_told(begun: BegunMotion, line: &[u8]) -> Result<Told, LineFlaw>
+    ensures { result ≡ told_with (Told.Piece begun) (piece_said line.now) }
+{
+    match piece_line(line) {
+        Ok(piece) => Ok(Told::Piece(begun, piece)),
+        Err(flaw) => Err(flaw),
+    }
+}
+
+fn end_told(line: &[u8]) -> Result<Told, LineFlaw>
+    ensures { result ≡ told_by Expected.End line.now }
+{
+    match end_line(line) {
+        Ok(()) => Ok(Told::End),
+        Err(flaw) => Err(flaw),
+    }
+}
+
+impl NextLine {
+    /// The first line.
+    pub(crate) fn first() -> NextLine
+        ensures { result ≡ record { expected = Expected.Header; number = 1 } }
+    {
+        NextLine {
+            expected: Expected::Header,
+            number: 1,
+        }
+    }
+
+    // What a line tells.
+    fn told(&self, line: &[u8]) -> Result<Told, LineFlaw>
+        requires { IsSound self.now.expected self.now.number }
+        ensures { result ≡ told_by self.now.expected line.now }
+    {
+        match self.expected {
+            Expected::Header => header(line),
+            Expected::Setting(setting) => setting_told(setting, line),
+            Expected::Motion(setting, left) => motion_told(setting, left, line),
+            Expected::Piece(begun) => piece_told(begun, line),
+            Expected::End => end_told(line),
+            Expected::Nothing => Err(LineFlaw::Spelling),
+        }
+    }
+
+    // Why a line is refused.
+    fn fault(&self, flaw: LineFlaw) -> CertificateFault
+        ensures { result ≡ fault_of self.now.expected self.now.number flaw }
+    {
+        match (self.expected, flaw) {
+            (Expected::Header, _) => CertificateFault::WrongHeader,
+            (_, LineFlaw::Spelling) => CertificateFault::BadLine(self.number),
+            (_, LineFlaw::Range) => CertificateFault::OutOfRange(self.number),
+        }
+    }
+
+    /// Why the text is refused if the line that comes next is missing or too long.
+    pub(crate) fn wrong_line(&self) -> CertificateFault
+        ensures { result ≡ wrong_line self.now.expected self.now.number }
+    {
+        match self.expected {
+            Expected::Header => CertificateFault::WrongHeader,
+            _ => CertificateFault::BadLine(self.number),
+        }
+    }
+
+    /// What the next line tells. A refused one leaves all as it was.
+    pub(crate) fn read(&mut self, line: &[u8]) -> Result<Told, CertificateFault>
+        requires { IsSound self.old.expected self.old.number }
+        ensures tells { (next : List ℕ) (left : List (List ℕ)) → Tells result (left_from self.old.expected self.old.number (line.now ∷ next ∷ left)) (left_from self.new.expected self.new.number (next ∷ left)) }
+        ensures expected { IfOk result (λ told. IsNext self.old.expected told × (self.new.expected ≡ behind_told told)) }
+        ensures sound { IsSound self.new.expected self.new.number }
+        ensures progress { OnOk result (lines_ahead self.new.expected + 1 ≤ lines_ahead self.old.expected) }
+        ensures short { OnOk result (length line.now ≤ 256) }
+        ensures memory { result ≢ Err CertificateFault.Memory }
+        ensures device { result ≢ Err CertificateFault.ReadFailed }
+    {
+        if line.len() > LINE_BYTES {
+            return Err(self.wrong_line());
+        }
+        match self.told(line) {
+            Ok(told) => {
+                self.expected = Expected::behind_told(&told);
+                self.number = self.number.saturating_add(1);
+                Ok(told)
+            }
+            Err(flaw) => Err(self.fault(flaw)),
+        }
+    }
+
+    /// Whether the text has ended.
+    pub(crate) fn has_ended(&self) -> bool
+        ensures { IsTrue result ↔ (self.now.expected ≡ Expected.Nothing) }
+    {
+        matches!(self.expected, Expected::Nothing)
+    }
+}

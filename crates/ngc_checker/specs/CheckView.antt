@@ -1,0 +1,66 @@
+-- What a reader that checks a certificate will answer, as functions of the bytes that follow. Our own.
+use Rattle.std.specs.Prelude.{◌≡◌, ℕ, List, Option, Some, None, Result, Ok, Err}
+use Rattle.ngc_canonical.specs.Meaning.{Program}
+use Rattle.ngc_canonical.specs.State.{Setup}
+use Rattle.ngc_certificate_text.specs.declared.fault.CertificateFault.{CertificateFault}
+use Rattle.ngc_certificate_text.specs.Ahead.{made_with}
+use Rattle.ngc_certificate_text.specs.Certificate.{CertificateData}
+use Rattle.ngc_certificate_text.specs.LinesView.{room_of}
+use Rattle.ngc_certificate_text.specs.Reader.{outcome_by, firm_by}
+use Rattle.ngc_certificate_text.specs.Said.{certificate_said}
+use Rattle.ngc_checker.specs.declared.check_fault.CheckReadFault.{CheckReadFault}
+use Rattle.ngc_checker.specs.declared.check_fault.CheckReadFault.TheVariants as reads
+use Rattle.ngc_checker.specs.declared.check_reader.CheckReader.{CheckReader}
+use Rattle.ngc_checker.specs.declared.fault.CheckFault.{CheckFault}
+use Rattle.ngc_checker.specs.Accepted.{AcceptedData, Answers, Keeps}
+use Rattle.ngc_checker.specs.Checked.{judged, kept_by}
+use Rattle.ngc_checker.specs.FirstRefusal.{first_refusal}
+
+-- what a text comes to: its fault, or else the first refusal of the certificate that it says, or none
+abbrev pub Verdict : Type 0
+Verdict = Result (Option CheckFault) CertificateFault
+
+abbrev pub text_verdict : Program → Setup → List ℕ → Verdict
+text_verdict program setup text = made_with (first_refusal program setup) (certificate_said text)
+
+-- what it comes to if these bytes follow those that were fed, and no more
+abbrev pub outcome_in : {A : Type 0} → CheckReader A → List ℕ → Verdict
+outcome_in r rest = outcome_by r.refusal (judged r.text) rest
+
+-- what it comes to if those bytes follow what stands of the text once these have come
+abbrev pub firm_in : {A : Type 0} → CheckReader A → List ℕ → List ℕ → Verdict
+firm_in r bytes rest = firm_by r.refusal (judged r.text) bytes rest
+
+-- the fault that was answered already
+abbrev pub refusal_in : {A : Type 0} → CheckReader A → Option CertificateFault
+refusal_in r = r.refusal
+
+-- what is handed out where the certificate is accepted; nothing where the program is refused
+abbrev pub kept_in : {A : Type 0} → CheckReader A → Option AcceptedData
+kept_in r = kept_by r.text.judge
+
+-- how many bytes more the text can have at most
+abbrev pub room_in : {A : Type 0} → CheckReader A → ℕ
+room_in r = room_of r.text.lines
+
+-- exactly: yes with what was kept where nothing is refused, else the text's fault or the first refusal
+abbrev pub GivesVerdict : {X : Type 0} → (X → AcceptedData) → Option AcceptedData → Result X CheckReadFault → Verdict → Type 0
+GivesVerdict view kept (Ok x) says = (says ≡ Ok None) × (kept ≡ Some (view x))
+GivesVerdict view kept (Err (reads.Certificate fault)) says = says ≡ Err fault
+GivesVerdict view kept (Err (reads.Check fault)) says = says ≡ Ok (Some fault)
+
+-- ---- the whole text
+
+-- what a reader of a certificate's text answers: the text's fault, or else what the checker answers for what it says
+abbrev pub AnswersSaid : {X : Type 0} → (X → AcceptedData) → Program → Setup → List ℕ → Result X CheckReadFault → Type 0
+AnswersSaid view program setup text (Ok x) = (c : CertificateData) × (certificate_said text ≡ Ok c) × Answers view program setup c (Ok x)
+AnswersSaid view program setup text (Err (reads.Certificate fault)) = certificate_said text ≡ Err fault
+AnswersSaid {X} view program setup text (Err (reads.Check fault)) = (c : CertificateData) × (certificate_said text ≡ Ok c) × Answers {X = X} view program setup c (Err fault)
+
+-- What a reader makes of the joined pieces is exactly what the checker answers for the certificate that they say, or the
+-- text's fault.
+abbrev pub VerdictIsAnswer : Type 0
+VerdictIsAnswer =
+    (program : Program) (setup : Setup) (text : List ℕ) (kept : Option AcceptedData) (answer : Result AcceptedData CheckReadFault)
+    → ((a : AcceptedData) → kept ≡ Some a → Keeps program setup a)
+    → GivesVerdict (λ a. a) kept answer (text_verdict program setup text) → AnswersSaid (λ a. a) program setup text answer

@@ -1,0 +1,29 @@
+ghost use Rattle.std.specs.Prelude.{◌≡◌};
+ghost use Rattle.ngc_checker.specs.Faults.{read_number};
+
+use crate::fault::CheckFault;
+use ngc_certificate_text::CertificateFault;
+use thiserror::Error;
+
+/// Why a certificate whose text comes in pieces isn't accepted.
+#[derive(Clone, Copy, Debug, PartialEq, Eq, Error)]
+pub enum CheckReadFault {
+    /// The text is no certificate: 301 to 303.
+    #[error(transparent)]
+    Certificate(CertificateFault),
+    /// The certificate is refused: 311 to 318.
+    #[error(transparent)]
+    Check(CheckFault),
+}
+
+impl CheckReadFault {
+    /// The fault's number.
+    pub fn number(&self) -> u16
+        ensures { result ≡ read_number self.now }
+    {
+        match self {
+            CheckReadFault::Certificate(fault) => fault.number(),
+            CheckReadFault::Check(fault) => fault.number(),
+        }
+    }
+}

@@ -1,0 +1,157 @@
+ghost use Rattle.std.specs.Prelude.{◌≡◌, ◌≢◌, ℕ, List, [], ◌+◌, ◌≤◌, ◌++◌, length, MatchResult, OnOk, IfOk, IfSome, Some, None, Ok, Err};
+ghost use Rattle.std.specs.Result.{result_err};
+ghost use Rattle.ngc_line_reader.specs.Grammar.{Reading};
+ghost use Rattle.ngc_line_reader.specs.ProgramText.{AreReadings};
+ghost use Rattle.ngc_line_reader.specs.ProgramView.{text_in};
+ghost use Rattle.ngc_canonical.specs.Interpreter.{setup_of};
+ghost use Rattle.ngc_canonical.specs.Meaning.{program_said};
+ghost use Rattle.ngc_certificate_text.specs.Ahead.{Rest, certificate_of};
+ghost use Rattle.ngc_certificate_text.specs.declared.expected.Expected.TheVariants as expect;
+ghost use Rattle.ngc_checker.specs.Accepted.{AcceptedData, Keeps};
+ghost use Rattle.ngc_checker.specs.FirstRefusal.{first_refusal};
+ghost use Rattle.ngc_checker.specs.Judging.{JudgeData, IsAt};
+ghost use Rattle.std.proofs.Props.{props};
+ghost use Rattle.ngc_checker.specs.Checked.{IsJudged, judged_by, kept_by};
+ghost use Rattle.ngc_certificate_text.specs.declared.fault.CertificateFault.TheVariants as texts;
+
+use crate::accepted::Accepted;
+use crate::check_fault::CheckReadFault;
+use crate::checker::program_fault;
+use crate::fault::{CheckFault, MemoryFault};
+use crate::judge::Judge;
+use crate::judged_lines::JudgedLines;
+use ngc_canonical::{ProgramFault, interpret};
+use ngc_certificate::Setting;
+use ngc_certificate_text::{CertificateFault, CertificateLines};
+use ngc_line_reader::Program;
+use ngc_machine::{Machine, Tools};
+use std::alloc::Allocator;
+
+/// A check of a certificate whose text comes in pieces of any size. Of the certificate no more is kept than a line that a
+/// piece's end cut and the first refusal.
+///
+/// ```text
+/// let mut reader = CheckReader::new(alloc, &program, &machine, &tools)?;
+/// reader.feed(b"ngc-certificate 1\nsetting off 0\nset")?;
+/// reader.feed(b"ting on 0\nend\n")?;
+/// let accepted = reader.finish()?;
+/// ```
+///
+/// It answers what `Certificate::read` and then `check` answer for all pieces joined. A line may be cut anywhere, and a piece
+/// may have no bytes. After a fault each later call answers it again.
+#[derive(Drop)]
+pub struct CheckReader<A: Allocator> {
+    text: JudgedLines<A>,
+    refusal: Option<CertificateFault>,
+    ghost reading: { refusal ≡ None → IsJudged text } by { Prim.hlevel props },
+    ghost no_memory: { refusal ≢ Some texts.Memory } by { Prim.hlevel props },
+    ghost no_device: { refusal ≢ Some texts.ReadFailed } by { Prim.hlevel props },
+}
+
+// The judge of the certificate, or why the program is refused.
+fn judge_of<A: Allocator + Copy>(
+    alloc: A,
+    program: &Program<A>,
+    machine: &Machine<A>,
+    tools: &Tools<A>,
+) -> Result<Result<Judge<A>, CheckFault>, MemoryFault>
+    ensures verdict { (rs : List Reading) → AreReadings (text_in program.now).lines rs → IfOk result (λ j. (r : Rest) → first_refusal (program_said (text_in program.now) rs) (setup_of machine.now tools.now) (certificate_of r) ≡ judged_by j r) }
+    ensures kept { (rs : List Reading) → AreReadings (text_in program.now).lines rs → IfOk result (λ j. (a : AcceptedData) → kept_by j ≡ Some a → Keeps (program_said (text_in program.now) rs) (setup_of machine.now tools.now) a) }
+    ensures at { IfOk result (λ j. (v : JudgeData) → j ≡ Ok v → IsAt expect.Header v) }
+{
+    let off = match interpret(alloc, program, machine, tools, false) {
+        Ok(commands) => commands,
+        Err(ProgramFault::Memory) => return Err(MemoryFault),
+        Err(fault) => return Ok(Err(program_fault(Setting::Off, fault))),
+    };
+    let on = match interpret(alloc, program, machine, tools, true) {
+        Ok(commands) => commands,
+        Err(ProgramFault::Memory) => return Err(MemoryFault),
+        Err(fault) => return Ok(Err(program_fault(Setting::On, fault))),
+    };
+    let own_machine = match machine.copy(alloc) {
+        Ok(own_machine) => own_machine,
+        Err(_) => return Err(MemoryFault),
+    };
+    let own_tools = match tools.copy(alloc) {
+        Ok(own_tools) => own_tools,
+        Err(_) => return Err(MemoryFault),
+    };
+    Ok(Ok(Judge::new(own_machine, own_tools, off, on)))
+}
+
+impl<A: Allocator> CheckReader<A> {
+    ghost use Rattle.ngc_certificate_text.specs.Parted.{firm};
+    ghost use Rattle.ngc_certificate_text.specs.Reader.{AnswerIs, FaultIs};
+    ghost use Rattle.ngc_checker.specs.CheckView.{text_verdict, outcome_in, firm_in, refusal_in, kept_in, room_in, GivesVerdict};
+
+    /// A reader that was fed nothing yet. The program is executed at both settings of block delete; why it is refused is
+    /// answered by `finish`. It fails where memory is refused.
+    pub fn new(
+        alloc: A,
+        program: &Program<A>,
+        machine: &Machine<A>,
+        tools: &Tools<A>,
+    ) -> Result<CheckReader<A>, MemoryFault>
+    where
+        A: Copy,
+        // Whatever the lines' readings are: each line has one, and only one.
+        ensures text { (rs : List Reading) → AreReadings (text_in program.now).lines rs → IfOk result (λ r. (bytes : List ℕ) → text_verdict (program_said (text_in program.now) rs) (setup_of machine.now tools.now) bytes ≡ outcome_in r bytes) }
+        ensures firm { (rs : List Reading) → AreReadings (text_in program.now).lines rs → IfOk result (λ r. (bytes rest : List ℕ) → text_verdict (program_said (text_in program.now) rs) (setup_of machine.now tools.now) (firm bytes ++ rest) ≡ firm_in r bytes rest) }
+        ensures keeps { (rs : List Reading) → AreReadings (text_in program.now).lines rs → IfOk result (λ r. (a : AcceptedData) → kept_in r ≡ Some a → Keeps (program_said (text_in program.now) rs) (setup_of machine.now tools.now) a) }
+        ensures going { IfOk result (λ r. refusal_in r ≡ None) }
+    {
+        match judge_of(alloc, program, machine, tools) {
+            Ok(judge) => Ok(CheckReader {
+                text: JudgedLines {
+                    lines: CertificateLines::new(),
+                    judge,
+                },
+                refusal: None,
+            }),
+            Err(_) => Err(MemoryFault),
+        }
+    }
+
+    /// Takes the next bytes of the text, any number of them, and asks for no memory. A fault of the text is answered as soon
+    /// as it stands: by the piece with the line feed that ends its line, or with the 257th byte of a line that is too long.
+    pub fn feed(&mut self, piece: &[u8]) -> Result<(), CertificateFault>
+        // The fault is the one that the lines so far have whatever follows, and where they have none, none is answered.
+        ensures answer { AnswerIs result (firm_in self.old piece.now) }
+        ensures firm { OnOk result ((more rest : List ℕ) → firm_in self.old (piece.now ++ more) rest ≡ firm_in self.new more rest) }
+        // Whatever follows, the text comes to the same as if this piece stood in front of it: a fault stays.
+        ensures text { (rest : List ℕ) → MatchResult result (λ _. outcome_in self.old (piece.now ++ rest) ≡ outcome_in self.new rest) (λ fault. FaultIs fault (outcome_in self.old (piece.now ++ rest))) }
+        ensures keeps { kept_in self.new ≡ kept_in self.old }
+        // A fault is kept, and answered again.
+        ensures refusal { refusal_in self.new ≡ result_err result }
+        ensures again { IfSome (refusal_in self.old) (λ fault. result ≡ Err fault) }
+        ensures memory { result ≢ Err CertificateFault.Memory }
+        ensures device { result ≢ Err CertificateFault.ReadFailed }
+        // A text is no longer than its lines may be.
+        ensures room { OnOk result (room_in self.new + length piece.now ≤ room_in self.old) }
+    {
+        match self.refusal {
+            None => match self.text.feed(piece) {
+                Ok(()) => Ok(()),
+                Err(fault) => {
+                    self.refusal = Some(fault);
+                    Err(fault)
+                }
+            },
+            Some(fault) => Err(fault),
+        }
+    }
+
+    /// What is accepted, where no byte comes any more; else the fault of the text that was answered, or that of a line that is
+    /// missing or lacks its line feed; else the first refusal, as `check` has it.
+    pub fn finish(self) -> Result<Accepted<A>, CheckReadFault>
+        ensures said { GivesVerdict (λ a. a) (kept_in self) result (outcome_in self []) }
+        ensures again { IfSome (refusal_in self) (λ fault. result ≡ Err (CheckReadFault.Certificate fault)) }
+    {
+        let CheckReader { text, refusal } = self;
+        match refusal {
+            None => text.finish(),
+            Some(fault) => Err(CheckReadFault::Certificate(fault)),
+        }
+    }
+}

@@ -1,0 +1,79 @@
+ghost use Rattle.std.specs.Prelude.{◌≡◌, ◌≢◌, ◌+◌, ◌≤◌, ◌++◌, [], ℕ, List, length, Option, Ok, Err, IfOk, OnOk, MatchResult};
+ghost use Rattle.ngc_certificate_text.specs.Ahead.{Rest};
+ghost use Rattle.ngc_certificate_text.specs.LinesView.{room_of};
+ghost use Rattle.ngc_certificate_text.specs.Parted.{PartsLines};
+ghost use Rattle.ngc_certificate_text.specs.Reader.{StepGives};
+ghost use Rattle.ngc_certificate_text.specs.Said.{lines_of};
+ghost use Rattle.ngc_certificate_text.specs.Told.{onto, Fits, IsNext, behind_told};
+ghost use Rattle.ngc_certificate_text.specs.declared.expected.Expected.{Expected};
+ghost use Rattle.ngc_checker.specs.Checked.{judged, judged_by, kept_by, IsJudged};
+ghost use Rattle.ngc_checker.specs.CheckView.{GivesVerdict};
+ghost use Rattle.ngc_checker.specs.Judging.{JudgeData, IsAt, MayJudge};
+
+use crate::accepted::Accepted;
+use crate::check_fault::CheckReadFault;
+use crate::fault::CheckFault;
+use crate::judge::Judge;
+use ngc_certificate_text::{CertificateFault, CertificateLines, Told};
+use std::alloc::Allocator;
+
+/// The lines of a certificate's text, and what is known of the certificate so far; or why the program is refused.
+#[derive(Drop)]
+pub struct JudgedLines<A: Allocator> {
+    pub lines: CertificateLines,
+    pub judge: Result<Judge<A>, CheckFault>,
+}
+
+fn take_line<A: Allocator>(judge: &mut Result<Judge<A>, CheckFault>, told: &Told)
+    requires { IfOk judge.old (λ v. MayJudge told.now v) }
+    ensures verdict { (r : Rest) → Fits told.now r → judged_by judge.old (onto told.now r) ≡ judged_by judge.new r }
+    ensures kept { kept_by judge.new ≡ kept_by judge.old }
+    ensures at { (e : Expected) → IsNext e told.now → ((v : JudgeData) → judge.old ≡ Ok v → IsAt e v) → (v : JudgeData) → judge.new ≡ Ok v → IsAt (behind_told told.now) v }
+{
+    if let Ok(judge) = judge {
+        judge.take(told);
+    }
+}
+
+impl<A: Allocator> JudgedLines<A> {
+    /// More bytes of the text.
+    pub(crate) fn feed(&mut self, bytes: &[u8]) -> Result<(), CertificateFault>
+        requires { IsJudged self.old }
+        ensures step { (lines : List ℕ → List (List ℕ)) → PartsLines lines → (rest : List ℕ) → StepGives result (judged self.old lines (bytes.now ++ rest)) (judged self.new lines rest) }
+        ensures reading { OnOk result (IsJudged self.new) }
+        ensures kept { kept_by self.new.judge ≡ kept_by self.old.judge }
+        ensures room { OnOk result (room_of self.new.lines + length bytes.now ≤ room_of self.old.lines) }
+        ensures memory { result ≢ Err CertificateFault.Memory }
+        ensures device { result ≢ Err CertificateFault.ReadFailed }
+    {
+        let mut rest = bytes;
+        'lines: loop {
+            match self.lines.next(rest) {
+                Ok(Some((told, behind))) => {
+                    take_line(&mut self.judge, &told);
+                    rest = behind;
+                }
+                Ok(None) => return Ok(()),
+                Err(fault) => return Err(fault),
+            }
+        }
+    }
+
+    /// What is answered, where no byte comes any more.
+    pub(crate) fn finish(self) -> Result<Accepted<A>, CheckReadFault>
+        requires { IsJudged self }
+        ensures { GivesVerdict (λ a. a) (kept_by self.judge) result (judged self lines_of []) }
+    {
+        let JudgedLines { lines, judge } = self;
+        match lines.finish() {
+            Ok(()) => match judge {
+                Ok(judge) => match judge.finish() {
+                    Ok(accepted) => Ok(accepted),
+                    Err(fault) => Err(CheckReadFault::Check(fault)),
+                },
+                Err(fault) => Err(CheckReadFault::Check(fault)),
+            },
+            Err(fault) => Err(CheckReadFault::Certificate(fault)),
+        }
+    }
+}

@@ -1,0 +1,162 @@
+//! The check of a setting of block delete, as the motions of a certificate come.
+ghost use Rattle.std.specs.Prelude.{◌≡◌, ◌+◌, ◌-◌, ◌<◌, ◌≤◌, ◌∷◌, [], length, drop, List, MatchOption, Option, Some, None, IfSome};
+ghost use Rattle.ngc_machine.specs.Machine.{MachineFile, file_of};
+ghost use Rattle.ngc_canonical.specs.State.{COMMAND_LIMIT};
+ghost use Rattle.ngc_certificate_text.specs.Certificate.{PIECE_LIMIT};
+ghost use Rattle.ngc_checker.specs.FirstRefusal.{setting_fault, start_fault};
+ghost use Rattle.ngc_checker.specs.Walking.{fault_left};
+ghost use Rattle.ngc_checker.specs.Following.{IsFollowing};
+
+use crate::command_walk::CommandWalk;
+use crate::fault::CheckFault;
+use crate::setting::start_fault;
+use ngc_canonical::Command;
+use ngc_certificate::{Piece, PieceJudge, Setting};
+use ngc_certificate_text::BegunMotion;
+use ngc_machine::Machine;
+use std::alloc::Allocator;
+
+/// What is known of a setting so far.
+#[derive(Drop)]
+pub struct SettingJudge {
+    /// The way through its commands.
+    pub walk: CommandWalk,
+    /// Where the motions of program and certificate differ first.
+    pub differs: Option<u32>,
+    /// The judge of the motion that has begun, where its pieces still matter.
+    pub following: Option<PieceJudge>,
+}
+
+impl SettingJudge {
+    ghost use Rattle.ngc_canonical.specs.declared.command.Command.{Command};
+    ghost use Rattle.ngc_certificate_text.specs.declared.piece.Piece.{Piece};
+    ghost use Rattle.ngc_certificate_text.specs.Certificate.{Entry};
+    ghost use Rattle.ngc_certificate_text.specs.declared.piece.Setting.{Setting};
+
+    /// No motion of the setting has come yet.
+    pub(crate) fn new<A: Allocator>(machine: &Machine<A>) -> SettingJudge
+        ensures begins { (setting : Setting) (commands : List Command) (entries : List Entry) → setting_fault (file_of machine.now) setting commands entries ≡ fault_left (file_of machine.now) setting commands result [] entries }
+        ensures none { result.following ≡ None }
+        ensures index { result.walk.index ≡ 0 }
+    {
+        SettingJudge {
+            walk: CommandWalk::new(machine.start),
+            differs: None,
+            following: None,
+        }
+    }
+
+    // The program's next motion is to be this one.
+    fn compare<A: Allocator>(
+        &mut self,
+        machine: &Machine<A>,
+        setting: Setting,
+        commands: &[Command],
+        begun: &BegunMotion,
+    )
+        requires count { length commands.now ≤ COMMAND_LIMIT }
+        requires index { self.old.walk.index ≤ length commands.now }
+        requires none { self.old.following ≡ None }
+        requires going { self.old.differs ≡ None }
+        requires some { 1 ≤ begun.now.pieces_left }
+        requires few { begun.now.pieces_left ≤ PIECE_LIMIT }
+        ensures index { self.new.walk.index ≤ length commands.now }
+        ensures following { IsFollowing (file_of machine.now) self.new.following begun.now.pieces_left }
+        ensures left { (pieces : List Piece) (entries : List Entry) → length pieces ≡ begun.now.pieces_left → fault_left (file_of machine.now) setting commands.now self.old [] (record { index = begun.now.index; pieces = pieces } ∷ entries) ≡ fault_left (file_of machine.now) setting commands.now self.new pieces entries }
+    {
+        let ahead = &commands[self.walk.index as usize..];
+        match self.walk.next_motion(machine, setting, ahead) {
+            Some(motion) if motion.index == begun.index => {
+                self.following = Some(PieceJudge::new(
+                    machine,
+                    self.walk.tool,
+                    &motion.way,
+                    begun.pieces_left > 1,
+                ));
+            }
+            Some(motion) => self.differs = Some(motion.index.min(begun.index)),
+            None => self.differs = Some(begun.index),
+        }
+    }
+
+    /// A motion of the certificate, all of whose pieces come yet.
+    pub(crate) fn motion<A: Allocator>(
+        &mut self,
+        machine: &Machine<A>,
+        setting: Setting,
+        commands: &[Command],
+        begun: &BegunMotion,
+    )
+        requires count { length commands.now ≤ COMMAND_LIMIT }
+        requires index { self.old.walk.index ≤ length commands.now }
+        requires none { self.old.following ≡ None }
+        requires some { 1 ≤ begun.now.pieces_left }
+        requires few { begun.now.pieces_left ≤ PIECE_LIMIT }
+        ensures index { self.new.walk.index ≤ length commands.now }
+        ensures following { IsFollowing (file_of machine.now) self.new.following begun.now.pieces_left }
+        ensures left { (pieces : List Piece) (entries : List Entry) → length pieces ≡ begun.now.pieces_left → fault_left (file_of machine.now) setting commands.now self.old [] (record { index = begun.now.index; pieces = pieces } ∷ entries) ≡ fault_left (file_of machine.now) setting commands.now self.new pieces entries }
+    {
+        if self.differs.is_none() {
+            self.compare(machine, setting, commands, begun);
+        }
+    }
+
+    /// A piece of the motion that has begun; so many came yet, this one among them.
+    pub(crate) fn piece<A: Allocator>(
+        &mut self,
+        machine: &Machine<A>,
+        setting: Setting,
+        left: u32,
+        piece: &Piece,
+    )
+        requires following { IsFollowing (file_of machine.now) self.old.following left }
+        requires some { 1 ≤ left }
+        ensures index { self.new.walk.index ≡ self.old.walk.index }
+        ensures following { IsFollowing (file_of machine.now) self.new.following (left - 1) }
+        ensures last { left ≡ 1 → self.new.following ≡ None }
+        ensures left { (commands : List Command) (pieces : List Piece) (entries : List Entry) → length pieces + 1 ≡ left → fault_left (file_of machine.now) setting commands self.old (piece.now ∷ pieces) entries ≡ fault_left (file_of machine.now) setting commands self.new pieces entries }
+    {
+        let last = left <= 1;
+        let command = self.walk.index.saturating_sub(1);
+        if let Some(judge) = &mut self.following {
+            if let Some(refusal) = judge.next(machine, piece, last) {
+                self.walk.refuse(CheckFault::Piece {
+                    setting,
+                    command,
+                    piece: refusal.piece,
+                    fault: refusal.fault,
+                });
+            }
+        }
+        if last {
+            self.following = None;
+        }
+    }
+
+    /// The first refusal of the setting, where no motion comes any more.
+    pub(crate) fn finish<A: Allocator>(
+        &mut self,
+        machine: &Machine<A>,
+        setting: Setting,
+        commands: &[Command],
+    ) -> Option<CheckFault>
+        requires count { length commands.now ≤ COMMAND_LIMIT }
+        requires index { self.old.walk.index ≤ length commands.now }
+        requires none { self.old.following ≡ None }
+        ensures { result ≡ fault_left (file_of machine.now) setting commands.now self.old [] [] }
+    {
+        if self.differs.is_none() {
+            let ahead = &commands[self.walk.index as usize..];
+            if let Some(motion) = self.walk.next_motion(machine, setting, ahead) {
+                self.differs = Some(motion.index);
+            }
+        }
+        if let Some(command) = self.differs {
+            return Some(CheckFault::MotionsDiffer { setting, command });
+        }
+        match start_fault(machine) {
+            Some(fault) => Some(fault),
+            None => self.walk.refusal,
+        }
+    }
+}
