@@ -1,6 +1,8 @@
-//! Tests of certificates, of their checker, and of the log of what is run.
+//! Tests of certificates, of their checker, and of the log and the pulses of what is run.
 #![tactic(auto)]
 
+#[cfg(test)]
+mod checked_pieces;
 #[cfg(test)]
 mod checking;
 #[cfg(test)]
@@ -13,6 +15,8 @@ mod given;
 mod making;
 #[cfg(test)]
 mod pieces;
+#[cfg(test)]
+mod pulses;
 #[cfg(test)]
 mod reading;
 #[cfg(test)]

@@ -5,7 +5,7 @@ use ngc_checker::{Accepted, check};
 use ngc_events::read_events;
 use ngc_fixed_length::Device;
 use ngc_line_reader::Program;
-use ngc_machine::{Tools, row_machine};
+use ngc_machine::{Machine, Tools, row_machine};
 use ngc_run_log::{run, run_through};
 use std::alloc::Global;
 use std::test::Fail;
@@ -13,12 +13,21 @@ use std::test::Fail;
 // A program without deleted lines, on the row machine.
 fn accepted(alloc: Global, program: &str) -> Result<Accepted<Global>, Fail> {
     let machine = row_machine(alloc);
+    accepted_on(alloc, &machine, program)
+}
+
+// A program without deleted lines.
+pub(crate) fn accepted_on(
+    alloc: Global,
+    machine: &Machine<Global>,
+    program: &str,
+) -> Result<Accepted<Global>, Fail> {
     let tools = Tools::empty(alloc);
     let program = Program::read(alloc, &mut Device::new(program.as_bytes()))?;
-    let commands = interpret(alloc, &program, &machine, &tools, false)?;
+    let commands = interpret(alloc, &program, machine, &tools, false)?;
     let commands = commands.as_slice();
-    let certificate = make(alloc, commands, commands, &machine, 8)?;
-    Ok(check(alloc, &program, &machine, &tools, &certificate)?)
+    let certificate = make(alloc, commands, commands, machine, 8)?;
+    Ok(check(alloc, &program, machine, &tools, &certificate)?)
 }
 
 fn log_of(alloc: Global, program: &str, events: &str) -> Result<Vec<u8>, Fail> {

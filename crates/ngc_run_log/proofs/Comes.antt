@@ -1,6 +1,6 @@
 -- What a run comes to, from what is recorded of it.
 use Rattle.std.proofs.Common.{◌≡◌, ◌≤◌, ℕ, List, [], ◌++◌, length, take, Option, Bool, Result, Ok, Err, IfOk, OnOk, ap, sym, subst, ◌∙◌, arith}
-use Rattle.std.proofs.lemmas.List.{append-nil, take_all}
+use Rattle.std.proofs.lemmas.List.{append_assoc, append-nil, take_all}
 use Rattle.std.specs.Io.KnownBytes.{Appends}
 use Rattle.ngc_fixed_length.specs.Written.{AppendsBeginning}
 use Rattle.ngc_fixed_length.specs.declared.points.StepPos.{StepPos}
@@ -17,29 +17,38 @@ use Rattle.ngc_behaviour.proofs.Headline.{accepted_runs_safely}
 use Rattle.ngc_behaviour.proofs.EndsInTime.{machines_run_in_time}
 use Rattle.ngc_run_log.specs.declared.report.Report.{Report}
 use Rattle.ngc_run_log.specs.declared.recorder.Recorder.{Recorder}
-use Rattle.ngc_run_log.specs.Log.{log}
-use Rattle.ngc_run_log.specs.Runs.{last_position, IsRun, Reports, IsLoggedRun, IsBrokenRun}
-use Rattle.ngc_run_log.specs.Recording.{Stretch, Counts, AreAtMost, Collects, IsRecorded, IsCutShort}
+use Rattle.ngc_run_log.specs.declared.trace.Trace.{Trace}
+use Rattle.ngc_run_log.specs.Tracing.{opening_text, trace_text, trace_after, ticks_of, last_text, whole_text}
+use Rattle.ngc_run_log.specs.Forms.{IsTracedRun, IsUntracedRun}
+use Rattle.ngc_run_log.specs.Runs.{last_position, IsRun, Reports}
+use Rattle.ngc_run_log.specs.Recording.{Stretch, Counts, HasFew, Records, IsRecorded, IsCutShort}
 
 -- nothing was given yet: the machine stands in this state, and the recorder is new
-pub record AreNew (job : Job) (state : State) (recorder : Recorder) : Type 0 where
+pub record AreNew (first : Trace) (job : Job) (state : State) (recorder : Recorder) : Type 0 where
   pub opens : state ≡ opening job.machine
   pub report : recorder.report ≡ record { ticks = 0; path_steps = 0; refused = 0; position = state.position }
-  pub chunk : recorder.chunk ≡ []
+  pub trace : recorder.trace ≡ first
+  pub begins : ticks_of first ≡ 0
+  pub chunk : recorder.chunk ≡ opening_text first
 
-pub new_recorder : (job : Job) (state : State) (a : Recorder) (position : StepPos) → state ≡ opening job.machine → position ≡ state.position
-    → a.report ≡ record { ticks = 0; path_steps = 0; refused = 0; position = position } → a.chunk ≡ [] → AreNew job state a
-new_recorder job state a position opens stands report chunk = record {
+pub new_recorder : (trace : Trace) (job : Job) (state : State) (a : Recorder) (position : StepPos) → state ≡ opening job.machine → position ≡ state.position
+    → a.report ≡ record { ticks = 0; path_steps = 0; refused = 0; position = position } → a.trace ≡ trace → ticks_of trace ≡ 0 → a.chunk ≡ opening_text trace → AreNew trace job state a
+new_recorder trace job state a position opens stands report same begins chunk = record {
   opens = opens;
   report = report ∙ ap (λ (p : StepPos). record { ticks = 0; path_steps = 0; refused = 0; position = p }) stands;
+  trace = same;
+  begins = begins;
   chunk = chunk;
 }
 
-pub none_counted : (job : Job) (state : State) (a : Recorder) (n : ℕ) → AreNew job state a → AreAtMost n a.report
-none_counted job state a n new = record {
-  ticks = omega (arith, ap (λ (r : Report). r.ticks) new.report);
-  path_steps = omega (arith, ap (λ (r : Report). r.path_steps) new.report);
-  refused = omega (arith, ap (λ (r : Report). r.refused) new.report);
+pub none_counted : (trace : Trace) (job : Job) (state : State) (a : Recorder) (n : ℕ) → AreNew trace job state a → HasFew n a
+none_counted trace job state a n new = record {
+  report = record {
+    ticks = omega (arith, ap (λ (r : Report). r.ticks) new.report);
+    path_steps = omega (arith, ap (λ (r : Report). r.path_steps) new.report);
+    refused = omega (arith, ap (λ (r : Report). r.refused) new.report);
+  };
+  ticks = omega (arith, ap ticks_of new.trace, new.begins);
 }
 
 is_run : (job : Job) (s t : State) (events : List Event) (outcomes : List Outcome) → RunsSafely job → RunsInTime job → s ≡ opening job.machine → Stretch job s t events outcomes → IsRun job events outcomes
@@ -56,8 +65,8 @@ is_run job s t events outcomes safe in_time opens stretch =
       in_time = in_time events outcomes stretch.states runs goes_on;
     }
 
-pub reports : (job : Job) (s : State) (a b : Recorder) (events : List Event) (outcomes : List Outcome) → AreNew job s a → Counts events outcomes a.report b.report → Reports job events outcomes b.report
-reports job s a b events outcomes new counts =
+pub reports : (trace : Trace) (job : Job) (s : State) (a b : Recorder) (events : List Event) (outcomes : List Outcome) → AreNew trace job s a → Counts events outcomes a.report b.report → Reports job events outcomes b.report
+reports trace job s a b events outcomes new counts =
     let place : a.report.position ≡ (opening job.machine).position = ap (λ (r : Report). r.position) new.report ∙ ap (λ (x : State). x.position) new.opens in
     record {
       ticks = omega (arith, counts.ticks, ap (λ (r : Report). r.ticks) new.report);
@@ -66,26 +75,60 @@ reports job s a b events outcomes new counts =
       position = counts.position ∙ ap (λ p. last_position p (positions outcomes)) place;
     }
 
--- the log is what was written and what is still collected
-pub log_is : (job : Job) (s : State) (a b : Recorder) (x y : Option (List ℕ)) (outcomes : List Outcome) → AreNew job s a → (k : Collects x y a.chunk (log outcomes) b.chunk) → k.front ++ b.chunk ≡ log outcomes
-log_is job s a b x y outcomes new k = sym k.splits ∙ ap (λ l. l ++ log outcomes) new.chunk
+-- what was written and what is still collected is the text before the last
+text_is : (trace : Trace) (job : Job) (s : State) (a b : Recorder) (x y : Option (List ℕ)) (events : List Event) (outcomes : List Outcome) → AreNew trace job s a → (r : Records events outcomes a b x y) →
+    r.collects.front ++ (b.chunk ++ last_text b.trace) ≡ whole_text trace outcomes
+text_is trace job s a b x y events outcomes new r =
+    let after : b.trace ≡ trace_after trace outcomes = r.trace ∙ ap (λ t. trace_after t outcomes) new.trace in
+    let opened : a.chunk ++ trace_text a.trace outcomes ≡ opening_text trace ++ trace_text trace outcomes = ap (λ l. l ++ trace_text a.trace outcomes) new.chunk ∙ ap (λ t. opening_text trace ++ trace_text t outcomes) new.trace in
+    sym (append_assoc r.collects.front b.chunk (last_text b.trace))
+    ∙ ap (λ l. l ++ last_text b.trace) (sym r.collects.splits ∙ opened)
+    ∙ ap (λ t. (opening_text trace ++ trace_text trace outcomes) ++ last_text t) after
+    ∙ append_assoc (opening_text trace) (trace_text trace outcomes) (last_text (trace_after trace outcomes))
+
+-- all was written, and the last text
+pub all_written : (trace : Trace) (job : Job) (s : State) (a b : Recorder) (x y z : Option (List ℕ)) (events : List Event) (outcomes : List Outcome) → AreNew trace job s a → Records events outcomes a b x y →
+    Appends y z (b.chunk ++ last_text b.trace) → Appends x z (whole_text trace outcomes)
+all_written trace job s a b x y z events outcomes new r wrote =
+    let P : List ℕ → Type 0 = λ text. Appends x z text in
+    subst P (text_is trace job s a b x y events outcomes new r) (appends_both x y z r.collects.front (b.chunk ++ last_text b.trace) r.collects.writes wrote)
+
+-- then a write failed
+pub all_begun : (trace : Trace) (job : Job) (s : State) (a b : Recorder) (x y z : Option (List ℕ)) (events : List Event) (outcomes : List Outcome) → AreNew trace job s a → Records events outcomes a b x y →
+    AppendsBeginning y z (b.chunk ++ last_text b.trace) → AppendsBeginning x z (whole_text trace outcomes)
+all_begun trace job s a b x y z events outcomes new r wrote =
+    let P : List ℕ → Type 0 = λ text. AppendsBeginning x z text in
+    let rest : List ℕ = b.chunk ++ last_text b.trace in
+    let text : r.collects.front ++ (rest ++ []) ≡ whole_text trace outcomes = ap (λ l. r.collects.front ++ l) (append-nil rest) ∙ text_is trace job s a b x y events outcomes new r in
+    subst P text (begins_after x y z r.collects.front rest [] r.collects.writes wrote)
+
+-- a write failed before the last text was added
+pub some_begun : (trace : Trace) (job : Job) (s : State) (a : Recorder) (x z : Option (List ℕ)) (outcomes : List Outcome) → AreNew trace job s a →
+    AppendsBeginning x z (a.chunk ++ trace_text a.trace outcomes) → AppendsBeginning x z (whole_text trace outcomes)
+some_begun trace job s a x z outcomes new wrote =
+    let end : List ℕ = last_text (trace_after trace outcomes) in
+    let opened : a.chunk ++ trace_text a.trace outcomes ≡ opening_text trace ++ trace_text trace outcomes = ap (λ l. l ++ trace_text a.trace outcomes) new.chunk ∙ ap (λ t. opening_text trace ++ trace_text t outcomes) new.trace in (
+      wrote.0,
+      wrote.1 ++ end,
+      sym (append_assoc (opening_text trace) (trace_text trace outcomes) end) ∙ ap (λ l. l ++ end) (sym opened ∙ wrote.2) ∙ append_assoc wrote.0 wrote.1 end,
+      wrote.3,
+    )
 
 all_taken : (lines : List EventLine) (i : ℕ) → length lines ≤ i → events_of (take i lines) ≡ events_of lines
 all_taken lines i h = ap events_of (take_all i lines h)
 
 -- all is written
-pub run_logged : (job : Job) (s t : State) (a b : Recorder) (x y z : Option (List ℕ)) (lines : List EventLine) (i : ℕ) (report : Report) → AreNew job s a → RunsSafely job → RunsInTime job → length lines ≤ i
-    → IsRecorded job s t a b x y (events_of (take i lines)) → Appends y z b.chunk → report ≡ b.report → IsLoggedRun job lines x z report
-run_logged job s t a b x y z lines i report new safe in_time h done wrote same =
+pub run_traced : (trace : Trace) (job : Job) (s t : State) (a b : Recorder) (x y z : Option (List ℕ)) (lines : List EventLine) (i : ℕ) (report : Report) → AreNew trace job s a → RunsSafely job → RunsInTime job → length lines ≤ i
+    → IsRecorded job s t a b x y (events_of (take i lines)) → Appends y z (b.chunk ++ last_text b.trace) → report ≡ b.report → IsTracedRun trace job lines x z report
+run_traced trace job s t a b x y z lines i report new safe in_time h done wrote same =
     let E : List Event → Type 0 = λ es. IsRecorded job s t a b x y es in
     let whole : IsRecorded job s t a b x y (events_of lines) = subst E (all_taken lines i h) done in
-    let P : List ℕ → Type 0 = λ text. Appends x z text in
     let R : Report → Type 0 = λ r. Reports job (events_of lines) whole.outcomes r in
     record {
       outcomes = whole.outcomes;
       run = is_run job s t (events_of lines) whole.outcomes safe in_time new.opens whole.stretch;
-      logged = subst P (log_is job s a b x y whole.outcomes new whole.collects) (appends_both x y z whole.collects.front b.chunk whole.collects.writes wrote);
-      reports = subst R (sym same) (reports job s a b (events_of lines) whole.outcomes new whole.counts);
+      written = all_written trace job s a b x y z (events_of lines) whole.outcomes new whole.records wrote;
+      reports = subst R (sym same) (reports trace job s a b (events_of lines) whole.outcomes new whole.records.counts);
     }
 
 -- two facts of an answer
@@ -94,35 +137,31 @@ if_ok_both P R (Ok x) p q f = f x p q
 if_ok_both P R (Err e) p q f = tt
 
 -- all events were given, and then a write failed
-pub run_broken : (job : Job) (s t : State) (a b : Recorder) (x y z : Option (List ℕ)) (lines : List EventLine) (i : ℕ) → AreNew job s a → RunsSafely job → RunsInTime job → length lines ≤ i
-    → IsRecorded job s t a b x y (events_of (take i lines)) → AppendsBeginning y z b.chunk → IsBrokenRun job lines x z
-run_broken job s t a b x y z lines i new safe in_time h done wrote =
+pub run_untraced : (trace : Trace) (job : Job) (s t : State) (a b : Recorder) (x y z : Option (List ℕ)) (lines : List EventLine) (i : ℕ) → AreNew trace job s a → RunsSafely job → RunsInTime job → length lines ≤ i
+    → IsRecorded job s t a b x y (events_of (take i lines)) → AppendsBeginning y z (b.chunk ++ last_text b.trace) → IsUntracedRun trace job lines x z
+run_untraced trace job s t a b x y z lines i new safe in_time h done wrote =
     let E : List Event → Type 0 = λ es. IsRecorded job s t a b x y es in
     let whole : IsRecorded job s t a b x y (events_of lines) = subst E (all_taken lines i h) done in
-    let front : List ℕ = whole.collects.front in
-    let P : List ℕ → Type 0 = λ text. AppendsBeginning x z text in
-    let text : front ++ (b.chunk ++ []) ≡ log whole.outcomes = ap (λ l. front ++ l) (append-nil b.chunk) ∙ log_is job s a b x y whole.outcomes new whole.collects in
     record {
       given = events_of lines;
       left = [];
       are_first = sym (append-nil (events_of lines));
       outcomes = whole.outcomes;
       run = is_run job s t (events_of lines) whole.outcomes safe in_time new.opens whole.stretch;
-      logged = subst P text (begins_after x y z front b.chunk [] whole.collects.writes wrote);
+      written = all_begun trace job s a b x y z (events_of lines) whole.outcomes new whole.records wrote;
     }
 
 -- a write failed before all events were given
-pub run_cut : (job : Job) (s : State) (a : Recorder) (x z : Option (List ℕ)) (lines : List EventLine) → AreNew job s a → RunsSafely job → RunsInTime job → IsCutShort job s a x z (events_of lines) → IsBrokenRun job lines x z
-run_cut job s a x z lines new safe in_time cut =
-    let P : List ℕ → Type 0 = λ chunk. AppendsBeginning x z (chunk ++ log cut.outcomes) in
-    record {
-      given = cut.given;
-      left = cut.left;
-      are_first = cut.are_first;
-      outcomes = cut.outcomes;
-      run = is_run job s cut.reached cut.given cut.outcomes safe in_time new.opens cut.stretch;
-      logged = subst P new.chunk cut.logged;
-    }
+pub run_cut : (trace : Trace) (job : Job) (s : State) (a : Recorder) (x z : Option (List ℕ)) (lines : List EventLine) → AreNew trace job s a → RunsSafely job → RunsInTime job → IsCutShort job s a x z (events_of lines) →
+    IsUntracedRun trace job lines x z
+run_cut trace job s a x z lines new safe in_time cut = record {
+  given = cut.given;
+  left = cut.left;
+  are_first = cut.are_first;
+  outcomes = cut.outcomes;
+  run = is_run job s cut.reached cut.given cut.outcomes safe in_time new.opens cut.stretch;
+  written = some_begun trace job s a x z cut.outcomes new cut.begun;
+}
 
 pub safe_of : (a : AcceptedData) (block_delete : Bool) (job : Job) → IsAccepted a → job ≡ job_of a.machine (commands_at block_delete a) → RunsSafely job
 safe_of a block_delete job ok same = subst RunsSafely (sym same) (accepted_runs_safely a ok block_delete)
@@ -132,9 +171,3 @@ in_time_of a block_delete job ok same = subst RunsInTime (sym same) (machines_ru
 
 pub opens_of : (a : AcceptedData) (block_delete : Bool) (job : Job) (state : State) → job ≡ job_of a.machine (commands_at block_delete a) → state ≡ opening a.machine → state ≡ opening job.machine
 opens_of a block_delete job state same opens = opens ∙ ap (λ (j : Job). opening j.machine) (sym same)
-
-pub logged_as : (job asked : Job) (lines : List EventLine) (x y : Option (List ℕ)) (report : Report) → job ≡ asked → IsLoggedRun job lines x y report → IsLoggedRun asked lines x y report
-logged_as job asked lines x y report same = subst (λ (j : Job). IsLoggedRun j lines x y report) same
-
-pub broken_as : (job asked : Job) (lines : List EventLine) (x y : Option (List ℕ)) → job ≡ asked → IsBrokenRun job lines x y → IsBrokenRun asked lines x y
-broken_as job asked lines x y same = subst (λ (j : Job). IsBrokenRun j lines x y) same

@@ -15,9 +15,11 @@ use Rattle.ngc_behaviour.specs.Run.{Run, positions, position_in}
 use Rattle.ngc_behaviour.specs.Progress.{KeepGoing, GoesOn, is_tick}
 use Rattle.ngc_run_log.specs.declared.report.Report.{Report}
 use Rattle.ngc_run_log.specs.declared.recorder.Recorder.{Recorder}
-use Rattle.ngc_run_log.specs.Log.{log, text_of}
+use Rattle.ngc_run_log.specs.Tracing.{trace_text, trace_after, ticks_of}
 use Rattle.ngc_run_log.specs.Runs.{is_refusal, last_position}
-use Rattle.ngc_run_log.specs.Recording.{last_state, Stretch, Counts, AreAtMost, Collects, IsRecorded, IsCutShort}
+use Rattle.ngc_run_log.specs.declared.trace.Trace.{Trace}
+use Rattle.ngc_run_log.specs.Recording.{last_state, Stretch, Counts, HasFew, Collects, Records, IsRecorded, IsCutShort}
+use Rattle.ngc_run_log.proofs.Traces.{trace_text-append, trace_after-append, trace_text-none, trace_after-none, few_ticks}
 
 -- ---- lists
 
@@ -105,24 +107,53 @@ begun_after a b c x y s t p q =
     ap (λ l. p.front ++ l) (append-nil (y ++ t)) ∙ sym (append_assoc p.front y t) ∙ ap (λ l. l ++ t) (sym p.splits) ∙ append_assoc x s t in
     subst P whole (begins_after a b c p.front (y ++ t) [] p.writes q)
 
+-- ---- what is recorded
+
+pub records_joined : (es fs : List Event) (os ps : List Outcome) (a b c : Recorder) (x y z : Option (List ℕ)) → Records es os a b x y → Records fs ps b c y z → Records (es ++ fs) (os ++ ps) a c x z
+records_joined es fs os ps a b c x y z p q =
+    let C : List ℕ → Type 0 = λ text. Collects x z a.chunk text c.chunk in
+    let T : Trace → Type 0 = λ t. Collects y z b.chunk (trace_text t ps) c.chunk in
+    record {
+      counts = counts_joined es fs os ps a.report b.report c.report p.counts q.counts;
+      trace = q.trace ∙ ap (λ t. trace_after t ps) p.trace ∙ sym (trace_after-append a.trace os ps);
+      collects =
+          subst C (sym (trace_text-append a.trace os ps))
+          (collected_both x y z a.chunk b.chunk c.chunk (trace_text a.trace os) (trace_text (trace_after a.trace os) ps) p.collects (subst T p.trace q.collects));
+    }
+
+pub begun_behind : (es : List Event) (os ps : List Outcome) (a b : Recorder) (x y z : Option (List ℕ)) → Records es os a b x y →
+    AppendsBeginning y z (b.chunk ++ trace_text b.trace ps) → AppendsBeginning x z (a.chunk ++ trace_text a.trace (os ++ ps))
+begun_behind es os ps a b x y z p q =
+    let P : List ℕ → Type 0 = λ text. AppendsBeginning x z (a.chunk ++ text) in
+    let T : Trace → Type 0 = λ t. AppendsBeginning y z (b.chunk ++ trace_text t ps) in
+    subst P (sym (trace_text-append a.trace os ps))
+    (begun_after x y z a.chunk b.chunk (trace_text a.trace os) (trace_text (trace_after a.trace os) ps) p.collects (subst T p.trace q))
+
+pub none_recorded : (a : Recorder) (x : Option (List ℕ)) → Records [] [] a a x x
+none_recorded a x = record {
+  counts = record { ticks = omega arith; path_steps = omega arith; refused = omega arith; position = refl };
+  trace = sym (trace_after-none a.trace);
+  collects = record { front = []; writes = Appends-nil x; splits = ap (λ l. a.chunk ++ l) (trace_text-none a.trace) ∙ append-nil a.chunk };
+}
+
+-- a beginning of a text begins a longer one
+pub begun_more : (x y : Option (List ℕ)) (text more : List ℕ) → AppendsBeginning x y text → AppendsBeginning x y (text ++ more)
+begun_more x y text more wrote = (wrote.0, wrote.1 ++ more, ap (λ l. l ++ more) wrote.2 ∙ append_assoc wrote.0 wrote.1 more, wrote.3)
+
 -- ---- stretches, recorded
 
 pub recorded_both : (job : Job) (s t u : State) (a b c : Recorder) (x y z : Option (List ℕ)) (es fs : List Event)
     → IsRecorded job s t a b x y es → IsRecorded job t u b c y z fs → IsRecorded job s u a c x z (es ++ fs)
-recorded_both job s t u a b c x y z es fs p q =
-    let C : List ℕ → Type 0 = λ text. Collects x z a.chunk text c.chunk in
-    record {
-      outcomes = p.outcomes ++ q.outcomes;
-      stretch = stretches_joined job s t u es fs p.outcomes q.outcomes p.stretch q.stretch;
-      counts = counts_joined es fs p.outcomes q.outcomes a.report b.report c.report p.counts q.counts;
-      collects = subst C (sym (flat_map-append text_of p.outcomes q.outcomes)) (collected_both x y z a.chunk b.chunk c.chunk (log p.outcomes) (log q.outcomes) p.collects q.collects);
-    }
+recorded_both job s t u a b c x y z es fs p q = record {
+  outcomes = p.outcomes ++ q.outcomes;
+  stretch = stretches_joined job s t u es fs p.outcomes q.outcomes p.stretch q.stretch;
+  records = records_joined es fs p.outcomes q.outcomes a b c x y z p.records q.records;
+}
 
 -- and then the first of the events that follow
 pub cut_after : (job : Job) (s t : State) (a b : Recorder) (x y z : Option (List ℕ)) (es fs more : List Event)
     → IsRecorded job s t a b x y es → IsCutShort job t b y z fs → IsCutShort job s a x z (es ++ (fs ++ more))
 cut_after job s t a b x y z es fs more p q =
-    let P : List ℕ → Type 0 = λ text. AppendsBeginning x z (a.chunk ++ text) in
     let rest : fs ++ more ≡ q.given ++ (q.left ++ more) = ap (λ l. l ++ more) q.are_first ∙ append_assoc q.given q.left more in
     record {
       given = es ++ q.given;
@@ -131,7 +162,7 @@ cut_after job s t a b x y z es fs more p q =
       outcomes = p.outcomes ++ q.outcomes;
       reached = q.reached;
       stretch = stretches_joined job s t q.reached es q.given p.outcomes q.outcomes p.stretch q.stretch;
-      logged = subst P (sym (flat_map-append text_of p.outcomes q.outcomes)) (begun_after x y z a.chunk b.chunk (log p.outcomes) (log q.outcomes) p.collects q.logged);
+      begun = begun_behind es p.outcomes q.outcomes a b x y z p.records q.begun;
     }
 
 -- nothing is given yet
@@ -139,8 +170,7 @@ pub nothing_recorded : (job : Job) (s : State) (a : Recorder) (x : Option (List 
 nothing_recorded job s a x = record {
   outcomes = [];
   stretch = record { states = []; runs = tt; goes_on = tt; last = refl };
-  counts = record { ticks = omega arith; path_steps = omega arith; refused = omega arith; position = refl };
-  collects = record { front = []; writes = Appends-nil x; splits = append-nil a.chunk };
+  records = none_recorded a x;
 }
 
 pub one_step : (job : Job) (s t : State) (e : Event) (o : Outcome) → Step job s e o t → GoesOn job s e t → Stretch job s t (e ∷ []) (o ∷ [])
@@ -148,15 +178,8 @@ one_step job s t e o does goes = record { states = t ∷ []; runs = (does, tt); 
 
 -- one event
 pub one_recorded : (job : Job) (s t : State) (a b : Recorder) (x y : Option (List ℕ)) (e : Event) (o : Outcome) → Step job s e o t → GoesOn job s e t
-    → Counts (e ∷ []) (o ∷ []) a.report b.report → Collects x y a.chunk (text_of o) b.chunk → IsRecorded job s t a b x y (e ∷ [])
-one_recorded job s t a b x y e o does goes counted collected =
-    let C : List ℕ → Type 0 = λ text. Collects x y a.chunk text b.chunk in
-    record {
-      outcomes = o ∷ [];
-      stretch = one_step job s t e o does goes;
-      counts = counted;
-      collects = subst C (sym (append-nil (text_of o))) collected;
-    }
+    → Records (e ∷ []) (o ∷ []) a b x y → IsRecorded job s t a b x y (e ∷ [])
+one_recorded job s t a b x y e o does goes recorded = record { outcomes = o ∷ []; stretch = one_step job s t e o does goes; records = recorded }
 
 -- one event, whose text can't be collected
 pub one_cut : (job : Job) (s t : State) (a : Recorder) (x y : Option (List ℕ)) (e : Event) (o : Outcome) → Step job s e o t → GoesOn job s e t
@@ -168,7 +191,7 @@ one_cut job s t a x y e o does goes wrote = record {
   outcomes = o ∷ [];
   reached = t;
   stretch = one_step job s t e o does goes;
-  logged = (wrote.0, wrote.1 ++ log (o ∷ []), ap (λ l. l ++ log (o ∷ [])) wrote.2 ∙ append_assoc wrote.0 wrote.1 (log (o ∷ [])), wrote.3);
+  begun = begun_more x y a.chunk (trace_text a.trace (o ∷ [])) wrote;
 }
 
 -- ---- how large the counts are
@@ -184,12 +207,15 @@ one_position (Ok (Switched on)) = lit≤ tt
 one_position (Ok Started) = lit≤ tt
 one_position (Err e) = lit≤ tt
 
-pub few_more : (job : Job) (s t : State) (a b : Recorder) (x y : Option (List ℕ)) (es : List Event) (n m : ℕ)
-    → IsRecorded job s t a b x y es → AreAtMost n a.report → n + length es ≤ m → AreAtMost m b.report
-few_more job s t a b x y es n m p few h =
-    let lengths : length p.outcomes ≡ length es = same_lengths job s es p.outcomes p.stretch.states p.stretch.runs in
-    record {
-      ticks = omega (arith, p.counts.ticks, few.ticks, count_by-le-length is_tick es);
-      path_steps = omega (arith, p.counts.path_steps, few.path_steps, few_positions p.outcomes one_position, lengths);
-      refused = omega (arith, p.counts.refused, few.refused, count_by-le-length is_refusal p.outcomes, lengths);
-    }
+pub few_recorded : (a b : Recorder) (x y : Option (List ℕ)) (es : List Event) (os : List Outcome) (n m : ℕ) → Records es os a b x y → length os ≡ length es → HasFew n a → n + length es ≤ m → HasFew m b
+few_recorded a b x y es os n m p lengths few h = record {
+  report = record {
+    ticks = omega (arith, p.counts.ticks, few.report.ticks, count_by-le-length is_tick es);
+    path_steps = omega (arith, p.counts.path_steps, few.report.path_steps, few_positions os one_position, lengths);
+    refused = omega (arith, p.counts.refused, few.report.refused, count_by-le-length is_refusal os, lengths);
+  };
+  ticks = omega (arith, ap ticks_of p.trace, few_ticks a.trace os, few.ticks, lengths);
+}
+
+pub few_more : (job : Job) (s t : State) (a b : Recorder) (x y : Option (List ℕ)) (es : List Event) (n m : ℕ) → IsRecorded job s t a b x y es → HasFew n a → n + length es ≤ m → HasFew m b
+few_more job s t a b x y es n m p few h = few_recorded a b x y es p.outcomes n m p.records (same_lengths job s es p.outcomes p.stretch.states p.stretch.runs) few h

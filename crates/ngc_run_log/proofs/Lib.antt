@@ -1,4 +1,5 @@
 pub mod Added
+pub mod Traces
 pub mod Joined
 pub mod Turns
 pub mod Comes
@@ -6,3 +7,6 @@ pub mod Comes
 pub mod Ticks
 pub mod Untouched
 pub mod WholeRun
+-- the pulses of a run
+pub mod Leads
+pub mod Forms

@@ -10,21 +10,20 @@ use Rattle.ngc_behaviour.specs.Step.{Outcome, Step}
 use Rattle.ngc_behaviour.specs.Run.{events_of}
 use Rattle.ngc_behaviour.specs.Progress.{GoesOn}
 use Rattle.ngc_run_log.specs.declared.recorder.Recorder.{Recorder}
-use Rattle.ngc_run_log.specs.Log.{text_of}
-use Rattle.ngc_run_log.specs.Recording.{Counts, AreAtMost, Collects, IsRecorded, IsCutShort}
+use Rattle.ngc_run_log.specs.Recording.{HasFew, Records, IsRecorded, IsCutShort}
 use Rattle.ngc_run_log.proofs.Joined.{recorded_both, cut_after, one_recorded, one_cut, few_more}
 
 -- ---- one more event of a line
 
 pub turn_recorded : (job at : Job) (s t u : State) (a b c : Recorder) (x y z : Option (List ℕ)) (e : Event) (o : Outcome) (k : ℕ) → at ≡ job
-    → IsRecorded job s t a b x y (replicate k e) → Step at t e o u → GoesOn at t e u → Counts (e ∷ []) (o ∷ []) b.report c.report → Collects y z b.chunk (text_of o) c.chunk
+    → IsRecorded job s t a b x y (replicate k e) → Step at t e o u → GoesOn at t e u → Records (e ∷ []) (o ∷ []) b c y z
     → IsRecorded job s u a c x z (replicate (k + 1) e)
-turn_recorded job at s t u a b c x y z e o k same done does goes counted collected =
+turn_recorded job at s t u a b c x y z e o k same done does goes recorded =
     let S : Job → Type 0 = λ j. Step j t e o u in
     let G : Job → Type 0 = λ j. GoesOn j t e u in
     let P : List Event → Type 0 = λ es. IsRecorded job s u a c x z es in
     subst P (replicate_more k e)
-    (recorded_both job s t u a b c x y z (replicate k e) (e ∷ []) done (one_recorded job t u b c y z e o (subst S same does) (subst G same goes) counted collected))
+    (recorded_both job s t u a b c x y z (replicate k e) (e ∷ []) done (one_recorded job t u b c y z e o (subst S same does) (subst G same goes) recorded))
 
 turns_left : (e : Event) (k n : ℕ) → k < n → replicate k e ++ (replicate 1 e ++ replicate (n - k - 1) e) ≡ replicate n e
 turns_left e k n h =
@@ -41,7 +40,7 @@ turn_cut job at s t u a b x y z e o k n same h done does goes wrote =
     subst P (turns_left e k n h)
     (cut_after job s t a b x y z (replicate k e) (e ∷ []) (replicate (n - k - 1) e) done (one_cut job t u b y z e o (subst S same does) (subst G same goes) wrote))
 
-pub few_turns : (job : Job) (s t : State) (a b : Recorder) (x y : Option (List ℕ)) (e : Event) (k n m : ℕ) → IsRecorded job s t a b x y (replicate k e) → AreAtMost n a.report → n + k ≤ m → AreAtMost m b.report
+pub few_turns : (job : Job) (s t : State) (a b : Recorder) (x y : Option (List ℕ)) (e : Event) (k n m : ℕ) → IsRecorded job s t a b x y (replicate k e) → HasFew n a → n + k ≤ m → HasFew m b
 few_turns job s t a b x y e k n m done few h = few_more job s t a b x y (replicate k e) n m done few (omega (arith, length-replicate k e))
 
 -- ---- one more line

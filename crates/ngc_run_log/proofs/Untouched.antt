@@ -4,11 +4,8 @@ use Rattle.std.specs.Prelude.{MatchBool, nat_lt, slice_get, cond}
 use Rattle.std.specs.List.{AllByRecursion}
 use Rattle.std.proofs.lemmas.Bool.{lt-ltb}
 use Rattle.std.proofs.lemmas.List.{append_assoc, append-nil}
-use Rattle.std.proofs.KnownBytes.{Appends-nil}
-use Rattle.std.proofs.lemmas.Grind.{flat_map-append}
 use Rattle.std.proofs.lemmas.Option.{slice_get_cases}
 use Rattle.ngc_fixed_length.specs.declared.points.StepPos.{StepPos}
-use Rattle.ngc_fixed_length.specs.Written.{AppendsBeginning}
 use Rattle.ngc_canonical.specs.declared.command.Command.{Command}
 use Rattle.ngc_planner.specs.Caps.{STEPS_LIMIT}
 use Rattle.ngc_events.specs.declared.event.Event.{Event}
@@ -24,14 +21,13 @@ use Rattle.ngc_behaviour.specs.Step.{Outcome, Step, LoadCommand, MayTake}
 use Rattle.ngc_controller.specs.Controller.{ControllerData}
 use Rattle.ngc_controller.specs.Fields.{DWELL_LIMIT}
 use Rattle.ngc_controller.specs.Loaded.{AreShort}
-use Rattle.ngc_run_log.specs.declared.report.Report.{Report}
 use Rattle.ngc_run_log.specs.declared.recorder.Recorder.{Recorder}
-use Rattle.ngc_run_log.specs.Log.{log, text_of}
+use Rattle.ngc_run_log.specs.Tracing.{trace_text}
 use Rattle.ngc_run_log.specs.Runs.{is_refusal}
-use Rattle.ngc_run_log.specs.Recording.{Stretch, AreAtMost, Collects}
+use Rattle.ngc_run_log.specs.Recording.{Stretch, HasFew}
 use Rattle.ngc_run_log.specs.Through.{IsLoadTickOrStart, TellsEnd}
 use Rattle.ngc_run_log.specs.Stretches.{IsUntouched, IsGiven, IsGivenLast, GoesBy, BreaksOff, TicksBy, Works, spent, ending_in, is_stop, does_in, SPENT_LIMIT, TellsBy, TellsHead, GoesBehind, FinishesHead, Finishes}
-use Rattle.ngc_run_log.proofs.Joined.{one_step, stretches_joined, counts_joined, collected_both, begun_after, count_by-append, few_more}
+use Rattle.ngc_run_log.proofs.Joined.{one_step, stretches_joined, records_joined, begun_behind, begun_more, none_recorded, count_by-append, few_more}
 use Rattle.ngc_run_log.proofs.Ticks.{Goes, HasLeft, tick_goes}
 
 -- ---- lists
@@ -159,7 +155,6 @@ counted_fine o fine = ap (λ b. 0 + cond b 1 0) fine
 abbrev pub goes_one : (event : Event) (o : Outcome) (loads does : ℕ) (old new : ControllerData) (a b : Recorder) (x y : Option (List ℕ)) → IsGiven event old new a b x y o → IsLoadTickOrStart event → is_refusal o ≡ false →
     IsUntouched old.job new.state → new.state.done ≡ old.state.done + does → length new.state.ring + does ≡ length old.state.ring + loads → GoesBy 1 loads does old new a b x y
 goes_one event o loads does old new a b x y g kind fine u done ring =
-    let C : List ℕ → Type 0 = λ text. Collects x y a.chunk text b.chunk in
     let J : Job → Type 0 = λ j. IsUntouched j new.state in
     record {
       events = event ∷ [];
@@ -169,25 +164,22 @@ goes_one event o loads does old new a b x y g kind fine u done ring =
       none_refused = counted_fine o fine;
       job = g.job;
       stretch = one_step old.job old.state new.state event o g.step g.goes_on;
-      counts = g.counts;
-      collects = subst C (sym (append-nil (text_of o))) g.collects;
+      records = g.records;
       untouched = subst J (sym g.job) u;
       done = done;
       ring = ring;
     }
 
 breaks_one : (event : Event) (old : ControllerData) (a : Recorder) (x y : Option (List ℕ)) (g : IsGivenLast event old a x y) → IsLoadTickOrStart event → is_refusal g.outcome ≡ false → BreaksOff old a x y
-breaks_one event old a x y g kind fine =
-    let w = g.logged in
-    record {
-      events = event ∷ [];
-      outcomes = g.outcome ∷ [];
-      reached = g.reached;
-      kinds = (kind, tt);
-      none_refused = counted_fine g.outcome fine;
-      stretch = one_step old.job old.state g.reached event g.outcome g.step g.goes_on;
-      logged = (w.0, w.1 ++ log (g.outcome ∷ []), ap (λ l. l ++ log (g.outcome ∷ [])) w.2 ∙ append_assoc w.0 w.1 (log (g.outcome ∷ [])), w.3);
-    }
+breaks_one event old a x y g kind fine = record {
+  events = event ∷ [];
+  outcomes = g.outcome ∷ [];
+  reached = g.reached;
+  kinds = (kind, tt);
+  none_refused = counted_fine g.outcome fine;
+  stretch = one_step old.job old.state g.reached event g.outcome g.step g.goes_on;
+  begun = begun_more x y a.chunk (trace_text a.trace (g.outcome ∷ [])) g.begun;
+}
 
 fine_as : (o : Outcome) (r : Reply) → o ≡ Ok r → is_refusal o ≡ false
 fine_as o r e = ap is_refusal e
@@ -266,8 +258,7 @@ none_yet n old a x u = record {
   none_refused = refl;
   job = refl;
   stretch = record { states = []; runs = tt; goes_on = tt; last = refl };
-  counts = record { ticks = omega arith; path_steps = omega arith; refused = omega arith; position = refl };
-  collects = record { front = []; writes = Appends-nil x; splits = append-nil a.chunk };
+  records = none_recorded a x;
   untouched = u;
   done = omega arith;
   ring = omega arith;
@@ -276,7 +267,6 @@ none_yet n old a x u = record {
 abbrev pub goes_both : (n m k p q r f g d : ℕ) (old mid new : ControllerData) (a b c : Recorder) (x y z : Option (List ℕ)) → GoesBy n p f old mid a b x y → GoesBy m q g mid new b c y z →
     n + m ≤ k → r ≡ p + q → d ≡ f + g → GoesBy k r d old new a c x z
 goes_both n m k p q r f g d old mid new a b c x y z s t enough loads does =
-    let C : List ℕ → Type 0 = λ text. Collects x z a.chunk text c.chunk in
     let S : Job → Type 0 = λ j. Stretch j mid.state new.state t.events t.outcomes in
     let events = length-append s.events t.events in
     let refused = count_by-append is_refusal s.outcomes t.outcomes in
@@ -288,8 +278,7 @@ goes_both n m k p q r f g d old mid new a b c x y z s t enough loads does =
       none_refused = omega (arith, refused, s.none_refused, t.none_refused);
       job = t.job ∙ s.job;
       stretch = stretches_joined old.job old.state mid.state new.state s.events t.events s.outcomes t.outcomes s.stretch (subst S s.job t.stretch);
-      counts = counts_joined s.events t.events s.outcomes t.outcomes a.report b.report c.report s.counts t.counts;
-      collects = subst C (sym (flat_map-append text_of s.outcomes t.outcomes)) (collected_both x y z a.chunk b.chunk c.chunk (log s.outcomes) (log t.outcomes) s.collects t.collects);
+      records = records_joined s.events t.events s.outcomes t.outcomes a b c x y z s.records t.records;
       untouched = t.untouched;
       done = omega (arith, s.done, t.done, does);
       ring = omega (arith, s.ring, t.ring, loads, does);
@@ -297,7 +286,6 @@ goes_both n m k p q r f g d old mid new a b c x y z s t enough loads does =
 
 pub breaks_later : (n p f : ℕ) (old mid : ControllerData) (a b : Recorder) (x y z : Option (List ℕ)) → GoesBy n p f old mid a b x y → BreaksOff mid b y z → BreaksOff old a x z
 breaks_later n p f old mid a b x y z s t =
-    let P : List ℕ → Type 0 = λ text. AppendsBeginning x z (a.chunk ++ text) in
     let S : Job → Type 0 = λ j. Stretch j mid.state t.reached t.events t.outcomes in
     let refused = count_by-append is_refusal s.outcomes t.outcomes in
     record {
@@ -307,16 +295,19 @@ breaks_later n p f old mid a b x y z s t =
       kinds = all_both IsLoadTickOrStart s.events t.events s.kinds t.kinds;
       none_refused = omega (arith, refused, s.none_refused, t.none_refused);
       stretch = stretches_joined old.job old.state mid.state t.reached s.events t.events s.outcomes t.outcomes s.stretch (subst S s.job t.stretch);
-      logged = subst P (sym (flat_map-append text_of s.outcomes t.outcomes)) (begun_after x y z a.chunk b.chunk (log s.outcomes) (log t.outcomes) s.collects t.logged);
+      begun = begun_behind s.events s.outcomes t.outcomes a b x y z s.records t.begun;
     }
 
 -- how large the counts are behind it
-pub few_behind : (n p f m k : ℕ) (old new : ControllerData) (a b : Recorder) (x y : Option (List ℕ)) → GoesBy n p f old new a b x y → AreAtMost m a.report → m + n ≤ k → AreAtMost k b.report
+pub few_behind : (n p f m k : ℕ) (old new : ControllerData) (a b : Recorder) (x y : Option (List ℕ)) → GoesBy n p f old new a b x y → HasFew m a → m + n ≤ k → HasFew k b
 few_behind n p f m k old new a b x y s few h =
-    few_more old.job old.state new.state a b x y s.events m k (record { outcomes = s.outcomes; stretch = s.stretch; counts = s.counts; collects = s.collects }) few (omega (arith, s.few, h))
+    few_more old.job old.state new.state a b x y s.events m k (record { outcomes = s.outcomes; stretch = s.stretch; records = s.records }) few (omega (arith, s.few, h))
 
-pub at_most_more : (n m : ℕ) (r : Report) → AreAtMost n r → n ≤ m → AreAtMost m r
-at_most_more n m r few h = record { ticks = omega (arith, few.ticks, h); path_steps = omega (arith, few.path_steps, h); refused = omega (arith, few.refused, h) }
+pub at_most_more : (n m : ℕ) (a : Recorder) → HasFew n a → n ≤ m → HasFew m a
+at_most_more n m a few h = record {
+  report = record { ticks = omega (arith, few.report.ticks, h); path_steps = omega (arith, few.report.path_steps, h); refused = omega (arith, few.report.refused, h) };
+  ticks = omega (arith, few.ticks, h);
+}
 
 -- ---- what is spent
 

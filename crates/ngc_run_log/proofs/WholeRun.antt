@@ -1,10 +1,8 @@
 -- What a run through a program comes to, from what is recorded of it.
 use Rattle.std.proofs.Common.{◌≡◌, ◌≤◌, ℕ, suc, List, [], ◌∷◌, ◌++◌, length, Option, Some, Bool, true, false, ap, sym, subst, ◌∙◌, arith, refl}
-use Rattle.std.proofs.lemmas.List.{append-nil}
 use Rattle.std.specs.Prelude.{slice_get}
 use Rattle.std.specs.Io.KnownBytes.{Appends}
 use Rattle.ngc_fixed_length.specs.Written.{AppendsBeginning}
-use Rattle.ngc_fixed_length.proofs.Appended.{appends_both, begins_after}
 use Rattle.ngc_machine.specs.MachineRanges.{IsMachine}
 use Rattle.ngc_canonical.specs.declared.command.Command.{Command}
 use Rattle.ngc_canonical.specs.Joined.{HasEnd}
@@ -19,12 +17,13 @@ use Rattle.ngc_behaviour.specs.Progress.{KeepGoing}
 use Rattle.ngc_controller.specs.Controller.{ControllerData}
 use Rattle.ngc_run_log.specs.declared.report.Report.{Report}
 use Rattle.ngc_run_log.specs.declared.recorder.Recorder.{Recorder}
-use Rattle.ngc_run_log.specs.Log.{log}
+use Rattle.ngc_run_log.specs.declared.trace.Trace.{Trace}
+use Rattle.ngc_run_log.specs.Tracing.{last_text}
 use Rattle.ngc_run_log.specs.Runs.{IsRun, Reports}
 use Rattle.ngc_run_log.specs.Recording.{last_state, Stretch}
-use Rattle.ngc_run_log.specs.Through.{IsLoggedThrough, IsBrokenOff}
+use Rattle.ngc_run_log.specs.Forms.{IsTracedThrough, IsTracedOff}
 use Rattle.ngc_run_log.specs.Stretches.{IsUntouched, GoesBy, BreaksOff, Finishes}
-use Rattle.ngc_run_log.proofs.Comes.{AreNew, log_is, reports}
+use Rattle.ngc_run_log.proofs.Comes.{AreNew, all_written, all_begun, some_begun, reports}
 
 -- before the first event
 pub opening_untouched : (job : Job) (s : State) → IsMachine job.machine → s ≡ opening job.machine → IsUntouched job s
@@ -67,11 +66,10 @@ last_at [] last = refl
 last_at (c ∷ before) last = last_at before last
 
 -- all is done and written
-pub through_logged : (n count : ℕ) (old new : ControllerData) (a b : Recorder) (x y z : Option (List ℕ)) (report : Report) → AreNew old.job old.state a → RunsSafely old.job → RunsInTime old.job → HasEnd old.job.commands →
-    count ≡ length old.job.commands → Finishes n count count old new a b x y → Appends y z b.chunk → report ≡ b.report → IsLoggedThrough old.job x z report
-through_logged n count old new a b x y z report are_new safe in_time has_end all ended wrote same =
+pub through_traced : (trace : Trace) (n count : ℕ) (old new : ControllerData) (a b : Recorder) (x y z : Option (List ℕ)) (report : Report) → AreNew trace old.job old.state a → RunsSafely old.job → RunsInTime old.job →
+    HasEnd old.job.commands → count ≡ length old.job.commands → Finishes n count count old new a b x y → Appends y z (b.chunk ++ last_text b.trace) → report ≡ b.report → IsTracedThrough trace old.job x z report
+through_traced trace n count old new a b x y z report are_new safe in_time has_end all ended wrote same =
     let s : GoesBy n count count old new a b x y = ended.goes in
-    let P : List ℕ → Type 0 = λ text. Appends x z text in
     let R : Report → Type 0 = λ r. Reports old.job s.events s.outcomes r in
     let r = opens_runs old.job old.state new.state s.events s.outcomes safe in_time are_new.opens s.stretch in
     let none : old.state.done ≡ 0 = ap (λ (x : State). x.done) are_new.opens in
@@ -84,35 +82,30 @@ through_logged n count old new a b x y z report are_new safe in_time has_end all
       smooth = record { run = r.0; kinds = s.kinds; none_refused = s.none_refused };
       done = ap (λ (x : State). x.done) (sym r.1) ∙ done;
       told = ended.told (omega (arith, is_count, all)) (length before) has_end.last (is_count ∙ sym done) (ap (λ commands. slice_get commands (length before)) has_end.are ∙ last_at before has_end.last) has_end.is_end;
-      logged = subst P (log_is old.job old.state a b x y s.outcomes are_new s.collects) (appends_both x y z s.collects.front b.chunk s.collects.writes wrote);
-      reports = subst R (sym same) (reports old.job old.state a b s.events s.outcomes are_new s.counts);
+      written = all_written trace old.job old.state a b x y z s.events s.outcomes are_new s.records wrote;
+      reports = subst R (sym same) (reports trace old.job old.state a b s.events s.outcomes are_new s.records.counts);
     }
 
 -- all is done, and then a write failed
-pub through_unwritten : (n count : ℕ) (old new : ControllerData) (a b : Recorder) (x y z : Option (List ℕ)) → AreNew old.job old.state a → RunsSafely old.job → RunsInTime old.job →
-    Finishes n count count old new a b x y → AppendsBeginning y z b.chunk → IsBrokenOff old.job x z
-through_unwritten n count old new a b x y z are_new safe in_time ended wrote =
+pub through_unwritten : (trace : Trace) (n count : ℕ) (old new : ControllerData) (a b : Recorder) (x y z : Option (List ℕ)) → AreNew trace old.job old.state a → RunsSafely old.job → RunsInTime old.job →
+    Finishes n count count old new a b x y → AppendsBeginning y z (b.chunk ++ last_text b.trace) → IsTracedOff trace old.job x z
+through_unwritten trace n count old new a b x y z are_new safe in_time ended wrote =
     let s : GoesBy n count count old new a b x y = ended.goes in
-    let front : List ℕ = s.collects.front in
-    let P : List ℕ → Type 0 = λ text. AppendsBeginning x z text in
-    let text : front ++ (b.chunk ++ []) ≡ log s.outcomes = ap (λ l. front ++ l) (append-nil b.chunk) ∙ log_is old.job old.state a b x y s.outcomes are_new s.collects in
     record {
       given = s.events;
       outcomes = s.outcomes;
       smooth = record { run = (opens_runs old.job old.state new.state s.events s.outcomes safe in_time are_new.opens s.stretch).0; kinds = s.kinds; none_refused = s.none_refused };
-      logged = subst P text (begins_after x y z front b.chunk [] s.collects.writes wrote);
+      written = all_begun trace old.job old.state a b x y z s.events s.outcomes are_new s.records wrote;
     }
 
 -- a write failed before all was done
-pub through_broken : (old : ControllerData) (a : Recorder) (x z : Option (List ℕ)) → AreNew old.job old.state a → RunsSafely old.job → RunsInTime old.job → BreaksOff old a x z → IsBrokenOff old.job x z
-through_broken old a x z are_new safe in_time s =
-    let P : List ℕ → Type 0 = λ chunk. AppendsBeginning x z (chunk ++ log s.outcomes) in
-    record {
-      given = s.events;
-      outcomes = s.outcomes;
-      smooth = record { run = (opens_runs old.job old.state s.reached s.events s.outcomes safe in_time are_new.opens s.stretch).0; kinds = s.kinds; none_refused = s.none_refused };
-      logged = subst P are_new.chunk s.logged;
-    }
+pub through_broken : (trace : Trace) (old : ControllerData) (a : Recorder) (x z : Option (List ℕ)) → AreNew trace old.job old.state a → RunsSafely old.job → RunsInTime old.job → BreaksOff old a x z → IsTracedOff trace old.job x z
+through_broken trace old a x z are_new safe in_time s = record {
+  given = s.events;
+  outcomes = s.outcomes;
+  smooth = record { run = (opens_runs old.job old.state s.reached s.events s.outcomes safe in_time are_new.opens s.stretch).0; kinds = s.kinds; none_refused = s.none_refused };
+  written = some_begun trace old.job old.state a x z s.outcomes are_new s.begun;
+}
 
 -- ---- of what was accepted
 
@@ -128,9 +121,3 @@ end_of a block_delete job ok same = subst (λ (j : Job). HasEnd j.commands) (sym
 
 pub machine_of : (a : AcceptedData) (block_delete : Bool) (job : Job) → IsAccepted a → job ≡ job_of a.machine (commands_at block_delete a) → IsMachine job.machine
 machine_of a block_delete job ok same = subst (λ (j : Job). IsMachine j.machine) (sym same) ok.machine
-
-pub through_as : (job asked : Job) (x y : Option (List ℕ)) (report : Report) → job ≡ asked → IsLoggedThrough job x y report → IsLoggedThrough asked x y report
-through_as job asked x y report same = subst (λ (j : Job). IsLoggedThrough j x y report) same
-
-pub broken_off_as : (job asked : Job) (x y : Option (List ℕ)) → job ≡ asked → IsBrokenOff job x y → IsBrokenOff asked x y
-broken_off_as job asked x y same = subst (λ (j : Job). IsBrokenOff j x y) same

@@ -9,7 +9,7 @@ use Rattle.ngc_behaviour.specs.Run.{Run, positions}
 use Rattle.ngc_behaviour.specs.Progress.{KeepGoing, is_tick}
 use Rattle.ngc_run_log.specs.declared.report.Report.{Report}
 use Rattle.ngc_run_log.specs.declared.recorder.Recorder.{Recorder}
-use Rattle.ngc_run_log.specs.Log.{log}
+use Rattle.ngc_run_log.specs.Tracing.{trace_text, trace_after, ticks_of}
 use Rattle.ngc_run_log.specs.Runs.{is_refusal, last_position}
 
 -- the last of these states, or s where there is none
@@ -37,18 +37,28 @@ pub record AreAtMost (n : ℕ) (report : Report) : Type 0 where
   pub path_steps : report.path_steps ≤ n
   pub refused : report.refused ≤ n
 
+-- nor has the recorder counted more
+pub record HasFew (n : ℕ) (recorder : Recorder) : Type 0 where
+  pub report : AreAtMost n recorder.report
+  pub ticks : ticks_of recorder.trace ≤ n
+
 -- A text came behind what was collected. A beginning of both is written, and the rest is still collected.
 pub record Collects (old new : Option (List ℕ)) (before text after : List ℕ) : Type 0 where
   pub front : List ℕ
   pub writes : Appends old new front
   pub splits : before ++ text ≡ front ++ after
 
--- all these events were given, counted and logged
+-- these events are counted, and their text is collected
+pub record Records (events : List Event) (outcomes : List Outcome) (before after : Recorder) (written now : Option (List ℕ)) : Type 0 where
+  pub counts : Counts events outcomes before.report after.report
+  pub trace : after.trace ≡ trace_after before.trace outcomes
+  pub collects : Collects written now before.chunk (trace_text before.trace outcomes) after.chunk
+
+-- all these events were given and recorded
 pub record IsRecorded (job : Job) (old new : State) (before after : Recorder) (written now : Option (List ℕ)) (events : List Event) : Type 0 where
   pub outcomes : List Outcome
   pub stretch : Stretch job old new events outcomes
-  pub counts : Counts events outcomes before.report after.report
-  pub collects : Collects written now before.chunk (log outcomes) after.chunk
+  pub records : Records events outcomes before after written now
 
 -- the first of these events were given, and then a write failed
 pub record IsCutShort (job : Job) (old : State) (before : Recorder) (written now : Option (List ℕ)) (events : List Event) : Type 0 where
@@ -58,4 +68,4 @@ pub record IsCutShort (job : Job) (old : State) (before : Recorder) (written now
   pub outcomes : List Outcome
   pub reached : State
   pub stretch : Stretch job old reached given outcomes
-  pub logged : AppendsBeginning written now (before.chunk ++ log outcomes)
+  pub begun : AppendsBeginning written now (before.chunk ++ trace_text before.trace outcomes)

@@ -17,8 +17,8 @@ use Rattle.ngc_controller.specs.Controller.{ControllerData}
 use Rattle.ngc_controller.specs.Fields.{DWELL_LIMIT}
 use Rattle.ngc_controller.specs.Loaded.{AreShort, LoadsShort}
 use Rattle.ngc_run_log.specs.declared.recorder.Recorder.{Recorder}
-use Rattle.ngc_run_log.specs.Log.{log, text_of}
-use Rattle.ngc_run_log.specs.Recording.{Stretch, Counts, Collects}
+use Rattle.ngc_run_log.specs.Tracing.{trace_text}
+use Rattle.ngc_run_log.specs.Recording.{Stretch, Records}
 use Rattle.ngc_run_log.specs.Runs.{is_refusal}
 use Rattle.ngc_run_log.specs.Through.{IsLoadTickOrStart, TellsEnd}
 
@@ -67,8 +67,7 @@ pub record IsGiven (event : Event) (old new : ControllerData) (before after : Re
   pub goes_on : GoesOn old.job old.state event new.state
   pub short : LoadsShort event old.state new.state
   pub dwelt : new.state.dwelt ≤ DWELL_LIMIT
-  pub counts : Counts (event ∷ []) (outcome ∷ []) before.report after.report
-  pub collects : Collects written now before.chunk (text_of outcome) after.chunk
+  pub records : Records (event ∷ []) (outcome ∷ []) before after written now
 
 -- it was given, and then a write failed
 pub record IsGivenLast (event : Event) (old : ControllerData) (before : Recorder) (written now : Option (List ℕ)) : Type 0 where
@@ -76,7 +75,7 @@ pub record IsGivenLast (event : Event) (old : ControllerData) (before : Recorder
   pub reached : State
   pub step : Step old.job old.state event outcome reached
   pub goes_on : GoesOn old.job old.state event reached
-  pub logged : AppendsBeginning written now before.chunk
+  pub begun : AppendsBeginning written now before.chunk
 
 -- ---- several events
 
@@ -89,8 +88,7 @@ pub record GoesBy (n loads does : ℕ) (old new : ControllerData) (before after 
   pub none_refused : count_by is_refusal outcomes ≡ 0
   pub job : new.job ≡ old.job
   pub stretch : Stretch old.job old.state new.state events outcomes
-  pub counts : Counts events outcomes before.report after.report
-  pub collects : Collects written now before.chunk (log outcomes) after.chunk
+  pub records : Records events outcomes before after written now
   pub untouched : IsUntouched new.job new.state
   pub done : new.state.done ≡ old.state.done + does
   pub ring : length new.state.ring + does ≡ length old.state.ring + loads
@@ -103,7 +101,7 @@ pub record BreaksOff (old : ControllerData) (before : Recorder) (written now : O
   pub kinds : AllByRecursion IsLoadTickOrStart events
   pub none_refused : count_by is_refusal outcomes ≡ 0
   pub stretch : Stretch old.job old.state reached events outcomes
-  pub logged : AppendsBeginning written now (before.chunk ++ log outcomes)
+  pub begun : AppendsBeginning written now (before.chunk ++ trace_text before.trace outcomes)
 
 -- ---- what a tick leaves
 

@@ -1,4 +1,4 @@
-//! Runs of the machine over lists of events, and their log.
+//! Runs of the machine over lists of events, their log and their pulses.
 #![tactic(auto)]
 
 mod log_line;
@@ -6,7 +6,8 @@ mod recorder;
 mod report;
 mod runner;
 mod through;
+mod trace;
 
 pub use report::{Report, RunFault};
-pub use runner::run;
-pub use through::run_through;
+pub use runner::{run, write_pulses};
+pub use through::{run_through, write_pulses_through};

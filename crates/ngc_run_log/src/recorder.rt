@@ -1,30 +1,34 @@
 //! What is kept of a run while it goes on.
-ghost use Rattle.std.specs.Prelude.{◌≡◌, ◌^◌, [], ◌∷◌, IfOk, OnOk, OnErr};
+ghost use Rattle.std.specs.Prelude.{◌≡◌, ◌^◌, ◌++◌, [], ◌∷◌, IfOk, OnOk, OnErr};
 ghost use Rattle.std.specs.Io.KnownBytes.{Appends};
 ghost use Rattle.ngc_fixed_length.specs.Failures.{CountsFailure};
 ghost use Rattle.ngc_fixed_length.specs.Written.{AppendsBeginning};
-ghost use Rattle.ngc_run_log.specs.Log.{text_of};
-ghost use Rattle.ngc_run_log.specs.Recording.{AreAtMost, Collects, Counts};
+ghost use Rattle.ngc_run_log.specs.Recording.{HasFew, Records};
+ghost use Rattle.ngc_run_log.specs.Tracing.{last_text, opening_text};
 
-use crate::log_line::add_outcome;
 use crate::report::Report;
+use crate::trace::Trace;
 use ngc_events::{Event, EventFault, Reply};
 use ngc_fixed_length::{Sink, StepPos, WriteFault};
 use ngc_output::Chunk;
 
-/// The report so far, and what the log has beyond what is written.
+/// The report so far, and what its text has beyond what is written.
 #[derive(Drop)]
 pub(crate) struct Recorder {
     report: Report,
+    trace: Trace,
     chunk: Chunk,
 }
 
 impl Recorder {
     /// Nothing is given yet, and the machine stands at a position, in steps.
-    pub(crate) fn new(position: StepPos) -> Recorder
+    pub(crate) fn new(trace: Trace, position: StepPos) -> Recorder
         ensures report { result.report ≡ record { ticks = 0; path_steps = 0; refused = 0; position = position } }
-        ensures chunk { result.chunk ≡ [] }
+        ensures trace { result.trace ≡ trace }
+        ensures chunk { result.chunk ≡ opening_text trace }
     {
+        let mut chunk = Chunk::new();
+        trace.open(&mut chunk);
         Recorder {
             report: Report {
                 ticks: 0,
@@ -32,25 +36,25 @@ impl Recorder {
                 refused: 0,
                 position,
             },
-            chunk: Chunk::new(),
+            trace,
+            chunk,
         }
     }
 
-    /// Counts an event, and logs what came of it.
+    /// Counts an event, and records what came of it.
     pub(crate) fn add<W: Sink>(
         &mut self,
         event: Event,
         outcome: &Result<Reply, EventFault>,
         sink: &mut W,
     ) -> Result<(), WriteFault>
-        requires { AreAtMost (2 ^ 127) self.old.report }
-        ensures counts { OnOk result (Counts (event ∷ []) (outcome.now ∷ []) self.old.report self.new.report) }
-        ensures collects { OnOk result (Collects (W.written sink.old) (W.written sink.new) self.old.chunk (text_of outcome.now) self.new.chunk) }
+        requires { HasFew (2 ^ 126) self.old }
+        ensures records { OnOk result (Records (event ∷ []) (outcome.now ∷ []) self.old self.new (W.written sink.old) (W.written sink.new)) }
         ensures fault { OnErr result (AppendsBeginning (W.written sink.old) (W.written sink.new) self.old.chunk) }
         ensures failures { CountsFailure (W.failures sink.old) (W.failures sink.new) result }
     {
         self.report.count(event, outcome);
-        // Most ticks log nothing.
+        // Most ticks write nothing.
         if let Ok(
             Reply::Ticked {
                 position: None,
@@ -58,23 +62,30 @@ impl Recorder {
             },
         ) = outcome
         {
+            self.trace.rest();
             return Ok(());
         }
         match self.chunk.make_room(sink) {
             Ok(()) => {}
             Err(fault) => return Err(fault),
         }
-        add_outcome(&mut self.chunk, outcome);
+        self.trace.tell(outcome, &mut self.chunk);
         Ok(())
     }
 
-    /// Writes the rest of the log, and answers the report.
+    /// Writes the rest of the text, and answers the report.
     pub(crate) fn finish<W: Sink>(mut self, sink: &mut W) -> Result<Report, WriteFault>
+        requires { HasFew (2 ^ 126) self }
         ensures report { IfOk result (λ report. report ≡ self.report) }
-        ensures ok { OnOk result (Appends (W.written sink.old) (W.written sink.new) self.chunk) }
-        ensures fault { OnErr result (AppendsBeginning (W.written sink.old) (W.written sink.new) self.chunk) }
+        ensures ok { OnOk result (Appends (W.written sink.old) (W.written sink.new) (self.chunk ++ last_text self.trace)) }
+        ensures fault { OnErr result (AppendsBeginning (W.written sink.old) (W.written sink.new) (self.chunk ++ last_text self.trace)) }
         ensures failures { CountsFailure (W.failures sink.old) (W.failures sink.new) result }
     {
+        match self.chunk.make_room(sink) {
+            Ok(()) => {}
+            Err(fault) => return Err(fault),
+        }
+        self.trace.close(&mut self.chunk);
         match self.chunk.write_out(sink) {
             Ok(()) => Ok(self.report),
             Err(fault) => Err(fault),

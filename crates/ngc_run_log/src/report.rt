@@ -22,7 +22,7 @@ pub struct Report {
 impl Report {
     /// Counts an event, and what came of it.
     pub(crate) fn count(&mut self, event: Event, outcome: &Result<Reply, EventFault>)
-        requires { AreAtMost (2 ^ 127) self.old }
+        requires { AreAtMost (2 ^ 126) self.old }
         ensures { Counts (event ∷ []) (outcome.now ∷ []) self.old self.new }
     {
         if let Event::Tick = event {

@@ -3,11 +3,14 @@ ghost use Rattle.ngc_behaviour.specs.Headline.{job_of, RunsInTime, RunsSafely};
 ghost use Rattle.ngc_behaviour.specs.State.{opening};
 ghost use Rattle.ngc_checker.specs.Accepted.{commands_at};
 ghost use Rattle.ngc_fixed_length.specs.Failures.{CountsFailure};
-ghost use Rattle.ngc_run_log.specs.Recording.{AreAtMost, IsCutShort, IsRecorded};
-ghost use Rattle.ngc_run_log.specs.Runs.{ComesTo, FailsByWriting, IsBrokenRun, IsLoggedRun};
+ghost use Rattle.ngc_run_log.specs.Forms.{ComesAs, IsTracedRun, IsUntracedRun, PulsesCome};
+ghost use Rattle.ngc_run_log.specs.Recording.{HasFew, IsCutShort, IsRecorded};
+ghost use Rattle.ngc_run_log.specs.Runs.{ComesTo, FailsByWriting};
+ghost use Rattle.ngc_run_log.specs.Tracing.{ticks_of};
 
 use crate::recorder::Recorder;
 use crate::report::{Report, RunFault};
+use crate::trace::{Form, Trace};
 use ngc_checker::Accepted;
 use ngc_controller::Controller;
 use ngc_events::EventLine;
@@ -21,7 +24,7 @@ fn run_line<A: Allocator + Copy, W: Sink>(
     recorder: &mut Recorder,
     sink: &mut W,
 ) -> Result<(), WriteFault>
-    requires { AreAtMost (2 ^ 100) recorder.old.report }
+    requires { HasFew (2 ^ 100) recorder.old }
     ensures job { controller.new.job ≡ controller.old.job }
     ensures recorded { OnOk result (IsRecorded controller.old.job controller.old.state controller.new.state recorder.old recorder.new (W.written sink.old) (W.written sink.new) (replicate line.now.times line.now.event)) }
     ensures fault { OnErr result (IsCutShort controller.old.job controller.old.state recorder.old (W.written sink.old) (W.written sink.new) (replicate line.now.times line.now.event)) }
@@ -41,16 +44,18 @@ fn run_line<A: Allocator + Copy, W: Sink>(
 fn run_lines<A: Allocator + Copy, W: Sink>(
     controller: &mut Controller<ArcPath, A>,
     lines: &[EventLine],
+    trace: Trace,
     sink: &mut W,
 ) -> Result<Report, WriteFault>
     requires opens { controller.old.state ≡ opening controller.old.job.machine }
     requires safe { RunsSafely controller.old.job }
     requires in_time { RunsInTime controller.old.job }
-    ensures logged { IfOk result (λ report. IsLoggedRun controller.old.job lines.now (W.written sink.old) (W.written sink.new) report) }
-    ensures broken { OnErr result (IsBrokenRun controller.old.job lines.now (W.written sink.old) (W.written sink.new)) }
+    requires begins { ticks_of trace ≡ 0 }
+    ensures traced { IfOk result (λ report. IsTracedRun trace controller.old.job lines.now (W.written sink.old) (W.written sink.new) report) }
+    ensures broken { OnErr result (IsUntracedRun trace controller.old.job lines.now (W.written sink.old) (W.written sink.new)) }
     ensures failures { CountsFailure (W.failures sink.old) (W.failures sink.new) result }
 {
-    let mut recorder = Recorder::new(controller.position());
+    let mut recorder = Recorder::new(trace, controller.position());
     for line in lines {
         match run_line(controller, line, &mut recorder, sink) {
             Ok(()) => {}
@@ -58,6 +63,31 @@ fn run_lines<A: Allocator + Copy, W: Sink>(
         }
     }
     recorder.finish(sink)
+}
+
+// Runs what was accepted over events, and writes it in a form.
+fn run_as<A: Allocator + Copy, W: Sink>(
+    alloc: A,
+    accepted: Accepted<A>,
+    block_delete: bool,
+    lines: &[EventLine],
+    form: Form,
+    sink: &mut W,
+) -> Result<Report, RunFault>
+    ensures comes { ComesAs form (job_of accepted.machine (commands_at block_delete accepted)) lines.now (W.written sink.old) (W.written sink.new) result }
+    ensures counts { FailsByWriting result (W.failures sink.old) (W.failures sink.new) }
+{
+    // What holds of all that was accepted makes the run a safe one, which is done in time.
+    let ticks_per_second = accepted.machine().ticks_per_second;
+    let mut controller = match Controller::<ArcPath, A>::new(alloc, accepted, block_delete) {
+        Ok(controller) => controller,
+        Err(_) => return Err(RunFault::Memory),
+    };
+    let trace = Trace::new(form, ticks_per_second, controller.position());
+    match run_lines(&mut controller, lines, trace, sink) {
+        Ok(report) => Ok(report),
+        Err(fault) => Err(RunFault::Write(fault)),
+    }
 }
 
 /// Runs what was accepted, at a setting of block delete, over events in their order, and writes the log: a line for what
@@ -72,14 +102,21 @@ pub fn run<A: Allocator + Copy, W: Sink>(
     ensures comes { ComesTo (job_of accepted.machine (commands_at block_delete accepted)) lines.now (W.written sink.old) (W.written sink.new) result }
     ensures counts { FailsByWriting result (W.failures sink.old) (W.failures sink.new) }
 {
-    // What holds of all that was accepted makes the run a safe one, which is done in time.
-    let _machine = accepted.machine();
-    let mut controller = match Controller::<ArcPath, A>::new(alloc, accepted, block_delete) {
-        Ok(controller) => controller,
-        Err(_) => return Err(RunFault::Memory),
-    };
-    match run_lines(&mut controller, lines, sink) {
-        Ok(report) => Ok(report),
-        Err(fault) => Err(RunFault::Write(fault)),
-    }
+    run_as(alloc, accepted, block_delete, lines, Form::Log, sink)
+}
+
+/// Runs what was accepted, at a setting of block delete, over events in their order, and writes the pulses of its ticks as a
+/// value change dump: a step and a direction of each axis, in nanoseconds. What is no tick writes nothing. Want of memory is
+/// 900, with nothing written; where a write failed (902) a beginning of the dump is written.
+pub fn write_pulses<A: Allocator + Copy, W: Sink>(
+    alloc: A,
+    accepted: Accepted<A>,
+    block_delete: bool,
+    lines: &[EventLine],
+    sink: &mut W,
+) -> Result<Report, RunFault>
+    ensures comes { PulsesCome (job_of accepted.machine (commands_at block_delete accepted)) lines.now (W.written sink.old) (W.written sink.new) result }
+    ensures counts { FailsByWriting result (W.failures sink.old) (W.failures sink.new) }
+{
+    run_as(alloc, accepted, block_delete, lines, Form::Pulses, sink)
 }

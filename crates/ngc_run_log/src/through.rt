@@ -7,13 +7,16 @@ ghost use Rattle.ngc_canonical.specs.State.{COMMAND_LIMIT};
 ghost use Rattle.ngc_checker.specs.Accepted.{commands_at};
 ghost use Rattle.ngc_fixed_length.specs.Failures.{CountsFailure};
 ghost use Rattle.ngc_machine.specs.MachineRanges.{IsMachine};
-ghost use Rattle.ngc_run_log.specs.Recording.{AreAtMost};
+ghost use Rattle.ngc_run_log.specs.Forms.{GoesThroughAs, IsTracedThrough, IsTracedOff, PulsesGoThrough};
+ghost use Rattle.ngc_run_log.specs.Recording.{HasFew};
 ghost use Rattle.ngc_run_log.specs.Runs.{FailsByWriting};
 ghost use Rattle.ngc_run_log.specs.Stretches.{IsUntouched, IsGiven, IsGivenLast, GoesBy, BreaksOff, TicksBy, GoesBehind, FinishesHead, Finishes, ending_in, is_stop};
-ghost use Rattle.ngc_run_log.specs.Through.{IsLoggedThrough, IsBrokenOff, GoesThrough};
+ghost use Rattle.ngc_run_log.specs.Through.{GoesThrough};
+ghost use Rattle.ngc_run_log.specs.Tracing.{ticks_of};
 
 use crate::recorder::Recorder;
 use crate::report::{Report, RunFault};
+use crate::trace::{Form, Trace};
 use ngc_checker::Accepted;
 use ngc_controller::Controller;
 use ngc_events::{Ending, Event, EventFault, Reply};
@@ -31,7 +34,7 @@ fn give<A: Allocator + Copy, W: Sink>(
     recorder: &mut Recorder,
     sink: &mut W,
 ) -> Result<Result<Reply, EventFault>, WriteFault>
-    requires { AreAtMost (2 ^ 126) recorder.old.report }
+    requires { HasFew (2 ^ 126) recorder.old }
     ensures given { IfOk result (IsGiven event controller.old controller.new recorder.old recorder.new (W.written sink.old) (W.written sink.new)) }
     ensures fault { OnErr result (IsGivenLast event controller.old recorder.old (W.written sink.old) (W.written sink.new)) }
     ensures failures { CountsFailure (W.failures sink.old) (W.failures sink.new) result }
@@ -55,7 +58,7 @@ fn load_next<A: Allocator + Copy, W: Sink>(
     requires runs { controller.old.state.stopped ≡ false }
     requires room { length controller.old.state.ring < RING }
     requires left { loaded controller.old.state < length controller.old.job.commands }
-    requires few { AreAtMost (2 ^ 126) recorder.old.report }
+    requires few { HasFew (2 ^ 126) recorder.old }
     ensures goes { OnOk result (GoesBy 1 1 0 controller.old controller.new recorder.old recorder.new (W.written sink.old) (W.written sink.new)) }
     ensures runs { OnOk result (controller.new.state.stopped ≡ false) }
     ensures fault { OnErr result (BreaksOff controller.old recorder.old (W.written sink.old) (W.written sink.new)) }
@@ -74,7 +77,7 @@ fn start_again<A: Allocator + Copy, W: Sink>(
     sink: &mut W,
 ) -> Result<(), WriteFault>
     requires untouched { IsUntouched controller.old.job controller.old.state }
-    requires few { AreAtMost (2 ^ 126) recorder.old.report }
+    requires few { HasFew (2 ^ 126) recorder.old }
     ensures goes { OnOk result (GoesBy 1 0 0 controller.old controller.new recorder.old recorder.new (W.written sink.old) (W.written sink.new)) }
     ensures runs { OnOk result (controller.new.state.stopped ≡ false) }
     ensures fault { OnErr result (BreaksOff controller.old recorder.old (W.written sink.old) (W.written sink.new)) }
@@ -105,7 +108,7 @@ fn tick<A: Allocator + Copy, W: Sink>(
     requires untouched { IsUntouched controller.old.job controller.old.state }
     requires runs { controller.old.state.stopped ≡ false }
     requires some { 1 ≤ length controller.old.state.ring }
-    requires few { AreAtMost (2 ^ 126) recorder.old.report }
+    requires few { HasFew (2 ^ 126) recorder.old }
     ensures ticks { IfOk result (TicksBy controller.old controller.new recorder.old recorder.new (W.written sink.old) (W.written sink.new)) }
     ensures fault { OnErr result (BreaksOff controller.old recorder.old (W.written sink.old) (W.written sink.new)) }
     ensures failures { CountsFailure (W.failures sink.old) (W.failures sink.new) result }
@@ -125,7 +128,7 @@ fn go_on_behind<A: Allocator + Copy, W: Sink>(
 ) -> Result<(), WriteFault>
     requires untouched { IsUntouched controller.old.job controller.old.state }
     requires runs { is_stop ending ≡ false → controller.old.state.stopped ≡ false }
-    requires few { AreAtMost (2 ^ 126) recorder.old.report }
+    requires few { HasFew (2 ^ 126) recorder.old }
     ensures goes { OnOk result (GoesBehind ending controller.old controller.new recorder.old recorder.new (W.written sink.old) (W.written sink.new)) }
     ensures runs { OnOk result (controller.new.state.stopped ≡ false) }
     ensures fault { OnErr result (BreaksOff controller.old recorder.old (W.written sink.old) (W.written sink.new)) }
@@ -147,7 +150,7 @@ fn finish_head<A: Allocator + Copy, W: Sink>(
     requires untouched { IsUntouched controller.old.job controller.old.state }
     requires runs { controller.old.state.stopped ≡ false }
     requires some { 1 ≤ length controller.old.state.ring }
-    requires few { AreAtMost (2 ^ 125) recorder.old.report }
+    requires few { HasFew (2 ^ 125) recorder.old }
     ensures goes { OnOk result (FinishesHead controller.old controller.new recorder.old recorder.new (W.written sink.old) (W.written sink.new)) }
     ensures runs { OnOk result (controller.new.state.stopped ≡ false) }
     ensures fault { OnErr result (BreaksOff controller.old recorder.old (W.written sink.old) (W.written sink.new)) }
@@ -175,7 +178,7 @@ fn fill_ring<A: Allocator + Copy, W: Sink>(
     requires left { loaded controller.old.state + count ≤ length controller.old.job.commands }
     requires untouched { IsUntouched controller.old.job controller.old.state }
     requires runs { controller.old.state.stopped ≡ false }
-    requires few { AreAtMost (2 ^ 120) recorder.old.report }
+    requires few { HasFew (2 ^ 120) recorder.old }
     ensures goes { OnOk result (GoesBy count count 0 controller.old controller.new recorder.old recorder.new (W.written sink.old) (W.written sink.new)) }
     ensures runs { OnOk result (controller.new.state.stopped ≡ false) }
     ensures fault { OnErr result (BreaksOff controller.old recorder.old (W.written sink.old) (W.written sink.new)) }
@@ -203,7 +206,7 @@ fn keep_full<A: Allocator + Copy, W: Sink>(
     requires few_commands { count ≤ COMMAND_LIMIT }
     requires untouched { IsUntouched controller.old.job controller.old.state }
     requires runs { controller.old.state.stopped ≡ false }
-    requires few { AreAtMost (2 ^ 121) recorder.old.report }
+    requires few { HasFew (2 ^ 121) recorder.old }
     ensures goes { OnOk result (GoesBy (count * 2 ^ 103) count count controller.old controller.new recorder.old recorder.new (W.written sink.old) (W.written sink.new)) }
     ensures runs { OnOk result (controller.new.state.stopped ≡ false) }
     ensures fault { OnErr result (BreaksOff controller.old recorder.old (W.written sink.old) (W.written sink.new)) }
@@ -233,7 +236,7 @@ fn finish<A: Allocator + Copy, W: Sink>(
     requires small { count ≤ RING }
     requires untouched { IsUntouched controller.old.job controller.old.state }
     requires runs { controller.old.state.stopped ≡ false }
-    requires few { AreAtMost (2 ^ 124) recorder.old.report }
+    requires few { HasFew (2 ^ 124) recorder.old }
     ensures goes { OnOk result (Finishes (count * 2 ^ 103) 0 count controller.old controller.new recorder.old recorder.new (W.written sink.old) (W.written sink.new)) }
     ensures fault { OnErr result (BreaksOff controller.old recorder.old (W.written sink.old) (W.written sink.new)) }
     ensures failures { CountsFailure (W.failures sink.old) (W.failures sink.new) result }
@@ -260,7 +263,7 @@ fn go_on<A: Allocator + Copy, W: Sink>(
     requires none_done { controller.old.state.done ≡ 0 }
     requires untouched { IsUntouched controller.old.job controller.old.state }
     requires runs { controller.old.state.stopped ≡ false }
-    requires few { AreAtMost 0 recorder.old.report }
+    requires few { HasFew 0 recorder.old }
     ensures goes { OnOk result (Finishes (2 ^ 125) count count controller.old controller.new recorder.old recorder.new (W.written sink.old) (W.written sink.new)) }
     ensures fault { OnErr result (BreaksOff controller.old recorder.old (W.written sink.old) (W.written sink.new)) }
     ensures failures { CountsFailure (W.failures sink.old) (W.failures sink.new) result }
@@ -281,6 +284,7 @@ fn go_on<A: Allocator + Copy, W: Sink>(
 fn go_through<A: Allocator + Copy, W: Sink>(
     controller: &mut Controller<ArcPath, A>,
     count: usize,
+    trace: Trace,
     sink: &mut W,
 ) -> Result<Report, WriteFault>
     requires opens { controller.old.state ≡ opening controller.old.job.machine }
@@ -290,16 +294,42 @@ fn go_through<A: Allocator + Copy, W: Sink>(
     requires has_end { HasEnd controller.old.job.commands }
     requires count { count ≡ length controller.old.job.commands }
     requires few_commands { count ≤ COMMAND_LIMIT }
-    ensures logged { IfOk result (IsLoggedThrough controller.old.job (W.written sink.old) (W.written sink.new)) }
-    ensures broken { OnErr result (IsBrokenOff controller.old.job (W.written sink.old) (W.written sink.new)) }
+    requires begins { ticks_of trace ≡ 0 }
+    ensures traced { IfOk result (IsTracedThrough trace controller.old.job (W.written sink.old) (W.written sink.new)) }
+    ensures broken { OnErr result (IsTracedOff trace controller.old.job (W.written sink.old) (W.written sink.new)) }
     ensures failures { CountsFailure (W.failures sink.old) (W.failures sink.new) result }
 {
-    let mut recorder = Recorder::new(controller.position());
+    let mut recorder = Recorder::new(trace, controller.position());
     match go_on(controller, count, &mut recorder, sink) {
         Ok(()) => {}
         Err(fault) => return Err(fault),
     }
     recorder.finish(sink)
+}
+
+// Goes through what was accepted, and writes it in a form.
+fn go_through_as<A: Allocator + Copy, W: Sink>(
+    alloc: A,
+    accepted: Accepted<A>,
+    block_delete: bool,
+    form: Form,
+    sink: &mut W,
+) -> Result<Report, RunFault>
+    ensures goes_through { GoesThroughAs form (job_of accepted.machine (commands_at block_delete accepted)) (W.written sink.old) (W.written sink.new) result }
+    ensures counts { FailsByWriting result (W.failures sink.old) (W.failures sink.new) }
+{
+    // What holds of all that was accepted makes the run a safe one, which is done in time.
+    let ticks_per_second = accepted.machine().ticks_per_second;
+    let count = accepted.commands(block_delete).len();
+    let mut controller = match Controller::<ArcPath, A>::new(alloc, accepted, block_delete) {
+        Ok(controller) => controller,
+        Err(_) => return Err(RunFault::Memory),
+    };
+    let trace = Trace::new(form, ticks_per_second, controller.position());
+    match go_through(&mut controller, count, trace, sink) {
+        Ok(report) => Ok(report),
+        Err(fault) => Err(RunFault::Write(fault)),
+    }
 }
 
 /// Runs what was accepted through to its end, at a setting of block delete, and writes the log: the
@@ -315,15 +345,20 @@ pub fn run_through<A: Allocator + Copy, W: Sink>(
     ensures goes_through { GoesThrough (job_of accepted.machine (commands_at block_delete accepted)) (W.written sink.old) (W.written sink.new) result }
     ensures counts { FailsByWriting result (W.failures sink.old) (W.failures sink.new) }
 {
-    // What holds of all that was accepted makes the run a safe one, which is done in time.
-    let _machine = accepted.machine();
-    let count = accepted.commands(block_delete).len();
-    let mut controller = match Controller::<ArcPath, A>::new(alloc, accepted, block_delete) {
-        Ok(controller) => controller,
-        Err(_) => return Err(RunFault::Memory),
-    };
-    match go_through(&mut controller, count, sink) {
-        Ok(report) => Ok(report),
-        Err(fault) => Err(RunFault::Write(fault)),
-    }
+    go_through_as(alloc, accepted, block_delete, Form::Log, sink)
+}
+
+/// Runs what was accepted through to its end as [`run_through`] does, and writes the pulses of all its
+/// ticks as a value change dump. Want of memory is 900, with nothing written; where a write failed
+/// (902) a beginning of the dump is written.
+pub fn write_pulses_through<A: Allocator + Copy, W: Sink>(
+    alloc: A,
+    accepted: Accepted<A>,
+    block_delete: bool,
+    sink: &mut W,
+) -> Result<Report, RunFault>
+    ensures goes_through { PulsesGoThrough (job_of accepted.machine (commands_at block_delete accepted)) (W.written sink.old) (W.written sink.new) result }
+    ensures counts { FailsByWriting result (W.failures sink.old) (W.failures sink.new) }
+{
+    go_through_as(alloc, accepted, block_delete, Form::Pulses, sink)
 }

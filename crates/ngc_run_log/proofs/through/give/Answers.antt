@@ -1,9 +1,5 @@
-use Rattle.std.proofs.Common.{◌^◌, arith}
-use Rattle.ngc_run_log.proofs.Untouched.{at_most_more}
+use Rattle.std.proofs.Common.{arith}
 use Rattle.ngc_run_log.proofs.through.give.Goals as goal
-
-pub add-requires : goal.add-requires
-add-requires g c = at_most_more (2 ^ 126) (2 ^ 127) _ c.requires (omega arith)
 
 pub returns-in-Ok-clause-given : goal.returns-in-Ok-clause-given
 returns-in-Ok-clause-given g c = record {
@@ -12,8 +8,7 @@ returns-in-Ok-clause-given g c = record {
   goes_on = c.event-outcome.ensures.goes_on;
   short = c.event-outcome.ensures.short;
   dwelt = omega (arith, c.dwelt-dwelt.ensures.value, c.dwelt-dwelt.ensures.few);
-  counts = c.in-Ok.ensures.counts;
-  collects = c.in-Ok.ensures.collects;
+  records = c.in-Ok.ensures.records;
 }
 
 pub returns-in-Err-clause-fault : goal.returns-in-Err-clause-fault
@@ -22,5 +17,5 @@ returns-in-Err-clause-fault g c = record {
   reached = c.event-outcome.new.self.state;
   step = c.event-outcome.ensures.step;
   goes_on = c.event-outcome.ensures.goes_on;
-  logged = c.in-Err.ensures.fault;
+  begun = c.in-Err.ensures.fault;
 }

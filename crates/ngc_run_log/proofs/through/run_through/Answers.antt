@@ -1,24 +1,5 @@
-use Rattle.ngc_run_log.proofs.Comes.{safe_of, in_time_of, opens_of}
-use Rattle.ngc_run_log.proofs.WholeRun.{machine_of, end_of, through_as, broken_off_as}
+use Rattle.ngc_run_log.proofs.Forms.{logged_through}
 use Rattle.ngc_run_log.proofs.through.run_through.Goals as goal
 
-pub go_through-requires-clause-safe : goal.go_through-requires-clause-safe
-go_through-requires-clause-safe g c = safe_of c.args.accepted c.args.block_delete _ c.machine-machine.ensures.accepted c.in-Ok.ensures.made.0
-
-pub go_through-requires-clause-in_time : goal.go_through-requires-clause-in_time
-go_through-requires-clause-in_time g c = in_time_of c.args.accepted c.args.block_delete _ c.machine-machine.ensures.accepted c.in-Ok.ensures.made.0
-
-pub go_through-requires-clause-opens : goal.go_through-requires-clause-opens
-go_through-requires-clause-opens g c = opens_of c.args.accepted c.args.block_delete _ _ c.in-Ok.ensures.made.0 c.in-Ok.ensures.made.1
-
-pub go_through-requires-clause-machine : goal.go_through-requires-clause-machine
-go_through-requires-clause-machine g c = machine_of c.args.accepted c.args.block_delete _ c.machine-machine.ensures.accepted c.in-Ok.ensures.made.0
-
-pub go_through-requires-clause-has_end : goal.go_through-requires-clause-has_end
-go_through-requires-clause-has_end g c = end_of c.args.accepted c.args.block_delete _ c.machine-machine.ensures.accepted c.in-Ok.ensures.made.0
-
-pub returns-in-Ok-go_through-clause-goes_through : goal.returns-in-Ok-go_through-clause-goes_through
-returns-in-Ok-go_through-clause-goes_through g c = through_as _ _ _ _ _ c.in-Ok.ensures.made.0 c.in-Ok-go_through.ensures.logged
-
 pub returns-clause-goes_through : goal.returns-clause-goes_through
-returns-clause-goes_through g c = broken_off_as _ _ _ _ c.in-Ok.ensures.made.0 c.in-Err-go_through.ensures.broken
+returns-clause-goes_through g c = logged_through _ _ _ c.go_through_as.result c.go_through_as.ensures.goes_through

@@ -1,0 +1,2 @@
+pub mod Vcd
+pub mod Dumping
