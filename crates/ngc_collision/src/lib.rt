@@ -6,4 +6,5 @@ mod solid;
 mod travel;
 
 pub use bodies::first_met;
+pub use solid::{Place, Solid};
 pub use travel::is_in_travel;

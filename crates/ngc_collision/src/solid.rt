@@ -10,17 +10,17 @@ use ngc_machine::{Fixture, Part, Tool};
 
 /// A place of the machine, in nanometres.
 #[derive(Clone, Copy, Default)]
-pub(crate) struct Place {
-    x: i64,
-    y: i64,
-    z: i64,
+pub struct Place {
+    pub x: i64,
+    pub y: i64,
+    pub z: i64,
 }
 
 /// A box, in nanometres.
 #[derive(Clone, Copy, Default)]
-pub(crate) struct Solid {
-    low: Place,
-    high: Place,
+pub struct Solid {
+    pub low: Place,
+    pub high: Place,
 }
 
 /// So many steps, in nanometres.
@@ -82,7 +82,7 @@ impl Place {
     }
 
     /// A point as a place.
-    pub(crate) fn at(point: &Point3) -> Place
+    pub fn at(point: &Point3) -> Place
         ensures { place_of result ≡ point.now }
     {
         Place {
@@ -172,7 +172,7 @@ impl Solid {
 
     /// The boxes that the parts of a tool, or the controlled point alone, fill while that point goes all over a box of grid
     /// points.
-    pub(crate) fn swept(step: Nm, tool: Option<Tool>, bounds: &GridBox) -> ArrayVec<Solid, 4>
+    pub fn swept(step: Nm, tool: Option<Tool>, bounds: &GridBox) -> ArrayVec<Solid, 4>
         requires { IsStep step }
         ensures { bodies tool (span step bounds.now) ≡ map solid_of result.items }
     {

@@ -1,0 +1,5 @@
+pub mod Ahead
+pub mod Steps
+pub mod Called
+pub mod Texts
+pub mod Whole

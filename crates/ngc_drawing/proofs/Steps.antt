@@ -1,0 +1,26 @@
+-- What is still to be drawn, one step further.
+use Rattle.std.proofs.Common.{◌≡◌, ℕ, ◌+◌, ◌<◌, List, ◌++◌, length, get_or, drop, Option, ap, sym, ◌∙◌}
+use Rattle.std.proofs.lemmas.List.{drop_more}
+use Rattle.ngc_machine.specs.declared.machine.Fixture.{Fixture}
+use Rattle.ngc_machine.specs.declared.tools.Tool.{Tool}
+use Rattle.ngc_canonical.specs.declared.command.Command.{Command}
+use Rattle.ngc_drawing.specs.Pictures.{fixture, fixtures_from, tool_row, tool_rows}
+use Rattle.ngc_drawing.specs.Strokes.{strokes_of, strokes_from, after}
+use Rattle.ngc_drawing.specs.declared.pen.Pen.{Pen}
+use Rattle.ngc_drawing.specs.declared.view.View.{View}
+
+pub next_fixture : (view : View) (fs : List Fixture) (i : ℕ) (f : Fixture) → i < length fs → f ≡ get_or fs i f
+    → fixtures_from view i (drop i fs) ≡ fixture view i f ++ fixtures_from view (i + 1) (drop (i + 1) fs)
+next_fixture view fs i f inside found =
+    ap (fixtures_from view i) (drop_more fs i f inside) ∙ ap (λ (x : Fixture). fixture view i x ++ fixtures_from view (i + 1) (drop (i + 1) fs)) (sym found)
+
+pub next_tool : (tools : List (Option Tool)) (i : ℕ) (t : Option Tool) → i < length tools → t ≡ get_or tools i t
+    → tool_rows i (drop i tools) ≡ tool_row i t ++ tool_rows (i + 1) (drop (i + 1) tools)
+next_tool tools i t inside found =
+    ap (tool_rows i) (drop_more tools i t inside) ∙ ap (λ (x : Option Tool). tool_row i x ++ tool_rows (i + 1) (drop (i + 1) tools)) (sym found)
+
+pub next_command : (view : View) (tools : List (Option Tool)) (pen : Pen) (cs : List Command) (i : ℕ) (c : Command) → i < length cs → c ≡ get_or cs i c
+    → strokes_from view tools pen (drop i cs) ≡ strokes_of view pen c.action ++ strokes_from view tools (after view tools pen c.action) (drop (i + 1) cs)
+next_command view tools pen cs i c inside found =
+    ap (strokes_from view tools pen) (drop_more cs i c inside)
+    ∙ ap (λ (x : Command). strokes_of view pen x.action ++ strokes_from view tools (after view tools pen x.action) (drop (i + 1) cs)) (sym found)

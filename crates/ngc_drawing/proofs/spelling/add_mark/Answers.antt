@@ -1,0 +1,8 @@
+use Rattle.std.proofs.lemmas.List.{append_assoc}
+use Rattle.ngc_drawing.specs.Spelling.{mark_text}
+use Rattle.ngc_drawing.proofs.spelling.add_mark.Goals as goal
+
+pub returns-in-Axes-clause-text : goal.returns-in-Axes-clause-text
+unfolding mark_text
+returns-in-Axes-clause-text c =
+    rw (c.in-Axes.is, c.add_text-in-Axes-3.ensures, c.add_text-in-Axes-2.ensures, c.axes.ensures.text, c.add_text-in-Axes.ensures) (simp append_assoc)

@@ -1,0 +1,15 @@
+-- The faults of drawing. Our own.
+use Rattle.std.specs.Prelude.{◌≡◌, ℕ, Result, Ok, Err}
+use Rattle.ngc_fixed_length.specs.Failures.{Rises}
+use Rattle.ngc_drawing.specs.declared.fault.DrawFault.{DrawFault}
+use Rattle.ngc_drawing.specs.declared.fault.DrawFault.TheVariants.{Memory, Write}
+
+abbrev pub number_of : DrawFault → ℕ
+number_of Memory = 900
+number_of Write = 902
+
+-- the sink's count rises with a failed write, and else stays
+abbrev pub CountsUnlessMemory : ℕ → ℕ → Result (Unit {0}) DrawFault → Type 0
+CountsUnlessMemory old new (Ok u) = new ≡ old
+CountsUnlessMemory old new (Err Memory) = new ≡ old
+CountsUnlessMemory old new (Err Write) = Rises old new

@@ -1,0 +1,10 @@
+pub mod Views
+pub mod Tools
+pub mod Arcs
+pub mod Units
+pub mod Strokes
+pub mod Spelling
+pub mod Draws
+pub mod Sheets
+pub mod Pictures
+pub mod Faults

@@ -1,0 +1,97 @@
+-- What is drawn of the path. Our own.
+use Rattle.std.specs.Prelude.{ℕ, ◌==◌, ℤ, pos, List, [], ◌∷◌, ◌++◌, map, Option, Some, None, Bool, true, false, ◌&&◌, not, if◌then◌else◌}
+use Rattle.std.specs.Ordering.{int_eq}
+use Rattle.ngc_fixed_length.specs.Places.{height}
+use Rattle.ngc_fixed_length.specs.declared.modes.Plane.{Plane}
+use Rattle.ngc_fixed_length.specs.declared.modes.Plane.TheVariants.{XY, ZX, YZ}
+use Rattle.ngc_fixed_length.specs.declared.modes.Turn.{Turn}
+use Rattle.ngc_fixed_length.specs.declared.modes.Turn.TheVariants.{Clockwise, Counterclockwise}
+use Rattle.ngc_arc_geometry.specs.Shape.{ArcShape}
+use Rattle.ngc_arc_geometry.specs.Radii.{outer_radius}
+use Rattle.ngc_machine.specs.declared.tools.Tool.{Tool}
+use Rattle.ngc_canonical.specs.Movement.{start_of, end_of}
+use Rattle.ngc_canonical.specs.declared.command.Action.{Action}
+use Rattle.ngc_canonical.specs.declared.command.Action.TheVariants.{Move, Mount}
+use Rattle.ngc_canonical.specs.declared.command.Command.{Command}
+use Rattle.ngc_canonical.specs.declared.movement.Pace.{Pace}
+use Rattle.ngc_canonical.specs.declared.movement.Pace.TheVariants as paces
+use Rattle.ngc_canonical.specs.declared.movement.Way.{Way}
+use Rattle.ngc_canonical.specs.declared.movement.Way.TheVariants.{Line, Arc}
+use Rattle.ngc_drawing.specs.Arcs.{corner_spots}
+use Rattle.ngc_drawing.specs.Tools.{rank_of, number_of}
+use Rattle.ngc_drawing.specs.Views.{spot, faces, is_same, micrometres}
+use Rattle.ngc_drawing.specs.declared.pen.Pen.{Pen}
+use Rattle.ngc_drawing.specs.declared.pen.Run.{Run}
+use Rattle.ngc_drawing.specs.declared.shape.Ink.{Ink}
+use Rattle.ngc_drawing.specs.declared.shape.Ink.TheVariants as inks
+use Rattle.ngc_drawing.specs.declared.shape.Shape.{Shape}
+use Rattle.ngc_drawing.specs.declared.shape.Shape.TheVariants as shapes
+use Rattle.ngc_drawing.specs.declared.spot.Spot.{Spot}
+use Rattle.ngc_drawing.specs.declared.view.View.{View}
+use Rattle.ngc_drawing.specs.declared.view.View.TheVariants.{Top, Front, Side}
+
+-- a motion has the colour of the tool that is mounted then, and a traverse is dashed
+abbrev pub ink_of : ℕ → Pace → Ink
+ink_of rank paces.Rapid = inks.Traverse rank
+ink_of rank (paces.Feed feed) = inks.Feed rank
+
+abbrev pub is_same_ink : Ink → Ink → Bool
+is_same_ink (inks.Feed m) (inks.Feed n) = m == n
+is_same_ink (inks.Traverse m) (inks.Traverse n) = m == n
+is_same_ink _ _ = false
+
+-- a stroke goes on with the path that is drawn, where that has its ink and ends where the stroke begins, and else begins one
+abbrev pub lead : Option Run → Ink → Spot → List Shape
+lead None ink from = shapes.Path ink from ∷ []
+lead (Some run) ink from =
+    if is_same_ink run.ink ink && is_same run.at from then [] else shapes.PathEnd ∷ shapes.Path ink from ∷ []
+
+-- an arc's sense, seen in a view that faces its plane: X and Z of the front turn the other way than Z and X
+abbrev pub is_seen_clockwise : View → Turn → Bool
+is_seen_clockwise Front Clockwise = false
+is_seen_clockwise Front Counterclockwise = true
+is_seen_clockwise _ Clockwise = true
+is_seen_clockwise _ Counterclockwise = false
+
+-- an arc in quarters, from one extreme point to the next; seen from its side, a line to and fro
+abbrev pub round : View → ArcShape → Spot → Shape
+round view arc to = shapes.Round (micrometres (pos (outer_radius arc))) (is_seen_clockwise view arc.turn) to
+
+abbrev pub is_flat : ArcShape → Bool
+is_flat arc = int_eq (height arc.plane arc.start) (height arc.plane arc.end)
+
+abbrev pub arc_course : View → ArcShape → List Shape
+arc_course view arc =
+    if faces view arc.plane then map (round view arc) (corner_spots view arc)
+    else (if is_flat arc then map shapes.Line (corner_spots view arc) else shapes.Line (spot view arc.end) ∷ [])
+
+-- the way to a motion's end; what falls on one spot is left out
+abbrev pub course : View → Way → List Shape
+course view (Line start end) = if is_same (spot view start) (spot view end) then [] else shapes.Line (spot view end) ∷ []
+course view (Arc arc) = arc_course view arc
+
+abbrev pub stroke : View → Option Run → Ink → Way → List Shape
+stroke view run ink way = lead run ink (spot view (start_of way)) ++ course view way
+
+abbrev pub strokes_of : View → Pen → Action → List Shape
+strokes_of view pen (Move m) = stroke view pen.run (ink_of pen.rank m.pace) m.way
+strokes_of view pen _ = []
+
+-- how the pen goes on
+abbrev pub after : View → List (Option Tool) → Pen → Action → Pen
+after view used pen (Move m) = record { rank = pen.rank; run = Some (record { ink = ink_of pen.rank m.pace; at = spot view (end_of m.way) }) }
+after view used pen (Mount tool) = record { rank = rank_of used (number_of tool); run = pen.run }
+after view used pen _ = pen
+
+abbrev pub last_end : Option Run → List Shape
+last_end None = []
+last_end (Some run) = shapes.PathEnd ∷ []
+
+-- all motions, in order
+abbrev pub strokes_from : View → List (Option Tool) → Pen → List Command → List Shape
+strokes_from view used pen [] = last_end pen.run
+strokes_from view used pen (c ∷ cs) = strokes_of view pen c.action ++ strokes_from view used (after view used pen c.action) cs
+
+-- without a tool at first
+abbrev pub strokes : View → List (Option Tool) → List Command → List Shape
+strokes view used commands = strokes_from view used (record { rank = rank_of used 0; run = None }) commands

@@ -1,0 +1,37 @@
+-- The tools that a program's motions use, and their colours. Our own.
+use Rattle.std.specs.Prelude.{ℕ, ◌+◌, ◌==◌, nat_lt, length, List, [], ◌∷◌, ◌++◌, Option, Some, None, if◌then◌else◌}
+use Rattle.ngc_machine.specs.declared.tools.Tool.{Tool}
+use Rattle.ngc_canonical.specs.declared.command.Action.{Action}
+use Rattle.ngc_canonical.specs.declared.command.Action.TheVariants.{Move, Mount}
+use Rattle.ngc_canonical.specs.declared.command.Command.{Command}
+
+-- no tool is 0
+abbrev pub number_of : Option Tool → ℕ
+number_of None = 0
+number_of (Some tool) = tool.number
+
+-- where in a list the tool of a number first stands, or the list's length
+abbrev pub rank_of : List (Option Tool) → ℕ → ℕ
+rank_of [] n = 0
+rank_of (tool ∷ tools) n = if number_of tool == n then 0 else rank_of tools n + 1
+
+-- a list with one more tool, unless it has it
+abbrev pub with_tool : List (Option Tool) → Option Tool → List (Option Tool)
+with_tool tools tool = if nat_lt (rank_of tools (number_of tool)) (length tools) then tools else tools ++ tool ∷ []
+
+-- the tool that is mounted behind an action, and the tools that are used by then
+abbrev pub mounted : Option Tool → Action → Option Tool
+mounted tool (Mount other) = other
+mounted tool _ = tool
+
+abbrev pub used_by : List (Option Tool) → Option Tool → Action → List (Option Tool)
+used_by tools tool (Move m) = with_tool tools tool
+used_by tools tool _ = tools
+
+-- the tools that motions use, each once, in the order of their first motions
+abbrev pub used_from : List (Option Tool) → Option Tool → List Command → List (Option Tool)
+used_from tools tool [] = tools
+used_from tools tool (c ∷ cs) = used_from (used_by tools tool c.action) (mounted tool c.action) cs
+
+abbrev pub used : List Command → List (Option Tool)
+used commands = used_from [] None commands

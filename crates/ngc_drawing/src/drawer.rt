@@ -1,0 +1,49 @@
+//! How shapes are written.
+ghost use Rattle.ngc_fixed_length.specs.Failures.{CountsFailure};
+ghost use Rattle.ngc_output.specs.Collected.{HasLineRoom};
+ghost use Rattle.ngc_certificate_text.specs.Collects.{Collects};
+ghost use Rattle.ngc_drawing.specs.Draws.{Draws};
+ghost use Rattle.ngc_drawing.specs.Spelling.{shape_text};
+
+use crate::shape::Shape;
+use crate::sheet::Unit;
+use crate::spelling::add_shape;
+use ngc_fixed_length::{Sink, WriteFault};
+use ngc_output::Chunk;
+
+/// Draws a shape, in a drawing of this unit.
+fn draw<W: Sink>(
+    chunk: &mut Chunk,
+    unit: &Unit,
+    shape: &Shape,
+    sink: &mut W,
+) -> Result<(), WriteFault>
+    ensures text { Collects (W.written sink.old) (W.written sink.new) chunk.old chunk.new result (shape_text unit.now.micrometres shape.now) }
+    ensures counts { CountsFailure (W.failures sink.old) (W.failures sink.new) result }
+{
+    match chunk.make_room(sink) {
+        Ok(()) => {}
+        Err(fault) => return Err(fault),
+    }
+    add_shape(chunk, unit.micrometres, shape);
+    Ok(())
+}
+
+/// Draws shapes, one after another.
+pub(crate) fn draw_all<W: Sink>(
+    chunk: &mut Chunk,
+    unit: &Unit,
+    shapes: &[Shape],
+    sink: &mut W,
+) -> Result<(), WriteFault>
+    ensures drawn { Draws unit.now.micrometres (W.written sink.old) (W.written sink.new) chunk.old chunk.new result shapes.now }
+    ensures counts { CountsFailure (W.failures sink.old) (W.failures sink.new) result }
+{
+    for shape in shapes {
+        match draw(chunk, unit, shape, sink) {
+            Ok(()) => {}
+            Err(fault) => return Err(fault),
+        }
+    }
+    Ok(())
+}

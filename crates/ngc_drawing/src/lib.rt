@@ -1,0 +1,22 @@
+//! Pictures of programs: what is drawn, and its text as SVG.
+#![tactic(auto)]
+
+mod drawer;
+mod fault;
+mod pen;
+mod picture;
+mod refusal;
+mod shape;
+mod sheet;
+mod spelling;
+mod spot;
+mod strokes;
+mod tools;
+mod view;
+
+pub use fault::DrawFault;
+pub use picture::write_svg;
+pub use refusal::Refusal;
+pub use shape::{Ink, Mark, Shape, Sheet};
+pub use spot::{Rectangle, Spot};
+pub use view::View;

@@ -1,0 +1,67 @@
+ghost use Rattle.std.specs.Prelude.{◌≡◌};
+ghost use Rattle.ngc_drawing.specs.Strokes.{ink_of, is_same_ink, after};
+
+use crate::shape::Ink;
+use crate::spot::Spot;
+use crate::tools::{number_of, rank_of};
+use crate::view::View;
+use ngc_canonical::{Action, Pace, Tool};
+
+/// A path that is being drawn: its ink, and where it has come to.
+#[derive(Clone, Copy)]
+pub(crate) struct Run {
+    pub ink: Ink,
+    pub at: Spot,
+}
+
+/// The rank of the mounted tool among those that are used, and the path that is being drawn.
+#[derive(Clone, Copy)]
+pub(crate) struct Pen {
+    pub rank: usize,
+    pub run: Option<Run>,
+}
+
+/// The ink of a motion.
+pub(crate) fn ink_of(rank: usize, pace: &Pace) -> Ink
+    ensures { result ≡ ink_of rank pace.now }
+{
+    match pace {
+        Pace::Rapid => Ink::Traverse(rank),
+        Pace::Feed(_) => Ink::Feed(rank),
+    }
+}
+
+impl Ink {
+    pub(crate) fn is_same(&self, other: &Ink) -> bool
+        ensures { result ≡ is_same_ink self.now other.now }
+    {
+        match (self, other) {
+            (Ink::Feed(rank), Ink::Feed(other)) | (Ink::Traverse(rank), Ink::Traverse(other)) => {
+                *rank == *other
+            }
+            _ => false,
+        }
+    }
+}
+
+impl Pen {
+    /// The pen behind an action.
+    pub(crate) fn after(&self, view: View, used: &[Option<Tool>], action: &Action) -> Pen
+        ensures { result ≡ after view used.now self.now action.now }
+    {
+        match action {
+            Action::Move(motion) => Pen {
+                rank: self.rank,
+                run: Some(Run {
+                    ink: ink_of(self.rank, &motion.pace),
+                    at: view.spot(&motion.way.end()),
+                }),
+            },
+            Action::Mount(tool) => Pen {
+                rank: rank_of(used, number_of(tool)),
+                run: self.run,
+            },
+            _ => *self,
+        }
+    }
+}

@@ -1,0 +1,95 @@
+use crate::spot::{Rectangle, Spot};
+use crate::view::View;
+
+/// With what a path is drawn: the colour of the tool that is mounted then, by its rank among the tools that the program uses,
+/// dashed where the motion is a traverse; or the red of a fault.
+#[derive(Clone, Copy)]
+pub enum Ink {
+    Feed(usize),
+    Traverse(usize),
+    Fault,
+}
+
+/// A mark beside the path.
+#[derive(Clone, Copy)]
+pub enum Mark {
+    /// Where the axes stand when the machine is started.
+    Start,
+    /// The home position of G28.
+    Home,
+    /// The home position of G30.
+    SecondHome,
+    /// The names of the axes.
+    Axes(View),
+}
+
+/// The sheet that is drawn on, in micrometres: its corner, and its size.
+#[derive(Clone, Copy)]
+pub struct Sheet {
+    pub left: i128,
+    pub top: i128,
+    pub width: i128,
+    pub height: i128,
+}
+
+/// What a picture is made of, in the order of its text.
+#[derive(Clone, Copy)]
+pub enum Shape {
+    /// The sheet; all else stands in it.
+    Begin(Sheet),
+    /// How lines are drawn.
+    Lines,
+    /// The travel limits.
+    Travel(Rectangle),
+    /// A fixture.
+    Fixture(Rectangle),
+    /// The number of a fixture.
+    FixtureNumber(Spot, usize),
+    /// A fixture that a fault names.
+    FaultFixture(Rectangle),
+    /// The bodies of tools follow, lightly.
+    Bodies,
+    /// Where the body of the tool of this rank comes.
+    BodiesOf(usize),
+    /// A box that a part of it fills.
+    Body(Rectangle),
+    /// A path from this spot.
+    Path(Ink, Spot),
+    /// Straight on to a spot.
+    Line(Spot),
+    /// On to a spot along an arc of at most half a turn: its radius in micrometres, and whether it is seen to turn clockwise.
+    Round(i64, bool, Spot),
+    /// The path or the bodies of a tool end.
+    PathEnd,
+    /// The bodies end.
+    BodiesEnd,
+    Mark(Mark, Spot),
+    /// The number of a fault, beside its motion.
+    FaultNumber(Spot, u16),
+    /// A bar of this length in micrometres, below a spot.
+    Scale(Spot, u64),
+    /// What it says.
+    ScaleLength(Spot, u64),
+    /// The legend, below a spot.
+    Legend(Spot),
+    /// The tool of a rank and a number.
+    Tool(usize, u32),
+    /// A part of it: diameter and length in micrometres.
+    Part(i64, i64),
+    ToolEnd,
+    /// The fault, and the command that it is found at.
+    FaultLine(u16, usize),
+    /// The end of all.
+    End,
+}
+
+impl Default for Shape {
+    ghost use Rattle.std.specs.Prelude.{◌≡◌};
+    ghost use Rattle.ngc_drawing.specs.declared.shape.Shape.TheVariants as drawn;
+
+    ghost is_default = { λ shape. shape ≡ drawn.End };
+
+    fn default() -> Shape {
+        Shape::End
+    }
+}

@@ -1,0 +1,452 @@
+ghost use Rattle.std.specs.Prelude.{◌≡◌, ◌+◌, ◌*◌, ◌<◌, ◌≤◌, ◌++◌, codes, decimal, length};
+ghost use Rattle.ngc_output.specs.Collected.{CHUNK_SIZE, HasLineRoom};
+ghost use Rattle.ngc_drawing.specs.Units.{IsUnit};
+ghost use Rattle.ngc_drawing.specs.declared.shape.Shape.TheVariants as shapes;
+ghost use Rattle.ngc_drawing.specs.Spelling.{sign_text, turned_sign, decimals, size_text, length_text, down_text, spot_text, area_text, colour_text, ink_text, sign_at, axes_text, mark_text, turn_text, begin_text, scale_text, tool_text, shape_text};
+
+use crate::shape::{Ink, Mark, Shape, Sheet};
+use crate::spot::{Rectangle, Spot};
+use crate::view::View;
+use ngc_output::Chunk;
+
+fn sign(micrometres: i64) -> &'static [u8]
+    ensures text { result.now ≡ sign_text micrometres }
+    ensures short { length result.now ≤ 1 }
+{
+    if micrometres < 0 { b"-" } else { b"" }
+}
+
+fn wide_sign(micrometres: i128) -> &'static [u8]
+    ensures text { result.now ≡ sign_text micrometres }
+    ensures short { length result.now ≤ 1 }
+{
+    if micrometres < 0 { b"-" } else { b"" }
+}
+
+fn turned_sign(micrometres: i64) -> &'static [u8]
+    ensures text { result.now ≡ turned_sign micrometres }
+    ensures short { length result.now ≤ 1 }
+{
+    if 0 < micrometres { b"-" } else { b"" }
+}
+
+fn decimals(thousandths: u64) -> [u8; 4]
+    requires { thousandths < 1000 }
+    ensures { result ≡ decimals thousandths }
+{
+    [
+        b'.',
+        b'0' + (thousandths / 100) as u8,
+        b'0' + (thousandths / 10 % 10) as u8,
+        b'0' + (thousandths % 10) as u8,
+    ]
+}
+
+/// Adds a size in micrometres as millimetres with three decimals.
+#[tactic(auto, unfolding(crate::specs::Spelling::size_text))]
+fn add_size(chunk: &mut Chunk, size: u64)
+    requires { length chunk.old + 44 ≤ CHUNK_SIZE }
+    ensures text { chunk.new ≡ chunk.old ++ size_text size }
+    ensures short { length chunk.new ≤ length chunk.old + 44 }
+{
+    chunk.add_number(size / 1_000);
+    chunk.add_text(&decimals(size % 1_000));
+}
+
+#[tactic(auto, unfolding(crate::specs::Spelling::size_text))]
+fn add_wide_size(chunk: &mut Chunk, size: u128)
+    requires { length chunk.old + 44 ≤ CHUNK_SIZE }
+    ensures text { chunk.new ≡ chunk.old ++ size_text size }
+    ensures short { length chunk.new ≤ length chunk.old + 44 }
+{
+    chunk.add_number(size / 1_000);
+    chunk.add_text(&decimals((size % 1_000) as u64));
+}
+
+/// Adds a length in micrometres as millimetres.
+#[tactic(auto, unfolding(crate::specs::Spelling::length_text))]
+fn add_length(chunk: &mut Chunk, micrometres: i64)
+    requires { length chunk.old + 45 ≤ CHUNK_SIZE }
+    ensures text { chunk.new ≡ chunk.old ++ length_text micrometres }
+    ensures short { length chunk.new ≤ length chunk.old + 45 }
+{
+    chunk.add_text(sign(micrometres));
+    add_size(chunk, micrometres.unsigned_abs());
+}
+
+#[tactic(auto, unfolding(crate::specs::Spelling::length_text))]
+fn add_wide(chunk: &mut Chunk, micrometres: i128)
+    requires { length chunk.old + 45 ≤ CHUNK_SIZE }
+    ensures text { chunk.new ≡ chunk.old ++ length_text micrometres }
+    ensures short { length chunk.new ≤ length chunk.old + 45 }
+{
+    chunk.add_text(wide_sign(micrometres));
+    add_wide_size(chunk, micrometres.unsigned_abs());
+}
+
+/// Adds a coordinate that counts upwards, as one that counts downwards.
+#[tactic(auto, unfolding(crate::specs::Spelling::down_text))]
+fn add_down(chunk: &mut Chunk, micrometres: i64)
+    requires { length chunk.old + 45 ≤ CHUNK_SIZE }
+    ensures text { chunk.new ≡ chunk.old ++ down_text micrometres }
+    ensures short { length chunk.new ≤ length chunk.old + 45 }
+{
+    chunk.add_text(turned_sign(micrometres));
+    add_size(chunk, micrometres.unsigned_abs());
+}
+
+fn add_spot(chunk: &mut Chunk, spot: &Spot)
+    requires { length chunk.old + 91 ≤ CHUNK_SIZE }
+    ensures text { chunk.new ≡ chunk.old ++ spot_text spot.now }
+    ensures short { length chunk.new ≤ length chunk.old + 91 }
+{
+    add_length(chunk, spot.across);
+    chunk.add_text(b" ");
+    add_down(chunk, spot.up);
+}
+
+fn add_area(chunk: &mut Chunk, area: &Rectangle)
+    requires { length chunk.old + 231 ≤ CHUNK_SIZE }
+    ensures text { chunk.new ≡ chunk.old ++ area_text area.now }
+    ensures short { length chunk.new ≤ length chunk.old + 231 }
+{
+    chunk.add_text(b"M");
+    add_spot(chunk, &area.low);
+    chunk.add_text(b"H");
+    add_length(chunk, area.high.across);
+    chunk.add_text(b"V");
+    add_down(chunk, area.high.up);
+    chunk.add_text(b"H");
+    add_length(chunk, area.low.across);
+    chunk.add_text(b"Z");
+}
+
+#[tactic(auto, unfolding(crate::specs::Spelling::colour_text))]
+fn colour(rank: usize) -> &'static [u8]
+    ensures text { result.now ≡ colour_text rank }
+    ensures short { length result.now ≤ 7 }
+{
+    match rank % 8 {
+        0 => b"#0072B2",
+        1 => b"#E69F00",
+        2 => b"#009E73",
+        3 => b"#CC79A7",
+        4 => b"#56B4E9",
+        5 => b"#9030F0",
+        6 => b"#604860",
+        _ => b"#C0A860",
+    }
+}
+
+#[tactic(auto, unfolding(crate::specs::Spelling::ink_text))]
+fn add_ink(chunk: &mut Chunk, ink: &Ink)
+    requires { length chunk.old + 40 ≤ CHUNK_SIZE }
+    ensures text { chunk.new ≡ chunk.old ++ ink_text ink.now }
+    ensures short { length chunk.new ≤ length chunk.old + 40 }
+{
+    match ink {
+        Ink::Feed(rank) => chunk.add_text(colour(*rank)),
+        Ink::Traverse(rank) => {
+            chunk.add_text(colour(*rank));
+            chunk.add_text(b"\" stroke-dasharray=\".6%");
+        }
+        Ink::Fault => chunk.add_text(b"#E60000\" stroke-width=\".4%"),
+    }
+}
+
+/// Where signs in units begin: they stand about a spot.
+fn begin_sign(chunk: &mut Chunk, unit: i64, at: &Spot)
+    requires { length chunk.old + 190 ≤ CHUNK_SIZE }
+    ensures text { chunk.new ≡ chunk.old ++ (codes "<g stroke-width=\".1\" transform=\"translate(" ++ spot_text at.now ++ codes ") scale(" ++ length_text unit ++ codes ")\">") }
+    ensures short { length chunk.new ≤ length chunk.old + 190 }
+{
+    chunk.add_text(b"<g stroke-width=\".1\" transform=\"translate(");
+    add_spot(chunk, at);
+    chunk.add_text(b") scale(");
+    add_length(chunk, unit);
+    chunk.add_text(b")\">");
+}
+
+#[tactic(auto, unfolding(crate::specs::Spelling::axes_text))]
+fn axes(view: View) -> &'static [u8]
+    ensures text { result.now ≡ axes_text view }
+    ensures short { length result.now ≤ 70 }
+{
+    match view {
+        View::Top => b"X</text><text x=\"-7.2\" y=\"-3.7\" fill=\"#808080\" stroke=\"none\">Y",
+        View::Front => b"X</text><text x=\"-7.2\" y=\"-3.7\" fill=\"#808080\" stroke=\"none\">Z",
+        View::Side => b"Y</text><text x=\"-7.2\" y=\"-3.7\" fill=\"#808080\" stroke=\"none\">Z",
+    }
+}
+
+#[tactic(auto, unfolding(crate::specs::Spelling::mark_text))]
+fn add_mark(chunk: &mut Chunk, mark: &Mark)
+    requires { length chunk.old + 220 ≤ CHUNK_SIZE }
+    ensures text { chunk.new ≡ chunk.old ++ mark_text mark.now }
+    ensures short { length chunk.new ≤ length chunk.old + 220 }
+{
+    match mark {
+        Mark::Start => chunk.add_text(
+            b"<circle r=\".8\"/><text x=\"1\" y=\"-1\" fill=\"#808080\" stroke=\"none\">start</text>",
+        ),
+        Mark::Home => chunk.add_text(
+            b"<path d=\"M-1 -1L1 1M-1 1L1 -1\"/><text x=\"1\" y=\"2.4\" fill=\"#808080\" stroke=\"none\">G28</text>",
+        ),
+        Mark::SecondHome => chunk.add_text(
+            b"<path d=\"M-1 0L0 -1L1 0L0 1Z\"/><text x=\"-1\" y=\"2.4\" text-anchor=\"end\" fill=\"#808080\" stroke=\"none\">G30</text>",
+        ),
+        Mark::Axes(view) => {
+            chunk.add_text(
+                b"<path d=\"M-6.5 -3V3H-1M-7.1 -1.6L-6.5 -3L-5.9 -1.6M-2.4 2.4L-1 3L-2.4 3.6\"/><text x=\"-.5\" y=\"3.7\" fill=\"#808080\" stroke=\"none\">",
+            );
+            chunk.add_text(axes(*view));
+            chunk.add_text(b"</text>");
+        }
+    }
+}
+
+#[tactic(auto, unfolding(crate::specs::Spelling::turn_text))]
+fn turn(clockwise: bool) -> &'static [u8]
+    ensures text { result.now ≡ turn_text clockwise }
+    ensures short { length result.now ≤ 7 }
+{
+    if clockwise { b" 0 0 1 " } else { b" 0 0 0 " }
+}
+
+fn add_begin(chunk: &mut Chunk, sheet: &Sheet)
+    requires { HasLineRoom chunk.old }
+    ensures { chunk.new ≡ chunk.old ++ begin_text sheet.now }
+{
+    chunk.add_text(
+        b"<?xml version=\"1.0\" encoding=\"UTF-8\"?>\n<svg xmlns=\"http://www.w3.org/2000/svg\" version=\"1.1\" width=\"",
+    );
+    add_wide(chunk, sheet.width);
+    chunk.add_text(b"mm\" height=\"");
+    add_wide(chunk, sheet.height);
+    chunk.add_text(b"mm\" viewBox=\"");
+    add_wide(chunk, sheet.left);
+    chunk.add_text(b" ");
+    add_wide(chunk, sheet.top);
+    chunk.add_text(b" ");
+    add_wide(chunk, sheet.width);
+    chunk.add_text(b" ");
+    add_wide(chunk, sheet.height);
+    chunk.add_text(b"\">\n");
+}
+
+/// Adds an outline behind what begins its element.
+fn add_outline(chunk: &mut Chunk, beginning: &[u8], area: &Rectangle)
+    requires room { HasLineRoom chunk.old }
+    requires beginning { length beginning.now ≤ 100 }
+    ensures { chunk.new ≡ chunk.old ++ (beginning.now ++ area_text area.now ++ codes "\"/>\n") }
+{
+    chunk.add_text(beginning);
+    add_area(chunk, area);
+    chunk.add_text(b"\"/>\n");
+}
+
+fn add_fixture_number(chunk: &mut Chunk, unit: i64, at: &Spot, number: usize)
+    requires { HasLineRoom chunk.old }
+    ensures { chunk.new ≡ chunk.old ++ shape_text unit (shapes.FixtureNumber at.now number) }
+{
+    begin_sign(chunk, unit, at);
+    chunk.add_text(b"<text x=\".5\" y=\"-.5\" fill=\"#808080\" stroke=\"none\">");
+    chunk.add_number(number);
+    chunk.add_text(b"</text>");
+    chunk.add_text(b"</g>\n");
+}
+
+fn add_fault_number(chunk: &mut Chunk, unit: i64, at: &Spot, fault: u16)
+    requires { HasLineRoom chunk.old }
+    ensures { chunk.new ≡ chunk.old ++ shape_text unit (shapes.FaultNumber at.now fault) }
+{
+    begin_sign(chunk, unit, at);
+    chunk.add_text(b"<text x=\"1\" y=\"1\" fill=\"#E60000\" stroke=\"none\">");
+    chunk.add_number(fault);
+    chunk.add_text(b"</text>");
+    chunk.add_text(b"</g>\n");
+}
+
+fn add_marked(chunk: &mut Chunk, unit: i64, mark: &Mark, at: &Spot)
+    requires { HasLineRoom chunk.old }
+    ensures { chunk.new ≡ chunk.old ++ sign_at unit at.now (mark_text mark.now) }
+{
+    begin_sign(chunk, unit, at);
+    add_mark(chunk, mark);
+    chunk.add_text(b"</g>\n");
+}
+
+fn add_scale(chunk: &mut Chunk, unit: i64, at: &Spot, bar: u64)
+    requires room { HasLineRoom chunk.old }
+    requires unit { IsUnit unit }
+    ensures { chunk.new ≡ chunk.old ++ scale_text unit at.now bar }
+{
+    chunk.add_text(b"<path transform=\"translate(0 ");
+    add_length(chunk, 6 * unit);
+    chunk.add_text(b")\" d=\"M");
+    add_spot(chunk, at);
+    chunk.add_text(b"v-");
+    add_length(chunk, unit);
+    chunk.add_text(b"v");
+    add_length(chunk, unit);
+    chunk.add_text(b"h");
+    add_size(chunk, bar);
+    chunk.add_text(b"v-");
+    add_length(chunk, unit);
+    chunk.add_text(b"\"/>\n");
+}
+
+fn add_scale_length(chunk: &mut Chunk, unit: i64, at: &Spot, bar: u64)
+    requires { HasLineRoom chunk.old }
+    ensures { chunk.new ≡ chunk.old ++ shape_text unit (shapes.ScaleLength at.now bar) }
+{
+    begin_sign(chunk, unit, at);
+    chunk.add_text(b"<text x=\"0\" y=\"8.4\" fill=\"#808080\" stroke=\"none\">");
+    chunk.add_number(bar / 1_000);
+    chunk.add_text(b" mm</text>");
+    chunk.add_text(b"</g>\n");
+}
+
+fn add_legend(chunk: &mut Chunk, unit: i64, at: &Spot)
+    requires { HasLineRoom chunk.old }
+    ensures { chunk.new ≡ chunk.old ++ shape_text unit (shapes.Legend at.now) }
+{
+    chunk.add_text(b"<g transform=\"translate(");
+    add_spot(chunk, at);
+    chunk.add_text(b") scale(");
+    add_length(chunk, unit);
+    chunk.add_text(
+        b")\"><text y=\"8.4\" fill=\"#808080\" stroke=\"none\">\n<tspan x=\"0\" dy=\"3\">solid: feeds, dashed: traverses; of a tool each part's diameter x length</tspan>\n",
+    );
+}
+
+fn add_tool(chunk: &mut Chunk, rank: usize, number: u32)
+    requires { HasLineRoom chunk.old }
+    ensures { chunk.new ≡ chunk.old ++ (codes "<tspan x=\"0\" dy=\"3\" fill=\"" ++ colour_text rank ++ codes "\">&#9632; " ++ tool_text number) }
+{
+    chunk.add_text(b"<tspan x=\"0\" dy=\"3\" fill=\"");
+    chunk.add_text(colour(rank));
+    chunk.add_text(b"\">&#9632; ");
+    if number == 0 {
+        chunk.add_text(b"no tool");
+    } else {
+        chunk.add_text(b"T");
+        chunk.add_number(number);
+    }
+}
+
+fn add_path(chunk: &mut Chunk, ink: &Ink, at: &Spot)
+    requires { HasLineRoom chunk.old }
+    ensures { chunk.new ≡ chunk.old ++ (codes "<path stroke=\"" ++ ink_text ink.now ++ codes "\" d=\"M" ++ spot_text at.now) }
+{
+    chunk.add_text(b"<path stroke=\"");
+    add_ink(chunk, ink);
+    chunk.add_text(b"\" d=\"M");
+    add_spot(chunk, at);
+}
+
+fn add_round(chunk: &mut Chunk, radius: i64, clockwise: bool, to: &Spot)
+    requires { HasLineRoom chunk.old }
+    ensures { chunk.new ≡ chunk.old ++ (codes "\nA" ++ length_text radius ++ codes " " ++ length_text radius ++ turn_text clockwise ++ spot_text to.now) }
+{
+    chunk.add_text(b"\nA");
+    add_length(chunk, radius);
+    chunk.add_text(b" ");
+    add_length(chunk, radius);
+    chunk.add_text(turn(clockwise));
+    add_spot(chunk, to);
+}
+
+fn add_line(chunk: &mut Chunk, to: &Spot)
+    requires { HasLineRoom chunk.old }
+    ensures { chunk.new ≡ chunk.old ++ (codes "\nL" ++ spot_text to.now) }
+{
+    chunk.add_text(b"\nL");
+    add_spot(chunk, to);
+}
+
+fn add_body(chunk: &mut Chunk, area: &Rectangle)
+    requires { HasLineRoom chunk.old }
+    ensures { chunk.new ≡ chunk.old ++ (codes "\n" ++ area_text area.now) }
+{
+    chunk.add_text(b"\n");
+    add_area(chunk, area);
+}
+
+fn add_bodies_of(chunk: &mut Chunk, rank: usize)
+    requires { HasLineRoom chunk.old }
+    ensures { chunk.new ≡ chunk.old ++ (codes "<path fill=\"" ++ colour_text rank ++ codes "\" d=\"") }
+{
+    chunk.add_text(b"<path fill=\"");
+    chunk.add_text(colour(rank));
+    chunk.add_text(b"\" d=\"");
+}
+
+fn add_part(chunk: &mut Chunk, diameter: i64, long: i64)
+    requires { HasLineRoom chunk.old }
+    ensures { chunk.new ≡ chunk.old ++ (codes ", " ++ length_text diameter ++ codes " x " ++ length_text long) }
+{
+    chunk.add_text(b", ");
+    add_length(chunk, diameter);
+    chunk.add_text(b" x ");
+    add_length(chunk, long);
+}
+
+fn add_fault_line(chunk: &mut Chunk, fault: u16, command: usize)
+    requires { HasLineRoom chunk.old }
+    ensures { chunk.new ≡ chunk.old ++ (codes "<tspan x=\"0\" dy=\"3\" fill=\"#E60000\">fault " ++ decimal fault ++ codes " at command " ++ decimal command ++ codes "</tspan>\n") }
+{
+    chunk.add_text(b"<tspan x=\"0\" dy=\"3\" fill=\"#E60000\">fault ");
+    chunk.add_number(fault);
+    chunk.add_text(b" at command ");
+    chunk.add_number(command);
+    chunk.add_text(b"</tspan>\n");
+}
+
+/// Adds the text of a shape, in a drawing of this unit.
+pub(crate) fn add_shape(chunk: &mut Chunk, unit: i64, shape: &Shape)
+    requires room { HasLineRoom chunk.old }
+    requires unit { IsUnit unit }
+    ensures { chunk.new ≡ chunk.old ++ shape_text unit shape.now }
+{
+    match shape {
+        Shape::Begin(sheet) => add_begin(chunk, sheet),
+        Shape::Lines => chunk.add_text(
+            b"<g fill=\"none\" stroke=\"#808080\" stroke-width=\".15%\" stroke-linecap=\"round\" stroke-linejoin=\"round\" font-family=\"sans-serif\" font-size=\"2\">\n",
+        ),
+        Shape::Travel(area) => add_outline(chunk, b"<path d=\"", area),
+        Shape::Fixture(area) => {
+            add_outline(
+                chunk,
+                b"<path fill=\"#808080\" fill-opacity=\".3\" d=\"",
+                area,
+            );
+        }
+        Shape::FaultFixture(area) => {
+            add_outline(
+                chunk,
+                b"<path stroke=\"#E60000\" fill=\"#E60000\" fill-opacity=\".3\" d=\"",
+                area,
+            );
+        }
+        Shape::FixtureNumber(at, number) => add_fixture_number(chunk, unit, at, *number),
+        Shape::FaultNumber(at, fault) => add_fault_number(chunk, unit, at, *fault),
+        Shape::Mark(mark, at) => add_marked(chunk, unit, mark, at),
+        Shape::ScaleLength(at, bar) => add_scale_length(chunk, unit, at, *bar),
+        Shape::Bodies => chunk.add_text(b"<g stroke=\"none\" opacity=\".2\">\n"),
+        Shape::BodiesOf(rank) => add_bodies_of(chunk, *rank),
+        Shape::Body(area) => add_body(chunk, area),
+        Shape::Path(ink, at) => add_path(chunk, ink, at),
+        Shape::Line(to) => add_line(chunk, to),
+        Shape::Round(radius, clockwise, to) => add_round(chunk, *radius, *clockwise, to),
+        Shape::PathEnd => chunk.add_text(b"\"/>\n"),
+        Shape::BodiesEnd => chunk.add_text(b"</g>\n"),
+        Shape::Scale(at, bar) => add_scale(chunk, unit, at, *bar),
+        Shape::Legend(at) => add_legend(chunk, unit, at),
+        Shape::Tool(rank, number) => add_tool(chunk, *rank, *number),
+        Shape::Part(diameter, long) => add_part(chunk, *diameter, *long),
+        Shape::ToolEnd => chunk.add_text(b"</tspan>\n"),
+        Shape::FaultLine(fault, command) => add_fault_line(chunk, *fault, *command),
+        Shape::End => chunk.add_text(b"</text></g>\n</g>\n</svg>\n"),
+    }
+}
