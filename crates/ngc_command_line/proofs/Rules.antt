@@ -80,17 +80,17 @@ accepted : (b : Bool) (k : ErrorKind) → (if b then [] else k ∷ []) ≡ [] �
 accepted true k none = refl
 accepted false k none = let bad : k ∷ [] ≡ [] = none in cc
 
--- a value under the name lies in the range
-abbrev pub Fits : Text → ℕ → ℕ → Text → Text → Type 0
-Fits name low high id text = bytes_eq id name ≡ true → IsUnsignedIn low high text
+-- what a value under the name is
+abbrev pub Fits : Text → (Text → Type 0) → Text → Text → Type 0
+Fits name P id text = bytes_eq id name ≡ true → P text
 
 -- a value of `--cuts` lies in the range
 abbrev pub FitsCuts : Text → Text → Type 0
-FitsCuts = Fits (codes "cuts") 1 65535
+FitsCuts = Fits (codes "cuts") (IsUnsignedIn 1 65535)
 
 -- and the number of a fault in its own
 abbrev pub FitsNumber : Text → Text → Type 0
-FitsNumber = Fits (codes "number") 1 999
+FitsNumber = Fits (codes "number") (IsUnsignedIn 1 999)
 
 pub number_fits : (text : Text) → value_kinds false (Unsigned 1 999) text ≡ [] → IsUnsignedIn 1 999 text
 number_fits text none = accepts-Accepts false (Unsigned 1 999) text (accepted _ _ none)
@@ -155,20 +155,17 @@ given_has_value P id (r ∷ rs) filled given = pick (bytes_eq r.id id) (given_ha
     pick true later here = first_is_some P r.id r.values filled.0
     pick false later rest = later rest
 
-first_fits : (name : Text) (low high : ℕ) (id : Text) (vs : List Text) → Begins (Fits name low high) id vs → bytes_eq id name ≡ true
-    → IfSome (slice_get vs 0) (IsUnsignedIn low high)
-first_fits name low high id [] bad same = absurd bad
-first_fits name low high id (v ∷ vs) fits same = fits same
+first_fits : (name : Text) (P : Text → Type 0) (id : Text) (vs : List Text) → Begins (Fits name P) id vs → bytes_eq id name ≡ true
+    → IfSome (slice_get vs 0) P
+first_fits name P id [] bad same = absurd bad
+first_fits name P id (v ∷ vs) fits same = fits same
 
--- a number that was found lies in its range
-pub number_in_range : (name : Text) (low high : ℕ) (rows : List Row) → AreFilled (Fits name low high) rows → IfSome (first_of name rows) (IsUnsignedIn low high)
-number_in_range name low high [] filled = tt
-number_in_range name low high (r ∷ rs) filled = pick (bytes_eq r.id name) refl (number_in_range name low high rs filled.1)
+-- a value that was found under the name is such a one
+pub found_fits : (name : Text) (P : Text → Type 0) (rows : List Row) → AreFilled (Fits name P) rows → IfSome (first_of name rows) P
+found_fits name P [] filled = tt
+found_fits name P (r ∷ rs) filled = pick (bytes_eq r.id name) refl (found_fits name P rs filled.1)
   where
-    pick : (b : Bool) → bytes_eq r.id name ≡ b → IfSome (first_of name rs) (IsUnsignedIn low high)
-        → IfSome (first_in (if b then Some r else find (λ r. bytes_eq r.id name) rs)) (IsUnsignedIn low high)
-    pick true same later = first_fits name low high r.id r.values filled.0 same
+    pick : (b : Bool) → bytes_eq r.id name ≡ b → IfSome (first_of name rs) P
+        → IfSome (first_in (if b then Some r else find (λ r. bytes_eq r.id name) rs)) P
+    pick true same later = first_fits name P r.id r.values filled.0 same
     pick false same later = later
-
-pub cuts_in_range : (rows : List Row) → AreFilled FitsCuts rows → IfSome (first_of (codes "cuts") rows) (IsUnsignedIn 1 65535)
-cuts_in_range rows filled = number_in_range (codes "cuts") 1 65535 rows filled

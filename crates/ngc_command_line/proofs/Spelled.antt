@@ -15,11 +15,13 @@ use Rattle.std.proofs.lemmas.Bool.{ne_eqb}
 use Rattle.std.proofs.lemmas.Str.Parse.{digit_from_value}
 use Rattle.clap.specs.declared.builder.value_parser.ValueParser.TheVariants.{Unsigned}
 use Rattle.clap.proofs.ValueTestLemmas.{Accepts-accepts}
-use Rattle.ngc_command_line.specs.CommandLine.{certify_words, check_words, help_words, list_words, ngc_app, run_words}
-use Rattle.ngc_command_line.specs.Meant.{AreCommands, AreCuts, AreCutsInRange, AreOptions, AsksForCertify, AsksForCheck, AsksForHelp, AsksForList, AsksForRun, IsTaken, is_set}
+use Rattle.ngc_command_line.specs.CommandLine.{certify_words, check_words, draw_words, help_words, list_words, ngc_app, run_name, run_words}
+use Rattle.ngc_command_line.specs.Meant.{AreCommands, AreCuts, AreCutsInRange, AreOptions, AsksForCertify, AsksForCheck, AsksForDraw, AsksForHelp, AsksForList, AsksForRun, IsTaken, is_set}
 use Rattle.ngc_command_line.specs.declared.options.Options.{Options}
-use Rattle.ngc_command_line.specs.declared.options.Options.TheVariants.{Certify as ToCertify, Check as ToCheck, Explain as ToExplain, Help as ToHelp, List as ToList, Run as ToRun, RunThrough as ToRunThrough, Version as ToVersion}
-use Rattle.ngc_command_line.proofs.Whole.{other_letter, other_name}
+use Rattle.ngc_command_line.specs.declared.options.Options.TheVariants.{Certify as ToCertify, Check as ToCheck, Draw as ToDraw, Explain as ToExplain, Help as ToHelp, List as ToList, Run as ToRun, RunThrough as ToRunThrough, Version as ToVersion}
+use Rattle.ngc_command_line.specs.declared.options.Recording.{Recording}
+use Rattle.ngc_command_line.specs.declared.options.Recording.TheVariants.{Log, Pulses}
+use Rattle.ngc_command_line.proofs.Whole.{no_run, other_letter, other_name}
 
 -- the words are taken, and this holds of the subcommand that they name
 abbrev Spells : List Text → (Option (Text × List Row) → Type 0) → Type 0
@@ -57,8 +59,9 @@ list_asked program machine tools delete (Some found) (ToList list) finds are =
     (are.1.program ∙ finds.1, are.1.machine ∙ finds.2, are.1.tools ∙ finds.3, are.1.delete ∙ finds.4)
 list_asked program machine tools delete (Some found) (ToCertify certify) finds are = other_name (codes "list") (codes "certify") (sym finds.0 ∙ are.0) (λ lengths. omega (arith, lengths))
 list_asked program machine tools delete (Some found) (ToCheck check) finds are = other_name (codes "list") (codes "check") (sym finds.0 ∙ are.0) (λ lengths. omega (arith, lengths))
-list_asked program machine tools delete (Some found) (ToRun run) finds are = other_name (codes "list") (codes "run") (sym finds.0 ∙ are.0) (λ lengths. omega (arith, lengths))
-list_asked program machine tools delete (Some found) (ToRunThrough run) finds are = other_name (codes "list") (codes "run") (sym finds.0 ∙ are.0) (λ lengths. omega (arith, lengths))
+list_asked program machine tools delete (Some found) (ToRun run) finds are = no_run (codes "list") run.recording (sym finds.0 ∙ are.0) (λ three. omega (arith, three)) (λ six. omega (arith, six))
+list_asked program machine tools delete (Some found) (ToRunThrough run) finds are = no_run (codes "list") run.recording (sym finds.0 ∙ are.0) (λ three. omega (arith, three)) (λ six. omega (arith, six))
+list_asked program machine tools delete (Some found) (ToDraw draw) finds are = other_letter (codes "list") (codes "draw") (sym finds.0 ∙ are.0) (λ letters. omega (arith, letters))
 list_asked program machine tools delete (Some found) (ToExplain number) finds are = other_name (codes "list") (codes "explain") (sym finds.0 ∙ are.0) (λ differ. omega (arith, differ))
 list_asked program machine tools delete (Some found) (ToHelp command) finds are = other_letter (codes "list") (codes "help") (sym finds.0 ∙ are.0) (λ differ. omega (arith, differ))
 list_asked program machine tools delete (Some found) ToVersion finds are = other_name (codes "list") (codes "version") (sym finds.0 ∙ are) (λ differ. omega (arith, differ))
@@ -93,8 +96,9 @@ check_asked machine tools certificate program (Some found) (ToCheck check) finds
     (same_text _ _ _ are.1.machine finds.1, same_text _ _ _ are.1.tools finds.2, same_text _ _ _ are.1.certificate finds.3, are.1.program ∙ finds.4)
 check_asked machine tools certificate program (Some found) (ToCertify certify) finds are = other_name (codes "check") (codes "certify") (sym finds.0 ∙ are.0) (λ lengths. omega (arith, lengths))
 check_asked machine tools certificate program (Some found) (ToList list) finds are = other_name (codes "check") (codes "list") (sym finds.0 ∙ are.0) (λ lengths. omega (arith, lengths))
-check_asked machine tools certificate program (Some found) (ToRun run) finds are = other_name (codes "check") (codes "run") (sym finds.0 ∙ are.0) (λ lengths. omega (arith, lengths))
-check_asked machine tools certificate program (Some found) (ToRunThrough run) finds are = other_name (codes "check") (codes "run") (sym finds.0 ∙ are.0) (λ lengths. omega (arith, lengths))
+check_asked machine tools certificate program (Some found) (ToRun run) finds are = no_run (codes "check") run.recording (sym finds.0 ∙ are.0) (λ three. omega (arith, three)) (λ six. omega (arith, six))
+check_asked machine tools certificate program (Some found) (ToRunThrough run) finds are = no_run (codes "check") run.recording (sym finds.0 ∙ are.0) (λ three. omega (arith, three)) (λ six. omega (arith, six))
+check_asked machine tools certificate program (Some found) (ToDraw draw) finds are = other_name (codes "check") (codes "draw") (sym finds.0 ∙ are.0) (λ lengths. omega (arith, lengths))
 check_asked machine tools certificate program (Some found) (ToExplain number) finds are = other_name (codes "check") (codes "explain") (sym finds.0 ∙ are.0) (λ differ. omega (arith, differ))
 check_asked machine tools certificate program (Some found) (ToHelp command) finds are = other_name (codes "check") (codes "help") (sym finds.0 ∙ are.0) (λ differ. omega (arith, differ))
 check_asked machine tools certificate program (Some found) ToVersion finds are = other_name (codes "check") (codes "version") (sym finds.0 ∙ are) (λ differ. omega (arith, differ))
@@ -108,29 +112,47 @@ check_read words machine tools certificate program options spelled are =
     let Are : List Text → Type 0 = λ ws. AreOptions (subcommand_of ngc_app ws) options in
     check_asked machine tools certificate program _ options (check_spells machine tools certificate program).1 (subst Are spelled are)
 
--- the values of `run` that were found are these
-abbrev FindsRun : Text → Text → Text → Option Text → Option Text → Bool → Option (Text × List Row) → Type 0
-FindsRun machine tools certificate events program delete None = ⊥
-FindsRun machine tools certificate events program delete (Some found) = (found.0 ≡ codes "run") × (first_of (codes "machine") found.1 ≡ Some machine)
-    × (first_of (codes "tools") found.1 ≡ Some tools) × (first_of (codes "certificate") found.1 ≡ Some certificate)
-    × (first_of (codes "events") found.1 ≡ events) × (first_of (codes "program") found.1 ≡ program) × (is_set (codes "delete") found.1 ≡ delete)
+-- the values of a run that were found are these
+abbrev FindsRun : Recording → Text → Text → Text → Option Text → Option Text → Bool → Option (Text × List Row) → Type 0
+FindsRun recording machine tools certificate events program delete None = ⊥
+FindsRun recording machine tools certificate events program delete (Some found) = (found.0 ≡ run_name recording)
+    × (first_of (codes "machine") found.1 ≡ Some machine) × (first_of (codes "tools") found.1 ≡ Some tools)
+    × (first_of (codes "certificate") found.1 ≡ Some certificate) × (first_of (codes "events") found.1 ≡ events)
+    × (first_of (codes "program") found.1 ≡ program) × (is_set (codes "delete") found.1 ≡ delete)
 
-run_spells : (machine tools certificate : Text) (events program : Option Text) (delete : Bool)
-    → Spells (run_words machine tools certificate events program delete) (FindsRun machine tools certificate events program delete)
+run_spells : (recording : Recording) (machine tools certificate : Text) (events program : Option Text) (delete : Bool)
+    → Spells (run_words recording machine tools certificate events program delete) (FindsRun recording machine tools certificate events program delete)
 unfolding clap_on_literals
-run_spells machine tools certificate None None false = (refl, (refl, refl, refl, refl, refl, refl, refl))
-run_spells machine tools certificate None None true = (refl, (refl, refl, refl, refl, refl, refl, refl))
-run_spells machine tools certificate None (Some program) false = (refl, (refl, refl, refl, refl, refl, refl, refl))
-run_spells machine tools certificate None (Some program) true = (refl, (refl, refl, refl, refl, refl, refl, refl))
-run_spells machine tools certificate (Some events) None false = (refl, (refl, refl, refl, refl, refl, refl, refl))
-run_spells machine tools certificate (Some events) None true = (refl, (refl, refl, refl, refl, refl, refl, refl))
-run_spells machine tools certificate (Some events) (Some program) false = (refl, (refl, refl, refl, refl, refl, refl, refl))
-run_spells machine tools certificate (Some events) (Some program) true = (refl, (refl, refl, refl, refl, refl, refl, refl))
+run_spells Log machine tools certificate None None false = (refl, (refl, refl, refl, refl, refl, refl, refl))
+run_spells Log machine tools certificate None None true = (refl, (refl, refl, refl, refl, refl, refl, refl))
+run_spells Log machine tools certificate None (Some program) false = (refl, (refl, refl, refl, refl, refl, refl, refl))
+run_spells Log machine tools certificate None (Some program) true = (refl, (refl, refl, refl, refl, refl, refl, refl))
+run_spells Log machine tools certificate (Some events) None false = (refl, (refl, refl, refl, refl, refl, refl, refl))
+run_spells Log machine tools certificate (Some events) None true = (refl, (refl, refl, refl, refl, refl, refl, refl))
+run_spells Log machine tools certificate (Some events) (Some program) false = (refl, (refl, refl, refl, refl, refl, refl, refl))
+run_spells Log machine tools certificate (Some events) (Some program) true = (refl, (refl, refl, refl, refl, refl, refl, refl))
+run_spells Pulses machine tools certificate None None false = (refl, (refl, refl, refl, refl, refl, refl, refl))
+run_spells Pulses machine tools certificate None None true = (refl, (refl, refl, refl, refl, refl, refl, refl))
+run_spells Pulses machine tools certificate None (Some program) false = (refl, (refl, refl, refl, refl, refl, refl, refl))
+run_spells Pulses machine tools certificate None (Some program) true = (refl, (refl, refl, refl, refl, refl, refl, refl))
+run_spells Pulses machine tools certificate (Some events) None false = (refl, (refl, refl, refl, refl, refl, refl, refl))
+run_spells Pulses machine tools certificate (Some events) None true = (refl, (refl, refl, refl, refl, refl, refl, refl))
+run_spells Pulses machine tools certificate (Some events) (Some program) false = (refl, (refl, refl, refl, refl, refl, refl, refl))
+run_spells Pulses machine tools certificate (Some events) (Some program) true = (refl, (refl, refl, refl, refl, refl, refl, refl))
 
-run_asked : (machine tools certificate : Text) (events program : Option Text) (delete : Bool) (found : Option (Text × List Row)) (options : Options)
-    → FindsRun machine tools certificate events program delete found → AreOptions found options → AsksForRun machine tools certificate events program delete options
-run_asked machine tools certificate events program delete None options finds are = absurd finds
-run_asked machine tools certificate (Some events) program delete (Some found) (ToRun run) finds are = (
+-- what writes the one isn't called as what writes the other
+same_recording : (a b : Recording) → run_name a ≡ run_name b → a ≡ b
+same_recording Log Log same = refl
+same_recording Log Pulses same = other_name (codes "run") (codes "pulses") same (λ lengths. omega (arith, lengths))
+same_recording Pulses Log same = other_name (codes "pulses") (codes "run") same (λ lengths. omega (arith, lengths))
+same_recording Pulses Pulses same = refl
+
+run_asked : (recording : Recording) (machine tools certificate : Text) (events program : Option Text) (delete : Bool) (found : Option (Text × List Row)) (options : Options)
+    → FindsRun recording machine tools certificate events program delete found → AreOptions found options
+    → AsksForRun recording machine tools certificate events program delete options
+run_asked recording machine tools certificate events program delete None options finds are = absurd finds
+run_asked recording machine tools certificate (Some events) program delete (Some found) (ToRun run) finds are = (
+  same_recording _ _ (sym are.0 ∙ finds.0),
   same_text _ _ _ are.1.machine finds.1,
   same_text _ _ _ are.1.tools finds.2,
   same_text _ _ _ are.1.certificate finds.3,
@@ -138,36 +160,109 @@ run_asked machine tools certificate (Some events) program delete (Some found) (T
   are.1.program ∙ finds.5,
   are.1.delete ∙ finds.6,
 )
-run_asked machine tools certificate None program delete (Some found) (ToRun run) finds are = let h : Some run.events.now ≡ None = are.1.events ∙ finds.4 in cc
-run_asked machine tools certificate (Some events) program delete (Some found) (ToRunThrough run) finds are = let h : None ≡ Some events = are.1.events ∙ finds.4 in cc
-run_asked machine tools certificate None program delete (Some found) (ToRunThrough run) finds are = (
+run_asked recording machine tools certificate None program delete (Some found) (ToRun run) finds are = let h : Some run.events.now ≡ None = are.1.events ∙ finds.4 in cc
+run_asked recording machine tools certificate (Some events) program delete (Some found) (ToRunThrough run) finds are = let h : None ≡ Some events = are.1.events ∙ finds.4 in cc
+run_asked recording machine tools certificate None program delete (Some found) (ToRunThrough run) finds are = (
+  same_recording _ _ (sym are.0 ∙ finds.0),
   same_text _ _ _ are.1.machine finds.1,
   same_text _ _ _ are.1.tools finds.2,
   same_text _ _ _ are.1.certificate finds.3,
   are.1.program ∙ finds.5,
   are.1.delete ∙ finds.6,
 )
-run_asked machine tools certificate events program delete (Some found) (ToList list) finds are =
-    other_name (codes "run") (codes "list") (sym finds.0 ∙ are.0) (λ lengths. omega (arith, lengths))
-run_asked machine tools certificate events program delete (Some found) (ToCertify certify) finds are =
-    other_name (codes "run") (codes "certify") (sym finds.0 ∙ are.0) (λ lengths. omega (arith, lengths))
-run_asked machine tools certificate events program delete (Some found) (ToCheck check) finds are =
-    other_name (codes "run") (codes "check") (sym finds.0 ∙ are.0) (λ lengths. omega (arith, lengths))
-run_asked machine tools certificate events program delete (Some found) (ToExplain number) finds are = other_name (codes "run") (codes "explain") (sym finds.0 ∙ are.0) (λ differ. omega (arith, differ))
-run_asked machine tools certificate events program delete (Some found) (ToHelp command) finds are = other_name (codes "run") (codes "help") (sym finds.0 ∙ are.0) (λ differ. omega (arith, differ))
-run_asked machine tools certificate events program delete (Some found) ToVersion finds are = other_name (codes "run") (codes "version") (sym finds.0 ∙ are) (λ differ. omega (arith, differ))
+run_asked recording machine tools certificate events program delete (Some found) (ToList list) finds are =
+    no_run (codes "list") recording (sym (are.0) ∙ finds.0) (λ three. omega (arith, three)) (λ six. omega (arith, six))
+run_asked recording machine tools certificate events program delete (Some found) (ToCertify certify) finds are =
+    no_run (codes "certify") recording (sym (are.0) ∙ finds.0) (λ three. omega (arith, three)) (λ six. omega (arith, six))
+run_asked recording machine tools certificate events program delete (Some found) (ToCheck check) finds are =
+    no_run (codes "check") recording (sym (are.0) ∙ finds.0) (λ three. omega (arith, three)) (λ six. omega (arith, six))
+run_asked recording machine tools certificate events program delete (Some found) (ToDraw draw) finds are =
+    no_run (codes "draw") recording (sym (are.0) ∙ finds.0) (λ three. omega (arith, three)) (λ six. omega (arith, six))
+run_asked recording machine tools certificate events program delete (Some found) (ToExplain number) finds are =
+    no_run (codes "explain") recording (sym (are.0) ∙ finds.0) (λ three. omega (arith, three)) (λ six. omega (arith, six))
+run_asked recording machine tools certificate events program delete (Some found) (ToHelp command) finds are =
+    no_run (codes "help") recording (sym (are.0) ∙ finds.0) (λ three. omega (arith, three)) (λ six. omega (arith, six))
+run_asked recording machine tools certificate events program delete (Some found) ToVersion finds are =
+    no_run (codes "version") recording (sym (are) ∙ finds.0) (λ three. omega (arith, three)) (λ six. omega (arith, six))
 
-pub run_taken : (words : List Text) (machine tools certificate : Text) (events program : Option Text) (delete : Bool)
-    → words ≡ run_words machine tools certificate events program delete → IsTaken words
-run_taken words machine tools certificate events program delete spelled =
-    subst IsTaken (sym spelled) (run_spells machine tools certificate events program delete).0
+pub run_taken : (words : List Text) (recording : Recording) (machine tools certificate : Text) (events program : Option Text) (delete : Bool)
+    → words ≡ run_words recording machine tools certificate events program delete → IsTaken words
+run_taken words recording machine tools certificate events program delete spelled =
+    subst IsTaken (sym spelled) (run_spells recording machine tools certificate events program delete).0
 
-pub run_read : (words : List Text) (machine tools certificate : Text) (events program : Option Text) (delete : Bool) (options : Options)
-    → words ≡ run_words machine tools certificate events program delete → AreOptions (subcommand_of ngc_app words) options
-    → AsksForRun machine tools certificate events program delete options
-run_read words machine tools certificate events program delete options spelled are =
+pub run_read : (words : List Text) (recording : Recording) (machine tools certificate : Text) (events program : Option Text) (delete : Bool) (options : Options)
+    → words ≡ run_words recording machine tools certificate events program delete → AreOptions (subcommand_of ngc_app words) options
+    → AsksForRun recording machine tools certificate events program delete options
+run_read words recording machine tools certificate events program delete options spelled are =
     let Are : List Text → Type 0 = λ ws. AreOptions (subcommand_of ngc_app ws) options in
-    run_asked machine tools certificate events program delete _ options (run_spells machine tools certificate events program delete).1 (subst Are spelled are)
+    run_asked recording machine tools certificate events program delete _ options (run_spells recording machine tools certificate events program delete).1 (subst Are spelled are)
+
+-- the values of `draw` that were found are these
+abbrev FindsDraw : Text → Text → Option Text → Option Text → Option Text → Bool → Option (Text × List Row) → Type 0
+FindsDraw machine tools certificate program view delete None = ⊥
+FindsDraw machine tools certificate program view delete (Some found) = (found.0 ≡ codes "draw") × (first_of (codes "machine") found.1 ≡ Some machine)
+    × (first_of (codes "tools") found.1 ≡ Some tools) × (first_of (codes "certificate") found.1 ≡ certificate)
+    × (first_of (codes "program") found.1 ≡ program) × (first_of (codes "view") found.1 ≡ view)
+    × (is_set (codes "delete") found.1 ≡ delete)
+
+draw_spells : (machine tools : Text) (certificate program view : Option Text) (delete : Bool)
+    → Spells (draw_words machine tools certificate program view delete) (FindsDraw machine tools certificate program view delete)
+unfolding clap_on_literals
+draw_spells machine tools None None None false = (refl, (refl, refl, refl, refl, refl, refl, refl))
+draw_spells machine tools None None None true = (refl, (refl, refl, refl, refl, refl, refl, refl))
+draw_spells machine tools None None (Some view) false = (refl, (refl, refl, refl, refl, refl, refl, refl))
+draw_spells machine tools None None (Some view) true = (refl, (refl, refl, refl, refl, refl, refl, refl))
+draw_spells machine tools None (Some program) None false = (refl, (refl, refl, refl, refl, refl, refl, refl))
+draw_spells machine tools None (Some program) None true = (refl, (refl, refl, refl, refl, refl, refl, refl))
+draw_spells machine tools None (Some program) (Some view) false = (refl, (refl, refl, refl, refl, refl, refl, refl))
+draw_spells machine tools None (Some program) (Some view) true = (refl, (refl, refl, refl, refl, refl, refl, refl))
+draw_spells machine tools (Some certificate) None None false = (refl, (refl, refl, refl, refl, refl, refl, refl))
+draw_spells machine tools (Some certificate) None None true = (refl, (refl, refl, refl, refl, refl, refl, refl))
+draw_spells machine tools (Some certificate) None (Some view) false = (refl, (refl, refl, refl, refl, refl, refl, refl))
+draw_spells machine tools (Some certificate) None (Some view) true = (refl, (refl, refl, refl, refl, refl, refl, refl))
+draw_spells machine tools (Some certificate) (Some program) None false = (refl, (refl, refl, refl, refl, refl, refl, refl))
+draw_spells machine tools (Some certificate) (Some program) None true = (refl, (refl, refl, refl, refl, refl, refl, refl))
+draw_spells machine tools (Some certificate) (Some program) (Some view) false = (refl, (refl, refl, refl, refl, refl, refl, refl))
+draw_spells machine tools (Some certificate) (Some program) (Some view) true = (refl, (refl, refl, refl, refl, refl, refl, refl))
+
+draw_asked : (machine tools : Text) (certificate program view : Option Text) (delete : Bool) (found : Option (Text × List Row)) (options : Options)
+    → FindsDraw machine tools certificate program view delete found → AreOptions found options → AsksForDraw machine tools certificate program view delete options
+draw_asked machine tools certificate program view delete None options finds are = absurd finds
+draw_asked machine tools certificate program view delete (Some found) (ToDraw draw) finds are = (
+  same_text _ _ _ are.1.machine finds.1,
+  same_text _ _ _ are.1.tools finds.2,
+  are.1.certificate ∙ finds.3,
+  are.1.program ∙ finds.4,
+  are.1.view ∙ finds.5,
+  are.1.delete ∙ finds.6,
+)
+draw_asked machine tools certificate program view delete (Some found) (ToList list) finds are =
+    other_letter (codes "draw") (codes "list") (sym finds.0 ∙ are.0) (λ letters. omega (arith, letters))
+draw_asked machine tools certificate program view delete (Some found) (ToCertify certify) finds are =
+    other_name (codes "draw") (codes "certify") (sym finds.0 ∙ are.0) (λ lengths. omega (arith, lengths))
+draw_asked machine tools certificate program view delete (Some found) (ToCheck check) finds are =
+    other_name (codes "draw") (codes "check") (sym finds.0 ∙ are.0) (λ lengths. omega (arith, lengths))
+draw_asked machine tools certificate program view delete (Some found) (ToRun run) finds are =
+    no_run (codes "draw") run.recording (sym finds.0 ∙ are.0) (λ three. omega (arith, three)) (λ six. omega (arith, six))
+draw_asked machine tools certificate program view delete (Some found) (ToRunThrough run) finds are =
+    no_run (codes "draw") run.recording (sym finds.0 ∙ are.0) (λ three. omega (arith, three)) (λ six. omega (arith, six))
+draw_asked machine tools certificate program view delete (Some found) (ToExplain number) finds are =
+    other_name (codes "draw") (codes "explain") (sym finds.0 ∙ are.0) (λ lengths. omega (arith, lengths))
+draw_asked machine tools certificate program view delete (Some found) (ToHelp command) finds are =
+    other_letter (codes "draw") (codes "help") (sym finds.0 ∙ are.0) (λ letters. omega (arith, letters))
+draw_asked machine tools certificate program view delete (Some found) ToVersion finds are =
+    other_name (codes "draw") (codes "version") (sym finds.0 ∙ are) (λ lengths. omega (arith, lengths))
+
+pub draw_taken : (words : List Text) (machine tools : Text) (certificate program view : Option Text) (delete : Bool)
+    → words ≡ draw_words machine tools certificate program view delete → IsTaken words
+draw_taken words machine tools certificate program view delete spelled = subst IsTaken (sym spelled) (draw_spells machine tools certificate program view delete).0
+
+pub draw_read : (words : List Text) (machine tools : Text) (certificate program view : Option Text) (delete : Bool) (options : Options)
+    → words ≡ draw_words machine tools certificate program view delete → AreOptions (subcommand_of ngc_app words) options
+    → AsksForDraw machine tools certificate program view delete options
+draw_read words machine tools certificate program view delete options spelled are =
+    let Are : List Text → Type 0 = λ ws. AreOptions (subcommand_of ngc_app ws) options in
+    draw_asked machine tools certificate program view delete _ options (draw_spells machine tools certificate program view delete).1 (subst Are spelled are)
 
 -- the values of `certify` that were found are these
 abbrev FindsCertify : Text → Text → Option Text → Option Text → Option (Text × List Row) → Type 0
@@ -242,10 +337,9 @@ certify_asked machine tools program cuts (Some found) (ToList list) range finds 
     other_name (codes "certify") (codes "list") (sym finds.0 ∙ are.0) (λ lengths. omega (arith, lengths))
 certify_asked machine tools program cuts (Some found) (ToCheck check) range finds are =
     other_name (codes "certify") (codes "check") (sym finds.0 ∙ are.0) (λ lengths. omega (arith, lengths))
-certify_asked machine tools program cuts (Some found) (ToRun run) range finds are =
-    other_name (codes "certify") (codes "run") (sym finds.0 ∙ are.0) (λ lengths. omega (arith, lengths))
-certify_asked machine tools program cuts (Some found) (ToRunThrough run) range finds are =
-    other_name (codes "certify") (codes "run") (sym finds.0 ∙ are.0) (λ lengths. omega (arith, lengths))
+certify_asked machine tools program cuts (Some found) (ToRun run) range finds are = no_run (codes "certify") run.recording (sym finds.0 ∙ are.0) (λ three. omega (arith, three)) (λ six. omega (arith, six))
+certify_asked machine tools program cuts (Some found) (ToRunThrough run) range finds are = no_run (codes "certify") run.recording (sym finds.0 ∙ are.0) (λ three. omega (arith, three)) (λ six. omega (arith, six))
+certify_asked machine tools program cuts (Some found) (ToDraw draw) range finds are = other_name (codes "certify") (codes "draw") (sym finds.0 ∙ are.0) (λ lengths. omega (arith, lengths))
 certify_asked machine tools program cuts (Some found) (ToExplain number) range finds are = other_letter (codes "certify") (codes "explain") (sym finds.0 ∙ are.0) (λ differ. omega (arith, differ))
 certify_asked machine tools program cuts (Some found) (ToHelp command) range finds are = other_name (codes "certify") (codes "help") (sym finds.0 ∙ are.0) (λ differ. omega (arith, differ))
 certify_asked machine tools program cuts (Some found) ToVersion range finds are = other_letter (codes "certify") (codes "version") (sym finds.0 ∙ are) (λ differ. omega (arith, differ))
@@ -276,10 +370,12 @@ help_spells (Some command) among = elim among [
   | inr (inl same) ↦ help_on command (codes "certify") same (refl, (refl, refl))
   | inr (inr (inl same)) ↦ help_on command (codes "check") same (refl, (refl, refl))
   | inr (inr (inr (inl same))) ↦ help_on command (codes "run") same (refl, (refl, refl))
-  | inr (inr (inr (inr (inl same)))) ↦ help_on command (codes "explain") same (refl, (refl, refl))
-  | inr (inr (inr (inr (inr (inl same))))) ↦ help_on command (codes "help") same (refl, (refl, refl))
-  | inr (inr (inr (inr (inr (inr (inl same)))))) ↦ help_on command (codes "version") same (refl, (refl, refl))
-  | inr (inr (inr (inr (inr (inr (inr none)))))) ↦ absurd none
+  | inr (inr (inr (inr (inl same)))) ↦ help_on command (codes "pulses") same (refl, (refl, refl))
+  | inr (inr (inr (inr (inr (inl same))))) ↦ help_on command (codes "draw") same (refl, (refl, refl))
+  | inr (inr (inr (inr (inr (inr (inl same)))))) ↦ help_on command (codes "explain") same (refl, (refl, refl))
+  | inr (inr (inr (inr (inr (inr (inr (inl same))))))) ↦ help_on command (codes "help") same (refl, (refl, refl))
+  | inr (inr (inr (inr (inr (inr (inr (inr (inl same)))))))) ↦ help_on command (codes "version") same (refl, (refl, refl))
+  | inr (inr (inr (inr (inr (inr (inr (inr (inr none)))))))) ↦ absurd none
 ]
 
 help_asked : (command : Option Text) (found : Option (Text × List Row)) (options : Options) → FindsHelp command found → AreOptions found options → AsksForHelp command options
@@ -288,8 +384,9 @@ help_asked command (Some found) (ToHelp asked) finds are = are.1 ∙ finds.1
 help_asked command (Some found) (ToList list) finds are = other_letter (codes "help") (codes "list") (sym finds.0 ∙ are.0) (λ differ. omega (arith, differ))
 help_asked command (Some found) (ToCertify certify) finds are = other_name (codes "help") (codes "certify") (sym finds.0 ∙ are.0) (λ differ. omega (arith, differ))
 help_asked command (Some found) (ToCheck check) finds are = other_name (codes "help") (codes "check") (sym finds.0 ∙ are.0) (λ differ. omega (arith, differ))
-help_asked command (Some found) (ToRun run) finds are = other_name (codes "help") (codes "run") (sym finds.0 ∙ are.0) (λ differ. omega (arith, differ))
-help_asked command (Some found) (ToRunThrough run) finds are = other_name (codes "help") (codes "run") (sym finds.0 ∙ are.0) (λ differ. omega (arith, differ))
+help_asked command (Some found) (ToRun run) finds are = no_run (codes "help") run.recording (sym finds.0 ∙ are.0) (λ three. omega (arith, three)) (λ six. omega (arith, six))
+help_asked command (Some found) (ToRunThrough run) finds are = no_run (codes "help") run.recording (sym finds.0 ∙ are.0) (λ three. omega (arith, three)) (λ six. omega (arith, six))
+help_asked command (Some found) (ToDraw draw) finds are = other_letter (codes "help") (codes "draw") (sym finds.0 ∙ are.0) (λ letters. omega (arith, letters))
 help_asked command (Some found) (ToExplain number) finds are = other_name (codes "help") (codes "explain") (sym finds.0 ∙ are.0) (λ differ. omega (arith, differ))
 help_asked command (Some found) ToVersion finds are = other_name (codes "help") (codes "version") (sym finds.0 ∙ are) (λ differ. omega (arith, differ))
 
@@ -317,8 +414,9 @@ version_asked (Some found) ToVersion finds are = refl
 version_asked (Some found) (ToList list) finds are = other_name (codes "version") (codes "list") (sym finds ∙ are.0) (λ differ. omega (arith, differ))
 version_asked (Some found) (ToCertify certify) finds are = other_letter (codes "version") (codes "certify") (sym finds ∙ are.0) (λ differ. omega (arith, differ))
 version_asked (Some found) (ToCheck check) finds are = other_name (codes "version") (codes "check") (sym finds ∙ are.0) (λ differ. omega (arith, differ))
-version_asked (Some found) (ToRun run) finds are = other_name (codes "version") (codes "run") (sym finds ∙ are.0) (λ differ. omega (arith, differ))
-version_asked (Some found) (ToRunThrough run) finds are = other_name (codes "version") (codes "run") (sym finds ∙ are.0) (λ differ. omega (arith, differ))
+version_asked (Some found) (ToRun run) finds are = no_run (codes "version") run.recording (sym finds ∙ are.0) (λ three. omega (arith, three)) (λ six. omega (arith, six))
+version_asked (Some found) (ToRunThrough run) finds are = no_run (codes "version") run.recording (sym finds ∙ are.0) (λ three. omega (arith, three)) (λ six. omega (arith, six))
+version_asked (Some found) (ToDraw draw) finds are = other_name (codes "version") (codes "draw") (sym finds ∙ are.0) (λ lengths. omega (arith, lengths))
 version_asked (Some found) (ToExplain number) finds are = other_letter (codes "version") (codes "explain") (sym finds ∙ are.0) (λ differ. omega (arith, differ))
 version_asked (Some found) (ToHelp command) finds are = other_name (codes "version") (codes "help") (sym finds ∙ are.0) (λ differ. omega (arith, differ))
 

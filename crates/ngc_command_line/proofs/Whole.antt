@@ -5,14 +5,17 @@ use Rattle.std.specs.List.{slice_index_or}
 use Rattle.std.specs.Str.{bytes_eq}
 use Rattle.std.specs.Option.{option_map_or}
 use Rattle.std.proofs.lemmas.Option.{same_Some}
-use Rattle.clap.specs.Words.{Row, Shape, Text, subcommand_of}
+use Rattle.clap.specs.Words.{IsUnsignedIn, Row, Shape, Text, subcommand_of}
 use Rattle.clap.specs.Faults.{entered_fault, level_fault}
 use Rattle.clap.specs.Simple.{built, entered, label_of, names_of, new_shape, rows_at}
 use Rattle.clap.specs.Walk.{answers_to, nothing_held, rows_after, stop_after}
 use Rattle.ngc_command_line.specs.CommandLine.{ngc_app}
-use Rattle.ngc_command_line.specs.Meant.{HasCertifyValues, HasCheckValues, HasExplainValues, HasRunValues, IsTaken, IsWhole}
+use Rattle.ngc_command_line.specs.CommandLine.{run_name}
+use Rattle.ngc_command_line.specs.Meant.{HasCertifyValues, HasCheckValues, HasDrawValues, HasExplainValues, HasRunValues, IsTaken, IsWhole}
+use Rattle.ngc_command_line.specs.declared.options.Recording.{Recording}
+use Rattle.ngc_command_line.specs.declared.options.Recording.TheVariants.{Log, Pulses}
 use Rattle.ngc_command_line.proofs.Filled.{AreSound}
-use Rattle.ngc_command_line.proofs.Rules.{FitsCuts, FitsNumber, below_passes, cuts_fit, cuts_in_range, flag_is_sound, given_has_value, help_is_sound, is_true, level_is_filled, neither_true, number_fits, number_in_range, set_is_sound}
+use Rattle.ngc_command_line.proofs.Rules.{Fits, FitsCuts, FitsNumber, below_passes, cuts_fit, flag_is_sound, found_fits, given_has_value, help_is_sound, is_true, level_is_filled, neither_true, number_fits, set_is_sound}
 
 -- what was found are the rows of one of these, at words in which it finds no fault
 abbrev IsOneOf : List Shape → Text × List Row → Type 0
@@ -45,17 +48,26 @@ check_shape = slice_index_or (built ngc_app).subs 2 (new_shape [])
 abbrev run_shape : Shape
 run_shape = slice_index_or (built ngc_app).subs 3 (new_shape [])
 
+abbrev pulses_shape : Shape
+pulses_shape = slice_index_or (built ngc_app).subs 4 (new_shape [])
+
+abbrev draw_shape : Shape
+draw_shape = slice_index_or (built ngc_app).subs 5 (new_shape [])
+
 abbrev explain_shape : Shape
-explain_shape = slice_index_or (built ngc_app).subs 4 (new_shape [])
+explain_shape = slice_index_or (built ngc_app).subs 6 (new_shape [])
 
 explain_sound : AreSound FitsNumber explain_shape.rules
 explain_sound =
     let number = set_is_sound FitsNumber _ refl refl refl (λ v none same. number_fits v none) in
     (number, (help_is_sound FitsNumber _ refl refl, tt))
 
--- another name than that of the cuts
+-- under another name it is anything
+other_fits : (name : Text) (P : Text → Type 0) (id text : Text) → bytes_eq id name ≡ false → Fits name P id text
+other_fits name P id text differs same = let bad : false ≡ true = sym differs ∙ same in cc
+
 no_cuts : (id text : Text) → bytes_eq id (codes "cuts") ≡ false → FitsCuts id text
-no_cuts id text differs same = let bad : false ≡ true = sym differs ∙ same in cc
+no_cuts = other_fits (codes "cuts") (IsUnsignedIn 1 65535)
 
 certify_sound : AreSound FitsCuts certify_shape.rules
 certify_sound =
@@ -89,7 +101,7 @@ certify_values words none =
     let (filled, required) = level_is_filled FitsCuts certify_shape certify_sound words none in
     let (machine, others) = neither_true _ _ required in
     let (tools, rest) = neither_true _ _ others in
-    (given_has_value FitsCuts (codes "machine") rows filled (is_true _ machine), given_has_value FitsCuts (codes "tools") rows filled (is_true _ tools), cuts_in_range rows filled)
+    (given_has_value FitsCuts (codes "machine") rows filled (is_true _ machine), given_has_value FitsCuts (codes "tools") rows filled (is_true _ tools), found_fits (codes "cuts") (IsUnsignedIn 1 65535) rows filled)
 
 check_values : (words : List Text) → level_fault check_shape [] nothing_held words false [] ≡ [] → HasCheckValues (rows_after check_shape.rules [] words)
 check_values words none =
@@ -115,12 +127,44 @@ run_values words none =
       given_has_value FitsCuts (codes "certificate") rows filled (is_true _ certificate),
     )
 
+pulses_values : (words : List Text) → level_fault pulses_shape [] nothing_held words false [] ≡ [] → HasRunValues (rows_after pulses_shape.rules [] words)
+pulses_values words none =
+    let rows = rows_after pulses_shape.rules [] words in
+    let (filled, required) = level_is_filled FitsCuts pulses_shape run_sound words none in
+    let (machine, others) = neither_true _ _ required in
+    let (tools, more) = neither_true _ _ others in
+    let (certificate, rest) = neither_true _ _ more in (
+      given_has_value FitsCuts (codes "machine") rows filled (is_true _ machine),
+      given_has_value FitsCuts (codes "tools") rows filled (is_true _ tools),
+      given_has_value FitsCuts (codes "certificate") rows filled (is_true _ certificate),
+    )
+
+draw_sound : AreSound FitsCuts draw_shape.rules
+draw_sound =
+    let machine = set_is_sound FitsCuts _ refl refl refl (λ v none. no_cuts (codes "machine") v refl) in
+    let tools = set_is_sound FitsCuts _ refl refl refl (λ v none. no_cuts (codes "tools") v refl) in
+    let certificate = set_is_sound FitsCuts _ refl refl refl (λ v none. no_cuts (codes "certificate") v refl) in
+    let program = set_is_sound FitsCuts _ refl refl refl (λ v none. no_cuts (codes "program") v refl) in
+    let view = set_is_sound FitsCuts _ refl refl refl (λ v none. no_cuts (codes "view") v refl) in
+    let delete = flag_is_sound FitsCuts _ (codes "true") (codes "false") refl refl refl (λ v. no_cuts (codes "delete") v refl) in
+    (machine, (tools, (certificate, (program, (view, (delete, (help_is_sound FitsCuts _ refl refl, tt)))))))
+
+draw_values : (words : List Text) → level_fault draw_shape [] nothing_held words false [] ≡ [] → HasDrawValues (rows_after draw_shape.rules [] words)
+draw_values words none =
+    let rows = rows_after draw_shape.rules [] words in
+    let (filled, required) = level_is_filled FitsCuts draw_shape draw_sound words none in
+    let (machine, others) = neither_true _ _ required in
+    let (tools, rest) = neither_true _ _ others in (
+      given_has_value FitsCuts (codes "machine") rows filled (is_true _ machine),
+      given_has_value FitsCuts (codes "tools") rows filled (is_true _ tools),
+    )
+
 explain_values : (words : List Text) → level_fault explain_shape [] nothing_held words false [] ≡ [] → HasExplainValues (rows_after explain_shape.rules [] words)
 explain_values words none =
     let rows = rows_after explain_shape.rules [] words in
     let (filled, required) = level_is_filled FitsNumber explain_shape explain_sound words none in
     let (number, rest) = neither_true _ _ required in
-    (given_has_value FitsNumber (codes "number") rows filled (is_true _ number), number_in_range (codes "number") 1 999 rows filled)
+    (given_has_value FitsNumber (codes "number") rows filled (is_true _ number), found_fits (codes "number") (IsUnsignedIn 1 999) rows filled)
 
 -- names that begin otherwise are other names
 pub other_letter : {X : Type 0} (a b : Text) → a ≡ b → (get_or a 0 0 ≡ get_or b 0 0 → ⊥) → X
@@ -130,58 +174,86 @@ other_letter a b same differ = absurd (differ (ap (λ name. get_or name 0 0) sam
 pub other_name : {X : Type 0} (a b : Text) → a ≡ b → (length a ≡ length b → ⊥) → X
 other_name a b same differ = absurd (differ (ap length same))
 
+-- names that aren't as long as `run` and `pulses`
+pub no_run : {X : Type 0} (a : Text) (recording : Recording) → a ≡ run_name recording → (length a ≡ 3 → ⊥) → (length a ≡ 6 → ⊥) → X
+no_run a Log same three six = absurd (three (ap length same))
+no_run a Pulses same three six = absurd (six (ap length same))
+
 one_whole : (found : Text × List Row) → IsOneOf (built ngc_app).subs found → IsWhole found.0 found.1
 one_whole found one = elim one [
   | inl list ↦ subst (λ (f : Text × List Row). IsWhole f.0 f.1) list.1 (record {
     named = inl refl;
     certify = λ same. other_name (codes "list") (codes "certify") same (λ lengths. omega (arith, lengths));
     check = λ same. other_name (codes "list") (codes "check") same (λ lengths. omega (arith, lengths));
-    run = λ same. other_name (codes "list") (codes "run") same (λ lengths. omega (arith, lengths));
+    run = λ recording same. no_run (codes "list") recording same (λ three. omega (arith, three)) (λ six. omega (arith, six));
+    draw = λ same. other_letter (codes "list") (codes "draw") same (λ letters. omega (arith, letters));
     explain = λ same. other_name (codes "list") (codes "explain") same (λ lengths. omega (arith, lengths));
   })
   | inr (inl certify) ↦ subst (λ (f : Text × List Row). IsWhole f.0 f.1) certify.1 (record {
     named = inr (inl refl);
     certify = λ same. certify_values certify.0 certify.2;
     check = λ same. other_name (codes "certify") (codes "check") same (λ lengths. omega (arith, lengths));
-    run = λ same. other_name (codes "certify") (codes "run") same (λ lengths. omega (arith, lengths));
+    run = λ recording same. no_run (codes "certify") recording same (λ three. omega (arith, three)) (λ six. omega (arith, six));
+    draw = λ same. other_name (codes "certify") (codes "draw") same (λ lengths. omega (arith, lengths));
     explain = λ same. other_letter (codes "certify") (codes "explain") same (λ letters. omega (arith, letters));
   })
   | inr (inr (inl check)) ↦ subst (λ (f : Text × List Row). IsWhole f.0 f.1) check.1 (record {
     named = inr (inr (inl refl));
     certify = λ same. other_name (codes "check") (codes "certify") same (λ lengths. omega (arith, lengths));
     check = λ same. check_values check.0 check.2;
-    run = λ same. other_name (codes "check") (codes "run") same (λ lengths. omega (arith, lengths));
+    run = λ recording same. no_run (codes "check") recording same (λ three. omega (arith, three)) (λ six. omega (arith, six));
+    draw = λ same. other_name (codes "check") (codes "draw") same (λ lengths. omega (arith, lengths));
     explain = λ same. other_name (codes "check") (codes "explain") same (λ lengths. omega (arith, lengths));
   })
   | inr (inr (inr (inl run))) ↦ subst (λ (f : Text × List Row). IsWhole f.0 f.1) run.1 (record {
     named = inr (inr (inr (inl refl)));
     certify = λ same. other_name (codes "run") (codes "certify") same (λ lengths. omega (arith, lengths));
     check = λ same. other_name (codes "run") (codes "check") same (λ lengths. omega (arith, lengths));
-    run = λ same. run_values run.0 run.2;
+    run = λ recording same. run_values run.0 run.2;
+    draw = λ same. other_name (codes "run") (codes "draw") same (λ lengths. omega (arith, lengths));
     explain = λ same. other_name (codes "run") (codes "explain") same (λ lengths. omega (arith, lengths));
   })
-  | inr (inr (inr (inr (inl explain)))) ↦ subst (λ (f : Text × List Row). IsWhole f.0 f.1) explain.1 (record {
+  | inr (inr (inr (inr (inl pulses)))) ↦ subst (λ (f : Text × List Row). IsWhole f.0 f.1) pulses.1 (record {
     named = inr (inr (inr (inr (inl refl))));
+    certify = λ same. other_name (codes "pulses") (codes "certify") same (λ lengths. omega (arith, lengths));
+    check = λ same. other_name (codes "pulses") (codes "check") same (λ lengths. omega (arith, lengths));
+    run = λ recording same. pulses_values pulses.0 pulses.2;
+    draw = λ same. other_name (codes "pulses") (codes "draw") same (λ lengths. omega (arith, lengths));
+    explain = λ same. other_name (codes "pulses") (codes "explain") same (λ lengths. omega (arith, lengths));
+  })
+  | inr (inr (inr (inr (inr (inl draw))))) ↦ subst (λ (f : Text × List Row). IsWhole f.0 f.1) draw.1 (record {
+    named = inr (inr (inr (inr (inr (inl refl)))));
+    certify = λ same. other_name (codes "draw") (codes "certify") same (λ lengths. omega (arith, lengths));
+    check = λ same. other_name (codes "draw") (codes "check") same (λ lengths. omega (arith, lengths));
+    run = λ recording same. no_run (codes "draw") recording same (λ three. omega (arith, three)) (λ six. omega (arith, six));
+    draw = λ same. draw_values draw.0 draw.2;
+    explain = λ same. other_name (codes "draw") (codes "explain") same (λ lengths. omega (arith, lengths));
+  })
+  | inr (inr (inr (inr (inr (inr (inl explain)))))) ↦ subst (λ (f : Text × List Row). IsWhole f.0 f.1) explain.1 (record {
+    named = inr (inr (inr (inr (inr (inr (inl refl))))));
     certify = λ same. other_letter (codes "explain") (codes "certify") same (λ letters. omega (arith, letters));
     check = λ same. other_name (codes "explain") (codes "check") same (λ lengths. omega (arith, lengths));
-    run = λ same. other_name (codes "explain") (codes "run") same (λ lengths. omega (arith, lengths));
+    run = λ recording same. no_run (codes "explain") recording same (λ three. omega (arith, three)) (λ six. omega (arith, six));
+    draw = λ same. other_name (codes "explain") (codes "draw") same (λ lengths. omega (arith, lengths));
     explain = λ same. explain_values explain.0 explain.2;
   })
-  | inr (inr (inr (inr (inr (inl help))))) ↦ subst (λ (f : Text × List Row). IsWhole f.0 f.1) help.1 (record {
-    named = inr (inr (inr (inr (inr (inl refl)))));
+  | inr (inr (inr (inr (inr (inr (inr (inl help))))))) ↦ subst (λ (f : Text × List Row). IsWhole f.0 f.1) help.1 (record {
+    named = inr (inr (inr (inr (inr (inr (inr (inl refl)))))));
     certify = λ same. other_name (codes "help") (codes "certify") same (λ lengths. omega (arith, lengths));
     check = λ same. other_name (codes "help") (codes "check") same (λ lengths. omega (arith, lengths));
-    run = λ same. other_name (codes "help") (codes "run") same (λ lengths. omega (arith, lengths));
+    run = λ recording same. no_run (codes "help") recording same (λ three. omega (arith, three)) (λ six. omega (arith, six));
+    draw = λ same. other_letter (codes "help") (codes "draw") same (λ letters. omega (arith, letters));
     explain = λ same. other_name (codes "help") (codes "explain") same (λ lengths. omega (arith, lengths));
   })
-  | inr (inr (inr (inr (inr (inr (inl version)))))) ↦ subst (λ (f : Text × List Row). IsWhole f.0 f.1) version.1 (record {
-    named = inr (inr (inr (inr (inr (inr (inl refl))))));
+  | inr (inr (inr (inr (inr (inr (inr (inr (inl version)))))))) ↦ subst (λ (f : Text × List Row). IsWhole f.0 f.1) version.1 (record {
+    named = inr (inr (inr (inr (inr (inr (inr (inr (inl refl))))))));
     certify = λ same. other_letter (codes "version") (codes "certify") same (λ letters. omega (arith, letters));
     check = λ same. other_name (codes "version") (codes "check") same (λ lengths. omega (arith, lengths));
-    run = λ same. other_name (codes "version") (codes "run") same (λ lengths. omega (arith, lengths));
+    run = λ recording same. no_run (codes "version") recording same (λ three. omega (arith, three)) (λ six. omega (arith, six));
+    draw = λ same. other_name (codes "version") (codes "draw") same (λ lengths. omega (arith, lengths));
     explain = λ same. other_letter (codes "version") (codes "explain") same (λ letters. omega (arith, letters));
   })
-  | inr (inr (inr (inr (inr (inr (inr none)))))) ↦ absurd none
+  | inr (inr (inr (inr (inr (inr (inr (inr (inr none)))))))) ↦ absurd none
 ]
 
 -- the subcommand that taken words name

@@ -5,6 +5,8 @@ use Rattle.std.specs.Fmt.{decimal}
 use Rattle.clap.specs.Words.{App, Rule, Text, new_app, new_rule, with_rule, with_subcommand}
 use Rattle.clap.specs.declared.builder.action.ArgAction.TheVariants.{Set, SetTrue}
 use Rattle.clap.specs.declared.builder.value_parser.ValueParser.TheVariants.{Unsigned}
+use Rattle.ngc_command_line.specs.declared.options.Recording.{Recording}
+use Rattle.ngc_command_line.specs.declared.options.Recording.TheVariants.{Log, Pulses}
 
 -- `--NAME FILE`
 abbrev pub file_option : Text → Rule
@@ -40,12 +42,32 @@ check_app = fold with_rule (new_app (codes "check"))
     (required_file (codes "machine") ∷ required_file (codes "tools")
     ∷ required_file (codes "certificate") ∷ file_option (codes "program") ∷ [])
 
--- `run --machine FILE --tools FILE --certificate FILE [--events FILE] [--program FILE] [--delete]`
-abbrev pub run_app : App
-run_app = fold with_rule (new_app (codes "run"))
+-- `--machine FILE --tools FILE --certificate FILE [--events FILE] [--program FILE] [--delete]`
+abbrev pub with_run_rules : App → App
+with_run_rules app = fold with_rule app
     (required_file (codes "machine") ∷ required_file (codes "tools")
     ∷ required_file (codes "certificate") ∷ file_option (codes "events")
     ∷ file_option (codes "program") ∷ flag (codes "delete") ∷ [])
+
+-- what runs a program is called by what it writes
+abbrev pub run_name : Recording → Text
+run_name Log = codes "run"
+run_name Pulses = codes "pulses"
+
+-- `run ..`
+abbrev pub run_app : App
+run_app = with_run_rules (new_app (codes "run"))
+
+-- `pulses ..`
+abbrev pub pulses_app : App
+pulses_app = with_run_rules (new_app (codes "pulses"))
+
+-- `draw --machine FILE --tools FILE [--certificate FILE] [--program FILE] [--view VIEW] [--delete]`
+abbrev pub draw_app : App
+draw_app = fold with_rule (new_app (codes "draw"))
+    (required_file (codes "machine") ∷ required_file (codes "tools")
+    ∷ file_option (codes "certificate") ∷ file_option (codes "program")
+    ∷ file_option (codes "view") ∷ flag (codes "delete") ∷ [])
 
 -- `N`, a number from 1 to 999, which may not be left out
 abbrev pub number_argument : Rule
@@ -78,11 +100,10 @@ ngc_settings = let bare : App = new_app (codes "ngc") in record bare {
   };
 }
 
--- the program's commands: `ngc list ..`, `ngc certify ..`, `ngc check ..`, `ngc run ..`, `ngc explain ..`, `ngc help ..` and
--- `ngc version`
+-- the program's commands
 abbrev pub ngc_app : App
-ngc_app = fold with_subcommand ngc_settings (list_app.top ∷ certify_app.top ∷ check_app.top ∷ run_app.top ∷ explain_app.top
-    ∷ help_app.top ∷ (new_app (codes "version")).top ∷ [])
+ngc_app = fold with_subcommand ngc_settings (list_app.top ∷ certify_app.top ∷ check_app.top ∷ run_app.top ∷ pulses_app.top
+    ∷ draw_app.top ∷ explain_app.top ∷ help_app.top ∷ (new_app (codes "version")).top ∷ [])
 
 -- the one word `--NAME=FILE`, where there is a file and `beginning` is `--NAME=`
 abbrev pub file_words : Text → Option Text → List Text
@@ -121,9 +142,16 @@ abbrev pub help_words : Option Text → List Text
 help_words None = codes "help" ∷ []
 help_words (Some command) = codes "help" ∷ command ∷ []
 
--- the words of `ngc run` with these options, in one spelling
-abbrev pub run_words : Text → Text → Text → Option Text → Option Text → Bool → List Text
-run_words machine tools certificate events program delete = codes "run"
+-- the words of `ngc draw` with these options, in one spelling
+abbrev pub draw_words : Text → Text → Option Text → Option Text → Option Text → Bool → List Text
+draw_words machine tools certificate program view delete = codes "draw"
+    ∷ (codes "--machine=" ++ machine) ∷ (codes "--tools=" ++ tools)
+    ∷ (file_words (codes "--certificate=") certificate ++ file_words (codes "--program=") program
+    ++ file_words (codes "--view=") view ++ flag_words (codes "--delete") delete)
+
+-- the words of `ngc run` or `ngc pulses` with these options, in one spelling
+abbrev pub run_words : Recording → Text → Text → Text → Option Text → Option Text → Bool → List Text
+run_words recording machine tools certificate events program delete = run_name recording
     ∷ (codes "--machine=" ++ machine) ∷ (codes "--tools=" ++ tools)
     ∷ (codes "--certificate=" ++ certificate)
     ∷ (file_words (codes "--events=") events ++ file_words (codes "--program=") program

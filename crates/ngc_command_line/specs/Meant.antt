@@ -5,16 +5,18 @@ use Rattle.std.specs.Str.{bytes_eq}
 use Rattle.std.specs.Str.Parse.{IsNumeral, digits_value, without_leading_plus}
 use Rattle.std.specs.Option.{option_map_or}
 use Rattle.clap.specs.Words.{IsUnsignedIn, Row, Shape, Text, fault_of, first_of}
-use Rattle.ngc_command_line.specs.CommandLine.{ngc_app}
+use Rattle.ngc_command_line.specs.CommandLine.{ngc_app, run_name}
 use Rattle.ngc_command_line.specs.declared.options.CertifyOptions.{CertifyOptions}
 use Rattle.ngc_command_line.specs.declared.options.CheckOptions.{CheckOptions}
+use Rattle.ngc_command_line.specs.declared.options.DrawOptions.{DrawOptions}
 use Rattle.ngc_command_line.specs.declared.options.ListOptions.{ListOptions}
+use Rattle.ngc_command_line.specs.declared.options.Recording.{Recording}
 use Rattle.ngc_command_line.specs.declared.options.RunOptions.{RunOptions}
 use Rattle.ngc_command_line.specs.declared.options.Options.{Options}
 use Rattle.ngc_command_line.specs.declared.options.Options.TheVariants.{List as ToList, Certify as ToCertify}
 use Rattle.ngc_command_line.specs.declared.options.RunThroughOptions.{RunThroughOptions}
 use Rattle.ngc_command_line.specs.declared.options.Options.TheVariants.{Check as ToCheck, Run as ToRun}
-use Rattle.ngc_command_line.specs.declared.options.Options.TheVariants.{RunThrough as ToRunThrough}
+use Rattle.ngc_command_line.specs.declared.options.Options.TheVariants.{RunThrough as ToRunThrough, Draw as ToDraw}
 use Rattle.ngc_command_line.specs.declared.options.Options.TheVariants.{Explain as ToExplain, Help as ToHelp}
 use Rattle.ngc_command_line.specs.declared.options.Options.TheVariants.{Version as ToVersion}
 use Rattle.ngc_command_line.specs.declared.HelpFault.{HelpFault}
@@ -64,7 +66,7 @@ pub record AreCheckOptions (rows : List Row) (options : CheckOptions) : Type 0 w
   pub certificate : Some options.certificate.now ≡ first_of (codes "certificate") rows
   pub program : option_map (λ name. name.now) options.program ≡ first_of (codes "program") rows
 
--- each option of `run` with events by the first value that was found under its own name
+-- each option of a run with events by the first value that was found under its own name
 pub record AreRunOptions (rows : List Row) (options : RunOptions) : Type 0 where
   pub machine : Some options.machine.now ≡ first_of (codes "machine") rows
   pub tools : Some options.tools.now ≡ first_of (codes "tools") rows
@@ -73,7 +75,7 @@ pub record AreRunOptions (rows : List Row) (options : RunOptions) : Type 0 where
   pub program : option_map (λ name. name.now) options.program ≡ first_of (codes "program") rows
   pub delete : options.delete ≡ is_set (codes "delete") rows
 
--- and of `run` without events
+-- and of a run without events
 pub record AreRunThroughOptions (rows : List Row) (options : RunThroughOptions) : Type 0 where
   pub machine : Some options.machine.now ≡ first_of (codes "machine") rows
   pub tools : Some options.tools.now ≡ first_of (codes "tools") rows
@@ -82,11 +84,20 @@ pub record AreRunThroughOptions (rows : List Row) (options : RunThroughOptions) 
   pub program : option_map (λ name. name.now) options.program ≡ first_of (codes "program") rows
   pub delete : options.delete ≡ is_set (codes "delete") rows
 
--- the options are those of `run`, of one or the other
-abbrev pub AreRunsOptions : List Row → Options → Type 0
-AreRunsOptions rows (ToRun run) = AreRunOptions rows run
-AreRunsOptions rows (ToRunThrough run) = AreRunThroughOptions rows run
-AreRunsOptions rows other = ⊥
+-- the options are those of a run that writes this, with events or without
+abbrev pub AreRunsOptions : Recording → List Row → Options → Type 0
+AreRunsOptions recording rows (ToRun run) = (run.recording ≡ recording) × AreRunOptions rows run
+AreRunsOptions recording rows (ToRunThrough run) = (run.recording ≡ recording) × AreRunThroughOptions rows run
+AreRunsOptions recording rows other = ⊥
+
+-- each option of `draw` by the first value that was found under its own name
+pub record AreDrawOptions (rows : List Row) (options : DrawOptions) : Type 0 where
+  pub machine : Some options.machine.now ≡ first_of (codes "machine") rows
+  pub tools : Some options.tools.now ≡ first_of (codes "tools") rows
+  pub certificate : option_map (λ name. name.now) options.certificate ≡ first_of (codes "certificate") rows
+  pub program : option_map (λ name. name.now) options.program ≡ first_of (codes "program") rows
+  pub view : option_map (λ name. name.now) options.view ≡ first_of (codes "view") rows
+  pub delete : options.delete ≡ is_set (codes "delete") rows
 
 -- a value was found under the name
 abbrev pub HasValue : Text → List Row → Type 0
@@ -102,10 +113,14 @@ abbrev pub HasCheckValues : List Row → Type 0
 HasCheckValues rows = HasValue (codes "machine") rows × HasValue (codes "tools") rows
     × HasValue (codes "certificate") rows
 
--- what is found for `run` where the words are taken
+-- what is found for `run` and `pulses` where the words are taken
 abbrev pub HasRunValues : List Row → Type 0
 HasRunValues rows = HasValue (codes "machine") rows × HasValue (codes "tools") rows
     × HasValue (codes "certificate") rows
+
+-- what is found for `draw` where the words are taken
+abbrev pub HasDrawValues : List Row → Type 0
+HasDrawValues rows = HasValue (codes "machine") rows × HasValue (codes "tools") rows
 
 -- what is found for `explain` where the words are taken
 abbrev pub HasExplainValues : List Row → Type 0
@@ -122,7 +137,8 @@ pub record IsWhole (name : Text) (rows : List Row) : Type 0 where
   pub named : IsNameAmong ngc_app.subs name
   pub certify : name ≡ codes "certify" → HasCertifyValues rows
   pub check : name ≡ codes "check" → HasCheckValues rows
-  pub run : name ≡ codes "run" → HasRunValues rows
+  pub run : (recording : Recording) → name ≡ run_name recording → HasRunValues rows
+  pub draw : name ≡ codes "draw" → HasDrawValues rows
   pub explain : name ≡ codes "explain" → HasExplainValues rows
 
 -- the options are those of the subcommand that was found, and there is one
@@ -132,9 +148,10 @@ AreOptions (Some found) (ToList list) = (found.0 ≡ codes "list") × AreListOpt
 AreOptions (Some found) (ToCertify certify) =
     (found.0 ≡ codes "certify") × AreCertifyOptions found.1 certify
 AreOptions (Some found) (ToCheck check) = (found.0 ≡ codes "check") × AreCheckOptions found.1 check
-AreOptions (Some found) (ToRun run) = (found.0 ≡ codes "run") × AreRunOptions found.1 run
+AreOptions (Some found) (ToRun run) = (found.0 ≡ run_name run.recording) × AreRunOptions found.1 run
 AreOptions (Some found) (ToRunThrough run) =
-    (found.0 ≡ codes "run") × AreRunThroughOptions found.1 run
+    (found.0 ≡ run_name run.recording) × AreRunThroughOptions found.1 run
+AreOptions (Some found) (ToDraw draw) = (found.0 ≡ codes "draw") × AreDrawOptions found.1 draw
 AreOptions (Some found) (ToExplain number) =
     (found.0 ≡ codes "explain") × IsNumber (first_of (codes "number") found.1) number
 AreOptions (Some found) (ToHelp command) = (found.0 ≡ codes "help")
@@ -166,17 +183,26 @@ AsksForCheck machine tools certificate program (ToCheck check) =
     × (option_map (λ name. name.now) check.program ≡ program)
 AsksForCheck machine tools certificate program other = ⊥
 
--- `run` is asked for, with these options
-abbrev pub AsksForRun : Text → Text → Text → Option Text → Option Text → Bool → Options → Type 0
-AsksForRun machine tools certificate (Some events) program delete (ToRun run) =
-    (run.machine.now ≡ machine) × (run.tools.now ≡ tools)
+-- a run that writes this is asked for, with these options
+abbrev pub AsksForRun : Recording → Text → Text → Text → Option Text → Option Text → Bool → Options → Type 0
+AsksForRun recording machine tools certificate (Some events) program delete (ToRun run) =
+    (run.recording ≡ recording) × (run.machine.now ≡ machine) × (run.tools.now ≡ tools)
     × (run.certificate.now ≡ certificate) × (run.events.now ≡ events)
     × (option_map (λ name. name.now) run.program ≡ program) × (run.delete ≡ delete)
-AsksForRun machine tools certificate None program delete (ToRunThrough run) =
-    (run.machine.now ≡ machine) × (run.tools.now ≡ tools)
+AsksForRun recording machine tools certificate None program delete (ToRunThrough run) =
+    (run.recording ≡ recording) × (run.machine.now ≡ machine) × (run.tools.now ≡ tools)
     × (run.certificate.now ≡ certificate)
     × (option_map (λ name. name.now) run.program ≡ program) × (run.delete ≡ delete)
-AsksForRun machine tools certificate events program delete other = ⊥
+AsksForRun recording machine tools certificate events program delete other = ⊥
+
+-- `draw` is asked for, with these options
+abbrev pub AsksForDraw : Text → Text → Option Text → Option Text → Option Text → Bool → Options → Type 0
+AsksForDraw machine tools certificate program view delete (ToDraw draw) =
+    (draw.machine.now ≡ machine) × (draw.tools.now ≡ tools)
+    × (option_map (λ name. name.now) draw.certificate ≡ certificate)
+    × (option_map (λ name. name.now) draw.program ≡ program)
+    × (option_map (λ name. name.now) draw.view ≡ view) × (draw.delete ≡ delete)
+AsksForDraw machine tools certificate program view delete other = ⊥
 
 -- `help` is asked for, of this command
 abbrev pub AsksForHelp : Option Text → Options → Type 0

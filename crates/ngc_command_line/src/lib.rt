@@ -7,16 +7,17 @@
 ghost use Rattle.std.specs.Prelude.{◌≡◌, Bool, IfOk, IsOkUnless, MatchResult, OnOk, Option, Some, ℕ, codes, ◌∷◌, []};
 ghost use Rattle.clap.specs.Words.{Text, app_of, found_of, kind_of, rows_of, subcommand_of};
 ghost use Rattle.clap.specs.Walk.{texts};
-ghost use Rattle.ngc_command_line.specs.CommandLine.{certify_words, check_words, help_words, list_words};
+ghost use Rattle.ngc_command_line.specs.CommandLine.{certify_words, check_words, draw_words, help_words, list_words};
 ghost use Rattle.ngc_command_line.specs.CommandLine.{ngc_app, ngc_settings, run_words};
 ghost use Rattle.ngc_command_line.specs.Meant.{AreCutsInRange, AreOptions, AsksForCertify};
-ghost use Rattle.ngc_command_line.specs.Meant.{AsksForCheck, AsksForList, AsksForRun, AsksForHelp};
+ghost use Rattle.ngc_command_line.specs.Meant.{AsksForCheck, AsksForDraw, AsksForList, AsksForRun, AsksForHelp};
 ghost use Rattle.ngc_command_line.specs.Meant.{AreCommands, help_fault_number};
 ghost use Rattle.ngc_command_line.specs.Meant.{IsTaken, IsWhole, usage_fault_number};
 
 mod arguments;
 mod certify;
 mod check;
+mod draw;
 mod explain;
 mod guide;
 mod list;
@@ -28,13 +29,15 @@ use certify::{certify_command, certify_options};
 use check::{check_command, check_options};
 use clap::error::ErrorKind;
 use clap::{ArgMatches, Command};
+use draw::{draw_command, draw_options};
 use explain::{explain_command, explained_number};
 use guide::{help_command, topic, version_command};
 use list::{list_command, list_options};
 pub use options::{
-    CertifyOptions, CheckOptions, ListOptions, Options, RunOptions, RunThroughOptions,
+    CertifyOptions, CheckOptions, DrawOptions, ListOptions, Options, Recording, RunOptions,
+    RunThroughOptions,
 };
-use run::{run_command, run_options};
+use run::{pulses_command, run_command, run_options};
 use std::alloc::{AllocError, Global};
 use thiserror::Error;
 
@@ -93,7 +96,7 @@ fn bare_command<'a>(alloc: Global) -> Result<Command<'a>, AllocError>
         .no_binary_name(true)
         .subcommand_required(true)
         .disable_help_subcommand(true)
-        .about("List, certify, check and run part programs in RS274/NGC")
+        .about("List, certify, check, run and draw part programs in RS274/NGC")
         .after_help(help_end!("  ngc list --program examples/facing.ngc"))
         .bin_name("ngc")
 }
@@ -106,6 +109,8 @@ fn ngc_command<'a>(alloc: Global) -> Result<Command<'a>, AllocError>
         .subcommand(certify_command(alloc)?)?
         .subcommand(check_command(alloc)?)?
         .subcommand(run_command(alloc)?)?
+        .subcommand(pulses_command(alloc)?)?
+        .subcommand(draw_command(alloc)?)?
         .subcommand(explain_command(alloc)?)?
         .subcommand(help_command(alloc)?)?
         .subcommand(version_command(alloc))
@@ -132,7 +137,9 @@ fn options_of<'a>(name: &str, found: &ArgMatches<'a>) -> Options<'a>
         "list" => Options::List(list_options(found)),
         "certify" => Options::Certify(certify_options(found)),
         "check" => Options::Check(check_options(found)),
-        "run" => run_options(found),
+        "run" => run_options(Recording::Log, found),
+        "pulses" => run_options(Recording::Pulses, found),
+        "draw" => Options::Draw(draw_options(found)),
         "explain" => Options::Explain(explained_number(found)),
         "help" => Options::Help(topic(found)),
         "version" => Options::Version,
@@ -172,11 +179,18 @@ pub fn read_options<'a>(alloc: Global, words: &'a [&'a str]) -> Result<Options<'
         → MatchResult result (AsksForCheck machine tools certificate program)
         (λ fault. fault ≡ UsageFault.Memory) }
     // `run --machine=FILE --tools=FILE --certificate=FILE --events=FILE --program=FILE --delete` is
-    // read as it is spelled, where the last three may be left out.
-    ensures spelled_run { (machine tools certificate : Text) (events program : Option Text)
-        (delete : Bool)
-        → texts words.entry.now ≡ run_words machine tools certificate events program delete
-        → MatchResult result (AsksForRun machine tools certificate events program delete)
+    // read as it is spelled, where the last three may be left out, and so is `pulses` with the same.
+    ensures spelled_run { (recording : Recording) (machine tools certificate : Text)
+        (events program : Option Text) (delete : Bool)
+        → texts words.entry.now ≡ run_words recording machine tools certificate events program delete
+        → MatchResult result (AsksForRun recording machine tools certificate events program delete)
+        (λ fault. fault ≡ UsageFault.Memory) }
+    // `draw --machine=FILE --tools=FILE --certificate=FILE --program=FILE --view=VIEW --delete` is
+    // read as it is spelled, where the last four may be left out.
+    ensures spelled_draw { (machine tools : Text) (certificate program : Option Text)
+        (view : Option Text) (delete : Bool)
+        → texts words.entry.now ≡ draw_words machine tools certificate program view delete
+        → MatchResult result (AsksForDraw machine tools certificate program view delete)
         (λ fault. fault ≡ UsageFault.Memory) }
     // So are `help`, `help COMMAND` with the name of a command, and `version`.
     ensures spelled_help { (command : Option Text) → AreCommands command

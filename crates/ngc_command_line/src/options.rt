@@ -11,10 +11,12 @@ pub enum Options<'a> {
     Certify(CertifyOptions<'a>),
     /// `ngc check`: check a certificate of a part program.
     Check(CheckOptions<'a>),
-    /// `ngc run` with events: run a part program on the machine over a list of events.
+    /// `ngc run` and `ngc pulses` with events: run a part program on the machine over a list of events.
     Run(RunOptions<'a>),
-    /// `ngc run` without events: run a part program through to its end.
+    /// `ngc run` and `ngc pulses` without events: run a part program through to its end.
     RunThrough(RunThroughOptions<'a>),
+    /// `ngc draw`: draw a part program on the machine.
+    Draw(DrawOptions<'a>),
     /// `ngc explain`: print what is told of the fault with this number, 1 to 999.
     Explain(u16),
     /// `ngc help`: print the help of a command. With none it is that of the program.
@@ -63,9 +65,20 @@ pub struct CheckOptions<'a> {
     pub program: Option<&'a str>,
 }
 
-/// The options of `ngc run` with events.
+/// What a run writes.
+#[derive(Clone, Copy, Debug, PartialEq, Eq)]
+pub enum Recording {
+    /// `ngc run`: the log.
+    Log,
+    /// `ngc pulses`: the pulses with their times.
+    Pulses,
+}
+
+/// The options of `ngc run` and `ngc pulses` with events.
 #[derive(Clone, Copy, Debug, PartialEq, Eq)]
 pub struct RunOptions<'a> {
+    /// What is written.
+    pub recording: Recording,
     /// The machine file.
     pub machine: &'a str,
     /// The file of the tool table.
@@ -80,9 +93,11 @@ pub struct RunOptions<'a> {
     pub delete: bool,
 }
 
-/// The options of `ngc run` without events.
+/// The options of `ngc run` and `ngc pulses` without events.
 #[derive(Clone, Copy, Debug, PartialEq, Eq)]
 pub struct RunThroughOptions<'a> {
+    /// What is written.
+    pub recording: Recording,
     /// The machine file.
     pub machine: &'a str,
     /// The file of the tool table.
@@ -91,6 +106,23 @@ pub struct RunThroughOptions<'a> {
     pub certificate: &'a str,
     /// The file of the part program. With none it comes from standard input.
     pub program: Option<&'a str>,
+    /// Whether block delete is on, so that lines that begin with `/` are left out.
+    pub delete: bool,
+}
+
+/// The options of `ngc draw`.
+#[derive(Clone, Copy, Debug, PartialEq, Eq)]
+pub struct DrawOptions<'a> {
+    /// The machine file.
+    pub machine: &'a str,
+    /// The file of the tool table.
+    pub tools: &'a str,
+    /// The file of the certificate whose boxes are drawn. With none no boxes are.
+    pub certificate: Option<&'a str>,
+    /// The file of the part program. With none it comes from standard input.
+    pub program: Option<&'a str>,
+    /// The name of the view: `top`, `front` or `side`, and else none has it. With none given it is from the top.
+    pub view: Option<&'a str>,
     /// Whether block delete is on, so that lines that begin with `/` are left out.
     pub delete: bool,
 }

@@ -96,6 +96,14 @@ pub(crate) fn shell() -> &'static [Row]
             mend: "`ngc help` lists the commands.",
         },
         Row {
+            number: 723,
+            rule: "The view that `ngc draw` is given is `top`, `front` or `side` (our own).",
+            example: "command `ngc draw --view above --machine mill.toml --tools tools.toml`",
+            answer: "`ngc: fault 723`",
+            place: Some("3"),
+            mend: "Write one of the three names; without `--view` it is `top`.",
+        },
+        Row {
             number: 900,
             rule: "There is enough memory for the files and the commands (our own).",
             example: "command `ngc list` in a shell after `ulimit -v 8000`, with a program of 100,000 lines",

@@ -1,8 +1,8 @@
 //! What no clause of `ngc_command_line` says: spellings, refusals and their texts. Want of memory is not tested, since
 //! `clap` allocates by `Global`, which no test can make run out.
 use ngc_command_line::{
-    CertifyOptions, CheckOptions, ListOptions, Options, RunOptions, RunThroughOptions, UsageFault,
-    read_options,
+    CertifyOptions, CheckOptions, DrawOptions, ListOptions, Options, Recording, RunOptions,
+    RunThroughOptions, UsageFault, read_options,
 };
 use std::alloc::{AllocError, Global};
 use std::test::Fail;
@@ -184,12 +184,22 @@ const RUNS: &[(&str, Option<&str>, bool)] = &[
         Some("a.ngc"),
         true,
     ),
+    (
+        "pulses --machine mill.toml --tools table.toml --certificate a.cert --events a.events --program a.ngc --delete",
+        Some("a.ngc"),
+        true,
+    ),
 ];
 
 #[test]
 fn reads_run(rt: HostRuntime) -> Result<(), Fail> {
     for (lines, program, delete) in RUNS {
         let wanted = RunOptions {
+            recording: if lines.starts_with("run") {
+                Recording::Log
+            } else {
+                Recording::Pulses
+            },
             machine: "mill.toml",
             tools: "table.toml",
             certificate: "a.cert",
@@ -217,12 +227,22 @@ const RUNS_THROUGH: &[(&str, Option<&str>, bool)] = &[
         Some("a.ngc"),
         true,
     ),
+    (
+        "pulses --machine=mill.toml --tools=table.toml --certificate=a.cert",
+        None,
+        false,
+    ),
 ];
 
 #[test]
 fn reads_run_without_events(rt: HostRuntime) -> Result<(), Fail> {
     for (lines, program, delete) in RUNS_THROUGH {
         let wanted = RunThroughOptions {
+            recording: if lines.starts_with("run") {
+                Recording::Log
+            } else {
+                Recording::Pulses
+            },
             machine: "mill.toml",
             tools: "table.toml",
             certificate: "a.cert",
@@ -231,6 +251,42 @@ fn reads_run_without_events(rt: HostRuntime) -> Result<(), Fail> {
         };
         assert!(rt;
             are_read_as(rt.alloc(), lines, Options::RunThrough(wanted))?,
+            "{lines}"
+        );
+    }
+    Ok(())
+}
+
+// The certificate, the program, the view and block delete.
+const DRAWS: &[(&str, (Option<&str>, Option<&str>, Option<&str>, bool))] = &[
+    (
+        "draw --machine=mill.toml --tools=table.toml",
+        (None, None, None, false),
+    ),
+    (
+        "draw --machine mill.toml --tools table.toml --certificate a.cert --program a.ngc --view side --delete|\
+         draw --delete --view=side --program=a.ngc --certificate=a.cert --tools=table.toml --machine=mill.toml",
+        (Some("a.cert"), Some("a.ngc"), Some("side"), true),
+    ),
+    (
+        "draw --machine=mill.toml --tools=table.toml --view=above",
+        (None, None, Some("above"), false),
+    ),
+];
+
+#[test]
+fn reads_draw(rt: HostRuntime) -> Result<(), Fail> {
+    for (lines, (certificate, program, view, delete)) in DRAWS {
+        let wanted = DrawOptions {
+            machine: "mill.toml",
+            tools: "table.toml",
+            certificate: *certificate,
+            program: *program,
+            view: *view,
+            delete: *delete,
+        };
+        assert!(rt;
+            are_read_as(rt.alloc(), lines, Options::Draw(wanted))?,
             "{lines}"
         );
     }
@@ -433,8 +489,8 @@ fn is_narrow(text: &str) -> bool {
 }
 
 const HELP: &str =
-    "List, certify, check and run part programs in RS274/NGC|Usage: ngc <COMMAND>|  list |  certify |  check |\
-                    \x20 run |  explain |  help |  version |ngc list --program examples/facing.ngc|Exit status:|0  done|1  input|2  the command line|\
+    "List, certify, check, run and draw part programs in RS274/NGC|Usage: ngc <COMMAND>|  list |  certify |  check |\
+                    \x20 run |  pulses |  draw |  explain |  help |  version |ngc list --program examples/facing.ngc|Exit status:|0  done|1  input|2  the command line|\
                     3  the part program|4  the certificate was refused, or none clears the program|`ngc explain 113` explains it.";
 
 const LIST_HELP: &str =

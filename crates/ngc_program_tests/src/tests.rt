@@ -1,6 +1,6 @@
 use ngc_fixed_length::{Device, DeviceFault, Sink, Source};
 use ngc_line_reader::ReadFault;
-use ngc_simulator::{CertifyOptions, Files, ListOptions, Options, RunOptions, answer};
+use ngc_simulator::{CertifyOptions, Files, ListOptions, Options, Recording, RunOptions, answer};
 use std::alloc::Global;
 use std::process::Abort;
 
@@ -209,6 +209,7 @@ fn certify_options(cuts: u16) -> CertifyOptions<'static> {
 }
 
 const RUN: RunOptions<'static> = RunOptions {
+    recording: Recording::Log,
     machine: "machine",
     tools: "tools",
     certificate: "certificate",

@@ -95,7 +95,7 @@ means_alike text setup commands found none is_found off_means = λ rs are.
     same_at_both (program_said text rs) setup (sym (is_found rs are) ∙ none) ∙ off_means rs are
 
 -- each list of readings of the lines fails so
-abbrev FailsSo : ProgramText → Setup → Bool → ProgramFault → Type 0
+abbrev pub FailsSo : ProgramText → Setup → Bool → ProgramFault → Type 0
 FailsSo text setup block_delete fault = (rs : List Reading) → AreReadings text.lines rs → Fails fault (meaning (program_said text rs) setup block_delete)
 
 refused_off_by : (setup : Setup) (bytes : List ℕ) (cuts : ℕ) (text : ProgramText) (fault : ProgramFault)

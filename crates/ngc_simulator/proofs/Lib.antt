@@ -6,4 +6,5 @@ pub mod SetupLaws
 pub mod JobLaws
 pub mod FileLaws
 pub mod RunLaws
+pub mod DrawLaws
 pub mod UnreadLaws

@@ -21,13 +21,12 @@ use Rattle.ngc_events.specs.declared.event.EventLine.{EventLine}
 use Rattle.ngc_events.specs.declared.fault.EventsFault.{EventsFault}
 use Rattle.ngc_events.specs.declared.fault.EventsFault.TheVariants as texts
 use Rattle.ngc_behaviour.specs.Headline.{job_of}
-use Rattle.ngc_run_log.specs.Runs.{ComesTo}
-use Rattle.ngc_run_log.specs.Through.{GoesThrough}
+use Rattle.ngc_command_line.specs.declared.options.Recording.{Recording}
 use Rattle.ngc_run_log.specs.declared.report.Report.{Report}
 use Rattle.ngc_run_log.specs.declared.report.RunFault.{RunFault}
 use Rattle.ngc_simulator.specs.Answers.{IsTimeOf, IsTimeOn, RunsOn, RunsThroughOn}
 use Rattle.ngc_simulator.specs.Jobs.{IsNoCertificate}
-use Rattle.ngc_simulator.specs.Running.{IsAcceptedJob, RunsOver, RunsWhole, AreNoEvents, Runs, RunsThrough}
+use Rattle.ngc_simulator.specs.Running.{IsAcceptedJob, RunsOver, RunsWhole, AreNoEvents, Runs, RunsThrough, RecordsRun, RecordsThrough}
 use Rattle.ngc_simulator.specs.Setups.{FileBytes, KeepsFiles, KeepsNamed}
 use Rattle.ngc_simulator.specs.Shops.{GivesShop}
 use Rattle.ngc_simulator.specs.declared.running.RunningFault.{RunningFault}
@@ -44,16 +43,16 @@ no_events A events (texts.BadLine line) says = says
 no_events A events texts.TooManyLines says = says
 no_events A events texts.Memory says = tt
 
-pub events_refused : (A : Type 0) (setup : Setup) (bytes text events : List ℕ) (block_delete : Bool) (known : Option (List ℕ)) (program : ProgramText) (c : CertificateData) (fault : EventsFault)
+pub events_refused : (A : Type 0) (recording : Recording) (setup : Setup) (bytes text events : List ℕ) (block_delete : Bool) (known : Option (List ℕ)) (program : ProgramText) (c : CertificateData) (fault : EventsFault)
     → program_of bytes ≡ Ok program → HaveReadings program.lines → certificate_said text ≡ Ok c → GivesEvents {A = A} (Err fault) (events_said events)
-    → Runs setup bytes text events block_delete known known (Err (running.Events fault))
-events_refused A setup bytes text events block_delete known program c fault is_text have said says =
+    → Runs recording setup bytes text events block_delete known known (Err (running.Events fault))
+events_refused A recording setup bytes text events block_delete known program c fault is_text have said says =
     (((program_said program have.readings, c, given bytes text program c is_text have said), no_events A events fault says), keeps_same known)
 
-pub run_refused : (setup : Setup) (bytes text events : List ℕ) (block_delete : Bool) (known : Option (List ℕ)) (program : ProgramText) (c : CertificateData) (lines : List EventLine) (fault : CheckFault)
+pub run_refused : (recording : Recording) (setup : Setup) (bytes text events : List ℕ) (block_delete : Bool) (known : Option (List ℕ)) (program : ProgramText) (c : CertificateData) (lines : List EventLine) (fault : CheckFault)
     → program_of bytes ≡ Ok program → HaveReadings program.lines → certificate_said text ≡ Ok c → events_said events ≡ Ok lines → Says program setup c (Err fault)
-    → Runs setup bytes text events block_delete known known (Err (running.Check fault))
-run_refused setup bytes text events block_delete known program c lines fault is_text have said are_lines says = (
+    → Runs recording setup bytes text events block_delete known known (Err (running.Check fault))
+run_refused recording setup bytes text events block_delete known program c lines fault is_text have said are_lines says = (
   record {
     lines = lines;
     are_lines = are_lines;
@@ -84,23 +83,23 @@ accepted_job setup bytes text block_delete program c a is_text have said says =
       is_job = ap (λ machine. job_of machine (commands_at block_delete a)) checked.1.machine;
     }
 
-pub ran_over : (setup : Setup) (bytes text events : List ℕ) (block_delete : Bool) (old new : Option (List ℕ)) (program : ProgramText) (c : CertificateData) (lines given_lines : List EventLine) (a : AcceptedData) (result : Result Report RunFault)
+pub ran_over : (recording : Recording) (setup : Setup) (bytes text events : List ℕ) (block_delete : Bool) (old new : Option (List ℕ)) (program : ProgramText) (c : CertificateData) (lines given_lines : List EventLine) (a : AcceptedData) (result : Result Report RunFault)
     → program_of bytes ≡ Ok program → HaveReadings program.lines → certificate_said text ≡ Ok c → events_said events ≡ Ok lines → Says program setup c (Ok a)
-    → given_lines ≡ lines → ComesTo (job_of a.machine (commands_at block_delete a)) given_lines old new result
-    → RunsOver setup bytes text events block_delete old new result
-ran_over setup bytes text events block_delete old new program c lines given_lines a result is_text have said are_lines says same comes = record {
+    → given_lines ≡ lines → RecordsRun recording (job_of a.machine (commands_at block_delete a)) given_lines old new result
+    → RunsOver recording setup bytes text events block_delete old new result
+ran_over recording setup bytes text events block_delete old new program c lines given_lines a result is_text have said are_lines says same comes = record {
   job = job_of a.machine (commands_at block_delete a);
   accepted = accepted_job setup bytes text block_delete program c a is_text have said says;
   lines = lines;
   are_lines = are_lines;
-  comes = subst (λ ls. ComesTo (job_of a.machine (commands_at block_delete a)) ls old new result) same comes;
+  comes = subst (λ ls. RecordsRun recording (job_of a.machine (commands_at block_delete a)) ls old new result) same comes;
 }
 
 -- of the bytes that were read, and so of those of the file
-pub run_over : (setup : Setup) (bytes text events slice items : List ℕ) (block_delete : Bool) (old new : Option (List ℕ)) (outcome : Result Report RunningFault)
-    → slice ≡ items → items ≡ events → Runs setup bytes text slice block_delete old new outcome → Runs setup bytes text events block_delete old new outcome
-run_over setup bytes text events slice items block_delete old new outcome same read runs =
-    subst (λ es. Runs setup bytes text es block_delete old new outcome) (same ∙ read) runs
+pub run_over : (recording : Recording) (setup : Setup) (bytes text events slice items : List ℕ) (block_delete : Bool) (old new : Option (List ℕ)) (outcome : Result Report RunningFault)
+    → slice ≡ items → items ≡ events → Runs recording setup bytes text slice block_delete old new outcome → Runs recording setup bytes text events block_delete old new outcome
+run_over recording setup bytes text events slice items block_delete old new outcome same read runs =
+    subst (λ es. Runs recording setup bytes text es block_delete old new outcome) (same ∙ read) runs
 
 pub no_certificate : (A : Type 0) (view : Certificate A → CertificateData) (text : List ℕ) (fault : CertificateFault) → GivesCertificate view (Err fault) (certificate_said text)
     → IsNoCertificate text fault
@@ -137,23 +136,23 @@ on_files first second third known source events P Q R S is_first is_second is_th
 pub ran_files : (bytes after later last : FileBytes) (options : RunOptions) (shop : Shop) (old new : Option (List ℕ)) (outcome : Result Report RunningFault) (P Q R : List ℕ → Type 0)
     → GivesShop bytes (Some options.machine.now) (Some options.tools.now) (Ok shop) → KeepsFiles bytes after → KeepsNamed after later → KeepsFiles later last
     → IfSome (after (option_map (λ n. n.now) options.program)) P → IfSome (later (Some options.certificate.now)) Q → IfSome (last (Some options.events.now)) R
-    → ((a b e : List ℕ) → P a → Q b → R e → Runs (setup_of shop.machine shop.tools) a b e options.delete old new outcome)
+    → ((a b e : List ℕ) → P a → Q b → R e → Runs options.recording (setup_of shop.machine shop.tools) a b e options.delete old new outcome)
     → RunsOn bytes options old new outcome
 ran_files bytes after later last options shop old new outcome P Q R said keeps named kept p q r on =
     on_setup bytes (Some options.machine.now) (Some options.tools.now) (setup_of shop.machine shop.tools)
-    (λ setup. IfSome (bytes (option_map (λ n. n.now) options.program)) (λ a. IfSome (bytes (Some options.certificate.now)) (λ b. IfSome (bytes (Some options.events.now)) (λ e. Runs setup a b e options.delete old new outcome))))
+    (λ setup. IfSome (bytes (option_map (λ n. n.now) options.program)) (λ a. IfSome (bytes (Some options.certificate.now)) (λ b. IfSome (bytes (Some options.events.now)) (λ e. Runs options.recording setup a b e options.delete old new outcome))))
     said.0 said.1
-    (on_files _ _ _ _ _ _ P Q R (λ a b e. Runs (setup_of shop.machine shop.tools) a b e options.delete old new outcome)
+    (on_files _ _ _ _ _ _ P Q R (λ a b e. Runs options.recording (setup_of shop.machine shop.tools) a b e options.delete old new outcome)
     (keeps (option_map (λ n. n.now) options.program))
     (named options.certificate.now ∙ keeps (Some options.certificate.now))
     (kept (Some options.events.now) ∙ named options.events.now ∙ keeps (Some options.events.now)) on p q r)
 
 -- ---- to the end
 
-pub through_refused : (setup : Setup) (bytes text : List ℕ) (block_delete : Bool) (known : Option (List ℕ)) (program : ProgramText) (c : CertificateData) (fault : CheckFault)
+pub through_refused : (recording : Recording) (setup : Setup) (bytes text : List ℕ) (block_delete : Bool) (known : Option (List ℕ)) (program : ProgramText) (c : CertificateData) (fault : CheckFault)
     → program_of bytes ≡ Ok program → HaveReadings program.lines → certificate_said text ≡ Ok c → Says program setup c (Err fault)
-    → RunsThrough setup bytes text block_delete known known (Err (running.Check fault))
-through_refused setup bytes text block_delete known program c fault is_text have said says = (
+    → RunsThrough recording setup bytes text block_delete known known (Err (running.Check fault))
+through_refused recording setup bytes text block_delete known program c fault is_text have said says = (
   record {
     program = program_said program have.readings;
     certificate = c;
@@ -163,18 +162,18 @@ through_refused setup bytes text block_delete known program c fault is_text have
   keeps_same known,
 )
 
-pub went_through : (setup : Setup) (bytes text : List ℕ) (block_delete : Bool) (old new : Option (List ℕ)) (program : ProgramText) (c : CertificateData) (a : AcceptedData) (result : Result Report RunFault)
+pub went_through : (recording : Recording) (setup : Setup) (bytes text : List ℕ) (block_delete : Bool) (old new : Option (List ℕ)) (program : ProgramText) (c : CertificateData) (a : AcceptedData) (result : Result Report RunFault)
     → program_of bytes ≡ Ok program → HaveReadings program.lines → certificate_said text ≡ Ok c → Says program setup c (Ok a)
-    → GoesThrough (job_of a.machine (commands_at block_delete a)) old new result
-    → RunsWhole setup bytes text block_delete old new result
-went_through setup bytes text block_delete old new program c a result is_text have said says goes = record {
+    → RecordsThrough recording (job_of a.machine (commands_at block_delete a)) old new result
+    → RunsWhole recording setup bytes text block_delete old new result
+went_through recording setup bytes text block_delete old new program c a result is_text have said says goes = record {
   job = job_of a.machine (commands_at block_delete a);
   accepted = accepted_job setup bytes text block_delete program c a is_text have said says;
   goes_through = goes;
 }
 
 -- of two files, where each is opened after the one before it
-on_two_files : (first second known source : Option (List ℕ)) (P Q : List ℕ → Type 0) (S : List ℕ → List ℕ → Type 0)
+pub on_two_files : (first second known source : Option (List ℕ)) (P Q : List ℕ → Type 0) (S : List ℕ → List ℕ → Type 0)
     → known ≡ first → source ≡ second → ((a b : List ℕ) → P a → Q b → S a b) → IfSome known P → IfSome source Q → IfSome first (λ a. IfSome second (S a))
 on_two_files first second known source P Q S is_first is_second on p q =
     subst (λ (k : Option (List ℕ)). IfSome k (λ a. IfSome second (S a))) is_first (subst (λ (k : Option (List ℕ)). IfSome known (λ a. IfSome k (S a))) is_second (on_both known source p q))
@@ -191,13 +190,13 @@ on_two_files first second known source P Q S is_first is_second on p q =
 pub went_files : (bytes after later : FileBytes) (options : RunThroughOptions) (shop : Shop) (old new : Option (List ℕ)) (outcome : Result Report RunningFault) (P Q : List ℕ → Type 0)
     → GivesShop bytes (Some options.machine.now) (Some options.tools.now) (Ok shop) → KeepsFiles bytes after → KeepsNamed after later
     → IfSome (after (option_map (λ n. n.now) options.program)) P → IfSome (later (Some options.certificate.now)) Q
-    → ((a b : List ℕ) → P a → Q b → RunsThrough (setup_of shop.machine shop.tools) a b options.delete old new outcome)
+    → ((a b : List ℕ) → P a → Q b → RunsThrough options.recording (setup_of shop.machine shop.tools) a b options.delete old new outcome)
     → RunsThroughOn bytes options old new outcome
 went_files bytes after later options shop old new outcome P Q said keeps named p q on =
     on_setup bytes (Some options.machine.now) (Some options.tools.now) (setup_of shop.machine shop.tools)
-    (λ setup. IfSome (bytes (option_map (λ n. n.now) options.program)) (λ a. IfSome (bytes (Some options.certificate.now)) (λ b. RunsThrough setup a b options.delete old new outcome)))
+    (λ setup. IfSome (bytes (option_map (λ n. n.now) options.program)) (λ a. IfSome (bytes (Some options.certificate.now)) (λ b. RunsThrough options.recording setup a b options.delete old new outcome)))
     said.0 said.1
-    (on_two_files _ _ _ _ P Q (λ a b. RunsThrough (setup_of shop.machine shop.tools) a b options.delete old new outcome)
+    (on_two_files _ _ _ _ P Q (λ a b. RunsThrough options.recording (setup_of shop.machine shop.tools) a b options.delete old new outcome)
     (keeps (option_map (λ n. n.now) options.program))
     (named options.certificate.now ∙ keeps (Some options.certificate.now)) on p q)
 

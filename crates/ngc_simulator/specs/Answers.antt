@@ -1,9 +1,10 @@
 -- What a run of the program comes to.
-use Rattle.std.specs.Prelude.{◌≡◌, ◌⊎◌, ℕ, false, List, [], ◌∷◌, ◌++◌, Option, Some, Result, Ok, Err, IfSome, option_map}
+use Rattle.std.specs.Prelude.{◌≡◌, ◌⊎◌, ℕ, false, List, [], ◌∷◌, ◌++◌, Option, Some, Result, Ok, Err, IfSome, option_map, MatchOption, None}
 use Rattle.std.specs.Io.KnownBytes.{Appends, Keeps}
 use Rattle.ngc_command_line.specs.declared.options.ListOptions.{ListOptions}
 use Rattle.ngc_command_line.specs.declared.options.CertifyOptions.{CertifyOptions}
 use Rattle.ngc_command_line.specs.declared.options.CheckOptions.{CheckOptions}
+use Rattle.ngc_command_line.specs.declared.options.DrawOptions.{DrawOptions}
 use Rattle.ngc_command_line.specs.declared.options.RunOptions.{RunOptions}
 use Rattle.ngc_command_line.specs.declared.options.RunThroughOptions.{RunThroughOptions}
 use Rattle.ngc_command_line.specs.declared.options.Options.{Options}
@@ -14,6 +15,8 @@ use Rattle.ngc_fault_texts.specs.declared.telling.ExplainFault.TheVariants.{Unkn
 use Rattle.ngc_fixed_length.specs.Failures.{Rises}
 use Rattle.ngc_fixed_length.specs.Written.{AppendsBeginning}
 use Rattle.ngc_run_log.specs.declared.report.Report.{Report}
+use Rattle.ngc_simulator.specs.declared.drawing.DrawingFault.{DrawingFault}
+use Rattle.ngc_simulator.specs.declared.drawing.DrawingFault.TheVariants.{UnknownView}
 use Rattle.ngc_simulator.specs.declared.lister.ListFault.{ListFault}
 use Rattle.ngc_simulator.specs.declared.certifier.CertifyFault.{CertifyFault}
 use Rattle.ngc_simulator.specs.declared.checking.CheckingFault.{CheckingFault}
@@ -27,6 +30,8 @@ use Rattle.ngc_simulator.specs.declared.guide.GuideFault.TheVariants as guides
 use Rattle.ngc_simulator.specs.Guides.{FailsByGuiding, Guides, version_text}
 use Rattle.ngc_simulator.specs.Faults.{fault_line, answer_status}
 use Rattle.ngc_simulator.specs.Lists.{Lists, FailsByWriting}
+use Rattle.ngc_drawing.specs.declared.view.View.{View}
+use Rattle.ngc_simulator.specs.Drawing.{DrawsGiven, DrawsProgram, FailsByDrawing, view_named}
 use Rattle.ngc_simulator.specs.Jobs.{Certifies, FailsByCertifying, Checks, FailsByChecking}
 use Rattle.ngc_simulator.specs.Running.{Runs, RunsThrough, FailsByRunning}
 use Rattle.ngc_canonical.specs.State.{Setup}
@@ -57,13 +62,21 @@ RunsOn bytes options old new outcome =
     OnSetup bytes (Some options.machine.now) (Some options.tools.now) (λ setup.
     IfSome (bytes (option_map (λ name. name.now) options.program)) (λ text.
     IfSome (bytes (Some options.certificate.now)) (λ certificate.
-    IfSome (bytes (Some options.events.now)) (λ events. Runs setup text certificate events options.delete old new outcome))))
+    IfSome (bytes (Some options.events.now)) (λ events. Runs options.recording setup text certificate events options.delete old new outcome))))
 
 abbrev pub RunsThroughOn : FileBytes → RunThroughOptions → Option (List ℕ) → Option (List ℕ) → Result Report RunningFault → Type 0
 RunsThroughOn bytes options old new outcome =
     OnSetup bytes (Some options.machine.now) (Some options.tools.now) (λ setup.
     IfSome (bytes (option_map (λ name. name.now) options.program)) (λ text.
-    IfSome (bytes (Some options.certificate.now)) (λ certificate. RunsThrough setup text certificate options.delete old new outcome)))
+    IfSome (bytes (Some options.certificate.now)) (λ certificate. RunsThrough options.recording setup text certificate options.delete old new outcome)))
+
+-- a picture from this side, without a certificate or with one
+abbrev pub DrawsFrom : FileBytes → DrawOptions → View → Option (List ℕ) → Option (List ℕ) → Result (Unit {0}) DrawingFault → Type 0
+DrawsFrom bytes options view old new outcome =
+    OnSetup bytes (Some options.machine.now) (Some options.tools.now) (λ setup.
+    IfSome (bytes (option_map (λ name. name.now) options.program)) (λ text.
+    MatchOption (option_map (λ name. name.now) options.certificate) (DrawsProgram setup text options.delete view old new outcome) (λ certificate.
+    IfSome (bytes (Some certificate)) (λ given. DrawsGiven setup text given options.delete view old new outcome))))
 
 -- A machine file or tool table that is refused leaves what was written as it was, and so does a file that isn't read.
 abbrev pub StopsEarly : FileBytes → Option (List ℕ) → Option (List ℕ) → Option (List ℕ) → Option (List ℕ) → AnswerFault → Type 0
@@ -94,6 +107,14 @@ RunComes bytes options old new (Ok Quietly) = (report : Report) × RunsOn bytes 
 RunComes bytes options old new (Ok (RunThrough time)) = ⊥
 RunComes bytes options old new (Err (answers.Run fault)) = RunsOn bytes options old new (Err fault)
 RunComes bytes options old new (Err fault) = StopsEarly bytes (Some options.machine.now) (Some options.tools.now) old new fault
+
+-- a view that isn't known is answered before a file is read
+abbrev pub DrawComes : FileBytes → DrawOptions → Option View → Option (List ℕ) → Option (List ℕ) → Result Done AnswerFault → Type 0
+DrawComes bytes options None old new outcome = (outcome ≡ Err (answers.Draw UnknownView)) × Keeps old new
+DrawComes bytes options (Some view) old new (Ok Quietly) = DrawsFrom bytes options view old new (Ok tt)
+DrawComes bytes options (Some view) old new (Ok (RunThrough time)) = ⊥
+DrawComes bytes options (Some view) old new (Err (answers.Draw fault)) = DrawsFrom bytes options view old new (Err fault)
+DrawComes bytes options (Some view) old new (Err fault) = StopsEarly bytes (Some options.machine.now) (Some options.tools.now) old new fault
 
 -- the run's ticks, and how many of them its machine gives a second
 pub record IsTimeOf (setup : Setup) (report : Report) (time : RunTime) : Type 0 where
@@ -136,6 +157,8 @@ ComesBy bytes (commands.Certify options) old new outcome = CertifyComes bytes op
 ComesBy bytes (commands.Check options) old new outcome = CheckComes bytes options old new outcome
 ComesBy bytes (commands.Run options) old new outcome = RunComes bytes options old new outcome
 ComesBy bytes (commands.RunThrough options) old new outcome = RunThroughComes bytes options old new outcome
+ComesBy bytes (commands.Draw options) old new outcome =
+    DrawComes bytes options (view_named (option_map (λ name. name.now) options.view)) old new outcome
 ComesBy bytes (commands.Explain number) old new outcome = ExplainComes number old new outcome
 ComesBy bytes (commands.Help command) old new outcome = HelpComes old new outcome
 ComesBy bytes commands.Version old new outcome = VersionComes old new outcome
@@ -147,6 +170,7 @@ FailsByOutput (Err (answers.List fault)) old new = FailsByWriting (Err fault) ol
 FailsByOutput (Err (answers.Certify fault)) old new = FailsByCertifying (Err fault) old new
 FailsByOutput (Err (answers.Check fault)) old new = FailsByChecking (Err fault) old new
 FailsByOutput (Err (answers.Run fault)) old new = FailsByRunning (Err fault) old new
+FailsByOutput (Err (answers.Draw fault)) old new = FailsByDrawing (Err fault) old new
 FailsByOutput (Err (answers.Explain fault)) old new = FailsByExplaining (Err fault) old new
 FailsByOutput (Err (answers.Guide fault)) old new = FailsByGuiding (Err fault) old new
 FailsByOutput (Err (answers.Machine fault)) old new = new ≡ old
@@ -187,12 +211,24 @@ run_through_inputs options =
     shop_inputs (Some options.machine.now) (Some options.tools.now)
     ++ program_input (option_map (λ name. name.now) options.program) ∷ certificate_input options.certificate.now ∷ []
 
+abbrev pub certificate_inputs : Option (List ℕ) → List Input
+certificate_inputs None = []
+certificate_inputs (Some name) = certificate_input name ∷ []
+
+-- where the view is known
+abbrev pub draw_inputs : DrawOptions → Option View → List Input
+draw_inputs options None = []
+draw_inputs options (Some view) =
+    shop_inputs (Some options.machine.now) (Some options.tools.now)
+    ++ program_input (option_map (λ name. name.now) options.program) ∷ certificate_inputs (option_map (λ name. name.now) options.certificate)
+
 abbrev pub inputs_of : Options → List Input
 inputs_of (commands.List options) = list_inputs options
 inputs_of (commands.Certify options) = certify_inputs options
 inputs_of (commands.Check options) = check_inputs options
 inputs_of (commands.Run options) = run_inputs options
 inputs_of (commands.RunThrough options) = run_through_inputs options
+inputs_of (commands.Draw options) = draw_inputs options (view_named (option_map (λ name. name.now) options.view))
 inputs_of (commands.Explain number) = []
 inputs_of (commands.Help command) = []
 inputs_of commands.Version = []
@@ -222,6 +258,7 @@ IsQuiet (commands.Certify options) = Unit {0}
 IsQuiet (commands.Check options) = Unit {0}
 IsQuiet (commands.Run options) = Unit {0}
 IsQuiet (commands.RunThrough options) = ⊥
+IsQuiet (commands.Draw options) = Unit {0}
 IsQuiet (commands.Explain number) = Unit {0}
 IsQuiet (commands.Help command) = Unit {0}
 IsQuiet commands.Version = Unit {0}

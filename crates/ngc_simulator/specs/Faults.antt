@@ -31,6 +31,9 @@ use Rattle.ngc_simulator.specs.declared.certifier.CertifyFault.{CertifyFault}
 use Rattle.ngc_simulator.specs.declared.certifier.CertifyFault.TheVariants as certifies
 use Rattle.ngc_simulator.specs.declared.checking.CheckingFault.{CheckingFault}
 use Rattle.ngc_simulator.specs.declared.checking.CheckingFault.TheVariants as checks
+use Rattle.ngc_drawing.specs.Faults.{number_of as draw_number}
+use Rattle.ngc_simulator.specs.declared.drawing.DrawingFault.{DrawingFault}
+use Rattle.ngc_simulator.specs.declared.drawing.DrawingFault.TheVariants as draws
 use Rattle.ngc_simulator.specs.declared.lister.ListFault.{ListFault}
 use Rattle.ngc_simulator.specs.declared.lister.ListFault.TheVariants as lists
 use Rattle.ngc_simulator.specs.declared.running.RunningFault.{RunningFault}
@@ -69,6 +72,14 @@ running_number (running.Events e) = events_number e
 running_number (running.Check e) = check_number e
 running_number (running.Run e) = run_number e
 
+abbrev pub drawing_number : DrawingFault → ℕ
+drawing_number draws.UnknownView = 723
+drawing_number (draws.Read e) = read_number e
+drawing_number (draws.Certificate e) = text_number e
+drawing_number (draws.Program e) = program_number e
+drawing_number (draws.Check e) = check_number e
+drawing_number (draws.Draw e) = draw_number e
+
 abbrev pub guide_number : GuideFault → ℕ
 guide_number (guides.Help e) = help_fault_number e
 guide_number (guides.Write e) = 902
@@ -81,6 +92,7 @@ answer_number (answers.List e) = list_number e
 answer_number (answers.Certify e) = certify_number e
 answer_number (answers.Check e) = checking_number e
 answer_number (answers.Run e) = running_number e
+answer_number (answers.Draw e) = drawing_number e
 answer_number (answers.Explain e) = explain_fault_number e
 answer_number (answers.Guide e) = guide_number e
 
@@ -162,6 +174,14 @@ running_place (running.Events e) = events_place e
 running_place (running.Check e) = check_place e
 running_place (running.Run e) = codes ""
 
+abbrev pub drawing_place : DrawingFault → List ℕ
+drawing_place draws.UnknownView = codes ""
+drawing_place (draws.Read e) = read_place e
+drawing_place (draws.Certificate e) = line_of_text (text_line e)
+drawing_place (draws.Program e) = program_place e
+drawing_place (draws.Check e) = check_place e
+drawing_place (draws.Draw e) = codes ""
+
 -- want of memory has no place
 abbrev pub file_place : List ℕ → FileFault → List ℕ
 file_place name files.Memory = codes ""
@@ -175,6 +195,7 @@ answer_place (answers.List e) = list_place e
 answer_place (answers.Certify e) = certify_place e
 answer_place (answers.Check e) = checking_place e
 answer_place (answers.Run e) = running_place e
+answer_place (answers.Draw e) = drawing_place e
 answer_place (answers.Explain e) = codes ""
 answer_place (answers.Guide e) = codes ""
 
@@ -240,6 +261,15 @@ running_status (running.Events e) = events_status e
 running_status (running.Check e) = check_status e
 running_status (running.Run e) = 1
 
+abbrev pub drawing_status : DrawingFault → ℕ
+drawing_status draws.UnknownView = 3
+drawing_status (draws.Read e) = read_status e
+drawing_status (draws.Certificate e) = text_status e
+drawing_status (draws.Program (programs.At line e)) = 3
+drawing_status (draws.Program programs.Memory) = 1
+drawing_status (draws.Check e) = check_status e
+drawing_status (draws.Draw e) = 1
+
 abbrev pub file_status : FileFault → ℕ
 file_status files.Memory = 1
 file_status _ = 3
@@ -261,5 +291,6 @@ answer_status (answers.List e) = list_status e
 answer_status (answers.Certify e) = certify_status e
 answer_status (answers.Check e) = checking_status e
 answer_status (answers.Run e) = running_status e
+answer_status (answers.Draw e) = drawing_status e
 answer_status (answers.Explain e) = explain_status e
 answer_status (answers.Guide e) = guide_status e

@@ -4,6 +4,7 @@ pub mod Lists
 pub mod Guides
 pub mod Jobs
 pub mod Running
+pub mod Drawing
 pub mod Setups
 pub mod Shops
 pub mod Status

@@ -18,11 +18,23 @@ use Rattle.ngc_behaviour.specs.State.{Job}
 use Rattle.ngc_behaviour.specs.Headline.{job_of}
 use Rattle.ngc_run_log.specs.declared.report.Report.{Report}
 use Rattle.ngc_run_log.specs.declared.report.RunFault.{RunFault}
+use Rattle.ngc_run_log.specs.Forms.{PulsesCome, PulsesGoThrough}
 use Rattle.ngc_run_log.specs.Runs.{ComesTo, FailsByWriting}
 use Rattle.ngc_run_log.specs.Through.{GoesThrough}
+use Rattle.ngc_command_line.specs.declared.options.Recording.{Recording}
+use Rattle.ngc_command_line.specs.declared.options.Recording.TheVariants.{Log, Pulses}
 use Rattle.ngc_simulator.specs.declared.running.RunningFault.{RunningFault}
 use Rattle.ngc_simulator.specs.declared.running.RunningFault.TheVariants as running
 use Rattle.ngc_simulator.specs.Jobs.{AreGiven, IsNoCertificate}
+
+-- what a run over events comes to by what is written of it, and what a run to the end comes to
+abbrev pub RecordsRun : Recording → Job → List EventLine → Option (List ℕ) → Option (List ℕ) → Result Report RunFault → Type 0
+RecordsRun Log = ComesTo
+RecordsRun Pulses = PulsesCome
+
+abbrev pub RecordsThrough : Recording → Job → Option (List ℕ) → Option (List ℕ) → Result Report RunFault → Type 0
+RecordsThrough Log = GoesThrough
+RecordsThrough Pulses = PulsesGoThrough
 
 -- The job of a program's file at a setting of block delete: the commands that the program means there. Nothing is refused of it
 -- and of a certificate's file.
@@ -35,13 +47,13 @@ pub record IsAcceptedJob (setup : Setup) (bytes text : List ℕ) (block_delete :
   pub means : meaning program setup block_delete ≡ Ok commands
   pub is_job : job ≡ job_of setup.machine commands
 
--- the run of such a job over the events that a third file says, and what it came to
-pub record RunsOver (setup : Setup) (bytes text events : List ℕ) (block_delete : Bool) (old new : Option (List ℕ)) (result : Result Report RunFault) : Type 0 where
+-- the run of such a job over the events that a third file says, and what is written of it, and what it came to
+pub record RunsOver (recording : Recording) (setup : Setup) (bytes text events : List ℕ) (block_delete : Bool) (old new : Option (List ℕ)) (result : Result Report RunFault) : Type 0 where
   pub job : Job
   pub accepted : IsAcceptedJob setup bytes text block_delete job
   pub lines : List EventLine
   pub are_lines : events_said events ≡ Ok lines
-  pub comes : ComesTo job lines old new result
+  pub comes : RecordsRun recording job lines old new result
 
 -- a program's file and a certificate's file are read
 abbrev pub AreRead : List ℕ → List ℕ → Type 0
@@ -62,11 +74,11 @@ pub record IsRefusedRun (setup : Setup) (bytes text events : List ℕ) (fault : 
   pub given : AreGiven bytes text program certificate
   pub first : IsFirst fault (first_refusal program setup certificate)
 
--- the run of such a job to its end, and what it came to
-pub record RunsWhole (setup : Setup) (bytes text : List ℕ) (block_delete : Bool) (old new : Option (List ℕ)) (result : Result Report RunFault) : Type 0 where
+-- the run of such a job to its end, and what is written of it, and what it came to
+pub record RunsWhole (recording : Recording) (setup : Setup) (bytes text : List ℕ) (block_delete : Bool) (old new : Option (List ℕ)) (result : Result Report RunFault) : Type 0 where
   pub job : Job
   pub accepted : IsAcceptedJob setup bytes text block_delete job
-  pub goes_through : GoesThrough job old new result
+  pub goes_through : RecordsThrough recording job old new result
 
 -- the first refusal of the two files
 pub record IsRefusedWhole (setup : Setup) (bytes text : List ℕ) (fault : CheckFault) : Type 0 where
@@ -75,24 +87,24 @@ pub record IsRefusedWhole (setup : Setup) (bytes text : List ℕ) (fault : Check
   pub given : AreGiven bytes text program certificate
   pub first : IsFirst fault (first_refusal program setup certificate)
 
--- Of a program's file, a certificate's file, an events file and a sink: the log of the run was written, or a beginning of it where
--- the sink failed; where there is no run, what was written is as it was.
-abbrev pub Runs : Setup → List ℕ → List ℕ → List ℕ → Bool → Option (List ℕ) → Option (List ℕ) → Result Report RunningFault → Type 0
-Runs setup bytes text events block_delete old new (Ok report) = RunsOver setup bytes text events block_delete old new (Ok report)
-Runs setup bytes text events block_delete old new (Err (running.Read fault)) = FaultIs fault (program_of bytes) × Keeps old new
-Runs setup bytes text events block_delete old new (Err (running.Certificate fault)) = IsNoCertificate text fault × Keeps old new
-Runs setup bytes text events block_delete old new (Err (running.Events fault)) = (AreRead bytes text × AreNoEvents events fault) × Keeps old new
-Runs setup bytes text events block_delete old new (Err (running.Check fault)) = IsRefusedRun setup bytes text events fault × Keeps old new
-Runs setup bytes text events block_delete old new (Err (running.Run fault)) = RunsOver setup bytes text events block_delete old new (Err fault)
+-- Of a program's file, a certificate's file, an events file and a sink: the log or the pulses of the run were written, or a beginning
+-- where the sink failed; where there is no run, what was written is as it was.
+abbrev pub Runs : Recording → Setup → List ℕ → List ℕ → List ℕ → Bool → Option (List ℕ) → Option (List ℕ) → Result Report RunningFault → Type 0
+Runs recording setup bytes text events block_delete old new (Ok report) = RunsOver recording setup bytes text events block_delete old new (Ok report)
+Runs recording setup bytes text events block_delete old new (Err (running.Read fault)) = FaultIs fault (program_of bytes) × Keeps old new
+Runs recording setup bytes text events block_delete old new (Err (running.Certificate fault)) = IsNoCertificate text fault × Keeps old new
+Runs recording setup bytes text events block_delete old new (Err (running.Events fault)) = (AreRead bytes text × AreNoEvents events fault) × Keeps old new
+Runs recording setup bytes text events block_delete old new (Err (running.Check fault)) = IsRefusedRun setup bytes text events fault × Keeps old new
+Runs recording setup bytes text events block_delete old new (Err (running.Run fault)) = RunsOver recording setup bytes text events block_delete old new (Err fault)
 
 -- Of a program's file, a certificate's file and a sink: the same of a run to the end.
-abbrev pub RunsThrough : Setup → List ℕ → List ℕ → Bool → Option (List ℕ) → Option (List ℕ) → Result Report RunningFault → Type 0
-RunsThrough setup bytes text block_delete old new (Ok report) = RunsWhole setup bytes text block_delete old new (Ok report)
-RunsThrough setup bytes text block_delete old new (Err (running.Read fault)) = FaultIs fault (program_of bytes) × Keeps old new
-RunsThrough setup bytes text block_delete old new (Err (running.Certificate fault)) = IsNoCertificate text fault × Keeps old new
-RunsThrough setup bytes text block_delete old new (Err (running.Events fault)) = ⊥
-RunsThrough setup bytes text block_delete old new (Err (running.Check fault)) = IsRefusedWhole setup bytes text fault × Keeps old new
-RunsThrough setup bytes text block_delete old new (Err (running.Run fault)) = RunsWhole setup bytes text block_delete old new (Err fault)
+abbrev pub RunsThrough : Recording → Setup → List ℕ → List ℕ → Bool → Option (List ℕ) → Option (List ℕ) → Result Report RunningFault → Type 0
+RunsThrough recording setup bytes text block_delete old new (Ok report) = RunsWhole recording setup bytes text block_delete old new (Ok report)
+RunsThrough recording setup bytes text block_delete old new (Err (running.Read fault)) = FaultIs fault (program_of bytes) × Keeps old new
+RunsThrough recording setup bytes text block_delete old new (Err (running.Certificate fault)) = IsNoCertificate text fault × Keeps old new
+RunsThrough recording setup bytes text block_delete old new (Err (running.Events fault)) = ⊥
+RunsThrough recording setup bytes text block_delete old new (Err (running.Check fault)) = IsRefusedWhole setup bytes text fault × Keeps old new
+RunsThrough recording setup bytes text block_delete old new (Err (running.Run fault)) = RunsWhole recording setup bytes text block_delete old new (Err fault)
 
 -- the sink's count of failures rose where a write failed, and else it is what it was
 abbrev pub FailsByRunning : Result Report RunningFault → ℕ → ℕ → Type 0

@@ -14,6 +14,7 @@ use Rattle.ngc_machine.specs.MachineText.{machine_file}
 use Rattle.ngc_machine.specs.ToolText.{tool_table}
 use Rattle.ngc_simulator.specs.declared.certifier.CertifyFault.TheVariants as certifies
 use Rattle.ngc_simulator.specs.declared.checking.CheckingFault.TheVariants as checks
+use Rattle.ngc_simulator.specs.declared.drawing.DrawingFault.TheVariants as draws
 use Rattle.ngc_simulator.specs.declared.fault.AnswerFault.{AnswerFault}
 use Rattle.ngc_simulator.specs.declared.fault.AnswerFault.TheVariants as answers
 use Rattle.ngc_simulator.specs.declared.fault.SetupFault.{SetupFault}
@@ -117,6 +118,8 @@ unread_by (answers.Check (checks.Read fault)) = program_unread fault
 unread_by (answers.Check (checks.Certificate fault)) = certificate_unread fault
 unread_by (answers.Run (running.Read fault)) = program_unread fault
 unread_by (answers.Run (running.Certificate fault)) = certificate_unread fault
+unread_by (answers.Draw (draws.Read fault)) = program_unread fault
+unread_by (answers.Draw (draws.Certificate fault)) = certificate_unread fault
 unread_by _ = None
 
 -- The count of files that couldn't be opened rose where one couldn't, and else it is what it was. Where the outcome tells that a file

@@ -1,5 +1,6 @@
 use crate::certifier::CertifyFault;
 use crate::checking::CheckingFault;
+use crate::drawing::DrawingFault;
 use crate::guide::GuideFault;
 use crate::lister::ListFault;
 use crate::running::RunningFault;
@@ -29,9 +30,12 @@ pub enum AnswerFault {
     /// The certificate isn't accepted.
     #[error(transparent)]
     Check(CheckingFault),
-    /// The program isn't run, or its log isn't written.
+    /// The program isn't run, or its log or its pulses aren't written.
     #[error(transparent)]
     Run(RunningFault),
+    /// No picture is drawn, or only a beginning of one.
+    #[error(transparent)]
+    Draw(DrawingFault),
     /// A fault isn't explained: 721, 902.
     #[error(transparent)]
     Explain(ExplainFault),

@@ -4,6 +4,8 @@
 mod certifier;
 mod checking;
 mod done;
+mod drawing;
+mod drawing_files;
 mod fault;
 mod files;
 mod guide;
@@ -13,6 +15,7 @@ mod opening;
 mod program;
 mod report;
 mod report_certificates;
+mod report_drawing;
 mod report_runs;
 mod report_time;
 mod running;
@@ -22,6 +25,7 @@ mod through;
 pub use certifier::{CertifyFault, certify};
 pub use checking::{CheckingFault, check_program};
 pub use done::{Done, RunTime};
+pub use drawing::{DrawingFault, draw_certified, draw_program};
 pub use fault::AnswerFault;
 pub use files::Files;
 pub use guide::GuideFault;
@@ -35,14 +39,15 @@ pub use ngc_certificate::{MakeFault, PieceFault, Setting};
 pub use ngc_certificate_text::{Certificate, CertificateFault};
 pub use ngc_checker::{Accepted, CheckFault, check};
 pub use ngc_command_line::{
-    CertifyOptions, CheckOptions, HelpFault, ListOptions, Options, RunOptions, RunThroughOptions,
-    UsageFault, help_text, read_options,
+    CertifyOptions, CheckOptions, DrawOptions, HelpFault, ListOptions, Options, Recording,
+    RunOptions, RunThroughOptions, UsageFault, help_text, read_options,
 };
 pub use ngc_controller::{Controller, MemoryFault};
+pub use ngc_drawing::{DrawFault, Refusal, View, write_svg};
 pub use ngc_events::{Ending, Event, EventFault, EventLine, EventsFault, Reply, read_events};
 pub use ngc_fault_texts::{ExplainFault, explain};
 pub use ngc_machine::{FileFault, Fixture, Machine, Tool, Tools, row_machine};
-pub use ngc_run_log::{Report, RunFault, run, run_through};
+pub use ngc_run_log::{Report, RunFault, run, run_through, write_pulses, write_pulses_through};
 pub use ngc_step_kernel::{ArcKernel, ArcPath};
 pub use program::answer;
 pub use running::{RunningFault, run_program};

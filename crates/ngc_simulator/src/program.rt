@@ -6,6 +6,7 @@ ghost use Rattle.ngc_simulator.specs.Unread.{FailsByInput, SourceFails};
 use crate::certifier::certify_files;
 use crate::checking::check_files;
 use crate::done::Done;
+use crate::drawing_files::draw_files;
 use crate::fault::AnswerFault;
 use crate::files::Files;
 use crate::guide::{GuideFault, write_help, write_version};
@@ -36,6 +37,7 @@ fn run_command<F: Files, W: Sink>(
         Options::Check(options) => check_files(alloc, options, files, output),
         Options::Run(options) => run_files(alloc, options, files, output),
         Options::RunThrough(options) => run_through_files(alloc, options, files, output),
+        Options::Draw(options) => draw_files(alloc, options, files, output),
         Options::Explain(number) => match explain(*number, output) {
             Ok(()) => Ok(Done::Quietly),
             Err(fault) => Err(AnswerFault::Explain(fault)),

@@ -7,6 +7,7 @@ use crate::fault::AnswerFault;
 use crate::guide::GuideFault;
 use crate::lister::ListFault;
 use crate::report_certificates::{add_certify_place, add_checking_place};
+use crate::report_drawing::add_drawing_place;
 use crate::report_runs::add_running_place;
 use ngc_canonical::ProgramFault;
 use ngc_command_line::HelpFault;
@@ -52,6 +53,7 @@ impl AnswerFault {
             AnswerFault::Certify(fault) => fault.number(),
             AnswerFault::Check(fault) => fault.number(),
             AnswerFault::Run(fault) => fault.number(),
+            AnswerFault::Draw(fault) => fault.number(),
             AnswerFault::Explain(fault) => fault.number(),
             AnswerFault::Guide(fault) => fault.number(),
         }
@@ -69,6 +71,7 @@ impl AnswerFault {
             AnswerFault::Certify(fault) => fault.status(),
             AnswerFault::Check(fault) => fault.status(),
             AnswerFault::Run(fault) => fault.status(),
+            AnswerFault::Draw(fault) => fault.status(),
             AnswerFault::Explain(fault) => status_of_explaining(fault),
             AnswerFault::Guide(fault) => fault.status(),
         }
@@ -146,6 +149,16 @@ pub(crate) fn add_reading_place(chunk: &mut Chunk, fault: &ReadFault)
     }
 }
 
+pub(crate) fn add_program_place(chunk: &mut Chunk, fault: &ProgramFault)
+    requires { length chunk.old + 150 ≤ CHUNK_SIZE }
+    ensures text { chunk.new ≡ chunk.old ++ program_place fault.now }
+    ensures short { length chunk.new ≤ length chunk.old + 100 }
+{
+    if let ProgramFault::At { line, .. } = fault {
+        add_line_number(chunk, *line);
+    }
+}
+
 fn add_list_place(chunk: &mut Chunk, fault: &ListFault)
     requires { length chunk.old + 150 ≤ CHUNK_SIZE }
     ensures text { chunk.new ≡ chunk.old ++ list_place fault.now }
@@ -153,8 +166,8 @@ fn add_list_place(chunk: &mut Chunk, fault: &ListFault)
 {
     match fault {
         ListFault::Read(fault) => add_reading_place(chunk, fault),
-        ListFault::Program(ProgramFault::At { line, .. }) => add_line_number(chunk, *line),
-        ListFault::Program(ProgramFault::Memory) | ListFault::Write(_) => {}
+        ListFault::Program(fault) => add_program_place(chunk, fault),
+        ListFault::Write(_) => {}
     }
 }
 
@@ -183,6 +196,7 @@ fn add_place(chunk: &mut Chunk, fault: &AnswerFault)
         AnswerFault::Certify(fault) => add_certify_place(chunk, fault),
         AnswerFault::Check(fault) => add_checking_place(chunk, fault),
         AnswerFault::Run(fault) => add_running_place(chunk, fault),
+        AnswerFault::Draw(fault) => add_drawing_place(chunk, fault),
     }
 }
 

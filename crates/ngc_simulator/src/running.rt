@@ -1,11 +1,14 @@
 ghost use Rattle.std.specs.Prelude.{◌≡◌, ℕ, List, Ok};
 ghost use Rattle.ngc_canonical.specs.Interpreter.{setup_of};
+ghost use Rattle.ngc_behaviour.specs.Headline.{job_of};
+ghost use Rattle.ngc_checker.specs.Accepted.{commands_at};
+ghost use Rattle.ngc_run_log.specs.Runs.{FailsByWriting};
 ghost use Rattle.ngc_certificate_text.specs.Contents.{said_of};
 ghost use Rattle.ngc_certificate_text.specs.Said.{certificate_said};
 ghost use Rattle.ngc_line_reader.specs.ProgramText.{program_of, HaveReadings};
 ghost use Rattle.ngc_line_reader.specs.ProgramView.{text_in};
 ghost use Rattle.ngc_simulator.specs.Answers.{RunComes, FailsByOutput, run_inputs};
-ghost use Rattle.ngc_simulator.specs.Running.{Runs, FailsByRunning, ReadsNoFile};
+ghost use Rattle.ngc_simulator.specs.Running.{Runs, FailsByRunning, ReadsNoFile, RecordsRun};
 ghost use Rattle.ngc_simulator.specs.Unread.{FailsByInput, SourceFails};
 
 use crate::done::Done;
@@ -14,17 +17,17 @@ use crate::files::Files;
 use crate::opening::{read_certificate, read_program};
 use crate::setup::{bytes_of, read_shop};
 use ngc_certificate_text::{Certificate, CertificateFault};
-use ngc_checker::{CheckFault, check};
-use ngc_command_line::RunOptions;
-use ngc_events::{EventsFault, read_events};
+use ngc_checker::{Accepted, CheckFault, check};
+use ngc_command_line::{Recording, RunOptions};
+use ngc_events::{EventLine, EventsFault, read_events};
 use ngc_fixed_length::Sink;
 use ngc_line_reader::{Program, ReadFault};
 use ngc_machine::{Machine, Tools};
-use ngc_run_log::{Report, RunFault, run};
+use ngc_run_log::{Report, RunFault, run, write_pulses};
 use std::alloc::{Allocator, Global};
 use thiserror::Error;
 
-/// Why a program isn't run, or its log isn't written.
+/// Why a program isn't run, or its log or its pulses aren't written.
 #[derive(Clone, Copy, Debug, PartialEq, Eq, Error)]
 pub enum RunningFault {
     /// The program isn't read: 101, 111 to 119, 121, 122, 900, 901.
@@ -44,9 +47,27 @@ pub enum RunningFault {
     Run(RunFault),
 }
 
+// Runs what was accepted over events, and writes what is asked for.
+fn record_run<A: Allocator + Copy, W: Sink>(
+    alloc: A,
+    accepted: Accepted<A>,
+    block_delete: bool,
+    lines: &[EventLine],
+    recording: Recording,
+    output: &mut W,
+) -> Result<Report, RunFault>
+    ensures records { RecordsRun recording (job_of accepted.machine (commands_at block_delete accepted)) lines.now (W.written output.old) (W.written output.new) result }
+    ensures counts { FailsByWriting result (W.failures output.old) (W.failures output.new) }
+{
+    match recording {
+        Recording::Log => run(alloc, accepted, block_delete, lines, output),
+        Recording::Pulses => write_pulses(alloc, accepted, block_delete, lines, output),
+    }
+}
+
 /// Runs a program on a machine with its tools, at a setting of block delete, over the events that a text says, and writes
-/// the log. It is run only where the certificate shows that it is safe, and else nothing is written; where a write fails, a
-/// beginning of the log is written.
+/// its log or its pulses. It is run only where the certificate shows that it is safe, and else nothing is written; where a write fails,
+/// a beginning is written.
 pub fn run_program<A: Allocator + Copy, W: Sink>(
     alloc: A,
     program: &Program<A>,
@@ -55,10 +76,11 @@ pub fn run_program<A: Allocator + Copy, W: Sink>(
     certificate: &Certificate<A>,
     events: &[u8],
     block_delete: bool,
+    recording: Recording,
     output: &mut W,
 ) -> Result<Report, RunningFault>
     // Whatever files the program and the certificate were read from: the answer is that of these and of the events.
-    ensures runs { (bytes text : List ℕ) → program_of bytes ≡ Ok (text_in program.now) → HaveReadings (text_in program.now).lines → certificate_said text ≡ Ok (said_of certificate.now) → Runs (setup_of machine.now tools.now) bytes text events.now block_delete (W.written output.old) (W.written output.new) result }
+    ensures runs { (bytes text : List ℕ) → program_of bytes ≡ Ok (text_in program.now) → HaveReadings (text_in program.now).lines → certificate_said text ≡ Ok (said_of certificate.now) → Runs recording (setup_of machine.now tools.now) bytes text events.now block_delete (W.written output.old) (W.written output.new) result }
     ensures sink { FailsByRunning result (W.failures output.old) (W.failures output.new) }
     ensures given { ReadsNoFile result }
 {
@@ -70,13 +92,20 @@ pub fn run_program<A: Allocator + Copy, W: Sink>(
         Ok(accepted) => accepted,
         Err(fault) => return Err(RunningFault::Check(fault)),
     };
-    match run(alloc, accepted, block_delete, lines.as_slice(), output) {
+    match record_run(
+        alloc,
+        accepted,
+        block_delete,
+        lines.as_slice(),
+        recording,
+        output,
+    ) {
         Ok(report) => Ok(report),
         Err(fault) => Err(RunningFault::Run(fault)),
     }
 }
 
-// The log of a run. Each file is read before the next one is opened.
+// A run over events. Each file is read before the next one is opened.
 pub(crate) fn run_files<F: Files, W: Sink>(
     alloc: Global,
     options: &RunOptions<'_>,
@@ -111,6 +140,7 @@ pub(crate) fn run_files<F: Files, W: Sink>(
         &certificate,
         events.as_slice(),
         options.delete,
+        options.recording,
         output,
     ) {
         Ok(_) => Ok(Done::Quietly),

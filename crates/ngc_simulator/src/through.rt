@@ -1,11 +1,14 @@
 ghost use Rattle.std.specs.Prelude.{◌≡◌, List, Ok, ℕ};
 ghost use Rattle.ngc_canonical.specs.Interpreter.{setup_of};
+ghost use Rattle.ngc_behaviour.specs.Headline.{job_of};
+ghost use Rattle.ngc_checker.specs.Accepted.{commands_at};
+ghost use Rattle.ngc_run_log.specs.Runs.{FailsByWriting};
 ghost use Rattle.ngc_certificate_text.specs.Contents.{said_of};
 ghost use Rattle.ngc_certificate_text.specs.Said.{certificate_said};
 ghost use Rattle.ngc_line_reader.specs.ProgramText.{program_of, HaveReadings};
 ghost use Rattle.ngc_line_reader.specs.ProgramView.{text_in};
 ghost use Rattle.ngc_simulator.specs.Answers.{RunThroughComes, FailsByOutput, run_through_inputs};
-ghost use Rattle.ngc_simulator.specs.Running.{RunsThrough, FailsByRunning, ReadsNoFile};
+ghost use Rattle.ngc_simulator.specs.Running.{RunsThrough, RecordsThrough, FailsByRunning, ReadsNoFile};
 ghost use Rattle.ngc_simulator.specs.Unread.{FailsByInput, SourceFails};
 
 use crate::done::{Done, RunTime};
@@ -15,17 +18,34 @@ use crate::opening::{read_certificate, read_program};
 use crate::running::RunningFault;
 use crate::setup::read_shop;
 use ngc_certificate_text::Certificate;
-use ngc_checker::check;
-use ngc_command_line::RunThroughOptions;
+use ngc_checker::{Accepted, check};
+use ngc_command_line::{Recording, RunThroughOptions};
 use ngc_fixed_length::Sink;
 use ngc_line_reader::Program;
 use ngc_machine::{Machine, Tools};
-use ngc_run_log::{Report, run_through};
+use ngc_run_log::{Report, RunFault, run_through, write_pulses_through};
 use std::alloc::{Allocator, Global};
 
-/// Runs a program through to its end on a machine with its tools, at a setting of block delete, and writes the log. It is run
-/// only where the certificate shows that it is safe, and else nothing is written; where a write fails, a beginning of the log
-/// is written.
+// Runs what was accepted through to its end, and writes what is asked for.
+fn record_through<A: Allocator + Copy, W: Sink>(
+    alloc: A,
+    accepted: Accepted<A>,
+    block_delete: bool,
+    recording: Recording,
+    output: &mut W,
+) -> Result<Report, RunFault>
+    ensures records { RecordsThrough recording (job_of accepted.machine (commands_at block_delete accepted)) (W.written output.old) (W.written output.new) result }
+    ensures counts { FailsByWriting result (W.failures output.old) (W.failures output.new) }
+{
+    match recording {
+        Recording::Log => run_through(alloc, accepted, block_delete, output),
+        Recording::Pulses => write_pulses_through(alloc, accepted, block_delete, output),
+    }
+}
+
+/// Runs a program through to its end on a machine with its tools, at a setting of block delete, and writes its log or its
+/// pulses. It is run only where the certificate shows that it is safe, and else nothing is written; where a write fails, a beginning is
+/// written.
 pub fn run_program_through<A: Allocator + Copy, W: Sink>(
     alloc: A,
     program: &Program<A>,
@@ -33,10 +53,11 @@ pub fn run_program_through<A: Allocator + Copy, W: Sink>(
     tools: &Tools<A>,
     certificate: &Certificate<A>,
     block_delete: bool,
+    recording: Recording,
     output: &mut W,
 ) -> Result<Report, RunningFault>
     // Whatever files the program and the certificate were read from: the answer is that of these.
-    ensures runs { (bytes text : List ℕ) → program_of bytes ≡ Ok (text_in program.now) → HaveReadings (text_in program.now).lines → certificate_said text ≡ Ok (said_of certificate.now) → RunsThrough (setup_of machine.now tools.now) bytes text block_delete (W.written output.old) (W.written output.new) result }
+    ensures runs { (bytes text : List ℕ) → program_of bytes ≡ Ok (text_in program.now) → HaveReadings (text_in program.now).lines → certificate_said text ≡ Ok (said_of certificate.now) → RunsThrough recording (setup_of machine.now tools.now) bytes text block_delete (W.written output.old) (W.written output.new) result }
     ensures sink { FailsByRunning result (W.failures output.old) (W.failures output.new) }
     ensures given { ReadsNoFile result }
 {
@@ -44,13 +65,13 @@ pub fn run_program_through<A: Allocator + Copy, W: Sink>(
         Ok(accepted) => accepted,
         Err(fault) => return Err(RunningFault::Check(fault)),
     };
-    match run_through(alloc, accepted, block_delete, output) {
+    match record_through(alloc, accepted, block_delete, recording, output) {
         Ok(report) => Ok(report),
         Err(fault) => Err(RunningFault::Run(fault)),
     }
 }
 
-// The log of a run to the end, and how long it took. Each file is read before the next one is opened.
+// A run to the end, and how long it took. Each file is read before the next one is opened.
 pub(crate) fn run_through_files<F: Files, W: Sink>(
     alloc: Global,
     options: &RunThroughOptions<'_>,
@@ -80,6 +101,7 @@ pub(crate) fn run_through_files<F: Files, W: Sink>(
         &shop.tools,
         &certificate,
         options.delete,
+        options.recording,
         output,
     ) {
         Ok(report) => Ok(Done::RunThrough(RunTime {

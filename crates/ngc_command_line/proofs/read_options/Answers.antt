@@ -4,7 +4,7 @@ use Rattle.clap.specs.Walk.{texts}
 use Rattle.ngc_command_line.specs.Meant.{AreOptions}
 use Rattle.ngc_command_line.proofs.Found.{found_from_parts}
 use Rattle.ngc_command_line.proofs.Simple.{ngc_is_free, ngc_is_simple, taken_is_memory}
-use Rattle.ngc_command_line.proofs.Spelled.{certify_read, certify_taken, check_read, check_taken, help_read, help_taken, list_read, list_taken, run_read, run_taken, version_read, version_taken}
+use Rattle.ngc_command_line.proofs.Spelled.{certify_read, certify_taken, check_read, check_taken, draw_read, draw_taken, help_read, help_taken, list_read, list_taken, run_read, run_taken, version_read, version_taken}
 use Rattle.ngc_command_line.proofs.Whole.{taken_is_whole}
 use Rattle.ngc_command_line.proofs.read_options.Goals as goal
 
@@ -41,7 +41,10 @@ pub returns-clause-spelled_check : goal.returns-clause-spelled_check
 returns-clause-spelled_check c = λ machine tools certificate program spelled. check_read _ machine tools certificate program _ spelled (returns-clause-options c)
 
 pub returns-clause-spelled_run : goal.returns-clause-spelled_run
-returns-clause-spelled_run c = λ machine tools certificate events program delete spelled. run_read _ machine tools certificate events program delete _ spelled (returns-clause-options c)
+returns-clause-spelled_run c = λ recording machine tools certificate events program delete spelled. run_read _ recording machine tools certificate events program delete _ spelled (returns-clause-options c)
+
+pub returns-clause-spelled_draw : goal.returns-clause-spelled_draw
+returns-clause-spelled_draw c = λ machine tools certificate program view delete spelled. draw_read _ machine tools certificate program view delete _ spelled (returns-clause-options c)
 
 pub returns-clause-spelled_help : goal.returns-clause-spelled_help
 returns-clause-spelled_help c = λ command among spelled. help_read _ command _ among spelled (returns-clause-options c)
@@ -65,8 +68,12 @@ returns-in-Err-clause-spelled_check c = λ machine tools certificate program spe
     c.usage_fault.ensures (taken_is_memory _ _ c.in-Err.error c.in-Ok.ensures (check_taken _ machine tools certificate program spelled) c.in-Err.ensures.kinds)
 
 pub returns-in-Err-clause-spelled_run : goal.returns-in-Err-clause-spelled_run
-returns-in-Err-clause-spelled_run c = λ machine tools certificate events program delete spelled.
-    c.usage_fault.ensures (taken_is_memory _ _ c.in-Err.error c.in-Ok.ensures (run_taken _ machine tools certificate events program delete spelled) c.in-Err.ensures.kinds)
+returns-in-Err-clause-spelled_run c = λ recording machine tools certificate events program delete spelled.
+    c.usage_fault.ensures (taken_is_memory _ _ c.in-Err.error c.in-Ok.ensures (run_taken _ recording machine tools certificate events program delete spelled) c.in-Err.ensures.kinds)
+
+pub returns-in-Err-clause-spelled_draw : goal.returns-in-Err-clause-spelled_draw
+returns-in-Err-clause-spelled_draw c = λ machine tools certificate program view delete spelled.
+    c.usage_fault.ensures (taken_is_memory _ _ c.in-Err.error c.in-Ok.ensures (draw_taken _ machine tools certificate program view delete spelled) c.in-Err.ensures.kinds)
 
 pub returns-in-Err-clause-spelled_help : goal.returns-in-Err-clause-spelled_help
 returns-in-Err-clause-spelled_help c = λ command among spelled.

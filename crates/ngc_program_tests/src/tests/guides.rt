@@ -89,7 +89,7 @@ fn is_answered(number: u16) -> bool {
             | 701..=703
             | 711
             | 712
-            | 720..=722
+            | 720..=723
             | 900..=902
     )
 }
@@ -128,7 +128,7 @@ fn helps(rt: &impl Abort, alloc: Global, command: Option<&str>, beginning: &str,
 const HELPS: &[(Option<&str>, &str, &str)] = &[
     (
         None,
-        "List, certify, check and run",
+        "List, certify, check, run and draw",
         "Usage: ngc <COMMAND>\n",
     ),
     (

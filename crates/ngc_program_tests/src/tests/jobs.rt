@@ -2,7 +2,8 @@
 use ngc_fixed_length::{Device, Sink};
 use ngc_line_reader::Program;
 use ngc_simulator::{
-    Certificate, Machine, Report, Tools, certify, check_program, list, row_machine, run_program,
+    Certificate, Machine, Recording, Report, Tools, certify, check_program, list, row_machine,
+    run_program,
 };
 use std::alloc::{Allocator, Global};
 use std::process::Abort;
@@ -150,6 +151,7 @@ fn run_text<A: Allocator + Copy, W: Sink>(
         &certificate,
         events.as_bytes(),
         false,
+        Recording::Log,
         output,
     ) {
         Ok(report) => End::Ran(report),

@@ -3,7 +3,7 @@ use super::{
     MACHINE, Outcome, RUN, SHORT_WAY, Texts, certify_options, comes_to, on_the_mill, outcome_of,
 };
 use ngc_fixed_length::StepPos;
-use ngc_simulator::{Options, Report, RunOptions, RunThroughOptions};
+use ngc_simulator::{Options, Recording, Report, RunOptions, RunThroughOptions};
 use std::alloc::Global;
 use std::process::Abort;
 use std::test::Fail;
@@ -245,6 +245,7 @@ fn the_order_of_refusals(rt: HostRuntime) {
 }
 
 const RUN_THROUGH: RunThroughOptions<'static> = RunThroughOptions {
+    recording: Recording::Log,
     machine: "machine",
     tools: "tools",
     certificate: "certificate",
@@ -290,6 +291,54 @@ fn runs_without_events(rt: HostRuntime) -> Result<(), Fail> {
         assert_eq!(rt; found.status, 0, "at {program}");
         assert_eq!(rt; found.output.as_slice(), log.as_bytes(), "at {program}");
     }
+    Ok(())
+}
+
+// What stands before the pulses of each run.
+const VCD_HEADER: &str = "$timescale 1 ns $end\n$scope module ngc $end\n\
+    $var wire 1 a x_step $end\n$var wire 1 b x_direction $end\n\
+    $var wire 1 c y_step $end\n$var wire 1 d y_direction $end\n\
+    $var wire 1 e z_step $end\n$var wire 1 f z_direction $end\n\
+    $upscope $end\n$enddefinitions $end\n#0\n$dumpvars\n0a\n0b\n0c\n0d\n0e\n0f\n$end\n";
+
+// Three commands of a tick each, at 10,000 ticks a second: a fourth tick would set its steps at 0.4 ms.
+#[test]
+fn pulses_of_a_run_without_events(rt: HostRuntime) -> Result<(), Fail> {
+    let program = "M0\nM1\nM2\n";
+    let certificate = certificate_of(&rt, rt.alloc(), program);
+    let texts = Texts {
+        certificate: certificate.as_slice(),
+        ..on_the_mill(program)
+    };
+    let options = Options::RunThrough(RunThroughOptions {
+        recording: Recording::Pulses,
+        ..RUN_THROUGH
+    });
+    let found = outcome_of(rt.alloc(), texts, &options);
+    let wanted = format!(in rt.alloc(); "{VCD_HEADER}#400000\n")?;
+    assert_eq!(rt; found.output.as_slice(), wanted.as_bytes());
+    let time = "ngc: ticks 3 time 0:00:00.000\n";
+    assert_eq!(rt; found.errors.as_slice(), time.as_bytes());
+    Ok(())
+}
+
+#[test]
+fn pulses_over_events(rt: HostRuntime) -> Result<(), Fail> {
+    let program = "M0\nM2\n";
+    let certificate = certificate_of(&rt, rt.alloc(), program);
+    let texts = Texts {
+        certificate: certificate.as_slice(),
+        events: "load\nhold\n".as_bytes(),
+        ..on_the_mill(program)
+    };
+    let options = Options::Run(RunOptions {
+        recording: Recording::Pulses,
+        ..RUN
+    });
+    let found = outcome_of(rt.alloc(), texts, &options);
+    let wanted = format!(in rt.alloc(); "{VCD_HEADER}#100000\n")?;
+    assert_eq!(rt; found.output.as_slice(), wanted.as_bytes());
+    assert_eq!(rt; found.status, 0);
     Ok(())
 }
 

@@ -1,25 +1,31 @@
-use Rattle.std.proofs.Common.{◌∙◌, ap, codes, sym}
+use Rattle.std.proofs.Common.{◌∙◌, ap, codes, refl, sym}
 use Rattle.std.specs.Prelude.{option_map}
 use Rattle.clap.specs.Words.{found_of}
 use Rattle.clap.proofs.WalkLemmas.{first_value-rows}
 use Rattle.ngc_command_line.proofs.run.run_options.Goals as goal
 
 pub returns-in-Some : goal.returns-in-Some
-returns-in-Some c = record {
-  machine = c.required-machine.ensures;
-  tools = c.required-tools.ensures;
-  certificate = c.required-certificate.ensures;
-  events = sym (ap (option_map (λ name. name.now)) c.in-Some.is) ∙ c.get_str.ensures ∙ first_value-rows (found_of c.args.found.now) (codes "events");
-  program = c.get_str-program.ensures ∙ first_value-rows (found_of c.args.found.now) (codes "program");
-  delete = c.flag_is_set-delete.ensures;
-}
+returns-in-Some c = (
+  refl,
+  record {
+    machine = c.required-machine.ensures;
+    tools = c.required-tools.ensures;
+    certificate = c.required-certificate.ensures;
+    events = sym (ap (option_map (λ name. name.now)) c.in-Some.is) ∙ c.get_str.ensures ∙ first_value-rows (found_of c.args.found.now) (codes "events");
+    program = c.get_str-program.ensures ∙ first_value-rows (found_of c.args.found.now) (codes "program");
+    delete = c.flag_is_set-delete.ensures;
+  },
+)
 
 pub returns-in-None : goal.returns-in-None
-returns-in-None c = record {
-  machine = c.required-machine.ensures;
-  tools = c.required-tools.ensures;
-  certificate = c.required-certificate.ensures;
-  events = sym (ap (option_map (λ name. name.now)) c.in-None.is) ∙ c.get_str.ensures ∙ first_value-rows (found_of c.args.found.now) (codes "events");
-  program = c.get_str-program.ensures ∙ first_value-rows (found_of c.args.found.now) (codes "program");
-  delete = c.flag_is_set-delete.ensures;
-}
+returns-in-None c = (
+  refl,
+  record {
+    machine = c.required-machine.ensures;
+    tools = c.required-tools.ensures;
+    certificate = c.required-certificate.ensures;
+    events = sym (ap (option_map (λ name. name.now)) c.in-None.is) ∙ c.get_str.ensures ∙ first_value-rows (found_of c.args.found.now) (codes "events");
+    program = c.get_str-program.ensures ∙ first_value-rows (found_of c.args.found.now) (codes "program");
+    delete = c.flag_is_set-delete.ensures;
+  },
+)

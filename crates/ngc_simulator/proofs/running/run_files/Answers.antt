@@ -35,7 +35,7 @@ returns-in-Ok-run_program-clause-comes g c = (
       c.in-Ok.ensures.said c.read_shop.ensures.keeps c.read_program.ensures.named c.read_certificate.ensures.keeps
       c.in-Ok-read_program.ensures.text c.in-Ok-read_certificate.ensures.said c.in-Ok-bytes_of.ensures.value
       (λ a b e is_text said read.
-      run_over (setup_of c.in-Ok.shop.machine c.in-Ok.shop.tools) a b e c.as_slice.result.now c.in-Ok-bytes_of.events.items c.args.options.now.delete _ _ (Ok c.in-Ok-run_program.field-0) c.as_slice.ensures.value read
+      run_over c.args.options.now.recording (setup_of c.in-Ok.shop.machine c.in-Ok.shop.tools) a b e c.as_slice.result.now c.in-Ok-bytes_of.events.items c.args.options.now.delete _ _ (Ok c.in-Ok-run_program.field-0) c.as_slice.ensures.value read
       (c.in-Ok-run_program.ensures.runs a b is_text c.in-Ok-read_program.ensures.readings said)),
 )
 
@@ -45,7 +45,7 @@ returns-clause-comes g c =
     c.in-Ok.ensures.said c.read_shop.ensures.keeps c.read_program.ensures.named c.read_certificate.ensures.keeps
     c.in-Ok-read_program.ensures.text c.in-Ok-read_certificate.ensures.said c.in-Ok-bytes_of.ensures.value
     (λ a b e is_text said read.
-    run_over (setup_of c.in-Ok.shop.machine c.in-Ok.shop.tools) a b e c.as_slice.result.now c.in-Ok-bytes_of.events.items c.args.options.now.delete _ _ (Err c.in-Err-run_program.fault) c.as_slice.ensures.value read
+    run_over c.args.options.now.recording (setup_of c.in-Ok.shop.machine c.in-Ok.shop.tools) a b e c.as_slice.result.now c.in-Ok-bytes_of.events.items c.args.options.now.delete _ _ (Err c.in-Err-run_program.fault) c.as_slice.ensures.value read
     (c.in-Err-run_program.ensures.runs a b is_text c.in-Ok-read_program.ensures.readings said))
 
 pub returns-in-Err-clause-unread : goal.returns-in-Err-clause-unread

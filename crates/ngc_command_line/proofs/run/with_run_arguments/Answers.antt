@@ -1,11 +1,11 @@
 use Rattle.std.proofs.Common.{refl}
 use Rattle.std.proofs.lemmas.Result.{IfOk-weaker}
 use Rattle.ngc_command_line.proofs.Steps.{adds_rule}
-use Rattle.ngc_command_line.proofs.run.run_command.Goals as goal
+use Rattle.ngc_command_line.proofs.run.with_run_arguments.Goals as goal
 
 pub returns : goal.returns
 returns c =
-    let machine = adds_rule c.subcommand.ensures c.required_machine_argument.ensures refl c.in_ok-arg.ensures in
+    let machine = adds_rule refl c.required_machine_argument.ensures refl c.in_ok-arg.ensures in
     let tools = adds_rule machine c.required_tools_argument.ensures refl c.in_ok-arg-2.ensures in
     let certificate = adds_rule tools c.certificate_argument.ensures refl c.in_ok-arg-3.ensures in
     let events = adds_rule certificate c.events_argument.ensures refl c.in_ok-arg-4.ensures in

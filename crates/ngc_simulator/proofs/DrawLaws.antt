@@ -1,0 +1,188 @@
+-- What drawing a program comes to, from what its parts come to.
+use Rattle.std.proofs.Common.{◌≡◌, ℕ, List, [], ◌∷◌, ◌++◌, Option, Some, None, Bool, Result, Ok, Err, IfSome, ap, refl, subst, sym, ◌∙◌}
+use Rattle.std.specs.Prelude.{MatchOption, option_map}
+use Rattle.std.specs.Io.KnownBytes.{Appends, Keeps}
+use Rattle.ngc_fixed_length.specs.Written.{AppendsBeginning}
+use Rattle.ngc_line_reader.specs.ProgramText.{ProgramText, program_of, HaveReadings}
+use Rattle.ngc_canonical.specs.declared.command.Command.{Command}
+use Rattle.ngc_canonical.specs.declared.fault.ProgramFault.{ProgramFault}
+use Rattle.ngc_canonical.specs.Interpreter.{setup_of}
+use Rattle.ngc_canonical.specs.State.{Setup}
+use Rattle.ngc_canonical.specs.Meaning.{meaning, program_said}
+use Rattle.ngc_certificate_text.specs.Certificate.{CertificateData}
+use Rattle.ngc_certificate_text.specs.Said.{certificate_said}
+use Rattle.ngc_certificate_text.specs.declared.piece.Setting.{Setting}
+use Rattle.ngc_certificate.specs.declared.fault.MakeFault.{MakeFault}
+use Rattle.ngc_certificate.specs.declared.fault.MakeFault.TheVariants.{NotCleared}
+use Rattle.ngc_certificate.specs.Made.{GivesMade, IsMade}
+use Rattle.ngc_checker.specs.declared.fault.CheckFault.{CheckFault}
+use Rattle.ngc_machine.specs.Machine.{MachineFile}
+use Rattle.ngc_command_line.specs.declared.options.DrawOptions.{DrawOptions}
+use Rattle.ngc_drawing.specs.Pictures.{picture_text}
+use Rattle.ngc_drawing.specs.declared.fault.DrawFault.{DrawFault}
+use Rattle.ngc_drawing.specs.declared.fault.DrawFault.TheVariants.{Memory, Write}
+use Rattle.ngc_drawing.specs.declared.refusal.Refusal.{Refusal}
+use Rattle.ngc_drawing.specs.declared.view.View.{View}
+use Rattle.ngc_simulator.specs.Answers.{DrawsFrom, certificate_input, certificate_inputs, draw_inputs, program_input}
+use Rattle.ngc_simulator.specs.Drawing.{Draws, DrawsGiven, DrawsProgram, IsGivenRefusal, IsMadeRefusal, OnlyDraws, fault_at, refusal_answer, setting_of}
+use Rattle.ngc_simulator.specs.Lists.{IsMeaning, IsRefused}
+use Rattle.ngc_simulator.specs.Setups.{FileBytes, KeepsFiles, KeepsNamed}
+use Rattle.ngc_simulator.specs.Shops.{GivesShop}
+use Rattle.ngc_simulator.specs.Unread.{FailsByInput, Input, shop_inputs}
+use Rattle.ngc_simulator.specs.declared.drawing.DrawingFault.{DrawingFault}
+use Rattle.ngc_simulator.specs.declared.drawing.DrawingFault.TheVariants as draws
+use Rattle.ngc_simulator.specs.declared.fault.AnswerFault.TheVariants as answers
+use Rattle.ngc_simulator.specs.declared.setup.Shop.{Shop}
+use Rattle.ngc_simulator.proofs.JobLaws.{FailsSo, keeps_same}
+use Rattle.ngc_simulator.proofs.ListLaws.{Means}
+use Rattle.ngc_simulator.proofs.RunLaws.{on_two_files}
+use Rattle.ngc_simulator.proofs.SetupLaws.{of_file, on_setup}
+
+is_meaning : (setup : Setup) (bytes : List ℕ) (block_delete : Bool) (text : ProgramText) (says : Result (List Command) ProgramFault)
+    → program_of bytes ≡ Ok text → HaveReadings text.lines → Means text setup block_delete says → IsMeaning setup bytes block_delete says
+is_meaning setup bytes block_delete text says is_text have means = record {
+  text = text;
+  is_text = is_text;
+  readings = have.readings;
+  are_readings = have.are;
+  means = means have.readings have.are;
+}
+
+pub refused_program : (setup : Setup) (bytes : List ℕ) (block_delete : Bool) (text : ProgramText) (fault : ProgramFault)
+    → program_of bytes ≡ Ok text → HaveReadings text.lines → FailsSo text setup block_delete fault → IsRefused setup bytes block_delete fault
+refused_program setup bytes block_delete text fault is_text have fails = record {
+  says = meaning (program_said text have.readings) setup block_delete;
+  meaning = record {
+    text = text;
+    is_text = is_text;
+    readings = have.readings;
+    are_readings = have.are;
+    means = refl;
+  };
+  fails = fails have.readings have.are;
+}
+
+-- the picture of commands that were handed on as a slice
+pub drawn : (setup : Setup) (bytes : List ℕ) (block_delete : Bool) (view : View) (IsShown : List Command → Option Refusal → Type 0) (old new : Option (List ℕ))
+    (text : ProgramText) (commands given shown : List Command) (refusal : Option Refusal)
+    → given ≡ commands → shown ≡ commands → program_of bytes ≡ Ok text → HaveReadings text.lines → Means text setup block_delete (Ok commands) → IsShown given refusal
+    → Appends old new (picture_text view setup.machine shown refusal) → Draws setup bytes block_delete view IsShown old new (Ok tt)
+drawn setup bytes block_delete view IsShown old new text commands given shown refusal same same_shown is_text have means shows wrote = (
+  picture_text view setup.machine shown refusal,
+  record {
+    commands = commands;
+    meaning = is_meaning setup bytes block_delete text (Ok commands) is_text have means;
+    refusal = refusal;
+    shows = subst (λ cs. IsShown cs refusal) same shows;
+    draws = ap (λ cs. picture_text view setup.machine cs refusal) same_shown;
+  },
+  wrote,
+)
+
+-- and a beginning of it, or nothing where memory ran out
+pub drawing_stopped : (setup : Setup) (bytes : List ℕ) (block_delete : Bool) (view : View) (IsShown : List Command → Option Refusal → Type 0) (old new : Option (List ℕ))
+    (text : ProgramText) (commands given shown : List Command) (refusal : Option Refusal) (fault : DrawFault)
+    → given ≡ commands → shown ≡ commands → program_of bytes ≡ Ok text → HaveReadings text.lines → Means text setup block_delete (Ok commands) → IsShown given refusal
+    → AppendsBeginning old new (picture_text view setup.machine shown refusal) → (fault ≡ Memory → Keeps old new)
+    → Draws setup bytes block_delete view IsShown old new (Err (draws.Draw fault))
+drawing_stopped setup bytes block_delete view IsShown old new text commands given shown refusal Memory same same_shown is_text have means shows wrote keeps = keeps refl
+drawing_stopped setup bytes block_delete view IsShown old new text commands given shown refusal Write same same_shown is_text have means shows wrote keeps = (
+  picture_text view setup.machine shown refusal,
+  record {
+    commands = commands;
+    meaning = is_meaning setup bytes block_delete text (Ok commands) is_text have means;
+    refusal = refusal;
+    shows = subst (λ cs. IsShown cs refusal) same shows;
+    draws = ap (λ cs. picture_text view setup.machine cs refusal) same_shown;
+  },
+  wrote,
+)
+
+pub no_memory : (setup : Setup) (bytes : List ℕ) (block_delete : Bool) (view : View) (IsShown : List Command → Option Refusal → Type 0) (known : Option (List ℕ)) (fault : DrawFault)
+    → fault ≡ Memory → Draws setup bytes block_delete view IsShown known known (Err (draws.Draw fault))
+no_memory setup bytes block_delete view IsShown known Memory is = keeps_same known
+no_memory setup bytes block_delete view IsShown known Write is = cc
+
+-- a command that isn't cleared
+pub made_refusal_of : {X : Type 0} (view : X → CertificateData) (machine : MachineFile) (commands : List Command) (fault : MakeFault) (s : Setting) (k : ℕ)
+    → fault ≡ NotCleared s k → GivesMade view (Err fault) (IsMade machine 8 commands commands)
+    → IsMadeRefusal machine commands (Some (record { command = k; fault = 304; fixture = None }))
+made_refusal_of view machine commands fault s k is made =
+    (s, subst (λ (e : MakeFault). GivesMade view (Err e) (IsMade machine 8 commands commands)) is made, refl, refl)
+
+-- ---- with a certificate
+
+pub given_fault : (setup : Setup) (bytes given_text : List ℕ) (block_delete : Bool) (view : View) (known : Option (List ℕ)) (text : ProgramText) (commands given : List Command)
+    (c : CertificateData) (fault : CheckFault)
+    → given ≡ commands → program_of bytes ≡ Ok text → HaveReadings text.lines → Means text setup block_delete (Ok commands) → certificate_said given_text ≡ Ok c
+    → Err fault ≡ refusal_answer (fault_at setup.machine (setting_of block_delete) given c)
+    → DrawsGiven setup bytes given_text block_delete view known known (Err (draws.Check fault))
+given_fault setup bytes given_text block_delete view known text commands given c fault same is_text have means said answers = (
+  (
+    commands,
+    c,
+    is_meaning setup bytes block_delete text (Ok commands) is_text have means,
+    said,
+    sym (answers ∙ ap (λ cs. refusal_answer (fault_at setup.machine (setting_of block_delete) cs c)) same),
+  ),
+  keeps_same known,
+)
+
+-- ---- of the files that the command line names
+
+From : FileBytes → DrawOptions → View → Option (List ℕ) → Option (List ℕ) → Result (Unit {0}) DrawingFault → Setup → List ℕ → Option (List ℕ) → Type 0
+From bytes options view old new outcome setup text named =
+    MatchOption named (DrawsProgram setup text options.delete view old new outcome) (λ name.
+    IfSome (bytes (Some name)) (λ given. DrawsGiven setup text given options.delete view old new outcome))
+
+-- where no certificate is named
+pub plain_files : (bytes after : FileBytes) (options : DrawOptions) (view : View) (shop : Shop) (old new : Option (List ℕ)) (outcome : Result (Unit {0}) DrawingFault) (P : List ℕ → Type 0)
+    → option_map (λ n. n.now) options.certificate ≡ None
+    → GivesShop bytes (Some options.machine.now) (Some options.tools.now) (Ok shop) → KeepsFiles bytes after
+    → IfSome (after (option_map (λ n. n.now) options.program)) P
+    → ((a : List ℕ) → P a → DrawsProgram (setup_of shop.machine shop.tools) a options.delete view old new outcome)
+    → DrawsFrom bytes options view old new outcome
+unfolding From
+plain_files bytes after options view shop old new outcome P is_none said keeps p on =
+    on_setup bytes (Some options.machine.now) (Some options.tools.now) (setup_of shop.machine shop.tools)
+    (λ setup. IfSome (bytes (option_map (λ n. n.now) options.program)) (λ text. From bytes options view old new outcome setup text (option_map (λ n. n.now) options.certificate)))
+    said.0 said.1
+    (subst (λ (named : Option (List ℕ)). IfSome (bytes (option_map (λ n. n.now) options.program)) (λ text. From bytes options view old new outcome (setup_of shop.machine shop.tools) text named)) (sym is_none)
+    (subst (λ (k : Option (List ℕ)). IfSome k (λ text. DrawsProgram (setup_of shop.machine shop.tools) text options.delete view old new outcome)) (keeps (option_map (λ n. n.now) options.program)) (on_known _ p)))
+  where
+    on_known : (known : Option (List ℕ)) → IfSome known P → IfSome known (λ text. DrawsProgram (setup_of shop.machine shop.tools) text options.delete view old new outcome)
+    on_known None q = tt
+    on_known (Some a) q = on a q
+
+-- where one is
+pub given_files : (bytes after later : FileBytes) (options : DrawOptions) (name : List ℕ) (view : View) (shop : Shop) (old new : Option (List ℕ)) (outcome : Result (Unit {0}) DrawingFault) (P Q : List ℕ → Type 0)
+    → option_map (λ n. n.now) options.certificate ≡ Some name
+    → GivesShop bytes (Some options.machine.now) (Some options.tools.now) (Ok shop) → KeepsFiles bytes after → KeepsNamed after later
+    → IfSome (after (option_map (λ n. n.now) options.program)) P → IfSome (later (Some name)) Q
+    → ((a b : List ℕ) → P a → Q b → DrawsGiven (setup_of shop.machine shop.tools) a b options.delete view old new outcome)
+    → DrawsFrom bytes options view old new outcome
+unfolding From
+given_files bytes after later options name view shop old new outcome P Q is_some said keeps named p q on =
+    on_setup bytes (Some options.machine.now) (Some options.tools.now) (setup_of shop.machine shop.tools)
+    (λ setup. IfSome (bytes (option_map (λ n. n.now) options.program)) (λ text. From bytes options view old new outcome setup text (option_map (λ n. n.now) options.certificate)))
+    said.0 said.1
+    (subst (λ (given : Option (List ℕ)). IfSome (bytes (option_map (λ n. n.now) options.program)) (λ text. From bytes options view old new outcome (setup_of shop.machine shop.tools) text given)) (sym is_some)
+    (on_two_files _ _ _ _ P Q (λ a b. DrawsGiven (setup_of shop.machine shop.tools) a b options.delete view old new outcome)
+    (keeps (option_map (λ n. n.now) options.program)) (named name ∙ keeps (Some name)) on p q))
+
+-- ---- which file isn't read
+
+pub with_certificate : (P : List Input → Type 0) (options : DrawOptions) (view : View) (name : List ℕ) → option_map (λ n. n.now) options.certificate ≡ Some name
+    → P (shop_inputs (Some options.machine.now) (Some options.tools.now) ++ program_input (option_map (λ n. n.now) options.program) ∷ certificate_input name ∷ [])
+    → P (draw_inputs options (Some view))
+with_certificate P options view name is p =
+    subst (λ (named : Option (List ℕ)). P (shop_inputs (Some options.machine.now) (Some options.tools.now) ++ program_input (option_map (λ n. n.now) options.program) ∷ certificate_inputs named)) (sym is) p
+
+pub draw_told : (fails : Option (List ℕ) → Type 0) (bytes : FileBytes) (files : List Input) (old new : ℕ) (fault : DrawingFault)
+    → OnlyDraws {T = Unit {0}} (Err fault) → new ≡ old → FailsByInput {T = Unit {0}} fails bytes files old new (Err (answers.Draw fault))
+draw_told fails bytes files old new draws.UnknownView only same = absurd only
+draw_told fails bytes files old new (draws.Read e) only same = absurd only
+draw_told fails bytes files old new (draws.Certificate e) only same = absurd only
+draw_told fails bytes files old new (draws.Program e) only same = same
+draw_told fails bytes files old new (draws.Check e) only same = same
+draw_told fails bytes files old new (draws.Draw e) only same = same

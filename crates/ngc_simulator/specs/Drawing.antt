@@ -1,0 +1,133 @@
+-- What drawing a program comes to. Our own.
+use Rattle.std.specs.Prelude.{◌≡◌, ℕ, List, Option, Some, None, Result, Ok, Err, Bool, true, false, codes, if◌then◌else◌}
+use Rattle.std.specs.Str.{bytes_eq}
+use Rattle.std.specs.Io.KnownBytes.{Appends, Keeps}
+use Rattle.ngc_fixed_length.specs.Failures.{Rises}
+use Rattle.ngc_fixed_length.specs.Written.{AppendsBeginning}
+use Rattle.ngc_line_reader.specs.ProgramText.{program_of}
+use Rattle.ngc_line_reader.specs.ProgramView.{FaultIs}
+use Rattle.ngc_machine.specs.Machine.{MachineFile}
+use Rattle.ngc_canonical.specs.declared.command.Command.{Command}
+use Rattle.ngc_canonical.specs.State.{Setup}
+use Rattle.ngc_certificate_text.specs.declared.piece.Setting.{Setting}
+use Rattle.ngc_certificate_text.specs.declared.piece.Setting.TheVariants.{Off, On}
+use Rattle.ngc_certificate_text.specs.Certificate.{CertificateData, Entry}
+use Rattle.ngc_certificate_text.specs.Said.{certificate_said}
+use Rattle.ngc_certificate.specs.declared.fault.MakeFault.TheVariants.{NotCleared}
+use Rattle.ngc_certificate.specs.declared.fault.PieceFault.{PieceFault}
+use Rattle.ngc_certificate.specs.declared.fault.PieceFault.TheVariants as pieces
+use Rattle.ngc_certificate.specs.Made.{IsMade}
+use Rattle.ngc_checker.specs.declared.fault.CheckFault.{CheckFault}
+use Rattle.ngc_checker.specs.declared.fault.CheckFault.TheVariants as checks
+use Rattle.ngc_checker.specs.FirstRefusal.{setting_fault}
+use Rattle.ngc_drawing.specs.Pictures.{picture_text}
+use Rattle.ngc_drawing.specs.declared.fault.DrawFault.TheVariants.{Memory, Write}
+use Rattle.ngc_drawing.specs.declared.refusal.Refusal.{Refusal}
+use Rattle.ngc_drawing.specs.declared.view.View.{View}
+use Rattle.ngc_drawing.specs.declared.view.View.TheVariants.{Top, Front, Side}
+use Rattle.ngc_simulator.specs.declared.drawing.DrawingFault.{DrawingFault}
+use Rattle.ngc_simulator.specs.declared.drawing.DrawingFault.TheVariants as draws
+use Rattle.ngc_simulator.specs.Jobs.{IsNoCertificate}
+use Rattle.ngc_simulator.specs.Lists.{IsMeaning, IsRefused}
+
+-- the view with a name, and the top where none is given
+abbrev pub view_named : Option (List ℕ) → Option View
+view_named None = Some Top
+view_named (Some name) =
+    if bytes_eq name (codes "top") then Some Top else if bytes_eq name (codes "front") then Some Front
+    else if bytes_eq name (codes "side") then Some Side else None
+
+abbrev pub setting_of : Bool → Setting
+setting_of block_delete = if block_delete then On else Off
+
+-- ---- what is refused and drawn
+
+-- where no certificate is given: what making one for these commands tells, with as many pieces as `certify` tries by itself
+abbrev pub IsMadeRefusal : MachineFile → List Command → Option Refusal → Type 0
+IsMadeRefusal machine commands None = (c : CertificateData) × IsMade machine 8 commands commands (Ok c)
+IsMadeRefusal machine commands (Some refusal) =
+    (s : Setting) × IsMade machine 8 commands commands (Err (NotCleared s refusal.command)) × (refusal.fault ≡ 304) × (refusal.fixture ≡ None)
+
+-- where one is given: its first fault at the setting, if that is for travel or for a fixture
+abbrev pub piece_refusal : ℕ → PieceFault → Option Refusal
+piece_refusal k pieces.Chain = None
+piece_refusal k pieces.NotCovered = None
+piece_refusal k pieces.OutsideTravel = Some (record { command = k; fault = 315; fixture = None })
+piece_refusal k (pieces.MeetsFixture i) = Some (record { command = k; fault = 316; fixture = Some i })
+
+abbrev pub drawn_refusal : CheckFault → Option Refusal
+drawn_refusal (checks.Program s e) = None
+drawn_refusal (checks.MotionsDiffer s k) = None
+drawn_refusal (checks.Start i) = Some (record { command = 0; fault = 318; fixture = Some i })
+drawn_refusal (checks.Piece s k j e) = piece_refusal k e
+drawn_refusal (checks.ToolChange s k i) = Some (record { command = k; fault = 317; fixture = Some i })
+drawn_refusal checks.Memory = None
+
+abbrev pub entries_at : Setting → CertificateData → List Entry
+entries_at Off c = c.off
+entries_at On c = c.on
+
+abbrev pub fault_at : MachineFile → Setting → List Command → CertificateData → Option CheckFault
+fault_at machine s commands c = setting_fault machine s commands (entries_at s c)
+
+-- a fault that isn't drawn is answered
+abbrev pub drawn_or : CheckFault → Option Refusal → Result (Option Refusal) CheckFault
+drawn_or fault None = Err fault
+drawn_or fault (Some refusal) = Ok (Some refusal)
+
+abbrev pub refusal_answer : Option CheckFault → Result (Option Refusal) CheckFault
+refusal_answer None = Ok None
+refusal_answer (Some fault) = drawn_or fault (drawn_refusal fault)
+
+-- ---- the picture
+
+-- the picture of what a file means, with what is refused of it
+pub record IsPicture (setup : Setup) (bytes : List ℕ) (block_delete : Bool) (view : View) (IsShown : List Command → Option Refusal → Type 0) (text : List ℕ) : Type 0 where
+  pub commands : List Command
+  pub meaning : IsMeaning setup bytes block_delete (Ok commands)
+  pub refusal : Option Refusal
+  pub shows : IsShown commands refusal
+  pub draws : text ≡ picture_text view setup.machine commands refusal
+
+-- the picture was written, or a beginning of it where the sink failed; where there is none, what was written is as it was
+abbrev pub Draws : Setup → List ℕ → Bool → View → (List Command → Option Refusal → Type 0) → Option (List ℕ) → Option (List ℕ) → Result (Unit {0}) DrawingFault → Type 0
+Draws setup bytes block_delete view IsShown old new (Ok u) = (text : List ℕ) × IsPicture setup bytes block_delete view IsShown text × Appends old new text
+Draws setup bytes block_delete view IsShown old new (Err (draws.Draw Write)) =
+    (text : List ℕ) × IsPicture setup bytes block_delete view IsShown text × AppendsBeginning old new text
+Draws setup bytes block_delete view IsShown old new (Err (draws.Draw Memory)) = Keeps old new
+Draws setup bytes block_delete view IsShown old new (Err (draws.Program fault)) = IsRefused setup bytes block_delete fault × Keeps old new
+Draws setup bytes block_delete view IsShown old new (Err (draws.Read fault)) = FaultIs fault (program_of bytes) × Keeps old new
+Draws setup bytes block_delete view IsShown old new (Err (draws.Certificate fault)) = ⊥
+Draws setup bytes block_delete view IsShown old new (Err (draws.Check fault)) = ⊥
+Draws setup bytes block_delete view IsShown old new (Err draws.UnknownView) = ⊥
+
+-- Of a program's file and a sink, without a certificate.
+abbrev pub DrawsProgram : Setup → List ℕ → Bool → View → Option (List ℕ) → Option (List ℕ) → Result (Unit {0}) DrawingFault → Type 0
+DrawsProgram setup bytes block_delete view old new outcome = Draws setup bytes block_delete view (IsMadeRefusal setup.machine) old new outcome
+
+-- what a certificate refuses of commands
+abbrev pub IsGivenRefusal : MachineFile → Setting → CertificateData → List Command → Option Refusal → Type 0
+IsGivenRefusal machine s c commands refusal = refusal_answer (fault_at machine s commands c) ≡ Ok refusal
+
+-- Of a program's file, a certificate's file and a sink. A fault of the certificate that isn't drawn is answered.
+abbrev pub DrawsGiven : Setup → List ℕ → List ℕ → Bool → View → Option (List ℕ) → Option (List ℕ) → Result (Unit {0}) DrawingFault → Type 0
+DrawsGiven setup bytes text block_delete view old new (Err (draws.Certificate fault)) = IsNoCertificate text fault × Keeps old new
+DrawsGiven setup bytes text block_delete view old new (Err (draws.Check fault)) =
+    ((commands : List Command) × (c : CertificateData) × IsMeaning setup bytes block_delete (Ok commands) × (certificate_said text ≡ Ok c)
+    × (refusal_answer (fault_at setup.machine (setting_of block_delete) commands c) ≡ Err fault)) × Keeps old new
+DrawsGiven setup bytes text block_delete view old new (Err (draws.Read fault)) = FaultIs fault (program_of bytes) × Keeps old new
+DrawsGiven setup bytes text block_delete view old new outcome =
+    (c : CertificateData) × (certificate_said text ≡ Ok c)
+    × Draws setup bytes block_delete view (IsGivenRefusal setup.machine (setting_of block_delete) c) old new outcome
+
+-- the sink's count of failures rose where a write failed, and else it is what it was
+abbrev pub FailsByDrawing : Result (Unit {0}) DrawingFault → ℕ → ℕ → Type 0
+FailsByDrawing (Err (draws.Draw Write)) old new = Rises old new
+FailsByDrawing _ old new = new ≡ old
+
+-- the view, the program and the certificate are given
+abbrev pub OnlyDraws : {T : Type 0} → Result T DrawingFault → Type 0
+OnlyDraws (Err draws.UnknownView) = ⊥
+OnlyDraws (Err (draws.Read fault)) = ⊥
+OnlyDraws (Err (draws.Certificate fault)) = ⊥
+OnlyDraws _ = Unit {0}

@@ -1,0 +1,205 @@
+//! Pictures of programs.
+ghost use Rattle.std.specs.Prelude.{◌≡◌, ◌≤◌, ℕ, List, IfOk, Ok, Some, None, MatchResult, length, option_map};
+ghost use Rattle.ngc_canonical.specs.Interpreter.{setup_of};
+ghost use Rattle.ngc_canonical.specs.State.{COMMAND_LIMIT};
+ghost use Rattle.ngc_certificate_text.specs.Contents.{said_of};
+ghost use Rattle.ngc_certificate_text.specs.Said.{certificate_said};
+ghost use Rattle.ngc_line_reader.specs.ProgramText.{program_of, HaveReadings};
+ghost use Rattle.ngc_line_reader.specs.ProgramView.{text_in};
+ghost use Rattle.ngc_machine.specs.Machine.{file_of};
+ghost use Rattle.ngc_simulator.specs.Drawing.{DrawsGiven, DrawsProgram, FailsByDrawing, IsMadeRefusal, OnlyDraws, drawn_refusal, fault_at, refusal_answer, setting_of, view_named};
+
+use ngc_canonical::{Command, ProgramFault, interpret};
+use ngc_certificate::{MakeFault, PieceFault, Setting, make_alike};
+use ngc_certificate_text::{Certificate, CertificateFault};
+use ngc_checker::{CheckFault, setting_fault};
+use ngc_drawing::{DrawFault, Refusal, View, write_svg};
+use ngc_fixed_length::Sink;
+use ngc_line_reader::{Program, ReadFault};
+use ngc_machine::{Machine, Tools};
+use std::alloc::Allocator;
+use thiserror::Error;
+
+/// Why no picture is drawn, or only a beginning of one.
+#[derive(Clone, Copy, Debug, PartialEq, Eq, Error)]
+pub enum DrawingFault {
+    /// No view has the name: 723.
+    #[error("no view has this name")]
+    UnknownView,
+    /// The program isn't read: 101, 111 to 119, 121, 122, 900, 901.
+    #[error(transparent)]
+    Read(ReadFault),
+    /// The certificate isn't read: 301 to 303, 900, 901.
+    #[error(transparent)]
+    Certificate(CertificateFault),
+    /// The program is refused: 101, 102, 120, 131 to 133, 201 to 252, 900.
+    #[error(transparent)]
+    Program(ProgramFault),
+    /// The certificate isn't one of the program: 312 to 314.
+    #[error(transparent)]
+    Check(CheckFault),
+    /// 900, 902
+    #[error(transparent)]
+    Draw(DrawFault),
+}
+
+/// The view with this name, and the top where none is given.
+pub(crate) fn view_of(name: Option<&str>) -> Option<View>
+    ensures { result ≡ view_named (option_map (λ n. n.now) name.entry) }
+{
+    match name {
+        None | Some("top") => Some(View::Top),
+        Some("front") => Some(View::Front),
+        Some("side") => Some(View::Side),
+        Some(_) => None,
+    }
+}
+
+/// What a picture shows of a refusal: those for travel and for a fixture.
+fn drawn_refusal(fault: &CheckFault) -> Option<Refusal>
+    ensures { result ≡ drawn_refusal fault.now }
+{
+    match fault {
+        CheckFault::Piece { command, fault, .. } => match fault {
+            PieceFault::OutsideTravel => Some(Refusal {
+                command: *command as usize,
+                fault: 315,
+                fixture: None,
+            }),
+            PieceFault::MeetsFixture(fixture) => Some(Refusal {
+                command: *command as usize,
+                fault: 316,
+                fixture: Some(*fixture as usize),
+            }),
+            PieceFault::Chain | PieceFault::NotCovered => None,
+        },
+        CheckFault::ToolChange {
+            command,
+            fixture,
+            ..
+        } => Some(Refusal {
+            command: *command as usize,
+            fault: 317,
+            fixture: Some(*fixture as usize),
+        }),
+        CheckFault::Start { fixture } => Some(Refusal {
+            command: 0,
+            fault: 318,
+            fixture: Some(*fixture as usize),
+        }),
+        CheckFault::Program { .. } | CheckFault::MotionsDiffer { .. } | CheckFault::Memory => None,
+    }
+}
+
+// What is refused of these commands where a certificate is to be made for them.
+fn made_refusal<A: Allocator + Copy>(
+    alloc: A,
+    commands: &[Command],
+    machine: &Machine<A>,
+) -> Result<Option<Refusal>, DrawFault>
+    requires { length commands.now ≤ COMMAND_LIMIT }
+    ensures { MatchResult result (IsMadeRefusal (file_of machine.now) commands.now) (λ fault. fault ≡ DrawFault.Memory) }
+{
+    let fault = match make_alike(alloc, commands, machine, 8) {
+        Ok(_) => return Ok(None),
+        Err(fault) => fault,
+    };
+    match fault {
+        MakeFault::NotCleared { command, .. } => Ok(Some(Refusal {
+            command: command as usize,
+            fault: 304,
+            fixture: None,
+        })),
+        MakeFault::Memory => Err(DrawFault::Memory),
+    }
+}
+
+fn setting_of(block_delete: bool) -> Setting
+    ensures { result ≡ setting_of block_delete }
+{
+    if block_delete {
+        Setting::On
+    } else {
+        Setting::Off
+    }
+}
+
+// What is refused of these commands with a certificate, and drawn. What is no refusal for travel or a fixture isn't.
+fn checked_refusal<A: Allocator>(
+    machine: &Machine<A>,
+    block_delete: bool,
+    commands: &[Command],
+    certificate: &Certificate<A>,
+) -> Result<Option<Refusal>, CheckFault>
+    requires { length commands.now ≤ COMMAND_LIMIT }
+    ensures { result ≡ refusal_answer (fault_at (file_of machine.now) (setting_of block_delete) commands.now (said_of certificate.now)) }
+{
+    let setting = setting_of(block_delete);
+    match setting_fault(machine, setting, commands, certificate.motions(setting)) {
+        None => Ok(None),
+        Some(fault) => match drawn_refusal(&fault) {
+            Some(refusal) => Ok(Some(refusal)),
+            None => Err(fault),
+        },
+    }
+}
+
+/// Draws a program on a machine, at a setting of block delete, with the motion that no certificate clears.
+pub fn draw_program<A: Allocator + Copy, W: Sink>(
+    alloc: A,
+    program: &Program<A>,
+    machine: &Machine<A>,
+    tools: &Tools<A>,
+    view: View,
+    block_delete: bool,
+    output: &mut W,
+) -> Result<(), DrawingFault>
+    // Whatever file the program was read from: the picture is that of what it means.
+    ensures draws { (bytes : List ℕ) → program_of bytes ≡ Ok (text_in program.now) → HaveReadings (text_in program.now).lines → DrawsProgram (setup_of machine.now tools.now) bytes block_delete view (W.written output.old) (W.written output.new) result }
+    ensures sink { FailsByDrawing result (W.failures output.old) (W.failures output.new) }
+    ensures given { OnlyDraws result }
+{
+    let commands = match interpret(alloc, program, machine, tools, block_delete) {
+        Ok(commands) => commands,
+        Err(fault) => return Err(DrawingFault::Program(fault)),
+    };
+    let refusal = match made_refusal(alloc, commands.as_slice(), machine) {
+        Ok(refusal) => refusal,
+        Err(fault) => return Err(DrawingFault::Draw(fault)),
+    };
+    match write_svg(alloc, view, machine, commands.as_slice(), &refusal, output) {
+        Ok(()) => Ok(()),
+        Err(fault) => Err(DrawingFault::Draw(fault)),
+    }
+}
+
+/// Draws a program on a machine, at a setting of block delete, with the motion of which the certificate doesn't show that it
+/// keeps to the travel and clears the fixtures.
+pub fn draw_certified<A: Allocator + Copy, W: Sink>(
+    alloc: A,
+    program: &Program<A>,
+    machine: &Machine<A>,
+    tools: &Tools<A>,
+    certificate: &Certificate<A>,
+    view: View,
+    block_delete: bool,
+    output: &mut W,
+) -> Result<(), DrawingFault>
+    // Whatever files the program and the certificate were read from.
+    ensures draws { (bytes text : List ℕ) → program_of bytes ≡ Ok (text_in program.now) → HaveReadings (text_in program.now).lines → certificate_said text ≡ Ok (said_of certificate.now) → DrawsGiven (setup_of machine.now tools.now) bytes text block_delete view (W.written output.old) (W.written output.new) result }
+    ensures sink { FailsByDrawing result (W.failures output.old) (W.failures output.new) }
+    ensures given { OnlyDraws result }
+{
+    let commands = match interpret(alloc, program, machine, tools, block_delete) {
+        Ok(commands) => commands,
+        Err(fault) => return Err(DrawingFault::Program(fault)),
+    };
+    let refusal = match checked_refusal(machine, block_delete, commands.as_slice(), certificate) {
+        Ok(refusal) => refusal,
+        Err(fault) => return Err(DrawingFault::Check(fault)),
+    };
+    match write_svg(alloc, view, machine, commands.as_slice(), &refusal, output) {
+        Ok(()) => Ok(()),
+        Err(fault) => Err(DrawingFault::Draw(fault)),
+    }
+}

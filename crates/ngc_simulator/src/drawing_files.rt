@@ -1,0 +1,112 @@
+//! Pictures of programs, from the files that the command line names.
+ghost use Rattle.std.specs.Prelude.{◌≡◌, Ok, Some, option_map};
+ghost use Rattle.ngc_simulator.specs.Answers.{DrawComes, FailsByOutput, draw_inputs};
+ghost use Rattle.ngc_simulator.specs.Drawing.{view_named};
+ghost use Rattle.ngc_simulator.specs.Unread.{FailsByInput, SourceFails};
+
+use crate::done::Done;
+use crate::drawing::{DrawingFault, draw_certified, draw_program, view_of};
+use crate::fault::AnswerFault;
+use crate::files::Files;
+use crate::opening::{read_certificate, read_program};
+use crate::setup::read_shop;
+use ngc_command_line::DrawOptions;
+use ngc_drawing::View;
+use ngc_fixed_length::Sink;
+use std::alloc::Global;
+
+// A picture without a certificate. Each file is read before the next one is opened.
+fn draw_plain<F: Files, W: Sink>(
+    alloc: Global,
+    options: &DrawOptions<'_>,
+    view: View,
+    files: &mut F,
+    output: &mut W,
+) -> Result<Done, AnswerFault>
+    requires { options.now.certificate ≡ None }
+    ensures comes { DrawComes (F.bytes files.old) options.now (Some view) (W.written output.old) (W.written output.new) result }
+    ensures unread { FailsByInput (SourceFails F.R.remaining F.R.failures) (F.bytes files.old) (draw_inputs options.now (Some view)) (F.failures files.old) (F.failures files.new) result }
+    ensures sink { FailsByOutput result (W.failures output.old) (W.failures output.new) }
+{
+    let shop = match read_shop(alloc, Some(options.machine), Some(options.tools), files) {
+        Ok(shop) => shop,
+        Err(fault) => return Err(fault),
+    };
+    let program = match read_program(alloc, options.program, files) {
+        Ok(program) => program,
+        Err(fault) => return Err(AnswerFault::Draw(DrawingFault::Read(fault))),
+    };
+    match draw_program(
+        alloc,
+        &program,
+        &shop.machine,
+        &shop.tools,
+        view,
+        options.delete,
+        output,
+    ) {
+        Ok(()) => Ok(Done::Quietly),
+        Err(fault) => Err(AnswerFault::Draw(fault)),
+    }
+}
+
+// A picture with a certificate.
+fn draw_with<F: Files, W: Sink>(
+    alloc: Global,
+    options: &DrawOptions<'_>,
+    certificate: &str,
+    view: View,
+    files: &mut F,
+    output: &mut W,
+) -> Result<Done, AnswerFault>
+    requires { option_map (λ name. name.now) options.now.certificate ≡ Some certificate.now }
+    ensures comes { DrawComes (F.bytes files.old) options.now (Some view) (W.written output.old) (W.written output.new) result }
+    ensures unread { FailsByInput (SourceFails F.R.remaining F.R.failures) (F.bytes files.old) (draw_inputs options.now (Some view)) (F.failures files.old) (F.failures files.new) result }
+    ensures sink { FailsByOutput result (W.failures output.old) (W.failures output.new) }
+{
+    let shop = match read_shop(alloc, Some(options.machine), Some(options.tools), files) {
+        Ok(shop) => shop,
+        Err(fault) => return Err(fault),
+    };
+    let program = match read_program(alloc, options.program, files) {
+        Ok(program) => program,
+        Err(fault) => return Err(AnswerFault::Draw(DrawingFault::Read(fault))),
+    };
+    let certificate = match read_certificate(alloc, certificate, files) {
+        Ok(certificate) => certificate,
+        Err(fault) => return Err(AnswerFault::Draw(DrawingFault::Certificate(fault))),
+    };
+    match draw_certified(
+        alloc,
+        &program,
+        &shop.machine,
+        &shop.tools,
+        &certificate,
+        view,
+        options.delete,
+        output,
+    ) {
+        Ok(()) => Ok(Done::Quietly),
+        Err(fault) => Err(AnswerFault::Draw(fault)),
+    }
+}
+
+/// A picture of a program. The view is looked up before a file is read.
+pub(crate) fn draw_files<F: Files, W: Sink>(
+    alloc: Global,
+    options: &DrawOptions<'_>,
+    files: &mut F,
+    output: &mut W,
+) -> Result<Done, AnswerFault>
+    ensures comes { DrawComes (F.bytes files.old) options.now (view_named (option_map (λ name. name.now) options.now.view)) (W.written output.old) (W.written output.new) result }
+    ensures unread { FailsByInput (SourceFails F.R.remaining F.R.failures) (F.bytes files.old) (draw_inputs options.now (view_named (option_map (λ name. name.now) options.now.view))) (F.failures files.old) (F.failures files.new) result }
+    ensures sink { FailsByOutput result (W.failures output.old) (W.failures output.new) }
+{
+    let Some(view) = view_of(options.view) else {
+        return Err(AnswerFault::Draw(DrawingFault::UnknownView));
+    };
+    match options.certificate {
+        None => draw_plain(alloc, options, view, files, output),
+        Some(certificate) => draw_with(alloc, options, certificate, view, files, output),
+    }
+}
