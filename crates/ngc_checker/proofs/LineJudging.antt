@@ -3,7 +3,6 @@ use Rattle.std.proofs.Common.{◌≡◌, ℕ, zero, suc, ◌-◌, ap, Bool, true
 use Rattle.std.specs.Prelude.{nat_le}
 use Rattle.std.proofs.lemmas.Bool.Decides.{nat_tests}
 use Rattle.ngc_certificate_text.specs.declared.expected.Expected.{Expected}
-use Rattle.ngc_certificate_text.specs.declared.expected.Expected.TheVariants as next
 use Rattle.ngc_certificate_text.specs.declared.expected.BegunMotion.{BegunMotion}
 use Rattle.ngc_certificate_text.specs.declared.fault.CertificateFault.{CertificateFault}
 use Rattle.ngc_certificate_text.specs.declared.piece.Setting.{Setting}
@@ -12,48 +11,29 @@ use Rattle.ngc_certificate_text.specs.declared.told.Told.{Told}
 use Rattle.ngc_certificate_text.specs.declared.told.Told.TheVariants as tell
 use Rattle.ngc_certificate_text.specs.Ahead.{Rest, Left, made_with, next_of_motions, IsSound}
 use Rattle.ngc_certificate_text.specs.Told.{onto, Fits, IsFront, behind_piece, behind_told, IsNext}
-use Rattle.ngc_checker.specs.Judging.{JudgeData, MayJudge, HasJudged, setting_of, left_of, IsAt}
-
-next_setting_of : (s : Setting) (n : ℕ) → setting_of (next_of_motions s n) ≡ s
-next_setting_of Off zero = refl
-next_setting_of On zero = refl
-next_setting_of s (suc n) = refl
+use Rattle.ngc_checker.specs.Judging.{JudgeData, MayJudge, left_behind, left_of, IsAt}
 
 next_left_of : (s : Setting) (n : ℕ) → left_of (next_of_motions s n) ≡ 0
 next_left_of Off zero = refl
 next_left_of On zero = refl
 next_left_of s (suc n) = refl
 
-piece_at : (b : BegunMotion) (last : Bool) (v : JudgeData) → nat_le b.pieces_left 1 ≡ last → v.setting ≡ b.setting → v.left ≡ b.pieces_left - 1 → IsAt (behind_piece last b) v
-piece_at b true v e setting left = record {
-  setting = setting ∙ sym (next_setting_of b.setting b.motions_left);
-  left = let none : b.pieces_left - 1 ≡ 0 = grind (arith, nat_tests) in left ∙ none ∙ sym (next_left_of b.setting b.motions_left);
-}
-piece_at b false v e setting left = record { setting = setting; left = left }
+piece_at : (b : BegunMotion) (last : Bool) → nat_le b.pieces_left 1 ≡ last → b.pieces_left - 1 ≡ left_of (behind_piece last b)
+piece_at b true e = let none : b.pieces_left - 1 ≡ 0 = grind (arith, nat_tests) in none ∙ sym (next_left_of b.setting b.motions_left)
+piece_at b false e = refl
 
-turned_at : (e : Expected) (s : Setting) (n : ℕ) (old new : JudgeData) → e ≡ next.Setting s → IsAt e old → HasJudged (tell.Setting s n) old new → IsAt (next_of_motions s n) new
-turned_at e Off n old new is at done = record {
-  setting = done.0 ∙ at.setting ∙ ap setting_of is ∙ sym (next_setting_of Off n);
-  left = done.1 ∙ at.left ∙ ap left_of is ∙ sym (next_left_of Off n);
-}
-turned_at e On n old new is at done = record { setting = done.0 ∙ sym (next_setting_of On n); left = done.1 ∙ sym (next_left_of On n) }
-
-pub judged_at : (e : Expected) (told : Told) (old new : JudgeData) → IsNext e told → IsAt e old → HasJudged told old new → IsAt (behind_told told) new
-judged_at e tell.Header old new is at done = record { setting = done.0 ∙ at.setting ∙ ap setting_of is; left = done.1 ∙ at.left ∙ ap left_of is }
-judged_at e (tell.Setting s n) old new is at done = turned_at e s n old new is.0 at done
-judged_at e (tell.Motion b) old new is at done = record { setting = done.0 ∙ at.setting ∙ ap setting_of is.expected; left = done.1 }
-judged_at e (tell.Piece b p) old new is at done = piece_at b (nat_le b.pieces_left 1) new refl (done.0 ∙ at.setting ∙ ap setting_of is.0) done.1
-judged_at e tell.End old new is at done = record { setting = done.0 ∙ at.setting ∙ ap setting_of is; left = done.1 ∙ at.left ∙ ap left_of is }
-
-may_turn : (e : Expected) (s : Setting) (n : ℕ) (v : JudgeData) → e ≡ next.Setting s → IsAt e v → MayJudge (tell.Setting s n) v
-may_turn e Off n v is at = tt
-may_turn e On n v is at = (at.setting ∙ ap setting_of is, at.left ∙ ap left_of is)
+pub judged_at : (e : Expected) (told : Told) (old new : JudgeData) → IsNext e told → IsAt e old → new.left ≡ left_behind told old.left → IsAt (behind_told told) new
+judged_at e tell.Header old new is at done = done ∙ at ∙ ap left_of is
+judged_at e (tell.Setting s n) old new is at done = done ∙ at ∙ ap left_of is.0 ∙ sym (next_left_of s n)
+judged_at e (tell.Motion b) old new is at done = done
+judged_at e (tell.Piece b p) old new is at done = done ∙ piece_at b (nat_le b.pieces_left 1) refl
+judged_at e tell.End old new is at done = done ∙ at ∙ ap left_of is
 
 pub may_judge : (e : Expected) (number : ℕ) (told : Told) (v : JudgeData) → IsSound e number → IsNext e told → IsAt e v → MayJudge told v
 may_judge e number tell.Header v sound is at = tt
-may_judge e number (tell.Setting s n) v sound is at = may_turn e s n v is.0 at
-may_judge e number (tell.Motion b) v sound is at = (at.setting ∙ ap setting_of is.expected, at.left ∙ ap left_of is.expected, is.some, is.few)
-may_judge e number (tell.Piece b p) v sound is at = (at.setting ∙ ap setting_of is.0, at.left ∙ ap left_of is.0, sound.piece b is.0)
+may_judge e number (tell.Setting s n) v sound is at = tt
+may_judge e number (tell.Motion b) v sound is at = (at ∙ ap left_of is.expected, is.some, is.few)
+may_judge e number (tell.Piece b p) v sound is at = (at ∙ ap left_of is.0, sound.piece b is.0)
 may_judge e number tell.End v sound is at = tt
 
 -- ---- what is made of a text

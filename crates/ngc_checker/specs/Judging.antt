@@ -5,7 +5,6 @@ use Rattle.ngc_machine.specs.MachineRanges.{IsMachine}
 use Rattle.ngc_canonical.specs.declared.command.Command.{Command}
 use Rattle.ngc_certificate_text.specs.declared.expected.Expected.{Expected}
 use Rattle.ngc_certificate_text.specs.declared.expected.Expected.TheVariants as next
-use Rattle.ngc_certificate_text.specs.declared.piece.Setting.{Setting}
 use Rattle.ngc_certificate_text.specs.declared.piece.Setting.TheVariants.{Off, On}
 use Rattle.ngc_certificate_text.specs.declared.told.Told.{Told}
 use Rattle.ngc_certificate_text.specs.declared.told.Told.TheVariants as tell
@@ -14,90 +13,70 @@ use Rattle.ngc_certificate_text.specs.Certificate.{CertificateData, PIECE_LIMIT}
 use Rattle.ngc_checker.specs.declared.fault.CheckFault.{CheckFault}
 use Rattle.ngc_checker.specs.declared.setting_judge.SettingJudge.{SettingJudge}
 use Rattle.ngc_checker.specs.Accepted.{AcceptedData, AreCommands}
-use Rattle.ngc_checker.specs.FirstRefusal.{setting_fault, settings_fault}
+use Rattle.ngc_checker.specs.FirstRefusal.{settings_fault}
 use Rattle.ngc_checker.specs.Following.{IsFollowing}
 use Rattle.ngc_checker.specs.Held.{held}
 use Rattle.ngc_checker.specs.Walking.{fault_left}
 use Rattle.ngc_machine.specs.declared.tools.Tool.{Tool}
 use Rattle.ngc_certificate.specs.PieceFault.{◌or◌}
 
--- What a judge keeps: machine, tools and commands; the first refusal of the settings that are over; the setting whose motions
--- come, what is known of it, and how many pieces come yet of a motion that has begun.
+-- What a judge keeps: machine, tools and commands; what is known of each setting; and how many pieces come yet of a motion
+-- that has begun.
 pub record JudgeData : Type 0 where
   pub machine : MachineFile
   pub tools : List Tool
   pub off : List Command
   pub on : List Command
-  pub refusal : Option CheckFault
-  pub setting : Setting
-  pub walk : SettingJudge
+  pub off_walk : SettingJudge
+  pub on_walk : SettingJudge
   pub left : ℕ
 
--- the first refusal, where this is left of a certificate
-abbrev pub verdict_left : MachineFile → List Command → List Command → Option CheckFault → Setting → SettingJudge → Rest → Option CheckFault
-verdict_left machine off on refusal Off walk r = refusal or (fault_left machine Off off walk r.pieces r.off or setting_fault machine On on r.on)
-verdict_left machine off on refusal On walk r = refusal or fault_left machine On on walk r.pieces r.on
+-- the first refusal, where this is left of a certificate: pieces matter to a setting where its motion has begun
+abbrev pub verdict_left : MachineFile → List Command → List Command → SettingJudge → SettingJudge → Rest → Option CheckFault
+verdict_left machine off on off_walk on_walk r = fault_left machine Off off off_walk r.pieces r.off or fault_left machine On on on_walk r.pieces r.on
 
-abbrev pub commands_in : Setting → List Command → List Command → List Command
-commands_in Off off on = off
-commands_in On off on = on
+-- a setting's walk stands among its commands, and so many pieces may come yet of its motion that has begun
+pub record IsWalking (machine : MachineFile) (commands : List Command) (walk : SettingJudge) (left : ℕ) : Type 0 where
+  pub index : walk.walk.index ≤ length commands
+  pub following : IsFollowing machine walk.following left
+  pub none : left ≡ 0 → walk.following ≡ None
 
 -- The lines so far and those that come say some certificate, and the verdict is that of both together.
-pub record IsJudge (machine : MachineFile) (off on : List Command) (refusal : Option CheckFault) (setting : Setting) (walk : SettingJudge) (left : ℕ) : Type 0 where
+pub record IsJudge (machine : MachineFile) (off on : List Command) (off_walk on_walk : SettingJudge) (left : ℕ) : Type 0 where
   pub good_machine : IsMachine machine
   pub off_commands : AreCommands machine.start off
   pub on_commands : AreCommands machine.start on
-  pub index : walk.walk.index ≤ length (commands_in setting off on)
-  pub following : IsFollowing machine walk.following left
-  pub none : left ≡ 0 → walk.following ≡ None
+  pub off_walking : IsWalking machine off off_walk left
+  pub on_walking : IsWalking machine on on_walk left
   pub certificate : Rest → CertificateData
-  pub says : (r : Rest) → length r.pieces ≡ left → settings_fault machine (Ok off) (Ok on) (certificate r) ≡ verdict_left machine off on refusal setting walk r
+  pub says : (r : Rest) → length r.pieces ≡ left → settings_fault machine (Ok off) (Ok on) (certificate r) ≡ verdict_left machine off on off_walk on_walk r
 
 -- the first refusal, where this comes yet
 abbrev pub verdict_of : JudgeData → Rest → Option CheckFault
-verdict_of v r = verdict_left v.machine v.off v.on v.refusal v.setting v.walk r
+verdict_of v r = verdict_left v.machine v.off v.on v.off_walk v.on_walk r
 
 abbrev pub kept_of : JudgeData → AcceptedData
 kept_of v = held v.machine v.tools v.off v.on
 
 -- ---- a line
 
-abbrev pub MayTurn : Setting → JudgeData → Type 0
-MayTurn Off v = Unit {0}
-MayTurn On v = (v.setting ≡ Off) × (v.left ≡ 0)
-
 -- the line comes where the judge stands
 abbrev pub MayJudge : Told → JudgeData → Type 0
 MayJudge tell.Header v = Unit {0}
-MayJudge (tell.Setting s n) v = MayTurn s v
-MayJudge (tell.Motion b) v = (v.setting ≡ b.setting) × (v.left ≡ 0) × (1 ≤ b.pieces_left) × (b.pieces_left ≤ PIECE_LIMIT)
-MayJudge (tell.Piece b p) v = (v.setting ≡ b.setting) × (v.left ≡ b.pieces_left) × (1 ≤ b.pieces_left)
+MayJudge (tell.Setting s n) v = Unit {0}
+MayJudge (tell.Motion b) v = (v.left ≡ 0) × (1 ≤ b.pieces_left) × (b.pieces_left ≤ PIECE_LIMIT)
+MayJudge (tell.Piece b p) v = (v.left ≡ b.pieces_left) × (1 ≤ b.pieces_left)
 MayJudge tell.End v = Unit {0}
 
-abbrev pub IsSame : JudgeData → JudgeData → Type 0
-IsSame old new = (new.setting ≡ old.setting) × (new.left ≡ old.left)
-
-abbrev pub HasTurned : Setting → JudgeData → JudgeData → Type 0
-HasTurned Off old new = IsSame old new
-HasTurned On old new = (new.setting ≡ On) × (new.left ≡ 0)
-
--- where it stands behind the line
-abbrev pub HasJudged : Told → JudgeData → JudgeData → Type 0
-HasJudged tell.Header old new = IsSame old new
-HasJudged (tell.Setting s n) old new = HasTurned s old new
-HasJudged (tell.Motion b) old new = (new.setting ≡ old.setting) × (new.left ≡ b.pieces_left)
-HasJudged (tell.Piece b p) old new = (new.setting ≡ old.setting) × (new.left ≡ b.pieces_left - 1)
-HasJudged tell.End old new = IsSame old new
+-- so many pieces come yet behind the line
+abbrev pub left_behind : Told → ℕ → ℕ
+left_behind tell.Header left = left
+left_behind (tell.Setting s n) left = left
+left_behind (tell.Motion b) left = b.pieces_left
+left_behind (tell.Piece b p) left = b.pieces_left - 1
+left_behind tell.End left = left
 
 -- ---- which line comes next
-
-abbrev pub setting_of : Expected → Setting
-setting_of next.Header = Off
-setting_of (next.Setting s) = Off
-setting_of (next.Motion s left) = s
-setting_of (next.Piece b) = b.setting
-setting_of next.End = On
-setting_of next.Nothing = On
 
 abbrev pub left_of : Expected → ℕ
 left_of next.Header = 0
@@ -108,6 +87,5 @@ left_of next.End = 0
 left_of next.Nothing = 0
 
 -- a judge stands where this line comes next
-pub record IsAt (e : Expected) (v : JudgeData) : Type 0 where
-  pub setting : v.setting ≡ setting_of e
-  pub left : v.left ≡ left_of e
+abbrev pub IsAt : Expected → JudgeData → Type 0
+IsAt e v = v.left ≡ left_of e

@@ -10,7 +10,7 @@ ghost use Rattle.ngc_certificate.specs.PieceFault.{◌or◌};
 ghost use Rattle.ngc_checker.specs.Accepted.{AreCommands};
 ghost use Rattle.ngc_checker.specs.FirstRefusal.{settings_fault};
 ghost use Rattle.ngc_checker.specs.Held.{held};
-ghost use Rattle.ngc_checker.specs.Judging.{MayJudge, HasJudged, commands_in, kept_of, verdict_of};
+ghost use Rattle.ngc_checker.specs.Judging.{MayJudge, kept_of, left_behind, verdict_of};
 
 use crate::accepted::Accepted;
 use crate::fault::CheckFault;
@@ -29,11 +29,9 @@ pub struct Judge<A: Allocator> {
     tools: Tools<A>,
     off: Vec<Command, A>,
     on: Vec<Command, A>,
-    // The first refusal of the settings that are over.
-    refusal: Option<CheckFault>,
-    // The setting whose motions come, and how many pieces of a motion that has begun.
-    setting: Setting,
-    walk: SettingJudge,
+    off_walk: SettingJudge,
+    on_walk: SettingJudge,
+    // How many pieces come yet of a motion that has begun.
     left: u32,
 }
 
@@ -46,20 +44,11 @@ impl<A: Allocator> Model for Judge<A> {
 
     ghost Value = { JudgeData };
 
-    ghost view = { λ j. record { machine = file_of j.machine; tools = tools_of j.tools; off = j.off.items; on = j.on.items; refusal = j.refusal; setting = j.setting; walk = j.walk; left = j.left } };
+    ghost view = { λ j. record { machine = file_of j.machine; tools = tools_of j.tools; off = j.off.items; on = j.on.items; off_walk = j.off_walk; on_walk = j.on_walk; left = j.left } };
 
     ghost coded = { Prim.hlevel (codes, walked.the_row.coded) };
 
-    ghost invariant = { λ j. IsJudge (file_of j.machine) j.off.items j.on.items j.refusal j.setting j.walk j.left };
-}
-
-fn commands_at<'a>(setting: Setting, off: &'a [Command], on: &'a [Command]) -> &'a [Command]
-    ensures { result.now ≡ commands_in setting off.now on.now }
-{
-    match setting {
-        Setting::Off => off,
-        Setting::On => on,
-    }
+    ghost invariant = { λ j. IsJudge (file_of j.machine) j.off.items j.on.items j.off_walk j.on_walk j.left };
 }
 
 fn first_of(first: Option<CheckFault>, later: Option<CheckFault>) -> Option<CheckFault>
@@ -72,8 +61,6 @@ fn first_of(first: Option<CheckFault>, later: Option<CheckFault>) -> Option<Chec
 }
 
 impl<A: Allocator> Judge<A> {
-    ghost use Rattle.ngc_certificate_text.specs.declared.piece.Setting.TheVariants.{Off, On};
-
     /// No line has come yet.
     pub(crate) fn new(
         machine: Machine<A>,
@@ -86,66 +73,57 @@ impl<A: Allocator> Judge<A> {
         requires on { AreCommands (file_of machine).start on.items }
         ensures verdict { (r : Rest) → settings_fault (file_of machine) (Ok off.items) (Ok on.items) (certificate_of r) ≡ verdict_of result r }
         ensures kept { kept_of result ≡ held (file_of machine) (tools_of tools) off.items on.items }
-        ensures setting { result.setting ≡ Off }
         ensures left { result.left ≡ 0 }
     {
-        let walk = SettingJudge::new(&machine);
+        let off_walk = SettingJudge::new(&machine);
+        let on_walk = SettingJudge::new(&machine);
         Judge {
             machine,
             tools,
             off,
             on,
-            refusal: None,
-            setting: Setting::Off,
-            walk,
+            off_walk,
+            on_walk,
             left: 0,
         }
     }
 
-    // The second setting's line.
-    fn turn(&mut self)
-        requires setting { self.old.setting ≡ Off }
-        requires left { self.old.left ≡ 0 }
-        ensures verdict { (r : Rest) → r.off ≡ [] → verdict_of self.old r ≡ verdict_of self.new r }
-        ensures kept { kept_of self.new ≡ kept_of self.old }
-        ensures setting { self.new.setting ≡ On }
-        ensures left { self.new.left ≡ 0 }
-    {
-        let commands = self.off.as_slice();
-        let found = self.walk.finish(&self.machine, Setting::Off, commands);
-        self.refusal = first_of(self.refusal, found);
-        self.walk = SettingJudge::new(&self.machine);
-        self.setting = Setting::On;
-    }
-
     fn motion(&mut self, begun: &BegunMotion)
-        requires setting { self.old.setting ≡ begun.now.setting }
         requires left { self.old.left ≡ 0 }
         requires some { 1 ≤ begun.now.pieces_left }
         requires few { begun.now.pieces_left ≤ PIECE_LIMIT }
         ensures verdict { (r : Rest) → length r.pieces ≡ begun.now.pieces_left → verdict_of self.old (with_motions begun.now.setting (record { index = begun.now.index; pieces = r.pieces } ∷ []) r) ≡ verdict_of self.new r }
         ensures kept { kept_of self.new ≡ kept_of self.old }
-        ensures setting { self.new.setting ≡ self.old.setting }
         ensures left { self.new.left ≡ begun.now.pieces_left }
     {
-        let commands = commands_at(begun.setting, self.off.as_slice(), self.on.as_slice());
-        self.walk
-            .motion(&self.machine, begun.setting, commands, begun);
+        match begun.setting {
+            Setting::Off => {
+                let commands = self.off.as_slice();
+                self.off_walk
+                    .motion(&self.machine, Setting::Off, commands, begun);
+            }
+            Setting::On => {
+                let commands = self.on.as_slice();
+                self.on_walk
+                    .motion(&self.machine, Setting::On, commands, begun);
+            }
+        }
         self.left = begun.pieces_left;
     }
 
+    // Where no motion of a setting has begun, its walk passes the piece by.
     fn piece(&mut self, begun: &BegunMotion, piece: &Piece)
-        requires setting { self.old.setting ≡ begun.now.setting }
         requires left { self.old.left ≡ begun.now.pieces_left }
         requires some { 1 ≤ begun.now.pieces_left }
         ensures verdict { (r : Rest) → length r.pieces + 1 ≡ begun.now.pieces_left → verdict_of self.old (record { pieces = piece.now ∷ r.pieces; off = r.off; on = r.on }) ≡ verdict_of self.new r }
         ensures kept { kept_of self.new ≡ kept_of self.old }
-        ensures setting { self.new.setting ≡ self.old.setting }
         ensures left { self.new.left ≡ begun.now.pieces_left - 1 }
     {
-        self.walk
-            .piece(&self.machine, begun.setting, begun.pieces_left, piece);
-        self.left = begun.pieces_left - 1;
+        let left = begun.pieces_left;
+        self.off_walk
+            .piece(&self.machine, Setting::Off, left, piece);
+        self.on_walk.piece(&self.machine, Setting::On, left, piece);
+        self.left = left - 1;
     }
 
     /// One line more.
@@ -153,20 +131,18 @@ impl<A: Allocator> Judge<A> {
         requires { MayJudge told.now self.old }
         ensures verdict { (r : Rest) → Fits told.now r → verdict_of self.old (onto told.now r) ≡ verdict_of self.new r }
         ensures kept { kept_of self.new ≡ kept_of self.old }
-        ensures judged { HasJudged told.now self.old self.new }
+        ensures left { self.new.left ≡ left_behind told.now self.old.left }
     {
         match told {
-            Told::Setting(Setting::On, _) => self.turn(),
             Told::Motion(begun) => self.motion(begun),
             Told::Piece(begun, piece) => self.piece(begun, piece),
-            Told::Header | Told::Setting(Setting::Off, _) | Told::End => {}
+            Told::Header | Told::Setting(_, _) | Told::End => {}
         }
     }
 
     /// What is answered where no line comes any more.
     pub(crate) fn finish(self) -> Result<Accepted<A>, CheckFault>
-        requires setting { self.setting ≡ On }
-        requires left { self.left ≡ 0 }
+        requires { self.left ≡ 0 }
         ensures { MatchResult result (λ a. (verdict_of self nothing_left ≡ None) × (a ≡ kept_of self)) (λ fault. verdict_of self nothing_left ≡ Some fault) }
     {
         let Judge {
@@ -174,15 +150,13 @@ impl<A: Allocator> Judge<A> {
             tools,
             off,
             on,
-            refusal,
-            setting: _,
-            mut walk,
+            mut off_walk,
+            mut on_walk,
             left: _,
         } = self;
-        if let Some(fault) = refusal {
-            return Err(fault);
-        }
-        match walk.finish(&machine, Setting::On, on.as_slice()) {
+        let first = off_walk.finish(&machine, Setting::Off, off.as_slice());
+        let later = on_walk.finish(&machine, Setting::On, on.as_slice());
+        match first_of(first, later) {
             Some(fault) => Err(fault),
             None => Ok(Accepted::new(machine, tools, off, on)),
         }
