@@ -13,17 +13,17 @@ use Rattle.ngc_checker.specs.Accepted.{AcceptedData, Keeps, IsFirst}
 use Rattle.ngc_checker.specs.CheckView.{GivesVerdict, AnswersSaid, VerdictIsAnswer, text_verdict}
 use Rattle.ngc_checker.specs.FirstRefusal.{first_refusal}
 
-made_ok : {X Y : Type 0} (f : X → Y) (o : Result X CertificateFault) (y : Y) → made_with f o ≡ Ok y → (x : X) × (o ≡ Ok x) × (f x ≡ y)
+pub made_ok : {X Y : Type 0} (f : X → Y) (o : Result X CertificateFault) (y : Y) → made_with f o ≡ Ok y → (x : X) × (o ≡ Ok x) × (f x ≡ y)
 made_ok f (Ok x) y h = (x, refl, cc h)
 made_ok f (Err fault) y h = absurd (cc h)
 
-made_err : {X Y : Type 0} (f : X → Y) (o : Result X CertificateFault) (fault : CertificateFault) → made_with f o ≡ Err fault → o ≡ Err fault
+pub made_err : {X Y : Type 0} (f : X → Y) (o : Result X CertificateFault) (fault : CertificateFault) → made_with f o ≡ Err fault → o ≡ Err fault
 made_err f (Ok x) fault h = absurd (cc h)
 made_err {X} f (Err other) fault h = let same : other ≡ fault = cc h in ap (λ (x : CertificateFault). refused x) same where
   refused : CertificateFault → Result X CertificateFault
   refused x = Err x
 
-first_is : (fault : CheckFault) (o : Option CheckFault) → o ≡ Some fault → IsFirst fault o
+pub first_is : (fault : CheckFault) (o : Option CheckFault) → o ≡ Some fault → IsFirst fault o
 first_is faults.Memory o h = tt
 first_is (faults.Program s e) o h = h
 first_is (faults.MotionsDiffer s k) o h = h

@@ -4,3 +4,4 @@ pub mod WalkLaws
 pub mod JudgeLaws
 pub mod LineJudging
 pub mod AnswerLaw
+pub mod SourceLaws

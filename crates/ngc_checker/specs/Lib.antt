@@ -9,3 +9,4 @@ pub mod Following
 pub mod Judging
 pub mod Checked
 pub mod CheckView
+pub mod CheckSource

@@ -5,10 +5,10 @@ use crate::fault::CheckFault;
 use ngc_certificate_text::CertificateFault;
 use thiserror::Error;
 
-/// Why a certificate whose text comes in pieces isn't accepted.
+/// Why a certificate that is checked as its text comes isn't accepted.
 #[derive(Clone, Copy, Debug, PartialEq, Eq, Error)]
 pub enum CheckReadFault {
-    /// The text is no certificate: 301 to 303.
+    /// The text is no certificate, 301 to 303, or isn't read: 900, 901.
     #[error(transparent)]
     Certificate(CertificateFault),
     /// The certificate is refused: 311 to 318.

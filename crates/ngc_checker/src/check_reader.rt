@@ -1,4 +1,4 @@
-ghost use Rattle.std.specs.Prelude.{◌≡◌, ◌≢◌, ℕ, List, [], ◌+◌, ◌≤◌, ◌++◌, length, MatchResult, OnOk, IfOk, IfSome, Some, None, Ok, Err};
+ghost use Rattle.std.specs.Prelude.{◌≡◌, ◌≢◌, ℕ, List, [], ◌+◌, ◌≤◌, ◌++◌, length, IsTrue, MatchResult, OnOk, IfOk, IfSome, Some, None, Ok, Err};
 ghost use Rattle.std.specs.Result.{result_err};
 ghost use Rattle.ngc_line_reader.specs.Grammar.{Reading};
 ghost use Rattle.ngc_line_reader.specs.ProgramText.{AreReadings};
@@ -142,11 +142,23 @@ impl<A: Allocator> CheckReader<A> {
         }
     }
 
+    // Whether bytes stand behind the end, so that what follows changes nothing.
+    pub(crate) fn goes_too_far(&self) -> bool
+        ensures { IsTrue result → (rest : List ℕ) → outcome_in self.now rest ≡ outcome_in self.now [] }
+    {
+        match self.refusal {
+            None => self.text.goes_too_far(),
+            Some(_) => true,
+        }
+    }
+
     /// What is accepted, where no byte comes any more; else the fault of the text that was answered, or that of a line that is
     /// missing or lacks its line feed; else the first refusal, as `check` has it.
     pub fn finish(self) -> Result<Accepted<A>, CheckReadFault>
         ensures said { GivesVerdict (λ a. a) (kept_in self) result (outcome_in self []) }
         ensures again { IfSome (refusal_in self) (λ fault. result ≡ Err (CheckReadFault.Certificate fault)) }
+        ensures memory { result ≢ Err (CheckReadFault.Certificate CertificateFault.Memory) }
+        ensures device { result ≢ Err (CheckReadFault.Certificate CertificateFault.ReadFailed) }
     {
         let CheckReader { text, refusal } = self;
         match refusal {

@@ -1,4 +1,4 @@
-ghost use Rattle.std.specs.Prelude.{◌≡◌, ◌≢◌, ◌+◌, ◌≤◌, ◌++◌, [], ℕ, List, length, Option, Ok, Err, IfOk, OnOk, MatchResult};
+ghost use Rattle.std.specs.Prelude.{◌≡◌, ◌≢◌, ◌+◌, ◌≤◌, ◌++◌, [], ℕ, List, length, IsTrue, Option, Ok, Err, IfOk, OnOk, MatchResult};
 ghost use Rattle.ngc_certificate_text.specs.Ahead.{Rest};
 ghost use Rattle.ngc_certificate_text.specs.LinesView.{room_of};
 ghost use Rattle.ngc_certificate_text.specs.Parted.{PartsLines};
@@ -59,10 +59,19 @@ impl<A: Allocator> JudgedLines<A> {
         }
     }
 
+    /// Whether bytes stand behind the end of the text.
+    pub(crate) fn goes_too_far(&self) -> bool
+        ensures { IsTrue result → IsJudged self.now → (rest : List ℕ) → judged self.now lines_of rest ≡ judged self.now lines_of [] }
+    {
+        self.lines.goes_too_far()
+    }
+
     /// What is answered, where no byte comes any more.
     pub(crate) fn finish(self) -> Result<Accepted<A>, CheckReadFault>
         requires { IsJudged self }
-        ensures { GivesVerdict (λ a. a) (kept_by self.judge) result (judged self lines_of []) }
+        ensures said { GivesVerdict (λ a. a) (kept_by self.judge) result (judged self lines_of []) }
+        ensures memory { result ≢ Err (CheckReadFault.Certificate CertificateFault.Memory) }
+        ensures device { result ≢ Err (CheckReadFault.Certificate CertificateFault.ReadFailed) }
     {
         let JudgedLines { lines, judge } = self;
         match lines.finish() {

@@ -1,0 +1,23 @@
+-- What the check of a certificate that a source gives comes to. Our own.
+use Rattle.std.specs.Prelude.{◌≡◌, ℕ, List, Some, None, Result, Ok, Err}
+use Rattle.ngc_canonical.specs.Meaning.{Program}
+use Rattle.ngc_canonical.specs.State.{Setup}
+use Rattle.ngc_certificate_text.specs.Pulled.{FailsByReading as FailsByText}
+use Rattle.ngc_certificate_text.specs.Reader.{FaultIs}
+use Rattle.ngc_checker.specs.declared.check_fault.CheckReadFault.{CheckReadFault}
+use Rattle.ngc_checker.specs.declared.check_fault.CheckReadFault.TheVariants as reads
+use Rattle.ngc_checker.specs.Accepted.{AcceptedData, Keeps}
+use Rattle.ngc_checker.specs.CheckView.{text_verdict}
+
+-- exactly: yes where the text has no fault and nothing is refused, with what the checker keeps then; else the text's fault, but for want of
+-- memory and the source's failure, or the first refusal
+abbrev pub AnswersText : {X : Type 0} → (X → AcceptedData) → Program → Setup → List ℕ → Result X CheckReadFault → Type 0
+AnswersText view program setup text (Ok x) = (text_verdict program setup text ≡ Ok None) × Keeps program setup (view x)
+AnswersText view program setup text (Err (reads.Certificate fault)) = FaultIs fault (text_verdict program setup text)
+AnswersText view program setup text (Err (reads.Check fault)) = text_verdict program setup text ≡ Ok (Some fault)
+
+-- the count of failures rises at the answer that the source failed, and stays at every other
+abbrev pub FailsByReading : {X : Type 0} → Result X CheckReadFault → ℕ → ℕ → Type 0
+FailsByReading (Ok x) old new = new ≡ old
+FailsByReading {X} (Err (reads.Certificate fault)) old new = FailsByText {X = X} (Err fault) old new
+FailsByReading (Err (reads.Check fault)) old new = new ≡ old

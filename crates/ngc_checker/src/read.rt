@@ -1,0 +1,62 @@
+ghost use Rattle.std.specs.Prelude.{◌≡◌, List, IfSome, Err};
+ghost use Rattle.ngc_fixed_length.specs.Failures.{Rises};
+ghost use Rattle.ngc_line_reader.specs.Grammar.{Reading};
+ghost use Rattle.ngc_line_reader.specs.ProgramText.{AreReadings};
+ghost use Rattle.ngc_line_reader.specs.ProgramView.{text_in};
+ghost use Rattle.ngc_canonical.specs.Interpreter.{setup_of};
+ghost use Rattle.ngc_canonical.specs.Meaning.{program_said};
+ghost use Rattle.ngc_certificate_text.specs.declared.fault.CertificateFault.TheVariants.{ReadFailed};
+ghost use Rattle.ngc_checker.specs.CheckSource.{AnswersText, FailsByReading};
+
+use crate::accepted::Accepted;
+use crate::check_fault::CheckReadFault;
+use crate::check_reader::CheckReader;
+use ngc_certificate_text::CertificateFault;
+use ngc_fixed_length::Source;
+use ngc_line_reader::Program;
+use ngc_machine::{Machine, Tools};
+use std::alloc::Allocator;
+
+/// Whether the certificate that a source gives shows that a program is safe on a machine with its tools: what `Certificate::read`
+/// and then `check` answer, but the certificate is judged as it comes, and no box of it is kept.
+///
+/// A fault of the text goes before 311 to 318. Memory is asked for before anything is pulled: 900 says nothing of program and
+/// text. No more is pulled once a fault of the text stands or the text has ended.
+pub fn check_source<A: Allocator + Copy, S: Source>(
+    alloc: A,
+    program: &Program<A>,
+    machine: &Machine<A>,
+    tools: &Tools<A>,
+    source: &mut S,
+) -> Result<Accepted<A>, CheckReadFault>
+    // Where the source's bytes are known, and whatever the lines' readings are: each line has one, and only one.
+    ensures said { (rs : List Reading) → AreReadings (text_in program.now).lines rs → IfSome (S.remaining source.old)
+        (λ text. AnswersText (λ a. a) (program_said (text_in program.now) rs) (setup_of machine.now tools.now) text result) }
+    // Only a source that failed is said to have failed.
+    ensures device { result ≡ Err (CheckReadFault.Certificate ReadFailed) → Rises (S.failures source.old) (S.failures source.new) }
+    ensures counted { FailsByReading result (S.failures source.old) (S.failures source.new) }
+{
+    let mut reader = match CheckReader::new(alloc, program, machine, tools) {
+        Ok(reader) => reader,
+        Err(_) => return Err(CheckReadFault::Certificate(CertificateFault::Memory)),
+    };
+    let mut chunk = [0u8; 65_536];
+    loop {
+        let count = match source.pull(&mut chunk) {
+            Ok(count) => count,
+            Err(_) => return Err(CheckReadFault::Certificate(CertificateFault::ReadFailed)),
+        };
+        if count == 0 {
+            return reader.finish();
+        }
+        match reader.feed(&chunk[..count]) {
+            Ok(()) => {}
+            Err(fault) => return Err(CheckReadFault::Certificate(fault)),
+        }
+        // Bytes behind the end are a fault before their line is whole.
+        if reader.goes_too_far() {
+            break;
+        }
+    }
+    reader.finish()
+}
