@@ -1,0 +1,3 @@
+pub mod Extents
+pub mod Rooms
+pub mod Gaps

@@ -1,0 +1,11 @@
+//! What a program does on a machine, in numbers and in words: how far it goes, and with how much room.
+#![tactic(auto)]
+
+mod bounds;
+mod gaps;
+pub mod laws;
+mod travel;
+
+pub use bounds::{extent, reach};
+pub use gaps::gap;
+pub use travel::{AxisRoom, Room};

@@ -1,0 +1,92 @@
+//! What is left to the travel limits.
+ghost use Rattle.std.specs.Prelude.{◌≡◌, ◌≤◌, ◌-ℤ◌, ◌*ℤ◌, unsigned_abs};
+ghost use Rattle.ngc_fixed_length.specs.Length.{IsStep};
+ghost use Rattle.ngc_report.specs.Rooms.{axis_room};
+
+use ngc_fixed_length::{GridBox, Nm};
+use ngc_machine::Machine;
+use std::alloc::Allocator;
+
+/// What is left between a box and the travel limits along an axis, in nanometres. Where the box leaves the travel it is below
+/// zero, by as much as the box leaves it.
+#[derive(Clone, Copy, Debug, PartialEq, Eq)]
+pub struct AxisRoom {
+    pub below: i64,
+    pub above: i64,
+}
+
+/// What is left along each axis. Travel limits needn't lie on the grid, so it is no whole number of steps.
+#[derive(Clone, Copy, Debug, PartialEq, Eq)]
+pub struct Room {
+    pub x: AxisRoom,
+    pub y: AxisRoom,
+    pub z: AxisRoom,
+}
+
+/// So many steps, in nanometres.
+fn nanometres_at(step: Nm, steps: i32) -> i64
+    requires { IsStep step }
+    ensures value { result ≡ steps *ℤ step }
+    ensures bound { unsigned_abs result ≤ 107374182400000 }
+{
+    i64::from(steps) * step.nanometres()
+}
+
+fn room_below(step: Nm, low: i32, least: Nm) -> i64
+    requires { IsStep step }
+    ensures { result ≡ (low *ℤ step) -ℤ least }
+{
+    nanometres_at(step, low) - least.nanometres()
+}
+
+fn room_above(step: Nm, high: i32, greatest: Nm) -> i64
+    requires { IsStep step }
+    ensures { result ≡ greatest -ℤ (high *ℤ step) }
+{
+    greatest.nanometres() - nanometres_at(step, high)
+}
+
+fn axis_room(step: Nm, low: i32, high: i32, least: Nm, greatest: Nm) -> AxisRoom
+    requires { IsStep step }
+    ensures { result ≡ axis_room step low high least greatest }
+{
+    AxisRoom {
+        below: room_below(step, low, least),
+        above: room_above(step, high, greatest),
+    }
+}
+
+impl AxisRoom {
+    ghost use Rattle.ngc_report.specs.Rooms.{is_inside_on};
+
+    /// The box leaves the travel on neither side of the axis.
+    pub fn is_inside(&self) -> bool
+        ensures { result ≡ is_inside_on self.now }
+    {
+        0 <= self.below && 0 <= self.above
+    }
+}
+
+impl Room {
+    ghost use Rattle.ngc_machine.specs.Machine.{file_of};
+    ghost use Rattle.ngc_report.specs.Rooms.{room, is_inside};
+
+    /// What is left to a machine's travel limits about a box of grid points.
+    pub fn about<A: Allocator>(machine: &Machine<A>, bounds: &GridBox) -> Room
+        ensures { result ≡ room (file_of machine.now) bounds.now }
+    {
+        let (low, high) = (&bounds.low, &bounds.high);
+        Room {
+            x: axis_room(machine.step, low.x, high.x, machine.low.x, machine.high.x),
+            y: axis_room(machine.step, low.y, high.y, machine.low.y, machine.high.y),
+            z: axis_room(machine.step, low.z, high.z, machine.low.z, machine.high.z),
+        }
+    }
+
+    /// The box stays within the travel.
+    pub fn is_inside(&self) -> bool
+        ensures { result ≡ is_inside self.now }
+    {
+        self.x.is_inside() && self.y.is_inside() && self.z.is_inside()
+    }
+}
