@@ -1,3 +1,4 @@
 pub mod Extents
 pub mod Rooms
 pub mod Gaps
+pub mod Uses

@@ -5,7 +5,9 @@ mod bounds;
 mod gaps;
 pub mod laws;
 mod travel;
+mod uses;
 
 pub use bounds::{extent, reach};
 pub use gaps::gap;
 pub use travel::{AxisRoom, Room};
+pub use uses::{ToolUse, ToolUses};

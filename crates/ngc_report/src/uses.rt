@@ -1,0 +1,206 @@
+//! The uses of tools in a program.
+ghost use Rattle.std.specs.Prelude.{◌≡◌, ◌∷◌, [], MatchOption, count_by};
+ghost use Rattle.ngc_report.specs.Uses.{is_change, is_traverse, is_feed, is_arc, is_dwell, is_stop, stretch, use_of, moves, changes, tool_uses, uses_left};
+
+use ngc_canonical::{Action, Command, Motion, Pace, Tool, Way};
+
+/// The use of a tool: from the command that mounts it to the next change, or to the end. Its motions are traverses, feeds along
+/// lines, and arcs.
+#[derive(Clone, Copy, Debug, PartialEq, Eq)]
+pub struct ToolUse {
+    /// As it is mounted; `None` without a tool.
+    pub tool: Option<Tool>,
+    pub traverses: usize,
+    pub feeds: usize,
+    pub arcs: usize,
+    pub dwells: usize,
+    /// M0, M1 and M60.
+    pub stops: usize,
+}
+
+/// The uses of tools in a list of commands, one after another: first that without a tool, where something moves before the first
+/// change, and then one for each change. It takes no memory.
+#[derive(Drop)]
+pub struct ToolUses<'a> {
+    first: Option<ToolUse>,
+    later: &'a [Command],
+}
+
+fn is_change(command: &Command) -> bool
+    ensures { result ≡ is_change command.now }
+{
+    match command.action {
+        Action::Mount(_) => true,
+        _ => false,
+    }
+}
+
+fn is_traverse(command: &Command) -> bool
+    ensures { result ≡ is_traverse command.now }
+{
+    match command.action {
+        Action::Move(
+            Motion {
+                way: Way::Line { .. },
+                pace: Pace::Rapid,
+                ..
+            },
+        ) => true,
+        _ => false,
+    }
+}
+
+fn is_feed(command: &Command) -> bool
+    ensures { result ≡ is_feed command.now }
+{
+    match command.action {
+        Action::Move(
+            Motion {
+                way: Way::Line { .. },
+                pace: Pace::Feed(_),
+                ..
+            },
+        ) => true,
+        _ => false,
+    }
+}
+
+fn is_arc(command: &Command) -> bool
+    ensures { result ≡ is_arc command.now }
+{
+    match command.action {
+        Action::Move(
+            Motion {
+                way: Way::Arc(_),
+                ..
+            },
+        ) => true,
+        _ => false,
+    }
+}
+
+fn is_dwell(command: &Command) -> bool
+    ensures { result ≡ is_dwell command.now }
+{
+    match command.action {
+        Action::Dwell(_) => true,
+        _ => false,
+    }
+}
+
+fn is_stop(command: &Command) -> bool
+    ensures { result ≡ is_stop command.now }
+{
+    match command.action {
+        Action::Stop | Action::OptionalStop => true,
+        _ => false,
+    }
+}
+
+/// The commands before the next change.
+fn stretch(commands: &[Command]) -> &[Command]
+    ensures { result.now ≡ stretch commands.now }
+{
+    for (i, command) in commands.iter().enumerate() {
+        if is_change(command) {
+            return &commands[..i];
+        }
+    }
+    commands
+}
+
+fn traverses_in(commands: &[Command]) -> usize
+    ensures { result ≡ count_by is_traverse commands.now }
+{
+    commands.iter().filter(|c| is_traverse(c)).count()
+}
+
+fn feeds_in(commands: &[Command]) -> usize
+    ensures { result ≡ count_by is_feed commands.now }
+{
+    commands.iter().filter(|c| is_feed(c)).count()
+}
+
+fn arcs_in(commands: &[Command]) -> usize
+    ensures { result ≡ count_by is_arc commands.now }
+{
+    commands.iter().filter(|c| is_arc(c)).count()
+}
+
+fn dwells_in(commands: &[Command]) -> usize
+    ensures { result ≡ count_by is_dwell commands.now }
+{
+    commands.iter().filter(|c| is_dwell(c)).count()
+}
+
+fn stops_in(commands: &[Command]) -> usize
+    ensures { result ≡ count_by is_stop commands.now }
+{
+    commands.iter().filter(|c| is_stop(c)).count()
+}
+
+impl ToolUse {
+    /// The use of a tool that is mounted before these commands.
+    pub fn of(tool: Option<Tool>, commands: &[Command]) -> ToolUse
+        ensures { result ≡ use_of tool commands.now }
+    {
+        let commands = stretch(commands);
+        ToolUse {
+            tool,
+            traverses: traverses_in(commands),
+            feeds: feeds_in(commands),
+            arcs: arcs_in(commands),
+            dwells: dwells_in(commands),
+            stops: stops_in(commands),
+        }
+    }
+
+    /// Whether there is a motion.
+    pub fn moves(&self) -> bool
+        ensures { result ≡ moves self.now }
+    {
+        0 < self.traverses || 0 < self.feeds || 0 < self.arcs
+    }
+}
+
+/// The tool of the next change, and the commands behind it.
+fn next_change(commands: &[Command]) -> Option<(Option<Tool>, &[Command])>
+    ensures { MatchOption result (changes commands.now ≡ []) (λ p. changes commands.now ≡ use_of p.0 p.1.now ∷ changes p.1.now) }
+{
+    for (i, command) in commands.iter().enumerate() {
+        if let Action::Mount(tool) = command.action {
+            return Some((tool, &commands[i + 1..]));
+        }
+    }
+    None
+}
+
+impl<'a> ToolUses<'a> {
+    /// All uses.
+    pub fn new(commands: &'a [Command]) -> ToolUses<'a>
+        ensures { uses_left result ≡ tool_uses commands.now }
+    {
+        let bare = ToolUse::of(None, commands);
+        ToolUses {
+            first: if bare.moves() { Some(bare) } else { None },
+            later: commands,
+        }
+    }
+
+    /// The next use, or `None` behind the last one.
+    pub fn next_use(&mut self) -> Option<ToolUse>
+        ensures { MatchOption result (uses_left self.old ≡ []) (λ u. uses_left self.old ≡ u ∷ uses_left self.new) }
+    {
+        if let Some(first) = self.first {
+            self.first = None;
+            return Some(first);
+        }
+        match next_change(self.later) {
+            None => None,
+            Some((tool, later)) => {
+                self.later = later;
+                Some(ToolUse::of(tool, later))
+            }
+        }
+    }
+}
