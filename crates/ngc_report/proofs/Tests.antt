@@ -4,7 +4,9 @@ use Rattle.std.specs.Prelude.{Bool, ◌&&◌, ◌||◌, int_le}
 use Rattle.std.specs.Int.{int_max}
 use Rattle.std.proofs.lemmas.Int.{ints, clamps}
 use Rattle.ngc_report.specs.Gaps.{GapTells}
+use Rattle.ngc_report.specs.Margins.{narrower, TightestTells}
 use Rattle.ngc_report.specs.Rooms.{RoomTells}
+use Rattle.ngc_report.specs.declared.margins.Margin.{Margin}
 
 le_of : (a b : ℤ) → int_le a b ≡ true → a ≤ℤ b
 le_of a b h = grind (arith, ints)
@@ -49,3 +51,17 @@ pub gap_law : GapTells
 gap_law f b =
     simp (le_max, le_sub)
     (flat (int_le b.high.x f.low.x) (int_le f.high.x b.low.x) (int_le b.high.y f.low.y) (int_le f.high.y b.low.y) (int_le b.high.z f.low.z) (int_le f.high.z b.low.z))
+
+-- the lesser of two isn't below 0 exactly where both aren't
+least_left : (m n : Margin) → int_le (pos 0) (narrower m n).left ≡ (int_le (pos 0) m.left && int_le (pos 0) n.left)
+least_left m n = grind (arith, ints)
+
+triples : (p q r s t u : Bool) → ((p && q) && ((r && s) && (t && u))) ≡ (((p && q) && (r && s)) && (t && u))
+triples false q r s t u = refl
+triples true false r s t u = refl
+triples true true r s t u = refl
+
+pub tightest_law : TightestTells
+tightest_law r =
+    simp least_left
+    (triples (int_le (pos 0) r.x.below) (int_le (pos 0) r.x.above) (int_le (pos 0) r.y.below) (int_le (pos 0) r.y.above) (int_le (pos 0) r.z.below) (int_le (pos 0) r.z.above))

@@ -2,3 +2,5 @@ pub mod Extents
 pub mod Rooms
 pub mod Gaps
 pub mod Uses
+pub mod Margins
+pub mod Scenes

@@ -4,10 +4,14 @@
 mod bounds;
 mod gaps;
 pub mod laws;
+mod margins;
+mod scene;
 mod travel;
 mod uses;
 
 pub use bounds::{extent, reach};
 pub use gaps::gap;
+pub use margins::{Axis, Margin, Side};
+pub use scene::{Obstacle, Scene};
 pub use travel::{AxisRoom, Room};
 pub use uses::{ToolUse, ToolUses};

@@ -1,0 +1,62 @@
+//! Where a box comes nearest to the travel limits, or leaves them farthest.
+ghost use Rattle.std.specs.Prelude.{◌≡◌};
+ghost use Rattle.ngc_report.specs.Margins.{narrower, axis_margin, tightest};
+
+use crate::travel::{AxisRoom, Room};
+
+/// An axis of the machine.
+#[derive(Clone, Copy, Debug, PartialEq, Eq)]
+pub enum Axis {
+    X,
+    Y,
+    Z,
+}
+
+/// A side of the travel along an axis.
+#[derive(Clone, Copy, Debug, PartialEq, Eq)]
+pub enum Side {
+    Below,
+    Above,
+}
+
+/// What is left on one side of the travel, in nanometres; below zero by how much a box leaves it there.
+#[derive(Clone, Copy, Debug, PartialEq, Eq)]
+pub struct Margin {
+    pub axis: Axis,
+    pub side: Side,
+    pub left: i64,
+}
+
+fn narrower(one: Margin, other: Margin) -> Margin
+    ensures { result ≡ narrower one other }
+{
+    if other.left < one.left { other } else { one }
+}
+
+fn axis_margin(axis: Axis, room: &AxisRoom) -> Margin
+    ensures { result ≡ axis_margin axis room.now }
+{
+    let below = Margin {
+        axis,
+        side: Side::Below,
+        left: room.below,
+    };
+    let above = Margin {
+        axis,
+        side: Side::Above,
+        left: room.above,
+    };
+    narrower(below, above)
+}
+
+impl Room {
+    /// The side with the least room; of sides with as little the first, in the order X below, X above, Y below and on.
+    pub fn tightest(&self) -> Margin
+        ensures { result ≡ tightest self.now }
+    {
+        let x = axis_margin(Axis::X, &self.x);
+        let y = axis_margin(Axis::Y, &self.y);
+        let z = axis_margin(Axis::Z, &self.z);
+        narrower(narrower(x, y), z)
+    }
+}
