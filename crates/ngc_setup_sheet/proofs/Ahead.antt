@@ -1,0 +1,68 @@
+-- How far lines are written, where others come behind them.
+use Rattle.std.proofs.Common.{◌≡◌, ℕ, List, [], ◌++◌, Option, Some, None, Result, Ok, Err, ap, sym, subst, ◌∙◌, refl}
+use Rattle.std.proofs.lemmas.List.{append_assoc, append-nil}
+use Rattle.std.proofs.lemmas.List.Concat.{flat_map-append}
+use Rattle.std.specs.Io.KnownBytes.{Appends}
+use Rattle.ngc_fixed_length.specs.Written.{AppendsBeginning}
+use Rattle.ngc_fixed_length.specs.declared.writing.WriteFault.{WriteFault}
+use Rattle.ngc_output.specs.Collected.{WritesFront}
+use Rattle.ngc_certificate_text.proofs.Fronts.{front_more, front_stopped, longer}
+use Rattle.ngc_setup_sheet.specs.Writes.{Writes}
+use Rattle.ngc_setup_sheet.specs.Spelling.{line_text, lines_text}
+use Rattle.ngc_setup_sheet.specs.declared.line.Line.{Line}
+
+-- of a whole some lines are written, and the rest is still to come
+pub record Ahead (old now : Option (List ℕ)) (before chunk : List ℕ) (rest whole : List Line) : Type 0 where
+  pub done : List Line
+  pub splits : whole ≡ done ++ rest
+  pub front : WritesFront old now (before ++ lines_text done) chunk
+
+joined : (before : List ℕ) (a b : List Line) → (before ++ lines_text a) ++ lines_text b ≡ before ++ lines_text (a ++ b)
+joined before a b =
+    append_assoc before (lines_text a) (lines_text b) ∙ ap (λ l. before ++ l) (sym (flat_map-append (line_text) a b))
+
+-- nothing is written yet
+pub appends_none : (o : Option (List ℕ)) → Appends o o []
+appends_none None = tt
+appends_none (Some xs) = sym (append-nil xs)
+
+pub begun : (old : Option (List ℕ)) (before : List ℕ) (whole : List Line) → Ahead old old before before whole whole
+begun old before whole = record { done = []; splits = refl; front = ([], appends_none old, append-nil before) }
+
+-- some more are written
+pub went : (old mid new : Option (List ℕ)) (before between after : List ℕ) (more rest left whole : List Line) → left ≡ more ++ rest
+    → Ahead old mid before between left whole → WritesFront mid new (between ++ lines_text more) after → Ahead old new before after rest whole
+went old mid new before between after more rest left whole is h k = record {
+  done = h.done ++ more;
+  splits = h.splits ∙ ap (λ l. h.done ++ l) is ∙ sym (append_assoc h.done more rest);
+  front =
+      subst (λ (l : List ℕ). WritesFront old new l after) (joined before h.done more)
+      (front_more old mid new (before ++ lines_text h.done) between after (lines_text more) h.front k);
+}
+
+-- a write fails among them
+pub stopped : (old mid new : Option (List ℕ)) (before between : List ℕ) (more rest left whole : List Line) → left ≡ more ++ rest
+    → Ahead old mid before between left whole → AppendsBeginning mid new (between ++ lines_text more) → AppendsBeginning old new (before ++ lines_text whole)
+stopped old mid new before between more rest left whole is h k =
+    let so_far : AppendsBeginning old new (before ++ lines_text (h.done ++ more)) =
+    subst (λ (l : List ℕ). AppendsBeginning old new l) (joined before h.done more)
+    (front_stopped old mid new (before ++ lines_text h.done) between (lines_text more) h.front k) in
+    let all : (h.done ++ more) ++ rest ≡ whole = append_assoc h.done more rest ∙ ap (λ l. h.done ++ l) (sym is) ∙ sym h.splits in
+    subst (λ (l : List ℕ). AppendsBeginning old new l) (joined before (h.done ++ more) rest ∙ ap (λ l. before ++ lines_text l) all)
+    (longer old new (before ++ lines_text (h.done ++ more)) (lines_text rest) so_far)
+
+-- the last are written, or not
+pub last : (r : Result (Unit {0}) WriteFault) (old mid new : Option (List ℕ)) (before between after : List ℕ) (left whole : List Line)
+    → Ahead old mid before between left whole → Writes mid new between after r left → Writes old new before after r whole
+last (Ok u) old mid new before between after left whole h k =
+    subst (λ (l : List ℕ). WritesFront old new l after) (joined before h.done left ∙ ap (λ l. before ++ lines_text l) (sym h.splits))
+    (front_more old mid new (before ++ lines_text h.done) between after (lines_text left) h.front k)
+last (Err e) old mid new before between after left whole h k =
+    stopped old mid new before between left [] left whole (sym (append-nil left)) h k
+
+-- nothing is left
+pub finished : (old now : Option (List ℕ)) (before chunk : List ℕ) (rest whole : List Line) → rest ≡ []
+    → Ahead old now before chunk rest whole → WritesFront old now (before ++ lines_text whole) chunk
+finished old now before chunk rest whole none h =
+    subst (λ (l : List ℕ). WritesFront old now l chunk)
+    (ap (λ l. before ++ lines_text l) (sym (h.splits ∙ ap (λ l. h.done ++ l) none ∙ append-nil h.done))) h.front

@@ -1,0 +1,60 @@
+use Rattle.std.proofs.Common.{List, ◌++◌, flat_map, refl, subst}
+use Rattle.ngc_fixed_length.specs.Written.{AppendsBeginning}
+use Rattle.ngc_output.specs.Collected.{WritesFront}
+use Rattle.ngc_machine.specs.Machine.{file_of}
+use Rattle.ngc_setup_sheet.specs.Reaches.{reach_of}
+use Rattle.ngc_setup_sheet.specs.Sheets.{machine_lines, fixtures_from, tool_lines, sheet}
+use Rattle.ngc_setup_sheet.specs.Spelling.{lines_text}
+use Rattle.ngc_setup_sheet.specs.declared.reach.Reach.{Reach}
+use Rattle.ngc_setup_sheet.specs.declared.line.Line.{Line}
+use Rattle.ngc_setup_sheet.proofs.Ahead.{Ahead, begun, went, stopped, last}
+use Rattle.ngc_setup_sheet.proofs.sheet.write_all.Goals as goal
+
+pub returns-in-Err-clause-written : goal.returns-in-Err-clause-written
+returns-in-Err-clause-written g c =
+    let m = file_of c.args.machine.now in
+    let ts = c.args.tools.now in
+    let behind : List Line = fixtures_from m (reach_of ts) 0 m.fixtures ++ flat_map tool_lines ts in
+    stopped (g.W.Sink.written c.args.sink.now) (g.W.Sink.written c.args.sink.now) (g.W.Sink.written c.write_lines.new.sink) c.args.chunk.now c.args.chunk.now
+    (machine_lines m) behind (sheet m ts) (sheet m ts) refl (begun (g.W.Sink.written c.args.sink.now) c.args.chunk.now (sheet m ts))
+    (rw (c.as_slice.ensures.value, c.machine_lines-lines.ensures) at c.in-Err.ensures.written)
+
+pub returns-in-Err-write_fixtures-clause-written : goal.returns-in-Err-write_fixtures-clause-written
+returns-in-Err-write_fixtures-clause-written g c =
+    let m = file_of c.args.machine.now in
+    let ts = c.args.tools.now in
+    let fixtures : List Line = fixtures_from m (reach_of ts) 0 m.fixtures in
+    let behind : List Line = fixtures ++ flat_map tool_lines ts in
+    let first : Ahead (g.W.Sink.written c.args.sink.now) (g.W.Sink.written c.write_lines.new.sink) c.args.chunk.now c.write_lines.new.chunk
+    behind (sheet m ts) =
+    went (g.W.Sink.written c.args.sink.now) (g.W.Sink.written c.args.sink.now) (g.W.Sink.written c.write_lines.new.sink)
+    c.args.chunk.now c.args.chunk.now c.write_lines.new.chunk
+    (machine_lines m) behind (sheet m ts) (sheet m ts) refl (begun (g.W.Sink.written c.args.sink.now) c.args.chunk.now (sheet m ts))
+    (rw (c.as_slice.ensures.value, c.machine_lines-lines.ensures) at c.in-Ok.ensures.written) in
+    stopped (g.W.Sink.written c.args.sink.now) (g.W.Sink.written c.write_lines.new.sink) (g.W.Sink.written c.write_fixtures.new.sink)
+    c.args.chunk.now c.write_lines.new.chunk
+    fixtures (flat_map tool_lines ts) behind (sheet m ts) refl first
+    (subst (λ (r : Reach). AppendsBeginning (g.W.Sink.written c.write_lines.new.sink) (g.W.Sink.written c.write_fixtures.new.sink)
+    (c.write_lines.new.chunk ++ lines_text (fixtures_from m r 0 m.fixtures)))
+    c.of.ensures.value c.in-Err-write_fixtures.ensures.written)
+
+pub returns-clause-written : goal.returns-clause-written
+returns-clause-written g c =
+    let m = file_of c.args.machine.now in
+    let ts = c.args.tools.now in
+    let fixtures : List Line = fixtures_from m (reach_of ts) 0 m.fixtures in
+    let behind : List Line = fixtures ++ flat_map tool_lines ts in
+    let first : Ahead (g.W.Sink.written c.args.sink.now) (g.W.Sink.written c.write_lines.new.sink) c.args.chunk.now c.write_lines.new.chunk
+    behind (sheet m ts) =
+    went (g.W.Sink.written c.args.sink.now) (g.W.Sink.written c.args.sink.now) (g.W.Sink.written c.write_lines.new.sink)
+    c.args.chunk.now c.args.chunk.now c.write_lines.new.chunk
+    (machine_lines m) behind (sheet m ts) (sheet m ts) refl (begun (g.W.Sink.written c.args.sink.now) c.args.chunk.now (sheet m ts))
+    (rw (c.as_slice.ensures.value, c.machine_lines-lines.ensures) at c.in-Ok.ensures.written) in
+    last c.write_tools.result (g.W.Sink.written c.args.sink.now) (g.W.Sink.written c.write_fixtures.new.sink) (g.W.Sink.written c.write_tools.new.sink)
+    c.args.chunk.now c.write_fixtures.new.chunk c.write_tools.new.chunk (flat_map tool_lines ts) (sheet m ts)
+    (went (g.W.Sink.written c.args.sink.now) (g.W.Sink.written c.write_lines.new.sink) (g.W.Sink.written c.write_fixtures.new.sink)
+    c.args.chunk.now c.write_lines.new.chunk c.write_fixtures.new.chunk
+    fixtures (flat_map tool_lines ts) behind (sheet m ts) refl first
+    (subst (λ (r : Reach). WritesFront (g.W.Sink.written c.write_lines.new.sink) (g.W.Sink.written c.write_fixtures.new.sink)
+    (c.write_lines.new.chunk ++ lines_text (fixtures_from m r 0 m.fixtures)) c.write_fixtures.new.chunk)
+    c.of.ensures.value c.in-Ok-write_fixtures.ensures.written)) c.write_tools.ensures.written

@@ -1,0 +1,35 @@
+-- A machine's rates as speeds and accelerations. Our own.
+use Rattle.std.specs.Prelude.{ℕ, ◌+◌, ◌*◌, ◌/◌, unsigned_abs}
+use Rattle.ngc_machine.specs.Machine.{MachineFile}
+
+-- how many units a number has, to the nearest; halves go up
+abbrev pub rounded : ℕ → ℕ → ℕ
+rounded number unit = (2 * number + unit) / (2 * unit)
+
+-- the speed of a step a tick, in nanometres a second
+abbrev pub step_speed : MachineFile → ℕ
+step_speed m = unsigned_abs m.step * m.ticks_per_second
+
+-- the speed of a rate: of so many millionths of a step a tick, in millionths of a nanometre a second
+abbrev pub speed : MachineFile → ℕ → ℕ
+speed m rate = rate * step_speed m
+
+-- so many steps a tick more in each tick, in nanometres per second squared
+abbrev pub gain : MachineFile → ℕ → ℕ
+gain m steps = steps * (step_speed m * m.ticks_per_second)
+
+-- ---- in thousandths of what a shop counts in
+
+abbrev pub steps_a_millimetre : MachineFile → ℕ
+steps_a_millimetre m = rounded 1000000000 (unsigned_abs m.step)
+
+abbrev pub millimetres_a_minute : MachineFile → ℕ → ℕ
+millimetres_a_minute m rate = rounded (60 * speed m rate) 1000000000
+
+-- of a change of the rate, in millionths
+abbrev pub acceleration : MachineFile → ℕ → ℕ
+acceleration m change = rounded (gain m change) 1000000000
+
+-- towards the centre of an arc: the square of the speed is at most this times the radius
+abbrev pub arc_acceleration : MachineFile → ℕ → ℕ
+arc_acceleration m turn = rounded (gain m turn) 1000000000000000

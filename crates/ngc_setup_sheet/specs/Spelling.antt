@@ -1,0 +1,102 @@
+-- How the lines of a setup sheet are spelled. Our own.
+use Rattle.std.specs.Prelude.{ℕ, ◌+◌, ◌*◌, ◌/◌, ◌%◌, ◌==◌, ℤ, pos, negsuc, ◌-ℤ◌, unsigned_abs, List, [], ◌∷◌, ◌++◌, take, flat_map, codes, decimal, if◌then◌else◌}
+use Rattle.ngc_fixed_length.specs.declared.points.Point3.{Point3}
+use Rattle.ngc_setup_sheet.specs.declared.line.Axis.TheVariants as axes
+use Rattle.ngc_setup_sheet.specs.declared.line.Fact.{Fact}
+use Rattle.ngc_setup_sheet.specs.declared.line.Fact.TheVariants as facts
+use Rattle.ngc_setup_sheet.specs.declared.line.Figure.{Figure}
+use Rattle.ngc_setup_sheet.specs.declared.line.Figure.TheVariants as figures
+use Rattle.ngc_setup_sheet.specs.declared.line.Line.{Line}
+use Rattle.ngc_setup_sheet.specs.declared.line.Line.TheVariants as lines
+use Rattle.ngc_setup_sheet.specs.declared.line.Span.{Span}
+use Rattle.ngc_setup_sheet.specs.declared.line.Warning.{Warning}
+use Rattle.ngc_setup_sheet.specs.declared.line.Warning.TheVariants as warnings
+
+-- a point and six digits; 48 is the code of 0
+abbrev pub decimals : ℕ → List ℕ
+decimals n =
+    46 ∷ (48 + n / 100000) ∷ (48 + n / 10000 % 10) ∷ (48 + n / 1000 % 10) ∷ (48 + n / 100 % 10) ∷ (48 + n / 10 % 10) ∷ (48 + n % 10) ∷ []
+
+-- how many of these are written: no noughts at the end, and no point alone
+abbrev pub kept : ℕ → ℕ
+kept n =
+    if n == 0 then 0 else (if n % 100000 == 0 then 2 else (if n % 10000 == 0 then 3 else (if n % 1000 == 0 then 4
+    else (if n % 100 == 0 then 5 else (if n % 10 == 0 then 6 else 7)))))
+
+-- a whole number and millionths
+unfoldable pub number_text : ℕ → ℕ → List ℕ
+number_text whole millionths = decimal whole ++ take (kept millionths) (decimals millionths)
+
+-- a size in nanometres as millimetres
+abbrev pub size_text : ℕ → List ℕ
+size_text n = number_text (n / 1000000) (n % 1000000)
+
+abbrev pub thousandths_text : ℕ → List ℕ
+thousandths_text n = number_text (n / 1000) (1000 * (n % 1000))
+
+abbrev pub sign_text : ℤ → List ℕ
+sign_text (pos n) = []
+sign_text (negsuc n) = codes "-"
+
+unfoldable pub length_text : ℤ → List ℕ
+length_text z = sign_text z ++ size_text (unsigned_abs z)
+
+abbrev pub span_text : Span → List ℕ
+span_text s = length_text s.low ++ codes " to " ++ length_text s.high ++ codes " mm, " ++ size_text (unsigned_abs (s.high -ℤ s.low)) ++ codes " mm long"
+
+abbrev pub place_text : Point3 → List ℕ
+place_text p = codes "X " ++ length_text p.x ++ codes " Y " ++ length_text p.y ++ codes " Z " ++ length_text p.z ++ codes " mm"
+
+unfoldable pub fact_text : Fact → List ℕ
+fact_text facts.Step = codes "  step                  "
+fact_text facts.Steps = codes "  steps                 "
+fact_text facts.Ticks = codes "  ticks                 "
+fact_text facts.GreatestSpeed = codes "  greatest speed        "
+fact_text facts.CornerSpeed = codes "  speed at corners      "
+fact_text facts.Acceleration = codes "  acceleration          "
+fact_text facts.ArcAcceleration = codes "  acceleration on arcs  "
+fact_text (facts.Speed axes.X) = codes "  speed of X            "
+fact_text (facts.Speed axes.Y) = codes "  speed of Y            "
+fact_text (facts.Speed axes.Z) = codes "  speed of Z            "
+fact_text (facts.Travel axes.X) = codes "  travel on X           "
+fact_text (facts.Travel axes.Y) = codes "  travel on Y           "
+fact_text (facts.Travel axes.Z) = codes "  travel on Z           "
+fact_text facts.Start = codes "  start                 "
+fact_text facts.Home = codes "  home of G28           "
+fact_text facts.SecondHome = codes "  home of G30           "
+fact_text (facts.Extent axes.X) = codes "  on X                  "
+fact_text (facts.Extent axes.Y) = codes "  on Y                  "
+fact_text (facts.Extent axes.Z) = codes "  on Z                  "
+fact_text facts.Offset = codes "  length offset         "
+fact_text facts.Part = codes "  part                  "
+
+unfoldable pub figure_text : Figure → List ℕ
+figure_text (figures.Length z) = length_text z ++ codes " mm"
+figure_text (figures.PerMillimetre n) = thousandths_text n ++ codes " a mm"
+figure_text (figures.PerSecond n) = decimal n ++ codes " a second"
+figure_text (figures.Speed n) = thousandths_text n ++ codes " mm/min"
+figure_text (figures.Acceleration n) = thousandths_text n ++ codes " mm/s^2"
+figure_text (figures.Span s) = span_text s
+figure_text (figures.Place p) = place_text p
+figure_text (figures.Part s diameter) = span_text s ++ codes ", diameter " ++ length_text diameter ++ codes " mm"
+
+unfoldable pub warning_text : Warning → List ℕ
+warning_text warnings.Speed = codes "the greatest speed is not from 0.1 to 1000 mm/s\n"
+warning_text warnings.Acceleration = codes "the acceleration is not from 1 to 20000 mm/s^2\n"
+warning_text (warnings.Travel axes.X) = codes "the travel on X is less than 10 mm\n"
+warning_text (warnings.Travel axes.Y) = codes "the travel on Y is less than 10 mm\n"
+warning_text (warnings.Travel axes.Z) = codes "the travel on Z is less than 10 mm\n"
+warning_text (warnings.Thin n) = codes "fixture " ++ decimal n ++ codes " is thinner than 0.1 mm: its corners are in nanometres\n"
+warning_text (warnings.OutOfReach n) = codes "fixture " ++ decimal n ++ codes " is where no tool reaches\n"
+warning_text (warnings.Short n) = codes "tool " ++ decimal n ++ codes " is shorter than 1 mm: lengths are in nanometres\n"
+warning_text (warnings.Offset n) = codes "tool " ++ decimal n ++ codes " has an offset of more than twice or less than half its length\n"
+
+abbrev pub line_text : Line → List ℕ
+line_text lines.Machine = codes "machine\n"
+line_text (lines.Fixture n) = codes "fixture " ++ decimal n ++ codes "\n"
+line_text (lines.Tool n) = codes "tool " ++ decimal n ++ codes "\n"
+line_text (lines.Fact f figure) = fact_text f ++ figure_text figure ++ codes "\n"
+line_text (lines.Warning w) = codes "warning: " ++ warning_text w
+
+abbrev pub lines_text : List Line → List ℕ
+lines_text told = flat_map line_text told

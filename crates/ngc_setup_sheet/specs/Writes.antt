@@ -1,0 +1,10 @@
+-- Lines on their way to a sink. Our own.
+use Rattle.std.specs.Prelude.{ℕ, List, Option, Result}
+use Rattle.ngc_fixed_length.specs.declared.writing.WriteFault.{WriteFault}
+use Rattle.ngc_certificate_text.specs.Collects.{Collects}
+use Rattle.ngc_setup_sheet.specs.Spelling.{lines_text}
+use Rattle.ngc_setup_sheet.specs.declared.line.Line.{Line}
+
+-- the text of lines comes behind what was collected; where a write fails, a beginning of both is written
+abbrev pub Writes : Option (List ℕ) → Option (List ℕ) → List ℕ → List ℕ → Result (Unit {0}) WriteFault → List Line → Type 0
+Writes old new before after result told = Collects old new before after result (lines_text told)

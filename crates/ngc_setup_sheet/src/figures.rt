@@ -1,0 +1,84 @@
+//! A machine's rates as speeds and accelerations.
+ghost use Rattle.std.specs.Prelude.{◌≡◌, ◌≤◌, ◌<◌, ◌*◌, ◌^◌, unsigned_abs};
+ghost use Rattle.ngc_fixed_length.specs.Length.{IsStep};
+ghost use Rattle.ngc_machine.specs.Machine.{file_of};
+ghost use Rattle.ngc_machine.specs.Ranges.{IsRate};
+ghost use Rattle.ngc_setup_sheet.specs.Figures.{rounded, step_speed, speed, gain, millimetres_a_minute, acceleration, arc_acceleration, steps_a_millimetre};
+
+use ngc_fixed_length::Nm;
+use ngc_machine::Machine;
+use std::alloc::Allocator;
+
+/// How many units a number has: to the nearest, halves upwards.
+fn rounded(number: u128, unit: u128) -> u128
+    requires number { number < 2 ^ 120 }
+    requires some { 0 < unit }
+    requires unit { unit < 2 ^ 120 }
+    ensures { result ≡ rounded number unit }
+{
+    (2 * number + unit) / (2 * unit)
+}
+
+fn size_of(step: Nm) -> u64
+    requires { IsStep step }
+    ensures value { result ≡ unsigned_abs step }
+    ensures least { 1 ≤ result }
+    ensures greatest { result ≤ 50000 }
+{
+    step.nanometres().unsigned_abs()
+}
+
+/// The speed of a step a tick, in nanometres a second.
+fn step_speed<A: Allocator>(machine: &Machine<A>) -> u64
+    ensures value { result ≡ step_speed (file_of machine.now) }
+    ensures bound { result ≤ 50000000000 }
+{
+    size_of(machine.step) * u64::from(machine.ticks_per_second)
+}
+
+/// The speed of a rate, in millionths of a nanometre a second.
+pub(crate) fn speed<A: Allocator>(machine: &Machine<A>, rate: u32) -> u64
+    requires { IsRate rate }
+    ensures value { result ≡ speed (file_of machine.now) rate }
+    ensures bound { result ≤ 50000000000000000 }
+{
+    u64::from(rate) * step_speed(machine)
+}
+
+/// So many steps a tick each tick, in nanometres per second squared.
+pub(crate) fn gain<A: Allocator>(machine: &Machine<A>, steps: u64) -> u128
+    requires { steps ≤ 1000000000000 }
+    ensures value { result ≡ gain (file_of machine.now) steps }
+    ensures bound { result ≤ 50000000000000000000000000000 }
+{
+    u128::from(steps) * (u128::from(step_speed(machine)) * u128::from(machine.ticks_per_second))
+}
+
+/// Steps a millimetre, in thousandths.
+pub(crate) fn steps_a_millimetre<A: Allocator>(machine: &Machine<A>) -> u128
+    ensures { result ≡ steps_a_millimetre (file_of machine.now) }
+{
+    rounded(1_000_000_000, u128::from(size_of(machine.step)))
+}
+
+/// The speed of a rate, in thousandths of a millimetre a minute.
+pub(crate) fn millimetres_a_minute<A: Allocator>(machine: &Machine<A>, rate: u32) -> u128
+    requires { IsRate rate }
+    ensures { result ≡ millimetres_a_minute (file_of machine.now) rate }
+{
+    rounded(60 * u128::from(speed(machine, rate)), 1_000_000_000)
+}
+
+/// The acceleration along the path, in thousandths of a millimetre per second squared.
+pub(crate) fn acceleration<A: Allocator>(machine: &Machine<A>) -> u128
+    ensures { result ≡ acceleration (file_of machine.now) (file_of machine.now).change }
+{
+    rounded(gain(machine, u64::from(machine.change)), 1_000_000_000)
+}
+
+/// The greatest acceleration towards the centre of an arc, in thousandths of a millimetre per second squared.
+pub(crate) fn arc_acceleration<A: Allocator>(machine: &Machine<A>) -> u128
+    ensures { result ≡ arc_acceleration (file_of machine.now) (file_of machine.now).turn }
+{
+    rounded(gain(machine, machine.turn), 1_000_000_000_000_000)
+}

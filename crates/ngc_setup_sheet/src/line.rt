@@ -1,0 +1,99 @@
+use ngc_fixed_length::Point3;
+
+#[derive(Clone, Copy)]
+pub enum Axis {
+    X,
+    Y,
+    Z,
+}
+
+/// From a coordinate or a height to another, in nanometres.
+#[derive(Clone, Copy)]
+pub struct Span {
+    pub low: i64,
+    pub high: i64,
+}
+
+/// What a line with a figure tells.
+#[derive(Clone, Copy)]
+pub enum Fact {
+    /// The step length.
+    Step,
+    /// Steps a millimetre.
+    Steps,
+    Ticks,
+    GreatestSpeed,
+    CornerSpeed,
+    Acceleration,
+    ArcAcceleration,
+    /// The greatest speed of a motion that may move the axis.
+    Speed(Axis),
+    Travel(Axis),
+    Start,
+    /// The home position of G28.
+    Home,
+    /// The home position of G30.
+    SecondHome,
+    /// A fixture's extent on the axis.
+    Extent(Axis),
+    /// What G43 takes.
+    Offset,
+    /// A part of a tool.
+    Part,
+}
+
+/// A number with its unit. Lengths are nanometres, and what is rounded is in thousandths of the unit.
+#[derive(Clone, Copy)]
+pub enum Figure {
+    Length(i64),
+    PerMillimetre(u128),
+    PerSecond(u32),
+    /// In thousandths of a millimetre a minute.
+    Speed(u128),
+    /// In thousandths of a millimetre per second squared.
+    Acceleration(u128),
+    Span(Span),
+    Place(Point3),
+    /// The heights from the controlled point between which a part of a tool lies, and its diameter.
+    Part(Span, i64),
+}
+
+/// What looks wrong in a machine file or in a tool table.
+#[derive(Clone, Copy)]
+pub enum Warning {
+    Speed,
+    Acceleration,
+    Travel(Axis),
+    /// A thin fixture, by its number.
+    Thin(usize),
+    /// A fixture out of reach, by its number.
+    OutOfReach(usize),
+    /// A short tool, by its number.
+    Short(u32),
+    /// A tool whose offset isn't its length, by its number.
+    Offset(u32),
+}
+
+/// A line of a setup sheet.
+#[derive(Clone, Copy)]
+pub enum Line {
+    /// What follows is of the machine.
+    Machine,
+    /// What follows is of the fixture with this number.
+    Fixture(usize),
+    /// What follows is of the tool with this number.
+    Tool(u32),
+    Fact(Fact, Figure),
+    Warning(Warning),
+}
+
+impl Default for Line {
+    ghost use Rattle.std.specs.Prelude.{◌≡◌};
+    ghost use Rattle.ngc_setup_sheet.specs.declared.line.Line.TheVariants as lines;
+
+    ghost is_default = { λ line. line ≡ lines.Machine };
+
+    fn default() -> Line {
+        Line::Machine
+    }
+}

@@ -1,0 +1,157 @@
+//! How far the tools of a table reach.
+ghost use Rattle.std.specs.Prelude.{◌≡◌, ◌≤◌, ◌+◌, ◌+ℤ◌, ◌-ℤ◌, ◌||◌, unsigned_abs, int_le};
+ghost use Rattle.std.specs.Int.{int_min, int_max};
+ghost use Rattle.ngc_machine.specs.Machine.{file_of};
+ghost use Rattle.ngc_setup_sheet.specs.Reaches.{IsReach, top_of, widest, nothing, with_tool, reach_of, is_beyond, is_out_of_reach};
+
+use ngc_fixed_length::Nm;
+use ngc_machine::{Fixture, Machine, Part, Parts, Tool};
+use std::alloc::Allocator;
+
+/// How far the bodies of tools go from the controlled point, in nanometres: to each side, down, and up.
+#[derive(Clone, Copy)]
+pub(crate) struct Reach {
+    pub radius: i64,
+    pub bottom: i64,
+    pub top: i64,
+}
+
+fn lesser(a: i64, b: i64) -> i64
+    requires left { unsigned_abs a ≤ 1000000000000 }
+    requires right { unsigned_abs b ≤ 1000000000000 }
+    ensures value { result ≡ int_min a b }
+    ensures bound { unsigned_abs result ≤ 1000000000000 }
+{
+    a.min(b)
+}
+
+fn greater(a: i64, b: i64) -> i64
+    requires left { unsigned_abs a ≤ 1000000000000 }
+    requires right { unsigned_abs b ≤ 1000000000000 }
+    ensures value { result ≡ int_max a b }
+    ensures bound { unsigned_abs result ≤ 1000000000000 }
+{
+    a.max(b)
+}
+
+/// Where a part ends that stands on this height.
+pub(crate) fn end_of(foot: i64, part: &Part) -> i64
+    requires { unsigned_abs foot ≤ 1000000000000 }
+    ensures value { result ≡ foot +ℤ part.now.length }
+    ensures bound { unsigned_abs result ≤ unsigned_abs foot + 100000000000 }
+{
+    foot + part.length.nanometres()
+}
+
+/// Where parts end of which the lowest stands on this height.
+pub(crate) fn top_of(foot: Nm, parts: &Parts) -> i64
+    ensures value { result ≡ top_of foot parts.now }
+    ensures bound { unsigned_abs result ≤ 500000000000 }
+{
+    let mut top = foot.nanometres();
+    for part in parts.as_slice() {
+        top = end_of(top, part);
+    }
+    top
+}
+
+fn widest(radius: i64, parts: &Parts) -> i64
+    requires { unsigned_abs radius ≤ 1000000000000 }
+    ensures value { result ≡ widest radius parts.now }
+    ensures bound { unsigned_abs result ≤ 1000000000000 }
+{
+    let mut most = radius;
+    for part in parts.as_slice() {
+        most = greater(most, part.radius.nanometres());
+    }
+    most
+}
+
+impl Reach {
+    fn with_tool(&self, tool: &Tool) -> Reach
+        requires { IsReach self.now }
+        ensures value { result ≡ with_tool self.now tool.now }
+        ensures bound { IsReach result }
+    {
+        Reach {
+            radius: widest(self.radius, &tool.parts),
+            bottom: lesser(self.bottom, tool.bottom.nanometres()),
+            top: greater(self.top, top_of(tool.bottom, &tool.parts)),
+        }
+    }
+
+    /// Of all of these tools, and of the controlled point itself.
+    pub(crate) fn of(tools: &[Tool]) -> Reach
+        ensures value { result ≡ reach_of tools.now }
+        ensures bound { IsReach result }
+    {
+        let mut reach = Reach {
+            radius: 0,
+            bottom: 0,
+            top: 0,
+        };
+        for tool in tools {
+            reach = reach.with_tool(tool);
+        }
+        reach
+    }
+}
+
+fn lowered(place: Nm, by: i64) -> i64
+    requires { unsigned_abs by ≤ 1000000000000 }
+    ensures { result ≡ place -ℤ by }
+{
+    place.nanometres() - by
+}
+
+fn raised(place: Nm, by: i64) -> i64
+    requires { unsigned_abs by ≤ 1000000000000 }
+    ensures { result ≡ place +ℤ by }
+{
+    place.nanometres() + by
+}
+
+fn is_beyond(low: i64, high: i64, other_low: Nm, other_high: Nm) -> bool
+    ensures { result ≡ is_beyond low high other_low other_high }
+{
+    high <= other_low.nanometres() || other_high.nanometres() <= low
+}
+
+fn is_beside(low: Nm, high: Nm, reach: &Reach, other_low: Nm, other_high: Nm) -> bool
+    requires { IsReach reach.now }
+    ensures { result ≡ is_beyond (low -ℤ reach.now.radius) (high +ℤ reach.now.radius) other_low other_high }
+{
+    is_beyond(
+        lowered(low, reach.radius),
+        raised(high, reach.radius),
+        other_low,
+        other_high,
+    )
+}
+
+fn is_above_or_below(low: Nm, high: Nm, reach: &Reach, other_low: Nm, other_high: Nm) -> bool
+    requires { IsReach reach.now }
+    ensures { result ≡ is_beyond (low +ℤ reach.now.bottom) (high +ℤ reach.now.top) other_low other_high }
+{
+    is_beyond(
+        raised(low, reach.bottom),
+        raised(high, reach.top),
+        other_low,
+        other_high,
+    )
+}
+
+/// Whether a fixture lies where no tool comes, wherever within the travel the machine stands.
+pub(crate) fn is_out_of_reach<A: Allocator>(
+    machine: &Machine<A>,
+    reach: &Reach,
+    fixture: &Fixture,
+) -> bool
+    requires { IsReach reach.now }
+    ensures { result ≡ is_out_of_reach (file_of machine.now) reach.now fixture.now }
+{
+    let Fixture { low, high } = *fixture;
+    is_beside(machine.low.x, machine.high.x, reach, low.x, high.x)
+        || is_beside(machine.low.y, machine.high.y, reach, low.y, high.y)
+        || is_above_or_below(machine.low.z, machine.high.z, reach, low.z, high.z)
+}

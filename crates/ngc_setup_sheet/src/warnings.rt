@@ -1,0 +1,53 @@
+//! What looks wrong in a machine file or in a tool table.
+ghost use Rattle.std.specs.Prelude.{◌≡◌, ◌||◌};
+ghost use Rattle.ngc_machine.specs.Machine.{file_of};
+ghost use Rattle.ngc_setup_sheet.specs.Warnings.{is_odd_speed, is_odd_acceleration, is_shorter, is_thin, is_short_tool, is_odd_offset};
+
+use crate::figures::{gain, speed};
+use crate::reach::top_of;
+use ngc_fixed_length::Nm;
+use ngc_machine::{Fixture, Machine, Tool};
+use std::alloc::Allocator;
+
+pub(crate) fn is_odd_speed<A: Allocator>(machine: &Machine<A>) -> bool
+    ensures { result ≡ is_odd_speed (file_of machine.now) }
+{
+    let greatest = speed(machine, machine.max_rate);
+    greatest < 100_000_000_000 || 1_000_000_000_000_000 < greatest
+}
+
+pub(crate) fn is_odd_acceleration<A: Allocator>(machine: &Machine<A>) -> bool
+    ensures { result ≡ is_odd_acceleration (file_of machine.now) }
+{
+    let greatest = gain(machine, u64::from(machine.change));
+    greatest < 1_000_000_000_000 || 20_000_000_000_000_000 < greatest
+}
+
+/// Whether two coordinates are less than so many nanometres apart.
+pub(crate) fn is_shorter(least: i64, low: Nm, high: Nm) -> bool
+    ensures { result ≡ is_shorter least low high }
+{
+    high.nanometres() - low.nanometres() < least
+}
+
+pub(crate) fn is_thin(fixture: &Fixture) -> bool
+    ensures { result ≡ is_thin fixture.now }
+{
+    is_shorter(100_000, fixture.low.x, fixture.high.x)
+        || is_shorter(100_000, fixture.low.y, fixture.high.y)
+        || is_shorter(100_000, fixture.low.z, fixture.high.z)
+}
+
+pub(crate) fn is_short_tool(tool: &Tool) -> bool
+    ensures { result ≡ is_short_tool tool.now }
+{
+    top_of(Nm::zero(), &tool.parts) < 1_000_000
+}
+
+pub(crate) fn is_odd_offset(tool: &Tool) -> bool
+    ensures { result ≡ is_odd_offset tool.now }
+{
+    let long = top_of(Nm::zero(), &tool.parts);
+    let offset = tool.offset.nanometres();
+    2 * long < offset || 2 * offset < long
+}
