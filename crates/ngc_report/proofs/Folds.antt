@@ -1,0 +1,34 @@
+-- The nearest, one element further.
+use Rattle.std.proofs.Common.{◌≡◌, ℕ, ◌+◌, ◌<◌, ◌≤◌, List, [], ◌∷◌, ◌++◌, length, get_or, drop, flat_map, Option, ap, sym, ◌∙◌, refl}
+use Rattle.std.specs.Prelude.{fold, map}
+use Rattle.std.proofs.lemmas.List.{drop_more, at_drop_all}
+use Rattle.std.proofs.lemmas.List.Concat.{flat_map-cons}
+use Rattle.std.proofs.lemmas.List.Sums.{fold-append}
+use Rattle.ngc_machine.specs.declared.machine.Fixture.{Fixture}
+use Rattle.ngc_collision.specs.Body.{Solid}
+use Rattle.ngc_report.specs.Gaps.{gap}
+use Rattle.ngc_report.specs.Nearing.{nearer, distances}
+use Rattle.ngc_report.specs.declared.nearest.Nearest.{Nearest}
+
+pub next_of : {X : Type 0} (f : X → List Nearest) (best : Option Nearest) (xs : List X) (i : ℕ) (x : X) → i < length xs → x ≡ get_or xs i x
+    → fold nearer (fold nearer best (f x)) (flat_map f (drop (i + 1) xs)) ≡ fold nearer best (flat_map f (drop i xs))
+next_of f best xs i x inside found =
+    sym (fold-append nearer best (f x) (flat_map f (drop (i + 1) xs)))
+    ∙ ap (λ y. fold nearer best (f y ++ flat_map f (drop (i + 1) xs))) found
+    ∙ ap (fold nearer best) (sym (flat_map-cons f (get_or xs i x) (drop (i + 1) xs)))
+    ∙ ap (λ l. fold nearer best (flat_map f l)) (sym (drop_more xs i x inside))
+
+pub next_fixture : (best : Option Nearest) (fs : List Fixture) (b : Solid) (i : ℕ) (f : Fixture) → i < length fs → f ≡ get_or fs i f
+    → fold nearer (nearer best (record { fixture = i; distance = gap f b })) (distances (i + 1) (drop (i + 1) fs) b) ≡ fold nearer best (distances i (drop i fs) b)
+next_fixture best fs b i f inside found =
+    ap (λ (x : Fixture). fold nearer (nearer best (record { fixture = i; distance = gap x b })) (distances (i + 1) (drop (i + 1) fs) b)) found
+    ∙ ap (λ l. fold nearer best (distances i l b)) (sym (drop_more fs i f inside))
+
+-- none is left
+pub none_left : {X : Type 0} (f : X → List Nearest) (best : Option Nearest) (xs : List X) (i : ℕ) → length xs ≤ i → fold nearer best (flat_map f (drop i xs)) ≡ best
+none_left f best xs i behind = at_drop_all (λ l. fold nearer best (flat_map f l)) xs i behind
+
+pub flat_mapped : {X Y : Type 0} (f : Y → List Nearest) (h : X → Y) (xs : List X) → flat_map f (map h xs) ≡ flat_map (λ x. f (h x)) xs
+flat_mapped f h [] = refl
+flat_mapped f h (x ∷ xs) =
+    flat_map-cons f (h x) (map h xs) ∙ ap (λ l. f (h x) ++ l) (flat_mapped f h xs) ∙ sym (flat_map-cons (λ y. f (h y)) x xs)

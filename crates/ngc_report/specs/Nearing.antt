@@ -1,0 +1,39 @@
+-- How near the bodies of tools come to fixtures. Our own.
+use Rattle.std.specs.Prelude.{ℕ, ◌+◌, nat_lt, int_lt, List, [], ◌∷◌, fold, flat_map, Option, Some, None, Bool, ◌&&◌, ◌||◌, if◌then◌else◌}
+use Rattle.std.specs.Ordering.{int_eq}
+use Rattle.ngc_fixed_length.specs.declared.points.GridBox.{GridBox}
+use Rattle.ngc_machine.specs.Machine.{MachineFile}
+use Rattle.ngc_machine.specs.declared.machine.Fixture.{Fixture}
+use Rattle.ngc_machine.specs.declared.tools.Tool.{Tool}
+use Rattle.ngc_certificate_text.specs.Certificate.{Entry}
+use Rattle.ngc_certificate_text.specs.declared.piece.Piece.{Piece}
+use Rattle.ngc_collision.specs.Body.{Solid, bodies, span}
+use Rattle.ngc_report.specs.Gaps.{gap}
+use Rattle.ngc_report.specs.declared.nearest.Nearest.{Nearest}
+
+-- of two as near the one with the lower number counts as nearer
+abbrev pub is_nearer : Nearest → Nearest → Bool
+is_nearer m n = int_lt m.distance n.distance || (int_eq m.distance n.distance && nat_lt m.fixture n.fixture)
+
+abbrev pub nearer : Option Nearest → Nearest → Option Nearest
+nearer None n = Some n
+nearer (Some m) n = if is_nearer n m then Some n else Some m
+
+-- the distances of a box from fixtures, numbered from i
+abbrev pub distances : ℕ → List Fixture → Solid → List Nearest
+distances i [] b = []
+distances i (f ∷ fs) b = record { fixture = i; distance = gap f b } ∷ distances (i + 1) fs b
+
+-- those of the parts of a tool, over a box of places, over pieces, and over motions
+abbrev pub around : MachineFile → Option Tool → GridBox → List Nearest
+around machine tool b = flat_map (distances 0 machine.fixtures) (bodies tool (span machine.step b))
+
+abbrev pub over_pieces : MachineFile → Option Tool → List Piece → List Nearest
+over_pieces machine tool pieces = flat_map (λ p. around machine tool p.bounds) pieces
+
+abbrev pub over_motion : MachineFile → Option Tool → Entry → List Nearest
+over_motion machine tool e = over_pieces machine tool e.pieces
+
+-- the nearest of all
+abbrev pub nearest : MachineFile → Option Tool → List Entry → Option Nearest
+nearest machine tool motions = fold nearer None (flat_map (over_motion machine tool) motions)

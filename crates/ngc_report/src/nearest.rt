@@ -1,0 +1,107 @@
+//! How near the bodies of tools come to fixtures.
+ghost use Rattle.std.specs.Prelude.{◌≡◌, ◌<◌, ◌≤◌, ◌^◌, unsigned_abs, length, fold, flat_map, take, drop};
+ghost use Rattle.ngc_collision.specs.Inside.{solid_of};
+ghost use Rattle.ngc_machine.specs.Machine.{file_of};
+ghost use Rattle.ngc_report.specs.Nearing.{is_nearer, nearer, distances, around, over_pieces};
+
+use crate::gaps::gap;
+use ngc_canonical::{Machine, Tool};
+use ngc_certificate_text::{Motions, Piece};
+use ngc_collision::Solid;
+use ngc_fixed_length::GridBox;
+use std::alloc::Allocator;
+
+/// The fixture that is nearest, by its number from 0, and its distance in nanometres. It is below zero where the two overlap.
+#[derive(Clone, Copy, Debug, PartialEq, Eq)]
+pub struct Nearest {
+    pub fixture: u32,
+    pub distance: i128,
+}
+
+fn is_nearer(fixture: u32, distance: i128, other: &Nearest) -> bool
+    requires { unsigned_abs distance < 2 ^ 70 }
+    ensures { result ≡ is_nearer (record { fixture = fixture; distance = distance }) other.now }
+{
+    distance < other.distance || distance == other.distance && fixture < other.fixture
+}
+
+fn nearer(best: Option<Nearest>, fixture: u32, distance: i128) -> Option<Nearest>
+    requires { unsigned_abs distance < 2 ^ 70 }
+    ensures { result ≡ nearer best (record { fixture = fixture; distance = distance }) }
+{
+    match best {
+        Some(other) if !is_nearer(fixture, distance, &other) => Some(other),
+        _ => Some(Nearest { fixture, distance }),
+    }
+}
+
+/// The nearer of the nearest so far and every fixture.
+fn nearest_to<A: Allocator>(
+    machine: &Machine<A>,
+    solid: &Solid,
+    best: Option<Nearest>,
+) -> Option<Nearest>
+    ensures { result ≡ fold nearer best (distances 0 (file_of machine.now).fixtures (solid_of solid.now)) }
+{
+    let mut nearest = best;
+    for (i, fixture) in machine.fixtures.iter().enumerate() {
+        nearest = nearer(nearest, i as u32, gap(fixture, solid));
+    }
+    nearest
+}
+
+fn nearest_around<A: Allocator>(
+    machine: &Machine<A>,
+    tool: Option<Tool>,
+    bounds: &GridBox,
+    best: Option<Nearest>,
+) -> Option<Nearest>
+    ensures { result ≡ fold nearer best (around (file_of machine.now) tool bounds.now) }
+{
+    let parts = Solid::swept(machine.step, tool, bounds);
+    let mut nearest = best;
+    for solid in parts.as_slice() {
+        nearest = nearest_to(machine, solid, nearest);
+    }
+    nearest
+}
+
+fn nearest_over<A: Allocator>(
+    machine: &Machine<A>,
+    tool: &Option<Tool>,
+    pieces: &[Piece],
+    best: Option<Nearest>,
+) -> Option<Nearest>
+    ensures { result ≡ fold nearer best (over_pieces (file_of machine.now) tool.now pieces.now) }
+{
+    let mut nearest = best;
+    for piece in pieces {
+        nearest = nearest_around(machine, *tool, &piece.bounds, nearest);
+    }
+    nearest
+}
+
+impl Nearest {
+    ghost use Rattle.ngc_report.specs.Nearing.{nearest};
+
+    /// The nearest fixture over all pieces of the motions from `first` to before `end`, which are made with this tool: of those
+    /// as near the one with the lowest number. `None` without fixtures or without motions.
+    ///
+    /// `end` is at most the number of motions.
+    pub fn over<A: Allocator, B: Allocator>(
+        machine: &Machine<A>,
+        tool: &Option<Tool>,
+        motions: &Motions<B>,
+        first: usize,
+        end: usize,
+    ) -> Option<Nearest>
+        requires { end ≤ length motions.now }
+        ensures { result ≡ nearest (file_of machine.now) tool.now (drop first (take end motions.now)) }
+    {
+        let mut nearest = None;
+        for i in first..end {
+            nearest = nearest_over(machine, tool, motions.pieces(i), nearest);
+        }
+        nearest
+    }
+}
