@@ -16,9 +16,9 @@ use Rattle.ngc_certificate_text.specs.Clamped.{clamped, at_most_eight}
 use Rattle.ngc_certificate_text.specs.Lines.{is_count, is_step, are_steps, good_box, ranged, boxed, one_count, two_counts, line_piece, arc_piece}
 
 -- a test that is the same of a clamped number, and where it holds the number isn't clamped
-record Same (test : ℤ → Bool) (z : ℤ) : Type 0 where
-  same : test (clamped z) ≡ test z
-  kept : test z ≡ true → clamped z ≡ z
+pub record Same (test : ℤ → Bool) (z : ℤ) : Type 0 where
+  pub same : test (clamped z) ≡ test z
+  pub kept : test z ≡ true → clamped z ≡ z
 
 -- ---- sizes
 
@@ -44,7 +44,7 @@ at_most n m = swap (cases_lt m n) where
   swap (inl a) = inr a
   swap (inr b) = inl b
 
-same_count : (least greatest : ℕ) (z : ℤ) → greatest ≤ 9000000000 → Same (is_count least greatest) z
+pub same_count : (least greatest : ℕ) (z : ℤ) → greatest ≤ 9000000000 → Same (is_count least greatest) z
 same_count least greatest (pos n) low = count_at least greatest n low (at_most n 10000000000)
 same_count least greatest (negsuc n) low = record { same = refl; kept = λ t. absurd (cc t) }
 
@@ -89,7 +89,7 @@ same_within (negsuc n) = within_neg n (at_most n 9999999999)
 
 -- ---- what is ranged
 
-ranged_same : {X : Type 0} (g h : Bool) (x y : X) → g ≡ h → (h ≡ true → x ≡ y) → ranged g x ≡ ranged h y
+pub ranged_same : {X : Type 0} (g h : Bool) (x y : X) → g ≡ h → (h ≡ true → x ≡ y) → ranged g x ≡ ranged h y
 ranged_same {X} g true x y e k = rw e (ap ok (k refl)) where
   ok : X → Result X LineFlaw
   ok x = Ok x

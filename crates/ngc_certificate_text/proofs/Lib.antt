@@ -1,4 +1,7 @@
 pub mod HeldLaws
+pub mod OrderLaws
+pub mod EntryLaws
+pub mod Taken
 pub mod NumberLaws
 pub mod FieldLaws
 pub mod LineLaws
@@ -9,6 +12,7 @@ pub mod StepLemmas
 pub mod PartLemmas
 pub mod ClampLaws
 pub mod WordLemmas
+pub mod EntryWords
 pub mod Feeds
 pub mod AheadLaws
 pub mod NextLaws
@@ -16,6 +20,7 @@ pub mod FoundLaws
 pub mod Parting
 pub mod TextLaws
 pub mod ReaderLaws
+pub mod GivenLaws
 mod Examples
 pub mod Fronts
 pub mod Spelled

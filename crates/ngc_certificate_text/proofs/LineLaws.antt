@@ -37,7 +37,7 @@ joined_lacks x (y ∷ ys) h =
     list_all-append (λ b. not (b == 10)) x (32 ∷ join_with_byte 32 (y ∷ ys)) ∙ and_from _ _ parts.0 (joined_lacks y ys parts.1)
 
 -- each behind a space
-pub behind_length : List (List ℕ) → ℕ
+unfoldable pub behind_length : List (List ℕ) → ℕ
 behind_length [] = 0
 behind_length (x ∷ xs) = 1 + length x + behind_length xs
 
@@ -65,7 +65,7 @@ pub record AreWords (w : List ℕ) (ws : List (List ℕ)) : Type 0 where
   pub feedless : list_all (lacks 10) (w ∷ ws) ≡ true
   pub short : length w + behind_length ws ≤ 80
 
-text_is_line : (w : List ℕ) (ws : List (List ℕ)) (zs : List ℤ) → AreWords w ws → AreSmall zs → length zs ≤ 8 → IsLine (line_text w ws zs)
+pub text_is_line : (w : List ℕ) (ws : List (List ℕ)) (zs : List ℤ) → AreWords w ws → AreSmall zs → length zs ≤ 8 → IsLine (line_text w ws zs)
 text_is_line w ws zs words small few =
     let parts = and_parts (lacks 10 w) (list_all (lacks 10) ws) words.feedless in
     record {
@@ -75,11 +75,11 @@ text_is_line w ws zs words small few =
 
 -- ---- ranges
 
-ranged_ok : {X : Type 0} (good : Bool) (x y : X) → ranged good x ≡ Ok y → (good ≡ true) × (x ≡ y)
+pub ranged_ok : {X : Type 0} (good : Bool) (x y : X) → ranged good x ≡ Ok y → (good ≡ true) × (x ≡ y)
 ranged_ok true x y h = (refl, cc h)
 ranged_ok false x y h = absurd (cc h)
 
-count_from : (least greatest n : ℕ) → least ≤ n → n ≤ greatest → is_count least greatest (pos n) ≡ true
+pub count_from : (least greatest n : ℕ) → least ≤ n → n ≤ greatest → is_count least greatest (pos n) ≡ true
 count_from least greatest n low high = grind (arith, nat_tests)
 
 pub record Counted (least greatest : ℕ) (z : ℤ) : Type 0 where
@@ -87,7 +87,7 @@ pub record Counted (least greatest : ℕ) (z : ℤ) : Type 0 where
   pub low : least ≤ unsigned_abs z
   pub high : unsigned_abs z ≤ greatest
 
-counted : (least greatest : ℕ) (z : ℤ) → is_count least greatest z ≡ true → Counted least greatest z
+pub counted : (least greatest : ℕ) (z : ℤ) → is_count least greatest z ≡ true → Counted least greatest z
 counted least greatest (pos n) h = let p = and_parts (nat_le least n) (nat_le n greatest) h in record { is = refl; low = grind (arith, nat_tests, p.0); high = grind (arith, nat_tests, p.1) }
 counted least greatest (negsuc n) h = absurd (cc h)
 
@@ -173,13 +173,13 @@ motion_reads i n hi some hn =
     ap two_counts (line_numbers (codes "motion") [] (pos i ∷ pos n ∷ []) refl (omega arith, (omega arith, tt)))
     ∙ ap (λ (b : Bool). ranged b (record { index = i; pieces = n })) (and_from _ _ (count_from 0 INDEX_LIMIT i (omega arith) hi) (count_from 1 PIECE_LIMIT n some hn))
 
-record TwoCounts (o : Option (List ℤ)) (m : MotionLine) : Type 0 where
-  is : o ≡ Some (pos m.index ∷ pos m.pieces ∷ [])
-  index : m.index ≤ INDEX_LIMIT
-  some : 1 ≤ m.pieces
-  few : m.pieces ≤ PIECE_LIMIT
+pub record TwoCounts (o : Option (List ℤ)) (m : MotionLine) : Type 0 where
+  pub is : o ≡ Some (pos m.index ∷ pos m.pieces ∷ [])
+  pub index : m.index ≤ INDEX_LIMIT
+  pub some : 1 ≤ m.pieces
+  pub few : m.pieces ≤ PIECE_LIMIT
 
-two_counts_ok : (o : Option (List ℤ)) (m : MotionLine) → two_counts o ≡ Ok m → TwoCounts o m
+pub two_counts_ok : (o : Option (List ℤ)) (m : MotionLine) → two_counts o ≡ Ok m → TwoCounts o m
 two_counts_ok None m h = absurd (cc h)
 two_counts_ok (Some []) m h = absurd (cc h)
 two_counts_ok (Some (x ∷ [])) m h = absurd (cc h)

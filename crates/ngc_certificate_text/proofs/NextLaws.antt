@@ -1,26 +1,37 @@
 -- What a line tells is what comes of the text.
 use Rattle.std.proofs.Common.{◌≡◌, ℕ, zero, suc, ◌+◌, ◌-◌, ◌*◌, ◌≤◌, ap, subst, Bool, true, false, Result, Ok, Err, List, [], ◌∷◌, length, refl, sym, ◌∙◌, arith}
-use Rattle.std.specs.Prelude.{nat_le, codes, IfOk, if◌then◌else◌}
-use Rattle.std.specs.Str.{bytes_eq}
+use Rattle.std.specs.Prelude.{nat_le, nat_lt, not, ◌&&◌, ◌==◌, IfOk}
+use Rattle.std.proofs.lemmas.Bool.{and_parts}
 use Rattle.std.proofs.lemmas.Bool.Decides.{nat_tests}
 use Rattle.ngc_certificate_text.specs.declared.expected.Expected.{Expected}
 use Rattle.ngc_certificate_text.specs.declared.expected.Expected.TheVariants as next
 use Rattle.ngc_certificate_text.specs.declared.expected.BegunMotion.{BegunMotion}
 use Rattle.ngc_certificate_text.specs.declared.fault.CertificateFault.{CertificateFault}
-use Rattle.ngc_certificate_text.specs.declared.fault.CertificateFault.TheVariants as faults
 use Rattle.ngc_certificate_text.specs.declared.lines.LineFlaw.{LineFlaw}
 use Rattle.ngc_certificate_text.specs.declared.lines.LineFlaw.TheVariants.{Spelling}
-use Rattle.ngc_certificate_text.specs.declared.lines.MotionLine.{MotionLine}
+use Rattle.ngc_certificate_text.specs.declared.expected.EntriesLeft.{EntriesLeft}
+use Rattle.ngc_certificate_text.specs.declared.expected.Indices.{Indices}
+use Rattle.ngc_certificate_text.specs.declared.expected.Indices.TheVariants as of
+use Rattle.ngc_certificate_text.specs.declared.expected.MotionsLeft.{MotionsLeft}
+use Rattle.ngc_certificate_text.specs.declared.expected.MotionsLeft.TheVariants.{Parted, Joined}
+use Rattle.ngc_certificate_text.specs.declared.lines.CountsLine.{CountsLine}
+use Rattle.ngc_certificate_text.specs.declared.lines.EntryLine.{EntryLine}
 use Rattle.ngc_certificate_text.specs.declared.piece.Piece.{Piece}
 use Rattle.ngc_certificate_text.specs.declared.piece.Setting.{Setting}
 use Rattle.ngc_certificate_text.specs.declared.piece.Setting.TheVariants.{Off, On}
 use Rattle.ngc_certificate_text.specs.declared.told.Told.{Told}
 use Rattle.ngc_certificate_text.specs.declared.told.Told.TheVariants as tell
-use Rattle.ngc_certificate_text.specs.Ahead.{Rest, Left, left_from, made_with, name_of, next_of_motions, IsSound, lines_ahead, lines_behind}
+use Rattle.ngc_certificate_text.specs.declared.told.Version.{Version}
+use Rattle.ngc_certificate_text.specs.declared.told.Version.TheVariants.{One, Two}
+use Rattle.ngc_certificate_text.specs.Ahead.{Rest, Left, left_from, made_with, name_of, index_at, of_version, next_of_entries, next_of_motions, motions_behind, HaveSome, AreOpen, IsSound, lines_ahead, lines_of_motions}
+use Rattle.ngc_certificate_text.specs.Certificate.{INDEX_LIMIT}
+use Rattle.ngc_certificate_text.specs.EntryLines.{version_said, counts_said, none_left, may_come, left_behind, all_left}
+use Rattle.ngc_certificate_text.specs.Joined.{good_indices}
 use Rattle.ngc_certificate_text.specs.Lines.{setting_said, motion_said, piece_said, end_said}
 use Rattle.ngc_certificate_text.specs.Said.{next_number, fault_at}
-use Rattle.ngc_certificate_text.specs.Told.{onto, Fits, IsFront, behind_piece, behind_told, IsNext, told_with, motion_told, told_by, fault_of}
-use Rattle.ngc_certificate_text.proofs.AheadLaws.{begun, two_left, nothing_said, setting_flawed, motion_flawed, piece_flawed, end_flawed, header_read, header_wrong, setting_read, motion_read, piece_read, last_read, end_read, left_fits, left_off, left_none}
+use Rattle.ngc_certificate_text.specs.Told.{onto, Fits, IsFront, behind_version, behind_piece, behind_told, left_at, taken_at, IsNext, told_with, counts_told, any_said, motion_told, told_by, fault_of}
+use Rattle.ngc_certificate_text.proofs.AheadLaws.{begun, of_parted, header_ended, two_left, nothing_said, setting_flawed, counts_flawed, motion_flawed, piece_flawed, end_flawed, header_read, header_wrong, setting_read, counts_read, motion_read, piece_read, last_read, end_read, left_fits, left_none}
+use Rattle.ngc_certificate_text.proofs.EntryLaws.{total, entry_spelled, counts_spelled, least, some_on, more_on}
 use Rattle.ngc_certificate_text.proofs.LineLaws.{setting_spelled, motion_spelled, piece_spelled}
 
 -- ---- a line that is right
@@ -54,10 +65,6 @@ mapped : {X : Type 0} {P Q : X → Type 0} (r : Result X CertificateFault) → (
 mapped (Ok x) f h = f x h
 mapped (Err fault) f h = tt
 
-setting_fits : (s : Setting) (n number : ℕ) (lines : List (List ℕ)) → IfOk (left_from (next_of_motions s n) number lines) (λ r. Fits (tell.Setting s n) r)
-setting_fits Off n number lines = always (left_from (next_of_motions Off n) number lines) (λ r. tt)
-setting_fits On n number lines = left_off n number lines
-
 -- one piece of a motion
 piece_ahead : (b : BegunMotion) (last : Bool) (number : ℕ) (lines : List (List ℕ)) → 1 ≤ b.pieces_left → nat_le b.pieces_left 1 ≡ last
     → left_from (next.Piece (record b { pieces_left = b.pieces_left - 1 })) number lines ≡ left_from (behind_piece last b) number lines
@@ -78,47 +85,56 @@ module _ (number : ℕ) (line after : List ℕ) (left : List (List ℕ)) (short 
       (piece_read line after left number b p some short e)
       (mapped (left_from (next.Piece one) (next_number number) (after ∷ left)) (λ r h. omega (arith, h, some)) (left_fits one (next_number number) (after ∷ left))))
 
-  motion_front : (s : Setting) (n : ℕ) (m : MotionLine) → 1 ≤ n → motion_said line ≡ Ok m
-      → IsFront (motion_told s n m) (left_from (next.Motion s n) number (line ∷ after ∷ left)) (left_from (behind_told (motion_told s n m)) (next_number number) (after ∷ left))
-  motion_front s n m some e =
-      front (motion_told s n m) (left_from (next.Motion s n) number (line ∷ after ∷ left)) (left_from (next.Piece (begun s m (n - 1))) (next_number number) (after ∷ left))
-      (motion_read line after left number s n m some short e) (left_fits (begun s m (n - 1)) (next_number number) (after ∷ left))
+  motion_front : (m : MotionsLeft) (e : EntryLine) → HaveSome m → any_said m line ≡ Ok e
+      → IsFront (motion_told m e) (left_from (next.Motion m) number (line ∷ after ∷ left)) (left_from (behind_told (motion_told m e)) (next_number number) (after ∷ left))
+  motion_front m e some h =
+      front (motion_told m e) (left_from (next.Motion m) number (line ∷ after ∷ left)) (left_from (next.Piece (begun m e)) (next_number number) (after ∷ left))
+      (motion_read line after left number m e some short h) (left_fits (begun m e) (next_number number) (after ∷ left))
 
   setting_front : (s : Setting) (n : ℕ) → setting_said (name_of s) line ≡ Ok n
       → IsFront (tell.Setting s n) (left_from (next.Setting s) number (line ∷ after ∷ left)) (left_from (behind_told (tell.Setting s n)) (next_number number) (after ∷ left))
   setting_front s n e =
-      front_same (tell.Setting s n) (left_from (next.Setting s) number (line ∷ after ∷ left)) (left_from (next_of_motions s n) (next_number number) (after ∷ left))
-      (setting_read line after left number s n short e) (λ r. refl) (setting_fits s n (next_number number) (after ∷ left))
+      front_same (tell.Setting s n) (left_from (next.Setting s) number (line ∷ after ∷ left)) (left_from (next_of_motions (Parted s n)) (next_number number) (after ∷ left))
+      (setting_read line after left number s n short e) (λ r. refl) (always (left_from (next_of_motions (Parted s n)) (next_number number) (after ∷ left)) (λ r. tt))
+
+  counts_front : (c : CountsLine) → counts_said line ≡ Ok c
+      → IsFront (counts_told c) (left_from next.Counts number (line ∷ after ∷ left)) (left_from (behind_told (counts_told c)) (next_number number) (after ∷ left))
+  counts_front c e =
+      front_same (counts_told c) (left_from next.Counts number (line ∷ after ∷ left)) (left_from (next_of_motions (Joined (all_left c))) (next_number number) (after ∷ left))
+      (counts_read line after left number c short e) (λ r. refl) (always (left_from (next_of_motions (Joined (all_left c))) (next_number number) (after ∷ left)) (λ r. tt))
 
   end_front : end_said line ≡ Ok tt → IsFront tell.End (left_from next.End number (line ∷ after ∷ left)) (left_from next.Nothing (next_number number) (after ∷ left))
   end_front e =
       front_same tell.End (left_from next.End number (line ∷ after ∷ left)) (left_from next.Nothing (next_number number) (after ∷ left))
       (end_read line after left number short e) (λ r. refl) (left_none (next_number number) (after ∷ left))
 
-  header_front : number ≡ 1 → (b : Bool) (told : Told) → bytes_eq line (codes "ngc-certificate 1") ≡ b → (if b then Ok tell.Header else Err Spelling) ≡ Ok told
-      → IsFront told (left_from next.Header number (line ∷ after ∷ left)) (left_from (behind_told told) (next_number number) (after ∷ left))
-  header_front first false told e h = absurd (cc h)
-  header_front first true told e h =
-      let is : tell.Header ≡ told = cc h in
+  header_front : number ≡ 1 → (v : Version) → version_said line ≡ Ok v
+      → IsFront (tell.Header v) (left_from next.Header number (line ∷ after ∷ left)) (left_from (behind_version v) (next_number number) (after ∷ left))
+  header_front first v h =
       let two : 2 ≡ next_number number = ap next_number (sym first) in
-      let P : Told → Type 0 = λ t. IsFront t (left_from next.Header number (line ∷ after ∷ left)) (left_from (behind_told t) (next_number number) (after ∷ left)) in
-      subst P is
-      (front_same tell.Header (left_from next.Header number (line ∷ after ∷ left)) (left_from (next.Setting Off) (next_number number) (after ∷ left))
-      (header_read line after left number e ∙ ap (λ (n : ℕ). left_from (next.Setting Off) n (after ∷ left)) two) (λ r. refl)
-      (always (left_from (next.Setting Off) (next_number number) (after ∷ left)) (λ r. tt)))
+      front (tell.Header v) (left_from next.Header number (line ∷ after ∷ left)) (left_from (behind_version v) (next_number number) (after ∷ left))
+      (header_read line after left number v h ∙ ap (made_with (of_version v)) (header_ended v 2 (after ∷ left) ∙ ap (λ (n : ℕ). left_from (behind_version v) n (after ∷ left)) two))
+      (always (left_from (behind_version v) (next_number number) (after ∷ left)) (λ r. tt))
 
   -- a line that is read
   pub told_front : (e : Expected) (told : Told) → IsSound e number → told_by e line ≡ Ok told
       → IsFront told (left_from e number (line ∷ after ∷ left)) (left_from (behind_told told) (next_number number) (after ∷ left))
-  told_front next.Header told sound h = header_front (sound.first refl) (bytes_eq line (codes "ngc-certificate 1")) told refl h
+  told_front next.Header told sound h =
+      let r = told_ok tell.Header (version_said line) told h in
+      let P : Told → Type 0 = λ t. IsFront t (left_from next.Header number (line ∷ after ∷ left)) (left_from (behind_told t) (next_number number) (after ∷ left)) in
+      subst P (sym r.2) (header_front (sound.first refl) r.0 r.1)
   told_front (next.Setting s) told sound h =
       let r = told_ok (tell.Setting s) (setting_said (name_of s) line) told h in
       let P : Told → Type 0 = λ t. IsFront t (left_from (next.Setting s) number (line ∷ after ∷ left)) (left_from (behind_told t) (next_number number) (after ∷ left)) in
       subst P (sym r.2) (setting_front s r.0 r.1)
-  told_front (next.Motion s n) told sound h =
-      let r = told_ok (motion_told s n) (motion_said line) told h in
-      let P : Told → Type 0 = λ t. IsFront t (left_from (next.Motion s n) number (line ∷ after ∷ left)) (left_from (behind_told t) (next_number number) (after ∷ left)) in
-      subst P (sym r.2) (motion_front s n r.0 (sound.motion s n refl) r.1)
+  told_front next.Counts told sound h =
+      let r = told_ok counts_told (counts_said line) told h in
+      let P : Told → Type 0 = λ t. IsFront t (left_from next.Counts number (line ∷ after ∷ left)) (left_from (behind_told t) (next_number number) (after ∷ left)) in
+      subst P (sym r.2) (counts_front r.0 r.1)
+  told_front (next.Motion m) told sound h =
+      let r = told_ok (motion_told m) (any_said m line) told h in
+      let P : Told → Type 0 = λ t. IsFront t (left_from (next.Motion m) number (line ∷ after ∷ left)) (left_from (behind_told t) (next_number number) (after ∷ left)) in
+      subst P (sym r.2) (motion_front m r.0 (sound.motion m refl) r.1)
   told_front (next.Piece b) told sound h =
       let r = told_ok (tell.Piece b) (piece_said line) told h in
       let P : Told → Type 0 = λ t. IsFront t (left_from (next.Piece b) number (line ∷ after ∷ left)) (left_from (behind_told t) (next_number number) (after ∷ left)) in
@@ -129,16 +145,12 @@ module _ (number : ℕ) (line after : List ℕ) (left : List (List ℕ)) (short 
       subst P (sym r.2) (end_front r.1)
   told_front next.Nothing told sound h = absurd (cc h)
 
-  header_refused : (b : Bool) (flaw : LineFlaw) → bytes_eq line (codes "ngc-certificate 1") ≡ b → (if b then Ok tell.Header else Err Spelling) ≡ Err flaw
-      → left_from next.Header number (line ∷ after ∷ left) ≡ Err faults.WrongHeader
-  header_refused true flaw e h = absurd (cc h)
-  header_refused false flaw e h = header_wrong line after left number e
-
   -- a line that is refused
   pub told_refused : (e : Expected) (flaw : LineFlaw) → IsSound e number → told_by e line ≡ Err flaw → left_from e number (line ∷ after ∷ left) ≡ Err (fault_of e number flaw)
-  told_refused next.Header flaw sound h = header_refused (bytes_eq line (codes "ngc-certificate 1")) flaw refl h
+  told_refused next.Header flaw sound h = header_wrong line after left number flaw (told_err tell.Header (version_said line) flaw h)
   told_refused (next.Setting s) flaw sound h = setting_flawed number line after left flaw short s (told_err (tell.Setting s) (setting_said (name_of s) line) flaw h)
-  told_refused (next.Motion s n) flaw sound h = motion_flawed number line after left flaw short s n (sound.motion s n refl) (told_err (motion_told s n) (motion_said line) flaw h)
+  told_refused next.Counts flaw sound h = counts_flawed number line after left flaw short (told_err counts_told (counts_said line) flaw h)
+  told_refused (next.Motion m) flaw sound h = motion_flawed number line after left flaw short m (sound.motion m refl) (told_err (motion_told m) (any_said m line) flaw h)
   told_refused (next.Piece b) flaw sound h = piece_flawed number line after left flaw short b (sound.piece b refl) (told_err (tell.Piece b) (piece_said line) flaw h)
   told_refused next.End flaw sound h = end_flawed number line after left flaw short (told_err (λ (x : Unit {0}). tell.End) (end_said line) flaw h)
   told_refused next.Nothing flaw sound h =
@@ -149,23 +161,76 @@ module _ (number : ℕ) (line after : List ℕ) (left : List (List ℕ)) (short 
 
 -- ---- what is expected
 
-header_next : (b : Bool) (told : Told) → (if b then Ok tell.Header else Err Spelling) ≡ Ok told → IsNext next.Header told
-header_next false told h = absurd (cc h)
-header_next true told h = let is : tell.Header ≡ told = cc h in let P : Told → Type 0 = λ t. IsNext next.Header t in subst P is refl
+-- the motion of a setting is one of those that come
+counted_parted : (s : Setting) (n index : ℕ) (t : Setting) → 1 ≤ n → left_at (Parted s n) t ≡ left_at (Parted s (n - 1)) t + taken_at (index_at s index) t
+counted_parted Off n index Off some = omega (arith, some)
+counted_parted Off n index On some = omega arith
+counted_parted On n index Off some = omega arith
+counted_parted On n index On some = omega (arith, some)
+
+counted_joined : (left : EntriesLeft) (i : Indices) (t : Setting) → may_come left i ≡ true → left_at (Joined left) t ≡ left_at (Joined (left_behind left i)) t + taken_at i t
+counted_joined left (of.Both i j) Off h = let p = and_parts (nat_lt 0 left.off) (nat_lt 0 left.on) h in grind (arith, nat_tests, p.0)
+counted_joined left (of.Both i j) On h = let p = and_parts (nat_lt 0 left.off) (nat_lt 0 left.on) h in grind (arith, nat_tests, p.1)
+counted_joined left (of.Off i) Off h = let p = and_parts (nat_lt 0 left.off) (not left.behind_on) h in grind (arith, nat_tests, p.0)
+counted_joined left (of.Off i) On h = omega arith
+counted_joined left (of.On j) Off h = omega arith
+counted_joined left (of.On j) On h = let some = some_on left j h in omega (arith, some)
+
+going_joined : (left : EntriesLeft) (i : Indices) → may_come left i ≡ true → AreOpen (Joined (left_behind left i))
+going_joined left (of.Both i j) h = refl
+going_joined left (of.Off i) h = refl
+going_joined left (of.On j) h = more_on left j h
+
+good_index : (s : Setting) (i : ℕ) → i ≤ INDEX_LIMIT → good_indices (index_at s i) ≡ true
+good_index Off i h = least i INDEX_LIMIT h
+good_index On i h = least i INDEX_LIMIT h
+
+motion_next : (m : MotionsLeft) (line : List ℕ) (e : EntryLine) → HaveSome m → any_said m line ≡ Ok e → IsNext (next.Motion m) (motion_told m e)
+motion_next (Parted s n) line e some h =
+    let r = of_parted s (motion_said line) e h in
+    let spelled = motion_spelled line r.0 r.1 in
+    let P : EntryLine → Type 0 = λ x. IsNext (next.Motion (Parted s n)) (motion_told (Parted s n) x) in
+    subst P r.2 (record {
+      left = Parted s n;
+      expected = refl;
+      behind = refl;
+      going = refl;
+      counted = λ t. counted_parted s n r.0.index t some;
+      indices = good_index s r.0.index spelled.index;
+      some = spelled.some;
+      few = spelled.few;
+    })
+motion_next (Joined left) line e some h =
+    let spelled = entry_spelled left line e h in
+    record {
+      left = Joined left;
+      expected = refl;
+      behind = refl;
+      going = going_joined left e.indices spelled.taken.may;
+      counted = λ t. counted_joined left e.indices t spelled.taken.may;
+      indices = spelled.taken.indices;
+      some = spelled.taken.some;
+      few = spelled.taken.few;
+    }
 
 pub told_next : (e : Expected) (number : ℕ) (line : List ℕ) (told : Told) → IsSound e number → told_by e line ≡ Ok told → IsNext e told
-told_next next.Header number line told sound h = header_next (bytes_eq line (codes "ngc-certificate 1")) told h
+told_next next.Header number line told sound h =
+    let r = told_ok tell.Header (version_said line) told h in
+    let P : Told → Type 0 = λ t. IsNext next.Header t in
+    subst P (sym r.2) refl
 told_next (next.Setting s) number line told sound h =
     let r = told_ok (tell.Setting s) (setting_said (name_of s) line) told h in
     let P : Told → Type 0 = λ t. IsNext (next.Setting s) t in
     subst P (sym r.2) (refl, (setting_spelled (name_of s) line r.0 r.1).1)
-told_next (next.Motion s n) number line told sound h =
-    let r = told_ok (motion_told s n) (motion_said line) told h in
-    let spelled = motion_spelled line r.0 r.1 in
-    let some = sound.motion s n refl in
-    let more : n ≡ n - 1 + 1 = omega (arith, some) in
-    let P : Told → Type 0 = λ t. IsNext (next.Motion s n) t in
-    subst P (sym r.2) (record { expected = ap (next.Motion s) more; index = spelled.index; some = spelled.some; few = spelled.few })
+told_next next.Counts number line told sound h =
+    let r = told_ok counts_told (counts_said line) told h in
+    let spelled = counts_spelled line r.0 r.1 in
+    let P : Told → Type 0 = λ t. IsNext next.Counts t in
+    subst P (sym r.2) (refl, spelled.off, spelled.on)
+told_next (next.Motion m) number line told sound h =
+    let r = told_ok (motion_told m) (any_said m line) told h in
+    let P : Told → Type 0 = λ t. IsNext (next.Motion m) t in
+    subst P (sym r.2) (motion_next m line r.0 (sound.motion m refl) r.1)
 told_next (next.Piece b) number line told sound h =
     let r = told_ok (tell.Piece b) (piece_said line) told h in
     let P : Told → Type 0 = λ t. IsNext (next.Piece b) t in
@@ -178,47 +243,106 @@ told_next next.Nothing number line told sound h = absurd (cc h)
 
 -- ---- what comes next is sound
 
-some_left : (s t : Setting) (n k : ℕ) → next.Motion s (suc n) ≡ next.Motion t k → 1 ≤ k
-some_left s t n k e = let same : k ≡ suc n = cc e in omega (arith, same)
+entries_some : (left : EntriesLeft) → none_left left ≡ false → 1 ≤ total left
+entries_some left h = some_of left.off left.on h where
+  some_of : (m n : ℕ) → ((m == 0) && (n == 0)) ≡ false → 1 ≤ m + n
+  some_of zero zero h = absurd (cc h)
+  some_of zero (suc n) h = omega arith
+  some_of (suc m) n h = omega arith
 
-motions_sound : (s : Setting) (n number : ℕ) → IsSound (next_of_motions s n) number
-motions_sound Off zero number = record { first = λ e. absurd (cc e); motion = λ t k e. absurd (cc e); piece = λ b e. absurd (cc e) }
-motions_sound On zero number = record { first = λ e. absurd (cc e); motion = λ t k e. absurd (cc e); piece = λ b e. absurd (cc e) }
-motions_sound s (suc n) number = record { first = λ e. absurd (cc e); motion = λ t k e. some_left s t n k e; piece = λ b e. absurd (cc e) }
-
-piece_sound : (b : BegunMotion) (number : ℕ) → 1 ≤ b.pieces_left → IsSound (next.Piece b) number
-piece_sound b number some = record {
+motion_sound : (m : MotionsLeft) (number : ℕ) → HaveSome m → AreOpen m → IsSound (next.Motion m) number
+motion_sound m number some going = record {
   first = λ e. absurd (cc e);
-  motion = λ t k e. absurd (cc e);
-  piece = λ d e. let same : b ≡ d = cc e in subst (λ (x : BegunMotion). 1 ≤ x.pieces_left) same some;
+  motion = λ k e. let same : m ≡ k = cc e in subst HaveSome same some;
+  piece = λ b e. absurd (cc e);
+  going = λ k e. let same : m ≡ k = cc e in subst AreOpen same going;
+  going_behind = λ b e. absurd (cc e);
 }
 
-behind_sound : (b : BegunMotion) (last : Bool) (number : ℕ) → nat_le b.pieces_left 1 ≡ last → IsSound (behind_piece last b) number
-behind_sound b true number e = motions_sound b.setting b.motions_left number
-behind_sound b false number e = let more : 1 ≤ b.pieces_left - 1 = grind (arith, nat_tests) in piece_sound (record b { pieces_left = b.pieces_left - 1 }) number more
+entries_sound : (b : Bool) (left : EntriesLeft) (number : ℕ) → none_left left ≡ b → AreOpen (Joined left) → IsSound (next_of_entries b left) number
+entries_sound true left number e going = record { first = λ e. absurd (cc e); motion = λ k e. absurd (cc e); piece = λ b e. absurd (cc e); going = λ k e. absurd (cc e); going_behind = λ b e. absurd (cc e) }
+entries_sound false left number e going = motion_sound (Joined left) number (entries_some left e) going
 
-pub told_sound : (e : Expected) (told : Told) (number : ℕ) → IsNext e told → IsSound (behind_told told) number
-told_sound e tell.Header number h = record { first = λ x. absurd (cc x); motion = λ t k x. absurd (cc x); piece = λ b x. absurd (cc x) }
-told_sound e (tell.Setting s n) number h = motions_sound s n number
-told_sound e (tell.Motion b) number h = piece_sound b number h.some
-told_sound e (tell.Piece b p) number h = behind_sound b (nat_le b.pieces_left 1) number refl
-told_sound e tell.End number h = record { first = λ x. absurd (cc x); motion = λ t k x. absurd (cc x); piece = λ b x. absurd (cc x) }
+motions_sound : (m : MotionsLeft) (number : ℕ) → AreOpen m → IsSound (next_of_motions m) number
+motions_sound (Parted Off zero) number going = record { first = λ e. absurd (cc e); motion = λ k e. absurd (cc e); piece = λ b e. absurd (cc e); going = λ k e. absurd (cc e); going_behind = λ b e. absurd (cc e) }
+motions_sound (Parted On zero) number going = record { first = λ e. absurd (cc e); motion = λ k e. absurd (cc e); piece = λ b e. absurd (cc e); going = λ k e. absurd (cc e); going_behind = λ b e. absurd (cc e) }
+motions_sound (Parted s (suc n)) number going = motion_sound (Parted s (suc n)) number (omega arith) refl
+motions_sound (Joined left) number going = entries_sound (none_left left) left number refl going
+
+version_sound : (v : Version) (number : ℕ) → IsSound (behind_version v) number
+version_sound One number = record { first = λ e. absurd (cc e); motion = λ k e. absurd (cc e); piece = λ b e. absurd (cc e); going = λ k e. absurd (cc e); going_behind = λ b e. absurd (cc e) }
+version_sound Two number = record { first = λ e. absurd (cc e); motion = λ k e. absurd (cc e); piece = λ b e. absurd (cc e); going = λ k e. absurd (cc e); going_behind = λ b e. absurd (cc e) }
+
+piece_sound : (b : BegunMotion) (number : ℕ) → 1 ≤ b.pieces_left → AreOpen b.behind → IsSound (next.Piece b) number
+piece_sound b number some going = record {
+  first = λ e. absurd (cc e);
+  motion = λ k e. absurd (cc e);
+  piece = λ d e. let same : b ≡ d = cc e in subst (λ (x : BegunMotion). 1 ≤ x.pieces_left) same some;
+  going = λ k e. absurd (cc e);
+  going_behind = λ d e. let same : b ≡ d = cc e in subst (λ (x : BegunMotion). AreOpen x.behind) same going;
+}
+
+behind_sound : (b : BegunMotion) (last : Bool) (number : ℕ) → nat_le b.pieces_left 1 ≡ last → AreOpen b.behind → IsSound (behind_piece last b) number
+behind_sound b true number e going = motions_sound b.behind number going
+behind_sound b false number e going = let more : 1 ≤ b.pieces_left - 1 = grind (arith, nat_tests) in piece_sound (record b { pieces_left = b.pieces_left - 1 }) number more going
+
+pub told_sound : (e : Expected) (told : Told) (old number : ℕ) → IsSound e old → IsNext e told → IsSound (behind_told told) number
+told_sound e (tell.Header v) old number sound h = version_sound v number
+told_sound e (tell.Setting s n) old number sound h = motions_sound (Parted s n) number refl
+told_sound e (tell.Counts off on) old number sound h = motions_sound (Joined (record { off = off; on = on; behind_on = false })) number refl
+told_sound e (tell.Motion b) old number sound h = piece_sound b number h.some h.going
+told_sound e (tell.Piece b p) old number sound h = behind_sound b (nat_le b.pieces_left 1) number refl (sound.going_behind b h.0)
+told_sound e tell.End old number sound h =
+    record { first = λ x. absurd (cc x); motion = λ k x. absurd (cc x); piece = λ b x. absurd (cc x); going = λ k x. absurd (cc x); going_behind = λ b x. absurd (cc x) }
 
 -- ---- fewer lines may come
 
-motions_lines : (s : Setting) (n : ℕ) → lines_ahead (next_of_motions s n) ≤ 65536 * n + lines_behind s
-motions_lines Off zero = omega arith
-motions_lines On zero = omega arith
-motions_lines s (suc n) = omega arith
+entries_lines : (b : Bool) (left : EntriesLeft) → lines_ahead (next_of_entries b left) ≤ lines_of_motions (Joined left)
+entries_lines true left = omega arith
+entries_lines false left = omega arith
+
+motions_lines : (m : MotionsLeft) → lines_ahead (next_of_motions m) ≤ lines_of_motions m
+motions_lines (Parted Off zero) = omega arith
+motions_lines (Parted On zero) = omega arith
+motions_lines (Parted s (suc n)) = omega arith
+motions_lines (Joined left) = entries_lines (none_left left) left
 
 piece_lines : (b : BegunMotion) (last : Bool) → nat_le b.pieces_left 1 ≡ last → 1 ≤ b.pieces_left → lines_ahead (behind_piece last b) + 1 ≤ lines_ahead (next.Piece b)
-piece_lines b true e some = omega (arith, motions_lines b.setting b.motions_left, some)
+piece_lines b true e some = omega (arith, motions_lines b.behind, some)
 piece_lines b false e some = omega (arith, some)
 
+one_taken : (i : Indices) → 1 ≤ taken_at i Off + taken_at i On
+one_taken (of.Both i j) = omega arith
+one_taken (of.Off i) = omega arith
+one_taken (of.On j) = omega arith
+
+-- a motion's lines are among those that may come
+fewer_lines : (m : MotionsLeft) (i : Indices) → HaveSome m → ((s : Setting) → left_at m s ≡ left_at (motions_behind m i) s + taken_at i s)
+    → lines_of_motions (motions_behind m i) + 65536 ≤ lines_of_motions m
+fewer_lines (Parted s n) i some counted = omega (arith, some)
+fewer_lines (Joined left) i some counted =
+    let off = counted Off in
+    let on = counted On in
+    let one = one_taken i in
+    by_counts left.off left.on (left_behind left i).off (left_behind left i).on (taken_at i Off) (taken_at i On) off on one where
+      by_counts : (m n a b c d : ℕ) → m ≡ a + c → n ≡ b + d → 1 ≤ c + d → 65536 * (a + b) + 2 + 65536 ≤ 65536 * (m + n) + 2
+      by_counts m n a b c d e f one = omega (arith, e, f, one)
+
+version_lines : (v : Version) → lines_ahead (behind_version v) + 1 ≤ lines_ahead next.Header
+version_lines One = omega arith
+version_lines Two = omega arith
+
 pub told_lines : (e : Expected) (told : Told) (number : ℕ) → IsSound e number → IsNext e told → lines_ahead (behind_told told) + 1 ≤ lines_ahead e
-told_lines e tell.Header number sound h = let old = ap lines_ahead h in omega (arith, old)
-told_lines e (tell.Setting s n) number sound h = let old = ap lines_ahead h.0 in omega (arith, old, motions_lines s n, h.1)
-told_lines e (tell.Motion b) number sound h = let old = ap lines_ahead h.expected in omega (arith, old, h.few)
+told_lines e (tell.Header v) number sound h = let old = ap lines_ahead h in omega (arith, old, version_lines v)
+told_lines e (tell.Setting s n) number sound h = let old = ap lines_ahead h.0 in omega (arith, old, motions_lines (Parted s n), h.1)
+told_lines e (tell.Counts off on) number sound h =
+    let old = ap lines_ahead h.0 in
+    omega (arith, old, motions_lines (Joined (record { off = off; on = on; behind_on = false })), h.1, h.2)
+told_lines e (tell.Motion b) number sound h =
+    let old = ap lines_ahead h.expected in
+    let same = ap lines_of_motions h.behind in
+    let some = sound.motion h.left h.expected in
+    omega (arith, old, h.few, same, fewer_lines h.left b.indices some (λ s. h.counted s ∙ ap (λ (m : MotionsLeft). left_at m s + taken_at b.indices s) h.behind))
 told_lines e (tell.Piece b p) number sound h =
     let old = ap lines_ahead h.0 in
     omega (arith, old, piece_lines b (nat_le b.pieces_left 1) refl (sound.piece b h.0))

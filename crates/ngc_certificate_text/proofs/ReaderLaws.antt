@@ -1,23 +1,31 @@
 -- What a piece does to a reader of a certificate's text.
-use Rattle.std.proofs.Common.{◌≡◌, ℕ, ap, subst, Option, None, Result, Ok, Err, List, [], ◌∷◌, ◌++◌, refl, sym, ◌∙◌, arith}
-use Rattle.std.specs.Prelude.{codes}
+use Rattle.std.proofs.Common.{◌≡◌, ℕ, ◌+◌, ◌≤◌, ap, subst, Bool, true, false, Option, None, Result, Ok, Err, List, [], ◌∷◌, ◌++◌, length, refl, sym, ◌∙◌, arith}
+use Rattle.std.specs.Prelude.{codes, ◌==◌, ◌&&◌, ◌||◌, not, nat_lt}
+use Rattle.std.proofs.lemmas.Bool.{and_from}
+use Rattle.std.proofs.lemmas.Bool.Decides.{nat_tests}
 use Rattle.std.proofs.lemmas.List.{append-nil}
 use Rattle.ngc_certificate_text.specs.declared.certificate_lines.CertificateLines.{CertificateLines}
+use Rattle.ngc_certificate_text.specs.declared.expected.EntriesLeft.{EntriesLeft}
 use Rattle.ngc_certificate_text.specs.declared.expected.Expected.{Expected}
 use Rattle.ngc_certificate_text.specs.declared.expected.Expected.TheVariants as next
+use Rattle.ngc_certificate_text.specs.declared.expected.Indices.TheVariants as of
+use Rattle.ngc_certificate_text.specs.declared.expected.MotionsLeft.TheVariants.{Parted, Joined}
 use Rattle.ngc_certificate_text.specs.declared.fault.CertificateFault.{CertificateFault}
 use Rattle.ngc_certificate_text.specs.declared.fault.CertificateFault.TheVariants as faults
-use Rattle.ngc_certificate_text.specs.declared.lines.LineFlaw.TheVariants.{Range}
+use Rattle.ngc_certificate_text.specs.declared.lines.LineFlaw.TheVariants.{Spelling, Range}
 use Rattle.ngc_certificate_text.specs.declared.piece.Setting.{Setting}
 use Rattle.ngc_certificate_text.specs.declared.piece.Setting.TheVariants.{Off, On}
-use Rattle.ngc_certificate_text.specs.Ahead.{Rest, Left, left_from, made_with, name_of, wrong_line, IsSound}
+use Rattle.ngc_certificate_text.specs.declared.told.Version.TheVariants.{One}
+use Rattle.ngc_certificate_text.specs.Ahead.{Rest, Left, left_from, made_with, of_version, name_of, index_at, wrong_line, go_on, IsSound}
+use Rattle.ngc_certificate_text.specs.EntryLines.{version_said, counts_said, may_come, entry_said, of_setting}
 use Rattle.ngc_certificate_text.specs.Lines.{numbers_in, setting_said, motion_said, piece_said}
 use Rattle.ngc_certificate_text.specs.LinesView.{left_by, IsReading}
 use Rattle.ngc_certificate_text.specs.Number.{number_in}
 use Rattle.ngc_certificate_text.specs.Parted.{firm, firm_lines, PartsLines}
 use Rattle.ngc_certificate_text.specs.Reader.{Saying, outcome_by, firm_by, FaultIs, StepGives, Stands, AnswerIs}
 use Rattle.ngc_certificate_text.specs.Said.{lines_of}
-use Rattle.ngc_certificate_text.proofs.AheadLaws.{wrong_said, ended_said, header_read, setting_flawed, motion_flawed, piece_flawed, end_read}
+use Rattle.ngc_certificate_text.proofs.AheadLaws.{wrong_said, ended_said, header_read, header_ended, setting_flawed, counts_flawed, motion_flawed, piece_flawed, end_read}
+use Rattle.ngc_certificate_text.proofs.EntryLaws.{if_taken}
 use Rattle.ngc_certificate_text.proofs.LineLaws.{end_reads}
 use Rattle.ngc_certificate_text.proofs.Parting.{lines_parts, firm_parts, firm_begun}
 
@@ -32,9 +40,59 @@ huge_motion : motion_said (codes "motion 9999999 1") ≡ Err Range
 unfolding motion_said numbers_in number_in
 huge_motion = refl
 
+huge_counts : counts_said (codes "motions 9999999 0") ≡ Err Range
+unfolding counts_said numbers_in number_in
+huge_counts = refl
+
+first_version : version_said (codes "ngc-certificate 1") ≡ Ok One
+unfolding version_said
+first_version = refl
+
 no_part : piece_said (codes "line 0 0 0 0 0 0 0") ≡ Err Range
 unfolding piece_said numbers_in number_in
 no_part = refl
+
+huge_both : (left : EntriesLeft) → may_come left (of.Both 0 0) ≡ true → entry_said left (codes "both 9999999 0 1") ≡ Err Range
+unfolding entry_said numbers_in number_in
+huge_both left h = if_taken (may_come left (of.Both 0 0)) (Err Range) (Err Spelling) h
+
+huge_off : (left : EntriesLeft) → may_come left (of.Off 0) ≡ true → entry_said left (codes "off 9999999 1") ≡ Err Range
+unfolding entry_said numbers_in number_in
+huge_off left h = if_taken (may_come left (of.Off 0)) (Err Range) (Err Spelling) h
+
+huge_on : (left : EntriesLeft) → may_come left (of.On 0) ≡ true → entry_said left (codes "on 9999999 1") ≡ Err Range
+unfolding entry_said numbers_in number_in
+huge_on left h = if_taken (may_come left (of.On 0)) (Err Range) (Err Spelling) h
+
+-- a line that is out of its range where these entries are left
+record HugeEntry (left : EntriesLeft) : Type 0 where
+  line : List ℕ
+  short : length line ≤ 256
+  out : entry_said left line ≡ Err Range
+  alone : lines_of (line ++ codes "\n") ≡ line ∷ [] ∷ []
+
+some_huge : (left : EntriesLeft) (b c : Bool) → (left.off == 0) ≡ b → (left.on == 0) ≡ c → 1 ≤ left.off + left.on → go_on (Joined left) ≡ true → HugeEntry left
+some_huge left false false e f some going =
+    let off : nat_lt 0 left.off ≡ true = grind (arith, nat_tests) in
+    let on : nat_lt 0 left.on ≡ true = grind (arith, nat_tests) in
+    record { line = codes "both 9999999 0 1"; short = omega arith; out = huge_both left (and_from _ _ off on); alone = refl }
+some_huge left false true e f some going =
+    let off : nat_lt 0 left.off ≡ true = grind (arith, nat_tests) in
+    let none : nat_lt 0 left.on ≡ false = grind (arith, nat_tests) in
+    record { line = codes "off 9999999 1"; short = omega arith; out = huge_off left (and_from _ _ off (by_behind left.behind_on (left.off == 0) (nat_lt 0 left.on) e none going)); alone = refl } where
+      by_behind : (b c d : Bool) → c ≡ false → d ≡ false → (not b || (c || d)) ≡ true → not b ≡ true
+      by_behind false c d g k h = refl
+      by_behind true c d g k h = let no : (c || d) ≡ false = rw (g, k) refl in absurd (cc (no, h))
+some_huge left true false e f some going =
+    let on : nat_lt 0 left.on ≡ true = grind (arith, nat_tests) in
+    record { line = codes "on 9999999 1"; short = omega arith; out = huge_on left (by_last (nat_lt 1 left.on) (left.off == 0) (nat_lt 0 left.on) e on); alone = refl } where
+      by_last : (a b c : Bool) → b ≡ true → c ≡ true → (a || (b && c)) ≡ true
+      by_last true b c g h = refl
+      by_last false b c g h = and_from _ _ g h
+some_huge left true true e f some going =
+    let off : left.off ≡ 0 = grind (arith, nat_tests) in
+    let on : left.on ≡ 0 = grind (arith, nat_tests) in
+    absurd (omega (arith, some, off, on))
 
 two_faults : (o p : Left) (fault a b : CertificateFault) → o ≡ Err a → p ≡ Err b → o ≡ Err fault → p ≡ Err fault → a ≡ b
 two_faults o p fault a b e f h k = cc (e, f, h, k)
@@ -57,16 +115,25 @@ bad e number fault line is sound never out lines all =
 none_stands : (e : Expected) (number : ℕ) (fault : CertificateFault) → IsSound e number → ((rest : List ℕ) → left_from e number (lines_of rest) ≡ Err fault) → ⊥
 none_stands next.Header number fault sound all =
     let missing = wrong_said next.Header number ([] ∷ []) sound tt (λ x. absurd (cc x)) in
-    let behind = header_read (codes "ngc-certificate 1") [] [] number refl ∙ wrong_said (next.Setting Off) 2 ([] ∷ []) setting_sound tt (λ x. absurd (cc x)) in
+    let behind =
+    header_read (codes "ngc-certificate 1") [] [] number One first_version
+    ∙ ap (made_with (of_version One)) (header_ended One 2 ([] ∷ []) ∙ wrong_said (next.Setting Off) 2 ([] ∷ []) setting_sound tt (λ x. absurd (cc x))) in
     let same = two_faults _ _ fault faults.WrongHeader (faults.BadLine 2) missing behind (all []) (all (codes "ngc-certificate 1\n")) in absurd (cc same) where
       setting_sound : IsSound (next.Setting Off) 2
-      setting_sound = record { first = λ x. absurd (cc x); motion = λ t k x. absurd (cc x); piece = λ b x. absurd (cc x) }
+      setting_sound = record { first = λ x. absurd (cc x); motion = λ k x. absurd (cc x); piece = λ b x. absurd (cc x); going = λ k x. absurd (cc x); going_behind = λ b x. absurd (cc x) }
 none_stands (next.Setting Off) number fault sound all =
     bad (next.Setting Off) number fault (codes "setting off 9999999") refl sound (λ x. cc x) (setting_flawed number (codes "setting off 9999999") [] [] Range (omega arith) Off (huge_setting Off)) refl all
 none_stands (next.Setting On) number fault sound all =
     bad (next.Setting On) number fault (codes "setting on 9999999") refl sound (λ x. cc x) (setting_flawed number (codes "setting on 9999999") [] [] Range (omega arith) On (huge_setting On)) refl all
-none_stands (next.Motion s n) number fault sound all =
-    bad (next.Motion s n) number fault (codes "motion 9999999 1") refl sound (λ x. cc x) (motion_flawed number (codes "motion 9999999 1") [] [] Range (omega arith) s n (sound.motion s n refl) huge_motion) refl all
+none_stands next.Counts number fault sound all =
+    bad next.Counts number fault (codes "motions 9999999 0") refl sound (λ x. cc x) (counts_flawed number (codes "motions 9999999 0") [] [] Range (omega arith) huge_counts) refl all
+none_stands (next.Motion (Parted s n)) number fault sound all =
+    bad (next.Motion (Parted s n)) number fault (codes "motion 9999999 1") refl sound (λ x. cc x)
+    (motion_flawed number (codes "motion 9999999 1") [] [] Range (omega arith) (Parted s n) (sound.motion (Parted s n) refl) (ap (of_setting (index_at s)) huge_motion)) refl all
+none_stands (next.Motion (Joined left)) number fault sound all =
+    let some = sound.motion (Joined left) refl in
+    let huge = some_huge left (left.off == 0) (left.on == 0) refl refl some (sound.going (Joined left) refl) in
+    bad (next.Motion (Joined left)) number fault huge.line refl sound (λ x. cc x) (motion_flawed number huge.line [] [] Range huge.short (Joined left) some huge.out) huge.alone all
 none_stands (next.Piece b) number fault sound all =
     bad (next.Piece b) number fault (codes "line 0 0 0 0 0 0 0") refl sound (λ x. cc x) (piece_flawed number (codes "line 0 0 0 0 0 0 0") [] [] Range (omega arith) b (sound.piece b refl) no_part) refl all
 none_stands next.End number fault sound all =

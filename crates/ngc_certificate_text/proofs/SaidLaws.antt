@@ -1,31 +1,40 @@
 -- The text of a certificate says it, and what says a certificate is its text.
-use Rattle.std.proofs.Common.{◌≡◌, ℕ, zero, suc, ◌≤◌, ap, subst, Bool, true, false, Result, Ok, Err, List, [], ◌∷◌, ◌++◌, length, refl, sym, ◌∙◌, append_assoc, arith}
-use Rattle.std.specs.Prelude.{codes, decimal, ◌==◌, ◌&&◌, nat_le, if◌then◌else◌, flat_map}
+use Rattle.std.proofs.Common.{◌≡◌, ◌⊎◌, inl, inr, ℕ, zero, suc, ◌+◌, ◌-◌, ◌<◌, ◌≤◌, ap, subst, Bool, true, false, Result, Ok, Err, List, [], ◌∷◌, ◌++◌, length, refl, sym, ◌∙◌, append_assoc, arith}
+use Rattle.std.specs.Prelude.{codes, decimal, ◌==◌, ◌&&◌, ◌||◌, not, nat_le, nat_lt, if◌then◌else◌, flat_map}
 use Rattle.std.specs.List.{All, AllByRecursion, list_all, onto_first, join_with_byte}
 use Rattle.std.specs.Str.{bytes_eq}
-use Rattle.std.proofs.lemmas.Bool.{and_parts}
+use Rattle.std.proofs.lemmas.Bool.{and_from, and_parts}
 use Rattle.std.proofs.lemmas.Bool.Decides.{nat_tests}
 use Rattle.std.proofs.lemmas.List.{append-nil}
 use Rattle.std.proofs.lemmas.List.Elements.{All-nil, All-head, All-tail, All-cons}
-use Rattle.ngc_certificate_text.specs.declared.fault.CertificateFault.TheVariants.{WrongHeader, BadLine}
+use Rattle.ngc_certificate_text.specs.declared.fault.CertificateFault.TheVariants.{BadLine}
 use Rattle.ngc_certificate_text.specs.declared.piece.Piece.{Piece}
 use Rattle.ngc_certificate_text.specs.declared.lines.LineFlaw.{LineFlaw}
+use Rattle.ngc_certificate_text.specs.declared.lines.LineFlaw.TheVariants.{Spelling}
 use Rattle.ngc_certificate_text.specs.declared.lines.MotionLine.{MotionLine}
-use Rattle.ngc_certificate_text.specs.Certificate.{Entry, CertificateData, IsEntry, AreEntries, IsCertificate, INDEX_LIMIT, PIECE_LIMIT, good_piece}
-use Rattle.ngc_certificate_text.specs.Spelling.{piece_line, motion_line, entry_lines, setting_lines, spelling}
+use Rattle.ngc_certificate_text.specs.Certificate.{Entry, CertificateData, IsEntry, AreEntries, IsCertificate, INDEX_LIMIT, PIECE_LIMIT, MOTION_LIMIT, good_piece}
+use Rattle.ngc_certificate_text.specs.Spelling.{piece_line, motion_line, entry_lines, setting_lines, parted_spelling, item_line, item_lines, counts_line, joined_spelling, spelling}
+use Rattle.ngc_certificate_text.specs.declared.expected.EntriesLeft.{EntriesLeft}
+use Rattle.ngc_certificate_text.specs.declared.expected.Indices.{Indices}
+use Rattle.ngc_certificate_text.specs.declared.expected.Indices.TheVariants as of
+use Rattle.ngc_certificate_text.specs.declared.lines.CountsLine.{CountsLine}
+use Rattle.ngc_certificate_text.specs.declared.lines.EntryLine.{EntryLine}
+use Rattle.ngc_certificate_text.specs.declared.told.Version.{Version}
+use Rattle.ngc_certificate_text.specs.declared.told.Version.TheVariants.{One, Two}
+use Rattle.ngc_certificate_text.specs.EntryLines.{version_said, counts_said, entry_said, may_come, left_behind, all_left}
+use Rattle.ngc_certificate_text.specs.Joined.{Item, onto_motions, expansion, IsItem, is_on, may_follow, in_order, IsJoined, Form, Parted, Joined}
 use Rattle.ngc_certificate_text.specs.Lines.{setting_said, motion_said, piece_said, end_said, are_steps}
-use Rattle.ngc_certificate_text.specs.Said.{lines_of, Place, Said, then_read, next_number, line_is, line_in, line_at, several, entry_at, setting_at, settings_at, nothing_in, ended, header_in, certificate_said, has_steps, HasSteps, OneSpelling}
+use Rattle.ngc_certificate_text.specs.Said.{lines_of, Place, Said, then_read, next_number, line_is, line_in, line_at, several, entry_at, setting_at, settings_at, item_at, items_at, joined_at, said_with, version_is, nothing_in, ended, header_in, form_at, form_said, has_steps, HasSteps, item_steps, IsForm, OneSpelling}
+use Rattle.ngc_certificate_text.proofs.NumberLaws.{lacks}
 use Rattle.ngc_certificate_text.proofs.FieldLaws.{split_here, joined_split, bytes_same}
 use Rattle.ngc_certificate_text.proofs.LineLaws.{IsLine, IsName, setting_text, setting_line_is, setting_is_line, setting_reads, setting_spelled, motion_text, motion_is_line, motion_reads, motion_spelled, motion_line_is, IsHeld, piece_text, piece_is_line, piece_reads, piece_spelled, piece_line_is, end_is_line, end_reads, end_spelled}
+use Rattle.ngc_certificate_text.proofs.EntryLaws.{total, IsTaken, entry_text, entry_is_line, entry_reads, entry_spelled, item_line_is, counts_text, counts_is_line, counts_reads, counts_spelled, one_fewer, some_on, no_more, items_none, more_items, item_is, pieces_behind as entry_pieces}
+use Rattle.ngc_certificate_text.proofs.Taken.{text_left, then_ok, line_taken, ok_same, read_to, said_ok}
 
 -- ---- places
 
 abbrev pub at : ℕ → List ℕ → Place
 at number text = record { number = number; left = lines_of text }
-
--- the text that is left
-abbrev pub text_left : Place → List ℕ
-text_left p = join_with_byte 10 p.left
 
 -- there is always a last part
 pub some_lines : (text : List ℕ) → (x : List ℕ) × (xs : List (List ℕ)) × (lines_of text ≡ x ∷ xs)
@@ -166,14 +175,28 @@ setting_reads_on name es is are steps number rest =
 
 -- ---- the whole text
 
-header_here : (rest : List ℕ) → header_in (lines_of (codes "ngc-certificate 1" ++ (10 ∷ rest))) ≡ Ok (tt, at 2 rest)
-header_here rest =
+abbrev pub version_text : Version → List ℕ
+version_text One = codes "ngc-certificate 1"
+version_text Two = codes "ngc-certificate 2"
+
+version_feedless : (v : Version) → lacks 10 (version_text v) ≡ true
+version_feedless One = refl
+version_feedless Two = refl
+
+version_reads : (v : Version) → version_said (version_text v) ≡ Ok v
+unfolding version_said
+version_reads One = refl
+version_reads Two = refl
+
+header_here : (v : Version) (rest : List ℕ) → header_in (lines_of (version_text v ++ (10 ∷ rest))) ≡ Ok (v, at 2 rest)
+header_here v rest =
     let more = some_lines rest in
-    ap header_in (split_here 10 (codes "ngc-certificate 1") rest refl ∙ ap (λ (l : List (List ℕ)). codes "ngc-certificate 1" ∷ l) more.2)
-    ∙ ap taken (sym more.2)
+    ap header_in (split_here 10 (version_text v) rest (version_feedless v) ∙ ap (λ (l : List (List ℕ)). version_text v ∷ l) more.2)
+    ∙ ap (λ (r : Result Version LineFlaw). version_is r (more.0 ∷ more.1)) (version_reads v)
+    ∙ ap (λ (l : List (List ℕ)). taken v l) (sym more.2)
   where
-    taken : List (List ℕ) → Said (Unit {0})
-    taken l = Ok (tt, record { number = 2; left = l })
+    taken : Version → List (List ℕ) → Said Version
+    taken v l = Ok (v, record { number = 2; left = l })
 
 off_name : IsName (codes "off")
 off_name = record { whole = refl; feedless = refl; short = omega arith }
@@ -212,66 +235,197 @@ body_reads_on c is steps number rest =
     (setting_reads_on (codes "off") c.off off_name is.off steps.off) (on_read_on c.off c.on is.on steps.on) number rest in
     (a.0, settings_are (at number (body c ++ rest)) ∙ a.1)
 
-spelling_is : (c : CertificateData) → spelling c ≡ codes "ngc-certificate 1" ++ (10 ∷ body c)
+spelling_is : (c : CertificateData) → parted_spelling c ≡ codes "ngc-certificate 1" ++ (10 ∷ body c)
 spelling_is c = flat (codes "ngc-certificate 1\n") (setting_lines (codes "off") c.off) (setting_lines (codes "on") c.on) (codes "end\n") where
   flat : (h a b e : List ℕ) → h ++ a ++ b ++ e ≡ h ++ (a ++ (b ++ e))
   flat h a b e = simp append_assoc
 
-pub reads_back : (c : CertificateData) → IsCertificate c → HasSteps c → certificate_said (spelling c) ≡ Ok c
-unfolding certificate_said
-reads_back c is steps =
-    let a = body_reads_on c is steps 2 [] in
-    ap (λ (t : List ℕ). ended (then_read (header_in (lines_of t)) (λ _ p. settings_at p))) (spelling_is c)
-    ∙ ap (λ (r : Said (Unit {0})). ended (then_read r (λ _ p. settings_at p))) (header_here (body c))
-    ∙ ap (λ (t : List ℕ). ended (settings_at (at 2 t))) (sym (append-nil (body c)))
+-- a text with the first line of a version, and a form behind it
+read_whole : (v : Version) (text rest : List ℕ) (f : Form) → text ≡ version_text v ++ (10 ∷ rest) → ReadsOn (form_at v) rest f → form_said text ≡ Ok f
+unfolding form_said
+read_whole v text rest f is reads =
+    let a = reads 2 [] in
+    ap (λ (t : List ℕ). ended (then_read (header_in (lines_of t)) form_at)) is
+    ∙ ap (λ (r : Said Version). ended (then_read r form_at)) (header_here v rest)
+    ∙ ap (λ (t : List ℕ). ended (form_at v (at 2 t))) (sym (append-nil rest))
     ∙ ap ended a.1
+
+parted_back : (c : CertificateData) → IsCertificate c → HasSteps c → form_said (parted_spelling c) ≡ Ok (Parted c)
+parted_back c is steps = read_whole One (parted_spelling c) (body c) (Parted c) (spelling_is c) (λ number rest.
+    let a = body_reads_on c is steps number rest in
+    (a.0, ap (λ (r : Said CertificateData). said_with Parted r) a.1))
+
+-- ---- version 2
+
+-- an entry that lines can say
+record IsSpelledItem (x : Item) : Type 0 where
+  item : IsItem x
+  steps : item_steps x ≡ true
+
+item_taken : (left : EntriesLeft) (x : Item) → IsItem x → may_come left x.indices ≡ true → IsTaken left x.indices (length x.pieces)
+item_taken left x is may = record { may = may; indices = is.indices; some = is.some; few = is.count }
+
+entry_reads_at : (left : EntriesLeft) (x : Item) → IsItem x → may_come left x.indices ≡ true
+    → ReadsOn (line_at (entry_said left)) (item_line x.indices (length x.pieces)) (record { indices = x.indices; pieces = length x.pieces })
+entry_reads_at left x is may =
+    subst (λ (t : List ℕ). ReadsOn (line_at (entry_said left)) t (record { indices = x.indices; pieces = length x.pieces })) (sym (item_line_is x.indices (length x.pieces)))
+    (line_reads (entry_said left) (entry_text x.indices (length x.pieces)) (record { indices = x.indices; pieces = length x.pieces }) (entry_is_line x.indices (length x.pieces) is.indices is.count)
+    (entry_reads left x.indices (length x.pieces) (item_taken left x is may)))
+
+item_pieces_read : (i : Indices) (ps : List Piece) → AllByRecursion IsHeld ps
+    → ReadsOn (entry_pieces (record { indices = i; pieces = length ps })) (flat_map piece_line ps) (record { indices = i; pieces = ps })
+unfolding entry_pieces
+item_pieces_read i ps h number rest =
+    let a = several_read (line_at piece_said) piece_line IsHeld piece_reads_on ps h number rest in
+    (a.0, ap (λ (r : Said (List Piece)). then_read r (λ pieces q. Ok (record { indices = i; pieces = pieces }, q))) a.1)
+
+item_reads_on : (left : EntriesLeft) (x : Item) → IsSpelledItem x → may_come left x.indices ≡ true → ReadsOn (item_at left) (item_lines x) x
+item_reads_on left x h may number rest =
+    let a = then_reads (line_at (entry_said left)) entry_pieces (item_line x.indices (length x.pieces)) (flat_map piece_line x.pieces) (record { indices = x.indices; pieces = length x.pieces }) x
+    (entry_reads_at left x h.item may) (item_pieces_read x.indices x.pieces (held_pieces x.pieces h.item.pieces h.steps)) number rest in
+    (a.0, item_is left (at number (item_lines x ++ rest)) ∙ a.1)
+
+-- so many motions are left as these entries are, and they may come
+record AreLeft (left : EntriesLeft) (xs : List Item) : Type 0 where
+  off : left.off ≡ length ((expansion xs).off)
+  on : left.on ≡ length ((expansion xs).on)
+  order : in_order left.behind_on xs ≡ true
+
+record IsFirst (left : EntriesLeft) (i : Indices) (xs : List Item) : Type 0 where
+  may : may_come left i ≡ true
+  behind : AreLeft (left_behind left i) xs
+
+above_zero : (m n : ℕ) → m ≡ suc n → nat_lt 0 m ≡ true
+above_zero m n e = grind (arith, nat_tests)
+
+-- behind a motion of `on` alone more of `on` come, or nothing
+more_on : (xs : List Item) (off on : ℕ) → off ≡ length ((expansion xs).off) → on ≡ suc (length ((expansion xs).on)) → in_order true xs ≡ true → (off ≡ 0) ⊎ (1 < on)
+more_on [] off on e f order = inl e
+more_on (x ∷ xs) off on e f order = inr (by_indices x.indices x.pieces (expansion xs) order f) where
+  by_indices : (i : Indices) (ps : List Piece) (c : CertificateData) → (may_follow true i && in_order (is_on i) xs) ≡ true → on ≡ suc (length ((onto_motions i ps c).on)) → 1 < on
+  by_indices (of.Both i j) ps c h e = omega (arith, e)
+  by_indices (of.Off i) ps c h e = absurd (cc h)
+  by_indices (of.On j) ps c h e = omega (arith, e)
+
+last_on : (off on : ℕ) (xs : List Item) → off ≡ length ((expansion xs).off) → on ≡ suc (length ((expansion xs).on)) → in_order true xs ≡ true → (nat_lt 1 on || ((off == 0) && nat_lt 0 on)) ≡ true
+last_on off on xs e f order = by_more (nat_lt 1 on) refl (more_on xs off on e f order) where
+  by_more : (b : Bool) → nat_lt 1 on ≡ b → (off ≡ 0) ⊎ (1 < on) → (b || ((off == 0) && nat_lt 0 on)) ≡ true
+  by_more true g h = refl
+  by_more false g (inl none) = let zero_off : (off == 0) ≡ true = grind (arith, nat_tests) in and_from _ _ zero_off (above_zero on (length ((expansion xs).on)) f)
+  by_more false g (inr more) = absurd (grind (arith, nat_tests))
+
+first_of_left : (left : EntriesLeft) (i : Indices) (ps : List Piece) (xs : List Item) → AreLeft left (record { indices = i; pieces = ps } ∷ xs) → IsFirst left i xs
+first_of_left left (of.Both i j) ps xs are = record {
+  may = and_from _ _ (above_zero left.off (length ((expansion xs).off)) are.off) (above_zero left.on (length ((expansion xs).on)) are.on);
+  behind = record { off = omega (arith, are.off); on = omega (arith, are.on); order = are.order };
+}
+first_of_left left (of.Off i) ps xs are =
+    let p = and_parts (not left.behind_on) (in_order false xs) are.order in
+    record {
+      may = and_from _ _ (above_zero left.off (length ((expansion xs).off)) are.off) p.0;
+      behind = record { off = omega (arith, are.off); on = are.on; order = p.1 };
+    }
+first_of_left left (of.On j) ps xs are = record {
+  may = last_on left.off left.on xs are.off are.on are.order;
+  behind = record { off = are.off; on = omega (arith, are.on); order = are.order };
+}
+
+entries_behind : ℕ → EntriesLeft → Item → Place → Said (List Item)
+entries_behind n left x q = then_read (items_at n (left_behind left x.indices) q) (λ xs r. Ok (x ∷ xs, r))
+
+more_are : (n : ℕ) (left : EntriesLeft) (p : Place) → 1 ≤ total left → items_at (suc n) left p ≡ then_read (item_at left p) (entries_behind n left)
+unfolding entries_behind
+more_are n left p h = more_items n left p h
+
+behind_reads : (n : ℕ) (left : EntriesLeft) (x : Item) (xs : List Item) → ReadsOn (items_at n (left_behind left x.indices)) (flat_map item_lines xs) xs → ReadsOn (entries_behind n left x) (flat_map item_lines xs) (x ∷ xs)
+unfolding entries_behind
+behind_reads n left x xs h number rest = let a = h number rest in (a.0, ap (λ (r : Said (List Item)). then_read r (λ ys q. Ok (x ∷ ys, q))) a.1)
+
+items_read_on : (n : ℕ) (left : EntriesLeft) (xs : List Item) → AllByRecursion IsSpelledItem xs → AreLeft left xs → total left ≤ n → ReadsOn (items_at n left) (flat_map item_lines xs) xs
+items_read_on n left [] h are few number rest = (number, items_none n left (at number rest) (no_more left (omega (arith, are.off, are.on))))
+items_read_on zero left (x ∷ xs) h are few number rest =
+    let first = first_of_left left x.indices x.pieces xs are in
+    absurd (omega (arith, few, one_fewer left x.indices first.may))
+items_read_on (suc n) left (x ∷ xs) h are few number rest =
+    let first = first_of_left left x.indices x.pieces xs are in
+    let one = one_fewer left x.indices first.may in
+    let a = then_reads (item_at left) (entries_behind n left) (item_lines x) (flat_map item_lines xs) x (x ∷ xs)
+    (item_reads_on left x h.0 first.may)
+    (behind_reads n left x xs (items_read_on n (left_behind left x.indices) xs h.1 first.behind (omega (arith, few, one)))) number rest in
+    (a.0, more_are n left (at number (flat_map item_lines (x ∷ xs) ++ rest)) (omega (arith, one)) ∙ a.1)
+
+spelled_items : (xs : List Item) → All IsItem xs → list_all item_steps xs ≡ true → AllByRecursion IsSpelledItem xs
+spelled_items [] all steps = tt
+spelled_items (x ∷ xs) all steps =
+    let s = and_parts (item_steps x) (list_all item_steps xs) steps in
+    (record { item = All-head IsItem x xs all; steps = s.0 }, spelled_items xs (All-tail IsItem x xs all) s.1)
+
+end_of_items : List Item → Place → Said (List Item)
+end_of_items items r = then_read (line_at end_said r) (λ _ s. Ok (items, s))
+
+items_behind : CountsLine → Place → Said (List Item)
+items_behind c q = then_read (items_at (c.off + c.on) (all_left c) q) end_of_items
+
+joined_is : (p : Place) → joined_at p ≡ then_read (line_at counts_said p) items_behind
+unfolding joined_at items_behind end_of_items
+joined_is p = refl
+
+end_items_read : (items : List Item) → ReadsOn (end_of_items items) (codes "end" ++ (10 ∷ [])) items
+unfolding end_of_items
+end_items_read items number rest =
+    let a = line_reads end_said (codes "end") tt end_is_line end_reads number rest in
+    (a.0, ap (λ (r : Said (Unit {0})). then_read r (λ _ s. Ok (items, s))) a.1)
+
+abbrev counts_of : List Item → CountsLine
+counts_of items = record { off = length ((expansion items).off); on = length ((expansion items).on) }
+
+items_reads_end : (items : List Item) → IsJoined items → list_all item_steps items ≡ true → ReadsOn (items_behind (counts_of items)) (flat_map item_lines items ++ codes "end\n") items
+unfolding items_behind
+items_reads_end items is steps =
+    let c = counts_of items in
+    then_reads (items_at (c.off + c.on) (all_left c)) end_of_items (flat_map item_lines items) (codes "end\n") items items
+    (items_read_on (c.off + c.on) (all_left c) items (spelled_items items is.each steps) (record { off = refl; on = refl; order = is.order }) (omega arith))
+    (end_items_read items)
+
+counts_line_is : (m n : ℕ) → codes "motions " ++ decimal m ++ codes " " ++ decimal n ++ codes "\n" ≡ counts_text m n ++ (10 ∷ [])
+unfolding counts_text
+counts_line_is m n = flat (codes "motions") (32 ∷ []) (decimal m) (decimal n) (10 ∷ []) where
+  flat : (w s a b n : List ℕ) → w ++ s ++ a ++ s ++ b ++ n ≡ (w ++ (s ++ (a ++ (s ++ b)))) ++ n
+  flat w s a b n = simp append_assoc
+
+counts_reads_on : (m n : ℕ) → m ≤ MOTION_LIMIT → n ≤ MOTION_LIMIT → ReadsOn (line_at counts_said) (codes "motions " ++ decimal m ++ codes " " ++ decimal n ++ codes "\n") (record { off = m; on = n })
+counts_reads_on m n hm hn =
+    subst (λ (t : List ℕ). ReadsOn (line_at counts_said) t (record { off = m; on = n })) (sym (counts_line_is m n))
+    (line_reads counts_said (counts_text m n) (record { off = m; on = n }) (counts_is_line m n hm hn) (counts_reads m n hm hn))
+
+abbrev joined_body : List Item → List ℕ
+joined_body items = counts_line (expansion items) ++ (flat_map item_lines items ++ codes "end\n")
+
+joined_reads_on : (items : List Item) → IsJoined items → list_all item_steps items ≡ true → ReadsOn joined_at (joined_body items) items
+joined_reads_on items is steps number rest =
+    let a = then_reads (line_at counts_said) items_behind (counts_line (expansion items)) (flat_map item_lines items ++ codes "end\n") (counts_of items) items
+    (counts_reads_on (length ((expansion items).off)) (length ((expansion items).on)) is.off is.on) (items_reads_end items is steps) number rest in
+    (a.0, joined_is (at number (joined_body items ++ rest)) ∙ a.1)
+
+joined_spelling_is : (items : List Item) → joined_spelling items ≡ codes "ngc-certificate 2" ++ (10 ∷ joined_body items)
+joined_spelling_is items = flat (codes "ngc-certificate 2\n") (counts_line (expansion items)) (flat_map item_lines items) (codes "end\n") where
+  flat : (h a b e : List ℕ) → h ++ a ++ b ++ e ≡ h ++ (a ++ (b ++ e))
+  flat h a b e = simp append_assoc
+
+joined_back : (items : List Item) → IsJoined items → list_all item_steps items ≡ true → form_said (joined_spelling items) ≡ Ok (Joined items)
+joined_back items is steps = read_whole Two (joined_spelling items) (joined_body items) (Joined items) (joined_spelling_is items) (λ number rest.
+    let a = joined_reads_on items is steps number rest in
+    (a.0, ap (λ (r : Said (List Item)). said_with Joined r) a.1))
+
+pub reads_back : (f : Form) → IsForm f → form_said (spelling f) ≡ Ok f
+reads_back (Parted c) is = parted_back c is.0 is.1
+reads_back (Joined items) is = joined_back items is.0 is.1
 
 -- ---- back: what is said is spelled
 
 -- a part that says something has its spelling in front
 abbrev pub Spells : {X : Type 0} → (Place → Said X) → (X → List ℕ) → (X → Type 0) → Type 0
 Spells {X} said text good = (p : Place) (x : X) (q : Place) → said p ≡ Ok (x, q) → (text_left p ≡ text x ++ text_left q) × good x
-
-then_ok : {X Y : Type 0} (s : Said X) (more : X → Place → Said Y) (y : Y) (q : Place) → then_read s more ≡ Ok (y, q) → (x : X) × (p : Place) × (s ≡ Ok (x, p)) × (more x p ≡ Ok (y, q))
-then_ok (Ok r) more y q h = (r.0, r.1, refl, h)
-then_ok (Err fault) more y q h = absurd (cc h)
-
--- a line that is taken
-record Taken {X : Type 0} (said : List ℕ → Result X LineFlaw) (lines : List (List ℕ)) (x : X) (q : Place) : Type 0 where
-  line : List ℕ
-  says : said line ≡ Ok x
-  joined : join_with_byte 10 lines ≡ line ++ (10 ∷ text_left q)
-
-abbrev read_to : {X : Type 0} → X → Place → X × Place
-read_to x p = (x, p)
-
-abbrev said_ok : {X : Type 0} → X × Place → Said X
-said_ok r = Ok r
-
-ok_same : {X : Type 0} (x y : X × Place) → said_ok x ≡ said_ok y → x ≡ y
-ok_same x y e = cc e
-
-same_line : {X : Type 0} (number : ℕ) (r : Result X LineFlaw) (left : List (List ℕ)) (x : X) (q : Place) → line_is number r left ≡ Ok (x, q) → (r ≡ Ok x) × (left ≡ q.left)
-same_line {X} number (Ok y) left x q h =
-    let e : read_to y (record { number = next_number number; left = left }) ≡ read_to x q = ok_same (read_to y (record { number = next_number number; left = left })) (read_to x q) h in
-    (ap (λ (r : X × Place). Ok r.0) e, ap (λ (r : X × Place). r.1.left) e)
-same_line number (Err flaw) left x q h = absurd (cc h)
-
-taken_if : {X : Type 0} (said : List ℕ → Result X LineFlaw) (number : ℕ) (line next : List ℕ) (left : List (List ℕ)) (x : X) (q : Place) (c : Bool)
-    → (if c then line_is number (said line) (next ∷ left) else Err (BadLine number)) ≡ Ok (x, q) → Taken said (line ∷ next ∷ left) x q
-taken_if said number line next left x q true h =
-    let s = same_line number (said line) (next ∷ left) x q h in
-    record { line = line; says = s.0; joined = ap (λ (l : List (List ℕ)). line ++ (10 ∷ join_with_byte 10 l)) s.1 }
-taken_if said number line next left x q false h = absurd (cc h)
-
-taken_line : {X : Type 0} (said : List ℕ → Result X LineFlaw) (number : ℕ) (lines : List (List ℕ)) (x : X) (q : Place) → line_in said number lines ≡ Ok (x, q) → Taken said lines x q
-taken_line said number [] x q h = absurd (cc h)
-taken_line said number (last ∷ []) x q h = absurd (cc h)
-taken_line said number (line ∷ next ∷ left) x q h = taken_if said number line next left x q (nat_le (length line) 256) h
-
-line_taken : {X : Type 0} (said : List ℕ → Result X LineFlaw) (p : Place) (x : X) (q : Place) → line_at said p ≡ Ok (x, q) → Taken said p.left x q
-unfolding line_at
-line_taken said p x q h = taken_line said p.number p.left x q h
 
 line_spells : {X : Type 0} (said : List ℕ → Result X LineFlaw) (text : X → List ℕ) (good : X → Type 0)
     → ((line : List ℕ) (x : X) → said line ≡ Ok x → (line ++ (10 ∷ []) ≡ text x) × good x) → Spells (line_at said) text good
@@ -399,28 +553,147 @@ settings_spell p c q h =
       flat : (a b e r : List ℕ) → a ++ (b ++ (e ++ r)) ≡ a ++ (b ++ e) ++ r
       flat a b e r = simp append_assoc
 
-header_if : (line next : List ℕ) (left : List (List ℕ)) (x : Unit {0}) (p : Place) (c : Bool) → bytes_eq line (codes "ngc-certificate 1") ≡ c
-    → (if c then Ok (tt, record { number = 2; left = next ∷ left }) else Err WrongHeader) ≡ said_ok (x, p)
-    → join_with_byte 10 (line ∷ next ∷ left) ≡ codes "ngc-certificate 1" ++ (10 ∷ text_left p)
-header_if line next left x p true e h =
-    let same : read_to tt (record { number = 2; left = next ∷ left }) ≡ read_to x p = ok_same (read_to tt (record { number = 2; left = next ∷ left })) (read_to x p) h in
-    ap (λ (l : List ℕ). l ++ (10 ∷ join_with_byte 10 (next ∷ left))) (bytes_same line (codes "ngc-certificate 1") e)
-    ∙ ap (λ (r : Unit {0} × Place). codes "ngc-certificate 1" ++ (10 ∷ text_left r.1)) same
-header_if line next left x p false e h = absurd (cc h)
+-- ---- version 2
 
-header_text : (lines : List (List ℕ)) (x : Unit {0}) (p : Place) → header_in lines ≡ Ok (x, p) → join_with_byte 10 lines ≡ codes "ngc-certificate 1" ++ (10 ∷ text_left p)
-header_text [] x p h = absurd (cc h)
-header_text (last ∷ []) x p h = absurd (cc h)
-header_text (line ∷ next ∷ left) x p h = header_if line next left x p (bytes_eq line (codes "ngc-certificate 1")) refl h
+entry_line_spells : (left : EntriesLeft) (p : Place) (e : EntryLine) (q : Place) → line_at (entry_said left) p ≡ Ok (e, q)
+    → (text_left p ≡ item_line e.indices e.pieces ++ text_left q) × IsTaken left e.indices e.pieces
+entry_line_spells left p e q h =
+    let t = line_taken (entry_said left) p e q h in
+    let s = entry_spelled left t.line e t.says in
+    (t.joined ∙ sym (append_assoc t.line (10 ∷ []) (text_left q)) ∙ ap (λ (l : List ℕ). l ++ (10 ∷ []) ++ text_left q) s.is ∙ ap (λ (l : List ℕ). l ++ text_left q) (sym (item_line_is e.indices e.pieces)), s.taken)
 
-ended_if : (r : CertificateData × Place) (c : CertificateData) (b : Bool) → nothing_in r.1.left ≡ b → (if b then Ok r.0 else Err (BadLine r.1.number)) ≡ Ok c
-    → (nothing_in r.1.left ≡ true) × (r.0 ≡ c)
-ended_if r c true e h = (e, cc h)
-ended_if r c false e h = absurd (cc h)
+abbrev ItemSpells : EntriesLeft → Place → Item → Place → Type 0
+ItemSpells left p x q = (text_left p ≡ item_lines x ++ text_left q) × IsSpelledItem x × (may_come left x.indices ≡ true)
 
-ended_ok : (s : Said CertificateData) (c : CertificateData) → ended s ≡ Ok c → (q : Place) × (s ≡ Ok (c, q)) × (nothing_in q.left ≡ true)
-ended_ok (Ok r) c h = let e = ended_if r c (nothing_in r.1.left) refl h in (r.1, ap (λ (d : CertificateData). said_ok (d, r.1)) e.1, e.0)
-ended_ok (Err fault) c h = absurd (cc h)
+item_spells : (left : EntriesLeft) (p : Place) (x : Item) (q : Place) → item_at left p ≡ Ok (x, q) → ItemSpells left p x q
+unfolding entry_pieces
+item_spells left p x q h =
+    let a = then_ok (line_at (entry_said left) p) entry_pieces x q (sym (item_is left p) ∙ h) in
+    let b = then_ok (several (line_at piece_said) a.0.pieces a.1) (λ pieces r. Ok (item_with a.0.indices pieces, r)) x q a.3 in
+    let same : read_to (item_with a.0.indices b.0) b.1 ≡ read_to x q = ok_same (read_to (item_with a.0.indices b.0) b.1) (read_to x q) b.3 in
+    let first = entry_line_spells left p a.0 a.1 a.2 in
+    let more = several_spells (line_at piece_said) piece_line IsHeld piece_spells a.0.pieces a.1 b.0 b.1 b.2 in
+    let text : text_left p ≡ item_lines (item_with a.0.indices b.0) ++ text_left b.1 =
+    first.0 ∙ ap (λ (l : List ℕ). item_line a.0.indices a.0.pieces ++ l) more.0 ∙ sym (append_assoc (item_line a.0.indices a.0.pieces) (flat_map piece_line b.0) (text_left b.1))
+    ∙ ap (λ (n : ℕ). item_line a.0.indices n ++ flat_map piece_line b.0 ++ text_left b.1) (sym more.2) in
+    let good : IsSpelledItem (item_with a.0.indices b.0) = record {
+      item = record { indices = first.1.indices; some = omega (arith, first.1.some, more.2); count = omega (arith, first.1.few, more.2); pieces = held_good b.0 more.1 };
+      steps = held_steps b.0 more.1;
+    } in
+    subst (λ (r : Item × Place). ItemSpells left p r.0 r.1) same (text, good, first.1.may) where
+      item_with : Indices → List Piece → Item
+      item_with i pieces = record { indices = i; pieces = pieces }
+
+one_more : (m n : ℕ) → nat_lt 0 m ≡ true → m - 1 ≡ n → m ≡ suc n
+one_more m n h e = grind (arith, nat_tests)
+
+left_with : (left : EntriesLeft) (i : Indices) (ps : List Piece) (xs : List Item) → may_come left i ≡ true → AreLeft (left_behind left i) xs → AreLeft left (record { indices = i; pieces = ps } ∷ xs)
+left_with left (of.Both i j) ps xs may are =
+    let p = and_parts (nat_lt 0 left.off) (nat_lt 0 left.on) may in
+    record { off = one_more left.off (length ((expansion xs).off)) p.0 are.off; on = one_more left.on (length ((expansion xs).on)) p.1 are.on; order = are.order }
+left_with left (of.Off i) ps xs may are =
+    let p = and_parts (nat_lt 0 left.off) (not left.behind_on) may in
+    record { off = one_more left.off (length ((expansion xs).off)) p.0 are.off; on = are.on; order = and_from _ _ p.1 are.order }
+left_with left (of.On j) ps xs may are =
+    let some = some_on left j may in
+    record { off = are.off; on = omega (arith, some, are.on); order = are.order }
+
+abbrev ItemsSpell : EntriesLeft → Place → List Item → Place → Type 0
+ItemsSpell left p xs q = (text_left p ≡ flat_map item_lines xs ++ text_left q) × AllByRecursion IsSpelledItem xs × AreLeft left xs
+
+none_spell : (n : ℕ) (left : EntriesLeft) (p : Place) (xs : List Item) (q : Place) → total left ≡ 0 → items_at n left p ≡ Ok (xs, q) → ItemsSpell left p xs q
+none_spell n left p xs q none h =
+    let e : read_to [] p ≡ read_to xs q = ok_same (read_to [] p) (read_to xs q) (sym (items_none n left p (no_more left none)) ∙ h) in
+    subst (λ (r : List Item × Place). ItemsSpell left p r.0 r.1) e (refl, tt, record { off = omega (arith, none); on = omega (arith, none); order = refl })
+
+some_spell : (n m : ℕ) (left : EntriesLeft) (p : Place) (xs : List Item) (q : Place)
+    → ((more : EntriesLeft) (r : Place) (ys : List Item) (s : Place) → total more ≤ n → items_at n more r ≡ Ok (ys, s) → ItemsSpell more r ys s)
+    → total left ≤ suc n → total left ≡ m → items_at (suc n) left p ≡ Ok (xs, q) → ItemsSpell left p xs q
+some_spell n zero left p xs q spells few e h = none_spell (suc n) left p xs q e h
+some_spell n (suc m) left p xs q spells few e h =
+    let a = then_ok (item_at left p) (λ x r. then_read (items_at n (left_behind left x.indices) r) (λ ys s. Ok (x ∷ ys, s))) xs q (sym (more_items n left p (omega (arith, e))) ∙ h) in
+    let b = then_ok (items_at n (left_behind left a.0.indices) a.1) (λ ys s. Ok (a.0 ∷ ys, s)) xs q a.3 in
+    let same : read_to (a.0 ∷ b.0) b.1 ≡ read_to xs q = ok_same (read_to (a.0 ∷ b.0) b.1) (read_to xs q) b.3 in
+    let first = item_spells left p a.0 a.1 a.2 in
+    let one = one_fewer left a.0.indices first.2 in
+    let more = spells (left_behind left a.0.indices) a.1 b.0 b.1 (omega (arith, few, one)) b.2 in
+    let all : ItemsSpell left p (a.0 ∷ b.0) b.1 = (
+      first.0 ∙ ap (λ (l : List ℕ). item_lines a.0 ++ l) more.0 ∙ sym (append_assoc (item_lines a.0) (flat_map item_lines b.0) (text_left b.1)),
+      (first.1, more.1),
+      left_with left a.0.indices a.0.pieces b.0 first.2 more.2,
+    ) in
+    subst (λ (r : List Item × Place). ItemsSpell left p r.0 r.1) same all
+
+items_spell : (n : ℕ) (left : EntriesLeft) (p : Place) (xs : List Item) (q : Place) → total left ≤ n → items_at n left p ≡ Ok (xs, q) → ItemsSpell left p xs q
+items_spell zero left p xs q few h = none_spell 0 left p xs q (omega (arith, few)) h
+items_spell (suc n) left p xs q few h = some_spell n (total left) left p xs q (λ more r ys s k e. items_spell n more r ys s k e) few refl h
+
+items_are : (xs : List Item) → AllByRecursion IsSpelledItem xs → All IsItem xs
+items_are [] h = All-nil IsItem
+items_are (x ∷ xs) h = All-cons IsItem x xs h.0.item (items_are xs h.1)
+
+items_steps : (xs : List Item) → AllByRecursion IsSpelledItem xs → list_all item_steps xs ≡ true
+items_steps [] h = refl
+items_steps (x ∷ xs) h = rw (h.0.steps, items_steps xs h.1) refl
+
+joined_spell : (p : Place) (items : List Item) (q : Place) → joined_at p ≡ Ok (items, q) → (text_left p ≡ joined_body items ++ text_left q) × IsForm (Joined items)
+unfolding items_behind end_of_items
+joined_spell p items q h =
+    let a = then_ok (line_at counts_said p) items_behind items q (sym (joined_is p) ∙ h) in
+    let b = then_ok (items_at (a.0.off + a.0.on) (all_left a.0) a.1) end_of_items items q a.3 in
+    let d = then_ok (line_at end_said b.1) (λ _ s. Ok (b.0, s)) items q b.3 in
+    let same : read_to b.0 d.1 ≡ read_to items q = ok_same (read_to b.0 d.1) (read_to items q) d.3 in
+    let t = line_taken counts_said p a.0 a.1 a.2 in
+    let c = counts_spelled t.line a.0 t.says in
+    let more = items_spell (a.0.off + a.0.on) (all_left a.0) a.1 b.0 b.1 (omega arith) b.2 in
+    let end = end_text b.1 d.0 d.1 d.2 in
+    let line : text_left p ≡ counts_at a.0.off a.0.on ++ text_left a.1 =
+    t.joined ∙ sym (append_assoc t.line (10 ∷ []) (text_left a.1)) ∙ ap (λ (l : List ℕ). l ++ (10 ∷ []) ++ text_left a.1) c.is ∙ ap (λ (l : List ℕ). l ++ text_left a.1) (sym (counts_line_is a.0.off a.0.on)) in
+    let text : text_left p ≡ joined_body b.0 ++ text_left d.1 =
+    line ∙ ap (λ (n : ℕ). counts_at n a.0.on ++ text_left a.1) more.2.off ∙ ap (λ (n : ℕ). counts_at (length ((expansion b.0).off)) n ++ text_left a.1) more.2.on
+    ∙ ap (λ (l : List ℕ). counts_line (expansion b.0) ++ l) (more.0 ∙ ap (λ (l : List ℕ). flat_map item_lines b.0 ++ l) end)
+    ∙ flat (counts_line (expansion b.0)) (flat_map item_lines b.0) (codes "end\n") (text_left d.1) in
+    let is : IsJoined b.0 = record { off = omega (arith, more.2.off, c.off); on = omega (arith, more.2.on, c.on); each = items_are b.0 more.1; order = more.2.order } in
+    subst (λ (r : List Item × Place). (text_left p ≡ joined_body r.0 ++ text_left r.1) × IsForm (Joined r.0)) same (text, (is, items_steps b.0 more.1)) where
+      counts_at : ℕ → ℕ → List ℕ
+      counts_at m n = codes "motions " ++ decimal m ++ codes " " ++ decimal n ++ codes "\n"
+
+      flat : (a b e r : List ℕ) → a ++ (b ++ (e ++ r)) ≡ a ++ (b ++ e) ++ r
+      flat a b e r = simp append_assoc
+
+-- ---- the whole text
+
+version_if : (line : List ℕ) (v : Version) (c d : Bool) → bytes_eq line (codes "ngc-certificate 1") ≡ c → bytes_eq line (codes "ngc-certificate 2") ≡ d
+    → (if c then Ok One else if d then Ok Two else Err Spelling) ≡ Ok v → line ≡ version_text v
+version_if line v true d e f h = let is : One ≡ v = cc h in bytes_same line (codes "ngc-certificate 1") e ∙ ap version_text is
+version_if line v false true e f h = let is : Two ≡ v = cc h in bytes_same line (codes "ngc-certificate 2") f ∙ ap version_text is
+version_if line v false false e f h = absurd (cc h)
+
+version_spelled : (line : List ℕ) (v : Version) → version_said line ≡ Ok v → line ≡ version_text v
+unfolding version_said
+version_spelled line v h = version_if line v (bytes_eq line (codes "ngc-certificate 1")) (bytes_eq line (codes "ngc-certificate 2")) refl refl h
+
+header_by : (line next : List ℕ) (left : List (List ℕ)) (v : Version) (p : Place) (r : Result Version LineFlaw) → version_said line ≡ r → version_is r (next ∷ left) ≡ said_ok (v, p)
+    → join_with_byte 10 (line ∷ next ∷ left) ≡ version_text v ++ (10 ∷ text_left p)
+header_by line next left v p (Ok w) e h =
+    let same : read_to w (record { number = 2; left = next ∷ left }) ≡ read_to v p = ok_same (read_to w (record { number = 2; left = next ∷ left })) (read_to v p) h in
+    ap (λ (l : List ℕ). l ++ (10 ∷ join_with_byte 10 (next ∷ left))) (version_spelled line w e)
+    ∙ ap (λ (r : Version × Place). version_text r.0 ++ (10 ∷ text_left r.1)) same
+header_by line next left v p (Err flaw) e h = absurd (cc h)
+
+header_text : (lines : List (List ℕ)) (v : Version) (p : Place) → header_in lines ≡ Ok (v, p) → join_with_byte 10 lines ≡ version_text v ++ (10 ∷ text_left p)
+header_text [] v p h = absurd (cc h)
+header_text (last ∷ []) v p h = absurd (cc h)
+header_text (line ∷ next ∷ left) v p h = header_by line next left v p (version_said line) refl h
+
+ended_if : (r : Form × Place) (f : Form) (b : Bool) → nothing_in r.1.left ≡ b → (if b then Ok r.0 else Err (BadLine r.1.number)) ≡ Ok f
+    → (nothing_in r.1.left ≡ true) × (r.0 ≡ f)
+ended_if r f true e h = (e, cc h)
+ended_if r f false e h = absurd (cc h)
+
+ended_ok : (s : Said Form) (f : Form) → ended s ≡ Ok f → (q : Place) × (s ≡ Ok (f, q)) × (nothing_in q.left ≡ true)
+ended_ok (Ok r) f h = let e = ended_if r f (nothing_in r.1.left) refl h in (r.1, ap (λ (d : Form). said_ok (d, r.1)) e.1, e.0)
+ended_ok (Err fault) f h = absurd (cc h)
 
 nothing_left : (lines : List (List ℕ)) → nothing_in lines ≡ true → join_with_byte 10 lines ≡ []
 nothing_left [] h = refl
@@ -429,20 +702,50 @@ nothing_left ((b ∷ bs) ∷ []) h = absurd (cc h)
 nothing_left ([] ∷ y ∷ ys) h = absurd (cc h)
 nothing_left ((b ∷ bs) ∷ y ∷ ys) h = absurd (cc h)
 
-pub spelled_only : (text : List ℕ) (c : CertificateData) → certificate_said text ≡ Ok c → IsCertificate c × HasSteps c × (text ≡ spelling c)
-unfolding certificate_said
-spelled_only text c h =
-    let e = ended_ok (then_read (header_in (lines_of text)) (λ _ p. settings_at p)) c h in
-    let a = then_ok (header_in (lines_of text)) (λ _ p. settings_at p) c e.0 e.1 in
+abbrev body_of : Form → List ℕ
+body_of (Parted c) = body c
+body_of (Joined items) = joined_body items
+
+abbrev version_of : Form → Version
+version_of (Parted c) = One
+version_of (Joined items) = Two
+
+-- what stands behind the first line
+record FormSpells (v : Version) (p : Place) (f : Form) (q : Place) : Type 0 where
+  version : v ≡ version_of f
+  text : text_left p ≡ body_of f ++ text_left q
+  good : IsForm f
+
+form_spells : (v : Version) (p : Place) (f : Form) (q : Place) → form_at v p ≡ Ok (f, q) → FormSpells v p f q
+form_spells One p f q h =
+    let a = then_ok (settings_at p) (λ c r. Ok (Parted c, r)) f q h in
+    let same : read_to (Parted a.0) a.1 ≡ read_to f q = ok_same (read_to (Parted a.0) a.1) (read_to f q) a.3 in
+    let s = settings_spell p a.0 a.1 a.2 in
+    subst (λ (r : Form × Place). FormSpells One p r.0 r.1) same
+    (record { version = refl; text = s.0; good = (record { off = s.1.off.are; on = s.1.on.are }, record { off = s.1.off.steps; on = s.1.on.steps }) })
+form_spells Two p f q h =
+    let a = then_ok (joined_at p) (λ xs r. Ok (Joined xs, r)) f q h in
+    let same : read_to (Joined a.0) a.1 ≡ read_to f q = ok_same (read_to (Joined a.0) a.1) (read_to f q) a.3 in
+    let s = joined_spell p a.0 a.1 a.2 in
+    subst (λ (r : Form × Place). FormSpells Two p r.0 r.1) same (record { version = refl; text = s.0; good = s.1 })
+
+whole_spelling : (f : Form) → spelling f ≡ version_text (version_of f) ++ (10 ∷ body_of f)
+whole_spelling (Parted c) = spelling_is c
+whole_spelling (Joined items) = joined_spelling_is items
+
+pub spelled_only : (text : List ℕ) (f : Form) → form_said text ≡ Ok f → IsForm f × (text ≡ spelling f)
+unfolding form_said
+spelled_only text f h =
+    let e = ended_ok (then_read (header_in (lines_of text)) form_at) f h in
+    let a = then_ok (header_in (lines_of text)) form_at f e.0 e.1 in
     let first = header_text (lines_of text) a.0 a.1 a.2 in
-    let rest = settings_spell a.1 c e.0 a.3 in
-    let good = rest.1 in (
-      record { off = good.off.are; on = good.on.are },
-      record { off = good.off.steps; on = good.on.steps },
-      sym (joined_split 10 text) ∙ first ∙ ap (λ (l : List ℕ). codes "ngc-certificate 1" ++ (10 ∷ l)) rest.0
-          ∙ ap (λ (l : List ℕ). codes "ngc-certificate 1" ++ (10 ∷ (body c ++ l))) (nothing_left e.0.left e.2)
-          ∙ ap (λ (l : List ℕ). codes "ngc-certificate 1" ++ (10 ∷ l)) (append-nil (body c)) ∙ sym (spelling_is c),
+    let rest = form_spells a.0 a.1 f e.0 a.3 in (
+      rest.good,
+      sym (joined_split 10 text) ∙ first ∙ ap (λ (l : List ℕ). version_text a.0 ++ (10 ∷ l)) rest.text
+          ∙ ap (λ (l : List ℕ). version_text a.0 ++ (10 ∷ (body_of f ++ l))) (nothing_left e.0.left e.2)
+          ∙ ap (λ (l : List ℕ). version_text a.0 ++ (10 ∷ l)) (append-nil (body_of f))
+          ∙ ap (λ (v : Version). version_text v ++ (10 ∷ body_of f)) rest.version ∙ sym (whole_spelling f),
     )
 
 pub one_spelling : OneSpelling
-one_spelling text c = (spelled_only text c, λ h. subst (λ (t : List ℕ). certificate_said t ≡ Ok c) (sym h.2) (reads_back c h.0 h.1))
+one_spelling text f = (spelled_only text f, λ h. subst (λ (t : List ℕ). form_said t ≡ Ok f) (sym h.1) (reads_back f h.0))

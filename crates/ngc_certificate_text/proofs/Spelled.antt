@@ -4,7 +4,7 @@ use Rattle.std.proofs.lemmas.List.{append_assoc, get_or_default}
 use Rattle.ngc_fixed_length.specs.Written.{AppendsBeginning}
 use Rattle.ngc_output.specs.Collected.{WritesFront}
 use Rattle.ngc_certificate_text.specs.Certificate.{Entry, CertificateData, entry_at}
-use Rattle.ngc_certificate_text.specs.Spelling.{setting_lines, spelling}
+use Rattle.ngc_certificate_text.specs.Spelling.{setting_lines, parted_spelling}
 use Rattle.ngc_certificate_text.specs.declared.piece.Piece.{Piece}
 use Rattle.ngc_certificate_text.proofs.Fronts.{front_more, front_moved, front_stopped, longer, beginning_written}
 
@@ -80,21 +80,21 @@ abbrev on_lines : CertificateData → List ℕ
 on_lines c = setting_lines (codes "on") c.on
 
 pub off_stopped : (c : CertificateData) (old new : Option (List ℕ)) (before headed : List ℕ) → headed ≡ before ++ head
-    → AppendsBeginning old new (headed ++ off_lines c) → AppendsBeginning old new (before ++ spelling c)
+    → AppendsBeginning old new (headed ++ off_lines c) → AppendsBeginning old new (before ++ parted_spelling c)
 off_stopped c old new before headed is k = stopped_in_off old new before headed head (off_lines c) (on_lines c) foot is k
 
 pub on_stopped : (c : CertificateData) (old mid new : Option (List ℕ)) (before headed between : List ℕ) → headed ≡ before ++ head
-    → WritesFront old mid (headed ++ off_lines c) between → AppendsBeginning mid new (between ++ on_lines c) → AppendsBeginning old new (before ++ spelling c)
+    → WritesFront old mid (headed ++ off_lines c) between → AppendsBeginning mid new (between ++ on_lines c) → AppendsBeginning old new (before ++ parted_spelling c)
 on_stopped c old mid new before headed between is h k = stopped_in_on old mid new before headed between head (off_lines c) (on_lines c) foot is h k
 
 pub end_stopped : (c : CertificateData) (old mid late new : Option (List ℕ)) (before headed between after : List ℕ) → headed ≡ before ++ head
     → WritesFront old mid (headed ++ off_lines c) between → WritesFront mid late (between ++ on_lines c) after → AppendsBeginning late new after
-    → AppendsBeginning old new (before ++ spelling c)
+    → AppendsBeginning old new (before ++ parted_spelling c)
 end_stopped c old mid late new before headed between after is h k part =
     stopped_behind old mid late new before headed between after head (off_lines c) (on_lines c) foot is h k part
 
 pub spelled : (c : CertificateData) (old mid late new : Option (List ℕ)) (before headed between after made footed : List ℕ) → headed ≡ before ++ head
     → WritesFront old mid (headed ++ off_lines c) between → WritesFront mid late (between ++ on_lines c) after → WritesFront late new after made → footed ≡ made ++ foot
-    → WritesFront old new (before ++ spelling c) footed
+    → WritesFront old new (before ++ parted_spelling c) footed
 spelled c old mid late new before headed between after made footed is h k room last =
     made_whole old mid late new before headed between after made footed head (off_lines c) (on_lines c) foot is h k room last

@@ -6,12 +6,12 @@ use Rattle.ngc_certificate_text.specs.declared.expected.Expected.TheVariants as 
 use Rattle.ngc_certificate_text.specs.declared.fault.CertificateFault.{CertificateFault}
 use Rattle.ngc_certificate_text.specs.declared.certificate_lines.CertificateLines.{CertificateLines}
 use Rattle.ngc_certificate_text.specs.declared.told.Told.{Told}
-use Rattle.ngc_certificate_text.specs.Ahead.{Left, left_from, nothing_left, made_with, certificate_of, wrong_line}
+use Rattle.ngc_certificate_text.specs.Ahead.{Rest, Left, left_from, nothing_left, made_with, certificate_of, form_of_text, wrong_line}
 use Rattle.ngc_certificate_text.specs.LinesView.{left_by, IsReading}
 use Rattle.ngc_certificate_text.specs.Parted.{is_feedless, firm, firm_lines, PartsLines}
-use Rattle.ngc_certificate_text.specs.Said.{lines_of, nothing_in, certificate_said}
+use Rattle.ngc_certificate_text.specs.Said.{lines_of, nothing_in, certificate_said, form_said}
 use Rattle.ngc_certificate_text.specs.Told.{IsFront, Tells}
-use Rattle.ngc_certificate_text.proofs.AheadLaws.{HasNoLine, wrong_said, nothing_said, ended_said, two_left, one_left, begun_said}
+use Rattle.ngc_certificate_text.proofs.AheadLaws.{HasNoLine, wrong_said, nothing_said, ended_said, two_left, one_left, begun_said, begun_form}
 use Rattle.ngc_certificate_text.proofs.Parting.{feedless_both, split_onto, only_line}
 use Rattle.ngc_certificate_text.proofs.SaidLaws.{some_lines}
 
@@ -135,16 +135,29 @@ goes_too_far r rest e some reading = too_far r rest e some reading ∙ sym (too_
 
 -- ---- the beginning
 
-begun : (r : CertificateLines) (lines : List ℕ → List (List ℕ)) (bytes text : List ℕ) → r.next.expected ≡ next.Header → r.cut.items ≡ []
-    → lines bytes ≡ lines_of text → certificate_said text ≡ made_with certificate_of (left_by lines r bytes)
-begun r lines bytes text e f h =
-    begun_said r.next.number text
-    ∙ ap (λ (ls : List (List ℕ)). made_with certificate_of (left_from next.Header r.next.number ls)) (sym h)
-    ∙ ap (λ x. made_with certificate_of (left_from x r.next.number (lines bytes))) (sym e)
-    ∙ ap (λ (c : List ℕ). made_with certificate_of (from r (lines (c ++ bytes)))) (sym f)
+module _ {X : Type 0} (said : List ℕ → Result X CertificateFault) (of : Rest → X) (begins : (number : ℕ) (text : List ℕ) → said text ≡ made_with of (left_from next.Header number (lines_of text))) where
+  begun : (r : CertificateLines) (lines : List ℕ → List (List ℕ)) (bytes text : List ℕ) → r.next.expected ≡ next.Header → r.cut.items ≡ []
+      → lines bytes ≡ lines_of text → said text ≡ made_with of (left_by lines r bytes)
+  begun r lines bytes text e f h =
+      begins r.next.number text
+      ∙ ap (λ (ls : List (List ℕ)). made_with of (left_from next.Header r.next.number ls)) (sym h)
+      ∙ ap (λ x. made_with of (left_from x r.next.number (lines bytes))) (sym e)
+      ∙ ap (λ (c : List ℕ). made_with of (from r (lines (c ++ bytes)))) (sym f)
 
-pub begun_text : (r : CertificateLines) (bytes : List ℕ) → r.next.expected ≡ next.Header → r.cut.items ≡ [] → certificate_said bytes ≡ made_with certificate_of (left_by lines_of r bytes)
-begun_text r bytes e f = begun r lines_of bytes bytes e f refl
+  begun_text : (r : CertificateLines) (bytes : List ℕ) → r.next.expected ≡ next.Header → r.cut.items ≡ [] → said bytes ≡ made_with of (left_by lines_of r bytes)
+  begun_text r bytes e f = begun r lines_of bytes bytes e f refl
 
-pub begun_firm : (r : CertificateLines) (bytes rest : List ℕ) → r.next.expected ≡ next.Header → r.cut.items ≡ [] → certificate_said (firm bytes ++ rest) ≡ made_with certificate_of (left_by (firm_lines rest) r bytes)
-begun_firm r bytes rest e f = begun r (firm_lines rest) bytes (firm bytes ++ rest) e f refl
+  begun_firm : (r : CertificateLines) (bytes rest : List ℕ) → r.next.expected ≡ next.Header → r.cut.items ≡ [] → said (firm bytes ++ rest) ≡ made_with of (left_by (firm_lines rest) r bytes)
+  begun_firm r bytes rest e f = begun r (firm_lines rest) bytes (firm bytes ++ rest) e f refl
+
+pub motions_text : (r : CertificateLines) (bytes : List ℕ) → r.next.expected ≡ next.Header → r.cut.items ≡ [] → certificate_said bytes ≡ made_with certificate_of (left_by lines_of r bytes)
+motions_text r bytes e f = begun_text certificate_said certificate_of begun_said r bytes e f
+
+pub motions_firm : (r : CertificateLines) (bytes rest : List ℕ) → r.next.expected ≡ next.Header → r.cut.items ≡ [] → certificate_said (firm bytes ++ rest) ≡ made_with certificate_of (left_by (firm_lines rest) r bytes)
+motions_firm r bytes rest e f = begun_firm certificate_said certificate_of begun_said r bytes rest e f
+
+pub form_text : (r : CertificateLines) (bytes : List ℕ) → r.next.expected ≡ next.Header → r.cut.items ≡ [] → form_said bytes ≡ made_with form_of_text (left_by lines_of r bytes)
+form_text r bytes e f = begun_text form_said form_of_text begun_form r bytes e f
+
+pub form_firm : (r : CertificateLines) (bytes rest : List ℕ) → r.next.expected ≡ next.Header → r.cut.items ≡ [] → form_said (firm bytes ++ rest) ≡ made_with form_of_text (left_by (firm_lines rest) r bytes)
+form_firm r bytes rest e f = begun_firm form_said form_of_text begun_form r bytes rest e f

@@ -9,10 +9,10 @@ use Rattle.ngc_certificate_text.specs.declared.lines.MotionLine.{MotionLine}
 use Rattle.ngc_certificate_text.specs.Number.{fields}
 use Rattle.ngc_certificate_text.specs.Lines.{numbers_in, numbers_behind, one_count, setting_said, two_counts, motion_said, line_piece, arc_piece, piece_in, piece_said}
 
-word_is : (c : Bool) (o : Option (List ℤ)) → c ≡ true → (if c then o else None) ≡ o
+pub word_is : (c : Bool) (o : Option (List ℤ)) → c ≡ true → (if c then o else None) ≡ o
 word_is c o e = rw e refl
 
-word_not : (c : Bool) (o : Option (List ℤ)) → c ≡ false → (if c then o else None) ≡ None
+pub word_not : (c : Bool) (o : Option (List ℤ)) → c ≡ false → (if c then o else None) ≡ None
 word_not c o e = rw e refl
 
 pub motion_word : (line word : List ℕ) (fs : List (List ℕ)) (b : Bool) (found : Result MotionLine LineFlaw) → fields line ≡ word ∷ fs → b ≡ bytes_eq word (codes "motion") → b ≡ true

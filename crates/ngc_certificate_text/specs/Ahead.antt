@@ -1,41 +1,63 @@
 -- What is left of a certificate behind the lines that were read, by the line that comes next. Our own.
-use Rattle.std.specs.Prelude.{◌≡◌, ℕ, ◌+◌, ◌*◌, ◌≤◌, zero, suc, List, [], ◌++◌, codes, Result, Ok, Err}
+use Rattle.std.specs.Prelude.{◌≡◌, ℕ, ◌+◌, ◌-◌, ◌*◌, ◌≤◌, zero, suc, List, [], ◌++◌, map, codes, Option, Some, None, Result, Ok, Bool, true, false, IsTrue, not, ◌||◌, ◌==◌, nat_lt}
 use Rattle.ngc_certificate_text.specs.declared.expected.Expected.{Expected}
 use Rattle.ngc_certificate_text.specs.declared.expected.Expected.TheVariants as next
 use Rattle.ngc_certificate_text.specs.declared.expected.BegunMotion.{BegunMotion}
+use Rattle.ngc_certificate_text.specs.declared.expected.EntriesLeft.{EntriesLeft}
+use Rattle.ngc_certificate_text.specs.declared.expected.Indices.{Indices}
+use Rattle.ngc_certificate_text.specs.declared.expected.Indices.TheVariants as of
+use Rattle.ngc_certificate_text.specs.declared.expected.MotionsLeft.{MotionsLeft}
+use Rattle.ngc_certificate_text.specs.declared.expected.MotionsLeft.TheVariants.{Parted, Joined}
 use Rattle.ngc_certificate_text.specs.declared.fault.CertificateFault.{CertificateFault}
 use Rattle.ngc_certificate_text.specs.declared.fault.CertificateFault.TheVariants as faults
 use Rattle.ngc_certificate_text.specs.declared.piece.Piece.{Piece}
 use Rattle.ngc_certificate_text.specs.declared.piece.Setting.{Setting}
 use Rattle.ngc_certificate_text.specs.declared.piece.Setting.TheVariants.{Off, On}
+use Rattle.ngc_certificate_text.specs.declared.told.Version.{Version}
+use Rattle.ngc_certificate_text.specs.declared.told.Version.TheVariants.{One, Two}
 use Rattle.ngc_certificate_text.specs.Certificate.{Entry, CertificateData, MOTION_LIMIT}
+use Rattle.ngc_certificate_text.specs.EntryLines.{counts_said, all_left, none_left, left_behind}
+use Rattle.ngc_certificate_text.specs.Joined.{Item, expansion, Form, form_by}
 use Rattle.ngc_certificate_text.specs.Lines.{piece_said, end_said}
-use Rattle.ngc_certificate_text.specs.Said.{Place, Said, then_read, line_at, several, entry_at, setting_at, header_in, ended}
+pub use Rattle.ngc_certificate_text.specs.Said.{said_with, made_with}
+use Rattle.ngc_certificate_text.specs.Said.{Place, Said, then_read, line_at, several, entry_at, setting_at, items_at, header_in, ended}
 
--- the pieces that come yet of a motion that has begun, and the motions that come behind it
+-- the version where its line comes yet, the pieces that come yet of a motion that has begun, and the entries behind it
 pub record Rest : Type 0 where
+  pub version : Option Version
   pub pieces : List Piece
-  pub off : List Entry
-  pub on : List Entry
+  pub items : List Item
 
 abbrev pub nothing_left : Rest
-nothing_left = record { pieces = []; off = []; on = [] }
+nothing_left = record { version = None; pieces = []; items = [] }
 
 -- a text's certificate, where nothing of it was read yet
 abbrev pub certificate_of : Rest → CertificateData
-certificate_of r = record { off = r.off; on = r.on }
+certificate_of r = expansion r.items
 
--- these motions of a setting come first, and none has begun
-abbrev pub with_motions : Setting → List Entry → Rest → Rest
-with_motions Off more r = record { pieces = []; off = more ++ r.off; on = r.on }
-with_motions On more r = record { pieces = []; off = r.off; on = more ++ r.on }
+abbrev pub form_of_text : Rest → Form
+form_of_text r = form_by r.version r.items
+
+abbrev pub of_version : Version → Rest → Rest
+of_version v r = record { version = Some v; pieces = r.pieces; items = r.items }
+
+-- these entries come first, and none has begun
+abbrev pub with_items : List Item → Rest → Rest
+with_items more r = record { version = r.version; pieces = []; items = more ++ r.items }
 
 abbrev pub with_pieces : List Piece → Rest → Rest
-with_pieces pieces r = record { pieces = pieces; off = r.off; on = r.on }
+with_pieces pieces r = record { version = r.version; pieces = pieces; items = r.items }
 
--- what is made of what a part of the text says
-abbrev pub said_with : {X Y : Type 0} → (X → Y) → Said X → Said Y
-said_with f s = then_read s (λ r q. Ok (f r, q))
+abbrev pub index_at : Setting → ℕ → Indices
+index_at Off i = of.Off i
+index_at On j = of.On j
+
+-- a motion of one setting as an entry
+abbrev pub item_of : Setting → Entry → Item
+item_of s e = record { indices = index_at s e.index; pieces = e.pieces }
+
+abbrev pub with_motions : Setting → List Entry → Rest → Rest
+with_motions s more r = with_items (map (item_of s) more) r
 
 abbrev pub name_of : Setting → List ℕ
 name_of Off = codes "off"
@@ -54,21 +76,31 @@ behind On p = end_ahead p
 unfoldable pub setting_ahead : Setting → Place → Said Rest
 setting_ahead s p = then_read (setting_at (name_of s) p) (λ more q. said_with (with_motions s more) (behind s q))
 
--- so many motions of a setting
-unfoldable pub motions_ahead : Setting → ℕ → Place → Said Rest
-motions_ahead s left p = then_read (several entry_at left p) (λ more q. said_with (with_motions s more) (behind s q))
+-- the motions that come yet of a setting, or the entries of both
+unfoldable pub motions_ahead : MotionsLeft → Place → Said Rest
+motions_ahead (Parted s left) p = then_read (several entry_at left p) (λ more q. said_with (with_motions s more) (behind s q))
+motions_ahead (Joined left) p = then_read (items_at (left.off + left.on) left p) (λ more q. said_with (with_items more) (end_ahead q))
 
 -- the pieces that are left of a motion, and the motions behind it
 unfoldable pub pieces_ahead : BegunMotion → Place → Said Rest
 pieces_ahead b p =
     then_read (several (line_at piece_said) b.pieces_left p) (λ pieces q.
-    said_with (with_pieces pieces) (motions_ahead b.setting b.motions_left q))
+    said_with (with_pieces pieces) (motions_ahead b.behind q))
+
+-- the counts of version 2, and its entries
+unfoldable pub counts_ahead : Place → Said Rest
+counts_ahead p = then_read (line_at counts_said p) (λ c q. motions_ahead (Joined (all_left c)) q)
+
+unfoldable pub behind_header : Version → Place → Said Rest
+behind_header One p = setting_ahead Off p
+behind_header Two p = counts_ahead p
 
 -- what comes of the text from this line on
 unfoldable pub ahead : Expected → Place → Said Rest
-ahead next.Header p = then_read (header_in p.left) (λ _ q. setting_ahead Off q)
+ahead next.Header p = then_read (header_in p.left) (λ v q. said_with (of_version v) (behind_header v q))
 ahead (next.Setting s) p = setting_ahead s p
-ahead (next.Motion s left) p = motions_ahead s left p
+ahead next.Counts p = counts_ahead p
+ahead (next.Motion left) p = motions_ahead left p
 ahead (next.Piece b) p = pieces_ahead b p
 ahead next.End p = end_ahead p
 ahead next.Nothing p = Ok (nothing_left, p)
@@ -81,35 +113,58 @@ Left = Result Rest CertificateFault
 abbrev pub left_from : Expected → ℕ → List (List ℕ) → Left
 left_from e number lines = ended (ahead e (record { number = number; left = lines }))
 
--- what is made of what a text says
-abbrev pub made_with : {X Y : Type 0} → (X → Y) → Result X CertificateFault → Result Y CertificateFault
-made_with f (Ok x) = Ok (f x)
-made_with f (Err fault) = Err fault
-
 -- ---- the line that comes next
 
 abbrev pub next_setting : Setting → Expected
 next_setting Off = next.Setting On
 next_setting On = next.End
 
-abbrev pub next_of_motions : Setting → ℕ → Expected
-next_of_motions s zero = next_setting s
-next_of_motions s (suc n) = next.Motion s (suc n)
+abbrev pub next_of_entries : Bool → EntriesLeft → Expected
+next_of_entries true left = next.End
+next_of_entries false left = next.Motion (Joined left)
+
+abbrev pub next_of_motions : MotionsLeft → Expected
+next_of_motions (Parted s zero) = next_setting s
+next_of_motions (Parted s (suc n)) = next.Motion (Parted s (suc n))
+next_of_motions (Joined left) = next_of_entries (none_left left) left
+
+-- what comes behind a motion
+abbrev pub motions_behind : MotionsLeft → Indices → MotionsLeft
+motions_behind (Parted s left) indices = Parted s (left - 1)
+motions_behind (Joined left) indices = Joined (left_behind left indices)
 
 -- the fault of a line that is missing, or too long
 abbrev pub wrong_line : Expected → ℕ → CertificateFault
 wrong_line next.Header number = faults.WrongHeader
 wrong_line (next.Setting s) number = faults.BadLine number
-wrong_line (next.Motion s left) number = faults.BadLine number
+wrong_line next.Counts number = faults.BadLine number
+wrong_line (next.Motion left) number = faults.BadLine number
 wrong_line (next.Piece b) number = faults.BadLine number
 wrong_line next.End number = faults.BadLine number
 wrong_line next.Nothing number = faults.BadLine number
 
+abbrev pub how_many : MotionsLeft → ℕ
+how_many (Parted s left) = left
+how_many (Joined left) = left.off + left.on
+
+abbrev pub HaveSome : MotionsLeft → Type 0
+HaveSome left = 1 ≤ how_many left
+
+-- behind an entry of `on` alone no motions of `off` are left, or there are more of `on`
+abbrev pub go_on : MotionsLeft → Bool
+go_on (Parted s left) = true
+go_on (Joined left) = not left.behind_on || ((left.off == 0) || nat_lt 0 left.on)
+
+abbrev pub AreOpen : MotionsLeft → Type 0
+AreOpen left = IsTrue (go_on left)
+
 -- a motion or a piece that comes next is counted, and the first line has the first number
 pub record IsSound (e : Expected) (number : ℕ) : Type 0 where
   pub first : e ≡ next.Header → number ≡ 1
-  pub motion : (s : Setting) (left : ℕ) → e ≡ next.Motion s left → 1 ≤ left
+  pub motion : (left : MotionsLeft) → e ≡ next.Motion left → HaveSome left
   pub piece : (b : BegunMotion) → e ≡ next.Piece b → 1 ≤ b.pieces_left
+  pub going : (left : MotionsLeft) → e ≡ next.Motion left → AreOpen left
+  pub going_behind : (b : BegunMotion) → e ≡ next.Piece b → AreOpen b.behind
 
 -- how many lines may come: a motion takes at most 65,536
 abbrev pub LINES_OF_MOTIONS : ℕ
@@ -120,10 +175,15 @@ abbrev pub lines_behind : Setting → ℕ
 lines_behind Off = LINES_OF_MOTIONS + 3
 lines_behind On = 2
 
+abbrev pub lines_of_motions : MotionsLeft → ℕ
+lines_of_motions (Parted s left) = 65536 * left + lines_behind s
+lines_of_motions (Joined left) = 65536 * (left.off + left.on) + 2
+
 abbrev pub lines_ahead : Expected → ℕ
 lines_ahead next.Header = 2 * LINES_OF_MOTIONS + 5
 lines_ahead (next.Setting s) = LINES_OF_MOTIONS + 1 + lines_behind s
-lines_ahead (next.Motion s left) = 65536 * left + lines_behind s
-lines_ahead (next.Piece b) = b.pieces_left + 65536 * b.motions_left + lines_behind b.setting
+lines_ahead next.Counts = 2 * LINES_OF_MOTIONS + 3
+lines_ahead (next.Motion left) = lines_of_motions left
+lines_ahead (next.Piece b) = b.pieces_left + lines_of_motions b.behind
 lines_ahead next.End = 2
 lines_ahead next.Nothing = 1

@@ -4,101 +4,119 @@ use Rattle.std.specs.List.{list_all}
 use Rattle.ngc_certificate_text.specs.declared.expected.Expected.{Expected}
 use Rattle.ngc_certificate_text.specs.declared.expected.Expected.TheVariants as next
 use Rattle.ngc_certificate_text.specs.declared.expected.BegunMotion.{BegunMotion}
+use Rattle.ngc_certificate_text.specs.declared.expected.Indices.{Indices}
 use Rattle.ngc_certificate_text.specs.declared.found.Found.{Found}
 use Rattle.ngc_certificate_text.specs.declared.piece.Piece.{Piece}
 use Rattle.ngc_certificate_text.specs.declared.piece.Setting.{Setting}
 use Rattle.ngc_certificate_text.specs.declared.piece.Setting.TheVariants.{Off, On}
 use Rattle.ngc_certificate_text.specs.declared.told.Told.{Told}
 use Rattle.ngc_certificate_text.specs.declared.told.Told.TheVariants as tell
-use Rattle.ngc_certificate_text.specs.Ahead.{Rest, with_motions}
-use Rattle.ngc_certificate_text.specs.Certificate.{Entry, CertificateData, INDEX_LIMIT, PIECE_LIMIT, MOTION_LIMIT, good_piece}
-use Rattle.ngc_certificate_text.specs.Contents.{said_of}
+use Rattle.ngc_certificate_text.specs.declared.told.Version.{Version}
+use Rattle.ngc_certificate_text.specs.Ahead.{Rest, with_items}
+use Rattle.ngc_certificate_text.specs.Certificate.{entries_at, PIECE_LIMIT, MOTION_LIMIT, good_piece}
+use Rattle.ngc_certificate_text.specs.Joined.{Item, expansion, good_indices, Form, form_by}
+use Rattle.ngc_certificate_text.specs.Order.{items_in, IsWhole}
+use Rattle.ngc_certificate_text.specs.Told.{left_at, taken_at}
 
--- the motions that are whole, and the pieces so far of one that has begun
+-- the version, the entries that are whole, and the pieces so far of one that has begun
 pub record Heard : Type 0 where
+  pub version : Option Version
   pub pieces : List Piece
-  pub contents : CertificateData
+  pub items : List Item
 
 abbrev pub heard_in : {A : Type 0} → Found A → Heard
-heard_in f = record { pieces = f.pieces.items; contents = said_of f.certificate }
+heard_in f = record { version = f.version; pieces = f.pieces.items; items = items_in f.order.items f.off f.on }
 
--- this motion comes behind those of its setting
-abbrev pub add_motion : Setting → Entry → CertificateData → CertificateData
-add_motion Off e c = record { off = c.off ++ (e ∷ []); on = c.on }
-add_motion On e c = record { off = c.off; on = c.on ++ (e ∷ []) }
+-- all motions of both settings are entries
+abbrev pub IsKept : {A : Type 0} → Found A → Type 0
+IsKept f = IsWhole f.order.items f.off f.on
 
-abbrev pub heard_piece : Bool → BegunMotion → List Piece → CertificateData → Heard
-heard_piece true b pieces c = record { pieces = pieces; contents = add_motion b.setting (record { index = b.index; pieces = pieces }) c }
-heard_piece false b pieces c = record { pieces = pieces; contents = c }
+-- this entry comes behind the others
+abbrev pub add_item : Indices → List Piece → List Item → List Item
+add_item indices pieces items = items ++ (record { indices = indices; pieces = pieces } ∷ [])
+
+abbrev pub heard_piece : Bool → BegunMotion → List Piece → Heard → Heard
+heard_piece true b pieces h = record { version = h.version; pieces = pieces; items = add_item b.indices pieces h.items }
+heard_piece false b pieces h = record { version = h.version; pieces = pieces; items = h.items }
 
 -- what a line adds
 abbrev pub heard : Told → Heard → Heard
-heard tell.Header h = h
+heard (tell.Header v) h = record { version = Some v; pieces = h.pieces; items = h.items }
 heard (tell.Setting s n) h = h
-heard (tell.Motion b) h = record { pieces = []; contents = h.contents }
-heard (tell.Piece b p) h = heard_piece (nat_le b.pieces_left 1) b (h.pieces ++ (p ∷ [])) h.contents
+heard (tell.Counts off on) h = h
+heard (tell.Motion b) h = record { version = h.version; pieces = []; items = h.items }
+heard (tell.Piece b p) h = heard_piece (nat_le b.pieces_left 1) b (h.pieces ++ (p ∷ [])) h
 heard tell.End h = h
 
 -- ---- the whole certificate: what was heard, and what is left
 
-abbrev pub joined : CertificateData → Rest → CertificateData
-joined c r = record { off = c.off ++ r.off; on = c.on ++ r.on }
+abbrev pub first_of : Option Version → Option Version → Option Version
+first_of None later = later
+first_of (Some v) later = Some v
+
+abbrev pub joined : Heard → Rest → Form
+joined h r = form_by (first_of h.version r.version) (h.items ++ r.items)
 
 abbrev pub begun_of : Expected → Option BegunMotion
 begun_of next.Header = None
 begun_of (next.Setting s) = None
-begun_of (next.Motion s left) = None
+begun_of next.Counts = None
+begun_of (next.Motion left) = None
 begun_of (next.Piece b) = Some b
 begun_of next.End = None
 begun_of next.Nothing = None
 
-abbrev pub gathered : Option BegunMotion → Heard → Rest → CertificateData
-gathered None h r = joined h.contents r
-gathered (Some b) h r = joined h.contents (with_motions b.setting (record { index = b.index; pieces = h.pieces ++ r.pieces } ∷ []) r)
+abbrev pub gathered : Option BegunMotion → Heard → Rest → Form
+gathered None h r = joined h r
+gathered (Some b) h r = joined h (with_items (record { indices = b.indices; pieces = h.pieces ++ r.pieces } ∷ []) r)
 
 -- ---- there is room for what comes
 
--- while so many motions of one setting are to come, how many of another may
-abbrev pub may_come_at : Setting → ℕ → Setting → ℕ
-may_come_at Off left Off = left
-may_come_at Off left On = MOTION_LIMIT
-may_come_at On left Off = 0
-may_come_at On left On = left
+abbrev pub may_come_behind : Setting → Setting → ℕ
+may_come_behind Off s = MOTION_LIMIT
+may_come_behind On Off = 0
+may_come_behind On On = MOTION_LIMIT
 
 abbrev pub may_come : Expected → Setting → ℕ
 may_come next.Header s = MOTION_LIMIT
-may_come (next.Setting t) s = may_come_at t MOTION_LIMIT s
-may_come (next.Motion t left) s = may_come_at t left s
-may_come (next.Piece b) s = may_come_at b.setting (b.motions_left + 1) s
+may_come (next.Setting t) s = may_come_behind t s
+may_come next.Counts s = MOTION_LIMIT
+may_come (next.Motion left) s = left_at left s
+may_come (next.Piece b) s = left_at b.behind s + taken_at b.indices s
 may_come next.End s = 0
 may_come next.Nothing s = 0
 
 pub record IsBegun (b : BegunMotion) (pieces : List Piece) : Type 0 where
-  pub index : b.index ≤ INDEX_LIMIT
+  pub indices : IsTrue (good_indices b.indices)
   pub few : length pieces + b.pieces_left ≤ PIECE_LIMIT
   pub good : IsTrue (list_all good_piece pieces)
 
 -- a certificate has room for what may come
-pub record HasRoom (e : Expected) (c : CertificateData) : Type 0 where
-  pub off : length c.off + may_come e Off ≤ MOTION_LIMIT
-  pub on : length c.on + may_come e On ≤ MOTION_LIMIT
+abbrev pub HasRoom : Expected → List Item → Type 0
+HasRoom e items = (s : Setting) → length (entries_at s (expansion items)) + may_come e s ≤ MOTION_LIMIT
+
+-- and for one entry more
+abbrev pub HasRoomFor : Indices → List Item → Type 0
+HasRoomFor indices items = (s : Setting) → length (entries_at s (expansion items)) + taken_at indices s ≤ MOTION_LIMIT
 
 -- what is expected may come behind what was heard
 pub record MayExpect (e : Expected) (h : Heard) : Type 0 where
-  pub room : HasRoom e h.contents
+  pub version : e ≡ next.Header → h.version ≡ None
+  pub room : HasRoom e h.items
   pub piece : (b : BegunMotion) → e ≡ next.Piece b → IsBegun b h.pieces
 
 -- a piece may be taken
 pub record IsPieceTaken (b : BegunMotion) (p : Piece) (h : Heard) : Type 0 where
   pub begun : IsBegun b h.pieces
   pub some : 1 ≤ b.pieces_left
-  pub room : HasRoom (next.Piece b) h.contents
+  pub room : HasRoom (next.Piece b) h.items
   pub good : IsTrue (good_piece p)
 
 -- a line may be taken
 abbrev pub MayTake : Told → Heard → Type 0
-MayTake tell.Header h = Unit {0}
+MayTake (tell.Header v) h = Unit {0}
 MayTake (tell.Setting s n) h = Unit {0}
+MayTake (tell.Counts off on) h = Unit {0}
 MayTake (tell.Motion b) h = Unit {0}
 MayTake (tell.Piece b p) h = IsPieceTaken b p h
 MayTake tell.End h = Unit {0}

@@ -4,11 +4,10 @@ use Rattle.ngc_certificate_text.specs.declared.certificate.Certificate.{Certific
 use Rattle.ngc_certificate_text.specs.declared.fault.CertificateFault.{CertificateFault}
 use Rattle.ngc_certificate_text.specs.declared.fault.CertificateFault.TheVariants.{WrongHeader, BadLine, OutOfRange}
 use Rattle.ngc_certificate_text.specs.declared.fault.CertificateFault.TheVariants.{Memory, ReadFailed}
-use Rattle.ngc_certificate_text.specs.Certificate.{CertificateData}
 
 -- the answer is what the text says, but for want of memory and the source's failure
-abbrev pub GivesCertificate : {A : Type 0} → (Certificate A → CertificateData) → Result (Certificate A) CertificateFault
-    → Result CertificateData CertificateFault → Type 0
+abbrev pub GivesCertificate : {A X : Type 0} → (Certificate A → X) → Result (Certificate A) CertificateFault
+    → Result X CertificateFault → Type 0
 GivesCertificate view (Ok c) says = says ≡ Ok (view c)
 GivesCertificate view (Err WrongHeader) says = says ≡ Err WrongHeader
 GivesCertificate view (Err (BadLine n)) says = says ≡ Err (BadLine n)

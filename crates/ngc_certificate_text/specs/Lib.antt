@@ -1,4 +1,7 @@
 pub mod Certificate
+pub mod Joined
+pub mod EntryLines
+pub mod Order
 pub mod Spelling
 pub mod Held
 pub mod Contents

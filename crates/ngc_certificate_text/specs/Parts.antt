@@ -2,6 +2,9 @@
 use Rattle.ngc_certificate_text.specs.declared.piece.Cut.{Cut}
 use Rattle.ngc_certificate_text.specs.declared.piece.Cut.TheVariants.{Place}
 use Rattle.ngc_certificate_text.specs.declared.piece.Piece.{Piece}
+use Rattle.ngc_certificate_text.specs.declared.expected.Indices.TheVariants.{Both}
+use Rattle.ngc_certificate_text.specs.declared.lines.CountsLine.{CountsLine}
+use Rattle.ngc_certificate_text.specs.declared.lines.EntryLine.{EntryLine}
 use Rattle.ngc_certificate_text.specs.declared.lines.MotionLine.{MotionLine}
 use Rattle.std.specs.Prelude.{ℕ, ℤ, List, [], ◌∷◌, Result, Ok, Err}
 use Rattle.ngc_fixed_length.specs.declared.points.GridBox.{GridBox}
@@ -42,3 +45,13 @@ abbrev pub motion_of : Result ℕ LineFlaw → Result ℕ LineFlaw → Result Mo
 motion_of (Ok index) (Ok pieces) = Ok (record { index = index; pieces = pieces })
 motion_of (Ok index) (Err flaw) = Err Range
 motion_of (Err flaw) pieces = Err Range
+
+abbrev pub counts_of : Result ℕ LineFlaw → Result ℕ LineFlaw → Result CountsLine LineFlaw
+counts_of (Ok off) (Ok on) = Ok (record { off = off; on = on })
+counts_of (Ok off) (Err flaw) = Err Range
+counts_of (Err flaw) on = Err Range
+
+abbrev pub both_of : Result ℕ LineFlaw → Result MotionLine LineFlaw → Result EntryLine LineFlaw
+both_of (Ok off) (Ok motion) = Ok (record { indices = Both off motion.index; pieces = motion.pieces })
+both_of (Ok off) (Err flaw) = Err Range
+both_of (Err flaw) motion = Err Range

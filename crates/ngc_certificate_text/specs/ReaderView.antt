@@ -2,15 +2,15 @@
 use Rattle.std.specs.Prelude.{◌≡◌, ℕ, List, Option, Some, None, Result}
 use Rattle.ngc_certificate_text.specs.declared.fault.CertificateFault.{CertificateFault}
 use Rattle.ngc_certificate_text.specs.declared.reader.CertificateReader.{CertificateReader}
-use Rattle.ngc_certificate_text.specs.Certificate.{CertificateData}
+use Rattle.ngc_certificate_text.specs.Joined.{Form}
 use Rattle.ngc_certificate_text.specs.LinesView.{room_of}
 use Rattle.ngc_certificate_text.specs.Reader.{outcome_by, firm_by}
 use Rattle.ngc_certificate_text.specs.Resumed.{resumed}
-use Rattle.ngc_certificate_text.specs.Said.{certificate_said}
+use Rattle.ngc_certificate_text.specs.Said.{form_said}
 
 -- what a certificate's text comes to
 abbrev pub Outcome : Type 0
-Outcome = Result CertificateData CertificateFault
+Outcome = Result Form CertificateFault
 
 -- what the text comes to if these bytes follow those that were fed, and no more
 abbrev pub outcome_in : {A : Type 0} → CertificateReader A → List ℕ → Outcome
@@ -32,4 +32,4 @@ room_in r = room_of r.text.lines
 abbrev pub Goes : {A : Type 0} → Option (List ℕ) → Option (List ℕ) → CertificateReader A → Type 0
 Goes None left r = Unit {0}
 Goes (Some all) None r = ⊥
-Goes (Some all) (Some left) r = certificate_said all ≡ outcome_in r left
+Goes (Some all) (Some left) r = form_said all ≡ outcome_in r left

@@ -2,7 +2,6 @@
 use Rattle.std.specs.Prelude.{◌≡◌, ◌↔◌, ℕ, zero, suc, ◌+◌, min, nat_le, ◌==◌, List, [], ◌∷◌, length, codes, Result, Ok}
 use Rattle.std.specs.Prelude.{Err, IsTrue, Bool, true, false, ◌&&◌, if◌then◌else◌}
 use Rattle.std.specs.List.{slice_split, list_all}
-use Rattle.std.specs.Str.{bytes_eq}
 use Rattle.ngc_certificate_text.specs.declared.fault.CertificateFault.{CertificateFault}
 use Rattle.ngc_certificate_text.specs.declared.fault.CertificateFault.TheVariants.{WrongHeader, BadLine, OutOfRange}
 use Rattle.ngc_certificate_text.specs.declared.lines.LineFlaw.{LineFlaw}
@@ -10,6 +9,11 @@ use Rattle.ngc_certificate_text.specs.declared.lines.LineFlaw.TheVariants.{Spell
 use Rattle.ngc_certificate_text.specs.declared.piece.Piece.{Piece}
 use Rattle.ngc_certificate_text.specs.Certificate.{Entry, CertificateData, IsCertificate}
 use Rattle.ngc_certificate_text.specs.Lines.{setting_said, motion_said, piece_said, end_said, are_steps}
+use Rattle.ngc_certificate_text.specs.declared.expected.EntriesLeft.{EntriesLeft}
+use Rattle.ngc_certificate_text.specs.declared.told.Version.{Version}
+use Rattle.ngc_certificate_text.specs.declared.told.Version.TheVariants.{One, Two}
+use Rattle.ngc_certificate_text.specs.EntryLines.{version_said, counts_said, entry_said, all_left, none_left, left_behind}
+use Rattle.ngc_certificate_text.specs.Joined.{Item, IsJoined, Form, Parted, Joined, contents}
 use Rattle.ngc_certificate_text.specs.Spelling.{spelling}
 
 -- the lines of a text, each ended by a line feed, and last what stands behind the last line feed
@@ -80,21 +84,66 @@ settings_at p =
     then_read (setting_at (codes "on") q) (λ on r.
     then_read (line_at end_said r) (λ _ s. Ok (record { off = off; on = on }, s))))
 
+-- ---- version 2
+
+-- an entry: its line, and a line for each piece
+unfoldable pub item_at : EntriesLeft → Place → Said Item
+item_at left p =
+    then_read (line_at (entry_said left) p) (λ e q.
+    then_read (several (line_at piece_said) e.pieces q) (λ pieces r.
+    Ok (record { indices = e.indices; pieces = pieces }, r)))
+
+-- entries until no motions are left: at most so many
+unfoldable pub items_at : ℕ → EntriesLeft → Place → Said (List Item)
+items_at zero left p = Ok ([], p)
+items_at (suc n) left p =
+    if none_left left then Ok ([], p) else
+    then_read (item_at left p) (λ x q. then_read (items_at n (left_behind left x.indices) q) (λ xs r. Ok (x ∷ xs, r)))
+
+-- the counts, the entries, and the line `end`
+unfoldable pub joined_at : Place → Said (List Item)
+joined_at p =
+    then_read (line_at counts_said p) (λ c q.
+    then_read (items_at (c.off + c.on) (all_left c) q) (λ items r.
+    then_read (line_at end_said r) (λ _ s. Ok (items, s))))
+
+-- ---- the whole text
+
 -- behind it stands nothing
 abbrev pub ended : {X : Type 0} → Said X → Result X CertificateFault
 ended (Ok r) = if nothing_in r.1.left then Ok r.0 else Err (BadLine r.1.number)
 ended (Err fault) = Err fault
 
+-- what is made of what a text says
+abbrev pub made_with : {X Y : Type 0} → (X → Y) → Result X CertificateFault → Result Y CertificateFault
+made_with f (Ok x) = Ok (f x)
+made_with f (Err fault) = Err fault
+
+-- what is made of what a part of the text says
+abbrev pub said_with : {X Y : Type 0} → (X → Y) → Said X → Said Y
+said_with f s = then_read s (λ r q. Ok (f r, q))
+
+abbrev pub version_is : Result Version LineFlaw → List (List ℕ) → Said Version
+version_is (Ok v) left = Ok (v, record { number = 2; left = left })
+version_is (Err flaw) left = Err WrongHeader
+
 -- the first line
-abbrev pub header_in : List (List ℕ) → Said (Unit {0})
+abbrev pub header_in : List (List ℕ) → Said Version
 header_in [] = Err WrongHeader
 header_in (last ∷ []) = Err WrongHeader
-header_in (line ∷ next ∷ left) =
-    if bytes_eq line (codes "ngc-certificate 1") then Ok (tt, record { number = 2; left = next ∷ left })
-    else Err WrongHeader
+header_in (line ∷ next ∷ left) = version_is (version_said line) (next ∷ left)
 
+abbrev pub form_at : Version → Place → Said Form
+form_at One p = said_with Parted (settings_at p)
+form_at Two p = said_with Joined (joined_at p)
+
+-- what a text of either version says
+unfoldable pub form_said : List ℕ → Result Form CertificateFault
+form_said text = ended (then_read (header_in (lines_of text)) form_at)
+
+-- the motions that it says
 unfoldable pub certificate_said : List ℕ → Result CertificateData CertificateFault
-certificate_said text = ended (then_read (header_in (lines_of text)) (λ _ p. settings_at p))
+certificate_said text = made_with contents (form_said text)
 
 -- ---- the law
 
@@ -106,8 +155,14 @@ pub record HasSteps (c : CertificateData) : Type 0 where
   pub off : IsTrue (list_all has_steps c.off)
   pub on : IsTrue (list_all has_steps c.on)
 
--- a text says a certificate just where it is the certificate's spelling
+abbrev pub item_steps : Item → Bool
+item_steps x = list_all (λ (p : Piece). are_steps p.bounds.low && are_steps p.bounds.high) x.pieces
+
+-- a form that a text can say
+abbrev pub IsForm : Form → Type 0
+IsForm (Parted c) = IsCertificate c × HasSteps c
+IsForm (Joined items) = IsJoined items × IsTrue (list_all item_steps items)
+
+-- a text says a form just where it is the form's spelling
 abbrev pub OneSpelling : Type 0
-OneSpelling =
-    (text : List ℕ) (c : CertificateData)
-    → (certificate_said text ≡ Ok c) ↔ (IsCertificate c × HasSteps c × (text ≡ spelling c))
+OneSpelling = (text : List ℕ) (f : Form) → (form_said text ≡ Ok f) ↔ (IsForm f × (text ≡ spelling f))

@@ -5,7 +5,10 @@ use Rattle.ngc_fixed_length.specs.declared.points.StepPos.{StepPos}
 use Rattle.ngc_certificate_text.specs.declared.piece.Cut.{Cut}
 use Rattle.ngc_certificate_text.specs.declared.piece.Cut.TheVariants.{Part, Place}
 use Rattle.ngc_certificate_text.specs.declared.piece.Piece.{Piece}
+use Rattle.ngc_certificate_text.specs.declared.expected.Indices.{Indices}
+use Rattle.ngc_certificate_text.specs.declared.expected.Indices.TheVariants.{Both, Off, On}
 use Rattle.ngc_certificate_text.specs.Certificate.{Entry, CertificateData}
+use Rattle.ngc_certificate_text.specs.Joined.{Item, expansion, Form, Parted, Joined}
 
 -- numbers, each behind one space
 abbrev pub steps_text : StepPos → List ℕ
@@ -28,6 +31,30 @@ abbrev pub setting_lines : List ℕ → List Entry → List ℕ
 setting_lines name entries =
     codes "setting " ++ name ++ codes " " ++ decimal (length entries) ++ codes "\n" ++ flat_map entry_lines entries
 
-abbrev pub spelling : CertificateData → List ℕ
-spelling c =
+abbrev pub parted_spelling : CertificateData → List ℕ
+parted_spelling c =
     codes "ngc-certificate 1\n" ++ setting_lines (codes "off") c.off ++ setting_lines (codes "on") c.on ++ codes "end\n"
+
+-- ---- version 2
+
+abbrev pub indices_text : Indices → List ℕ
+indices_text (Both i j) = codes "both " ++ decimal i ++ codes " " ++ decimal j
+indices_text (Off i) = codes "off " ++ decimal i
+indices_text (On j) = codes "on " ++ decimal j
+
+abbrev pub item_line : Indices → ℕ → List ℕ
+item_line indices pieces = indices_text indices ++ codes " " ++ decimal pieces ++ codes "\n"
+
+abbrev pub item_lines : Item → List ℕ
+item_lines x = item_line x.indices (length x.pieces) ++ flat_map piece_line x.pieces
+
+abbrev pub counts_line : CertificateData → List ℕ
+counts_line c = codes "motions " ++ decimal (length c.off) ++ codes " " ++ decimal (length c.on) ++ codes "\n"
+
+abbrev pub joined_spelling : List Item → List ℕ
+joined_spelling items =
+    codes "ngc-certificate 2\n" ++ counts_line (expansion items) ++ flat_map item_lines items ++ codes "end\n"
+
+abbrev pub spelling : Form → List ℕ
+spelling (Parted c) = parted_spelling c
+spelling (Joined items) = joined_spelling items

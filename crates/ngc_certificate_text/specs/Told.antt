@@ -1,42 +1,48 @@
 -- What the lines of a certificate's text tell, one by one. Our own.
-use Rattle.std.specs.Prelude.{◌≡◌, ℕ, ◌+◌, ◌-◌, ◌≤◌, nat_le, List, [], ◌∷◌, length, codes, Result, Ok, Err, Bool, true, false, IsTrue, if◌then◌else◌}
-use Rattle.std.specs.Str.{bytes_eq}
+use Rattle.std.specs.Prelude.{◌≡◌, ℕ, ◌+◌, ◌-◌, ◌≤◌, nat_le, List, [], ◌∷◌, length, Result, Ok, Err, Bool, true, false, IsTrue}
 use Rattle.ngc_certificate_text.specs.declared.expected.Expected.{Expected}
 use Rattle.ngc_certificate_text.specs.declared.expected.Expected.TheVariants as next
 use Rattle.ngc_certificate_text.specs.declared.expected.BegunMotion.{BegunMotion}
+use Rattle.ngc_certificate_text.specs.declared.expected.Indices.{Indices}
+use Rattle.ngc_certificate_text.specs.declared.expected.Indices.TheVariants as of
+use Rattle.ngc_certificate_text.specs.declared.expected.MotionsLeft.{MotionsLeft}
+use Rattle.ngc_certificate_text.specs.declared.expected.MotionsLeft.TheVariants.{Parted, Joined}
 use Rattle.ngc_certificate_text.specs.declared.fault.CertificateFault.{CertificateFault}
 use Rattle.ngc_certificate_text.specs.declared.fault.CertificateFault.TheVariants as faults
+use Rattle.ngc_certificate_text.specs.declared.lines.CountsLine.{CountsLine}
+use Rattle.ngc_certificate_text.specs.declared.lines.EntryLine.{EntryLine}
 use Rattle.ngc_certificate_text.specs.declared.lines.LineFlaw.{LineFlaw}
 use Rattle.ngc_certificate_text.specs.declared.lines.LineFlaw.TheVariants.{Spelling}
-use Rattle.ngc_certificate_text.specs.declared.lines.MotionLine.{MotionLine}
 use Rattle.ngc_certificate_text.specs.declared.piece.Setting.{Setting}
 use Rattle.ngc_certificate_text.specs.declared.piece.Setting.TheVariants.{Off, On}
 use Rattle.ngc_certificate_text.specs.declared.told.Told.{Told}
 use Rattle.ngc_certificate_text.specs.declared.told.Told.TheVariants as tell
-use Rattle.ngc_certificate_text.specs.Ahead.{Rest, Left, name_of, with_motions, with_pieces, next_of_motions}
-use Rattle.ngc_certificate_text.specs.Certificate.{INDEX_LIMIT, PIECE_LIMIT, MOTION_LIMIT, good_piece}
+use Rattle.ngc_certificate_text.specs.declared.told.Version.{Version}
+use Rattle.ngc_certificate_text.specs.declared.told.Version.TheVariants.{One, Two}
+use Rattle.ngc_certificate_text.specs.Ahead.{Rest, Left, name_of, index_at, of_version, with_items, with_pieces, next_of_motions, motions_behind, AreOpen}
+use Rattle.ngc_certificate_text.specs.Certificate.{PIECE_LIMIT, MOTION_LIMIT, good_piece}
+use Rattle.ngc_certificate_text.specs.EntryLines.{version_said, counts_said, entry_said, of_setting}
+use Rattle.ngc_certificate_text.specs.Joined.{good_indices}
 use Rattle.ngc_certificate_text.specs.Lines.{setting_said, motion_said, piece_said, end_said}
 use Rattle.ngc_certificate_text.specs.Said.{fault_at}
 
--- what is left is this line's motion or piece, and what is left behind the line
+-- what is left is this line's version, motion or piece, and what is left behind the line
 abbrev pub onto : Told → Rest → Rest
-onto (tell.Motion b) r = with_motions b.setting (record { index = b.index; pieces = r.pieces } ∷ []) r
+onto (tell.Header v) r = of_version v r
+onto (tell.Motion b) r = with_items (record { indices = b.indices; pieces = r.pieces } ∷ []) r
 onto (tell.Piece b p) r = with_pieces (p ∷ r.pieces) r
-onto tell.Header r = r
 onto (tell.Setting s n) r = r
+onto (tell.Counts off on) r = r
 onto tell.End r = r
 
-abbrev pub FitsSetting : Setting → Rest → Type 0
-FitsSetting Off r = Unit {0}
-FitsSetting On r = r.off ≡ []
-
--- as many pieces are left as the line announced, and no motions of a setting that is over
+-- as many pieces are left as the line announced
 abbrev pub Fits : Told → Rest → Type 0
-Fits tell.Header r = Unit {0}
-Fits (tell.Setting s n) r = FitsSetting s r
+Fits (tell.Header v) r = Unit {0}
+Fits (tell.Setting s n) r = Unit {0}
+Fits (tell.Counts off on) r = Unit {0}
 Fits (tell.Motion b) r = length r.pieces ≡ b.pieces_left
 Fits (tell.Piece b p) r = length r.pieces + 1 ≡ b.pieces_left
-Fits tell.End r = (r.off ≡ []) × (r.on ≡ [])
+Fits tell.End r = r.items ≡ []
 
 -- a line stands in front of the rest of the text
 abbrev pub IsFront : Told → Left → Left → Type 0
@@ -45,28 +51,55 @@ IsFront told before (Err fault) = before ≡ Err fault
 
 -- ---- which line comes behind another
 
+abbrev pub behind_version : Version → Expected
+behind_version One = next.Setting Off
+behind_version Two = next.Counts
+
 abbrev pub behind_piece : Bool → BegunMotion → Expected
-behind_piece true b = next_of_motions b.setting b.motions_left
+behind_piece true b = next_of_motions b.behind
 behind_piece false b = next.Piece (record b { pieces_left = b.pieces_left - 1 })
 
 abbrev pub behind_told : Told → Expected
-behind_told tell.Header = next.Setting Off
-behind_told (tell.Setting s n) = next_of_motions s n
+behind_told (tell.Header v) = behind_version v
+behind_told (tell.Setting s n) = next_of_motions (Parted s n)
+behind_told (tell.Counts off on) = next_of_motions (Joined (record { off = off; on = on; behind_on = false }))
 behind_told (tell.Motion b) = next.Piece b
 behind_told (tell.Piece b p) = behind_piece (nat_le b.pieces_left 1) b
 behind_told tell.End = next.Nothing
 
+-- while these motions are to come, how many of a setting may
+abbrev pub left_at : MotionsLeft → Setting → ℕ
+left_at (Parted Off left) Off = left
+left_at (Parted Off left) On = MOTION_LIMIT
+left_at (Parted On left) Off = 0
+left_at (Parted On left) On = left
+left_at (Joined left) Off = left.off
+left_at (Joined left) On = left.on
+
+-- how many motions of a setting an entry is
+abbrev pub taken_at : Indices → Setting → ℕ
+taken_at (of.Both i j) s = 1
+taken_at (of.Off i) Off = 1
+taken_at (of.Off i) On = 0
+taken_at (of.On j) Off = 0
+taken_at (of.On j) On = 1
+
 -- a motion's line announces some pieces, and the motion counts as one of its setting
 pub record IsMotionTold (e : Expected) (b : BegunMotion) : Type 0 where
-  pub expected : e ≡ next.Motion b.setting (b.motions_left + 1)
-  pub index : b.index ≤ INDEX_LIMIT
+  pub left : MotionsLeft
+  pub expected : e ≡ next.Motion left
+  pub behind : b.behind ≡ motions_behind left b.indices
+  pub going : AreOpen b.behind
+  pub counted : (s : Setting) → left_at left s ≡ left_at b.behind s + taken_at b.indices s
+  pub indices : IsTrue (good_indices b.indices)
   pub some : 1 ≤ b.pieces_left
   pub few : b.pieces_left ≤ PIECE_LIMIT
 
 -- a line that is expected may tell this
 abbrev pub IsNext : Expected → Told → Type 0
-IsNext e tell.Header = e ≡ next.Header
+IsNext e (tell.Header v) = e ≡ next.Header
 IsNext e (tell.Setting s n) = (e ≡ next.Setting s) × (n ≤ MOTION_LIMIT)
+IsNext e (tell.Counts off on) = (e ≡ next.Counts) × (off ≤ MOTION_LIMIT) × (on ≤ MOTION_LIMIT)
 IsNext e (tell.Motion b) = IsMotionTold e b
 IsNext e (tell.Piece b p) = (e ≡ next.Piece b) × IsTrue (good_piece p)
 IsNext e tell.End = e ≡ next.End
@@ -77,13 +110,22 @@ abbrev pub told_with : {X : Type 0} → (X → Told) → Result X LineFlaw → R
 told_with f (Ok x) = Ok (f x)
 told_with f (Err flaw) = Err flaw
 
-abbrev pub motion_told : Setting → ℕ → MotionLine → Told
-motion_told s left m = tell.Motion (record { setting = s; index = m.index; pieces_left = m.pieces; motions_left = left - 1 })
+abbrev pub counts_told : CountsLine → Told
+counts_told c = tell.Counts c.off c.on
+
+-- the line of a motion, or of an entry
+abbrev pub any_said : MotionsLeft → List ℕ → Result EntryLine LineFlaw
+any_said (Parted s left) line = of_setting (index_at s) (motion_said line)
+any_said (Joined left) line = entry_said left line
+
+abbrev pub motion_told : MotionsLeft → EntryLine → Told
+motion_told left e = tell.Motion (record { indices = e.indices; pieces_left = e.pieces; behind = motions_behind left e.indices })
 
 abbrev pub told_by : Expected → List ℕ → Result Told LineFlaw
-told_by next.Header line = if bytes_eq line (codes "ngc-certificate 1") then Ok tell.Header else Err Spelling
+told_by next.Header line = told_with tell.Header (version_said line)
 told_by (next.Setting s) line = told_with (tell.Setting s) (setting_said (name_of s) line)
-told_by (next.Motion s left) line = told_with (motion_told s left) (motion_said line)
+told_by next.Counts line = told_with counts_told (counts_said line)
+told_by (next.Motion left) line = told_with (motion_told left) (any_said left line)
 told_by (next.Piece b) line = told_with (tell.Piece b) (piece_said line)
 told_by next.End line = told_with (λ _. tell.End) (end_said line)
 told_by next.Nothing line = Err Spelling
@@ -92,7 +134,8 @@ told_by next.Nothing line = Err Spelling
 abbrev pub fault_of : Expected → ℕ → LineFlaw → CertificateFault
 fault_of next.Header number flaw = faults.WrongHeader
 fault_of (next.Setting s) number flaw = fault_at number flaw
-fault_of (next.Motion s left) number flaw = fault_at number flaw
+fault_of next.Counts number flaw = fault_at number flaw
+fault_of (next.Motion left) number flaw = fault_at number flaw
 fault_of (next.Piece b) number flaw = fault_at number flaw
 fault_of next.End number flaw = fault_at number flaw
 fault_of next.Nothing number flaw = fault_at number flaw

@@ -1,9 +1,9 @@
 ghost use Rattle.std.specs.Prelude.{◌≡◌, ◌≢◌, ℕ, ◌+◌, ◌<◌, ◌≤◌, List, [], ◌∷◌, ◌++◌, length, IsTrue, IfOk, IfSome, OnOk, MatchOption, MatchResult, Ok, Err};
-ghost use Rattle.ngc_certificate_text.specs.Ahead.{certificate_of, left_from, made_with, nothing_left};
+ghost use Rattle.ngc_certificate_text.specs.Ahead.{certificate_of, form_of_text, left_from, made_with, nothing_left};
 ghost use Rattle.ngc_certificate_text.specs.declared.expected.Expected.TheVariants as expect;
 ghost use Rattle.ngc_certificate_text.specs.LinesView.{left_by, expected_in, IsReading, room_of};
 ghost use Rattle.ngc_certificate_text.specs.Parted.{firm, firm_lines, is_feedless, IsSplit, PartsLines};
-ghost use Rattle.ngc_certificate_text.specs.Said.{lines_of, certificate_said};
+ghost use Rattle.ngc_certificate_text.specs.Said.{lines_of, certificate_said, form_said};
 ghost use Rattle.ngc_certificate_text.specs.Told.{IsFront, IsNext, Tells, behind_told};
 
 use crate::fault::CertificateFault;
@@ -36,6 +36,8 @@ impl CertificateLines {
         ensures expected { expected_in result ≡ expect.Header }
         ensures text { (bytes : List ℕ) → certificate_said bytes ≡ made_with certificate_of (left_by lines_of result bytes) }
         ensures firm { (bytes rest : List ℕ) → certificate_said (firm bytes ++ rest) ≡ made_with certificate_of (left_by (firm_lines rest) result bytes) }
+        ensures form { (bytes : List ℕ) → form_said bytes ≡ made_with form_of_text (left_by lines_of result bytes) }
+        ensures firm_form { (bytes rest : List ℕ) → form_said (firm bytes ++ rest) ≡ made_with form_of_text (left_by (firm_lines rest) result bytes) }
     {
         CertificateLines {
             next: NextLine::first(),

@@ -6,7 +6,7 @@ use thiserror::Error;
 #[derive(Clone, Copy, Debug, PartialEq, Eq, Error)]
 pub enum CertificateFault {
     /// The first line is another, or lacks its line feed.
-    #[error("no certificate of version 1")]
+    #[error("no certificate of version 1 or 2")]
     WrongHeader,
     /// The line of this number, from 1, is wrong or missing, or stands behind the end.
     #[error("wrong line {}", .0)]

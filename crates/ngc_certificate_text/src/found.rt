@@ -1,20 +1,33 @@
-ghost use Rattle.std.specs.Prelude.{◌≡◌, ◌+◌, ◌≤◌, [], length, OnOk};
-ghost use Rattle.ngc_certificate_text.specs.Certificate.{MOTION_LIMIT, entries_at, IsEntry};
-ghost use Rattle.ngc_certificate_text.specs.Contents.{said_of};
-ghost use Rattle.ngc_certificate_text.specs.Found.{add_motion, heard, heard_in, MayTake};
+ghost use Rattle.std.specs.Prelude.{◌≡◌, [], ◌∷◌, ◌++◌, OnOk, None};
+ghost use Rattle.ngc_certificate_text.specs.Contents.{said_of, form_of};
+ghost use Rattle.ngc_certificate_text.specs.Found.{HasRoomFor, IsKept, add_item, heard, heard_in, MayTake};
+ghost use Rattle.ngc_certificate_text.specs.Joined.{IsItem, contents, form_by};
 
-use crate::certificate::Certificate;
-use crate::expected::BegunMotion;
+use crate::certificate::{Certificate, EntryKind};
+use crate::expected::{BegunMotion, Indices};
 use crate::motions::Motions;
-use crate::piece::{Piece, Setting};
-use crate::told::Told;
+use crate::piece::Piece;
+use crate::told::{Told, Version};
 use std::alloc::{AllocError, Allocator};
 
 /// The certificate as far as its lines have come: the motions that are whole, and the pieces so far of one that has begun.
 #[derive(Drop)]
 pub struct Found<A: Allocator> {
-    certificate: Certificate<A>,
+    version: Option<Version>,
+    off: Motions<A>,
+    on: Motions<A>,
+    // The kinds of the entries in order.
+    order: Vec<EntryKind, A>,
     pieces: Vec<Piece, A>,
+}
+
+fn push_kind<A: Allocator>(order: &mut Vec<EntryKind, A>, kind: EntryKind) -> Result<(), AllocError>
+    ensures { OnOk result (order.new.items ≡ order.old.items ++ (kind ∷ [])) }
+{
+    match order.push(kind) {
+        Ok(()) => Ok(()),
+        Err(_) => Err(AllocError),
+    }
 }
 
 impl<A: Allocator> Found<A> {
@@ -22,69 +35,102 @@ impl<A: Allocator> Found<A> {
     pub(crate) fn new(alloc: A) -> Found<A>
     where
         A: Copy,
-        ensures { (heard_in result).contents ≡ record { off = []; on = [] } }
+        ensures version { (heard_in result).version ≡ None }
+        ensures items { (heard_in result).items ≡ [] }
+        ensures kept { IsKept result }
     {
         Found {
-            certificate: Certificate {
-                off: Motions::new(alloc),
-                on: Motions::new(alloc),
-            },
+            version: None,
+            off: Motions::new(alloc),
+            on: Motions::new(alloc),
+            order: Vec::new(alloc),
             pieces: Vec::new(alloc),
         }
     }
 
-    // The pieces are all those of a motion.
-    fn push_motion(&mut self, begun: &BegunMotion) -> Result<(), AllocError>
-        requires room { length (entries_at begun.now.setting (said_of self.old.certificate)) + 1 ≤ MOTION_LIMIT }
-        requires entry { IsEntry (record { index = begun.now.index; pieces = self.old.pieces.items }) }
-        ensures pushed { OnOk result (said_of self.new.certificate ≡ add_motion begun.now.setting (record { index = begun.now.index; pieces = self.old.pieces.items }) (said_of self.old.certificate)) }
+    // The pieces are all those of a motion, or of one of each setting.
+    fn push_entry(&mut self, indices: Indices) -> Result<(), AllocError>
+        requires kept { IsKept self.old }
+        requires room { HasRoomFor indices (heard_in self.old).items }
+        requires item { IsItem (record { indices = indices; pieces = self.old.pieces.items }) }
+        ensures pushed { OnOk result ((heard_in self.new).items ≡ add_item indices self.old.pieces.items (heard_in self.old).items) }
+        ensures kept { OnOk result (IsKept self.new) }
+        ensures version { self.new.version ≡ self.old.version }
         ensures pieces { self.new.pieces ≡ self.old.pieces }
     {
         let pieces = self.pieces.as_slice();
-        match begun.setting {
-            Setting::Off => self.certificate.off.push(begun.index, pieces),
-            Setting::On => self.certificate.on.push(begun.index, pieces),
+        match indices {
+            Indices::Both(off, on) => {
+                self.off.push(off, pieces)?;
+                self.on.push(on, pieces)?;
+                push_kind(&mut self.order, EntryKind::Both)
+            }
+            Indices::Off(index) => {
+                self.off.push(index, pieces)?;
+                push_kind(&mut self.order, EntryKind::Off)
+            }
+            Indices::On(index) => {
+                self.on.push(index, pieces)?;
+                push_kind(&mut self.order, EntryKind::On)
+            }
         }
     }
 
     // A motion has one piece more.
     fn add_piece(&mut self, begun: &BegunMotion, piece: Piece) -> Result<(), AllocError>
-        requires { MayTake (Told.Piece begun.now piece) (heard_in self.old) }
-        ensures { OnOk result (heard_in self.new ≡ heard (Told.Piece begun.now piece) (heard_in self.old)) }
+        requires may { MayTake (Told.Piece begun.now piece) (heard_in self.old) }
+        requires kept { IsKept self.old }
+        ensures heard { OnOk result (heard_in self.new ≡ heard (Told.Piece begun.now piece) (heard_in self.old)) }
+        ensures kept { OnOk result (IsKept self.new) }
     {
         match self.pieces.push(piece) {
             Ok(()) => {}
             Err(_) => return Err(AllocError),
         }
         if begun.pieces_left <= 1 {
-            return self.push_motion(begun);
+            return self.push_entry(begun.indices);
         }
         Ok(())
     }
 
     /// One line more.
     pub(crate) fn take(&mut self, told: &Told) -> Result<(), AllocError>
-        requires { MayTake told.now (heard_in self.old) }
-        ensures { OnOk result (heard_in self.new ≡ heard told.now (heard_in self.old)) }
+        requires may { MayTake told.now (heard_in self.old) }
+        requires kept { IsKept self.old }
+        ensures heard { OnOk result (heard_in self.new ≡ heard told.now (heard_in self.old)) }
+        ensures kept { OnOk result (IsKept self.new) }
     {
         match told {
+            Told::Header(version) => {
+                self.version = Some(*version);
+                Ok(())
+            }
             Told::Motion(_) => {
                 self.pieces.clear();
                 Ok(())
             }
             Told::Piece(begun, piece) => self.add_piece(begun, *piece),
-            Told::Header | Told::Setting(_, _) | Told::End => Ok(()),
+            Told::Setting(_, _) | Told::Counts(_, _) | Told::End => Ok(()),
         }
     }
 
     /// The certificate, where no line comes any more.
     pub(crate) fn into_certificate(self) -> Certificate<A>
-        ensures { said_of result ≡ (heard_in self).contents }
+        requires { IsKept self }
+        ensures form { form_of result ≡ form_by self.version (heard_in self).items }
+        ensures said { said_of result ≡ contents (form_of result) }
     {
         let Found {
-            certificate,
+            version,
+            off,
+            on,
+            order,
             pieces: _,
         } = self;
-        certificate
+        let order = match version {
+            Some(Version::Two) => Some(order),
+            Some(Version::One) | None => None,
+        };
+        Certificate { off, on, order }
     }
 }

@@ -18,11 +18,11 @@ mod text;
 mod told;
 mod write;
 
-pub use certificate::Certificate;
+pub use certificate::{Certificate, EntryKind};
 pub use certificate_lines::CertificateLines;
-pub use expected::{BegunMotion, Expected};
+pub use expected::{BegunMotion, EntriesLeft, Expected, Indices, MotionsLeft};
 pub use fault::CertificateFault;
 pub use motions::Motions;
 pub use piece::{Cut, Piece, Setting};
 pub use reader::CertificateReader;
-pub use told::Told;
+pub use told::{Told, Version};

@@ -9,10 +9,15 @@ ghost use Rattle.ngc_certificate_text.specs.Lines.{two_counts as two_said};
 ghost use Rattle.ngc_certificate_text.specs.Lines.{line_piece as line_said, arc_piece as arc_said, setting_said};
 ghost use Rattle.ngc_certificate_text.specs.Lines.{motion_said, piece_said, end_said};
 ghost use Rattle.ngc_certificate_text.specs.Lines.{is_count, is_step, are_steps, ranged};
-ghost use Rattle.ngc_certificate_text.specs.Parts.{box_said, box_between, place_between, piece_with, motion_of};
+ghost use Rattle.ngc_certificate_text.specs.Ahead.{index_at};
+ghost use Rattle.ngc_certificate_text.specs.EntryLines.{version_said, counts_said, motion_counts as counts_in};
+ghost use Rattle.ngc_certificate_text.specs.EntryLines.{entry_said, three_counts as three_said, of_setting};
+ghost use Rattle.ngc_certificate_text.specs.Parts.{box_said, box_between, place_between, piece_with, motion_of, counts_of, both_of};
 
+use crate::expected::{EntriesLeft, Indices};
 use crate::number::{numbers_in, split_field};
-use crate::piece::{Cut, Piece};
+use crate::piece::{Cut, Piece, Setting};
+use crate::told::Version;
 use ngc_fixed_length::{GridBox, Nm, Point2, StepPos};
 
 /// Why a line is refused.
@@ -22,6 +27,20 @@ pub enum LineFlaw {
     Spelling,
     /// A number is out of its range, or a box is inside out.
     Range,
+}
+
+/// What the line of an entry says: its motions' indices in the lists of commands, and how many pieces they have.
+#[derive(Clone, Copy, Debug, PartialEq, Eq)]
+pub struct EntryLine {
+    pub indices: Indices,
+    pub pieces: u32,
+}
+
+/// How many motions both settings have.
+#[derive(Clone, Copy, Debug, PartialEq, Eq)]
+pub struct CountsLine {
+    pub off: u32,
+    pub on: u32,
 }
 
 /// What the line of a motion says: its index in the list of commands, and how many pieces it has.
@@ -185,6 +204,76 @@ fn two_counts(numbers: &[i64]) -> Result<MotionLine, LineFlaw>
     }
 }
 
+fn counts_of(off: Result<u32, LineFlaw>, on: Result<u32, LineFlaw>) -> Result<CountsLine, LineFlaw>
+    ensures { result ≡ counts_of off on }
+{
+    match (off, on) {
+        (Ok(off), Ok(on)) => Ok(CountsLine { off, on }),
+        _ => Err(LineFlaw::Range),
+    }
+}
+
+fn motion_counts(numbers: &[i64]) -> Result<CountsLine, LineFlaw>
+    ensures { result ≡ counts_in (Some numbers.now) }
+{
+    match numbers {
+        [off, on] => counts_of(
+            count_between(0, 1_000_000, *off),
+            count_between(0, 1_000_000, *on),
+        ),
+        _ => Err(LineFlaw::Spelling),
+    }
+}
+
+// An entry of both settings.
+fn both_of(
+    off: Result<u32, LineFlaw>,
+    motion: Result<MotionLine, LineFlaw>,
+) -> Result<EntryLine, LineFlaw>
+    ensures { result ≡ both_of off motion }
+{
+    match (off, motion) {
+        (Ok(off), Ok(motion)) => Ok(EntryLine {
+            indices: Indices::Both(off, motion.index),
+            pieces: motion.pieces,
+        }),
+        _ => Err(LineFlaw::Range),
+    }
+}
+
+fn three_counts(numbers: &[i64]) -> Result<EntryLine, LineFlaw>
+    ensures { result ≡ three_said (Some numbers.now) }
+{
+    match numbers {
+        [off, on, pieces] => both_of(
+            count_between(0, 999_999, *off),
+            motion_of(
+                count_between(0, 999_999, *on),
+                count_between(1, 65_535, *pieces),
+            ),
+        ),
+        _ => Err(LineFlaw::Spelling),
+    }
+}
+
+fn motion_counts_in(fields: Option<&[u8]>) -> Result<CountsLine, LineFlaw>
+    ensures { result ≡ counts_in (numbers_said (all_fields fields.entry)) }
+{
+    match numbers_in(fields) {
+        Some(numbers) => motion_counts(numbers.as_slice()),
+        None => Err(LineFlaw::Spelling),
+    }
+}
+
+fn three_counts_in(fields: Option<&[u8]>) -> Result<EntryLine, LineFlaw>
+    ensures { result ≡ three_said (numbers_said (all_fields fields.entry)) }
+{
+    match numbers_in(fields) {
+        Some(numbers) => three_counts(numbers.as_slice()),
+        None => Err(LineFlaw::Spelling),
+    }
+}
+
 fn one_count_in(fields: Option<&[u8]>) -> Result<u32, LineFlaw>
     ensures { result ≡ one_said (numbers_said (all_fields fields.entry)) }
 {
@@ -253,6 +342,88 @@ pub(crate) fn motion_line(line: &[u8]) -> Result<MotionLine, LineFlaw>
     let (word, numbers) = split_field(line);
     if is_text(word, b"motion") {
         two_counts_in(numbers)
+    } else {
+        Err(LineFlaw::Spelling)
+    }
+}
+
+/// The version, if the line says one.
+pub(crate) fn version_line(line: &[u8]) -> Result<Version, LineFlaw>
+    ensures { result ≡ version_said line.now }
+{
+    if is_text(line, b"ngc-certificate 1") {
+        Ok(Version::One)
+    } else if is_text(line, b"ngc-certificate 2") {
+        Ok(Version::Two)
+    } else {
+        Err(LineFlaw::Spelling)
+    }
+}
+
+/// How many motions both settings have, if the line says it.
+pub(crate) fn counts_line(line: &[u8]) -> Result<CountsLine, LineFlaw>
+    ensures { result ≡ counts_said line.now }
+{
+    let (word, numbers) = split_field(line);
+    if is_text(word, b"motions") {
+        motion_counts_in(numbers)
+    } else {
+        Err(LineFlaw::Spelling)
+    }
+}
+
+fn off_entry(motion: Result<MotionLine, LineFlaw>) -> Result<EntryLine, LineFlaw>
+    ensures { result ≡ of_setting Indices.Off motion }
+{
+    match motion {
+        Ok(motion) => Ok(EntryLine {
+            indices: Indices::Off(motion.index),
+            pieces: motion.pieces,
+        }),
+        Err(flaw) => Err(flaw),
+    }
+}
+
+fn on_entry(motion: Result<MotionLine, LineFlaw>) -> Result<EntryLine, LineFlaw>
+    ensures { result ≡ of_setting Indices.On motion }
+{
+    match motion {
+        Ok(motion) => Ok(EntryLine {
+            indices: Indices::On(motion.index),
+            pieces: motion.pieces,
+        }),
+        Err(flaw) => Err(flaw),
+    }
+}
+
+/// The motion of a setting in version 1, if the line says one.
+pub(crate) fn setting_motion(setting: Setting, line: &[u8]) -> Result<EntryLine, LineFlaw>
+    ensures { result ≡ of_setting (index_at setting) (motion_said line.now) }
+{
+    match setting {
+        Setting::Off => off_entry(motion_line(line)),
+        Setting::On => on_entry(motion_line(line)),
+    }
+}
+
+// Whether a word names an entry that may come.
+fn is_entry(word: &[u8], name: &[u8], may_come: bool) -> bool
+    ensures { result ≡ (bytes_eq word.now name.now && may_come) }
+{
+    is_text(word, name) && may_come
+}
+
+/// An entry that may come, if the line says one.
+pub(crate) fn entry_line(left: &EntriesLeft, line: &[u8]) -> Result<EntryLine, LineFlaw>
+    ensures { result ≡ entry_said left.now line.now }
+{
+    let (word, numbers) = split_field(line);
+    if is_entry(word, b"both", left.may_be_both()) {
+        three_counts_in(numbers)
+    } else if is_entry(word, b"off", left.may_be_off()) {
+        off_entry(two_counts_in(numbers))
+    } else if is_entry(word, b"on", left.may_be_on()) {
+        on_entry(two_counts_in(numbers))
     } else {
         Err(LineFlaw::Spelling)
     }

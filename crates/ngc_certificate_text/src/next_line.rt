@@ -1,12 +1,15 @@
 ghost use Rattle.std.specs.Prelude.{◌≡◌, ◌≢◌, ◌+◌, ◌-◌, ◌≤◌, ◌∷◌, ℕ, List, length, MatchResult, OnOk, IfOk, Err, IsTrue, ◌↔◌};
 ghost use Rattle.ngc_certificate_text.specs.Ahead.{name_of, wrong_line, IsSound, left_from, lines_ahead};
-ghost use Rattle.ngc_certificate_text.specs.Lines.{motion_said, setting_said, piece_said, end_said};
+ghost use Rattle.ngc_certificate_text.specs.Lines.{setting_said, piece_said, end_said};
 ghost use Rattle.ngc_certificate_text.specs.Said.{next_number};
-ghost use Rattle.ngc_certificate_text.specs.Told.{IsNext, Tells, behind_told, fault_of, told_by, told_with, motion_told};
+ghost use Rattle.ngc_certificate_text.specs.Told.{IsNext, Tells, behind_told, fault_of, any_said, told_by, told_with, motion_told};
 
-use crate::expected::{BegunMotion, Expected};
+use crate::expected::{BegunMotion, Expected, MotionsLeft};
 use crate::fault::CertificateFault;
-use crate::lines::{LineFlaw, end_line, is_text, motion_line, piece_line, setting_line};
+use crate::lines::{
+    EntryLine, LineFlaw, counts_line, end_line, entry_line, piece_line, setting_line,
+    setting_motion, version_line,
+};
 use crate::piece::Setting;
 use crate::told::Told;
 
@@ -31,10 +34,9 @@ fn name(setting: Setting) -> &'static [u8]
 fn header(line: &[u8]) -> Result<Told, LineFlaw>
     ensures { result ≡ told_by Expected.Header line.now }
 {
-    if is_text(line, b"ngc-certificate 1") {
-        Ok(Told::Header)
-    } else {
-        Err(LineFlaw::Spelling)
+    match version_line(line) {
+        Ok(version) => Ok(Told::Header(version)),
+        Err(flaw) => Err(flaw),
     }
 }
 
@@ -47,17 +49,33 @@ fn setting_told(setting: Setting, line: &[u8]) -> Result<Told, LineFlaw>
     }
 }
 
-// One of so many motions.
-fn motion_told(setting: Setting, left: u32, line: &[u8]) -> Result<Told, LineFlaw>
-    requires { 1 ≤ left }
-    ensures { result ≡ told_with (motion_told setting left) (motion_said line.now) }
+fn counts_told(line: &[u8]) -> Result<Told, LineFlaw>
+    ensures { result ≡ told_by Expected.Counts line.now }
 {
-    match motion_line(line) {
-        Ok(motion) => Ok(Told::Motion(BegunMotion {
-            setting,
-            index: motion.index,
-            pieces_left: motion.pieces,
-            motions_left: left - 1,
+    match counts_line(line) {
+        Ok(counts) => Ok(Told::Counts(counts.off, counts.on)),
+        Err(flaw) => Err(flaw),
+    }
+}
+
+fn any_line(left: MotionsLeft, line: &[u8]) -> Result<EntryLine, LineFlaw>
+    ensures { result ≡ any_said left line.now }
+{
+    match left {
+        MotionsLeft::Parted(setting, _) => setting_motion(setting, line),
+        MotionsLeft::Joined(entries) => entry_line(&entries, line),
+    }
+}
+
+// One of these motions.
+fn motion_told(left: MotionsLeft, line: &[u8]) -> Result<Told, LineFlaw>
+    ensures { result ≡ told_with (motion_told left) (any_said left line.now) }
+{
+    match any_line(left, line) {
+        Ok(entry) => Ok(Told::Motion(BegunMotion {
+            indices: entry.indices,
+            pieces_left: entry.pieces,
+            behind: left.behind(entry.indices),
         })),
         Err(flaw) => Err(flaw),
     }
@@ -94,13 +112,13 @@ impl NextLine {
 
     // What a line tells.
     fn told(&self, line: &[u8]) -> Result<Told, LineFlaw>
-        requires { IsSound self.now.expected self.now.number }
         ensures { result ≡ told_by self.now.expected line.now }
     {
         match self.expected {
             Expected::Header => header(line),
             Expected::Setting(setting) => setting_told(setting, line),
-            Expected::Motion(setting, left) => motion_told(setting, left, line),
+            Expected::Counts => counts_told(line),
+            Expected::Motion(left) => motion_told(left, line),
             Expected::Piece(begun) => piece_told(begun, line),
             Expected::End => end_told(line),
             Expected::Nothing => Err(LineFlaw::Spelling),

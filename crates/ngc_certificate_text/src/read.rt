@@ -1,8 +1,9 @@
-ghost use Rattle.std.specs.Prelude.{◌≡◌, IfSome};
+ghost use Rattle.std.specs.Prelude.{◌≡◌, IfOk, IfSome};
 ghost use Rattle.ngc_fixed_length.specs.Failures.{Rises};
-ghost use Rattle.ngc_certificate_text.specs.Contents.{said_of};
+ghost use Rattle.ngc_certificate_text.specs.Contents.{said_of, form_of};
+ghost use Rattle.ngc_certificate_text.specs.Joined.{contents};
 ghost use Rattle.ngc_certificate_text.specs.Pulled.{FailsByReading};
-ghost use Rattle.ngc_certificate_text.specs.Said.{certificate_said};
+ghost use Rattle.ngc_certificate_text.specs.Said.{certificate_said, form_said};
 ghost use Rattle.ngc_certificate_text.specs.Given.{GivesCertificate};
 ghost use Rattle.ngc_certificate_text.specs.declared.fault.CertificateFault.TheVariants.{ReadFailed};
 
@@ -12,10 +13,42 @@ use crate::reader::CertificateReader;
 use ngc_fixed_length::Source;
 use std::alloc::Allocator;
 
+// The certificate in its form.
+fn read_form<A: Allocator + Copy, R: Source>(
+    alloc: A,
+    source: &mut R,
+) -> Result<Certificate<A>, CertificateFault>
+    ensures form { IfSome (R.remaining source.old) (λ bytes. GivesCertificate form_of result (form_said bytes)) }
+    ensures said { IfOk result (λ c. said_of c ≡ contents (form_of c)) }
+    ensures device { result ≡ Err ReadFailed → Rises (R.failures source.old) (R.failures source.new) }
+    ensures counted { FailsByReading result (R.failures source.old) (R.failures source.new) }
+{
+    let mut reader = CertificateReader::new(alloc);
+    let mut chunk = [0u8; 65_536];
+    loop {
+        let count = match source.pull(&mut chunk) {
+            Ok(count) => count,
+            Err(_) => return Err(CertificateFault::ReadFailed),
+        };
+        if count == 0 {
+            return reader.finish();
+        }
+        match reader.feed(&chunk[..count]) {
+            Ok(()) => {}
+            Err(fault) => return Err(fault),
+        }
+        // Bytes behind the end are a fault before their line is whole.
+        if reader.goes_too_far() {
+            break;
+        }
+    }
+    reader.finish()
+}
+
 impl<A: Allocator + Copy> Certificate<A> {
-    /// The certificate that a text says, or the first line at fault: 302 where the first line is another or lacks its
-    /// line feed, 303 where a number is out of its range or a box is inside out, 301 for any other wrong line, for a
-    /// missing one, for one of more than 256 bytes and for bytes behind the end.
+    /// The certificate that a text says, of either version, or the first line at fault: 302 where the first line is
+    /// another or lacks its line feed, 303 where a number is out of its range or a box is inside out, 301 for any other
+    /// wrong line, for a missing one, for one of more than 256 bytes and for bytes behind the end.
     ///
     /// No more is pulled once a fault stands or the text has ended. What the text announces takes no memory: only what
     /// is read does.
@@ -23,29 +56,13 @@ impl<A: Allocator + Copy> Certificate<A> {
         // Where the source's bytes are known, the answer is what they say, but for want of memory and a failure.
         ensures said { IfSome (R.remaining source.old)
             (λ bytes. GivesCertificate said_of result (certificate_said bytes)) }
+        // So is its form.
+        ensures form { IfSome (R.remaining source.old)
+            (λ bytes. GivesCertificate form_of result (form_said bytes)) }
         // Only a source that failed is said to have failed.
         ensures device { result ≡ Err ReadFailed → Rises (R.failures source.old) (R.failures source.new) }
         ensures counted { FailsByReading result (R.failures source.old) (R.failures source.new) }
     {
-        let mut reader = CertificateReader::new(alloc);
-        let mut chunk = [0u8; 65_536];
-        loop {
-            let count = match source.pull(&mut chunk) {
-                Ok(count) => count,
-                Err(_) => return Err(CertificateFault::ReadFailed),
-            };
-            if count == 0 {
-                return reader.finish();
-            }
-            match reader.feed(&chunk[..count]) {
-                Ok(()) => {}
-                Err(fault) => return Err(fault),
-            }
-            // Bytes behind the end are a fault before their line is whole.
-            if reader.goes_too_far() {
-                break;
-            }
-        }
-        reader.finish()
+        read_form(alloc, source)
     }
 }

@@ -29,21 +29,22 @@ pub struct CertificateReader<A: Allocator> {
 }
 
 impl<A: Allocator> CertificateReader<A> {
-    ghost use Rattle.std.specs.Prelude.{ℕ, List, [], ◌+◌, ◌≤◌, ◌++◌, length, IsTrue, MatchResult, OnOk, IfSome, Err};
+    ghost use Rattle.std.specs.Prelude.{ℕ, List, [], ◌+◌, ◌≤◌, ◌++◌, length, IsTrue, MatchResult, OnOk, IfOk, IfSome, Err};
     ghost use Rattle.std.specs.Result.{result_err};
     ghost use Rattle.ngc_certificate_text.specs.Reader.{AnswerIs, FaultIs};
-    ghost use Rattle.ngc_certificate_text.specs.Contents.{said_of};
+    ghost use Rattle.ngc_certificate_text.specs.Contents.{said_of, form_of};
     ghost use Rattle.ngc_certificate_text.specs.Given.{GivesCertificate};
+    ghost use Rattle.ngc_certificate_text.specs.Joined.{contents};
     ghost use Rattle.ngc_certificate_text.specs.Parted.{firm};
     ghost use Rattle.ngc_certificate_text.specs.ReaderView.{outcome_in, firm_in, refusal_in, room_in};
-    ghost use Rattle.ngc_certificate_text.specs.Said.{certificate_said};
+    ghost use Rattle.ngc_certificate_text.specs.Said.{form_said};
 
     /// A reader that was fed nothing yet.
     pub fn new(alloc: A) -> CertificateReader<A>
     where
         A: Copy,
-        ensures text { (bytes : List ℕ) → certificate_said bytes ≡ outcome_in result bytes }
-        ensures firm { (bytes rest : List ℕ) → certificate_said (firm bytes ++ rest) ≡ firm_in result bytes rest }
+        ensures text { (bytes : List ℕ) → form_said bytes ≡ outcome_in result bytes }
+        ensures firm { (bytes rest : List ℕ) → form_said (firm bytes ++ rest) ≡ firm_in result bytes rest }
         ensures going { refusal_in result ≡ None }
     {
         CertificateReader {
@@ -94,7 +95,8 @@ impl<A: Allocator> CertificateReader<A> {
     /// a line that is missing or lacks its line feed.
     pub fn finish(self) -> Result<Certificate<A>, CertificateFault>
         // The answer is what the pieces say together, but for want of memory.
-        ensures said { GivesCertificate said_of result (outcome_in self []) }
+        ensures form { GivesCertificate form_of result (outcome_in self []) }
+        ensures said { IfOk result (λ c. said_of c ≡ contents (form_of c)) }
         ensures again { IfSome (refusal_in self) (λ fault. result ≡ Err fault) }
         ensures device { result ≢ Err ReadFailed }
     {

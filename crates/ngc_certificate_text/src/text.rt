@@ -1,11 +1,12 @@
-ghost use Rattle.std.specs.Prelude.{◌≡◌, ◌≢◌, ℕ, ◌+◌, ◌≤◌, List, [], ◌++◌, length, IsTrue, OnOk, Err};
-ghost use Rattle.ngc_certificate_text.specs.Contents.{said_of};
+ghost use Rattle.std.specs.Prelude.{◌≡◌, ◌≢◌, ℕ, ◌+◌, ◌≤◌, List, [], ◌++◌, length, IsTrue, IfOk, OnOk, Err};
+ghost use Rattle.ngc_certificate_text.specs.Contents.{said_of, form_of};
 ghost use Rattle.ngc_certificate_text.specs.Given.{GivesCertificate};
+ghost use Rattle.ngc_certificate_text.specs.Joined.{contents};
 ghost use Rattle.ngc_certificate_text.specs.LinesView.{room_of};
 ghost use Rattle.ngc_certificate_text.specs.Parted.{firm, firm_lines, PartsLines};
 ghost use Rattle.ngc_certificate_text.specs.Reader.{StepGives};
 ghost use Rattle.ngc_certificate_text.specs.Resumed.{resumed, IsResuming};
-ghost use Rattle.ngc_certificate_text.specs.Said.{lines_of, certificate_said};
+ghost use Rattle.ngc_certificate_text.specs.Said.{lines_of, form_said};
 
 use crate::certificate::Certificate;
 use crate::certificate_lines::CertificateLines;
@@ -25,8 +26,8 @@ impl<A: Allocator> TextSoFar<A> {
     where
         A: Copy,
         ensures reading { IsResuming result }
-        ensures begins { (bytes : List ℕ) → certificate_said bytes ≡ resumed result lines_of bytes }
-        ensures firm { (bytes rest : List ℕ) → certificate_said (firm bytes ++ rest) ≡ resumed result (firm_lines rest) bytes }
+        ensures begins { (bytes : List ℕ) → form_said bytes ≡ resumed result lines_of bytes }
+        ensures firm { (bytes rest : List ℕ) → form_said (firm bytes ++ rest) ≡ resumed result (firm_lines rest) bytes }
     {
         TextSoFar {
             lines: CertificateLines::new(),
@@ -65,7 +66,8 @@ impl<A: Allocator> TextSoFar<A> {
     /// The certificate, where no byte comes any more.
     pub(crate) fn finish(self) -> Result<Certificate<A>, CertificateFault>
         requires { IsResuming self }
-        ensures said { GivesCertificate said_of result (resumed self lines_of []) }
+        ensures form { GivesCertificate form_of result (resumed self lines_of []) }
+        ensures said { IfOk result (λ c. said_of c ≡ contents (form_of c)) }
         ensures device { result ≢ Err CertificateFault.ReadFailed }
     {
         match self.lines.finish() {

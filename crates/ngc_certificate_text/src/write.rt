@@ -6,7 +6,7 @@ ghost use Rattle.ngc_fixed_length.specs.Written.{AppendsBeginning};
 ghost use Rattle.ngc_output.specs.Collected.{CHUNK_SIZE, HasLineRoom};
 ghost use Rattle.ngc_certificate_text.specs.Collects.{Collects};
 ghost use Rattle.ngc_certificate_text.specs.Contents.{said_of};
-ghost use Rattle.ngc_certificate_text.specs.Spelling.{steps_text, cut_text, piece_line, motion_line, entry_lines, setting_lines, spelling};
+ghost use Rattle.ngc_certificate_text.specs.Spelling.{steps_text, cut_text, piece_line, motion_line, entry_lines, setting_lines, parted_spelling};
 
 use crate::certificate::Certificate;
 use crate::motions::Motions;
@@ -173,7 +173,7 @@ fn write_settings<A: Allocator, W: Sink>(
     sink: &mut W,
 ) -> Result<(), WriteFault>
     requires { HasLineRoom chunk.old }
-    ensures text { Collects (W.written sink.old) (W.written sink.new) chunk.old chunk.new result (spelling (said_of certificate.now)) }
+    ensures text { Collects (W.written sink.old) (W.written sink.new) chunk.old chunk.new result (parted_spelling (said_of certificate.now)) }
     ensures counts { CountsFailure (W.failures sink.old) (W.failures sink.new) result }
 {
     chunk.add_text(b"ngc-certificate 1\n");
@@ -198,8 +198,8 @@ impl<A: Allocator> Certificate<A> {
     ///
     /// After a fault (902, and only where the sink failed) a beginning of the text is written.
     pub fn write<W: Sink>(&self, sink: &mut W) -> Result<(), WriteFault>
-        ensures ok { OnOk result (Appends (W.written sink.old) (W.written sink.new) (spelling (said_of self.now))) }
-        ensures fault { OnErr result (AppendsBeginning (W.written sink.old) (W.written sink.new) (spelling (said_of self.now))) }
+        ensures ok { OnOk result (Appends (W.written sink.old) (W.written sink.new) (parted_spelling (said_of self.now))) }
+        ensures fault { OnErr result (AppendsBeginning (W.written sink.old) (W.written sink.new) (parted_spelling (said_of self.now))) }
         ensures counts { CountsFailure (W.failures sink.old) (W.failures sink.new) result }
     {
         let mut chunk = Chunk::new();

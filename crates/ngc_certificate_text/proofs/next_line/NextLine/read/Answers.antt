@@ -34,7 +34,7 @@ pub returns-in-Ok-clause-sound : goal.returns-in-Ok-clause-sound
 returns-in-Ok-clause-sound c =
     let n = c.args.self.now in
     subst (λ (e : Expected). IsSound e c.saturating_add-self.result) (sym c.behind_told-self.ensures)
-    (told_sound n.expected c.in-Ok.told c.saturating_add-self.result (told_next n.expected n.number c.args.line.now c.in-Ok.told c.requires (sym c.told.ensures ∙ c.in-Ok.is)))
+    (told_sound n.expected c.in-Ok.told n.number c.saturating_add-self.result c.requires (told_next n.expected n.number c.args.line.now c.in-Ok.told c.requires (sym c.told.ensures ∙ c.in-Ok.is)))
 
 pub returns-in-Ok-clause-progress : goal.returns-in-Ok-clause-progress
 returns-in-Ok-clause-progress c =

@@ -12,15 +12,16 @@ lines-preserved g c =
     let step = rw c.in-Ok-Some.field-0-is at c.in-Ok-Some.ensures.step in
     let expected = rw c.in-Ok-Some.field-0-is at c.in-Ok-Some.ensures.expected in
     let room = rw c.in-Ok-Some.field-0-is at c.in-Ok-Some.ensures.room in
-    let hears : heard_in c.take.new.self ≡ heard told (heard_in old.found) = c.in-Ok.ensures in
+    let hears : heard_in c.take.new.self ≡ heard told (heard_in old.found) = c.in-Ok.ensures.heard in
     record {
       text = λ lines parts rest.
           c.lines.invariant.text lines parts rest
           ∙ told_leads (expected_in old.lines) (expected_in next) told (heard_in old.found) (heard_in c.take.new.self) (left_by lines old.lines (c.lines.rest.now ++ rest)) (left_by lines next (c.in-Ok-Some.behind.now ++ rest))
-          expected.0 expected.1 hears (step lines parts rest);
+          expected.0 c.lines.invariant.reading.expecting expected.1 hears (step lines parts rest);
       reading = record {
         reading = c.in-Ok-Some.ensures.reading;
         expecting = told_expects (expected_in old.lines) (expected_in next) told (heard_in old.found) (heard_in c.take.new.self) expected.0 expected.1 hears c.lines.invariant.reading.expecting;
+        kept = c.in-Ok.ensures.kept;
       };
       room = omega (arith, room);
     }

@@ -1,7 +1,7 @@
 -- What is left of the source comes to what all of it does.
 use Rattle.std.proofs.Common.{◌≡◌}
 use Rattle.ngc_certificate_text.specs.ReaderView.{room_in, Goes}
-use Rattle.ngc_certificate_text.proofs.certificate.Certificate.read.Given as goal
+use Rattle.ngc_certificate_text.proofs.read.read_form.Given as goal
 
 abbrev pub invariant-loop-count : goal.invariant-loop-count
 invariant-loop-count g l = record {

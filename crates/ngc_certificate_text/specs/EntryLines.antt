@@ -1,0 +1,80 @@
+-- What the lines of version 2 say: the counts, and the entries that may come. Our own.
+use Rattle.std.specs.Prelude.{ℕ, ◌-◌, nat_lt, ◌==◌, ℤ, unsigned_abs, List, [], ◌∷◌, codes, Option, Some, Result, Ok, Err, Bool, true, false, not, ◌&&◌, ◌||◌, if◌then◌else◌}
+use Rattle.std.specs.Str.{bytes_eq}
+use Rattle.ngc_certificate_text.specs.declared.expected.EntriesLeft.{EntriesLeft}
+use Rattle.ngc_certificate_text.specs.declared.expected.Indices.{Indices}
+use Rattle.ngc_certificate_text.specs.declared.expected.Indices.TheVariants.{Both, Off, On}
+use Rattle.ngc_certificate_text.specs.declared.lines.CountsLine.{CountsLine}
+use Rattle.ngc_certificate_text.specs.declared.lines.EntryLine.{EntryLine}
+use Rattle.ngc_certificate_text.specs.declared.lines.LineFlaw.{LineFlaw}
+use Rattle.ngc_certificate_text.specs.declared.lines.LineFlaw.TheVariants.{Spelling}
+use Rattle.ngc_certificate_text.specs.declared.lines.MotionLine.{MotionLine}
+use Rattle.ngc_certificate_text.specs.declared.told.Version.{Version}
+use Rattle.ngc_certificate_text.specs.declared.told.Version.TheVariants.{One, Two}
+use Rattle.ngc_certificate_text.specs.Certificate.{INDEX_LIMIT, PIECE_LIMIT, MOTION_LIMIT}
+use Rattle.ngc_certificate_text.specs.Lines.{numbers_in, numbers_behind, is_count, ranged, two_counts}
+use Rattle.ngc_certificate_text.specs.Number.{fields}
+
+-- ---- the first line
+
+unfoldable pub version_said : List ℕ → Result Version LineFlaw
+version_said line =
+    if bytes_eq line (codes "ngc-certificate 1") then Ok One else
+    if bytes_eq line (codes "ngc-certificate 2") then Ok Two else Err Spelling
+
+-- ---- the counts
+
+abbrev pub motion_counts : Option (List ℤ) → Result CountsLine LineFlaw
+motion_counts (Some (m ∷ n ∷ [])) =
+    ranged (is_count 0 MOTION_LIMIT m && is_count 0 MOTION_LIMIT n)
+    (record { off = unsigned_abs m; on = unsigned_abs n })
+motion_counts _ = Err Spelling
+
+-- how many motions both settings have
+unfoldable pub counts_said : List ℕ → Result CountsLine LineFlaw
+counts_said line = motion_counts (numbers_behind (codes "motions" ∷ []) (fields line))
+
+-- ---- the entries that are left
+
+-- all of them
+abbrev pub all_left : CountsLine → EntriesLeft
+all_left c = record { off = c.off; on = c.on; behind_on = false }
+
+abbrev pub none_left : EntriesLeft → Bool
+none_left left = (left.off == 0) && (left.on == 0)
+
+-- An entry of `off` alone comes directly behind none of `on` alone. So the last motion of `on` comes alone only where none of
+-- `off` is left.
+abbrev pub may_come : EntriesLeft → Indices → Bool
+may_come left (Both i j) = nat_lt 0 left.off && nat_lt 0 left.on
+may_come left (Off i) = nat_lt 0 left.off && not left.behind_on
+may_come left (On j) = nat_lt 1 left.on || ((left.off == 0) && nat_lt 0 left.on)
+
+abbrev pub left_behind : EntriesLeft → Indices → EntriesLeft
+left_behind left (Both i j) = record { off = left.off - 1; on = left.on - 1; behind_on = false }
+left_behind left (Off i) = record { off = left.off - 1; on = left.on; behind_on = false }
+left_behind left (On j) = record { off = left.off; on = left.on - 1; behind_on = true }
+
+-- ---- the line of an entry
+
+-- two indices, and how many pieces
+abbrev pub three_counts : Option (List ℤ) → Result EntryLine LineFlaw
+three_counts (Some (i ∷ j ∷ n ∷ [])) =
+    ranged (is_count 0 INDEX_LIMIT i && (is_count 0 INDEX_LIMIT j && is_count 1 PIECE_LIMIT n))
+    (record { indices = Both (unsigned_abs i) (unsigned_abs j); pieces = unsigned_abs n })
+three_counts _ = Err Spelling
+
+abbrev pub of_setting : (ℕ → Indices) → Result MotionLine LineFlaw → Result EntryLine LineFlaw
+of_setting of (Ok m) = Ok (record { indices = of m.index; pieces = m.pieces })
+of_setting of (Err flaw) = Err flaw
+
+abbrev pub entry_in : EntriesLeft → List (List ℕ) → Result EntryLine LineFlaw
+entry_in left [] = Err Spelling
+entry_in left (word ∷ fs) =
+    if bytes_eq word (codes "both") && may_come left (Both 0 0) then three_counts (numbers_in fs) else
+    if bytes_eq word (codes "off") && may_come left (Off 0) then of_setting Off (two_counts (numbers_in fs)) else
+    if bytes_eq word (codes "on") && may_come left (On 0) then of_setting On (two_counts (numbers_in fs)) else Err Spelling
+
+-- one of the entries that may come, and how many pieces it has
+unfoldable pub entry_said : EntriesLeft → List ℕ → Result EntryLine LineFlaw
+entry_said left line = entry_in left (fields line)
