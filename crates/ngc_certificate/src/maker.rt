@@ -181,7 +181,7 @@ pub fn make<A: Allocator + Copy>(
         Ok(motions) => motions,
         Err(refusal) => return Err(fault_at(Setting::On, refusal)),
     };
-    Ok(Certificate { off, on })
+    Ok(Certificate::parted(off, on))
 }
 
 /// The same of a program that has these commands at both settings: what is found for one serves the other.
@@ -208,7 +208,7 @@ pub fn make_alike<A: Allocator + Copy>(
         Err(refusal) => return Err(fault_at(Setting::Off, refusal)),
     };
     match off.copy(alloc) {
-        Ok(on) => Ok(Certificate { off, on }),
+        Ok(on) => Ok(Certificate::parted(off, on)),
         Err(_) => Err(MakeFault::Memory),
     }
 }

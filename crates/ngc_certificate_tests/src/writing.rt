@@ -91,10 +91,10 @@ fn arc_to(u: i64, v: i64, low: (i32, i32, i32), high: (i32, i32, i32)) -> Result
 fn short_traverse<A: Allocator + Copy>(alloc: A) -> Result<Certificate<A>, Fail> {
     let pieces = [line_to(65_536, (0, 0, 0), (3, 0, 0))];
     let entries = [(0, pieces.as_slice())];
-    Ok(Certificate {
-        off: motions_of(alloc, entries.as_slice())?,
-        on: motions_of(alloc, entries.as_slice())?,
-    })
+    Ok(Certificate::parted(
+        motions_of(alloc, entries.as_slice())?,
+        motions_of(alloc, entries.as_slice())?,
+    ))
 }
 
 const SHORT_TRAVERSE: &[u8] = b"ngc-certificate 1\n\
@@ -117,10 +117,10 @@ fn spells_a_traverse(rt: HostRuntime) -> Result<(), Fail> {
 
 #[test]
 fn spells_no_motions(rt: HostRuntime) -> Result<(), Fail> {
-    let certificate = Certificate {
-        off: Motions::new(rt.alloc()),
-        on: Motions::new(rt.alloc()),
-    };
+    let certificate = Certificate::parted(
+        Motions::new(rt.alloc()),
+        Motions::new(rt.alloc()),
+    );
     assert!(rt; certificate.off.is_empty());
     let text = text_of(rt.alloc(), &certificate)?;
     assert_eq!(rt;
@@ -148,10 +148,10 @@ fn spells_pieces_in_order(rt: HostRuntime) -> Result<(), Fail> {
     let short = [line_to(1, (1, 2, 3), (4, 5, 6))];
     let off = [(3, lines.as_slice()), (999_999, arcs.as_slice())];
     let on = [(12, short.as_slice())];
-    let certificate = Certificate {
-        off: motions_of(rt.alloc(), off.as_slice())?,
-        on: motions_of(rt.alloc(), on.as_slice())?,
-    };
+    let certificate = Certificate::parted(
+        motions_of(rt.alloc(), off.as_slice())?,
+        motions_of(rt.alloc(), on.as_slice())?,
+    );
     let text = text_of(rt.alloc(), &certificate)?;
     assert_eq!(rt;
         text.as_slice(),
@@ -173,10 +173,10 @@ fn motions_as_they_were_pushed(rt: HostRuntime) -> Result<(), Fail> {
         line_to(65_536, (3, 9, 0), (3, 12, 0)),
     ];
     let entries = [(4, whole.as_slice()), (6, halves.as_slice())];
-    let certificate = Certificate {
-        off: Motions::new(rt.alloc()),
-        on: motions_of(rt.alloc(), entries.as_slice())?,
-    };
+    let certificate = Certificate::parted(
+        Motions::new(rt.alloc()),
+        motions_of(rt.alloc(), entries.as_slice())?,
+    );
     assert_eq!(rt; certificate.motions(Setting::Off).len(), 0);
     let motions = certificate.motions(Setting::On);
     assert_eq!(rt; motions.len(), 2);

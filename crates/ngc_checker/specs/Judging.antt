@@ -8,7 +8,7 @@ use Rattle.ngc_certificate_text.specs.declared.expected.Expected.TheVariants as 
 use Rattle.ngc_certificate_text.specs.declared.piece.Setting.TheVariants.{Off, On}
 use Rattle.ngc_certificate_text.specs.declared.told.Told.{Told}
 use Rattle.ngc_certificate_text.specs.declared.told.Told.TheVariants as tell
-use Rattle.ngc_certificate_text.specs.Ahead.{Rest}
+use Rattle.ngc_certificate_text.specs.Ahead.{Rest, certificate_of}
 use Rattle.ngc_certificate_text.specs.Certificate.{CertificateData, PIECE_LIMIT}
 use Rattle.ngc_checker.specs.declared.fault.CheckFault.{CheckFault}
 use Rattle.ngc_checker.specs.declared.setting_judge.SettingJudge.{SettingJudge}
@@ -33,7 +33,8 @@ pub record JudgeData : Type 0 where
 
 -- the first refusal, where this is left of a certificate: pieces matter to a setting where its motion has begun
 abbrev pub verdict_left : MachineFile → List Command → List Command → SettingJudge → SettingJudge → Rest → Option CheckFault
-verdict_left machine off on off_walk on_walk r = fault_left machine Off off off_walk r.pieces r.off or fault_left machine On on on_walk r.pieces r.on
+verdict_left machine off on off_walk on_walk r =
+    fault_left machine Off off off_walk r.pieces (certificate_of r).off or fault_left machine On on on_walk r.pieces (certificate_of r).on
 
 -- a setting's walk stands among its commands, and so many pieces may come yet of its motion that has begun
 pub record IsWalking (machine : MachineFile) (commands : List Command) (walk : SettingJudge) (left : ℕ) : Type 0 where
@@ -62,16 +63,18 @@ kept_of v = held v.machine v.tools v.off v.on
 
 -- the line comes where the judge stands
 abbrev pub MayJudge : Told → JudgeData → Type 0
-MayJudge tell.Header v = Unit {0}
+MayJudge (tell.Header version) v = Unit {0}
 MayJudge (tell.Setting s n) v = Unit {0}
+MayJudge (tell.Counts off on) v = Unit {0}
 MayJudge (tell.Motion b) v = (v.left ≡ 0) × (1 ≤ b.pieces_left) × (b.pieces_left ≤ PIECE_LIMIT)
 MayJudge (tell.Piece b p) v = (v.left ≡ b.pieces_left) × (1 ≤ b.pieces_left)
 MayJudge tell.End v = Unit {0}
 
 -- so many pieces come yet behind the line
 abbrev pub left_behind : Told → ℕ → ℕ
-left_behind tell.Header left = left
+left_behind (tell.Header version) left = left
 left_behind (tell.Setting s n) left = left
+left_behind (tell.Counts off on) left = left
 left_behind (tell.Motion b) left = b.pieces_left
 left_behind (tell.Piece b p) left = b.pieces_left - 1
 left_behind tell.End left = left
@@ -81,7 +84,8 @@ left_behind tell.End left = left
 abbrev pub left_of : Expected → ℕ
 left_of next.Header = 0
 left_of (next.Setting s) = 0
-left_of (next.Motion s left) = 0
+left_of next.Counts = 0
+left_of (next.Motion left) = 0
 left_of (next.Piece b) = b.pieces_left
 left_of next.End = 0
 left_of next.Nothing = 0

@@ -3,7 +3,7 @@ ghost use Rattle.std.specs.Prelude.{◌≡◌, ◌+◌, ◌-◌, ◌≤◌, ◌�
 ghost use Rattle.ngc_machine.specs.Machine.{file_of};
 ghost use Rattle.ngc_machine.specs.MachineRanges.{IsMachine};
 ghost use Rattle.ngc_machine.specs.Tools.{tools_of};
-ghost use Rattle.ngc_certificate_text.specs.Ahead.{Rest, certificate_of, nothing_left, with_motions};
+ghost use Rattle.ngc_certificate_text.specs.Ahead.{Rest, certificate_of, nothing_left, with_items, with_pieces};
 ghost use Rattle.ngc_certificate_text.specs.Certificate.{PIECE_LIMIT};
 ghost use Rattle.ngc_certificate_text.specs.Told.{onto, Fits};
 ghost use Rattle.ngc_certificate.specs.PieceFault.{◌or◌};
@@ -17,7 +17,7 @@ use crate::fault::CheckFault;
 use crate::setting_judge::SettingJudge;
 use ngc_canonical::Command;
 use ngc_certificate::{Piece, Setting};
-use ngc_certificate_text::{BegunMotion, Told};
+use ngc_certificate_text::{BegunMotion, Indices, Told};
 use ngc_machine::{Machine, Tools};
 use std::alloc::Allocator;
 use std::marker::Model;
@@ -92,30 +92,36 @@ impl<A: Allocator> Judge<A> {
         requires left { self.old.left ≡ 0 }
         requires some { 1 ≤ begun.now.pieces_left }
         requires few { begun.now.pieces_left ≤ PIECE_LIMIT }
-        ensures verdict { (r : Rest) → length r.pieces ≡ begun.now.pieces_left → verdict_of self.old (with_motions begun.now.setting (record { index = begun.now.index; pieces = r.pieces } ∷ []) r) ≡ verdict_of self.new r }
+        ensures verdict { (r : Rest) → length r.pieces ≡ begun.now.pieces_left → verdict_of self.old (with_items (record { indices = begun.now.indices; pieces = r.pieces } ∷ []) r) ≡ verdict_of self.new r }
         ensures kept { kept_of self.new ≡ kept_of self.old }
         ensures left { self.new.left ≡ begun.now.pieces_left }
     {
-        match begun.setting {
-            Setting::Off => {
-                let commands = self.off.as_slice();
+        let pieces = begun.pieces_left;
+        let (off, on) = (self.off.as_slice(), self.on.as_slice());
+        match begun.indices {
+            Indices::Both(i, j) => {
                 self.off_walk
-                    .motion(&self.machine, Setting::Off, commands, begun);
-            }
-            Setting::On => {
-                let commands = self.on.as_slice();
+                    .motion(&self.machine, Setting::Off, off, i, pieces);
                 self.on_walk
-                    .motion(&self.machine, Setting::On, commands, begun);
+                    .motion(&self.machine, Setting::On, on, j, pieces);
+            }
+            Indices::Off(i) => {
+                self.off_walk
+                    .motion(&self.machine, Setting::Off, off, i, pieces);
+            }
+            Indices::On(j) => {
+                self.on_walk
+                    .motion(&self.machine, Setting::On, on, j, pieces);
             }
         }
-        self.left = begun.pieces_left;
+        self.left = pieces;
     }
 
     // Where no motion of a setting has begun, its walk passes the piece by.
     fn piece(&mut self, begun: &BegunMotion, piece: &Piece)
         requires left { self.old.left ≡ begun.now.pieces_left }
         requires some { 1 ≤ begun.now.pieces_left }
-        ensures verdict { (r : Rest) → length r.pieces + 1 ≡ begun.now.pieces_left → verdict_of self.old (record { pieces = piece.now ∷ r.pieces; off = r.off; on = r.on }) ≡ verdict_of self.new r }
+        ensures verdict { (r : Rest) → length r.pieces + 1 ≡ begun.now.pieces_left → verdict_of self.old (with_pieces (piece.now ∷ r.pieces) r) ≡ verdict_of self.new r }
         ensures kept { kept_of self.new ≡ kept_of self.old }
         ensures left { self.new.left ≡ begun.now.pieces_left - 1 }
     {
@@ -136,7 +142,7 @@ impl<A: Allocator> Judge<A> {
         match told {
             Told::Motion(begun) => self.motion(begun),
             Told::Piece(begun, piece) => self.piece(begun, piece),
-            Told::Header | Told::Setting(_, _) | Told::End => {}
+            Told::Header(_) | Told::Setting(_, _) | Told::Counts(_, _) | Told::End => {}
         }
     }
 

@@ -12,7 +12,6 @@ use crate::fault::CheckFault;
 use crate::setting::start_fault;
 use ngc_canonical::Command;
 use ngc_certificate::{Piece, PieceJudge, Setting};
-use ngc_certificate_text::BegunMotion;
 use ngc_machine::Machine;
 use std::alloc::Allocator;
 
@@ -46,58 +45,60 @@ impl SettingJudge {
         }
     }
 
-    // The program's next motion is to be this one.
+    // The program's next motion is to be this one, with so many pieces.
     fn compare<A: Allocator>(
         &mut self,
         machine: &Machine<A>,
         setting: Setting,
         commands: &[Command],
-        begun: &BegunMotion,
+        index: u32,
+        pieces: u32,
     )
         requires count { length commands.now ≤ COMMAND_LIMIT }
         requires index { self.old.walk.index ≤ length commands.now }
         requires none { self.old.following ≡ None }
         requires going { self.old.differs ≡ None }
-        requires some { 1 ≤ begun.now.pieces_left }
-        requires few { begun.now.pieces_left ≤ PIECE_LIMIT }
+        requires some { 1 ≤ pieces }
+        requires few { pieces ≤ PIECE_LIMIT }
         ensures index { self.new.walk.index ≤ length commands.now }
-        ensures following { IsFollowing (file_of machine.now) self.new.following begun.now.pieces_left }
-        ensures left { (pieces : List Piece) (entries : List Entry) → length pieces ≡ begun.now.pieces_left → fault_left (file_of machine.now) setting commands.now self.old [] (record { index = begun.now.index; pieces = pieces } ∷ entries) ≡ fault_left (file_of machine.now) setting commands.now self.new pieces entries }
+        ensures following { IsFollowing (file_of machine.now) self.new.following pieces }
+        ensures left { (ps : List Piece) (entries : List Entry) → length ps ≡ pieces → fault_left (file_of machine.now) setting commands.now self.old [] (record { index = index; pieces = ps } ∷ entries) ≡ fault_left (file_of machine.now) setting commands.now self.new ps entries }
     {
         let ahead = &commands[self.walk.index as usize..];
         match self.walk.next_motion(machine, setting, ahead) {
-            Some(motion) if motion.index == begun.index => {
+            Some(motion) if motion.index == index => {
                 self.following = Some(PieceJudge::new(
                     machine,
                     self.walk.tool,
                     &motion.way,
-                    begun.pieces_left > 1,
+                    pieces > 1,
                 ));
             }
-            Some(motion) => self.differs = Some(motion.index.min(begun.index)),
-            None => self.differs = Some(begun.index),
+            Some(motion) => self.differs = Some(motion.index.min(index)),
+            None => self.differs = Some(index),
         }
     }
 
-    /// A motion of the certificate, all of whose pieces come yet.
+    /// A motion of the certificate by its index, all of whose pieces come yet: so many.
     pub(crate) fn motion<A: Allocator>(
         &mut self,
         machine: &Machine<A>,
         setting: Setting,
         commands: &[Command],
-        begun: &BegunMotion,
+        index: u32,
+        pieces: u32,
     )
         requires count { length commands.now ≤ COMMAND_LIMIT }
         requires index { self.old.walk.index ≤ length commands.now }
         requires none { self.old.following ≡ None }
-        requires some { 1 ≤ begun.now.pieces_left }
-        requires few { begun.now.pieces_left ≤ PIECE_LIMIT }
+        requires some { 1 ≤ pieces }
+        requires few { pieces ≤ PIECE_LIMIT }
         ensures index { self.new.walk.index ≤ length commands.now }
-        ensures following { IsFollowing (file_of machine.now) self.new.following begun.now.pieces_left }
-        ensures left { (pieces : List Piece) (entries : List Entry) → length pieces ≡ begun.now.pieces_left → fault_left (file_of machine.now) setting commands.now self.old [] (record { index = begun.now.index; pieces = pieces } ∷ entries) ≡ fault_left (file_of machine.now) setting commands.now self.new pieces entries }
+        ensures following { IsFollowing (file_of machine.now) self.new.following pieces }
+        ensures left { (ps : List Piece) (entries : List Entry) → length ps ≡ pieces → fault_left (file_of machine.now) setting commands.now self.old [] (record { index = index; pieces = ps } ∷ entries) ≡ fault_left (file_of machine.now) setting commands.now self.new ps entries }
     {
         if self.differs.is_none() {
-            self.compare(machine, setting, commands, begun);
+            self.compare(machine, setting, commands, index, pieces);
         }
     }
 

@@ -1,4 +1,6 @@
-use Rattle.std.proofs.Common.{arith}
+use Rattle.std.proofs.Common.{arith, Ok, subst, sym}
+use Rattle.ngc_certificate.specs.Made.{IsMade}
+use Rattle.ngc_certificate.specs.Valid.{IsValid}
 use Rattle.ngc_machine.specs.Machine.{file_of}
 use Rattle.ngc_certificate_text.specs.Certificate.{CertificateData}
 use Rattle.ngc_certificate.proofs.MadeLaws.{start_refused, off_refused, on_refused, both_made, off_undivided, on_undivided, both_valid}
@@ -20,8 +22,9 @@ returns-in-Err-setting_motions-clause-made g c =
 
 pub returns-clause-made : goal.returns-clause-made
 returns-clause-made g c =
-    both_made (file_of c.args.machine.now) c.args.cuts c.args.off.now c.args.on.now c.is_clear_at.result c.in-Ok.motions c.in-Ok-setting_motions.motions
-    c.is_clear_at.ensures c.if-not-is_clear_at.false c.in-Ok.ensures c.in-Ok-setting_motions.ensures
+    subst (λ (d : CertificateData). IsMade (file_of c.args.machine.now) c.args.cuts c.args.off.now c.args.on.now (Ok d)) (sym c.parted.ensures.said)
+    (both_made (file_of c.args.machine.now) c.args.cuts c.args.off.now c.args.on.now c.is_clear_at.result c.in-Ok.motions c.in-Ok-setting_motions.motions
+    c.is_clear_at.ensures c.if-not-is_clear_at.false c.in-Ok.ensures c.in-Ok-setting_motions.ensures)
 
 pub returns-in-Err-clause-undivided : goal.returns-in-Err-clause-undivided
 returns-in-Err-clause-undivided g c =
@@ -35,5 +38,6 @@ returns-in-Err-setting_motions-clause-undivided g c =
 
 pub returns-clause-valid : goal.returns-clause-valid
 returns-clause-valid g c =
-    both_valid (file_of c.args.machine.now) c.args.cuts c.args.off.now c.args.on.now c.is_clear_at.result c.in-Ok.motions c.in-Ok-setting_motions.motions
-    c.requires.cuts (omega (arith, c.ranges.cuts.fits)) c.is_clear_at.ensures c.if-not-is_clear_at.false c.in-Ok.ensures c.in-Ok-setting_motions.ensures
+    subst (λ (d : CertificateData). IsValid (file_of c.args.machine.now) c.args.off.now d.off × IsValid (file_of c.args.machine.now) c.args.on.now d.on) (sym c.parted.ensures.said)
+    (both_valid (file_of c.args.machine.now) c.args.cuts c.args.off.now c.args.on.now c.is_clear_at.result c.in-Ok.motions c.in-Ok-setting_motions.motions
+    c.requires.cuts (omega (arith, c.ranges.cuts.fits)) c.is_clear_at.ensures c.if-not-is_clear_at.false c.in-Ok.ensures c.in-Ok-setting_motions.ensures)

@@ -1,4 +1,6 @@
-use Rattle.std.proofs.Common.{arith}
+use Rattle.std.proofs.Common.{arith, Ok, subst, sym}
+use Rattle.ngc_certificate.specs.Made.{IsMade}
+use Rattle.ngc_certificate.specs.Valid.{IsValid}
 use Rattle.ngc_machine.specs.Machine.{file_of}
 use Rattle.ngc_certificate_text.specs.Certificate.{CertificateData}
 use Rattle.ngc_certificate.proofs.MadeLaws.{start_refused, off_refused, both_made, off_undivided, both_valid, copied_made}
@@ -20,10 +22,12 @@ returns-in-Err-clause-undivided g c = λ clears.
 
 pub returns-in-Ok-copy-clause-made : goal.returns-in-Ok-copy-clause-made
 returns-in-Ok-copy-clause-made g c =
-    both_made (file_of c.args.machine.now) c.args.cuts c.args.commands.now c.args.commands.now c.is_clear_at.result c.in-Ok.motions c.in-Ok-copy.on
-    c.is_clear_at.ensures c.if-not-is_clear_at.false c.in-Ok.ensures (copied_made (file_of c.args.machine.now) c.args.cuts c.args.commands.now c.in-Ok.motions c.in-Ok-copy.on c.in-Ok-copy.ensures c.in-Ok.ensures)
+    subst (λ (d : CertificateData). IsMade (file_of c.args.machine.now) c.args.cuts c.args.commands.now c.args.commands.now (Ok d)) (sym c.parted.ensures.said)
+    (both_made (file_of c.args.machine.now) c.args.cuts c.args.commands.now c.args.commands.now c.is_clear_at.result c.in-Ok.motions c.in-Ok-copy.on
+    c.is_clear_at.ensures c.if-not-is_clear_at.false c.in-Ok.ensures (copied_made (file_of c.args.machine.now) c.args.cuts c.args.commands.now c.in-Ok.motions c.in-Ok-copy.on c.in-Ok-copy.ensures c.in-Ok.ensures))
 
 pub returns-in-Ok-copy-clause-valid : goal.returns-in-Ok-copy-clause-valid
 returns-in-Ok-copy-clause-valid g c =
-    both_valid (file_of c.args.machine.now) c.args.cuts c.args.commands.now c.args.commands.now c.is_clear_at.result c.in-Ok.motions c.in-Ok-copy.on
-    c.requires.cuts (omega (arith, c.ranges.cuts.fits)) c.is_clear_at.ensures c.if-not-is_clear_at.false c.in-Ok.ensures (copied_made (file_of c.args.machine.now) c.args.cuts c.args.commands.now c.in-Ok.motions c.in-Ok-copy.on c.in-Ok-copy.ensures c.in-Ok.ensures)
+    subst (λ (d : CertificateData). IsValid (file_of c.args.machine.now) c.args.commands.now d.off × IsValid (file_of c.args.machine.now) c.args.commands.now d.on) (sym c.parted.ensures.said)
+    (both_valid (file_of c.args.machine.now) c.args.cuts c.args.commands.now c.args.commands.now c.is_clear_at.result c.in-Ok.motions c.in-Ok-copy.on
+    c.requires.cuts (omega (arith, c.ranges.cuts.fits)) c.is_clear_at.ensures c.if-not-is_clear_at.false c.in-Ok.ensures (copied_made (file_of c.args.machine.now) c.args.cuts c.args.commands.now c.in-Ok.motions c.in-Ok-copy.on c.in-Ok-copy.ensures c.in-Ok.ensures))
