@@ -1,5 +1,6 @@
 //! What no clause of `ngc_events` says: that calls succeed, that memory which is refused is told, and the words of the
 //! format.
+use crate::checks::{holds, same};
 use linked_list_allocator::LocalHeap;
 use ngc_events::{Event, EventLine, EventsFault, laws, read_events};
 use std::alloc::{AllocError, Global};
@@ -37,19 +38,20 @@ fn each_event(rt: HostRuntime) -> Result<(), Fail> {
     let alloc = rt.alloc();
     let mut text = Vec::new(alloc);
     let mut events = Vec::new(alloc);
-    assert!(rt; says(alloc, text.as_slice(), events.as_slice()));
+    holds(
+        &rt,
+        &"nothing",
+        says(alloc, text.as_slice(), events.as_slice()),
+    );
     for (line, event, times) in EVENTS {
         let said = EventLine {
             event: *event,
             times: *times,
         };
-        assert!(rt; says(alloc, line.as_bytes(), &[said]), "{line}");
+        holds(&rt, line, says(alloc, line.as_bytes(), &[said]));
         text.extend_from_slice(line.as_bytes())?;
         events.push(said)?;
-        assert!(rt;
-            says(alloc, text.as_slice(), events.as_slice()),
-            "up to {line}"
-        );
+        holds(&rt, line, says(alloc, text.as_slice(), events.as_slice()));
     }
     Ok(())
 }
@@ -73,7 +75,7 @@ fn wrong_lines(rt: HostRuntime) {
     for (line, texts) in WRONG_LINES {
         for text in texts.split('|') {
             let fault = read_events(rt.alloc(), text.as_bytes()).err();
-            assert_eq!(rt; fault, Some(EventsFault::BadLine(*line)), "{text}");
+            same(&rt, &text, &fault, &Some(EventsFault::BadLine(*line)));
         }
     }
 }
@@ -100,9 +102,9 @@ fn a_million_lines(rt: HostRuntime) -> Result<(), Fail> {
         event: Event::Tick,
         times: 1_000_000,
     };
-    assert_eq!(rt; events.len(), LIMIT);
-    assert_eq!(rt; events.as_slice().first(), Some(&load));
-    assert_eq!(rt; events.as_slice().last(), Some(&ticks));
+    same(&rt, &"lines", &events.len(), &LIMIT);
+    same(&rt, &"first", &events.as_slice().first(), &Some(&load));
+    same(&rt, &"last", &events.as_slice().last(), &Some(&ticks));
     Ok(())
 }
 
@@ -120,7 +122,7 @@ fn a_line_too_many(rt: HostRuntime) -> Result<(), Fail> {
     for (count, last, wanted) in TOO_MANY {
         let text = loads_and(rt.alloc(), *count, last)?;
         let fault = read_events(rt.alloc(), text.as_slice()).err();
-        assert_eq!(rt; fault, Some(*wanted), "{count} loads and {last}");
+        same(&rt, &(*count, *last), &fault, &Some(*wanted));
     }
     Ok(())
 }
@@ -129,15 +131,15 @@ fn a_line_too_many(rt: HostRuntime) -> Result<(), Fail> {
 fn is_read_in(rt: &impl Abort, heap: &LocalHeap, text: &[u8], blocks: usize) -> bool {
     let is_read = match read_events(heap, text) {
         Ok(events) => {
-            assert_eq!(rt; events.len(), 1000, "{blocks} blocks");
+            same(rt, &blocks, &events.len(), &1000);
             true
         }
         Err(fault) => {
-            assert_eq!(rt; fault, EventsFault::Memory, "{blocks} blocks");
+            same(rt, &blocks, &fault, &EventsFault::Memory);
             false
         }
     };
-    assert_eq!(rt; heap.used(), 0, "{blocks} blocks");
+    same(rt, &blocks, &heap.used(), &0);
     is_read
 }
 
@@ -151,7 +153,7 @@ fn refused_memory(rt: HostRuntime) -> Result<(), Fail> {
         if is_read_in(&rt, &heap, text.as_slice(), blocks) {
             done = done.saturating_add(1);
         } else {
-            assert_eq!(rt; done, 0, "{blocks} blocks");
+            same(&rt, &blocks, &done, &0);
             refused = refused.saturating_add(1);
         }
     }
@@ -159,10 +161,16 @@ fn refused_memory(rt: HostRuntime) -> Result<(), Fail> {
     Ok(())
 }
 
+const NUMBERS: &[(EventsFault, u16)] = &[
+    (EventsFault::BadLine(7), 711),
+    (EventsFault::TooManyLines, 712),
+    (EventsFault::Memory, 900),
+];
+
 #[test]
 fn numbers(rt: HostRuntime) {
     laws::one_spelling();
-    assert_eq!(rt; EventsFault::BadLine(7).number(), 711);
-    assert_eq!(rt; EventsFault::TooManyLines.number(), 712);
-    assert_eq!(rt; EventsFault::Memory.number(), 900);
+    for (fault, number) in NUMBERS {
+        same(&rt, fault, &fault.number(), number);
+    }
 }

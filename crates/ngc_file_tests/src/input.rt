@@ -1,5 +1,6 @@
 //! What no clause of `ngc_input` says: that calls succeed, that memory which is refused is told, and a source of which
 //! the contract knows no bytes.
+use crate::checks::{holds, same};
 use linked_list_allocator::LocalHeap;
 use ngc_fixed_length::{Device, DeviceFault, Source};
 use ngc_input::{CHUNK, InputFault, read_whole};
@@ -96,10 +97,10 @@ const LENGTHS: &[usize] = &[0, 1, CHUNK - 1, CHUNK, CHUNK + 1, 2 * CHUNK, 3 * CH
 #[test]
 fn files_around_a_chunk(rt: HostRuntime) -> Result<(), Fail> {
     for len in LENGTHS {
-        let read = file_is_read(rt.alloc(), *len, *len)?;
-        assert_eq!(rt; read, Ok(true), "{len} bytes, a limit of {len}");
-        let read = file_is_read(rt.alloc(), *len, 1_000_000)?;
-        assert_eq!(rt; read, Ok(true), "{len} bytes, a limit of 1,000,000");
+        for limit in [*len, 1_000_000] {
+            let read = file_is_read(rt.alloc(), *len, limit)?;
+            same(&rt, &(*len, limit), &read, &Ok(true));
+        }
     }
     Ok(())
 }
@@ -110,7 +111,7 @@ const EXCEEDED: &[usize] = &[0, 1, CHUNK - 1, CHUNK, 2 * CHUNK + 5];
 fn files_beyond_a_limit(rt: HostRuntime) -> Result<(), Fail> {
     for limit in EXCEEDED {
         let read = file_is_read(rt.alloc(), *limit + 1, *limit)?;
-        assert_eq!(rt; read, Err(InputFault::TooLong), "a limit of {limit}");
+        same(&rt, limit, &read, &Err(InputFault::TooLong));
     }
     Ok(())
 }
@@ -122,11 +123,8 @@ fn a_file_without_end(rt: HostRuntime) {
     for limit in LIMITS {
         let mut source = EndlessSource { given: 0 };
         let fault = read_whole(rt.alloc(), &mut source, *limit).err();
-        assert_eq!(rt; fault, Some(InputFault::TooLong), "a limit of {limit}");
-        assert!(rt;
-            source.given <= (*limit + CHUNK) as u64,
-            "a limit of {limit}"
-        );
+        same(&rt, limit, &fault, &Some(InputFault::TooLong));
+        holds(&rt, limit, source.given <= (*limit + CHUNK) as u64);
     }
 }
 
@@ -157,7 +155,7 @@ fn a_byte_a_pull(rt: HostRuntime) {
             Ok(true)
         };
         let read = is_read_slowly(rt.alloc(), text, (1, 100), limit);
-        assert_eq!(rt; read, (wanted, 0), "a limit of {limit}");
+        same(&rt, &limit, &read, &(wanted, 0));
     }
 }
 
@@ -176,7 +174,7 @@ fn fails_at_each_byte(rt: HostRuntime) {
                 (Ok(true), 0)
             };
             let read = is_read_slowly(rt.alloc(), text, (*most, failing), 100);
-            assert_eq!(rt; read, wanted, "{most} bytes a pull, failing at {failing}");
+            same(&rt, &(*most, failing), &read, &wanted);
         }
     }
 }
@@ -186,15 +184,15 @@ fn is_read_in(rt: &impl Abort, heap: &LocalHeap, file: &[u8], blocks: usize) -> 
     let mut source = Device::new(file);
     let whole = match is_read(heap, &mut source, file, 1_000_000) {
         Ok(whole) => {
-            assert!(rt; whole, "{blocks} blocks");
+            holds(rt, &blocks, whole);
             true
         }
         Err(fault) => {
-            assert_eq!(rt; fault, InputFault::Memory, "{blocks} blocks");
+            same(rt, &blocks, &fault, &InputFault::Memory);
             false
         }
     };
-    assert_eq!(rt; heap.used(), 0, "{blocks} blocks");
+    same(rt, &blocks, &heap.used(), &0);
     whole
 }
 
@@ -208,7 +206,7 @@ fn refused_memory(rt: HostRuntime) -> Result<(), Fail> {
         if is_read_in(&rt, &heap, file.as_slice(), blocks) {
             done = done.saturating_add(1);
         } else {
-            assert_eq!(rt; done, 0, "{blocks} blocks");
+            same(&rt, &blocks, &done, &0);
             refused = refused.saturating_add(1);
         }
     }
@@ -216,9 +214,15 @@ fn refused_memory(rt: HostRuntime) -> Result<(), Fail> {
     Ok(())
 }
 
+const NUMBERS: &[(InputFault, u16)] = &[
+    (InputFault::Memory, 900),
+    (InputFault::Device, 901),
+    (InputFault::TooLong, 901),
+];
+
 #[test]
 fn numbers(rt: HostRuntime) {
-    assert_eq!(rt; InputFault::Memory.number(), 900);
-    assert_eq!(rt; InputFault::Device.number(), 901);
-    assert_eq!(rt; InputFault::TooLong.number(), 901);
+    for (fault, number) in NUMBERS {
+        same(&rt, fault, &fault.number(), number);
+    }
 }

@@ -1,8 +1,10 @@
 //! What no clause of `ngc_machine` says: that calls succeed, the keys of the files, and the texts of faults.
+use crate::checks::{holds, same};
 use linked_list_allocator::LocalHeap;
 use ngc_fixed_length::{Nm, Point3};
 use ngc_machine::{AxisRates, FileFault, Machine, Part, Parts, Tool, Tools, row_machine};
 use std::alloc::Global;
+use std::process::Abort;
 use std::test::Fail;
 
 const ROW_MACHINE: &str = "version = 1
@@ -78,10 +80,16 @@ fn are_same(one: &Machine<Global>, other: &Machine<Global>) -> bool {
 #[test]
 fn the_row_machine_and_its_file_are_one(rt: HostRuntime) -> Result<(), Fail> {
     let file = Machine::read(rt.alloc(), ROW_MACHINE.as_bytes())?;
-    assert!(rt; are_same(&file, &row_machine(rt.alloc())) && file.fixtures.is_empty());
-    assert_eq!(rt; file.step.nanometres(), 10_000);
-    assert_eq!(rt; nanometres(file.low), [0, 0, -100_000_000]);
-    assert_eq!(rt; nanometres(file.high), [300_000_000, 300_000_000, 0]);
+    let is_the_row_machine = are_same(&file, &row_machine(rt.alloc()));
+    holds(
+        &rt,
+        &"machine",
+        is_the_row_machine && file.fixtures.is_empty(),
+    );
+    same(&rt, &"step", &file.step.nanometres(), &10_000);
+    let (low, high) = ([0, 0, -100_000_000], [300_000_000, 300_000_000, 0]);
+    same(&rt, &"low", &nanometres(file.low), &low);
+    same(&rt, &"high", &nanometres(file.high), &high);
     Ok(())
 }
 
@@ -95,8 +103,8 @@ fn rates_of_the_axes_are_read(rt: HostRuntime) -> Result<(), Fail> {
         y: 1,
         z: 1_000_000,
     };
-    assert_eq!(rt; machine.axis_rates, rates);
-    assert_eq!(rt; machine.max_rate, 400_000);
+    same(&rt, &"axes", &machine.axis_rates, &rates);
+    same(&rt, &"path", &machine.max_rate, &400_000);
     Ok(())
 }
 
@@ -121,7 +129,7 @@ high = [4, 5, 6]
         (second.low, [1, 2, 3]),
         (second.high, [4, 5, 6]),
     ] {
-        assert_eq!(rt; nanometres(place), wanted);
+        same(&rt, &"a place", &nanometres(place), &wanted);
     }
     Ok(())
 }
@@ -183,16 +191,18 @@ const MACHINE_FILES: &[(u16, &str)] = &[
 fn machine_files(rt: HostRuntime) -> Result<(), Fail> {
     for (number, changes) in MACHINE_FILES {
         for change in changes.split('|') {
-            assert_eq!(rt;
-                changed_machine_fault(rt.alloc(), change)?,
-                *number,
-                "{change}"
-            );
+            let found = changed_machine_fault(rt.alloc(), change)?;
+            same(&rt, &change, &found, number);
         }
     }
-    assert_eq!(rt; machine_fault(rt.alloc(), b"\xff"), 269);
-    assert_eq!(rt; machine_fault(rt.alloc(), b""), 269);
     Ok(())
+}
+
+#[test]
+fn no_machine_files(rt: HostRuntime) {
+    for bytes in [b"\xff".as_slice(), b"".as_slice()] {
+        same(&rt, &bytes, &machine_fault(rt.alloc(), bytes), &269);
+    }
 }
 
 fn tool_one() -> Result<Tool, Fail> {
@@ -214,17 +224,25 @@ fn two_tools(alloc: Global) -> Result<Tools<Global>, Fail> {
     Ok(Tools::read(alloc, text.as_bytes())?)
 }
 
+fn offset_of(tool: Option<Tool>) -> Option<i64> {
+    tool.map(|tool| tool.offset.nanometres())
+}
+
+fn holds_two_tools(rt: &impl Abort, tools: &Tools<Global>, one: Option<Tool>) {
+    same(rt, &"tools", &tools.tools().len(), &2);
+    same(rt, &"the second", &tools.tools().get(1).copied(), &one);
+    same(rt, &1, &tools.find(1), &one);
+    same(rt, &9_999, &offset_of(tools.find(9_999)), &Some(-3));
+    for number in [2, 0] {
+        same(rt, &number, &tools.find(number), &None);
+    }
+}
+
 #[test]
 fn tools_are_read_and_found(rt: HostRuntime) -> Result<(), Fail> {
-    let one = Some(tool_one()?);
-    let tools = two_tools(rt.alloc())?;
-    assert_eq!(rt; tools.tools().len(), 2);
-    assert_eq!(rt; tools.tools().get(1).copied(), one);
-    assert_eq!(rt; tools.find(1), one);
-    assert_eq!(rt; tools.find(9_999).ok_or("a tool")?.offset.nanometres(), -3);
-    assert_eq!(rt; tools.find(2), None);
-    assert_eq!(rt; tools.find(0), None);
-    assert_eq!(rt; Tools::empty(rt.alloc()).find(1), None);
+    let one = tool_one()?;
+    holds_two_tools(&rt, &two_tools(rt.alloc())?, Some(one));
+    same(&rt, &"none", &Tools::empty(rt.alloc()).find(1), &None);
     Ok(())
 }
 
@@ -297,9 +315,19 @@ fn both_versions_say_the_same(rt: HostRuntime) -> Result<(), Fail> {
     let second = format!(in rt.alloc(); "version = 2\n{TOOL_TWO}")?;
     let first = Tools::read(rt.alloc(), first.as_bytes())?;
     let second = Tools::read(rt.alloc(), second.as_bytes())?;
-    assert_eq!(rt; first.tools(), second.tools());
-    assert_eq!(rt; second.find(1), Some(tool_one()?));
+    same(&rt, &"tools", &first.tools(), &second.tools());
+    same(&rt, &1, &second.find(1), &Some(tool_one()?));
     Ok(())
+}
+
+fn has_four_parts(rt: &impl Abort, tool: &Tool) {
+    same(rt, &"bottom", &tool.bottom.nanometres(), &-1_000_000_000);
+    let parts = tool.parts.as_slice();
+    same(rt, &"parts", &parts.len(), &4);
+    let length = parts.get(2).map(|part| part.length.nanometres());
+    same(rt, &"length", &length, &Some(1_000_000_000));
+    let radius = parts.get(3).map(|part| part.radius.nanometres());
+    same(rt, &"radius", &radius, &Some(1_000_000_000));
 }
 
 #[test]
@@ -307,17 +335,7 @@ fn four_parts_are_read(rt: HostRuntime) -> Result<(), Fail> {
     let text = format!(in rt.alloc(); "version = 2\n{TOOL_FOUR}")?;
     let tools = Tools::read(rt.alloc(), text.as_bytes())?;
     let tool = tools.find(9_999).ok_or("a tool")?;
-    assert_eq!(rt; tool.bottom.nanometres(), -1_000_000_000);
-    let parts = tool.parts.as_slice();
-    assert_eq!(rt; parts.len(), 4);
-    assert_eq!(rt;
-        parts.get(2).ok_or("a part")?.length.nanometres(),
-        1_000_000_000
-    );
-    assert_eq!(rt;
-        parts.get(3).ok_or("a part")?.radius.nanometres(),
-        1_000_000_000
-    );
+    has_four_parts(&rt, &tool);
     Ok(())
 }
 
@@ -329,10 +347,11 @@ fn tool_tables(rt: HostRuntime) -> Result<(), Fail> {
                 .replace(rt.alloc(), "ONE ", TOOL_ONE)?
                 .replace(rt.alloc(), "TWO ", TOOL_TWO)?
                 .replace(rt.alloc(), "FOUR ", TOOL_FOUR)?;
-            assert_eq!(rt;
-                table_fault(rt.alloc(), table.as_bytes()),
-                *number,
-                "{text}"
+            same(
+                &rt,
+                &text,
+                &table_fault(rt.alloc(), table.as_bytes()),
+                number,
             );
         }
     }
@@ -353,23 +372,39 @@ fn table_of(alloc: Global, count: u32) -> Result<String, Fail> {
 const COUNTS: &[u32] = &[10, 1_000];
 
 #[test]
-fn a_thousand_tools_and_no_more(rt: HostRuntime) -> Result<(), Fail> {
+fn a_thousand_tools(rt: HostRuntime) -> Result<(), Fail> {
     for count in COUNTS {
         let text = table_of(rt.alloc(), *count)?;
         let tools = Tools::read(rt.alloc(), text.as_bytes())?;
-        assert_eq!(rt; tools.tools().len(), *count as usize);
-        assert_eq!(rt; tools.copy(rt.alloc())?.tools(), tools.tools());
+        same(&rt, count, &tools.tools().len(), &(*count as usize));
+        let copy = tools.copy(rt.alloc())?;
+        same(&rt, count, &copy.tools(), &tools.tools());
     }
+    Ok(())
+}
+
+#[test]
+fn a_tool_too_many(rt: HostRuntime) -> Result<(), Fail> {
     let more = table_of(rt.alloc(), 1_001)?;
-    assert_eq!(rt; table_fault(rt.alloc(), more.as_bytes()), 268);
+    same(
+        &rt,
+        &"more",
+        &table_fault(rt.alloc(), more.as_bytes()),
+        &268,
+    );
     Ok(())
 }
 
 #[test]
 fn faults_tell_their_text(rt: HostRuntime) -> Result<(), Fail> {
     let text = format!(in rt.alloc(); "{}", FileFault::Step)?;
-    assert_eq!(rt; text.as_str(), "the step length is out of range");
-    assert_eq!(rt; FileFault::Memory.number(), 900);
+    same(
+        &rt,
+        &"text",
+        &text.as_str(),
+        &"the step length is out of range",
+    );
+    same(&rt, &"number", &FileFault::Memory.number(), &900);
     Ok(())
 }
 
@@ -393,15 +428,21 @@ fn read_tools(alloc: Global, bytes: &[u8]) -> Result<Tools<Global>, FileFault> {
 fn a_refusal_of_memory_is_told_as_one(rt: HostRuntime) -> Result<(), Fail> {
     let machine =
         b"version = 1\nstep = 500\nticks_per_second = 1\nmax_rate = 1\nchange = 1\ncorner = 1\nturn = 1\nlow = [0, 0, 0]\nhigh = [0, 0, 0]\nstart = [0, 0, 0]\nhome28 = [0, 0, 0]\nhome30 = [0, 0, 0]\nfixture = [{ low = [0, 0, 0], high = [1, 1, 1] }]\n";
-    assert_eq!(rt; read_machine(rt.alloc(), machine)?.fixtures.len(), 1);
+    let machine = read_machine(rt.alloc(), machine)?;
+    same(&rt, &"fixtures", &machine.fixtures.len(), &1);
+    Ok(())
+}
+
+#[test]
+fn a_refusal_of_memory_is_told_of_tools(rt: HostRuntime) -> Result<(), Fail> {
     let table = b"version = 1\ntool = [{ number = 1, length = 0, radius = 0, offset = 0 }]\n";
     let tools = read_tools(rt.alloc(), table)?;
-    assert_eq!(rt; tools.tools().len(), 1);
+    same(&rt, &"tools", &tools.tools().len(), &1);
     let copy = match tools.copy(rt.alloc()) {
         Ok(copy) => copy,
         Err(_) => tools.copy(rt.alloc())?,
     };
-    assert_eq!(rt; copy.tools(), tools.tools());
+    same(&rt, &"copy", &copy.tools(), &tools.tools());
     Ok(())
 }
 
@@ -412,15 +453,16 @@ fn a_copied_machine_has_the_fixtures(rt: HostRuntime) -> Result<(), Fail> {
     )?;
     let machine = Machine::read(rt.alloc(), text.as_bytes())?;
     let copy = machine.copy(rt.alloc())?;
-    assert!(rt; are_same(&copy, &machine));
-    assert_eq!(rt; copy.fixtures.len(), 1);
+    holds(&rt, &"copy", are_same(&copy, &machine));
+    same(&rt, &"fixtures", &copy.fixtures.len(), &1);
     Ok(())
 }
 
 #[test]
 fn an_empty_tool_table_takes_no_memory(rt: HostRuntime) -> Result<(), Fail> {
     let heap = LocalHeap::new(rt.alloc(), 512)?;
-    assert!(rt; Tools::empty(&heap).copy(&heap)?.tools().is_empty());
-    assert_eq!(rt; heap.used(), 0);
+    let copy = Tools::empty(&heap).copy(&heap)?;
+    holds(&rt, &"copy", copy.tools().is_empty());
+    same(&rt, &"used", &heap.used(), &0);
     Ok(())
 }
