@@ -19,8 +19,12 @@ use Rattle.ngc_certificate.specs.declared.fault.MakeFault.{MakeFault}
 use Rattle.ngc_certificate.specs.declared.fault.MakeFault.TheVariants.{NotCleared, Memory}
 use Rattle.ngc_certificate.specs.Made.{IsMade, GivesMade}
 use Rattle.ngc_certificate.specs.Valid.{IsValid}
+use Rattle.ngc_checker.specs.declared.check_fault.CheckReadFault.TheVariants as reads
 use Rattle.ngc_checker.specs.declared.fault.CheckFault.{CheckFault}
 use Rattle.ngc_checker.specs.Accepted.{AcceptedData, Answers}
+use Rattle.ngc_checker.specs.CheckSource.{AnswersText}
+use Rattle.ngc_checker.specs.FirstRefusal.{first_refusal}
+use Rattle.ngc_checker.proofs.AnswerLaw.{made_ok, first_is}
 use Rattle.ngc_simulator.specs.declared.certifier.CertifyFault.{CertifyFault}
 use Rattle.ngc_simulator.specs.declared.certifier.CertifyFault.TheVariants as certifies
 use Rattle.ngc_simulator.specs.declared.checking.CheckingFault.TheVariants as checks
@@ -134,14 +138,17 @@ pub given : (bytes text : List ℕ) (program : ProgramText) (c : CertificateData
     → AreGiven bytes text (program_said program have.readings) c
 given bytes text program c is_text have said = record { is_program = is_program bytes program is_text have; is_certificate = said }
 
-pub accepted_text_of : (setup : Setup) (bytes text : List ℕ) (program : ProgramText) (c : CertificateData) (a : AcceptedData)
-    → program_of bytes ≡ Ok program → HaveReadings program.lines → certificate_said text ≡ Ok c → Says program setup c (Ok a) → IsAcceptedText setup bytes text
-accepted_text_of setup bytes text program c a is_text have said says = record {
-  program = program_said program have.readings;
-  certificate = c;
-  given = given bytes text program c is_text have said;
-  none_refused = (says have.readings have.are).0;
-}
+pub accepted_text_of : (setup : Setup) (bytes text : List ℕ) (program : ProgramText) (a : AcceptedData)
+    → program_of bytes ≡ Ok program → (have : HaveReadings program.lines)
+    → AnswersText (λ a. a) (program_said program have.readings) setup text (Ok a) → IsAcceptedText setup bytes text
+accepted_text_of setup bytes text program a is_text have says =
+    let said = made_ok (first_refusal (program_said program have.readings) setup) (certificate_said text) None says.0 in
+    record {
+      program = program_said program have.readings;
+      certificate = said.0;
+      given = given bytes text program said.0 is_text have said.1;
+      none_refused = said.2;
+    }
 
 pub accepted : (setup : Setup) (bytes text : List ℕ) (old new : Option (List ℕ)) → IsAcceptedText setup bytes text → Appends old new accepted_text → Checks setup bytes text old new (Ok tt)
 accepted setup bytes text old new is wrote = (is, wrote)
@@ -150,8 +157,12 @@ pub accepting_stopped : (setup : Setup) (bytes text : List ℕ) (old new : Optio
     → AppendsBeginning old new accepted_text → Checks setup bytes text old new (Err (checks.Write fault))
 accepting_stopped setup bytes text old new fault is wrote = (is, wrote)
 
-pub first_told : (setup : Setup) (bytes text : List ℕ) (known : Option (List ℕ)) (program : ProgramText) (c : CertificateData) (fault : CheckFault)
-    → program_of bytes ≡ Ok program → HaveReadings program.lines → certificate_said text ≡ Ok c → Says program setup c (Err fault)
+pub first_told : (setup : Setup) (bytes text : List ℕ) (known : Option (List ℕ)) (program : ProgramText) (fault : CheckFault)
+    → program_of bytes ≡ Ok program → (have : HaveReadings program.lines)
+    → AnswersText {X = AcceptedData} (λ a. a) (program_said program have.readings) setup text (Err (reads.Check fault))
     → Checks setup bytes text known known (Err (checks.Check fault))
-first_told setup bytes text known program c fault is_text have said says =
-    ((program_said program have.readings, c, given bytes text program c is_text have said, says have.readings have.are), keeps_same known)
+first_told setup bytes text known program fault is_text have says =
+    let first = first_refusal (program_said program have.readings) setup in
+    let said = made_ok first (certificate_said text) (Some fault) says in
+    let is_first = first_is fault (first said.0) said.2 in
+    ((program_said program have.readings, said.0, given bytes text program said.0 is_text have said.1, is_first), keeps_same known)

@@ -13,8 +13,8 @@ use crate::fault::AnswerFault;
 use crate::files::Files;
 use crate::opening::read_program;
 use crate::setup::read_shop;
-use ngc_certificate_text::{Certificate, CertificateFault};
-use ngc_checker::{CheckFault, check};
+use ngc_certificate_text::CertificateFault;
+use ngc_checker::{CheckFault, CheckReadFault, check_source};
 use ngc_command_line::CheckOptions;
 use ngc_fixed_length::{Sink, Source, WriteFault, write_all};
 use ngc_input::InputFault;
@@ -57,13 +57,10 @@ pub fn check_program<A: Allocator + Copy, S: Source, W: Sink>(
     ensures sink { FailsByChecking result (W.failures output.old) (W.failures output.new) }
     ensures given { NeverReads result }
 {
-    let certificate = match Certificate::read(alloc, certificate) {
-        Ok(certificate) => certificate,
-        Err(fault) => return Err(CheckingFault::Certificate(fault)),
-    };
-    match check(alloc, program, machine, tools, &certificate) {
+    match check_source(alloc, program, machine, tools, certificate) {
         Ok(_) => {}
-        Err(fault) => return Err(CheckingFault::Check(fault)),
+        Err(CheckReadFault::Certificate(fault)) => return Err(CheckingFault::Certificate(fault)),
+        Err(CheckReadFault::Check(fault)) => return Err(CheckingFault::Check(fault)),
     }
     match write_all(output, b"accepted\n") {
         Ok(()) => Ok(()),
