@@ -1,3 +1,5 @@
 pub mod Tests
 pub mod Holding
 pub mod Folds
+pub mod Ahead
+pub mod Cuts

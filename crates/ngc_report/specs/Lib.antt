@@ -5,3 +5,5 @@ pub mod Nearing
 pub mod Uses
 pub mod Margins
 pub mod Scenes
+pub mod Words
+pub mod Reports

@@ -1,19 +1,49 @@
 //! What a program does on a machine, in numbers and in words: how far it goes, and with how much room.
+//!
+//! A report is lines of text, with lengths in millimetres, exactly. Of a program that fits, where tool 3 is mounted after a motion
+//! without a tool:
+//!
+//! ```text
+//! The program fits: every position is inside the travel and clear of every fixture.
+//! X from 0 mm to 120.5 mm, 30 mm left below and 79.5 mm left above.
+//! Y from 0 mm to 40 mm, 30 mm left below and 160 mm left above.
+//! Z from -3 mm to 50 mm, 97 mm left below and 0 mm left above.
+//! With no tool: traverses 1, feeds 0, arcs 0, dwells 0, stops 0; nearest fixture 0, 40 mm away.
+//! With tool 3: traverses 12, feeds 40, arcs 8, dwells 0, stops 1; nearest fixture 2, 4.25 mm away.
+//! ```
+//!
+//! Without fixtures a use ends behind its stops. Of a program that is refused, commands and fixtures count from 0:
+//!
+//! ```text
+//! The program does not fit.
+//! X from 0 mm to 302.5 mm, 0 mm left below and 2.5 mm too far above.
+//! Y from 0 mm to 0 mm, 0 mm left below and 300 mm left above.
+//! Z from 0 mm to 0 mm, 100 mm left below and 0 mm left above.
+//! Command 0 of line 1, with no tool, from X 0 mm, Y 0 mm, Z 0 mm to X 302.5 mm, Y 0 mm, Z 0 mm.
+//! It leaves the travel above X: 2.5 mm too far.
+//! ```
+//!
+//! The last line may be `It meets fixture 2, from X 10 mm, Y 20 mm, Z -30 mm to X 40 mm, Y 60 mm, Z 0 mm.`
 #![tactic(auto)]
 
 mod bounds;
 mod gaps;
 pub mod laws;
+mod line;
 mod margins;
 mod nearest;
+mod report;
 mod scene;
 mod travel;
 mod uses;
+mod words;
 
 pub use bounds::{extent, reach};
 pub use gaps::gap;
+pub use line::{Along, Line};
 pub use margins::{Axis, Margin, Side};
 pub use nearest::Nearest;
+pub use report::{write_fit, write_refusal};
 pub use scene::{Obstacle, Scene};
 pub use travel::{AxisRoom, Room};
 pub use uses::{ToolUse, ToolUses};

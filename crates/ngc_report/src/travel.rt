@@ -24,7 +24,7 @@ pub struct Room {
 }
 
 /// So many steps, in nanometres.
-fn nanometres_at(step: Nm, steps: i32) -> i64
+pub(crate) fn nanometres_at(step: Nm, steps: i32) -> i64
     requires { IsStep step }
     ensures value { result ≡ steps *ℤ step }
     ensures bound { unsigned_abs result ≤ 107374182400000 }

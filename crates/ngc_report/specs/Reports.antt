@@ -1,0 +1,67 @@
+-- The lines of reports. Our own.
+use Rattle.std.specs.Prelude.{ℕ, ◌+◌, ℤ, ◌*ℤ◌, List, [], ◌∷◌, ◌++◌, take, drop, Option, Some, None, Result}
+use Rattle.ngc_fixed_length.specs.declared.points.GridBox.{GridBox}
+use Rattle.ngc_fixed_length.specs.declared.writing.WriteFault.{WriteFault}
+use Rattle.ngc_machine.specs.Machine.{MachineFile}
+use Rattle.ngc_canonical.specs.declared.command.Command.{Command}
+use Rattle.ngc_certificate_text.specs.Certificate.{Entry}
+use Rattle.ngc_certificate_text.specs.Collects.{Collects}
+use Rattle.ngc_report.specs.Extents.{extent}
+use Rattle.ngc_report.specs.Nearing.{nearest}
+use Rattle.ngc_report.specs.Rooms.{room}
+use Rattle.ngc_report.specs.Scenes.{start_scene, scene_at, obstacle}
+use Rattle.ngc_report.specs.Uses.{tool_uses}
+use Rattle.ngc_report.specs.Words.{report_text}
+use Rattle.ngc_report.specs.declared.line.Line.{Line}
+use Rattle.ngc_report.specs.declared.line.Line.TheVariants as lines
+use Rattle.ngc_report.specs.declared.margins.Axis.{Axis}
+use Rattle.ngc_report.specs.declared.margins.Axis.TheVariants.{X, Y, Z}
+use Rattle.ngc_report.specs.declared.scene.Scene.{Scene}
+use Rattle.ngc_report.specs.declared.travel.AxisRoom.{AxisRoom}
+use Rattle.ngc_report.specs.declared.uses.ToolUse.{ToolUse}
+
+-- the text of lines comes behind what was collected; where a write fails, a beginning of both is written
+abbrev pub Tells : Option (List ℕ) → Option (List ℕ) → List ℕ → List ℕ → Result (Unit {0}) WriteFault → List Line → Type 0
+Tells old new before after result told = Collects old new before after result (report_text told)
+
+-- how far a program goes along each axis
+abbrev pub along : Axis → ℤ → ℤ → ℤ → AxisRoom → Line
+along axis step low high r = lines.Along (record { axis = axis; low = low *ℤ step; high = high *ℤ step; room = r })
+
+abbrev pub alongs : MachineFile → GridBox → List Line
+alongs machine b =
+    along X machine.step b.low.x b.high.x (room machine b).x ∷ along Y machine.step b.low.y b.high.y (room machine b).y ∷
+    along Z machine.step b.low.z b.high.z (room machine b).z ∷ []
+
+abbrev pub motions_in : ToolUse → ℕ
+motions_in u = u.traverses + u.feeds + u.arcs
+
+-- each use, with what it comes nearest to; a certificate's motions go with those of the uses in order
+abbrev pub use_lines : MachineFile → List ToolUse → List Entry → List Line
+use_lines machine [] motions = []
+use_lines machine (u ∷ us) motions =
+    lines.Use u (nearest machine u.tool (take (motions_in u) motions)) ∷ use_lines machine us (drop (motions_in u) motions)
+
+-- ---- reports
+
+-- of a program that fits
+abbrev pub fit_lines : MachineFile → List Command → List Entry → List Line
+fit_lines machine commands motions =
+    lines.Fits ∷ (alongs machine (extent machine commands) ++ use_lines machine (tool_uses commands) motions)
+
+abbrev pub start_lines : MachineFile → Option ℕ → List Line
+start_lines machine fixture =
+    lines.Start (start_scene machine) ∷ lines.InTheWay (obstacle machine (start_scene machine) fixture) ∷ []
+
+abbrev pub scene_lines : MachineFile → ℕ → Option ℕ → Option Scene → List Line
+scene_lines machine k fixture None = []
+scene_lines machine k fixture (Some s) = lines.Command k s ∷ lines.InTheWay (obstacle machine s fixture) ∷ []
+
+abbrev pub cause_lines : MachineFile → List Command → Option ℕ → Option ℕ → List Line
+cause_lines machine commands None fixture = start_lines machine fixture
+cause_lines machine commands (Some k) fixture = scene_lines machine k fixture (scene_at machine commands k)
+
+-- of one that doesn't: at a command, or at the start
+abbrev pub refusal_lines : MachineFile → List Command → Option ℕ → Option ℕ → List Line
+refusal_lines machine commands command fixture =
+    lines.Refused ∷ (alongs machine (extent machine commands) ++ cause_lines machine commands command fixture)

@@ -1,0 +1,105 @@
+-- The lines of a report, in words and millimetres. Our own.
+use Rattle.std.specs.Prelude.{ℕ, ◌+◌, ◌/◌, ◌%◌, ◌==◌, ℤ, pos, negsuc, unsigned_abs, List, [], ◌∷◌, ◌++◌, take, flat_map, codes, decimal, Option, Some, None, if◌then◌else◌}
+use Rattle.ngc_fixed_length.specs.declared.points.Point3.{Point3}
+use Rattle.ngc_machine.specs.declared.tools.Tool.{Tool}
+use Rattle.ngc_report.specs.declared.line.Along.{Along}
+use Rattle.ngc_report.specs.declared.line.Line.{Line}
+use Rattle.ngc_report.specs.declared.line.Line.TheVariants as lines
+use Rattle.ngc_report.specs.declared.margins.Axis.{Axis}
+use Rattle.ngc_report.specs.declared.margins.Axis.TheVariants.{X, Y, Z}
+use Rattle.ngc_report.specs.declared.margins.Side.{Side}
+use Rattle.ngc_report.specs.declared.margins.Side.TheVariants.{Below, Above}
+use Rattle.ngc_report.specs.declared.nearest.Nearest.{Nearest}
+use Rattle.ngc_report.specs.declared.scene.Obstacle.{Obstacle}
+use Rattle.ngc_report.specs.declared.scene.Obstacle.TheVariants.{Travel, Fixture}
+use Rattle.ngc_report.specs.declared.scene.Scene.{Scene}
+use Rattle.ngc_report.specs.declared.uses.ToolUse.{ToolUse}
+
+-- ---- lengths
+
+abbrev pub sign_text : ℤ → List ℕ
+sign_text (pos n) = []
+sign_text (negsuc n) = codes "-"
+
+-- a point and six digits; 48 is the code of 0
+abbrev pub decimals : ℕ → List ℕ
+decimals n =
+    46 ∷ (48 + n / 100000) ∷ (48 + n / 10000 % 10) ∷ (48 + n / 1000 % 10) ∷ (48 + n / 100 % 10) ∷ (48 + n / 10 % 10) ∷ (48 + n % 10) ∷ []
+
+-- how many of these say something: noughts at the end don't, nor does a point without digits
+abbrev pub telling : ℕ → ℕ
+telling n =
+    if n == 0 then 0 else (if n % 100000 == 0 then 2 else (if n % 10000 == 0 then 3 else (if n % 1000 == 0 then 4
+    else (if n % 100 == 0 then 5 else (if n % 10 == 0 then 6 else 7)))))
+
+-- nanometres as millimetres, exactly
+unfoldable pub size_text : ℕ → List ℕ
+size_text n = decimal (n / 1000000) ++ take (telling (n % 1000000)) (decimals (n % 1000000))
+
+unfoldable pub mm_text : ℤ → List ℕ
+mm_text z = sign_text z ++ (size_text (unsigned_abs z) ++ codes " mm")
+
+-- what is left on a side of the travel, or how much too far it goes there
+abbrev pub room_words : ℤ → List ℕ
+room_words (pos n) = codes " mm left"
+room_words (negsuc n) = codes " mm too far"
+
+unfoldable pub room_text : ℤ → List ℕ
+room_text z = size_text (unsigned_abs z) ++ room_words z
+
+unfoldable pub place_text : Point3 → List ℕ
+place_text p = codes "X " ++ mm_text p.x ++ codes ", Y " ++ mm_text p.y ++ codes ", Z " ++ mm_text p.z
+
+-- ---- lines
+
+unfoldable pub axis_text : Axis → List ℕ
+axis_text X = codes "X"
+axis_text Y = codes "Y"
+axis_text Z = codes "Z"
+
+unfoldable pub side_text : Side → List ℕ
+side_text Below = codes "below "
+side_text Above = codes "above "
+
+unfoldable pub tool_text : Option Tool → List ℕ
+tool_text None = codes "no tool"
+tool_text (Some tool) = codes "tool " ++ decimal tool.number
+
+unfoldable pub nearest_text : Option Nearest → List ℕ
+nearest_text None = codes ".\n"
+nearest_text (Some n) = codes "; nearest fixture " ++ decimal n.fixture ++ codes ", " ++ mm_text n.distance ++ codes " away.\n"
+
+abbrev pub along_text : Along → List ℕ
+along_text a =
+    axis_text a.axis ++ codes " from " ++ mm_text a.low ++ codes " to " ++ mm_text a.high ++ codes ", " ++ room_text a.room.below ++ codes " below and " ++
+    room_text a.room.above ++ codes " above.\n"
+
+abbrev pub use_text : ToolUse → Option Nearest → List ℕ
+use_text u n =
+    codes "With " ++ tool_text u.tool ++ codes ": traverses " ++ decimal u.traverses ++ codes ", feeds " ++ decimal u.feeds ++ codes ", arcs " ++
+    decimal u.arcs ++ codes ", dwells " ++ decimal u.dwells ++ codes ", stops " ++ decimal u.stops ++ nearest_text n
+
+abbrev pub command_text : ℕ → Scene → List ℕ
+command_text k s =
+    codes "Command " ++ decimal k ++ codes " of line " ++ decimal s.line ++ codes ", with " ++ tool_text s.tool ++ codes ", from " ++ place_text s.from ++
+    codes " to " ++ place_text s.to ++ codes ".\n"
+
+unfoldable pub obstacle_text : Option Obstacle → List ℕ
+obstacle_text None = codes "No side of the travel and no fixture is in the way of the whole: a box of the certificate is too large.\n"
+obstacle_text (Some (Travel m)) =
+    codes "It leaves the travel " ++ side_text m.side ++ axis_text m.axis ++ codes ": " ++ room_text m.left ++ codes ".\n"
+obstacle_text (Some (Fixture i f)) =
+    codes "It meets fixture " ++ decimal i ++ codes ", from " ++ place_text f.low ++ codes " to " ++ place_text f.high ++ codes ".\n"
+
+unfoldable pub line_text : Line → List ℕ
+line_text lines.Fits = codes "The program fits: every position is inside the travel and clear of every fixture.\n"
+line_text lines.Refused = codes "The program does not fit.\n"
+line_text (lines.Along a) = along_text a
+line_text (lines.Use u n) = use_text u n
+line_text (lines.Start s) = codes "The start is refused, at " ++ place_text s.from ++ codes ".\n"
+line_text (lines.Command k s) = command_text k s
+line_text (lines.InTheWay o) = obstacle_text o
+
+-- lines, one after another
+abbrev pub report_text : List Line → List ℕ
+report_text report = flat_map line_text report

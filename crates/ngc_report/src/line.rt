@@ -1,0 +1,33 @@
+use crate::margins::Axis;
+use crate::nearest::Nearest;
+use crate::scene::{Obstacle, Scene};
+use crate::travel::AxisRoom;
+use crate::uses::ToolUse;
+
+/// How far a program goes along an axis, in nanometres, and what is left there.
+#[derive(Clone, Copy, Debug, PartialEq, Eq)]
+pub struct Along {
+    pub axis: Axis,
+    pub low: i64,
+    pub high: i64,
+    pub room: AxisRoom,
+}
+
+/// A line of a report.
+#[derive(Clone, Copy, PartialEq, Eq)]
+pub enum Line {
+    /// Every position is inside the travel and clear of every fixture.
+    Fits,
+    /// A motion, a tool change or the start isn't.
+    Refused,
+    /// How far it goes along an axis.
+    Along(Along),
+    /// The use of a tool, and what it comes nearest to.
+    Use(ToolUse, Option<Nearest>),
+    /// The start, which is refused.
+    Start(Scene),
+    /// The command that is refused, by its index from 0.
+    Command(usize, Scene),
+    /// What is in the way.
+    InTheWay(Option<Obstacle>),
+}

@@ -1,0 +1,225 @@
+//! How reports are written.
+ghost use Rattle.std.specs.Prelude.{◌≡◌, min, OnOk, OnErr};
+ghost use Rattle.std.specs.Io.KnownBytes.{Appends};
+ghost use Rattle.ngc_fixed_length.specs.Failures.{CountsFailure};
+ghost use Rattle.ngc_fixed_length.specs.Length.{IsStep};
+ghost use Rattle.ngc_fixed_length.specs.Written.{AppendsBeginning};
+ghost use Rattle.ngc_certificate_text.specs.Collects.{Collects};
+ghost use Rattle.ngc_machine.specs.Machine.{file_of};
+ghost use Rattle.ngc_report.specs.Reports.{Tells, motions_in, along, alongs, use_lines, fit_lines, cause_lines, refusal_lines};
+ghost use Rattle.ngc_report.specs.Uses.{tool_uses};
+ghost use Rattle.ngc_report.specs.Words.{line_text, report_text};
+
+use crate::bounds::extent;
+use crate::line::{Along, Line};
+use crate::margins::Axis;
+use crate::nearest::Nearest;
+use crate::scene::Scene;
+use crate::travel::{AxisRoom, Room, nanometres_at};
+use crate::uses::{ToolUse, ToolUses};
+use crate::words::add_line;
+use ngc_canonical::{Command, Machine};
+use ngc_certificate_text::Motions;
+use ngc_fixed_length::{GridBox, Nm, Sink, WriteFault};
+use ngc_output::Chunk;
+use std::alloc::Allocator;
+
+fn tell<W: Sink>(chunk: &mut Chunk, line: &Line, sink: &mut W) -> Result<(), WriteFault>
+    ensures text { Collects (W.written sink.old) (W.written sink.new) chunk.old chunk.new result (line_text line.now) }
+    ensures counts { CountsFailure (W.failures sink.old) (W.failures sink.new) result }
+{
+    match chunk.make_room(sink) {
+        Ok(()) => {}
+        Err(fault) => return Err(fault),
+    }
+    add_line(chunk, line);
+    Ok(())
+}
+
+fn tell_all<W: Sink>(chunk: &mut Chunk, lines: &[Line], sink: &mut W) -> Result<(), WriteFault>
+    ensures told { Tells (W.written sink.old) (W.written sink.new) chunk.old chunk.new result lines.now }
+    ensures counts { CountsFailure (W.failures sink.old) (W.failures sink.new) result }
+{
+    for line in lines {
+        match tell(chunk, line, sink) {
+            Ok(()) => {}
+            Err(fault) => return Err(fault),
+        }
+    }
+    Ok(())
+}
+
+fn along(axis: Axis, step: Nm, low: i32, high: i32, room: AxisRoom) -> Line
+    requires { IsStep step }
+    ensures { result ≡ along axis step low high room }
+{
+    Line::Along(Along {
+        axis,
+        low: nanometres_at(step, low),
+        high: nanometres_at(step, high),
+        room,
+    })
+}
+
+fn alongs<A: Allocator>(machine: &Machine<A>, bounds: &GridBox) -> [Line; 3]
+    ensures { result ≡ alongs (file_of machine.now) bounds.now }
+{
+    let (step, low, high) = (machine.step, &bounds.low, &bounds.high);
+    let room = Room::about(machine, bounds);
+    [
+        along(Axis::X, step, low.x, high.x, room.x),
+        along(Axis::Y, step, low.y, high.y, room.y),
+        along(Axis::Z, step, low.z, high.z, room.z),
+    ]
+}
+
+/// The motions of a use, but no more than so many.
+fn motions_up_to(one: &ToolUse, most: usize) -> usize
+    ensures { result ≡ min (motions_in one.now) most }
+{
+    one.traverses
+        .saturating_add(one.feeds)
+        .saturating_add(one.arcs)
+        .min(most)
+}
+
+fn tell_uses<A: Allocator, B: Allocator, W: Sink>(
+    chunk: &mut Chunk,
+    machine: &Machine<A>,
+    commands: &[Command],
+    motions: &Motions<B>,
+    sink: &mut W,
+) -> Result<(), WriteFault>
+    ensures told { Tells (W.written sink.old) (W.written sink.new) chunk.old chunk.new result (use_lines (file_of machine.now) (tool_uses commands.now) motions.now) }
+    ensures counts { CountsFailure (W.failures sink.old) (W.failures sink.new) result }
+{
+    let mut uses = ToolUses::new(commands);
+    let mut first = 0;
+    while let Some(one) = uses.next_use() {
+        let end = first + motions_up_to(&one, motions.len() - first);
+        let nearest = Nearest::over(machine, &one.tool, motions, first, end);
+        match tell_all(chunk, &[Line::Use(one, nearest)], sink) {
+            Ok(()) => {}
+            Err(fault) => return Err(fault),
+        }
+        first = end;
+    }
+    Ok(())
+}
+
+fn tell_fit<A: Allocator, B: Allocator, W: Sink>(
+    chunk: &mut Chunk,
+    machine: &Machine<A>,
+    commands: &[Command],
+    motions: &Motions<B>,
+    sink: &mut W,
+) -> Result<(), WriteFault>
+    ensures told { Tells (W.written sink.old) (W.written sink.new) chunk.old chunk.new result (fit_lines (file_of machine.now) commands.now motions.now) }
+    ensures counts { CountsFailure (W.failures sink.old) (W.failures sink.new) result }
+{
+    match tell_all(chunk, &[Line::Fits], sink) {
+        Ok(()) => {}
+        Err(fault) => return Err(fault),
+    }
+    match tell_all(chunk, &alongs(machine, &extent(machine, commands)), sink) {
+        Ok(()) => {}
+        Err(fault) => return Err(fault),
+    }
+    tell_uses(chunk, machine, commands, motions, sink)
+}
+
+fn tell_cause<A: Allocator, W: Sink>(
+    chunk: &mut Chunk,
+    machine: &Machine<A>,
+    commands: &[Command],
+    command: Option<usize>,
+    fixture: Option<u32>,
+    sink: &mut W,
+) -> Result<(), WriteFault>
+    ensures told { Tells (W.written sink.old) (W.written sink.new) chunk.old chunk.new result (cause_lines (file_of machine.now) commands.now command fixture) }
+    ensures counts { CountsFailure (W.failures sink.old) (W.failures sink.new) result }
+{
+    match command {
+        None => {
+            let scene = Scene::start(machine);
+            let cause = scene.obstacle(machine, fixture);
+            tell_all(chunk, &[Line::Start(scene), Line::InTheWay(cause)], sink)
+        }
+        Some(command) => match Scene::at(machine, commands, command) {
+            None => tell_all(chunk, &[], sink),
+            Some(scene) => {
+                let cause = scene.obstacle(machine, fixture);
+                tell_all(
+                    chunk,
+                    &[Line::Command(command, scene), Line::InTheWay(cause)],
+                    sink,
+                )
+            }
+        },
+    }
+}
+
+fn tell_refusal<A: Allocator, W: Sink>(
+    chunk: &mut Chunk,
+    machine: &Machine<A>,
+    commands: &[Command],
+    command: Option<usize>,
+    fixture: Option<u32>,
+    sink: &mut W,
+) -> Result<(), WriteFault>
+    ensures told { Tells (W.written sink.old) (W.written sink.new) chunk.old chunk.new result (refusal_lines (file_of machine.now) commands.now command fixture) }
+    ensures counts { CountsFailure (W.failures sink.old) (W.failures sink.new) result }
+{
+    match tell_all(chunk, &[Line::Refused], sink) {
+        Ok(()) => {}
+        Err(fault) => return Err(fault),
+    }
+    match tell_all(chunk, &alongs(machine, &extent(machine, commands)), sink) {
+        Ok(()) => {}
+        Err(fault) => return Err(fault),
+    }
+    tell_cause(chunk, machine, commands, command, fixture, sink)
+}
+
+/// Writes the report of a program that fits, whose certificate has these motions: how far it goes along each axis with what is
+/// left there, and the uses of tools, each with the fixture that it comes nearest to.
+///
+/// After a fault (902, and only where the sink failed) a beginning of the text is written.
+pub fn write_fit<A: Allocator, B: Allocator, W: Sink>(
+    machine: &Machine<A>,
+    commands: &[Command],
+    motions: &Motions<B>,
+    sink: &mut W,
+) -> Result<(), WriteFault>
+    ensures ok { OnOk result (Appends (W.written sink.old) (W.written sink.new) (report_text (fit_lines (file_of machine.now) commands.now motions.now))) }
+    ensures fault { OnErr result (AppendsBeginning (W.written sink.old) (W.written sink.new) (report_text (fit_lines (file_of machine.now) commands.now motions.now))) }
+    ensures counts { CountsFailure (W.failures sink.old) (W.failures sink.new) result }
+{
+    let mut chunk = Chunk::new();
+    match tell_fit(&mut chunk, machine, commands, motions, sink) {
+        Ok(()) => chunk.write_out(sink),
+        Err(fault) => Err(fault),
+    }
+}
+
+/// Writes the report of a program that is refused at a command, by its index from 0, or at the start: how far it goes along each
+/// axis, what the command does, and what is in its way. A fixture that the fault names is told from 0.
+///
+/// After a fault (902, and only where the sink failed) a beginning of the text is written.
+pub fn write_refusal<A: Allocator, W: Sink>(
+    machine: &Machine<A>,
+    commands: &[Command],
+    command: Option<usize>,
+    fixture: Option<u32>,
+    sink: &mut W,
+) -> Result<(), WriteFault>
+    ensures ok { OnOk result (Appends (W.written sink.old) (W.written sink.new) (report_text (refusal_lines (file_of machine.now) commands.now command fixture))) }
+    ensures fault { OnErr result (AppendsBeginning (W.written sink.old) (W.written sink.new) (report_text (refusal_lines (file_of machine.now) commands.now command fixture))) }
+    ensures counts { CountsFailure (W.failures sink.old) (W.failures sink.new) result }
+{
+    let mut chunk = Chunk::new();
+    match tell_refusal(&mut chunk, machine, commands, command, fixture, sink) {
+        Ok(()) => chunk.write_out(sink),
+        Err(fault) => Err(fault),
+    }
+}

@@ -1,0 +1,327 @@
+//! How the lines of a report are spelled.
+ghost use Rattle.std.specs.Prelude.{◌≡◌, ◌+◌, ◌*◌, ◌<◌, ◌≤◌, ◌++◌, codes, decimal, take, unsigned_abs, length};
+ghost use Rattle.ngc_output.specs.Collected.{CHUNK_SIZE, HasLineRoom};
+ghost use Rattle.ngc_report.specs.Words.{sign_text, decimals, telling, size_text, mm_text, room_words, room_text, place_text, axis_text, side_text, tool_text, nearest_text, along_text, use_text, command_text, obstacle_text, line_text};
+
+use crate::line::{Along, Line};
+use crate::margins::{Axis, Margin, Side};
+use crate::nearest::Nearest;
+use crate::scene::{Obstacle, Scene};
+use crate::uses::ToolUse;
+use ngc_canonical::{Fixture, Tool};
+use ngc_fixed_length::{Nm, Point3};
+use ngc_output::Chunk;
+
+fn sign(nanometres: i128) -> &'static [u8]
+    ensures text { result.now ≡ sign_text nanometres }
+    ensures short { length result.now ≤ 1 }
+{
+    if nanometres < 0 { b"-" } else { b"" }
+}
+
+fn digit(value: u64) -> u8
+    requires { value < 10 }
+    ensures { result ≡ 48 + value }
+{
+    b'0' + value as u8
+}
+
+fn decimals(nanometres: u64) -> [u8; 7]
+    requires { nanometres < 1000000 }
+    ensures { result ≡ decimals nanometres }
+{
+    [
+        b'.',
+        digit(nanometres / 100_000),
+        digit(nanometres / 10_000 % 10),
+        digit(nanometres / 1_000 % 10),
+        digit(nanometres / 100 % 10),
+        digit(nanometres / 10 % 10),
+        digit(nanometres % 10),
+    ]
+}
+
+fn telling(nanometres: u64) -> usize
+    ensures value { result ≡ telling nanometres }
+    ensures few { result ≤ 7 }
+{
+    if nanometres == 0 {
+        0
+    } else if nanometres % 100_000 == 0 {
+        2
+    } else if nanometres % 10_000 == 0 {
+        3
+    } else if nanometres % 1_000 == 0 {
+        4
+    } else if nanometres % 100 == 0 {
+        5
+    } else if nanometres % 10 == 0 {
+        6
+    } else {
+        7
+    }
+}
+
+fn add_fraction(chunk: &mut Chunk, nanometres: u64)
+    requires small { nanometres < 1000000 }
+    requires room { length chunk.old + 7 ≤ CHUNK_SIZE }
+    ensures text { chunk.new ≡ chunk.old ++ take (telling nanometres) (decimals nanometres) }
+    ensures short { length chunk.new ≤ length chunk.old + 7 }
+{
+    let digits = decimals(nanometres);
+    chunk.add_text(&digits[..telling(nanometres)]);
+}
+
+/// Adds a size in nanometres as millimetres, exactly.
+#[tactic(auto, unfolding(crate::specs::Words::size_text))]
+fn add_size(chunk: &mut Chunk, nanometres: u128)
+    requires { length chunk.old + 47 ≤ CHUNK_SIZE }
+    ensures text { chunk.new ≡ chunk.old ++ size_text nanometres }
+    ensures short { length chunk.new ≤ length chunk.old + 47 }
+{
+    chunk.add_number(nanometres / 1_000_000);
+    add_fraction(chunk, (nanometres % 1_000_000) as u64);
+}
+
+/// Adds a length in nanometres as millimetres.
+#[tactic(auto, unfolding(crate::specs::Words::mm_text))]
+fn add_wide(chunk: &mut Chunk, nanometres: i128)
+    requires { length chunk.old + 51 ≤ CHUNK_SIZE }
+    ensures text { chunk.new ≡ chunk.old ++ mm_text nanometres }
+    ensures short { length chunk.new ≤ length chunk.old + 51 }
+{
+    chunk.add_text(sign(nanometres));
+    add_size(chunk, nanometres.unsigned_abs());
+    chunk.add_text(b" mm");
+}
+
+fn add_length(chunk: &mut Chunk, nanometres: i64)
+    requires { length chunk.old + 51 ≤ CHUNK_SIZE }
+    ensures text { chunk.new ≡ chunk.old ++ mm_text nanometres }
+    ensures short { length chunk.new ≤ length chunk.old + 51 }
+{
+    add_wide(chunk, i128::from(nanometres));
+}
+
+fn add_coordinate(chunk: &mut Chunk, coordinate: Nm)
+    requires { length chunk.old + 51 ≤ CHUNK_SIZE }
+    ensures text { chunk.new ≡ chunk.old ++ mm_text coordinate }
+    ensures short { length chunk.new ≤ length chunk.old + 51 }
+{
+    add_length(chunk, coordinate.nanometres());
+}
+
+fn room_words(nanometres: i64) -> &'static [u8]
+    ensures text { result.now ≡ room_words nanometres }
+    ensures short { length result.now ≤ 11 }
+{
+    if nanometres < 0 {
+        b" mm too far"
+    } else {
+        b" mm left"
+    }
+}
+
+/// Adds what is left on a side, or how much too far the program goes there.
+#[tactic(auto, unfolding(crate::specs::Words::room_text))]
+fn add_room(chunk: &mut Chunk, nanometres: i64)
+    requires { length chunk.old + 58 ≤ CHUNK_SIZE }
+    ensures text { chunk.new ≡ chunk.old ++ room_text nanometres }
+    ensures short { length chunk.new ≤ length chunk.old + 58 }
+{
+    add_size(chunk, u128::from(nanometres.unsigned_abs()));
+    chunk.add_text(room_words(nanometres));
+}
+
+#[tactic(auto, unfolding(crate::specs::Words::place_text))]
+fn add_place(chunk: &mut Chunk, place: &Point3)
+    requires { length chunk.old + 163 ≤ CHUNK_SIZE }
+    ensures text { chunk.new ≡ chunk.old ++ place_text place.now }
+    ensures short { length chunk.new ≤ length chunk.old + 163 }
+{
+    chunk.add_text(b"X ");
+    add_coordinate(chunk, place.x);
+    chunk.add_text(b", Y ");
+    add_coordinate(chunk, place.y);
+    chunk.add_text(b", Z ");
+    add_coordinate(chunk, place.z);
+}
+
+#[tactic(auto, unfolding(crate::specs::Words::axis_text))]
+fn axis_name(axis: Axis) -> &'static [u8]
+    ensures text { result.now ≡ axis_text axis }
+    ensures short { length result.now ≤ 1 }
+{
+    match axis {
+        Axis::X => b"X",
+        Axis::Y => b"Y",
+        Axis::Z => b"Z",
+    }
+}
+
+#[tactic(auto, unfolding(crate::specs::Words::side_text))]
+fn side_name(side: Side) -> &'static [u8]
+    ensures text { result.now ≡ side_text side }
+    ensures short { length result.now ≤ 6 }
+{
+    match side {
+        Side::Below => b"below ",
+        Side::Above => b"above ",
+    }
+}
+
+#[tactic(auto, unfolding(crate::specs::Words::tool_text))]
+fn add_tool(chunk: &mut Chunk, tool: &Option<Tool>)
+    requires { length chunk.old + 45 ≤ CHUNK_SIZE }
+    ensures text { chunk.new ≡ chunk.old ++ tool_text tool.now }
+    ensures short { length chunk.new ≤ length chunk.old + 45 }
+{
+    match tool {
+        None => chunk.add_text(b"no tool"),
+        Some(tool) => {
+            chunk.add_text(b"tool ");
+            chunk.add_number(tool.number);
+        }
+    }
+}
+
+fn add_distance(chunk: &mut Chunk, nearest: &Nearest)
+    requires { length chunk.old + 120 ≤ CHUNK_SIZE }
+    ensures { chunk.new ≡ chunk.old ++ (codes "; nearest fixture " ++ decimal nearest.now.fixture ++ codes ", " ++ mm_text nearest.now.distance ++ codes " away.\n") }
+{
+    chunk.add_text(b"; nearest fixture ");
+    chunk.add_number(nearest.fixture);
+    chunk.add_text(b", ");
+    add_wide(chunk, nearest.distance);
+    chunk.add_text(b" away.\n");
+}
+
+#[tactic(auto, unfolding(crate::specs::Words::nearest_text))]
+fn add_nearest(chunk: &mut Chunk, nearest: &Option<Nearest>)
+    requires { length chunk.old + 120 ≤ CHUNK_SIZE }
+    ensures { chunk.new ≡ chunk.old ++ nearest_text nearest.now }
+{
+    match nearest {
+        None => chunk.add_text(b".\n"),
+        Some(nearest) => add_distance(chunk, nearest),
+    }
+}
+
+fn add_along(chunk: &mut Chunk, along: &Along)
+    requires { HasLineRoom chunk.old }
+    ensures { chunk.new ≡ chunk.old ++ along_text along.now }
+{
+    chunk.add_text(axis_name(along.axis));
+    chunk.add_text(b" from ");
+    add_length(chunk, along.low);
+    chunk.add_text(b" to ");
+    add_length(chunk, along.high);
+    chunk.add_text(b", ");
+    add_room(chunk, along.room.below);
+    chunk.add_text(b" below and ");
+    add_room(chunk, along.room.above);
+    chunk.add_text(b" above.\n");
+}
+
+fn add_use(chunk: &mut Chunk, one: &ToolUse, nearest: &Option<Nearest>)
+    requires { HasLineRoom chunk.old }
+    ensures { chunk.new ≡ chunk.old ++ use_text one.now nearest.now }
+{
+    chunk.add_text(b"With ");
+    add_tool(chunk, &one.tool);
+    chunk.add_text(b": traverses ");
+    chunk.add_number(one.traverses);
+    chunk.add_text(b", feeds ");
+    chunk.add_number(one.feeds);
+    chunk.add_text(b", arcs ");
+    chunk.add_number(one.arcs);
+    chunk.add_text(b", dwells ");
+    chunk.add_number(one.dwells);
+    chunk.add_text(b", stops ");
+    chunk.add_number(one.stops);
+    add_nearest(chunk, nearest);
+}
+
+fn add_start(chunk: &mut Chunk, scene: &Scene)
+    requires { HasLineRoom chunk.old }
+    ensures { chunk.new ≡ chunk.old ++ (codes "The start is refused, at " ++ place_text scene.now.from ++ codes ".\n") }
+{
+    chunk.add_text(b"The start is refused, at ");
+    add_place(chunk, &scene.from);
+    chunk.add_text(b".\n");
+}
+
+fn add_command(chunk: &mut Chunk, command: usize, scene: &Scene)
+    requires { HasLineRoom chunk.old }
+    ensures { chunk.new ≡ chunk.old ++ command_text command scene.now }
+{
+    chunk.add_text(b"Command ");
+    chunk.add_number(command);
+    chunk.add_text(b" of line ");
+    chunk.add_number(scene.line);
+    chunk.add_text(b", with ");
+    add_tool(chunk, &scene.tool);
+    chunk.add_text(b", from ");
+    add_place(chunk, &scene.from);
+    chunk.add_text(b" to ");
+    add_place(chunk, &scene.to);
+    chunk.add_text(b".\n");
+}
+
+fn add_side(chunk: &mut Chunk, margin: &Margin)
+    requires { HasLineRoom chunk.old }
+    ensures { chunk.new ≡ chunk.old ++ (codes "It leaves the travel " ++ side_text margin.now.side ++ axis_text margin.now.axis ++ codes ": " ++ room_text margin.now.left ++ codes ".\n") }
+{
+    chunk.add_text(b"It leaves the travel ");
+    chunk.add_text(side_name(margin.side));
+    chunk.add_text(axis_name(margin.axis));
+    chunk.add_text(b": ");
+    add_room(chunk, margin.left);
+    chunk.add_text(b".\n");
+}
+
+fn add_fixture(chunk: &mut Chunk, number: u32, fixture: &Fixture)
+    requires { HasLineRoom chunk.old }
+    ensures { chunk.new ≡ chunk.old ++ (codes "It meets fixture " ++ decimal number ++ codes ", from " ++ place_text fixture.now.low ++ codes " to " ++ place_text fixture.now.high ++ codes ".\n") }
+{
+    chunk.add_text(b"It meets fixture ");
+    chunk.add_number(number);
+    chunk.add_text(b", from ");
+    add_place(chunk, &fixture.low);
+    chunk.add_text(b" to ");
+    add_place(chunk, &fixture.high);
+    chunk.add_text(b".\n");
+}
+
+#[tactic(auto, unfolding(crate::specs::Words::obstacle_text))]
+fn add_obstacle(chunk: &mut Chunk, obstacle: &Option<Obstacle>)
+    requires { HasLineRoom chunk.old }
+    ensures { chunk.new ≡ chunk.old ++ obstacle_text obstacle.now }
+{
+    match obstacle {
+        None => chunk.add_text(
+            b"No side of the travel and no fixture is in the way of the whole: a box of the certificate is too large.\n",
+        ),
+        Some(Obstacle::Travel(margin)) => add_side(chunk, margin),
+        Some(Obstacle::Fixture(number, fixture)) => add_fixture(chunk, *number, fixture),
+    }
+}
+
+/// Adds the text of a line.
+#[tactic(auto, unfolding(crate::specs::Words::line_text))]
+pub(crate) fn add_line(chunk: &mut Chunk, line: &Line)
+    requires { HasLineRoom chunk.old }
+    ensures { chunk.new ≡ chunk.old ++ line_text line.now }
+{
+    match line {
+        Line::Fits => chunk.add_text(
+            b"The program fits: every position is inside the travel and clear of every fixture.\n",
+        ),
+        Line::Refused => chunk.add_text(b"The program does not fit.\n"),
+        Line::Along(along) => add_along(chunk, along),
+        Line::Use(one, nearest) => add_use(chunk, one, nearest),
+        Line::Start(scene) => add_start(chunk, scene),
+        Line::Command(command, scene) => add_command(chunk, *command, scene),
+        Line::InTheWay(obstacle) => add_obstacle(chunk, obstacle),
+    }
+}
