@@ -1,5 +1,5 @@
 //! Motions in pieces.
-ghost use Rattle.std.specs.Prelude.{◌≡◌, ◌+◌, ◌*◌, ◌/◌, ◌≤◌, [], OnOk};
+ghost use Rattle.std.specs.Prelude.{◌≡◌, ◌+◌, ◌*◌, ◌/◌, ◌≤◌, [], ◌∷◌, OnOk};
 ghost use Rattle.ngc_fixed_length.specs.Grid.{grid};
 ghost use Rattle.ngc_fixed_length.specs.Length.{IsStep};
 ghost use Rattle.ngc_fixed_length.specs.Boxes.{box_of};
@@ -84,6 +84,22 @@ fn divide_line<A: Allocator>(
         pieces.push(line_piece(step, start, end, &cuts_of(k, count), &whole))?;
     }
     Ok(())
+}
+
+/// A motion in one piece, in the least box that holds it.
+///
+/// The step is 500 to 50,000 nm.
+pub fn undivided(step: Nm, way: &Way) -> Piece
+    requires { IsStep step }
+    ensures { pieces_of step way.now 1 ≡ result ∷ [] }
+{
+    match way {
+        Way::Line { start, end } => {
+            let whole = GridBox::between(&start.to_grid(step), &end.to_grid(step));
+            line_piece(step, start, end, &cuts_of(0, 1), &whole)
+        }
+        Way::Arc(arc) => whole_arc(step, arc),
+    }
 }
 
 /// Makes `pieces` those of a motion: a line in `count` of them of about one length, an arc in one.

@@ -18,6 +18,7 @@ mod quadrant;
 mod shared;
 mod stretch;
 
+pub use divide::undivided;
 pub use fault::{MakeFault, PieceFault, PieceRefusal};
 pub use maker::{make, make_alike};
 pub use ngc_certificate_text::{Certificate, Cut, Motions, Piece, Setting};

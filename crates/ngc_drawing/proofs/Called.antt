@@ -1,5 +1,5 @@
 -- What a tool is called.
-use Rattle.std.proofs.Common.{◌≡◌, ◌≢◌, ℕ, ◌==◌, Bool, List, ◌++◌, ap, codes, decimal, eq-eqb, if◌then◌else◌}
+use Rattle.std.proofs.Common.{◌≡◌, ◌≢◌, ℕ, Bool, ◌++◌, ap, codes, decimal, eq-eqb, if◌then◌else◌}
 use Rattle.std.proofs.lemmas.Bool.{ne_eqb}
 use Rattle.ngc_drawing.specs.Spelling.{tool_text}
 

@@ -3,3 +3,4 @@ pub mod Steps
 pub mod Called
 pub mod Texts
 pub mod Whole
+pub mod Sweeps

@@ -1,9 +1,6 @@
 -- Where arcs are seen. Our own.
-use Rattle.std.specs.Prelude.{ℤ, pos, List, [], ◌∷◌, ◌++◌, map}
+use Rattle.std.specs.Prelude.{List, [], ◌∷◌, ◌++◌, map}
 use Rattle.ngc_fixed_length.specs.Places.{at_height, height}
-use Rattle.ngc_fixed_length.specs.declared.modes.Plane.{Plane}
-use Rattle.ngc_fixed_length.specs.declared.modes.Turn.{Turn}
-use Rattle.ngc_fixed_length.specs.declared.modes.Turn.TheVariants.{Clockwise, Counterclockwise}
 use Rattle.ngc_fixed_length.specs.declared.points.Point2.{Point2}
 use Rattle.ngc_fixed_length.specs.declared.points.Point3.{Point3}
 use Rattle.ngc_arc_geometry.specs.Shape.{ArcShape}

@@ -3,6 +3,8 @@ pub mod Tools
 pub mod Arcs
 pub mod Units
 pub mod Strokes
+pub mod Bodies
+pub mod Sweeping
 pub mod Spelling
 pub mod Draws
 pub mod Sheets

@@ -1,5 +1,5 @@
 -- What is drawn of a program on its machine. Our own.
-use Rattle.std.specs.Prelude.{ℕ, ◌+◌, ◌*◌, min, nat_le, ℤ, pos, ◌*ℤ◌, unsigned_abs, List, [], ◌∷◌, ◌++◌, length, map, drop, Option, Some, None, if◌then◌else◌}
+use Rattle.std.specs.Prelude.{ℕ, ◌+◌, ◌*◌, min, nat_le, pos, ◌*ℤ◌, unsigned_abs, List, [], ◌∷◌, ◌++◌, length, map, drop, Option, Some, None, if◌then◌else◌}
 use Rattle.ngc_machine.specs.Machine.{MachineFile}
 use Rattle.ngc_machine.specs.declared.machine.Fixture.{Fixture}
 use Rattle.ngc_machine.specs.declared.parts.Part.{Part}
@@ -8,6 +8,8 @@ use Rattle.ngc_canonical.specs.Movement.{end_of}
 use Rattle.ngc_canonical.specs.declared.command.Action.{Action}
 use Rattle.ngc_canonical.specs.declared.command.Action.TheVariants.{Move}
 use Rattle.ngc_canonical.specs.declared.command.Command.{Command}
+use Rattle.ngc_certificate_text.specs.Certificate.{Entry}
+use Rattle.ngc_drawing.specs.Bodies.{sweeps, swept_from}
 use Rattle.ngc_drawing.specs.Sheets.{frame, unit_of, sheet}
 use Rattle.ngc_drawing.specs.Spelling.{shapes_text}
 use Rattle.ngc_drawing.specs.Strokes.{stroke, strokes}
@@ -19,7 +21,7 @@ use Rattle.ngc_drawing.specs.declared.shape.Mark.TheVariants as marks
 use Rattle.ngc_drawing.specs.declared.shape.Shape.{Shape}
 use Rattle.ngc_drawing.specs.declared.shape.Shape.TheVariants as shapes
 use Rattle.ngc_drawing.specs.declared.spot.Rectangle.{Rectangle}
-use Rattle.ngc_drawing.specs.declared.spot.Spot.{Spot}
+use Rattle.ngc_drawing.specs.declared.sweep.Sweep.{Sweep}
 use Rattle.ngc_drawing.specs.declared.view.View.{View}
 
 -- a fixture and its number
@@ -106,17 +108,24 @@ scaled area =
     shapes.Scale area.low (scale_in (25 * unsigned_abs (unit_of area)) SCALES) ∷
     shapes.ScaleLength area.low (scale_in (25 * unsigned_abs (unit_of area)) SCALES) ∷ shapes.Legend area.low ∷ []
 
--- travel, fixtures, the path, the marks, what is refused, the scale and the legend
-abbrev pub picture_of : View → MachineFile → List Command → Option Refusal → Rectangle → List (Option Tool) → List Shape
-picture_of view machine commands refusal area tools =
-    opening view machine area tools ++ (fixtures_from view 0 machine.fixtures ++ (strokes view tools commands ++
+-- travel, fixtures, and the bodies of tools over these boxes
+abbrev pub ground : View → MachineFile → Rectangle → List (Option Tool) → List Sweep → List Shape
+ground view machine area tools swept =
+    opening view machine area tools ++ (fixtures_from view 0 machine.fixtures ++ swept_from view machine.step tools None swept)
+
+-- these, the path, the marks, what is refused, the scale and the legend
+abbrev pub picture_of : View → MachineFile → List Command → Option Refusal → Rectangle → List (Option Tool) → List Sweep → List Shape
+picture_of view machine commands refusal area tools swept =
+    ground view machine area tools swept ++ (strokes view tools commands ++
     (marked view machine area ++ (refused view machine commands refusal ++ (scaled area ++ (tool_rows 0 tools ++
-    (refusal_row refusal ++ shapes.End ∷ [])))))))
+    (refusal_row refusal ++ shapes.End ∷ []))))))
 
-abbrev pub picture : View → MachineFile → List Command → Option Refusal → List Shape
-picture view machine commands refusal = picture_of view machine commands refusal (frame view machine commands) (used commands)
+-- on the sheet that commands need
+abbrev pub text_of : View → MachineFile → List Command → Option Refusal → List (Option Tool) → List Sweep → List ℕ
+text_of view machine commands refusal tools swept =
+    shapes_text (unit_of (frame view machine commands)) (picture_of view machine commands refusal (frame view machine commands) tools swept)
 
--- its text
-abbrev pub picture_text : View → MachineFile → List Command → Option Refusal → List ℕ
-picture_text view machine commands refusal =
-    shapes_text (unit_of (frame view machine commands)) (picture view machine commands refusal)
+-- the text of the picture of commands with the motions of a certificate, or with none
+abbrev pub picture_text : View → MachineFile → List Command → List Entry → Option Refusal → List ℕ
+picture_text view machine commands entries refusal =
+    text_of view machine commands refusal (used commands) (sweeps view (used commands) commands entries)

@@ -1,9 +1,7 @@
 -- What is drawn of the path. Our own.
-use Rattle.std.specs.Prelude.{ℕ, ◌==◌, ℤ, pos, List, [], ◌∷◌, ◌++◌, map, Option, Some, None, Bool, true, false, ◌&&◌, not, if◌then◌else◌}
+use Rattle.std.specs.Prelude.{ℕ, ◌==◌, pos, List, [], ◌∷◌, ◌++◌, map, Option, Some, None, Bool, true, false, ◌&&◌, if◌then◌else◌}
 use Rattle.std.specs.Ordering.{int_eq}
 use Rattle.ngc_fixed_length.specs.Places.{height}
-use Rattle.ngc_fixed_length.specs.declared.modes.Plane.{Plane}
-use Rattle.ngc_fixed_length.specs.declared.modes.Plane.TheVariants.{XY, ZX, YZ}
 use Rattle.ngc_fixed_length.specs.declared.modes.Turn.{Turn}
 use Rattle.ngc_fixed_length.specs.declared.modes.Turn.TheVariants.{Clockwise, Counterclockwise}
 use Rattle.ngc_arc_geometry.specs.Shape.{ArcShape}
@@ -28,7 +26,7 @@ use Rattle.ngc_drawing.specs.declared.shape.Shape.{Shape}
 use Rattle.ngc_drawing.specs.declared.shape.Shape.TheVariants as shapes
 use Rattle.ngc_drawing.specs.declared.spot.Spot.{Spot}
 use Rattle.ngc_drawing.specs.declared.view.View.{View}
-use Rattle.ngc_drawing.specs.declared.view.View.TheVariants.{Top, Front, Side}
+use Rattle.ngc_drawing.specs.declared.view.View.TheVariants.{Front}
 
 -- a motion has the colour of the tool that is mounted then, and a traverse is dashed
 abbrev pub ink_of : ℕ → Pace → Ink

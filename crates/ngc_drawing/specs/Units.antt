@@ -1,5 +1,5 @@
 -- How large the unit of a drawing may be. Our own.
-use Rattle.std.specs.Prelude.{ℕ, ℤ, ◌≤◌, unsigned_abs}
+use Rattle.std.specs.Prelude.{ℤ, ◌≤◌, unsigned_abs}
 
 -- in micrometres
 abbrev pub IsUnit : ℤ → Type 0

@@ -1,6 +1,7 @@
 //! Pictures of programs: what is drawn, and its text as SVG.
 #![tactic(auto)]
 
+mod bodies;
 mod drawer;
 mod fault;
 mod pen;
@@ -11,6 +12,7 @@ mod sheet;
 mod spelling;
 mod spot;
 mod strokes;
+mod sweep;
 mod tools;
 mod view;
 

@@ -9,9 +9,10 @@ ghost use Rattle.ngc_drawing.specs.Draws.{Draws};
 ghost use Rattle.ngc_drawing.specs.Faults.{CountsUnlessMemory};
 ghost use Rattle.ngc_drawing.specs.Sheets.{unit_of};
 ghost use Rattle.ngc_drawing.specs.Tools.{used};
-ghost use Rattle.ngc_drawing.specs.Pictures.{fixture, fixtures_from, marked, SCALES, scale_in, part, parts, tool_row, tool_rows, first_red, refused_fixture, refused_action, first_refused, refused, refusal_row, rows, opening, scaled, picture_of, picture_text};
+ghost use Rattle.ngc_drawing.specs.Pictures.{fixture, fixtures_from, marked, SCALES, scale_in, part, parts, tool_row, tool_rows, first_red, refused_fixture, refused_action, first_refused, refused, refusal_row, rows, opening, scaled, ground, picture_of, text_of, picture_text};
 ghost use Rattle.ngc_drawing.specs.Strokes.{strokes_from, strokes, last_end};
 
+use crate::bodies::draw_swept;
 use crate::drawer::draw_all;
 use crate::fault::DrawFault;
 use crate::pen::{Pen, Run};
@@ -20,10 +21,12 @@ use crate::shape::{Ink, Mark, Shape};
 use crate::sheet::{Unit, frame, sheet, unit_of};
 use crate::spot::Rectangle;
 use crate::strokes::{stroke, strokes_of};
+use crate::sweep::{Sweep, sweeps};
 use crate::tools::{number_of, rank_of, used};
 use crate::view::{View, to_micrometres};
 use arrayvec::ArrayVec;
 use ngc_canonical::{Action, Command, Fixture, Machine, Tool};
+use ngc_certificate_text::Motions;
 use ngc_fixed_length::{Sink, WriteFault};
 use ngc_machine::Part;
 use ngc_output::Chunk;
@@ -361,17 +364,16 @@ fn draw_legend<W: Sink>(
     draw_all(chunk, &unit, last.as_slice(), sink)
 }
 
-fn draw_picture<A: Allocator, W: Sink>(
+fn draw_ground<A: Allocator, W: Sink>(
     chunk: &mut Chunk,
     view: View,
     machine: &Machine<A>,
-    commands: &[Command],
-    refusal: &Option<Refusal>,
     area: &Rectangle,
     tools: &[Option<Tool>],
+    swept: &[Sweep],
     sink: &mut W,
 ) -> Result<(), WriteFault>
-    ensures drawn { Draws (unit_of area.now) (W.written sink.old) (W.written sink.new) chunk.old chunk.new result (picture_of view (file_of machine.now) commands.now refusal.now area.now tools.now) }
+    ensures drawn { Draws (unit_of area.now) (W.written sink.old) (W.written sink.new) chunk.old chunk.new result (ground view (file_of machine.now) area.now tools.now swept.now) }
     ensures counts { CountsFailure (W.failures sink.old) (W.failures sink.new) result }
 {
     let unit = unit_of(area);
@@ -383,6 +385,28 @@ fn draw_picture<A: Allocator, W: Sink>(
         Ok(()) => {}
         Err(fault) => return Err(fault),
     }
+    draw_swept(chunk, &unit, view, machine, tools, swept, sink)
+}
+
+fn draw_picture<A: Allocator, W: Sink>(
+    chunk: &mut Chunk,
+    view: View,
+    machine: &Machine<A>,
+    commands: &[Command],
+    refusal: &Option<Refusal>,
+    area: &Rectangle,
+    tools: &[Option<Tool>],
+    swept: &[Sweep],
+    sink: &mut W,
+) -> Result<(), WriteFault>
+    ensures drawn { Draws (unit_of area.now) (W.written sink.old) (W.written sink.new) chunk.old chunk.new result (picture_of view (file_of machine.now) commands.now refusal.now area.now tools.now swept.now) }
+    ensures counts { CountsFailure (W.failures sink.old) (W.failures sink.new) result }
+{
+    match draw_ground(chunk, view, machine, area, tools, swept, sink) {
+        Ok(()) => {}
+        Err(fault) => return Err(fault),
+    }
+    let unit = unit_of(area);
     match draw_strokes(chunk, &unit, view, tools, commands, sink) {
         Ok(()) => {}
         Err(fault) => return Err(fault),
@@ -404,45 +428,58 @@ fn write_picture<A: Allocator, W: Sink>(
     commands: &[Command],
     refusal: &Option<Refusal>,
     tools: &[Option<Tool>],
+    swept: &[Sweep],
     sink: &mut W,
 ) -> Result<(), WriteFault>
-    requires { tools.now ≡ used commands.now }
-    ensures ok { OnOk result (Appends (W.written sink.old) (W.written sink.new) (picture_text view (file_of machine.now) commands.now refusal.now)) }
-    ensures fault { OnErr result (AppendsBeginning (W.written sink.old) (W.written sink.new) (picture_text view (file_of machine.now) commands.now refusal.now)) }
+    ensures ok { OnOk result (Appends (W.written sink.old) (W.written sink.new) (text_of view (file_of machine.now) commands.now refusal.now tools.now swept.now)) }
+    ensures fault { OnErr result (AppendsBeginning (W.written sink.old) (W.written sink.new) (text_of view (file_of machine.now) commands.now refusal.now tools.now swept.now)) }
     ensures counts { CountsFailure (W.failures sink.old) (W.failures sink.new) result }
 {
     let area = frame(view, machine, commands);
     let mut chunk = Chunk::new();
     match draw_picture(
-        &mut chunk, view, machine, commands, refusal, &area, tools, sink,
+        &mut chunk, view, machine, commands, refusal, &area, tools, swept, sink,
     ) {
         Ok(()) => chunk.write_out(sink),
         Err(fault) => Err(fault),
     }
 }
 
-/// Writes the picture of a program on a machine, as SVG 1.1 in millimetres, seen from one side: travel, fixtures, home and start,
-/// the path of the commands, what is refused in red, a scale and a legend.
+/// Writes the picture of a program on a machine, as SVG 1.1 in millimetres, seen from one side: travel, fixtures, the bodies of the
+/// tools over the boxes of a certificate's motions (of none, if there are no motions), home and start, the path of the commands,
+/// what is refused in red, a scale and a legend.
 ///
 /// After a fault (900 for refused memory, when nothing is written; 902, and only where the sink failed) a beginning of the text is
 /// written.
-pub fn write_svg<A: Allocator, B: Allocator, W: Sink>(
+pub fn write_svg<A: Allocator + Copy, B: Allocator, W: Sink>(
     alloc: A,
     view: View,
     machine: &Machine<B>,
     commands: &[Command],
+    motions: &Motions<B>,
     refusal: &Option<Refusal>,
     sink: &mut W,
 ) -> Result<(), DrawFault>
-    ensures ok { OnOk result (Appends (W.written sink.old) (W.written sink.new) (picture_text view (file_of machine.now) commands.now refusal.now)) }
-    ensures fault { OnErr result (AppendsBeginning (W.written sink.old) (W.written sink.new) (picture_text view (file_of machine.now) commands.now refusal.now)) }
+    ensures ok { OnOk result (Appends (W.written sink.old) (W.written sink.new) (picture_text view (file_of machine.now) commands.now motions.now refusal.now)) }
+    ensures fault { OnErr result (AppendsBeginning (W.written sink.old) (W.written sink.new) (picture_text view (file_of machine.now) commands.now motions.now refusal.now)) }
     ensures memory { result ≡ Err DrawFault.Memory → Keeps (W.written sink.old) (W.written sink.new) }
     ensures counts { CountsUnlessMemory (W.failures sink.old) (W.failures sink.new) result }
 {
     let Ok(tools) = used(alloc, commands) else {
         return Err(DrawFault::Memory);
     };
-    match write_picture(view, machine, commands, refusal, tools.as_slice(), sink) {
+    let Ok(swept) = sweeps(alloc, view, tools.as_slice(), commands, motions) else {
+        return Err(DrawFault::Memory);
+    };
+    match write_picture(
+        view,
+        machine,
+        commands,
+        refusal,
+        tools.as_slice(),
+        swept.as_slice(),
+        sink,
+    ) {
         Ok(()) => Ok(()),
         Err(_) => Err(DrawFault::Write),
     }

@@ -1,6 +1,9 @@
 -- What drawing a program comes to, from what its parts come to.
-use Rattle.std.proofs.Common.{◌≡◌, ℕ, List, [], ◌∷◌, ◌++◌, Option, Some, None, Bool, Result, Ok, Err, IfSome, ap, refl, subst, sym, ◌∙◌}
-use Rattle.std.specs.Prelude.{MatchOption, option_map}
+use Rattle.std.proofs.Common.{◌≡◌, ℕ, ◌-◌, arith, List, [], ◌∷◌, ◌++◌, length, take, drop, Option, Some, None, Bool, Result, Ok, Err, IfSome, ap, refl, subst, sym, ◌∙◌}
+use Rattle.std.specs.Prelude.{MatchOption, option_map, min}
+use Rattle.std.proofs.lemmas.List.{take_all, take_min, drop_min, length-drop}
+use Rattle.ngc_fixed_length.specs.Grid.{grid}
+use Rattle.ngc_fixed_length.specs.declared.points.StepPos.{StepPos}
 use Rattle.std.specs.Io.KnownBytes.{Appends, Keeps}
 use Rattle.ngc_fixed_length.specs.Written.{AppendsBeginning}
 use Rattle.ngc_line_reader.specs.ProgramText.{ProgramText, program_of, HaveReadings}
@@ -9,12 +12,13 @@ use Rattle.ngc_canonical.specs.declared.fault.ProgramFault.{ProgramFault}
 use Rattle.ngc_canonical.specs.Interpreter.{setup_of}
 use Rattle.ngc_canonical.specs.State.{Setup}
 use Rattle.ngc_canonical.specs.Meaning.{meaning, program_said}
-use Rattle.ngc_certificate_text.specs.Certificate.{CertificateData}
+use Rattle.ngc_certificate_text.specs.Certificate.{CertificateData, Entry}
 use Rattle.ngc_certificate_text.specs.Said.{certificate_said}
 use Rattle.ngc_certificate_text.specs.declared.piece.Setting.{Setting}
 use Rattle.ngc_certificate.specs.declared.fault.MakeFault.{MakeFault}
 use Rattle.ngc_certificate.specs.declared.fault.MakeFault.TheVariants.{NotCleared}
 use Rattle.ngc_certificate.specs.Made.{GivesMade, IsMade}
+use Rattle.ngc_certificate.specs.PieceFault.{place_fault, ◌or◌}
 use Rattle.ngc_checker.specs.declared.fault.CheckFault.{CheckFault}
 use Rattle.ngc_machine.specs.Machine.{MachineFile}
 use Rattle.ngc_command_line.specs.declared.options.DrawOptions.{DrawOptions}
@@ -24,19 +28,20 @@ use Rattle.ngc_drawing.specs.declared.fault.DrawFault.TheVariants.{Memory, Write
 use Rattle.ngc_drawing.specs.declared.refusal.Refusal.{Refusal}
 use Rattle.ngc_drawing.specs.declared.view.View.{View}
 use Rattle.ngc_simulator.specs.Answers.{DrawsFrom, certificate_input, certificate_inputs, draw_inputs, program_input}
-use Rattle.ngc_simulator.specs.Drawing.{Draws, DrawsGiven, DrawsProgram, IsGivenRefusal, IsMadeRefusal, OnlyDraws, fault_at, refusal_answer, setting_of}
+use Rattle.ngc_simulator.specs.Drawing.{Draws, DrawsGiven, DrawsProgram, IsMadeRefusal, OnlyDraws, behind, fault_at, met_at, met_first, refusal_answer, setting_of, start_of}
 use Rattle.ngc_simulator.specs.Lists.{IsMeaning, IsRefused}
 use Rattle.ngc_simulator.specs.Setups.{FileBytes, KeepsFiles, KeepsNamed}
 use Rattle.ngc_simulator.specs.Shops.{GivesShop}
 use Rattle.ngc_simulator.specs.Unread.{FailsByInput, Input, shop_inputs}
 use Rattle.ngc_simulator.specs.declared.drawing.DrawingFault.{DrawingFault}
 use Rattle.ngc_simulator.specs.declared.drawing.DrawingFault.TheVariants as draws
+use Rattle.ngc_simulator.specs.declared.drawing.Reached.{Reached}
 use Rattle.ngc_simulator.specs.declared.fault.AnswerFault.TheVariants as answers
 use Rattle.ngc_simulator.specs.declared.setup.Shop.{Shop}
 use Rattle.ngc_simulator.proofs.JobLaws.{FailsSo, keeps_same}
 use Rattle.ngc_simulator.proofs.ListLaws.{Means}
 use Rattle.ngc_simulator.proofs.RunLaws.{on_two_files}
-use Rattle.ngc_simulator.proofs.SetupLaws.{of_file, on_setup}
+use Rattle.ngc_simulator.proofs.SetupLaws.{on_setup}
 
 is_meaning : (setup : Setup) (bytes : List ℕ) (block_delete : Bool) (text : ProgramText) (says : Result (List Command) ProgramFault)
     → program_of bytes ≡ Ok text → HaveReadings text.lines → Means text setup block_delete says → IsMeaning setup bytes block_delete says
@@ -63,52 +68,65 @@ refused_program setup bytes block_delete text fault is_text have fails = record 
 }
 
 -- the picture of commands that were handed on as a slice
-pub drawn : (setup : Setup) (bytes : List ℕ) (block_delete : Bool) (view : View) (IsShown : List Command → Option Refusal → Type 0) (old new : Option (List ℕ))
-    (text : ProgramText) (commands given shown : List Command) (refusal : Option Refusal)
-    → given ≡ commands → shown ≡ commands → program_of bytes ≡ Ok text → HaveReadings text.lines → Means text setup block_delete (Ok commands) → IsShown given refusal
-    → Appends old new (picture_text view setup.machine shown refusal) → Draws setup bytes block_delete view IsShown old new (Ok tt)
-drawn setup bytes block_delete view IsShown old new text commands given shown refusal same same_shown is_text have means shows wrote = (
-  picture_text view setup.machine shown refusal,
+pub drawn : (setup : Setup) (bytes : List ℕ) (block_delete : Bool) (view : View) (entries : List Entry) (IsShown : List Command → Option Refusal → Type 0) (old new : Option (List ℕ))
+    (text : ProgramText) (commands given shown : List Command) (found : List Entry) (refusal : Option Refusal)
+    → given ≡ commands → shown ≡ commands → found ≡ entries → program_of bytes ≡ Ok text → HaveReadings text.lines → Means text setup block_delete (Ok commands) → IsShown given refusal
+    → Appends old new (picture_text view setup.machine shown found refusal) → Draws setup bytes block_delete view entries IsShown old new (Ok tt)
+drawn setup bytes block_delete view entries IsShown old new text commands given shown found refusal same same_shown same_found is_text have means shows wrote = (
+  picture_text view setup.machine shown found refusal,
   record {
     commands = commands;
     meaning = is_meaning setup bytes block_delete text (Ok commands) is_text have means;
     refusal = refusal;
     shows = subst (λ cs. IsShown cs refusal) same shows;
-    draws = ap (λ cs. picture_text view setup.machine cs refusal) same_shown;
+    draws = ap (λ cs. picture_text view setup.machine cs found refusal) same_shown ∙ ap (λ es. picture_text view setup.machine commands es refusal) same_found;
   },
   wrote,
 )
 
 -- and a beginning of it, or nothing where memory ran out
-pub drawing_stopped : (setup : Setup) (bytes : List ℕ) (block_delete : Bool) (view : View) (IsShown : List Command → Option Refusal → Type 0) (old new : Option (List ℕ))
-    (text : ProgramText) (commands given shown : List Command) (refusal : Option Refusal) (fault : DrawFault)
-    → given ≡ commands → shown ≡ commands → program_of bytes ≡ Ok text → HaveReadings text.lines → Means text setup block_delete (Ok commands) → IsShown given refusal
-    → AppendsBeginning old new (picture_text view setup.machine shown refusal) → (fault ≡ Memory → Keeps old new)
-    → Draws setup bytes block_delete view IsShown old new (Err (draws.Draw fault))
-drawing_stopped setup bytes block_delete view IsShown old new text commands given shown refusal Memory same same_shown is_text have means shows wrote keeps = keeps refl
-drawing_stopped setup bytes block_delete view IsShown old new text commands given shown refusal Write same same_shown is_text have means shows wrote keeps = (
-  picture_text view setup.machine shown refusal,
+pub drawing_stopped : (setup : Setup) (bytes : List ℕ) (block_delete : Bool) (view : View) (entries : List Entry) (IsShown : List Command → Option Refusal → Type 0) (old new : Option (List ℕ))
+    (text : ProgramText) (commands given shown : List Command) (found : List Entry) (refusal : Option Refusal) (fault : DrawFault)
+    → given ≡ commands → shown ≡ commands → found ≡ entries → program_of bytes ≡ Ok text → HaveReadings text.lines → Means text setup block_delete (Ok commands) → IsShown given refusal
+    → AppendsBeginning old new (picture_text view setup.machine shown found refusal) → (fault ≡ Memory → Keeps old new)
+    → Draws setup bytes block_delete view entries IsShown old new (Err (draws.Draw fault))
+drawing_stopped setup bytes block_delete view entries IsShown old new text commands given shown found refusal Memory same same_shown same_found is_text have means shows wrote keeps = keeps refl
+drawing_stopped setup bytes block_delete view entries IsShown old new text commands given shown found refusal Write same same_shown same_found is_text have means shows wrote keeps = (
+  picture_text view setup.machine shown found refusal,
   record {
     commands = commands;
     meaning = is_meaning setup bytes block_delete text (Ok commands) is_text have means;
     refusal = refusal;
     shows = subst (λ cs. IsShown cs refusal) same shows;
-    draws = ap (λ cs. picture_text view setup.machine cs refusal) same_shown;
+    draws = ap (λ cs. picture_text view setup.machine cs found refusal) same_shown ∙ ap (λ es. picture_text view setup.machine commands es refusal) same_found;
   },
   wrote,
 )
 
-pub no_memory : (setup : Setup) (bytes : List ℕ) (block_delete : Bool) (view : View) (IsShown : List Command → Option Refusal → Type 0) (known : Option (List ℕ)) (fault : DrawFault)
-    → fault ≡ Memory → Draws setup bytes block_delete view IsShown known known (Err (draws.Draw fault))
-no_memory setup bytes block_delete view IsShown known Memory is = keeps_same known
-no_memory setup bytes block_delete view IsShown known Write is = cc
+pub no_memory : (setup : Setup) (bytes : List ℕ) (block_delete : Bool) (view : View) (entries : List Entry) (IsShown : List Command → Option Refusal → Type 0) (known : Option (List ℕ)) (fault : DrawFault)
+    → fault ≡ Memory → Draws setup bytes block_delete view entries IsShown known known (Err (draws.Draw fault))
+no_memory setup bytes block_delete view entries IsShown known Memory is = keeps_same known
+no_memory setup bytes block_delete view entries IsShown known Write is = cc
 
--- a command that isn't cleared
-pub made_refusal_of : {X : Type 0} (view : X → CertificateData) (machine : MachineFile) (commands : List Command) (fault : MakeFault) (s : Setting) (k : ℕ)
-    → fault ≡ NotCleared s k → GivesMade view (Err fault) (IsMade machine 8 commands commands)
-    → IsMadeRefusal machine commands (Some (record { command = k; fault = 304; fixture = None }))
-made_refusal_of view machine commands fault s k is made =
-    (s, subst (λ (e : MakeFault). GivesMade view (Err e) (IsMade machine 8 commands commands)) is made, refl, refl)
+-- the fixture that a command meets, where none is met at the start
+pub met_later : (machine : MachineFile) (cs : List Command) (k at : ℕ) (place : StepPos) (fixture found : Option ℕ) (reached : Reached)
+    → place ≡ grid machine.step machine.start → fixture ≡ place_fault machine None place → fixture ≡ None → at ≡ min k (length cs)
+    → reached ≡ behind (start_of machine) (take at cs) → found ≡ met_first machine reached (take (length cs - at) (drop at cs)) → found ≡ met_at machine cs k
+met_later machine cs k at place fixture found reached is_place met none is_at is_reached is =
+    is
+    ∙ ap (met_first machine reached) (take_all (length cs - at) (drop at cs) (omega (arith, length-drop at cs)))
+    ∙ ap (λ (r : Reached). met_first machine r (drop at cs)) is_reached
+    ∙ ap (λ n. met_first machine (behind (start_of machine) (take n cs)) (drop n cs)) is_at
+    ∙ ap (λ (l : List Command). met_first machine (behind (start_of machine) l) (drop (min k (length cs)) cs)) (take_min k cs)
+    ∙ ap (λ (l : List Command). met_first machine (behind (start_of machine) (take k cs)) l) (drop_min k cs)
+    ∙ ap (λ (o : Option ℕ). o or met_first machine (behind (start_of machine) (take k cs)) (drop k cs)) (sym none ∙ met ∙ ap (place_fault machine None) is_place)
+
+-- a command that isn't cleared, with the fixture that is met there
+pub made_refusal_of : {X : Type 0} (view : X → CertificateData) (machine : MachineFile) (commands : List Command) (fault : MakeFault) (s : Setting) (k : ℕ) (fixture : Option ℕ)
+    → fault ≡ NotCleared s k → GivesMade view (Err fault) (IsMade machine 8 commands commands) → fixture ≡ met_at machine commands k
+    → IsMadeRefusal machine commands (Some (record { command = k; fault = 304; fixture = fixture }))
+made_refusal_of view machine commands fault s k fixture is made met =
+    (s, subst (λ (e : MakeFault). GivesMade view (Err e) (IsMade machine 8 commands commands)) is made, refl, met)
 
 -- ---- with a certificate
 

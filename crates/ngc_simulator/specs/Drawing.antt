@@ -1,22 +1,28 @@
 -- What drawing a program comes to. Our own.
-use Rattle.std.specs.Prelude.{◌≡◌, ℕ, List, Option, Some, None, Result, Ok, Err, Bool, true, false, codes, if◌then◌else◌}
+use Rattle.std.specs.Prelude.{◌≡◌, ℕ, List, [], ◌∷◌, take, drop, Option, Some, None, Result, Ok, Err, Bool, codes, if◌then◌else◌}
 use Rattle.std.specs.Str.{bytes_eq}
 use Rattle.std.specs.Io.KnownBytes.{Appends, Keeps}
 use Rattle.ngc_fixed_length.specs.Failures.{Rises}
 use Rattle.ngc_fixed_length.specs.Written.{AppendsBeginning}
+use Rattle.ngc_fixed_length.specs.Grid.{grid}
 use Rattle.ngc_line_reader.specs.ProgramText.{program_of}
 use Rattle.ngc_line_reader.specs.ProgramView.{FaultIs}
 use Rattle.ngc_machine.specs.Machine.{MachineFile}
+use Rattle.ngc_canonical.specs.Movement.{end_of}
+use Rattle.ngc_canonical.specs.declared.command.Action.{Action}
+use Rattle.ngc_canonical.specs.declared.command.Action.TheVariants.{Move, Mount}
 use Rattle.ngc_canonical.specs.declared.command.Command.{Command}
 use Rattle.ngc_canonical.specs.State.{Setup}
 use Rattle.ngc_certificate_text.specs.declared.piece.Setting.{Setting}
 use Rattle.ngc_certificate_text.specs.declared.piece.Setting.TheVariants.{Off, On}
-use Rattle.ngc_certificate_text.specs.Certificate.{CertificateData, Entry}
+use Rattle.ngc_certificate_text.specs.Certificate.{CertificateData, Entry, entries_at}
 use Rattle.ngc_certificate_text.specs.Said.{certificate_said}
 use Rattle.ngc_certificate.specs.declared.fault.MakeFault.TheVariants.{NotCleared}
 use Rattle.ngc_certificate.specs.declared.fault.PieceFault.{PieceFault}
 use Rattle.ngc_certificate.specs.declared.fault.PieceFault.TheVariants as pieces
-use Rattle.ngc_certificate.specs.Made.{IsMade}
+use Rattle.ngc_certificate.specs.declared.fault.PieceRefusal.{PieceRefusal}
+use Rattle.ngc_certificate.specs.Made.{IsMade, pieces_of}
+use Rattle.ngc_certificate.specs.PieceFault.{pieces_fault, place_fault, ◌or◌}
 use Rattle.ngc_checker.specs.declared.fault.CheckFault.{CheckFault}
 use Rattle.ngc_checker.specs.declared.fault.CheckFault.TheVariants as checks
 use Rattle.ngc_checker.specs.FirstRefusal.{setting_fault}
@@ -27,6 +33,7 @@ use Rattle.ngc_drawing.specs.declared.view.View.{View}
 use Rattle.ngc_drawing.specs.declared.view.View.TheVariants.{Top, Front, Side}
 use Rattle.ngc_simulator.specs.declared.drawing.DrawingFault.{DrawingFault}
 use Rattle.ngc_simulator.specs.declared.drawing.DrawingFault.TheVariants as draws
+use Rattle.ngc_simulator.specs.declared.drawing.Reached.{Reached}
 use Rattle.ngc_simulator.specs.Jobs.{IsNoCertificate}
 use Rattle.ngc_simulator.specs.Lists.{IsMeaning, IsRefused}
 
@@ -42,11 +49,51 @@ setting_of block_delete = if block_delete then On else Off
 
 -- ---- what is refused and drawn
 
+-- the tool that is mounted and the place that is reached, at the start and behind commands
+abbrev pub start_of : MachineFile → Reached
+start_of machine = record { tool = None; place = machine.start }
+
+abbrev pub after_action : Reached → Action → Reached
+after_action r (Mount tool) = record { tool = tool; place = r.place }
+after_action r (Move m) = record { tool = r.tool; place = end_of m.way }
+after_action r _ = r
+
+abbrev pub behind : Reached → List Command → Reached
+behind r [] = r
+behind r (c ∷ cs) = behind (after_action r c.action) cs
+
+-- the fixture that a piece is refused for
+abbrev pub fixture_in : PieceFault → Option ℕ
+fixture_in pieces.Chain = None
+fixture_in pieces.NotCovered = None
+fixture_in pieces.OutsideTravel = None
+fixture_in (pieces.MeetsFixture i) = Some i
+
+abbrev pub fixture_of : Option PieceRefusal → Option ℕ
+fixture_of None = None
+fixture_of (Some refusal) = fixture_in refusal.fault
+
+-- the fixture that a tool change meets where the axes stand, and a motion in one piece
+abbrev pub met_by : MachineFile → Reached → Action → Option ℕ
+met_by machine r (Mount tool) = place_fault machine tool (grid machine.step r.place)
+met_by machine r (Move m) = fixture_of (pieces_fault machine r.tool m.way (pieces_of machine.step m.way 1))
+met_by machine r _ = None
+
+abbrev pub met_first : MachineFile → Reached → List Command → Option ℕ
+met_first machine r [] = None
+met_first machine r (c ∷ cs) = met_by machine r c.action
+
+-- the fixture that is met at the start, or by command k
+abbrev pub met_at : MachineFile → List Command → ℕ → Option ℕ
+met_at machine commands k =
+    place_fault machine None (grid machine.step machine.start) or met_first machine (behind (start_of machine) (take k commands)) (drop k commands)
+
 -- where no certificate is given: what making one for these commands tells, with as many pieces as `certify` tries by itself
 abbrev pub IsMadeRefusal : MachineFile → List Command → Option Refusal → Type 0
 IsMadeRefusal machine commands None = (c : CertificateData) × IsMade machine 8 commands commands (Ok c)
 IsMadeRefusal machine commands (Some refusal) =
-    (s : Setting) × IsMade machine 8 commands commands (Err (NotCleared s refusal.command)) × (refusal.fault ≡ 304) × (refusal.fixture ≡ None)
+    (s : Setting) × IsMade machine 8 commands commands (Err (NotCleared s refusal.command)) × (refusal.fault ≡ 304)
+    × (refusal.fixture ≡ met_at machine commands refusal.command)
 
 -- where one is given: its first fault at the setting, if that is for travel or for a fixture
 abbrev pub piece_refusal : ℕ → PieceFault → Option Refusal
@@ -63,10 +110,6 @@ drawn_refusal (checks.Piece s k j e) = piece_refusal k e
 drawn_refusal (checks.ToolChange s k i) = Some (record { command = k; fault = 317; fixture = Some i })
 drawn_refusal checks.Memory = None
 
-abbrev pub entries_at : Setting → CertificateData → List Entry
-entries_at Off c = c.off
-entries_at On c = c.on
-
 abbrev pub fault_at : MachineFile → Setting → List Command → CertificateData → Option CheckFault
 fault_at machine s commands c = setting_fault machine s commands (entries_at s c)
 
@@ -81,29 +124,29 @@ refusal_answer (Some fault) = drawn_or fault (drawn_refusal fault)
 
 -- ---- the picture
 
--- the picture of what a file means, with what is refused of it
-pub record IsPicture (setup : Setup) (bytes : List ℕ) (block_delete : Bool) (view : View) (IsShown : List Command → Option Refusal → Type 0) (text : List ℕ) : Type 0 where
+-- the picture of what a file means with the motions of a certificate, and with what is refused of it
+pub record IsPicture (setup : Setup) (bytes : List ℕ) (block_delete : Bool) (view : View) (entries : List Entry) (IsShown : List Command → Option Refusal → Type 0) (text : List ℕ) : Type 0 where
   pub commands : List Command
   pub meaning : IsMeaning setup bytes block_delete (Ok commands)
   pub refusal : Option Refusal
   pub shows : IsShown commands refusal
-  pub draws : text ≡ picture_text view setup.machine commands refusal
+  pub draws : text ≡ picture_text view setup.machine commands entries refusal
 
 -- the picture was written, or a beginning of it where the sink failed; where there is none, what was written is as it was
-abbrev pub Draws : Setup → List ℕ → Bool → View → (List Command → Option Refusal → Type 0) → Option (List ℕ) → Option (List ℕ) → Result (Unit {0}) DrawingFault → Type 0
-Draws setup bytes block_delete view IsShown old new (Ok u) = (text : List ℕ) × IsPicture setup bytes block_delete view IsShown text × Appends old new text
-Draws setup bytes block_delete view IsShown old new (Err (draws.Draw Write)) =
-    (text : List ℕ) × IsPicture setup bytes block_delete view IsShown text × AppendsBeginning old new text
-Draws setup bytes block_delete view IsShown old new (Err (draws.Draw Memory)) = Keeps old new
-Draws setup bytes block_delete view IsShown old new (Err (draws.Program fault)) = IsRefused setup bytes block_delete fault × Keeps old new
-Draws setup bytes block_delete view IsShown old new (Err (draws.Read fault)) = FaultIs fault (program_of bytes) × Keeps old new
-Draws setup bytes block_delete view IsShown old new (Err (draws.Certificate fault)) = ⊥
-Draws setup bytes block_delete view IsShown old new (Err (draws.Check fault)) = ⊥
-Draws setup bytes block_delete view IsShown old new (Err draws.UnknownView) = ⊥
+abbrev pub Draws : Setup → List ℕ → Bool → View → List Entry → (List Command → Option Refusal → Type 0) → Option (List ℕ) → Option (List ℕ) → Result (Unit {0}) DrawingFault → Type 0
+Draws setup bytes block_delete view entries IsShown old new (Ok u) = (text : List ℕ) × IsPicture setup bytes block_delete view entries IsShown text × Appends old new text
+Draws setup bytes block_delete view entries IsShown old new (Err (draws.Draw Write)) =
+    (text : List ℕ) × IsPicture setup bytes block_delete view entries IsShown text × AppendsBeginning old new text
+Draws setup bytes block_delete view entries IsShown old new (Err (draws.Draw Memory)) = Keeps old new
+Draws setup bytes block_delete view entries IsShown old new (Err (draws.Program fault)) = IsRefused setup bytes block_delete fault × Keeps old new
+Draws setup bytes block_delete view entries IsShown old new (Err (draws.Read fault)) = FaultIs fault (program_of bytes) × Keeps old new
+Draws setup bytes block_delete view entries IsShown old new (Err (draws.Certificate fault)) = ⊥
+Draws setup bytes block_delete view entries IsShown old new (Err (draws.Check fault)) = ⊥
+Draws setup bytes block_delete view entries IsShown old new (Err draws.UnknownView) = ⊥
 
 -- Of a program's file and a sink, without a certificate.
 abbrev pub DrawsProgram : Setup → List ℕ → Bool → View → Option (List ℕ) → Option (List ℕ) → Result (Unit {0}) DrawingFault → Type 0
-DrawsProgram setup bytes block_delete view old new outcome = Draws setup bytes block_delete view (IsMadeRefusal setup.machine) old new outcome
+DrawsProgram setup bytes block_delete view old new outcome = Draws setup bytes block_delete view [] (IsMadeRefusal setup.machine) old new outcome
 
 -- what a certificate refuses of commands
 abbrev pub IsGivenRefusal : MachineFile → Setting → CertificateData → List Command → Option Refusal → Type 0
@@ -118,7 +161,7 @@ DrawsGiven setup bytes text block_delete view old new (Err (draws.Check fault)) 
 DrawsGiven setup bytes text block_delete view old new (Err (draws.Read fault)) = FaultIs fault (program_of bytes) × Keeps old new
 DrawsGiven setup bytes text block_delete view old new outcome =
     (c : CertificateData) × (certificate_said text ≡ Ok c)
-    × Draws setup bytes block_delete view (IsGivenRefusal setup.machine (setting_of block_delete) c) old new outcome
+    × Draws setup bytes block_delete view (entries_at (setting_of block_delete) c) (IsGivenRefusal setup.machine (setting_of block_delete) c) old new outcome
 
 -- the sink's count of failures rose where a write failed, and else it is what it was
 abbrev pub FailsByDrawing : Result (Unit {0}) DrawingFault → ℕ → ℕ → Type 0

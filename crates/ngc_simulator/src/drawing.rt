@@ -7,16 +7,18 @@ ghost use Rattle.ngc_certificate_text.specs.Said.{certificate_said};
 ghost use Rattle.ngc_line_reader.specs.ProgramText.{program_of, HaveReadings};
 ghost use Rattle.ngc_line_reader.specs.ProgramView.{text_in};
 ghost use Rattle.ngc_machine.specs.Machine.{file_of};
-ghost use Rattle.ngc_simulator.specs.Drawing.{DrawsGiven, DrawsProgram, FailsByDrawing, IsMadeRefusal, OnlyDraws, drawn_refusal, fault_at, refusal_answer, setting_of, view_named};
+ghost use Rattle.ngc_simulator.specs.Drawing.{DrawsGiven, DrawsProgram, FailsByDrawing, IsMadeRefusal, OnlyDraws, after_action, behind, drawn_refusal, fault_at, fixture_of, met_at, met_by, met_first, refusal_answer, setting_of, start_of, view_named};
 
-use ngc_canonical::{Command, ProgramFault, interpret};
-use ngc_certificate::{MakeFault, PieceFault, Setting, make_alike};
-use ngc_certificate_text::{Certificate, CertificateFault};
+use ngc_canonical::{Action, Command, ProgramFault, interpret};
+use ngc_certificate::{
+    MakeFault, PieceFault, PieceRefusal, Setting, make_alike, pieces_fault, place_fault, undivided,
+};
+use ngc_certificate_text::{Certificate, CertificateFault, Motions};
 use ngc_checker::{CheckFault, setting_fault};
 use ngc_drawing::{DrawFault, Refusal, View, write_svg};
-use ngc_fixed_length::Sink;
+use ngc_fixed_length::{Point3, Sink};
 use ngc_line_reader::{Program, ReadFault};
-use ngc_machine::{Machine, Tools};
+use ngc_machine::{Machine, Tool, Tools};
 use std::alloc::Allocator;
 use thiserror::Error;
 
@@ -91,6 +93,103 @@ fn drawn_refusal(fault: &CheckFault) -> Option<Refusal>
     }
 }
 
+/// Where the axes stand between two commands, and with what tool.
+#[derive(Clone, Copy)]
+struct Reached {
+    tool: Option<Tool>,
+    place: Point3,
+}
+
+impl Reached {
+    fn after_action(&self, action: &Action) -> Reached
+        ensures { result ≡ after_action self.now action.now }
+    {
+        match action {
+            Action::Move(motion) => Reached {
+                tool: self.tool,
+                place: motion.way.end(),
+            },
+            Action::Mount(tool) => Reached {
+                tool: *tool,
+                place: self.place,
+            },
+            _ => *self,
+        }
+    }
+
+    // Behind commands that begin at the machine's start.
+    fn behind<A: Allocator>(machine: &Machine<A>, commands: &[Command]) -> Reached
+        ensures { result ≡ behind (start_of (file_of machine.now)) commands.now }
+    {
+        let mut reached = Reached {
+            tool: None,
+            place: machine.start,
+        };
+        for command in commands {
+            reached = reached.after_action(&command.action);
+        }
+        reached
+    }
+}
+
+// The fixture that a piece is refused for.
+fn fixture_of(refusal: Option<PieceRefusal>) -> Option<usize>
+    ensures { result ≡ fixture_of refusal }
+{
+    match refusal {
+        Some(
+            PieceRefusal {
+                fault: PieceFault::MeetsFixture(fixture),
+                ..
+            },
+        ) => Some(fixture as usize),
+        _ => None,
+    }
+}
+
+// The fixture that an action meets: a tool change where the axes stand, a motion in one piece.
+fn met_by<A: Allocator>(machine: &Machine<A>, reached: &Reached, action: &Action) -> Option<usize>
+    ensures { result ≡ met_by (file_of machine.now) reached.now action.now }
+{
+    match action {
+        Action::Move(motion) => fixture_of(pieces_fault(
+            machine,
+            reached.tool,
+            &motion.way,
+            &[undivided(machine.step, &motion.way)],
+        )),
+        Action::Mount(tool) => {
+            place_fault(machine, *tool, &reached.place.to_grid(machine.step)).map(|i| i as usize)
+        }
+        _ => None,
+    }
+}
+
+fn met_first<A: Allocator>(
+    machine: &Machine<A>,
+    reached: &Reached,
+    commands: &[Command],
+) -> Option<usize>
+    ensures { result ≡ met_first (file_of machine.now) reached.now commands.now }
+{
+    match commands {
+        [] => None,
+        [command, ..] => met_by(machine, reached, &command.action),
+    }
+}
+
+// The fixture that is met at the start, or by this command.
+fn met_at<A: Allocator>(machine: &Machine<A>, commands: &[Command], at: usize) -> Option<usize>
+    ensures { result ≡ met_at (file_of machine.now) commands.now at }
+{
+    if let Some(fixture) = place_fault(machine, None, &machine.start.to_grid(machine.step)) {
+        return Some(fixture as usize);
+    }
+    let at = at.min(commands.len());
+    let reached = Reached::behind(machine, &commands[..at]);
+    met_first(machine, &reached, &commands[at..])
+}
+
 // What is refused of these commands where a certificate is to be made for them.
 fn made_refusal<A: Allocator + Copy>(
     alloc: A,
@@ -108,7 +207,7 @@ fn made_refusal<A: Allocator + Copy>(
         MakeFault::NotCleared { command, .. } => Ok(Some(Refusal {
             command: command as usize,
             fault: 304,
-            fixture: None,
+            fixture: met_at(machine, commands, command as usize),
         })),
         MakeFault::Memory => Err(DrawFault::Memory),
     }
@@ -144,7 +243,8 @@ fn checked_refusal<A: Allocator>(
     }
 }
 
-/// Draws a program on a machine, at a setting of block delete, with the motion that no certificate clears.
+/// Draws a program on a machine, at a setting of block delete, with the motion that no certificate clears, and the fixture that
+/// it meets in one piece.
 pub fn draw_program<A: Allocator + Copy, W: Sink>(
     alloc: A,
     program: &Program<A>,
@@ -167,14 +267,23 @@ pub fn draw_program<A: Allocator + Copy, W: Sink>(
         Ok(refusal) => refusal,
         Err(fault) => return Err(DrawingFault::Draw(fault)),
     };
-    match write_svg(alloc, view, machine, commands.as_slice(), &refusal, output) {
+    let none = Motions::new(alloc);
+    match write_svg(
+        alloc,
+        view,
+        machine,
+        commands.as_slice(),
+        &none,
+        &refusal,
+        output,
+    ) {
         Ok(()) => Ok(()),
         Err(fault) => Err(DrawingFault::Draw(fault)),
     }
 }
 
-/// Draws a program on a machine, at a setting of block delete, with the motion of which the certificate doesn't show that it
-/// keeps to the travel and clears the fixtures.
+/// Draws a program on a machine, at a setting of block delete, with the bodies of the tools over the certificate's boxes, and the
+/// motion of which it doesn't show that it keeps to the travel and clears the fixtures.
 pub fn draw_certified<A: Allocator + Copy, W: Sink>(
     alloc: A,
     program: &Program<A>,
@@ -198,7 +307,16 @@ pub fn draw_certified<A: Allocator + Copy, W: Sink>(
         Ok(refusal) => refusal,
         Err(fault) => return Err(DrawingFault::Check(fault)),
     };
-    match write_svg(alloc, view, machine, commands.as_slice(), &refusal, output) {
+    let motions = certificate.motions(setting_of(block_delete));
+    match write_svg(
+        alloc,
+        view,
+        machine,
+        commands.as_slice(),
+        motions,
+        &refusal,
+        output,
+    ) {
         Ok(()) => Ok(()),
         Err(fault) => Err(DrawingFault::Draw(fault)),
     }

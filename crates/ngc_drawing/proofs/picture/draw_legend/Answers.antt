@@ -1,5 +1,4 @@
-use Rattle.std.proofs.Common.{List, [], ◌∷◌, ◌++◌, refl}
-use Rattle.ngc_drawing.specs.declared.shape.Shape.{Shape}
+use Rattle.std.proofs.Common.{[], ◌∷◌, ◌++◌, refl}
 use Rattle.ngc_drawing.proofs.Ahead.{begun, went, stopped, last}
 use Rattle.ngc_drawing.specs.Pictures.{scaled, tool_rows, refusal_row}
 use Rattle.ngc_drawing.specs.Sheets.{unit_of}

@@ -1,13 +1,13 @@
-use Rattle.std.proofs.Common.{[], ◌∷◌, ◌++◌, Some, Ok, Err, None, ap, refl, ◌∙◌, List, ℕ}
+use Rattle.std.proofs.Common.{[], ◌∷◌, ◌++◌, Some, Ok, Err, refl, ◌∙◌, List}
 use Rattle.std.specs.contracts.alloc.Global
 use Rattle.std.specs.Prelude.{option_map}
 use Rattle.ngc_certificate_text.specs.Contents.{said_of}
 use Rattle.ngc_line_reader.specs.ProgramText.{program_of}
 use Rattle.ngc_simulator.specs.declared.drawing.DrawingFault.TheVariants as draws
 use Rattle.ngc_simulator.specs.declared.fault.AnswerFault.TheVariants as answers
-use Rattle.ngc_simulator.specs.Answers.{certificate_input, certificate_inputs, draw_inputs, program_input}
+use Rattle.ngc_simulator.specs.Answers.{certificate_inputs, draw_inputs, program_input}
 use Rattle.ngc_simulator.specs.Unread.{FailsByInput, Input, OfCertificate, OfProgram, SourceFails, certificate_unread, program_unread, shop_inputs, unread_by}
-use Rattle.ngc_simulator.proofs.DrawLaws.{draw_told, given_files, plain_files, with_certificate}
+use Rattle.ngc_simulator.proofs.DrawLaws.{draw_told, given_files, with_certificate}
 use Rattle.ngc_simulator.proofs.FileLaws.{all_known}
 use Rattle.ngc_simulator.proofs.JobLaws.{keeps_same}
 use Rattle.ngc_simulator.proofs.RunLaws.{no_certificate}

@@ -1,7 +1,6 @@
-use Rattle.std.proofs.Common.{◌≡◌, ap, arith, to_z, of_z}
-use Rattle.std.specs.Int.{w64, int_min, int_max}
+use Rattle.std.proofs.Common.{◌≡◌, arith, to_z, of_z}
+use Rattle.std.specs.Int.{w64}
 use Rattle.std.proofs.lemmas.Int.{ints}
-use Rattle.ngc_drawing.specs.declared.spot.Rectangle.{Rectangle}
 use Rattle.ngc_drawing.proofs.spot.Rectangle.holding.Goals as goal
 
 pub returns : goal.returns
