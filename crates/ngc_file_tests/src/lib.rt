@@ -1,5 +1,5 @@
 //! Tests of what the program reads beside part programs: its command line, machine files, tool tables, events, and
-//! files as such.
+//! files as such; and of the setup sheet, which says what machine files and tool tables mean.
 #![tactic(auto)]
 
 #[cfg(test)]
@@ -12,3 +12,5 @@ mod events;
 mod input;
 #[cfg(test)]
 mod machine;
+#[cfg(test)]
+mod setup_sheet;
