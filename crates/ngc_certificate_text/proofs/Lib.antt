@@ -24,3 +24,4 @@ pub mod GivenLaws
 mod Examples
 pub mod Fronts
 pub mod Spelled
+pub mod Passing

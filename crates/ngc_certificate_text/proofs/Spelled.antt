@@ -3,8 +3,7 @@ use Rattle.std.proofs.Common.{◌≡◌, ◌<◌, ℕ, List, [], ◌++◌, lengt
 use Rattle.std.proofs.lemmas.List.{append_assoc, get_or_default}
 use Rattle.ngc_fixed_length.specs.Written.{AppendsBeginning}
 use Rattle.ngc_output.specs.Collected.{WritesFront}
-use Rattle.ngc_certificate_text.specs.Certificate.{Entry, CertificateData, entry_at}
-use Rattle.ngc_certificate_text.specs.Spelling.{setting_lines, parted_spelling}
+use Rattle.ngc_certificate_text.specs.Certificate.{Entry, entry_at}
 use Rattle.ngc_certificate_text.specs.declared.piece.Piece.{Piece}
 use Rattle.ngc_certificate_text.proofs.Fronts.{front_more, front_moved, front_stopped, longer, beginning_written}
 
@@ -30,16 +29,16 @@ counted name made lined motions entries is h = h ∙ ap (λ (n : ℕ). made ++ s
 joined : (before head off on foot : List ℕ) → (((before ++ head) ++ off) ++ on) ++ foot ≡ before ++ (((head ++ off) ++ on) ++ foot)
 joined before head off on foot = simp append_assoc
 
-stopped_in_off : (old new : Option (List ℕ)) (before headed head off on foot : List ℕ) → headed ≡ before ++ head
+pub stopped_in_first : (old new : Option (List ℕ)) (before headed head off on foot : List ℕ) → headed ≡ before ++ head
     → AppendsBeginning old new (headed ++ off) → AppendsBeginning old new (before ++ (((head ++ off) ++ on) ++ foot))
-stopped_in_off old new before headed head off on foot is k =
+stopped_in_first old new before headed head off on foot is k =
     let so_far : AppendsBeginning old new ((before ++ head) ++ off) = subst (λ (l : List ℕ). AppendsBeginning old new (l ++ off)) is k in
     subst (λ (l : List ℕ). AppendsBeginning old new l) (joined before head off on foot)
     (longer old new (((before ++ head) ++ off) ++ on) foot (longer old new ((before ++ head) ++ off) on so_far))
 
-stopped_in_on : (old mid new : Option (List ℕ)) (before headed between head off on foot : List ℕ) → headed ≡ before ++ head
+pub stopped_in_second : (old mid new : Option (List ℕ)) (before headed between head off on foot : List ℕ) → headed ≡ before ++ head
     → WritesFront old mid (headed ++ off) between → AppendsBeginning mid new (between ++ on) → AppendsBeginning old new (before ++ (((head ++ off) ++ on) ++ foot))
-stopped_in_on old mid new before headed between head off on foot is h k =
+stopped_in_second old mid new before headed between head off on foot is h k =
     let so_far : AppendsBeginning old new (((before ++ head) ++ off) ++ on) =
     subst (λ (l : List ℕ). AppendsBeginning old new ((l ++ off) ++ on)) is (front_stopped old mid new (headed ++ off) between on h k) in
     subst (λ (l : List ℕ). AppendsBeginning old new l) (joined before head off on foot) (longer old new (((before ++ head) ++ off) ++ on) foot so_far)
@@ -49,7 +48,7 @@ both_written : (old mid new : Option (List ℕ)) (before headed between after he
 both_written old mid new before headed between after head off on is h k =
     subst (λ (l : List ℕ). WritesFront old new ((l ++ off) ++ on) after) is (front_more old mid new (headed ++ off) between after on h k)
 
-stopped_behind : (old mid late new : Option (List ℕ)) (before headed between after head off on foot : List ℕ) → headed ≡ before ++ head
+pub stopped_behind : (old mid late new : Option (List ℕ)) (before headed between after head off on foot : List ℕ) → headed ≡ before ++ head
     → WritesFront old mid (headed ++ off) between → WritesFront mid late (between ++ on) after → AppendsBeginning late new after
     → AppendsBeginning old new (before ++ (((head ++ off) ++ on) ++ foot))
 stopped_behind old mid late new before headed between after head off on foot is h k part =
@@ -57,44 +56,10 @@ stopped_behind old mid late new before headed between after head off on foot is 
     (longer old new (((before ++ head) ++ off) ++ on) foot
     (beginning_written old late new (((before ++ head) ++ off) ++ on) after (both_written old mid late before headed between after head off on is h k) part))
 
-made_whole : (old mid late new : Option (List ℕ)) (before headed between after made footed head off on foot : List ℕ) → headed ≡ before ++ head
+pub made_whole : (old mid late new : Option (List ℕ)) (before headed between after made footed head off on foot : List ℕ) → headed ≡ before ++ head
     → WritesFront old mid (headed ++ off) between → WritesFront mid late (between ++ on) after → WritesFront late new after made → footed ≡ made ++ foot
     → WritesFront old new (before ++ (((head ++ off) ++ on) ++ foot)) footed
 made_whole old mid late new before headed between after made footed head off on foot is h k room last =
     subst (λ (l : List ℕ). WritesFront old new l footed) (joined before head off on foot)
     (subst (λ (l : List ℕ). WritesFront old new ((((before ++ head) ++ off) ++ on) ++ foot) l) (sym last)
     (front_moved old late new (((before ++ head) ++ off) ++ on) after made foot (both_written old mid late before headed between after head off on is h k) room))
-
--- ---- the text of a certificate
-
-abbrev head : List ℕ
-head = codes "ngc-certificate 1\n"
-
-abbrev foot : List ℕ
-foot = codes "end\n"
-
-abbrev off_lines : CertificateData → List ℕ
-off_lines c = setting_lines (codes "off") c.off
-
-abbrev on_lines : CertificateData → List ℕ
-on_lines c = setting_lines (codes "on") c.on
-
-pub off_stopped : (c : CertificateData) (old new : Option (List ℕ)) (before headed : List ℕ) → headed ≡ before ++ head
-    → AppendsBeginning old new (headed ++ off_lines c) → AppendsBeginning old new (before ++ parted_spelling c)
-off_stopped c old new before headed is k = stopped_in_off old new before headed head (off_lines c) (on_lines c) foot is k
-
-pub on_stopped : (c : CertificateData) (old mid new : Option (List ℕ)) (before headed between : List ℕ) → headed ≡ before ++ head
-    → WritesFront old mid (headed ++ off_lines c) between → AppendsBeginning mid new (between ++ on_lines c) → AppendsBeginning old new (before ++ parted_spelling c)
-on_stopped c old mid new before headed between is h k = stopped_in_on old mid new before headed between head (off_lines c) (on_lines c) foot is h k
-
-pub end_stopped : (c : CertificateData) (old mid late new : Option (List ℕ)) (before headed between after : List ℕ) → headed ≡ before ++ head
-    → WritesFront old mid (headed ++ off_lines c) between → WritesFront mid late (between ++ on_lines c) after → AppendsBeginning late new after
-    → AppendsBeginning old new (before ++ parted_spelling c)
-end_stopped c old mid late new before headed between after is h k part =
-    stopped_behind old mid late new before headed between after head (off_lines c) (on_lines c) foot is h k part
-
-pub spelled : (c : CertificateData) (old mid late new : Option (List ℕ)) (before headed between after made footed : List ℕ) → headed ≡ before ++ head
-    → WritesFront old mid (headed ++ off_lines c) between → WritesFront mid late (between ++ on_lines c) after → WritesFront late new after made → footed ≡ made ++ foot
-    → WritesFront old new (before ++ parted_spelling c) footed
-spelled c old mid late new before headed between after made footed is h k room last =
-    made_whole old mid late new before headed between after made footed head (off_lines c) (on_lines c) foot is h k room last

@@ -2,6 +2,7 @@ pub mod Certificate
 pub mod Joined
 pub mod EntryLines
 pub mod Order
+pub mod Places
 pub mod Spelling
 pub mod Held
 pub mod Contents

@@ -1,7 +1,8 @@
-ghost use Rattle.std.specs.Prelude.{◌≡◌};
-ghost use Rattle.ngc_certificate_text.specs.Certificate.{entries_at};
-ghost use Rattle.ngc_certificate_text.specs.Contents.{said_of, form_of};
-ghost use Rattle.ngc_certificate_text.specs.Joined.{Parted};
+ghost use Rattle.std.specs.Prelude.{◌≡◌, List, Some};
+ghost use Rattle.std.specs.Option.{option_map};
+ghost use Rattle.std.proofs.Props.{props};
+ghost use Rattle.ngc_certificate_text.specs.declared.certificate.EntryKind.{EntryKind};
+ghost use Rattle.ngc_certificate_text.specs.Order.{IsWhole};
 
 use crate::motions::Motions;
 use crate::piece::Setting;
@@ -22,9 +23,15 @@ pub struct Certificate<A: Allocator> {
     pub on: Motions<A>,
     // The kinds of its entries in order, if it is of version 2.
     pub(crate) order: Option<Vec<EntryKind, A>>,
+    // Its entries are all those motions.
+    ghost whole: { (kinds : List EntryKind) → option_map (λ k. k.items) order ≡ Some kinds → IsWhole kinds off on } by { Prim.hlevel props },
 }
 
 impl<A: Allocator> Certificate<A> {
+    ghost use Rattle.ngc_certificate_text.specs.Certificate.{entries_at};
+    ghost use Rattle.ngc_certificate_text.specs.Contents.{said_of, form_of};
+    ghost use Rattle.ngc_certificate_text.specs.Joined.{Parted, contents};
+
     /// A certificate of version 1.
     pub fn parted(off: Motions<A>, on: Motions<A>) -> Certificate<A>
         ensures said { said_of result ≡ record { off = off; on = on } }

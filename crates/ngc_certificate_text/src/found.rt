@@ -127,10 +127,13 @@ impl<A: Allocator> Found<A> {
             order,
             pieces: _,
         } = self;
-        let order = match version {
-            Some(Version::Two) => Some(order),
-            Some(Version::One) | None => None,
-        };
-        Certificate { off, on, order }
+        match version {
+            Some(Version::Two) => Certificate {
+                off,
+                on,
+                order: Some(order),
+            },
+            Some(Version::One) | None => Certificate::parted(off, on),
+        }
     }
 }

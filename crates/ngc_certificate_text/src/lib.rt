@@ -18,7 +18,7 @@ mod text;
 mod told;
 mod write;
 
-pub use certificate::{Certificate, EntryKind};
+pub use certificate::Certificate;
 pub use certificate_lines::CertificateLines;
 pub use expected::{BegunMotion, EntriesLeft, Expected, Indices, MotionsLeft};
 pub use fault::CertificateFault;
