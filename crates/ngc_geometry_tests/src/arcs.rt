@@ -1,3 +1,4 @@
+use crate::checks::{holds, same};
 use crate::given::{Format, arc, ends, grid_box, length, point};
 use ngc_arc_geometry::{Arc, ArcFault, Ends};
 use ngc_fixed_length::{Plane, Point2, Turn, Units};
@@ -149,7 +150,7 @@ fn centres_and_faults(rt: HostRuntime) {
             (*end_x, *end_y, 0),
         );
         let found = centre_of(&arc(&rt, *units, &ends, *format));
-        assert_eq!(rt; found, *wanted, "by {format:?}");
+        same(&rt, &format, &found, wanted);
     }
 }
 
@@ -198,9 +199,9 @@ fn swept_boxes(rt: HostRuntime) -> Result<(), Fail> {
             &ends,
             Format::Offsets(Some(*u), *v),
         );
-        assert_eq!(rt; centre_of(&found), Ok(*centre), "to {end:?}");
+        same(&rt, &end, &centre_of(&found), &Ok(*centre));
         let swept = found?.swept_box(length(&rt, 10_000));
-        assert_eq!(rt; swept, grid_box(*low, *high), "to {end:?}");
+        same(&rt, &end, &swept, &grid_box(*low, *high));
     }
     Ok(())
 }
@@ -241,15 +242,11 @@ static QUADRANTS: [(Turn, i64, bool, usize, (i64, i64), (i64, i64), bool); 3] = 
 fn sectors_and_quadrant_points(rt: HostRuntime) -> Result<(), Fail> {
     for (turn, x, is_full, count, second, other, is_inside) in &QUADRANTS {
         let arc = arc_along_x(&rt, *turn, *x)?;
-        assert_eq!(rt; arc.is_full_circle(), *is_full, "to {x}");
-        assert_eq!(rt;
-            arc.in_sector(place(&rt, *other)),
-            *is_inside,
-            "at {other:?}"
-        );
+        same(&rt, &x, &arc.is_full_circle(), is_full);
+        same(&rt, &other, &arc.in_sector(place(&rt, *other)), is_inside);
         let extremes = arc.extremes();
-        assert_eq!(rt; extremes.len(), *count, "to {x}");
-        assert_eq!(rt; extremes.get(1), Some(&place(&rt, *second)), "to {x}");
+        same(&rt, &x, &extremes.len(), count);
+        same(&rt, &x, &extremes.get(1), &Some(&place(&rt, *second)));
     }
     Ok(())
 }
@@ -267,18 +264,31 @@ fn helix(rt: &impl Abort, has_axis_word: bool) -> Result<Arc, ArcFault> {
 
 #[test]
 fn a_helix_without_an_axis_word(rt: HostRuntime) {
-    assert_eq!(rt; centre_of(&helix(&rt, false)), Err(241));
+    same(&rt, &"centre of", &centre_of(&helix(&rt, false)), &Err(241));
 }
 
 #[test]
 fn a_helix_of_one_turn(rt: HostRuntime) -> Result<(), Fail> {
     let helix = helix(&rt, true)?;
-    assert!(rt; helix.is_full_circle());
-    assert!(rt; helix.plane() == Plane::XY && helix.turn() == Turn::Counterclockwise);
-    assert!(rt; helix.centre() == place(&rt, (5_000_000, 0)));
-    assert!(rt; helix.start() == point(&rt, (0, 0, 0)));
-    assert!(rt; helix.end() == point(&rt, (0, 0, -1_000_000)));
-    assert!(rt; helix.inner_radius() == 5_000_000 && helix.outer_radius() == 5_000_000);
-    assert_eq!(rt; helix.margin(length(&rt, 10_000)).nanometres(), 20_000);
+    holds(&rt, &"is full circle", helix.is_full_circle());
+    holds(
+        &rt,
+        &"plane",
+        helix.plane() == Plane::XY && helix.turn() == Turn::Counterclockwise,
+    );
+    holds(&rt, &"centre", helix.centre() == place(&rt, (5_000_000, 0)));
+    holds(&rt, &"start", helix.start() == point(&rt, (0, 0, 0)));
+    holds(&rt, &"end", helix.end() == point(&rt, (0, 0, -1_000_000)));
+    holds(
+        &rt,
+        &"inner radius",
+        helix.inner_radius() == 5_000_000 && helix.outer_radius() == 5_000_000,
+    );
+    same(
+        &rt,
+        &"margin",
+        &helix.margin(length(&rt, 10_000)).nanometres(),
+        &20_000,
+    );
     Ok(())
 }

@@ -1,3 +1,4 @@
+use crate::checks::{holds, same};
 use crate::given::{grid_box, length};
 use ngc_collision::{first_met, is_in_travel};
 use ngc_fixed_length::{GridBox, Nm};
@@ -80,7 +81,7 @@ fn travel_limits_are_included(rt: HostRuntime) {
     let machine = row_machine(rt.alloc());
     for (low, high, inside) in &TRAVEL {
         let found = is_in_travel(&machine, &grid_box(*low, *high));
-        assert_eq!(rt; found, *inside, "from {low:?} to {high:?}");
+        same(&rt, &(low, high), &found, inside);
     }
 }
 
@@ -168,7 +169,7 @@ fn bodies_and_one_fixture(rt: HostRuntime) -> Result<(), Fail> {
     for (fixture, size, low, high, met) in &BODIES {
         let machine = machine_with(rt.alloc(), fixture)?;
         let found = first_met(&machine, tool(&rt, *size), &grid_box(*low, *high));
-        assert_eq!(rt; found, *met, "{size:?} from {low:?} to {high:?}");
+        same(&rt, &(size, low, high), &found, met);
     }
     Ok(())
 }
@@ -249,7 +250,7 @@ fn tools_of_several_parts(rt: HostRuntime) -> Result<(), Fail> {
     for (fixture, body, low, high, met) in &STACKED {
         let tool = stacked(&rt, rt.alloc(), body)?;
         let found = met_among(rt.alloc(), fixture, tool, &grid_box(*low, *high))?;
-        assert!(rt; found == *met, "{body:?} from {low:?} to {high:?}");
+        holds(&rt, &(body, low, high), found == *met);
     }
     Ok(())
 }
@@ -294,10 +295,10 @@ fn text_with_256(alloc: Global) -> Result<String, Fail> {
 #[test]
 fn the_lowest_of_256_fixtures_is_answered(rt: HostRuntime) -> Result<(), Fail> {
     let machine = machine_with_256(rt.alloc())?;
-    assert!(rt; machine.fixtures.len() == 256);
+    holds(&rt, &"number", machine.fixtures.len() == 256);
     for (low, high, met) in &LOWEST {
         let found = first_met(&machine, None, &grid_box(*low, *high));
-        assert!(rt; found == *met, "from {low:?} to {high:?}");
+        holds(&rt, &(low, high), found == *met);
     }
     Ok(())
 }

@@ -1,3 +1,4 @@
+use crate::checks::same;
 use crate::given::{Format, arc, ends, grid_box, length};
 use ngc_arc_geometry::GridArc;
 use ngc_fixed_length::{Plane, Point2, Turn, Units};
@@ -213,7 +214,7 @@ fn pieces_follow_each_other(rt: HostRuntime) -> Result<(), Fail> {
     for (given, last, from, to, wanted, row) in &PIECES {
         let arc = grid_arc(&rt, given)?;
         let follows = arc.cut_follows(*last, &in_plane(&rt, *from), &in_plane(&rt, *to));
-        assert_eq!(rt; follows, *wanted, "at {row}");
+        same(&rt, &row, &follows, wanted);
     }
     Ok(())
 }
@@ -264,7 +265,7 @@ fn boxes_of_pieces(rt: HostRuntime) -> Result<(), Fail> {
     for (given, from, to, low, high) in &BOXES {
         let arc = grid_arc(&rt, given)?;
         let found = arc.cut_box(&in_plane(&rt, *from), &in_plane(&rt, *to));
-        assert_eq!(rt; found, grid_box(*low, *high), "from {from:?}");
+        same(&rt, &from, &found, &grid_box(*low, *high));
     }
     Ok(())
 }

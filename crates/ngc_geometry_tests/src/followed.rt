@@ -1,3 +1,4 @@
+use crate::checks::holds;
 use crate::given::{Format, arc, ends, length};
 use ngc_arc_geometry::Arc;
 use ngc_fixed_length::{Nm, Plane, StepPos, Turn, Units};
@@ -258,7 +259,7 @@ fn follow_arcs<K: ArcKernel + Drop>(rt: &impl Abort) -> Result<(), Fail> {
         let ends = ends(rt, *plane, *turn, *start, *end);
         let arc = arc(rt, Units::Millimetres, &ends, *format)?;
         let is_followed = is_followed::<K>(rt, &arc, *step, *band, *moves);
-        assert!(rt; is_followed, "to {end:?} by {format:?}");
+        holds(rt, &(end, format), is_followed);
     }
     Ok(())
 }

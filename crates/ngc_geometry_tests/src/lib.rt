@@ -6,6 +6,8 @@ mod arcs;
 #[cfg(test)]
 mod axes;
 #[cfg(test)]
+mod checks;
+#[cfg(test)]
 mod collisions;
 #[cfg(test)]
 mod cuts;

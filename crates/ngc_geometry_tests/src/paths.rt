@@ -1,3 +1,4 @@
+use crate::checks::holds;
 use crate::given::{Format, arc, ends, length, point};
 use ngc_fixed_length::{Plane, StepPos, Turn, Units};
 use ngc_step_kernel::{ArcKernel, ArcPath, AxisMove, LinePath, Move, Path};
@@ -25,9 +26,17 @@ fn a_line_goes_to_its_end(rt: HostRuntime) {
     let start = point(&rt, (1, -4_999, 0));
     let end = point(&rt, (20_001, 5_000, 0));
     let mut path = LinePath::new(start, end, length(&rt, 10_000));
-    assert!(rt; path.remaining() == 2 && path.position() == StepPos { x: 0, y: 0, z: 0 });
-    assert!(rt; takes(&mut path, MOVES_IN_Y));
-    assert!(rt; path.remaining() == 0 && path.position() == StepPos { x: 2, y: 1, z: 0 });
+    holds(
+        &rt,
+        &"remaining",
+        path.remaining() == 2 && path.position() == StepPos { x: 0, y: 0, z: 0 },
+    );
+    holds(&rt, &"takes", takes(&mut path, MOVES_IN_Y));
+    holds(
+        &rt,
+        &"remaining",
+        path.remaining() == 0 && path.position() == StepPos { x: 2, y: 1, z: 0 },
+    );
 }
 
 // Roots are taken for a half circle, and none on the way.
@@ -39,9 +48,13 @@ fn roots_are_taken_at_first(rt: HostRuntime) -> Result<(), Fail> {
     let half = arc(&rt, Units::Millimetres, &ends, format)?;
     let mut path = ArcPath::new(&half, length(&rt, 10_000));
     let roots = path.roots();
-    assert!(rt; 0 < roots && roots <= 16);
+    holds(&rt, &"roots", 0 < roots && roots <= 16);
     run_to_its_end(&mut path);
-    assert!(rt; path.remaining() == 0 && path.roots() == roots);
+    holds(
+        &rt,
+        &"remaining",
+        path.remaining() == 0 && path.roots() == roots,
+    );
     Ok(())
 }
 

@@ -1,6 +1,7 @@
 ghost use Rattle.std.specs.Prelude.{◌≤◌};
 ghost use Rattle.ngc_planner.specs.Leg.{IsLeg};
 
+use crate::checks::{holds, same};
 use crate::given::{Format, arc, ends, point};
 use ngc_arc_geometry::ArcFault;
 use ngc_canonical::{Action, Feed, Motion, Pace, Way};
@@ -140,8 +141,8 @@ fn rates_of_motions(rt: HostRuntime) {
     let machine = row_machine(rt.alloc());
     for (course, steps, rate, wanted) in &RATES {
         match rate_on(&rt, &machine, *course, *steps, *rate) {
-            Ok(found) => assert_eq!(rt; found, *wanted, "{rate:?} on {course:?}"),
-            Err(_) => assert!(rt; false, "no arc on {course:?}"),
+            Ok(found) => same(&rt, &(rate, course), &found, wanted),
+            Err(_) => holds(&rt, &course, false),
         }
     }
 }
@@ -159,9 +160,14 @@ fn corners(rt: HostRuntime) {
     let along = Action::Move(traverse(&rt, (0, 0, 0), middle));
     for (end, joint) in CORNERS {
         let next = Action::Move(traverse(&rt, middle, *end));
-        assert_eq!(rt; joint_of(&along, &next, &machine), *joint, "to {end:?}");
+        same(&rt, &end, &joint_of(&along, &next, &machine), joint);
     }
-    assert_eq!(rt; joint_of(&along, &Action::Stop, &machine), 1_000_000);
+    same(
+        &rt,
+        &"joint of",
+        &joint_of(&along, &Action::Stop, &machine),
+        &1_000_000,
+    );
 }
 
 const BRAKING: &[(u64, u64)] = &[(2_500, 4_500), (400_000, 80_200_000)];
@@ -170,7 +176,7 @@ const BRAKING: &[(u64, u64)] = &[(2_500, 4_500), (400_000, 80_200_000)];
 fn braking_from_two_rates(rt: HostRuntime) {
     for (rate, course) in BRAKING {
         assert!(rt; *rate <= 1_000_000);
-        assert_eq!(rt; braking(*rate, 1_000), *course, "from {rate}");
+        same(&rt, &rate, &braking(*rate, 1_000), course);
     }
 }
 
@@ -199,16 +205,16 @@ fn a_hundred_steps_in_a_thousand_ticks(rt: HostRuntime) {
     for _ in 0..1_000 {
         if !ramp.is_empty() {
             let travel = ramp.tick(400_000);
-            assert!(rt; travel.rate.abs_diff(last) <= 1_000);
-            assert!(rt; travel.ended == ramp.is_empty());
+            holds(&rt, &"rate", travel.rate.abs_diff(last) <= 1_000);
+            holds(&rt, &"ended", travel.ended == ramp.is_empty());
             last = travel.rate;
             if travel.due && steps < 1_000 {
                 steps += 1;
             }
         }
     }
-    assert_eq!(rt; steps, 100);
-    assert!(rt; ramp.is_empty() && last <= 1_000);
+    same(&rt, &"steps", &steps, &100);
+    holds(&rt, &"ramp", ramp.is_empty() && last <= 1_000);
 }
 
 // And the rate that comes of each.
@@ -226,13 +232,13 @@ fn a_hold_brakes_and_stands(rt: HostRuntime) {
     ramp.load(hundred_steps(OPEN, false));
     for (wish, rate) in WISHES {
         if !ramp.is_empty() {
-            assert_eq!(rt; ramp.tick(*wish).rate, *rate);
+            same(&rt, &"tick", &ramp.tick(*wish).rate, rate);
         }
     }
     assert_eq!(rt; ramp.rate(), 0);
-    assert!(rt; !ramp.is_empty());
+    holds(&rt, &"ramp", !ramp.is_empty());
     ramp.rest();
-    assert_eq!(rt; ramp.rate(), 0);
+    same(&rt, &"rate", &ramp.rate(), &0);
 }
 
 // Two legs of a hundred steps: the joint between them and whether the way goes on there, in fewer ticks than so many, and the
@@ -269,10 +275,11 @@ fn over_a_joint(rt: HostRuntime) {
     for (joint, joined, ticks, least, greatest) in JOINTS {
         assert!(rt; *joint >= 1);
         let (taken, at_end) = two_legs(*joint, *joined);
-        assert!(rt; taken < *ticks, "{taken} ticks over {joint}");
-        assert!(rt;
+        holds(&rt, &(taken, joint), taken < *ticks);
+        holds(
+            &rt,
+            &(at_end, joint),
             *least <= at_end && at_end <= *greatest,
-            "{at_end} at {joint}"
         );
     }
 }
@@ -293,8 +300,8 @@ fn ten_legs_without_a_stop(rt: HostRuntime) {
             ticks += 1;
         }
     }
-    assert!(rt; ramp.is_empty() && ramp.rate() <= 1_000);
-    assert!(rt; 2_899 <= ticks && ticks <= 2_910, "{ticks}");
+    holds(&rt, &"ramp", ramp.is_empty() && ramp.rate() <= 1_000);
+    holds(&rt, &ticks, 2_899 <= ticks && ticks <= 2_910);
 }
 
 #[test]
@@ -312,8 +319,12 @@ fn a_slow_leg_ahead(rt: HostRuntime) {
         if !ramp.is_empty() {
             let first = ramp.len() == 2;
             let travel = ramp.tick(400_000);
-            assert!(rt; travel.rate <= 20_000 || first && !travel.ended);
+            holds(
+                &rt,
+                &"ended",
+                travel.rate <= 20_000 || first && !travel.ended,
+            );
         }
     }
-    assert!(rt; ramp.is_empty());
+    holds(&rt, &"ramp", ramp.is_empty());
 }
