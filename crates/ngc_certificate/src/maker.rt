@@ -3,7 +3,8 @@ ghost use Rattle.std.specs.Prelude.{◌≡◌, ℕ, ◌<◌, ◌≤◌, [], leng
 ghost use Rattle.ngc_machine.specs.Machine.{file_of};
 ghost use Rattle.ngc_canonical.specs.State.{COMMAND_LIMIT};
 ghost use Rattle.ngc_certificate_text.specs.Certificate.{INDEX_LIMIT, MOTION_LIMIT};
-ghost use Rattle.ngc_certificate_text.specs.Contents.{said_of};
+ghost use Rattle.ngc_certificate_text.specs.Contents.{form_of, said_of};
+ghost use Rattle.ngc_certificate_text.specs.Joined.{Parted};
 ghost use Rattle.ngc_certificate.specs.Valid.{IsValid};
 ghost use Rattle.ngc_certificate.specs.Made.{IsSettingMade, IsMade, GivesMade, clears_undivided};
 ghost use Rattle.ngc_certificate.specs.Making.{is_clear_at, Leads, GivesSetting, fault_at};
@@ -164,6 +165,8 @@ pub fn make<A: Allocator + Copy>(
     requires on { length on.now ≤ COMMAND_LIMIT }
     ensures made { GivesMade said_of result (IsMade (file_of machine.now) cuts off.now on.now) }
     ensures valid { IfOk result (λ c. IsValid (file_of machine.now) off.now (said_of c).off × IsValid (file_of machine.now) on.now (said_of c).on) }
+    // It is of version 1.
+    ensures form { IfOk result (λ c. form_of c ≡ Parted (said_of c)) }
     ensures undivided { clears_undivided (file_of machine.now) off.now ≡ true → clears_undivided (file_of machine.now) on.now ≡ true → MatchResult result (λ c. Unit {0}) (λ e. e ≡ MakeFault.Memory) }
 {
     if !is_clear_at(machine, &None, &machine.start) {
@@ -195,6 +198,7 @@ pub fn make_alike<A: Allocator + Copy>(
     requires count { length commands.now ≤ COMMAND_LIMIT }
     ensures made { GivesMade said_of result (IsMade (file_of machine.now) cuts commands.now commands.now) }
     ensures valid { IfOk result (λ c. IsValid (file_of machine.now) commands.now (said_of c).off × IsValid (file_of machine.now) commands.now (said_of c).on) }
+    ensures form { IfOk result (λ c. form_of c ≡ Parted (said_of c)) }
     ensures undivided { clears_undivided (file_of machine.now) commands.now ≡ true → MatchResult result (λ c. Unit {0}) (λ e. e ≡ MakeFault.Memory) }
 {
     if !is_clear_at(machine, &None, &machine.start) {

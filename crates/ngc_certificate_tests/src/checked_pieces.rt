@@ -147,6 +147,80 @@ fn certificates_checked_in_pieces(rt: HostRuntime) -> Result<(), Fail> {
     Ok(())
 }
 
+// A traverse of 0.03 mm, one along Y that block delete takes out, and one down.
+const DELETED_LINE: &str = "G0 X0.03\n/G0 Y0.02\nG0 Z-0.01\nM2\n";
+
+// The same of certificates that tell of both settings together.
+const JOINED_ROWS: &[(&str, &str, Option<u16>)] = &[
+    ("M2\n", "motions 0 0\nend\n", None),
+    (
+        "G0 X1 M2\n",
+        "motions 1 1\nboth 0 0 1\nline 65536 0 0 0 100 0 0\nend\n",
+        None,
+    ),
+    (
+        DELETED_LINE,
+        "motions 3 2\nboth 0 0 1\nline 65536 0 0 0 3 0 0\noff 1 1\nline 65536 3 0 0 3 2 0\n\
+         off 2 1\nline 65536 3 2 -1 3 2 0\non 1 1\nline 65536 3 0 -1 3 0 0\nend\n",
+        None,
+    ),
+    // One of another motion of block delete on.
+    (
+        DELETED_LINE,
+        "motions 3 2\nboth 0 1 1\nline 65536 0 0 0 3 0 0\noff 1 1\nline 65536 3 0 0 3 2 0\n\
+         off 2 1\nline 65536 3 2 -1 3 2 0\non 1 1\nline 65536 3 0 -1 3 0 0\nend\n",
+        Some(312),
+    ),
+    // Fewer entries than are announced.
+    (
+        DELETED_LINE,
+        "motions 3 2\nboth 0 0 1\nline 65536 0 0 0 3 0 0\noff 1 1\nline 65536 3 0 0 3 2 0\n\
+         off 2 1\nline 65536 3 2 -1 3 2 0\nend\n",
+        Some(301),
+    ),
+    // One of block delete off straight behind one of on.
+    (
+        DELETED_LINE,
+        "motions 3 2\nboth 0 0 1\nline 65536 0 0 0 3 0 0\non 1 1\nline 65536 3 0 -1 3 0 0\n\
+         off 1 1\nline 65536 3 0 0 3 2 0\noff 2 1\nline 65536 3 2 -1 3 2 0\nend\n",
+        Some(301),
+    ),
+    // A piece of both is refused, and block delete off is told.
+    (
+        "G0 X1 M2\n",
+        "motions 1 1\nboth 0 0 1\nline 65535 0 0 0 100 0 0\nend\n",
+        Some(313),
+    ),
+    // A motion of block delete off is refused, and then one of on.
+    (
+        DELETED_LINE,
+        "motions 3 2\nboth 0 0 1\nline 65536 0 0 0 3 0 0\noff 1 1\nline 65536 3 0 0 3 2 0\n\
+         off 2 1\nline 65536 3 2 0 3 2 0\non 1 1\nline 65535 3 0 -1 3 0 0\nend\n",
+        Some(314),
+    ),
+    (
+        "G0 X1 M2\n",
+        "motions 1 1\nboth 0 1000000 1\nline 65536 0 0 0 100 0 0\nend\n",
+        Some(303),
+    ),
+];
+
+#[test]
+fn joined_certificates_checked_in_pieces(rt: HostRuntime) -> Result<(), Fail> {
+    let machine = row_machine(rt.alloc());
+    for (program, lines, number) in JOINED_ROWS {
+        let text = format!(in rt.alloc(); "ngc-certificate 2\n{lines}")?;
+        let program = Program::read(rt.alloc(), &mut Device::new(program.as_bytes()))?;
+        let wanted = whole_answer(rt.alloc(), &program, &machine, text.as_bytes());
+        assert_eq!(rt; wanted.map(|fault| fault.number()), *number, "{lines}");
+        for size in SIZES {
+            let found = pieces_answer(rt.alloc(), &program, &machine, text.as_bytes(), *size)?;
+            assert_eq!(rt; found, wanted, "{lines} in pieces of {size}");
+        }
+    }
+    Ok(())
+}
+
 // What is fed, piece by piece, and the answer to each.
 const STAYING: &[(&str, Result<(), CertificateFault>)] = &[
     ("", Ok(())),

@@ -28,10 +28,7 @@ fn one_motion<A: Allocator + Copy>(alloc: A) -> Result<Motions<A>, AllocError> {
 
 // The certificate of that motion at both settings of block delete.
 fn a_motion_each<A: Allocator + Copy>(alloc: A) -> Result<Certificate<A>, AllocError> {
-    Ok(Certificate::parted(
-        one_motion(alloc)?,
-        one_motion(alloc)?,
-    ))
+    Ok(Certificate::parted(one_motion(alloc)?, one_motion(alloc)?))
 }
 
 // The row machine with a fixture far from zero.
@@ -105,10 +102,7 @@ fn what_was_accepted_is_told(rt: HostRuntime) -> Result<(), Fail> {
 // Why a certificate without the motion is refused where block delete is on.
 fn refusal(alloc: Global) -> Result<CheckFault, Fail> {
     let program = Program::read(alloc, &mut Device::new(PROGRAM))?;
-    let certificate = Certificate::parted(
-        one_motion(alloc)?,
-        Motions::new(alloc),
-    );
+    let certificate = Certificate::parted(one_motion(alloc)?, Motions::new(alloc));
     let machine = row_machine(alloc);
     let checked = check_program(alloc, &program, &machine, &certificate);
     Ok(checked.err().ok_or("a refusal")?)

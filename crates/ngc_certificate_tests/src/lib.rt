@@ -1,4 +1,4 @@
-//! Tests of certificates, of their checker, and of the log and the pulses of what is run.
+//! Tests of certificates, of their checker, of reports, and of the log and the pulses of what is run.
 #![tactic(auto)]
 
 #[cfg(test)]
@@ -19,6 +19,8 @@ mod pieces;
 mod pulses;
 #[cfg(test)]
 mod reading;
+#[cfg(test)]
+mod reports;
 #[cfg(test)]
 mod running;
 #[cfg(test)]

@@ -117,10 +117,7 @@ fn spells_a_traverse(rt: HostRuntime) -> Result<(), Fail> {
 
 #[test]
 fn spells_no_motions(rt: HostRuntime) -> Result<(), Fail> {
-    let certificate = Certificate::parted(
-        Motions::new(rt.alloc()),
-        Motions::new(rt.alloc()),
-    );
+    let certificate = Certificate::parted(Motions::new(rt.alloc()), Motions::new(rt.alloc()));
     assert!(rt; certificate.off.is_empty());
     let text = text_of(rt.alloc(), &certificate)?;
     assert_eq!(rt;

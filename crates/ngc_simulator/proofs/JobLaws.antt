@@ -13,6 +13,7 @@ use Rattle.ngc_canonical.proofs.BlockDelete.{same_at_both}
 use Rattle.ngc_canonical.specs.Meaning.{meaning, program_said, has_deleted, Fails}
 use Rattle.ngc_certificate_text.specs.Certificate.{CertificateData}
 use Rattle.ngc_certificate_text.specs.Said.{certificate_said}
+use Rattle.ngc_certificate_text.specs.Joined.{Form, Parted}
 use Rattle.ngc_certificate_text.specs.Spelling.{spelling}
 use Rattle.ngc_certificate_text.specs.declared.piece.Setting.TheVariants.{Off, On}
 use Rattle.ngc_certificate.specs.declared.fault.MakeFault.{MakeFault}
@@ -68,13 +69,14 @@ made_for setup bytes cuts text off given_off on given_on c same_off same_on is_t
   on_valid = on_valid;
 }
 
-pub certified : (setup : Setup) (bytes : List ℕ) (cuts : ℕ) (old new : Option (List ℕ)) (c : CertificateData) → IsMadeFor setup bytes cuts c → Appends old new (spelling c)
+-- what is made is of version 1
+pub certified : (setup : Setup) (bytes : List ℕ) (cuts : ℕ) (old new : Option (List ℕ)) (c : CertificateData) (f : Form) → f ≡ Parted c → IsMadeFor setup bytes cuts c → Appends old new (spelling f)
     → Certifies setup bytes cuts old new (Ok tt)
-certified setup bytes cuts old new c is_made wrote = (c, is_made, wrote)
+certified setup bytes cuts old new c f is is_made wrote = (c, is_made, subst (λ (x : Form). Appends old new (spelling x)) is wrote)
 
-pub certifying_stopped : (setup : Setup) (bytes : List ℕ) (cuts : ℕ) (old new : Option (List ℕ)) (c : CertificateData) (fault : WriteFault) → IsMadeFor setup bytes cuts c
-    → AppendsBeginning old new (spelling c) → Certifies setup bytes cuts old new (Err (certifies.Write fault))
-certifying_stopped setup bytes cuts old new c fault is_made wrote = (c, is_made, wrote)
+pub certifying_stopped : (setup : Setup) (bytes : List ℕ) (cuts : ℕ) (old new : Option (List ℕ)) (c : CertificateData) (f : Form) (fault : WriteFault) → f ≡ Parted c → IsMadeFor setup bytes cuts c
+    → AppendsBeginning old new (spelling f) → Certifies setup bytes cuts old new (Err (certifies.Write fault))
+certifying_stopped setup bytes cuts old new c f fault is is_made wrote = (c, is_made, subst (λ (x : Form). AppendsBeginning old new (spelling x)) is wrote)
 
 pub keeps_same : (known : Option (List ℕ)) → Keeps known known
 keeps_same None = tt

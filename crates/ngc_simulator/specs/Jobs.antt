@@ -17,7 +17,7 @@ use Rattle.ngc_certificate_text.specs.declared.fault.CertificateFault.{Certifica
 use Rattle.ngc_certificate_text.specs.declared.fault.CertificateFault.TheVariants as texts
 use Rattle.ngc_certificate_text.specs.Certificate.{CertificateData}
 use Rattle.ngc_certificate_text.specs.Said.{certificate_said}
-use Rattle.ngc_certificate_text.specs.Spelling.{spelling}
+use Rattle.ngc_certificate_text.specs.Spelling.{parted_spelling}
 use Rattle.ngc_certificate.specs.declared.fault.MakeFault.{MakeFault}
 use Rattle.ngc_certificate.specs.declared.fault.MakeFault.TheVariants.{NotCleared, Memory}
 use Rattle.ngc_certificate.specs.Made.{IsMade}
@@ -81,12 +81,12 @@ WhyNotMade setup bytes cuts (certifies.Write fault) = ⊥
 -- Of a program's file and a sink: the text of its certificate was written, or a beginning of it where the sink failed; where
 -- none is made, what was written is as it was.
 abbrev pub Certifies : Setup → List ℕ → ℕ → Option (List ℕ) → Option (List ℕ) → Result (Unit {0}) CertifyFault → Type 0
-Certifies setup bytes cuts old new (Ok u) = (c : CertificateData) × IsMadeFor setup bytes cuts c × Appends old new (spelling c)
+Certifies setup bytes cuts old new (Ok u) = (c : CertificateData) × IsMadeFor setup bytes cuts c × Appends old new (parted_spelling c)
 Certifies setup bytes cuts old new (Err (certifies.Read fault)) = FaultIs fault (program_of bytes) × Keeps old new
 Certifies setup bytes cuts old new (Err (certifies.Program setting fault)) = WhyNotMade setup bytes cuts (certifies.Program setting fault) × Keeps old new
 Certifies setup bytes cuts old new (Err (certifies.Make fault)) = WhyNotMade setup bytes cuts (certifies.Make fault) × Keeps old new
 Certifies setup bytes cuts old new (Err (certifies.Write fault)) =
-    (c : CertificateData) × IsMadeFor setup bytes cuts c × AppendsBeginning old new (spelling c)
+    (c : CertificateData) × IsMadeFor setup bytes cuts c × AppendsBeginning old new (parted_spelling c)
 
 -- the sink's count of failures rose where a write failed, and else it is what it was
 abbrev pub FailsByCertifying : Result (Unit {0}) CertifyFault → ℕ → ℕ → Type 0

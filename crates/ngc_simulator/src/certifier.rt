@@ -1,6 +1,7 @@
-ghost use Rattle.std.specs.Prelude.{◌≡◌, ◌≤◌, ℕ, List, IfSome, Ok, Err, MatchResult};
+ghost use Rattle.std.specs.Prelude.{◌≡◌, ◌≤◌, ℕ, List, IfOk, IfSome, Ok, Err, MatchResult};
 ghost use Rattle.ngc_canonical.specs.Interpreter.{setup_of};
-ghost use Rattle.ngc_certificate_text.specs.Contents.{said_of};
+ghost use Rattle.ngc_certificate_text.specs.Contents.{form_of, said_of};
+ghost use Rattle.ngc_certificate_text.specs.Joined.{Parted};
 ghost use Rattle.ngc_fixed_length.specs.Failures.{Rises};
 ghost use Rattle.ngc_line_reader.specs.ProgramText.{program_of, HaveReadings};
 ghost use Rattle.ngc_line_reader.specs.ProgramView.{text_in};
@@ -65,6 +66,7 @@ fn made<A: Allocator + Copy>(
     requires { 1 ≤ cuts }
     // Whatever file the program was read from.
     ensures made { (bytes : List ℕ) → program_of bytes ≡ Ok (text_in program.now) → HaveReadings (text_in program.now).lines → MatchResult result (λ c. IsMadeFor (setup_of machine.now tools.now) bytes cuts (said_of c)) (WhyNotMade (setup_of machine.now tools.now) bytes cuts) }
+    ensures form { IfOk result (λ c. form_of c ≡ Parted (said_of c)) }
     ensures devices { UsesNoDevice result }
 {
     let off = match interpret(alloc, program, machine, tools, false) {
