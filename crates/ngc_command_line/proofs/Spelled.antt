@@ -15,10 +15,10 @@ use Rattle.std.proofs.lemmas.Bool.{ne_eqb}
 use Rattle.std.proofs.lemmas.Str.Parse.{digit_from_value}
 use Rattle.clap.specs.declared.builder.value_parser.ValueParser.TheVariants.{Unsigned}
 use Rattle.clap.proofs.ValueTestLemmas.{Accepts-accepts}
-use Rattle.ngc_command_line.specs.CommandLine.{certify_words, check_words, draw_words, help_words, list_words, ngc_app, run_name, run_words}
-use Rattle.ngc_command_line.specs.Meant.{AreCommands, AreCuts, AreCutsInRange, AreOptions, AsksForCertify, AsksForCheck, AsksForDraw, AsksForHelp, AsksForList, AsksForRun, IsTaken, is_set}
+use Rattle.ngc_command_line.specs.CommandLine.{certify_words, check_words, draw_words, help_words, list_words, ngc_app, run_name, run_words, show_words}
+use Rattle.ngc_command_line.specs.Meant.{AreCommands, AreCuts, AreCutsInRange, AreOptions, AsksForCertify, AsksForCheck, AsksForDraw, AsksForHelp, AsksForList, AsksForRun, AsksForShow, IsTaken, is_set}
 use Rattle.ngc_command_line.specs.declared.options.Options.{Options}
-use Rattle.ngc_command_line.specs.declared.options.Options.TheVariants.{Certify as ToCertify, Check as ToCheck, Draw as ToDraw, Explain as ToExplain, Help as ToHelp, List as ToList, Run as ToRun, RunThrough as ToRunThrough, Version as ToVersion}
+use Rattle.ngc_command_line.specs.declared.options.Options.TheVariants.{Certify as ToCertify, Check as ToCheck, Draw as ToDraw, Explain as ToExplain, Help as ToHelp, List as ToList, Run as ToRun, RunThrough as ToRunThrough, Show as ToShow, Version as ToVersion}
 use Rattle.ngc_command_line.specs.declared.options.Recording.{Recording}
 use Rattle.ngc_command_line.specs.declared.options.Recording.TheVariants.{Log, Pulses}
 use Rattle.ngc_command_line.proofs.Whole.{no_run, other_letter, other_name}
@@ -62,6 +62,7 @@ list_asked program machine tools delete (Some found) (ToCheck check) finds are =
 list_asked program machine tools delete (Some found) (ToRun run) finds are = no_run (codes "list") run.recording (sym finds.0 ∙ are.0) (λ three. omega (arith, three)) (λ six. omega (arith, six))
 list_asked program machine tools delete (Some found) (ToRunThrough run) finds are = no_run (codes "list") run.recording (sym finds.0 ∙ are.0) (λ three. omega (arith, three)) (λ six. omega (arith, six))
 list_asked program machine tools delete (Some found) (ToDraw draw) finds are = other_letter (codes "list") (codes "draw") (sym finds.0 ∙ are.0) (λ letters. omega (arith, letters))
+list_asked program machine tools delete (Some found) (ToShow show) finds are = other_letter (codes "list") (codes "show") (sym finds.0 ∙ are.0) (λ letters. omega (arith, letters))
 list_asked program machine tools delete (Some found) (ToExplain number) finds are = other_name (codes "list") (codes "explain") (sym finds.0 ∙ are.0) (λ differ. omega (arith, differ))
 list_asked program machine tools delete (Some found) (ToHelp command) finds are = other_letter (codes "list") (codes "help") (sym finds.0 ∙ are.0) (λ differ. omega (arith, differ))
 list_asked program machine tools delete (Some found) ToVersion finds are = other_name (codes "list") (codes "version") (sym finds.0 ∙ are) (λ differ. omega (arith, differ))
@@ -99,6 +100,7 @@ check_asked machine tools certificate program (Some found) (ToList list) finds a
 check_asked machine tools certificate program (Some found) (ToRun run) finds are = no_run (codes "check") run.recording (sym finds.0 ∙ are.0) (λ three. omega (arith, three)) (λ six. omega (arith, six))
 check_asked machine tools certificate program (Some found) (ToRunThrough run) finds are = no_run (codes "check") run.recording (sym finds.0 ∙ are.0) (λ three. omega (arith, three)) (λ six. omega (arith, six))
 check_asked machine tools certificate program (Some found) (ToDraw draw) finds are = other_name (codes "check") (codes "draw") (sym finds.0 ∙ are.0) (λ lengths. omega (arith, lengths))
+check_asked machine tools certificate program (Some found) (ToShow show) finds are = other_letter (codes "check") (codes "show") (sym finds.0 ∙ are.0) (λ letters. omega (arith, letters))
 check_asked machine tools certificate program (Some found) (ToExplain number) finds are = other_name (codes "check") (codes "explain") (sym finds.0 ∙ are.0) (λ differ. omega (arith, differ))
 check_asked machine tools certificate program (Some found) (ToHelp command) finds are = other_name (codes "check") (codes "help") (sym finds.0 ∙ are.0) (λ differ. omega (arith, differ))
 check_asked machine tools certificate program (Some found) ToVersion finds are = other_name (codes "check") (codes "version") (sym finds.0 ∙ are) (λ differ. omega (arith, differ))
@@ -178,6 +180,8 @@ run_asked recording machine tools certificate events program delete (Some found)
     no_run (codes "check") recording (sym (are.0) ∙ finds.0) (λ three. omega (arith, three)) (λ six. omega (arith, six))
 run_asked recording machine tools certificate events program delete (Some found) (ToDraw draw) finds are =
     no_run (codes "draw") recording (sym (are.0) ∙ finds.0) (λ three. omega (arith, three)) (λ six. omega (arith, six))
+run_asked recording machine tools certificate events program delete (Some found) (ToShow show) finds are =
+    no_run (codes "show") recording (sym (are.0) ∙ finds.0) (λ three. omega (arith, three)) (λ six. omega (arith, six))
 run_asked recording machine tools certificate events program delete (Some found) (ToExplain number) finds are =
     no_run (codes "explain") recording (sym (are.0) ∙ finds.0) (λ three. omega (arith, three)) (λ six. omega (arith, six))
 run_asked recording machine tools certificate events program delete (Some found) (ToHelp command) finds are =
@@ -246,6 +250,7 @@ draw_asked machine tools certificate program view delete (Some found) (ToRun run
     no_run (codes "draw") run.recording (sym finds.0 ∙ are.0) (λ three. omega (arith, three)) (λ six. omega (arith, six))
 draw_asked machine tools certificate program view delete (Some found) (ToRunThrough run) finds are =
     no_run (codes "draw") run.recording (sym finds.0 ∙ are.0) (λ three. omega (arith, three)) (λ six. omega (arith, six))
+draw_asked machine tools certificate program view delete (Some found) (ToShow show) finds are = other_letter (codes "draw") (codes "show") (sym finds.0 ∙ are.0) (λ letters. omega (arith, letters))
 draw_asked machine tools certificate program view delete (Some found) (ToExplain number) finds are =
     other_name (codes "draw") (codes "explain") (sym finds.0 ∙ are.0) (λ lengths. omega (arith, lengths))
 draw_asked machine tools certificate program view delete (Some found) (ToHelp command) finds are =
@@ -263,6 +268,42 @@ pub draw_read : (words : List Text) (machine tools : Text) (certificate program 
 draw_read words machine tools certificate program view delete options spelled are =
     let Are : List Text → Type 0 = λ ws. AreOptions (subcommand_of ngc_app ws) options in
     draw_asked machine tools certificate program view delete _ options (draw_spells machine tools certificate program view delete).1 (subst Are spelled are)
+
+-- the values of `show` that were found are these
+abbrev FindsShow : Text → Option Text → Option (Text × List Row) → Type 0
+FindsShow machine tools None = ⊥
+FindsShow machine tools (Some found) =
+    (found.0 ≡ codes "show") × (first_of (codes "machine") found.1 ≡ Some machine) × (first_of (codes "tools") found.1 ≡ tools)
+
+show_spells : (machine : Text) (tools : Option Text) → Spells (show_words machine tools) (FindsShow machine tools)
+unfolding clap_on_literals
+show_spells machine None = (refl, (refl, refl, refl))
+show_spells machine (Some tools) = (refl, (refl, refl, refl))
+
+show_asked : (machine : Text) (tools : Option Text) (found : Option (Text × List Row)) (options : Options)
+    → FindsShow machine tools found → AreOptions found options → AsksForShow machine tools options
+show_asked machine tools None options finds are = absurd finds
+show_asked machine tools (Some found) (ToShow show) finds are = (same_text _ _ _ are.1.machine finds.1, are.1.tools ∙ finds.2)
+show_asked machine tools (Some found) (ToList list) finds are = other_letter (codes "show") (codes "list") (sym finds.0 ∙ are.0) (λ letters. omega (arith, letters))
+show_asked machine tools (Some found) (ToCertify certify) finds are = other_letter (codes "show") (codes "certify") (sym finds.0 ∙ are.0) (λ letters. omega (arith, letters))
+show_asked machine tools (Some found) (ToCheck check) finds are = other_letter (codes "show") (codes "check") (sym finds.0 ∙ are.0) (λ letters. omega (arith, letters))
+show_asked machine tools (Some found) (ToDraw draw) finds are = other_letter (codes "show") (codes "draw") (sym finds.0 ∙ are.0) (λ letters. omega (arith, letters))
+show_asked machine tools (Some found) (ToExplain number) finds are = other_letter (codes "show") (codes "explain") (sym finds.0 ∙ are.0) (λ letters. omega (arith, letters))
+show_asked machine tools (Some found) (ToHelp command) finds are = other_letter (codes "show") (codes "help") (sym finds.0 ∙ are.0) (λ letters. omega (arith, letters))
+show_asked machine tools (Some found) (ToRun run) finds are =
+    no_run (codes "show") run.recording (sym finds.0 ∙ are.0) (λ three. omega (arith, three)) (λ six. omega (arith, six))
+show_asked machine tools (Some found) (ToRunThrough run) finds are =
+    no_run (codes "show") run.recording (sym finds.0 ∙ are.0) (λ three. omega (arith, three)) (λ six. omega (arith, six))
+show_asked machine tools (Some found) ToVersion finds are = other_letter (codes "show") (codes "version") (sym finds.0 ∙ are) (λ letters. omega (arith, letters))
+
+pub show_taken : (words : List Text) (machine : Text) (tools : Option Text) → words ≡ show_words machine tools → IsTaken words
+show_taken words machine tools spelled = subst IsTaken (sym spelled) (show_spells machine tools).0
+
+pub show_read : (words : List Text) (machine : Text) (tools : Option Text) (options : Options) → words ≡ show_words machine tools
+    → AreOptions (subcommand_of ngc_app words) options → AsksForShow machine tools options
+show_read words machine tools options spelled are =
+    let Are : List Text → Type 0 = λ ws. AreOptions (subcommand_of ngc_app ws) options in
+    show_asked machine tools _ options (show_spells machine tools).1 (subst Are spelled are)
 
 -- the values of `certify` that were found are these
 abbrev FindsCertify : Text → Text → Option Text → Option Text → Option (Text × List Row) → Type 0
@@ -340,6 +381,7 @@ certify_asked machine tools program cuts (Some found) (ToCheck check) range find
 certify_asked machine tools program cuts (Some found) (ToRun run) range finds are = no_run (codes "certify") run.recording (sym finds.0 ∙ are.0) (λ three. omega (arith, three)) (λ six. omega (arith, six))
 certify_asked machine tools program cuts (Some found) (ToRunThrough run) range finds are = no_run (codes "certify") run.recording (sym finds.0 ∙ are.0) (λ three. omega (arith, three)) (λ six. omega (arith, six))
 certify_asked machine tools program cuts (Some found) (ToDraw draw) range finds are = other_name (codes "certify") (codes "draw") (sym finds.0 ∙ are.0) (λ lengths. omega (arith, lengths))
+certify_asked machine tools program cuts (Some found) (ToShow show) range finds are = other_letter (codes "certify") (codes "show") (sym finds.0 ∙ are.0) (λ letters. omega (arith, letters))
 certify_asked machine tools program cuts (Some found) (ToExplain number) range finds are = other_letter (codes "certify") (codes "explain") (sym finds.0 ∙ are.0) (λ differ. omega (arith, differ))
 certify_asked machine tools program cuts (Some found) (ToHelp command) range finds are = other_name (codes "certify") (codes "help") (sym finds.0 ∙ are.0) (λ differ. omega (arith, differ))
 certify_asked machine tools program cuts (Some found) ToVersion range finds are = other_letter (codes "certify") (codes "version") (sym finds.0 ∙ are) (λ differ. omega (arith, differ))
@@ -372,10 +414,11 @@ help_spells (Some command) among = elim among [
   | inr (inr (inr (inl same))) ↦ help_on command (codes "run") same (refl, (refl, refl))
   | inr (inr (inr (inr (inl same)))) ↦ help_on command (codes "pulses") same (refl, (refl, refl))
   | inr (inr (inr (inr (inr (inl same))))) ↦ help_on command (codes "draw") same (refl, (refl, refl))
-  | inr (inr (inr (inr (inr (inr (inl same)))))) ↦ help_on command (codes "explain") same (refl, (refl, refl))
-  | inr (inr (inr (inr (inr (inr (inr (inl same))))))) ↦ help_on command (codes "help") same (refl, (refl, refl))
-  | inr (inr (inr (inr (inr (inr (inr (inr (inl same)))))))) ↦ help_on command (codes "version") same (refl, (refl, refl))
-  | inr (inr (inr (inr (inr (inr (inr (inr (inr none)))))))) ↦ absurd none
+  | inr (inr (inr (inr (inr (inr (inl same)))))) ↦ help_on command (codes "show") same (refl, (refl, refl))
+  | inr (inr (inr (inr (inr (inr (inr (inl same))))))) ↦ help_on command (codes "explain") same (refl, (refl, refl))
+  | inr (inr (inr (inr (inr (inr (inr (inr (inl same)))))))) ↦ help_on command (codes "help") same (refl, (refl, refl))
+  | inr (inr (inr (inr (inr (inr (inr (inr (inr (inl same))))))))) ↦ help_on command (codes "version") same (refl, (refl, refl))
+  | inr (inr (inr (inr (inr (inr (inr (inr (inr (inr none))))))))) ↦ absurd none
 ]
 
 help_asked : (command : Option Text) (found : Option (Text × List Row)) (options : Options) → FindsHelp command found → AreOptions found options → AsksForHelp command options
@@ -387,6 +430,7 @@ help_asked command (Some found) (ToCheck check) finds are = other_name (codes "h
 help_asked command (Some found) (ToRun run) finds are = no_run (codes "help") run.recording (sym finds.0 ∙ are.0) (λ three. omega (arith, three)) (λ six. omega (arith, six))
 help_asked command (Some found) (ToRunThrough run) finds are = no_run (codes "help") run.recording (sym finds.0 ∙ are.0) (λ three. omega (arith, three)) (λ six. omega (arith, six))
 help_asked command (Some found) (ToDraw draw) finds are = other_letter (codes "help") (codes "draw") (sym finds.0 ∙ are.0) (λ letters. omega (arith, letters))
+help_asked command (Some found) (ToShow show) finds are = other_letter (codes "help") (codes "show") (sym finds.0 ∙ are.0) (λ letters. omega (arith, letters))
 help_asked command (Some found) (ToExplain number) finds are = other_name (codes "help") (codes "explain") (sym finds.0 ∙ are.0) (λ differ. omega (arith, differ))
 help_asked command (Some found) ToVersion finds are = other_name (codes "help") (codes "version") (sym finds.0 ∙ are) (λ differ. omega (arith, differ))
 
@@ -417,6 +461,7 @@ version_asked (Some found) (ToCheck check) finds are = other_name (codes "versio
 version_asked (Some found) (ToRun run) finds are = no_run (codes "version") run.recording (sym finds ∙ are.0) (λ three. omega (arith, three)) (λ six. omega (arith, six))
 version_asked (Some found) (ToRunThrough run) finds are = no_run (codes "version") run.recording (sym finds ∙ are.0) (λ three. omega (arith, three)) (λ six. omega (arith, six))
 version_asked (Some found) (ToDraw draw) finds are = other_name (codes "version") (codes "draw") (sym finds ∙ are.0) (λ lengths. omega (arith, lengths))
+version_asked (Some found) (ToShow show) finds are = other_letter (codes "version") (codes "show") (sym finds ∙ are.0) (λ letters. omega (arith, letters))
 version_asked (Some found) (ToExplain number) finds are = other_letter (codes "version") (codes "explain") (sym finds ∙ are.0) (λ differ. omega (arith, differ))
 version_asked (Some found) (ToHelp command) finds are = other_name (codes "version") (codes "help") (sym finds ∙ are.0) (λ differ. omega (arith, differ))
 

@@ -11,7 +11,7 @@ use Rattle.clap.specs.Simple.{built, entered, label_of, names_of, new_shape, row
 use Rattle.clap.specs.Walk.{answers_to, nothing_held, rows_after, stop_after}
 use Rattle.ngc_command_line.specs.CommandLine.{ngc_app}
 use Rattle.ngc_command_line.specs.CommandLine.{run_name}
-use Rattle.ngc_command_line.specs.Meant.{HasCertifyValues, HasCheckValues, HasDrawValues, HasExplainValues, HasRunValues, IsTaken, IsWhole}
+use Rattle.ngc_command_line.specs.Meant.{HasCertifyValues, HasCheckValues, HasDrawValues, HasExplainValues, HasRunValues, HasShowValues, IsTaken, IsWhole}
 use Rattle.ngc_command_line.specs.declared.options.Recording.{Recording}
 use Rattle.ngc_command_line.specs.declared.options.Recording.TheVariants.{Log, Pulses}
 use Rattle.ngc_command_line.proofs.Filled.{AreSound}
@@ -54,8 +54,11 @@ pulses_shape = slice_index_or (built ngc_app).subs 4 (new_shape [])
 abbrev draw_shape : Shape
 draw_shape = slice_index_or (built ngc_app).subs 5 (new_shape [])
 
+abbrev show_shape : Shape
+show_shape = slice_index_or (built ngc_app).subs 6 (new_shape [])
+
 abbrev explain_shape : Shape
-explain_shape = slice_index_or (built ngc_app).subs 6 (new_shape [])
+explain_shape = slice_index_or (built ngc_app).subs 7 (new_shape [])
 
 explain_sound : AreSound FitsNumber explain_shape.rules
 explain_sound =
@@ -159,6 +162,19 @@ draw_values words none =
       given_has_value FitsCuts (codes "tools") rows filled (is_true _ tools),
     )
 
+show_sound : AreSound FitsCuts show_shape.rules
+show_sound =
+    let machine = set_is_sound FitsCuts _ refl refl refl (λ v none. no_cuts (codes "machine") v refl) in
+    let tools = set_is_sound FitsCuts _ refl refl refl (λ v none. no_cuts (codes "tools") v refl) in
+    (machine, (tools, (help_is_sound FitsCuts _ refl refl, tt)))
+
+show_values : (words : List Text) → level_fault show_shape [] nothing_held words false [] ≡ [] → HasShowValues (rows_after show_shape.rules [] words)
+show_values words none =
+    let rows = rows_after show_shape.rules [] words in
+    let (filled, required) = level_is_filled FitsCuts show_shape show_sound words none in
+    let (machine, rest) = neither_true _ _ required in
+    given_has_value FitsCuts (codes "machine") rows filled (is_true _ machine)
+
 explain_values : (words : List Text) → level_fault explain_shape [] nothing_held words false [] ≡ [] → HasExplainValues (rows_after explain_shape.rules [] words)
 explain_values words none =
     let rows = rows_after explain_shape.rules [] words in
@@ -187,6 +203,7 @@ one_whole found one = elim one [
     check = λ same. other_name (codes "list") (codes "check") same (λ lengths. omega (arith, lengths));
     run = λ recording same. no_run (codes "list") recording same (λ three. omega (arith, three)) (λ six. omega (arith, six));
     draw = λ same. other_letter (codes "list") (codes "draw") same (λ letters. omega (arith, letters));
+    show = λ same. other_letter (codes "list") (codes "show") same (λ letters. omega (arith, letters));
     explain = λ same. other_name (codes "list") (codes "explain") same (λ lengths. omega (arith, lengths));
   })
   | inr (inl certify) ↦ subst (λ (f : Text × List Row). IsWhole f.0 f.1) certify.1 (record {
@@ -195,6 +212,7 @@ one_whole found one = elim one [
     check = λ same. other_name (codes "certify") (codes "check") same (λ lengths. omega (arith, lengths));
     run = λ recording same. no_run (codes "certify") recording same (λ three. omega (arith, three)) (λ six. omega (arith, six));
     draw = λ same. other_name (codes "certify") (codes "draw") same (λ lengths. omega (arith, lengths));
+    show = λ same. other_letter (codes "certify") (codes "show") same (λ letters. omega (arith, letters));
     explain = λ same. other_letter (codes "certify") (codes "explain") same (λ letters. omega (arith, letters));
   })
   | inr (inr (inl check)) ↦ subst (λ (f : Text × List Row). IsWhole f.0 f.1) check.1 (record {
@@ -203,6 +221,7 @@ one_whole found one = elim one [
     check = λ same. check_values check.0 check.2;
     run = λ recording same. no_run (codes "check") recording same (λ three. omega (arith, three)) (λ six. omega (arith, six));
     draw = λ same. other_name (codes "check") (codes "draw") same (λ lengths. omega (arith, lengths));
+    show = λ same. other_letter (codes "check") (codes "show") same (λ letters. omega (arith, letters));
     explain = λ same. other_name (codes "check") (codes "explain") same (λ lengths. omega (arith, lengths));
   })
   | inr (inr (inr (inl run))) ↦ subst (λ (f : Text × List Row). IsWhole f.0 f.1) run.1 (record {
@@ -211,6 +230,7 @@ one_whole found one = elim one [
     check = λ same. other_name (codes "run") (codes "check") same (λ lengths. omega (arith, lengths));
     run = λ recording same. run_values run.0 run.2;
     draw = λ same. other_name (codes "run") (codes "draw") same (λ lengths. omega (arith, lengths));
+    show = λ same. other_letter (codes "run") (codes "show") same (λ letters. omega (arith, letters));
     explain = λ same. other_name (codes "run") (codes "explain") same (λ lengths. omega (arith, lengths));
   })
   | inr (inr (inr (inr (inl pulses)))) ↦ subst (λ (f : Text × List Row). IsWhole f.0 f.1) pulses.1 (record {
@@ -219,6 +239,7 @@ one_whole found one = elim one [
     check = λ same. other_name (codes "pulses") (codes "check") same (λ lengths. omega (arith, lengths));
     run = λ recording same. pulses_values pulses.0 pulses.2;
     draw = λ same. other_name (codes "pulses") (codes "draw") same (λ lengths. omega (arith, lengths));
+    show = λ same. other_letter (codes "pulses") (codes "show") same (λ letters. omega (arith, letters));
     explain = λ same. other_name (codes "pulses") (codes "explain") same (λ lengths. omega (arith, lengths));
   })
   | inr (inr (inr (inr (inr (inl draw))))) ↦ subst (λ (f : Text × List Row). IsWhole f.0 f.1) draw.1 (record {
@@ -227,33 +248,46 @@ one_whole found one = elim one [
     check = λ same. other_name (codes "draw") (codes "check") same (λ lengths. omega (arith, lengths));
     run = λ recording same. no_run (codes "draw") recording same (λ three. omega (arith, three)) (λ six. omega (arith, six));
     draw = λ same. draw_values draw.0 draw.2;
+    show = λ same. other_letter (codes "draw") (codes "show") same (λ letters. omega (arith, letters));
     explain = λ same. other_name (codes "draw") (codes "explain") same (λ lengths. omega (arith, lengths));
   })
-  | inr (inr (inr (inr (inr (inr (inl explain)))))) ↦ subst (λ (f : Text × List Row). IsWhole f.0 f.1) explain.1 (record {
+  | inr (inr (inr (inr (inr (inr (inl show)))))) ↦ subst (λ (f : Text × List Row). IsWhole f.0 f.1) show.1 (record {
     named = inr (inr (inr (inr (inr (inr (inl refl))))));
+    certify = λ same. other_letter (codes "show") (codes "certify") same (λ letters. omega (arith, letters));
+    check = λ same. other_letter (codes "show") (codes "check") same (λ letters. omega (arith, letters));
+    run = λ recording same. no_run (codes "show") recording same (λ three. omega (arith, three)) (λ six. omega (arith, six));
+    draw = λ same. other_letter (codes "show") (codes "draw") same (λ letters. omega (arith, letters));
+    show = λ same. show_values show.0 show.2;
+    explain = λ same. other_letter (codes "show") (codes "explain") same (λ letters. omega (arith, letters));
+  })
+  | inr (inr (inr (inr (inr (inr (inr (inl explain))))))) ↦ subst (λ (f : Text × List Row). IsWhole f.0 f.1) explain.1 (record {
+    named = inr (inr (inr (inr (inr (inr (inr (inl refl)))))));
     certify = λ same. other_letter (codes "explain") (codes "certify") same (λ letters. omega (arith, letters));
     check = λ same. other_name (codes "explain") (codes "check") same (λ lengths. omega (arith, lengths));
     run = λ recording same. no_run (codes "explain") recording same (λ three. omega (arith, three)) (λ six. omega (arith, six));
     draw = λ same. other_name (codes "explain") (codes "draw") same (λ lengths. omega (arith, lengths));
+    show = λ same. other_letter (codes "explain") (codes "show") same (λ letters. omega (arith, letters));
     explain = λ same. explain_values explain.0 explain.2;
   })
-  | inr (inr (inr (inr (inr (inr (inr (inl help))))))) ↦ subst (λ (f : Text × List Row). IsWhole f.0 f.1) help.1 (record {
-    named = inr (inr (inr (inr (inr (inr (inr (inl refl)))))));
+  | inr (inr (inr (inr (inr (inr (inr (inr (inl help)))))))) ↦ subst (λ (f : Text × List Row). IsWhole f.0 f.1) help.1 (record {
+    named = inr (inr (inr (inr (inr (inr (inr (inr (inl refl))))))));
     certify = λ same. other_name (codes "help") (codes "certify") same (λ lengths. omega (arith, lengths));
     check = λ same. other_name (codes "help") (codes "check") same (λ lengths. omega (arith, lengths));
     run = λ recording same. no_run (codes "help") recording same (λ three. omega (arith, three)) (λ six. omega (arith, six));
     draw = λ same. other_letter (codes "help") (codes "draw") same (λ letters. omega (arith, letters));
+    show = λ same. other_letter (codes "help") (codes "show") same (λ letters. omega (arith, letters));
     explain = λ same. other_name (codes "help") (codes "explain") same (λ lengths. omega (arith, lengths));
   })
-  | inr (inr (inr (inr (inr (inr (inr (inr (inl version)))))))) ↦ subst (λ (f : Text × List Row). IsWhole f.0 f.1) version.1 (record {
-    named = inr (inr (inr (inr (inr (inr (inr (inr (inl refl))))))));
+  | inr (inr (inr (inr (inr (inr (inr (inr (inr (inl version))))))))) ↦ subst (λ (f : Text × List Row). IsWhole f.0 f.1) version.1 (record {
+    named = inr (inr (inr (inr (inr (inr (inr (inr (inr (inl refl)))))))));
     certify = λ same. other_letter (codes "version") (codes "certify") same (λ letters. omega (arith, letters));
     check = λ same. other_name (codes "version") (codes "check") same (λ lengths. omega (arith, lengths));
     run = λ recording same. no_run (codes "version") recording same (λ three. omega (arith, three)) (λ six. omega (arith, six));
     draw = λ same. other_name (codes "version") (codes "draw") same (λ lengths. omega (arith, lengths));
+    show = λ same. other_letter (codes "version") (codes "show") same (λ letters. omega (arith, letters));
     explain = λ same. other_letter (codes "version") (codes "explain") same (λ letters. omega (arith, letters));
   })
-  | inr (inr (inr (inr (inr (inr (inr (inr (inr none)))))))) ↦ absurd none
+  | inr (inr (inr (inr (inr (inr (inr (inr (inr (inr none))))))))) ↦ absurd none
 ]
 
 -- the subcommand that taken words name

@@ -69,6 +69,11 @@ draw_app = fold with_rule (new_app (codes "draw"))
     ∷ file_option (codes "certificate") ∷ file_option (codes "program")
     ∷ file_option (codes "view") ∷ flag (codes "delete") ∷ [])
 
+-- `show --machine FILE [--tools FILE]`
+abbrev pub show_app : App
+show_app = fold with_rule (new_app (codes "show"))
+    (required_file (codes "machine") ∷ file_option (codes "tools") ∷ [])
+
 -- `N`, a number from 1 to 999, which may not be left out
 abbrev pub number_argument : Rule
 number_argument = record (new_rule (codes "number")) {
@@ -103,7 +108,7 @@ ngc_settings = let bare : App = new_app (codes "ngc") in record bare {
 -- the program's commands
 abbrev pub ngc_app : App
 ngc_app = fold with_subcommand ngc_settings (list_app.top ∷ certify_app.top ∷ check_app.top ∷ run_app.top ∷ pulses_app.top
-    ∷ draw_app.top ∷ explain_app.top ∷ help_app.top ∷ (new_app (codes "version")).top ∷ [])
+    ∷ draw_app.top ∷ show_app.top ∷ explain_app.top ∷ help_app.top ∷ (new_app (codes "version")).top ∷ [])
 
 -- the one word `--NAME=FILE`, where there is a file and `beginning` is `--NAME=`
 abbrev pub file_words : Text → Option Text → List Text
@@ -148,6 +153,10 @@ draw_words machine tools certificate program view delete = codes "draw"
     ∷ (codes "--machine=" ++ machine) ∷ (codes "--tools=" ++ tools)
     ∷ (file_words (codes "--certificate=") certificate ++ file_words (codes "--program=") program
     ++ file_words (codes "--view=") view ++ flag_words (codes "--delete") delete)
+
+-- the words of `ngc show` with these options, in one spelling
+abbrev pub show_words : Text → Option Text → List Text
+show_words machine tools = codes "show" ∷ (codes "--machine=" ++ machine) ∷ file_words (codes "--tools=") tools
 
 -- the words of `ngc run` or `ngc pulses` with these options, in one spelling
 abbrev pub run_words : Recording → Text → Text → Text → Option Text → Option Text → Bool → List Text

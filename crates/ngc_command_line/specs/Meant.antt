@@ -12,11 +12,12 @@ use Rattle.ngc_command_line.specs.declared.options.DrawOptions.{DrawOptions}
 use Rattle.ngc_command_line.specs.declared.options.ListOptions.{ListOptions}
 use Rattle.ngc_command_line.specs.declared.options.Recording.{Recording}
 use Rattle.ngc_command_line.specs.declared.options.RunOptions.{RunOptions}
+use Rattle.ngc_command_line.specs.declared.options.ShowOptions.{ShowOptions}
 use Rattle.ngc_command_line.specs.declared.options.Options.{Options}
 use Rattle.ngc_command_line.specs.declared.options.Options.TheVariants.{List as ToList, Certify as ToCertify}
 use Rattle.ngc_command_line.specs.declared.options.RunThroughOptions.{RunThroughOptions}
 use Rattle.ngc_command_line.specs.declared.options.Options.TheVariants.{Check as ToCheck, Run as ToRun}
-use Rattle.ngc_command_line.specs.declared.options.Options.TheVariants.{RunThrough as ToRunThrough, Draw as ToDraw}
+use Rattle.ngc_command_line.specs.declared.options.Options.TheVariants.{RunThrough as ToRunThrough, Draw as ToDraw, Show as ToShow}
 use Rattle.ngc_command_line.specs.declared.options.Options.TheVariants.{Explain as ToExplain, Help as ToHelp}
 use Rattle.ngc_command_line.specs.declared.options.Options.TheVariants.{Version as ToVersion}
 use Rattle.ngc_command_line.specs.declared.HelpFault.{HelpFault}
@@ -99,6 +100,11 @@ pub record AreDrawOptions (rows : List Row) (options : DrawOptions) : Type 0 whe
   pub view : option_map (λ name. name.now) options.view ≡ first_of (codes "view") rows
   pub delete : options.delete ≡ is_set (codes "delete") rows
 
+-- each option of `show` by the first value that was found under its own name
+pub record AreShowOptions (rows : List Row) (options : ShowOptions) : Type 0 where
+  pub machine : Some options.machine.now ≡ first_of (codes "machine") rows
+  pub tools : option_map (λ name. name.now) options.tools ≡ first_of (codes "tools") rows
+
 -- a value was found under the name
 abbrev pub HasValue : Text → List Row → Type 0
 HasValue name rows = is_some (first_of name rows) ≡ true
@@ -122,6 +128,10 @@ HasRunValues rows = HasValue (codes "machine") rows × HasValue (codes "tools") 
 abbrev pub HasDrawValues : List Row → Type 0
 HasDrawValues rows = HasValue (codes "machine") rows × HasValue (codes "tools") rows
 
+-- what is found for `show` where the words are taken
+abbrev pub HasShowValues : List Row → Type 0
+HasShowValues rows = HasValue (codes "machine") rows
+
 -- what is found for `explain` where the words are taken
 abbrev pub HasExplainValues : List Row → Type 0
 HasExplainValues rows = HasValue (codes "number") rows
@@ -139,6 +149,7 @@ pub record IsWhole (name : Text) (rows : List Row) : Type 0 where
   pub check : name ≡ codes "check" → HasCheckValues rows
   pub run : (recording : Recording) → name ≡ run_name recording → HasRunValues rows
   pub draw : name ≡ codes "draw" → HasDrawValues rows
+  pub show : name ≡ codes "show" → HasShowValues rows
   pub explain : name ≡ codes "explain" → HasExplainValues rows
 
 -- the options are those of the subcommand that was found, and there is one
@@ -152,6 +163,7 @@ AreOptions (Some found) (ToRun run) = (found.0 ≡ run_name run.recording) × Ar
 AreOptions (Some found) (ToRunThrough run) =
     (found.0 ≡ run_name run.recording) × AreRunThroughOptions found.1 run
 AreOptions (Some found) (ToDraw draw) = (found.0 ≡ codes "draw") × AreDrawOptions found.1 draw
+AreOptions (Some found) (ToShow show) = (found.0 ≡ codes "show") × AreShowOptions found.1 show
 AreOptions (Some found) (ToExplain number) =
     (found.0 ≡ codes "explain") × IsNumber (first_of (codes "number") found.1) number
 AreOptions (Some found) (ToHelp command) = (found.0 ≡ codes "help")
@@ -203,6 +215,12 @@ AsksForDraw machine tools certificate program view delete (ToDraw draw) =
     × (option_map (λ name. name.now) draw.program ≡ program)
     × (option_map (λ name. name.now) draw.view ≡ view) × (draw.delete ≡ delete)
 AsksForDraw machine tools certificate program view delete other = ⊥
+
+-- `show` is asked for, with these options
+abbrev pub AsksForShow : Text → Option Text → Options → Type 0
+AsksForShow machine tools (ToShow show) =
+    (show.machine.now ≡ machine) × (option_map (λ name. name.now) show.tools ≡ tools)
+AsksForShow machine tools other = ⊥
 
 -- `help` is asked for, of this command
 abbrev pub AsksForHelp : Option Text → Options → Type 0

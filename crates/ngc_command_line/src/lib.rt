@@ -7,10 +7,10 @@
 ghost use Rattle.std.specs.Prelude.{◌≡◌, Bool, IfOk, IsOkUnless, MatchResult, OnOk, Option, Some, ℕ, codes, ◌∷◌, []};
 ghost use Rattle.clap.specs.Words.{Text, app_of, found_of, kind_of, rows_of, subcommand_of};
 ghost use Rattle.clap.specs.Walk.{texts};
-ghost use Rattle.ngc_command_line.specs.CommandLine.{certify_words, check_words, draw_words, help_words, list_words};
+ghost use Rattle.ngc_command_line.specs.CommandLine.{certify_words, check_words, draw_words, help_words, list_words, show_words};
 ghost use Rattle.ngc_command_line.specs.CommandLine.{ngc_app, ngc_settings, run_words};
 ghost use Rattle.ngc_command_line.specs.Meant.{AreCutsInRange, AreOptions, AsksForCertify};
-ghost use Rattle.ngc_command_line.specs.Meant.{AsksForCheck, AsksForDraw, AsksForList, AsksForRun, AsksForHelp};
+ghost use Rattle.ngc_command_line.specs.Meant.{AsksForCheck, AsksForDraw, AsksForList, AsksForRun, AsksForShow, AsksForHelp};
 ghost use Rattle.ngc_command_line.specs.Meant.{AreCommands, help_fault_number};
 ghost use Rattle.ngc_command_line.specs.Meant.{IsTaken, IsWhole, usage_fault_number};
 
@@ -23,6 +23,7 @@ mod guide;
 mod list;
 mod options;
 mod run;
+mod show;
 
 use arguments::help_end;
 use certify::{certify_command, certify_options};
@@ -35,9 +36,10 @@ use guide::{help_command, topic, version_command};
 use list::{list_command, list_options};
 pub use options::{
     CertifyOptions, CheckOptions, DrawOptions, ListOptions, Options, Recording, RunOptions,
-    RunThroughOptions,
+    RunThroughOptions, ShowOptions,
 };
 use run::{pulses_command, run_command, run_options};
+use show::{show_command, show_options};
 use std::alloc::{AllocError, Global};
 use thiserror::Error;
 
@@ -111,6 +113,7 @@ fn ngc_command<'a>(alloc: Global) -> Result<Command<'a>, AllocError>
         .subcommand(run_command(alloc)?)?
         .subcommand(pulses_command(alloc)?)?
         .subcommand(draw_command(alloc)?)?
+        .subcommand(show_command(alloc)?)?
         .subcommand(explain_command(alloc)?)?
         .subcommand(help_command(alloc)?)?
         .subcommand(version_command(alloc))
@@ -140,6 +143,7 @@ fn options_of<'a>(name: &str, found: &ArgMatches<'a>) -> Options<'a>
         "run" => run_options(Recording::Log, found),
         "pulses" => run_options(Recording::Pulses, found),
         "draw" => Options::Draw(draw_options(found)),
+        "show" => Options::Show(show_options(found)),
         "explain" => Options::Explain(explained_number(found)),
         "help" => Options::Help(topic(found)),
         "version" => Options::Version,
@@ -192,6 +196,10 @@ pub fn read_options<'a>(alloc: Global, words: &'a [&'a str]) -> Result<Options<'
         → texts words.entry.now ≡ draw_words machine tools certificate program view delete
         → MatchResult result (AsksForDraw machine tools certificate program view delete)
         (λ fault. fault ≡ UsageFault.Memory) }
+    // `show --machine=FILE --tools=FILE` is read as it is spelled, where the last may be left out.
+    ensures spelled_show { (machine : Text) (tools : Option Text)
+        → texts words.entry.now ≡ show_words machine tools
+        → MatchResult result (AsksForShow machine tools) (λ fault. fault ≡ UsageFault.Memory) }
     // So are `help`, `help COMMAND` with the name of a command, and `version`.
     ensures spelled_help { (command : Option Text) → AreCommands command
         → texts words.entry.now ≡ help_words command

@@ -17,6 +17,8 @@ pub enum Options<'a> {
     RunThrough(RunThroughOptions<'a>),
     /// `ngc draw`: draw a part program on the machine.
     Draw(DrawOptions<'a>),
+    /// `ngc show`: print what a machine file and a tool table say.
+    Show(ShowOptions<'a>),
     /// `ngc explain`: print what is told of the fault with this number, 1 to 999.
     Explain(u16),
     /// `ngc help`: print the help of a command. With none it is that of the program.
@@ -125,4 +127,13 @@ pub struct DrawOptions<'a> {
     pub view: Option<&'a str>,
     /// Whether block delete is on, so that lines that begin with `/` are left out.
     pub delete: bool,
+}
+
+/// The options of `ngc show`.
+#[derive(Clone, Copy, Debug, PartialEq, Eq)]
+pub struct ShowOptions<'a> {
+    /// The machine file.
+    pub machine: &'a str,
+    /// The file of the tool table. With none there are no tools.
+    pub tools: Option<&'a str>,
 }

@@ -7,6 +7,7 @@ use Rattle.ngc_command_line.specs.declared.options.CheckOptions.{CheckOptions}
 use Rattle.ngc_command_line.specs.declared.options.DrawOptions.{DrawOptions}
 use Rattle.ngc_command_line.specs.declared.options.RunOptions.{RunOptions}
 use Rattle.ngc_command_line.specs.declared.options.RunThroughOptions.{RunThroughOptions}
+use Rattle.ngc_command_line.specs.declared.options.ShowOptions.{ShowOptions}
 use Rattle.ngc_command_line.specs.declared.options.Options.{Options}
 use Rattle.ngc_command_line.specs.declared.options.Options.TheVariants as commands
 use Rattle.ngc_fault_texts.specs.Numbers.{is_fault}
@@ -14,6 +15,7 @@ use Rattle.ngc_fault_texts.specs.Told.{FailsByWriting as FailsByExplaining, Tell
 use Rattle.ngc_fault_texts.specs.declared.telling.ExplainFault.TheVariants.{Unknown}
 use Rattle.ngc_fixed_length.specs.Failures.{Rises}
 use Rattle.ngc_fixed_length.specs.Written.{AppendsBeginning}
+use Rattle.ngc_fixed_length.specs.declared.writing.WriteFault.{WriteFault}
 use Rattle.ngc_run_log.specs.declared.report.Report.{Report}
 use Rattle.ngc_simulator.specs.declared.drawing.DrawingFault.{DrawingFault}
 use Rattle.ngc_simulator.specs.declared.drawing.DrawingFault.TheVariants.{UnknownView}
@@ -32,6 +34,7 @@ use Rattle.ngc_simulator.specs.Faults.{fault_line, answer_status}
 use Rattle.ngc_simulator.specs.Lists.{Lists, FailsByWriting}
 use Rattle.ngc_drawing.specs.declared.view.View.{View}
 use Rattle.ngc_simulator.specs.Drawing.{DrawsGiven, DrawsProgram, FailsByDrawing, view_named}
+use Rattle.ngc_simulator.specs.Showing.{Shows}
 use Rattle.ngc_simulator.specs.Jobs.{Certifies, FailsByCertifying, Checks, FailsByChecking}
 use Rattle.ngc_simulator.specs.Running.{Runs, RunsThrough, FailsByRunning}
 use Rattle.ngc_canonical.specs.State.{Setup}
@@ -78,6 +81,10 @@ DrawsFrom bytes options view old new outcome =
     MatchOption (option_map (λ name. name.now) options.certificate) (DrawsProgram setup text options.delete view old new outcome) (λ certificate.
     IfSome (bytes (Some certificate)) (λ given. DrawsGiven setup text given options.delete view old new outcome))))
 
+abbrev pub ShowsOn : FileBytes → ShowOptions → Option (List ℕ) → Option (List ℕ) → Result (Unit {0}) WriteFault → Type 0
+ShowsOn bytes options old new outcome =
+    OnSetup bytes (Some options.machine.now) (option_map (λ name. name.now) options.tools) (λ setup. Shows setup old new outcome)
+
 -- A machine file or tool table that is refused leaves what was written as it was, and so does a file that isn't read.
 abbrev pub StopsEarly : FileBytes → Option (List ℕ) → Option (List ℕ) → Option (List ℕ) → Option (List ℕ) → AnswerFault → Type 0
 StopsEarly bytes machine tools old new fault = RefusesShop bytes machine tools fault × Keeps old new
@@ -115,6 +122,13 @@ DrawComes bytes options (Some view) old new (Ok Quietly) = DrawsFrom bytes optio
 DrawComes bytes options (Some view) old new (Ok (RunThrough time)) = ⊥
 DrawComes bytes options (Some view) old new (Err (answers.Draw fault)) = DrawsFrom bytes options view old new (Err fault)
 DrawComes bytes options (Some view) old new (Err fault) = StopsEarly bytes (Some options.machine.now) (Some options.tools.now) old new fault
+
+abbrev pub ShowComes : FileBytes → ShowOptions → Option (List ℕ) → Option (List ℕ) → Result Done AnswerFault → Type 0
+ShowComes bytes options old new (Ok Quietly) = ShowsOn bytes options old new (Ok tt)
+ShowComes bytes options old new (Ok (RunThrough time)) = ⊥
+ShowComes bytes options old new (Err (answers.Show fault)) = ShowsOn bytes options old new (Err fault)
+ShowComes bytes options old new (Err fault) =
+    StopsEarly bytes (Some options.machine.now) (option_map (λ name. name.now) options.tools) old new fault
 
 -- the run's ticks, and how many of them its machine gives a second
 pub record IsTimeOf (setup : Setup) (report : Report) (time : RunTime) : Type 0 where
@@ -159,6 +173,7 @@ ComesBy bytes (commands.Run options) old new outcome = RunComes bytes options ol
 ComesBy bytes (commands.RunThrough options) old new outcome = RunThroughComes bytes options old new outcome
 ComesBy bytes (commands.Draw options) old new outcome =
     DrawComes bytes options (view_named (option_map (λ name. name.now) options.view)) old new outcome
+ComesBy bytes (commands.Show options) old new outcome = ShowComes bytes options old new outcome
 ComesBy bytes (commands.Explain number) old new outcome = ExplainComes number old new outcome
 ComesBy bytes (commands.Help command) old new outcome = HelpComes old new outcome
 ComesBy bytes commands.Version old new outcome = VersionComes old new outcome
@@ -171,6 +186,7 @@ FailsByOutput (Err (answers.Certify fault)) old new = FailsByCertifying (Err fau
 FailsByOutput (Err (answers.Check fault)) old new = FailsByChecking (Err fault) old new
 FailsByOutput (Err (answers.Run fault)) old new = FailsByRunning (Err fault) old new
 FailsByOutput (Err (answers.Draw fault)) old new = FailsByDrawing (Err fault) old new
+FailsByOutput (Err (answers.Show fault)) old new = Rises old new
 FailsByOutput (Err (answers.Explain fault)) old new = FailsByExplaining (Err fault) old new
 FailsByOutput (Err (answers.Guide fault)) old new = FailsByGuiding (Err fault) old new
 FailsByOutput (Err (answers.Machine fault)) old new = new ≡ old
@@ -222,6 +238,9 @@ draw_inputs options (Some view) =
     shop_inputs (Some options.machine.now) (Some options.tools.now)
     ++ program_input (option_map (λ name. name.now) options.program) ∷ certificate_inputs (option_map (λ name. name.now) options.certificate)
 
+abbrev pub show_inputs : ShowOptions → List Input
+show_inputs options = shop_inputs (Some options.machine.now) (option_map (λ name. name.now) options.tools)
+
 abbrev pub inputs_of : Options → List Input
 inputs_of (commands.List options) = list_inputs options
 inputs_of (commands.Certify options) = certify_inputs options
@@ -229,6 +248,7 @@ inputs_of (commands.Check options) = check_inputs options
 inputs_of (commands.Run options) = run_inputs options
 inputs_of (commands.RunThrough options) = run_through_inputs options
 inputs_of (commands.Draw options) = draw_inputs options (view_named (option_map (λ name. name.now) options.view))
+inputs_of (commands.Show options) = show_inputs options
 inputs_of (commands.Explain number) = []
 inputs_of (commands.Help command) = []
 inputs_of commands.Version = []
@@ -259,6 +279,7 @@ IsQuiet (commands.Check options) = Unit {0}
 IsQuiet (commands.Run options) = Unit {0}
 IsQuiet (commands.RunThrough options) = ⊥
 IsQuiet (commands.Draw options) = Unit {0}
+IsQuiet (commands.Show options) = Unit {0}
 IsQuiet (commands.Explain number) = Unit {0}
 IsQuiet (commands.Help command) = Unit {0}
 IsQuiet commands.Version = Unit {0}

@@ -93,6 +93,7 @@ answer_number (answers.Certify e) = certify_number e
 answer_number (answers.Check e) = checking_number e
 answer_number (answers.Run e) = running_number e
 answer_number (answers.Draw e) = drawing_number e
+answer_number (answers.Show e) = 902
 answer_number (answers.Explain e) = explain_fault_number e
 answer_number (answers.Guide e) = guide_number e
 
@@ -196,6 +197,7 @@ answer_place (answers.Certify e) = certify_place e
 answer_place (answers.Check e) = checking_place e
 answer_place (answers.Run e) = running_place e
 answer_place (answers.Draw e) = drawing_place e
+answer_place (answers.Show e) = codes ""
 answer_place (answers.Explain e) = codes ""
 answer_place (answers.Guide e) = codes ""
 
@@ -292,5 +294,6 @@ answer_status (answers.Certify e) = certify_status e
 answer_status (answers.Check e) = checking_status e
 answer_status (answers.Run e) = running_status e
 answer_status (answers.Draw e) = drawing_status e
+answer_status (answers.Show e) = 1
 answer_status (answers.Explain e) = explain_status e
 answer_status (answers.Guide e) = guide_status e

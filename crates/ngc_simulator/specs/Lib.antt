@@ -5,6 +5,7 @@ pub mod Guides
 pub mod Jobs
 pub mod Running
 pub mod Drawing
+pub mod Showing
 pub mod Setups
 pub mod Shops
 pub mod Status

@@ -27,6 +27,7 @@ RefusesShop bytes machine tools (answers.Certify e) = ⊥
 RefusesShop bytes machine tools (answers.Check e) = ⊥
 RefusesShop bytes machine tools (answers.Run e) = ⊥
 RefusesShop bytes machine tools (answers.Draw e) = ⊥
+RefusesShop bytes machine tools (answers.Show e) = ⊥
 RefusesShop bytes machine tools (answers.Explain e) = ⊥
 RefusesShop bytes machine tools (answers.Guide e) = ⊥
 

@@ -5,6 +5,7 @@ use crate::guide::GuideFault;
 use crate::lister::ListFault;
 use crate::running::RunningFault;
 use ngc_fault_texts::ExplainFault;
+use ngc_fixed_length::WriteFault;
 use ngc_input::InputFault;
 use ngc_machine::FileFault;
 use thiserror::Error;
@@ -36,6 +37,9 @@ pub enum AnswerFault {
     /// No picture is drawn, or only a beginning of one.
     #[error(transparent)]
     Draw(DrawingFault),
+    /// No setup sheet is written, or only a beginning of one: 902.
+    #[error(transparent)]
+    Show(WriteFault),
     /// A fault isn't explained: 721, 902.
     #[error(transparent)]
     Explain(ExplainFault),

@@ -1,4 +1,4 @@
-//! What the program does: it lists part programs, makes their certificates, checks them and runs the machine.
+//! What the program does: it lists part programs, makes their certificates, checks them, runs the machine and shows it.
 #![tactic(auto)]
 
 mod certifier;
@@ -20,6 +20,7 @@ mod report_runs;
 mod report_time;
 mod running;
 mod setup;
+mod showing;
 mod through;
 
 pub use certifier::{CertifyFault, certify};
@@ -40,7 +41,7 @@ pub use ngc_certificate_text::{Certificate, CertificateFault};
 pub use ngc_checker::{Accepted, CheckFault, check};
 pub use ngc_command_line::{
     CertifyOptions, CheckOptions, DrawOptions, HelpFault, ListOptions, Options, Recording,
-    RunOptions, RunThroughOptions, UsageFault, help_text, read_options,
+    RunOptions, RunThroughOptions, ShowOptions, UsageFault, help_text, read_options,
 };
 pub use ngc_controller::{Controller, MemoryFault};
 pub use ngc_drawing::{DrawFault, Refusal, View, write_svg};
@@ -48,6 +49,7 @@ pub use ngc_events::{Ending, Event, EventFault, EventLine, EventsFault, Reply, r
 pub use ngc_fault_texts::{ExplainFault, explain};
 pub use ngc_machine::{FileFault, Fixture, Machine, Tool, Tools, row_machine};
 pub use ngc_run_log::{Report, RunFault, run, run_through, write_pulses, write_pulses_through};
+pub use ngc_setup_sheet::write_sheet;
 pub use ngc_step_kernel::{ArcKernel, ArcPath};
 pub use program::answer;
 pub use running::{RunningFault, run_program};

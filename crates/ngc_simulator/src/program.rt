@@ -14,6 +14,7 @@ use crate::lister::list_files;
 use crate::report::add_fault_line;
 use crate::report_time::add_time_line;
 use crate::running::run_files;
+use crate::showing::show_files;
 use crate::through::run_through_files;
 use ngc_command_line::Options;
 use ngc_fault_texts::explain;
@@ -38,6 +39,7 @@ fn run_command<F: Files, W: Sink>(
         Options::Run(options) => run_files(alloc, options, files, output),
         Options::RunThrough(options) => run_through_files(alloc, options, files, output),
         Options::Draw(options) => draw_files(alloc, options, files, output),
+        Options::Show(options) => show_files(alloc, options, files, output),
         Options::Explain(number) => match explain(*number, output) {
             Ok(()) => Ok(Done::Quietly),
             Err(fault) => Err(AnswerFault::Explain(fault)),

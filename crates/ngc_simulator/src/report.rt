@@ -54,6 +54,7 @@ impl AnswerFault {
             AnswerFault::Check(fault) => fault.number(),
             AnswerFault::Run(fault) => fault.number(),
             AnswerFault::Draw(fault) => fault.number(),
+            AnswerFault::Show(fault) => fault.number(),
             AnswerFault::Explain(fault) => fault.number(),
             AnswerFault::Guide(fault) => fault.number(),
         }
@@ -72,6 +73,7 @@ impl AnswerFault {
             AnswerFault::Check(fault) => fault.status(),
             AnswerFault::Run(fault) => fault.status(),
             AnswerFault::Draw(fault) => fault.status(),
+            AnswerFault::Show(_) => 1,
             AnswerFault::Explain(fault) => status_of_explaining(fault),
             AnswerFault::Guide(fault) => fault.status(),
         }
@@ -191,7 +193,10 @@ fn add_place(chunk: &mut Chunk, fault: &AnswerFault)
     match fault {
         AnswerFault::Machine(fault) => add_file_place(chunk, b" machine", fault),
         AnswerFault::Tools(fault) => add_file_place(chunk, b" tools", fault),
-        AnswerFault::Input(_) | AnswerFault::Explain(_) | AnswerFault::Guide(_) => {}
+        AnswerFault::Input(_)
+        | AnswerFault::Show(_)
+        | AnswerFault::Explain(_)
+        | AnswerFault::Guide(_) => {}
         AnswerFault::List(fault) => add_list_place(chunk, fault),
         AnswerFault::Certify(fault) => add_certify_place(chunk, fault),
         AnswerFault::Check(fault) => add_checking_place(chunk, fault),

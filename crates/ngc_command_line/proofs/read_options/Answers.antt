@@ -4,7 +4,7 @@ use Rattle.clap.specs.Walk.{texts}
 use Rattle.ngc_command_line.specs.Meant.{AreOptions}
 use Rattle.ngc_command_line.proofs.Found.{found_from_parts}
 use Rattle.ngc_command_line.proofs.Simple.{ngc_is_free, ngc_is_simple, taken_is_memory}
-use Rattle.ngc_command_line.proofs.Spelled.{certify_read, certify_taken, check_read, check_taken, draw_read, draw_taken, help_read, help_taken, list_read, list_taken, run_read, run_taken, version_read, version_taken}
+use Rattle.ngc_command_line.proofs.Spelled.{certify_read, certify_taken, check_read, check_taken, draw_read, draw_taken, help_read, help_taken, list_read, list_taken, run_read, run_taken, show_read, show_taken, version_read, version_taken}
 use Rattle.ngc_command_line.proofs.Whole.{taken_is_whole}
 use Rattle.ngc_command_line.proofs.read_options.Goals as goal
 
@@ -46,6 +46,9 @@ returns-clause-spelled_run c = λ recording machine tools certificate events pro
 pub returns-clause-spelled_draw : goal.returns-clause-spelled_draw
 returns-clause-spelled_draw c = λ machine tools certificate program view delete spelled. draw_read _ machine tools certificate program view delete _ spelled (returns-clause-options c)
 
+pub returns-clause-spelled_show : goal.returns-clause-spelled_show
+returns-clause-spelled_show c = λ machine tools spelled. show_read _ machine tools _ spelled (returns-clause-options c)
+
 pub returns-clause-spelled_help : goal.returns-clause-spelled_help
 returns-clause-spelled_help c = λ command among spelled. help_read _ command _ among spelled (returns-clause-options c)
 
@@ -74,6 +77,10 @@ returns-in-Err-clause-spelled_run c = λ recording machine tools certificate eve
 pub returns-in-Err-clause-spelled_draw : goal.returns-in-Err-clause-spelled_draw
 returns-in-Err-clause-spelled_draw c = λ machine tools certificate program view delete spelled.
     c.usage_fault.ensures (taken_is_memory _ _ c.in-Err.error c.in-Ok.ensures (draw_taken _ machine tools certificate program view delete spelled) c.in-Err.ensures.kinds)
+
+pub returns-in-Err-clause-spelled_show : goal.returns-in-Err-clause-spelled_show
+returns-in-Err-clause-spelled_show c = λ machine tools spelled.
+    c.usage_fault.ensures (taken_is_memory _ _ c.in-Err.error c.in-Ok.ensures (show_taken _ machine tools spelled) c.in-Err.ensures.kinds)
 
 pub returns-in-Err-clause-spelled_help : goal.returns-in-Err-clause-spelled_help
 returns-in-Err-clause-spelled_help c = λ command among spelled.

@@ -1,0 +1,10 @@
+use Rattle.std.proofs.Common.{◌∙◌, codes}
+use Rattle.clap.specs.Words.{found_of}
+use Rattle.clap.proofs.WalkLemmas.{first_value-rows}
+use Rattle.ngc_command_line.proofs.show.show_options.Goals as goal
+
+pub returns : goal.returns
+returns c = record {
+  machine = c.required.ensures;
+  tools = c.get_str.ensures ∙ first_value-rows (found_of c.args.found.now) (codes "tools");
+}

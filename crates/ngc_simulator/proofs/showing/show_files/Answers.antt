@@ -1,0 +1,38 @@
+use Rattle.std.proofs.Common.{ℕ, List, Option, Some, Result, Ok, Err, subst}
+use Rattle.std.specs.Prelude.{option_map}
+use Rattle.std.specs.Io.KnownBytes.{Appends}
+use Rattle.ngc_canonical.specs.Interpreter.{setup_of}
+use Rattle.ngc_command_line.specs.declared.options.ShowOptions.{ShowOptions}
+use Rattle.ngc_fixed_length.specs.Written.{AppendsBeginning}
+use Rattle.ngc_fixed_length.specs.declared.writing.WriteFault.{WriteFault}
+use Rattle.ngc_machine.specs.Machine.{file_of}
+use Rattle.ngc_machine.specs.declared.tools.Tool.{Tool}
+use Rattle.ngc_setup_sheet.specs.Sheets.{sheet_text}
+use Rattle.ngc_simulator.specs.Answers.{ShowsOn}
+use Rattle.ngc_simulator.specs.Setups.{FileBytes}
+use Rattle.ngc_simulator.specs.Shops.{GivesShop}
+use Rattle.ngc_simulator.specs.Showing.{Shows}
+use Rattle.ngc_simulator.specs.declared.setup.Shop.{Shop}
+use Rattle.ngc_simulator.proofs.SetupLaws.{on_setup}
+use Rattle.ngc_simulator.proofs.showing.show_files.Goals as goal
+
+shown : (bytes : FileBytes) (options : ShowOptions) (shop : Shop) (old new : Option (List ℕ)) (outcome : Result (Unit {0}) WriteFault)
+    → GivesShop bytes (Some options.machine.now) (option_map (λ n. n.now) options.tools) (Ok shop)
+    → Shows (setup_of shop.machine shop.tools) old new outcome → ShowsOn bytes options old new outcome
+shown bytes options shop old new outcome said shows =
+    on_setup bytes (Some options.machine.now) (option_map (λ n. n.now) options.tools) (setup_of shop.machine shop.tools)
+    (λ setup. Shows setup old new outcome) said.0 said.1 shows
+
+pub returns-in-Ok-write_sheet-clause-comes : goal.returns-in-Ok-write_sheet-clause-comes
+returns-in-Ok-write_sheet-clause-comes g c =
+    let old = g.W.Sink.written c.args.output.now in
+    let new = g.W.Sink.written c.write_sheet.new.sink in
+    shown (g.F.Files.bytes c.args.files.now) c.args.options.now c.in-Ok.shop old new (Ok tt) c.in-Ok.ensures.said
+    (subst (λ (ts : List Tool). Appends old new (sheet_text (file_of c.in-Ok.shop.machine) ts)) c.tools.ensures.tools c.in-Ok-write_sheet.ensures.ok)
+
+pub returns-clause-comes : goal.returns-clause-comes
+returns-clause-comes g c =
+    let old = g.W.Sink.written c.args.output.now in
+    let new = g.W.Sink.written c.write_sheet.new.sink in
+    shown (g.F.Files.bytes c.args.files.now) c.args.options.now c.in-Ok.shop old new (Err c.in-Err-write_sheet.fault) c.in-Ok.ensures.said
+    (subst (λ (ts : List Tool). AppendsBeginning old new (sheet_text (file_of c.in-Ok.shop.machine) ts)) c.tools.ensures.tools c.in-Err-write_sheet.ensures.fault)

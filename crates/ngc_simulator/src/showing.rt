@@ -1,0 +1,33 @@
+//! The setup sheet of a machine, from the files that the command line names.
+ghost use Rattle.ngc_simulator.specs.Answers.{FailsByOutput, ShowComes, show_inputs};
+ghost use Rattle.ngc_simulator.specs.Unread.{FailsByInput, SourceFails};
+
+use crate::done::Done;
+use crate::fault::AnswerFault;
+use crate::files::Files;
+use crate::setup::read_shop;
+use ngc_command_line::ShowOptions;
+use ngc_fixed_length::Sink;
+use ngc_setup_sheet::write_sheet;
+use std::alloc::Global;
+
+/// A setup sheet. Both files are read before anything is written.
+pub(crate) fn show_files<F: Files, W: Sink>(
+    alloc: Global,
+    options: &ShowOptions<'_>,
+    files: &mut F,
+    output: &mut W,
+) -> Result<Done, AnswerFault>
+    ensures comes { ShowComes (F.bytes files.old) options.now (W.written output.old) (W.written output.new) result }
+    ensures unread { FailsByInput (SourceFails F.R.remaining F.R.failures) (F.bytes files.old) (show_inputs options.now) (F.failures files.old) (F.failures files.new) result }
+    ensures sink { FailsByOutput result (W.failures output.old) (W.failures output.new) }
+{
+    let shop = match read_shop(alloc, Some(options.machine), options.tools, files) {
+        Ok(shop) => shop,
+        Err(fault) => return Err(fault),
+    };
+    match write_sheet(&shop.machine, shop.tools.tools(), output) {
+        Ok(()) => Ok(Done::Quietly),
+        Err(fault) => Err(AnswerFault::Show(fault)),
+    }
+}
