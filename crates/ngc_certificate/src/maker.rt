@@ -3,7 +3,7 @@ ghost use Rattle.std.specs.Prelude.{◌≡◌, ℕ, ◌<◌, ◌≤◌, [], leng
 ghost use Rattle.ngc_machine.specs.Machine.{file_of};
 ghost use Rattle.ngc_canonical.specs.State.{COMMAND_LIMIT};
 ghost use Rattle.ngc_certificate_text.specs.Certificate.{INDEX_LIMIT, MOTION_LIMIT};
-ghost use Rattle.ngc_certificate_text.specs.Contents.{form_of, said_of};
+ghost use Rattle.ngc_certificate_text.specs.Contents.{said_of, form_of};
 ghost use Rattle.ngc_certificate_text.specs.Joined.{Parted};
 ghost use Rattle.ngc_certificate.specs.Valid.{IsValid};
 ghost use Rattle.ngc_certificate.specs.Made.{IsSettingMade, IsMade, GivesMade, clears_undivided};
@@ -198,6 +198,7 @@ pub fn make_alike<A: Allocator + Copy>(
     requires count { length commands.now ≤ COMMAND_LIMIT }
     ensures made { GivesMade said_of result (IsMade (file_of machine.now) cuts commands.now commands.now) }
     ensures valid { IfOk result (λ c. IsValid (file_of machine.now) commands.now (said_of c).off × IsValid (file_of machine.now) commands.now (said_of c).on) }
+    // It is of version 1.
     ensures form { IfOk result (λ c. form_of c ≡ Parted (said_of c)) }
     ensures undivided { clears_undivided (file_of machine.now) commands.now ≡ true → MatchResult result (λ c. Unit {0}) (λ e. e ≡ MakeFault.Memory) }
 {

@@ -1,8 +1,8 @@
-use Rattle.std.proofs.Common.{arith, Ok, subst, sym}
-use Rattle.ngc_certificate.specs.Made.{IsMade}
-use Rattle.ngc_certificate.specs.Valid.{IsValid}
+use Rattle.std.proofs.Common.{Ok, subst, sym, arith}
 use Rattle.ngc_machine.specs.Machine.{file_of}
 use Rattle.ngc_certificate_text.specs.Certificate.{CertificateData}
+use Rattle.ngc_certificate.specs.Made.{IsMade}
+use Rattle.ngc_certificate.specs.Valid.{IsValid}
 use Rattle.ngc_certificate.proofs.MadeLaws.{start_refused, off_refused, on_refused, both_made, off_undivided, on_undivided, both_valid}
 use Rattle.ngc_certificate.proofs.maker.make.Goals as goal
 
