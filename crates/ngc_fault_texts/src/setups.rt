@@ -125,7 +125,7 @@ pub(crate) fn certificates() -> &'static [Row]
         },
         Row {
             number: 302,
-            rule: "The certificate's first line is `ngc-certificate 1`.",
+            rule: "The certificate's first line is `ngc-certificate 1` or `ngc-certificate 2`.",
             example: "a certificate that is empty",
             answer: "`ngc: fault 302 certificate line 1`",
             place: None,
