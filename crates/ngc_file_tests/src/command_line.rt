@@ -2,7 +2,7 @@
 //! `clap` allocates by `Global`, which no test can make run out.
 use ngc_command_line::{
     CertifyOptions, CheckOptions, DrawOptions, ListOptions, Options, Recording, RunOptions,
-    RunThroughOptions, UsageFault, read_options,
+    RunThroughOptions, ShowOptions, UsageFault, read_options,
 };
 use std::alloc::{AllocError, Global};
 use std::test::Fail;
@@ -293,6 +293,29 @@ fn reads_draw(rt: HostRuntime) -> Result<(), Fail> {
     Ok(())
 }
 
+const SHOWS: &[(&str, Option<&str>)] = &[
+    ("show --machine=mill.toml|show --machine mill.toml", None),
+    (
+        "show --machine=mill.toml --tools=table.toml|show --tools table.toml --machine mill.toml",
+        Some("table.toml"),
+    ),
+];
+
+#[test]
+fn reads_show(rt: HostRuntime) -> Result<(), Fail> {
+    for (lines, tools) in SHOWS {
+        let wanted = ShowOptions {
+            machine: "mill.toml",
+            tools: *tools,
+        };
+        assert!(rt;
+            are_read_as(rt.alloc(), lines, Options::Show(wanted))?,
+            "{lines}"
+        );
+    }
+    Ok(())
+}
+
 const EXPLAINS: &[(&str, u16)] = &[
     ("explain 113|explain 0113|explain +113|explain -- 113", 113),
     ("explain 1", 1),
@@ -400,7 +423,8 @@ check --machine=mill.toml --tools=table.toml -> --certificate
 run --tools=table.toml --certificate=a.cert --events=a.events --program=a.ngc -> --machine
 run --machine=mill.toml --certificate=a.cert --events=a.events --delete -> --tools
 run --machine=mill.toml --tools=table.toml --events=a.events -> --certificate
-run --delete -> --machine --tools --certificate";
+run --delete -> --machine --tools --certificate
+show --tools=table.toml -> --machine";
 
 // The parts of a refusal that tells of options which are missing.
 fn missing_parts(alloc: Global, options: &str) -> Result<String, Fail> {
@@ -467,6 +491,11 @@ const LAST_WORDS: &[(&str, &str, &str)] = &[
         "--cuts=8|--frame",
         "unexpected argument|Usage: ngc run",
     ),
+    (
+        "show --machine=mill.toml",
+        "--delete|--program=a|--cuts=8",
+        "unexpected argument|Usage: ngc show",
+    ),
 ];
 
 #[test]
@@ -490,7 +519,7 @@ fn is_narrow(text: &str) -> bool {
 
 const HELP: &str =
     "List, certify, check, run and draw part programs in RS274/NGC|Usage: ngc <COMMAND>|  list |  certify |  check |\
-                    \x20 run |  pulses |  draw |  explain |  help |  version |ngc list --program examples/facing.ngc|Exit status:|0  done|1  input|2  the command line|\
+                    \x20 run |  pulses |  draw |  show |  explain |  help |  version |ngc list --program examples/facing.ngc|Exit status:|0  done|1  input|2  the command line|\
                     3  the part program|4  the certificate was refused, or none clears the program|`ngc explain 113` explains it.";
 
 const LIST_HELP: &str =
@@ -522,6 +551,10 @@ const RUN_HELP: &str = "Run a part program through, or over events, and print th
                         --machine examples/clamped_mill.toml --tools examples/tools.toml|Exit status:|\
                         4  the certificate was refused, or none clears the program|`ngc explain 113` explains it.";
 
+const SHOW_HELP: &str = "Print a machine and its tools in millimetres, with warnings|\
+                         Usage: ngc show [OPTIONS] --machine <FILE>|--machine <FILE>|--tools <FILE>|[default: no tools]|\
+                         ngc show --machine examples/small_mill.toml|Exit status:|`ngc explain 113` explains it.";
+
 const EXPLAIN_HELP: &str =
     "Print the rule of a fault, an example, and what to do|Usage: ngc explain <N>|\
                             <N>|Number of a fault|ngc explain 113|Exit status:|`ngc explain 113` explains it.";
@@ -541,6 +574,7 @@ const HELP_LINES: &[(&str, &str)] = &[
     ("certify --help", CERTIFY_HELP),
     ("check --help", CHECK_HELP),
     ("run --help", RUN_HELP),
+    ("show --help", SHOW_HELP),
     ("explain --help", EXPLAIN_HELP),
     ("help --help", HELP_HELP),
     ("version --help", VERSION_HELP),
