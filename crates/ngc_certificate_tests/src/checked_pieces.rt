@@ -1,12 +1,13 @@
-//! What no clause says: that a certificate is checked as its text comes, in pieces of any size, that a fault of the text stays,
-//! and that refused memory is told.
+//! What no clause says: that a certificate is checked as its text comes, in pieces of any size and from a source, that a fault of
+//! the text stays, that refused memory and a failing source are told, and when no more is pulled.
+use crate::devices::SlowSource;
 use linked_list_allocator::LocalHeap;
 use ngc_certificate_text::{Certificate, CertificateFault};
-use ngc_checker::{CheckReadFault, CheckReader, MemoryFault, check};
+use ngc_checker::{CheckReadFault, CheckReader, MemoryFault, check, check_source};
 use ngc_fixed_length::Device;
 use ngc_line_reader::Program;
 use ngc_machine::{Machine, Tools, row_machine};
-use std::alloc::Global;
+use std::alloc::{AllocError, Global};
 use std::process::Abort;
 use std::test::Fail;
 
@@ -44,6 +45,23 @@ fn pieces_answer(
         let _ = reader.feed(b"");
     }
     Ok(reader.finish().err())
+}
+
+// What is answered for a source that gives at most so many bytes a pull.
+fn source_answer(
+    alloc: Global,
+    program: &Program<Global>,
+    machine: &Machine<Global>,
+    text: &[u8],
+    most: usize,
+) -> Option<CheckReadFault> {
+    let mut source = SlowSource {
+        rest: text,
+        most,
+        failing: usize::MAX,
+        failures: 0,
+    };
+    check_source(alloc, program, machine, &Tools::empty(alloc), &mut source).err()
 }
 
 const ACCEPTED: &[u8] = b"ngc-certificate 1
@@ -142,6 +160,8 @@ fn certificates_checked_in_pieces(rt: HostRuntime) -> Result<(), Fail> {
         for size in SIZES {
             let found = pieces_answer(rt.alloc(), &program, &machine, text.as_bytes(), *size)?;
             assert_eq!(rt; found, wanted, "{lines} in pieces of {size}");
+            let found = source_answer(rt.alloc(), &program, &machine, text.as_bytes(), *size);
+            assert_eq!(rt; found, wanted, "{lines} from a source, {size} at once");
         }
     }
     Ok(())
@@ -281,5 +301,101 @@ fn refused_memory_of_a_reader_is_told(rt: HostRuntime) -> Result<(), Fail> {
         assert_eq!(rt; heap.used(), 0);
     }
     assert!(rt; refused > 0 && done > 0);
+    Ok(())
+}
+
+// So many motions that the certificate takes more than one piece of 64 KiB.
+const MOTIONS: u32 = 1_000;
+
+fn there_and_back(alloc: Global) -> Result<String, AllocError> {
+    let mut program = String::new(alloc);
+    for _ in 0..MOTIONS / 2 {
+        program.push_str("G0 X1\nX0\n")?;
+    }
+    program.push_str("M2\n")?;
+    Ok(program)
+}
+
+// Its certificate, with this line for the last piece.
+fn long_certificate(alloc: Global, last: &str) -> Result<String, AllocError> {
+    let mut text = String::new(alloc);
+    text.push_str("ngc-certificate 1\n")?;
+    for setting in ["off", "on"] {
+        text.push_str(format!(in alloc; "setting {setting} {MOTIONS}\n")?.as_str())?;
+        for index in 0..MOTIONS {
+            let is_last = setting == "on" && index + 1 == MOTIONS;
+            let piece = if is_last {
+                last
+            } else {
+                "line 65536 0 0 0 100 0 0"
+            };
+            text.push_str(format!(in alloc; "motion {index} 1\n{piece}\n")?.as_str())?;
+        }
+    }
+    text.push_str("end\n")?;
+    Ok(text)
+}
+
+// The last piece, and the number of the refusal.
+const LAST_PIECES: &[(&str, Option<u16>)] = &[
+    ("line 65536 0 0 0 100 0 0", None),
+    ("line 65536 0 0 0 99 0 0", Some(314)),
+    ("line 65537 0 0 0 100 0 0", Some(303)),
+];
+
+#[test]
+fn a_certificate_of_several_pieces(rt: HostRuntime) -> Result<(), Fail> {
+    let text = there_and_back(rt.alloc())?;
+    let program = Program::read(rt.alloc(), &mut Device::new(text.as_bytes()))?;
+    let machine = row_machine(rt.alloc());
+    for (last, number) in LAST_PIECES {
+        let text = long_certificate(rt.alloc(), last)?;
+        assert!(rt; text.len() > 65_536);
+        let found = source_answer(rt.alloc(), &program, &machine, text.as_bytes(), usize::MAX);
+        assert_eq!(rt; found.map(|fault| fault.number()), *number, "{last}");
+    }
+    Ok(())
+}
+
+#[test]
+fn a_source_that_fails_is_told(rt: HostRuntime) -> Result<(), Fail> {
+    let program = Program::read(rt.alloc(), &mut Device::new(b"G0 X1 M2\n".as_slice()))?;
+    let machine = row_machine(rt.alloc());
+    let tools = Tools::empty(rt.alloc());
+    for failing in 0..=ACCEPTED.len() {
+        let mut source = SlowSource {
+            rest: ACCEPTED,
+            most: 100,
+            failing,
+            failures: 0,
+        };
+        let found = check_source(rt.alloc(), &program, &machine, &tools, &mut source).err();
+        let fault = CheckReadFault::Certificate(CertificateFault::ReadFailed);
+        assert_eq!(rt; found, Some(fault), "at byte {failing}");
+        assert_eq!(rt; source.failures, 1);
+    }
+    Ok(())
+}
+
+// A byte behind the end is the last that is pulled.
+#[test]
+fn no_more_is_pulled_behind_the_end(rt: HostRuntime) -> Result<(), Fail> {
+    let program = Program::read(rt.alloc(), &mut Device::new(b"G0 X1 M2\n".as_slice()))?;
+    let machine = row_machine(rt.alloc());
+    let tools = Tools::empty(rt.alloc());
+    for behind in b"\nx" {
+        let mut text = ACCEPTED.to_vec(rt.alloc())?;
+        text.push(*behind)?;
+        let mut source = SlowSource {
+            rest: text.as_slice(),
+            most: 100,
+            failing: text.len(),
+            failures: 0,
+        };
+        let found = check_source(rt.alloc(), &program, &machine, &tools, &mut source).err();
+        let fault = CheckReadFault::Certificate(CertificateFault::BadLine(9));
+        assert_eq!(rt; found, Some(fault));
+        assert_eq!(rt; source.failures, 0);
+    }
     Ok(())
 }
