@@ -1,4 +1,4 @@
-//! Tests of certificates, of their checker, of reports, and of the log and the pulses of what is run.
+//! Tests of certificates, of their checker, of pictures and reports, and of the log and the pulses of what is run.
 #![tactic(auto)]
 
 #[cfg(test)]
@@ -13,6 +13,8 @@ mod feeding;
 mod given;
 #[cfg(test)]
 mod making;
+#[cfg(test)]
+mod pictures;
 #[cfg(test)]
 mod pieces;
 #[cfg(test)]
