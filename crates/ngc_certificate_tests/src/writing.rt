@@ -212,10 +212,7 @@ fn long_certificate(alloc: Global) -> Result<Certificate<Global>, Fail> {
     for i in 0..1_500u32 {
         add(&mut off, i, &pieces)?;
     }
-    Ok(Certificate {
-        off,
-        on: Motions::new(alloc),
-    })
+    Ok(Certificate::parted(off, Motions::new(alloc)))
 }
 
 fn long_text(alloc: Global) -> Result<Vec<u8>, Fail> {
