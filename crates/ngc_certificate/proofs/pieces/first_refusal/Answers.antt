@@ -1,4 +1,4 @@
-use Rattle.std.proofs.Common.{◌≡◌, ◌+◌, drop, ap, sym, ◌∙◌, Option, Some, None, refl}
+use Rattle.std.proofs.Common.{◌≡◌, ◌+◌, drop, ap, sym, ◌∙◌, Option, Some, None}
 use Rattle.ngc_machine.specs.Machine.{file_of}
 use Rattle.ngc_certificate.specs.declared.fault.PieceRefusal.{PieceRefusal}
 use Rattle.ngc_certificate.specs.PieceFault.{◌or◌}
