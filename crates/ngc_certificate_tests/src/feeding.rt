@@ -90,7 +90,7 @@ const FRONT: &str = "ngc-certificate 1\nsetting off 0\nsetting on 0\n";
 const WHOLE: &str = "ngc-certificate 1\nsetting off 0\nsetting on 0\nend\n";
 
 const PROMPT: &[(&str, usize, &str, Option<(usize, u16)>)] = &[
-    ("ngc-certificate 2\nsetting", 0, "", Some((18, 302))),
+    ("ngc-certificate 3\nsetting", 0, "", Some((18, 302))),
     ("ngc-certificate 1\r\nsetting", 0, "", Some((19, 302))),
     ("", 256, "", None),
     ("", 257, "", Some((257, 302))),

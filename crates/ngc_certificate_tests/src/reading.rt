@@ -77,7 +77,7 @@ pub(crate) static TEXTS: [(&str, Option<CertificateFault>); 26] = [
     ("", WRONG_HEADER),
     ("ngc-certificate 1", WRONG_HEADER),
     (
-        "ngc-certificate 2\nsetting off 0\nsetting on 0\nend\n",
+        "ngc-certificate 3\nsetting off 0\nsetting on 0\nend\n",
         WRONG_HEADER,
     ),
     (
