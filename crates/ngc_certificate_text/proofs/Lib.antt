@@ -1,5 +1,6 @@
 pub mod HeldLaws
 pub mod OrderLaws
+pub mod JoinedFirstLaws
 pub mod EntryLaws
 pub mod Taken
 pub mod NumberLaws

@@ -59,7 +59,7 @@ pub record Pushed (ks : List EntryKind) (off on : List Entry) (items : List Item
   pub is : items_in ks off on ≡ items
   pub whole : IsWhole ks off on
 
-from_items : (ks : List EntryKind) (off on : List Entry) (items : List Item) → ks ≡ kinds_of items → data_of off on ≡ expansion items → Pushed ks off on items
+pub from_items : (ks : List EntryKind) (off on : List Entry) (items : List Item) → ks ≡ kinds_of items → data_of off on ≡ expansion items → Pushed ks off on items
 from_items ks off on items e f =
     let is = whole_of ks off on items e f in
     record { is = is; whole = record { all = ap kinds_of is ∙ sym e; motions = ap expansion is ∙ sym f } }

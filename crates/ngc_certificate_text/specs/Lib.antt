@@ -16,6 +16,7 @@ pub mod Pulled
 pub mod Ahead
 pub mod Told
 pub mod Found
+pub mod JoinedFirst
 pub mod LinesView
 pub mod Resumed
 pub mod Parted

@@ -1,12 +1,13 @@
-ghost use Rattle.std.specs.Prelude.{◌≡◌, List, Some};
+ghost use Rattle.std.specs.Prelude.{◌≡◌, ◌-◌, ◌≤◌, ◌++◌, List, Some, IfOk, replicate};
 ghost use Rattle.std.specs.Option.{option_map};
 ghost use Rattle.std.proofs.Props.{props};
 ghost use Rattle.ngc_certificate_text.specs.declared.certificate.EntryKind.{EntryKind};
+ghost use Rattle.ngc_certificate_text.specs.Certificate.{MOTION_LIMIT};
 ghost use Rattle.ngc_certificate_text.specs.Order.{IsWhole};
 
 use crate::motions::Motions;
 use crate::piece::Setting;
-use std::alloc::Allocator;
+use std::alloc::{AllocError, Allocator};
 
 /// Of which settings an entry of version 2 is a motion.
 #[derive(Clone, Copy, Debug, PartialEq, Eq)]
@@ -27,10 +28,32 @@ pub struct Certificate<A: Allocator> {
     ghost whole: { (kinds : List EntryKind) → option_map (λ k. k.items) order ≡ Some kinds → IsWhole kinds off on } by { Prim.hlevel props },
 }
 
+// The kinds of the entries where the first `both` motions of each setting are joined: so many motions each setting has.
+fn kinds_of<A: Allocator>(
+    alloc: A,
+    both: usize,
+    off: usize,
+    on: usize,
+) -> Result<Vec<EntryKind, A>, AllocError>
+    requires off { both ≤ off }
+    requires on { both ≤ on }
+    requires off_limit { off ≤ MOTION_LIMIT }
+    requires on_limit { on ≤ MOTION_LIMIT }
+    ensures { IfOk result (λ kinds. kinds.items ≡ replicate both EntryKind.Both ++ replicate (off - both) EntryKind.Off ++ replicate (on - both) EntryKind.On) }
+{
+    let count = off + (on - both);
+    let mut kinds = Vec::with_capacity(alloc, count)?;
+    kinds.resize(both, EntryKind::Both)?;
+    kinds.resize(off, EntryKind::Off)?;
+    kinds.resize(count, EntryKind::On)?;
+    Ok(kinds)
+}
+
 impl<A: Allocator> Certificate<A> {
     ghost use Rattle.ngc_certificate_text.specs.Certificate.{entries_at};
     ghost use Rattle.ngc_certificate_text.specs.Contents.{said_of, form_of};
-    ghost use Rattle.ngc_certificate_text.specs.Joined.{Parted, contents};
+    ghost use Rattle.ngc_certificate_text.specs.Joined.{Parted, Joined, IsJoined, contents};
+    ghost use Rattle.ngc_certificate_text.specs.JoinedFirst.{joined_first, HaveSamePieces};
 
     /// A certificate of version 1.
     pub fn parted(off: Motions<A>, on: Motions<A>) -> Certificate<A>
@@ -42,6 +65,20 @@ impl<A: Allocator> Certificate<A> {
             on,
             order: None,
         }
+    }
+
+    /// The same motions as a certificate of version 2: the first `both` of each setting are joined, which have the same
+    /// pieces, and the others stand alone, those of `off` first. The memory for that is of `alloc`.
+    pub fn joined(self, alloc: A, both: usize) -> Result<Certificate<A>, AllocError>
+        requires { HaveSamePieces both (said_of self).off (said_of self).on }
+        ensures said { IfOk result (λ c. said_of c ≡ said_of self) }
+        ensures form { IfOk result (λ c. form_of c ≡ Joined (joined_first both (said_of self).off (said_of self).on)) }
+        // Its entries are in range, and none of `off` alone stands directly behind one of `on` alone.
+        ensures entries { IsJoined (joined_first both (said_of self).off (said_of self).on) }
+    {
+        let Certificate { off, on, order: _ } = self;
+        let order = Some(kinds_of(alloc, both, off.len(), on.len())?);
+        Ok(Certificate { off, on, order })
     }
 
     /// The motions at a setting.
