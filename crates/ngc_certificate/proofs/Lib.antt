@@ -18,6 +18,7 @@ pub mod GoodLines
 pub mod GoodPieces
 pub mod Cleared
 pub mod MadeLaws
+pub mod AlikeLaws
 mod Examples
 pub mod ArcEnds
 pub mod SomeMade

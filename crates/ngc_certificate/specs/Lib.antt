@@ -7,6 +7,7 @@ pub mod Inside
 pub mod Valid
 pub mod Covered
 pub mod Made
+pub mod Common
 pub mod Making
 pub mod Shared
 pub mod PieceJudging

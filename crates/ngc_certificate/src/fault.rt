@@ -66,3 +66,17 @@ impl MakeFault {
         }
     }
 }
+
+/// There is too little memory, to join a certificate, for a `CheckReader` or for a controller: 900.
+#[derive(Clone, Copy, Debug, PartialEq, Eq, Error)]
+#[error("out of memory")]
+pub struct MemoryFault;
+
+impl MemoryFault {
+    /// The fault's number.
+    pub fn number(&self) -> u16
+        ensures { result ≡ 900 }
+    {
+        900
+    }
+}

@@ -10,6 +10,7 @@ mod divide;
 mod fault;
 mod finding;
 mod furthest;
+mod joiner;
 pub mod laws;
 mod limits;
 mod maker;
@@ -19,7 +20,8 @@ mod shared;
 mod stretch;
 
 pub use divide::undivided;
-pub use fault::{MakeFault, PieceFault, PieceRefusal};
+pub use fault::{MakeFault, MemoryFault, PieceFault, PieceRefusal};
+pub use joiner::join;
 pub use maker::{make, make_alike};
 pub use ngc_certificate_text::{Certificate, Cut, Motions, Piece, Setting};
 pub use pieces::{PieceJudge, piece_fault, pieces_fault, place_fault};

@@ -1,0 +1,106 @@
+//! Certificates of version 2 from certificates.
+ghost use Rattle.std.specs.Prelude.{◌≡◌, ◌≢◌, ◌<◌, ◌≤◌, length, true, false, IfOk};
+ghost use Rattle.ngc_certificate_text.specs.Certificate.{entry_at};
+ghost use Rattle.ngc_certificate_text.specs.Contents.{said_of, form_of};
+ghost use Rattle.ngc_certificate.specs.Common.{way_at, AreAlike, IsCommonBeginning, IsJoinedOf};
+
+use crate::fault::MemoryFault;
+use ngc_canonical::{Action, Command, Way};
+use ngc_certificate_text::{Certificate, Motions, Piece};
+use std::alloc::Allocator;
+
+// The way of the command with this index, where it is a motion.
+fn way_at(commands: &[Command], index: u32) -> Option<Way>
+    ensures { result ≡ way_at commands.now index }
+{
+    match commands.get(index as usize) {
+        Some(command) => match command.action {
+            Action::Move(motion) => Some(motion.way),
+            _ => None,
+        },
+        None => None,
+    }
+}
+
+fn same_way(a: &Way, b: &Way) -> bool
+    ensures yes { result ≡ true → a.now ≡ b.now }
+    ensures no { result ≡ false → a.now ≢ b.now }
+{
+    a == b
+}
+
+fn same_pieces(a: &[Piece], b: &[Piece]) -> bool
+    ensures yes { result ≡ true → a.now ≡ b.now }
+    ensures no { result ≡ false → a.now ≢ b.now }
+{
+    a == b
+}
+
+// Whether motion `i` of both settings is alike: one way, in the same pieces.
+fn are_alike<A: Allocator>(
+    off: &[Command],
+    on: &[Command],
+    off_motions: &Motions<A>,
+    on_motions: &Motions<A>,
+    i: usize,
+) -> bool
+    requires off_has { i < length off_motions.now }
+    requires on_has { i < length on_motions.now }
+    ensures yes { result ≡ true → AreAlike off.now on.now (entry_at off_motions.now i) (entry_at on_motions.now i) }
+    ensures no { result ≡ false → ¬ AreAlike off.now on.now (entry_at off_motions.now i) (entry_at on_motions.now i) }
+{
+    match (
+        way_at(off, off_motions.index(i)),
+        way_at(on, on_motions.index(i)),
+    ) {
+        (Some(off_way), Some(on_way)) => {
+            same_way(&off_way, &on_way) && same_pieces(off_motions.pieces(i), on_motions.pieces(i))
+        }
+        _ => false,
+    }
+}
+
+// How many motions from the first on are alike at both settings.
+fn common_beginning<A: Allocator>(
+    certificate: &Certificate<A>,
+    off: &[Command],
+    on: &[Command],
+) -> usize
+    ensures { IsCommonBeginning off.now on.now (said_of certificate.now) result }
+{
+    let fewer = certificate.off.len().min(certificate.on.len());
+    for i in 0..fewer {
+        if !are_alike(off, on, &certificate.off, &certificate.on, i) {
+            return i;
+        }
+    }
+    fewer
+}
+
+/// A certificate of version 2 with the motions of this one, joined where the settings begin alike, or 900.
+///
+/// ```text
+/// let certificate = make(alloc, off, on, &machine, 8)?;
+/// let joined = join(alloc, certificate, off, on)?;
+/// joined.write(&mut output)?;
+/// ```
+///
+/// The certificate's motions are those of the commands with block delete off and on. A motion of each setting is joined as long
+/// as all before it are, where both go the same way, which is straight or the same arc from the same start to the same end, and
+/// have the same pieces. Behind those come the motions that are left, of `off` and then of `on`. A motion that is none of the
+/// commands' is never joined.
+pub fn join<A: Allocator>(
+    alloc: A,
+    certificate: Certificate<A>,
+    off: &[Command],
+    on: &[Command],
+) -> Result<Certificate<A>, MemoryFault>
+    ensures said { IfOk result (λ c. said_of c ≡ said_of certificate) }
+    ensures form { IfOk result (λ c. IsJoinedOf off.now on.now (said_of certificate) (form_of c)) }
+{
+    let common = common_beginning(&certificate, off, on);
+    match certificate.joined(alloc, common) {
+        Ok(joined) => Ok(joined),
+        Err(_) => Err(MemoryFault),
+    }
+}
