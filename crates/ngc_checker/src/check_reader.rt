@@ -17,11 +17,11 @@ ghost use Rattle.ngc_certificate_text.specs.declared.fault.CertificateFault.TheV
 use crate::accepted::Accepted;
 use crate::check_fault::CheckReadFault;
 use crate::checker::program_fault;
-use crate::fault::{CheckFault, MemoryFault};
+use crate::fault::CheckFault;
 use crate::judge::Judge;
 use crate::judged_lines::JudgedLines;
 use ngc_canonical::{ProgramFault, interpret};
-use ngc_certificate::Setting;
+use ngc_certificate::{MemoryFault, Setting};
 use ngc_certificate_text::{CertificateFault, CertificateLines};
 use ngc_line_reader::Program;
 use ngc_machine::{Machine, Tools};

@@ -20,6 +20,7 @@ pub use accepted::Accepted;
 pub use check_fault::CheckReadFault;
 pub use check_reader::CheckReader;
 pub use checker::check;
-pub use fault::{CheckFault, MemoryFault};
+pub use fault::CheckFault;
+pub use ngc_certificate::MemoryFault;
 pub use read::check_source;
 pub use setting::setting_fault;

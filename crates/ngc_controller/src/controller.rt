@@ -11,13 +11,12 @@ ghost use Rattle.ngc_controller.specs.Loaded.{AreShort, LoadsShort};
 ghost use Rattle.ngc_controller.specs.Ring.{IsMoving};
 
 use crate::ending::{dwells_on, ending_of, panel_after, tool_after};
-use crate::fault::MemoryFault;
 use crate::panel::Panel;
 use crate::progress::Progress;
 use crate::route::Loaded;
 use circular_buffer::HeapCircularBuffer;
 use ngc_canonical::Action;
-use ngc_checker::Accepted;
+use ngc_checker::{Accepted, MemoryFault};
 use ngc_events::{Ending, Event, EventFault, Reply};
 use ngc_fixed_length::StepPos;
 use ngc_machine::Tool;

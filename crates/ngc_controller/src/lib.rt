@@ -4,11 +4,10 @@
 mod controller;
 mod drive;
 mod ending;
-mod fault;
 mod panel;
 mod progress;
 mod ring;
 mod route;
 
 pub use controller::Controller;
-pub use fault::MemoryFault;
+pub use ngc_checker::MemoryFault;
