@@ -66,3 +66,16 @@ pub finished : (unit : ℤ) (old now : Option (List ℕ)) (before chunk : List �
 finished unit old now before chunk rest whole none h =
     subst (λ (l : List ℕ). WritesFront old now l chunk)
     (ap (λ l. before ++ shapes_text unit l) (sym (h.splits ∙ ap (λ l. h.done ++ l) none ∙ append-nil h.done))) h.front
+
+-- some are drawn, and then the others, or not
+pub both : (r : Result (Unit {0}) WriteFault) (unit : ℤ) (old mid new : Option (List ℕ)) (before between after : List ℕ) (a b whole : List Shape) → a ++ b ≡ whole
+    → WritesFront old mid (before ++ shapes_text unit a) between → Draws unit mid new between after r b → Draws unit old new before after r whole
+both r unit old mid new before between after a b whole is h k =
+    last r unit old mid new before between after b whole (record { done = a; splits = sym is; front = h }) k
+
+-- a write fails while the first are drawn
+pub cut_short : (unit : ℤ) (old new : Option (List ℕ)) (before : List ℕ) (a b whole : List Shape) → a ++ b ≡ whole
+    → AppendsBeginning old new (before ++ shapes_text unit a) → AppendsBeginning old new (before ++ shapes_text unit whole)
+cut_short unit old new before a b whole is h =
+    subst (λ (l : List ℕ). AppendsBeginning old new l) (joined unit before a b ∙ ap (λ l. before ++ shapes_text unit l) is)
+    (longer old new (before ++ shapes_text unit a) (shapes_text unit b) h)

@@ -1,4 +1,6 @@
 pub mod Ahead
+pub mod Curves
+pub mod Directions
 pub mod Steps
 pub mod Called
 pub mod Texts

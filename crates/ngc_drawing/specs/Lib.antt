@@ -2,6 +2,8 @@ pub mod Views
 pub mod Tools
 pub mod Arcs
 pub mod Units
+pub mod Helices
+pub mod Ways
 pub mod Strokes
 pub mod Bodies
 pub mod Sweeping

@@ -8,6 +8,7 @@ use Rattle.ngc_canonical.specs.Movement.{end_of}
 use Rattle.ngc_canonical.specs.declared.command.Action.{Action}
 use Rattle.ngc_canonical.specs.declared.command.Action.TheVariants.{Move}
 use Rattle.ngc_canonical.specs.declared.command.Command.{Command}
+use Rattle.ngc_canonical.specs.declared.movement.Way.{Way}
 use Rattle.ngc_certificate_text.specs.Certificate.{Entry}
 use Rattle.ngc_drawing.specs.Bodies.{sweeps, swept_from}
 use Rattle.ngc_drawing.specs.Sheets.{frame, unit_of, sheet}
@@ -74,10 +75,13 @@ abbrev pub refused_fixture : View → List Fixture → Option ℕ → List Shape
 refused_fixture view fixtures None = []
 refused_fixture view fixtures (Some i) = first_red view (drop i fixtures)
 
--- the first of these motions in red, with the fault's number at its end
+-- a way in red, with the fault's number at its end
+abbrev pub refused_way : View → ℕ → Way → List Shape
+refused_way view fault way = stroke view None inks.Fault way ++ shapes.PathEnd ∷ shapes.FaultNumber (spot view (end_of way)) fault ∷ []
+
+-- that of the first of these motions
 abbrev pub refused_action : View → ℕ → Action → List Shape
-refused_action view fault (Move m) =
-    stroke view None inks.Fault m.way ++ shapes.PathEnd ∷ shapes.FaultNumber (spot view (end_of m.way)) fault ∷ []
+refused_action view fault (Move m) = refused_way view fault m.way
 refused_action view fault _ = []
 
 abbrev pub first_refused : View → ℕ → List Command → List Shape

@@ -4,6 +4,7 @@ use Rattle.std.specs.Ordering.{int_eq}
 use Rattle.ngc_fixed_length.specs.Places.{height}
 use Rattle.ngc_fixed_length.specs.declared.modes.Turn.{Turn}
 use Rattle.ngc_fixed_length.specs.declared.modes.Turn.TheVariants.{Clockwise, Counterclockwise}
+use Rattle.ngc_fixed_length.specs.declared.points.Point3.{Point3}
 use Rattle.ngc_arc_geometry.specs.Shape.{ArcShape}
 use Rattle.ngc_arc_geometry.specs.Radii.{outer_radius}
 use Rattle.ngc_machine.specs.declared.tools.Tool.{Tool}
@@ -16,6 +17,7 @@ use Rattle.ngc_canonical.specs.declared.movement.Pace.TheVariants as paces
 use Rattle.ngc_canonical.specs.declared.movement.Way.{Way}
 use Rattle.ngc_canonical.specs.declared.movement.Way.TheVariants.{Line, Arc}
 use Rattle.ngc_drawing.specs.Arcs.{corner_spots}
+use Rattle.ngc_drawing.specs.Helices.{helix_points}
 use Rattle.ngc_drawing.specs.Tools.{rank_of, number_of}
 use Rattle.ngc_drawing.specs.Views.{spot, faces, is_same, micrometres}
 use Rattle.ngc_drawing.specs.declared.pen.Pen.{Pen}
@@ -51,17 +53,21 @@ is_seen_clockwise Front Counterclockwise = true
 is_seen_clockwise _ Clockwise = true
 is_seen_clockwise _ Counterclockwise = false
 
--- an arc in quarters, from one extreme point to the next; seen from its side, a line to and fro
+-- an arc in quarters, from one extreme point to the next; seen from its side, a line to and fro, and a helix point by point
 abbrev pub round : View → ArcShape → Spot → Shape
 round view arc to = shapes.Round (micrometres (pos (outer_radius arc))) (is_seen_clockwise view arc.turn) to
 
 abbrev pub is_flat : ArcShape → Bool
 is_flat arc = int_eq (height arc.plane arc.start) (height arc.plane arc.end)
 
+-- straight on to a point
+abbrev pub line_to : View → Point3 → Shape
+line_to view p = shapes.Line (spot view p)
+
 abbrev pub arc_course : View → ArcShape → List Shape
 arc_course view arc =
     if faces view arc.plane then map (round view arc) (corner_spots view arc)
-    else (if is_flat arc then map shapes.Line (corner_spots view arc) else shapes.Line (spot view arc.end) ∷ [])
+    else (if is_flat arc then map shapes.Line (corner_spots view arc) else map (line_to view) (helix_points arc))
 
 -- the way to a motion's end; what falls on one spot is left out
 abbrev pub course : View → Way → List Shape

@@ -4,6 +4,7 @@
 mod bodies;
 mod drawer;
 mod fault;
+mod helix;
 mod pen;
 mod picture;
 mod refusal;

@@ -9,7 +9,7 @@ ghost use Rattle.ngc_drawing.specs.Draws.{Draws};
 ghost use Rattle.ngc_drawing.specs.Faults.{CountsUnlessMemory};
 ghost use Rattle.ngc_drawing.specs.Sheets.{unit_of};
 ghost use Rattle.ngc_drawing.specs.Tools.{used};
-ghost use Rattle.ngc_drawing.specs.Pictures.{fixture, fixtures_from, marked, SCALES, scale_in, part, parts, tool_row, tool_rows, first_red, refused_fixture, refused_action, first_refused, refused, refusal_row, rows, opening, scaled, ground, picture_of, text_of, picture_text};
+ghost use Rattle.ngc_drawing.specs.Pictures.{fixture, fixtures_from, marked, SCALES, scale_in, part, parts, tool_row, tool_rows, first_red, refused_fixture, refused_way, refused_action, first_refused, refused, refusal_row, rows, opening, scaled, ground, picture_of, text_of, picture_text};
 ghost use Rattle.ngc_drawing.specs.Strokes.{strokes_from, strokes, last_end};
 
 use crate::bodies::draw_swept;
@@ -20,12 +20,12 @@ use crate::refusal::Refusal;
 use crate::shape::{Ink, Mark, Shape};
 use crate::sheet::{Unit, frame, sheet, unit_of};
 use crate::spot::Rectangle;
-use crate::strokes::{stroke, strokes_of};
+use crate::strokes::{draw_action, draw_stroke};
 use crate::sweep::{Sweep, sweeps};
 use crate::tools::{number_of, rank_of, used};
 use crate::view::{View, to_micrometres};
 use arrayvec::ArrayVec;
-use ngc_canonical::{Action, Command, Fixture, Machine, Tool};
+use ngc_canonical::{Action, Command, Fixture, Machine, Tool, Way};
 use ngc_certificate_text::Motions;
 use ngc_fixed_length::{Sink, WriteFault};
 use ngc_machine::Part;
@@ -110,8 +110,7 @@ fn draw_strokes<W: Sink>(
         run: None,
     };
     for command in commands {
-        let shapes = strokes_of(view, &pen, &command.action);
-        match draw_all(chunk, unit, shapes.as_slice(), sink) {
+        match draw_action(chunk, unit, view, &pen, &command.action, sink) {
             Ok(()) => {}
             Err(fault) => return Err(fault),
         }
@@ -179,27 +178,75 @@ fn draw_tools<W: Sink>(
     Ok(())
 }
 
-fn refused_action(view: View, fault: u16, action: &Action) -> ArrayVec<Shape, 16>
-    ensures { result.items ≡ refused_action view fault action.now }
+fn draw_refused_way<W: Sink>(
+    chunk: &mut Chunk,
+    unit: &Unit,
+    view: View,
+    fault: u16,
+    way: &Way,
+    sink: &mut W,
+) -> Result<(), WriteFault>
+    ensures drawn { Draws unit.now.micrometres (W.written sink.old) (W.written sink.new) chunk.old chunk.new result (refused_way view fault way.now) }
+    ensures counts { CountsFailure (W.failures sink.old) (W.failures sink.new) result }
 {
-    let mut shapes = ArrayVec::new();
-    if let Action::Move(motion) = action {
-        for shape in stroke(view, &None, Ink::Fault, &motion.way).as_slice() {
-            shapes.push(*shape);
-        }
-        shapes.push(Shape::PathEnd);
-        shapes.push(Shape::FaultNumber(view.spot(&motion.way.end()), fault));
+    match draw_stroke(chunk, unit, view, &None, Ink::Fault, way, sink) {
+        Ok(()) => {}
+        Err(fault) => return Err(fault),
     }
-    shapes
+    let end = [
+        Shape::PathEnd,
+        Shape::FaultNumber(view.spot(&way.end()), fault),
+    ];
+    draw_all(chunk, unit, &end, sink)
 }
 
-fn first_refused(view: View, fault: u16, commands: &[Command]) -> ArrayVec<Shape, 16>
-    ensures { result.items ≡ first_refused view fault commands.now }
+fn draw_refused_action<W: Sink>(
+    chunk: &mut Chunk,
+    unit: &Unit,
+    view: View,
+    fault: u16,
+    action: &Action,
+    sink: &mut W,
+) -> Result<(), WriteFault>
+    ensures drawn { Draws unit.now.micrometres (W.written sink.old) (W.written sink.new) chunk.old chunk.new result (refused_action view fault action.now) }
+    ensures counts { CountsFailure (W.failures sink.old) (W.failures sink.new) result }
+{
+    match action {
+        Action::Move(motion) => draw_refused_way(chunk, unit, view, fault, &motion.way, sink),
+        _ => Ok(()),
+    }
+}
+
+fn draw_first_refused<W: Sink>(
+    chunk: &mut Chunk,
+    unit: &Unit,
+    view: View,
+    fault: u16,
+    commands: &[Command],
+    sink: &mut W,
+) -> Result<(), WriteFault>
+    ensures drawn { Draws unit.now.micrometres (W.written sink.old) (W.written sink.new) chunk.old chunk.new result (first_refused view fault commands.now) }
+    ensures counts { CountsFailure (W.failures sink.old) (W.failures sink.new) result }
 {
     match commands {
-        [] => ArrayVec::new(),
-        [command, ..] => refused_action(view, fault, &command.action),
+        [] => Ok(()),
+        [command, ..] => draw_refused_action(chunk, unit, view, fault, &command.action, sink),
     }
+}
+
+fn draw_refused_motion<W: Sink>(
+    chunk: &mut Chunk,
+    unit: &Unit,
+    view: View,
+    commands: &[Command],
+    refusal: &Refusal,
+    sink: &mut W,
+) -> Result<(), WriteFault>
+    ensures drawn { Draws unit.now.micrometres (W.written sink.old) (W.written sink.new) chunk.old chunk.new result (first_refused view refusal.now.fault (drop refusal.now.command commands.now)) }
+    ensures counts { CountsFailure (W.failures sink.old) (W.failures sink.new) result }
+{
+    let rest = &commands[refusal.command.min(commands.len())..];
+    draw_first_refused(chunk, unit, view, refusal.fault, rest, sink)
 }
 
 fn first_red(view: View, fixtures: &[Fixture]) -> ArrayVec<Shape, 8>
@@ -221,12 +268,6 @@ fn refused_fixture(view: View, fixtures: &[Fixture], fixture: Option<usize>) -> 
     }
 }
 
-fn refused_motion(view: View, fault: u16, commands: &[Command], at: usize) -> ArrayVec<Shape, 16>
-    ensures { result.items ≡ first_refused view fault (drop at commands.now) }
-{
-    first_refused(view, fault, &commands[at.min(commands.len())..])
-}
-
 fn draw_refusal<A: Allocator, W: Sink>(
     chunk: &mut Chunk,
     unit: &Unit,
@@ -244,8 +285,7 @@ fn draw_refusal<A: Allocator, W: Sink>(
         Ok(()) => {}
         Err(fault) => return Err(fault),
     }
-    let motion = refused_motion(view, refusal.fault, commands, refusal.command);
-    draw_all(chunk, unit, motion.as_slice(), sink)
+    draw_refused_motion(chunk, unit, view, commands, refusal, sink)
 }
 
 fn draw_refused<A: Allocator, W: Sink>(

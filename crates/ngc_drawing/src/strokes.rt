@@ -1,21 +1,25 @@
 //! The path, motion by motion.
 ghost use Rattle.std.specs.Prelude.{◌≡◌, ◌≤◌, ◌++◌, length, map};
+ghost use Rattle.ngc_fixed_length.specs.Failures.{CountsFailure};
 ghost use Rattle.ngc_canonical.specs.Movement.{start_of};
 ghost use Rattle.ngc_drawing.specs.declared.shape.Shape.TheVariants as drawn;
 ghost use Rattle.ngc_drawing.specs.Arcs.{corner_spots};
-ghost use Rattle.ngc_drawing.specs.Strokes.{lead, is_seen_clockwise, round, is_flat, arc_course, course, stroke, strokes_of};
+ghost use Rattle.ngc_drawing.specs.Draws.{Draws};
+ghost use Rattle.ngc_drawing.specs.Helices.{curve, helix_points};
+ghost use Rattle.ngc_drawing.specs.Strokes.{lead, is_seen_clockwise, round, is_flat, line_to, arc_course, course, stroke, strokes_of};
 
+use crate::drawer::draw_all;
+use crate::helix::{halfway, halvings, middle};
 use crate::pen::{Pen, Run, ink_of};
 use crate::shape::{Ink, Shape};
+use crate::sheet::Unit;
 use crate::spot::Spot;
 use crate::view::{View, to_micrometres};
 use arrayvec::ArrayVec;
 use ngc_arc_geometry::Arc;
 use ngc_canonical::{Action, Way};
-use ngc_fixed_length::{Point3, Turn};
-
-/// What is drawn of a motion: at most two shapes to come to its start, and at most five to its end.
-pub(crate) type Stroke = ArrayVec<Shape, 8>;
+use ngc_fixed_length::{Point3, Sink, Turn, WriteFault};
+use ngc_output::Chunk;
 
 /// Where the extreme points of an arc and its end are seen.
 pub(crate) fn corner_spots(view: View, arc: &Arc) -> ArrayVec<Spot, 5>
@@ -42,9 +46,9 @@ fn is_seen_clockwise(view: View, turn: Turn) -> bool
     }
 }
 
-fn lead(run: &Option<Run>, ink: Ink, from: Spot) -> Stroke
-    ensures value { result.items ≡ lead run.now ink from }
-    ensures few { length result.items ≤ 2 }
+/// What comes to the start of a motion.
+fn lead(run: &Option<Run>, ink: Ink, from: Spot) -> ArrayVec<Shape, 2>
+    ensures { result.items ≡ lead run.now ink from }
 {
     let mut shapes = ArrayVec::new();
     if let Some(run) = run {
@@ -64,51 +68,122 @@ fn is_flat(arc: &Arc) -> bool
     arc.start().height(plane) == arc.end().height(plane)
 }
 
-fn add_rounds(shapes: &mut Stroke, view: View, arc: &Arc)
-    requires { length shapes.old.items ≤ 2 }
-    ensures { shapes.new.items ≡ shapes.old.items ++ map (round view arc.now) (corner_spots view arc.now) }
+/// An arc in quarters.
+fn rounds(view: View, arc: &Arc) -> ArrayVec<Shape, 5>
+    ensures { result.items ≡ map (round view arc.now) (corner_spots view arc.now) }
 {
     let radius = to_micrometres(arc.outer_radius() as i64);
     let clockwise = is_seen_clockwise(view, arc.turn());
+    let mut shapes = ArrayVec::new();
     for spot in corner_spots(view, arc).as_slice() {
         shapes.push(Shape::Round(radius, clockwise, *spot));
     }
+    shapes
 }
 
-fn add_corners(shapes: &mut Stroke, view: View, arc: &Arc)
-    requires { length shapes.old.items ≤ 2 }
-    ensures { shapes.new.items ≡ shapes.old.items ++ map drawn.Line (corner_spots view arc.now) }
+/// An arc to and fro.
+fn corners(view: View, arc: &Arc) -> ArrayVec<Shape, 5>
+    ensures { result.items ≡ map drawn.Line (corner_spots view arc.now) }
 {
+    let mut shapes = ArrayVec::new();
     for spot in corner_spots(view, arc).as_slice() {
         shapes.push(Shape::Line(*spot));
     }
+    shapes
 }
 
-fn add_arc(shapes: &mut Stroke, view: View, arc: &Arc)
-    requires { length shapes.old.items ≤ 2 }
-    ensures { shapes.new.items ≡ shapes.old.items ++ arc_course view arc.now }
+/// Draws the way from one point of an arc to another, at most half a turn apart, halved so many times.
+fn draw_curve<W: Sink>(
+    chunk: &mut Chunk,
+    unit: &Unit,
+    view: View,
+    arc: &Arc,
+    halvings: u32,
+    from: &Point3,
+    to: &Point3,
+    sink: &mut W,
+) -> Result<(), WriteFault>
+    ensures drawn { Draws unit.now.micrometres (W.written sink.old) (W.written sink.new) chunk.old chunk.new result (map (line_to view) (curve halvings arc.now from.now to.now)) }
+    ensures counts { CountsFailure (W.failures sink.old) (W.failures sink.new) result }
+{
+    if halvings == 0 {
+        return draw_all(chunk, unit, &[Shape::Line(view.spot(to))], sink);
+    }
+    let between = halfway(arc, from, to);
+    match draw_curve(chunk, unit, view, arc, halvings - 1, from, &between, sink) {
+        Ok(()) => {}
+        Err(fault) => return Err(fault),
+    }
+    draw_curve(chunk, unit, view, arc, halvings - 1, &between, to, sink)
+}
+
+fn draw_helix<W: Sink>(
+    chunk: &mut Chunk,
+    unit: &Unit,
+    view: View,
+    arc: &Arc,
+    sink: &mut W,
+) -> Result<(), WriteFault>
+    ensures drawn { Draws unit.now.micrometres (W.written sink.old) (W.written sink.new) chunk.old chunk.new result (map (line_to view) (helix_points arc.now)) }
+    ensures counts { CountsFailure (W.failures sink.old) (W.failures sink.new) result }
+{
+    let halvings = halvings(arc.outer_radius());
+    let middle = middle(arc);
+    match draw_curve(
+        chunk,
+        unit,
+        view,
+        arc,
+        halvings,
+        &arc.start(),
+        &middle,
+        sink,
+    ) {
+        Ok(()) => {}
+        Err(fault) => return Err(fault),
+    }
+    draw_curve(chunk, unit, view, arc, halvings, &middle, &arc.end(), sink)
+}
+
+fn draw_arc<W: Sink>(
+    chunk: &mut Chunk,
+    unit: &Unit,
+    view: View,
+    arc: &Arc,
+    sink: &mut W,
+) -> Result<(), WriteFault>
+    ensures drawn { Draws unit.now.micrometres (W.written sink.old) (W.written sink.new) chunk.old chunk.new result (arc_course view arc.now) }
+    ensures counts { CountsFailure (W.failures sink.old) (W.failures sink.new) result }
 {
     if view.faces(arc.plane()) {
-        add_rounds(shapes, view, arc);
+        draw_all(chunk, unit, rounds(view, arc).as_slice(), sink)
     } else if is_flat(arc) {
-        add_corners(shapes, view, arc);
+        draw_all(chunk, unit, corners(view, arc).as_slice(), sink)
     } else {
-        shapes.push(Shape::Line(view.spot(&arc.end())));
+        draw_helix(chunk, unit, view, arc, sink)
     }
 }
 
-fn add_course(shapes: &mut Stroke, view: View, way: &Way)
-    requires { length shapes.old.items ≤ 2 }
-    ensures { shapes.new.items ≡ shapes.old.items ++ course view way.now }
+fn draw_course<W: Sink>(
+    chunk: &mut Chunk,
+    unit: &Unit,
+    view: View,
+    way: &Way,
+    sink: &mut W,
+) -> Result<(), WriteFault>
+    ensures drawn { Draws unit.now.micrometres (W.written sink.old) (W.written sink.new) chunk.old chunk.new result (course view way.now) }
+    ensures counts { CountsFailure (W.failures sink.old) (W.failures sink.new) result }
 {
     match way {
         Way::Line { start, end } => {
             let to = view.spot(end);
-            if !view.spot(start).is_same(&to) {
-                shapes.push(Shape::Line(to));
+            if view.spot(start).is_same(&to) {
+                Ok(())
+            } else {
+                draw_all(chunk, unit, &[Shape::Line(to)], sink)
             }
         }
-        Way::Arc(arc) => add_arc(shapes, view, arc),
+        Way::Arc(arc) => draw_arc(chunk, unit, view, arc, sink),
     }
 }
 
@@ -121,21 +196,49 @@ fn start_of(way: &Way) -> Point3
     }
 }
 
-/// What is drawn of a way.
-pub(crate) fn stroke(view: View, run: &Option<Run>, ink: Ink, way: &Way) -> Stroke
-    ensures { result.items ≡ stroke view run.now ink way.now }
+/// Draws a way.
+pub(crate) fn draw_stroke<W: Sink>(
+    chunk: &mut Chunk,
+    unit: &Unit,
+    view: View,
+    run: &Option<Run>,
+    ink: Ink,
+    way: &Way,
+    sink: &mut W,
+) -> Result<(), WriteFault>
+    ensures drawn { Draws unit.now.micrometres (W.written sink.old) (W.written sink.new) chunk.old chunk.new result (stroke view run.now ink way.now) }
+    ensures counts { CountsFailure (W.failures sink.old) (W.failures sink.new) result }
 {
-    let mut shapes = lead(run, ink, view.spot(&start_of(way)));
-    add_course(&mut shapes, view, way);
-    shapes
+    let lead = lead(run, ink, view.spot(&start_of(way)));
+    match draw_all(chunk, unit, lead.as_slice(), sink) {
+        Ok(()) => {}
+        Err(fault) => return Err(fault),
+    }
+    draw_course(chunk, unit, view, way, sink)
 }
 
-/// What is drawn of an action.
-pub(crate) fn strokes_of(view: View, pen: &Pen, action: &Action) -> Stroke
-    ensures { result.items ≡ strokes_of view pen.now action.now }
+/// Draws an action.
+pub(crate) fn draw_action<W: Sink>(
+    chunk: &mut Chunk,
+    unit: &Unit,
+    view: View,
+    pen: &Pen,
+    action: &Action,
+    sink: &mut W,
+) -> Result<(), WriteFault>
+    ensures drawn { Draws unit.now.micrometres (W.written sink.old) (W.written sink.new) chunk.old chunk.new result (strokes_of view pen.now action.now) }
+    ensures counts { CountsFailure (W.failures sink.old) (W.failures sink.new) result }
 {
     match action {
-        Action::Move(motion) => stroke(view, &pen.run, ink_of(pen.rank, &motion.pace), &motion.way),
-        _ => ArrayVec::new(),
+        Action::Move(motion) => draw_stroke(
+            chunk,
+            unit,
+            view,
+            &pen.run,
+            ink_of(pen.rank, &motion.pace),
+            &motion.way,
+            sink,
+        ),
+        _ => Ok(()),
     }
 }

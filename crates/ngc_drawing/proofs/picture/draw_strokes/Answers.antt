@@ -15,10 +15,10 @@ returns-in-Err-clause-drawn g c =
     let i = c.loop-command.command-index in
     let pen = c.loop-command.pen in
     let action = c.command-item.result.action in
-    stopped c.args.unit.now.micrometres (g.W.Sink.written c.args.sink.now) (g.W.Sink.written c.loop-command.sink) (g.W.Sink.written c.draw_all.new.sink) c.args.chunk.now c.loop-command.chunk
+    stopped c.args.unit.now.micrometres (g.W.Sink.written c.args.sink.now) (g.W.Sink.written c.loop-command.sink) (g.W.Sink.written c.draw_action.new.sink) c.args.chunk.now c.loop-command.chunk
     (strokes_of view pen action) (strokes_from view ts (after view ts pen action) (drop (i + 1) cs)) (strokes_from view ts pen (drop i cs)) (strokes view ts cs)
     (next_command view ts pen cs i c.command-item.result c.loop-command-test.true c.command-item.is) c.loop-command.invariant.ahead
-    (rw (c.as_slice.ensures.value, c.strokes_of-shapes.ensures) at c.in-Err.ensures.drawn)
+    c.in-Err.ensures.drawn
 
 pub loop-command-preserved : goal.loop-command-preserved
 loop-command-preserved g c =
@@ -29,10 +29,10 @@ loop-command-preserved g c =
     let pen = c.loop-command.pen in
     let action = c.command-item.result.action in
     let drawn =
-    went c.args.unit.now.micrometres (g.W.Sink.written c.args.sink.now) (g.W.Sink.written c.loop-command.sink) (g.W.Sink.written c.draw_all.new.sink) c.args.chunk.now c.loop-command.chunk c.draw_all.new.chunk
+    went c.args.unit.now.micrometres (g.W.Sink.written c.args.sink.now) (g.W.Sink.written c.loop-command.sink) (g.W.Sink.written c.draw_action.new.sink) c.args.chunk.now c.loop-command.chunk c.draw_action.new.chunk
     (strokes_of view pen action) (strokes_from view ts (after view ts pen action) (drop (i + 1) cs)) (strokes_from view ts pen (drop i cs)) (strokes view ts cs)
     (next_command view ts pen cs i c.command-item.result c.loop-command-test.true c.command-item.is) c.loop-command.invariant.ahead
-    (rw (c.as_slice.ensures.value, c.strokes_of-shapes.ensures) at c.in-Ok.ensures.drawn) in
+    c.in-Ok.ensures.drawn in
     record {
       ahead = rw c.after-pen.ensures drawn;
       failures = search rules;
