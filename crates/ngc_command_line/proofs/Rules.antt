@@ -88,6 +88,13 @@ Fits name P id text = bytes_eq id name ≡ true → P text
 abbrev pub FitsCuts : Text → Text → Type 0
 FitsCuts = Fits (codes "cuts") (IsUnsignedIn 1 65535)
 
+-- and one of `--format` is 1 or 2
+abbrev pub FitsFormat : Text → Text → Type 0
+FitsFormat = Fits (codes "format") (IsUnsignedIn 1 2)
+
+pub format_fits : (text : Text) → value_kinds false (Unsigned 1 2) text ≡ [] → IsUnsignedIn 1 2 text
+format_fits text none = accepts-Accepts false (Unsigned 1 2) text (accepted _ _ none)
+
 -- and the number of a fault in its own
 abbrev pub FitsNumber : Text → Text → Type 0
 FitsNumber = Fits (codes "number") (IsUnsignedIn 1 999)

@@ -15,13 +15,15 @@ use Rattle.std.proofs.lemmas.Bool.{ne_eqb}
 use Rattle.std.proofs.lemmas.Str.Parse.{digit_from_value}
 use Rattle.clap.specs.declared.builder.value_parser.ValueParser.TheVariants.{Unsigned}
 use Rattle.clap.proofs.ValueTestLemmas.{Accepts-accepts}
-use Rattle.ngc_command_line.specs.CommandLine.{certify_words, check_words, draw_words, help_words, list_words, ngc_app, run_name, run_words, show_words}
-use Rattle.ngc_command_line.specs.Meant.{AreCommands, AreCuts, AreCutsInRange, AreOptions, AsksForCertify, AsksForCheck, AsksForDraw, AsksForHelp, AsksForList, AsksForRun, AsksForShow, IsTaken, is_set}
+use Rattle.ngc_command_line.specs.CommandLine.{certify_words, check_words, draw_words, format_text, help_words, list_words, ngc_app, report_words, run_name, run_words, show_words}
+use Rattle.ngc_command_line.specs.Meant.{AreCommands, AreCuts, AreCutsInRange, AreOptions, AsksForCertify, AsksForCheck, AsksForDraw, AsksForHelp, AsksForList, AsksForReport, AsksForRun, AsksForShow, IsFormat, IsTaken, is_set}
+use Rattle.ngc_command_line.specs.declared.options.Format.{Format}
+use Rattle.ngc_command_line.specs.declared.options.Format.TheVariants.{One, Two}
 use Rattle.ngc_command_line.specs.declared.options.Options.{Options}
-use Rattle.ngc_command_line.specs.declared.options.Options.TheVariants.{Certify as ToCertify, Check as ToCheck, Draw as ToDraw, Explain as ToExplain, Help as ToHelp, List as ToList, Run as ToRun, RunThrough as ToRunThrough, Show as ToShow, Version as ToVersion}
+use Rattle.ngc_command_line.specs.declared.options.Options.TheVariants.{Certify as ToCertify, Check as ToCheck, Draw as ToDraw, Explain as ToExplain, Help as ToHelp, List as ToList, Report as ToReport, Run as ToRun, RunThrough as ToRunThrough, Show as ToShow, Version as ToVersion}
 use Rattle.ngc_command_line.specs.declared.options.Recording.{Recording}
 use Rattle.ngc_command_line.specs.declared.options.Recording.TheVariants.{Log, Pulses}
-use Rattle.ngc_command_line.proofs.Whole.{no_run, other_letter, other_name}
+use Rattle.ngc_command_line.proofs.Whole.{no_run, other_letter, other_name, report_is_no_run}
 
 -- the words are taken, and this holds of the subcommand that they name
 abbrev Spells : List Text → (Option (Text × List Row) → Type 0) → Type 0
@@ -63,6 +65,7 @@ list_asked program machine tools delete (Some found) (ToRun run) finds are = no_
 list_asked program machine tools delete (Some found) (ToRunThrough run) finds are = no_run (codes "list") run.recording (sym finds.0 ∙ are.0) (λ three. omega (arith, three)) (λ six. omega (arith, six))
 list_asked program machine tools delete (Some found) (ToDraw draw) finds are = other_letter (codes "list") (codes "draw") (sym finds.0 ∙ are.0) (λ letters. omega (arith, letters))
 list_asked program machine tools delete (Some found) (ToShow show) finds are = other_letter (codes "list") (codes "show") (sym finds.0 ∙ are.0) (λ letters. omega (arith, letters))
+list_asked program machine tools delete (Some found) (ToReport report) finds are = other_name (codes "list") (codes "report") (sym finds.0 ∙ are.0) (λ lengths. omega (arith, lengths))
 list_asked program machine tools delete (Some found) (ToExplain number) finds are = other_name (codes "list") (codes "explain") (sym finds.0 ∙ are.0) (λ differ. omega (arith, differ))
 list_asked program machine tools delete (Some found) (ToHelp command) finds are = other_letter (codes "list") (codes "help") (sym finds.0 ∙ are.0) (λ differ. omega (arith, differ))
 list_asked program machine tools delete (Some found) ToVersion finds are = other_name (codes "list") (codes "version") (sym finds.0 ∙ are) (λ differ. omega (arith, differ))
@@ -101,6 +104,7 @@ check_asked machine tools certificate program (Some found) (ToRun run) finds are
 check_asked machine tools certificate program (Some found) (ToRunThrough run) finds are = no_run (codes "check") run.recording (sym finds.0 ∙ are.0) (λ three. omega (arith, three)) (λ six. omega (arith, six))
 check_asked machine tools certificate program (Some found) (ToDraw draw) finds are = other_name (codes "check") (codes "draw") (sym finds.0 ∙ are.0) (λ lengths. omega (arith, lengths))
 check_asked machine tools certificate program (Some found) (ToShow show) finds are = other_letter (codes "check") (codes "show") (sym finds.0 ∙ are.0) (λ letters. omega (arith, letters))
+check_asked machine tools certificate program (Some found) (ToReport report) finds are = other_name (codes "check") (codes "report") (sym finds.0 ∙ are.0) (λ lengths. omega (arith, lengths))
 check_asked machine tools certificate program (Some found) (ToExplain number) finds are = other_name (codes "check") (codes "explain") (sym finds.0 ∙ are.0) (λ differ. omega (arith, differ))
 check_asked machine tools certificate program (Some found) (ToHelp command) finds are = other_name (codes "check") (codes "help") (sym finds.0 ∙ are.0) (λ differ. omega (arith, differ))
 check_asked machine tools certificate program (Some found) ToVersion finds are = other_name (codes "check") (codes "version") (sym finds.0 ∙ are) (λ differ. omega (arith, differ))
@@ -182,6 +186,7 @@ run_asked recording machine tools certificate events program delete (Some found)
     no_run (codes "draw") recording (sym (are.0) ∙ finds.0) (λ three. omega (arith, three)) (λ six. omega (arith, six))
 run_asked recording machine tools certificate events program delete (Some found) (ToShow show) finds are =
     no_run (codes "show") recording (sym (are.0) ∙ finds.0) (λ three. omega (arith, three)) (λ six. omega (arith, six))
+run_asked recording machine tools certificate events program delete (Some found) (ToReport report) finds are = report_is_no_run recording (sym are.0 ∙ finds.0)
 run_asked recording machine tools certificate events program delete (Some found) (ToExplain number) finds are =
     no_run (codes "explain") recording (sym (are.0) ∙ finds.0) (λ three. omega (arith, three)) (λ six. omega (arith, six))
 run_asked recording machine tools certificate events program delete (Some found) (ToHelp command) finds are =
@@ -251,6 +256,7 @@ draw_asked machine tools certificate program view delete (Some found) (ToRun run
 draw_asked machine tools certificate program view delete (Some found) (ToRunThrough run) finds are =
     no_run (codes "draw") run.recording (sym finds.0 ∙ are.0) (λ three. omega (arith, three)) (λ six. omega (arith, six))
 draw_asked machine tools certificate program view delete (Some found) (ToShow show) finds are = other_letter (codes "draw") (codes "show") (sym finds.0 ∙ are.0) (λ letters. omega (arith, letters))
+draw_asked machine tools certificate program view delete (Some found) (ToReport report) finds are = other_name (codes "draw") (codes "report") (sym finds.0 ∙ are.0) (λ lengths. omega (arith, lengths))
 draw_asked machine tools certificate program view delete (Some found) (ToExplain number) finds are =
     other_name (codes "draw") (codes "explain") (sym finds.0 ∙ are.0) (λ lengths. omega (arith, lengths))
 draw_asked machine tools certificate program view delete (Some found) (ToHelp command) finds are =
@@ -288,6 +294,7 @@ show_asked machine tools (Some found) (ToList list) finds are = other_letter (co
 show_asked machine tools (Some found) (ToCertify certify) finds are = other_letter (codes "show") (codes "certify") (sym finds.0 ∙ are.0) (λ letters. omega (arith, letters))
 show_asked machine tools (Some found) (ToCheck check) finds are = other_letter (codes "show") (codes "check") (sym finds.0 ∙ are.0) (λ letters. omega (arith, letters))
 show_asked machine tools (Some found) (ToDraw draw) finds are = other_letter (codes "show") (codes "draw") (sym finds.0 ∙ are.0) (λ letters. omega (arith, letters))
+show_asked machine tools (Some found) (ToReport report) finds are = other_name (codes "show") (codes "report") (sym finds.0 ∙ are.0) (λ lengths. omega (arith, lengths))
 show_asked machine tools (Some found) (ToExplain number) finds are = other_letter (codes "show") (codes "explain") (sym finds.0 ∙ are.0) (λ letters. omega (arith, letters))
 show_asked machine tools (Some found) (ToHelp command) finds are = other_letter (codes "show") (codes "help") (sym finds.0 ∙ are.0) (λ letters. omega (arith, letters))
 show_asked machine tools (Some found) (ToRun run) finds are =
@@ -306,21 +313,35 @@ show_read words machine tools options spelled are =
     show_asked machine tools _ options (show_spells machine tools).1 (subst Are spelled are)
 
 -- the values of `certify` that were found are these
-abbrev FindsCertify : Text → Text → Option Text → Option Text → Option (Text × List Row) → Type 0
-FindsCertify machine tools program cuts None = ⊥
-FindsCertify machine tools program cuts (Some found) = (found.0 ≡ codes "certify") × (first_of (codes "machine") found.1 ≡ Some machine)
+abbrev FindsCertify : Text → Text → Option Text → Option Text → Option Text → Option (Text × List Row) → Type 0
+FindsCertify machine tools program cuts format None = ⊥
+FindsCertify machine tools program cuts format (Some found) = (found.0 ≡ codes "certify") × (first_of (codes "machine") found.1 ≡ Some machine)
     × (first_of (codes "tools") found.1 ≡ Some tools) × (first_of (codes "program") found.1 ≡ program) × (first_of (codes "cuts") found.1 ≡ cuts)
+    × (first_of (codes "format") found.1 ≡ format)
 
 -- a number as a text
 abbrev text_of : Option ℕ → Option Text
 text_of cuts = option_map decimal cuts
 
-certify_finds : (machine tools : Text) (program : Option Text) (cuts : Option ℕ) → FindsCertify machine tools program (text_of cuts) (subcommand_of ngc_app (certify_words machine tools program cuts))
+-- a version as a text
+abbrev text_of_format : Option Format → Option Text
+text_of_format format = option_map format_text format
+
+certify_finds : (machine tools : Text) (program : Option Text) (cuts : Option ℕ) (format : Option Format)
+    → FindsCertify machine tools program (text_of cuts) (text_of_format format) (subcommand_of ngc_app (certify_words machine tools program cuts format))
 unfolding clap_on_literals
-certify_finds machine tools None None = (refl, refl, refl, refl, refl)
-certify_finds machine tools None (Some cuts) = (refl, refl, refl, refl, refl)
-certify_finds machine tools (Some program) None = (refl, refl, refl, refl, refl)
-certify_finds machine tools (Some program) (Some cuts) = (refl, refl, refl, refl, refl)
+certify_finds machine tools None None None = (refl, refl, refl, refl, refl, refl)
+certify_finds machine tools None None (Some One) = (refl, refl, refl, refl, refl, refl)
+certify_finds machine tools None None (Some Two) = (refl, refl, refl, refl, refl, refl)
+certify_finds machine tools None (Some cuts) None = (refl, refl, refl, refl, refl, refl)
+certify_finds machine tools None (Some cuts) (Some One) = (refl, refl, refl, refl, refl, refl)
+certify_finds machine tools None (Some cuts) (Some Two) = (refl, refl, refl, refl, refl, refl)
+certify_finds machine tools (Some program) None None = (refl, refl, refl, refl, refl, refl)
+certify_finds machine tools (Some program) None (Some One) = (refl, refl, refl, refl, refl, refl)
+certify_finds machine tools (Some program) None (Some Two) = (refl, refl, refl, refl, refl, refl)
+certify_finds machine tools (Some program) (Some cuts) None = (refl, refl, refl, refl, refl, refl)
+certify_finds machine tools (Some program) (Some cuts) (Some One) = (refl, refl, refl, refl, refl, refl)
+certify_finds machine tools (Some program) (Some cuts) (Some Two) = (refl, refl, refl, refl, refl, refl)
 
 -- digits have no sign before them
 no_plus : (ds : Text) → IsNumeral 10 ds → without_leading_plus ds ≡ ds
@@ -349,52 +370,124 @@ both {first} {second} none none_after = subst (λ (k : Kinds). or_else k second 
 passes : (takes : Bool) (kind : ErrorKind) → takes ≡ true → (if takes then [] else kind ∷ []) ≡ []
 passes takes kind is = subst (λ (b : Bool). (if b then [] else kind ∷ []) ≡ []) (sym is) refl
 
-certify_cuts_taken : (machine tools : Text) (program : Option Text) (cuts : ℕ) → value_kinds false (Unsigned 1 65535) (decimal cuts) ≡ []
-    → IsTaken (certify_words machine tools program (Some cuts))
+certify_cuts_taken : (machine tools : Text) (program : Option Text) (cuts : ℕ) (format : Option Format) → value_kinds false (Unsigned 1 65535) (decimal cuts) ≡ []
+    → IsTaken (certify_words machine tools program (Some cuts) format)
 unfolding clap_on_literals
-certify_cuts_taken machine tools None cuts takes = both (both (both (both (both takes refl) refl) refl) refl) refl
-certify_cuts_taken machine tools (Some program) cuts takes = both (both (both (both (both takes refl) refl) refl) refl) refl
+certify_cuts_taken machine tools None cuts None takes = both (both (both (both (both takes refl) refl) refl) refl) refl
+certify_cuts_taken machine tools None cuts (Some One) takes = both (both (both (both (both takes refl) refl) refl) refl) refl
+certify_cuts_taken machine tools None cuts (Some Two) takes = both (both (both (both (both takes refl) refl) refl) refl) refl
+certify_cuts_taken machine tools (Some program) cuts None takes = both (both (both (both (both takes refl) refl) refl) refl) refl
+certify_cuts_taken machine tools (Some program) cuts (Some One) takes = both (both (both (both (both takes refl) refl) refl) refl) refl
+certify_cuts_taken machine tools (Some program) cuts (Some Two) takes = both (both (both (both (both takes refl) refl) refl) refl) refl
 
-certify_spells : (machine tools : Text) (program : Option Text) (cuts : Option ℕ) → AreCutsInRange cuts → IsTaken (certify_words machine tools program cuts)
+certify_spells : (machine tools : Text) (program : Option Text) (cuts : Option ℕ) (format : Option Format) → AreCutsInRange cuts → IsTaken (certify_words machine tools program cuts format)
 unfolding clap_on_literals
-certify_spells machine tools None None range = refl
-certify_spells machine tools (Some program) None range = refl
-certify_spells machine tools program (Some cuts) range =
+certify_spells machine tools None None None range = refl
+certify_spells machine tools None None (Some One) range = refl
+certify_spells machine tools None None (Some Two) range = refl
+certify_spells machine tools (Some program) None None range = refl
+certify_spells machine tools (Some program) None (Some One) range = refl
+certify_spells machine tools (Some program) None (Some Two) range = refl
+certify_spells machine tools program (Some cuts) format range =
     let text = Accepts-accepts false (Unsigned 1 65535) (decimal cuts) (decimal_in_range cuts range.0 range.1) in
-    certify_cuts_taken machine tools program cuts (passes (accepts false (Unsigned 1 65535) (decimal cuts)) _ text)
+    certify_cuts_taken machine tools program cuts format (passes (accepts false (Unsigned 1 65535) (decimal cuts)) _ text)
 
 -- the number that its decimal gives back
 cuts_read : (cuts : Option ℕ) (read : ℕ) → AreCutsInRange cuts → AreCuts (text_of cuts) read → read ≡ unwrap_or cuts 8
 cuts_read None read range are = are
 cuts_read (Some cuts) read range are = are.1 ∙ decimal_value cuts range.1
 
-certify_asked : (machine tools : Text) (program : Option Text) (cuts : Option ℕ) (found : Option (Text × List Row)) (options : Options) → AreCutsInRange cuts
-    → FindsCertify machine tools program (text_of cuts) found → AreOptions found options → AsksForCertify machine tools program cuts options
-certify_asked machine tools program cuts None options range finds are = absurd finds
-certify_asked machine tools program cuts (Some found) (ToCertify certify) range finds are =
+-- the version that its digit gives back
+format_read : (format : Option Format) (read : Format) → IsFormat (text_of_format format) read → read ≡ unwrap_or format One
+format_read None read is = is
+format_read (Some One) One is = refl
+format_read (Some One) Two is = let bad : 2 ≡ 1 = is.1 in absurd (omega (arith, bad))
+format_read (Some Two) One is = let bad : 1 ≡ 2 = is.1 in absurd (omega (arith, bad))
+format_read (Some Two) Two is = refl
+
+certify_asked : (machine tools : Text) (program : Option Text) (cuts : Option ℕ) (format : Option Format) (found : Option (Text × List Row)) (options : Options) → AreCutsInRange cuts
+    → FindsCertify machine tools program (text_of cuts) (text_of_format format) found → AreOptions found options → AsksForCertify machine tools program cuts format options
+certify_asked machine tools program cuts format None options range finds are = absurd finds
+certify_asked machine tools program cuts format (Some found) (ToCertify certify) range finds are =
     let read = subst (λ (text : Option Text). AreCuts text certify.cuts) finds.4 are.1.cuts in
-    (same_text _ _ _ are.1.machine finds.1, same_text _ _ _ are.1.tools finds.2, are.1.program ∙ finds.3, cuts_read cuts certify.cuts range read)
-certify_asked machine tools program cuts (Some found) (ToList list) range finds are =
+    let version = subst (λ (text : Option Text). IsFormat text certify.format) finds.5 are.1.format in
+    (same_text _ _ _ are.1.machine finds.1, same_text _ _ _ are.1.tools finds.2, are.1.program ∙ finds.3, cuts_read cuts certify.cuts range read, format_read format certify.format version)
+certify_asked machine tools program cuts format (Some found) (ToList list) range finds are =
     other_name (codes "certify") (codes "list") (sym finds.0 ∙ are.0) (λ lengths. omega (arith, lengths))
-certify_asked machine tools program cuts (Some found) (ToCheck check) range finds are =
+certify_asked machine tools program cuts format (Some found) (ToCheck check) range finds are =
     other_name (codes "certify") (codes "check") (sym finds.0 ∙ are.0) (λ lengths. omega (arith, lengths))
-certify_asked machine tools program cuts (Some found) (ToRun run) range finds are = no_run (codes "certify") run.recording (sym finds.0 ∙ are.0) (λ three. omega (arith, three)) (λ six. omega (arith, six))
-certify_asked machine tools program cuts (Some found) (ToRunThrough run) range finds are = no_run (codes "certify") run.recording (sym finds.0 ∙ are.0) (λ three. omega (arith, three)) (λ six. omega (arith, six))
-certify_asked machine tools program cuts (Some found) (ToDraw draw) range finds are = other_name (codes "certify") (codes "draw") (sym finds.0 ∙ are.0) (λ lengths. omega (arith, lengths))
-certify_asked machine tools program cuts (Some found) (ToShow show) range finds are = other_letter (codes "certify") (codes "show") (sym finds.0 ∙ are.0) (λ letters. omega (arith, letters))
-certify_asked machine tools program cuts (Some found) (ToExplain number) range finds are = other_letter (codes "certify") (codes "explain") (sym finds.0 ∙ are.0) (λ differ. omega (arith, differ))
-certify_asked machine tools program cuts (Some found) (ToHelp command) range finds are = other_name (codes "certify") (codes "help") (sym finds.0 ∙ are.0) (λ differ. omega (arith, differ))
-certify_asked machine tools program cuts (Some found) ToVersion range finds are = other_letter (codes "certify") (codes "version") (sym finds.0 ∙ are) (λ differ. omega (arith, differ))
+certify_asked machine tools program cuts format (Some found) (ToRun run) range finds are = no_run (codes "certify") run.recording (sym finds.0 ∙ are.0) (λ three. omega (arith, three)) (λ six. omega (arith, six))
+certify_asked machine tools program cuts format (Some found) (ToRunThrough run) range finds are = no_run (codes "certify") run.recording (sym finds.0 ∙ are.0) (λ three. omega (arith, three)) (λ six. omega (arith, six))
+certify_asked machine tools program cuts format (Some found) (ToDraw draw) range finds are = other_name (codes "certify") (codes "draw") (sym finds.0 ∙ are.0) (λ lengths. omega (arith, lengths))
+certify_asked machine tools program cuts format (Some found) (ToShow show) range finds are = other_letter (codes "certify") (codes "show") (sym finds.0 ∙ are.0) (λ letters. omega (arith, letters))
+certify_asked machine tools program cuts format (Some found) (ToReport report) range finds are = other_name (codes "certify") (codes "report") (sym finds.0 ∙ are.0) (λ lengths. omega (arith, lengths))
+certify_asked machine tools program cuts format (Some found) (ToExplain number) range finds are = other_letter (codes "certify") (codes "explain") (sym finds.0 ∙ are.0) (λ differ. omega (arith, differ))
+certify_asked machine tools program cuts format (Some found) (ToHelp command) range finds are = other_name (codes "certify") (codes "help") (sym finds.0 ∙ are.0) (λ differ. omega (arith, differ))
+certify_asked machine tools program cuts format (Some found) ToVersion range finds are = other_letter (codes "certify") (codes "version") (sym finds.0 ∙ are) (λ differ. omega (arith, differ))
 
-pub certify_taken : (words : List Text) (machine tools : Text) (program : Option Text) (cuts : Option ℕ) → AreCutsInRange cuts
-    → words ≡ certify_words machine tools program cuts → IsTaken words
-certify_taken words machine tools program cuts range spelled = subst IsTaken (sym spelled) (certify_spells machine tools program cuts range)
+pub certify_taken : (words : List Text) (machine tools : Text) (program : Option Text) (cuts : Option ℕ) (format : Option Format) → AreCutsInRange cuts
+    → words ≡ certify_words machine tools program cuts format → IsTaken words
+certify_taken words machine tools program cuts format range spelled = subst IsTaken (sym spelled) (certify_spells machine tools program cuts format range)
 
-pub certify_read : (words : List Text) (machine tools : Text) (program : Option Text) (cuts : Option ℕ) (options : Options) → AreCutsInRange cuts
-    → words ≡ certify_words machine tools program cuts → AreOptions (subcommand_of ngc_app words) options → AsksForCertify machine tools program cuts options
-certify_read words machine tools program cuts options range spelled are =
+pub certify_read : (words : List Text) (machine tools : Text) (program : Option Text) (cuts : Option ℕ) (format : Option Format) (options : Options) → AreCutsInRange cuts
+    → words ≡ certify_words machine tools program cuts format → AreOptions (subcommand_of ngc_app words) options → AsksForCertify machine tools program cuts format options
+certify_read words machine tools program cuts format options range spelled are =
     let Are : List Text → Type 0 = λ ws. AreOptions (subcommand_of ngc_app ws) options in
-    certify_asked machine tools program cuts _ options range (certify_finds machine tools program cuts) (subst Are spelled are)
+    certify_asked machine tools program cuts format _ options range (certify_finds machine tools program cuts format) (subst Are spelled are)
+
+-- the values of `report` that were found are these
+abbrev FindsReport : Text → Text → Option Text → Option Text → Option (Text × List Row) → Type 0
+FindsReport machine tools program cuts None = ⊥
+FindsReport machine tools program cuts (Some found) = (found.0 ≡ codes "report") × (first_of (codes "machine") found.1 ≡ Some machine)
+    × (first_of (codes "tools") found.1 ≡ Some tools) × (first_of (codes "program") found.1 ≡ program) × (first_of (codes "cuts") found.1 ≡ cuts)
+
+report_finds : (machine tools : Text) (program : Option Text) (cuts : Option ℕ) → FindsReport machine tools program (text_of cuts) (subcommand_of ngc_app (report_words machine tools program cuts))
+unfolding clap_on_literals
+report_finds machine tools None None = (refl, refl, refl, refl, refl)
+report_finds machine tools None (Some cuts) = (refl, refl, refl, refl, refl)
+report_finds machine tools (Some program) None = (refl, refl, refl, refl, refl)
+report_finds machine tools (Some program) (Some cuts) = (refl, refl, refl, refl, refl)
+
+report_cuts_taken : (machine tools : Text) (program : Option Text) (cuts : ℕ) → value_kinds false (Unsigned 1 65535) (decimal cuts) ≡ []
+    → IsTaken (report_words machine tools program (Some cuts))
+unfolding clap_on_literals
+report_cuts_taken machine tools None cuts takes = both (both (both (both (both takes refl) refl) refl) refl) refl
+report_cuts_taken machine tools (Some program) cuts takes = both (both (both (both (both takes refl) refl) refl) refl) refl
+
+report_spells : (machine tools : Text) (program : Option Text) (cuts : Option ℕ) → AreCutsInRange cuts → IsTaken (report_words machine tools program cuts)
+unfolding clap_on_literals
+report_spells machine tools None None range = refl
+report_spells machine tools (Some program) None range = refl
+report_spells machine tools program (Some cuts) range =
+    let text = Accepts-accepts false (Unsigned 1 65535) (decimal cuts) (decimal_in_range cuts range.0 range.1) in
+    report_cuts_taken machine tools program cuts (passes (accepts false (Unsigned 1 65535) (decimal cuts)) _ text)
+
+report_asked : (machine tools : Text) (program : Option Text) (cuts : Option ℕ) (found : Option (Text × List Row)) (options : Options) → AreCutsInRange cuts
+    → FindsReport machine tools program (text_of cuts) found → AreOptions found options → AsksForReport machine tools program cuts options
+report_asked machine tools program cuts None options range finds are = absurd finds
+report_asked machine tools program cuts (Some found) (ToReport report) range finds are =
+    let read = subst (λ (text : Option Text). AreCuts text report.cuts) finds.4 are.1.cuts in
+    (same_text _ _ _ are.1.machine finds.1, same_text _ _ _ are.1.tools finds.2, are.1.program ∙ finds.3, cuts_read cuts report.cuts range read)
+report_asked machine tools program cuts (Some found) (ToList list) range finds are = other_name (codes "report") (codes "list") (sym finds.0 ∙ are.0) (λ lengths. omega (arith, lengths))
+report_asked machine tools program cuts (Some found) (ToCertify certify) range finds are = other_name (codes "report") (codes "certify") (sym finds.0 ∙ are.0) (λ lengths. omega (arith, lengths))
+report_asked machine tools program cuts (Some found) (ToCheck check) range finds are = other_name (codes "report") (codes "check") (sym finds.0 ∙ are.0) (λ lengths. omega (arith, lengths))
+report_asked machine tools program cuts (Some found) (ToRun run) range finds are = report_is_no_run run.recording (sym finds.0 ∙ are.0)
+report_asked machine tools program cuts (Some found) (ToRunThrough run) range finds are = report_is_no_run run.recording (sym finds.0 ∙ are.0)
+report_asked machine tools program cuts (Some found) (ToDraw draw) range finds are = other_name (codes "report") (codes "draw") (sym finds.0 ∙ are.0) (λ lengths. omega (arith, lengths))
+report_asked machine tools program cuts (Some found) (ToShow show) range finds are = other_name (codes "report") (codes "show") (sym finds.0 ∙ are.0) (λ lengths. omega (arith, lengths))
+report_asked machine tools program cuts (Some found) (ToExplain number) range finds are = other_name (codes "report") (codes "explain") (sym finds.0 ∙ are.0) (λ lengths. omega (arith, lengths))
+report_asked machine tools program cuts (Some found) (ToHelp command) range finds are = other_name (codes "report") (codes "help") (sym finds.0 ∙ are.0) (λ lengths. omega (arith, lengths))
+report_asked machine tools program cuts (Some found) ToVersion range finds are = other_name (codes "report") (codes "version") (sym finds.0 ∙ are) (λ lengths. omega (arith, lengths))
+
+pub report_taken : (words : List Text) (machine tools : Text) (program : Option Text) (cuts : Option ℕ) → AreCutsInRange cuts
+    → words ≡ report_words machine tools program cuts → IsTaken words
+report_taken words machine tools program cuts range spelled = subst IsTaken (sym spelled) (report_spells machine tools program cuts range)
+
+pub report_read : (words : List Text) (machine tools : Text) (program : Option Text) (cuts : Option ℕ) (options : Options) → AreCutsInRange cuts
+    → words ≡ report_words machine tools program cuts → AreOptions (subcommand_of ngc_app words) options → AsksForReport machine tools program cuts options
+report_read words machine tools program cuts options range spelled are =
+    let Are : List Text → Type 0 = λ ws. AreOptions (subcommand_of ngc_app ws) options in
+    report_asked machine tools program cuts _ options range (report_finds machine tools program cuts) (subst Are spelled are)
 
 -- the command whose help was asked for is this
 abbrev FindsHelp : Option Text → Option (Text × List Row) → Type 0
@@ -415,10 +508,11 @@ help_spells (Some command) among = elim among [
   | inr (inr (inr (inr (inl same)))) ↦ help_on command (codes "pulses") same (refl, (refl, refl))
   | inr (inr (inr (inr (inr (inl same))))) ↦ help_on command (codes "draw") same (refl, (refl, refl))
   | inr (inr (inr (inr (inr (inr (inl same)))))) ↦ help_on command (codes "show") same (refl, (refl, refl))
-  | inr (inr (inr (inr (inr (inr (inr (inl same))))))) ↦ help_on command (codes "explain") same (refl, (refl, refl))
-  | inr (inr (inr (inr (inr (inr (inr (inr (inl same)))))))) ↦ help_on command (codes "help") same (refl, (refl, refl))
-  | inr (inr (inr (inr (inr (inr (inr (inr (inr (inl same))))))))) ↦ help_on command (codes "version") same (refl, (refl, refl))
-  | inr (inr (inr (inr (inr (inr (inr (inr (inr (inr none))))))))) ↦ absurd none
+  | inr (inr (inr (inr (inr (inr (inr (inl same))))))) ↦ help_on command (codes "report") same (refl, (refl, refl))
+  | inr (inr (inr (inr (inr (inr (inr (inr (inl same)))))))) ↦ help_on command (codes "explain") same (refl, (refl, refl))
+  | inr (inr (inr (inr (inr (inr (inr (inr (inr (inl same))))))))) ↦ help_on command (codes "help") same (refl, (refl, refl))
+  | inr (inr (inr (inr (inr (inr (inr (inr (inr (inr (inl same)))))))))) ↦ help_on command (codes "version") same (refl, (refl, refl))
+  | inr (inr (inr (inr (inr (inr (inr (inr (inr (inr (inr none)))))))))) ↦ absurd none
 ]
 
 help_asked : (command : Option Text) (found : Option (Text × List Row)) (options : Options) → FindsHelp command found → AreOptions found options → AsksForHelp command options
@@ -431,6 +525,7 @@ help_asked command (Some found) (ToRun run) finds are = no_run (codes "help") ru
 help_asked command (Some found) (ToRunThrough run) finds are = no_run (codes "help") run.recording (sym finds.0 ∙ are.0) (λ three. omega (arith, three)) (λ six. omega (arith, six))
 help_asked command (Some found) (ToDraw draw) finds are = other_letter (codes "help") (codes "draw") (sym finds.0 ∙ are.0) (λ letters. omega (arith, letters))
 help_asked command (Some found) (ToShow show) finds are = other_letter (codes "help") (codes "show") (sym finds.0 ∙ are.0) (λ letters. omega (arith, letters))
+help_asked command (Some found) (ToReport report) finds are = other_name (codes "help") (codes "report") (sym finds.0 ∙ are.0) (λ lengths. omega (arith, lengths))
 help_asked command (Some found) (ToExplain number) finds are = other_name (codes "help") (codes "explain") (sym finds.0 ∙ are.0) (λ differ. omega (arith, differ))
 help_asked command (Some found) ToVersion finds are = other_name (codes "help") (codes "version") (sym finds.0 ∙ are) (λ differ. omega (arith, differ))
 
@@ -462,6 +557,7 @@ version_asked (Some found) (ToRun run) finds are = no_run (codes "version") run.
 version_asked (Some found) (ToRunThrough run) finds are = no_run (codes "version") run.recording (sym finds ∙ are.0) (λ three. omega (arith, three)) (λ six. omega (arith, six))
 version_asked (Some found) (ToDraw draw) finds are = other_name (codes "version") (codes "draw") (sym finds ∙ are.0) (λ lengths. omega (arith, lengths))
 version_asked (Some found) (ToShow show) finds are = other_letter (codes "version") (codes "show") (sym finds ∙ are.0) (λ letters. omega (arith, letters))
+version_asked (Some found) (ToReport report) finds are = other_name (codes "version") (codes "report") (sym finds ∙ are.0) (λ lengths. omega (arith, lengths))
 version_asked (Some found) (ToExplain number) finds are = other_letter (codes "version") (codes "explain") (sym finds ∙ are.0) (λ differ. omega (arith, differ))
 version_asked (Some found) (ToHelp command) finds are = other_name (codes "version") (codes "help") (sym finds ∙ are.0) (λ differ. omega (arith, differ))
 

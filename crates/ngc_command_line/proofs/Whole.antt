@@ -11,11 +11,11 @@ use Rattle.clap.specs.Simple.{built, entered, label_of, names_of, new_shape, row
 use Rattle.clap.specs.Walk.{answers_to, nothing_held, rows_after, stop_after}
 use Rattle.ngc_command_line.specs.CommandLine.{ngc_app}
 use Rattle.ngc_command_line.specs.CommandLine.{run_name}
-use Rattle.ngc_command_line.specs.Meant.{HasCertifyValues, HasCheckValues, HasDrawValues, HasExplainValues, HasRunValues, HasShowValues, IsTaken, IsWhole}
+use Rattle.ngc_command_line.specs.Meant.{HasCertifyValues, HasCheckValues, HasDrawValues, HasExplainValues, HasReportValues, HasRunValues, HasShowValues, IsTaken, IsWhole}
 use Rattle.ngc_command_line.specs.declared.options.Recording.{Recording}
 use Rattle.ngc_command_line.specs.declared.options.Recording.TheVariants.{Log, Pulses}
 use Rattle.ngc_command_line.proofs.Filled.{AreSound}
-use Rattle.ngc_command_line.proofs.Rules.{Fits, FitsCuts, FitsNumber, below_passes, cuts_fit, flag_is_sound, found_fits, given_has_value, help_is_sound, is_true, level_is_filled, neither_true, number_fits, set_is_sound}
+use Rattle.ngc_command_line.proofs.Rules.{Fits, FitsCuts, FitsFormat, FitsNumber, below_passes, cuts_fit, flag_is_sound, format_fits, found_fits, given_has_value, help_is_sound, is_true, level_is_filled, neither_true, number_fits, set_is_sound}
 
 -- what was found are the rows of one of these, at words in which it finds no fault
 abbrev IsOneOf : List Shape → Text × List Row → Type 0
@@ -57,8 +57,11 @@ draw_shape = slice_index_or (built ngc_app).subs 5 (new_shape [])
 abbrev show_shape : Shape
 show_shape = slice_index_or (built ngc_app).subs 6 (new_shape [])
 
+abbrev report_shape : Shape
+report_shape = slice_index_or (built ngc_app).subs 7 (new_shape [])
+
 abbrev explain_shape : Shape
-explain_shape = slice_index_or (built ngc_app).subs 7 (new_shape [])
+explain_shape = slice_index_or (built ngc_app).subs 8 (new_shape [])
 
 explain_sound : AreSound FitsNumber explain_shape.rules
 explain_sound =
@@ -78,7 +81,20 @@ certify_sound =
     let tools = set_is_sound FitsCuts _ refl refl refl (λ v none. no_cuts (codes "tools") v refl) in
     let program = set_is_sound FitsCuts _ refl refl refl (λ v none. no_cuts (codes "program") v refl) in
     let cuts = set_is_sound FitsCuts _ refl refl refl (λ v none same. cuts_fit v none) in
-    (machine, (tools, (program, (cuts, (help_is_sound FitsCuts _ refl refl, tt)))))
+    let format = set_is_sound FitsCuts _ refl refl refl (λ v none. no_cuts (codes "format") v refl) in
+    (machine, (tools, (program, (cuts, (format, (help_is_sound FitsCuts _ refl refl, tt))))))
+
+no_format : (id text : Text) → bytes_eq id (codes "format") ≡ false → FitsFormat id text
+no_format = other_fits (codes "format") (IsUnsignedIn 1 2)
+
+certify_format_sound : AreSound FitsFormat certify_shape.rules
+certify_format_sound =
+    let machine = set_is_sound FitsFormat _ refl refl refl (λ v none. no_format (codes "machine") v refl) in
+    let tools = set_is_sound FitsFormat _ refl refl refl (λ v none. no_format (codes "tools") v refl) in
+    let program = set_is_sound FitsFormat _ refl refl refl (λ v none. no_format (codes "program") v refl) in
+    let cuts = set_is_sound FitsFormat _ refl refl refl (λ v none. no_format (codes "cuts") v refl) in
+    let format = set_is_sound FitsFormat _ refl refl refl (λ v none same. format_fits v none) in
+    (machine, (tools, (program, (cuts, (format, (help_is_sound FitsFormat _ refl refl, tt))))))
 
 check_sound : AreSound FitsCuts check_shape.rules
 check_sound =
@@ -103,8 +119,12 @@ certify_values words none =
     let rows = rows_after certify_shape.rules [] words in
     let (filled, required) = level_is_filled FitsCuts certify_shape certify_sound words none in
     let (machine, others) = neither_true _ _ required in
-    let (tools, rest) = neither_true _ _ others in
-    (given_has_value FitsCuts (codes "machine") rows filled (is_true _ machine), given_has_value FitsCuts (codes "tools") rows filled (is_true _ tools), found_fits (codes "cuts") (IsUnsignedIn 1 65535) rows filled)
+    let (tools, rest) = neither_true _ _ others in (
+      given_has_value FitsCuts (codes "machine") rows filled (is_true _ machine),
+      given_has_value FitsCuts (codes "tools") rows filled (is_true _ tools),
+      found_fits (codes "cuts") (IsUnsignedIn 1 65535) rows filled,
+      found_fits (codes "format") (IsUnsignedIn 1 2) rows (level_is_filled FitsFormat certify_shape certify_format_sound words none).0,
+    )
 
 check_values : (words : List Text) → level_fault check_shape [] nothing_held words false [] ≡ [] → HasCheckValues (rows_after check_shape.rules [] words)
 check_values words none =
@@ -175,6 +195,22 @@ show_values words none =
     let (machine, rest) = neither_true _ _ required in
     given_has_value FitsCuts (codes "machine") rows filled (is_true _ machine)
 
+report_sound : AreSound FitsCuts report_shape.rules
+report_sound =
+    let machine = set_is_sound FitsCuts _ refl refl refl (λ v none. no_cuts (codes "machine") v refl) in
+    let tools = set_is_sound FitsCuts _ refl refl refl (λ v none. no_cuts (codes "tools") v refl) in
+    let program = set_is_sound FitsCuts _ refl refl refl (λ v none. no_cuts (codes "program") v refl) in
+    let cuts = set_is_sound FitsCuts _ refl refl refl (λ v none same. cuts_fit v none) in
+    (machine, (tools, (program, (cuts, (help_is_sound FitsCuts _ refl refl, tt)))))
+
+report_values : (words : List Text) → level_fault report_shape [] nothing_held words false [] ≡ [] → HasReportValues (rows_after report_shape.rules [] words)
+report_values words none =
+    let rows = rows_after report_shape.rules [] words in
+    let (filled, required) = level_is_filled FitsCuts report_shape report_sound words none in
+    let (machine, others) = neither_true _ _ required in
+    let (tools, rest) = neither_true _ _ others in
+    (given_has_value FitsCuts (codes "machine") rows filled (is_true _ machine), given_has_value FitsCuts (codes "tools") rows filled (is_true _ tools), found_fits (codes "cuts") (IsUnsignedIn 1 65535) rows filled)
+
 explain_values : (words : List Text) → level_fault explain_shape [] nothing_held words false [] ≡ [] → HasExplainValues (rows_after explain_shape.rules [] words)
 explain_values words none =
     let rows = rows_after explain_shape.rules [] words in
@@ -195,6 +231,11 @@ pub no_run : {X : Type 0} (a : Text) (recording : Recording) → a ≡ run_name 
 no_run a Log same three six = absurd (three (ap length same))
 no_run a Pulses same three six = absurd (six (ap length same))
 
+-- `report` is neither `run` nor `pulses`
+pub report_is_no_run : {X : Type 0} (recording : Recording) → codes "report" ≡ run_name recording → X
+report_is_no_run Log same = other_name (codes "report") (codes "run") same (λ lengths. omega (arith, lengths))
+report_is_no_run Pulses same = other_letter (codes "report") (codes "pulses") same (λ letters. omega (arith, letters))
+
 one_whole : (found : Text × List Row) → IsOneOf (built ngc_app).subs found → IsWhole found.0 found.1
 one_whole found one = elim one [
   | inl list ↦ subst (λ (f : Text × List Row). IsWhole f.0 f.1) list.1 (record {
@@ -204,6 +245,7 @@ one_whole found one = elim one [
     run = λ recording same. no_run (codes "list") recording same (λ three. omega (arith, three)) (λ six. omega (arith, six));
     draw = λ same. other_letter (codes "list") (codes "draw") same (λ letters. omega (arith, letters));
     show = λ same. other_letter (codes "list") (codes "show") same (λ letters. omega (arith, letters));
+    report = λ same. other_name (codes "list") (codes "report") same (λ lengths. omega (arith, lengths));
     explain = λ same. other_name (codes "list") (codes "explain") same (λ lengths. omega (arith, lengths));
   })
   | inr (inl certify) ↦ subst (λ (f : Text × List Row). IsWhole f.0 f.1) certify.1 (record {
@@ -213,6 +255,7 @@ one_whole found one = elim one [
     run = λ recording same. no_run (codes "certify") recording same (λ three. omega (arith, three)) (λ six. omega (arith, six));
     draw = λ same. other_name (codes "certify") (codes "draw") same (λ lengths. omega (arith, lengths));
     show = λ same. other_letter (codes "certify") (codes "show") same (λ letters. omega (arith, letters));
+    report = λ same. other_name (codes "certify") (codes "report") same (λ lengths. omega (arith, lengths));
     explain = λ same. other_letter (codes "certify") (codes "explain") same (λ letters. omega (arith, letters));
   })
   | inr (inr (inl check)) ↦ subst (λ (f : Text × List Row). IsWhole f.0 f.1) check.1 (record {
@@ -222,6 +265,7 @@ one_whole found one = elim one [
     run = λ recording same. no_run (codes "check") recording same (λ three. omega (arith, three)) (λ six. omega (arith, six));
     draw = λ same. other_name (codes "check") (codes "draw") same (λ lengths. omega (arith, lengths));
     show = λ same. other_letter (codes "check") (codes "show") same (λ letters. omega (arith, letters));
+    report = λ same. other_name (codes "check") (codes "report") same (λ lengths. omega (arith, lengths));
     explain = λ same. other_name (codes "check") (codes "explain") same (λ lengths. omega (arith, lengths));
   })
   | inr (inr (inr (inl run))) ↦ subst (λ (f : Text × List Row). IsWhole f.0 f.1) run.1 (record {
@@ -231,6 +275,7 @@ one_whole found one = elim one [
     run = λ recording same. run_values run.0 run.2;
     draw = λ same. other_name (codes "run") (codes "draw") same (λ lengths. omega (arith, lengths));
     show = λ same. other_letter (codes "run") (codes "show") same (λ letters. omega (arith, letters));
+    report = λ same. other_name (codes "run") (codes "report") same (λ lengths. omega (arith, lengths));
     explain = λ same. other_name (codes "run") (codes "explain") same (λ lengths. omega (arith, lengths));
   })
   | inr (inr (inr (inr (inl pulses)))) ↦ subst (λ (f : Text × List Row). IsWhole f.0 f.1) pulses.1 (record {
@@ -240,6 +285,7 @@ one_whole found one = elim one [
     run = λ recording same. pulses_values pulses.0 pulses.2;
     draw = λ same. other_name (codes "pulses") (codes "draw") same (λ lengths. omega (arith, lengths));
     show = λ same. other_letter (codes "pulses") (codes "show") same (λ letters. omega (arith, letters));
+    report = λ same. other_letter (codes "pulses") (codes "report") same (λ letters. omega (arith, letters));
     explain = λ same. other_name (codes "pulses") (codes "explain") same (λ lengths. omega (arith, lengths));
   })
   | inr (inr (inr (inr (inr (inl draw))))) ↦ subst (λ (f : Text × List Row). IsWhole f.0 f.1) draw.1 (record {
@@ -249,6 +295,7 @@ one_whole found one = elim one [
     run = λ recording same. no_run (codes "draw") recording same (λ three. omega (arith, three)) (λ six. omega (arith, six));
     draw = λ same. draw_values draw.0 draw.2;
     show = λ same. other_letter (codes "draw") (codes "show") same (λ letters. omega (arith, letters));
+    report = λ same. other_name (codes "draw") (codes "report") same (λ lengths. omega (arith, lengths));
     explain = λ same. other_name (codes "draw") (codes "explain") same (λ lengths. omega (arith, lengths));
   })
   | inr (inr (inr (inr (inr (inr (inl show)))))) ↦ subst (λ (f : Text × List Row). IsWhole f.0 f.1) show.1 (record {
@@ -258,36 +305,50 @@ one_whole found one = elim one [
     run = λ recording same. no_run (codes "show") recording same (λ three. omega (arith, three)) (λ six. omega (arith, six));
     draw = λ same. other_letter (codes "show") (codes "draw") same (λ letters. omega (arith, letters));
     show = λ same. show_values show.0 show.2;
+    report = λ same. other_name (codes "show") (codes "report") same (λ lengths. omega (arith, lengths));
     explain = λ same. other_letter (codes "show") (codes "explain") same (λ letters. omega (arith, letters));
   })
-  | inr (inr (inr (inr (inr (inr (inr (inl explain))))))) ↦ subst (λ (f : Text × List Row). IsWhole f.0 f.1) explain.1 (record {
+  | inr (inr (inr (inr (inr (inr (inr (inl report))))))) ↦ subst (λ (f : Text × List Row). IsWhole f.0 f.1) report.1 (record {
     named = inr (inr (inr (inr (inr (inr (inr (inl refl)))))));
+    certify = λ same. other_name (codes "report") (codes "certify") same (λ lengths. omega (arith, lengths));
+    check = λ same. other_name (codes "report") (codes "check") same (λ lengths. omega (arith, lengths));
+    run = λ recording same. report_is_no_run recording same;
+    draw = λ same. other_name (codes "report") (codes "draw") same (λ lengths. omega (arith, lengths));
+    show = λ same. other_name (codes "report") (codes "show") same (λ lengths. omega (arith, lengths));
+    report = λ same. report_values report.0 report.2;
+    explain = λ same. other_name (codes "report") (codes "explain") same (λ lengths. omega (arith, lengths));
+  })
+  | inr (inr (inr (inr (inr (inr (inr (inr (inl explain)))))))) ↦ subst (λ (f : Text × List Row). IsWhole f.0 f.1) explain.1 (record {
+    named = inr (inr (inr (inr (inr (inr (inr (inr (inl refl))))))));
     certify = λ same. other_letter (codes "explain") (codes "certify") same (λ letters. omega (arith, letters));
     check = λ same. other_name (codes "explain") (codes "check") same (λ lengths. omega (arith, lengths));
     run = λ recording same. no_run (codes "explain") recording same (λ three. omega (arith, three)) (λ six. omega (arith, six));
     draw = λ same. other_name (codes "explain") (codes "draw") same (λ lengths. omega (arith, lengths));
     show = λ same. other_letter (codes "explain") (codes "show") same (λ letters. omega (arith, letters));
+    report = λ same. other_name (codes "explain") (codes "report") same (λ lengths. omega (arith, lengths));
     explain = λ same. explain_values explain.0 explain.2;
   })
-  | inr (inr (inr (inr (inr (inr (inr (inr (inl help)))))))) ↦ subst (λ (f : Text × List Row). IsWhole f.0 f.1) help.1 (record {
-    named = inr (inr (inr (inr (inr (inr (inr (inr (inl refl))))))));
+  | inr (inr (inr (inr (inr (inr (inr (inr (inr (inl help))))))))) ↦ subst (λ (f : Text × List Row). IsWhole f.0 f.1) help.1 (record {
+    named = inr (inr (inr (inr (inr (inr (inr (inr (inr (inl refl)))))))));
     certify = λ same. other_name (codes "help") (codes "certify") same (λ lengths. omega (arith, lengths));
     check = λ same. other_name (codes "help") (codes "check") same (λ lengths. omega (arith, lengths));
     run = λ recording same. no_run (codes "help") recording same (λ three. omega (arith, three)) (λ six. omega (arith, six));
     draw = λ same. other_letter (codes "help") (codes "draw") same (λ letters. omega (arith, letters));
     show = λ same. other_letter (codes "help") (codes "show") same (λ letters. omega (arith, letters));
+    report = λ same. other_name (codes "help") (codes "report") same (λ lengths. omega (arith, lengths));
     explain = λ same. other_name (codes "help") (codes "explain") same (λ lengths. omega (arith, lengths));
   })
-  | inr (inr (inr (inr (inr (inr (inr (inr (inr (inl version))))))))) ↦ subst (λ (f : Text × List Row). IsWhole f.0 f.1) version.1 (record {
-    named = inr (inr (inr (inr (inr (inr (inr (inr (inr (inl refl)))))))));
+  | inr (inr (inr (inr (inr (inr (inr (inr (inr (inr (inl version)))))))))) ↦ subst (λ (f : Text × List Row). IsWhole f.0 f.1) version.1 (record {
+    named = inr (inr (inr (inr (inr (inr (inr (inr (inr (inr (inl refl))))))))));
     certify = λ same. other_letter (codes "version") (codes "certify") same (λ letters. omega (arith, letters));
     check = λ same. other_name (codes "version") (codes "check") same (λ lengths. omega (arith, lengths));
     run = λ recording same. no_run (codes "version") recording same (λ three. omega (arith, three)) (λ six. omega (arith, six));
     draw = λ same. other_name (codes "version") (codes "draw") same (λ lengths. omega (arith, lengths));
     show = λ same. other_letter (codes "version") (codes "show") same (λ letters. omega (arith, letters));
+    report = λ same. other_name (codes "version") (codes "report") same (λ lengths. omega (arith, lengths));
     explain = λ same. other_letter (codes "version") (codes "explain") same (λ letters. omega (arith, letters));
   })
-  | inr (inr (inr (inr (inr (inr (inr (inr (inr (inr none))))))))) ↦ absurd none
+  | inr (inr (inr (inr (inr (inr (inr (inr (inr (inr (inr none)))))))))) ↦ absurd none
 ]
 
 -- the subcommand that taken words name

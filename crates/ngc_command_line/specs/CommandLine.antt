@@ -2,9 +2,11 @@
 use Rattle.std.specs.Prelude.{ℕ, Bool, List, [], ◌∷◌, ◌++◌, Option, Some, None, true, codes, fold}
 use Rattle.std.specs.Prelude.{if◌then◌else◌}
 use Rattle.std.specs.Fmt.{decimal}
-use Rattle.clap.specs.Words.{App, Rule, Text, new_app, new_rule, with_rule, with_subcommand}
+use Rattle.clap.specs.Words.{App, Rule, Shape, Text, new_app, new_rule, with_rule, with_subcommand}
 use Rattle.clap.specs.declared.builder.action.ArgAction.TheVariants.{Set, SetTrue}
 use Rattle.clap.specs.declared.builder.value_parser.ValueParser.TheVariants.{Unsigned}
+use Rattle.ngc_command_line.specs.declared.options.Format.{Format}
+use Rattle.ngc_command_line.specs.declared.options.Format.TheVariants.{One, Two}
 use Rattle.ngc_command_line.specs.declared.options.Recording.{Recording}
 use Rattle.ngc_command_line.specs.declared.options.Recording.TheVariants.{Log, Pulses}
 
@@ -20,6 +22,10 @@ required_file name = record (file_option name) { required = true }
 abbrev pub cuts_option : Rule
 cuts_option = record (file_option (codes "cuts")) { parser = Some (Unsigned 1 65535) }
 
+-- `--format VERSION`, with 1 or 2
+abbrev pub format_option : Rule
+format_option = record (file_option (codes "format")) { parser = Some (Unsigned 1 2) }
+
 -- `--NAME`
 abbrev pub flag : Text → Rule
 flag name = record (new_rule name) { long = Some name; action = Some SetTrue }
@@ -30,11 +36,11 @@ list_app = fold with_rule (new_app (codes "list"))
     (file_option (codes "program") ∷ file_option (codes "machine") ∷ file_option (codes "tools")
     ∷ flag (codes "delete") ∷ [])
 
--- `certify --machine FILE --tools FILE [--program FILE] [--cuts N]`
+-- `certify --machine FILE --tools FILE [--program FILE] [--cuts N] [--format VERSION]`
 abbrev pub certify_app : App
 certify_app = fold with_rule (new_app (codes "certify"))
     (required_file (codes "machine") ∷ required_file (codes "tools")
-    ∷ file_option (codes "program") ∷ cuts_option ∷ [])
+    ∷ file_option (codes "program") ∷ cuts_option ∷ format_option ∷ [])
 
 -- `check --machine FILE --tools FILE --certificate FILE [--program FILE]`
 abbrev pub check_app : App
@@ -74,6 +80,12 @@ abbrev pub show_app : App
 show_app = fold with_rule (new_app (codes "show"))
     (required_file (codes "machine") ∷ file_option (codes "tools") ∷ [])
 
+-- `report --machine FILE --tools FILE [--program FILE] [--cuts N]`
+abbrev pub report_app : App
+report_app = fold with_rule (new_app (codes "report"))
+    (required_file (codes "machine") ∷ required_file (codes "tools")
+    ∷ file_option (codes "program") ∷ cuts_option ∷ [])
+
 -- `N`, a number from 1 to 999, which may not be left out
 abbrev pub number_argument : Rule
 number_argument = record (new_rule (codes "number")) {
@@ -105,10 +117,19 @@ ngc_settings = let bare : App = new_app (codes "ngc") in record bare {
   };
 }
 
--- the program's commands
+-- the program's commands: those that list a program, and make and check its certificate; those that run it, and show it; and those
+-- that read no file
+abbrev pub certifying_shapes : List Shape
+certifying_shapes = list_app.top ∷ certify_app.top ∷ check_app.top ∷ []
+
+abbrev pub running_shapes : List Shape
+running_shapes = run_app.top ∷ pulses_app.top ∷ draw_app.top ∷ show_app.top ∷ report_app.top ∷ []
+
+abbrev pub guide_shapes : List Shape
+guide_shapes = explain_app.top ∷ help_app.top ∷ (new_app (codes "version")).top ∷ []
+
 abbrev pub ngc_app : App
-ngc_app = fold with_subcommand ngc_settings (list_app.top ∷ certify_app.top ∷ check_app.top ∷ run_app.top ∷ pulses_app.top
-    ∷ draw_app.top ∷ show_app.top ∷ explain_app.top ∷ help_app.top ∷ (new_app (codes "version")).top ∷ [])
+ngc_app = fold with_subcommand ngc_settings (certifying_shapes ++ running_shapes ++ guide_shapes)
 
 -- the one word `--NAME=FILE`, where there is a file and `beginning` is `--NAME=`
 abbrev pub file_words : Text → Option Text → List Text
@@ -124,6 +145,16 @@ abbrev pub cuts_words : Option ℕ → List Text
 cuts_words None = []
 cuts_words (Some cuts) = (codes "--cuts=" ++ decimal cuts) ∷ []
 
+-- a version by its digit
+abbrev pub format_text : Format → Text
+format_text One = codes "1"
+format_text Two = codes "2"
+
+-- the one word `--format=VERSION`, where there is a version
+abbrev pub format_words : Option Format → List Text
+format_words None = []
+format_words (Some format) = (codes "--format=" ++ format_text format) ∷ []
+
 -- the words of `ngc list` with these options, in one spelling
 abbrev pub list_words : Option Text → Option Text → Option Text → Bool → List Text
 list_words program machine tools delete = codes "list"
@@ -131,10 +162,10 @@ list_words program machine tools delete = codes "list"
     ++ file_words (codes "--tools=") tools ++ flag_words (codes "--delete") delete)
 
 -- the words of `ngc certify` with these options, in one spelling
-abbrev pub certify_words : Text → Text → Option Text → Option ℕ → List Text
-certify_words machine tools program cuts = codes "certify"
+abbrev pub certify_words : Text → Text → Option Text → Option ℕ → Option Format → List Text
+certify_words machine tools program cuts format = codes "certify"
     ∷ (codes "--machine=" ++ machine) ∷ (codes "--tools=" ++ tools)
-    ∷ (file_words (codes "--program=") program ++ cuts_words cuts)
+    ∷ (file_words (codes "--program=") program ++ cuts_words cuts ++ format_words format)
 
 -- the words of `ngc check` with these options, in one spelling
 abbrev pub check_words : Text → Text → Text → Option Text → List Text
@@ -157,6 +188,12 @@ draw_words machine tools certificate program view delete = codes "draw"
 -- the words of `ngc show` with these options, in one spelling
 abbrev pub show_words : Text → Option Text → List Text
 show_words machine tools = codes "show" ∷ (codes "--machine=" ++ machine) ∷ file_words (codes "--tools=") tools
+
+-- the words of `ngc report` with these options, in one spelling
+abbrev pub report_words : Text → Text → Option Text → Option ℕ → List Text
+report_words machine tools program cuts = codes "report"
+    ∷ (codes "--machine=" ++ machine) ∷ (codes "--tools=" ++ tools)
+    ∷ (file_words (codes "--program=") program ++ cuts_words cuts)
 
 -- the words of `ngc run` or `ngc pulses` with these options, in one spelling
 abbrev pub run_words : Recording → Text → Text → Text → Option Text → Option Text → Bool → List Text

@@ -9,8 +9,11 @@ use Rattle.ngc_command_line.specs.CommandLine.{ngc_app, run_name}
 use Rattle.ngc_command_line.specs.declared.options.CertifyOptions.{CertifyOptions}
 use Rattle.ngc_command_line.specs.declared.options.CheckOptions.{CheckOptions}
 use Rattle.ngc_command_line.specs.declared.options.DrawOptions.{DrawOptions}
+use Rattle.ngc_command_line.specs.declared.options.Format.{Format}
+use Rattle.ngc_command_line.specs.declared.options.Format.TheVariants.{One, Two}
 use Rattle.ngc_command_line.specs.declared.options.ListOptions.{ListOptions}
 use Rattle.ngc_command_line.specs.declared.options.Recording.{Recording}
+use Rattle.ngc_command_line.specs.declared.options.ReportOptions.{ReportOptions}
 use Rattle.ngc_command_line.specs.declared.options.RunOptions.{RunOptions}
 use Rattle.ngc_command_line.specs.declared.options.ShowOptions.{ShowOptions}
 use Rattle.ngc_command_line.specs.declared.options.Options.{Options}
@@ -18,7 +21,7 @@ use Rattle.ngc_command_line.specs.declared.options.Options.TheVariants.{List as 
 use Rattle.ngc_command_line.specs.declared.options.RunThroughOptions.{RunThroughOptions}
 use Rattle.ngc_command_line.specs.declared.options.Options.TheVariants.{Check as ToCheck, Run as ToRun}
 use Rattle.ngc_command_line.specs.declared.options.Options.TheVariants.{RunThrough as ToRunThrough, Draw as ToDraw, Show as ToShow}
-use Rattle.ngc_command_line.specs.declared.options.Options.TheVariants.{Explain as ToExplain, Help as ToHelp}
+use Rattle.ngc_command_line.specs.declared.options.Options.TheVariants.{Explain as ToExplain, Help as ToHelp, Report as ToReport}
 use Rattle.ngc_command_line.specs.declared.options.Options.TheVariants.{Version as ToVersion}
 use Rattle.ngc_command_line.specs.declared.HelpFault.{HelpFault}
 use Rattle.ngc_command_line.specs.declared.HelpFault.TheVariants as help_faults
@@ -47,12 +50,24 @@ AreCuts None cuts = cuts ≡ 8
 AreCuts (Some text) cuts = IsNumeral 10 (without_leading_plus text)
     × (cuts ≡ digits_value 10 (without_leading_plus text)) × (1 ≤ cuts) × (cuts ≤ 65535)
 
+abbrev pub format_number : Format → ℕ
+format_number One = 1
+format_number Two = 2
+
+-- the version of a certificate's text: 1 where no text is given, else the one, 1 or 2, whose number's decimal the text is; a plus
+-- sign may stand before it
+abbrev pub IsFormat : Option Text → Format → Type 0
+IsFormat None format = format ≡ One
+IsFormat (Some text) format = IsNumeral 10 (without_leading_plus text)
+    × (format_number format ≡ digits_value 10 (without_leading_plus text))
+
 -- each option of `certify` by the first value that was found under its own name
 pub record AreCertifyOptions (rows : List Row) (options : CertifyOptions) : Type 0 where
   pub machine : Some options.machine.now ≡ first_of (codes "machine") rows
   pub tools : Some options.tools.now ≡ first_of (codes "tools") rows
   pub program : option_map (λ name. name.now) options.program ≡ first_of (codes "program") rows
   pub cuts : AreCuts (first_of (codes "cuts") rows) options.cuts
+  pub format : IsFormat (first_of (codes "format") rows) options.format
 
 -- the number whose decimal the text is; a plus sign may stand before it
 abbrev pub IsNumber : Option Text → ℕ → Type 0
@@ -105,6 +120,13 @@ pub record AreShowOptions (rows : List Row) (options : ShowOptions) : Type 0 whe
   pub machine : Some options.machine.now ≡ first_of (codes "machine") rows
   pub tools : option_map (λ name. name.now) options.tools ≡ first_of (codes "tools") rows
 
+-- each option of `report` by the first value that was found under its own name
+pub record AreReportOptions (rows : List Row) (options : ReportOptions) : Type 0 where
+  pub machine : Some options.machine.now ≡ first_of (codes "machine") rows
+  pub tools : Some options.tools.now ≡ first_of (codes "tools") rows
+  pub program : option_map (λ name. name.now) options.program ≡ first_of (codes "program") rows
+  pub cuts : AreCuts (first_of (codes "cuts") rows) options.cuts
+
 -- a value was found under the name
 abbrev pub HasValue : Text → List Row → Type 0
 HasValue name rows = is_some (first_of name rows) ≡ true
@@ -112,7 +134,7 @@ HasValue name rows = is_some (first_of name rows) ≡ true
 -- what is found for `certify` where the words are taken
 abbrev pub HasCertifyValues : List Row → Type 0
 HasCertifyValues rows = HasValue (codes "machine") rows × HasValue (codes "tools") rows
-    × IfSome (first_of (codes "cuts") rows) (IsUnsignedIn 1 65535)
+    × IfSome (first_of (codes "cuts") rows) (IsUnsignedIn 1 65535) × IfSome (first_of (codes "format") rows) (IsUnsignedIn 1 2)
 
 -- what is found for `check` where the words are taken
 abbrev pub HasCheckValues : List Row → Type 0
@@ -132,6 +154,11 @@ HasDrawValues rows = HasValue (codes "machine") rows × HasValue (codes "tools")
 abbrev pub HasShowValues : List Row → Type 0
 HasShowValues rows = HasValue (codes "machine") rows
 
+-- what is found for `report` where the words are taken
+abbrev pub HasReportValues : List Row → Type 0
+HasReportValues rows = HasValue (codes "machine") rows × HasValue (codes "tools") rows
+    × IfSome (first_of (codes "cuts") rows) (IsUnsignedIn 1 65535)
+
 -- what is found for `explain` where the words are taken
 abbrev pub HasExplainValues : List Row → Type 0
 HasExplainValues rows = HasValue (codes "number") rows
@@ -150,6 +177,7 @@ pub record IsWhole (name : Text) (rows : List Row) : Type 0 where
   pub run : (recording : Recording) → name ≡ run_name recording → HasRunValues rows
   pub draw : name ≡ codes "draw" → HasDrawValues rows
   pub show : name ≡ codes "show" → HasShowValues rows
+  pub report : name ≡ codes "report" → HasReportValues rows
   pub explain : name ≡ codes "explain" → HasExplainValues rows
 
 -- the options are those of the subcommand that was found, and there is one
@@ -164,6 +192,7 @@ AreOptions (Some found) (ToRunThrough run) =
     (found.0 ≡ run_name run.recording) × AreRunThroughOptions found.1 run
 AreOptions (Some found) (ToDraw draw) = (found.0 ≡ codes "draw") × AreDrawOptions found.1 draw
 AreOptions (Some found) (ToShow show) = (found.0 ≡ codes "show") × AreShowOptions found.1 show
+AreOptions (Some found) (ToReport report) = (found.0 ≡ codes "report") × AreReportOptions found.1 report
 AreOptions (Some found) (ToExplain number) =
     (found.0 ≡ codes "explain") × IsNumber (first_of (codes "number") found.1) number
 AreOptions (Some found) (ToHelp command) = (found.0 ≡ codes "help")
@@ -179,13 +208,13 @@ AsksForList program machine tools delete (ToList list) =
     × (list.delete ≡ delete)
 AsksForList program machine tools delete other = ⊥
 
--- `certify` is asked for, with these options, and 8 cuts where none are given
-abbrev pub AsksForCertify : Text → Text → Option Text → Option ℕ → Options → Type 0
-AsksForCertify machine tools program cuts (ToCertify certify) =
+-- `certify` is asked for, with these options, and 8 cuts and version 1 where none are given
+abbrev pub AsksForCertify : Text → Text → Option Text → Option ℕ → Option Format → Options → Type 0
+AsksForCertify machine tools program cuts format (ToCertify certify) =
     (certify.machine.now ≡ machine) × (certify.tools.now ≡ tools)
     × (option_map (λ name. name.now) certify.program ≡ program)
-    × (certify.cuts ≡ unwrap_or cuts 8)
-AsksForCertify machine tools program cuts other = ⊥
+    × (certify.cuts ≡ unwrap_or cuts 8) × (certify.format ≡ unwrap_or format One)
+AsksForCertify machine tools program cuts format other = ⊥
 
 -- `check` is asked for, with these options
 abbrev pub AsksForCheck : Text → Text → Text → Option Text → Options → Type 0
@@ -221,6 +250,14 @@ abbrev pub AsksForShow : Text → Option Text → Options → Type 0
 AsksForShow machine tools (ToShow show) =
     (show.machine.now ≡ machine) × (option_map (λ name. name.now) show.tools ≡ tools)
 AsksForShow machine tools other = ⊥
+
+-- `report` is asked for, with these options, and 8 cuts where none are given
+abbrev pub AsksForReport : Text → Text → Option Text → Option ℕ → Options → Type 0
+AsksForReport machine tools program cuts (ToReport report) =
+    (report.machine.now ≡ machine) × (report.tools.now ≡ tools)
+    × (option_map (λ name. name.now) report.program ≡ program)
+    × (report.cuts ≡ unwrap_or cuts 8)
+AsksForReport machine tools program cuts other = ⊥
 
 -- `help` is asked for, of this command
 abbrev pub AsksForHelp : Option Text → Options → Type 0

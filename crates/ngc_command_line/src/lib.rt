@@ -4,14 +4,15 @@
 //! text that `clap` gives.
 #![tactic(auto)]
 
-ghost use Rattle.std.specs.Prelude.{◌≡◌, Bool, IfOk, IsOkUnless, MatchResult, OnOk, Option, Some, ℕ, codes, ◌∷◌, []};
-ghost use Rattle.clap.specs.Words.{Text, app_of, found_of, kind_of, rows_of, subcommand_of};
+ghost use Rattle.std.specs.Prelude.{◌≡◌, Bool, IfOk, IsOkUnless, MatchResult, OnOk, Option, Some, ℕ, codes, ◌∷◌, [], fold};
+ghost use Rattle.clap.specs.Words.{Text, app_of, found_of, kind_of, rows_of, subcommand_of, with_subcommand};
 ghost use Rattle.clap.specs.Walk.{texts};
 ghost use Rattle.ngc_command_line.specs.CommandLine.{certify_words, check_words, draw_words, help_words, list_words, show_words};
 ghost use Rattle.ngc_command_line.specs.CommandLine.{ngc_app, ngc_settings, run_words};
+ghost use Rattle.ngc_command_line.specs.CommandLine.{certifying_shapes, guide_shapes, report_words, running_shapes};
 ghost use Rattle.ngc_command_line.specs.Meant.{AreCutsInRange, AreOptions, AsksForCertify};
 ghost use Rattle.ngc_command_line.specs.Meant.{AsksForCheck, AsksForDraw, AsksForList, AsksForRun, AsksForShow, AsksForHelp};
-ghost use Rattle.ngc_command_line.specs.Meant.{AreCommands, help_fault_number};
+ghost use Rattle.ngc_command_line.specs.Meant.{AreCommands, AsksForReport, help_fault_number};
 ghost use Rattle.ngc_command_line.specs.Meant.{IsTaken, IsWhole, usage_fault_number};
 
 mod arguments;
@@ -22,6 +23,7 @@ mod explain;
 mod guide;
 mod list;
 mod options;
+mod report;
 mod run;
 mod show;
 
@@ -35,9 +37,10 @@ use explain::{explain_command, explained_number};
 use guide::{help_command, topic, version_command};
 use list::{list_command, list_options};
 pub use options::{
-    CertifyOptions, CheckOptions, DrawOptions, ListOptions, Options, Recording, RunOptions,
-    RunThroughOptions, ShowOptions,
+    CertifyOptions, CheckOptions, DrawOptions, Format, ListOptions, Options, Recording,
+    ReportOptions, RunOptions, RunThroughOptions, ShowOptions,
 };
+use report::{report_command, report_options};
 use run::{pulses_command, run_command, run_options};
 use show::{show_command, show_options};
 use std::alloc::{AllocError, Global};
@@ -103,20 +106,44 @@ fn bare_command<'a>(alloc: Global) -> Result<Command<'a>, AllocError>
         .bin_name("ngc")
 }
 
-fn ngc_command<'a>(alloc: Global) -> Result<Command<'a>, AllocError>
-    ensures { IfOk result (λ c. app_of c ≡ ngc_app) }
+// The commands that list a program, and make and check its certificate.
+fn with_certifying<'a>(alloc: Global, command: Command<'a>) -> Result<Command<'a>, AllocError>
+    ensures { IfOk result (λ c. app_of c ≡ fold with_subcommand (app_of command.entry) certifying_shapes) }
 {
-    bare_command(alloc)?
+    command
         .subcommand(list_command(alloc)?)?
         .subcommand(certify_command(alloc)?)?
-        .subcommand(check_command(alloc)?)?
+        .subcommand(check_command(alloc)?)
+}
+
+// The commands that run a program, and show it.
+fn with_running<'a>(alloc: Global, command: Command<'a>) -> Result<Command<'a>, AllocError>
+    ensures { IfOk result (λ c. app_of c ≡ fold with_subcommand (app_of command.entry) running_shapes) }
+{
+    command
         .subcommand(run_command(alloc)?)?
         .subcommand(pulses_command(alloc)?)?
         .subcommand(draw_command(alloc)?)?
         .subcommand(show_command(alloc)?)?
+        .subcommand(report_command(alloc)?)
+}
+
+// The commands that read no file.
+fn with_guides<'a>(alloc: Global, command: Command<'a>) -> Result<Command<'a>, AllocError>
+    ensures { IfOk result (λ c. app_of c ≡ fold with_subcommand (app_of command.entry) guide_shapes) }
+{
+    command
         .subcommand(explain_command(alloc)?)?
         .subcommand(help_command(alloc)?)?
         .subcommand(version_command(alloc))
+}
+
+fn ngc_command<'a>(alloc: Global) -> Result<Command<'a>, AllocError>
+    ensures { IfOk result (λ c. app_of c ≡ ngc_app) }
+{
+    let certifying = with_certifying(alloc, bare_command(alloc)?)?;
+    let running = with_running(alloc, certifying)?;
+    with_guides(alloc, running)
 }
 
 fn usage_fault(alloc: Global, error: clap::Error) -> UsageFault
@@ -144,6 +171,7 @@ fn options_of<'a>(name: &str, found: &ArgMatches<'a>) -> Options<'a>
         "pulses" => run_options(Recording::Pulses, found),
         "draw" => Options::Draw(draw_options(found)),
         "show" => Options::Show(show_options(found)),
+        "report" => Options::Report(report_options(found)),
         "explain" => Options::Explain(explained_number(found)),
         "help" => Options::Help(topic(found)),
         "version" => Options::Version,
@@ -170,11 +198,12 @@ pub fn read_options<'a>(alloc: Global, words: &'a [&'a str]) -> Result<Options<'
         → texts words.entry.now ≡ list_words program machine tools delete
         → MatchResult result (AsksForList program machine tools delete)
         (λ fault. fault ≡ UsageFault.Memory) }
-    // `certify --machine=FILE --tools=FILE --program=FILE --cuts=N` is read as it is spelled, where
-    // the last two may be left out.
+    // `certify --machine=FILE --tools=FILE --program=FILE --cuts=N --format=VERSION` is read as it
+    // is spelled, where the last three may be left out.
     ensures spelled_certify { (machine tools : Text) (program : Option Text) (cuts : Option ℕ)
-        → AreCutsInRange cuts → texts words.entry.now ≡ certify_words machine tools program cuts
-        → MatchResult result (AsksForCertify machine tools program cuts)
+        (format : Option Format)
+        → AreCutsInRange cuts → texts words.entry.now ≡ certify_words machine tools program cuts format
+        → MatchResult result (AsksForCertify machine tools program cuts format)
         (λ fault. fault ≡ UsageFault.Memory) }
     // `check --machine=FILE --tools=FILE --certificate=FILE --program=FILE` is read as it is
     // spelled, where the last may be left out.
@@ -200,6 +229,12 @@ pub fn read_options<'a>(alloc: Global, words: &'a [&'a str]) -> Result<Options<'
     ensures spelled_show { (machine : Text) (tools : Option Text)
         → texts words.entry.now ≡ show_words machine tools
         → MatchResult result (AsksForShow machine tools) (λ fault. fault ≡ UsageFault.Memory) }
+    // `report --machine=FILE --tools=FILE --program=FILE --cuts=N` is read as it is spelled, where the
+    // last two may be left out.
+    ensures spelled_report { (machine tools : Text) (program : Option Text) (cuts : Option ℕ)
+        → AreCutsInRange cuts → texts words.entry.now ≡ report_words machine tools program cuts
+        → MatchResult result (AsksForReport machine tools program cuts)
+        (λ fault. fault ≡ UsageFault.Memory) }
     // So are `help`, `help COMMAND` with the name of a command, and `version`.
     ensures spelled_help { (command : Option Text) → AreCommands command
         → texts words.entry.now ≡ help_words command

@@ -19,6 +19,8 @@ pub enum Options<'a> {
     Draw(DrawOptions<'a>),
     /// `ngc show`: print what a machine file and a tool table say.
     Show(ShowOptions<'a>),
+    /// `ngc report`: tell whether a part program fits a machine, with how much room and how long it takes.
+    Report(ReportOptions<'a>),
     /// `ngc explain`: print what is told of the fault with this number, 1 to 999.
     Explain(u16),
     /// `ngc help`: print the help of a command. With none it is that of the program.
@@ -40,6 +42,15 @@ pub struct ListOptions<'a> {
     pub delete: bool,
 }
 
+/// The version of the text of a certificate.
+#[derive(Clone, Copy, Debug, PartialEq, Eq)]
+pub enum Format {
+    /// Version 1: the motions of one setting of block delete, and then those of the other.
+    One,
+    /// Version 2: motions of both settings together, where they begin alike.
+    Two,
+}
+
 /// The options of `ngc certify`.
 #[derive(Clone, Copy, Debug, PartialEq, Eq)]
 pub struct CertifyOptions<'a> {
@@ -51,6 +62,8 @@ pub struct CertifyOptions<'a> {
     pub program: Option<&'a str>,
     /// The most pieces that a motion is cut into, from 1 to 65,535. Where none is given it is 8.
     pub cuts: u16,
+    /// The version of the text. Where none is given it is 1.
+    pub format: Format,
     ghost some_cuts: { 1 ≤ cuts },
 }
 
@@ -136,4 +149,18 @@ pub struct ShowOptions<'a> {
     pub machine: &'a str,
     /// The file of the tool table. With none there are no tools.
     pub tools: Option<&'a str>,
+}
+
+/// The options of `ngc report`.
+#[derive(Clone, Copy, Debug, PartialEq, Eq)]
+pub struct ReportOptions<'a> {
+    /// The machine file.
+    pub machine: &'a str,
+    /// The file of the tool table.
+    pub tools: &'a str,
+    /// The file of the part program. With none it comes from standard input.
+    pub program: Option<&'a str>,
+    /// The most pieces that a motion is cut into, from 1 to 65,535. Where none is given it is 8.
+    pub cuts: u16,
+    ghost some_cuts: { 1 ≤ cuts },
 }

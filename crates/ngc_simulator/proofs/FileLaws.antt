@@ -32,10 +32,10 @@ listed bytes after options shop source old new outcome said keeps is lists =
 pub certified_files : (bytes after : FileBytes) (options : CertifyOptions) (shop : Shop) (source : Option (List ℕ)) (old new : Option (List ℕ)) (outcome : Result (Unit {0}) CertifyFault)
     → GivesShop bytes (Some options.machine.now) (Some options.tools.now) (Ok shop) → KeepsFiles bytes after
     → source ≡ after (option_map (λ n. n.now) options.program)
-    → IfSome source (λ text. Certifies (setup_of shop.machine shop.tools) text options.cuts old new outcome) → CertifiesOn bytes options old new outcome
+    → IfSome source (λ text. Certifies (setup_of shop.machine shop.tools) text options.cuts options.format old new outcome) → CertifiesOn bytes options old new outcome
 certified_files bytes after options shop source old new outcome said keeps is certifies =
-    on_setup bytes (Some options.machine.now) (Some options.tools.now) (setup_of shop.machine shop.tools) (λ setup. IfSome (bytes (option_map (λ n. n.now) options.program)) (λ text. Certifies setup text options.cuts old new outcome))
-    said.0 said.1 (of_file _ source (λ text. Certifies (setup_of shop.machine shop.tools) text options.cuts old new outcome) (is ∙ keeps (option_map (λ n. n.now) options.program)) certifies)
+    on_setup bytes (Some options.machine.now) (Some options.tools.now) (setup_of shop.machine shop.tools) (λ setup. IfSome (bytes (option_map (λ n. n.now) options.program)) (λ text. Certifies setup text options.cuts options.format old new outcome))
+    said.0 said.1 (of_file _ source (λ text. Certifies (setup_of shop.machine shop.tools) text options.cuts options.format old new outcome) (is ∙ keeps (option_map (λ n. n.now) options.program)) certifies)
 
 -- of two files, where the second is opened after the first
 both_files : (bytes : FileBytes) (first second : Option (List ℕ)) (known source : Option (List ℕ)) (P : List ℕ → List ℕ → Type 0)

@@ -13,7 +13,7 @@ use Rattle.ngc_canonical.proofs.BlockDelete.{same_at_both}
 use Rattle.ngc_canonical.specs.Meaning.{meaning, program_said, has_deleted, Fails}
 use Rattle.ngc_certificate_text.specs.Certificate.{CertificateData}
 use Rattle.ngc_certificate_text.specs.Said.{certificate_said}
-use Rattle.ngc_certificate_text.specs.Joined.{Form, Parted}
+use Rattle.ngc_certificate_text.specs.Joined.{Form}
 use Rattle.ngc_certificate_text.specs.Spelling.{spelling}
 use Rattle.ngc_certificate_text.specs.declared.piece.Setting.TheVariants.{Off, On}
 use Rattle.ngc_certificate.specs.declared.fault.MakeFault.{MakeFault}
@@ -26,10 +26,11 @@ use Rattle.ngc_checker.specs.Accepted.{AcceptedData, Answers}
 use Rattle.ngc_checker.specs.CheckSource.{AnswersText}
 use Rattle.ngc_checker.specs.FirstRefusal.{first_refusal}
 use Rattle.ngc_checker.proofs.AnswerLaw.{made_ok, first_is}
+use Rattle.ngc_command_line.specs.declared.options.Format.{Format}
 use Rattle.ngc_simulator.specs.declared.certifier.CertifyFault.{CertifyFault}
 use Rattle.ngc_simulator.specs.declared.certifier.CertifyFault.TheVariants as certifies
 use Rattle.ngc_simulator.specs.declared.checking.CheckingFault.TheVariants as checks
-use Rattle.ngc_simulator.specs.Jobs.{IsProgram, AreMeanings, IsMadeFor, WhyNotMade, refused_at, Certifies, AreGiven, IsAcceptedText, Checks, accepted_text}
+use Rattle.ngc_simulator.specs.Jobs.{IsProgram, AreMeanings, IsMadeFor, IsCertificateFor, WhyNotMade, refused_at, Certifies, AreGiven, IsAcceptedText, Checks, accepted_text}
 use Rattle.ngc_simulator.proofs.ListLaws.{Means}
 
 pub if_known : (known : Option (List ℕ)) (P Q : List ℕ → Type 0) → ((bytes : List ℕ) → P bytes → Q bytes) → IfSome known P → IfSome known Q
@@ -69,14 +70,13 @@ made_for setup bytes cuts text off given_off on given_on c same_off same_on is_t
   on_valid = on_valid;
 }
 
--- what is made is of version 1
-pub certified : (setup : Setup) (bytes : List ℕ) (cuts : ℕ) (old new : Option (List ℕ)) (c : CertificateData) (f : Form) → f ≡ Parted c → IsMadeFor setup bytes cuts c → Appends old new (spelling f)
-    → Certifies setup bytes cuts old new (Ok tt)
-certified setup bytes cuts old new c f is is_made wrote = (c, is_made, subst (λ (x : Form). Appends old new (spelling x)) is wrote)
+pub certified : (setup : Setup) (bytes : List ℕ) (cuts : ℕ) (format : Format) (old new : Option (List ℕ)) (f : Form) → IsCertificateFor setup bytes cuts format f → Appends old new (spelling f)
+    → Certifies setup bytes cuts format old new (Ok tt)
+certified setup bytes cuts format old new f is wrote = (f, is, wrote)
 
-pub certifying_stopped : (setup : Setup) (bytes : List ℕ) (cuts : ℕ) (old new : Option (List ℕ)) (c : CertificateData) (f : Form) (fault : WriteFault) → f ≡ Parted c → IsMadeFor setup bytes cuts c
-    → AppendsBeginning old new (spelling f) → Certifies setup bytes cuts old new (Err (certifies.Write fault))
-certifying_stopped setup bytes cuts old new c f fault is is_made wrote = (c, is_made, subst (λ (x : Form). AppendsBeginning old new (spelling x)) is wrote)
+pub certifying_stopped : (setup : Setup) (bytes : List ℕ) (cuts : ℕ) (format : Format) (old new : Option (List ℕ)) (f : Form) (fault : WriteFault) → IsCertificateFor setup bytes cuts format f
+    → AppendsBeginning old new (spelling f) → Certifies setup bytes cuts format old new (Err (certifies.Write fault))
+certifying_stopped setup bytes cuts format old new f fault is wrote = (f, is, wrote)
 
 pub keeps_same : (known : Option (List ℕ)) → Keeps known known
 keeps_same None = tt
@@ -124,11 +124,11 @@ pub refused_on : (setup : Setup) (bytes : List ℕ) (cuts : ℕ) (text : Program
     → told ≡ refused_at On fault → program_of bytes ≡ Ok text → HaveReadings text.lines → Means text setup false (Ok off) → FailsSo text setup true fault → WhyNotMade setup bytes cuts told
 refused_on setup bytes cuts text off fault told is is_text have off_means fails = subst (WhyNotMade setup bytes cuts) (sym is) (refused_on_by setup bytes cuts text off fault is_text have off_means fails)
 
-pub nothing_certified : (setup : Setup) (bytes : List ℕ) (cuts : ℕ) (known : Option (List ℕ)) (fault : CertifyFault) → WhyNotMade setup bytes cuts fault → Certifies setup bytes cuts known known (Err fault)
-nothing_certified setup bytes cuts known (certifies.Read fault) why = absurd why
-nothing_certified setup bytes cuts known (certifies.Program setting fault) why = (why, keeps_same known)
-nothing_certified setup bytes cuts known (certifies.Make fault) why = (why, keeps_same known)
-nothing_certified setup bytes cuts known (certifies.Write fault) why = absurd why
+pub nothing_certified : (setup : Setup) (bytes : List ℕ) (cuts : ℕ) (format : Format) (known : Option (List ℕ)) (fault : CertifyFault) → WhyNotMade setup bytes cuts fault → Certifies setup bytes cuts format known known (Err fault)
+nothing_certified setup bytes cuts format known (certifies.Read fault) why = absurd why
+nothing_certified setup bytes cuts format known (certifies.Program setting fault) why = (why, keeps_same known)
+nothing_certified setup bytes cuts format known (certifies.Make fault) why = (why, keeps_same known)
+nothing_certified setup bytes cuts format known (certifies.Write fault) why = absurd why
 
 -- ---- checking
 

@@ -4,7 +4,9 @@ pub mod ListLaws
 pub mod Told
 pub mod SetupLaws
 pub mod JobLaws
+pub mod JoinLaws
 pub mod FileLaws
 pub mod RunLaws
 pub mod DrawLaws
 pub mod UnreadLaws
+pub mod ReportLaws

@@ -5,6 +5,7 @@ use Rattle.ngc_command_line.specs.declared.options.ListOptions.{ListOptions}
 use Rattle.ngc_command_line.specs.declared.options.CertifyOptions.{CertifyOptions}
 use Rattle.ngc_command_line.specs.declared.options.CheckOptions.{CheckOptions}
 use Rattle.ngc_command_line.specs.declared.options.DrawOptions.{DrawOptions}
+use Rattle.ngc_command_line.specs.declared.options.ReportOptions.{ReportOptions}
 use Rattle.ngc_command_line.specs.declared.options.RunOptions.{RunOptions}
 use Rattle.ngc_command_line.specs.declared.options.RunThroughOptions.{RunThroughOptions}
 use Rattle.ngc_command_line.specs.declared.options.ShowOptions.{ShowOptions}
@@ -35,6 +36,7 @@ use Rattle.ngc_simulator.specs.Lists.{Lists, FailsByWriting}
 use Rattle.ngc_drawing.specs.declared.view.View.{View}
 use Rattle.ngc_simulator.specs.Drawing.{DrawsGiven, DrawsProgram, FailsByDrawing, view_named}
 use Rattle.ngc_simulator.specs.Showing.{Shows}
+use Rattle.ngc_simulator.specs.Reporting.{Reports}
 use Rattle.ngc_simulator.specs.Jobs.{Certifies, FailsByCertifying, Checks, FailsByChecking}
 use Rattle.ngc_simulator.specs.Running.{Runs, RunsThrough, FailsByRunning}
 use Rattle.ngc_canonical.specs.State.{Setup}
@@ -52,7 +54,7 @@ ListsOn bytes options old new outcome =
 abbrev pub CertifiesOn : FileBytes → CertifyOptions → Option (List ℕ) → Option (List ℕ) → Result (Unit {0}) CertifyFault → Type 0
 CertifiesOn bytes options old new outcome =
     OnSetup bytes (Some options.machine.now) (Some options.tools.now) (λ setup.
-    IfSome (bytes (option_map (λ name. name.now) options.program)) (λ text. Certifies setup text options.cuts old new outcome))
+    IfSome (bytes (option_map (λ name. name.now) options.program)) (λ text. Certifies setup text options.cuts options.format old new outcome))
 
 abbrev pub ChecksOn : FileBytes → CheckOptions → Option (List ℕ) → Option (List ℕ) → Result (Unit {0}) CheckingFault → Type 0
 ChecksOn bytes options old new outcome =
@@ -84,6 +86,11 @@ DrawsFrom bytes options view old new outcome =
 abbrev pub ShowsOn : FileBytes → ShowOptions → Option (List ℕ) → Option (List ℕ) → Result (Unit {0}) WriteFault → Type 0
 ShowsOn bytes options old new outcome =
     OnSetup bytes (Some options.machine.now) (option_map (λ name. name.now) options.tools) (λ setup. Shows setup old new outcome)
+
+abbrev pub ReportsOn : FileBytes → ReportOptions → Option (List ℕ) → Option (List ℕ) → Result (Unit {0}) CertifyFault → Type 0
+ReportsOn bytes options old new outcome =
+    OnSetup bytes (Some options.machine.now) (Some options.tools.now) (λ setup.
+    IfSome (bytes (option_map (λ name. name.now) options.program)) (λ text. Reports setup text options.cuts old new outcome))
 
 -- A machine file or tool table that is refused leaves what was written as it was, and so does a file that isn't read.
 abbrev pub StopsEarly : FileBytes → Option (List ℕ) → Option (List ℕ) → Option (List ℕ) → Option (List ℕ) → AnswerFault → Type 0
@@ -130,6 +137,13 @@ ShowComes bytes options old new (Err (answers.Show fault)) = ShowsOn bytes optio
 ShowComes bytes options old new (Err fault) =
     StopsEarly bytes (Some options.machine.now) (option_map (λ name. name.now) options.tools) old new fault
 
+-- its faults are those of certifying
+abbrev pub ReportComes : FileBytes → ReportOptions → Option (List ℕ) → Option (List ℕ) → Result Done AnswerFault → Type 0
+ReportComes bytes options old new (Ok Quietly) = ReportsOn bytes options old new (Ok tt)
+ReportComes bytes options old new (Ok (RunThrough time)) = ⊥
+ReportComes bytes options old new (Err (answers.Certify fault)) = ReportsOn bytes options old new (Err fault)
+ReportComes bytes options old new (Err fault) = StopsEarly bytes (Some options.machine.now) (Some options.tools.now) old new fault
+
 -- the run's ticks, and how many of them its machine gives a second
 pub record IsTimeOf (setup : Setup) (report : Report) (time : RunTime) : Type 0 where
   pub ticks : time.ticks ≡ report.ticks
@@ -174,6 +188,7 @@ ComesBy bytes (commands.RunThrough options) old new outcome = RunThroughComes by
 ComesBy bytes (commands.Draw options) old new outcome =
     DrawComes bytes options (view_named (option_map (λ name. name.now) options.view)) old new outcome
 ComesBy bytes (commands.Show options) old new outcome = ShowComes bytes options old new outcome
+ComesBy bytes (commands.Report options) old new outcome = ReportComes bytes options old new outcome
 ComesBy bytes (commands.Explain number) old new outcome = ExplainComes number old new outcome
 ComesBy bytes (commands.Help command) old new outcome = HelpComes old new outcome
 ComesBy bytes commands.Version old new outcome = VersionComes old new outcome
@@ -241,6 +256,10 @@ draw_inputs options (Some view) =
 abbrev pub show_inputs : ShowOptions → List Input
 show_inputs options = shop_inputs (Some options.machine.now) (option_map (λ name. name.now) options.tools)
 
+abbrev pub report_inputs : ReportOptions → List Input
+report_inputs options =
+    shop_inputs (Some options.machine.now) (Some options.tools.now) ++ program_input (option_map (λ name. name.now) options.program) ∷ []
+
 abbrev pub inputs_of : Options → List Input
 inputs_of (commands.List options) = list_inputs options
 inputs_of (commands.Certify options) = certify_inputs options
@@ -249,6 +268,7 @@ inputs_of (commands.Run options) = run_inputs options
 inputs_of (commands.RunThrough options) = run_through_inputs options
 inputs_of (commands.Draw options) = draw_inputs options (view_named (option_map (λ name. name.now) options.view))
 inputs_of (commands.Show options) = show_inputs options
+inputs_of (commands.Report options) = report_inputs options
 inputs_of (commands.Explain number) = []
 inputs_of (commands.Help command) = []
 inputs_of commands.Version = []
@@ -280,6 +300,7 @@ IsQuiet (commands.Run options) = Unit {0}
 IsQuiet (commands.RunThrough options) = ⊥
 IsQuiet (commands.Draw options) = Unit {0}
 IsQuiet (commands.Show options) = Unit {0}
+IsQuiet (commands.Report options) = Unit {0}
 IsQuiet (commands.Explain number) = Unit {0}
 IsQuiet (commands.Help command) = Unit {0}
 IsQuiet commands.Version = Unit {0}

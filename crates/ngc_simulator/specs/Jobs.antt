@@ -17,9 +17,13 @@ use Rattle.ngc_certificate_text.specs.declared.fault.CertificateFault.{Certifica
 use Rattle.ngc_certificate_text.specs.declared.fault.CertificateFault.TheVariants as texts
 use Rattle.ngc_certificate_text.specs.Certificate.{CertificateData}
 use Rattle.ngc_certificate_text.specs.Said.{certificate_said}
-use Rattle.ngc_certificate_text.specs.Spelling.{parted_spelling}
+use Rattle.ngc_certificate_text.specs.Joined.{Form, Parted}
+use Rattle.ngc_certificate_text.specs.Spelling.{spelling}
+use Rattle.ngc_command_line.specs.declared.options.Format.{Format}
+use Rattle.ngc_command_line.specs.declared.options.Format.TheVariants.{One, Two}
 use Rattle.ngc_certificate.specs.declared.fault.MakeFault.{MakeFault}
 use Rattle.ngc_certificate.specs.declared.fault.MakeFault.TheVariants.{NotCleared, Memory}
+use Rattle.ngc_certificate.specs.Common.{IsJoinedOf}
 use Rattle.ngc_certificate.specs.Made.{IsMade}
 use Rattle.ngc_certificate.specs.Valid.{IsValid}
 use Rattle.ngc_checker.specs.Accepted.{IsFirst}
@@ -55,6 +59,17 @@ pub record IsMadeFor (setup : Setup) (bytes : List ℕ) (cuts : ℕ) (c : Certif
   pub off_valid : IsValid setup.machine off c.off
   pub on_valid : IsValid setup.machine on c.on
 
+-- a certificate in a format: in version 2 it is joined where the settings begin alike
+abbrev pub IsWrittenAs : Format → List Command → List Command → CertificateData → Form → Type 0
+IsWrittenAs One off on c f = f ≡ Parted c
+IsWrittenAs Two off on c f = IsJoinedOf off on c f
+
+-- the certificate that is made for a file, in a format
+pub record IsCertificateFor (setup : Setup) (bytes : List ℕ) (cuts : ℕ) (format : Format) (f : Form) : Type 0 where
+  pub certificate : CertificateData
+  pub made : IsMadeFor setup bytes cuts certificate
+  pub written : IsWrittenAs format made.off made.on certificate f
+
 -- a file's program is refused at a setting, and isn't with block delete off before it is with block delete on
 abbrev pub IsRefusedAt : Setup → ProgramLines → Setting → ProgramFault → Type 0
 IsRefusedAt setup program Off fault = meaning program setup false ≡ Err fault
@@ -80,13 +95,13 @@ WhyNotMade setup bytes cuts (certifies.Write fault) = ⊥
 
 -- Of a program's file and a sink: the text of its certificate was written, or a beginning of it where the sink failed; where
 -- none is made, what was written is as it was.
-abbrev pub Certifies : Setup → List ℕ → ℕ → Option (List ℕ) → Option (List ℕ) → Result (Unit {0}) CertifyFault → Type 0
-Certifies setup bytes cuts old new (Ok u) = (c : CertificateData) × IsMadeFor setup bytes cuts c × Appends old new (parted_spelling c)
-Certifies setup bytes cuts old new (Err (certifies.Read fault)) = FaultIs fault (program_of bytes) × Keeps old new
-Certifies setup bytes cuts old new (Err (certifies.Program setting fault)) = WhyNotMade setup bytes cuts (certifies.Program setting fault) × Keeps old new
-Certifies setup bytes cuts old new (Err (certifies.Make fault)) = WhyNotMade setup bytes cuts (certifies.Make fault) × Keeps old new
-Certifies setup bytes cuts old new (Err (certifies.Write fault)) =
-    (c : CertificateData) × IsMadeFor setup bytes cuts c × AppendsBeginning old new (parted_spelling c)
+abbrev pub Certifies : Setup → List ℕ → ℕ → Format → Option (List ℕ) → Option (List ℕ) → Result (Unit {0}) CertifyFault → Type 0
+Certifies setup bytes cuts format old new (Ok u) = (f : Form) × IsCertificateFor setup bytes cuts format f × Appends old new (spelling f)
+Certifies setup bytes cuts format old new (Err (certifies.Read fault)) = FaultIs fault (program_of bytes) × Keeps old new
+Certifies setup bytes cuts format old new (Err (certifies.Program setting fault)) = WhyNotMade setup bytes cuts (certifies.Program setting fault) × Keeps old new
+Certifies setup bytes cuts format old new (Err (certifies.Make fault)) = WhyNotMade setup bytes cuts (certifies.Make fault) × Keeps old new
+Certifies setup bytes cuts format old new (Err (certifies.Write fault)) =
+    (f : Form) × IsCertificateFor setup bytes cuts format f × AppendsBeginning old new (spelling f)
 
 -- the sink's count of failures rose where a write failed, and else it is what it was
 abbrev pub FailsByCertifying : Result (Unit {0}) CertifyFault → ℕ → ℕ → Type 0

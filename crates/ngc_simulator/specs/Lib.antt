@@ -6,6 +6,7 @@ pub mod Jobs
 pub mod Running
 pub mod Drawing
 pub mod Showing
+pub mod Reporting
 pub mod Setups
 pub mod Shops
 pub mod Status

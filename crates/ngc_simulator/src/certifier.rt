@@ -8,6 +8,8 @@ ghost use Rattle.ngc_line_reader.specs.ProgramView.{text_in};
 ghost use Rattle.ngc_line_reader.specs.declared.program.fault.ReadFault.TheVariants.{Device};
 ghost use Rattle.ngc_simulator.specs.Answers.{CertifyComes, FailsByOutput, certify_inputs};
 ghost use Rattle.ngc_simulator.specs.Jobs.{Certifies, FailsByCertifying, IsMadeFor, UsesNoDevice, WhyNotMade, refused_at};
+ghost use Rattle.ngc_simulator.specs.Jobs.{IsCertificateFor};
+ghost use Rattle.ngc_simulator.specs.Reporting.{IsPassed};
 ghost use Rattle.ngc_simulator.specs.Unread.{FailsByInput, SourceFails};
 
 use crate::done::Done;
@@ -15,9 +17,9 @@ use crate::fault::AnswerFault;
 use crate::files::Files;
 use crate::setup::read_shop;
 use ngc_canonical::{ProgramFault, has_deleted_lines, interpret};
-use ngc_certificate::{MakeFault, Setting, make, make_alike};
+use ngc_certificate::{MakeFault, Setting, join, make, make_alike};
 use ngc_certificate_text::Certificate;
-use ngc_command_line::CertifyOptions;
+use ngc_command_line::{CertifyOptions, Format};
 use ngc_fixed_length::{Sink, Source, WriteFault};
 use ngc_input::InputFault;
 use ngc_line_reader::{Program, ReadFault};
@@ -46,7 +48,7 @@ pub enum CertifyFault {
 }
 
 // Why a program that is refused at a setting has no certificate.
-fn refused(setting: Setting, fault: ProgramFault) -> CertifyFault
+pub(crate) fn refused(setting: Setting, fault: ProgramFault) -> CertifyFault
     ensures { result ≡ refused_at setting fault }
 {
     match fault {
@@ -56,7 +58,7 @@ fn refused(setting: Setting, fault: ProgramFault) -> CertifyFault
 }
 
 // The certificate of a program. Where block delete changes nothing, what is found serves both settings.
-fn made<A: Allocator + Copy>(
+pub(crate) fn made<A: Allocator + Copy>(
     alloc: A,
     program: &Program<A>,
     machine: &Machine<A>,
@@ -68,6 +70,8 @@ fn made<A: Allocator + Copy>(
     ensures made { (bytes : List ℕ) → program_of bytes ≡ Ok (text_in program.now) → HaveReadings (text_in program.now).lines → MatchResult result (λ c. IsMadeFor (setup_of machine.now tools.now) bytes cuts (said_of c)) (WhyNotMade (setup_of machine.now tools.now) bytes cuts) }
     ensures form { IfOk result (λ c. form_of c ≡ Parted (said_of c)) }
     ensures devices { UsesNoDevice result }
+    // Nothing is refused of what is made.
+    ensures passes { IfOk result (λ c. IsPassed (text_in program.now) (setup_of machine.now tools.now) (said_of c)) }
 {
     let off = match interpret(alloc, program, machine, tools, false) {
         Ok(commands) => commands,
@@ -89,19 +93,76 @@ fn made<A: Allocator + Copy>(
     }
 }
 
+// The certificate of a program, joined. Its commands are found once more, so that they aren't kept while nobody asks for them.
+fn joined<A: Allocator + Copy>(
+    alloc: A,
+    certificate: Certificate<A>,
+    program: &Program<A>,
+    machine: &Machine<A>,
+    tools: &Tools<A>,
+) -> Result<Certificate<A>, CertifyFault>
+    // Whatever file the program was read from, if the certificate is the one that is made for it.
+    ensures joined { (bytes : List ℕ) (cuts : ℕ) → program_of bytes ≡ Ok (text_in program.now) → HaveReadings (text_in program.now).lines → IsMadeFor (setup_of machine.now tools.now) bytes cuts (said_of certificate) → MatchResult result (λ c. IsCertificateFor (setup_of machine.now tools.now) bytes cuts Format.Two (form_of c)) (WhyNotMade (setup_of machine.now tools.now) bytes cuts) }
+    ensures devices { UsesNoDevice result }
+{
+    let off = match interpret(alloc, program, machine, tools, false) {
+        Ok(commands) => commands,
+        Err(fault) => return Err(refused(Setting::Off, fault)),
+    };
+    if !has_deleted_lines(program) {
+        let commands = off.as_slice();
+        match join(alloc, certificate, commands, commands) {
+            Ok(joined) => return Ok(joined),
+            Err(_) => return Err(CertifyFault::Make(MakeFault::Memory)),
+        }
+    }
+    let on = match interpret(alloc, program, machine, tools, true) {
+        Ok(commands) => commands,
+        Err(fault) => return Err(refused(Setting::On, fault)),
+    };
+    match join(alloc, certificate, off.as_slice(), on.as_slice()) {
+        Ok(joined) => Ok(joined),
+        Err(_) => Err(CertifyFault::Make(MakeFault::Memory)),
+    }
+}
+
+// The certificate of a program in a format.
+fn made_in<A: Allocator + Copy>(
+    alloc: A,
+    program: &Program<A>,
+    machine: &Machine<A>,
+    tools: &Tools<A>,
+    cuts: u16,
+    format: Format,
+) -> Result<Certificate<A>, CertifyFault>
+    requires { 1 ≤ cuts }
+    ensures made { (bytes : List ℕ) → program_of bytes ≡ Ok (text_in program.now) → HaveReadings (text_in program.now).lines → MatchResult result (λ c. IsCertificateFor (setup_of machine.now tools.now) bytes cuts format (form_of c)) (WhyNotMade (setup_of machine.now tools.now) bytes cuts) }
+    ensures devices { UsesNoDevice result }
+{
+    let certificate = match made(alloc, program, machine, tools, cuts) {
+        Ok(certificate) => certificate,
+        Err(fault) => return Err(fault),
+    };
+    match format {
+        Format::One => Ok(certificate),
+        Format::Two => joined(alloc, certificate, program, machine, tools),
+    }
+}
+
 /// Writes the certificate of a program on a machine with its tools, in which a straight motion stands in at most `cuts`
-/// pieces. Nothing is written where there is none; where a write fails, a beginning is written.
+/// pieces: in version 1, or in version 2, joined where the settings of block delete begin alike. Nothing is written where there is none; where a write fails, a beginning is written.
 pub fn certify<A: Allocator + Copy, R: Source, W: Sink>(
     alloc: A,
     source: &mut R,
     machine: &Machine<A>,
     tools: &Tools<A>,
     cuts: u16,
+    format: Format,
     output: &mut W,
 ) -> Result<(), CertifyFault>
     requires { 1 ≤ cuts }
     // Where the source's bytes are known, what is written is the certificate that is made for what they mean.
-    ensures certifies { IfSome (R.remaining source.old) (λ bytes. Certifies (setup_of machine.now tools.now) bytes cuts (W.written output.old) (W.written output.new) result) }
+    ensures certifies { IfSome (R.remaining source.old) (λ bytes. Certifies (setup_of machine.now tools.now) bytes cuts format (W.written output.old) (W.written output.new) result) }
     // A fault of reading or writing comes only from a device that failed.
     ensures source { result ≡ Err (CertifyFault.Read Device) → Rises (R.failures source.old) (R.failures source.new) }
     ensures sink { FailsByCertifying result (W.failures output.old) (W.failures output.new) }
@@ -110,7 +171,7 @@ pub fn certify<A: Allocator + Copy, R: Source, W: Sink>(
         Ok(program) => program,
         Err(fault) => return Err(CertifyFault::Read(fault)),
     };
-    let certificate = match made(alloc, &program, machine, tools, cuts) {
+    let certificate = match made_in(alloc, &program, machine, tools, cuts, format) {
         Ok(certificate) => certificate,
         Err(fault) => return Err(fault),
     };
@@ -146,6 +207,7 @@ pub(crate) fn certify_files<F: Files, W: Sink>(
         &shop.machine,
         &shop.tools,
         options.cuts,
+        options.format,
         output,
     ) {
         Ok(()) => Ok(Done::Quietly),

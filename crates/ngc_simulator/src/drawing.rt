@@ -133,7 +133,7 @@ impl Reached {
 }
 
 // The fixture that a piece is refused for.
-fn fixture_of(refusal: Option<PieceRefusal>) -> Option<usize>
+fn fixture_of(refusal: Option<PieceRefusal>) -> Option<u32>
     ensures { result ≡ fixture_of refusal }
 {
     match refusal {
@@ -142,13 +142,13 @@ fn fixture_of(refusal: Option<PieceRefusal>) -> Option<usize>
                 fault: PieceFault::MeetsFixture(fixture),
                 ..
             },
-        ) => Some(fixture as usize),
+        ) => Some(fixture),
         _ => None,
     }
 }
 
 // The fixture that an action meets: a tool change where the axes stand, a motion in one piece.
-fn met_by<A: Allocator>(machine: &Machine<A>, reached: &Reached, action: &Action) -> Option<usize>
+fn met_by<A: Allocator>(machine: &Machine<A>, reached: &Reached, action: &Action) -> Option<u32>
     ensures { result ≡ met_by (file_of machine.now) reached.now action.now }
 {
     match action {
@@ -158,9 +158,7 @@ fn met_by<A: Allocator>(machine: &Machine<A>, reached: &Reached, action: &Action
             &motion.way,
             &[undivided(machine.step, &motion.way)],
         )),
-        Action::Mount(tool) => {
-            place_fault(machine, *tool, &reached.place.to_grid(machine.step)).map(|i| i as usize)
-        }
+        Action::Mount(tool) => place_fault(machine, *tool, &reached.place.to_grid(machine.step)),
         _ => None,
     }
 }
@@ -169,7 +167,7 @@ fn met_first<A: Allocator>(
     machine: &Machine<A>,
     reached: &Reached,
     commands: &[Command],
-) -> Option<usize>
+) -> Option<u32>
     ensures { result ≡ met_first (file_of machine.now) reached.now commands.now }
 {
     match commands {
@@ -179,15 +177,25 @@ fn met_first<A: Allocator>(
 }
 
 // The fixture that is met at the start, or by this command.
-fn met_at<A: Allocator>(machine: &Machine<A>, commands: &[Command], at: usize) -> Option<usize>
+pub(crate) fn met_at<A: Allocator>(
+    machine: &Machine<A>,
+    commands: &[Command],
+    at: usize,
+) -> Option<u32>
     ensures { result ≡ met_at (file_of machine.now) commands.now at }
 {
     if let Some(fixture) = place_fault(machine, None, &machine.start.to_grid(machine.step)) {
-        return Some(fixture as usize);
+        return Some(fixture);
     }
     let at = at.min(commands.len());
     let reached = Reached::behind(machine, &commands[..at]);
     met_first(machine, &reached, &commands[at..])
+}
+
+fn drawn_fixture(fixture: Option<u32>) -> Option<usize>
+    ensures { result ≡ fixture }
+{
+    fixture.map(|i| i as usize)
 }
 
 // What is refused of these commands where a certificate is to be made for them.
@@ -207,7 +215,7 @@ fn made_refusal<A: Allocator + Copy>(
         MakeFault::NotCleared { command, .. } => Ok(Some(Refusal {
             command: command as usize,
             fault: 304,
-            fixture: met_at(machine, commands, command as usize),
+            fixture: drawn_fixture(met_at(machine, commands, command as usize)),
         })),
         MakeFault::Memory => Err(DrawFault::Memory),
     }

@@ -18,10 +18,13 @@ mod report_certificates;
 mod report_drawing;
 mod report_runs;
 mod report_time;
+mod reporting;
+mod reporting_files;
 mod running;
 mod setup;
 mod showing;
 mod through;
+mod timing;
 
 pub use certifier::{CertifyFault, certify};
 pub use checking::{CheckingFault, check_program};
@@ -40,8 +43,8 @@ pub use ngc_certificate::{MakeFault, PieceFault, Setting};
 pub use ngc_certificate_text::{Certificate, CertificateFault};
 pub use ngc_checker::{Accepted, CheckFault, check};
 pub use ngc_command_line::{
-    CertifyOptions, CheckOptions, DrawOptions, HelpFault, ListOptions, Options, Recording,
-    RunOptions, RunThroughOptions, ShowOptions, UsageFault, help_text, read_options,
+    CertifyOptions, CheckOptions, DrawOptions, Format, HelpFault, ListOptions, Options, Recording,
+    ReportOptions, RunOptions, RunThroughOptions, ShowOptions, UsageFault, help_text, read_options,
 };
 pub use ngc_controller::{Controller, MemoryFault};
 pub use ngc_drawing::{DrawFault, Refusal, View, write_svg};
@@ -52,5 +55,6 @@ pub use ngc_run_log::{Report, RunFault, run, run_through, write_pulses, write_pu
 pub use ngc_setup_sheet::write_sheet;
 pub use ngc_step_kernel::{ArcKernel, ArcPath};
 pub use program::answer;
+pub use reporting::report_program;
 pub use running::{RunningFault, run_program};
 pub use through::run_program_through;

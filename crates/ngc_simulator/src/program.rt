@@ -13,6 +13,7 @@ use crate::guide::{GuideFault, write_help, write_version};
 use crate::lister::list_files;
 use crate::report::add_fault_line;
 use crate::report_time::add_time_line;
+use crate::reporting_files::report_files;
 use crate::running::run_files;
 use crate::showing::show_files;
 use crate::through::run_through_files;
@@ -40,6 +41,7 @@ fn run_command<F: Files, W: Sink>(
         Options::RunThrough(options) => run_through_files(alloc, options, files, output),
         Options::Draw(options) => draw_files(alloc, options, files, output),
         Options::Show(options) => show_files(alloc, options, files, output),
+        Options::Report(options) => report_files(alloc, options, files, output),
         Options::Explain(number) => match explain(*number, output) {
             Ok(()) => Ok(Done::Quietly),
             Err(fault) => Err(AnswerFault::Explain(fault)),

@@ -1,6 +1,7 @@
 //! What the program tells of a run through a program.
 ghost use Rattle.std.specs.Prelude.{◌≡◌, ◌+◌, ◌≤◌, ◌++◌, length};
 ghost use Rattle.ngc_output.specs.Collected.{CHUNK_SIZE};
+ghost use Rattle.ngc_simulator.specs.Reporting.{takes_line};
 ghost use Rattle.ngc_simulator.specs.Times.{clock_text, three_digits, time_line, time_text, two_digits};
 
 use crate::done::RunTime;
@@ -57,4 +58,18 @@ pub(crate) fn add_time_line(chunk: &mut Chunk, time: &RunTime)
     chunk.add_text(b" time ");
     add_time(chunk, time);
     chunk.add_text(b"\n");
+}
+
+/// The line of a report that tells how long a program takes.
+pub(crate) fn add_takes_line(chunk: &mut Chunk, time: &RunTime)
+    requires { length chunk.old + 600 ≤ CHUNK_SIZE }
+    ensures { chunk.new ≡ chunk.old ++ takes_line time.now }
+{
+    chunk.add_text(b"It takes ");
+    chunk.add_number(time.ticks);
+    chunk.add_text(b" ticks, ");
+    add_time(chunk, time);
+    chunk.add_text(b" at ");
+    chunk.add_number(time.ticks_per_second);
+    chunk.add_text(b" ticks a second.\n");
 }

@@ -4,7 +4,7 @@ use Rattle.clap.specs.Walk.{texts}
 use Rattle.ngc_command_line.specs.Meant.{AreOptions}
 use Rattle.ngc_command_line.proofs.Found.{found_from_parts}
 use Rattle.ngc_command_line.proofs.Simple.{ngc_is_free, ngc_is_simple, taken_is_memory}
-use Rattle.ngc_command_line.proofs.Spelled.{certify_read, certify_taken, check_read, check_taken, draw_read, draw_taken, help_read, help_taken, list_read, list_taken, run_read, run_taken, show_read, show_taken, version_read, version_taken}
+use Rattle.ngc_command_line.proofs.Spelled.{certify_read, certify_taken, check_read, check_taken, draw_read, draw_taken, help_read, help_taken, list_read, list_taken, report_read, report_taken, run_read, run_taken, show_read, show_taken, version_read, version_taken}
 use Rattle.ngc_command_line.proofs.Whole.{taken_is_whole}
 use Rattle.ngc_command_line.proofs.read_options.Goals as goal
 
@@ -35,7 +35,7 @@ pub returns-clause-spelled : goal.returns-clause-spelled
 returns-clause-spelled c = λ program machine tools delete spelled. list_read _ program machine tools delete _ spelled (returns-clause-options c)
 
 pub returns-clause-spelled_certify : goal.returns-clause-spelled_certify
-returns-clause-spelled_certify c = λ machine tools program cuts range spelled. certify_read _ machine tools program cuts _ range spelled (returns-clause-options c)
+returns-clause-spelled_certify c = λ machine tools program cuts format range spelled. certify_read _ machine tools program cuts format _ range spelled (returns-clause-options c)
 
 pub returns-clause-spelled_check : goal.returns-clause-spelled_check
 returns-clause-spelled_check c = λ machine tools certificate program spelled. check_read _ machine tools certificate program _ spelled (returns-clause-options c)
@@ -48,6 +48,9 @@ returns-clause-spelled_draw c = λ machine tools certificate program view delete
 
 pub returns-clause-spelled_show : goal.returns-clause-spelled_show
 returns-clause-spelled_show c = λ machine tools spelled. show_read _ machine tools _ spelled (returns-clause-options c)
+
+pub returns-clause-spelled_report : goal.returns-clause-spelled_report
+returns-clause-spelled_report c = λ machine tools program cuts range spelled. report_read _ machine tools program cuts _ range spelled (returns-clause-options c)
 
 pub returns-clause-spelled_help : goal.returns-clause-spelled_help
 returns-clause-spelled_help c = λ command among spelled. help_read _ command _ among spelled (returns-clause-options c)
@@ -63,8 +66,8 @@ returns-in-Err-clause-spelled c = λ program machine tools delete spelled.
     c.usage_fault.ensures (taken_is_memory _ _ c.in-Err.error c.in-Ok.ensures (list_taken _ program machine tools delete spelled) c.in-Err.ensures.kinds)
 
 pub returns-in-Err-clause-spelled_certify : goal.returns-in-Err-clause-spelled_certify
-returns-in-Err-clause-spelled_certify c = λ machine tools program cuts range spelled.
-    c.usage_fault.ensures (taken_is_memory _ _ c.in-Err.error c.in-Ok.ensures (certify_taken _ machine tools program cuts range spelled) c.in-Err.ensures.kinds)
+returns-in-Err-clause-spelled_certify c = λ machine tools program cuts format range spelled.
+    c.usage_fault.ensures (taken_is_memory _ _ c.in-Err.error c.in-Ok.ensures (certify_taken _ machine tools program cuts format range spelled) c.in-Err.ensures.kinds)
 
 pub returns-in-Err-clause-spelled_check : goal.returns-in-Err-clause-spelled_check
 returns-in-Err-clause-spelled_check c = λ machine tools certificate program spelled.
@@ -81,6 +84,10 @@ returns-in-Err-clause-spelled_draw c = λ machine tools certificate program view
 pub returns-in-Err-clause-spelled_show : goal.returns-in-Err-clause-spelled_show
 returns-in-Err-clause-spelled_show c = λ machine tools spelled.
     c.usage_fault.ensures (taken_is_memory _ _ c.in-Err.error c.in-Ok.ensures (show_taken _ machine tools spelled) c.in-Err.ensures.kinds)
+
+pub returns-in-Err-clause-spelled_report : goal.returns-in-Err-clause-spelled_report
+returns-in-Err-clause-spelled_report c = λ machine tools program cuts range spelled.
+    c.usage_fault.ensures (taken_is_memory _ _ c.in-Err.error c.in-Ok.ensures (report_taken _ machine tools program cuts range spelled) c.in-Err.ensures.kinds)
 
 pub returns-in-Err-clause-spelled_help : goal.returns-in-Err-clause-spelled_help
 returns-in-Err-clause-spelled_help c = λ command among spelled.

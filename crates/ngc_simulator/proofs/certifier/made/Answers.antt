@@ -3,6 +3,7 @@ use Rattle.ngc_line_reader.specs.ProgramView.{text_in}
 use Rattle.ngc_certificate_text.specs.Contents.{said_of}
 use Rattle.ngc_certificate_text.specs.declared.certificate.Certificate.{Certificate}
 use Rattle.ngc_simulator.proofs.JobLaws.{made_for, means_alike, not_made, refused_off, refused_on}
+use Rattle.ngc_simulator.proofs.ReportLaws.{passed}
 use Rattle.ngc_simulator.proofs.certifier.made.Goals as goal
 
 pub returns-in-Err-clause-made : goal.returns-in-Err-clause-made
@@ -36,3 +37,15 @@ pub returns-clause-made : goal.returns-clause-made
 returns-clause-made g c = λ bytes is_text have.
     not_made {X = Certificate g.row.A.Denot} said_of (setup_of c.args.machine.now c.args.tools.now) bytes c.args.cuts (text_in c.args.program.now) c.in-Ok.commands.items c.as_slice-2.result.now c.in-Ok-interpret.commands.items c.as_slice-3.result.now c.in-Err-make.fault
     c.as_slice-2.ensures.value c.as_slice-3.ensures.value is_text have c.in-Ok.ensures.commands c.in-Ok-interpret.ensures.commands c.in-Err-make.ensures.made
+
+pub returns-in-Ok-make_alike-clause-passes : goal.returns-in-Ok-make_alike-clause-passes
+returns-in-Ok-make_alike-clause-passes g c =
+    let setup = setup_of c.args.machine.now c.args.tools.now in
+    let on = means_alike (text_in c.args.program.now) setup c.in-Ok.commands.items c.has_deleted_lines.result c.if-not-has_deleted_lines.true c.has_deleted_lines.ensures c.in-Ok.ensures.commands in
+    passed (text_in c.args.program.now) setup c.in-Ok.commands.items c.as_slice.result.now c.in-Ok.commands.items c.as_slice.result.now (said_of c.in-Ok-make_alike.certificate)
+    c.as_slice.ensures.value c.as_slice.ensures.value c.in-Ok.ensures.commands on c.in-Ok-make_alike.ensures.valid.0 c.in-Ok-make_alike.ensures.valid.1
+
+pub returns-in-Ok-make-clause-passes : goal.returns-in-Ok-make-clause-passes
+returns-in-Ok-make-clause-passes g c =
+    passed (text_in c.args.program.now) (setup_of c.args.machine.now c.args.tools.now) c.in-Ok.commands.items c.as_slice-2.result.now c.in-Ok-interpret.commands.items c.as_slice-3.result.now (said_of c.in-Ok-make.certificate)
+    c.as_slice-2.ensures.value c.as_slice-3.ensures.value c.in-Ok.ensures.commands c.in-Ok-interpret.ensures.commands c.in-Ok-make.ensures.valid.0 c.in-Ok-make.ensures.valid.1

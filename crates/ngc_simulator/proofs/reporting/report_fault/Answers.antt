@@ -1,0 +1,9 @@
+use Rattle.std.proofs.Common.{subst}
+use Rattle.ngc_canonical.specs.Interpreter.{setup_of}
+use Rattle.ngc_simulator.specs.Jobs.{WhyNotMade}
+use Rattle.ngc_simulator.specs.declared.certifier.CertifyFault.{CertifyFault}
+use Rattle.ngc_simulator.proofs.reporting.report_fault.Goals as goal
+
+pub returns-in-Make-clause-reports : goal.returns-in-Make-clause-reports
+returns-in-Make-clause-reports g c = λ bytes cuts is_text why.
+    c.report_unmade.ensures.reports bytes cuts is_text (subst (λ (f : CertifyFault). WhyNotMade (setup_of c.args.machine.now c.args.tools.now) bytes cuts f) c.in-Make.is why)

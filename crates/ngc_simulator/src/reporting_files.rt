@@ -1,0 +1,47 @@
+//! The report of a program, from the files that the command line names.
+ghost use Rattle.std.specs.Prelude.{◌≤◌};
+ghost use Rattle.ngc_simulator.specs.Answers.{FailsByOutput, ReportComes, report_inputs};
+ghost use Rattle.ngc_simulator.specs.Unread.{FailsByInput, SourceFails};
+
+use crate::done::Done;
+use crate::fault::AnswerFault;
+use crate::files::Files;
+use crate::reporting::report_program;
+use crate::setup::read_shop;
+use ngc_command_line::ReportOptions;
+use ngc_fixed_length::Sink;
+use ngc_input::InputFault;
+use std::alloc::Global;
+
+/// The report of a program. Its faults are those of a certificate that isn't made.
+pub(crate) fn report_files<F: Files, W: Sink>(
+    alloc: Global,
+    options: &ReportOptions<'_>,
+    files: &mut F,
+    output: &mut W,
+) -> Result<Done, AnswerFault>
+    requires { 1 ≤ options.now.cuts }
+    ensures comes { ReportComes (F.bytes files.old) options.now (W.written output.old) (W.written output.new) result }
+    ensures unread { FailsByInput (SourceFails F.R.remaining F.R.failures) (F.bytes files.old) (report_inputs options.now) (F.failures files.old) (F.failures files.new) result }
+    ensures sink { FailsByOutput result (W.failures output.old) (W.failures output.new) }
+{
+    let shop = match read_shop(alloc, Some(options.machine), Some(options.tools), files) {
+        Ok(shop) => shop,
+        Err(fault) => return Err(fault),
+    };
+    let mut source = match files.source(options.program) {
+        Ok(source) => source,
+        Err(_) => return Err(AnswerFault::Input(InputFault::Device)),
+    };
+    match report_program(
+        alloc,
+        &mut source,
+        &shop.machine,
+        &shop.tools,
+        options.cuts,
+        output,
+    ) {
+        Ok(()) => Ok(Done::Quietly),
+        Err(fault) => Err(AnswerFault::Certify(fault)),
+    }
+}
