@@ -1,5 +1,6 @@
 //! What no clause says: that a certificate is checked as its text comes, in pieces of any size and from a source, that a fault of
 //! the text stays, that refused memory and a failing source are told, and when no more is pulled.
+use crate::checks::{holds, same};
 use crate::devices::SlowSource;
 use linked_list_allocator::LocalHeap;
 use ngc_certificate_text::{Certificate, CertificateFault};
@@ -62,6 +63,27 @@ fn source_answer(
         failures: 0,
     };
     check_source(alloc, program, machine, &Tools::empty(alloc), &mut source).err()
+}
+
+// Ends the test where a certificate is refused by another number, or otherwise in pieces or from a source than read whole.
+fn is_checked_in_pieces(
+    rt: &impl Abort,
+    alloc: Global,
+    machine: &Machine<Global>,
+    program: &str,
+    text: &str,
+    number: &Option<u16>,
+) -> Result<(), Fail> {
+    let program = Program::read(alloc, &mut Device::new(program.as_bytes()))?;
+    let wanted = whole_answer(alloc, &program, machine, text.as_bytes());
+    same(rt, &text, &wanted.map(|fault| fault.number()), number);
+    for size in SIZES {
+        let found = pieces_answer(alloc, &program, machine, text.as_bytes(), *size)?;
+        same(rt, &(text, "in pieces of", size), &found, &wanted);
+        let found = source_answer(alloc, &program, machine, text.as_bytes(), *size);
+        same(rt, &(text, "at most at once", size), &found, &wanted);
+    }
+    Ok(())
 }
 
 const ACCEPTED: &[u8] = b"ngc-certificate 1
@@ -154,15 +176,7 @@ fn certificates_checked_in_pieces(rt: HostRuntime) -> Result<(), Fail> {
     let machine = row_machine(rt.alloc());
     for (program, lines, number) in ROWS {
         let text = format!(in rt.alloc(); "ngc-certificate 1\n{lines}")?;
-        let program = Program::read(rt.alloc(), &mut Device::new(program.as_bytes()))?;
-        let wanted = whole_answer(rt.alloc(), &program, &machine, text.as_bytes());
-        assert_eq!(rt; wanted.map(|fault| fault.number()), *number, "{lines}");
-        for size in SIZES {
-            let found = pieces_answer(rt.alloc(), &program, &machine, text.as_bytes(), *size)?;
-            assert_eq!(rt; found, wanted, "{lines} in pieces of {size}");
-            let found = source_answer(rt.alloc(), &program, &machine, text.as_bytes(), *size);
-            assert_eq!(rt; found, wanted, "{lines} from a source, {size} at once");
-        }
+        is_checked_in_pieces(&rt, rt.alloc(), &machine, program, text.as_str(), number)?;
     }
     Ok(())
 }
@@ -230,13 +244,7 @@ fn joined_certificates_checked_in_pieces(rt: HostRuntime) -> Result<(), Fail> {
     let machine = row_machine(rt.alloc());
     for (program, lines, number) in JOINED_ROWS {
         let text = format!(in rt.alloc(); "ngc-certificate 2\n{lines}")?;
-        let program = Program::read(rt.alloc(), &mut Device::new(program.as_bytes()))?;
-        let wanted = whole_answer(rt.alloc(), &program, &machine, text.as_bytes());
-        assert_eq!(rt; wanted.map(|fault| fault.number()), *number, "{lines}");
-        for size in SIZES {
-            let found = pieces_answer(rt.alloc(), &program, &machine, text.as_bytes(), *size)?;
-            assert_eq!(rt; found, wanted, "{lines} in pieces of {size}");
-        }
+        is_checked_in_pieces(&rt, rt.alloc(), &machine, program, text.as_str(), number)?;
     }
     Ok(())
 }
@@ -260,11 +268,16 @@ fn a_fault_of_the_text_stays(rt: HostRuntime) -> Result<(), Fail> {
     let mut reader = CheckReader::new(rt.alloc(), &program, &machine, &tools)?;
     for (piece, wanted) in STAYING {
         let found = reader.feed(piece.as_bytes());
-        assert_eq!(rt; found, *wanted, "{piece:?}");
+        same(&rt, &piece, &found, wanted);
     }
     let end = reader.finish().err();
     let fault = CertificateFault::OutOfRange(4);
-    assert_eq!(rt; end, Some(CheckReadFault::Certificate(fault)));
+    same(
+        &rt,
+        &"the end",
+        &end,
+        &Some(CheckReadFault::Certificate(fault)),
+    );
     Ok(())
 }
 
@@ -277,9 +290,9 @@ fn accepts_in(rt: &impl Abort, heap: &LocalHeap) -> Option<bool> {
         return Some(false);
     };
     let used = heap.used();
-    assert!(rt; reader.feed(ACCEPTED).is_ok());
-    assert_eq!(rt; heap.used(), used);
-    assert!(rt; reader.finish().is_ok());
+    holds(rt, &"what is fed", reader.feed(ACCEPTED).is_ok());
+    same(rt, &"memory for what is fed", &heap.used(), &used);
+    holds(rt, &"the end", reader.finish().is_ok());
     Some(true)
 }
 
@@ -293,14 +306,14 @@ fn refused_memory_of_a_reader_is_told(rt: HostRuntime) -> Result<(), Fail> {
         match accepts_in(&rt, &heap) {
             Some(true) => done = done.saturating_add(1),
             Some(false) => {
-                assert_eq!(rt; done, 0);
+                same(&rt, &"done before", &done, &0);
                 refused = refused.saturating_add(1);
             }
-            None => assert_eq!(rt; refused, 0),
+            None => same(&rt, &"refused before", &refused, &0),
         }
-        assert_eq!(rt; heap.used(), 0);
+        same(&rt, &"memory that is kept", &heap.used(), &0);
     }
-    assert!(rt; refused > 0 && done > 0);
+    holds(&rt, &"refused and done", refused > 0 && done > 0);
     Ok(())
 }
 
@@ -350,31 +363,47 @@ fn a_certificate_of_several_pieces(rt: HostRuntime) -> Result<(), Fail> {
     let machine = row_machine(rt.alloc());
     for (last, number) in LAST_PIECES {
         let text = long_certificate(rt.alloc(), last)?;
-        assert!(rt; text.len() > 65_536);
+        holds(&rt, &"longer than a piece", text.len() > 65_536);
         let found = source_answer(rt.alloc(), &program, &machine, text.as_bytes(), usize::MAX);
-        assert_eq!(rt; found.map(|fault| fault.number()), *number, "{last}");
+        same(&rt, last, &found.map(|fault| fault.number()), number);
     }
     Ok(())
+}
+
+// What is answered for a source that fails in place of a byte, and how often it failed.
+fn failing_answer(
+    alloc: Global,
+    program: &Program<Global>,
+    machine: &Machine<Global>,
+    text: &[u8],
+    failing: usize,
+) -> (Option<CheckReadFault>, u64) {
+    let mut source = SlowSource {
+        rest: text,
+        most: 100,
+        failing,
+        failures: 0,
+    };
+    let answer = check_source(alloc, program, machine, &Tools::empty(alloc), &mut source);
+    (answer.err(), source.failures)
 }
 
 #[test]
 fn a_source_that_fails_is_told(rt: HostRuntime) -> Result<(), Fail> {
     let program = Program::read(rt.alloc(), &mut Device::new(b"G0 X1 M2\n".as_slice()))?;
     let machine = row_machine(rt.alloc());
-    let tools = Tools::empty(rt.alloc());
     for failing in 0..=ACCEPTED.len() {
-        let mut source = SlowSource {
-            rest: ACCEPTED,
-            most: 100,
-            failing,
-            failures: 0,
-        };
-        let found = check_source(rt.alloc(), &program, &machine, &tools, &mut source).err();
+        let found = failing_answer(rt.alloc(), &program, &machine, ACCEPTED, failing);
         let fault = CheckReadFault::Certificate(CertificateFault::ReadFailed);
-        assert_eq!(rt; found, Some(fault), "at byte {failing}");
-        assert_eq!(rt; source.failures, 1);
+        same(&rt, &failing, &found, &(Some(fault), 1));
     }
     Ok(())
+}
+
+fn accepted_and(alloc: Global, behind: u8) -> Result<Vec<u8>, AllocError> {
+    let mut text = ACCEPTED.to_vec(alloc)?;
+    text.push(behind)?;
+    Ok(text)
 }
 
 // A byte behind the end is the last that is pulled.
@@ -382,20 +411,11 @@ fn a_source_that_fails_is_told(rt: HostRuntime) -> Result<(), Fail> {
 fn no_more_is_pulled_behind_the_end(rt: HostRuntime) -> Result<(), Fail> {
     let program = Program::read(rt.alloc(), &mut Device::new(b"G0 X1 M2\n".as_slice()))?;
     let machine = row_machine(rt.alloc());
-    let tools = Tools::empty(rt.alloc());
     for behind in b"\nx" {
-        let mut text = ACCEPTED.to_vec(rt.alloc())?;
-        text.push(*behind)?;
-        let mut source = SlowSource {
-            rest: text.as_slice(),
-            most: 100,
-            failing: text.len(),
-            failures: 0,
-        };
-        let found = check_source(rt.alloc(), &program, &machine, &tools, &mut source).err();
+        let text = accepted_and(rt.alloc(), *behind)?;
+        let found = failing_answer(rt.alloc(), &program, &machine, text.as_slice(), text.len());
         let fault = CheckReadFault::Certificate(CertificateFault::BadLine(9));
-        assert_eq!(rt; found, Some(fault));
-        assert_eq!(rt; source.failures, 0);
+        same(&rt, behind, &found, &(Some(fault), 0));
     }
     Ok(())
 }

@@ -1,3 +1,4 @@
+use crate::checks::{holds, same};
 use crate::given::point;
 use linked_list_allocator::LocalHeap;
 use ngc_canonical::{Action, Command, Motion, Pace, Way};
@@ -91,11 +92,21 @@ fn what_was_accepted_is_told(rt: HostRuntime) -> Result<(), Fail> {
             action: Action::End,
         },
     ];
-    assert_eq!(rt; accepted.commands(false), commands.as_slice());
-    assert_eq!(rt; accepted.commands(true), commands.as_slice());
-    assert_eq!(rt; accepted.machine().step, machine.step);
-    assert_eq!(rt; accepted.machine().high, machine.high);
-    assert_eq!(rt; accepted.tools().tools().len(), 0);
+    same(
+        &rt,
+        &"block delete off",
+        &accepted.commands(false),
+        &commands.as_slice(),
+    );
+    same(
+        &rt,
+        &"block delete on",
+        &accepted.commands(true),
+        &commands.as_slice(),
+    );
+    same(&rt, &"step", &accepted.machine().step, &machine.step);
+    same(&rt, &"travel", &accepted.machine().high, &machine.high);
+    same(&rt, &"tools", &accepted.tools().tools().len(), &0);
     Ok(())
 }
 
@@ -115,12 +126,14 @@ fn refusals_tell_their_numbers_and_texts(rt: HostRuntime) -> Result<(), Fail> {
         setting: Setting::On,
         command: 0,
     };
-    assert_eq!(rt; fault, expected);
-    assert_eq!(rt; fault.number(), 312);
+    same(&rt, &"fault", &fault, &expected);
+    same(&rt, &"number", &fault.number(), &312);
     let text = format!(in rt.alloc(); "{fault}")?;
-    assert_eq!(rt;
-        text.as_str(),
-        "program and certificate differ at command 0"
+    same(
+        &rt,
+        &"text",
+        &text.as_str(),
+        &"program and certificate differ at command 0",
     );
     Ok(())
 }
@@ -155,9 +168,9 @@ fn check_in<'a>(
         &checked.machine,
         &checked.certificate,
     )?;
-    assert_eq!(rt; accepted.commands(false).len(), 2);
-    assert_eq!(rt; accepted.commands(true).len(), 2);
-    assert_eq!(rt; accepted.machine().fixtures.len(), 1);
+    same(rt, &"block delete off", &accepted.commands(false).len(), &2);
+    same(rt, &"block delete on", &accepted.commands(true).len(), &2);
+    same(rt, &"fixtures", &accepted.machine().fixtures.len(), &1);
     Ok(())
 }
 
@@ -166,7 +179,7 @@ fn outcome_in(rt: &impl Abort, heap: &LocalHeap) -> Option<Result<(), CheckFault
     let checked = checked_in(heap)?;
     let used = heap.used();
     let outcome = check_in(rt, heap, &checked);
-    assert_eq!(rt; heap.used(), used);
+    same(rt, &"memory that is kept", &heap.used(), &used);
     Some(outcome)
 }
 
@@ -180,14 +193,14 @@ fn refused_memory_is_told(rt: HostRuntime) -> Result<(), Fail> {
         match outcome_in(&rt, &heap) {
             Some(Ok(())) => done = done.saturating_add(1),
             Some(Err(fault)) => {
-                assert_eq!(rt; fault, CheckFault::Memory);
-                assert_eq!(rt; done, 0);
+                same(&rt, &"fault", &fault, &CheckFault::Memory);
+                same(&rt, &"done before", &done, &0);
                 refused = refused.saturating_add(1);
             }
-            None => assert_eq!(rt; refused, 0),
+            None => same(&rt, &"refused before", &refused, &0),
         }
-        assert_eq!(rt; heap.used(), 0);
+        same(&rt, &"memory that is kept", &heap.used(), &0);
     }
-    assert!(rt; refused > 0 && done > 0);
+    holds(&rt, &"refused and done", refused > 0 && done > 0);
     Ok(())
 }

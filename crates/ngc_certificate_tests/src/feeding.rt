@@ -1,5 +1,6 @@
 //! What no clause says: that certificates are read in pieces of any size, when a fault is answered, and that one is
 //! answered again, also where memory is refused.
+use crate::checks::{holds, same};
 use crate::reading::{SAMPLE, TEXTS};
 use linked_list_allocator::LocalHeap;
 use ngc_certificate_text::{Certificate, CertificateFault, CertificateReader, Motions, Setting};
@@ -43,7 +44,7 @@ fn texts_in_pieces(rt: HostRuntime) {
     for (text, fault) in &TEXTS {
         for size in SIZES {
             let found = read_pieces(rt.alloc(), text.as_bytes(), *size).err();
-            assert_eq!(rt; found, *fault, "{text:?} in pieces of {size}");
+            same(&rt, &(text, size), &found, fault);
         }
     }
 }
@@ -54,8 +55,8 @@ fn a_certificate_in_pieces(rt: HostRuntime) -> Result<(), Fail> {
     for size in SIZES {
         let found = read_pieces(rt.alloc(), SAMPLE, *size)?;
         for setting in [Setting::Off, Setting::On] {
-            let same = are_same(found.motions(setting), whole.motions(setting));
-            assert!(rt; same, "{setting:?} in pieces of {size}");
+            let is_same = are_same(found.motions(setting), whole.motions(setting));
+            holds(&rt, &(setting, size), is_same);
         }
     }
     Ok(())
@@ -123,7 +124,7 @@ fn prompt_faults(rt: HostRuntime) -> Result<(), Fail> {
     for (front, count, end, wanted) in PROMPT {
         let text = text_of(rt.alloc(), front, *count, end)?;
         let found = first_fault(rt.alloc(), text.as_slice());
-        assert_eq!(rt; found, *wanted, "{front:?}, {count} digits and {end:?}");
+        same(&rt, &(front, count, end), &found, wanted);
     }
     Ok(())
 }
@@ -144,26 +145,31 @@ fn a_fault_stays(rt: HostRuntime) {
     let mut reader = CertificateReader::new(rt.alloc());
     for (piece, wanted) in STAYING {
         let found = reader.feed(piece.as_bytes());
-        assert_eq!(rt; found, *wanted, "{piece:?}");
+        same(&rt, &piece, &found, wanted);
     }
     let end = reader.finish().err();
-    assert_eq!(rt; end, Some(CertificateFault::OutOfRange(4)));
+    same(
+        &rt,
+        &"the end",
+        &end,
+        &Some(CertificateFault::OutOfRange(4)),
+    );
 }
 
 // Whether a heap has too little memory for the sample, which is answered again then.
 fn is_refused_in(rt: &impl Abort, heap: &LocalHeap) -> bool {
     let mut reader = CertificateReader::new(heap);
     let answer = reader.feed(SAMPLE);
-    assert_eq!(rt; reader.feed(b""), answer);
-    assert_eq!(rt; reader.finish().err(), answer.err());
+    same(rt, &"again", &reader.feed(b""), &answer);
+    same(rt, &"the end", &reader.finish().err(), &answer.err());
     answer == Err(CertificateFault::Memory)
 }
 
 #[test]
 fn refused_memory_stays(rt: HostRuntime) -> Result<(), Fail> {
     let little = LocalHeap::new(rt.alloc(), 64)?;
-    assert!(rt; is_refused_in(&rt, &little));
+    holds(&rt, &"little memory", is_refused_in(&rt, &little));
     let much = LocalHeap::new(rt.alloc(), 16_384)?;
-    assert!(rt; !is_refused_in(&rt, &much));
+    holds(&rt, &"much memory", !is_refused_in(&rt, &much));
     Ok(())
 }

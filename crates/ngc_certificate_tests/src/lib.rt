@@ -6,11 +6,17 @@ mod checked_pieces;
 #[cfg(test)]
 mod checking;
 #[cfg(test)]
+mod checks;
+#[cfg(test)]
 mod devices;
 #[cfg(test)]
 mod feeding;
 #[cfg(test)]
 mod given;
+#[cfg(test)]
+mod helices;
+#[cfg(test)]
+mod joining;
 #[cfg(test)]
 mod making;
 #[cfg(test)]

@@ -1,3 +1,4 @@
+use crate::checks::{holds, same};
 use crate::given::{BESIDE_THE_LINE, INSIDE_THE_CIRCLE, circle, machine_with, piece, point};
 use linked_list_allocator::LocalHeap;
 use ngc_canonical::{Action, Command, Feed, Motion, Pace, Way};
@@ -148,8 +149,8 @@ fn what_is_not_cleared(rt: HostRuntime) -> Result<(), Fail> {
             setting: *setting,
             command: *command,
         };
-        assert_eq!(rt; refused, Some(fault), "{fixture}");
-        assert_eq!(rt; fault.number(), 304);
+        same(&rt, &fixture, &refused, &Some(fault));
+        same(&rt, &"number", &fault.number(), &304);
     }
     Ok(())
 }
@@ -164,8 +165,13 @@ fn a_slanted_line_in_two_pieces(rt: HostRuntime) -> Result<(), Fail> {
     let pieces = [line_piece(32_768, 0, 501), line_piece(65_536, 499, 1_000)];
     for setting in SETTINGS {
         let motions = certificate.motions(*setting);
-        assert_eq!(rt; motions.len(), 1);
-        assert_eq!(rt; motion_of(motions, 0), Some((0, pieces.as_slice())));
+        same(&rt, setting, &motions.len(), &1);
+        same(
+            &rt,
+            setting,
+            &motion_of(motions, 0),
+            &Some((0, pieces.as_slice())),
+        );
     }
     Ok(())
 }
@@ -175,12 +181,14 @@ fn a_setting_without_the_line(rt: HostRuntime) -> Result<(), Fail> {
     let machine = machine_with(rt.alloc(), BESIDE_THE_LINE)?;
     let off = [STOP, slanted(&rt, 2)];
     let certificate = make(rt.alloc(), &off, &[], &machine, 8)?;
-    assert_eq!(rt; certificate.off.len(), 1);
-    assert_eq!(rt;
-        motion_of(&certificate.off, 0).map(|motion| motion.0),
-        Some(1)
+    same(&rt, &"block delete off", &certificate.off.len(), &1);
+    same(
+        &rt,
+        &"its motion",
+        &motion_of(&certificate.off, 0).map(|motion| motion.0),
+        &Some(1),
     );
-    assert!(rt; certificate.on.is_empty());
+    holds(&rt, &"block delete on", certificate.on.is_empty());
     Ok(())
 }
 
@@ -191,7 +199,12 @@ fn a_circle_in_one_piece(rt: HostRuntime) -> Result<(), Fail> {
     let certificate = make(rt.alloc(), &around, &around, &machine, 1)?;
     let left = point(&rt, 10_000_000, 50_000_000).in_plane(Plane::XY);
     let whole = [piece(Cut::Place(left), (998, 1_998, 0), (7_002, 8_002, 0))];
-    assert_eq!(rt; motion_of(&certificate.on, 1), Some((1, whole.as_slice())));
+    same(
+        &rt,
+        &"the circle",
+        &motion_of(&certificate.on, 1),
+        &Some((1, whole.as_slice())),
+    );
     Ok(())
 }
 
@@ -201,17 +214,22 @@ fn is_made_in(rt: &impl Abort, heap: &LocalHeap, commands: &[Command; 2]) -> boo
     let machine = row_machine(heap);
     let is_made = match make(heap, commands, commands, &machine, 8) {
         Ok(certificate) => {
-            assert_eq!(rt; certificate.off.len(), 2);
-            assert_eq!(rt; motion_of(&certificate.on, 1), Some((1, whole.as_slice())));
+            same(rt, &"motions", &certificate.off.len(), &2);
+            same(
+                rt,
+                &"the circle",
+                &motion_of(&certificate.on, 1),
+                &Some((1, whole.as_slice())),
+            );
             true
         }
         Err(fault) => {
-            assert_eq!(rt; fault, MakeFault::Memory);
-            assert_eq!(rt; fault.number(), 900);
+            same(rt, &"fault", &fault, &MakeFault::Memory);
+            same(rt, &"number", &fault.number(), &900);
             false
         }
     };
-    assert_eq!(rt; heap.used(), 0);
+    same(rt, &"memory that is kept", &heap.used(), &0);
     is_made
 }
 
@@ -226,10 +244,10 @@ fn refused_memory(rt: HostRuntime) -> Result<(), Fail> {
         if is_made_in(&rt, &heap, &commands) {
             done = done.saturating_add(1);
         } else {
-            assert_eq!(rt; done, 0);
+            same(&rt, &"done before", &done, &0);
             refused = refused.saturating_add(1);
         }
     }
-    assert!(rt; refused > 0 && done > 0);
+    holds(&rt, &"refused and done", refused > 0 && done > 0);
     Ok(())
 }

@@ -1,5 +1,6 @@
 //! What no clause says: what a picture looks like, that refused memory is told, and that a sink which fails has a beginning of
 //! the text.
+use crate::checks::{holds, same};
 use crate::devices::failing_after;
 use crate::given::{BESIDE_THE_LINE, machine_with};
 use linked_list_allocator::LocalHeap;
@@ -10,6 +11,7 @@ use ngc_fixed_length::Device;
 use ngc_line_reader::Program;
 use ngc_machine::{Machine, Tools};
 use std::alloc::Global;
+use std::process::Abort;
 use std::test::Fail;
 
 // A mill of 8 mm, 45 mm long, and a drill of 6 mm.
@@ -176,6 +178,14 @@ fn text_of(alloc: Global, case: &Case) -> Result<Vec<u8>, Fail> {
     Ok(sink.into_inner())
 }
 
+// Ends the test where a case looks otherwise.
+fn is_drawn_as(rt: &impl Abort, alloc: Global, case: &Case, drawn: &Drawn) -> Result<(), Fail> {
+    let found = text_of(alloc, case)?;
+    let expected = whole(alloc, drawn)?;
+    same(rt, &case.program, &found.as_slice(), &expected.as_bytes());
+    Ok(())
+}
+
 const NO_TOOL: &str = "<tspan x=\"0\" dy=\"3\" fill=\"#0072B2\">&#9632; no tool</tspan>\n";
 
 const MILL: &str = "<tspan x=\"0\" dy=\"3\" fill=\"#0072B2\">&#9632; T1, 8.000 x 45.000</tspan>\n";
@@ -289,29 +299,23 @@ const PATHS: &[(View, &str, Setting, &str, u32, &str)] = &[
 #[test]
 fn draws_paths(rt: HostRuntime) -> Result<(), Fail> {
     for (view, program, setting, path, tools, rows) in PATHS {
-        let found = text_of(
-            rt.alloc(),
-            &Case {
-                view: *view,
-                program,
-                setting: *setting,
-                certificate: NO_MOTIONS,
-                fixture: "",
-                refusal: None,
-            },
-        )?;
-        let expected = whole(
-            rt.alloc(),
-            &Drawn {
-                view: *view,
-                tools: *tools,
-                ground: "",
-                path,
-                red: "",
-                rows,
-            },
-        )?;
-        assert_eq!(rt; found.as_slice(), expected.as_bytes(), "{program}");
+        let case = Case {
+            view: *view,
+            program,
+            setting: *setting,
+            certificate: NO_MOTIONS,
+            fixture: "",
+            refusal: None,
+        };
+        let drawn = Drawn {
+            view: *view,
+            tools: *tools,
+            ground: "",
+            path,
+            red: "",
+            rows,
+        };
+        is_drawn_as(&rt, rt.alloc(), &case, &drawn)?;
     }
     Ok(())
 }
@@ -406,29 +410,23 @@ const BODIES: &[(View, &str, &str, &str, &str, u32, &str)] = &[
 #[test]
 fn draws_bodies(rt: HostRuntime) -> Result<(), Fail> {
     for (view, program, certificate, bodies, path, tools, rows) in BODIES {
-        let found = text_of(
-            rt.alloc(),
-            &Case {
-                view: *view,
-                program,
-                setting: Setting::Off,
-                certificate,
-                fixture: "",
-                refusal: None,
-            },
-        )?;
-        let expected = whole(
-            rt.alloc(),
-            &Drawn {
-                view: *view,
-                tools: *tools,
-                ground: bodies,
-                path,
-                red: "",
-                rows,
-            },
-        )?;
-        assert_eq!(rt; found.as_slice(), expected.as_bytes(), "{program}");
+        let case = Case {
+            view: *view,
+            program,
+            setting: Setting::Off,
+            certificate,
+            fixture: "",
+            refusal: None,
+        };
+        let drawn = Drawn {
+            view: *view,
+            tools: *tools,
+            ground: bodies,
+            path,
+            red: "",
+            rows,
+        };
+        is_drawn_as(&rt, rt.alloc(), &case, &drawn)?;
     }
     Ok(())
 }
@@ -463,42 +461,71 @@ const REFUSED_DRAWN: Drawn = Drawn {
 
 #[test]
 fn draws_what_is_refused_in_red(rt: HostRuntime) -> Result<(), Fail> {
-    let found = text_of(rt.alloc(), &REFUSED)?;
-    let expected = whole(rt.alloc(), &REFUSED_DRAWN)?;
-    assert_eq!(rt; found.as_slice(), expected.as_bytes());
-    Ok(())
+    is_drawn_as(&rt, rt.alloc(), &REFUSED, &REFUSED_DRAWN)
+}
+
+// What a sink that fails after so many calls has of the refused one.
+fn comes_whole_or_begins(
+    rt: &impl Abort,
+    alloc: Global,
+    machine: &Machine<Global>,
+    commands: &[Command],
+    whole: &[u8],
+    calls: usize,
+) {
+    let mut sink = failing_after(alloc, calls, 100);
+    let none = Motions::new(alloc);
+    let result = write_svg(
+        alloc,
+        View::Top,
+        machine,
+        commands,
+        &none,
+        &REFUSED.refusal,
+        &mut sink,
+    );
+    let taken = sink.taken.as_slice();
+    holds(rt, &calls, whole.starts_with(taken));
+    same(rt, &calls, &result.is_ok(), &(taken.len() == whole.len()));
+    if let Err(fault) = result {
+        same(rt, &calls, &fault.number(), &902);
+        same(rt, &calls, &sink.failures, &1);
+    }
 }
 
 #[test]
 fn a_sink_that_fails_has_a_beginning(rt: HostRuntime) -> Result<(), Fail> {
     let machine = machine_with(rt.alloc(), BESIDE_THE_LINE)?;
     let commands = commands_of(rt.alloc(), &machine, REFUSED.program, Setting::Off)?;
-    let none = Motions::new(rt.alloc());
     let whole = whole(rt.alloc(), &REFUSED_DRAWN)?;
     for calls in 0..60usize {
-        let mut sink = failing_after(rt.alloc(), calls, 100);
-        let result = write_svg(
+        comes_whole_or_begins(
+            &rt,
             rt.alloc(),
-            View::Top,
             &machine,
             commands.as_slice(),
-            &none,
-            &REFUSED.refusal,
-            &mut sink,
+            whole.as_bytes(),
+            calls,
         );
-        let taken = sink.taken.as_slice();
-        assert!(rt; whole.as_bytes().starts_with(taken), "after {calls} calls");
-        assert_eq!(rt;
-            result.is_ok(),
-            taken.len() == whole.len(),
-            "after {calls} calls"
-        );
-        if let Err(fault) = result {
-            assert_eq!(rt; fault.number(), 902);
-            assert_eq!(rt; sink.failures, 1);
-        }
     }
     Ok(())
+}
+
+// Whether a heap has memory for a picture; nothing is written where it has none.
+fn is_drawn_in(
+    rt: &impl Abort,
+    heap: &LocalHeap,
+    machine: &Machine<Global>,
+    commands: &[Command],
+    motions: &Motions<Global>,
+    sink: &mut Device<Vec<u8>>,
+) -> bool {
+    let result = write_svg(heap, View::Top, machine, commands, motions, &None, sink);
+    same(rt, &"memory that is kept", &heap.used(), &0);
+    if let Err(fault) = result {
+        same(rt, &"fault", &fault.number(), &900);
+    }
+    result.is_ok()
 }
 
 #[test]
@@ -511,26 +538,22 @@ fn refused_memory_draws_nothing(rt: HostRuntime) -> Result<(), Fail> {
     for blocks in 1..40usize {
         let heap = LocalHeap::new(rt.alloc(), 64 * blocks)?;
         let mut sink = Device::new(Vec::new(rt.alloc()));
-        let result = write_svg(
+        let motions = certificate.motions(Setting::Off);
+        if is_drawn_in(
+            &rt,
             &heap,
-            View::Top,
             &machine,
             commands.as_slice(),
-            certificate.motions(Setting::Off),
-            &None,
+            motions,
             &mut sink,
-        );
-        match result {
-            Ok(()) => drawn = drawn.saturating_add(1),
-            Err(fault) => {
-                refused = refused.saturating_add(1);
-                assert_eq!(rt; fault.number(), 900);
-                assert_eq!(rt; sink.into_inner().len(), 0);
-            }
+        ) {
+            drawn = drawn.saturating_add(1);
+        } else {
+            refused = refused.saturating_add(1);
+            same(&rt, &"written", &sink.into_inner().len(), &0);
         }
-        assert_eq!(rt; heap.used(), 0);
     }
-    assert!(rt; refused > 0);
-    assert!(rt; drawn > 0);
+    holds(&rt, &"refused", refused > 0);
+    holds(&rt, &"drawn", drawn > 0);
     Ok(())
 }

@@ -1,3 +1,4 @@
+use crate::checks::{holds, same};
 use crate::given::{
     BESIDE_THE_LINE, INSIDE_THE_CIRCLE, circle, length, machine_with, piece, point,
 };
@@ -110,11 +111,11 @@ fn a_line_in_one_piece(rt: HostRuntime) {
     let way = line(&rt, 30_000, 0);
     for (part, low, high, fault) in &ALONE {
         let found = fault_alone(&machine, &way, &piece(Cut::Part(*part), *low, *high));
-        assert_eq!(rt; found, *fault, "{part} from {low:?} to {high:?}");
+        same(&rt, &(part, low, high), &found, fault);
     }
     let on_an_arc = piece(Cut::Place(Point2::default()), (0, 0, 0), (3, 0, 0));
     let found = fault_alone(&machine, &way, &on_an_arc);
-    assert_eq!(rt; found, Some(PieceFault::Chain));
+    same(&rt, &"on an arc", &found, &Some(PieceFault::Chain));
 }
 
 // How many of two pieces there are, and where they end.
@@ -139,7 +140,7 @@ fn pieces_follow_each_other(rt: HostRuntime) {
             piece(Cut::Part(*second), (0, 0, 0), (3, 0, 0)),
         ];
         let found = refusal_of(&rt, &machine, None, &way, &pieces, *count);
-        assert_eq!(rt; found, *fault, "{count} of {first} and {second}");
+        same(&rt, &(count, first, second), &found, fault);
     }
 }
 
@@ -180,11 +181,7 @@ fn a_slanted_line_beside_a_fixture(rt: HostRuntime) -> Result<(), Fail> {
     for (reach, count, first, second, fault) in &BESIDE {
         let pieces = [flat(*first), flat(*second)];
         let found = refusal_of(&rt, &machine, *reach, &way, &pieces, *count);
-        assert_eq!(rt;
-            found,
-            *fault,
-            "{reach:?} and {count} of {first:?} and {second:?}"
-        );
+        same(&rt, &(reach, count, first, second), &found, fault);
     }
     Ok(())
 }
@@ -222,7 +219,7 @@ fn an_arc_stands_in_one_piece(rt: HostRuntime) -> Result<(), Fail> {
         let machine = machine_with(rt.alloc(), fixture)?;
         let pieces = [piece(end_of(&rt, *v), (998, *y, 0), (7_002, 8_002, 0)); 2];
         let found = refusal_of(&rt, &machine, None, &way, &pieces, *count);
-        assert_eq!(rt; found, *fault, "{count} to {v:?} from {y}");
+        same(&rt, &(count, v, y), &found, fault);
     }
     Ok(())
 }
@@ -242,7 +239,7 @@ fn a_new_tool_may_meet_a_fixture(rt: HostRuntime) -> Result<(), Fail> {
     let start = StepPos { x: 0, y: 0, z: 0 };
     for (reach, fault) in REACHES {
         let found = place_fault(&machine, tool(&rt, *reach), &start);
-        assert_eq!(rt; found, *fault, "{reach:?}");
+        same(&rt, &reach, &found, fault);
     }
     Ok(())
 }
@@ -257,12 +254,13 @@ const NUMBERS: &[(PieceFault, u16)] = &[
 #[test]
 fn faults_have_numbers(rt: HostRuntime) {
     for (fault, number) in NUMBERS {
-        assert_eq!(rt; fault.number(), *number, "{fault:?}");
+        same(&rt, &fault, &fault.number(), number);
     }
     let setting = Setting::Off;
     let refused = MakeFault::NotCleared {
         setting,
         command: 0,
     };
-    assert!(rt; refused.number() == 304 && MakeFault::Memory.number() == 900);
+    same(&rt, &refused, &refused.number(), &304);
+    same(&rt, &"memory", &MakeFault::Memory.number(), &900);
 }

@@ -1,4 +1,5 @@
 //! The pulses of runs as value change dumps.
+use crate::checks::{holds, same};
 use crate::devices::failing_after;
 use crate::running::accepted_on;
 use ngc_events::read_events;
@@ -78,20 +79,37 @@ fn dump(alloc: Global, changes: &str) -> Result<Vec<u8>, Fail> {
     Ok(text)
 }
 
+fn pulses_of(
+    alloc: Global,
+    machine: &Machine<Global>,
+    program: &str,
+    events: &str,
+) -> Result<Vec<u8>, Fail> {
+    let accepted = accepted_on(alloc, machine, program)?;
+    let events = read_events(alloc, events.as_bytes())?;
+    let mut sink = Device::new(Vec::new(alloc));
+    write_pulses(alloc, accepted, false, events.as_slice(), &mut sink)?;
+    Ok(sink.into_inner())
+}
+
+fn pulses_through(
+    alloc: Global,
+    machine: &Machine<Global>,
+    program: &str,
+) -> Result<Vec<u8>, Fail> {
+    let accepted = accepted_on(alloc, machine, program)?;
+    let mut sink = Device::new(Vec::new(alloc));
+    write_pulses_through(alloc, accepted, false, &mut sink)?;
+    Ok(sink.into_inner())
+}
+
 #[test]
 fn the_pulses_of_a_run(rt: HostRuntime) -> Result<(), Fail> {
     let machine = machine(rt.alloc())?;
     for (program, events, changes) in DUMPS {
-        let accepted = accepted_on(rt.alloc(), &machine, program)?;
-        let events = read_events(rt.alloc(), events.as_bytes())?;
-        let mut sink = Device::new(Vec::new(rt.alloc()));
-        write_pulses(rt.alloc(), accepted, false, events.as_slice(), &mut sink)?;
+        let found = pulses_of(rt.alloc(), &machine, program, events)?;
         let wanted = dump(rt.alloc(), changes)?;
-        assert_eq!(rt;
-            sink.into_inner().as_slice(),
-            wanted.as_slice(),
-            "{program}"
-        );
+        same(&rt, program, &found.as_slice(), &wanted.as_slice());
     }
     Ok(())
 }
@@ -100,15 +118,9 @@ fn the_pulses_of_a_run(rt: HostRuntime) -> Result<(), Fail> {
 fn the_pulses_of_a_run_through(rt: HostRuntime) -> Result<(), Fail> {
     let machine = machine(rt.alloc())?;
     for (program, _, changes) in DUMPS {
-        let accepted = accepted_on(rt.alloc(), &machine, program)?;
-        let mut sink = Device::new(Vec::new(rt.alloc()));
-        write_pulses_through(rt.alloc(), accepted, false, &mut sink)?;
+        let found = pulses_through(rt.alloc(), &machine, program)?;
         let wanted = dump(rt.alloc(), changes)?;
-        assert_eq!(rt;
-            sink.into_inner().as_slice(),
-            wanted.as_slice(),
-            "{program}"
-        );
+        same(&rt, program, &found.as_slice(), &wanted.as_slice());
     }
     Ok(())
 }
@@ -135,18 +147,16 @@ fn comes_whole_or_begins(
     let accepted = accepted_on(alloc, machine, program)?;
     let mut sink = failing_after(alloc, calls, 1_000);
     let result = write_pulses_through(alloc, accepted, false, &mut sink);
-    assert!(rt;
-        whole.starts_with(sink.taken.as_slice()),
-        "after {calls} calls"
+    holds(rt, &calls, whole.starts_with(sink.taken.as_slice()));
+    same(
+        rt,
+        &calls,
+        &result.is_ok(),
+        &(sink.taken.len() == whole.len()),
     );
-    assert_eq!(rt;
-        result.is_ok(),
-        sink.taken.len() == whole.len(),
-        "after {calls} calls"
-    );
-    assert_eq!(rt; result.is_err(), sink.failures == 1, "after {calls} calls");
+    same(rt, &calls, &result.is_err(), &(sink.failures == 1));
     if let Err(fault) = result {
-        assert_eq!(rt; fault.number(), 902);
+        same(rt, &"number", &fault.number(), &902);
     }
     Ok(result.is_ok())
 }
@@ -155,11 +165,8 @@ fn comes_whole_or_begins(
 fn a_long_dump_comes_whole_or_begins(rt: HostRuntime) -> Result<(), Fail> {
     let machine = machine(rt.alloc())?;
     let program = long_program(rt.alloc())?;
-    let accepted = accepted_on(rt.alloc(), &machine, program.as_str())?;
-    let mut sink = Device::new(Vec::new(rt.alloc()));
-    write_pulses_through(rt.alloc(), accepted, false, &mut sink)?;
-    let whole = sink.into_inner();
-    assert!(rt; whole.len() > 16_384);
+    let whole = pulses_through(rt.alloc(), &machine, program.as_str())?;
+    holds(&rt, &"longer than a piece", whole.len() > 16_384);
     let mut done = false;
     for calls in 0..60usize {
         done = comes_whole_or_begins(
@@ -171,6 +178,6 @@ fn a_long_dump_comes_whole_or_begins(rt: HostRuntime) -> Result<(), Fail> {
             calls,
         )?;
     }
-    assert!(rt; done);
+    holds(&rt, &"done", done);
     Ok(())
 }

@@ -1,5 +1,6 @@
 //! What no clause says: that certificates are read, that what a text announces takes no memory, that memory which is
 //! refused is told, and when no more is pulled.
+use crate::checks::{holds, same};
 use crate::devices::{EndlessSource, SlowSource};
 use crate::given::piece;
 use linked_list_allocator::LocalHeap;
@@ -63,13 +64,23 @@ fn reads_a_certificate(rt: HostRuntime) -> Result<(), Fail> {
     let line = piece(Cut::Part(65_536), (0, 0, -100), (500, 600, 0));
     let arc = first_arc()?;
     let certificate = Certificate::read(rt.alloc(), &mut Device::new(SAMPLE))?;
-    assert_eq!(rt; certificate.motions(Setting::On).len(), 0);
+    same(
+        &rt,
+        &"block delete on",
+        &certificate.motions(Setting::On).len(),
+        &0,
+    );
     let motions = certificate.motions(Setting::Off);
     assert_eq!(rt; motions.len(), 2);
-    assert!(rt; motions.index(0) == 0 && motions.index(1) == 3);
-    assert!(rt; motions.pieces(0) == [line].as_slice());
-    assert!(rt; motions.pieces(1).len() == 2);
-    assert!(rt; motions.pieces(1).first() == Some(&arc));
+    same(
+        &rt,
+        &"indices",
+        &(motions.index(0), motions.index(1)),
+        &(0, 3),
+    );
+    same(&rt, &"the line", &motions.pieces(0), &[line].as_slice());
+    same(&rt, &"pieces of the arc", &motions.pieces(1).len(), &2);
+    same(&rt, &"the arc", &motions.pieces(1).first(), &Some(&arc));
     Ok(())
 }
 
@@ -178,7 +189,7 @@ pub(crate) static TEXTS: [(&str, Option<CertificateFault>); 26] = [
 #[test]
 fn first_lines_settings_motions_and_ends(rt: HostRuntime) {
     for (text, fault) in &TEXTS {
-        assert_eq!(rt; fault_of(rt.alloc(), text.as_bytes()), *fault, "{text:?}");
+        same(&rt, &text, &fault_of(rt.alloc(), text.as_bytes()), fault);
     }
 }
 
@@ -220,7 +231,7 @@ fn pieces(rt: HostRuntime) -> Result<(), Fail> {
         let text = format!(in rt.alloc();
             "ngc-certificate 1\nsetting off 1\nmotion 0 1\n{line}\nsetting on 0\nend\n"
         )?;
-        assert_eq!(rt; fault_of(rt.alloc(), text.as_bytes()), *fault, "{line:?}");
+        same(&rt, &line, &fault_of(rt.alloc(), text.as_bytes()), fault);
     }
     Ok(())
 }
@@ -239,7 +250,7 @@ fn long_lines(rt: HostRuntime) -> Result<(), Fail> {
         let front = "ngc-certificate 1\nsetting off 1\nmotion 0 ";
         let text = with_digits(rt.alloc(), front, *count)?;
         let found = fault_of(rt.alloc(), text.as_slice());
-        assert_eq!(rt; found, Some(*fault), "{count} digits");
+        same(&rt, &count, &found, &Some(*fault));
     }
     Ok(())
 }
@@ -254,9 +265,9 @@ fn beginnings(rt: HostRuntime) {
         } else {
             CertificateFault::BadLine(line)
         };
-        assert_eq!(rt; fault_of(rt.alloc(), text), Some(wanted), "{len} bytes");
+        same(&rt, &len, &fault_of(rt.alloc(), text), &Some(wanted));
     }
-    assert_eq!(rt; fault_of(rt.alloc(), SAMPLE), None);
+    same(&rt, &"the whole", &fault_of(rt.alloc(), SAMPLE), &None);
 }
 
 #[test]
@@ -264,8 +275,8 @@ fn announced_counts_take_no_memory(rt: HostRuntime) -> Result<(), Fail> {
     let heap = LocalHeap::new(rt.alloc(), 256)?;
     let text = b"ngc-certificate 1\nsetting off 1000000\nmotion 0 65535\nline\n".as_slice();
     let fault = Certificate::read(&heap, &mut Device::new(text)).err();
-    assert_eq!(rt; fault, Some(CertificateFault::BadLine(4)));
-    assert_eq!(rt; heap.used(), 0);
+    same(&rt, &"fault", &fault, &Some(CertificateFault::BadLine(4)));
+    same(&rt, &"memory that is kept", &heap.used(), &0);
     Ok(())
 }
 
@@ -289,7 +300,7 @@ fn fails_at_each_byte(rt: HostRuntime) {
             } else {
                 (None, 0)
             };
-            assert_eq!(rt; (fault, source.failures), wanted, "at {failing}");
+            same(&rt, &failing, &(fault, source.failures), &wanted);
         }
     }
 }
@@ -302,19 +313,24 @@ fn refused_memory(rt: HostRuntime) -> Result<(), Fail> {
         let heap = LocalHeap::new(rt.alloc(), 16 * blocks)?;
         match Certificate::read(&heap, &mut Device::new(SAMPLE)) {
             Ok(certificate) => {
-                assert_eq!(rt; certificate.motions(Setting::Off).len(), 2);
+                same(
+                    &rt,
+                    &"motions",
+                    &certificate.motions(Setting::Off).len(),
+                    &2,
+                );
                 done = done.saturating_add(1);
             }
             Err(fault) => {
-                assert_eq!(rt; fault, CertificateFault::Memory);
-                assert_eq!(rt; done, 0);
+                same(&rt, &"fault", &fault, &CertificateFault::Memory);
+                same(&rt, &"done before", &done, &0);
                 refused = refused.saturating_add(1);
             }
         }
-        assert_eq!(rt; heap.used(), 0);
+        same(&rt, &"memory that is kept", &heap.used(), &0);
     }
-    assert!(rt; refused > 0);
-    assert!(rt; done > 0);
+    holds(&rt, &"refused", refused > 0);
+    holds(&rt, &"done", done > 0);
     Ok(())
 }
 
@@ -339,8 +355,8 @@ fn no_more_is_pulled(rt: HostRuntime) {
             pulls: 0,
         };
         let fault = Certificate::read(rt.alloc(), &mut source).err();
-        assert_eq!(rt; fault, Some(*wanted));
-        assert_eq!(rt; source.pulls, 1, "{wanted:?}");
+        same(&rt, &"fault", &fault, &Some(*wanted));
+        same(&rt, &wanted, &source.pulls, &1);
     }
 }
 
@@ -355,7 +371,7 @@ static NUMBERS: [(CertificateFault, u16, Option<u32>); 5] = [
 #[test]
 fn numbers_of_faults(rt: HostRuntime) {
     for (fault, number, line) in &NUMBERS {
-        assert_eq!(rt; fault.number(), *number, "{fault:?}");
-        assert_eq!(rt; fault.line(), *line, "{fault:?}");
+        same(&rt, &fault, &fault.number(), number);
+        same(&rt, &fault, &fault.line(), line);
     }
 }

@@ -1,3 +1,4 @@
+use crate::checks::same;
 use crate::devices::failing_after;
 use crate::given::{BESIDE_THE_LINE, machine_with, point};
 use ngc_canonical::{Action, Command, Motion, Pace, Way};
@@ -49,7 +50,12 @@ fn a_program_that_fits(rt: HostRuntime) -> Result<(), Fail> {
         certificate.motions(Setting::Off),
         &mut sink,
     )?;
-    assert_eq!(rt; std::str::from_utf8(sink.taken.as_slice())?, FIT);
+    same(
+        &rt,
+        &"what fits",
+        &std::str::from_utf8(sink.taken.as_slice())?,
+        &FIT,
+    );
     Ok(())
 }
 
@@ -59,6 +65,11 @@ fn a_motion_that_goes_too_far(rt: HostRuntime) -> Result<(), Fail> {
     let commands = [traverse(&rt, 302_500_000, 0)];
     let mut sink = failing_after(rt.alloc(), 100, 10_000);
     write_refusal(&machine, &commands, Some(0), None, &mut sink)?;
-    assert_eq!(rt; std::str::from_utf8(sink.taken.as_slice())?, TOO_FAR);
+    same(
+        &rt,
+        &"too far",
+        &std::str::from_utf8(sink.taken.as_slice())?,
+        &TOO_FAR,
+    );
     Ok(())
 }

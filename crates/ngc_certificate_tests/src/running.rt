@@ -1,4 +1,5 @@
 //! What the log says of each event.
+use crate::checks::same;
 use ngc_canonical::interpret;
 use ngc_certificate::make;
 use ngc_checker::{Accepted, check};
@@ -38,6 +39,13 @@ fn log_of(alloc: Global, program: &str, events: &str) -> Result<Vec<u8>, Fail> {
     Ok(sink.into_inner())
 }
 
+fn log_through(alloc: Global, program: &str) -> Result<Vec<u8>, Fail> {
+    let accepted = accepted(alloc, program)?;
+    let mut sink = Device::new(Vec::new(alloc));
+    run_through(alloc, accepted, false, &mut sink)?;
+    Ok(sink.into_inner())
+}
+
 const RUNS: &[(&str, &str, &str)] = &[
     (
         "M2\n",
@@ -68,7 +76,7 @@ const RUNS: &[(&str, &str, &str)] = &[
 fn the_log_of_a_run(rt: HostRuntime) -> Result<(), Fail> {
     for (program, events, log) in RUNS {
         let found = log_of(rt.alloc(), program, events)?;
-        assert_eq!(rt; found.as_slice(), log.as_bytes(), "{program}");
+        same(&rt, program, &found.as_slice(), &log.as_bytes());
     }
     Ok(())
 }
@@ -91,11 +99,8 @@ const RUNS_THROUGH: &[(&str, &str)] = &[
 #[test]
 fn the_log_of_a_run_through(rt: HostRuntime) -> Result<(), Fail> {
     for (program, log) in RUNS_THROUGH {
-        let accepted = accepted(rt.alloc(), program)?;
-        let mut sink = Device::new(Vec::new(rt.alloc()));
-        run_through(rt.alloc(), accepted, false, &mut sink)?;
-        let found = sink.into_inner();
-        assert_eq!(rt; found.as_slice(), log.as_bytes(), "{program}");
+        let found = log_through(rt.alloc(), program)?;
+        same(&rt, program, &found.as_slice(), &log.as_bytes());
     }
     Ok(())
 }

@@ -5,6 +5,7 @@ ghost use Rattle.std.specs.List.{list_all};
 ghost use Rattle.ngc_fixed_length.specs.Signed.{is_within};
 ghost use Rattle.ngc_certificate_text.specs.Certificate.{CUT_LIMIT, good_cut, good_piece};
 
+use crate::checks::{holds, same};
 use crate::devices::failing_after;
 use crate::given::piece;
 use linked_list_allocator::LocalHeap;
@@ -111,18 +112,20 @@ fn text_of<A: Allocator>(alloc: Global, certificate: &Certificate<A>) -> Result<
 fn spells_a_traverse(rt: HostRuntime) -> Result<(), Fail> {
     let certificate = short_traverse(rt.alloc())?;
     let text = text_of(rt.alloc(), &certificate)?;
-    assert_eq!(rt; text.as_slice(), SHORT_TRAVERSE);
+    same(&rt, &"text", &text.as_slice(), &SHORT_TRAVERSE);
     Ok(())
 }
 
 #[test]
 fn spells_no_motions(rt: HostRuntime) -> Result<(), Fail> {
     let certificate = Certificate::parted(Motions::new(rt.alloc()), Motions::new(rt.alloc()));
-    assert!(rt; certificate.off.is_empty());
+    holds(&rt, &"block delete off", certificate.off.is_empty());
     let text = text_of(rt.alloc(), &certificate)?;
-    assert_eq!(rt;
-        text.as_slice(),
-        b"ngc-certificate 1\nsetting off 0\nsetting on 0\nend\n".as_slice()
+    same(
+        &rt,
+        &"text",
+        &text.as_slice(),
+        &b"ngc-certificate 1\nsetting off 0\nsetting on 0\nend\n".as_slice(),
     );
     Ok(())
 }
@@ -150,14 +153,16 @@ fn spells_pieces_in_order(rt: HostRuntime) -> Result<(), Fail> {
         motions_of(rt.alloc(), on.as_slice())?,
     );
     let text = text_of(rt.alloc(), &certificate)?;
-    assert_eq!(rt;
-        text.as_slice(),
-        b"ngc-certificate 1\nsetting off 2\n\
+    same(
+        &rt,
+        &"text",
+        &text.as_slice(),
+        &b"ngc-certificate 1\nsetting off 2\n\
         motion 3 2\nline 32768 -5 -20 0 0 0 7\nline 65536 -10 -40 0 -5 -20 7\n\
         motion 999999 2\narc -500000 4000000000 -120 -5 0 3 3 2147483647\n\
         arc 0 -4000000000 -2147483648 0 0 0 0 0\n\
         setting on 1\nmotion 12 1\nline 1 1 2 3 4 5 6\nend\n"
-            .as_slice()
+            .as_slice(),
     );
     Ok(())
 }
@@ -174,13 +179,18 @@ fn motions_as_they_were_pushed(rt: HostRuntime) -> Result<(), Fail> {
         Motions::new(rt.alloc()),
         motions_of(rt.alloc(), entries.as_slice())?,
     );
-    assert_eq!(rt; certificate.motions(Setting::Off).len(), 0);
+    same(
+        &rt,
+        &"block delete off",
+        &certificate.motions(Setting::Off).len(),
+        &0,
+    );
     let motions = certificate.motions(Setting::On);
     assert_eq!(rt; motions.len(), 2);
     for (motion, (index, pieces)) in entries.iter().enumerate() {
         assert!(rt; motion < motions.len());
-        assert_eq!(rt; motions.index(motion), *index);
-        assert_eq!(rt; motions.pieces(motion), *pieces);
+        same(&rt, &"index", &motions.index(motion), index);
+        same(&rt, &"pieces", &motions.pieces(motion), pieces);
     }
     Ok(())
 }
@@ -191,15 +201,21 @@ fn a_sink_that_fails_has_a_beginning(rt: HostRuntime) -> Result<(), Fail> {
     for calls in 0..=SHORT_TRAVERSE.len() {
         let mut sink = failing_after(rt.alloc(), calls, 1);
         let result = certificate.write(&mut sink);
-        assert_eq!(rt;
-            result.is_ok(),
-            calls == SHORT_TRAVERSE.len(),
-            "after {calls} calls"
+        same(
+            &rt,
+            &calls,
+            &result.is_ok(),
+            &(calls == SHORT_TRAVERSE.len()),
         );
-        assert_eq!(rt; sink.taken.as_slice(), &SHORT_TRAVERSE[..calls]);
+        same(
+            &rt,
+            &calls,
+            &sink.taken.as_slice(),
+            &&SHORT_TRAVERSE[..calls],
+        );
         if let Err(fault) = result {
-            assert_eq!(rt; fault.number(), 902);
-            assert_eq!(rt; sink.failures, 1);
+            same(&rt, &calls, &fault.number(), &902);
+            same(&rt, &calls, &sink.failures, &1);
         }
     }
     Ok(())
@@ -237,16 +253,14 @@ fn comes_whole_or_begins(
 ) {
     let mut sink = failing_after(alloc, calls, 1_000);
     let result = certificate.write(&mut sink);
-    assert!(rt;
-        whole.starts_with(sink.taken.as_slice()),
-        "after {calls} calls"
+    holds(rt, &calls, whole.starts_with(sink.taken.as_slice()));
+    same(
+        rt,
+        &calls,
+        &result.is_ok(),
+        &(sink.taken.len() == whole.len()),
     );
-    assert_eq!(rt;
-        result.is_ok(),
-        sink.taken.len() == whole.len(),
-        "after {calls} calls"
-    );
-    assert_eq!(rt; result.is_err(), sink.failures == 1, "after {calls} calls");
+    same(rt, &calls, &result.is_err(), &(sink.failures == 1));
 }
 
 #[test]
@@ -257,7 +271,7 @@ fn a_long_text_comes_whole_or_begins(rt: HostRuntime) -> Result<(), Fail> {
         comes_whole_or_begins(&rt, rt.alloc(), &certificate, whole.as_slice(), calls);
     }
     let text = text_of(rt.alloc(), &certificate)?;
-    assert_eq!(rt; text.as_slice(), whole.as_slice());
+    same(&rt, &"text", &text.as_slice(), &whole.as_slice());
     Ok(())
 }
 
@@ -276,16 +290,16 @@ fn refused_memory_adds_nothing(rt: HostRuntime) -> Result<(), Fail> {
                 added = added.saturating_add(1);
             } else {
                 refused = refused.saturating_add(1);
-                assert_eq!(rt; motions.len(), before);
+                same(&rt, &"nothing is added", &motions.len(), &before);
             }
         }
-        assert_eq!(rt; motions.len(), added);
-        assert!(rt; most <= added);
+        same(&rt, &"motions", &motions.len(), &added);
+        holds(&rt, &"more with more memory", most <= added);
         most = added;
         drop(motions);
-        assert_eq!(rt; heap.used(), 0);
+        same(&rt, &"memory that is kept", &heap.used(), &0);
     }
-    assert!(rt; refused > 0);
-    assert_eq!(rt; most, 20);
+    holds(&rt, &"refused", refused > 0);
+    same(&rt, &"most", &most, &20);
     Ok(())
 }

@@ -1,8 +1,8 @@
 //! What no clause of `ngc_command_line` says: spellings, refusals and their texts. Want of memory is not tested, since
 //! `clap` allocates by `Global`, which no test can make run out.
 use ngc_command_line::{
-    CertifyOptions, CheckOptions, DrawOptions, ListOptions, Options, Recording, RunOptions,
-    RunThroughOptions, ShowOptions, UsageFault, read_options,
+    CertifyOptions, CheckOptions, DrawOptions, Format, ListOptions, Options, Recording,
+    ReportOptions, RunOptions, RunThroughOptions, ShowOptions, UsageFault, read_options,
 };
 use std::alloc::{AllocError, Global};
 use std::test::Fail;
@@ -124,6 +124,38 @@ fn reads_certify(rt: HostRuntime) -> Result<(), Fail> {
             tools: "table.toml",
             program: *program,
             cuts: *cuts,
+            format: Format::One,
+        };
+        assert!(rt;
+            are_read_as(rt.alloc(), lines, Options::Certify(wanted))?,
+            "{lines}"
+        );
+    }
+    Ok(())
+}
+
+const FORMATS: &[(&str, Format)] = &[
+    (
+        "certify --machine=mill.toml --tools=table.toml --format 1|\
+         certify --machine=mill.toml --format=01 --tools=table.toml",
+        Format::One,
+    ),
+    (
+        "certify --machine=mill.toml --tools=table.toml --format=2|\
+         certify --format +2 --machine=mill.toml --tools=table.toml",
+        Format::Two,
+    ),
+];
+
+#[test]
+fn reads_formats(rt: HostRuntime) -> Result<(), Fail> {
+    for (lines, format) in FORMATS {
+        let wanted = CertifyOptions {
+            machine: "mill.toml",
+            tools: "table.toml",
+            program: None,
+            cuts: 8,
+            format: *format,
         };
         assert!(rt;
             are_read_as(rt.alloc(), lines, Options::Certify(wanted))?,
@@ -316,6 +348,39 @@ fn reads_show(rt: HostRuntime) -> Result<(), Fail> {
     Ok(())
 }
 
+const REPORTS: &[(&str, Option<&str>, u16)] = &[
+    ("report --machine=mill.toml --tools=table.toml", None, 8),
+    (
+        "report --machine mill.toml --tools table.toml --program a.ngc --cuts 3|\
+         report --cuts=3 --program=a.ngc --tools=table.toml --machine=mill.toml",
+        Some("a.ngc"),
+        3,
+    ),
+    (
+        "report --machine=mill.toml --tools=table.toml --cuts 65535",
+        None,
+        65_535,
+    ),
+];
+
+#[test]
+fn reads_report(rt: HostRuntime) -> Result<(), Fail> {
+    for (lines, program, cuts) in REPORTS {
+        assert!(rt; *cuts > 0);
+        let wanted = ReportOptions {
+            machine: "mill.toml",
+            tools: "table.toml",
+            program: *program,
+            cuts: *cuts,
+        };
+        assert!(rt;
+            are_read_as(rt.alloc(), lines, Options::Report(wanted))?,
+            "{lines}"
+        );
+    }
+    Ok(())
+}
+
 const EXPLAINS: &[(&str, u16)] = &[
     ("explain 113|explain 0113|explain +113|explain -- 113", 113),
     ("explain 1", 1),
@@ -397,7 +462,10 @@ list --tools --delete -> a value is required|--tools|--help
 list --program a --program a -> --program|multiple times|Usage: ngc list [OPTIONS]
 list --machine a --machine a -> --machine|multiple times|Usage: ngc list [OPTIONS]
 list --tools a --tools a -> --tools|multiple times|Usage: ngc list [OPTIONS]
-certify --machine=mill.toml --tools=table.toml --cuts=-1 -> '-1'|'--cuts <N>'";
+certify --machine=mill.toml --tools=table.toml --cuts=-1 -> '-1'|'--cuts <N>'
+certify --machine=mill.toml --tools=table.toml --format=0 -> '0'|'--format <VERSION>'
+certify --machine=mill.toml --tools=table.toml --format=3 -> '3'|'--format <VERSION>'
+certify --machine=mill.toml --tools=table.toml --format=two -> 'two'|'--format <VERSION>'";
 
 #[test]
 fn refuses(rt: HostRuntime) -> Result<(), Fail> {
@@ -424,7 +492,8 @@ run --tools=table.toml --certificate=a.cert --events=a.events --program=a.ngc ->
 run --machine=mill.toml --certificate=a.cert --events=a.events --delete -> --tools
 run --machine=mill.toml --tools=table.toml --events=a.events -> --certificate
 run --delete -> --machine --tools --certificate
-show --tools=table.toml -> --machine";
+show --tools=table.toml -> --machine
+report --cuts=3 --program=a.ngc -> --machine --tools";
 
 // The parts of a refusal that tells of options which are missing.
 fn missing_parts(alloc: Global, options: &str) -> Result<String, Fail> {
@@ -496,6 +565,16 @@ const LAST_WORDS: &[(&str, &str, &str)] = &[
         "--delete|--program=a|--cuts=8",
         "unexpected argument|Usage: ngc show",
     ),
+    (
+        "report --machine=mill.toml --tools=table.toml --cuts",
+        "0|65536|x",
+        "'--cuts <N>'|try '--help'",
+    ),
+    (
+        "report --machine=mill.toml --tools=table.toml",
+        "--delete|--certificate=a",
+        "unexpected argument|Usage: ngc report",
+    ),
 ];
 
 #[test]
@@ -519,7 +598,7 @@ fn is_narrow(text: &str) -> bool {
 
 const HELP: &str =
     "List, certify, check, run and draw part programs in RS274/NGC|Usage: ngc <COMMAND>|  list |  certify |  check |\
-                    \x20 run |  pulses |  draw |  show |  explain |  help |  version |ngc list --program examples/facing.ngc|Exit status:|0  done|1  input|2  the command line|\
+                    \x20 run |  pulses |  draw |  show |  report |  explain |  help |  version |ngc list --program examples/facing.ngc|Exit status:|0  done|1  input|2  the command line|\
                     3  the part program|4  the certificate was refused, or none clears the program|`ngc explain 113` explains it.";
 
 const LIST_HELP: &str =
@@ -531,6 +610,7 @@ const LIST_HELP: &str =
 const CERTIFY_HELP: &str =
     "Usage: ngc certify [OPTIONS] --machine <FILE> --tools <FILE>|--machine <FILE>|--tools <FILE>|\
                             --program <FILE>|[default: standard input]|--cuts <N>|[default: 8]|\
+                            --format <VERSION>|[default: 1]|\
                             ngc certify --program examples/slot.ngc|\
                             --machine examples/clamped_mill.toml --tools examples/tools.toml|Exit status:|\
                             4  the certificate was refused, or none clears the program|`ngc explain 113` explains it.";
@@ -555,6 +635,11 @@ const SHOW_HELP: &str = "Print a machine and its tools in millimetres, with warn
                          Usage: ngc show [OPTIONS] --machine <FILE>|--machine <FILE>|--tools <FILE>|[default: no tools]|\
                          ngc show --machine examples/small_mill.toml|Exit status:|`ngc explain 113` explains it.";
 
+const REPORT_HELP: &str = "Tell whether a part program fits, and how long it takes|\
+                           Usage: ngc report [OPTIONS] --machine <FILE> --tools <FILE>|--machine <FILE>|--tools <FILE>|\
+                           --program <FILE>|[default: standard input]|--cuts <N>|[default: 8]|\
+                           ngc report --program examples/slot.ngc|Exit status:|`ngc explain 113` explains it.";
+
 const EXPLAIN_HELP: &str =
     "Print the rule of a fault, an example, and what to do|Usage: ngc explain <N>|\
                             <N>|Number of a fault|ngc explain 113|Exit status:|`ngc explain 113` explains it.";
@@ -575,6 +660,7 @@ const HELP_LINES: &[(&str, &str)] = &[
     ("check --help", CHECK_HELP),
     ("run --help", RUN_HELP),
     ("show --help", SHOW_HELP),
+    ("report --help", REPORT_HELP),
     ("explain --help", EXPLAIN_HELP),
     ("help --help", HELP_HELP),
     ("version --help", VERSION_HELP),

@@ -1,20 +1,26 @@
+use checks::same;
 use ngc_fixed_length::{Device, DeviceFault, Sink, Source};
 use ngc_line_reader::ReadFault;
-use ngc_simulator::{CertifyOptions, Files, ListOptions, Options, Recording, RunOptions, answer};
+use ngc_simulator::{
+    CertifyOptions, Files, Format, ListOptions, Options, Recording, RunOptions, answer,
+};
 use std::alloc::Global;
 use std::process::Abort;
 
 mod arcs;
 mod broken_off;
 mod certificates;
+mod checks;
 mod controller;
 mod cycles;
 mod files;
 mod guides;
 mod interpreter;
 mod jobs;
+mod joined;
 mod looking_ahead;
 mod memory;
+mod reports;
 mod rows;
 mod runs;
 mod second_versions;
@@ -152,14 +158,14 @@ struct Outcome {
 
 impl Outcome {
     fn is(&self, rt: &impl Abort, status: u8, output: &str, errors: &str, row: &str) {
-        assert_eq!(rt; self.output.as_slice(), output.as_bytes(), "at {row}");
-        assert_eq!(rt; self.errors.as_slice(), errors.as_bytes(), "at {row}");
-        assert_eq!(rt; self.status, status, "at {row}");
+        same(rt, &row, &self.output.as_slice(), &output.as_bytes());
+        same(rt, &row, &self.errors.as_slice(), &errors.as_bytes());
+        same(rt, &row, &self.status, &status);
     }
 
     fn has_no_fault(&self, rt: &impl Abort, row: &str) {
-        assert_eq!(rt; self.errors.as_slice(), b"".as_slice(), "at {row}");
-        assert_eq!(rt; self.status, 0, "at {row}");
+        same(rt, &row, &self.errors.as_slice(), &b"".as_slice());
+        same(rt, &row, &self.status, &0);
     }
 }
 
@@ -205,6 +211,7 @@ fn certify_options(cuts: u16) -> CertifyOptions<'static> {
         tools: "tools",
         program: None,
         cuts: cuts.max(1),
+        format: Format::One,
     }
 }
 

@@ -1,3 +1,4 @@
+use crate::checks::same;
 use ngc_fixed_length::Device;
 use ngc_output::Chunk;
 use std::test::Fail;
@@ -13,9 +14,11 @@ fn collects_numbers_and_texts(rt: HostRuntime) -> Result<(), Fail> {
     chunk.write_out(&mut sink)?;
     chunk.add_text(b" 0");
     chunk.write_out(&mut sink)?;
-    assert_eq!(rt;
-        sink.into_inner().as_slice(),
-        b"18446744073709551615 -9223372036854775808 0".as_slice()
+    same(
+        &rt,
+        &"text",
+        &sink.into_inner().as_slice(),
+        &b"18446744073709551615 -9223372036854775808 0".as_slice(),
     );
     Ok(())
 }

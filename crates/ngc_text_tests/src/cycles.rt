@@ -428,7 +428,12 @@ const BORED: Given = Given {
 
 #[test]
 fn a_site_has_its_heights(rt: HostRuntime) -> Result<(), Fail> {
-    assert_eq!(rt; heights_of(&BORED)?, (5_000_000, -1_000_000));
+    same(
+        &rt,
+        &"heights",
+        &heights_of(&BORED)?,
+        &(5_000_000, -1_000_000),
+    );
     Ok(())
 }
 
@@ -488,10 +493,10 @@ const PECKED: Given = Given {
 #[test]
 fn ten_thousand_pecks(rt: HostRuntime) -> Result<(), Fail> {
     let mut moves = expanded(rt.alloc(), &PECKED, 1)??;
-    assert_eq!(rt; moves.len(), 27_460);
+    same(&rt, &"pecks", &moves.len(), &27_460);
     let frames = Frames::new(&[origin(); 9]);
     place_behind_cycle(&frames, &DRILLED, origin(), &mut moves)?;
-    assert_eq!(rt; moves.len(), 3);
+    same(&rt, &"one hole", &moves.len(), &3);
     Ok(())
 }
 
@@ -504,9 +509,9 @@ const PECKED_LESS: Given = Given {
 fn only_many_pecks_need_memory(rt: HostRuntime) -> Result<(), Fail> {
     let heap = LocalHeap::new(rt.alloc(), 64)?;
     let moves = expanded(&heap, &DRILLED, 1)??;
-    assert_eq!(rt; moves.len(), 3);
+    same(&rt, &"one hole", &moves.len(), &3);
     let refused = expanded(&heap, &PECKED_LESS, 1)?.err();
-    assert_eq!(rt; refused, Some(CycleFault::Memory));
+    same(&rt, &"many pecks", &refused, &Some(CycleFault::Memory));
     Ok(())
 }
 
@@ -516,6 +521,6 @@ fn repeats_end_above_the_last_hole(rt: HostRuntime) -> Result<(), Fail> {
     frames.set_length(Some(length(20_000_000)?))?;
     let mut moves = SmallVec::new(rt.alloc());
     let end = place_behind_cycle(&frames, &REPEATED, origin(), &mut moves)?;
-    assert_eq!(rt; end, point(3_000_000, 0, 0)?);
+    same(&rt, &"end", &end, &point(3_000_000, 0, 0)?);
     Ok(())
 }

@@ -1,4 +1,4 @@
-use crate::checks::same;
+use crate::checks::{holds, same};
 use crate::devices::SlowSource;
 use crate::values::value;
 use linked_list_allocator::LocalHeap;
@@ -142,10 +142,14 @@ pub fn file_of(
 }
 
 #[test]
-fn files(rt: HostRuntime) -> Result<(), Fail> {
+fn files(rt: HostRuntime) {
     for (text, wanted) in FILES {
         same(&rt, text, &shape(rt.alloc(), text.as_bytes()), wanted);
     }
+}
+
+#[test]
+fn long_files(rt: HostRuntime) -> Result<(), Fail> {
     for (front, piece, times, end, wanted) in LONG_FILES {
         let text = file_of(rt.alloc(), front, piece, *times, end)?;
         let answer = shape(rt.alloc(), text.as_bytes());
@@ -158,7 +162,11 @@ fn files(rt: HostRuntime) -> Result<(), Fail> {
 fn the_last_line_of_the_longest_file(rt: HostRuntime) -> Result<(), Fail> {
     let text = file_of(rt.alloc(), "%\n", "X1\n", 100_000, "%\n")?;
     let program = read(rt.alloc(), text.as_bytes())?;
-    assert!(rt; has_line(&program, 99_999, 100_001, b"X1"));
+    holds(
+        &rt,
+        &"the last line",
+        has_line(&program, 99_999, 100_001, b"X1"),
+    );
     Ok(())
 }
 
@@ -185,19 +193,33 @@ fn has_first_symbols(line: &Line, number: Value) -> bool {
         && has_symbol(line, 7, Symbol::Number(number))
 }
 
+fn is_loaded_first(rt: &impl Abort, line: &Line, number: Value) {
+    holds(rt, &"the first line", is_first_line(line));
+    holds(rt, &"its symbols", has_first_symbols(line, number));
+    let seen = line.view();
+    holds(rt, &"seen", seen.deleted && seen.tokens.len() == 9);
+}
+
+fn is_loaded_second(rt: &impl Abort, line: &Line) {
+    holds(
+        rt,
+        &"the second line",
+        !line.deleted && line.words.len() == 1,
+    );
+    holds(rt, &"its settings", line.settings.is_empty());
+    holds(rt, &"its symbols", line.tokens.len() == 1);
+}
+
 #[test]
 fn loaded_lines(rt: HostRuntime) -> Result<(), Fail> {
     let program = read(rt.alloc(), b"/N7 #3=#5 G0 (a) X[1+2.5]\nM2\n".as_slice())?;
     assert_eq!(rt; program.len(), 2);
     let mut line = Line::empty();
     program.load(0, &mut line);
-    assert!(rt; is_first_line(&line));
-    assert!(rt; has_first_symbols(&line, value(2_500_000)?));
-    let seen = line.view();
-    assert!(rt; seen.deleted && seen.tokens.len() == 9);
+    let number = value(2_500_000)?;
+    is_loaded_first(&rt, &line, number);
     program.load(1, &mut line);
-    assert!(rt; !line.deleted && line.words.len() == 1);
-    assert!(rt; line.settings.is_empty() && line.tokens.len() == 1);
+    is_loaded_second(&rt, &line);
     Ok(())
 }
 
@@ -220,15 +242,21 @@ const NUMBERS: &[(ReadFault, u16)] = &[
 ];
 
 #[test]
-fn faults(rt: HostRuntime) -> Result<(), Fail> {
+fn numbers_of_faults(rt: HostRuntime) {
     for (fault, number) in NUMBERS {
         same(&rt, fault, &fault.number(), number);
     }
+}
+
+#[test]
+fn texts_of_faults(rt: HostRuntime) -> Result<(), Fail> {
     let long = ReadFault::Line(7, TOO_LONG);
     let text = format!(in rt.alloc(); "{long}; {}", ReadFault::NoEnd)?;
-    assert_eq!(rt;
-        text.as_str(),
-        "line 7: line longer than 256 characters, column 257; second percent line missing"
+    same(
+        &rt,
+        &"text",
+        &text.as_str(),
+        &"line 7: line longer than 256 characters, column 257; second percent line missing",
     );
     Ok(())
 }
@@ -298,20 +326,23 @@ fn failing_sources(rt: HostRuntime) -> Result<(), Fail> {
     Ok(())
 }
 
-// Whether a file is read with the memory of a heap.
-fn is_read_in(rt: &impl Abort, heap: &LocalHeap) -> bool {
+// How many lines of a file are read with the memory of a heap.
+fn lines_in(heap: &LocalHeap) -> Result<usize, ReadFault> {
     let mut source = Device::new(b"G0 X1\nG1 X2 Y3 F100\n\nX4\nX5\nM2\n".as_slice());
-    let is_read = match Program::read(heap, &mut source) {
-        Ok(program) => {
-            assert_eq!(rt; program.len(), 6);
-            true
-        }
-        Err(fault) => {
-            assert!(rt; fault == ReadFault::Memory);
-            false
-        }
+    Ok(Program::read(heap, &mut source)?.len())
+}
+
+// Whether all of them are.
+fn is_read_in(rt: &impl Abort, heap: &LocalHeap) -> bool {
+    let found = lines_in(heap);
+    let is_read = found.is_ok();
+    let wanted = if is_read {
+        Ok(6)
+    } else {
+        Err(ReadFault::Memory)
     };
-    assert_eq!(rt; heap.used(), 0);
+    same(rt, &"lines", &found, &wanted);
+    same(rt, &"memory that is kept", &heap.used(), &0);
     is_read
 }
 
@@ -324,11 +355,11 @@ fn refused_memory(rt: HostRuntime) -> Result<(), Fail> {
         if is_read_in(&rt, &heap) {
             done = done.saturating_add(1);
         } else {
-            assert_eq!(rt; done, 0);
+            same(&rt, &"done before", &done, &0);
             refused = refused.saturating_add(1);
         }
     }
-    assert!(rt; refused > 0);
-    assert!(rt; done > 0);
+    holds(&rt, &"refused", refused > 0);
+    holds(&rt, &"done", done > 0);
     Ok(())
 }

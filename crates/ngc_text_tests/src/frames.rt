@@ -1,7 +1,7 @@
 ghost use Rattle.std.specs.Prelude.{◌≤◌, ◌↔◌, unsigned_abs, IsTrue};
 ghost use Rattle.ngc_offsets.specs.Ranges.{MACHINE_LIMIT};
 
-use crate::checks::same;
+use crate::checks::{holds, same};
 use crate::values::{length, origin, point};
 use ngc_fixed_length::{Distance, Nm, Point3, System};
 use ngc_offsets::{AxisLengths, FrameFault, Frames, machine_target};
@@ -160,10 +160,18 @@ fn steps_lead_to_places(rt: HostRuntime) -> Result<(), Fail> {
 #[test]
 fn refusals(rt: HostRuntime) -> Result<(), Fail> {
     let mut frames = at_start();
-    assert!(rt; frames.set_length(None) == Err(FrameFault::NoSuchTool));
-    assert_eq!(rt; FrameFault::NoSuchTool.number(), 222);
+    holds(
+        &rt,
+        &"no tool",
+        frames.set_length(None) == Err(FrameFault::NoSuchTool),
+    );
+    same(&rt, &"number", &FrameFault::NoSuchTool.number(), &222);
     let answer = frames.target(Distance::Absolute, origin(), &on_x(1_000_000_001)?);
-    assert!(rt; answer == Err(FrameFault::BeyondRange));
-    assert_eq!(rt; FrameFault::BeyondRange.number(), 221);
+    holds(
+        &rt,
+        &"beyond the range",
+        answer == Err(FrameFault::BeyondRange),
+    );
+    same(&rt, &"number", &FrameFault::BeyondRange.number(), &221);
     Ok(())
 }

@@ -134,10 +134,14 @@ const LIMITS: &[(&str, usize, Counts)] = &[
 ];
 
 #[test]
-fn lines(rt: HostRuntime) -> Result<(), Fail> {
+fn lines(rt: HostRuntime) {
     for (bytes, wanted) in COUNTED {
         same(&rt, bytes, &counts(bytes), wanted);
     }
+}
+
+#[test]
+fn longest_lines(rt: HostRuntime) -> Result<(), Fail> {
     for (piece, times, wanted) in LIMITS {
         let text = piece.repeat(rt.alloc(), *times)?;
         same(&rt, &(*piece, *times), &counts(text.as_bytes()), wanted);
@@ -241,10 +245,25 @@ fn whole_lines(rt: HostRuntime) -> Result<(), Fail> {
 #[test]
 fn fault_texts(rt: HostRuntime) -> Result<(), Fail> {
     let fault = read_line(b"G0 X1(a)2").err().ok_or("a fault")?;
-    assert_eq!(rt; fault.number(), 113);
     let text = format!(in rt.alloc(); "{fault}")?;
-    assert_eq!(rt; text.as_str(), "number missing or badly written, column 9");
-    let fault = read_line(&[b' '; 300]).err().ok_or("a fault")?;
-    assert_eq!(rt; fault.number(), 111);
+    same(
+        &rt,
+        &"text",
+        &text.as_str(),
+        &"number missing or badly written, column 9",
+    );
     Ok(())
+}
+
+fn number_of(bytes: &[u8]) -> Option<u16> {
+    match read_line(bytes) {
+        Ok(_) => None,
+        Err(fault) => Some(fault.number()),
+    }
+}
+
+#[test]
+fn fault_numbers(rt: HostRuntime) {
+    same(&rt, &"a number", &number_of(b"G0 X1(a)2"), &Some(113));
+    same(&rt, &"too long", &number_of(&[b' '; 300]), &Some(111));
 }

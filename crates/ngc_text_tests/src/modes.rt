@@ -374,9 +374,11 @@ fn laws_and_texts(rt: HostRuntime) -> Result<(), Fail> {
     laws::order_of_execution();
     laws::few_effects();
     let text = format!(in rt.alloc(); "{}", ModalFault::WordMissing)?;
-    assert_eq!(rt;
-        text.as_str(),
-        "a word that a code on the line needs is missing"
+    same(
+        &rt,
+        &"text",
+        &text.as_str(),
+        &"a word that a code on the line needs is missing",
     );
     Ok(())
 }

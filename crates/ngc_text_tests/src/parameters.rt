@@ -1,4 +1,4 @@
-use crate::checks::same;
+use crate::checks::{holds, same};
 use crate::values::value;
 use ngc_fixed_length::NumberFault;
 use ngc_line_reader::{Letter, read_line};
@@ -38,7 +38,11 @@ fn a_setting_counts_on_the_next_line(rt: HostRuntime) -> Result<(), Fail> {
         letter: Letter::X,
         value: value(0)?,
     };
-    assert!(rt; has_one_word(&store, "#3=15 #3=6 X#3", word)?);
+    holds(
+        &rt,
+        &"one word",
+        has_one_word(&store, "#3=15 #3=6 X#3", word)?,
+    );
     Ok(())
 }
 
@@ -86,12 +90,14 @@ fn values_and_faults(rt: HostRuntime) -> Result<(), Fail> {
 
 #[test]
 fn faults(rt: HostRuntime) -> Result<(), Fail> {
-    assert_eq!(rt; EvalFault::Memory.number(), 900);
+    same(&rt, &"number", &EvalFault::Memory.number(), &900);
     let division = EvalFault::Number(NumberFault::DivisionByZero);
     let text = format!(in rt.alloc(); "{division}; {}", EvalFault::TooDeep)?;
-    assert_eq!(rt;
-        text.as_str(),
-        "division by zero; brackets and # nested more than 16 deep"
+    same(
+        &rt,
+        &"text",
+        &text.as_str(),
+        &"division by zero; brackets and # nested more than 16 deep",
     );
     Ok(())
 }

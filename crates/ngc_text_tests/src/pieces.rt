@@ -1,4 +1,4 @@
-use crate::checks::same;
+use crate::checks::{holds, same};
 use crate::files::{FILES, Shape, are_same, file_of, read};
 use linked_list_allocator::LocalHeap;
 use ngc_line_reader::{FaultKind, LineFault, Program, ProgramReader, ReadFault};
@@ -122,8 +122,8 @@ fn is_refused_in(rt: &impl Abort, heap: &LocalHeap) -> bool {
 #[test]
 fn refused_memory_stays(rt: HostRuntime) -> Result<(), Fail> {
     let little = LocalHeap::new(rt.alloc(), 16)?;
-    assert!(rt; is_refused_in(&rt, &little));
+    holds(&rt, &"little memory", is_refused_in(&rt, &little));
     let much = LocalHeap::new(rt.alloc(), 4096)?;
-    assert!(rt; !is_refused_in(&rt, &much));
+    holds(&rt, &"much memory", !is_refused_in(&rt, &much));
     Ok(())
 }

@@ -1,5 +1,6 @@
 //! Files that break off: sources that fail at each byte in turn, and files of which only a beginning is there.
 use super::certificates::{CHECK, POST, ROUND_THE_POST};
+use super::checks::same;
 use super::{
     LIST, MACHINE, RUN, Texts, certify_options, comes_to, on_the_mill, outcome_of, status_of,
 };
@@ -153,17 +154,19 @@ fn is_broken_off(
         &mut output,
         &mut errors,
     );
-    assert_eq!(rt;
-        errors.into_inner().as_slice(),
-        wanted.1.as_bytes(),
-        "{file:?} at {at}"
+    same(
+        rt,
+        &(file, at),
+        &errors.into_inner().as_slice(),
+        &wanted.1.as_bytes(),
     );
-    assert_eq!(rt;
-        output.into_inner().as_slice(),
-        b"".as_slice(),
-        "{file:?} at {at}"
+    same(
+        rt,
+        &(file, at),
+        &output.into_inner().as_slice(),
+        &b"".as_slice(),
     );
-    assert_eq!(rt; status, wanted.0, "{file:?} at {at}");
+    same(rt, &(file, at), &status, &wanted.0);
 }
 
 const UNREAD: (u8, &str) = (1, "ngc: fault 901\n");
@@ -291,7 +294,7 @@ fn beginnings_of_a_program(rt: HostRuntime) {
         first = *end;
     }
     // The last line feed may be left out.
-    assert_eq!(rt; first.saturating_add(1), whole.len());
+    same(&rt, &"beginnings", &first.saturating_add(1), &whole.len());
     for len in first..=whole.len() {
         let texts = Texts {
             program: &whole[..len.min(whole.len())],

@@ -1,3 +1,4 @@
+use super::checks::holds;
 use super::{MACHINE, SHORT_WAY, Texts, certify_options, comes_to, on_the_mill, outcome_of};
 use ngc_simulator::{CheckOptions, Options};
 use std::alloc::Global;
@@ -510,7 +511,7 @@ const CUT_ARCS: &[(&str, u16, &[u8])] = &[
     ),
 ];
 
-pub(super) fn holds(text: &[u8], part: &[u8]) -> bool {
+pub(super) fn has_part(text: &[u8], part: &[u8]) -> bool {
     text.windows(part.len().max(1)).any(|window| window == part)
 }
 
@@ -529,7 +530,7 @@ fn is_cut_and_accepted(
     };
     let found = outcome_of(alloc, texts, &Options::Certify(certify_options(cuts)));
     found.has_no_fault(rt, program);
-    assert!(rt; holds(found.output.as_slice(), beginning), "at {program}");
+    holds(rt, &program, has_part(found.output.as_slice(), beginning));
     let texts = Texts {
         certificate: found.output.as_slice(),
         ..texts
@@ -612,7 +613,11 @@ fn certifies_the_most(rt: &impl Abort, alloc: Global, texts: Texts<'_>) {
     let found = outcome_of(alloc, texts, &Options::Certify(certify_options(8)));
     found.has_no_fault(rt, "the most commands");
     let beginning = b"ngc-certificate 1\nsetting off 999900\nmotion 0 1\n";
-    assert!(rt; found.output.as_slice().starts_with(beginning));
+    holds(
+        rt,
+        &"the most commands",
+        found.output.as_slice().starts_with(beginning),
+    );
     let texts = Texts {
         certificate: found.output.as_slice(),
         ..texts

@@ -1,5 +1,6 @@
 //! The controller event by event: what it answers, where it stands, and its rates.
 use super::SHORT_WAY;
+use super::checks::{holds, same};
 use super::jobs::{End, Job, Shop, certify_text, written_by};
 use super::runs::{SHORT_WAY_EVENTS, SHORT_WAY_LOG, SHORT_WAY_REPORT};
 use linked_list_allocator::LocalHeap;
@@ -23,7 +24,7 @@ fn accepted(rt: &impl Abort, alloc: Global, text: &str) -> Result<Accepted<Globa
     let shop = Shop { machine, tools };
     let mut written = Device::new(Vec::new(alloc));
     let ending = certify_text(alloc, text, &shop, &mut written);
-    assert_eq!(rt; ending, End::Done, "at {text}");
+    same(rt, &text, &ending, &End::Done);
     let written = written.into_inner();
     Ok(accepted_on(alloc, text, written.as_slice(), &shop.tools).ok_or("not accepted")?)
 }
@@ -47,7 +48,7 @@ pub(super) fn controller(
     match Controller::new(alloc, accepted(rt, alloc, text)?, false) {
         Ok(controller) => Ok(controller),
         Err((_, fault)) => {
-            assert!(rt; false, "no memory for the controller");
+            holds(rt, &"no memory for the controller", false);
             Err(fault)?
         }
     }
@@ -91,9 +92,13 @@ fn tick(rt: &impl Abort, controller: &mut Controller<ArcPath, Global>, seen: &mu
     let before = controller.rate();
     let reply = give(controller, Event::Tick);
     let rate = controller.rate();
-    assert!(rt; rate <= 400_000);
-    assert!(rt; rate.abs_diff(before) <= 1000);
-    assert!(rt; braking(rate) <= 100_000_000u64.saturating_sub(seen.travelled));
+    holds(rt, &"the greatest rate", rate <= 400_000);
+    holds(rt, &"the change of the rate", rate.abs_diff(before) <= 1000);
+    holds(
+        rt,
+        &"braking",
+        braking(rate) <= 100_000_000u64.saturating_sub(seen.travelled),
+    );
     seen.travelled = seen.travelled.saturating_add(rate);
     if let Ok(Reply::Ticked { position, ending }) = reply {
         if position.is_some() {
@@ -128,17 +133,32 @@ const LOADED_AT_DOUBLE: &[(Event, Reply)] = &[
 fn a_hold_before_the_last_pulse(rt: HostRuntime) -> Result<(), Fail> {
     let mut controller = controller(&rt, rt.alloc(), "G0 X1\nM2\n")?;
     for (event, reply) in LOADED_AT_DOUBLE {
-        assert_eq!(rt; give(&mut controller, *event), Ok(*reply));
+        same(&rt, event, &give(&mut controller, *event), &Ok(*reply));
     }
     let mut seen = NOTHING;
     ticks(&rt, &mut controller, &mut seen, 99, 10_000);
-    assert_eq!(rt; seen.pulses, 99);
-    assert_eq!(rt; give(&mut controller, Event::Hold), Ok(Reply::Held));
+    same(&rt, &"pulses", &seen.pulses, &99);
+    same(
+        &rt,
+        &"hold",
+        &give(&mut controller, Event::Hold),
+        &Ok(Reply::Held),
+    );
     tick(&rt, &mut controller, &mut seen);
-    assert_eq!(rt; give(&mut controller, Event::Resume), Ok(Reply::Resumed));
+    same(
+        &rt,
+        &"resume",
+        &give(&mut controller, Event::Resume),
+        &Ok(Reply::Resumed),
+    );
     ticks(&rt, &mut controller, &mut seen, u32::MAX, 10_000);
-    assert!(rt; seen.ended);
-    assert_eq!(rt; controller.position(), StepPos { x: 100, y: 0, z: 0 });
+    holds(&rt, &"ended", seen.ended);
+    same(
+        &rt,
+        &"position",
+        &controller.position(),
+        &StepPos { x: 100, y: 0, z: 0 },
+    );
     Ok(())
 }
 
@@ -149,8 +169,8 @@ fn a_traverse_of_a_hundred_steps_within_a_thousand_ticks(rt: HostRuntime) -> Res
     let _ = give(&mut controller, Event::Load);
     let mut seen = NOTHING;
     ticks(&rt, &mut controller, &mut seen, u32::MAX, 1000);
-    assert!(rt; seen.ended);
-    assert_eq!(rt; seen.pulses, 100);
+    holds(&rt, &"ended", seen.ended);
+    same(&rt, &"pulses", &seen.pulses, &100);
     Ok(())
 }
 
@@ -168,13 +188,17 @@ fn a_traverse_that_is_held_up_by_overrides(rt: HostRuntime) -> Result<(), Fail> 
             let _ = give(&mut controller, *event);
             let before = controller.rate();
             let reply = give(&mut controller, Event::Tick);
-            assert!(rt; controller.rate().abs_diff(before) <= 1000);
+            holds(
+                &rt,
+                &"the change of the rate",
+                controller.rate().abs_diff(before) <= 1000,
+            );
             if let Ok(Reply::Ticked { ending, .. }) = reply {
                 ended = ended || ending == Some(Ending::Done(0));
             }
         }
     }
-    assert!(rt; ended);
+    holds(&rt, &"ended", ended);
     Ok(())
 }
 
@@ -195,19 +219,24 @@ fn the_rate_on_an_arc(rt: HostRuntime) -> Result<(), Fail> {
             on_arc = on_arc || ending == Some(Ending::Done(0));
         }
     }
-    assert!(rt; greatest <= 316_227);
-    assert!(rt; greatest > 300_000);
+    holds(&rt, &"at most", greatest <= 316_227);
+    holds(&rt, &"at least", greatest > 300_000);
     Ok(())
 }
 
 #[test]
 fn a_tool_is_mounted_in_its_tick(rt: HostRuntime) -> Result<(), Fail> {
     let mut controller = controller(&rt, rt.alloc(), "T1 M6\nM2\n")?;
-    assert!(rt; controller.tool().is_none());
+    holds(&rt, &"tool", controller.tool().is_none());
     let _ = give(&mut controller, Event::Load);
-    assert!(rt; controller.tool().is_none());
+    holds(&rt, &"tool", controller.tool().is_none());
     let _ = give(&mut controller, Event::Tick);
-    assert_eq!(rt; controller.tool().map(|tool| tool.number), Some(1));
+    same(
+        &rt,
+        &"tool",
+        &controller.tool().map(|tool| tool.number),
+        &Some(1),
+    );
     Ok(())
 }
 
@@ -236,14 +265,14 @@ fn answered(
     answers: &[(usize, Option<Reply>)],
 ) {
     for (index, answer) in answers {
-        assert_eq!(rt; controller.recent(*index), *answer, "at {index}");
+        same(rt, &index, &controller.recent(*index), answer);
     }
 }
 
 #[test]
 fn the_latest_answers(rt: HostRuntime) -> Result<(), Fail> {
     let mut controller = controller(&rt, rt.alloc(), "M2\n")?;
-    assert_eq!(rt; controller.recent(0), None);
+    same(&rt, &"at first", &controller.recent(0), &None);
     give_all(&mut controller, LOADS_AND_A_HOLD);
     answered(&rt, &controller, AT_ONCE);
     give_all(&mut controller, &[Event::Tick; 255]);
@@ -257,8 +286,13 @@ fn the_report_of_a_run(rt: HostRuntime) -> Result<(), Fail> {
     let mut log = Device::new(Vec::new(rt.alloc()));
     let accepted = accepted(&rt, rt.alloc(), SHORT_WAY)?;
     let report = run(rt.alloc(), accepted, false, events.as_slice(), &mut log)?;
-    assert_eq!(rt; report, SHORT_WAY_REPORT);
-    assert_eq!(rt; log.into_inner().as_slice(), SHORT_WAY_LOG.as_bytes());
+    same(&rt, &"report", &report, &SHORT_WAY_REPORT);
+    same(
+        &rt,
+        &"log",
+        &log.into_inner().as_slice(),
+        &SHORT_WAY_LOG.as_bytes(),
+    );
     Ok(())
 }
 
@@ -286,12 +320,17 @@ fn fillers_of(
 fn is_made<'a>(rt: &impl Abort, heap: &'a LocalHeap, accepted: Accepted<&'a LocalHeap>) -> bool {
     match Controller::<ArcPath, _>::new(heap, accepted, true) {
         Ok(mut controller) => {
-            assert_eq!(rt; give(&mut controller, Event::Load), Ok(Reply::Loaded(0)));
+            same(
+                rt,
+                &"load",
+                &give(&mut controller, Event::Load),
+                &Ok(Reply::Loaded(0)),
+            );
             true
         }
         Err((accepted, fault)) => {
-            assert_eq!(rt; fault.number(), 900);
-            assert_eq!(rt; accepted.commands(true).len(), 2);
+            same(rt, &"fault", &fault.number(), &900);
+            same(rt, &"commands", &accepted.commands(true).len(), &2);
             false
         }
     }
@@ -316,6 +355,6 @@ fn a_controller_with_little_memory(rt: HostRuntime) -> Result<(), Fail> {
             refused = refused.saturating_add(1);
         }
     }
-    assert!(rt; refused > 0 && done > 0);
+    holds(&rt, &"refused and done", refused > 0 && done > 0);
     Ok(())
 }

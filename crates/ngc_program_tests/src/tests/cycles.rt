@@ -1,3 +1,4 @@
+use super::checks::holds;
 use super::{LIST, NO_TEXTS, Texts, lists, outcome_of, refuses};
 use ngc_simulator::Options;
 use std::test::Fail;
@@ -126,7 +127,11 @@ fn the_most_commands(rt: HostRuntime) -> Result<(), Fail> {
     };
     let found = outcome_of(rt.alloc(), texts, &Options::List(LIST));
     found.has_no_fault(&rt, "the most commands");
-    assert!(rt; found.output.as_slice().ends_with(b"\n999900 26 end\n"));
+    holds(
+        &rt,
+        &"output",
+        found.output.as_slice().ends_with(b"\n999900 26 end\n"),
+    );
     let mut more = line.repeat(rt.alloc(), 26)?;
     more.push_str("M2\n")?;
     refuses(&rt, rt.alloc(), more.as_str(), "ngc: fault 251 line 26\n");

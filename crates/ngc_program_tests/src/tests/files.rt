@@ -1,8 +1,9 @@
+use super::checks::same;
 use super::runs::certificate_of;
 use super::{
     LIST, MACHINE, NO_TEXTS, Outcome, RUN, SHORT_WAY, Texts, comes_to, on_the_mill, outcome_of,
 };
-use ngc_simulator::{CertifyOptions, CheckOptions, ListOptions, Options, RunOptions};
+use ngc_simulator::{CertifyOptions, CheckOptions, Format, ListOptions, Options, RunOptions};
 use std::alloc::Global;
 use std::process::Abort;
 use std::test::Fail;
@@ -321,6 +322,7 @@ fn outcome_without(alloc: Global, call: Call, certificate: &[u8]) -> Outcome {
                 tools,
                 program,
                 cuts: 8,
+                format: Format::One,
             };
             outcome_of(alloc, on_the_mill("M2\n"), &Options::Certify(options))
         }
@@ -340,13 +342,14 @@ fn files_that_are_not_there(rt: HostRuntime) {
     let certificate = certificate_of(&rt, rt.alloc(), SHORT_WAY);
     for (call, row) in NOT_THERE {
         let found = outcome_without(rt.alloc(), *call, certificate.as_slice());
-        assert_eq!(rt; found.status, 1, "at {row}");
-        assert_eq!(rt;
-            found.errors.as_slice(),
-            b"ngc: fault 901\n".as_slice(),
-            "at {row}"
+        same(&rt, &row, &found.status, &1);
+        same(
+            &rt,
+            &row,
+            &found.errors.as_slice(),
+            &b"ngc: fault 901\n".as_slice(),
         );
-        assert_eq!(rt; found.output.as_slice(), b"".as_slice(), "at {row}");
-        assert_eq!(rt; found.failures, 1, "at {row}");
+        same(&rt, &row, &found.output.as_slice(), &b"".as_slice());
+        same(&rt, &row, &found.failures, &1);
     }
 }

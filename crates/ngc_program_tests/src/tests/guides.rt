@@ -1,5 +1,6 @@
 //! `ngc explain`, `ngc help` and `ngc version`, which read no file.
-use super::certificates::holds;
+use super::certificates::has_part;
+use super::checks::holds;
 use super::{NO_TEXTS, Outcome, comes_to, outcome_of};
 use ngc_simulator::Options;
 use std::alloc::Global;
@@ -105,12 +106,13 @@ fn explains_each_fault(rt: HostRuntime) -> Result<(), Fail> {
         let heading = format!(in rt.alloc(); "Fault {number} (")?;
         let text = std::str::from_utf8(found.output.as_slice()).map_err(|_| "text")?;
         if is_answered(number) {
-            assert!(rt;
+            holds(
+                &rt,
+                &number,
                 found.status == 0 && is_explanation(text, heading.as_str()),
-                "{number}"
             );
         } else {
-            assert!(rt; found.status == 3 && text.is_empty(), "{number}");
+            holds(&rt, &number, found.status == 3 && text.is_empty());
         }
     }
     Ok(())
@@ -121,8 +123,8 @@ fn helps(rt: &impl Abort, alloc: Global, command: Option<&str>, beginning: &str,
     let found: Outcome = outcome_of(alloc, NO_TEXTS, &Options::Help(command));
     found.has_no_fault(rt, usage);
     let text = found.output.as_slice();
-    assert!(rt; text.starts_with(beginning.as_bytes()), "{usage}");
-    assert!(rt; holds(text, usage.as_bytes()), "{usage}");
+    holds(rt, &usage, text.starts_with(beginning.as_bytes()));
+    holds(rt, &usage, has_part(text, usage.as_bytes()));
 }
 
 const HELPS: &[(Option<&str>, &str, &str)] = &[

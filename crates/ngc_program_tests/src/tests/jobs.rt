@@ -1,9 +1,10 @@
 //! What the program does, on the built-in machine, over any allocator and sink.
+use super::checks::same;
 use ngc_fixed_length::{Device, Sink};
 use ngc_line_reader::Program;
 use ngc_simulator::{
-    Certificate, Machine, Recording, Report, Tools, certify, check_program, list, row_machine,
-    run_program,
+    Certificate, Format, Machine, Recording, Report, Tools, certify, check_program, list,
+    row_machine, run_program,
 };
 use std::alloc::{Allocator, Global};
 use std::process::Abort;
@@ -96,7 +97,16 @@ pub(super) fn certify_text<A: Allocator + Copy, W: Sink>(
     output: &mut W,
 ) -> End {
     let mut source = Device::new(text.as_bytes());
-    match certify(alloc, &mut source, &shop.machine, &shop.tools, 8, output) {
+    let (cuts, format) = (8, Format::One);
+    match certify(
+        alloc,
+        &mut source,
+        &shop.machine,
+        &shop.tools,
+        cuts,
+        format,
+        output,
+    ) {
         Ok(()) => End::Done,
         Err(fault) => End::Refused(fault.number(), fault.status()),
     }
@@ -162,6 +172,6 @@ fn run_text<A: Allocator + Copy, W: Sink>(
 // What a job writes that is done.
 pub(super) fn written_by(rt: &impl Abort, alloc: Global, job: Job<'_>) -> Vec<u8> {
     let mut output = Device::new(Vec::new(alloc));
-    assert_eq!(rt; job.attempt(alloc, &mut output), End::Done, "at {job:?}");
+    same(rt, &job, &job.attempt(alloc, &mut output), &End::Done);
     output.into_inner()
 }

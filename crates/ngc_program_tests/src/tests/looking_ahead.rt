@@ -1,4 +1,5 @@
 //! The controller over several motions: how fast it leaves one and enters the next.
+use super::checks::{holds, same};
 use super::controller::{controller, give, give_all};
 use ngc_fixed_length::StepPos;
 use ngc_simulator::{ArcPath, Controller, Ending, Event, Reply};
@@ -124,17 +125,13 @@ const PASSAGES: &[(&str, u32, u32, &[Limits])] = &[
 ];
 
 fn is_within(rt: &impl Abort, rate: u64, bounds: (u64, u64), row: &str) {
-    assert!(rt; bounds.0 <= rate && rate <= bounds.1, "{rate} at {row}");
+    holds(rt, &(rate, row), bounds.0 <= rate && rate <= bounds.1);
 }
 
 fn keeps_limits(rt: &impl Abort, passage: &Passage, limits: &Limits, row: &str) {
     is_within(rt, passage.first, limits.0, row);
     is_within(rt, passage.last, limits.1, row);
-    assert!(rt;
-        passage.greatest <= limits.2,
-        "{} at {row}",
-        passage.greatest
-    );
+    holds(rt, &(passage.greatest, row), passage.greatest <= limits.2);
 }
 
 fn load(controller: &mut Controller<ArcPath, Global>, count: u32) {
@@ -155,7 +152,7 @@ fn from_motion_to_motion(rt: HostRuntime) -> Result<(), Fail> {
                     keeps_limits(&rt, &passage, limits, program);
                     left = left.saturating_sub(passage.ticks);
                 }
-                None => assert!(rt; false, "{k} isn't done at {program}"),
+                None => holds(&rt, &("not done", k, program), false),
             }
         }
     }
@@ -168,14 +165,19 @@ fn a_hold_over_motions(rt: HostRuntime) -> Result<(), Fail> {
     let mut controller = controller(&rt, rt.alloc(), TEN_LINES)?;
     load(&mut controller, 11);
     give_all(&mut controller, &[Event::Tick; 1000]);
-    assert_eq!(rt; controller.rate(), 400_000);
+    same(&rt, &"before the hold", &controller.rate(), &400_000);
     let _ = give(&mut controller, Event::Hold);
     for _ in 0..401u32 {
         let before = controller.rate();
         let _ = give(&mut controller, Event::Tick);
-        assert_eq!(rt; controller.rate(), before.saturating_sub(1_000));
+        same(
+            &rt,
+            &"rate",
+            &controller.rate(),
+            &before.saturating_sub(1_000),
+        );
     }
-    assert_eq!(rt; controller.rate(), 0);
+    same(&rt, &"in the hold", &controller.rate(), &0);
     Ok(())
 }
 
@@ -200,22 +202,28 @@ fn unrest_round_a_corner(rt: HostRuntime) -> Result<(), Fail> {
             let _ = give(&mut controller, *event);
             let before = controller.rate();
             let reply = give(&mut controller, Event::Tick);
-            assert!(rt; controller.rate().abs_diff(before) <= 1_000);
+            holds(
+                &rt,
+                &"the change of the rate",
+                controller.rate().abs_diff(before) <= 1_000,
+            );
             if let Ok(Reply::Ticked { position, ending }) = reply {
                 pulses = pulses.saturating_add(u32::from(position.is_some()));
                 ended = ended || ending == Some(Ending::End);
             }
         }
     }
-    assert!(rt; ended);
-    assert_eq!(rt; pulses, 200);
-    assert_eq!(rt;
-        controller.position(),
-        StepPos {
+    holds(&rt, &"ended", ended);
+    same(&rt, &"pulses", &pulses, &200);
+    same(
+        &rt,
+        &"position",
+        &controller.position(),
+        &StepPos {
             x: 100,
             y: 100,
-            z: 0
-        }
+            z: 0,
+        },
     );
     Ok(())
 }
@@ -228,16 +236,18 @@ fn a_load_behind_each_end(rt: HostRuntime) -> Result<(), Fail> {
         load(&mut controller, 1);
         match pass(&mut controller, k, 1_000) {
             Some(passage) => is_within(&rt, passage.last, SLOW, "a load behind each end"),
-            None => assert!(rt; false, "{k} isn't done"),
+            None => holds(&rt, &("not done", k), false),
         }
     }
-    assert_eq!(rt;
-        controller.position(),
-        StepPos {
+    same(
+        &rt,
+        &"position",
+        &controller.position(),
+        &StepPos {
             x: 1000,
             y: 0,
-            z: 0
-        }
+            z: 0,
+        },
     );
     Ok(())
 }

@@ -1,5 +1,6 @@
 //! Each growth refused in turn: 900 with nothing written, and once there is memory the answer.
 use super::certificates::{BLOCK, POST, ROUND_THE_POST, SHORT_WAY_CERTIFICATE};
+use super::checks::{holds, same};
 use super::jobs::{End, Job, Shop};
 use super::runs::{SHORT_WAY_EVENTS, SHORT_WAY_LOG, SHORT_WAY_REPORT};
 use super::{MACHINE, SHORT_WAY, TOOLS, Texts, certify_options, on_the_mill, outcome_of};
@@ -42,8 +43,8 @@ fn is_answered(rt: &impl Abort, found: &(End, Vec<u8>), job: Job<'_>, wanted: Wa
         (_, Ok(text)) => (End::Done, text),
         (_, Err((number, status))) => (End::Refused(number, status), b"".as_slice()),
     };
-    assert_eq!(rt; *end, expected, "at {job:?}");
-    assert_eq!(rt; output.as_slice(), written, "at {job:?}");
+    same(rt, &job, end, &expected);
+    same(rt, &job, &output.as_slice(), &written);
     *end != End::Refused(900, 1)
 }
 
@@ -66,10 +67,14 @@ fn do_bytes_suffice(
     let suffice = is_answered(rt, &ending_in(&bump, alloc, shop, job), job, wanted);
     if !suffice {
         bump.set_allocation_limit(None);
-        assert!(rt; is_answered(rt, &ending_in(&bump, alloc, shop, job), job, wanted));
+        holds(
+            rt,
+            &job,
+            is_answered(rt, &ending_in(&bump, alloc, shop, job), job, wanted),
+        );
     }
     drop(filler);
-    assert!(rt; bump.reset().is_ok(), "at {job:?}");
+    holds(rt, &job, bump.reset().is_ok());
     Ok(suffice)
 }
 
@@ -83,12 +88,12 @@ fn refused_in_turn(
     let mut refused = 0u32;
     for count in 0..ARENA / 16 {
         if do_bytes_suffice(rt, alloc, shop, job, wanted, 16 * count)? {
-            assert!(rt; refused > 0, "at {job:?}");
+            holds(rt, &job, refused > 0);
             return Ok(());
         }
         refused = refused.saturating_add(1);
     }
-    assert!(rt; false, "not done at {job:?}");
+    holds(rt, &("not done", job), false);
     Ok(())
 }
 

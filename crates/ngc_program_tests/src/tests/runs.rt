@@ -1,4 +1,5 @@
-use super::certificates::{NO_MOTIONS, holds};
+use super::certificates::{NO_MOTIONS, has_part};
+use super::checks::{holds, same};
 use super::{
     MACHINE, Outcome, RUN, SHORT_WAY, Texts, certify_options, comes_to, on_the_mill, outcome_of,
 };
@@ -120,7 +121,11 @@ fn a_millimetre_in_a_thousand_ticks(rt: HostRuntime) -> Result<(), Fail> {
     };
     let found = outcome_of(rt.alloc(), texts, &Options::Run(RUN));
     found.has_no_fault(&rt, program);
-    assert!(rt; found.output.as_slice().starts_with(log.as_bytes()));
+    holds(
+        &rt,
+        &program,
+        found.output.as_slice().starts_with(log.as_bytes()),
+    );
     Ok(())
 }
 
@@ -143,7 +148,11 @@ fn a_motion_that_is_held_up_again_and_again_ends(rt: HostRuntime) -> Result<(), 
         };
         let found = outcome_of(rt.alloc(), texts, &Options::Run(RUN));
         found.has_no_fault(&rt, "unrest");
-        assert!(rt; holds(found.output.as_slice(), b"\npos 3 0 0\ndone 0\n"));
+        holds(
+            &rt,
+            &"unrest",
+            has_part(found.output.as_slice(), b"\npos 3 0 0\ndone 0\n"),
+        );
     }
     Ok(())
 }
@@ -288,8 +297,8 @@ fn whole_run(
 fn runs_without_events(rt: HostRuntime) -> Result<(), Fail> {
     for (program, log) in WHOLE_RUNS {
         let found = whole_run(&rt, rt.alloc(), 10_000, program)?;
-        assert_eq!(rt; found.status, 0, "at {program}");
-        assert_eq!(rt; found.output.as_slice(), log.as_bytes(), "at {program}");
+        same(&rt, program, &found.status, &0);
+        same(&rt, program, &found.output.as_slice(), &log.as_bytes());
     }
     Ok(())
 }
@@ -316,9 +325,9 @@ fn pulses_of_a_run_without_events(rt: HostRuntime) -> Result<(), Fail> {
     });
     let found = outcome_of(rt.alloc(), texts, &options);
     let wanted = format!(in rt.alloc(); "{VCD_HEADER}#400000\n")?;
-    assert_eq!(rt; found.output.as_slice(), wanted.as_bytes());
+    same(&rt, &"output", &found.output.as_slice(), &wanted.as_bytes());
     let time = "ngc: ticks 3 time 0:00:00.000\n";
-    assert_eq!(rt; found.errors.as_slice(), time.as_bytes());
+    same(&rt, &"errors", &found.errors.as_slice(), &time.as_bytes());
     Ok(())
 }
 
@@ -337,8 +346,8 @@ fn pulses_over_events(rt: HostRuntime) -> Result<(), Fail> {
     });
     let found = outcome_of(rt.alloc(), texts, &options);
     let wanted = format!(in rt.alloc(); "{VCD_HEADER}#100000\n")?;
-    assert_eq!(rt; found.output.as_slice(), wanted.as_bytes());
-    assert_eq!(rt; found.status, 0);
+    same(&rt, &"output", &found.output.as_slice(), &wanted.as_bytes());
+    same(&rt, &"status", &found.status, &0);
     Ok(())
 }
 
@@ -367,8 +376,8 @@ const TIMES: &[(u32, &str, &str)] = &[
 fn the_time_of_runs_without_events(rt: HostRuntime) -> Result<(), Fail> {
     for (ticks_per_second, program, time) in TIMES {
         let found = whole_run(&rt, rt.alloc(), *ticks_per_second, program)?;
-        assert_eq!(rt; found.errors.as_slice(), time.as_bytes(), "at {program}");
-        assert_eq!(rt; found.status, 0, "at {program}");
+        same(&rt, program, &found.errors.as_slice(), &time.as_bytes());
+        same(&rt, program, &found.status, &0);
     }
     Ok(())
 }

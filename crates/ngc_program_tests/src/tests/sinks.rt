@@ -1,5 +1,6 @@
 //! Sinks that fail: what is written is a beginning.
 use super::certificates::SHORT_WAY_CERTIFICATE;
+use super::checks::{holds, same};
 use super::jobs::{End, Job};
 use super::runs::{SHORT_WAY_EVENTS, SHORT_WAY_LOG, certificate_of};
 use super::{NO_TEXTS, RUN, SHORT_WAY, SomeFiles, Texts, on_the_mill, outcome_of, status_of};
@@ -10,14 +11,14 @@ use std::process::Abort;
 
 // Takes one byte a call, some calls long, and fails at the next.
 #[derive(Drop)]
-struct FailingSink {
-    taken: Vec<u8>,
+pub(super) struct FailingSink {
+    pub(super) taken: Vec<u8>,
     calls_left: usize,
     failures: u64,
 }
 
 impl FailingSink {
-    fn new(alloc: Global, calls: usize) -> FailingSink {
+    pub(super) fn new(alloc: Global, calls: usize) -> FailingSink {
         FailingSink {
             taken: Vec::new(alloc),
             calls_left: calls,
@@ -54,17 +55,10 @@ fn breaks_off_after(rt: &impl Abort, alloc: Global, job: Job<'_>, whole: &[u8], 
     } else {
         (End::Refused(902, 1), 1)
     };
-    assert_eq!(rt;
-        job.attempt(alloc, &mut sink),
-        ending,
-        "after {calls} calls of {job:?}"
-    );
-    assert_eq!(rt; sink.failures, failures, "after {calls} calls of {job:?}");
-    assert_eq!(rt; sink.taken.len(), calls, "at {job:?}");
-    assert!(rt;
-        whole.starts_with(sink.taken.as_slice()),
-        "after {calls} calls of {job:?}"
-    );
+    same(rt, &(calls, job), &job.attempt(alloc, &mut sink), &ending);
+    same(rt, &(calls, job), &sink.failures, &failures);
+    same(rt, &(calls, job), &sink.taken.len(), &calls);
+    holds(rt, &(calls, job), whole.starts_with(sink.taken.as_slice()));
 }
 
 const LISTING: &[u8] = b"0 1 traverse 1000000 0 0 grid 100 0 0\n1 2 end\n";
@@ -85,6 +79,35 @@ fn outputs_that_break_off(rt: HostRuntime) {
     }
 }
 
+// What a run has written once its sink has taken so many bytes of the log.
+fn log_breaks_off_after(
+    rt: &impl Abort,
+    alloc: Global,
+    texts: Texts<'_>,
+    log: &[u8],
+    calls: usize,
+) {
+    let mut files = SomeFiles { texts, failures: 0 };
+    let mut sink = FailingSink::new(alloc, calls);
+    let mut errors = Device::new(Vec::new(alloc));
+    let options = Options::Run(RUN);
+    let status = status_of(alloc, &options, &mut files, &mut sink, &mut errors);
+    let (expected, fault) = if calls == log.len() {
+        (0, "")
+    } else {
+        (1, "ngc: fault 902\n")
+    };
+    same(rt, &calls, &sink.taken.len(), &calls);
+    holds(rt, &calls, log.starts_with(sink.taken.as_slice()));
+    same(
+        rt,
+        &calls,
+        &errors.into_inner().as_slice(),
+        &fault.as_bytes(),
+    );
+    same(rt, &calls, &status, &expected);
+}
+
 #[test]
 fn a_log_that_breaks_off(rt: HostRuntime) {
     let certificate = certificate_of(&rt, rt.alloc(), SHORT_WAY);
@@ -95,19 +118,7 @@ fn a_log_that_breaks_off(rt: HostRuntime) {
     };
     let log = SHORT_WAY_LOG.as_bytes();
     for calls in 0..=log.len() {
-        let mut files = SomeFiles { texts, failures: 0 };
-        let mut sink = FailingSink::new(rt.alloc(), calls);
-        let mut errors = Device::new(Vec::new(rt.alloc()));
-        let options = Options::Run(RUN);
-        let status = status_of(rt.alloc(), &options, &mut files, &mut sink, &mut errors);
-        let (expected, fault) = if calls == log.len() {
-            (0, "")
-        } else {
-            (1, "ngc: fault 902\n")
-        };
-        assert_eq!(rt; sink.taken.as_slice(), &log[..calls]);
-        assert_eq!(rt; errors.into_inner().as_slice(), fault.as_bytes());
-        assert_eq!(rt; status, expected, "after {calls} calls");
+        log_breaks_off_after(&rt, rt.alloc(), texts, log, calls);
     }
 }
 
@@ -125,16 +136,15 @@ fn guide_breaks_off_after(
     let mut sink = FailingSink::new(alloc, calls);
     let mut errors = Device::new(Vec::new(alloc));
     let status = status_of(alloc, options, &mut files, &mut sink, &mut errors);
-    assert!(rt;
-        whole.starts_with(sink.taken.as_slice()),
-        "after {calls} calls"
+    holds(rt, &calls, whole.starts_with(sink.taken.as_slice()));
+    same(rt, &calls, &sink.taken.len(), &calls);
+    same(
+        rt,
+        &calls,
+        &errors.into_inner().as_slice(),
+        &b"ngc: fault 902\n".as_slice(),
     );
-    assert_eq!(rt; sink.taken.len(), calls);
-    assert_eq!(rt;
-        errors.into_inner().as_slice(),
-        b"ngc: fault 902\n".as_slice()
-    );
-    assert_eq!(rt; status, 1, "after {calls} calls");
+    same(rt, &calls, &status, &1);
 }
 
 #[test]

@@ -1,0 +1,214 @@
+//! `ngc report`: whole texts, with figures that were reckoned by hand.
+use super::sinks::FailingSink;
+use super::{MACHINE, Outcome, SomeFiles, TOOLS, Texts, on_the_mill, outcome_of, status_of};
+use ngc_fixed_length::Device;
+use ngc_simulator::{Options, ReportOptions};
+use std::alloc::Global;
+use std::process::Abort;
+
+fn report_options(program: Option<&str>) -> ReportOptions<'_> {
+    ReportOptions {
+        machine: "machine",
+        tools: "tools",
+        program,
+        cuts: 8,
+    }
+}
+
+// A path step in each tick, and a thousand ticks a second. A clamp stands before the way along X, and ends 5 mm below it.
+const QUICK: &str = "version = 1
+step = 10000
+ticks_per_second = 1000
+max_rate = 1000000
+change = 1000000
+corner = 1000000
+turn = 1000000000
+low = [0, 0, -100000000]
+high = [300000000, 300000000, 0]
+start = [0, 0, 0]
+home28 = [0, 0, 0]
+home30 = [0, 0, 0]
+[[fixture]]
+low = [40000000, 0, -100000000]
+high = [60000000, 20000000, -5000000]
+";
+
+// The same, but it starts within the clamp.
+const WITHIN: &str = "version = 1
+step = 10000
+ticks_per_second = 1000
+max_rate = 1000000
+change = 1000000
+corner = 1000000
+turn = 1000000000
+low = [0, 0, -100000000]
+high = [300000000, 300000000, 0]
+start = [50000000, 10000000, -10000000]
+home28 = [0, 0, 0]
+home30 = [0, 0, 0]
+[[fixture]]
+low = [40000000, 0, -100000000]
+high = [60000000, 20000000, -5000000]
+";
+
+// 3000 path steps, a tool, 1000 path steps, half a second, and the end: 3000 + 1 + 1000 + 500 + 1 ticks. Tool 1 reaches 3 mm to
+// each side.
+const TWO_USES: &str = "G0 X30\nT1 M6\nG0 X20\nG4 P0.5\nM2\n";
+
+const TWO_USES_REPORT: &str =
+    "The program fits: every position is inside the travel and clear of every fixture.
+X from 0 mm to 30 mm, 0 mm left below and 270 mm left above.
+Y from 0 mm to 0 mm, 0 mm left below and 300 mm left above.
+Z from 0 mm to 0 mm, 100 mm left below and 0 mm left above.
+With no tool: traverses 1, feeds 0, arcs 0, dwells 0, stops 0; nearest fixture 0, 10 mm away.
+With tool 1: traverses 1, feeds 0, arcs 0, dwells 1, stops 0; nearest fixture 0, 7 mm away.
+It takes 4502 ticks, 0:00:04.502 at 1000 ticks a second.
+";
+
+// 3000 + 1000 + 2000 + 1 ticks, and 3000 + 1 without the lines that begin with `/`.
+const DELETED: &str = "G0 X30\n/G4 P1\n/G0 X10\nM2\n";
+
+const DELETED_REPORT: &str = "With block delete off:
+The program fits: every position is inside the travel and clear of every fixture.
+X from 0 mm to 30 mm, 0 mm left below and 270 mm left above.
+Y from 0 mm to 0 mm, 0 mm left below and 300 mm left above.
+Z from 0 mm to 0 mm, 100 mm left below and 0 mm left above.
+With no tool: traverses 2, feeds 0, arcs 0, dwells 1, stops 0; nearest fixture 0, 10 mm away.
+It takes 6001 ticks, 0:00:06.001 at 1000 ticks a second.
+With block delete on:
+The program fits: every position is inside the travel and clear of every fixture.
+X from 0 mm to 30 mm, 0 mm left below and 270 mm left above.
+Y from 0 mm to 0 mm, 0 mm left below and 300 mm left above.
+Z from 0 mm to 0 mm, 100 mm left below and 0 mm left above.
+With no tool: traverses 1, feeds 0, arcs 0, dwells 0, stops 0; nearest fixture 0, 10 mm away.
+It takes 3001 ticks, 0:00:03.001 at 1000 ticks a second.
+";
+
+const TOO_FAR: &str = "The program does not fit.
+X from 0 mm to 302.5 mm, 0 mm left below and 2.5 mm too far above.
+Y from 0 mm to 0 mm, 0 mm left below and 300 mm left above.
+Z from 0 mm to 0 mm, 100 mm left below and 0 mm left above.
+Command 0 of line 1, with no tool, from X 0 mm, Y 0 mm, Z 0 mm to X 302.5 mm, Y 0 mm, Z 0 mm.
+It leaves the travel above X: 2.5 mm too far.
+";
+
+const INTO_THE_CLAMP: &str = "The program does not fit.
+X from 0 mm to 50 mm, 0 mm left below and 250 mm left above.
+Y from 0 mm to 0 mm, 0 mm left below and 300 mm left above.
+Z from -10 mm to 0 mm, 90 mm left below and 0 mm left above.
+Command 2 of line 3, with tool 1, from X 0 mm, Y 0 mm, Z -10 mm to X 50 mm, Y 0 mm, Z -10 mm.
+It meets fixture 0, from X 40 mm, Y 0 mm, Z -100 mm to X 60 mm, Y 20 mm, Z -5 mm.
+";
+
+// With block delete off it goes to 200, 50 and 200 mm; with it on to 200 and 350 mm.
+const TOO_FAR_WITHOUT: &str = "G91\nG0 X200\n/G0 X-150\nG0 X150\nM2\n";
+
+const TOO_FAR_WITHOUT_REPORT: &str = "With block delete on:
+The program does not fit.
+X from 0 mm to 350 mm, 0 mm left below and 50 mm too far above.
+Y from 0 mm to 0 mm, 0 mm left below and 300 mm left above.
+Z from 0 mm to 0 mm, 100 mm left below and 0 mm left above.
+Command 1 of line 4, with no tool, from X 200 mm, Y 0 mm, Z 0 mm to X 350 mm, Y 0 mm, Z 0 mm.
+It leaves the travel above X: 50 mm too far.
+";
+
+const STARTS_WITHIN: &str = "The program does not fit.
+X from 50 mm to 50 mm, 50 mm left below and 250 mm left above.
+Y from 10 mm to 10 mm, 10 mm left below and 290 mm left above.
+Z from -10 mm to -10 mm, 90 mm left below and 10 mm left above.
+The start is refused, at X 50 mm, Y 10 mm, Z -10 mm.
+It meets fixture 0, from X 40 mm, Y 0 mm, Z -100 mm to X 60 mm, Y 20 mm, Z -5 mm.
+";
+
+// A machine, a program, and the status, the output and the line of a fault that its report comes to.
+const REPORTS: &[(&str, &str, u8, &str, &str)] = &[
+    (QUICK, TWO_USES, 0, TWO_USES_REPORT, ""),
+    (QUICK, DELETED, 0, DELETED_REPORT, ""),
+    (
+        MACHINE,
+        "G0 X302.5\nM2\n",
+        4,
+        TOO_FAR,
+        "ngc: fault 304 setting off command 0\n",
+    ),
+    (
+        QUICK,
+        "T1 M6\nG0 Z-10\nX50\nM2\n",
+        4,
+        INTO_THE_CLAMP,
+        "ngc: fault 304 setting off command 2\n",
+    ),
+    (
+        MACHINE,
+        TOO_FAR_WITHOUT,
+        4,
+        TOO_FAR_WITHOUT_REPORT,
+        "ngc: fault 304 setting on command 1\n",
+    ),
+    (
+        WITHIN,
+        "M2\n",
+        4,
+        STARTS_WITHIN,
+        "ngc: fault 304 setting off command 0\n",
+    ),
+    (
+        MACHINE,
+        "G0 X[1/0]\nM2\n",
+        3,
+        "",
+        "ngc: fault 311 setting off fault 102 line 1\n",
+    ),
+    ("", "M2\n", 3, "", "ngc: fault 269 machine\n"),
+];
+
+fn on<'a>(machine: &'a str, program: &'a str) -> Texts<'a> {
+    Texts {
+        machine: machine.as_bytes(),
+        tools: TOOLS.as_bytes(),
+        ..on_the_mill(program)
+    }
+}
+
+#[test]
+fn reports(rt: HostRuntime) {
+    for (machine, program, status, output, errors) in REPORTS {
+        let options = Options::Report(report_options(None));
+        let found = outcome_of(rt.alloc(), on(machine, program), &options);
+        found.is(&rt, *status, output, errors, program);
+    }
+}
+
+#[test]
+fn a_program_that_is_not_there(rt: HostRuntime) {
+    let options = Options::Report(report_options(Some("nowhere")));
+    let found: Outcome = outcome_of(rt.alloc(), on_the_mill("M2\n"), &options);
+    found.is(&rt, 1, "", "ngc: fault 901\n", "nowhere");
+    assert_eq!(rt; found.failures, 1);
+}
+
+fn breaks_off_after(rt: &impl Abort, alloc: Global, texts: Texts<'_>, whole: &str, calls: usize) {
+    let mut files = SomeFiles { texts, failures: 0 };
+    let mut sink = FailingSink::new(alloc, calls);
+    let mut errors = Device::new(Vec::new(alloc));
+    let options = Options::Report(report_options(None));
+    let status = status_of(alloc, &options, &mut files, &mut sink, &mut errors);
+    assert_eq!(rt; sink.taken.as_slice(), &whole.as_bytes()[..calls]);
+    assert_eq!(rt;
+        errors.into_inner().as_slice(),
+        b"ngc: fault 902\n".as_slice()
+    );
+    assert_eq!(rt; status, 1, "after {calls} calls");
+}
+
+// Behind and within each part of the report; and in a refusal, of which 304 is not told then.
+#[test]
+fn reports_that_break_off(rt: HostRuntime) {
+    for calls in [0, 23, 30, 380, 400, 437, 459, 872] {
+        breaks_off_after(&rt, rt.alloc(), on(QUICK, DELETED), DELETED_REPORT, calls);
+    }
+    for calls in [0, 1, 300] {
+        let texts = on(MACHINE, "G0 X302.5\nM2\n");
+        breaks_off_after(&rt, rt.alloc(), texts, TOO_FAR, calls);
+    }
+}
