@@ -1,4 +1,5 @@
 //! `ngc report`: whole texts, with figures that were reckoned by hand.
+use super::checks::{holds, same};
 use super::sinks::FailingSink;
 use super::{MACHINE, Outcome, SomeFiles, TOOLS, Texts, on_the_mill, outcome_of, status_of};
 use ngc_fixed_length::Device;
@@ -184,7 +185,7 @@ fn a_program_that_is_not_there(rt: HostRuntime) {
     let options = Options::Report(report_options(Some("nowhere")));
     let found: Outcome = outcome_of(rt.alloc(), on_the_mill("M2\n"), &options);
     found.is(&rt, 1, "", "ngc: fault 901\n", "nowhere");
-    assert_eq!(rt; found.failures, 1);
+    same(&rt, &"nowhere", &found.failures, &1);
 }
 
 fn breaks_off_after(rt: &impl Abort, alloc: Global, texts: Texts<'_>, whole: &str, calls: usize) {
@@ -193,12 +194,19 @@ fn breaks_off_after(rt: &impl Abort, alloc: Global, texts: Texts<'_>, whole: &st
     let mut errors = Device::new(Vec::new(alloc));
     let options = Options::Report(report_options(None));
     let status = status_of(alloc, &options, &mut files, &mut sink, &mut errors);
-    assert_eq!(rt; sink.taken.as_slice(), &whole.as_bytes()[..calls]);
-    assert_eq!(rt;
-        errors.into_inner().as_slice(),
-        b"ngc: fault 902\n".as_slice()
+    same(rt, &calls, &sink.taken.len(), &calls);
+    holds(
+        rt,
+        &calls,
+        whole.as_bytes().starts_with(sink.taken.as_slice()),
     );
-    assert_eq!(rt; status, 1, "after {calls} calls");
+    same(
+        rt,
+        &calls,
+        &errors.into_inner().as_slice(),
+        &b"ngc: fault 902\n".as_slice(),
+    );
+    same(rt, &calls, &status, &1);
 }
 
 // Behind and within each part of the report; and in a refusal, of which 304 is not told then.
