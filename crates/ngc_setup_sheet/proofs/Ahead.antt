@@ -2,11 +2,12 @@
 use Rattle.std.proofs.Common.{◌≡◌, ℕ, List, [], ◌++◌, Option, Some, None, Result, Ok, Err, ap, sym, subst, ◌∙◌, refl}
 use Rattle.std.proofs.lemmas.List.{append_assoc, append-nil}
 use Rattle.std.proofs.lemmas.List.Concat.{flat_map-append}
+use Rattle.std.specs.Prelude.{OnErr}
 use Rattle.std.specs.Io.KnownBytes.{Appends}
 use Rattle.ngc_fixed_length.specs.Written.{AppendsBeginning}
 use Rattle.ngc_fixed_length.specs.declared.writing.WriteFault.{WriteFault}
 use Rattle.ngc_output.specs.Collected.{WritesFront}
-use Rattle.ngc_certificate_text.proofs.Fronts.{front_more, front_stopped, longer}
+use Rattle.ngc_certificate_text.proofs.Fronts.{front_more, front_stopped, longer, beginning_written}
 use Rattle.ngc_setup_sheet.specs.Writes.{Writes}
 use Rattle.ngc_setup_sheet.specs.Spelling.{line_text, lines_text}
 use Rattle.ngc_setup_sheet.specs.declared.line.Line.{Line}
@@ -66,3 +67,9 @@ pub finished : (old now : Option (List ℕ)) (before chunk : List ℕ) (rest who
 finished old now before chunk rest whole none h =
     subst (λ (l : List ℕ). WritesFront old now l chunk)
     (ap (λ l. before ++ lines_text l) (sym (h.splits ∙ ap (λ l. h.done ++ l) none ∙ append-nil h.done))) h.front
+
+-- what is left over is written out, or not
+pub part_out : (r : Result (Unit {0}) WriteFault) (old mid new : Option (List ℕ)) (text after : List ℕ)
+    → WritesFront old mid text after → OnErr r (AppendsBeginning mid new after) → OnErr r (AppendsBeginning old new text)
+part_out (Ok u) old mid new text after h k = tt
+part_out (Err e) old mid new text after h k = beginning_written old mid new text after h k

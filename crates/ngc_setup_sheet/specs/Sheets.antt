@@ -1,5 +1,5 @@
 -- What a setup sheet tells of a machine and of its tools. Our own.
-use Rattle.std.specs.Prelude.{ℕ, ◌+◌, min, ℤ, pos, ◌+ℤ◌, ◌*ℤ◌, List, [], ◌∷◌, ◌++◌, flat_map, Bool, if◌then◌else◌}
+use Rattle.std.specs.Prelude.{ℕ, ◌+◌, min, ℤ, pos, ◌+ℤ◌, ◌*ℤ◌, List, [], ◌∷◌, ◌++◌, filter, flat_map, Bool, true, false, if◌then◌else◌}
 use Rattle.ngc_machine.specs.Machine.{MachineFile}
 use Rattle.ngc_machine.specs.declared.machine.Fixture.{Fixture}
 use Rattle.ngc_machine.specs.declared.parts.Part.{Part}
@@ -101,3 +101,12 @@ sheet m tools = machine_lines m ++ (fixtures_from m (reach_of tools) 0 m.fixture
 -- its text
 abbrev pub sheet_text : MachineFile → List Tool → List ℕ
 sheet_text m tools = lines_text (sheet m tools)
+
+-- ---- its warnings alone
+
+abbrev pub is_warning : Line → Bool
+is_warning (lines.Warning w) = true
+is_warning _ = false
+
+abbrev pub warnings_text : MachineFile → List Tool → List ℕ
+warnings_text m tools = lines_text (filter is_warning (sheet m tools))

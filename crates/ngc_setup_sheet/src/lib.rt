@@ -7,8 +7,10 @@ mod lines;
 mod reach;
 mod sheet;
 mod spelling;
+mod warned;
 mod warnings;
 mod writer;
 
 pub use line::{Axis, Fact, Figure, Line, Span, Warning};
 pub use sheet::write_sheet;
+pub use warned::write_warnings;

@@ -1,0 +1,92 @@
+//! The warnings of a sheet alone.
+ghost use Rattle.std.specs.Prelude.{◌≡◌, ◌++◌, filter, flat_map, OnOk, OnErr};
+ghost use Rattle.std.specs.Io.KnownBytes.{Appends};
+ghost use Rattle.ngc_fixed_length.specs.Failures.{CountsFailure};
+ghost use Rattle.ngc_fixed_length.specs.Written.{AppendsBeginning};
+ghost use Rattle.ngc_machine.specs.Machine.{file_of};
+ghost use Rattle.ngc_setup_sheet.specs.Reaches.{IsReach};
+ghost use Rattle.ngc_setup_sheet.specs.Sheets.{fixtures_from, tool_lines, sheet, is_warning, warnings_text};
+ghost use Rattle.ngc_setup_sheet.specs.Writes.{Writes};
+
+use crate::lines::{fixture_lines, machine_lines, tool_lines};
+use crate::reach::Reach;
+use crate::writer::write_warning_lines;
+use ngc_fixed_length::{Sink, WriteFault};
+use ngc_machine::{Machine, Tool};
+use ngc_output::Chunk;
+use std::alloc::Allocator;
+
+fn warn_of_fixtures<A: Allocator, W: Sink>(
+    chunk: &mut Chunk,
+    machine: &Machine<A>,
+    reach: &Reach,
+    sink: &mut W,
+) -> Result<(), WriteFault>
+    requires { IsReach reach.now }
+    ensures written { Writes (W.written sink.old) (W.written sink.new) chunk.old chunk.new result (filter is_warning (fixtures_from (file_of machine.now) reach.now 0 (file_of machine.now).fixtures)) }
+    ensures counts { CountsFailure (W.failures sink.old) (W.failures sink.new) result }
+{
+    for (i, fixture) in machine.fixtures.as_slice().iter().enumerate() {
+        let lines = fixture_lines(machine, reach, i, fixture);
+        match write_warning_lines(chunk, lines.as_slice(), sink) {
+            Ok(()) => {}
+            Err(fault) => return Err(fault),
+        }
+    }
+    Ok(())
+}
+
+fn warn_of_tools<W: Sink>(chunk: &mut Chunk, tools: &[Tool], sink: &mut W) -> Result<(), WriteFault>
+    ensures written { Writes (W.written sink.old) (W.written sink.new) chunk.old chunk.new result (filter is_warning (flat_map tool_lines tools.now)) }
+    ensures counts { CountsFailure (W.failures sink.old) (W.failures sink.new) result }
+{
+    for tool in tools {
+        let lines = tool_lines(tool);
+        match write_warning_lines(chunk, lines.as_slice(), sink) {
+            Ok(()) => {}
+            Err(fault) => return Err(fault),
+        }
+    }
+    Ok(())
+}
+
+fn warn_of_all<A: Allocator, W: Sink>(
+    chunk: &mut Chunk,
+    machine: &Machine<A>,
+    tools: &[Tool],
+    sink: &mut W,
+) -> Result<(), WriteFault>
+    ensures written { Writes (W.written sink.old) (W.written sink.new) chunk.old chunk.new result (filter is_warning (sheet (file_of machine.now) tools.now)) }
+    ensures counts { CountsFailure (W.failures sink.old) (W.failures sink.new) result }
+{
+    let lines = machine_lines(machine);
+    match write_warning_lines(chunk, lines.as_slice(), sink) {
+        Ok(()) => {}
+        Err(fault) => return Err(fault),
+    }
+    match warn_of_fixtures(chunk, machine, &Reach::of(tools), sink) {
+        Ok(()) => {}
+        Err(fault) => return Err(fault),
+    }
+    warn_of_tools(chunk, tools, sink)
+}
+
+/// Writes the warnings of a machine and of its tools, those of the setup sheet alone and in its order, each a line that begins
+/// with `warning: `; nothing where nothing looks wrong.
+///
+/// It takes no memory. After a fault (902) a beginning of the text is written, and the sink has counted the failure.
+pub fn write_warnings<A: Allocator, W: Sink>(
+    machine: &Machine<A>,
+    tools: &[Tool],
+    sink: &mut W,
+) -> Result<(), WriteFault>
+    ensures ok { OnOk result (Appends (W.written sink.old) (W.written sink.new) (warnings_text (file_of machine.now) tools.now)) }
+    ensures fault { OnErr result (AppendsBeginning (W.written sink.old) (W.written sink.new) (warnings_text (file_of machine.now) tools.now)) }
+    ensures counts { CountsFailure (W.failures sink.old) (W.failures sink.new) result }
+{
+    let mut chunk = Chunk::new();
+    match warn_of_all(&mut chunk, machine, tools, sink) {
+        Ok(()) => chunk.write_out(sink),
+        Err(fault) => Err(fault),
+    }
+}
