@@ -17,6 +17,13 @@ few n k xs is = elim (enough n (length xs)) [
   | inr h ↦ take_all k xs (omega arith) ∙ sym (take_all n xs h)
 ]
 
+-- of a list's length the lesser is meant first
+pub taken : {X : Type 0} (n k : ℕ) (xs : List X) → k ≡ min (length xs) n → take k xs ≡ take n xs
+taken n k xs is = elim (enough n (length xs)) [
+  | inl h ↦ ap (λ i. take i xs) (omega arith)
+  | inr h ↦ take_all k xs (omega arith) ∙ sym (take_all n xs h)
+]
+
 gone : {X : Type 0} (n k : ℕ) (xs : List X) → k ≡ min n (length xs) → drop k xs ≡ drop n xs
 gone n k xs is = elim (enough n (length xs)) [
   | inl h ↦ ap (λ i. drop i xs) (omega arith)

@@ -7,3 +7,5 @@ pub mod Margins
 pub mod Scenes
 pub mod Words
 pub mod Reports
+pub mod Quotes
+pub mod Warnings

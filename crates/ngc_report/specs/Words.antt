@@ -14,6 +14,9 @@ use Rattle.ngc_report.specs.declared.scene.Obstacle.{Obstacle}
 use Rattle.ngc_report.specs.declared.scene.Obstacle.TheVariants.{Travel, Fixture}
 use Rattle.ngc_report.specs.declared.scene.Scene.{Scene}
 use Rattle.ngc_report.specs.declared.uses.ToolUse.{ToolUse}
+use Rattle.ngc_report.specs.declared.warnings.Concern.{Concern}
+use Rattle.ngc_report.specs.declared.warnings.Concern.TheVariants.{NoTool, FastFeed, LowHome}
+use Rattle.ngc_report.specs.declared.warnings.Warning.{Warning}
 
 -- ---- lengths
 
@@ -91,6 +94,15 @@ obstacle_text (Some (Travel m)) =
 obstacle_text (Some (Fixture i f)) =
     codes "It meets fixture " ++ decimal i ++ codes ", from " ++ place_text f.low ++ codes " to " ++ place_text f.high ++ codes ".\n"
 
+unfoldable pub concern_text : Concern → List ℕ
+concern_text NoTool = codes "motions without a tool, away from the height of the start"
+concern_text FastFeed = codes "feeds above the greatest speed of the machine"
+concern_text LowHome = codes "traverses home along X or Y, below the top of a fixture"
+
+abbrev pub warning_text : Warning → List ℕ
+warning_text w =
+    codes "warning: " ++ concern_text w.concern ++ codes ": " ++ decimal w.count ++ codes ", the first in line " ++ decimal w.line ++ codes ".\n"
+
 unfoldable pub line_text : Line → List ℕ
 line_text lines.Fits = codes "The program fits: every position is inside the travel and clear of every fixture.\n"
 line_text lines.Refused = codes "The program does not fit.\n"
@@ -99,6 +111,7 @@ line_text (lines.Use u n) = use_text u n
 line_text (lines.Start s) = codes "The start is refused, at " ++ place_text s.from ++ codes ".\n"
 line_text (lines.Command k s) = command_text k s
 line_text (lines.InTheWay o) = obstacle_text o
+line_text (lines.Warned w) = warning_text w
 
 -- lines, one after another
 abbrev pub report_text : List Line → List ℕ

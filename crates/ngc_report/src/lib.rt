@@ -24,6 +24,14 @@
 //! ```
 //!
 //! The last line may be `It meets fixture 2, from X 10 mm, Y 20 mm, Z -30 mm to X 40 mm, Y 60 mm, Z 0 mm.`
+//!
+//! Warnings, each with the number of commands and the line of the first:
+//!
+//! ```text
+//! warning: motions without a tool, away from the height of the start: 2, the first in line 3.
+//! warning: feeds above the greatest speed of the machine: 5, the first in line 7.
+//! warning: traverses home along X or Y, below the top of a fixture: 1, the first in line 9.
+//! ```
 #![tactic(auto)]
 
 mod bounds;
@@ -32,10 +40,13 @@ pub mod laws;
 mod line;
 mod margins;
 mod nearest;
+mod quotes;
 mod report;
 mod scene;
 mod travel;
 mod uses;
+mod warned;
+mod warnings;
 mod words;
 
 pub use bounds::{extent, reach};
@@ -43,7 +54,10 @@ pub use gaps::gap;
 pub use line::{Along, Line};
 pub use margins::{Axis, Margin, Side};
 pub use nearest::Nearest;
+pub use quotes::write_line;
 pub use report::{write_fit, write_refusal};
 pub use scene::{Obstacle, Scene};
 pub use travel::{AxisRoom, Room};
 pub use uses::{ToolUse, ToolUses};
+pub use warned::write_warnings;
+pub use warnings::{Concern, Warning};

@@ -3,6 +3,7 @@ use crate::nearest::Nearest;
 use crate::scene::{Obstacle, Scene};
 use crate::travel::AxisRoom;
 use crate::uses::ToolUse;
+use crate::warnings::Warning;
 
 /// How far a program goes along an axis, in nanometres, and what is left there.
 #[derive(Clone, Copy, Debug, PartialEq, Eq)]
@@ -30,4 +31,6 @@ pub enum Line {
     Command(usize, Scene),
     /// What is in the way.
     InTheWay(Option<Obstacle>),
+    /// What passes and is nearly always a mistake.
+    Warned(Warning),
 }

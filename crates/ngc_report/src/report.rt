@@ -36,7 +36,11 @@ fn tell<W: Sink>(chunk: &mut Chunk, line: &Line, sink: &mut W) -> Result<(), Wri
     Ok(())
 }
 
-fn tell_all<W: Sink>(chunk: &mut Chunk, lines: &[Line], sink: &mut W) -> Result<(), WriteFault>
+pub(crate) fn tell_all<W: Sink>(
+    chunk: &mut Chunk,
+    lines: &[Line],
+    sink: &mut W,
+) -> Result<(), WriteFault>
     ensures told { Tells (W.written sink.old) (W.written sink.new) chunk.old chunk.new result lines.now }
     ensures counts { CountsFailure (W.failures sink.old) (W.failures sink.new) result }
 {

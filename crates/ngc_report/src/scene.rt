@@ -52,7 +52,7 @@ fn start_of(way: &Way) -> Point3
     }
 }
 
-fn after(before: Reached, action: &Action) -> Reached
+pub(crate) fn after(before: Reached, action: &Action) -> Reached
     ensures { result ≡ after before action.now }
 {
     match action {

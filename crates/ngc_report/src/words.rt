@@ -1,13 +1,14 @@
 //! How the lines of a report are spelled.
 ghost use Rattle.std.specs.Prelude.{◌≡◌, ◌+◌, ◌*◌, ◌<◌, ◌≤◌, ◌++◌, codes, decimal, take, unsigned_abs, length};
 ghost use Rattle.ngc_output.specs.Collected.{CHUNK_SIZE, HasLineRoom};
-ghost use Rattle.ngc_report.specs.Words.{sign_text, decimals, telling, size_text, mm_text, room_words, room_text, place_text, axis_text, side_text, tool_text, nearest_text, along_text, use_text, command_text, obstacle_text, line_text};
+ghost use Rattle.ngc_report.specs.Words.{sign_text, decimals, telling, size_text, mm_text, room_words, room_text, place_text, axis_text, side_text, tool_text, nearest_text, along_text, use_text, command_text, obstacle_text, concern_text, warning_text, line_text};
 
 use crate::line::{Along, Line};
 use crate::margins::{Axis, Margin, Side};
 use crate::nearest::Nearest;
 use crate::scene::{Obstacle, Scene};
 use crate::uses::ToolUse;
+use crate::warnings::{Concern, Warning};
 use ngc_canonical::{Fixture, Tool};
 use ngc_fixed_length::{Nm, Point3};
 use ngc_output::Chunk;
@@ -307,6 +308,31 @@ fn add_obstacle(chunk: &mut Chunk, obstacle: &Option<Obstacle>)
     }
 }
 
+#[tactic(auto, unfolding(crate::specs::Words::concern_text))]
+fn concern_words(concern: Concern) -> &'static [u8]
+    ensures text { result.now ≡ concern_text concern }
+    ensures short { length result.now ≤ 60 }
+{
+    match concern {
+        Concern::NoTool => b"motions without a tool, away from the height of the start",
+        Concern::FastFeed => b"feeds above the greatest speed of the machine",
+        Concern::LowHome => b"traverses home along X or Y, below the top of a fixture",
+    }
+}
+
+fn add_warning(chunk: &mut Chunk, warning: &Warning)
+    requires { HasLineRoom chunk.old }
+    ensures { chunk.new ≡ chunk.old ++ warning_text warning.now }
+{
+    chunk.add_text(b"warning: ");
+    chunk.add_text(concern_words(warning.concern));
+    chunk.add_text(b": ");
+    chunk.add_number(warning.count);
+    chunk.add_text(b", the first in line ");
+    chunk.add_number(warning.line);
+    chunk.add_text(b".\n");
+}
+
 /// Adds the text of a line.
 #[tactic(auto, unfolding(crate::specs::Words::line_text))]
 pub(crate) fn add_line(chunk: &mut Chunk, line: &Line)
@@ -323,5 +349,6 @@ pub(crate) fn add_line(chunk: &mut Chunk, line: &Line)
         Line::Start(scene) => add_start(chunk, scene),
         Line::Command(command, scene) => add_command(chunk, *command, scene),
         Line::InTheWay(obstacle) => add_obstacle(chunk, obstacle),
+        Line::Warned(warning) => add_warning(chunk, warning),
     }
 }

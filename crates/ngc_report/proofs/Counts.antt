@@ -1,0 +1,36 @@
+-- The commands concerned, counted one by one.
+use Rattle.std.proofs.Common.{◌≡◌, ℕ, ◌+◌, ◌<◌, List, [], ◌∷◌, length, get_or, drop, Option, Some, None, ap, sym, subst, ◌∙◌, refl, arith}
+use Rattle.std.specs.Prelude.{fold, MatchOption}
+use Rattle.std.proofs.lemmas.List.{drop_more}
+use Rattle.std.proofs.lemmas.List.Sums.{fold-append}
+use Rattle.ngc_canonical.specs.declared.command.Command.{Command}
+use Rattle.ngc_machine.specs.Machine.{MachineFile}
+use Rattle.ngc_report.specs.Scenes.{after}
+use Rattle.ngc_report.specs.Warnings.{line_of, lines_of, warning, counted}
+use Rattle.ngc_report.specs.declared.scene.Reached.{Reached}
+use Rattle.ngc_report.specs.declared.warnings.Concern.{Concern}
+use Rattle.ngc_report.specs.declared.warnings.Warning.{Warning}
+
+-- one command further
+pub next_command : (machine : MachineFile) (concern : Concern) (found : Option Warning) (s : Reached) (cs : List Command) (i : ℕ) (c : Command) → i < length cs → c ≡ get_or cs i c
+    → fold (counted concern) (fold (counted concern) found (line_of machine concern s c)) (lines_of machine concern (after s c.action) (drop (i + 1) cs))
+    ≡ fold (counted concern) found (lines_of machine concern s (drop i cs))
+next_command machine concern found s cs i c inside is =
+    let next : drop i cs ≡ c ∷ drop (i + 1) cs = drop_more cs i c inside ∙ ap (λ (x : Command). x ∷ drop (i + 1) cs) (sym is) in
+    sym (fold-append (counted concern) found (line_of machine concern s c) (lines_of machine concern (after s c.action) (drop (i + 1) cs)))
+    ∙ ap (λ (l : List Command). fold (counted concern) found (lines_of machine concern s l)) (sym next)
+
+counted_on : (concern : Concern) (w : Warning) (ls : List ℕ) → fold (counted concern) (Some w) ls ≡ Some (record w { count = w.count + length ls })
+counted_on concern w [] = ap (λ (n : ℕ). Some (record w { count = n })) (omega arith)
+counted_on concern w (l ∷ ls) =
+    counted_on concern (record w { count = w.count + 1 }) ls ∙ ap (λ (n : ℕ). Some (record w { count = n })) (omega arith)
+
+-- what is counted is the warning
+pub all_counted : (concern : Concern) (ls : List ℕ) (found : Option Warning) → found ≡ fold (counted concern) None ls
+    → MatchOption found (warning concern ls ≡ []) (λ w. warning concern ls ≡ w ∷ [])
+all_counted concern [] found is =
+    subst (λ (o : Option Warning). MatchOption o (warning concern [] ≡ []) (λ w. warning concern [] ≡ w ∷ [])) (sym is) refl
+all_counted concern (l ∷ ls) found is =
+    subst (λ (o : Option Warning). MatchOption o (warning concern (l ∷ ls) ≡ []) (λ w. warning concern (l ∷ ls) ≡ w ∷ []))
+    (sym (is ∙ counted_on concern (record { concern = concern; count = 1; line = l }) ls))
+    (ap (λ (n : ℕ). record { concern = concern; count = n; line = l } ∷ []) (omega arith))

@@ -1,0 +1,127 @@
+-- What passes and is nearly always a mistake. Our own.
+use Rattle.std.specs.Prelude.{ℕ, ◌+◌, ◌*◌, nat_lt, int_lt, unsigned_abs, List, [], ◌∷◌, ◌++◌, length, map, Option, Some, None, Bool, false, not, ◌&&◌, ◌||◌, if◌then◌else◌}
+use Rattle.std.specs.List.{list_any}
+use Rattle.std.specs.Ordering.{int_eq}
+use Rattle.ngc_fixed_length.specs.Grid.{grid}
+use Rattle.ngc_fixed_length.specs.declared.points.GridBox.{GridBox}
+use Rattle.ngc_fixed_length.specs.declared.points.Point3.{Point3}
+use Rattle.ngc_fixed_length.specs.declared.points.StepPos.{StepPos}
+use Rattle.ngc_machine.specs.Machine.{MachineFile}
+use Rattle.ngc_machine.specs.declared.tools.Tool.{Tool}
+use Rattle.ngc_canonical.specs.declared.command.Action.{Action}
+use Rattle.ngc_canonical.specs.declared.command.Action.TheVariants.{Move}
+use Rattle.ngc_canonical.specs.declared.command.Command.{Command}
+use Rattle.ngc_canonical.specs.declared.movement.Feed.TheVariants.{PerMinute}
+use Rattle.ngc_canonical.specs.declared.movement.Motion.{Motion}
+use Rattle.ngc_canonical.specs.declared.movement.Pace.{Pace}
+use Rattle.ngc_canonical.specs.declared.movement.Pace.TheVariants.{Rapid, Feed}
+use Rattle.ngc_canonical.specs.declared.movement.Way.{Way}
+use Rattle.ngc_canonical.specs.declared.movement.Way.TheVariants.{Line}
+use Rattle.ngc_collision.specs.Body.{Solid, bodies, span}
+use Rattle.ngc_report.specs.Extents.{reach}
+use Rattle.ngc_report.specs.Scenes.{after}
+use Rattle.ngc_report.specs.declared.line.Line as told
+use Rattle.ngc_report.specs.declared.line.Line.TheVariants as lines
+use Rattle.ngc_report.specs.declared.scene.Reached.{Reached}
+use Rattle.ngc_report.specs.declared.warnings.Concern.{Concern}
+use Rattle.ngc_report.specs.declared.warnings.Concern.TheVariants.{NoTool, FastFeed, LowHome}
+use Rattle.ngc_report.specs.declared.warnings.Warning.{Warning}
+
+-- ---- without a tool
+
+-- a box doesn't stay at the height of a grid point
+abbrev pub leaves : StepPos → GridBox → Bool
+leaves p b = not (int_eq b.low.z p.z) || not (int_eq b.high.z p.z)
+
+-- a motion that doesn't stay at the height of the start, without a tool
+abbrev pub is_unarmed : MachineFile → Option Tool → Way → Bool
+is_unarmed machine None way = leaves (grid machine.step machine.start) (reach machine.step way)
+is_unarmed machine (Some tool) way = false
+
+-- ---- too fast
+
+-- the speed of a step a tick, in nanometres a second
+abbrev pub step_speed : MachineFile → ℕ
+step_speed machine = unsigned_abs machine.step * machine.ticks_per_second
+
+-- the greatest speed along an axis, in millionths of a nanometre a second
+abbrev pub greatest_speed : MachineFile → ℕ
+greatest_speed machine = machine.max_rate * step_speed machine
+
+-- a feed in nanometres a minute that is above it
+abbrev pub is_fast : MachineFile → Pace → Bool
+is_fast machine (Feed (PerMinute feed)) = nat_lt (60 * greatest_speed machine) (1000000 * feed)
+is_fast machine _ = false
+
+-- ---- home between fixtures
+
+abbrev pub is_at : Point3 → Point3 → Bool
+is_at p q = int_eq p.x q.x && (int_eq p.y q.y && int_eq p.z q.z)
+
+-- to a home position, and not only up or down
+abbrev pub goes_home : MachineFile → Point3 → Point3 → Bool
+goes_home machine start end =
+    (is_at end machine.home28 || is_at end machine.home30) && (not (int_eq start.x end.x) || not (int_eq start.y end.y))
+
+-- a body reaches below the top of some fixture
+abbrev pub is_low : MachineFile → Solid → Bool
+is_low machine b = list_any (λ f. int_lt b.low.z f.high.z) machine.fixtures
+
+-- some body of the tool does while the machine goes all over a box
+abbrev pub comes_low : MachineFile → Option Tool → GridBox → Bool
+comes_low machine tool b = list_any (is_low machine) (bodies tool (span machine.step b))
+
+-- a traverse home on which it does
+abbrev pub is_low_home : MachineFile → Option Tool → Way → Pace → Bool
+is_low_home machine tool (Line start end) Rapid = goes_home machine start end && comes_low machine tool (reach machine.step (Line start end))
+is_low_home machine tool _ _ = false
+
+-- ---- over a program
+
+abbrev pub concerns : MachineFile → Concern → Option Tool → Motion → Bool
+concerns machine NoTool tool m = is_unarmed machine tool m.way
+concerns machine FastFeed tool m = is_fast machine m.pace
+concerns machine LowHome tool m = is_low_home machine tool m.way m.pace
+
+-- a motion, with the tool that is mounted then
+abbrev pub is_concerned : MachineFile → Concern → Reached → Action → Bool
+is_concerned machine concern s (Move m) = concerns machine concern s.tool m
+is_concerned machine concern s _ = false
+
+abbrev pub line_of : MachineFile → Concern → Reached → Command → List ℕ
+line_of machine concern s c = if is_concerned machine concern s c.action then c.line ∷ [] else []
+
+-- the lines of the commands concerned, in order
+abbrev pub lines_of : MachineFile → Concern → Reached → List Command → List ℕ
+lines_of machine concern s [] = []
+lines_of machine concern s (c ∷ cs) = line_of machine concern s c ++ lines_of machine concern (after s c.action) cs
+
+-- none, or one of their number and the first
+abbrev pub warning : Concern → List ℕ → List Warning
+warning concern [] = []
+warning concern (line ∷ lines) = record { concern = concern; count = length (line ∷ lines); line = line } ∷ []
+
+-- a program begins at the start, without a tool
+abbrev pub beginning : MachineFile → Reached
+beginning machine = record { tool = None; place = machine.start }
+
+abbrev pub warnings_about : MachineFile → Concern → List Command → List Warning
+warnings_about machine concern commands = warning concern (lines_of machine concern (beginning machine) commands)
+
+abbrev pub warned : MachineFile → Concern → List Command → List told.Line
+warned machine concern commands = map lines.Warned (warnings_about machine concern commands)
+
+abbrev pub warning_lines : MachineFile → List Command → List told.Line
+warning_lines machine commands =
+    warned machine NoTool commands ++ (warned machine FastFeed commands ++ warned machine LowHome commands)
+
+-- ---- as they are counted
+
+-- one command more is concerned
+abbrev pub counted : Concern → Option Warning → ℕ → Option Warning
+counted concern None line = Some (record { concern = concern; count = 1; line = line })
+counted concern (Some w) line = Some (record w { count = w.count + 1 })
+
+abbrev pub number_of : Option Warning → ℕ
+number_of None = 0
+number_of (Some w) = w.count

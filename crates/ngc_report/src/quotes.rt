@@ -1,0 +1,86 @@
+//! A line of a program as a report shows it.
+ghost use Rattle.std.specs.Prelude.{◌≡◌, ◌++◌, ◌≤◌, length, codes, decimal, OnOk, OnErr};
+ghost use Rattle.std.specs.Option.{option_map};
+ghost use Rattle.std.specs.Io.KnownBytes.{Appends};
+ghost use Rattle.ngc_fixed_length.specs.Failures.{CountsFailure};
+ghost use Rattle.ngc_fixed_length.specs.Written.{AppendsBeginning};
+ghost use Rattle.ngc_line_reader.specs.ProgramView.{text_in};
+ghost use Rattle.ngc_output.specs.Collected.{HasLineRoom};
+ghost use Rattle.ngc_report.specs.Quotes.{shown, line_with, bytes_text, quoted};
+
+use arrayvec::ArrayVec;
+use ngc_fixed_length::{Sink, WriteFault};
+use ngc_line_reader::Program;
+use ngc_output::Chunk;
+use std::alloc::Allocator;
+
+fn shown(byte: u8) -> u8
+    ensures { result ≡ shown byte }
+{
+    match byte {
+        32..=126 => byte,
+        b'\t' | b'\r' => b' ',
+        _ => b'?',
+    }
+}
+
+fn shown_bytes(bytes: &[u8]) -> ArrayVec<u8, 256>
+    ensures text { result.items ≡ bytes_text bytes.now }
+    ensures few { length result.items ≤ 256 }
+{
+    let mut text = ArrayVec::new();
+    for byte in &bytes[..bytes.len().min(256)] {
+        text.push(shown(*byte));
+    }
+    text
+}
+
+/// The bytes of the line with this number in the file.
+fn line_bytes<A: Allocator>(program: &Program<A>, number: u32) -> Option<&[u8]>
+    ensures { option_map (λ b. b.now) result ≡ option_map (λ l. l.bytes) (line_with number (text_in program.now).lines) }
+{
+    for index in 0..program.len() {
+        if program.number(index) == number {
+            return Some(program.bytes(index));
+        }
+    }
+    None
+}
+
+fn add_quote(chunk: &mut Chunk, number: u32, bytes: &[u8])
+    requires { HasLineRoom chunk.old }
+    ensures { chunk.new ≡ chunk.old ++ (codes "Line " ++ decimal number ++ codes ": " ++ bytes_text bytes.now ++ codes "\n") }
+{
+    chunk.add_text(b"Line ");
+    chunk.add_number(number);
+    chunk.add_text(b": ");
+    chunk.add_text(shown_bytes(bytes).as_slice());
+    chunk.add_text(b"\n");
+}
+
+fn quote_of<A: Allocator>(program: &Program<A>, number: u32) -> Chunk
+    ensures { result ≡ quoted number (text_in program.now).lines }
+{
+    let mut chunk = Chunk::new();
+    if let Some(bytes) = line_bytes(program, number) {
+        add_quote(&mut chunk, number, bytes);
+    }
+    chunk
+}
+
+/// Writes a line of a program as `Line 3: G0 X400`, by its number in the file, from 1. Bytes that a terminal doesn't print are
+/// shown as `?`, and tabs as spaces. Nothing is written where no such line is read.
+///
+/// After a fault (902, and only where the sink failed) a beginning of the text is written.
+pub fn write_line<A: Allocator, W: Sink>(
+    program: &Program<A>,
+    number: u32,
+    sink: &mut W,
+) -> Result<(), WriteFault>
+    ensures ok { OnOk result (Appends (W.written sink.old) (W.written sink.new) (quoted number (text_in program.now).lines)) }
+    ensures fault { OnErr result (AppendsBeginning (W.written sink.old) (W.written sink.new) (quoted number (text_in program.now).lines)) }
+    ensures counts { CountsFailure (W.failures sink.old) (W.failures sink.new) result }
+{
+    let mut chunk = quote_of(program, number);
+    chunk.write_out(sink)
+}

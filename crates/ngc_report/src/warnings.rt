@@ -1,0 +1,238 @@
+//! What passes and is nearly always a mistake.
+ghost use Rattle.std.specs.Prelude.{◌≡◌, ◌+◌, ◌≤◌, ◌<◌, ◌∷◌, [], map, fold, unsigned_abs, MatchOption};
+ghost use Rattle.std.specs.List.{list_any};
+ghost use Rattle.std.specs.Ordering.{int_eq};
+ghost use Rattle.ngc_collision.specs.Inside.{solid_of};
+ghost use Rattle.ngc_fixed_length.specs.Length.{IsStep};
+ghost use Rattle.ngc_machine.specs.Machine.{file_of};
+ghost use Rattle.ngc_report.specs.Warnings.{leaves, is_unarmed, step_speed, greatest_speed, is_fast, is_at, goes_home, is_low, comes_low, is_low_home, concerns, is_concerned, line_of, warnings_about, counted, number_of};
+
+use crate::bounds::reach;
+use crate::scene::{Reached, after};
+use ngc_canonical::{Action, Command, Feed, Machine, Motion, Pace, Tool, Way};
+use ngc_collision::Solid;
+use ngc_fixed_length::{GridBox, Nm, Point3, StepPos};
+use std::alloc::Allocator;
+
+/// What a warning is about.
+#[derive(Clone, Copy, Debug, PartialEq, Eq)]
+pub enum Concern {
+    /// Motions without a tool that don't stay at the height of the start.
+    NoTool,
+    /// Feeds a minute above the machine's greatest speed along an axis. Inverse time feeds and traverses don't count.
+    FastFeed,
+    /// Traverses along a line to a home position, not only up or down, on which a part of the tool's body, or without a tool the
+    /// controlled point, comes below the top of a fixture.
+    LowHome,
+}
+
+/// A warning about the commands of a program.
+#[derive(Clone, Copy, Debug, PartialEq, Eq)]
+pub struct Warning {
+    pub concern: Concern,
+    /// How many commands it is about, at least 1.
+    pub count: usize,
+    /// The line of the program that gives the first of them, from 1.
+    pub line: u32,
+}
+
+/// Whether a box doesn't stay at the height of a grid point.
+fn leaves(point: &StepPos, bounds: &GridBox) -> bool
+    ensures { result ≡ leaves point.now bounds.now }
+{
+    bounds.low.z != point.z || bounds.high.z != point.z
+}
+
+fn is_unarmed<A: Allocator>(machine: &Machine<A>, tool: &Option<Tool>, way: &Way) -> bool
+    ensures { result ≡ is_unarmed (file_of machine.now) tool.now way.now }
+{
+    match tool {
+        None => leaves(
+            &machine.start.to_grid(machine.step),
+            &reach(machine.step, way),
+        ),
+        Some(_) => false,
+    }
+}
+
+fn size_of(step: Nm) -> u64
+    requires { IsStep step }
+    ensures value { result ≡ unsigned_abs step }
+    ensures greatest { result ≤ 50000 }
+{
+    step.nanometres().unsigned_abs()
+}
+
+/// The speed of a step a tick, in nanometres a second.
+fn step_speed<A: Allocator>(machine: &Machine<A>) -> u64
+    ensures value { result ≡ step_speed (file_of machine.now) }
+    ensures bound { result ≤ 50000000000 }
+{
+    size_of(machine.step) * u64::from(machine.ticks_per_second)
+}
+
+/// The greatest speed along an axis, in millionths of a nanometre a second.
+fn greatest_speed<A: Allocator>(machine: &Machine<A>) -> u64
+    ensures value { result ≡ greatest_speed (file_of machine.now) }
+    ensures bound { result ≤ 50000000000000000 }
+{
+    u64::from(machine.max_rate) * step_speed(machine)
+}
+
+fn is_fast<A: Allocator>(machine: &Machine<A>, pace: &Pace) -> bool
+    ensures { result ≡ is_fast (file_of machine.now) pace.now }
+{
+    match pace {
+        Pace::Feed(Feed::PerMinute(feed)) => {
+            60 * u128::from(greatest_speed(machine)) < 1_000_000 * u128::from(*feed)
+        }
+        Pace::Feed(Feed::Inverse(_)) | Pace::Rapid => false,
+    }
+}
+
+fn is_same(one: Nm, other: Nm) -> bool
+    ensures { result ≡ int_eq one other }
+{
+    one.nanometres() == other.nanometres()
+}
+
+fn is_at(point: &Point3, place: &Point3) -> bool
+    ensures { result ≡ is_at point.now place.now }
+{
+    is_same(point.x, place.x) && is_same(point.y, place.y) && is_same(point.z, place.z)
+}
+
+fn goes_home<A: Allocator>(machine: &Machine<A>, start: &Point3, end: &Point3) -> bool
+    ensures { result ≡ goes_home (file_of machine.now) start.now end.now }
+{
+    (is_at(end, &machine.home28) || is_at(end, &machine.home30))
+        && (!is_same(start.x, end.x) || !is_same(start.y, end.y))
+}
+
+fn is_low<A: Allocator>(machine: &Machine<A>, solid: &Solid) -> bool
+    ensures { result ≡ is_low (file_of machine.now) (solid_of solid.now) }
+{
+    machine
+        .fixtures
+        .iter()
+        .any(|fixture| solid.low.z < fixture.high.z.nanometres())
+}
+
+fn is_any_low<A: Allocator>(machine: &Machine<A>, solids: &[Solid]) -> bool
+    ensures { result ≡ list_any (is_low (file_of machine.now)) (map solid_of solids.now) }
+{
+    for solid in solids {
+        if is_low(machine, solid) {
+            return true;
+        }
+    }
+    false
+}
+
+fn comes_low<A: Allocator>(machine: &Machine<A>, tool: &Option<Tool>, bounds: &GridBox) -> bool
+    ensures { result ≡ comes_low (file_of machine.now) tool.now bounds.now }
+{
+    let parts = Solid::swept(machine.step, *tool, bounds);
+    is_any_low(machine, parts.as_slice())
+}
+
+fn is_low_home<A: Allocator>(
+    machine: &Machine<A>,
+    tool: &Option<Tool>,
+    way: &Way,
+    pace: &Pace,
+) -> bool
+    ensures { result ≡ is_low_home (file_of machine.now) tool.now way.now pace.now }
+{
+    match (way, pace) {
+        (Way::Line { start, end }, Pace::Rapid) => {
+            goes_home(machine, start, end) && comes_low(machine, tool, &reach(machine.step, way))
+        }
+        (Way::Line { .. }, Pace::Feed(_)) | (Way::Arc(_), _) => false,
+    }
+}
+
+fn concerns<A: Allocator>(
+    machine: &Machine<A>,
+    concern: Concern,
+    tool: &Option<Tool>,
+    motion: &Motion,
+) -> bool
+    ensures { result ≡ concerns (file_of machine.now) concern tool.now motion.now }
+{
+    match concern {
+        Concern::NoTool => is_unarmed(machine, tool, &motion.way),
+        Concern::FastFeed => is_fast(machine, &motion.pace),
+        Concern::LowHome => is_low_home(machine, tool, &motion.way, &motion.pace),
+    }
+}
+
+fn is_concerned<A: Allocator>(
+    machine: &Machine<A>,
+    concern: Concern,
+    before: &Reached,
+    action: &Action,
+) -> bool
+    ensures { result ≡ is_concerned (file_of machine.now) concern before.now action.now }
+{
+    match action {
+        Action::Move(motion) => concerns(machine, concern, &before.tool, motion),
+        _ => false,
+    }
+}
+
+fn counted(concern: Concern, found: Option<Warning>, line: u32) -> Option<Warning>
+    requires { number_of found < usize.MAX }
+    ensures value { result ≡ counted concern found line }
+    ensures few { number_of result ≤ number_of found + 1 }
+{
+    match found {
+        None => Some(Warning {
+            concern,
+            count: 1,
+            line,
+        }),
+        Some(warning) => Some(Warning {
+            count: warning.count + 1,
+            ..warning
+        }),
+    }
+}
+
+fn with_command<A: Allocator>(
+    machine: &Machine<A>,
+    concern: Concern,
+    found: Option<Warning>,
+    before: &Reached,
+    command: &Command,
+) -> Option<Warning>
+    requires { number_of found < usize.MAX }
+    ensures value { result ≡ fold (counted concern) found (line_of (file_of machine.now) concern before.now command.now) }
+    ensures few { number_of result ≤ number_of found + 1 }
+{
+    if is_concerned(machine, concern, before, &command.action) {
+        counted(concern, found, command.line)
+    } else {
+        found
+    }
+}
+
+/// The warning of a program, or `None` where no command is concerned.
+pub(crate) fn warning_about<A: Allocator>(
+    machine: &Machine<A>,
+    concern: Concern,
+    commands: &[Command],
+) -> Option<Warning>
+    ensures { MatchOption result (warnings_about (file_of machine.now) concern commands.now ≡ []) (λ w. warnings_about (file_of machine.now) concern commands.now ≡ w ∷ []) }
+{
+    let mut found = None;
+    let mut reached = Reached {
+        tool: None,
+        place: machine.start,
+    };
+    for command in commands {
+        found = with_command(machine, concern, found, &reached, command);
+        reached = after(reached, &command.action);
+    }
+    found
+}
