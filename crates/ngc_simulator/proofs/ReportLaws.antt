@@ -13,6 +13,7 @@ use Rattle.ngc_canonical.specs.Interpreter.{setup_of}
 use Rattle.ngc_canonical.specs.Meaning.{Program as ProgramLines, Fails, has_deleted, meaning, program_said}
 use Rattle.ngc_canonical.specs.State.{Setup}
 use Rattle.ngc_canonical.specs.declared.command.Command.{Command}
+use Rattle.ngc_canonical.specs.declared.fault.Fault.{Fault}
 use Rattle.ngc_canonical.specs.declared.fault.ProgramFault.{ProgramFault}
 use Rattle.ngc_canonical.specs.declared.fault.ProgramFault.TheVariants as programs
 use Rattle.ngc_certificate_text.specs.Certificate.{CertificateData}
@@ -30,7 +31,7 @@ use Rattle.ngc_command_line.specs.declared.options.ReportOptions.{ReportOptions}
 use Rattle.ngc_machine.specs.Machine.{MachineFile}
 use Rattle.ngc_simulator.specs.Answers.{ReportsOn}
 use Rattle.ngc_simulator.specs.Jobs.{AreMeanings, IsMadeFor, IsProgram, WhyNotMade, refused_at}
-use Rattle.ngc_simulator.specs.Reporting.{IsAcceptedOf, IsFitReport, IsPassed, IsRefusalReport, IsTimed, LastsFor, Reports, TakesTicks, commands_of, fits_text, is_on, refusal_text}
+use Rattle.ngc_simulator.specs.Reporting.{IsAcceptedOf, IsFitReport, IsPassed, IsRefusalReport, IsRejectionReport, IsTimed, LastsFor, Reports, TakesTicks, commands_of, fault_text, fits_text, is_on, refusal_text, rejection_text}
 use Rattle.ngc_simulator.specs.Setups.{FileBytes, KeepsFiles}
 use Rattle.ngc_simulator.specs.Shops.{GivesShop}
 use Rattle.ngc_simulator.specs.declared.certifier.CertifyFault.{CertifyFault}
@@ -113,11 +114,14 @@ timed text setup block_delete a ticks per_second accepted takes same = λ rs are
 
 -- ---- a program that fits
 
+same_text : (bytes : List ℕ) (text : ProgramText) (program : ProgramLines) → program_of bytes ≡ Ok text → (is : IsProgram bytes program) → text ≡ is.text
+same_text bytes text program is_text is = cc (sym is_text ∙ is.is_text)
+
 -- what holds of a text's program with each of its readings holds of the program that a file's text is
 of_program : (bytes : List ℕ) (text : ProgramText) (program : ProgramLines) (P : ProgramLines → Type 0) → program_of bytes ≡ Ok text → IsProgram bytes program
     → ((rs : List Reading) → AreReadings text.lines rs → P (program_said text rs)) → P program
 of_program bytes text program P is_text is on =
-    let same : text ≡ is.text = cc (sym is_text ∙ is.is_text) in
+    let same : text ≡ is.text = same_text bytes text program is_text is in
     subst P (sym is.is_said) (subst (λ (t : ProgramText). (rs : List Reading) → AreReadings t.lines rs → P (program_said t rs)) same on is.readings is.are_readings)
 
 same_commands : (says : Result (List Command) ProgramFault) (a b : List Command) → says ≡ Ok a → says ≡ Ok b → a ≡ b
@@ -151,7 +155,7 @@ alike setup bytes off on means none = same_commands _ _ _ (same_at_both means.pr
 module _ (setup : Setup) (bytes : List ℕ) (cuts : ℕ) (text : ProgramText) (c : CertificateData) (a : AcceptedData) (is_text : program_of bytes ≡ Ok text)
     (made : IsMadeFor setup bytes cuts c) (accepted : IsAcceptedOf text setup a) where
   abbrev whole : RunTime → RunTime → List ℕ
-  whole off_time on_time = fits_text (has_deleted made.means.program.lines) setup.machine made.off made.on c off_time on_time
+  whole off_time on_time = fits_text (has_deleted made.means.program.lines) setup made.off made.on c off_time on_time
 
   fit : (off_time on_time : RunTime) → LastsFor setup.machine made.off off_time → LastsFor setup.machine made.on on_time → IsFitReport setup bytes cuts (whole off_time on_time)
   fit off_time on_time off_lasts on_lasts = record {
@@ -177,20 +181,20 @@ module _ (setup : Setup) (bytes : List ℕ) (cuts : ℕ) (text : ProgramText) (c
       subst (λ cs. LastsFor setup.machine cs time) (alike setup bytes made.off made.on made.means plain) (off_at time is_timed)
 
   is_whole : (named found : Bool) (off_time on_time : RunTime) → Finds text found → found ≡ named
-      → fits_text named setup.machine a.off a.on c off_time on_time ≡ whole off_time on_time
+      → fits_text named setup a.off a.on c off_time on_time ≡ whole off_time on_time
   is_whole named found off_time on_time is_found is =
       let same = accepted_commands setup bytes text made.off made.on a is_text made.means accepted in
-      ap (λ cs. fits_text named setup.machine cs a.on c off_time on_time) same.0
-      ∙ ap (λ cs. fits_text named setup.machine made.off cs c off_time on_time) same.1
-      ∙ ap (λ d. fits_text d setup.machine made.off made.on c off_time on_time) (sym (finds setup bytes text made.off made.on found is_text made.means is_found ∙ is))
+      ap (λ cs. fits_text named setup cs a.on c off_time on_time) same.0
+      ∙ ap (λ cs. fits_text named setup made.off cs c off_time on_time) same.1
+      ∙ ap (λ d. fits_text d setup made.off made.on c off_time on_time) (sym (finds setup bytes text made.off made.on found is_text made.means is_found ∙ is))
 
   pub told_fits : (named found : Bool) (off_time on_time : RunTime) (old new : Option (List ℕ)) → Finds text found → found ≡ named → LastsFor setup.machine made.off off_time
-      → LastsFor setup.machine made.on on_time → Appends old new (fits_text named setup.machine a.off a.on c off_time on_time) → Reports setup bytes cuts old new (Ok tt)
+      → LastsFor setup.machine made.on on_time → Appends old new (fits_text named setup a.off a.on c off_time on_time) → Reports setup bytes cuts old new (Ok tt)
   told_fits named found off_time on_time old new is_found is off_lasts on_lasts wrote =
       (whole off_time on_time, fit off_time on_time off_lasts on_lasts, appends_as old new _ _ (is_whole named found off_time on_time is_found is) wrote)
 
   pub fits_stopped : (named found : Bool) (off_time on_time : RunTime) (old new : Option (List ℕ)) (fault : WriteFault) → Finds text found → found ≡ named → LastsFor setup.machine made.off off_time
-      → LastsFor setup.machine made.on on_time → AppendsBeginning old new (fits_text named setup.machine a.off a.on c off_time on_time)
+      → LastsFor setup.machine made.on on_time → AppendsBeginning old new (fits_text named setup a.off a.on c off_time on_time)
       → Reports setup bytes cuts old new (Err (certifies.Write fault))
   fits_stopped named found off_time on_time old new fault is_found is off_lasts on_lasts wrote =
       (whole off_time on_time, inl (fit off_time on_time off_lasts on_lasts), begins_as old new _ _ (is_whole named found off_time on_time is_found is) wrote)
@@ -209,7 +213,7 @@ means_on setup bytes off on means On = means.on_means
 module _ (setup : Setup) (bytes : List ℕ) (cuts : ℕ) (text : ProgramText) (s : Setting) (k : ℕ) (is_text : program_of bytes ≡ Ok text)
     (why : WhyNotMade setup bytes cuts (certifies.Make (NotCleared s k))) where
   abbrev whole_refusal : List ℕ
-  whole_refusal = refusal_text (has_deleted why.2.program.lines) s setup.machine (commands_of s why.0 why.1) k
+  whole_refusal = refusal_text (has_deleted why.2.program.lines) s setup.machine (commands_of s why.0 why.1) k why.2.is_program.text.lines
 
   refusal : IsRefusalReport setup bytes cuts s k whole_refusal
   refusal = record { off = why.0; on = why.1; means = why.2; made = why.3; tells = refl }
@@ -220,20 +224,21 @@ module _ (setup : Setup) (bytes : List ℕ) (cuts : ℕ) (text : ProgramText) (s
       (ap (meaning why.2.program setup) is ∙ means_on setup bytes why.0 why.1 why.2 s)
 
   refusal_is : (b found : Bool) (commands given : List Command) → b ≡ is_on s → Means text setup b (Ok commands) → given ≡ commands → Finds text found
-      → refusal_text found s setup.machine given k ≡ whole_refusal
+      → refusal_text found s setup.machine given k text.lines ≡ whole_refusal
   refusal_is b found commands given is means same is_found =
-      ap (λ cs. refusal_text found s setup.machine cs k) (same ∙ meant b commands is means)
-      ∙ ap (λ d. refusal_text d s setup.machine (commands_of s why.0 why.1) k) (sym (finds setup bytes text why.0 why.1 found is_text why.2 is_found))
+      ap (λ cs. refusal_text found s setup.machine cs k text.lines) (same ∙ meant b commands is means)
+      ∙ ap (λ d. refusal_text d s setup.machine (commands_of s why.0 why.1) k text.lines) (sym (finds setup bytes text why.0 why.1 found is_text why.2 is_found))
+      ∙ ap (λ (t : ProgramText). refusal_text (has_deleted why.2.program.lines) s setup.machine (commands_of s why.0 why.1) k t.lines) (same_text bytes text why.2.program is_text why.2.is_program)
 
   pub told_refusal : (b found : Bool) (commands given : List Command) (old new : Option (List ℕ)) → b ≡ is_on s → Means text setup b (Ok commands) → given ≡ commands → Finds text found
-      → Appends old new (refusal_text found s setup.machine given k) → Reports setup bytes cuts old new (Err (certifies.Make (NotCleared s k)))
+      → Appends old new (refusal_text found s setup.machine given k text.lines) → Reports setup bytes cuts old new (Err (certifies.Make (NotCleared s k)))
   told_refusal b found commands given old new is means same is_found wrote =
       (whole_refusal, refusal, subst (Appends old new) (refusal_is b found commands given is means same is_found) wrote)
 
   pub refusal_stopped : (b found : Bool) (commands given : List Command) (old new : Option (List ℕ)) (fault : WriteFault) → b ≡ is_on s → Means text setup b (Ok commands) → given ≡ commands
-      → Finds text found → AppendsBeginning old new (refusal_text found s setup.machine given k) → Reports setup bytes cuts old new (Err (certifies.Write fault))
+      → Finds text found → AppendsBeginning old new (refusal_text found s setup.machine given k text.lines) → Reports setup bytes cuts old new (Err (certifies.Write fault))
   refusal_stopped b found commands given old new fault is means same is_found wrote =
-      (whole_refusal, inr (s, k, refusal), subst (AppendsBeginning old new) (refusal_is b found commands given is means same is_found) wrote)
+      (whole_refusal, inr (inl (s, k, refusal)), subst (AppendsBeginning old new) (refusal_is b found commands given is means same is_found) wrote)
 
   -- it had a meaning, so now memory ran out
   pub not_meant : (b : Bool) (fault : ProgramFault) (told : CertifyFault) (known : Option (List ℕ)) → b ≡ is_on s → told ≡ refused_at s fault
@@ -247,6 +252,35 @@ module _ (setup : Setup) (bytes : List ℕ) (cuts : ℕ) (text : ProgramText) (s
       by_fault (programs.At line e) fails =
           let bad : Err (programs.At line e) ≡ Ok (commands_of s why.0 why.1) = sym fails ∙ ap (meaning why.2.program setup) is ∙ means_on setup bytes why.0 why.1 why.2 s in
           cc
+
+-- ---- a program that is refused
+
+module _ (setup : Setup) (bytes : List ℕ) (cuts : ℕ) (text : ProgramText) (s : Setting) (number : ℕ) (fault : ProgramFault) (is_text : program_of bytes ≡ Ok text)
+    (why : WhyNotMade setup bytes cuts (certifies.Program s fault)) where
+  abbrev whole_rejection : List ℕ
+  whole_rejection = fault_text (has_deleted why.0.lines) s fault why.1.text.lines
+
+  rejection : IsRejectionReport setup bytes s fault whole_rejection
+  rejection = record { program = why.0; is_program = why.1; refused = why.2; tells = refl }
+
+  rejection_is : (found : Bool) (e : Fault) → fault ≡ programs.At number e → Finds text found → rejection_text found s number text.lines ≡ whole_rejection
+  rejection_is found e is is_found =
+      ap (λ d. rejection_text d s number text.lines) (of_program bytes text why.0 (λ p. found ≡ has_deleted p.lines) is_text why.1 is_found)
+      ∙ ap (λ (t : ProgramText). rejection_text (has_deleted why.0.lines) s number t.lines) (same_text bytes text why.0 is_text why.1)
+      ∙ ap (λ f. fault_text (has_deleted why.0.lines) s f why.1.text.lines) (sym is)
+
+  pub told_rejection : (found : Bool) (e : Fault) (old new : Option (List ℕ)) → fault ≡ programs.At number e → Finds text found
+      → Appends old new (rejection_text found s number text.lines) → Reports setup bytes cuts old new (Err (certifies.Program s (programs.At number e)))
+  told_rejection found e old new is is_found wrote = (
+    whole_rejection,
+    subst (λ (f : ProgramFault). IsRejectionReport setup bytes s f whole_rejection) is rejection,
+    subst (Appends old new) (rejection_is found e is is_found) wrote,
+  )
+
+  pub rejection_stopped : (found : Bool) (e : Fault) (old new : Option (List ℕ)) (stopped : WriteFault) → fault ≡ programs.At number e → Finds text found
+      → AppendsBeginning old new (rejection_text found s number text.lines) → Reports setup bytes cuts old new (Err (certifies.Write stopped))
+  rejection_stopped found e old new stopped is is_found wrote =
+      (whole_rejection, inr (inr (s, fault, rejection)), subst (AppendsBeginning old new) (rejection_is found e is is_found) wrote)
 
 -- ---- on the files that the command line names
 

@@ -2,6 +2,7 @@
 ghost use Rattle.std.specs.Prelude.{◌≡◌, ◌≤◌, ℕ, List, IfSome, Ok, Err, OnOk, OnErr, None, true, false};
 ghost use Rattle.std.specs.Io.KnownBytes.{Appends};
 ghost use Rattle.ngc_canonical.specs.Interpreter.{setup_of};
+ghost use Rattle.ngc_canonical.specs.State.{Setup};
 ghost use Rattle.ngc_certificate.specs.PieceFault.{place_fault};
 ghost use Rattle.ngc_certificate_text.specs.Certificate.{entries_at};
 ghost use Rattle.ngc_certificate_text.specs.Contents.{said_of};
@@ -13,14 +14,14 @@ ghost use Rattle.ngc_line_reader.specs.ProgramView.{text_in};
 ghost use Rattle.ngc_line_reader.specs.declared.program.fault.ReadFault.TheVariants.{Device};
 ghost use Rattle.ngc_machine.specs.Machine.{file_of};
 ghost use Rattle.ngc_simulator.specs.Jobs.{FailsByCertifying, IsMadeFor, UsesNoDevice, WhyNotMade};
-ghost use Rattle.ngc_simulator.specs.Reporting.{IsPassed, ReadsNoProgram, Reports, fits_text, heading, is_on, refusal_text, setting_text, takes_line, told_command};
+ghost use Rattle.ngc_simulator.specs.Reporting.{IsPassed, ReadsNoProgram, Reports, cause_text, fits_text, heading, is_on, quoted_if, refusal_text, rejection_text, setting_text, takes_line, told_command, told_number};
 
 use crate::certifier::{CertifyFault, made, refused};
 use crate::done::RunTime;
 use crate::drawing::met_at;
 use crate::report_time::add_takes_line;
 use crate::timing::{accept, time_of};
-use ngc_canonical::{Command, has_deleted_lines, interpret};
+use ngc_canonical::{Command, ProgramFault, has_deleted_lines, interpret};
 use ngc_certificate::{MakeFault, Setting, place_fault};
 use ngc_certificate_text::Certificate;
 use ngc_checker::Accepted;
@@ -28,7 +29,8 @@ use ngc_fixed_length::{Sink, Source, WriteFault, write_all};
 use ngc_line_reader::Program;
 use ngc_machine::{Machine, Tools};
 use ngc_output::Chunk;
-use ngc_report::{write_fit, write_refusal};
+use ngc_report::{write_fit, write_line, write_refusal, write_warnings};
+use ngc_setup_sheet::write_warnings as write_shop_warnings;
 use std::alloc::Allocator;
 
 // The line that names a setting, or nothing where none is named.
@@ -52,7 +54,7 @@ fn write_takes_line<W: Sink>(time: &RunTime, output: &mut W) -> Result<(), Write
     chunk.write_out(output)
 }
 
-// What fits at a setting, and how long it takes.
+// What fits at a setting, how long it takes, and what looks wrong there.
 fn write_setting<A: Allocator, W: Sink>(
     machine: &Machine<A>,
     named: bool,
@@ -74,23 +76,28 @@ fn write_setting<A: Allocator, W: Sink>(
         Ok(()) => {}
         Err(fault) => return Err(fault),
     }
-    write_takes_line(time, output)
+    match write_takes_line(time, output) {
+        Ok(()) => {}
+        Err(fault) => return Err(fault),
+    }
+    write_warnings(machine, commands, output)
 }
 
 // What fits at both settings, which are alike.
 fn write_once<A: Allocator, W: Sink>(
     machine: &Machine<A>,
+    tools: &Tools<A>,
     accepted: &Accepted<A>,
     certificate: &Certificate<A>,
     time: &RunTime,
     output: &mut W,
 ) -> Result<(), WriteFault>
-    ensures ok { OnOk result (Appends (W.written output.old) (W.written output.new) (fits_text false (file_of machine.now) accepted.now.off accepted.now.on (said_of certificate.now) time.now time.now)) }
-    ensures fault { OnErr result (AppendsBeginning (W.written output.old) (W.written output.new) (fits_text false (file_of machine.now) accepted.now.off accepted.now.on (said_of certificate.now) time.now time.now)) }
+    ensures ok { OnOk result (Appends (W.written output.old) (W.written output.new) (fits_text false (setup_of machine.now tools.now) accepted.now.off accepted.now.on (said_of certificate.now) time.now time.now)) }
+    ensures fault { OnErr result (AppendsBeginning (W.written output.old) (W.written output.new) (fits_text false (setup_of machine.now tools.now) accepted.now.off accepted.now.on (said_of certificate.now) time.now time.now)) }
     ensures counts { CountsFailure (W.failures output.old) (W.failures output.new) result }
 {
     let commands = accepted.commands(false);
-    write_setting(
+    match write_setting(
         machine,
         false,
         Setting::Off,
@@ -98,20 +105,25 @@ fn write_once<A: Allocator, W: Sink>(
         certificate,
         time,
         output,
-    )
+    ) {
+        Ok(()) => {}
+        Err(fault) => return Err(fault),
+    }
+    write_shop_warnings(machine, tools.tools(), output)
 }
 
 // What fits at each setting.
 fn write_both<A: Allocator, W: Sink>(
     machine: &Machine<A>,
+    tools: &Tools<A>,
     accepted: &Accepted<A>,
     certificate: &Certificate<A>,
     off_time: &RunTime,
     on_time: &RunTime,
     output: &mut W,
 ) -> Result<(), WriteFault>
-    ensures ok { OnOk result (Appends (W.written output.old) (W.written output.new) (fits_text true (file_of machine.now) accepted.now.off accepted.now.on (said_of certificate.now) off_time.now on_time.now)) }
-    ensures fault { OnErr result (AppendsBeginning (W.written output.old) (W.written output.new) (fits_text true (file_of machine.now) accepted.now.off accepted.now.on (said_of certificate.now) off_time.now on_time.now)) }
+    ensures ok { OnOk result (Appends (W.written output.old) (W.written output.new) (fits_text true (setup_of machine.now tools.now) accepted.now.off accepted.now.on (said_of certificate.now) off_time.now on_time.now)) }
+    ensures fault { OnErr result (AppendsBeginning (W.written output.old) (W.written output.new) (fits_text true (setup_of machine.now tools.now) accepted.now.off accepted.now.on (said_of certificate.now) off_time.now on_time.now)) }
     ensures counts { CountsFailure (W.failures output.old) (W.failures output.new) result }
 {
     let off = accepted.commands(false);
@@ -128,7 +140,11 @@ fn write_both<A: Allocator, W: Sink>(
         Err(fault) => return Err(fault),
     }
     let on = accepted.commands(true);
-    write_setting(machine, true, Setting::On, on, certificate, on_time, output)
+    match write_setting(machine, true, Setting::On, on, certificate, on_time, output) {
+        Ok(()) => {}
+        Err(fault) => return Err(fault),
+    }
+    write_shop_warnings(machine, tools.tools(), output)
 }
 
 // The command that a refusal is told of: none where the start point isn't clear.
@@ -150,8 +166,57 @@ fn is_on(setting: Setting) -> bool
     }
 }
 
+// The line of the program that gives the command which is told.
+fn told_number(commands: &[Command], told: Option<usize>) -> Option<u32>
+    ensures { result ≡ told_number commands.now told }
+{
+    match told {
+        None => None,
+        Some(command) => match commands.get(command) {
+            None => None,
+            Some(command) => Some(command.line),
+        },
+    }
+}
+
+fn write_told_line<A: Allocator, W: Sink>(
+    program: &Program<A>,
+    number: Option<u32>,
+    output: &mut W,
+) -> Result<(), WriteFault>
+    ensures ok { OnOk result (Appends (W.written output.old) (W.written output.new) (quoted_if number (text_in program.now).lines)) }
+    ensures fault { OnErr result (AppendsBeginning (W.written output.old) (W.written output.new) (quoted_if number (text_in program.now).lines)) }
+    ensures counts { CountsFailure (W.failures output.old) (W.failures output.new) result }
+{
+    match number {
+        None => write_all(output, b""),
+        Some(number) => write_line(program, number, output),
+    }
+}
+
+// What is in the way of a command, and its line.
+fn write_cause<A: Allocator, W: Sink>(
+    program: &Program<A>,
+    machine: &Machine<A>,
+    commands: &[Command],
+    told: Option<usize>,
+    fixture: Option<u32>,
+    output: &mut W,
+) -> Result<(), WriteFault>
+    ensures ok { OnOk result (Appends (W.written output.old) (W.written output.new) (cause_text (file_of machine.now) commands.now told fixture (text_in program.now).lines)) }
+    ensures fault { OnErr result (AppendsBeginning (W.written output.old) (W.written output.new) (cause_text (file_of machine.now) commands.now told fixture (text_in program.now).lines)) }
+    ensures counts { CountsFailure (W.failures output.old) (W.failures output.new) result }
+{
+    match write_refusal(machine, commands, told, fixture, output) {
+        Ok(()) => {}
+        Err(fault) => return Err(fault),
+    }
+    write_told_line(program, told_number(commands, told), output)
+}
+
 // What is in the way of a command at a setting.
 fn write_refused<A: Allocator, W: Sink>(
+    program: &Program<A>,
     machine: &Machine<A>,
     named: bool,
     setting: Setting,
@@ -159,8 +224,8 @@ fn write_refused<A: Allocator, W: Sink>(
     command: u32,
     output: &mut W,
 ) -> Result<(), WriteFault>
-    ensures ok { OnOk result (Appends (W.written output.old) (W.written output.new) (refusal_text named setting (file_of machine.now) commands.now command)) }
-    ensures fault { OnErr result (AppendsBeginning (W.written output.old) (W.written output.new) (refusal_text named setting (file_of machine.now) commands.now command)) }
+    ensures ok { OnOk result (Appends (W.written output.old) (W.written output.new) (refusal_text named setting (file_of machine.now) commands.now command (text_in program.now).lines)) }
+    ensures fault { OnErr result (AppendsBeginning (W.written output.old) (W.written output.new) (refusal_text named setting (file_of machine.now) commands.now command (text_in program.now).lines)) }
     ensures counts { CountsFailure (W.failures output.old) (W.failures output.new) result }
 {
     match write_all(output, heading_text(named, setting)) {
@@ -169,7 +234,30 @@ fn write_refused<A: Allocator, W: Sink>(
     }
     let told = told_command(machine, command);
     let fixture = met_at(machine, commands, command as usize);
-    write_refusal(machine, commands, told, fixture, output)
+    write_cause(program, machine, commands, told, fixture, output)
+}
+
+// That a program is refused, and its line at fault.
+fn write_rejection<A: Allocator, W: Sink>(
+    program: &Program<A>,
+    named: bool,
+    setting: Setting,
+    number: u32,
+    output: &mut W,
+) -> Result<(), WriteFault>
+    ensures ok { OnOk result (Appends (W.written output.old) (W.written output.new) (rejection_text named setting number (text_in program.now).lines)) }
+    ensures fault { OnErr result (AppendsBeginning (W.written output.old) (W.written output.new) (rejection_text named setting number (text_in program.now).lines)) }
+    ensures counts { CountsFailure (W.failures output.old) (W.failures output.new) result }
+{
+    match write_all(output, heading_text(named, setting)) {
+        Ok(()) => {}
+        Err(fault) => return Err(fault),
+    }
+    match write_all(output, b"The program is refused.\n") {
+        Ok(()) => {}
+        Err(fault) => return Err(fault),
+    }
+    write_line(program, number, output)
 }
 
 // The report of a program for which a certificate was made. Nothing is written before it is known how long the program takes.
@@ -197,7 +285,7 @@ fn report_fit<A: Allocator + Copy, W: Sink>(
         Err(fault) => return Err(CertifyFault::Make(fault)),
     };
     if !has_deleted_lines(program) {
-        match write_once(machine, &accepted, certificate, &off_time, output) {
+        match write_once(machine, tools, &accepted, certificate, &off_time, output) {
             Ok(()) => return Ok(()),
             Err(fault) => return Err(CertifyFault::Write(fault)),
         }
@@ -206,7 +294,15 @@ fn report_fit<A: Allocator + Copy, W: Sink>(
         Ok(time) => time,
         Err(fault) => return Err(CertifyFault::Make(fault)),
     };
-    match write_both(machine, &accepted, certificate, &off_time, &on_time, output) {
+    match write_both(
+        machine,
+        tools,
+        &accepted,
+        certificate,
+        &off_time,
+        &on_time,
+        output,
+    ) {
         Ok(()) => Ok(()),
         Err(fault) => Err(CertifyFault::Write(fault)),
     }
@@ -232,6 +328,7 @@ fn report_refusal<A: Allocator + Copy, W: Sink>(
     };
     let named = has_deleted_lines(program);
     match write_refused(
+        program,
         machine,
         named,
         setting,
@@ -265,6 +362,28 @@ fn report_unmade<A: Allocator + Copy, W: Sink>(
     }
 }
 
+// The report of a program that is refused at a setting, and the fault that is answered.
+fn report_rejection<A: Allocator, W: Sink>(
+    program: &Program<A>,
+    setting: Setting,
+    fault: ProgramFault,
+    output: &mut W,
+) -> CertifyFault
+    ensures reports { (setup : Setup) (bytes : List ℕ) (cuts : ℕ) → program_of bytes ≡ Ok (text_in program.now) → WhyNotMade setup bytes cuts (CertifyFault.Program setting fault) → Reports setup bytes cuts (W.written output.old) (W.written output.new) (Err result) }
+    ensures sink { FailsByCertifying (Err result) (W.failures output.old) (W.failures output.new) }
+    ensures given { ReadsNoProgram {T = Unit {0}} (Err result) }
+{
+    let line = match fault {
+        ProgramFault::At { line, .. } => line,
+        ProgramFault::Memory => return CertifyFault::Make(MakeFault::Memory),
+    };
+    let named = has_deleted_lines(program);
+    match write_rejection(program, named, setting, line, output) {
+        Ok(()) => CertifyFault::Program { setting, fault },
+        Err(fault) => CertifyFault::Write(fault),
+    }
+}
+
 // The report of a program for which no certificate was made, and the fault that is answered.
 fn report_fault<A: Allocator + Copy, W: Sink>(
     alloc: A,
@@ -281,6 +400,9 @@ fn report_fault<A: Allocator + Copy, W: Sink>(
 {
     match fault {
         CertifyFault::Make(fault) => report_unmade(alloc, program, machine, tools, fault, output),
+        CertifyFault::Program { setting, fault } => {
+            report_rejection(program, setting, fault, output)
+        }
         _ => fault,
     }
 }
