@@ -1,13 +1,13 @@
 //! What no clause says: that a certificate is checked as its text comes, in pieces of any size and from a source, that a fault of
 //! the text stays, that refused memory and a failing source are told, and when no more is pulled.
 use crate::checks::{holds, same};
-use crate::devices::SlowSource;
 use linked_list_allocator::LocalHeap;
 use ngc_certificate_text::{Certificate, CertificateFault};
 use ngc_checker::{CheckReadFault, CheckReader, MemoryFault, check, check_source};
 use ngc_fixed_length::Device;
 use ngc_line_reader::Program;
 use ngc_machine::{Machine, Tools, row_machine};
+use ngc_test_devices::SlowSource;
 use std::alloc::{AllocError, Global};
 use std::process::Abort;
 use std::test::Fail;
@@ -56,12 +56,7 @@ fn source_answer(
     text: &[u8],
     most: usize,
 ) -> Option<CheckReadFault> {
-    let mut source = SlowSource {
-        rest: text,
-        most,
-        failing: usize::MAX,
-        failures: 0,
-    };
+    let mut source = SlowSource::new(text, most, usize::MAX);
     check_source(alloc, program, machine, &Tools::empty(alloc), &mut source).err()
 }
 
@@ -378,12 +373,7 @@ fn failing_answer(
     text: &[u8],
     failing: usize,
 ) -> (Option<CheckReadFault>, u64) {
-    let mut source = SlowSource {
-        rest: text,
-        most: 100,
-        failing,
-        failures: 0,
-    };
+    let mut source = SlowSource::new(text, 100, failing);
     let answer = check_source(alloc, program, machine, &Tools::empty(alloc), &mut source);
     (answer.err(), source.failures)
 }

@@ -8,8 +8,6 @@ mod checking;
 #[cfg(test)]
 mod checks;
 #[cfg(test)]
-mod devices;
-#[cfg(test)]
 mod feeding;
 #[cfg(test)]
 mod given;

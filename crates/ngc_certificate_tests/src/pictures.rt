@@ -1,7 +1,6 @@
 //! What no clause says: what a picture looks like, that refused memory is told, and that a sink which fails has a beginning of
 //! the text.
 use crate::checks::{holds, same};
-use crate::devices::failing_after;
 use crate::given::{BESIDE_THE_LINE, machine_with};
 use linked_list_allocator::LocalHeap;
 use ngc_canonical::{Command, interpret};
@@ -10,6 +9,7 @@ use ngc_drawing::{Refusal, View, write_svg};
 use ngc_fixed_length::Device;
 use ngc_line_reader::Program;
 use ngc_machine::{Machine, Tools};
+use ngc_test_devices::FailingSink;
 use std::alloc::Global;
 use std::process::Abort;
 use std::test::Fail;
@@ -473,7 +473,7 @@ fn comes_whole_or_begins(
     whole: &[u8],
     calls: usize,
 ) {
-    let mut sink = failing_after(alloc, calls, 100);
+    let mut sink = FailingSink::new(alloc, calls, 100);
     let none = Motions::new(alloc);
     let result = write_svg(
         alloc,

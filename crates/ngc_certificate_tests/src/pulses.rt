@@ -1,11 +1,11 @@
 //! The pulses of runs as value change dumps.
 use crate::checks::{holds, same};
-use crate::devices::failing_after;
 use crate::running::accepted_on;
 use ngc_events::read_events;
 use ngc_fixed_length::Device;
 use ngc_machine::Machine;
 use ngc_run_log::{write_pulses, write_pulses_through};
+use ngc_test_devices::FailingSink;
 use std::alloc::Global;
 use std::process::Abort;
 use std::test::Fail;
@@ -145,7 +145,7 @@ fn comes_whole_or_begins(
     calls: usize,
 ) -> Result<bool, Fail> {
     let accepted = accepted_on(alloc, machine, program)?;
-    let mut sink = failing_after(alloc, calls, 1_000);
+    let mut sink = FailingSink::new(alloc, calls, 1_000);
     let result = write_pulses_through(alloc, accepted, false, &mut sink);
     holds(rt, &calls, whole.starts_with(sink.taken.as_slice()));
     same(

@@ -1,11 +1,11 @@
 //! What no clause says: that certificates are read, that what a text announces takes no memory, that memory which is
 //! refused is told, and when no more is pulled.
 use crate::checks::{holds, same};
-use crate::devices::{EndlessSource, SlowSource};
 use crate::given::piece;
 use linked_list_allocator::LocalHeap;
 use ngc_certificate_text::{Certificate, CertificateFault, Cut, Piece, Setting};
 use ngc_fixed_length::{Device, Nm, Point2};
+use ngc_test_devices::{EndlessSource, SlowSource};
 use std::alloc::{AllocError, Global};
 use std::test::Fail;
 
@@ -287,12 +287,7 @@ const PULLS: &[usize] = &[1, 7, 100_000];
 fn fails_at_each_byte(rt: HostRuntime) {
     for most in PULLS {
         for failing in 0..SAMPLE.len() + 3 {
-            let mut source = SlowSource {
-                rest: SAMPLE,
-                most: *most,
-                failing,
-                failures: 0,
-            };
+            let mut source = SlowSource::new(SAMPLE, *most, failing);
             let fault = Certificate::read(rt.alloc(), &mut source).err();
             // The end of the text is a pull too.
             let wanted = if failing <= SAMPLE.len() {
@@ -349,11 +344,7 @@ const ENDLESS: &[(&[u8], u8, CertificateFault)] = &[
 #[test]
 fn no_more_is_pulled(rt: HostRuntime) {
     for (text, byte, wanted) in ENDLESS {
-        let mut source = EndlessSource {
-            text,
-            byte: *byte,
-            pulls: 0,
-        };
+        let mut source = EndlessSource::new(text, *byte);
         let fault = Certificate::read(rt.alloc(), &mut source).err();
         same(&rt, &"fault", &fault, &Some(*wanted));
         same(&rt, &wanted, &source.pulls, &1);

@@ -6,11 +6,11 @@ ghost use Rattle.ngc_fixed_length.specs.Signed.{is_within};
 ghost use Rattle.ngc_certificate_text.specs.Certificate.{CUT_LIMIT, good_cut, good_piece};
 
 use crate::checks::{holds, same};
-use crate::devices::failing_after;
 use crate::given::piece;
 use linked_list_allocator::LocalHeap;
 use ngc_certificate_text::{Certificate, Cut, Motions, Piece, Setting};
 use ngc_fixed_length::{Device, Nm, Point2};
+use ngc_test_devices::FailingSink;
 use std::alloc::{Allocator, Global};
 use std::process::Abort;
 use std::test::Fail;
@@ -199,7 +199,7 @@ fn motions_as_they_were_pushed(rt: HostRuntime) -> Result<(), Fail> {
 fn a_sink_that_fails_has_a_beginning(rt: HostRuntime) -> Result<(), Fail> {
     let certificate = short_traverse(rt.alloc())?;
     for calls in 0..=SHORT_TRAVERSE.len() {
-        let mut sink = failing_after(rt.alloc(), calls, 1);
+        let mut sink = FailingSink::new(rt.alloc(), calls, 1);
         let result = certificate.write(&mut sink);
         same(
             &rt,
@@ -251,7 +251,7 @@ fn comes_whole_or_begins(
     whole: &[u8],
     calls: usize,
 ) {
-    let mut sink = failing_after(alloc, calls, 1_000);
+    let mut sink = FailingSink::new(alloc, calls, 1_000);
     let result = certificate.write(&mut sink);
     holds(rt, &calls, whole.starts_with(sink.taken.as_slice()));
     same(

@@ -2,65 +2,12 @@
 //! the contract knows no bytes.
 use crate::checks::{holds, same};
 use linked_list_allocator::LocalHeap;
-use ngc_fixed_length::{Device, DeviceFault, Source};
+use ngc_fixed_length::{Device, Source};
 use ngc_input::{CHUNK, InputFault, read_whole};
+use ngc_test_devices::{EndlessSource, SlowSource};
 use std::alloc::{AllocError, Allocator, Global};
 use std::process::Abort;
 use std::test::Fail;
-
-// Gives at most so many bytes a pull, and fails in place of the byte at `failing`.
-#[derive(Drop)]
-struct SlowSource<'a> {
-    rest: &'a [u8],
-    most: usize,
-    failing: usize,
-    failures: u64,
-}
-
-impl Source for SlowSource<'_> {
-    ghost use Rattle.std.specs.Prelude.{None};
-
-    ghost remaining = { λ _. None };
-
-    ghost failures = { λ s. s.failures };
-
-    fn pull(&mut self, buf: &mut [u8]) -> Result<usize, DeviceFault> {
-        if self.failing == 0 {
-            self.failures = self.failures.saturating_add(1);
-            return Err(DeviceFault);
-        }
-        let count = self
-            .rest
-            .len()
-            .min(buf.len())
-            .min(self.most)
-            .min(self.failing);
-        let (now, later) = self.rest.split_at(count);
-        buf[..count].copy_from_slice(now);
-        self.rest = later;
-        self.failing -= count;
-        Ok(count)
-    }
-}
-
-// Fills each buffer, and never ends.
-#[derive(Drop)]
-struct EndlessSource {
-    given: u64,
-}
-
-impl Source for EndlessSource {
-    ghost use Rattle.std.specs.Prelude.{None};
-
-    ghost remaining = { λ _. None };
-
-    ghost failures = { λ _. 0 };
-
-    fn pull(&mut self, buf: &mut [u8]) -> Result<usize, DeviceFault> {
-        self.given = self.given.saturating_add(buf.len() as u64);
-        Ok(buf.len())
-    }
-}
 
 // A file of so many bytes, which go on from 0 to 250 and again.
 fn file_of(alloc: Global, len: usize) -> Result<Vec<u8>, AllocError> {
@@ -121,7 +68,7 @@ const LIMITS: &[usize] = &[0, 1_000_000];
 #[test]
 fn a_file_without_end(rt: HostRuntime) {
     for limit in LIMITS {
-        let mut source = EndlessSource { given: 0 };
+        let mut source = EndlessSource::new(b"", 0);
         let fault = read_whole(rt.alloc(), &mut source, *limit).err();
         same(&rt, limit, &fault, &Some(InputFault::TooLong));
         holds(&rt, limit, source.given <= (*limit + CHUNK) as u64);
@@ -135,12 +82,7 @@ fn is_read_slowly(
     (most, failing): (usize, usize),
     limit: usize,
 ) -> (Result<bool, InputFault>, u64) {
-    let mut source = SlowSource {
-        rest: text,
-        most,
-        failing,
-        failures: 0,
-    };
+    let mut source = SlowSource::new(text, most, failing);
     let read = is_read(alloc, &mut source, text, limit);
     (read, source.failures)
 }

@@ -1,7 +1,8 @@
 //! What no clause of `ngc_setup_sheet` says: the text of whole sheets, and that calls succeed.
-use ngc_fixed_length::{Device, DeviceFault, Sink, WriteFault};
+use ngc_fixed_length::{Device, WriteFault};
 use ngc_machine::{Machine, Tools, row_machine};
 use ngc_setup_sheet::write_sheet;
+use ngc_test_devices::FailingSink;
 use std::alloc::Global;
 use std::test::Fail;
 
@@ -317,45 +318,12 @@ fn changes_are_told(rt: HostRuntime) -> Result<(), Fail> {
     Ok(())
 }
 
-// Takes so many pieces of 700 bytes at most, and then fails.
-#[derive(Drop)]
-struct FailingSink {
-    taken: Vec<u8>,
-    calls_left: usize,
-    failures: u64,
-}
-
-impl Sink for FailingSink {
-    ghost use Rattle.std.specs.Prelude.{None};
-
-    ghost written = { λ _. None };
-
-    ghost failures = { λ s. s.failures };
-
-    fn push(&mut self, buf: &[u8]) -> Result<usize, DeviceFault> {
-        if buf.is_empty() {
-            return Ok(0);
-        }
-        let count = buf.len().min(700);
-        if self.calls_left == 0 || self.taken.extend_from_slice(&buf[..count]).is_err() {
-            self.failures = self.failures.saturating_add(1);
-            return Err(DeviceFault);
-        }
-        self.calls_left -= 1;
-        Ok(count)
-    }
-}
-
 #[test]
 fn a_sink_that_fails(rt: HostRuntime) -> Result<(), Fail> {
     let machine = Machine::read(rt.alloc(), MILL.as_bytes())?;
     let tools = Tools::read(rt.alloc(), HELD.as_bytes())?;
     for calls in 0..3 {
-        let mut sink = FailingSink {
-            taken: Vec::new(rt.alloc()),
-            calls_left: calls,
-            failures: 0,
-        };
+        let mut sink = FailingSink::new(rt.alloc(), calls, 700);
         let outcome = write_sheet(&machine, tools.tools(), &mut sink);
         let taken = sink.taken.as_slice();
         assert!(rt; MILL_SHEET.as_bytes().starts_with(taken), "{calls}");

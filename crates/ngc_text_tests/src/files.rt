@@ -1,9 +1,9 @@
 use crate::checks::{holds, same};
-use crate::devices::SlowSource;
 use crate::values::value;
 use linked_list_allocator::LocalHeap;
 use ngc_fixed_length::{Device, Value};
 use ngc_line_reader::{FaultKind, Letter, Line, LineFault, Operator, Program, ReadFault, Symbol};
+use ngc_test_devices::SlowSource;
 use std::alloc::Global;
 use std::process::Abort;
 use std::test::Fail;
@@ -18,12 +18,7 @@ fn read_slowly(
     most: usize,
     failing: usize,
 ) -> Result<Program<Global>, ReadFault> {
-    let mut source = SlowSource {
-        rest: bytes,
-        most,
-        failing,
-        failures: 0,
-    };
+    let mut source = SlowSource::new(bytes, most, failing);
     Program::read(alloc, &mut source)
 }
 

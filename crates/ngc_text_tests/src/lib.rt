@@ -8,8 +8,6 @@ mod chunks;
 #[cfg(test)]
 mod cycles;
 #[cfg(test)]
-mod devices;
-#[cfg(test)]
 mod files;
 #[cfg(test)]
 mod frames;

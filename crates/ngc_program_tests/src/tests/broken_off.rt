@@ -4,41 +4,13 @@ use super::checks::same;
 use super::{
     LIST, MACHINE, RUN, Texts, certify_options, comes_to, on_the_mill, outcome_of, status_of,
 };
-use ngc_fixed_length::{Device, DeviceFault, Source};
+use ngc_fixed_length::Device;
 use ngc_line_reader::ReadFault;
 use ngc_simulator::{Files, ListOptions, Options};
+use ngc_test_devices::SlowSource;
 use std::alloc::Global;
 use std::process::Abort;
 use std::test::Fail;
-
-// Gives a byte a pull, and fails in place of the byte at `failing`.
-#[derive(Drop)]
-struct FailingText<'a> {
-    rest: &'a [u8],
-    failing: usize,
-    failures: u64,
-}
-
-impl Source for FailingText<'_> {
-    ghost use Rattle.std.specs.Prelude.{None};
-
-    ghost remaining = { λ _. None };
-
-    ghost failures = { λ s. s.failures };
-
-    fn pull(&mut self, buf: &mut [u8]) -> Result<usize, DeviceFault> {
-        if self.failing == 0 {
-            self.failures = self.failures.saturating_add(1);
-            return Err(DeviceFault);
-        }
-        let count = self.rest.len().min(buf.len()).min(1);
-        let (now, later) = self.rest.split_at(count);
-        buf[..count].copy_from_slice(now);
-        self.rest = later;
-        self.failing -= count;
-        Ok(count)
-    }
-}
 
 #[derive(Clone, Copy, Debug, PartialEq, Eq)]
 enum Named {
@@ -49,7 +21,7 @@ enum Named {
     Events,
 }
 
-// Files of which one fails.
+// Files of which one fails in place of a byte, and which give a byte a pull.
 #[derive(Drop)]
 struct FailingFiles<'a> {
     texts: Texts<'a>,
@@ -60,13 +32,13 @@ struct FailingFiles<'a> {
 impl<'a> Files for FailingFiles<'a> {
     ghost use Rattle.std.specs.Prelude.{None};
 
-    type R = FailingText<'a>;
+    type R = SlowSource<'a>;
 
     ghost failures = { λ _. 0 };
 
     ghost bytes = { λ _ _. None };
 
-    fn source(&mut self, name: Option<&str>) -> Result<FailingText<'a>, ReadFault> {
+    fn source(&mut self, name: Option<&str>) -> Result<SlowSource<'a>, ReadFault> {
         let (rest, file) = match name {
             Some("machine") => (self.texts.machine, Named::Machine),
             Some("tools") => (self.texts.tools, Named::Tools),
@@ -79,11 +51,7 @@ impl<'a> Files for FailingFiles<'a> {
         } else {
             usize::MAX
         };
-        Ok(FailingText {
-            rest,
-            failing,
-            failures: 0,
-        })
+        Ok(SlowSource::new(rest, 1, failing))
     }
 }
 

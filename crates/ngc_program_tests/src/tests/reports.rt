@@ -1,9 +1,9 @@
 //! `ngc report`: whole texts, with figures that were reckoned by hand.
 use super::checks::{holds, same};
-use super::sinks::FailingSink;
 use super::{MACHINE, Outcome, SomeFiles, TOOLS, Texts, on_the_mill, outcome_of, status_of};
 use ngc_fixed_length::Device;
 use ngc_simulator::{Options, ReportOptions};
+use ngc_test_devices::FailingSink;
 use std::alloc::Global;
 use std::process::Abort;
 
@@ -52,6 +52,33 @@ low = [40000000, 0, -100000000]
 high = [60000000, 20000000, -5000000]
 ";
 
+// A plate that was meant to be 50 mm thick.
+const THIN: &str = "version = 1
+step = 10000
+ticks_per_second = 1000
+max_rate = 1000000
+change = 1000000
+corner = 1000000
+turn = 1000000000
+low = [0, 0, -100000000]
+high = [300000000, 300000000, 0]
+start = [0, 0, 0]
+home28 = [0, 0, 0]
+home30 = [0, 0, 0]
+[[fixture]]
+low = [40000000, 0, -100000000]
+high = [40000050, 20000000, -5000000]
+";
+
+const THIN_REPORT: &str =
+    "The program fits: every position is inside the travel and clear of every fixture.
+X from 0 mm to 0 mm, 0 mm left below and 300 mm left above.
+Y from 0 mm to 0 mm, 0 mm left below and 300 mm left above.
+Z from 0 mm to 0 mm, 100 mm left below and 0 mm left above.
+It takes 1 ticks, 0:00:00.001 at 1000 ticks a second.
+warning: fixture 0 is thinner than 0.1 mm: its corners are in nanometres
+";
+
 // 3000 path steps, a tool, 1000 path steps, half a second, and the end: 3000 + 1 + 1000 + 500 + 1 ticks. Tool 1 reaches 3 mm to
 // each side.
 const TWO_USES: &str = "G0 X30\nT1 M6\nG0 X20\nG4 P0.5\nM2\n";
@@ -91,6 +118,7 @@ Y from 0 mm to 0 mm, 0 mm left below and 300 mm left above.
 Z from 0 mm to 0 mm, 100 mm left below and 0 mm left above.
 Command 0 of line 1, with no tool, from X 0 mm, Y 0 mm, Z 0 mm to X 302.5 mm, Y 0 mm, Z 0 mm.
 It leaves the travel above X: 2.5 mm too far.
+Line 1: G0 X302.5
 ";
 
 const INTO_THE_CLAMP: &str = "The program does not fit.
@@ -99,6 +127,24 @@ Y from 0 mm to 0 mm, 0 mm left below and 300 mm left above.
 Z from -10 mm to 0 mm, 90 mm left below and 0 mm left above.
 Command 2 of line 3, with tool 1, from X 0 mm, Y 0 mm, Z -10 mm to X 50 mm, Y 0 mm, Z -10 mm.
 It meets fixture 0, from X 40 mm, Y 0 mm, Z -100 mm to X 60 mm, Y 20 mm, Z -5 mm.
+Line 3: X50
+";
+
+// 100 + 100 + 100 path steps, a tool, 10000 + 1000 + 5000 + 5000 path steps, and the end. The machine makes 600 mm a minute. Home
+// is reached from below the clamp's top, beside the clamp.
+const WARNED: &str = "G0 Z-1\nF601 G1 X1\nG0 Z0\nT1 M6\nG0 Y100\nZ-10\nG28 Y50\nM2\n";
+
+const WARNED_REPORT: &str =
+    "The program fits: every position is inside the travel and clear of every fixture.
+X from 0 mm to 1 mm, 0 mm left below and 299 mm left above.
+Y from 0 mm to 100 mm, 0 mm left below and 200 mm left above.
+Z from -10 mm to 0 mm, 90 mm left below and 0 mm left above.
+With no tool: traverses 2, feeds 1, arcs 0, dwells 0, stops 0; nearest fixture 0, 39 mm away.
+With tool 1: traverses 4, feeds 0, arcs 0, dwells 0, stops 0; nearest fixture 0, 36 mm away.
+It takes 21302 ticks, 0:00:21.302 at 1000 ticks a second.
+warning: motions without a tool, away from the height of the start: 3, the first in line 1.
+warning: feeds above the greatest speed of the machine: 1, the first in line 2.
+warning: traverses home along X or Y, below the top of a fixture: 1, the first in line 7.
 ";
 
 // With block delete off it goes to 200, 50 and 200 mm; with it on to 200 and 350 mm.
@@ -111,6 +157,7 @@ Y from 0 mm to 0 mm, 0 mm left below and 300 mm left above.
 Z from 0 mm to 0 mm, 100 mm left below and 0 mm left above.
 Command 1 of line 4, with no tool, from X 200 mm, Y 0 mm, Z 0 mm to X 350 mm, Y 0 mm, Z 0 mm.
 It leaves the travel above X: 50 mm too far.
+Line 4: G0 X150
 ";
 
 const STARTS_WITHIN: &str = "The program does not fit.
@@ -125,6 +172,8 @@ It meets fixture 0, from X 40 mm, Y 0 mm, Z -100 mm to X 60 mm, Y 20 mm, Z -5 mm
 const REPORTS: &[(&str, &str, u8, &str, &str)] = &[
     (QUICK, TWO_USES, 0, TWO_USES_REPORT, ""),
     (QUICK, DELETED, 0, DELETED_REPORT, ""),
+    (QUICK, WARNED, 0, WARNED_REPORT, ""),
+    (THIN, "M2\n", 0, THIN_REPORT, ""),
     (
         MACHINE,
         "G0 X302.5\nM2\n",
@@ -157,7 +206,7 @@ const REPORTS: &[(&str, &str, u8, &str, &str)] = &[
         MACHINE,
         "G0 X[1/0]\nM2\n",
         3,
-        "",
+        "The program is refused.\nLine 1: G0 X[1/0]\n",
         "ngc: fault 311 setting off fault 102 line 1\n",
     ),
     ("", "M2\n", 3, "", "ngc: fault 269 machine\n"),
@@ -190,7 +239,7 @@ fn a_program_that_is_not_there(rt: HostRuntime) {
 
 fn breaks_off_after(rt: &impl Abort, alloc: Global, texts: Texts<'_>, whole: &str, calls: usize) {
     let mut files = SomeFiles { texts, failures: 0 };
-    let mut sink = FailingSink::new(alloc, calls);
+    let mut sink = FailingSink::new(alloc, calls, 1);
     let mut errors = Device::new(Vec::new(alloc));
     let options = Options::Report(report_options(None));
     let status = status_of(alloc, &options, &mut files, &mut sink, &mut errors);

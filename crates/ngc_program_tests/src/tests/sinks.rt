@@ -4,52 +4,15 @@ use super::checks::{holds, same};
 use super::jobs::{End, Job};
 use super::runs::{SHORT_WAY_EVENTS, SHORT_WAY_LOG, certificate_of};
 use super::{NO_TEXTS, RUN, SHORT_WAY, SomeFiles, Texts, on_the_mill, outcome_of, status_of};
-use ngc_fixed_length::{Device, DeviceFault, Sink};
+use ngc_fixed_length::Device;
 use ngc_simulator::Options;
+use ngc_test_devices::FailingSink;
 use std::alloc::Global;
 use std::process::Abort;
 
-// Takes one byte a call, some calls long, and fails at the next.
-#[derive(Drop)]
-pub(super) struct FailingSink {
-    pub(super) taken: Vec<u8>,
-    calls_left: usize,
-    failures: u64,
-}
-
-impl FailingSink {
-    pub(super) fn new(alloc: Global, calls: usize) -> FailingSink {
-        FailingSink {
-            taken: Vec::new(alloc),
-            calls_left: calls,
-            failures: 0,
-        }
-    }
-}
-
-impl Sink for FailingSink {
-    ghost use Rattle.std.specs.Prelude.{Some};
-
-    ghost written = { λ s. Some s.taken.items };
-
-    ghost failures = { λ s. s.failures };
-
-    fn push(&mut self, buf: &[u8]) -> Result<usize, DeviceFault> {
-        let Some(first) = buf.first() else {
-            return Ok(0);
-        };
-        if self.calls_left == 0 || self.taken.push(*first).is_err() {
-            self.failures = self.failures.saturating_add(1);
-            return Err(DeviceFault);
-        }
-        self.calls_left -= 1;
-        Ok(1)
-    }
-}
-
 // What a job has written once its sink has taken so many bytes.
 fn breaks_off_after(rt: &impl Abort, alloc: Global, job: Job<'_>, whole: &[u8], calls: usize) {
-    let mut sink = FailingSink::new(alloc, calls);
+    let mut sink = FailingSink::new(alloc, calls, 1);
     let (ending, failures) = if calls == whole.len() {
         (End::Done, 0)
     } else {
@@ -88,7 +51,7 @@ fn log_breaks_off_after(
     calls: usize,
 ) {
     let mut files = SomeFiles { texts, failures: 0 };
-    let mut sink = FailingSink::new(alloc, calls);
+    let mut sink = FailingSink::new(alloc, calls, 1);
     let mut errors = Device::new(Vec::new(alloc));
     let options = Options::Run(RUN);
     let status = status_of(alloc, &options, &mut files, &mut sink, &mut errors);
@@ -133,7 +96,7 @@ fn guide_breaks_off_after(
         texts: NO_TEXTS,
         failures: 0,
     };
-    let mut sink = FailingSink::new(alloc, calls);
+    let mut sink = FailingSink::new(alloc, calls, 1);
     let mut errors = Device::new(Vec::new(alloc));
     let status = status_of(alloc, options, &mut files, &mut sink, &mut errors);
     holds(rt, &calls, whole.starts_with(sink.taken.as_slice()));

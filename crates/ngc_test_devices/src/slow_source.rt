@@ -1,13 +1,26 @@
-//! Sources of which the contracts know nothing.
 use ngc_fixed_length::{DeviceFault, Source};
 
-// Gives at most so many bytes a pull, and fails in place of the byte at `failing`.
+/// Gives a text slowly, and fails in place of one of its bytes or of its end.
 #[derive(Drop)]
 pub struct SlowSource<'a> {
-    pub rest: &'a [u8],
-    pub most: usize,
-    pub failing: usize,
+    rest: &'a [u8],
+    most: usize,
+    failing: usize,
+    /// How many pulls failed so far.
     pub failures: u64,
+}
+
+impl<'a> SlowSource<'a> {
+    /// Gives at most `most` bytes of `text` a pull, and fails in place of the byte at `failing`, and at each pull from then
+    /// on. At the text's length it fails in place of the end, and at a greater number never.
+    pub fn new(text: &'a [u8], most: usize, failing: usize) -> SlowSource<'a> {
+        SlowSource {
+            rest: text,
+            most,
+            failing,
+            failures: 0,
+        }
+    }
 }
 
 impl Source for SlowSource<'_> {
