@@ -23,3 +23,4 @@ mod Examples
 pub mod ArcEnds
 pub mod SomeMade
 pub mod Oks
+pub mod UnclearedLaws

@@ -23,7 +23,7 @@ whole_or_none : (machine : MachineFile) (most : ℕ) (tool : Option Tool) (a : A
 whole_or_none machine most tool a true e = (Some (pieces_of machine.step (Arc a) 1), whole_stands machine most tool a (pieces_of machine.step (Arc a) 1) refl e)
 whole_or_none machine most tool a false e = (None, none_stands machine most tool a e)
 
-some_found : (machine : MachineFile) (most : ℕ) (tool : Option Tool) (w : Way) → (found : Option (List Piece)) × MayFind machine most tool w found
+pub some_found : (machine : MachineFile) (most : ℕ) (tool : Option Tool) (w : Way) → (found : Option (List Piece)) × MayFind machine most tool w found
 some_found machine most tool (Line b e) = (cleared machine most tool (Line b e), refl)
 some_found machine most tool (Arc a) = whole_or_none machine most tool a (is_clear_in machine tool (Arc a) 1) refl
 

@@ -9,5 +9,6 @@ pub mod Covered
 pub mod Made
 pub mod Common
 pub mod Making
+pub mod Uncleared
 pub mod Shared
 pub mod PieceJudging

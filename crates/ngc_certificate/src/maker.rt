@@ -32,8 +32,12 @@ struct Progress<A: Allocator> {
     place: Point3,
 }
 
-// Whether the tool's body is clear of all fixtures where the axes stand at a place.
-fn is_clear_at<A: Allocator>(machine: &Machine<A>, tool: &Option<Tool>, place: &Point3) -> bool
+/// Whether the tool's body is clear of all fixtures where the axes stand at a place.
+pub(crate) fn is_clear_at<A: Allocator>(
+    machine: &Machine<A>,
+    tool: &Option<Tool>,
+    place: &Point3,
+) -> bool
     ensures { result ≡ is_clear_at (file_of machine.now) tool.now place.now }
 {
     place_fault(machine, *tool, &place.to_grid(machine.step)).is_none()

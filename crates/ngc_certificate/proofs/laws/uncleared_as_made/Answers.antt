@@ -1,0 +1,8 @@
+use Rattle.ngc_certificate.proofs.UnclearedLaws.{made_says, none_made}
+use Rattle.ngc_certificate.proofs.laws.uncleared_as_made.Goals as goal
+
+pub returns-clause-says : goal.returns-clause-says
+returns-clause-says c = made_says
+
+pub returns-clause-made : goal.returns-clause-made
+returns-clause-made c = none_made
