@@ -18,6 +18,8 @@ mod joining;
 #[cfg(test)]
 mod making;
 #[cfg(test)]
+mod not_cleared;
+#[cfg(test)]
 mod pictures;
 #[cfg(test)]
 mod pieces;
