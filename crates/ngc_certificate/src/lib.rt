@@ -1,4 +1,4 @@
-//! Certificates for the motions of a program: which pieces hold them, and the maker.
+//! Certificates for the motions of a program: which pieces hold them, the maker, and which commands aren't cleared.
 #![tactic(auto)]
 
 mod bounds;

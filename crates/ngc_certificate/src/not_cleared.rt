@@ -65,9 +65,9 @@ impl Reached {
 
 /// Every command that isn't cleared on a machine, by its index from 0, in order; or 900.
 ///
-/// These are the motions for which `make` finds no pieces with the same `cuts`, and the tool changes at which the tool's body
-/// meets a fixture. Such a motion is taken to reach its end all the same, and such a tool to be mounted. A start point that isn't
-/// clear is no command, and isn't told here. `cuts` is at least 1, and there are at most a million commands.
+/// These are the motions for which no pieces are found, tried as `make` does with the same `cuts`, and the tool changes at which
+/// the tool's body meets a fixture. Such a motion is taken to reach its end all the same, and such a tool to be mounted. A start
+/// point that isn't clear is no command, and isn't told here. `cuts` is at least 1, and there are at most a million commands.
 ///
 /// Memory is taken for the answer and for the pieces of one motion.
 pub fn uncleared<A: Allocator + Copy>(
