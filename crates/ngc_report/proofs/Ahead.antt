@@ -9,77 +9,84 @@ use Rattle.ngc_fixed_length.specs.declared.writing.WriteFault.{WriteFault}
 use Rattle.ngc_output.specs.Collected.{WritesFront}
 use Rattle.ngc_certificate_text.proofs.Fronts.{front_more, front_stopped, longer, all_written, beginning_written}
 use Rattle.ngc_report.specs.Reports.{Tells}
-use Rattle.ngc_report.specs.Words.{line_text, report_text}
+use Rattle.ngc_report.specs.Forms.{spelled, report_text}
+use Rattle.ngc_report.specs.declared.form.Form.{Form}
 use Rattle.ngc_report.specs.declared.line.Line.{Line}
 
 -- of a whole some lines are told, and the rest is still to come
-pub record Ahead (old now : Option (List ℕ)) (before chunk : List ℕ) (rest whole : List Line) : Type 0 where
+pub record Ahead (f : Form) (old now : Option (List ℕ)) (before chunk : List ℕ) (rest whole : List Line) : Type 0 where
   pub done : List Line
   pub splits : whole ≡ done ++ rest
-  pub front : WritesFront old now (before ++ report_text done) chunk
+  pub front : WritesFront old now (before ++ report_text f done) chunk
 
-joined : (before : List ℕ) (a b : List Line) → (before ++ report_text a) ++ report_text b ≡ before ++ report_text (a ++ b)
-joined before a b =
-    append_assoc before (report_text a) (report_text b) ∙ ap (λ l. before ++ l) (sym (flat_map-append line_text a b))
+joined : (f : Form) (before : List ℕ) (a b : List Line) → (before ++ report_text f a) ++ report_text f b ≡ before ++ report_text f (a ++ b)
+joined f before a b =
+    append_assoc before (report_text f a) (report_text f b) ∙ ap (λ l. before ++ l) (sym (flat_map-append (spelled f) a b))
 
 -- nothing is told yet
 pub appends_none : (o : Option (List ℕ)) → Appends o o []
 appends_none None = tt
 appends_none (Some xs) = sym (append-nil xs)
 
-pub begun : (old : Option (List ℕ)) (before : List ℕ) (whole : List Line) → Ahead old old before before whole whole
-begun old before whole = record { done = []; splits = refl; front = ([], appends_none old, append-nil before) }
+pub begun : (f : Form) (old : Option (List ℕ)) (before : List ℕ) (whole : List Line) → Ahead f old old before before whole whole
+begun f old before whole = record { done = []; splits = refl; front = ([], appends_none old, append-nil before) }
 
 -- some more are told
-pub went : (old mid new : Option (List ℕ)) (before between after : List ℕ) (more rest left whole : List Line) → left ≡ more ++ rest
-    → Ahead old mid before between left whole → WritesFront mid new (between ++ report_text more) after → Ahead old new before after rest whole
-went old mid new before between after more rest left whole is h k = record {
+pub went : (f : Form) (old mid new : Option (List ℕ)) (before between after : List ℕ) (more rest left whole : List Line) → left ≡ more ++ rest
+    → Ahead f old mid before between left whole → WritesFront mid new (between ++ report_text f more) after → Ahead f old new before after rest whole
+went f old mid new before between after more rest left whole is h k = record {
   done = h.done ++ more;
   splits = h.splits ∙ ap (λ l. h.done ++ l) is ∙ sym (append_assoc h.done more rest);
   front =
-      subst (λ (l : List ℕ). WritesFront old new l after) (joined before h.done more)
-      (front_more old mid new (before ++ report_text h.done) between after (report_text more) h.front k);
+      subst (λ (l : List ℕ). WritesFront old new l after) (joined f before h.done more)
+      (front_more old mid new (before ++ report_text f h.done) between after (report_text f more) h.front k);
 }
 
 -- a write fails while they are told
-pub stopped : (old mid new : Option (List ℕ)) (before between : List ℕ) (more rest left whole : List Line) → left ≡ more ++ rest
-    → Ahead old mid before between left whole → AppendsBeginning mid new (between ++ report_text more) → AppendsBeginning old new (before ++ report_text whole)
-stopped old mid new before between more rest left whole is h k =
-    let so_far : AppendsBeginning old new (before ++ report_text (h.done ++ more)) =
-    subst (λ (l : List ℕ). AppendsBeginning old new l) (joined before h.done more)
-    (front_stopped old mid new (before ++ report_text h.done) between (report_text more) h.front k) in
+pub stopped : (f : Form) (old mid new : Option (List ℕ)) (before between : List ℕ) (more rest left whole : List Line) → left ≡ more ++ rest
+    → Ahead f old mid before between left whole → AppendsBeginning mid new (between ++ report_text f more) → AppendsBeginning old new (before ++ report_text f whole)
+stopped f old mid new before between more rest left whole is h k =
+    let so_far : AppendsBeginning old new (before ++ report_text f (h.done ++ more)) =
+    subst (λ (l : List ℕ). AppendsBeginning old new l) (joined f before h.done more)
+    (front_stopped old mid new (before ++ report_text f h.done) between (report_text f more) h.front k) in
     let all : (h.done ++ more) ++ rest ≡ whole = append_assoc h.done more rest ∙ ap (λ l. h.done ++ l) (sym is) ∙ sym h.splits in
-    subst (λ (l : List ℕ). AppendsBeginning old new l) (joined before (h.done ++ more) rest ∙ ap (λ l. before ++ report_text l) all)
-    (longer old new (before ++ report_text (h.done ++ more)) (report_text rest) so_far)
+    subst (λ (l : List ℕ). AppendsBeginning old new l) (joined f before (h.done ++ more) rest ∙ ap (λ l. before ++ report_text f l) all)
+    (longer old new (before ++ report_text f (h.done ++ more)) (report_text f rest) so_far)
 
 -- the last are told, or not
-pub last : (r : Result (Unit {0}) WriteFault) (old mid new : Option (List ℕ)) (before between after : List ℕ) (left whole : List Line)
-    → Ahead old mid before between left whole → Tells mid new between after r left → Tells old new before after r whole
-last (Ok u) old mid new before between after left whole h k =
-    subst (λ (l : List ℕ). WritesFront old new l after) (joined before h.done left ∙ ap (λ l. before ++ report_text l) (sym h.splits))
-    (front_more old mid new (before ++ report_text h.done) between after (report_text left) h.front k)
-last (Err e) old mid new before between after left whole h k =
-    stopped old mid new before between left [] left whole (sym (append-nil left)) h k
+pub last : (f : Form) (r : Result (Unit {0}) WriteFault) (old mid new : Option (List ℕ)) (before between after : List ℕ) (left whole : List Line)
+    → Ahead f old mid before between left whole → Tells f mid new between after r left → Tells f old new before after r whole
+last f (Ok u) old mid new before between after left whole h k =
+    subst (λ (l : List ℕ). WritesFront old new l after) (joined f before h.done left ∙ ap (λ l. before ++ report_text f l) (sym h.splits))
+    (front_more old mid new (before ++ report_text f h.done) between after (report_text f left) h.front k)
+last f (Err e) old mid new before between after left whole h k =
+    stopped f old mid new before between left [] left whole (sym (append-nil left)) h k
 
 -- ---- three parts, and a whole that is written out
 
-pub first_stopped : (old new : Option (List ℕ)) (before : List ℕ) (a rest : List Line) → AppendsBeginning old new (before ++ report_text a) → AppendsBeginning old new (before ++ report_text (a ++ rest))
-first_stopped old new before a rest k = stopped old old new before before a rest (a ++ rest) (a ++ rest) refl (begun old before (a ++ rest)) k
+pub first_stopped : (f : Form) (old new : Option (List ℕ)) (before : List ℕ) (a rest : List Line) → AppendsBeginning old new (before ++ report_text f a) → AppendsBeginning old new (before ++ report_text f (a ++ rest))
+first_stopped f old new before a rest k = stopped f old old new before before a rest (a ++ rest) (a ++ rest) refl (begun f old before (a ++ rest)) k
 
-first_went : (old new : Option (List ℕ)) (before after : List ℕ) (a rest : List Line) → WritesFront old new (before ++ report_text a) after → Ahead old new before after rest (a ++ rest)
-first_went old new before after a rest k = went old old new before before after a rest (a ++ rest) (a ++ rest) refl (begun old before (a ++ rest)) k
+first_went : (f : Form) (old new : Option (List ℕ)) (before after : List ℕ) (a rest : List Line) → WritesFront old new (before ++ report_text f a) after → Ahead f old new before after rest (a ++ rest)
+first_went f old new before after a rest k = went f old old new before before after a rest (a ++ rest) (a ++ rest) refl (begun f old before (a ++ rest)) k
 
-pub second_stopped : (old mid new : Option (List ℕ)) (before between : List ℕ) (a b rest : List Line) → WritesFront old mid (before ++ report_text a) between
-    → AppendsBeginning mid new (between ++ report_text b) → AppendsBeginning old new (before ++ report_text (a ++ (b ++ rest)))
-second_stopped old mid new before between a b rest h k =
-    stopped old mid new before between b rest (b ++ rest) (a ++ (b ++ rest)) refl (first_went old mid before between a (b ++ rest) h) k
+-- two parts
+pub both : (f : Form) (r : Result (Unit {0}) WriteFault) (old mid new : Option (List ℕ)) (before between after : List ℕ) (a rest : List Line)
+    → WritesFront old mid (before ++ report_text f a) between → Tells f mid new between after r rest → Tells f old new before after r (a ++ rest)
+both f r old mid new before between after a rest h t =
+    last f r old mid new before between after rest (a ++ rest) (first_went f old mid before between a rest h) t
 
-pub all_three : (r : Result (Unit {0}) WriteFault) (old mid next new : Option (List ℕ)) (before between made after : List ℕ) (a b rest : List Line)
-    → WritesFront old mid (before ++ report_text a) between → WritesFront mid next (between ++ report_text b) made → Tells next new made after r rest
-    → Tells old new before after r (a ++ (b ++ rest))
-all_three r old mid next new before between made after a b rest h k t =
-    last r old next new before made after rest (a ++ (b ++ rest))
-    (went old mid next before between made b rest (b ++ rest) (a ++ (b ++ rest)) refl (first_went old mid before between a (b ++ rest) h) k) t
+pub second_stopped : (f : Form) (old mid new : Option (List ℕ)) (before between : List ℕ) (a b rest : List Line) → WritesFront old mid (before ++ report_text f a) between
+    → AppendsBeginning mid new (between ++ report_text f b) → AppendsBeginning old new (before ++ report_text f (a ++ (b ++ rest)))
+second_stopped f old mid new before between a b rest h k =
+    stopped f old mid new before between b rest (b ++ rest) (a ++ (b ++ rest)) refl (first_went f old mid before between a (b ++ rest) h) k
+
+pub all_three : (f : Form) (r : Result (Unit {0}) WriteFault) (old mid next new : Option (List ℕ)) (before between made after : List ℕ) (a b rest : List Line)
+    → WritesFront old mid (before ++ report_text f a) between → WritesFront mid next (between ++ report_text f b) made → Tells f next new made after r rest
+    → Tells f old new before after r (a ++ (b ++ rest))
+all_three f r old mid next new before between made after a b rest h k t =
+    last f r old next new before made after rest (a ++ (b ++ rest))
+    (went f old mid next before between made b rest (b ++ rest) (a ++ (b ++ rest)) refl (first_went f old mid before between a (b ++ rest) h) k) t
 
 from_empty : (old mid : Option (List ℕ)) (chunk text after : List ℕ) → chunk ≡ [] → WritesFront old mid (chunk ++ text) after → WritesFront old mid text after
 from_empty old mid chunk text after is h = subst (λ (l : List ℕ). WritesFront old mid (l ++ text) after) is h

@@ -5,3 +5,5 @@ pub mod Ahead
 pub mod Cuts
 pub mod Lines
 pub mod Counts
+pub mod Splits
+pub mod Causes

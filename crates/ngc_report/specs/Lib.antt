@@ -6,6 +6,8 @@ pub mod Uses
 pub mod Margins
 pub mod Scenes
 pub mod Words
+pub mod Facts
+pub mod Forms
 pub mod Reports
 pub mod Quotes
 pub mod Warnings

@@ -1,7 +1,9 @@
 -- A line of a program as a report shows it. Our own.
-use Rattle.std.specs.Prelude.{ℕ, ◌==◌, nat_lt, List, [], ◌++◌, take, map, codes, decimal, Option, Some, None, ◌&&◌, ◌||◌, if◌then◌else◌}
+use Rattle.std.specs.Prelude.{ℕ, ◌+◌, ◌==◌, nat_lt, min, List, [], ◌∷◌, ◌++◌, take, map, flat_map, replicate, length, codes, decimal, Option, Some, None, option_map, ◌&&◌, ◌||◌, if◌then◌else◌}
 use Rattle.std.specs.List.{find}
 use Rattle.ngc_line_reader.specs.Program.{Line}
+use Rattle.ngc_report.specs.declared.form.Form.{Form}
+use Rattle.ngc_report.specs.declared.form.Form.TheVariants.{Words, Json}
 
 -- What a terminal prints is shown as it is. A tab and a carriage return are shown as a space, and every other byte as a question mark.
 abbrev pub shown : ℕ → ℕ
@@ -15,10 +17,47 @@ line_with number lines = find (λ l. l.number == number) lines
 abbrev pub bytes_text : List ℕ → List ℕ
 bytes_text bytes = map shown (take 256 bytes)
 
-abbrev pub quote : ℕ → Option Line → List ℕ
-quote number None = []
-quote number (Some l) = codes "Line " ++ decimal number ++ codes ": " ++ bytes_text l.bytes ++ codes "\n"
+-- in a JSON string a quotation mark and a backslash stand behind a backslash
+abbrev pub escaped : ℕ → List ℕ
+escaped b = if b == 34 || b == 92 then 92 ∷ b ∷ [] else b ∷ []
+
+abbrev pub words_quote : ℕ → List ℕ → List ℕ
+words_quote number bytes = codes "Line " ++ decimal number ++ codes ": " ++ bytes_text bytes ++ codes "\n"
+
+abbrev pub fact_quote : ℕ → List ℕ → List ℕ
+fact_quote number bytes = codes ",\n{\"fact\":\"line\",\"number\":" ++ decimal number ++ codes ",\"text\":\"" ++ flat_map escaped (bytes_text bytes) ++ codes "\"}"
+
+unfoldable pub quote : Form → ℕ → Option (List ℕ) → List ℕ
+quote form number None = []
+quote Words number (Some bytes) = words_quote number bytes
+quote Json number (Some bytes) = fact_quote number bytes
+
+abbrev pub bytes_with : ℕ → List Line → Option (List ℕ)
+bytes_with number lines = option_map (λ l. l.bytes) (line_with number lines)
 
 -- the line with this number, or nothing where there is none
-abbrev pub quoted : ℕ → List Line → List ℕ
-quoted number lines = quote number (line_with number lines)
+abbrev pub quoted : Form → ℕ → List Line → List ℕ
+quoted form number lines = quote form number (bytes_with number lines)
+
+-- ---- marks
+
+-- how many columns stand in front of a column of a line that is shown behind `Line 3: `; a line has at most 256, and one too long is
+-- marked behind them
+abbrev pub indent : ℕ → ℕ → ℕ
+indent number column = length (decimal number) + min column 257 + 6
+
+unfoldable pub words_mark : ℕ → ℕ → List ℕ
+words_mark number column = replicate (indent number column) 32 ++ codes "^\n"
+
+abbrev pub fact_mark : ℕ → ℕ → List ℕ
+fact_mark number column = codes ",\n{\"fact\":\"mark\",\"line\":" ++ decimal number ++ codes ",\"column\":" ++ decimal column ++ codes "}"
+
+-- a mark below a column, from 1, of the line that is shown above it
+unfoldable pub mark : Form → ℕ → ℕ → List ℕ
+mark Words number column = words_mark number column
+mark Json number column = fact_mark number column
+
+-- a line with the mark, or nothing where there is no such line
+unfoldable pub marked : Form → ℕ → ℕ → Option (List ℕ) → List ℕ
+marked form number column None = []
+marked form number column (Some bytes) = quote form number (Some bytes) ++ mark form number column

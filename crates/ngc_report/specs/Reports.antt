@@ -1,5 +1,5 @@
 -- The lines of reports. Our own.
-use Rattle.std.specs.Prelude.{ℕ, ◌+◌, ℤ, ◌*ℤ◌, List, [], ◌∷◌, ◌++◌, take, drop, Option, Some, None, Result}
+use Rattle.std.specs.Prelude.{ℕ, ◌+◌, ℤ, ◌*ℤ◌, List, [], ◌∷◌, ◌++◌, take, drop, flat_map, Bool, true, false, Option, Some, None, Result}
 use Rattle.ngc_fixed_length.specs.declared.points.GridBox.{GridBox}
 use Rattle.ngc_fixed_length.specs.declared.writing.WriteFault.{WriteFault}
 use Rattle.ngc_machine.specs.Machine.{MachineFile}
@@ -11,7 +11,8 @@ use Rattle.ngc_report.specs.Nearing.{nearest}
 use Rattle.ngc_report.specs.Rooms.{room}
 use Rattle.ngc_report.specs.Scenes.{start_scene, scene_at, obstacle}
 use Rattle.ngc_report.specs.Uses.{tool_uses}
-use Rattle.ngc_report.specs.Words.{report_text}
+use Rattle.ngc_report.specs.Forms.{report_text}
+use Rattle.ngc_report.specs.declared.form.Form.{Form}
 use Rattle.ngc_report.specs.declared.line.Line.{Line}
 use Rattle.ngc_report.specs.declared.line.Line.TheVariants as lines
 use Rattle.ngc_report.specs.declared.margins.Axis.{Axis}
@@ -21,8 +22,8 @@ use Rattle.ngc_report.specs.declared.travel.AxisRoom.{AxisRoom}
 use Rattle.ngc_report.specs.declared.uses.ToolUse.{ToolUse}
 
 -- the text of lines comes behind what was collected; where a write fails, a beginning of both is written
-abbrev pub Tells : Option (List ℕ) → Option (List ℕ) → List ℕ → List ℕ → Result (Unit {0}) WriteFault → List Line → Type 0
-Tells old new before after result told = Collects old new before after result (report_text told)
+abbrev pub Tells : Form → Option (List ℕ) → Option (List ℕ) → List ℕ → List ℕ → Result (Unit {0}) WriteFault → List Line → Type 0
+Tells form old new before after result told = Collects old new before after result (report_text form told)
 
 -- how far a program goes along each axis
 abbrev pub along : Axis → ℤ → ℤ → ℤ → AxisRoom → Line
@@ -65,3 +66,22 @@ cause_lines machine commands (Some k) fixture = scene_lines machine k fixture (s
 abbrev pub refusal_lines : MachineFile → List Command → Option ℕ → Option ℕ → List Line
 refusal_lines machine commands command fixture =
     lines.Refused ∷ (alongs machine (extent machine commands) ++ cause_lines machine commands command fixture)
+
+-- ---- all that is refused
+
+-- each command with one of these indices that is a motion or a change of the tool, with what is in its way
+abbrev pub causes_lines : MachineFile → List Command → List ℕ → List Line
+causes_lines machine commands ks = flat_map (λ k. scene_lines machine k None (scene_at machine commands k)) ks
+
+abbrev pub verdict_line : Bool → List ℕ → Line
+verdict_line false [] = lines.Fits
+verdict_line _ _ = lines.Refused
+
+abbrev pub start_lines_if : MachineFile → Bool → List Line
+start_lines_if machine false = []
+start_lines_if machine true = start_lines machine None
+
+-- of a setting at which these commands are refused, and the start or not
+abbrev pub all_lines : MachineFile → List Command → Bool → List ℕ → List Line
+all_lines machine commands start ks =
+    verdict_line start ks ∷ (alongs machine (extent machine commands) ++ (start_lines_if machine start ++ causes_lines machine commands ks))

@@ -1,9 +1,10 @@
 -- What is in the way of a command. Our own.
-use Rattle.std.specs.Prelude.{ℕ, List, fold, take, slice_get, Option, Some, None, option_map, option_and_then, if◌then◌else◌}
+use Rattle.std.specs.Prelude.{◌≡◌, ◌≤◌, length, ℕ, ℤ, pos, ◌-ℤ◌, int_le, List, fold, take, slice_get, Option, Some, None, option_map, option_and_then, if◌then◌else◌}
 use Rattle.ngc_fixed_length.specs.Boxes.{only}
 use Rattle.ngc_fixed_length.specs.Grid.{grid}
 use Rattle.ngc_fixed_length.specs.declared.points.Point3.{Point3}
 use Rattle.ngc_machine.specs.Machine.{MachineFile}
+use Rattle.ngc_machine.specs.declared.machine.Fixture.{Fixture}
 use Rattle.ngc_machine.specs.declared.tools.Tool.{Tool}
 use Rattle.ngc_canonical.specs.Movement.{actions_of, start_of, end_of}
 use Rattle.ngc_canonical.specs.declared.command.Action.{Action}
@@ -15,9 +16,10 @@ use Rattle.ngc_report.specs.Extents.{reach}
 use Rattle.ngc_report.specs.Margins.{tightest}
 use Rattle.ngc_report.specs.Rooms.{room, is_inside}
 use Rattle.ngc_report.specs.declared.scene.Obstacle.{Obstacle}
-use Rattle.ngc_report.specs.declared.scene.Obstacle.TheVariants.{Travel, Fixture}
+use Rattle.ngc_report.specs.declared.scene.Obstacle.TheVariants as obstacles
 use Rattle.ngc_report.specs.declared.scene.Scene.{Scene}
 use Rattle.ngc_report.specs.declared.scene.Reached.{Reached}
+use Rattle.ngc_report.specs.declared.refusals.Standing.{Standing}
 
 -- the tool that is mounted behind an action, and the place that is reached
 abbrev pub after : Reached → Action → Reached
@@ -25,9 +27,12 @@ after s (Move m) = record { tool = s.tool; place = end_of m.way }
 after s (Mount tool) = record { tool = tool; place = s.place }
 after s _ = s
 
--- and behind commands
+-- and behind some more commands
+abbrev pub gone_on : Reached → List Command → Reached
+gone_on s commands = fold after s (actions_of commands)
+
 abbrev pub standing : MachineFile → List Command → Reached
-standing machine commands = fold after (record { tool = None; place = machine.start }) (actions_of commands)
+standing machine commands = gone_on (record { tool = None; place = machine.start }) commands
 
 -- the axes stand still
 abbrev pub still : MachineFile → ℕ → Option Tool → Point3 → Scene
@@ -52,13 +57,32 @@ scene_of machine s c = scene_by machine s c.line c.action
 abbrev pub scene_at : MachineFile → List Command → ℕ → Option Scene
 scene_at machine commands k = option_and_then (scene_of machine (standing machine (take k commands))) (slice_get commands k)
 
+-- how far the lowest end of a tool lies above the controlled point
+abbrev pub foot : Option Tool → ℤ
+foot None = pos 0
+foot (Some tool) = tool.bottom
+
+-- the height from which on the whole tool is over a fixture
+abbrev pub over_height : Option Tool → Fixture → ℤ
+over_height tool f = f.high.z -ℤ foot tool
+
+-- where that is in the travel
+abbrev pub over : MachineFile → Option Tool → Fixture → Option ℤ
+over machine tool f = if int_le (over_height tool f) machine.high.z then Some (over_height tool f) else None
+
 -- a fixture by its number
-abbrev pub named : MachineFile → ℕ → Option Obstacle
-named machine i = option_map (Fixture i) (slice_get machine.fixtures i)
+abbrev pub named : MachineFile → Option Tool → ℕ → Option Obstacle
+named machine tool i =
+    option_map (λ f. obstacles.Fixture (record { number = i; fixture = f; over = over machine tool f })) (slice_get machine.fixtures i)
 
 -- the fixture that is named; else the side of the travel that is left, or the first fixture that is met
 abbrev pub obstacle : MachineFile → Scene → Option ℕ → Option Obstacle
-obstacle machine scene (Some i) = named machine i
+obstacle machine scene (Some i) = named machine scene.tool i
 obstacle machine scene None =
-    if is_inside (room machine scene.bounds) then option_and_then (named machine) (first_met machine scene.tool scene.bounds)
-    else Some (Travel (tightest (room machine scene.bounds)))
+    if is_inside (room machine scene.bounds) then option_and_then (named machine scene.tool) (first_met machine scene.tool scene.bounds)
+    else Some (obstacles.Travel (tightest (room machine scene.bounds)))
+
+-- the machine stands so behind the first of these commands
+pub record StandsBehind (machine : MachineFile) (commands : List Command) (s : Standing) : Type 0 where
+  pub within : s.count ≤ length commands
+  pub stands : s.reached ≡ standing machine (take s.count commands)

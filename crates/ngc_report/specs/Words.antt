@@ -1,5 +1,5 @@
 -- The lines of a report, in words and millimetres. Our own.
-use Rattle.std.specs.Prelude.{ℕ, ◌+◌, ◌/◌, ◌%◌, ◌==◌, ℤ, pos, negsuc, unsigned_abs, List, [], ◌∷◌, ◌++◌, take, flat_map, codes, decimal, Option, Some, None, if◌then◌else◌}
+use Rattle.std.specs.Prelude.{ℕ, ◌+◌, ◌/◌, ◌%◌, ◌==◌, ℤ, pos, negsuc, unsigned_abs, List, [], ◌∷◌, ◌++◌, take, codes, decimal, Option, Some, None, if◌then◌else◌}
 use Rattle.ngc_fixed_length.specs.declared.points.Point3.{Point3}
 use Rattle.ngc_machine.specs.declared.tools.Tool.{Tool}
 use Rattle.ngc_report.specs.declared.line.Along.{Along}
@@ -10,6 +10,7 @@ use Rattle.ngc_report.specs.declared.margins.Axis.TheVariants.{X, Y, Z}
 use Rattle.ngc_report.specs.declared.margins.Side.{Side}
 use Rattle.ngc_report.specs.declared.margins.Side.TheVariants.{Below, Above}
 use Rattle.ngc_report.specs.declared.nearest.Nearest.{Nearest}
+use Rattle.ngc_report.specs.declared.scene.Met.{Met}
 use Rattle.ngc_report.specs.declared.scene.Obstacle.{Obstacle}
 use Rattle.ngc_report.specs.declared.scene.Obstacle.TheVariants.{Travel, Fixture}
 use Rattle.ngc_report.specs.declared.scene.Scene.{Scene}
@@ -87,12 +88,21 @@ command_text k s =
     codes "Command " ++ decimal k ++ codes " of line " ++ decimal s.line ++ codes ", with " ++ tool_text s.tool ++ codes ", from " ++ place_text s.from ++
     codes " to " ++ place_text s.to ++ codes ".\n"
 
+-- the height from which on the tool passes over a fixture, where the travel has it
+unfoldable pub over_text : Option ℤ → List ℕ
+over_text None = codes ".\n"
+over_text (Some height) = codes "; the tool passes over it from Z " ++ mm_text height ++ codes " up.\n"
+
+abbrev pub met_text : Met → List ℕ
+met_text m =
+    codes "It meets fixture " ++ decimal m.number ++ codes ", from " ++ place_text m.fixture.low ++ codes " to " ++ place_text m.fixture.high ++
+    over_text m.over
+
 unfoldable pub obstacle_text : Option Obstacle → List ℕ
 obstacle_text None = codes "No side of the travel and no fixture is in the way of the whole: a box of the certificate is too large.\n"
 obstacle_text (Some (Travel m)) =
     codes "It leaves the travel " ++ side_text m.side ++ axis_text m.axis ++ codes ": " ++ room_text m.left ++ codes ".\n"
-obstacle_text (Some (Fixture i f)) =
-    codes "It meets fixture " ++ decimal i ++ codes ", from " ++ place_text f.low ++ codes " to " ++ place_text f.high ++ codes ".\n"
+obstacle_text (Some (Fixture m)) = met_text m
 
 unfoldable pub concern_text : Concern → List ℕ
 concern_text NoTool = codes "motions without a tool, away from the height of the start"
@@ -112,7 +122,3 @@ line_text (lines.Start s) = codes "The start is refused, at " ++ place_text s.fr
 line_text (lines.Command k s) = command_text k s
 line_text (lines.InTheWay o) = obstacle_text o
 line_text (lines.Warned w) = warning_text w
-
--- lines, one after another
-abbrev pub report_text : List Line → List ℕ
-report_text report = flat_map line_text report

@@ -35,14 +35,18 @@
 #![tactic(auto)]
 
 mod bounds;
+mod facts;
+mod form;
 mod gaps;
 pub mod laws;
 mod line;
 mod margins;
 mod nearest;
 mod quotes;
+mod refusals;
 mod report;
 mod scene;
+mod source_lines;
 mod travel;
 mod uses;
 mod warned;
@@ -50,13 +54,16 @@ mod warnings;
 mod words;
 
 pub use bounds::{extent, reach};
+pub use form::Form;
 pub use gaps::gap;
 pub use line::{Along, Line};
 pub use margins::{Axis, Margin, Side};
 pub use nearest::Nearest;
 pub use quotes::write_line;
+pub use refusals::write_refusals;
 pub use report::{write_fit, write_refusal};
-pub use scene::{Obstacle, Scene};
+pub use scene::{Met, Obstacle, Scene};
+pub use source_lines::write_source_line;
 pub use travel::{AxisRoom, Room};
 pub use uses::{ToolUse, ToolUses};
 pub use warned::write_warnings;

@@ -1,13 +1,14 @@
 //! A line of a program as a report shows it.
-ghost use Rattle.std.specs.Prelude.{◌≡◌, ◌++◌, ◌≤◌, length, codes, decimal, OnOk, OnErr};
+ghost use Rattle.std.specs.Prelude.{◌≡◌, ◌+◌, ◌*◌, ◌++◌, ◌≤◌, flat_map, length, OnOk, OnErr};
 ghost use Rattle.std.specs.Option.{option_map};
 ghost use Rattle.std.specs.Io.KnownBytes.{Appends};
 ghost use Rattle.ngc_fixed_length.specs.Failures.{CountsFailure};
 ghost use Rattle.ngc_fixed_length.specs.Written.{AppendsBeginning};
 ghost use Rattle.ngc_line_reader.specs.ProgramView.{text_in};
-ghost use Rattle.ngc_output.specs.Collected.{HasLineRoom};
-ghost use Rattle.ngc_report.specs.Quotes.{shown, line_with, bytes_text, quoted};
+ghost use Rattle.ngc_output.specs.Collected.{CHUNK_SIZE, HasLineRoom};
+ghost use Rattle.ngc_report.specs.Quotes.{shown, line_with, bytes_text, escaped, words_quote, fact_quote, quote, quoted};
 
+use crate::form::Form;
 use arrayvec::ArrayVec;
 use ngc_fixed_length::{Sink, WriteFault};
 use ngc_line_reader::Program;
@@ -47,9 +48,10 @@ fn line_bytes<A: Allocator>(program: &Program<A>, number: u32) -> Option<&[u8]>
     None
 }
 
-fn add_quote(chunk: &mut Chunk, number: u32, bytes: &[u8])
+fn add_words(chunk: &mut Chunk, number: u32, bytes: &[u8])
     requires { HasLineRoom chunk.old }
-    ensures { chunk.new ≡ chunk.old ++ (codes "Line " ++ decimal number ++ codes ": " ++ bytes_text bytes.now ++ codes "\n") }
+    ensures text { chunk.new ≡ chunk.old ++ words_quote number bytes.now }
+    ensures short { length chunk.new ≤ length chunk.old + 500 }
 {
     chunk.add_text(b"Line ");
     chunk.add_number(number);
@@ -58,12 +60,50 @@ fn add_quote(chunk: &mut Chunk, number: u32, bytes: &[u8])
     chunk.add_text(b"\n");
 }
 
-fn quote_of<A: Allocator>(program: &Program<A>, number: u32) -> Chunk
-    ensures { result ≡ quoted number (text_in program.now).lines }
+fn add_escaped(chunk: &mut Chunk, byte: u8)
+    requires { length chunk.old + 2 ≤ CHUNK_SIZE }
+    ensures text { chunk.new ≡ chunk.old ++ escaped byte }
+    ensures short { length chunk.new ≤ length chunk.old + 2 }
+{
+    if byte == b'"' || byte == b'\\' {
+        chunk.add_text(&[b'\\', byte]);
+    } else {
+        chunk.add_text(&[byte]);
+    }
+}
+
+fn add_string(chunk: &mut Chunk, text: &[u8])
+    requires { length chunk.old + 2 * length text.now ≤ CHUNK_SIZE }
+    ensures text { chunk.new ≡ chunk.old ++ flat_map escaped text.now }
+    ensures short { length chunk.new ≤ length chunk.old + 2 * length text.now }
+{
+    for byte in text {
+        add_escaped(chunk, *byte);
+    }
+}
+
+fn add_fact(chunk: &mut Chunk, number: u32, bytes: &[u8])
+    requires { length chunk.old + 700 ≤ CHUNK_SIZE }
+    ensures text { chunk.new ≡ chunk.old ++ fact_quote number bytes.now }
+    ensures short { length chunk.new ≤ length chunk.old + 700 }
+{
+    chunk.add_text(b",\n{\"fact\":\"line\",\"number\":");
+    chunk.add_number(number);
+    chunk.add_text(b",\"text\":\"");
+    add_string(chunk, shown_bytes(bytes).as_slice());
+    chunk.add_text(b"\"}");
+}
+
+#[tactic(auto, unfolding(crate::specs::Quotes::quote))]
+pub(crate) fn quote_of(form: Form, number: u32, bytes: Option<&[u8]>) -> Chunk
+    ensures text { result ≡ quote form number (option_map (λ b. b.now) bytes.entry) }
+    ensures short { length result ≤ 1000 }
 {
     let mut chunk = Chunk::new();
-    if let Some(bytes) = line_bytes(program, number) {
-        add_quote(&mut chunk, number, bytes);
+    match (form, bytes) {
+        (_, None) => {}
+        (Form::Words, Some(bytes)) => add_words(&mut chunk, number, bytes),
+        (Form::Json, Some(bytes)) => add_fact(&mut chunk, number, bytes),
     }
     chunk
 }
@@ -73,14 +113,15 @@ fn quote_of<A: Allocator>(program: &Program<A>, number: u32) -> Chunk
 ///
 /// After a fault (902, and only where the sink failed) a beginning of the text is written.
 pub fn write_line<A: Allocator, W: Sink>(
+    form: Form,
     program: &Program<A>,
     number: u32,
     sink: &mut W,
 ) -> Result<(), WriteFault>
-    ensures ok { OnOk result (Appends (W.written sink.old) (W.written sink.new) (quoted number (text_in program.now).lines)) }
-    ensures fault { OnErr result (AppendsBeginning (W.written sink.old) (W.written sink.new) (quoted number (text_in program.now).lines)) }
+    ensures ok { OnOk result (Appends (W.written sink.old) (W.written sink.new) (quoted form number (text_in program.now).lines)) }
+    ensures fault { OnErr result (AppendsBeginning (W.written sink.old) (W.written sink.new) (quoted form number (text_in program.now).lines)) }
     ensures counts { CountsFailure (W.failures sink.old) (W.failures sink.new) result }
 {
-    let mut chunk = quote_of(program, number);
+    let mut chunk = quote_of(form, number, line_bytes(program, number));
     chunk.write_out(sink)
 }

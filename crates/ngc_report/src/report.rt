@@ -1,16 +1,19 @@
 //! How reports are written.
-ghost use Rattle.std.specs.Prelude.{◌≡◌, min, OnOk, OnErr};
+ghost use Rattle.std.specs.Prelude.{◌≡◌, ◌++◌, min, OnOk, OnErr};
 ghost use Rattle.std.specs.Io.KnownBytes.{Appends};
 ghost use Rattle.ngc_fixed_length.specs.Failures.{CountsFailure};
 ghost use Rattle.ngc_fixed_length.specs.Length.{IsStep};
 ghost use Rattle.ngc_fixed_length.specs.Written.{AppendsBeginning};
 ghost use Rattle.ngc_certificate_text.specs.Collects.{Collects};
 ghost use Rattle.ngc_machine.specs.Machine.{file_of};
-ghost use Rattle.ngc_report.specs.Reports.{Tells, motions_in, along, alongs, use_lines, fit_lines, cause_lines, refusal_lines};
+ghost use Rattle.ngc_output.specs.Collected.{HasLineRoom};
+ghost use Rattle.ngc_report.specs.Reports.{Tells, motions_in, along, alongs, use_lines, fit_lines, start_lines, scene_lines, cause_lines, refusal_lines};
 ghost use Rattle.ngc_report.specs.Uses.{tool_uses};
-ghost use Rattle.ngc_report.specs.Words.{line_text, report_text};
+ghost use Rattle.ngc_report.specs.Forms.{spelled, report_text};
 
 use crate::bounds::extent;
+use crate::facts::add_fact;
+use crate::form::Form;
 use crate::line::{Along, Line};
 use crate::margins::Axis;
 use crate::nearest::Nearest;
@@ -24,28 +27,40 @@ use ngc_fixed_length::{GridBox, Nm, Sink, WriteFault};
 use ngc_output::Chunk;
 use std::alloc::Allocator;
 
-fn tell<W: Sink>(chunk: &mut Chunk, line: &Line, sink: &mut W) -> Result<(), WriteFault>
-    ensures text { Collects (W.written sink.old) (W.written sink.new) chunk.old chunk.new result (line_text line.now) }
+#[tactic(auto, unfolding(crate::specs::Forms::spelled))]
+fn add_spelled(chunk: &mut Chunk, form: Form, line: &Line)
+    requires { HasLineRoom chunk.old }
+    ensures { chunk.new ≡ chunk.old ++ spelled form line.now }
+{
+    match form {
+        Form::Words => add_line(chunk, line),
+        Form::Json => add_fact(chunk, line),
+    }
+}
+
+fn tell<W: Sink>(chunk: &mut Chunk, form: Form, line: &Line, sink: &mut W) -> Result<(), WriteFault>
+    ensures text { Collects (W.written sink.old) (W.written sink.new) chunk.old chunk.new result (spelled form line.now) }
     ensures counts { CountsFailure (W.failures sink.old) (W.failures sink.new) result }
 {
     match chunk.make_room(sink) {
         Ok(()) => {}
         Err(fault) => return Err(fault),
     }
-    add_line(chunk, line);
+    add_spelled(chunk, form, line);
     Ok(())
 }
 
 pub(crate) fn tell_all<W: Sink>(
     chunk: &mut Chunk,
+    form: Form,
     lines: &[Line],
     sink: &mut W,
 ) -> Result<(), WriteFault>
-    ensures told { Tells (W.written sink.old) (W.written sink.new) chunk.old chunk.new result lines.now }
+    ensures told { Tells form (W.written sink.old) (W.written sink.new) chunk.old chunk.new result lines.now }
     ensures counts { CountsFailure (W.failures sink.old) (W.failures sink.new) result }
 {
     for line in lines {
-        match tell(chunk, line, sink) {
+        match tell(chunk, form, line, sink) {
             Ok(()) => {}
             Err(fault) => return Err(fault),
         }
@@ -65,7 +80,7 @@ fn along(axis: Axis, step: Nm, low: i32, high: i32, room: AxisRoom) -> Line
     })
 }
 
-fn alongs<A: Allocator>(machine: &Machine<A>, bounds: &GridBox) -> [Line; 3]
+pub(crate) fn alongs<A: Allocator>(machine: &Machine<A>, bounds: &GridBox) -> [Line; 3]
     ensures { result ≡ alongs (file_of machine.now) bounds.now }
 {
     let (step, low, high) = (machine.step, &bounds.low, &bounds.high);
@@ -89,12 +104,13 @@ fn motions_up_to(one: &ToolUse, most: usize) -> usize
 
 fn tell_uses<A: Allocator, B: Allocator, W: Sink>(
     chunk: &mut Chunk,
+    form: Form,
     machine: &Machine<A>,
     commands: &[Command],
     motions: &Motions<B>,
     sink: &mut W,
 ) -> Result<(), WriteFault>
-    ensures told { Tells (W.written sink.old) (W.written sink.new) chunk.old chunk.new result (use_lines (file_of machine.now) (tool_uses commands.now) motions.now) }
+    ensures told { Tells form (W.written sink.old) (W.written sink.new) chunk.old chunk.new result (use_lines (file_of machine.now) (tool_uses commands.now) motions.now) }
     ensures counts { CountsFailure (W.failures sink.old) (W.failures sink.new) result }
 {
     let mut uses = ToolUses::new(commands);
@@ -102,7 +118,7 @@ fn tell_uses<A: Allocator, B: Allocator, W: Sink>(
     while let Some(one) = uses.next_use() {
         let end = first + motions_up_to(&one, motions.len() - first);
         let nearest = Nearest::over(machine, &one.tool, motions, first, end);
-        match tell_all(chunk, &[Line::Use(one, nearest)], sink) {
+        match tell_all(chunk, form, &[Line::Use(one, nearest)], sink) {
             Ok(()) => {}
             Err(fault) => return Err(fault),
         }
@@ -113,76 +129,120 @@ fn tell_uses<A: Allocator, B: Allocator, W: Sink>(
 
 fn tell_fit<A: Allocator, B: Allocator, W: Sink>(
     chunk: &mut Chunk,
+    form: Form,
     machine: &Machine<A>,
     commands: &[Command],
     motions: &Motions<B>,
     sink: &mut W,
 ) -> Result<(), WriteFault>
-    ensures told { Tells (W.written sink.old) (W.written sink.new) chunk.old chunk.new result (fit_lines (file_of machine.now) commands.now motions.now) }
+    ensures told { Tells form (W.written sink.old) (W.written sink.new) chunk.old chunk.new result (fit_lines (file_of machine.now) commands.now motions.now) }
     ensures counts { CountsFailure (W.failures sink.old) (W.failures sink.new) result }
 {
-    match tell_all(chunk, &[Line::Fits], sink) {
+    match tell_all(chunk, form, &[Line::Fits], sink) {
         Ok(()) => {}
         Err(fault) => return Err(fault),
     }
-    match tell_all(chunk, &alongs(machine, &extent(machine, commands)), sink) {
+    match tell_all(
+        chunk,
+        form,
+        &alongs(machine, &extent(machine, commands)),
+        sink,
+    ) {
         Ok(()) => {}
         Err(fault) => return Err(fault),
     }
-    tell_uses(chunk, machine, commands, motions, sink)
+    tell_uses(chunk, form, machine, commands, motions, sink)
+}
+
+pub(crate) fn tell_start<A: Allocator, W: Sink>(
+    chunk: &mut Chunk,
+    form: Form,
+    machine: &Machine<A>,
+    fixture: Option<u32>,
+    sink: &mut W,
+) -> Result<(), WriteFault>
+    ensures told { Tells form (W.written sink.old) (W.written sink.new) chunk.old chunk.new result (start_lines (file_of machine.now) fixture) }
+    ensures counts { CountsFailure (W.failures sink.old) (W.failures sink.new) result }
+{
+    let scene = Scene::start(machine);
+    let cause = scene.obstacle(machine, fixture);
+    tell_all(
+        chunk,
+        form,
+        &[Line::Start(scene), Line::InTheWay(cause)],
+        sink,
+    )
+}
+
+pub(crate) fn tell_scene<A: Allocator, W: Sink>(
+    chunk: &mut Chunk,
+    form: Form,
+    machine: &Machine<A>,
+    command: usize,
+    fixture: Option<u32>,
+    scene: &Option<Scene>,
+    sink: &mut W,
+) -> Result<(), WriteFault>
+    ensures told { Tells form (W.written sink.old) (W.written sink.new) chunk.old chunk.new result (scene_lines (file_of machine.now) command fixture scene.now) }
+    ensures counts { CountsFailure (W.failures sink.old) (W.failures sink.new) result }
+{
+    match scene {
+        None => tell_all(chunk, form, &[], sink),
+        Some(scene) => {
+            let cause = scene.obstacle(machine, fixture);
+            let lines = [Line::Command(command, *scene), Line::InTheWay(cause)];
+            tell_all(chunk, form, &lines, sink)
+        }
+    }
 }
 
 fn tell_cause<A: Allocator, W: Sink>(
     chunk: &mut Chunk,
+    form: Form,
     machine: &Machine<A>,
     commands: &[Command],
     command: Option<usize>,
     fixture: Option<u32>,
     sink: &mut W,
 ) -> Result<(), WriteFault>
-    ensures told { Tells (W.written sink.old) (W.written sink.new) chunk.old chunk.new result (cause_lines (file_of machine.now) commands.now command fixture) }
+    ensures told { Tells form (W.written sink.old) (W.written sink.new) chunk.old chunk.new result (cause_lines (file_of machine.now) commands.now command fixture) }
     ensures counts { CountsFailure (W.failures sink.old) (W.failures sink.new) result }
 {
     match command {
-        None => {
-            let scene = Scene::start(machine);
-            let cause = scene.obstacle(machine, fixture);
-            tell_all(chunk, &[Line::Start(scene), Line::InTheWay(cause)], sink)
+        None => tell_start(chunk, form, machine, fixture, sink),
+        Some(command) => {
+            let scene = Scene::at(machine, commands, command);
+            tell_scene(chunk, form, machine, command, fixture, &scene, sink)
         }
-        Some(command) => match Scene::at(machine, commands, command) {
-            None => tell_all(chunk, &[], sink),
-            Some(scene) => {
-                let cause = scene.obstacle(machine, fixture);
-                tell_all(
-                    chunk,
-                    &[Line::Command(command, scene), Line::InTheWay(cause)],
-                    sink,
-                )
-            }
-        },
     }
 }
 
 fn tell_refusal<A: Allocator, W: Sink>(
     chunk: &mut Chunk,
+    form: Form,
     machine: &Machine<A>,
     commands: &[Command],
     command: Option<usize>,
     fixture: Option<u32>,
     sink: &mut W,
 ) -> Result<(), WriteFault>
-    ensures told { Tells (W.written sink.old) (W.written sink.new) chunk.old chunk.new result (refusal_lines (file_of machine.now) commands.now command fixture) }
+    ensures told { Tells form (W.written sink.old) (W.written sink.new) chunk.old chunk.new result (refusal_lines (file_of machine.now) commands.now command fixture) }
     ensures counts { CountsFailure (W.failures sink.old) (W.failures sink.new) result }
 {
-    match tell_all(chunk, &[Line::Refused], sink) {
+    match tell_all(chunk, form, &[Line::Refused], sink) {
         Ok(()) => {}
         Err(fault) => return Err(fault),
     }
-    match tell_all(chunk, &alongs(machine, &extent(machine, commands)), sink) {
+    match tell_all(
+        chunk,
+        form,
+        &alongs(machine, &extent(machine, commands)),
+        sink,
+    ) {
         Ok(()) => {}
         Err(fault) => return Err(fault),
     }
-    tell_cause(chunk, machine, commands, command, fixture, sink)
+    tell_cause(chunk, form, machine, commands, command, fixture, sink)
 }
 
 /// Writes the report of a program that fits, whose certificate has these motions: how far it goes along each axis with what is
@@ -190,17 +250,18 @@ fn tell_refusal<A: Allocator, W: Sink>(
 ///
 /// After a fault (902, and only where the sink failed) a beginning of the text is written.
 pub fn write_fit<A: Allocator, B: Allocator, W: Sink>(
+    form: Form,
     machine: &Machine<A>,
     commands: &[Command],
     motions: &Motions<B>,
     sink: &mut W,
 ) -> Result<(), WriteFault>
-    ensures ok { OnOk result (Appends (W.written sink.old) (W.written sink.new) (report_text (fit_lines (file_of machine.now) commands.now motions.now))) }
-    ensures fault { OnErr result (AppendsBeginning (W.written sink.old) (W.written sink.new) (report_text (fit_lines (file_of machine.now) commands.now motions.now))) }
+    ensures ok { OnOk result (Appends (W.written sink.old) (W.written sink.new) (report_text form (fit_lines (file_of machine.now) commands.now motions.now))) }
+    ensures fault { OnErr result (AppendsBeginning (W.written sink.old) (W.written sink.new) (report_text form (fit_lines (file_of machine.now) commands.now motions.now))) }
     ensures counts { CountsFailure (W.failures sink.old) (W.failures sink.new) result }
 {
     let mut chunk = Chunk::new();
-    match tell_fit(&mut chunk, machine, commands, motions, sink) {
+    match tell_fit(&mut chunk, form, machine, commands, motions, sink) {
         Ok(()) => chunk.write_out(sink),
         Err(fault) => Err(fault),
     }
@@ -211,18 +272,19 @@ pub fn write_fit<A: Allocator, B: Allocator, W: Sink>(
 ///
 /// After a fault (902, and only where the sink failed) a beginning of the text is written.
 pub fn write_refusal<A: Allocator, W: Sink>(
+    form: Form,
     machine: &Machine<A>,
     commands: &[Command],
     command: Option<usize>,
     fixture: Option<u32>,
     sink: &mut W,
 ) -> Result<(), WriteFault>
-    ensures ok { OnOk result (Appends (W.written sink.old) (W.written sink.new) (report_text (refusal_lines (file_of machine.now) commands.now command fixture))) }
-    ensures fault { OnErr result (AppendsBeginning (W.written sink.old) (W.written sink.new) (report_text (refusal_lines (file_of machine.now) commands.now command fixture))) }
+    ensures ok { OnOk result (Appends (W.written sink.old) (W.written sink.new) (report_text form (refusal_lines (file_of machine.now) commands.now command fixture))) }
+    ensures fault { OnErr result (AppendsBeginning (W.written sink.old) (W.written sink.new) (report_text form (refusal_lines (file_of machine.now) commands.now command fixture))) }
     ensures counts { CountsFailure (W.failures sink.old) (W.failures sink.new) result }
 {
     let mut chunk = Chunk::new();
-    match tell_refusal(&mut chunk, machine, commands, command, fixture, sink) {
+    match tell_refusal(&mut chunk, form, machine, commands, command, fixture, sink) {
         Ok(()) => chunk.write_out(sink),
         Err(fault) => Err(fault),
     }

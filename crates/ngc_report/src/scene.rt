@@ -1,8 +1,8 @@
 //! What is in the way of a command.
-ghost use Rattle.std.specs.Prelude.{◌≡◌, fold};
+ghost use Rattle.std.specs.Prelude.{◌≡◌, ◌≤◌, unsigned_abs};
 ghost use Rattle.ngc_canonical.specs.Movement.{start_of};
 ghost use Rattle.ngc_machine.specs.Machine.{file_of};
-ghost use Rattle.ngc_report.specs.Scenes.{after, standing, start_scene, still, moving, scene_of, scene_at, named, obstacle};
+ghost use Rattle.ngc_report.specs.Scenes.{after, gone_on, standing, start_scene, still, moving, scene_of, scene_at, foot, over_height, over, named, obstacle};
 
 use crate::bounds::reach;
 use crate::margins::Margin;
@@ -34,13 +34,23 @@ pub struct Scene {
     pub bounds: GridBox,
 }
 
+/// A fixture that the tool's body meets.
+#[derive(Clone, Copy, PartialEq, Eq)]
+pub struct Met {
+    /// Its number, from 0.
+    pub number: u32,
+    pub fixture: Fixture,
+    /// The height of the controlled point, in nanometres, from which on the whole tool is over the fixture, where that is in the travel.
+    pub over: Option<i64>,
+}
+
 /// What is in the way.
 #[derive(Clone, Copy, PartialEq, Eq)]
 pub enum Obstacle {
     /// This side of the travel, which the whole motion leaves farthest.
     Travel(Margin),
-    /// A fixture that the tool's body meets, with its number from 0.
-    Fixture(u32, Fixture),
+    /// A fixture that the tool's body meets.
+    Fixture(Met),
 }
 
 fn start_of(way: &Way) -> Point3
@@ -68,18 +78,26 @@ pub(crate) fn after(before: Reached, action: &Action) -> Reached
     }
 }
 
-/// How the machine stands behind commands.
-fn standing<A: Allocator>(machine: &Machine<A>, commands: &[Command]) -> Reached
-    ensures { result ≡ standing (file_of machine.now) commands.now }
+/// How the machine stands behind some more commands.
+pub(crate) fn gone_on(before: Reached, commands: &[Command]) -> Reached
+    ensures { result ≡ gone_on before commands.now }
 {
-    let mut reached = Reached {
-        tool: None,
-        place: machine.start,
-    };
+    let mut reached = before;
     for command in commands {
         reached = after(reached, &command.action);
     }
     reached
+}
+
+/// How the machine stands behind commands.
+pub(crate) fn standing<A: Allocator>(machine: &Machine<A>, commands: &[Command]) -> Reached
+    ensures { result ≡ standing (file_of machine.now) commands.now }
+{
+    let start = Reached {
+        tool: None,
+        place: machine.start,
+    };
+    gone_on(start, commands)
 }
 
 fn still<A: Allocator>(machine: &Machine<A>, line: u32, tool: Option<Tool>, place: Point3) -> Scene
@@ -111,7 +129,11 @@ fn moving<A: Allocator>(
     }
 }
 
-fn scene_of<A: Allocator>(machine: &Machine<A>, before: Reached, command: &Command) -> Option<Scene>
+pub(crate) fn scene_of<A: Allocator>(
+    machine: &Machine<A>,
+    before: Reached,
+    command: &Command,
+) -> Option<Scene>
     ensures { result ≡ scene_of (file_of machine.now) before command.now }
 {
     match &command.action {
@@ -121,12 +143,44 @@ fn scene_of<A: Allocator>(machine: &Machine<A>, before: Reached, command: &Comma
     }
 }
 
-fn named<A: Allocator>(machine: &Machine<A>, fixture: u32) -> Option<Obstacle>
-    ensures { result ≡ named (file_of machine.now) fixture }
+// How far the lowest end of a tool lies above the controlled point.
+fn foot(tool: &Option<Tool>) -> i64
+    ensures value { result ≡ foot tool.now }
+    ensures range { unsigned_abs result ≤ 100000000000 }
 {
-    match machine.fixtures.get(fixture as usize) {
+    match tool {
+        None => 0,
+        Some(tool) => tool.bottom.nanometres(),
+    }
+}
+
+fn over_height(tool: &Option<Tool>, fixture: &Fixture) -> i64
+    ensures { result ≡ over_height tool.now fixture.now }
+{
+    fixture.high.z.nanometres() - foot(tool)
+}
+
+fn over<A: Allocator>(machine: &Machine<A>, tool: &Option<Tool>, fixture: &Fixture) -> Option<i64>
+    ensures { result ≡ over (file_of machine.now) tool.now fixture.now }
+{
+    let height = over_height(tool, fixture);
+    if height <= machine.high.z.nanometres() {
+        Some(height)
+    } else {
+        None
+    }
+}
+
+fn named<A: Allocator>(machine: &Machine<A>, tool: &Option<Tool>, number: u32) -> Option<Obstacle>
+    ensures { result ≡ named (file_of machine.now) tool.now number }
+{
+    match machine.fixtures.get(number as usize) {
         None => None,
-        Some(found) => Some(Obstacle::Fixture(fixture, *found)),
+        Some(found) => Some(Obstacle::Fixture(Met {
+            number,
+            fixture: *found,
+            over: over(machine, tool, found),
+        })),
     }
 }
 
@@ -162,7 +216,7 @@ impl Scene {
         ensures { result ≡ obstacle (file_of machine.now) self.now fixture }
     {
         if let Some(fixture) = fixture {
-            return named(machine, fixture);
+            return named(machine, &self.tool, fixture);
         }
         let room = Room::about(machine, &self.bounds);
         if !room.is_inside() {
@@ -170,7 +224,7 @@ impl Scene {
         }
         match first_met(machine, self.tool, &self.bounds) {
             None => None,
-            Some(met) => named(machine, met),
+            Some(met) => named(machine, &self.tool, met),
         }
     }
 }

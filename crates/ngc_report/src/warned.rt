@@ -6,8 +6,9 @@ ghost use Rattle.ngc_fixed_length.specs.Written.{AppendsBeginning};
 ghost use Rattle.ngc_machine.specs.Machine.{file_of};
 ghost use Rattle.ngc_report.specs.Reports.{Tells};
 ghost use Rattle.ngc_report.specs.Warnings.{warned, warning_lines};
-ghost use Rattle.ngc_report.specs.Words.{report_text};
+ghost use Rattle.ngc_report.specs.Forms.{report_text};
 
+use crate::form::Form;
 use crate::line::Line;
 use crate::report::tell_all;
 use crate::warnings::{Concern, warning_about};
@@ -18,38 +19,40 @@ use std::alloc::Allocator;
 
 fn tell_warned<A: Allocator, W: Sink>(
     chunk: &mut Chunk,
+    form: Form,
     machine: &Machine<A>,
     concern: Concern,
     commands: &[Command],
     sink: &mut W,
 ) -> Result<(), WriteFault>
-    ensures told { Tells (W.written sink.old) (W.written sink.new) chunk.old chunk.new result (warned (file_of machine.now) concern commands.now) }
+    ensures told { Tells form (W.written sink.old) (W.written sink.new) chunk.old chunk.new result (warned (file_of machine.now) concern commands.now) }
     ensures counts { CountsFailure (W.failures sink.old) (W.failures sink.new) result }
 {
     match warning_about(machine, concern, commands) {
-        None => tell_all(chunk, &[], sink),
-        Some(warning) => tell_all(chunk, &[Line::Warned(warning)], sink),
+        None => tell_all(chunk, form, &[], sink),
+        Some(warning) => tell_all(chunk, form, &[Line::Warned(warning)], sink),
     }
 }
 
 fn tell_warnings<A: Allocator, W: Sink>(
     chunk: &mut Chunk,
+    form: Form,
     machine: &Machine<A>,
     commands: &[Command],
     sink: &mut W,
 ) -> Result<(), WriteFault>
-    ensures told { Tells (W.written sink.old) (W.written sink.new) chunk.old chunk.new result (warning_lines (file_of machine.now) commands.now) }
+    ensures told { Tells form (W.written sink.old) (W.written sink.new) chunk.old chunk.new result (warning_lines (file_of machine.now) commands.now) }
     ensures counts { CountsFailure (W.failures sink.old) (W.failures sink.new) result }
 {
-    match tell_warned(chunk, machine, Concern::NoTool, commands, sink) {
+    match tell_warned(chunk, form, machine, Concern::NoTool, commands, sink) {
         Ok(()) => {}
         Err(fault) => return Err(fault),
     }
-    match tell_warned(chunk, machine, Concern::FastFeed, commands, sink) {
+    match tell_warned(chunk, form, machine, Concern::FastFeed, commands, sink) {
         Ok(()) => {}
         Err(fault) => return Err(fault),
     }
-    tell_warned(chunk, machine, Concern::LowHome, commands, sink)
+    tell_warned(chunk, form, machine, Concern::LowHome, commands, sink)
 }
 
 /// Writes the warnings on a program: motions without a tool that leave the height of the start, feeds above the machine's
@@ -59,16 +62,17 @@ fn tell_warnings<A: Allocator, W: Sink>(
 ///
 /// It takes no memory. After a fault (902, and only where the sink failed) a beginning of the text is written.
 pub fn write_warnings<A: Allocator, W: Sink>(
+    form: Form,
     machine: &Machine<A>,
     commands: &[Command],
     sink: &mut W,
 ) -> Result<(), WriteFault>
-    ensures ok { OnOk result (Appends (W.written sink.old) (W.written sink.new) (report_text (warning_lines (file_of machine.now) commands.now))) }
-    ensures fault { OnErr result (AppendsBeginning (W.written sink.old) (W.written sink.new) (report_text (warning_lines (file_of machine.now) commands.now))) }
+    ensures ok { OnOk result (Appends (W.written sink.old) (W.written sink.new) (report_text form (warning_lines (file_of machine.now) commands.now))) }
+    ensures fault { OnErr result (AppendsBeginning (W.written sink.old) (W.written sink.new) (report_text form (warning_lines (file_of machine.now) commands.now))) }
     ensures counts { CountsFailure (W.failures sink.old) (W.failures sink.new) result }
 {
     let mut chunk = Chunk::new();
-    match tell_warnings(&mut chunk, machine, commands, sink) {
+    match tell_warnings(&mut chunk, form, machine, commands, sink) {
         Ok(()) => chunk.write_out(sink),
         Err(fault) => Err(fault),
     }

@@ -1,15 +1,15 @@
 //! How the lines of a report are spelled.
 ghost use Rattle.std.specs.Prelude.{◌≡◌, ◌+◌, ◌*◌, ◌<◌, ◌≤◌, ◌++◌, codes, decimal, take, unsigned_abs, length};
 ghost use Rattle.ngc_output.specs.Collected.{CHUNK_SIZE, HasLineRoom};
-ghost use Rattle.ngc_report.specs.Words.{sign_text, decimals, telling, size_text, mm_text, room_words, room_text, place_text, axis_text, side_text, tool_text, nearest_text, along_text, use_text, command_text, obstacle_text, concern_text, warning_text, line_text};
+ghost use Rattle.ngc_report.specs.Words.{sign_text, decimals, telling, size_text, mm_text, room_words, room_text, place_text, axis_text, side_text, tool_text, nearest_text, along_text, use_text, command_text, over_text, met_text, obstacle_text, concern_text, warning_text, line_text};
 
 use crate::line::{Along, Line};
 use crate::margins::{Axis, Margin, Side};
 use crate::nearest::Nearest;
-use crate::scene::{Obstacle, Scene};
+use crate::scene::{Met, Obstacle, Scene};
 use crate::uses::ToolUse;
 use crate::warnings::{Concern, Warning};
-use ngc_canonical::{Fixture, Tool};
+use ngc_canonical::Tool;
 use ngc_fixed_length::{Nm, Point3};
 use ngc_output::Chunk;
 
@@ -149,7 +149,7 @@ fn add_place(chunk: &mut Chunk, place: &Point3)
 }
 
 #[tactic(auto, unfolding(crate::specs::Words::axis_text))]
-fn axis_name(axis: Axis) -> &'static [u8]
+pub(crate) fn axis_name(axis: Axis) -> &'static [u8]
     ensures text { result.now ≡ axis_text axis }
     ensures short { length result.now ≤ 1 }
 {
@@ -281,17 +281,37 @@ fn add_side(chunk: &mut Chunk, margin: &Margin)
     chunk.add_text(b".\n");
 }
 
-fn add_fixture(chunk: &mut Chunk, number: u32, fixture: &Fixture)
+fn add_height(chunk: &mut Chunk, height: i64)
+    requires { length chunk.old + 90 ≤ CHUNK_SIZE }
+    ensures { chunk.new ≡ chunk.old ++ (codes "; the tool passes over it from Z " ++ mm_text height ++ codes " up.\n") }
+{
+    chunk.add_text(b"; the tool passes over it from Z ");
+    add_length(chunk, height);
+    chunk.add_text(b" up.\n");
+}
+
+#[tactic(auto, unfolding(crate::specs::Words::over_text))]
+fn add_over(chunk: &mut Chunk, over: &Option<i64>)
+    requires { length chunk.old + 90 ≤ CHUNK_SIZE }
+    ensures { chunk.new ≡ chunk.old ++ over_text over.now }
+{
+    match over {
+        None => chunk.add_text(b".\n"),
+        Some(height) => add_height(chunk, *height),
+    }
+}
+
+fn add_fixture(chunk: &mut Chunk, met: &Met)
     requires { HasLineRoom chunk.old }
-    ensures { chunk.new ≡ chunk.old ++ (codes "It meets fixture " ++ decimal number ++ codes ", from " ++ place_text fixture.now.low ++ codes " to " ++ place_text fixture.now.high ++ codes ".\n") }
+    ensures { chunk.new ≡ chunk.old ++ met_text met.now }
 {
     chunk.add_text(b"It meets fixture ");
-    chunk.add_number(number);
+    chunk.add_number(met.number);
     chunk.add_text(b", from ");
-    add_place(chunk, &fixture.low);
+    add_place(chunk, &met.fixture.low);
     chunk.add_text(b" to ");
-    add_place(chunk, &fixture.high);
-    chunk.add_text(b".\n");
+    add_place(chunk, &met.fixture.high);
+    add_over(chunk, &met.over);
 }
 
 #[tactic(auto, unfolding(crate::specs::Words::obstacle_text))]
@@ -304,12 +324,12 @@ fn add_obstacle(chunk: &mut Chunk, obstacle: &Option<Obstacle>)
             b"No side of the travel and no fixture is in the way of the whole: a box of the certificate is too large.\n",
         ),
         Some(Obstacle::Travel(margin)) => add_side(chunk, margin),
-        Some(Obstacle::Fixture(number, fixture)) => add_fixture(chunk, *number, fixture),
+        Some(Obstacle::Fixture(met)) => add_fixture(chunk, met),
     }
 }
 
 #[tactic(auto, unfolding(crate::specs::Words::concern_text))]
-fn concern_words(concern: Concern) -> &'static [u8]
+pub(crate) fn concern_words(concern: Concern) -> &'static [u8]
     ensures text { result.now ≡ concern_text concern }
     ensures short { length result.now ≤ 60 }
 {

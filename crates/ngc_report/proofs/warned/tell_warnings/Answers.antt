@@ -9,14 +9,14 @@ pub returns-in-Err-clause-told : goal.returns-in-Err-clause-told
 returns-in-Err-clause-told g c =
     let m = file_of c.args.machine.now in
     let cs = c.args.commands.now in
-    first_stopped (g.W.Sink.written c.args.sink.now) (g.W.Sink.written c.tell_warned.new.sink) c.args.chunk.now
+    first_stopped c.args.form (g.W.Sink.written c.args.sink.now) (g.W.Sink.written c.tell_warned.new.sink) c.args.chunk.now
     (warned m NoTool cs) (warned m FastFeed cs ++ warned m LowHome cs) c.in-Err.ensures.told
 
 pub returns-in-Err-tell_warned-clause-told : goal.returns-in-Err-tell_warned-clause-told
 returns-in-Err-tell_warned-clause-told g c =
     let m = file_of c.args.machine.now in
     let cs = c.args.commands.now in
-    second_stopped (g.W.Sink.written c.args.sink.now) (g.W.Sink.written c.tell_warned.new.sink) (g.W.Sink.written c.tell_warned-2.new.sink)
+    second_stopped c.args.form (g.W.Sink.written c.args.sink.now) (g.W.Sink.written c.tell_warned.new.sink) (g.W.Sink.written c.tell_warned-2.new.sink)
     c.args.chunk.now c.tell_warned.new.chunk (warned m NoTool cs) (warned m FastFeed cs) (warned m LowHome cs)
     c.in-Ok.ensures.told c.in-Err-tell_warned.ensures.told
 
@@ -24,7 +24,7 @@ pub returns-clause-told : goal.returns-clause-told
 returns-clause-told g c =
     let m = file_of c.args.machine.now in
     let cs = c.args.commands.now in
-    all_three c.tell_warned-3.result (g.W.Sink.written c.args.sink.now) (g.W.Sink.written c.tell_warned.new.sink) (g.W.Sink.written c.tell_warned-2.new.sink)
+    all_three c.args.form c.tell_warned-3.result (g.W.Sink.written c.args.sink.now) (g.W.Sink.written c.tell_warned.new.sink) (g.W.Sink.written c.tell_warned-2.new.sink)
     (g.W.Sink.written c.tell_warned-3.new.sink)
     c.args.chunk.now c.tell_warned.new.chunk c.tell_warned-2.new.chunk c.tell_warned-3.new.chunk (warned m NoTool cs) (warned m FastFeed cs) (warned m LowHome cs)
     c.in-Ok.ensures.told c.in-Ok-tell_warned.ensures.told c.tell_warned-3.ensures.told

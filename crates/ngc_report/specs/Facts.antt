@@ -1,0 +1,94 @@
+-- The lines of a report as facts: objects of one JSON document (RFC 8259), each behind a comma, on a line of its own. Lengths are in
+-- nanometres. Our own.
+use Rattle.std.specs.Prelude.{ℕ, ℤ, List, ◌++◌, codes, decimal, Option, Some, None}
+use Rattle.std.specs.Fmt.{signed_decimal}
+use Rattle.ngc_fixed_length.specs.declared.points.Point3.{Point3}
+use Rattle.ngc_machine.specs.declared.tools.Tool.{Tool}
+use Rattle.ngc_report.specs.Words.{axis_text, concern_text}
+use Rattle.ngc_report.specs.declared.line.Along.{Along}
+use Rattle.ngc_report.specs.declared.line.Line.{Line}
+use Rattle.ngc_report.specs.declared.line.Line.TheVariants as lines
+use Rattle.ngc_report.specs.declared.margins.Margin.{Margin}
+use Rattle.ngc_report.specs.declared.margins.Side.{Side}
+use Rattle.ngc_report.specs.declared.margins.Side.TheVariants.{Below, Above}
+use Rattle.ngc_report.specs.declared.nearest.Nearest.{Nearest}
+use Rattle.ngc_report.specs.declared.scene.Met.{Met}
+use Rattle.ngc_report.specs.declared.scene.Obstacle.{Obstacle}
+use Rattle.ngc_report.specs.declared.scene.Obstacle.TheVariants.{Travel, Fixture}
+use Rattle.ngc_report.specs.declared.scene.Scene.{Scene}
+use Rattle.ngc_report.specs.declared.uses.ToolUse.{ToolUse}
+use Rattle.ngc_report.specs.declared.warnings.Warning.{Warning}
+
+-- ---- values
+
+-- a tool's number, or null without one
+unfoldable pub tool_fact : Option Tool → List ℕ
+tool_fact None = codes "null"
+tool_fact (Some tool) = decimal tool.number
+
+unfoldable pub triple : Point3 → List ℕ
+triple p = codes "[" ++ signed_decimal p.x ++ codes "," ++ signed_decimal p.y ++ codes "," ++ signed_decimal p.z ++ codes "]"
+
+unfoldable pub nearest_fact : Option Nearest → List ℕ
+nearest_fact None = codes "null,\"distance\":null}"
+nearest_fact (Some n) = decimal n.fixture ++ codes ",\"distance\":" ++ signed_decimal n.distance ++ codes "}"
+
+abbrev pub side_fact : Side → List ℕ
+side_fact Below = codes "below"
+side_fact Above = codes "above"
+
+unfoldable pub over_fact : Option ℤ → List ℕ
+over_fact None = codes "null}"
+over_fact (Some height) = signed_decimal height ++ codes "}"
+
+-- ---- facts
+
+abbrev pub along_fact : Along → List ℕ
+along_fact a =
+    codes ",\n{\"fact\":\"extent\",\"axis\":\"" ++ axis_text a.axis ++ codes "\",\"low\":" ++ signed_decimal a.low ++ codes ",\"high\":" ++
+    signed_decimal a.high ++ codes ",\"left_below\":" ++ signed_decimal a.room.below ++ codes ",\"left_above\":" ++
+    signed_decimal a.room.above ++ codes "}"
+
+abbrev pub use_fact : ToolUse → Option Nearest → List ℕ
+use_fact u n =
+    codes ",\n{\"fact\":\"use\",\"tool\":" ++ tool_fact u.tool ++ codes ",\"traverses\":" ++ decimal u.traverses ++ codes ",\"feeds\":" ++
+    decimal u.feeds ++ codes ",\"arcs\":" ++ decimal u.arcs ++ codes ",\"dwells\":" ++ decimal u.dwells ++ codes ",\"stops\":" ++
+    decimal u.stops ++ codes ",\"nearest_fixture\":" ++ nearest_fact n
+
+abbrev pub start_fact : Scene → List ℕ
+start_fact s = codes ",\n{\"fact\":\"start\",\"at\":" ++ triple s.from ++ codes "}"
+
+abbrev pub command_fact : ℕ → Scene → List ℕ
+command_fact k s =
+    codes ",\n{\"fact\":\"command\",\"index\":" ++ decimal k ++ codes ",\"line\":" ++ decimal s.line ++ codes ",\"tool\":" ++ tool_fact s.tool ++
+    codes ",\"from\":" ++ triple s.from ++ codes ",\"to\":" ++ triple s.to ++ codes "}"
+
+abbrev pub travel_fact : Margin → List ℕ
+travel_fact m =
+    codes ",\n{\"fact\":\"obstacle\",\"kind\":\"travel\",\"axis\":\"" ++ axis_text m.axis ++ codes "\",\"side\":\"" ++ side_fact m.side ++
+    codes "\",\"left\":" ++ signed_decimal m.left ++ codes "}"
+
+abbrev pub fixture_fact : Met → List ℕ
+fixture_fact m =
+    codes ",\n{\"fact\":\"obstacle\",\"kind\":\"fixture\",\"fixture\":" ++ decimal m.number ++ codes ",\"low\":" ++ triple m.fixture.low ++
+    codes ",\"high\":" ++ triple m.fixture.high ++ codes ",\"over_from_z\":" ++ over_fact m.over
+
+unfoldable pub obstacle_fact : Option Obstacle → List ℕ
+obstacle_fact None = codes ",\n{\"fact\":\"obstacle\",\"kind\":null}"
+obstacle_fact (Some (Travel m)) = travel_fact m
+obstacle_fact (Some (Fixture m)) = fixture_fact m
+
+abbrev pub warning_fact : Warning → List ℕ
+warning_fact w =
+    codes ",\n{\"fact\":\"warning\",\"text\":\"" ++ concern_text w.concern ++ codes "\",\"count\":" ++ decimal w.count ++ codes ",\"line\":" ++
+    decimal w.line ++ codes "}"
+
+unfoldable pub line_fact : Line → List ℕ
+line_fact lines.Fits = codes ",\n{\"fact\":\"verdict\",\"fits\":true}"
+line_fact lines.Refused = codes ",\n{\"fact\":\"verdict\",\"fits\":false}"
+line_fact (lines.Along a) = along_fact a
+line_fact (lines.Use u n) = use_fact u n
+line_fact (lines.Start s) = start_fact s
+line_fact (lines.Command k s) = command_fact k s
+line_fact (lines.InTheWay o) = obstacle_fact o
+line_fact (lines.Warned w) = warning_fact w

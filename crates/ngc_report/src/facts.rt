@@ -1,0 +1,238 @@
+//! How the lines of a report are spelled as facts of a JSON document.
+ghost use Rattle.std.specs.Prelude.{◌≡◌, ◌+◌, ◌≤◌, ◌++◌, codes, decimal, length};
+ghost use Rattle.std.specs.Fmt.{signed_decimal};
+ghost use Rattle.ngc_output.specs.Collected.{CHUNK_SIZE, HasLineRoom};
+ghost use Rattle.ngc_report.specs.Facts.{tool_fact, triple, nearest_fact, along_fact, use_fact, side_fact, start_fact, command_fact, over_fact, travel_fact, fixture_fact, obstacle_fact, warning_fact, line_fact};
+ghost use Rattle.ngc_report.specs.Words.{concern_text};
+
+use crate::line::{Along, Line};
+use crate::margins::{Margin, Side};
+use crate::nearest::Nearest;
+use crate::scene::{Met, Obstacle, Scene};
+use crate::uses::ToolUse;
+use crate::warnings::Warning;
+use crate::words::{axis_name, concern_words};
+use ngc_canonical::Tool;
+use ngc_fixed_length::{Nm, Point3};
+use ngc_output::Chunk;
+
+#[tactic(auto, unfolding(crate::specs::Facts::tool_fact))]
+fn add_tool(chunk: &mut Chunk, tool: &Option<Tool>)
+    requires { length chunk.old + 40 ≤ CHUNK_SIZE }
+    ensures text { chunk.new ≡ chunk.old ++ tool_fact tool.now }
+    ensures short { length chunk.new ≤ length chunk.old + 40 }
+{
+    match tool {
+        None => chunk.add_text(b"null"),
+        Some(tool) => chunk.add_number(tool.number),
+    }
+}
+
+fn add_nanometres(chunk: &mut Chunk, nanometres: i64)
+    requires { length chunk.old + 40 ≤ CHUNK_SIZE }
+    ensures text { chunk.new ≡ chunk.old ++ signed_decimal nanometres }
+    ensures short { length chunk.new ≤ length chunk.old + 40 }
+{
+    chunk.add_number(nanometres);
+}
+
+fn add_coordinate(chunk: &mut Chunk, coordinate: Nm)
+    requires { length chunk.old + 40 ≤ CHUNK_SIZE }
+    ensures text { chunk.new ≡ chunk.old ++ signed_decimal coordinate }
+    ensures short { length chunk.new ≤ length chunk.old + 40 }
+{
+    add_nanometres(chunk, coordinate.nanometres());
+}
+
+#[tactic(auto, unfolding(crate::specs::Facts::triple))]
+fn add_triple(chunk: &mut Chunk, place: &Point3)
+    requires { length chunk.old + 124 ≤ CHUNK_SIZE }
+    ensures text { chunk.new ≡ chunk.old ++ triple place.now }
+    ensures short { length chunk.new ≤ length chunk.old + 124 }
+{
+    chunk.add_text(b"[");
+    add_coordinate(chunk, place.x);
+    chunk.add_text(b",");
+    add_coordinate(chunk, place.y);
+    chunk.add_text(b",");
+    add_coordinate(chunk, place.z);
+    chunk.add_text(b"]");
+}
+
+fn add_distance(chunk: &mut Chunk, nearest: &Nearest)
+    requires { length chunk.old + 120 ≤ CHUNK_SIZE }
+    ensures { chunk.new ≡ chunk.old ++ (decimal nearest.now.fixture ++ codes ",\"distance\":" ++ signed_decimal nearest.now.distance ++ codes "}") }
+{
+    chunk.add_number(nearest.fixture);
+    chunk.add_text(b",\"distance\":");
+    chunk.add_number(nearest.distance);
+    chunk.add_text(b"}");
+}
+
+#[tactic(auto, unfolding(crate::specs::Facts::nearest_fact))]
+fn add_nearest(chunk: &mut Chunk, nearest: &Option<Nearest>)
+    requires { length chunk.old + 120 ≤ CHUNK_SIZE }
+    ensures { chunk.new ≡ chunk.old ++ nearest_fact nearest.now }
+{
+    match nearest {
+        None => chunk.add_text(b"null,\"distance\":null}"),
+        Some(nearest) => add_distance(chunk, nearest),
+    }
+}
+
+fn add_along(chunk: &mut Chunk, along: &Along)
+    requires { HasLineRoom chunk.old }
+    ensures { chunk.new ≡ chunk.old ++ along_fact along.now }
+{
+    chunk.add_text(b",\n{\"fact\":\"extent\",\"axis\":\"");
+    chunk.add_text(axis_name(along.axis));
+    chunk.add_text(b"\",\"low\":");
+    add_nanometres(chunk, along.low);
+    chunk.add_text(b",\"high\":");
+    add_nanometres(chunk, along.high);
+    chunk.add_text(b",\"left_below\":");
+    add_nanometres(chunk, along.room.below);
+    chunk.add_text(b",\"left_above\":");
+    add_nanometres(chunk, along.room.above);
+    chunk.add_text(b"}");
+}
+
+fn add_use(chunk: &mut Chunk, one: &ToolUse, nearest: &Option<Nearest>)
+    requires { HasLineRoom chunk.old }
+    ensures { chunk.new ≡ chunk.old ++ use_fact one.now nearest.now }
+{
+    chunk.add_text(b",\n{\"fact\":\"use\",\"tool\":");
+    add_tool(chunk, &one.tool);
+    chunk.add_text(b",\"traverses\":");
+    chunk.add_number(one.traverses);
+    chunk.add_text(b",\"feeds\":");
+    chunk.add_number(one.feeds);
+    chunk.add_text(b",\"arcs\":");
+    chunk.add_number(one.arcs);
+    chunk.add_text(b",\"dwells\":");
+    chunk.add_number(one.dwells);
+    chunk.add_text(b",\"stops\":");
+    chunk.add_number(one.stops);
+    chunk.add_text(b",\"nearest_fixture\":");
+    add_nearest(chunk, nearest);
+}
+
+fn add_start(chunk: &mut Chunk, scene: &Scene)
+    requires { HasLineRoom chunk.old }
+    ensures { chunk.new ≡ chunk.old ++ start_fact scene.now }
+{
+    chunk.add_text(b",\n{\"fact\":\"start\",\"at\":");
+    add_triple(chunk, &scene.from);
+    chunk.add_text(b"}");
+}
+
+fn add_command(chunk: &mut Chunk, command: usize, scene: &Scene)
+    requires { HasLineRoom chunk.old }
+    ensures { chunk.new ≡ chunk.old ++ command_fact command scene.now }
+{
+    chunk.add_text(b",\n{\"fact\":\"command\",\"index\":");
+    chunk.add_number(command);
+    chunk.add_text(b",\"line\":");
+    chunk.add_number(scene.line);
+    chunk.add_text(b",\"tool\":");
+    add_tool(chunk, &scene.tool);
+    chunk.add_text(b",\"from\":");
+    add_triple(chunk, &scene.from);
+    chunk.add_text(b",\"to\":");
+    add_triple(chunk, &scene.to);
+    chunk.add_text(b"}");
+}
+
+fn side_name(side: Side) -> &'static [u8]
+    ensures text { result.now ≡ side_fact side }
+    ensures short { length result.now ≤ 5 }
+{
+    match side {
+        Side::Below => b"below",
+        Side::Above => b"above",
+    }
+}
+
+fn add_travel(chunk: &mut Chunk, margin: &Margin)
+    requires { HasLineRoom chunk.old }
+    ensures { chunk.new ≡ chunk.old ++ travel_fact margin.now }
+{
+    chunk.add_text(b",\n{\"fact\":\"obstacle\",\"kind\":\"travel\",\"axis\":\"");
+    chunk.add_text(axis_name(margin.axis));
+    chunk.add_text(b"\",\"side\":\"");
+    chunk.add_text(side_name(margin.side));
+    chunk.add_text(b"\",\"left\":");
+    add_nanometres(chunk, margin.left);
+    chunk.add_text(b"}");
+}
+
+#[tactic(auto, unfolding(crate::specs::Facts::over_fact))]
+fn add_over(chunk: &mut Chunk, over: &Option<i64>)
+    requires { length chunk.old + 41 ≤ CHUNK_SIZE }
+    ensures { chunk.new ≡ chunk.old ++ over_fact over.now }
+{
+    match over {
+        None => chunk.add_text(b"null}"),
+        Some(height) => {
+            add_nanometres(chunk, *height);
+            chunk.add_text(b"}");
+        }
+    }
+}
+
+fn add_fixture(chunk: &mut Chunk, met: &Met)
+    requires { HasLineRoom chunk.old }
+    ensures { chunk.new ≡ chunk.old ++ fixture_fact met.now }
+{
+    chunk.add_text(b",\n{\"fact\":\"obstacle\",\"kind\":\"fixture\",\"fixture\":");
+    chunk.add_number(met.number);
+    chunk.add_text(b",\"low\":");
+    add_triple(chunk, &met.fixture.low);
+    chunk.add_text(b",\"high\":");
+    add_triple(chunk, &met.fixture.high);
+    chunk.add_text(b",\"over_from_z\":");
+    add_over(chunk, &met.over);
+}
+
+#[tactic(auto, unfolding(crate::specs::Facts::obstacle_fact))]
+fn add_obstacle(chunk: &mut Chunk, obstacle: &Option<Obstacle>)
+    requires { HasLineRoom chunk.old }
+    ensures { chunk.new ≡ chunk.old ++ obstacle_fact obstacle.now }
+{
+    match obstacle {
+        None => chunk.add_text(b",\n{\"fact\":\"obstacle\",\"kind\":null}"),
+        Some(Obstacle::Travel(margin)) => add_travel(chunk, margin),
+        Some(Obstacle::Fixture(met)) => add_fixture(chunk, met),
+    }
+}
+
+fn add_warning(chunk: &mut Chunk, warning: &Warning)
+    requires { HasLineRoom chunk.old }
+    ensures { chunk.new ≡ chunk.old ++ warning_fact warning.now }
+{
+    chunk.add_text(b",\n{\"fact\":\"warning\",\"text\":\"");
+    chunk.add_text(concern_words(warning.concern));
+    chunk.add_text(b"\",\"count\":");
+    chunk.add_number(warning.count);
+    chunk.add_text(b",\"line\":");
+    chunk.add_number(warning.line);
+    chunk.add_text(b"}");
+}
+
+/// Adds the fact that a line tells.
+#[tactic(auto, unfolding(crate::specs::Facts::line_fact))]
+pub(crate) fn add_fact(chunk: &mut Chunk, line: &Line)
+    requires { HasLineRoom chunk.old }
+    ensures { chunk.new ≡ chunk.old ++ line_fact line.now }
+{
+    match line {
+        Line::Fits => chunk.add_text(b",\n{\"fact\":\"verdict\",\"fits\":true}"),
+        Line::Refused => chunk.add_text(b",\n{\"fact\":\"verdict\",\"fits\":false}"),
+        Line::Along(along) => add_along(chunk, along),
+        Line::Use(one, nearest) => add_use(chunk, one, nearest),
+        Line::Start(scene) => add_start(chunk, scene),
+        Line::Command(command, scene) => add_command(chunk, *command, scene),
+        Line::InTheWay(obstacle) => add_obstacle(chunk, obstacle),
+        Line::Warned(warning) => add_warning(chunk, warning),
+    }
+}

@@ -1,0 +1,8 @@
+/// How a report is spelled.
+#[derive(Clone, Copy, Debug, PartialEq, Eq)]
+pub enum Form {
+    /// In sentences, with lengths in millimetres.
+    Words,
+    /// As a JSON document of facts, with lengths in nanometres.
+    Json,
+}

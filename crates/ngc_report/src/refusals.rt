@@ -1,0 +1,190 @@
+//! Reports of all commands that are refused.
+ghost use Rattle.std.specs.Prelude.{◌≡◌, ◌≤◌, ◌++◌, length, take, OnOk, OnErr};
+ghost use Rattle.std.specs.Io.KnownBytes.{Appends};
+ghost use Rattle.ngc_fixed_length.specs.Failures.{CountsFailure};
+ghost use Rattle.ngc_fixed_length.specs.Written.{AppendsBeginning};
+ghost use Rattle.ngc_machine.specs.Machine.{file_of};
+ghost use Rattle.ngc_report.specs.Forms.{report_text};
+ghost use Rattle.ngc_report.specs.Reports.{Tells, all_lines, causes_lines, start_lines_if, verdict_line};
+ghost use Rattle.ngc_report.specs.Scenes.{StandsBehind, scene_at, standing as standing_behind};
+
+use crate::bounds::extent;
+use crate::form::Form;
+use crate::line::Line;
+use crate::report::{alongs, tell_all, tell_scene, tell_start};
+use crate::scene::{Reached, Scene, gone_on, scene_of, standing};
+use ngc_canonical::{Command, Machine};
+use ngc_fixed_length::{Sink, WriteFault};
+use ngc_output::Chunk;
+use std::alloc::Allocator;
+
+/// How the machine stands behind the first of the commands.
+#[derive(Clone, Copy)]
+pub(crate) struct Standing {
+    pub(crate) count: usize,
+    pub(crate) reached: Reached,
+}
+
+impl Standing {
+    /// At the start.
+    fn first<A: Allocator>(machine: &Machine<A>, commands: &[Command]) -> Standing
+        ensures { StandsBehind (file_of machine.now) commands.now result }
+    {
+        Standing {
+            count: 0,
+            reached: standing(machine, &commands[..0]),
+        }
+    }
+
+    /// Behind so many commands.
+    fn at<A: Allocator>(&self, machine: &Machine<A>, commands: &[Command], count: usize) -> Standing
+        requires last { StandsBehind (file_of machine.now) commands.now self.now }
+        requires count { count ≤ length commands.now }
+        ensures reached { result.reached ≡ standing_behind (file_of machine.now) (take count commands.now) }
+        ensures stands { StandsBehind (file_of machine.now) commands.now result }
+    {
+        if count < self.count {
+            let reached = standing(machine, &commands[..count]);
+            return Standing { count, reached };
+        }
+        let reached = gone_on(self.reached, &commands[self.count..count]);
+        Standing { count, reached }
+    }
+
+    /// The scene of a command.
+    fn scene<A: Allocator>(
+        &mut self,
+        machine: &Machine<A>,
+        commands: &[Command],
+        command: usize,
+    ) -> Option<Scene>
+        requires { StandsBehind (file_of machine.now) commands.now self.old }
+        ensures scene { result ≡ scene_at (file_of machine.now) commands.now command }
+        ensures stands { StandsBehind (file_of machine.now) commands.now self.new }
+    {
+        match commands.get(command) {
+            None => None,
+            Some(here) => {
+                *self = self.at(machine, commands, command);
+                scene_of(machine, self.reached, here)
+            }
+        }
+    }
+}
+
+fn tell_causes<A: Allocator, W: Sink>(
+    chunk: &mut Chunk,
+    form: Form,
+    machine: &Machine<A>,
+    commands: &[Command],
+    indices: &[u32],
+    sink: &mut W,
+) -> Result<(), WriteFault>
+    ensures told { Tells form (W.written sink.old) (W.written sink.new) chunk.old chunk.new result (causes_lines (file_of machine.now) commands.now indices.now) }
+    ensures counts { CountsFailure (W.failures sink.old) (W.failures sink.new) result }
+{
+    let mut standing = Standing::first(machine, commands);
+    for index in indices {
+        let index = *index as usize;
+        let scene = standing.scene(machine, commands, index);
+        match tell_scene(chunk, form, machine, index, None, &scene, sink) {
+            Ok(()) => {}
+            Err(fault) => return Err(fault),
+        }
+    }
+    Ok(())
+}
+
+fn tell_start_if<A: Allocator, W: Sink>(
+    chunk: &mut Chunk,
+    form: Form,
+    machine: &Machine<A>,
+    start: bool,
+    sink: &mut W,
+) -> Result<(), WriteFault>
+    ensures told { Tells form (W.written sink.old) (W.written sink.new) chunk.old chunk.new result (start_lines_if (file_of machine.now) start) }
+    ensures counts { CountsFailure (W.failures sink.old) (W.failures sink.new) result }
+{
+    if start {
+        tell_start(chunk, form, machine, None, sink)
+    } else {
+        tell_all(chunk, form, &[], sink)
+    }
+}
+
+fn tell_refused<A: Allocator, W: Sink>(
+    chunk: &mut Chunk,
+    form: Form,
+    machine: &Machine<A>,
+    commands: &[Command],
+    start: bool,
+    indices: &[u32],
+    sink: &mut W,
+) -> Result<(), WriteFault>
+    ensures told { Tells form (W.written sink.old) (W.written sink.new) chunk.old chunk.new result (start_lines_if (file_of machine.now) start ++ causes_lines (file_of machine.now) commands.now indices.now) }
+    ensures counts { CountsFailure (W.failures sink.old) (W.failures sink.new) result }
+{
+    match tell_start_if(chunk, form, machine, start, sink) {
+        Ok(()) => {}
+        Err(fault) => return Err(fault),
+    }
+    tell_causes(chunk, form, machine, commands, indices, sink)
+}
+
+fn verdict(start: bool, indices: &[u32]) -> Line
+    ensures { result ≡ verdict_line start indices.now }
+{
+    if start || !indices.is_empty() {
+        Line::Refused
+    } else {
+        Line::Fits
+    }
+}
+
+fn tell_everything<A: Allocator, W: Sink>(
+    chunk: &mut Chunk,
+    form: Form,
+    machine: &Machine<A>,
+    commands: &[Command],
+    start: bool,
+    indices: &[u32],
+    sink: &mut W,
+) -> Result<(), WriteFault>
+    ensures told { Tells form (W.written sink.old) (W.written sink.new) chunk.old chunk.new result (all_lines (file_of machine.now) commands.now start indices.now) }
+    ensures counts { CountsFailure (W.failures sink.old) (W.failures sink.new) result }
+{
+    match tell_all(chunk, form, &[verdict(start, indices)], sink) {
+        Ok(()) => {}
+        Err(fault) => return Err(fault),
+    }
+    let sides = alongs(machine, &extent(machine, commands));
+    match tell_all(chunk, form, &sides, sink) {
+        Ok(()) => {}
+        Err(fault) => return Err(fault),
+    }
+    tell_refused(chunk, form, machine, commands, start, indices, sink)
+}
+
+/// Writes the report of a program of which these commands are refused, by their indices from 0, and the start, if it is: how far it
+/// goes along each axis, and for each what it does and what is in its way. With none of them the program fits. It takes the least
+/// time where the indices rise.
+///
+/// After a fault (902, and only where the sink failed) a beginning of the text is written.
+pub fn write_refusals<A: Allocator, W: Sink>(
+    form: Form,
+    machine: &Machine<A>,
+    commands: &[Command],
+    start: bool,
+    indices: &[u32],
+    sink: &mut W,
+) -> Result<(), WriteFault>
+    ensures ok { OnOk result (Appends (W.written sink.old) (W.written sink.new) (report_text form (all_lines (file_of machine.now) commands.now start indices.now))) }
+    ensures fault { OnErr result (AppendsBeginning (W.written sink.old) (W.written sink.new) (report_text form (all_lines (file_of machine.now) commands.now start indices.now))) }
+    ensures counts { CountsFailure (W.failures sink.old) (W.failures sink.new) result }
+{
+    let mut chunk = Chunk::new();
+    match tell_everything(&mut chunk, form, machine, commands, start, indices, sink) {
+        Ok(()) => chunk.write_out(sink),
+        Err(fault) => Err(fault),
+    }
+}
