@@ -2,5 +2,4 @@ pub mod TableLaws
 pub mod Words
 pub mod Standing
 pub mod Ranks
-pub mod LetterLaws
 mod Examples

@@ -1,6 +1,6 @@
 -- Which code a G or M word's value is (NISTIR 6556, 3.5 and 3.6). A code is written in tenths: 592 is G59.2.
 -- A value must be a code exactly: our own rule, as the manual allows a small difference.
-use Rattle.std.specs.Prelude.{ℕ, ◌/◌, ◌%◌, ◌==◌, ℤ, pos, negsuc, List, [], ◌∷◌, ◌++◌, Option, Some, None, Result, Ok, Err, true, false, if◌then◌else◌}
+use Rattle.std.specs.Prelude.{ℕ, ◌/◌, ◌%◌, ◌==◌, ℤ, pos, negsuc, List, [], ◌∷◌, ◌++◌, Option, Some, None, Result, Ok, Err, Bool, true, false, if◌then◌else◌}
 use Rattle.ngc_fixed_length.specs.declared.units.Units.TheVariants.{Millimetres, Inches}
 use Rattle.ngc_fixed_length.specs.declared.modes.Plane.TheVariants.{XY, ZX, YZ}
 use Rattle.ngc_fixed_length.specs.declared.modes.Distance.TheVariants.{Absolute, Incremental}
@@ -8,6 +8,8 @@ use Rattle.ngc_fixed_length.specs.declared.modes.FeedMode.TheVariants.{PerMinute
 use Rattle.ngc_fixed_length.specs.declared.modes.ReturnMode.TheVariants.{Series, Retract}
 use Rattle.ngc_fixed_length.specs.declared.modes.Turn.TheVariants.{Clockwise, Counterclockwise}
 use Rattle.ngc_fixed_length.specs.declared.modes.System.TheVariants.{First, Second, Third, Fourth, Fifth, Sixth, Seventh, Eighth, Ninth}
+use Rattle.ngc_line_reader.specs.declared.letter.Letter.{Letter}
+use Rattle.ngc_line_reader.specs.declared.letter.Letter.TheVariants.{G, M}
 use Rattle.ngc_modal_state.specs.Tables.{at_number, has_number}
 use Rattle.ngc_modal_state.specs.declared.code.Hole.TheVariants.{Drill, DrillWithDwell, Peck, Bore, BoreWithStop, BoreWithDwell}
 use Rattle.ngc_modal_state.specs.declared.code.Motion.TheVariants as motions
@@ -74,20 +76,23 @@ abbrev pub tenths : ℤ → Option ℕ
 tenths (pos n) = if n % 100000 == 0 then Some (n / 100000) else None
 tenths (negsuc n) = None
 
-abbrev pub known : Option Code → Result Code ModalFault
-known (Some code) = Ok code
-known None = Err UnknownCode
+-- whether a value in tenths is a code that is left out
+abbrev pub is_left_out : Option ℕ → Bool
+is_left_out None = false
+is_left_out (Some n) = has_number n left_out_codes
 
-abbrev pub g_code_at : Option ℕ → Result Code ModalFault
-g_code_at None = Err UnknownCode
-g_code_at (Some n) = if has_number n left_out_codes then Err LeftOut else known (at_number n g_codes)
+-- the code at a value in tenths
+abbrev pub code_at : List (ℕ × Code) → Option ℕ → Option Code
+code_at codes None = None
+code_at codes (Some n) = at_number n codes
 
-abbrev pub m_code_at : Option ℕ → Result Code ModalFault
-m_code_at None = Err UnknownCode
-m_code_at (Some n) = known (at_number n m_codes)
+-- the code, or else which word is no code
+abbrev pub known : Letter → ℤ → Option Code → Result Code ModalFault
+known letter value (Some code) = Ok code
+known letter value None = Err (UnknownCode letter value)
 
 unfoldable pub g_code : ℤ → Result Code ModalFault
-g_code value = g_code_at (tenths value)
+g_code value = if is_left_out (tenths value) then Err LeftOut else known G value (code_at g_codes (tenths value))
 
 unfoldable pub m_code : ℤ → Result Code ModalFault
-m_code value = m_code_at (tenths value)
+m_code value = known M value (code_at m_codes (tenths value))

@@ -1,5 +1,5 @@
 -- Steps that may refuse a line's words, and the numbers of faults. Our own.
-use Rattle.std.specs.Prelude.{ℕ, ◌≡◌, Result, Ok, Err, Bool, if◌then◌else◌}
+use Rattle.std.specs.Prelude.{ℕ, ◌≡◌, Option, Some, None, Result, Ok, Err, Bool, if◌then◌else◌}
 use Rattle.ngc_modal_state.specs.declared.fault.ModalFault.{ModalFault}
 use Rattle.ngc_modal_state.specs.declared.fault.ModalFault.TheVariants.{GroupTwice, TooManyMWords, LetterRepeated, UnknownCode, LeftOut, ClaimedTwice, WithoutUse, WordMissing, OutOfRange, WithoutStraightMotion}
 
@@ -17,15 +17,20 @@ abbrev pub ◌>>◌ : {A B : Type 0} → Result A ModalFault → Result B ModalF
 abbrev pub refuse_if : Bool → ModalFault → Result (Unit {0}) ModalFault
 refuse_if b e = if b then Err e else Ok tt
 
+-- refused where there is a word to name
+abbrev pub refuse_of : {A : Type 0} → (A → ModalFault) → Option A → Result (Unit {0}) ModalFault
+refuse_of fault None = Ok tt
+refuse_of fault (Some word) = Err (fault word)
+
 abbrev pub number : ModalFault → ℕ
 number GroupTwice = 201
 number TooManyMWords = 202
 number LetterRepeated = 203
-number UnknownCode = 204
+number (UnknownCode letter millionths) = 204
 number LeftOut = 205
 number ClaimedTwice = 206
-number WithoutUse = 207
-number WordMissing = 208
+number (WithoutUse letter) = 207
+number (WordMissing word) = 208
 number OutOfRange = 209
 number WithoutStraightMotion = 210
 

@@ -7,4 +7,3 @@ pub mod Kinds
 pub mod Use
 pub mod Effects
 pub mod Start
-pub mod Letters

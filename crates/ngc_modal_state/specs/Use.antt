@@ -1,10 +1,12 @@
 -- Which code uses which letter, and what is missing (NISTIR 6556, 3.5 and 3.7; which words are refused is our own rule).
-use Rattle.std.specs.Prelude.{ℕ, ◌/◌, ◌%◌, ◌==◌, nat_le, ℤ, unsigned_abs, Option, Some, None, Result, Bool, true, false, not, is_some, is_none, unwrap_or, ◌&&◌, ◌||◌, if◌then◌else◌}
+use Rattle.std.specs.Prelude.{ℕ, ◌/◌, ◌%◌, ◌==◌, nat_le, ℤ, [], ◌∷◌, unsigned_abs, Option, Some, None, Result, Bool, false, not, is_some, is_none, unwrap_or, ◌&&◌, ◌||◌, if◌then◌else◌}
 use Rattle.ngc_fixed_length.specs.Signed.{is_negative}
 use Rattle.ngc_fixed_length.specs.Limits.{MILLION}
 use Rattle.ngc_fixed_length.specs.declared.modes.Plane.{Plane}
 use Rattle.ngc_fixed_length.specs.declared.modes.Plane.TheVariants.{XY, ZX, YZ}
 use Rattle.ngc_fixed_length.specs.declared.modes.FeedMode.{FeedMode}
+use Rattle.ngc_line_reader.specs.declared.letter.Letter.{Letter}
+use Rattle.ngc_line_reader.specs.declared.letter.Letter.TheVariants.{F, H, I, J, K, L, P, Q, R, X, Y, Z}
 use Rattle.ngc_modal_state.specs.declared.code.Motion.{Motion}
 use Rattle.ngc_modal_state.specs.declared.code.Motion.TheVariants.{Cancel}
 use Rattle.ngc_modal_state.specs.declared.code.Once.{Once}
@@ -14,7 +16,10 @@ use Rattle.ngc_modal_state.specs.declared.block.Block.{Block}
 use Rattle.ngc_modal_state.specs.declared.fault.ModalFault.{ModalFault}
 use Rattle.ngc_modal_state.specs.declared.fault.ModalFault.TheVariants.{ClaimedTwice, WithoutUse, WordMissing, OutOfRange, WithoutStraightMotion}
 use Rattle.ngc_modal_state.specs.Kinds.{is_straight, is_arc, is_cycle, is_cancel, feeds, dwells, pecks, begins_cycle, is_inverse, is_dwell, sets_origin, sets_offset, is_machine_place, takes_axes, applies_length}
-use Rattle.ngc_modal_state.specs.Faults.{◌>>◌, refuse_if}
+use Rattle.ngc_modal_state.specs.declared.fault.MissingWord.{MissingWord}
+use Rattle.ngc_modal_state.specs.declared.fault.MissingWord.TheVariants as missing
+use Rattle.ngc_modal_state.specs.Faults.{◌>>◌, refuse_if, refuse_of}
+use Rattle.ngc_modal_state.specs.Tables.{first_where}
 
 -- ---- what a line has
 
@@ -62,20 +67,20 @@ abbrev pub uses_axes : Modes → Block → Bool
 uses_axes m b = takes_axes b.once || not (is_cancel (in_force m b))
 
 -- I, J and K of an arc are those of the plane
-abbrev pub uses_i : Plane → Bool
-uses_i YZ = false
-uses_i _ = true
+abbrev pub uses_i : Motion → Plane → Bool
+uses_i motion YZ = false
+uses_i motion _ = is_arc motion
 
-abbrev pub uses_j : Plane → Bool
-uses_j ZX = false
-uses_j _ = true
+abbrev pub uses_j : Motion → Plane → Bool
+uses_j motion ZX = false
+uses_j motion _ = is_arc motion
 
-abbrev pub uses_k : Plane → Bool
-uses_k XY = false
-uses_k _ = true
+abbrev pub uses_k : Motion → Plane → Bool
+uses_k motion XY = false
+uses_k motion _ = is_arc motion
 
 abbrev pub uses_r : Motion → Bool
-uses_r code = is_arc code || is_cycle code
+uses_r motion = is_arc motion || is_cycle motion
 
 abbrev pub uses_p : Option Once → Motion → Bool
 uses_p code motion = is_dwell code || sets_origin code || dwells motion
@@ -87,54 +92,62 @@ uses_l code motion = sets_origin code || is_cycle motion
 abbrev pub idle : Option ℤ → Bool → Bool
 idle word used = is_some word && not used
 
--- I, J, K, R, P, L, Q or H stands and nothing uses it
-unfoldable pub idle_word : Motion → Plane → Block → Bool
-idle_word motion plane b =
-    idle b.i (is_arc motion && uses_i plane) ||
-    idle b.j (is_arc motion && uses_j plane) ||
-    idle b.k (is_arc motion && uses_k plane) ||
-    idle b.r (uses_r motion) ||
-    idle b.p (uses_p b.once motion) ||
-    idle b.l (uses_l b.once motion) ||
-    idle b.q (pecks motion) ||
-    idle b.h (applies_length b.tool_length)
-
-unfoldable pub without_use : Modes → Block → Bool
-without_use m b = (has_axes b && not (uses_axes m b)) || idle_word (user m b) (plane_of m b) b
+-- The letter of a word that stands there and that nothing uses: of several the first in this order. F, S and T may always stand.
+unfoldable pub idle_letter : Modes → Block → Option Letter
+idle_letter m b = first_where (
+    (idle b.axes.x (uses_axes m b), X) ∷
+    (idle b.axes.y (uses_axes m b), Y) ∷
+    (idle b.axes.z (uses_axes m b), Z) ∷
+    (idle b.i (uses_i (user m b) (plane_of m b)), I) ∷
+    (idle b.j (uses_j (user m b) (plane_of m b)), J) ∷
+    (idle b.k (uses_k (user m b) (plane_of m b)), K) ∷
+    (idle b.r (uses_r (user m b)), R) ∷
+    (idle b.p (uses_p b.once (user m b)), P) ∷
+    (idle b.l (uses_l b.once (user m b)), L) ∷
+    (idle b.q (pecks (user m b)), Q) ∷
+    (idle b.h (applies_length b.tool_length), H) ∷ [])
 
 -- ---- 208: a word that is missing
 
--- the word of the depth axis
+-- the word of the axis that stands on the plane, and its letter
 abbrev pub depth_word : Plane → AxisWords → Option ℤ
 depth_word XY axes = axes.z
 depth_word ZX axes = axes.y
 depth_word YZ axes = axes.x
 
+abbrev pub depth_letter : Plane → Letter
+depth_letter XY = Z
+depth_letter ZX = Y
+depth_letter YZ = X
+
 abbrev pub lacks : Bool → Option ℤ → Bool
 lacks needed word = needed && is_none word
 
--- a cycle code's first line has R and the bottom, and P or Q where its hole takes them
-unfoldable pub lacks_cycle_words : Modes → Block → Bool
-lacks_cycle_words m b = begins_cycle m.motion (user m b) && (
-    is_none b.r || is_none (depth_word (plane_of m b) b.axes) ||
-    lacks (dwells (user m b)) b.p || lacks (pecks (user m b)) b.q)
+-- G92, G53 and a cycle code on the line need an axis word
+abbrev pub lacks_axes : Block → Bool
+lacks_axes b = (sets_offset b.once || is_machine_place b.once || is_cycle (unwrap_or b.motion Cancel)) && not (has_axes b)
 
-abbrev pub needs_axes : Block → Bool
-needs_axes b = sets_offset b.once || is_machine_place b.once || is_cycle (unwrap_or b.motion Cancel)
+-- a motion in inverse time needs F
+abbrev pub needs_feed : Modes → Block → Bool
+needs_feed m b = is_inverse (feed_mode_of m b) && has_axes b && feeds (user m b)
 
--- F of a motion in inverse time
-abbrev pub lacks_inverse_feed : Modes → Block → Bool
-lacks_inverse_feed m b = lacks (is_inverse (feed_mode_of m b) && has_axes b && feeds (user m b)) b.f
+-- A cycle code's first line needs R and the bottom, and P or Q where its hole takes them.
+abbrev pub begins : Modes → Block → Bool
+begins m b = begins_cycle m.motion (user m b)
 
-unfoldable pub lacks_word : Modes → Block → Bool
-lacks_word m b =
-    lacks (is_dwell b.once) b.p ||
-    lacks (sets_origin b.once) b.l ||
-    lacks (sets_origin b.once) b.p ||
-    lacks (applies_length b.tool_length) b.h ||
-    (needs_axes b && not (has_axes b)) ||
-    lacks_inverse_feed m b ||
-    lacks_cycle_words m b
+-- The word that a code needs and that doesn't stand there: of several the first in this order.
+unfoldable pub missing_word : Modes → Block → Option MissingWord
+missing_word m b = first_where (
+    (lacks (is_dwell b.once) b.p, missing.Letter P) ∷
+    (lacks (sets_origin b.once) b.l, missing.Letter L) ∷
+    (lacks (sets_origin b.once) b.p, missing.Letter P) ∷
+    (lacks (applies_length b.tool_length) b.h, missing.Letter H) ∷
+    (lacks_axes b, missing.Axis) ∷
+    (lacks (needs_feed m b) b.f, missing.Letter F) ∷
+    (lacks (begins m b) b.r, missing.Letter R) ∷
+    (lacks (begins m b) (depth_word (plane_of m b) b.axes), missing.Letter (depth_letter (plane_of m b))) ∷
+    (lacks (begins m b && dwells (user m b)) b.p, missing.Letter P) ∷
+    (lacks (begins m b && pecks (user m b)) b.q, missing.Letter Q) ∷ [])
 
 -- ---- 209: a word out of range
 
@@ -171,6 +184,6 @@ abbrev pub check : Modes → Block → Result (Unit {0}) ModalFault
 check m b =
     refuse_if (lacks_straight m b) WithoutStraightMotion >>
     refuse_if (claimed_twice m b) ClaimedTwice >>
-    refuse_if (without_use m b) WithoutUse >>
-    refuse_if (lacks_word m b) WordMissing >>
+    refuse_of WithoutUse (idle_letter m b) >>
+    refuse_of WordMissing (missing_word m b) >>
     refuse_if (out_of_range b) OutOfRange

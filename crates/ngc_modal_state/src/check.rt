@@ -1,18 +1,51 @@
 ghost use Rattle.std.specs.Prelude.{◌≡◌};
-ghost use Rattle.ngc_modal_state.specs.Use.{lacks};
+ghost use Rattle.ngc_modal_state.specs.Use.{idle, lacks, depth_letter as letter_of_depth};
+ghost use Rattle.ngc_modal_state.specs.Tables.{first_where as first_in};
 
 use crate::block::{AxisWords, Block};
 use crate::code::Motion;
-use crate::fault::ModalFault;
+use crate::fault::{MissingWord, ModalFault};
 use crate::modes::Modes;
 use crate::range::{is_negative, is_not_whole_from};
+use crate::used::{uses_i, uses_j, uses_k, uses_r};
 use ngc_fixed_length::{FeedMode, Plane, Value};
+use ngc_line_reader::Letter;
+
+// Of rows of a test and an answer, the answer of the first whose test holds.
+fn first_where<T: Copy>(rows: &[(bool, T)]) -> Option<T>
+    ensures { result ≡ first_in rows.now }
+{
+    for (holds, answer) in rows {
+        if *holds {
+            return Some(*answer);
+        }
+    }
+    None
+}
+
+// Whether the word stands and isn't used.
+fn is_idle(word: Option<Value>, used: bool) -> bool
+    ensures { result ≡ idle word used }
+{
+    word.is_some() && !used
+}
 
 // Whether the word is needed and doesn't stand.
 fn is_lacking(needed: bool, word: Option<Value>) -> bool
     ensures { result ≡ lacks needed word }
 {
     needed && word.is_none()
+}
+
+// The letter of the axis that stands on the plane.
+fn depth_letter(plane: Plane) -> Letter
+    ensures { result ≡ letter_of_depth plane }
+{
+    match plane {
+        Plane::XY => Letter::Z,
+        Plane::ZX => Letter::Y,
+        Plane::YZ => Letter::X,
+    }
 }
 
 impl AxisWords {
@@ -31,7 +64,7 @@ impl AxisWords {
 }
 
 impl Block {
-    ghost use Rattle.ngc_modal_state.specs.Use.{claimed_twice, without_use, lacks_cycle_words, needs_axes, lacks_inverse_feed, lacks_word, out_of_range, lacks_straight, check as check_of};
+    ghost use Rattle.ngc_modal_state.specs.Use.{claimed_twice, idle_letter, lacks_axes, needs_feed, missing_word, out_of_range, lacks_straight, check as check_of};
 
     // Whether two codes use the axis words, or P, or R stands together with I, J or K.
     #[tactic(auto, unfolding(crate::specs::Use::claimed_twice))]
@@ -45,61 +78,92 @@ impl Block {
             || (user.is_arc() && self.r.is_some() && self.has_offsets())
     }
 
-    // Whether a word stands that nothing uses.
-    #[tactic(auto, unfolding(crate::specs::Use::without_use))]
-    fn has_word_without_use(&self, modes: &Modes) -> bool
-        ensures { result ≡ without_use modes.now self.now }
-    {
-        let axes_idle = !self.takes_axes() && self.motion_in_force(modes).is_cancel();
-        let user = self.user(modes);
-        (self.has_axes() && axes_idle) || self.has_idle_word(user, self.plane_in_force(modes))
-    }
-
-    // Whether a cycle code's first line lacks R, the bottom, or the P or Q that its hole takes.
-    #[tactic(auto, unfolding(crate::specs::Use::lacks_cycle_words))]
-    fn lacks_cycle_words(&self, modes: &Modes) -> bool
-        ensures { result ≡ lacks_cycle_words modes.now self.now }
+    // The letter of a word that stands and that nothing uses, the first in this order.
+    #[tactic(auto, unfolding(crate::specs::Use::idle_letter))]
+    fn idle_letter(&self, modes: &Modes) -> Option<Letter>
+        ensures { result ≡ idle_letter modes.now self.now }
     {
         let user = self.user(modes);
-        user.begins_cycle(modes.motion)
-            && (self.r.is_none()
-                || self.axes.depth(self.plane_in_force(modes)).is_none()
-                || is_lacking(user.dwells(), self.p)
-                || is_lacking(user.pecks(), self.q))
+        let plane = self.plane_in_force(modes);
+        let axes = self.uses_axes(modes);
+        first_where(&[
+            (is_idle(self.axes.x, axes), Letter::X),
+            (is_idle(self.axes.y, axes), Letter::Y),
+            (is_idle(self.axes.z, axes), Letter::Z),
+            (is_idle(self.i, uses_i(user, plane)), Letter::I),
+            (is_idle(self.j, uses_j(user, plane)), Letter::J),
+            (is_idle(self.k, uses_k(user, plane)), Letter::K),
+            (is_idle(self.r, uses_r(user)), Letter::R),
+            (is_idle(self.p, self.uses_p(user)), Letter::P),
+            (is_idle(self.l, self.uses_l(user)), Letter::L),
+            (is_idle(self.q, user.pecks()), Letter::Q),
+            (is_idle(self.h, self.applies_length()), Letter::H),
+        ])
     }
 
-    // G92, G53, and a cycle code on the line.
-    fn needs_axes(&self) -> bool
-        ensures { result ≡ needs_axes self.now }
+    // G92, G53 or a cycle code on the line, without an axis word.
+    fn lacks_axes(&self) -> bool
+        ensures { result ≡ lacks_axes self.now }
     {
-        self.sets_offset()
+        let needed = self.sets_offset()
             || self.is_machine_place()
-            || self.motion.unwrap_or(Motion::Cancel).is_cycle()
+            || self.motion.unwrap_or(Motion::Cancel).is_cycle();
+        needed && !self.has_axes()
     }
 
-    // Whether a motion in inverse time lacks F.
-    fn lacks_inverse_feed(&self, modes: &Modes) -> bool
-        ensures { result ≡ lacks_inverse_feed modes.now self.now }
+    // Whether there is a motion at a feed in inverse time.
+    fn needs_feed(&self, modes: &Modes) -> bool
+        ensures { result ≡ needs_feed modes.now self.now }
     {
         let inverse = matches!(self.feed_mode_in_force(modes), FeedMode::InverseTime);
-        is_lacking(
-            inverse && self.has_axes() && self.user(modes).feeds(),
-            self.f,
-        )
+        inverse && self.has_axes() && self.user(modes).feeds()
     }
 
-    // Whether a word is missing that a code needs.
-    #[tactic(auto, unfolding(crate::specs::Use::lacks_word))]
-    fn lacks_word(&self, modes: &Modes) -> bool
-        ensures { result ≡ lacks_word modes.now self.now }
+    // The word that a code needs and that doesn't stand, the first in this order.
+    #[tactic(auto, unfolding(crate::specs::Use::missing_word))]
+    fn missing_word(&self, modes: &Modes) -> Option<MissingWord>
+        ensures { result ≡ missing_word modes.now self.now }
     {
-        is_lacking(self.is_dwell(), self.p)
-            || is_lacking(self.sets_origin(), self.l)
-            || is_lacking(self.sets_origin(), self.p)
-            || is_lacking(self.applies_length(), self.h)
-            || (self.needs_axes() && !self.has_axes())
-            || self.lacks_inverse_feed(modes)
-            || self.lacks_cycle_words(modes)
+        let user = self.user(modes);
+        let plane = self.plane_in_force(modes);
+        let begins = user.begins_cycle(modes.motion);
+        let depth = self.axes.depth(plane);
+        first_where(&[
+            (
+                is_lacking(self.is_dwell(), self.p),
+                MissingWord::Letter(Letter::P),
+            ),
+            (
+                is_lacking(self.sets_origin(), self.l),
+                MissingWord::Letter(Letter::L),
+            ),
+            (
+                is_lacking(self.sets_origin(), self.p),
+                MissingWord::Letter(Letter::P),
+            ),
+            (
+                is_lacking(self.applies_length(), self.h),
+                MissingWord::Letter(Letter::H),
+            ),
+            (self.lacks_axes(), MissingWord::Axis),
+            (
+                is_lacking(self.needs_feed(modes), self.f),
+                MissingWord::Letter(Letter::F),
+            ),
+            (is_lacking(begins, self.r), MissingWord::Letter(Letter::R)),
+            (
+                is_lacking(begins, depth),
+                MissingWord::Letter(depth_letter(plane)),
+            ),
+            (
+                is_lacking(begins && user.dwells(), self.p),
+                MissingWord::Letter(Letter::P),
+            ),
+            (
+                is_lacking(begins && user.pecks(), self.q),
+                MissingWord::Letter(Letter::Q),
+            ),
+        ])
     }
 
     // Whether a word's value is out of its range; a value has at most 10^9 units.
@@ -129,17 +193,20 @@ impl Block {
         ensures { result ≡ check_of modes.now self.now }
     {
         if self.lacks_straight(modes) {
-            Err(ModalFault::WithoutStraightMotion)
-        } else if self.is_claimed_twice(modes) {
-            Err(ModalFault::ClaimedTwice)
-        } else if self.has_word_without_use(modes) {
-            Err(ModalFault::WithoutUse)
-        } else if self.lacks_word(modes) {
-            Err(ModalFault::WordMissing)
-        } else if self.has_word_out_of_range() {
-            Err(ModalFault::OutOfRange)
-        } else {
-            Ok(())
+            return Err(ModalFault::WithoutStraightMotion);
         }
+        if self.is_claimed_twice(modes) {
+            return Err(ModalFault::ClaimedTwice);
+        }
+        if let Some(letter) = self.idle_letter(modes) {
+            return Err(ModalFault::WithoutUse(letter));
+        }
+        if let Some(word) = self.missing_word(modes) {
+            return Err(ModalFault::WordMissing(word));
+        }
+        if self.has_word_out_of_range() {
+            return Err(ModalFault::OutOfRange);
+        }
+        Ok(())
     }
 }

@@ -1,9 +1,20 @@
 ghost use Rattle.std.specs.Prelude.{◌≡◌};
 
+use ngc_line_reader::Letter;
+use std::fmt;
 use thiserror::Error;
 
+/// A word that a code on the line, or in force, needs and that doesn't stand there.
+#[derive(Clone, Copy, PartialEq, Eq)]
+pub enum MissingWord {
+    /// X, Y or Z: any of them will do.
+    Axis,
+    /// The word of this letter.
+    Letter(Letter),
+}
+
 /// Why a line's words make no block, 201 to 205, or a block has no effects, 206 to 210.
-#[derive(Clone, Copy, Debug, PartialEq, Eq, Error)]
+#[derive(Clone, Copy, PartialEq, Eq, Error)]
 pub enum ModalFault {
     /// 201
     #[error("two codes of one modal group")]
@@ -14,27 +25,44 @@ pub enum ModalFault {
     /// 203
     #[error("a letter that may stand once is repeated")]
     LetterRepeated,
-    /// 204
-    #[error("the code is unknown")]
-    UnknownCode,
+    /// 204: the word's letter, G or M, and its value in millionths. It is the first from the left that doesn't fit.
+    #[error("the {} code is unknown", spelled(*.letter))]
+    UnknownCode { letter: Letter, millionths: i64 },
     /// 205: A, B, C, D, G38.2, G41, G42, G84, G87, G88.
     #[error("the code or letter is left out of this language profile")]
     LeftOut,
     /// 206
     #[error("two codes on the line use the same word")]
     ClaimedTwice,
-    /// 207
-    #[error("no code on the line uses this word")]
-    WithoutUse,
-    /// 208
-    #[error("a word that a code on the line needs is missing")]
-    WordMissing,
+    /// 207: the letter of a word that nothing uses, of several the first of X, Y, Z, I, J, K, R, P, L, Q, H (our own).
+    #[error("no code on the line uses the word {}", spelled(*.0))]
+    WithoutUse(Letter),
+    /// 208: of several words the first of P of G4, L and P of G10, H of G43, an axis word, F in inverse time, and on a cycle's
+    /// first line R, the bottom, P, Q (our own).
+    #[error("{0}, which a code on the line needs, is missing")]
+    WordMissing(MissingWord),
     /// 209
     #[error("a word's value is out of its range")]
     OutOfRange,
     /// 210
     #[error("G53 stands without G0 or G1 in force")]
     WithoutStraightMotion,
+}
+
+impl fmt::Display for MissingWord {
+    fn fmt<W: fmt::Write>(&self, f: &mut fmt::Formatter<W>) -> fmt::Result {
+        match self {
+            MissingWord::Axis => write!(f, "an axis word"),
+            MissingWord::Letter(letter) => write!(f, "the word {}", spelled(*letter)),
+        }
+    }
+}
+
+// A letter is shown as in the fault's text.
+impl fmt::Debug for ModalFault {
+    fn fmt<W: fmt::Write>(&self, f: &mut fmt::Formatter<W>) -> fmt::Result {
+        write!(f, "{self}")
+    }
 }
 
 impl ModalFault {
@@ -48,13 +76,38 @@ impl ModalFault {
             ModalFault::GroupTwice => 201,
             ModalFault::TooManyMWords => 202,
             ModalFault::LetterRepeated => 203,
-            ModalFault::UnknownCode => 204,
+            ModalFault::UnknownCode { .. } => 204,
             ModalFault::LeftOut => 205,
             ModalFault::ClaimedTwice => 206,
-            ModalFault::WithoutUse => 207,
-            ModalFault::WordMissing => 208,
+            ModalFault::WithoutUse(_) => 207,
+            ModalFault::WordMissing(_) => 208,
             ModalFault::OutOfRange => 209,
             ModalFault::WithoutStraightMotion => 210,
         }
+    }
+}
+
+fn spelled(letter: Letter) -> &'static str {
+    match letter {
+        Letter::A => "A",
+        Letter::B => "B",
+        Letter::C => "C",
+        Letter::D => "D",
+        Letter::F => "F",
+        Letter::G => "G",
+        Letter::H => "H",
+        Letter::I => "I",
+        Letter::J => "J",
+        Letter::K => "K",
+        Letter::L => "L",
+        Letter::M => "M",
+        Letter::P => "P",
+        Letter::Q => "Q",
+        Letter::R => "R",
+        Letter::S => "S",
+        Letter::T => "T",
+        Letter::X => "X",
+        Letter::Y => "Y",
+        Letter::Z => "Z",
     }
 }

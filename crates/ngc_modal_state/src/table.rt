@@ -5,6 +5,7 @@ ghost use Rattle.ngc_modal_state.specs.Tables.{at_number};
 use crate::code::{Code, Coolant, Hole, LengthCode, Motion, Once, PathControl, Spindle, Stopping};
 use crate::fault::ModalFault;
 use ngc_fixed_length::{Distance, FeedMode, Plane, ReturnMode, System, Turn, Units, Value};
+use ngc_line_reader::Letter;
 
 // A value in tenths, where it is a whole number of them.
 fn tenths(value: Value) -> Option<u64>
@@ -116,10 +117,14 @@ fn g_code_at(tenths: u64) -> Option<Code>
 pub(crate) fn g_code(value: Value) -> Result<Code, ModalFault>
     ensures { result ≡ g_code_of value }
 {
+    let unknown = ModalFault::UnknownCode {
+        letter: Letter::G,
+        millionths: value.millionths(),
+    };
     match tenths(value) {
         Some(382 | 410 | 420 | 840 | 870 | 880) => Err(ModalFault::LeftOut),
-        Some(tenths) => g_code_at(tenths).ok_or(ModalFault::UnknownCode),
-        None => Err(ModalFault::UnknownCode),
+        Some(tenths) => g_code_at(tenths).ok_or(unknown),
+        None => Err(unknown),
     }
 }
 
@@ -151,8 +156,12 @@ fn m_code_at(tenths: u64) -> Option<Code>
 pub(crate) fn m_code(value: Value) -> Result<Code, ModalFault>
     ensures { result ≡ m_code_of value }
 {
+    let unknown = ModalFault::UnknownCode {
+        letter: Letter::M,
+        millionths: value.millionths(),
+    };
     match tenths(value) {
-        Some(tenths) => m_code_at(tenths).ok_or(ModalFault::UnknownCode),
-        None => Err(ModalFault::UnknownCode),
+        Some(tenths) => m_code_at(tenths).ok_or(unknown),
+        None => Err(unknown),
     }
 }

@@ -1,35 +1,38 @@
 ghost use Rattle.std.specs.Prelude.{◌≡◌};
-ghost use Rattle.ngc_modal_state.specs.Use.{uses_i as i_used, uses_j as j_used, uses_k as k_used};
+ghost use Rattle.ngc_modal_state.specs.Use.{uses_i as i_used, uses_j as j_used, uses_k as k_used, uses_r as r_used};
 
 use crate::block::Block;
 use crate::code::Motion;
-use crate::letters::Letters;
 use crate::modes::Modes;
-use bitflags::Flags;
 use ngc_fixed_length::{FeedMode, Plane};
 
 // I, J and K of an arc are those of its plane.
-fn uses_i(plane: Plane) -> bool
-    ensures { result ≡ i_used plane }
+pub(crate) fn uses_i(motion: Motion, plane: Plane) -> bool
+    ensures { result ≡ i_used motion plane }
 {
-    !matches!(plane, Plane::YZ)
+    motion.is_arc() && !matches!(plane, Plane::YZ)
 }
 
-fn uses_j(plane: Plane) -> bool
-    ensures { result ≡ j_used plane }
+pub(crate) fn uses_j(motion: Motion, plane: Plane) -> bool
+    ensures { result ≡ j_used motion plane }
 {
-    !matches!(plane, Plane::ZX)
+    motion.is_arc() && !matches!(plane, Plane::ZX)
 }
 
-fn uses_k(plane: Plane) -> bool
-    ensures { result ≡ k_used plane }
+pub(crate) fn uses_k(motion: Motion, plane: Plane) -> bool
+    ensures { result ≡ k_used motion plane }
 {
-    !matches!(plane, Plane::XY)
+    motion.is_arc() && !matches!(plane, Plane::XY)
+}
+
+pub(crate) fn uses_r(motion: Motion) -> bool
+    ensures { result ≡ r_used motion }
+{
+    motion.is_arc() || motion.is_cycle()
 }
 
 impl Block {
-    ghost use Rattle.ngc_modal_state.specs.Letters.{letters_of, unused_letters};
-    ghost use Rattle.ngc_modal_state.specs.Use.{has_axes, has_offsets, has_arc_words, plane_of, feed_mode_of, in_force, user, idle_word};
+    ghost use Rattle.ngc_modal_state.specs.Use.{has_axes, has_offsets, has_arc_words, plane_of, feed_mode_of, in_force, user, uses_axes, uses_p, uses_l};
 
     // X, Y or Z.
     pub(crate) fn has_axes(&self) -> bool
@@ -89,47 +92,22 @@ impl Block {
         }
     }
 
-    // The letters that stand on the line.
-    #[tactic(auto, unfolding(crate::specs::Letters::together))]
-    fn letters(&self) -> Letters
-        ensures { result.0 ≡ letters_of self.now }
+    // Whether a code takes the axis words, or moves by them.
+    pub(crate) fn uses_axes(&self, modes: &Modes) -> bool
+        ensures { result ≡ uses_axes modes.now self.now }
     {
-        Letters::I
-            .when(self.i.is_some())
-            .union(Letters::J.when(self.j.is_some()))
-            .union(Letters::K.when(self.k.is_some()))
-            .union(Letters::R.when(self.r.is_some()))
-            .union(Letters::P.when(self.p.is_some()))
-            .union(Letters::L.when(self.l.is_some()))
-            .union(Letters::Q.when(self.q.is_some()))
-            .union(Letters::H.when(self.h.is_some()))
+        self.takes_axes() || !self.motion_in_force(modes).is_cancel()
     }
 
-    // The letters that no code of the line uses.
-    #[tactic(auto, unfolding(crate::specs::Letters::together))]
-    fn unused_letters(&self, motion: Motion, plane: Plane) -> Letters
-        ensures { result.0 ≡ unused_letters motion plane self.now }
+    pub(crate) fn uses_p(&self, motion: Motion) -> bool
+        ensures { result ≡ uses_p self.now.once motion }
     {
-        let arc = motion.is_arc();
-        let cycle = motion.is_cycle();
-        let origin = self.sets_origin();
-        Letters::I
-            .when(!(arc && uses_i(plane)))
-            .union(Letters::J.when(!(arc && uses_j(plane))))
-            .union(Letters::K.when(!(arc && uses_k(plane))))
-            .union(Letters::R.when(!(arc || cycle)))
-            .union(Letters::P.when(!(self.is_dwell() || origin || motion.dwells())))
-            .union(Letters::L.when(!(origin || cycle)))
-            .union(Letters::Q.when(!motion.pecks()))
-            .union(Letters::H.when(!self.applies_length()))
+        self.is_dwell() || self.sets_origin() || motion.dwells()
     }
 
-    // Whether I, J, K, R, P, L, Q or H stands and nothing uses it.
-    #[tactic(auto, using(crate::proofs::LetterLaws::meets_together), unfolding(crate::specs::Letters::meets))]
-    pub(crate) fn has_idle_word(&self, motion: Motion, plane: Plane) -> bool
-        ensures { result ≡ idle_word motion plane self.now }
+    pub(crate) fn uses_l(&self, motion: Motion) -> bool
+        ensures { result ≡ uses_l self.now.once motion }
     {
-        self.unused_letters(motion, plane)
-            .intersects(self.letters())
+        self.sets_origin() || motion.is_cycle()
     }
 }

@@ -1,10 +1,10 @@
 use crate::checks::same;
 use arrayvec::ArrayVec;
 use ngc_fixed_length::{Distance, FeedMode, Plane, ReturnMode, System, Turn, Units, Value};
-use ngc_line_reader::read_line;
+use ngc_line_reader::{Letter, read_line};
 use ngc_modal_state::{
-    ArcWords, AxisWords, Block, Coolant, CycleWords, Effect, Hole, Home, ModalFault, Modes, Motion,
-    PathControl, Spindle, Stopping, laws,
+    ArcWords, AxisWords, Block, Coolant, CycleWords, Effect, Hole, Home, MissingWord, ModalFault,
+    Modes, Motion, PathControl, Spindle, Stopping, laws,
 };
 use ngc_parameters::{Store, Word};
 use std::alloc::Allocator;
@@ -24,13 +24,22 @@ fn effects_of(words: &[Word], motion: Motion) -> Result<ArrayVec<Effect, 24>, Mo
     Ok(effects)
 }
 
-// The number of the fault of a line in these modes, 0 where it has effects.
-fn number<A: Allocator>(store: &Store<A>, motion: Motion, text: &str) -> Result<u16, Fail> {
+// The fault of a line in these modes, where it has no effects.
+fn fault<A: Allocator>(
+    store: &Store<A>,
+    motion: Motion,
+    text: &str,
+) -> Result<Option<ModalFault>, Fail> {
     let line = read_line(text.as_bytes())?;
     let (words, _changes) = store.words(&line)?;
-    match effects_of(words.as_slice(), motion) {
-        Ok(_) => Ok(0),
-        Err(fault) => Ok(fault.number()),
+    Ok(effects_of(words.as_slice(), motion).err())
+}
+
+// The number of the fault of a line in these modes, 0 where it has effects.
+fn number<A: Allocator>(store: &Store<A>, motion: Motion, text: &str) -> Result<u16, Fail> {
+    match fault(store, motion, text)? {
+        None => Ok(0),
+        Some(fault) => Ok(fault.number()),
     }
 }
 
@@ -147,6 +156,124 @@ fn faults_of_lines(rt: HostRuntime) -> Result<(), Fail> {
         for (text, wanted) in *lines {
             same(&rt, text, &number(&store, *motion, text)?, wanted);
         }
+    }
+    Ok(())
+}
+
+// Lines at a program's start, and the code of each that is unknown: its letter, and its value in millionths.
+const UNKNOWN: &[(&str, Letter, i64)] = &[
+    ("G5 X1", Letter::G, 5_000_000),
+    ("G1.05 X1", Letter::G, 1_050_000),
+    ("G0 G-1", Letter::G, -1_000_000),
+    ("G[2+3]", Letter::G, 5_000_000),
+    ("M10", Letter::M, 10_000_000),
+    ("M3.1", Letter::M, 3_100_000),
+    ("M99 G5", Letter::M, 99_000_000),
+    ("G5 M99", Letter::G, 5_000_000),
+];
+
+// By the motion in force: lines, and the letter of each that nothing uses.
+const IDLE: &[(Motion, &str, Letter)] = &[
+    (Motion::Cancel, "X1", Letter::X),
+    (Motion::Cancel, "Z1 Y2", Letter::Y),
+    (Motion::Cancel, "K2 Z1 G80", Letter::Z),
+    (Motion::Cancel, "G2 X10 Y0 K5", Letter::K),
+    (Motion::Cancel, "G19 G2 Y10 I5", Letter::I),
+    (Motion::Cancel, "G18 G2 X10 J5", Letter::J),
+    (Motion::Cancel, "G1 X1 R2", Letter::R),
+    (Motion::Cancel, "G64 P1", Letter::P),
+    (Motion::Cancel, "G0 L1", Letter::L),
+    (Motion::Cancel, "G81 X1 Z-1 R0 Q1", Letter::Q),
+    (Motion::Cancel, "G49 H1", Letter::H),
+    (Motion::Cancel, "G4 P1 H1 Q2 L3 K4", Letter::K),
+    (Motion::Cancel, "G64 H1 Q1 L1 P1 R1", Letter::R),
+    (Motion::Cancel, "G64 H1 Q1 L1 P1", Letter::P),
+    (Motion::Cancel, "G64 H1 Q1 L1", Letter::L),
+    (Motion::Cancel, "G64 H1 Q1", Letter::Q),
+    (Motion::Cancel, "G4 J1", Letter::J),
+    (Motion::Cycle(Hole::Peck), "L2 R1", Letter::R),
+    (Motion::Cycle(Hole::Peck), "X1 P1", Letter::P),
+    (Motion::Traverse, "X1 I1", Letter::I),
+];
+
+// By the motion in force: lines, and the word of each that is missing.
+const MISSING: &[(Motion, &str, MissingWord)] = &[
+    (Motion::Cancel, "G4", MissingWord::Letter(Letter::P)),
+    (Motion::Cancel, "G43 G4", MissingWord::Letter(Letter::P)),
+    (Motion::Cancel, "G10", MissingWord::Letter(Letter::L)),
+    (Motion::Cancel, "G10 P1", MissingWord::Letter(Letter::L)),
+    (Motion::Cancel, "G10 L2", MissingWord::Letter(Letter::P)),
+    (Motion::Cancel, "G43", MissingWord::Letter(Letter::H)),
+    (Motion::Cancel, "G43 G92", MissingWord::Letter(Letter::H)),
+    (Motion::Cancel, "G92", MissingWord::Axis),
+    (Motion::Cancel, "G0 G53", MissingWord::Axis),
+    (Motion::Cancel, "G81 R1", MissingWord::Axis),
+    (Motion::Cancel, "G93 G1 X1", MissingWord::Letter(Letter::F)),
+    (
+        Motion::Traverse,
+        "G93 G2 X1",
+        MissingWord::Letter(Letter::F),
+    ),
+    (Motion::Cancel, "G81 X1", MissingWord::Letter(Letter::R)),
+    (Motion::Cancel, "G93 G81 X1", MissingWord::Letter(Letter::R)),
+    (Motion::Cancel, "G82 X1 R0", MissingWord::Letter(Letter::Z)),
+    (
+        Motion::Cancel,
+        "G18 G81 X1 Z-1 R0",
+        MissingWord::Letter(Letter::Y),
+    ),
+    (
+        Motion::Cancel,
+        "G19 G81 Y1 Z-1 R0",
+        MissingWord::Letter(Letter::X),
+    ),
+    (
+        Motion::Cancel,
+        "G82 X1 Z-1 R0",
+        MissingWord::Letter(Letter::P),
+    ),
+    (
+        Motion::Cancel,
+        "G83 X1 Z-1 R0",
+        MissingWord::Letter(Letter::Q),
+    ),
+    (
+        Motion::Cycle(Hole::Peck),
+        "G81 X1",
+        MissingWord::Letter(Letter::R),
+    ),
+];
+
+#[test]
+fn unknown_codes(rt: HostRuntime) -> Result<(), Fail> {
+    let store = Store::new(rt.alloc())?;
+    for (text, letter, millionths) in UNKNOWN {
+        let wanted = ModalFault::UnknownCode {
+            letter: *letter,
+            millionths: *millionths,
+        };
+        let found = fault(&store, Motion::Cancel, text)?;
+        same(&rt, text, &found, &Some(wanted));
+    }
+    Ok(())
+}
+
+#[test]
+fn idle_words(rt: HostRuntime) -> Result<(), Fail> {
+    let store = Store::new(rt.alloc())?;
+    for (motion, text, letter) in IDLE {
+        let wanted = ModalFault::WithoutUse(*letter);
+        same(&rt, text, &fault(&store, *motion, text)?, &Some(wanted));
+    }
+    Ok(())
+}
+
+#[test]
+fn missing_words(rt: HostRuntime) -> Result<(), Fail> {
+    let store = Store::new(rt.alloc())?;
+    for (motion, text, word) in MISSING {
+        let wanted = ModalFault::WordMissing(*word);
+        same(&rt, text, &fault(&store, *motion, text)?, &Some(wanted));
     }
     Ok(())
 }
@@ -369,16 +496,35 @@ fn single_effects(rt: HostRuntime) -> Result<(), Fail> {
     Ok(())
 }
 
+fn texts() -> [(ModalFault, &'static str); 4] {
+    let unknown = ModalFault::UnknownCode {
+        letter: Letter::M,
+        millionths: 99_000_000,
+    };
+    [
+        (unknown, "the M code is unknown"),
+        (
+            ModalFault::WithoutUse(Letter::K),
+            "no code on the line uses the word K",
+        ),
+        (
+            ModalFault::WordMissing(MissingWord::Axis),
+            "an axis word, which a code on the line needs, is missing",
+        ),
+        (
+            ModalFault::WordMissing(MissingWord::Letter(Letter::P)),
+            "the word P, which a code on the line needs, is missing",
+        ),
+    ]
+}
+
 #[test]
 fn laws_and_texts(rt: HostRuntime) -> Result<(), Fail> {
     laws::order_of_execution();
     laws::few_effects();
-    let text = format!(in rt.alloc(); "{}", ModalFault::WordMissing)?;
-    same(
-        &rt,
-        &"text",
-        &text.as_str(),
-        &"a word that a code on the line needs is missing",
-    );
+    for (fault, wanted) in texts() {
+        let text = format!(in rt.alloc(); "{}", fault)?;
+        same(&rt, &wanted, &text.as_str(), &wanted);
+    }
     Ok(())
 }
