@@ -10,4 +10,5 @@ pub mod Facts
 pub mod Forms
 pub mod Reports
 pub mod Quotes
+pub mod Marks
 pub mod Warnings

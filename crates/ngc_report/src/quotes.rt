@@ -37,7 +37,7 @@ fn shown_bytes(bytes: &[u8]) -> ArrayVec<u8, 256>
 }
 
 /// The bytes of the line with this number in the file.
-fn line_bytes<A: Allocator>(program: &Program<A>, number: u32) -> Option<&[u8]>
+pub(crate) fn line_bytes<A: Allocator>(program: &Program<A>, number: u32) -> Option<&[u8]>
     ensures { option_map (λ b. b.now) result ≡ option_map (λ l. l.bytes) (line_with number (text_in program.now).lines) }
 {
     for index in 0..program.len() {

@@ -45,18 +45,19 @@ fn source_line(bytes: &[u8], number: u32) -> Option<&[u8]>
 }
 
 fn add_spaces(chunk: &mut Chunk, count: usize)
-    requires { length chunk.old + count ≤ CHUNK_SIZE }
-    ensures { chunk.new ≡ chunk.old ++ replicate count 32 }
+    requires few { count ≤ 320 }
+    requires room { length chunk.old + 320 ≤ CHUNK_SIZE }
+    ensures text { chunk.new ≡ chunk.old ++ replicate count 32 }
+    ensures short { length chunk.new ≤ length chunk.old + 320 }
 {
-    for _ in 0..count {
-        chunk.add_text(b" ");
-    }
+    let spaces = [b' '; 320];
+    chunk.add_text(&spaces[..count]);
 }
 
 // How many columns stand in front of a column of a line that is shown behind its number.
 fn indent(number: u32, column: u16) -> usize
     ensures value { result ≡ indent number column }
-    ensures few { result ≤ 400 }
+    ensures few { result ≤ 320 }
 {
     let mut buffer = Buffer::new();
     buffer.format(number).len() + usize::from(column.min(257)) + 6
@@ -65,7 +66,8 @@ fn indent(number: u32, column: u16) -> usize
 #[tactic(auto, unfolding(crate::specs::Quotes::words_mark))]
 fn add_words_mark(chunk: &mut Chunk, number: u32, column: u16)
     requires { length chunk.old ≤ 1000 }
-    ensures { chunk.new ≡ chunk.old ++ words_mark number column }
+    ensures text { chunk.new ≡ chunk.old ++ words_mark number column }
+    ensures short { length chunk.new ≤ length chunk.old + 400 }
 {
     add_spaces(chunk, indent(number, column));
     chunk.add_text(b"^\n");
@@ -73,7 +75,8 @@ fn add_words_mark(chunk: &mut Chunk, number: u32, column: u16)
 
 fn add_fact_mark(chunk: &mut Chunk, number: u32, column: u16)
     requires { length chunk.old ≤ 1000 }
-    ensures { chunk.new ≡ chunk.old ++ fact_mark number column }
+    ensures text { chunk.new ≡ chunk.old ++ fact_mark number column }
+    ensures short { length chunk.new ≤ length chunk.old + 400 }
 {
     chunk.add_text(b",\n{\"fact\":\"mark\",\"line\":");
     chunk.add_number(number);
@@ -86,7 +89,8 @@ fn add_fact_mark(chunk: &mut Chunk, number: u32, column: u16)
 #[tactic(auto, unfolding(crate::specs::Quotes::mark))]
 pub(crate) fn add_mark(chunk: &mut Chunk, form: Form, number: u32, column: u16)
     requires { length chunk.old ≤ 1000 }
-    ensures { chunk.new ≡ chunk.old ++ mark form number column }
+    ensures text { chunk.new ≡ chunk.old ++ mark form number column }
+    ensures short { length chunk.new ≤ length chunk.old + 400 }
 {
     match form {
         Form::Words => add_words_mark(chunk, number, column),

@@ -13,7 +13,7 @@ use ngc_canonical::Tool;
 use ngc_fixed_length::{Nm, Point3};
 use ngc_output::Chunk;
 
-fn sign(nanometres: i128) -> &'static [u8]
+pub(crate) fn sign(nanometres: i128) -> &'static [u8]
     ensures text { result.now ≡ sign_text nanometres }
     ensures short { length result.now ≤ 1 }
 {
@@ -75,7 +75,7 @@ fn add_fraction(chunk: &mut Chunk, nanometres: u64)
 
 /// Adds a size in nanometres as millimetres, exactly.
 #[tactic(auto, unfolding(crate::specs::Words::size_text))]
-fn add_size(chunk: &mut Chunk, nanometres: u128)
+pub(crate) fn add_size(chunk: &mut Chunk, nanometres: u128)
     requires { length chunk.old + 47 ≤ CHUNK_SIZE }
     ensures text { chunk.new ≡ chunk.old ++ size_text nanometres }
     ensures short { length chunk.new ≤ length chunk.old + 47 }

@@ -1,0 +1,313 @@
+//! The word of a quoted line that a fault names, in a mark and a sentence below the line.
+ghost use Rattle.std.specs.Prelude.{◌≡◌, ◌+◌, ◌≤◌, ◌++◌, length, OnOk, OnErr};
+ghost use Rattle.std.specs.Option.{option_or};
+ghost use Rattle.std.specs.Io.KnownBytes.{Appends};
+ghost use Rattle.ngc_fixed_length.specs.Failures.{CountsFailure};
+ghost use Rattle.ngc_fixed_length.specs.Written.{AppendsBeginning};
+ghost use Rattle.ngc_line_reader.specs.Letter.{letter_byte};
+ghost use Rattle.ngc_line_reader.specs.ProgramView.{text_in};
+ghost use Rattle.ngc_line_reader.specs.ScanLine.{parts_of};
+ghost use Rattle.ngc_output.specs.Collected.{CHUNK_SIZE, HasLineRoom};
+ghost use Rattle.ngc_report.specs.Marks.{number_of, written_number, is_wanted, fits, first_word, named_word, mark_of, mark_if, letter_text, number_text, unknown_text, idle_text, missing_text, phrase, has_phrase, words_sentence, fact_sentence, sentence, named_line};
+
+use crate::form::Form;
+use crate::quotes::line_bytes;
+use crate::source_lines::add_mark;
+use crate::words::{add_size, sign};
+use ngc_canonical::Fault;
+use ngc_fixed_length::{Sink, WriteFault};
+use ngc_line_reader::{Letter, Line, Program, RawWord, Symbol, Token, read_line};
+use ngc_modal_state::{MissingWord, ModalFault};
+use ngc_output::Chunk;
+use std::alloc::Allocator;
+
+fn letter_byte(letter: Letter) -> u8
+    ensures { result ≡ letter_byte letter }
+{
+    match letter {
+        Letter::A => b'A',
+        Letter::B => b'B',
+        Letter::C => b'C',
+        Letter::D => b'D',
+        Letter::F => b'F',
+        Letter::G => b'G',
+        Letter::H => b'H',
+        Letter::I => b'I',
+        Letter::J => b'J',
+        Letter::K => b'K',
+        Letter::L => b'L',
+        Letter::M => b'M',
+        Letter::P => b'P',
+        Letter::Q => b'Q',
+        Letter::R => b'R',
+        Letter::S => b'S',
+        Letter::T => b'T',
+        Letter::X => b'X',
+        Letter::Y => b'Y',
+        Letter::Z => b'Z',
+    }
+}
+
+/// Which of a line's words with one letter is wanted.
+#[derive(Clone, Copy)]
+enum Wanted {
+    Any,
+    /// One whose value is written as this number, in millionths.
+    Number(i64),
+    /// One whose value has brackets or a parameter.
+    Reckoned,
+}
+
+fn number_of(symbol: Symbol) -> Option<i64>
+    ensures { result ≡ number_of symbol }
+{
+    match symbol {
+        Symbol::Number(value) => Some(value.millionths()),
+        _ => None,
+    }
+}
+
+fn written_number(tokens: &[Token], word: &RawWord) -> Option<i64>
+    ensures { result ≡ written_number tokens.now word.now }
+{
+    match tokens.get(usize::from(word.first)) {
+        Some(token) => number_of(token.symbol),
+        None => None,
+    }
+}
+
+fn is_wanted(wanted: Wanted, written: Option<i64>) -> bool
+    ensures { result ≡ is_wanted wanted written }
+{
+    match (wanted, written) {
+        (Wanted::Any, _) => true,
+        (Wanted::Number(millionths), Some(number)) => number == millionths,
+        (Wanted::Number(_), None) => false,
+        (Wanted::Reckoned, _) => written.is_none(),
+    }
+}
+
+fn fits(letter: Letter, wanted: Wanted, tokens: &[Token], word: &RawWord) -> bool
+    ensures { result ≡ fits letter wanted tokens.now word.now }
+{
+    letter_byte(word.letter) == letter_byte(letter)
+        && is_wanted(wanted, written_number(tokens, word))
+}
+
+fn first_word(line: &Line, letter: Letter, wanted: Wanted) -> Option<RawWord>
+    ensures { result ≡ first_word letter wanted (parts_of line.now) }
+{
+    let tokens = line.tokens.as_slice();
+    line.words
+        .as_slice()
+        .iter()
+        .find(|word| fits(letter, wanted, tokens, word))
+        .copied()
+}
+
+fn code_word(line: &Line, letter: Letter, millionths: i64) -> Option<RawWord>
+    ensures { result ≡ option_or (first_word letter (Wanted.Number millionths) (parts_of line.now)) (first_word letter Wanted.Reckoned (parts_of line.now)) }
+{
+    match first_word(line, letter, Wanted::Number(millionths)) {
+        Some(word) => Some(word),
+        None => first_word(line, letter, Wanted::Reckoned),
+    }
+}
+
+fn named_word(line: &Line, fault: &Fault) -> Option<RawWord>
+    ensures { result ≡ named_word fault.now (parts_of line.now) }
+{
+    match fault {
+        Fault::Modal(ModalFault::UnknownCode { letter, millionths }) => {
+            code_word(line, *letter, *millionths)
+        }
+        Fault::Modal(ModalFault::WithoutUse(letter)) => first_word(line, *letter, Wanted::Any),
+        _ => None,
+    }
+}
+
+/// The column, from 1, of the word of a line that a fault names: of an unknown code (204), and of a word that nothing uses
+/// (207). There is none of any other fault, where no such word stands, and where the line's bytes, without its line feed, can't be
+/// read.
+///
+/// An unknown code is the first word of its letter that is written as that number, and else the first whose value has brackets or
+/// a parameter (our own).
+pub fn mark_of(bytes: &[u8], fault: &Fault) -> Option<u16>
+    ensures { result ≡ mark_of bytes.now fault.now }
+{
+    match read_line(bytes) {
+        Ok(line) => named_word(&line, fault).map(|word| word.column),
+        Err(_) => None,
+    }
+}
+
+#[tactic(auto, unfolding(crate::specs::Marks::number_text))]
+fn add_number(chunk: &mut Chunk, millionths: i64)
+    requires { length chunk.old + 48 ≤ CHUNK_SIZE }
+    ensures text { chunk.new ≡ chunk.old ++ number_text millionths }
+    ensures short { length chunk.new ≤ length chunk.old + 48 }
+{
+    chunk.add_text(sign(i128::from(millionths)));
+    add_size(chunk, u128::from(millionths.unsigned_abs()));
+}
+
+#[tactic(auto, unfolding(crate::specs::Marks::letter_text))]
+fn add_letter(chunk: &mut Chunk, letter: Letter)
+    requires { length chunk.old + 1 ≤ CHUNK_SIZE }
+    ensures text { chunk.new ≡ chunk.old ++ letter_text letter }
+    ensures short { length chunk.new ≡ length chunk.old + 1 }
+{
+    chunk.add_text(&[letter_byte(letter)]);
+}
+
+fn add_unknown(chunk: &mut Chunk, letter: Letter, millionths: i64)
+    requires { length chunk.old + 80 ≤ CHUNK_SIZE }
+    ensures text { chunk.new ≡ chunk.old ++ unknown_text letter millionths }
+    ensures short { length chunk.new ≤ length chunk.old + 80 }
+{
+    chunk.add_text(b"The code ");
+    add_letter(chunk, letter);
+    add_number(chunk, millionths);
+    chunk.add_text(b" is unknown.");
+}
+
+fn add_idle(chunk: &mut Chunk, letter: Letter)
+    requires { length chunk.old + 80 ≤ CHUNK_SIZE }
+    ensures text { chunk.new ≡ chunk.old ++ idle_text letter }
+    ensures short { length chunk.new ≤ length chunk.old + 80 }
+{
+    chunk.add_text(b"Nothing uses the word ");
+    add_letter(chunk, letter);
+    chunk.add_text(b".");
+}
+
+#[tactic(auto, unfolding(crate::specs::Marks::missing_text))]
+fn add_missing(chunk: &mut Chunk, word: MissingWord)
+    requires { length chunk.old + 80 ≤ CHUNK_SIZE }
+    ensures text { chunk.new ≡ chunk.old ++ missing_text word }
+    ensures short { length chunk.new ≤ length chunk.old + 80 }
+{
+    match word {
+        MissingWord::Axis => chunk.add_text(b"An axis word is missing."),
+        MissingWord::Letter(letter) => {
+            chunk.add_text(b"The word ");
+            add_letter(chunk, letter);
+            chunk.add_text(b" is missing.");
+        }
+    }
+}
+
+fn add_phrase(chunk: &mut Chunk, fault: &Fault)
+    requires { length chunk.old + 80 ≤ CHUNK_SIZE }
+    ensures text { chunk.new ≡ chunk.old ++ phrase fault.now }
+    ensures short { length chunk.new ≤ length chunk.old + 80 }
+{
+    match fault {
+        Fault::Modal(ModalFault::UnknownCode { letter, millionths }) => {
+            add_unknown(chunk, *letter, *millionths)
+        }
+        Fault::Modal(ModalFault::WithoutUse(letter)) => add_idle(chunk, *letter),
+        Fault::Modal(ModalFault::WordMissing(word)) => add_missing(chunk, *word),
+        _ => {}
+    }
+}
+
+// Whether a fault names a word.
+fn has_phrase(fault: &Fault) -> bool
+    ensures { result ≡ has_phrase fault.now }
+{
+    match fault {
+        Fault::Modal(ModalFault::UnknownCode { .. })
+        | Fault::Modal(ModalFault::WithoutUse(_))
+        | Fault::Modal(ModalFault::WordMissing(_)) => true,
+        _ => false,
+    }
+}
+
+fn add_words(chunk: &mut Chunk, fault: &Fault)
+    requires { HasLineRoom chunk.old }
+    ensures { chunk.new ≡ chunk.old ++ words_sentence fault.now }
+{
+    add_phrase(chunk, fault);
+    chunk.add_text(b"\n");
+}
+
+fn add_fact(chunk: &mut Chunk, fault: &Fault)
+    requires { HasLineRoom chunk.old }
+    ensures { chunk.new ≡ chunk.old ++ fact_sentence fault.now }
+{
+    chunk.add_text(b",\n{\"fact\":\"reason\",\"text\":\"");
+    add_phrase(chunk, fault);
+    chunk.add_text(b"\"}");
+}
+
+#[tactic(auto, unfolding(crate::specs::Marks::sentence))]
+fn add_sentence(chunk: &mut Chunk, form: Form, fault: &Fault)
+    requires { HasLineRoom chunk.old }
+    ensures { chunk.new ≡ chunk.old ++ sentence form fault.now }
+{
+    if !has_phrase(fault) {
+        return;
+    }
+    match form {
+        Form::Words => add_words(chunk, fault),
+        Form::Json => add_fact(chunk, fault),
+    }
+}
+
+#[tactic(auto, unfolding(crate::specs::Marks::mark_if))]
+fn add_mark_if(chunk: &mut Chunk, form: Form, number: u32, column: Option<u16>)
+    requires { length chunk.old ≤ 1000 }
+    ensures text { chunk.new ≡ chunk.old ++ mark_if form number column }
+    ensures short { length chunk.new ≤ length chunk.old + 500 }
+{
+    match column {
+        None => {}
+        Some(column) => add_mark(chunk, form, number, column),
+    }
+}
+
+fn add_named(chunk: &mut Chunk, form: Form, number: u32, bytes: &[u8], fault: &Fault)
+    requires { length chunk.old ≤ 1000 }
+    ensures { chunk.new ≡ chunk.old ++ (mark_if form number (mark_of bytes.now fault.now) ++ sentence form fault.now) }
+{
+    add_mark_if(chunk, form, number, mark_of(bytes, fault));
+    add_sentence(chunk, form, fault);
+}
+
+fn named<A: Allocator>(program: &Program<A>, form: Form, number: u32, fault: &Fault) -> Chunk
+    ensures { result ≡ named_line form number fault.now (text_in program.now).lines }
+{
+    let mut chunk = Chunk::new();
+    if let Some(bytes) = line_bytes(program, number) {
+        add_named(&mut chunk, form, number, bytes, fault);
+    }
+    chunk
+}
+
+/// Writes which word of a line a fault is about, below what `write_line` writes of that line, by its number in the file, from 1:
+///
+/// ```text
+/// Line 3: G0 G5 X1
+///            ^
+/// The code G5 is unknown.
+/// ```
+///
+/// The sentence may be `Nothing uses the word K.`, `The word P is missing.` or `An axis word is missing.`; what is missing has no
+/// mark. Nothing is written of faults but 204, 207 and 208, and where no such line is read.
+///
+/// After a fault (902, and only where the sink failed) a beginning of the text is written.
+pub fn write_named<A: Allocator, W: Sink>(
+    form: Form,
+    program: &Program<A>,
+    number: u32,
+    fault: &Fault,
+    sink: &mut W,
+) -> Result<(), WriteFault>
+    ensures ok { OnOk result (Appends (W.written sink.old) (W.written sink.new) (named_line form number fault.now (text_in program.now).lines)) }
+    ensures fault { OnErr result (AppendsBeginning (W.written sink.old) (W.written sink.new) (named_line form number fault.now (text_in program.now).lines)) }
+    ensures counts { CountsFailure (W.failures sink.old) (W.failures sink.new) result }
+{
+    let mut chunk = named(program, form, number, fault);
+    chunk.write_out(sink)
+}
