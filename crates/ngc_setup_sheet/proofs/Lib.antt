@@ -1,3 +1,5 @@
 pub mod Ahead
 pub mod Steps
 pub mod Alone
+pub mod Values
+pub mod Seeking

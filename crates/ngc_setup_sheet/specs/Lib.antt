@@ -4,3 +4,8 @@ pub mod Warnings
 pub mod Spelling
 pub mod Sheets
 pub mod Writes
+pub mod Asks
+pub mod Keys
+pub mod Quoted
+pub mod MistakeTexts
+pub mod Mistakes

@@ -4,13 +4,24 @@
 mod figures;
 mod line;
 mod lines;
+mod mistake;
+mod mistake_spelling;
+mod mistaken;
+mod mistakes;
+mod quoted;
 mod reach;
+mod rows;
 mod sheet;
 mod spelling;
+mod tree;
 mod warned;
 mod warnings;
 mod writer;
 
 pub use line::{Axis, Fact, Figure, Line, Span, Warning};
+pub use mistake::{Ask, Bounds, Count, Each, Mistake, Rule, Section, Word};
+pub use mistaken::{write_machine_mistake, write_tools_mistake};
+pub use quoted::Seek;
 pub use sheet::write_sheet;
+pub use tree::Triple;
 pub use warned::write_warnings;

@@ -184,7 +184,7 @@ fn add_millimetres(chunk: &mut Chunk, nanometres: i64)
 }
 
 /// Adds a text, a number and a text.
-fn add_numbered<I: Integer>(chunk: &mut Chunk, before: &[u8], number: I, behind: &[u8])
+pub(crate) fn add_numbered<I: Integer>(chunk: &mut Chunk, before: &[u8], number: I, behind: &[u8])
     requires room { length chunk.old + 160 ≤ CHUNK_SIZE }
     requires before { length before.now ≤ 20 }
     requires behind { length behind.now ≤ 80 }

@@ -1,0 +1,7 @@
+use Rattle.std.proofs.Common.{◌≡◌, drop}
+use Rattle.toml.specs.View.{items_view}
+use Rattle.ngc_setup_sheet.specs.Mistakes.{first_again}
+use Rattle.ngc_setup_sheet.proofs.mistakes.first_again.Given as goal
+
+abbrev pub invariant-loop-i : goal.invariant-loop-i
+invariant-loop-i l = first_again 0 (items_view l.values) ≡ first_again l.i (items_view (drop l.i l.values))

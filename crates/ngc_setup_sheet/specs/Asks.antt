@@ -1,0 +1,119 @@
+-- What may be asked of a key, and whether a table meets it. Our own.
+use Rattle.std.specs.Prelude.{ℕ, ◌+◌, nat_le, ℤ, pos, int_le, int_lt, int_rem, List, [], ◌∷◌, take, Option, Some, None, is_some, is_none, Bool, true, false, ◌&&◌, codes, if◌then◌else◌}
+use Rattle.std.specs.Ordering.{int_eq}
+use Rattle.toml.specs.Data.{Data, array, table, Items, no_items, item, Members, no_members, member, get, as_integer, as_table}
+use Rattle.ngc_fixed_length.specs.Signed.{is_zero}
+use Rattle.ngc_machine.specs.Numbers.{from_to}
+use Rattle.ngc_machine.specs.Tree.{◌>>=◌, is_one_of, whole_at}
+use Rattle.ngc_setup_sheet.specs.declared.mistake.Ask.{Ask}
+use Rattle.ngc_setup_sheet.specs.declared.mistake.Ask.TheVariants as asks
+use Rattle.ngc_setup_sheet.specs.declared.mistake.Bounds.{Bounds}
+use Rattle.ngc_setup_sheet.specs.declared.mistake.Count.{Count}
+use Rattle.ngc_setup_sheet.specs.declared.mistake.Each.{Each}
+use Rattle.ngc_setup_sheet.specs.declared.mistake.Each.TheVariants as each
+use Rattle.ngc_setup_sheet.specs.declared.tree.Triple.{Triple}
+
+-- what is there passes
+abbrev pub passes : {A : Type 0} → (A → Bool) → Option A → Bool
+passes test None = false
+passes test (Some x) = test x
+
+-- ---- whole numbers
+
+abbrev pub is_from : Bounds → ℤ → Bool
+is_from b z = from_to b.low b.high z
+
+abbrev pub is_whole : Bounds → List ℕ → Data → Bool
+is_whole b key tree = passes (is_from b) (whole_at key tree)
+
+-- the file has version 2
+abbrev pub is_second : Data → Bool
+is_second tree = passes (int_eq (pos 2)) (whole_at (codes "version") tree)
+
+-- ---- three of them
+
+abbrev pub three : Data → Option Triple
+three (array (item a (item b (item c no_items)))) = do
+  x ← as_integer a
+  y ← as_integer b
+  z ← as_integer c
+  Some (record { x = x; y = y; z = z })
+three _ = None
+
+abbrev pub three_at : List ℕ → Data → Option Triple
+three_at key tree = get key tree >>= three
+
+abbrev pub are_from : Bounds → Triple → Bool
+are_from b p = is_from b p.x && is_from b p.y && is_from b p.z
+
+abbrev pub is_three : Bounds → Data → Bool
+is_three b value = passes (are_from b) (three value)
+
+abbrev pub is_at_most : Triple → Triple → Bool
+is_at_most p q = int_le p.x q.x && int_le p.y q.y && int_le p.z q.z
+
+abbrev pub is_below : Triple → Triple → Bool
+is_below p q = int_lt p.x q.x && int_lt p.y q.y && int_lt p.z q.z
+
+abbrev pub is_multiple : ℤ → ℤ → Bool
+is_multiple step z = is_zero (int_rem z step)
+
+abbrev pub is_on_grid : ℤ → Triple → Bool
+is_on_grid step p = int_lt (pos 0) step && is_multiple step p.x && is_multiple step p.y && is_multiple step p.z
+
+-- the three numbers under two keys
+abbrev pub related : (Triple → Triple → Bool) → List ℕ → List ℕ → Data → Bool
+related test key other tree = passes (λ p. passes (test p) (three_at other tree)) (three_at key tree)
+
+-- ---- keys
+
+-- the first key that is none of these, of which 64 bytes are kept
+abbrev pub unknown_key : List (List ℕ) → Members → Option (List ℕ)
+unknown_key keys no_members = None
+unknown_key keys (member key value members) = if is_one_of keys key then unknown_key keys members else Some (take 64 key)
+
+abbrev pub unknown_in : List (List ℕ) → Data → Option (List ℕ)
+unknown_in keys (table members) = unknown_key keys members
+unknown_in keys _ = None
+
+-- ---- arrays
+
+abbrev pub item_count : Items → ℕ
+item_count no_items = 0
+item_count (item value items) = item_count items + 1
+
+abbrev pub is_counted : Count → ℕ → Bool
+is_counted count number = nat_le count.least number && nat_le number count.most
+
+abbrev pub all_items : (Data → Bool) → Items → Bool
+all_items test no_items = true
+all_items test (item value items) = test value && all_items test items
+
+abbrev pub is_each : Each → Data → Bool
+is_each (each.Three b) value = is_three b value
+is_each each.Table value = is_some (as_table value)
+is_each (each.Part b) value =
+    is_none (unknown_in (codes "length" ∷ codes "radius" ∷ []) value) && is_whole b (codes "length") value && is_whole b (codes "radius") value
+
+abbrev pub is_array : Count → Each → Data → Bool
+is_array n e (array items) = is_counted n (item_count items) && all_items (is_each e) items
+is_array n e _ = false
+
+-- it may be missing
+abbrev pub is_array_at : Count → Each → Option Data → Bool
+is_array_at n e None = true
+is_array_at n e (Some value) = is_array n e value
+
+-- ---- what is asked
+
+abbrev pub is_met : Ask → List ℕ → Data → Bool
+is_met (asks.Whole b) key tree = is_whole b key tree
+is_met (asks.Three b) key tree = passes (is_three b) (get key tree)
+is_met (asks.AxisRates b) key tree = if is_second tree then passes (is_three b) (get key tree) else is_none (get key tree)
+is_met asks.There key tree = is_some (get key tree)
+is_met (asks.Array n e) key tree = is_array_at n e (get key tree)
+is_met asks.AtMostHigh key tree = related is_at_most (codes "low") (codes "high") tree
+is_met asks.BelowHigh key tree = related is_below (codes "low") (codes "high") tree
+is_met asks.Within key tree =
+    related is_at_most (codes "low") (codes "start") tree && related is_at_most (codes "start") (codes "high") tree
+is_met asks.OnGrid key tree = passes (λ step. passes (is_on_grid step) (three_at (codes "start") tree)) (whole_at (codes "step") tree)

@@ -1,0 +1,171 @@
+//! How mistakes are spelled.
+ghost use Rattle.std.specs.Prelude.{◌≡◌, ◌+◌, ◌≤◌, ◌++◌, codes, decimal, length, map, take};
+ghost use Rattle.ngc_machine.specs.Faults.{number_of};
+ghost use Rattle.ngc_output.specs.Collected.{CHUNK_SIZE};
+ghost use Rattle.ngc_setup_sheet.specs.Keys.{key_text};
+ghost use Rattle.ngc_setup_sheet.specs.MistakeTexts.{asked_text, known_text, section_text, sentence_text, mistake_text};
+ghost use Rattle.ngc_setup_sheet.specs.Quoted.{shown, quote_of};
+
+use crate::mistake::{Mistake, Rule, Section};
+use crate::quoted::{add_quote, add_shown};
+use crate::rows::key;
+use crate::spelling::add_numbered;
+use ngc_output::Chunk;
+
+#[tactic(auto, unfolding(crate::specs::MistakeTexts::asked_text))]
+fn asked(rule: Rule) -> &'static [u8]
+    ensures text { result.now ≡ asked_text rule }
+    ensures short { length result.now ≤ 200 }
+{
+    match rule {
+        Rule::Version =>
+            b"Asked is 1, or 2 where the file has `axis_rate`: the version of this format.\n",
+        Rule::Step => b"Asked is a whole number from 500 to 50,000: the length of a step in nm.\n",
+        Rule::TicksPerSecond =>
+            b"Asked is a whole number from 1 to 1,000,000: ticks in a second.\n",
+        Rule::MaxRate =>
+            b"Asked is a whole number from 1 to 1,000,000: the greatest rate, in millionths of a step a tick.\n",
+        Rule::AxisRate =>
+            b"Asked are in version 2 three whole numbers from 1 to 1,000,000: the greatest rates on X, Y and Z, in millionths of a step a tick. Version 1 has no such key.\n",
+        Rule::Change =>
+            b"Asked is a whole number from 1 to 1,000,000: how much the rate may change in a tick, in millionths of a step a tick.\n",
+        Rule::Corner =>
+            b"Asked is a whole number from 1 to 1,000,000: the greatest rate at a change of direction, in millionths of a step a tick.\n",
+        Rule::Turn =>
+            b"Asked is a whole number from 1 to 1,000,000,000,000: on arcs the square of the rate, times `step`, is at most this times the radius in nm.\n",
+        Rule::Low =>
+            b"Asked are three whole numbers from -1,000,000,000 to 1,000,000,000: the least X, Y and Z of the travel in nm.\n",
+        Rule::High =>
+            b"Asked are three whole numbers from -1,000,000,000 to 1,000,000,000: the greatest X, Y and Z of the travel in nm.\n",
+        Rule::LowAtMostHigh => b"Asked is on each axis at most what `high` has.\n",
+        Rule::Start =>
+            b"Asked are three whole numbers: where the axes stand when a program starts, in nm.\n",
+        Rule::StartWithin => b"Asked is a place from `low` to `high` on each axis.\n",
+        Rule::StartOnGrid => b"Asked are whole multiples of `step`.\n",
+        Rule::Home28 =>
+            b"Asked are three whole numbers from -1,000,000,000 to 1,000,000,000: where G28 goes, in nm.\n",
+        Rule::Home30 =>
+            b"Asked are three whole numbers from -1,000,000,000 to 1,000,000,000: where G30 goes, in nm.\n",
+        Rule::Origins =>
+            b"Asked are nine times three whole numbers from -1,000,000,000 to 1,000,000,000: the origins of G54 to G59, G59.1, G59.2 and G59.3 in nm.\n",
+        Rule::Fixtures =>
+            b"Asked are at most 256 tables `[[fixture]]`, each with `low` and `high`.\n",
+        Rule::LowCorner =>
+            b"Asked are three whole numbers from -4,000,000,000 to 4,000,000,000: the lower corner in nm.\n",
+        Rule::HighCorner =>
+            b"Asked are three whole numbers from -4,000,000,000 to 4,000,000,000: the upper corner in nm.\n",
+        Rule::LowBelowHigh => b"Asked is on each axis less than what `high` has.\n",
+        Rule::ToolsVersion =>
+            b"Asked is 1, or 2 where tools have `parts`: the version of this format.\n",
+        Rule::Tools => b"Asked are at most 1,000 tables `[[tool]]`.\n",
+        Rule::Number => b"Asked is a whole number from 1 to 9,999: what T and H call the tool.\n",
+        Rule::NumberOnce => b"Asked is a number that no other tool has.\n",
+        Rule::Length =>
+            b"Asked is a whole number from 0 to 1,000,000,000: how far the tool reaches below the controlled point, in nm.\n",
+        Rule::Radius => b"Asked is a whole number from 0 to 1,000,000,000: the radius in nm.\n",
+        Rule::Offset =>
+            b"Asked is a whole number from -1,000,000,000 to 1,000,000,000: what G43 adds to Z, in nm.\n",
+        Rule::Bottom =>
+            b"Asked is a whole number from -1,000,000,000 to 0: where the lowest part begins, above the controlled point, in nm.\n",
+        Rule::Parts =>
+            b"Asked are one to four tables from the lowest part up, each with `length` and `radius`, whole numbers from 0 to 1,000,000,000 in nm.\n",
+    }
+}
+
+#[tactic(auto, unfolding(crate::specs::MistakeTexts::known_text))]
+fn known(section: Section) -> &'static [u8]
+    ensures text { result.now ≡ known_text section }
+    ensures short { length result.now ≤ 200 }
+{
+    match section {
+        Section::Machine =>
+            b"Known are `version`, `step`, `ticks_per_second`, `max_rate`, `change`, `corner`, `turn`, `low`, `high`, `start`, `home28`, `home30`, `origins`, `fixture`, and in version 2 `axis_rate`.\n",
+        Section::Fixture(_) => b"Known are `low` and `high`.\n",
+        Section::Tools => b"Known are `version` and `tool`.\n",
+        Section::Tool(_) =>
+            b"Known are in version 1 `number`, `length`, `radius` and `offset`, in version 2 `number`, `offset`, `bottom` and `parts`.\n",
+    }
+}
+
+fn add_section(chunk: &mut Chunk, section: Section)
+    requires { length chunk.old + 160 ≤ CHUNK_SIZE }
+    ensures text { chunk.new ≡ chunk.old ++ section_text section }
+    ensures short { length chunk.new ≤ length chunk.old + 160 }
+{
+    match section {
+        Section::Machine | Section::Tools => chunk.add_text(b"The"),
+        Section::Fixture(number) => add_numbered(
+            chunk,
+            b"In fixture ",
+            number,
+            b", counted from 0, the",
+        ),
+        Section::Tool(number) => add_numbered(
+            chunk,
+            b"In `[[tool]]` ",
+            number,
+            b", counted from 0, the",
+        ),
+    }
+}
+
+/// Adds what is said of a key, and what is asked.
+fn add_sentence(chunk: &mut Chunk, section: Section, key: &[u8], said: &[u8], asked: &[u8])
+    requires room { length chunk.old + 500 ≤ CHUNK_SIZE }
+    requires key { length key.now ≤ 64 }
+    requires said { length said.now ≤ 10 }
+    requires asked { length asked.now ≤ 200 }
+    ensures text { chunk.new ≡ chunk.old ++ sentence_text section key.now said.now asked.now }
+    ensures short { length chunk.new ≤ length chunk.old + 500 }
+{
+    add_section(chunk, section);
+    chunk.add_text(b" key `");
+    add_shown(chunk, key);
+    chunk.add_text(b"` is ");
+    chunk.add_text(said);
+    chunk.add_text(asked);
+}
+
+fn add_unknown(chunk: &mut Chunk, section: Section, key: &[u8], bytes: &[u8])
+    requires room { length chunk.old + 1000 ≤ CHUNK_SIZE }
+    requires key { length key.now ≤ 64 }
+    ensures { chunk.new ≡ chunk.old ++ (sentence_text section key.now (codes "unknown. ") (known_text section) ++ quote_of section key.now bytes.now) }
+{
+    add_sentence(chunk, section, key, b"unknown. ", known(section));
+    add_quote(chunk, section, key, bytes);
+}
+
+fn add_refused(chunk: &mut Chunk, section: Section, rule: Rule, bytes: &[u8])
+    requires { length chunk.old + 1000 ≤ CHUNK_SIZE }
+    ensures { chunk.new ≡ chunk.old ++ (sentence_text section (key_text rule) (codes "refused. ") (asked_text rule) ++ quote_of section (key_text rule) bytes.now) }
+{
+    let key = key(rule).as_bytes();
+    add_sentence(chunk, section, key, b"refused. ", asked(rule));
+    add_quote(chunk, section, key, bytes);
+}
+
+/// Adds what is wrong in a file.
+fn add_mistake(chunk: &mut Chunk, mistake: &Mistake, bytes: &[u8])
+    requires { length chunk.old + 1000 ≤ CHUNK_SIZE }
+    ensures { chunk.new ≡ chunk.old ++ mistake_text bytes.now mistake.now }
+{
+    match mistake {
+        Mistake::NoDocument => chunk.add_text(b"The file is no TOML document.\n"),
+        Mistake::Unknown(section, key) => add_unknown(chunk, *section, key.as_slice(), bytes),
+        Mistake::Missing(section, rule) => {
+            let key = key(*rule).as_bytes();
+            add_sentence(chunk, *section, key, b"missing. ", asked(*rule));
+        }
+        Mistake::Refused(section, rule) => add_refused(chunk, *section, *rule, bytes),
+        Mistake::Other(fault) => { add_numbered(chunk, b"The fault is ", fault.number(), b".\n") }
+    }
+}
+
+/// The text of a mistake.
+pub(crate) fn text(mistake: &Mistake, bytes: &[u8]) -> Chunk
+    ensures { result ≡ mistake_text bytes.now mistake.now }
+{
+    let mut chunk = Chunk::new();
+    add_mistake(&mut chunk, mistake, bytes);
+    chunk
+}

@@ -1,0 +1,162 @@
+//! The line of a file in which a key stands.
+ghost use Rattle.std.specs.Prelude.{◌≡◌, ◌+◌, ◌<◌, ◌≤◌, ◌++◌, codes, decimal, length, map, take};
+ghost use Rattle.ngc_output.specs.Collected.{CHUNK_SIZE};
+ghost use Rattle.ngc_setup_sheet.specs.Quoted.{shown, line_text, line_of, behind_line, lines_of, unindented, ends_key, begins, gives, sought, quote_from, header_text, headers, quote_of};
+
+use crate::mistake::Section;
+use ngc_output::Chunk;
+
+fn shown(byte: u8) -> u8
+    ensures { result ≡ shown byte }
+{
+    match byte {
+        32..=126 => byte,
+        b'\t' | b'\r' => b' ',
+        _ => b'?',
+    }
+}
+
+/// Adds bytes as a terminal shows them.
+pub(crate) fn add_shown(chunk: &mut Chunk, bytes: &[u8])
+    requires { length chunk.old + length bytes.now ≤ CHUNK_SIZE }
+    ensures { chunk.new ≡ chunk.old ++ map shown bytes.now }
+{
+    for byte in bytes {
+        chunk.add_text(&[shown(*byte)]);
+    }
+}
+
+fn first_bytes(line: &[u8]) -> &[u8]
+    ensures bytes { result.now ≡ take 256 line.now }
+    ensures short { length result.now ≤ 256 }
+{
+    &line[..line.len().min(256)]
+}
+
+fn add_line(chunk: &mut Chunk, number: usize, line: &[u8])
+    requires { length chunk.old + 400 ≤ CHUNK_SIZE }
+    ensures { chunk.new ≡ chunk.old ++ line_text number line.now }
+{
+    chunk.add_text(b"Line ");
+    chunk.add_number(number);
+    chunk.add_text(b": ");
+    add_shown(chunk, first_bytes(line));
+    chunk.add_text(b"\n");
+}
+
+/// The first line, and what comes behind it.
+fn split_line(bytes: &[u8]) -> (&[u8], &[u8])
+    ensures line { result.0.now ≡ line_of bytes.now }
+    ensures behind { result.1.now ≡ behind_line bytes.now }
+{
+    for (i, byte) in bytes.iter().enumerate() {
+        if *byte == b'\n' {
+            return (&bytes[..i], &bytes[i + 1..]);
+        }
+    }
+    (bytes, &[])
+}
+
+fn unindented(line: &[u8]) -> &[u8]
+    ensures { result.now ≡ unindented line.now }
+{
+    for (i, byte) in line.iter().enumerate() {
+        if *byte != b' ' && *byte != b'\t' {
+            return &line[i..];
+        }
+    }
+    &[]
+}
+
+fn ends_key(behind: &[u8]) -> bool
+    ensures { result ≡ ends_key behind.now }
+{
+    match behind {
+        [byte, ..] => *byte == b' ' || *byte == b'\t' || *byte == b'=',
+        [] => false,
+    }
+}
+
+fn begins(word: &[u8], line: &[u8]) -> bool
+    ensures { result ≡ begins word.now line.now }
+{
+    unindented(line).starts_with(word)
+}
+
+fn gives(key: &[u8], line: &[u8]) -> bool
+    ensures { result ≡ gives key.now line.now }
+{
+    let line = unindented(line);
+    line.starts_with(key) && ends_key(&line[key.len()..])
+}
+
+/// What a line is to the search for a key.
+#[derive(Clone, Copy)]
+pub enum Seek {
+    Found,
+    /// The table ends here.
+    Ended,
+    /// So many headers still come before the table.
+    Ahead(u128),
+}
+
+fn sought(header: &[u8], key: &[u8], ahead: u128, line: &[u8]) -> Seek
+    ensures { result ≡ sought header.now key.now ahead line.now }
+{
+    if begins(header, line) {
+        if ahead == 0 {
+            Seek::Ended
+        } else {
+            Seek::Ahead(ahead - 1)
+        }
+    } else if ahead == 0 && gives(key, line) {
+        Seek::Found
+    } else {
+        Seek::Ahead(ahead)
+    }
+}
+
+fn add_quote_from(chunk: &mut Chunk, header: &[u8], key: &[u8], headers: u128, bytes: &[u8])
+    requires { length chunk.old + 400 ≤ CHUNK_SIZE }
+    ensures { chunk.new ≡ chunk.old ++ quote_from header.now key.now headers 1 (lines_of bytes.now) }
+{
+    let mut ahead = headers;
+    let mut number = 1;
+    let mut left = bytes;
+    while !left.is_empty() {
+        let (line, behind) = split_line(left);
+        match sought(header, key, ahead, line) {
+            Seek::Found => return add_line(chunk, number, line),
+            Seek::Ended => return,
+            Seek::Ahead(still) => ahead = still,
+        }
+        number += 1;
+        left = behind;
+    }
+}
+
+fn header(section: Section) -> &'static [u8]
+    ensures { result.now ≡ header_text section }
+{
+    match section {
+        Section::Machine | Section::Fixture(_) => b"[[fixture]]",
+        Section::Tools | Section::Tool(_) => b"[[tool]]",
+    }
+}
+
+fn headers(section: Section) -> u128
+    ensures { result ≡ headers section }
+{
+    match section {
+        Section::Machine | Section::Tools => 0,
+        Section::Fixture(number) | Section::Tool(number) => number as u128 + 1,
+    }
+}
+
+/// Adds the line in which a section has a key, if there is one.
+pub(crate) fn add_quote(chunk: &mut Chunk, section: Section, key: &[u8], bytes: &[u8])
+    requires { length chunk.old + 400 ≤ CHUNK_SIZE }
+    ensures { chunk.new ≡ chunk.old ++ quote_of section key.now bytes.now }
+{
+    add_quote_from(chunk, header(section), key, headers(section), bytes);
+}

@@ -1,0 +1,289 @@
+//! Whether the tables of a file meet what is asked.
+ghost use Rattle.std.specs.Prelude.{◌≡◌, ◌<ℤ◌, pos, [], map, not, string_bytes, IfOk, IsOk, Option, option_map};
+ghost use Rattle.std.specs.List.{find};
+ghost use Rattle.std.specs.Map.{keys_of};
+ghost use Rattle.toml.specs.Data.{get, array};
+ghost use Rattle.toml.specs.Errors.{IsBlank};
+ghost use Rattle.toml.specs.View.{view, items_view, table_view};
+ghost use Rattle.ngc_machine.specs.Tree.{tree_of, is_one_of, whole_at};
+ghost use Rattle.ngc_setup_sheet.specs.Asks.{passes, is_from, is_whole, is_second, three, three_at, are_from, is_three, is_at_most, is_below, related, is_multiple, is_on_grid, all_items, unknown_key, unknown_in, is_counted, is_each, is_array, is_array_at, is_met};
+ghost use Rattle.ngc_setup_sheet.specs.declared.mistake.Ask.TheVariants as asks;
+ghost use Rattle.ngc_setup_sheet.specs.declared.mistake.Each.TheVariants as each;
+
+use crate::mistake::{Ask, Bounds, Count, Each, Word};
+use std::alloc::{AllocError, Global};
+use toml::{Table, Value};
+
+/// Three whole numbers of a file.
+#[derive(Clone, Copy)]
+pub struct Triple {
+    pub x: i64,
+    pub y: i64,
+    pub z: i64,
+}
+
+/// The tree of a document, where the bytes are one.
+pub(crate) fn read_tree(alloc: Global, bytes: &[u8]) -> Result<Option<Value>, AllocError>
+    ensures tree { IfOk result (λ tree. option_map view tree ≡ tree_of bytes.now) }
+    ensures blank { IsBlank bytes.now → IsOk result }
+{
+    match toml::table_from_slice(alloc, bytes) {
+        Ok(table) => Ok(Some(Value::Table(table))),
+        Err(error) if error.is_memory() => Err(AllocError),
+        Err(_) => Ok(None),
+    }
+}
+
+fn is_from(bounds: &Bounds, number: i64) -> bool
+    ensures { result ≡ is_from bounds.now number }
+{
+    bounds.low <= number && number <= bounds.high
+}
+
+/// The whole number under a key.
+pub(crate) fn whole_at(tree: &Value, key: &str) -> Option<i64>
+    ensures { result ≡ whole_at key.now (view tree.now) }
+{
+    tree.get(key)?.as_integer()
+}
+
+fn is_whole(tree: &Value, key: &str, bounds: &Bounds) -> bool
+    ensures { result ≡ is_whole bounds.now key.now (view tree.now) }
+{
+    match whole_at(tree, key) {
+        Some(number) => is_from(bounds, number),
+        None => false,
+    }
+}
+
+/// Whether a file has version 2.
+pub(crate) fn is_second(tree: &Value) -> bool
+    ensures { result ≡ is_second (view tree.now) }
+{
+    match whole_at(tree, "version") {
+        Some(version) => version == 2,
+        None => false,
+    }
+}
+
+fn three(value: &Value) -> Option<Triple>
+    ensures { result ≡ three (view value.now) }
+{
+    let [x, y, z] = value.as_array()?.as_slice() else {
+        return None;
+    };
+    Some(Triple {
+        x: x.as_integer()?,
+        y: y.as_integer()?,
+        z: z.as_integer()?,
+    })
+}
+
+fn three_at(tree: &Value, key: &str) -> Option<Triple>
+    ensures { result ≡ three_at key.now (view tree.now) }
+{
+    three(tree.get(key)?)
+}
+
+fn are_from(bounds: &Bounds, numbers: &Triple) -> bool
+    ensures { result ≡ are_from bounds.now numbers.now }
+{
+    is_from(bounds, numbers.x) && is_from(bounds, numbers.y) && is_from(bounds, numbers.z)
+}
+
+fn is_three(value: &Value, bounds: &Bounds) -> bool
+    ensures { result ≡ is_three bounds.now (view value.now) }
+{
+    match three(value) {
+        Some(numbers) => are_from(bounds, &numbers),
+        None => false,
+    }
+}
+
+fn is_three_at(tree: &Value, key: &str, bounds: &Bounds) -> bool
+    ensures { result ≡ passes (is_three bounds.now) (get key.now (view tree.now)) }
+{
+    match tree.get(key) {
+        Some(value) => is_three(value, bounds),
+        None => false,
+    }
+}
+
+fn is_at_most(numbers: &Triple, others: &Triple) -> bool
+    ensures { result ≡ is_at_most numbers.now others.now }
+{
+    numbers.x <= others.x && numbers.y <= others.y && numbers.z <= others.z
+}
+
+fn is_below(numbers: &Triple, others: &Triple) -> bool
+    ensures { result ≡ is_below numbers.now others.now }
+{
+    numbers.x < others.x && numbers.y < others.y && numbers.z < others.z
+}
+
+fn is_at_most_at(tree: &Value, key: &str, other: &str) -> bool
+    ensures { result ≡ related is_at_most key.now other.now (view tree.now) }
+{
+    let Some(numbers) = three_at(tree, key) else {
+        return false;
+    };
+    match three_at(tree, other) {
+        Some(others) => is_at_most(&numbers, &others),
+        None => false,
+    }
+}
+
+fn is_below_at(tree: &Value, key: &str, other: &str) -> bool
+    ensures { result ≡ related is_below key.now other.now (view tree.now) }
+{
+    let Some(numbers) = three_at(tree, key) else {
+        return false;
+    };
+    match three_at(tree, other) {
+        Some(others) => is_below(&numbers, &others),
+        None => false,
+    }
+}
+
+fn is_multiple(step: i64, number: i64) -> bool
+    requires { pos 0 <ℤ step }
+    ensures { result ≡ is_multiple step number }
+{
+    number % step == 0
+}
+
+fn is_on_grid(step: i64, numbers: &Triple) -> bool
+    ensures { result ≡ is_on_grid step numbers.now }
+{
+    0 < step
+        && is_multiple(step, numbers.x)
+        && is_multiple(step, numbers.y)
+        && is_multiple(step, numbers.z)
+}
+
+fn is_start_on_grid(tree: &Value) -> bool
+    ensures { result ≡ is_met asks.OnGrid [] (view tree.now) }
+{
+    let Some(step) = whole_at(tree, "step") else {
+        return false;
+    };
+    match three_at(tree, "start") {
+        Some(start) => is_on_grid(step, &start),
+        None => false,
+    }
+}
+
+fn is_one_of(key: &str, keys: &[&str]) -> bool
+    ensures { result ≡ is_one_of (map (λ k. k.now) keys.entry.now) key.now }
+{
+    for known in keys {
+        if key == *known {
+            return true;
+        }
+    }
+    false
+}
+
+fn first_other<'t>(table: &'t Table, keys: &[&str]) -> Option<&'t String>
+    ensures { option_map (λ k. k.now) result ≡ find (λ k. not (is_one_of (map (λ k. k.now) keys.entry.now) (string_bytes k))) (keys_of table.now.entries) }
+{
+    table.keys().find(|key| !is_one_of(key.as_str(), keys))
+}
+
+fn unknown_in(table: &Table, keys: &[&str]) -> Option<Word>
+    ensures { result ≡ unknown_key (map (λ k. k.now) keys.entry.now) (table_view table.now) }
+{
+    match first_other(table, keys) {
+        Some(key) => Some(Word::of(key.as_str())),
+        None => None,
+    }
+}
+
+/// The first key of a table that is none of these.
+pub(crate) fn unknown_key(tree: &Value, keys: &[&str]) -> Option<Word>
+    ensures { result ≡ unknown_in (map (λ k. k.now) keys.entry.now) (view tree.now) }
+{
+    unknown_in(tree.as_table()?, keys)
+}
+
+fn is_part(value: &Value, bounds: &Bounds) -> bool
+    ensures { result ≡ is_each (each.Part bounds.now) (view value.now) }
+{
+    unknown_key(value, &["length", "radius"]).is_none()
+        && is_whole(value, "length", bounds)
+        && is_whole(value, "radius", bounds)
+}
+
+fn is_each(value: &Value, each: &Each) -> bool
+    ensures { result ≡ is_each each.now (view value.now) }
+{
+    match each {
+        Each::Three(bounds) => is_three(value, bounds),
+        Each::Table => value.as_table().is_some(),
+        Each::Part(bounds) => is_part(value, bounds),
+    }
+}
+
+fn are_each(values: &[Value], each: &Each) -> bool
+    ensures { result ≡ all_items (is_each each.now) (items_view values.now) }
+{
+    for value in values {
+        if !is_each(value, each) {
+            return false;
+        }
+    }
+    true
+}
+
+fn is_counted(number: usize, count: &Count) -> bool
+    ensures { result ≡ is_counted count.now number }
+{
+    count.least <= number && number <= count.most
+}
+
+fn are_so_many(values: &[Value], count: &Count, each: &Each) -> bool
+    ensures { result ≡ is_array count.now each.now (array (items_view values.now)) }
+{
+    is_counted(values.len(), count) && are_each(values, each)
+}
+
+fn is_array_at(tree: &Value, key: &str, count: &Count, each: &Each) -> bool
+    ensures { result ≡ is_array_at count.now each.now (get key.now (view tree.now)) }
+{
+    let Some(value) = tree.get(key) else {
+        return true;
+    };
+    match value.as_array() {
+        Some(array) => are_so_many(array.as_slice(), count, each),
+        None => false,
+    }
+}
+
+fn are_axis_rates(tree: &Value, key: &str, bounds: &Bounds) -> bool
+    ensures { result ≡ is_met (asks.AxisRates bounds.now) key.now (view tree.now) }
+{
+    if is_second(tree) {
+        is_three_at(tree, key, bounds)
+    } else {
+        tree.get(key).is_none()
+    }
+}
+
+/// Whether a table meets what is asked of a key.
+pub(crate) fn is_met(tree: &Value, key: &str, ask: &Ask) -> bool
+    ensures { result ≡ is_met ask.now key.now (view tree.now) }
+{
+    match ask {
+        Ask::Whole(bounds) => is_whole(tree, key, bounds),
+        Ask::Three(bounds) => is_three_at(tree, key, bounds),
+        Ask::AxisRates(bounds) => are_axis_rates(tree, key, bounds),
+        Ask::There => tree.get(key).is_some(),
+        Ask::Array(count, each) => is_array_at(tree, key, count, each),
+        Ask::AtMostHigh => is_at_most_at(tree, "low", "high"),
+        Ask::BelowHigh => is_below_at(tree, "low", "high"),
+        Ask::Within => {
+            is_at_most_at(tree, "low", "start") && is_at_most_at(tree, "start", "high")
+        }
+        Ask::OnGrid => is_start_on_grid(tree),
+    }
+}
