@@ -1,5 +1,5 @@
 //! Tests of what the program reads beside part programs: its command line, machine files, tool tables, events, and
-//! files as such; and of the setup sheet, which says what machine files and tool tables mean.
+//! files as such; of the setup sheet, which says what machine files and tool tables mean; and of the sentences on their mistakes.
 #![tactic(auto)]
 
 #[cfg(test)]
@@ -12,5 +12,7 @@ mod events;
 mod input;
 #[cfg(test)]
 mod machine;
+#[cfg(test)]
+mod mistakes;
 #[cfg(test)]
 mod setup_sheet;
