@@ -131,7 +131,7 @@ const MACHINE_ROWS: &[(&str, &str, &str)] = &[
     (
         "start = [0, 0, 0]",
         "start = [0, 0, 10000]",
-        "The key `start` is refused. Asked is a place from `low` to `high` on each axis.\nLine 10: start = [0, 0, 10000]\n",
+        "The key `start` is refused. Asked are three whole numbers, on each axis from `low` to `high`: where the axes stand when a program starts, in nm.\nLine 10: start = [0, 0, 10000]\n",
     ),
     (
         "start = [0, 0, 0]",
@@ -141,7 +141,7 @@ const MACHINE_ROWS: &[(&str, &str, &str)] = &[
     (
         "start = [0, 0, 0]",
         "start = [0, 0]",
-        "The key `start` is refused. Asked are three whole numbers: where the axes stand when a program starts, in nm.\nLine 10: start = [0, 0]\n",
+        "The key `start` is refused. Asked are three whole numbers, on each axis from `low` to `high`: where the axes stand when a program starts, in nm.\nLine 10: start = [0, 0]\n",
     ),
     (
         "home30 = [0, 0, 0]",

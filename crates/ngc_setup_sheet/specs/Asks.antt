@@ -1,5 +1,5 @@
 -- What may be asked of a key, and whether a table meets it. Our own.
-use Rattle.std.specs.Prelude.{ℕ, ◌+◌, nat_le, ℤ, pos, int_le, int_lt, int_rem, List, [], ◌∷◌, take, Option, Some, None, is_some, is_none, Bool, true, false, ◌&&◌, codes, if◌then◌else◌}
+use Rattle.std.specs.Prelude.{ℕ, ◌+◌, nat_le, ℤ, pos, negsuc, int_le, int_lt, int_rem, List, [], ◌∷◌, take, Option, Some, None, is_some, is_none, Bool, true, false, ◌&&◌, ◌||◌, codes, if◌then◌else◌}
 use Rattle.std.specs.Ordering.{int_eq}
 use Rattle.toml.specs.Data.{Data, array, table, Items, no_items, item, Members, no_members, member, get, as_integer, as_table}
 use Rattle.ngc_fixed_length.specs.Signed.{is_zero}
@@ -8,7 +8,6 @@ use Rattle.ngc_machine.specs.Tree.{◌>>=◌, is_one_of, whole_at}
 use Rattle.ngc_setup_sheet.specs.declared.mistake.Ask.{Ask}
 use Rattle.ngc_setup_sheet.specs.declared.mistake.Ask.TheVariants as asks
 use Rattle.ngc_setup_sheet.specs.declared.mistake.Bounds.{Bounds}
-use Rattle.ngc_setup_sheet.specs.declared.mistake.Count.{Count}
 use Rattle.ngc_setup_sheet.specs.declared.mistake.Each.{Each}
 use Rattle.ngc_setup_sheet.specs.declared.mistake.Each.TheVariants as each
 use Rattle.ngc_setup_sheet.specs.declared.tree.Triple.{Triple}
@@ -65,6 +64,9 @@ is_on_grid step p = int_lt (pos 0) step && is_multiple step p.x && is_multiple s
 abbrev pub related : (Triple → Triple → Bool) → List ℕ → List ℕ → Data → Bool
 related test key other tree = passes (λ p. passes (test p) (three_at other tree)) (three_at key tree)
 
+abbrev pub is_start_on_grid : Data → Bool
+is_start_on_grid tree = passes (λ step. passes (is_on_grid step) (three_at (codes "start") tree)) (whole_at (codes "step") tree)
+
 -- ---- keys
 
 -- the first key that is none of these, of which 64 bytes are kept
@@ -82,8 +84,8 @@ abbrev pub item_count : Items → ℕ
 item_count no_items = 0
 item_count (item value items) = item_count items + 1
 
-abbrev pub is_counted : Count → ℕ → Bool
-is_counted count number = nat_le count.least number && nat_le number count.most
+abbrev pub from_to_count : ℕ → ℕ → ℕ → Bool
+from_to_count least most number = nat_le least number && nat_le number most
 
 abbrev pub all_items : (Data → Bool) → Items → Bool
 all_items test no_items = true
@@ -95,25 +97,39 @@ is_each each.Table value = is_some (as_table value)
 is_each (each.Part b) value =
     is_none (unknown_in (codes "length" ∷ codes "radius" ∷ []) value) && is_whole b (codes "length") value && is_whole b (codes "radius") value
 
-abbrev pub is_array : Count → Each → Data → Bool
-is_array n e (array items) = is_counted n (item_count items) && all_items (is_each e) items
-is_array n e _ = false
+abbrev pub is_array : ℕ → ℕ → Each → Data → Bool
+is_array least most e (array items) = from_to_count least most (item_count items) && all_items (is_each e) items
+is_array least most e _ = false
 
 -- it may be missing
-abbrev pub is_array_at : Count → Each → Option Data → Bool
-is_array_at n e None = true
-is_array_at n e (Some value) = is_array n e value
+abbrev pub is_array_at : ℕ → ℕ → Each → Option Data → Bool
+is_array_at least most e None = true
+is_array_at least most e (Some value) = is_array least most e value
 
--- ---- what is asked
+-- ---- what is asked, or of it the kind alone
 
-abbrev pub is_met : Ask → List ℕ → Data → Bool
-is_met (asks.Whole b) key tree = is_whole b key tree
-is_met (asks.Three b) key tree = passes (is_three b) (get key tree)
-is_met (asks.AxisRates b) key tree = if is_second tree then passes (is_three b) (get key tree) else is_none (get key tree)
-is_met asks.There key tree = is_some (get key tree)
-is_met (asks.Array n e) key tree = is_array_at n e (get key tree)
-is_met asks.AtMostHigh key tree = related is_at_most (codes "low") (codes "high") tree
-is_met asks.BelowHigh key tree = related is_below (codes "low") (codes "high") tree
-is_met asks.Within key tree =
-    related is_at_most (codes "low") (codes "start") tree && related is_at_most (codes "start") (codes "high") tree
-is_met asks.OnGrid key tree = passes (λ step. passes (is_on_grid step) (three_at (codes "start") tree)) (whole_at (codes "step") tree)
+abbrev pub bounds : Bool → ℤ → ℤ → Bounds
+bounds kind low high = if kind then record { low = negsuc 9223372036854775807; high = pos 9223372036854775807 } else record { low = low; high = high }
+
+abbrev pub least_count : Bool → ℕ → ℕ
+least_count kind least = if kind then 0 else least
+
+abbrev pub most_count : Bool → ℕ → ℕ
+most_count kind most = if kind then 18446744073709551615 else most
+
+abbrev pub is_met : Bool → Ask → List ℕ → Data → Bool
+is_met kind (asks.Whole low high) key tree = is_whole (bounds kind low high) key tree
+is_met kind (asks.Three low high) key tree = passes (is_three (bounds kind low high)) (get key tree)
+is_met kind asks.AxisRates key tree =
+    if is_second tree then passes (is_three (bounds kind (pos 1) (pos 1000000))) (get key tree) else is_none (get key tree)
+is_met kind asks.Origins key tree = is_array_at 9 9 (each.Three (bounds kind (negsuc 999999999) (pos 1000000000))) (get key tree)
+is_met kind (asks.Tables most) key tree = is_array_at 0 (most_count kind most) each.Table (get key tree)
+is_met kind asks.Parts key tree =
+    is_some (get key tree) &&
+    is_array_at (least_count kind 1) (most_count kind 4) (each.Part (bounds kind (pos 0) (pos 1000000000))) (get key tree)
+is_met kind asks.AtMostHigh key tree = kind || related is_at_most (codes "low") (codes "high") tree
+is_met kind asks.BelowHigh key tree = kind || related is_below (codes "low") (codes "high") tree
+is_met kind asks.Within key tree =
+    if kind then is_some (three_at key tree)
+    else related is_at_most (codes "low") (codes "start") tree && related is_at_most (codes "start") (codes "high") tree
+is_met kind asks.OnGrid key tree = kind || is_start_on_grid tree

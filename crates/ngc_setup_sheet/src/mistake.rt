@@ -29,7 +29,6 @@ pub enum Rule {
     Low,
     High,
     LowAtMostHigh,
-    Start,
     StartWithin,
     StartOnGrid,
     Home28,
@@ -57,13 +56,6 @@ pub struct Bounds {
     pub high: i64,
 }
 
-/// How many there are.
-#[derive(Clone, Copy)]
-pub struct Count {
-    pub least: usize,
-    pub most: usize,
-}
-
 /// What each value of an array is.
 #[derive(Clone, Copy)]
 pub enum Each {
@@ -77,21 +69,25 @@ pub enum Each {
 /// What is asked of the value under a key.
 #[derive(Clone, Copy)]
 pub enum Ask {
-    Whole(Bounds),
-    /// Three whole numbers.
-    Three(Bounds),
-    /// Three whole numbers in version 2, and nothing in another.
-    AxisRates(Bounds),
-    There,
-    /// An array, which may be missing.
-    Array(Count, Each),
-    /// Of `low` and `high`.
+    /// A whole number from the first to the second.
+    Whole(i64, i64),
+    /// Three whole numbers from the first to the second.
+    Three(i64, i64),
+    /// Three rates in version 2, and nothing in another.
+    AxisRates,
+    /// Nine places, or nothing.
+    Origins,
+    /// At most so many tables, or nothing.
+    Tables(usize),
+    /// One to four parts of a tool.
+    Parts,
+    /// Of `low`: at most `high`.
     AtMostHigh,
-    /// Of `low` and `high`.
+    /// Of `low`: below `high`.
     BelowHigh,
-    /// Of `start`, `low` and `high`.
+    /// Of `start`: from `low` to `high`.
     Within,
-    /// Of `start` and `step`.
+    /// Of `start`: on whole steps.
     OnGrid,
 }
 
@@ -135,6 +131,16 @@ impl Word {
         let _len = self.bytes.len();
         self.bytes.as_slice()
     }
+}
+
+/// A table that stands several times.
+#[derive(Clone, Copy)]
+pub enum Item {
+    Fixture,
+    /// A tool of one part, as version 1 has it.
+    FirstTool,
+    /// A tool of several parts, as version 2 has it.
+    SecondTool,
 }
 
 /// What is wrong in a machine file or in a tool table.

@@ -38,9 +38,8 @@ fn asked(rule: Rule) -> &'static [u8]
         Rule::High =>
             b"Asked are three whole numbers from -1,000,000,000 to 1,000,000,000: the greatest X, Y and Z of the travel in nm.\n",
         Rule::LowAtMostHigh => b"Asked is on each axis at most what `high` has.\n",
-        Rule::Start =>
-            b"Asked are three whole numbers: where the axes stand when a program starts, in nm.\n",
-        Rule::StartWithin => b"Asked is a place from `low` to `high` on each axis.\n",
+        Rule::StartWithin =>
+            b"Asked are three whole numbers, on each axis from `low` to `high`: where the axes stand when a program starts, in nm.\n",
         Rule::StartOnGrid => b"Asked are whole multiples of `step`.\n",
         Rule::Home28 =>
             b"Asked are three whole numbers from -1,000,000,000 to 1,000,000,000: where G28 goes, in nm.\n",

@@ -3,13 +3,11 @@ ghost use Rattle.std.specs.Prelude.{◌≡◌, ◌∷◌, [], codes};
 ghost use Rattle.std.specs.Option.{option_or};
 ghost use Rattle.toml.specs.View.{view, items_view};
 ghost use Rattle.ngc_machine.specs.MachineText.{common_keys};
-ghost use Rattle.ngc_setup_sheet.specs.Mistakes.{machine_rows, fixture_rows, table_rows, complaint, found, table_mistake, items_at, first_in, fixture_mistake, machine_mistake_in, tool_mistake, is_again, stands_again, first_again, tools_mistake_in};
+ghost use Rattle.ngc_setup_sheet.specs.Mistakes.{machine_rows, table_rows, complaint, found, table_mistake, items_at, item_mistake, first_in, is_again, stands_again, first_again, machine_mistake_in, tools_in, tools_mistake_in};
 ghost use Rattle.ngc_setup_sheet.specs.declared.mistake.Section.TheVariants as sections;
 
-use crate::mistake::{Mistake, Rule, Section, Word};
-use crate::rows::{
-    key, unmet_of_first, unmet_of_fixture, unmet_of_machine, unmet_of_second, unmet_of_table,
-};
+use crate::mistake::{Item, Mistake, Rule, Section, Word};
+use crate::rows::{FIRST_TOOL, FIXTURE, MACHINE, SECOND_TOOL, TABLE, key, unmet};
 use crate::tree::{is_second, unknown_key, whole_at};
 use ngc_machine::FileFault;
 use toml::Value;
@@ -52,23 +50,33 @@ fn values_at<'t>(tree: &'t Value, key: &str) -> &'t [Value]
     }
 }
 
-fn fixture_mistake(fault: FileFault, number: usize, value: &Value) -> Option<Mistake>
-    ensures { result ≡ fixture_mistake fault number (view value.now) }
+fn item_mistake(fault: FileFault, item: Item, number: usize, value: &Value) -> Option<Mistake>
+    ensures { result ≡ item_mistake fault item number (view value.now) }
 {
-    let unknown = unknown_key(value, &["low", "high"]);
-    found(
-        Section::Fixture(number),
-        value,
-        unknown,
-        unmet_of_fixture(value, fault),
-    )
+    match item {
+        Item::Fixture => {
+            let unknown = unknown_key(value, &["low", "high"]);
+            let unmet = unmet(fault, value, &FIXTURE);
+            found(Section::Fixture(number), value, unknown, unmet)
+        }
+        Item::FirstTool => {
+            let unknown = unknown_key(value, &["number", "length", "radius", "offset"]);
+            let unmet = unmet(fault, value, &FIRST_TOOL);
+            found(Section::Tool(number), value, unknown, unmet)
+        }
+        Item::SecondTool => {
+            let unknown = unknown_key(value, &["number", "offset", "bottom", "parts"]);
+            let unmet = unmet(fault, value, &SECOND_TOOL);
+            found(Section::Tool(number), value, unknown, unmet)
+        }
+    }
 }
 
-fn first_of_fixtures(fault: FileFault, values: &[Value]) -> Option<Mistake>
-    ensures { result ≡ first_in (fixture_mistake fault) 0 (items_view values.now) }
+fn first_in(fault: FileFault, item: Item, values: &[Value]) -> Option<Mistake>
+    ensures { result ≡ first_in fault item 0 (items_view values.now) }
 {
     for (i, value) in values.iter().enumerate() {
-        if let Some(mistake) = fixture_mistake(fault, i, value) {
+        if let Some(mistake) = item_mistake(fault, item, i, value) {
             return Some(mistake);
         }
     }
@@ -94,15 +102,11 @@ const MACHINE_KEYS: [&str; 15] = [
 ];
 
 fn machine_file_mistake(fault: FileFault, tree: &Value) -> Option<Mistake>
-    ensures { result ≡ table_mistake sections.Machine (codes "axis_rate" ∷ common_keys) (machine_rows fault) (view tree.now) }
+    ensures { result ≡ table_mistake fault sections.Machine (codes "axis_rate" ∷ common_keys) machine_rows (view tree.now) }
 {
     let unknown = unknown_key(tree, &MACHINE_KEYS);
-    found(
-        Section::Machine,
-        tree,
-        unknown,
-        unmet_of_machine(tree, fault),
-    )
+    let unmet = unmet(fault, tree, &MACHINE);
+    found(Section::Machine, tree, unknown, unmet)
 }
 
 /// The first mistake of a machine file that is a document.
@@ -111,35 +115,11 @@ pub(crate) fn machine_mistake_in(fault: FileFault, tree: &Value) -> Mistake
 {
     match machine_file_mistake(fault, tree) {
         Some(mistake) => mistake,
-        None => match first_of_fixtures(fault, values_at(tree, "fixture")) {
+        None => match first_in(fault, Item::Fixture, values_at(tree, "fixture")) {
             Some(mistake) => mistake,
             None => Mistake::Other(fault),
         },
     }
-}
-
-fn tool_mistake(fault: FileFault, second: bool, number: usize, value: &Value) -> Option<Mistake>
-    ensures { result ≡ tool_mistake fault second number (view value.now) }
-{
-    let section = Section::Tool(number);
-    if second {
-        let unknown = unknown_key(value, &["number", "offset", "bottom", "parts"]);
-        found(section, value, unknown, unmet_of_second(value, fault))
-    } else {
-        let unknown = unknown_key(value, &["number", "length", "radius", "offset"]);
-        found(section, value, unknown, unmet_of_first(value, fault))
-    }
-}
-
-fn first_of_tools(fault: FileFault, second: bool, values: &[Value]) -> Option<Mistake>
-    ensures { result ≡ first_in (tool_mistake fault second) 0 (items_view values.now) }
-{
-    for (i, value) in values.iter().enumerate() {
-        if let Some(mistake) = tool_mistake(fault, second, i, value) {
-            return Some(mistake);
-        }
-    }
-    None
 }
 
 fn is_again(value: &Value, other: &Value) -> bool
@@ -174,16 +154,27 @@ fn first_again(values: &[Value]) -> Option<Mistake>
 }
 
 fn table_file_mistake(fault: FileFault, tree: &Value) -> Option<Mistake>
-    ensures { result ≡ table_mistake sections.Tools (codes "version" ∷ codes "tool" ∷ []) (table_rows fault) (view tree.now) }
+    ensures { result ≡ table_mistake fault sections.Tools (codes "version" ∷ codes "tool" ∷ []) table_rows (view tree.now) }
 {
     let unknown = unknown_key(tree, &["version", "tool"]);
-    found(Section::Tools, tree, unknown, unmet_of_table(tree, fault))
+    let unmet = unmet(fault, tree, &TABLE);
+    found(Section::Tools, tree, unknown, unmet)
 }
 
-fn tools_mistake(fault: FileFault, second: bool, values: &[Value]) -> Option<Mistake>
-    ensures { result ≡ option_or (first_in (tool_mistake fault second) 0 (items_view values.now)) (first_again 0 (items_view values.now)) }
+fn tools_in(tree: &Value) -> Item
+    ensures { result ≡ tools_in (view tree.now) }
 {
-    match first_of_tools(fault, second, values) {
+    if is_second(tree) {
+        Item::SecondTool
+    } else {
+        Item::FirstTool
+    }
+}
+
+fn tool_mistake(fault: FileFault, item: Item, values: &[Value]) -> Option<Mistake>
+    ensures { result ≡ option_or (first_in fault item 0 (items_view values.now)) (first_again 0 (items_view values.now)) }
+{
+    match first_in(fault, item, values) {
         Some(mistake) => Some(mistake),
         None => first_again(values),
     }
@@ -195,7 +186,7 @@ pub(crate) fn tools_mistake_in(fault: FileFault, tree: &Value) -> Mistake
 {
     match table_file_mistake(fault, tree) {
         Some(mistake) => mistake,
-        None => match tools_mistake(fault, is_second(tree), values_at(tree, "tool")) {
+        None => match tool_mistake(fault, tools_in(tree), values_at(tree, "tool")) {
             Some(mistake) => mistake,
             None => Mistake::Other(fault),
         },

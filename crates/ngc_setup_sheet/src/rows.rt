@@ -1,79 +1,102 @@
-//! The keys of rules, and the rules that a table meets.
+//! What is asked of the keys of a file, and by which fault.
 ghost use Rattle.std.specs.Prelude.{◌≡◌, ◌≤◌, length};
 ghost use Rattle.toml.specs.View.{view};
 ghost use Rattle.ngc_setup_sheet.specs.Keys.{key_text};
-ghost use Rattle.ngc_setup_sheet.specs.Mistakes.{ANY, VERSIONS, STEPS, RATES, TURNS, PLACES, CORNERS, NUMBERS, SIZES, HEIGHTS, NINE, ANY_COUNT, FIXTURE_COUNT, TOOL_COUNT, PART_COUNT, document_rows, machine_rows, fixture_rows, table_rows, first_rows, second_rows, unmet};
+ghost use Rattle.ngc_setup_sheet.specs.Mistakes.{is_row_met, unmet};
 
-use crate::mistake::{Ask, Bounds, Count, Each, Rule};
+use crate::mistake::{Ask, Rule};
 use crate::tree::is_met;
 use ngc_machine::FileFault;
 use toml::Value;
 
-const ANY: Bounds = Bounds {
-    low: i64::MIN,
-    high: i64::MAX,
-};
+pub(crate) const MACHINE: [(FileFault, Rule, Ask); 17] = [
+    (FileFault::Version, Rule::Version, Ask::Whole(1, 2)),
+    (FileFault::Step, Rule::Step, Ask::Whole(500, 50_000)),
+    (
+        FileFault::TicksPerSecond,
+        Rule::TicksPerSecond,
+        Ask::Whole(1, 1_000_000),
+    ),
+    (FileFault::Rates, Rule::MaxRate, Ask::Whole(1, 1_000_000)),
+    (FileFault::Rates, Rule::Change, Ask::Whole(1, 1_000_000)),
+    (FileFault::Rates, Rule::Corner, Ask::Whole(1, 1_000_000)),
+    (
+        FileFault::Rates,
+        Rule::Turn,
+        Ask::Whole(1, 1_000_000_000_000),
+    ),
+    (FileFault::Rates, Rule::AxisRate, Ask::AxisRates),
+    (
+        FileFault::Travel,
+        Rule::Low,
+        Ask::Three(-1_000_000_000, 1_000_000_000),
+    ),
+    (
+        FileFault::Travel,
+        Rule::High,
+        Ask::Three(-1_000_000_000, 1_000_000_000),
+    ),
+    (FileFault::Travel, Rule::LowAtMostHigh, Ask::AtMostHigh),
+    (FileFault::Travel, Rule::StartWithin, Ask::Within),
+    (FileFault::Travel, Rule::StartOnGrid, Ask::OnGrid),
+    (
+        FileFault::Places,
+        Rule::Home28,
+        Ask::Three(-1_000_000_000, 1_000_000_000),
+    ),
+    (
+        FileFault::Places,
+        Rule::Home30,
+        Ask::Three(-1_000_000_000, 1_000_000_000),
+    ),
+    (FileFault::Places, Rule::Origins, Ask::Origins),
+    (FileFault::Fixtures, Rule::Fixtures, Ask::Tables(256)),
+];
 
-const VERSIONS: Bounds = Bounds { low: 1, high: 2 };
+pub(crate) const FIXTURE: [(FileFault, Rule, Ask); 3] = [
+    (
+        FileFault::Fixtures,
+        Rule::LowCorner,
+        Ask::Three(-4_000_000_000, 4_000_000_000),
+    ),
+    (
+        FileFault::Fixtures,
+        Rule::HighCorner,
+        Ask::Three(-4_000_000_000, 4_000_000_000),
+    ),
+    (FileFault::Fixtures, Rule::LowBelowHigh, Ask::BelowHigh),
+];
 
-const STEPS: Bounds = Bounds {
-    low: 500,
-    high: 50_000,
-};
+pub(crate) const TABLE: [(FileFault, Rule, Ask); 2] = [
+    (FileFault::Version, Rule::ToolsVersion, Ask::Whole(1, 2)),
+    (FileFault::Tools, Rule::Tools, Ask::Tables(1_000)),
+];
 
-const RATES: Bounds = Bounds {
-    low: 1,
-    high: 1_000_000,
-};
+pub(crate) const FIRST_TOOL: [(FileFault, Rule, Ask); 4] = [
+    (FileFault::Tools, Rule::Number, Ask::Whole(1, 9_999)),
+    (FileFault::Tools, Rule::Length, Ask::Whole(0, 1_000_000_000)),
+    (FileFault::Tools, Rule::Radius, Ask::Whole(0, 1_000_000_000)),
+    (
+        FileFault::Tools,
+        Rule::Offset,
+        Ask::Whole(-1_000_000_000, 1_000_000_000),
+    ),
+];
 
-const TURNS: Bounds = Bounds {
-    low: 1,
-    high: 1_000_000_000_000,
-};
-
-const PLACES: Bounds = Bounds {
-    low: -1_000_000_000,
-    high: 1_000_000_000,
-};
-
-const CORNERS: Bounds = Bounds {
-    low: -4_000_000_000,
-    high: 4_000_000_000,
-};
-
-const NUMBERS: Bounds = Bounds {
-    low: 1,
-    high: 9_999,
-};
-
-const SIZES: Bounds = Bounds {
-    low: 0,
-    high: 1_000_000_000,
-};
-
-const HEIGHTS: Bounds = Bounds {
-    low: -1_000_000_000,
-    high: 0,
-};
-
-const NINE: Count = Count { least: 9, most: 9 };
-
-const ANY_COUNT: Count = Count {
-    least: 0,
-    most: usize::MAX,
-};
-
-const FIXTURE_COUNT: Count = Count {
-    least: 0,
-    most: 256,
-};
-
-const TOOL_COUNT: Count = Count {
-    least: 0,
-    most: 1_000,
-};
-
-const PART_COUNT: Count = Count { least: 1, most: 4 };
+pub(crate) const SECOND_TOOL: [(FileFault, Rule, Ask); 4] = [
+    (FileFault::Tools, Rule::Number, Ask::Whole(1, 9_999)),
+    (
+        FileFault::Tools,
+        Rule::Offset,
+        Ask::Whole(-1_000_000_000, 1_000_000_000),
+    ),
+    (
+        FileFault::Tools,
+        Rule::Bottom,
+        Ask::Whole(-1_000_000_000, 0),
+    ),
+    (FileFault::Tools, Rule::Parts, Ask::Parts),
+];
 
 /// The key that a rule is about.
 #[tactic(auto, unfolding(crate::specs::Keys::key_text))]
@@ -92,7 +115,7 @@ pub(crate) fn key(rule: Rule) -> &'static str
         Rule::Turn => "turn",
         Rule::Low | Rule::LowAtMostHigh | Rule::LowCorner | Rule::LowBelowHigh => "low",
         Rule::High | Rule::HighCorner => "high",
-        Rule::Start | Rule::StartWithin | Rule::StartOnGrid => "start",
+        Rule::StartWithin | Rule::StartOnGrid => "start",
         Rule::Home28 => "home28",
         Rule::Home30 => "home30",
         Rule::Origins => "origins",
@@ -107,181 +130,24 @@ pub(crate) fn key(rule: Rule) -> &'static str
     }
 }
 
-/// The first rule that a table does not meet.
-fn unmet(tree: &Value, rows: &[(Rule, Ask)]) -> Option<Rule>
-    ensures { result ≡ unmet (view tree.now) rows.now }
+fn is_row_met(fault: FileFault, tree: &Value, row: &(FileFault, Rule, Ask)) -> bool
+    ensures { result ≡ is_row_met fault (view tree.now) row.now }
 {
-    for (rule, ask) in rows {
-        if !is_met(tree, key(*rule), ask) {
-            return Some(*rule);
+    let (about, rule, ask) = row;
+    match fault {
+        FileFault::Document => is_met(tree, key(*rule), ask, true),
+        _ => fault.number() != about.number() || is_met(tree, key(*rule), ask, false),
+    }
+}
+
+/// The rule of the first row that a table does not meet.
+pub(crate) fn unmet(fault: FileFault, tree: &Value, rows: &[(FileFault, Rule, Ask)]) -> Option<Rule>
+    ensures { result ≡ unmet fault (view tree.now) rows.now }
+{
+    for row in rows {
+        if !is_row_met(fault, tree, row) {
+            return Some(row.1);
         }
     }
     None
-}
-
-fn unmet_document(tree: &Value) -> Option<Rule>
-    ensures { result ≡ unmet (view tree.now) document_rows }
-{
-    unmet(
-        tree,
-        &[
-            (Rule::Version, Ask::Whole(ANY)),
-            (Rule::Step, Ask::Whole(ANY)),
-            (Rule::TicksPerSecond, Ask::Whole(ANY)),
-            (Rule::MaxRate, Ask::Whole(ANY)),
-            (Rule::Change, Ask::Whole(ANY)),
-            (Rule::Corner, Ask::Whole(ANY)),
-            (Rule::Turn, Ask::Whole(ANY)),
-            (Rule::AxisRate, Ask::AxisRates(ANY)),
-            (Rule::Low, Ask::Three(ANY)),
-            (Rule::High, Ask::Three(ANY)),
-            (Rule::Start, Ask::Three(ANY)),
-            (Rule::Home28, Ask::Three(ANY)),
-            (Rule::Home30, Ask::Three(ANY)),
-            (Rule::Origins, Ask::Array(NINE, Each::Three(ANY))),
-            (Rule::Fixtures, Ask::Array(ANY_COUNT, Each::Table)),
-        ],
-    )
-}
-
-/// Of a machine file.
-pub(crate) fn unmet_of_machine(tree: &Value, fault: FileFault) -> Option<Rule>
-    ensures { result ≡ unmet (view tree.now) (machine_rows fault) }
-{
-    match fault {
-        FileFault::Version => unmet(tree, &[(Rule::Version, Ask::Whole(VERSIONS))]),
-        FileFault::Step => unmet(tree, &[(Rule::Step, Ask::Whole(STEPS))]),
-        FileFault::TicksPerSecond => unmet(tree, &[(Rule::TicksPerSecond, Ask::Whole(RATES))]),
-        FileFault::Rates => unmet(
-            tree,
-            &[
-                (Rule::MaxRate, Ask::Whole(RATES)),
-                (Rule::Change, Ask::Whole(RATES)),
-                (Rule::Corner, Ask::Whole(RATES)),
-                (Rule::Turn, Ask::Whole(TURNS)),
-                (Rule::AxisRate, Ask::AxisRates(RATES)),
-            ],
-        ),
-        FileFault::Travel => unmet(
-            tree,
-            &[
-                (Rule::Low, Ask::Three(PLACES)),
-                (Rule::High, Ask::Three(PLACES)),
-                (Rule::LowAtMostHigh, Ask::AtMostHigh),
-                (Rule::StartWithin, Ask::Within),
-                (Rule::StartOnGrid, Ask::OnGrid),
-            ],
-        ),
-        FileFault::Places => unmet(
-            tree,
-            &[
-                (Rule::Home28, Ask::Three(PLACES)),
-                (Rule::Home30, Ask::Three(PLACES)),
-                (Rule::Origins, Ask::Array(NINE, Each::Three(PLACES))),
-            ],
-        ),
-        FileFault::Fixtures => unmet(
-            tree,
-            &[(Rule::Fixtures, Ask::Array(FIXTURE_COUNT, Each::Table))],
-        ),
-        FileFault::Document => unmet_document(tree),
-        _ => None,
-    }
-}
-
-/// Of a fixture.
-pub(crate) fn unmet_of_fixture(tree: &Value, fault: FileFault) -> Option<Rule>
-    ensures { result ≡ unmet (view tree.now) (fixture_rows fault) }
-{
-    match fault {
-        FileFault::Fixtures => unmet(
-            tree,
-            &[
-                (Rule::LowCorner, Ask::Three(CORNERS)),
-                (Rule::HighCorner, Ask::Three(CORNERS)),
-                (Rule::LowBelowHigh, Ask::BelowHigh),
-            ],
-        ),
-        FileFault::Document => unmet(
-            tree,
-            &[
-                (Rule::LowCorner, Ask::Three(ANY)),
-                (Rule::HighCorner, Ask::Three(ANY)),
-            ],
-        ),
-        _ => None,
-    }
-}
-
-/// Of a tool table.
-pub(crate) fn unmet_of_table(tree: &Value, fault: FileFault) -> Option<Rule>
-    ensures { result ≡ unmet (view tree.now) (table_rows fault) }
-{
-    match fault {
-        FileFault::Version => unmet(tree, &[(Rule::ToolsVersion, Ask::Whole(VERSIONS))]),
-        FileFault::Tools => unmet(tree, &[(Rule::Tools, Ask::Array(TOOL_COUNT, Each::Table))]),
-        FileFault::Document => unmet(
-            tree,
-            &[
-                (Rule::ToolsVersion, Ask::Whole(ANY)),
-                (Rule::Tools, Ask::Array(ANY_COUNT, Each::Table)),
-            ],
-        ),
-        _ => None,
-    }
-}
-
-/// Of a tool of one part.
-pub(crate) fn unmet_of_first(tree: &Value, fault: FileFault) -> Option<Rule>
-    ensures { result ≡ unmet (view tree.now) (first_rows fault) }
-{
-    match fault {
-        FileFault::Tools => unmet(
-            tree,
-            &[
-                (Rule::Number, Ask::Whole(NUMBERS)),
-                (Rule::Length, Ask::Whole(SIZES)),
-                (Rule::Radius, Ask::Whole(SIZES)),
-                (Rule::Offset, Ask::Whole(PLACES)),
-            ],
-        ),
-        FileFault::Document => unmet(
-            tree,
-            &[
-                (Rule::Number, Ask::Whole(ANY)),
-                (Rule::Length, Ask::Whole(ANY)),
-                (Rule::Radius, Ask::Whole(ANY)),
-                (Rule::Offset, Ask::Whole(ANY)),
-            ],
-        ),
-        _ => None,
-    }
-}
-
-/// Of a tool of several parts.
-pub(crate) fn unmet_of_second(tree: &Value, fault: FileFault) -> Option<Rule>
-    ensures { result ≡ unmet (view tree.now) (second_rows fault) }
-{
-    match fault {
-        FileFault::Tools => unmet(
-            tree,
-            &[
-                (Rule::Number, Ask::Whole(NUMBERS)),
-                (Rule::Offset, Ask::Whole(PLACES)),
-                (Rule::Bottom, Ask::Whole(HEIGHTS)),
-                (Rule::Parts, Ask::Array(PART_COUNT, Each::Part(SIZES))),
-            ],
-        ),
-        FileFault::Document => unmet(
-            tree,
-            &[
-                (Rule::Number, Ask::Whole(ANY)),
-                (Rule::Offset, Ask::Whole(ANY)),
-                (Rule::Bottom, Ask::Whole(ANY)),
-                (Rule::Parts, Ask::There),
-                (Rule::Parts, Ask::Array(ANY_COUNT, Each::Part(ANY))),
-            ],
-        ),
-        _ => None,
-    }
 }

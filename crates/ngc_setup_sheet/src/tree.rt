@@ -1,16 +1,16 @@
 //! Whether the tables of a file meet what is asked.
-ghost use Rattle.std.specs.Prelude.{◌≡◌, ◌<ℤ◌, pos, [], map, not, string_bytes, IfOk, IsOk, Option, option_map};
+ghost use Rattle.std.specs.Prelude.{◌≡◌, ◌<ℤ◌, pos, map, not, string_bytes, IfOk, IsOk, Option, option_map};
 ghost use Rattle.std.specs.List.{find};
 ghost use Rattle.std.specs.Map.{keys_of};
 ghost use Rattle.toml.specs.Data.{get, array};
 ghost use Rattle.toml.specs.Errors.{IsBlank};
 ghost use Rattle.toml.specs.View.{view, items_view, table_view};
 ghost use Rattle.ngc_machine.specs.Tree.{tree_of, is_one_of, whole_at};
-ghost use Rattle.ngc_setup_sheet.specs.Asks.{passes, is_from, is_whole, is_second, three, three_at, are_from, is_three, is_at_most, is_below, related, is_multiple, is_on_grid, all_items, unknown_key, unknown_in, is_counted, is_each, is_array, is_array_at, is_met};
+ghost use Rattle.ngc_setup_sheet.specs.Asks.{passes, is_from, is_whole, is_second, three, three_at, are_from, is_three, is_at_most, is_below, related, is_multiple, is_on_grid, all_items, unknown_key, unknown_in, from_to_count, is_each, is_array, is_array_at, bounds, least_count, most_count, is_start_on_grid, is_met};
 ghost use Rattle.ngc_setup_sheet.specs.declared.mistake.Ask.TheVariants as asks;
 ghost use Rattle.ngc_setup_sheet.specs.declared.mistake.Each.TheVariants as each;
 
-use crate::mistake::{Ask, Bounds, Count, Each, Word};
+use crate::mistake::{Ask, Bounds, Each, Word};
 use std::alloc::{AllocError, Global};
 use toml::{Table, Value};
 
@@ -162,7 +162,7 @@ fn is_on_grid(step: i64, numbers: &Triple) -> bool
 }
 
 fn is_start_on_grid(tree: &Value) -> bool
-    ensures { result ≡ is_met asks.OnGrid [] (view tree.now) }
+    ensures { result ≡ is_start_on_grid (view tree.now) }
 {
     let Some(step) = whole_at(tree, "step") else {
         return false;
@@ -235,55 +235,104 @@ fn are_each(values: &[Value], each: &Each) -> bool
     true
 }
 
-fn is_counted(number: usize, count: &Count) -> bool
-    ensures { result ≡ is_counted count.now number }
+fn is_from_to(least: usize, most: usize, number: usize) -> bool
+    ensures { result ≡ from_to_count least most number }
 {
-    count.least <= number && number <= count.most
+    least <= number && number <= most
 }
 
-fn are_so_many(values: &[Value], count: &Count, each: &Each) -> bool
-    ensures { result ≡ is_array count.now each.now (array (items_view values.now)) }
+fn are_so_many(values: &[Value], least: usize, most: usize, each: &Each) -> bool
+    ensures { result ≡ is_array least most each.now (array (items_view values.now)) }
 {
-    is_counted(values.len(), count) && are_each(values, each)
+    is_from_to(least, most, values.len()) && are_each(values, each)
 }
 
-fn is_array_at(tree: &Value, key: &str, count: &Count, each: &Each) -> bool
-    ensures { result ≡ is_array_at count.now each.now (get key.now (view tree.now)) }
+fn is_array_at(tree: &Value, key: &str, least: usize, most: usize, each: &Each) -> bool
+    ensures { result ≡ is_array_at least most each.now (get key.now (view tree.now)) }
 {
     let Some(value) = tree.get(key) else {
         return true;
     };
     match value.as_array() {
-        Some(array) => are_so_many(array.as_slice(), count, each),
+        Some(array) => are_so_many(array.as_slice(), least, most, each),
         None => false,
     }
 }
 
-fn are_axis_rates(tree: &Value, key: &str, bounds: &Bounds) -> bool
-    ensures { result ≡ is_met (asks.AxisRates bounds.now) key.now (view tree.now) }
+fn bounds(kind: bool, low: i64, high: i64) -> Bounds
+    ensures { result ≡ bounds kind low high }
+{
+    if kind {
+        Bounds {
+            low: i64::MIN,
+            high: i64::MAX,
+        }
+    } else {
+        Bounds { low, high }
+    }
+}
+
+fn least_count(kind: bool, least: usize) -> usize
+    ensures { result ≡ least_count kind least }
+{
+    if kind { 0 } else { least }
+}
+
+fn most_count(kind: bool, most: usize) -> usize
+    ensures { result ≡ most_count kind most }
+{
+    if kind { usize::MAX } else { most }
+}
+
+fn are_axis_rates(tree: &Value, key: &str, kind: bool) -> bool
+    ensures { result ≡ is_met kind asks.AxisRates key.now (view tree.now) }
 {
     if is_second(tree) {
-        is_three_at(tree, key, bounds)
+        is_three_at(tree, key, &bounds(kind, 1, 1_000_000))
     } else {
         tree.get(key).is_none()
     }
 }
 
-/// Whether a table meets what is asked of a key.
-pub(crate) fn is_met(tree: &Value, key: &str, ask: &Ask) -> bool
-    ensures { result ≡ is_met ask.now key.now (view tree.now) }
+fn are_origins(tree: &Value, key: &str, kind: bool) -> bool
+    ensures { result ≡ is_met kind asks.Origins key.now (view tree.now) }
+{
+    let bounds = bounds(kind, -1_000_000_000, 1_000_000_000);
+    is_array_at(tree, key, 9, 9, &Each::Three(bounds))
+}
+
+fn are_parts(tree: &Value, key: &str, kind: bool) -> bool
+    ensures { result ≡ is_met kind asks.Parts key.now (view tree.now) }
+{
+    let each = Each::Part(bounds(kind, 0, 1_000_000_000));
+    tree.get(key).is_some()
+        && is_array_at(tree, key, least_count(kind, 1), most_count(kind, 4), &each)
+}
+
+fn is_within(tree: &Value, key: &str, kind: bool) -> bool
+    ensures { result ≡ is_met kind asks.Within key.now (view tree.now) }
+{
+    if kind {
+        three_at(tree, key).is_some()
+    } else {
+        is_at_most_at(tree, "low", "start") && is_at_most_at(tree, "start", "high")
+    }
+}
+
+/// Whether a table meets what is asked of a key, or has at least a value of the kind.
+pub(crate) fn is_met(tree: &Value, key: &str, ask: &Ask, kind: bool) -> bool
+    ensures { result ≡ is_met kind ask.now key.now (view tree.now) }
 {
     match ask {
-        Ask::Whole(bounds) => is_whole(tree, key, bounds),
-        Ask::Three(bounds) => is_three_at(tree, key, bounds),
-        Ask::AxisRates(bounds) => are_axis_rates(tree, key, bounds),
-        Ask::There => tree.get(key).is_some(),
-        Ask::Array(count, each) => is_array_at(tree, key, count, each),
-        Ask::AtMostHigh => is_at_most_at(tree, "low", "high"),
-        Ask::BelowHigh => is_below_at(tree, "low", "high"),
-        Ask::Within => {
-            is_at_most_at(tree, "low", "start") && is_at_most_at(tree, "start", "high")
-        }
-        Ask::OnGrid => is_start_on_grid(tree),
+        Ask::Whole(low, high) => is_whole(tree, key, &bounds(kind, *low, *high)),
+        Ask::Three(low, high) => is_three_at(tree, key, &bounds(kind, *low, *high)),
+        Ask::AxisRates => are_axis_rates(tree, key, kind),
+        Ask::Origins => are_origins(tree, key, kind),
+        Ask::Tables(most) => is_array_at(tree, key, 0, most_count(kind, *most), &Each::Table),
+        Ask::Parts => are_parts(tree, key, kind),
+        Ask::AtMostHigh => kind || is_at_most_at(tree, "low", "high"),
+        Ask::BelowHigh => kind || is_below_at(tree, "low", "high"),
+        Ask::Within => is_within(tree, key, kind),
+        Ask::OnGrid => kind || is_start_on_grid(tree),
     }
 }

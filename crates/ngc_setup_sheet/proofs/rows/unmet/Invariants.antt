@@ -3,5 +3,5 @@ use Rattle.toml.specs.View.{view}
 use Rattle.ngc_setup_sheet.specs.Mistakes.{unmet}
 use Rattle.ngc_setup_sheet.proofs.rows.unmet.Given as goal
 
-abbrev pub invariant-loop-rule : goal.invariant-loop-rule
-invariant-loop-rule l = unmet (view l.tree) l.rows ≡ unmet (view l.tree) (drop l.rule-index l.rows)
+abbrev pub invariant-loop-row : goal.invariant-loop-row
+invariant-loop-row l = unmet l.fault (view l.tree) l.rows ≡ unmet l.fault (view l.tree) (drop l.row-index l.rows)
