@@ -436,58 +436,91 @@ certify_read words machine tools program cuts format options range spelled are =
     certify_asked machine tools program cuts format _ options range (certify_finds machine tools program cuts format) (subst Are spelled are)
 
 -- the values of `report` that were found are these
-abbrev FindsReport : Text → Text → Option Text → Option Text → Option (Text × List Row) → Type 0
-FindsReport machine tools program cuts None = ⊥
-FindsReport machine tools program cuts (Some found) = (found.0 ≡ codes "report") × (first_of (codes "machine") found.1 ≡ Some machine)
+abbrev FindsReport : Text → Text → Option Text → Option Text → Bool → Bool → Option (Text × List Row) → Type 0
+FindsReport machine tools program cuts all json None = ⊥
+FindsReport machine tools program cuts all json (Some found) = (found.0 ≡ codes "report") × (first_of (codes "machine") found.1 ≡ Some machine)
     × (first_of (codes "tools") found.1 ≡ Some tools) × (first_of (codes "program") found.1 ≡ program) × (first_of (codes "cuts") found.1 ≡ cuts)
+    × (is_set (codes "all") found.1 ≡ all) × (is_set (codes "json") found.1 ≡ json)
 
-report_finds : (machine tools : Text) (program : Option Text) (cuts : Option ℕ) → FindsReport machine tools program (text_of cuts) (subcommand_of ngc_app (report_words machine tools program cuts))
+report_finds : (machine tools : Text) (program : Option Text) (cuts : Option ℕ) (all json : Bool)
+    → FindsReport machine tools program (text_of cuts) all json (subcommand_of ngc_app (report_words machine tools program cuts all json))
 unfolding clap_on_literals
-report_finds machine tools None None = (refl, refl, refl, refl, refl)
-report_finds machine tools None (Some cuts) = (refl, refl, refl, refl, refl)
-report_finds machine tools (Some program) None = (refl, refl, refl, refl, refl)
-report_finds machine tools (Some program) (Some cuts) = (refl, refl, refl, refl, refl)
+report_finds machine tools None None false false = (refl, refl, refl, refl, refl, refl, refl)
+report_finds machine tools None None false true = (refl, refl, refl, refl, refl, refl, refl)
+report_finds machine tools None None true false = (refl, refl, refl, refl, refl, refl, refl)
+report_finds machine tools None None true true = (refl, refl, refl, refl, refl, refl, refl)
+report_finds machine tools None (Some cuts) false false = (refl, refl, refl, refl, refl, refl, refl)
+report_finds machine tools None (Some cuts) false true = (refl, refl, refl, refl, refl, refl, refl)
+report_finds machine tools None (Some cuts) true false = (refl, refl, refl, refl, refl, refl, refl)
+report_finds machine tools None (Some cuts) true true = (refl, refl, refl, refl, refl, refl, refl)
+report_finds machine tools (Some program) None false false = (refl, refl, refl, refl, refl, refl, refl)
+report_finds machine tools (Some program) None false true = (refl, refl, refl, refl, refl, refl, refl)
+report_finds machine tools (Some program) None true false = (refl, refl, refl, refl, refl, refl, refl)
+report_finds machine tools (Some program) None true true = (refl, refl, refl, refl, refl, refl, refl)
+report_finds machine tools (Some program) (Some cuts) false false = (refl, refl, refl, refl, refl, refl, refl)
+report_finds machine tools (Some program) (Some cuts) false true = (refl, refl, refl, refl, refl, refl, refl)
+report_finds machine tools (Some program) (Some cuts) true false = (refl, refl, refl, refl, refl, refl, refl)
+report_finds machine tools (Some program) (Some cuts) true true = (refl, refl, refl, refl, refl, refl, refl)
 
-report_cuts_taken : (machine tools : Text) (program : Option Text) (cuts : ℕ) → value_kinds false (Unsigned 1 65535) (decimal cuts) ≡ []
-    → IsTaken (report_words machine tools program (Some cuts))
+report_cuts_taken : (machine tools : Text) (program : Option Text) (cuts : ℕ) (all json : Bool) → value_kinds false (Unsigned 1 65535) (decimal cuts) ≡ []
+    → IsTaken (report_words machine tools program (Some cuts) all json)
 unfolding clap_on_literals
-report_cuts_taken machine tools None cuts takes = both (both (both (both (both takes refl) refl) refl) refl) refl
-report_cuts_taken machine tools (Some program) cuts takes = both (both (both (both (both takes refl) refl) refl) refl) refl
+report_cuts_taken machine tools None cuts false false takes = both (both (both (both (both takes refl) refl) refl) refl) refl
+report_cuts_taken machine tools None cuts false true takes = both (both (both (both (both takes refl) refl) refl) refl) refl
+report_cuts_taken machine tools None cuts true false takes = both (both (both (both (both takes refl) refl) refl) refl) refl
+report_cuts_taken machine tools None cuts true true takes = both (both (both (both (both takes refl) refl) refl) refl) refl
+report_cuts_taken machine tools (Some program) cuts false false takes = both (both (both (both (both takes refl) refl) refl) refl) refl
+report_cuts_taken machine tools (Some program) cuts false true takes = both (both (both (both (both takes refl) refl) refl) refl) refl
+report_cuts_taken machine tools (Some program) cuts true false takes = both (both (both (both (both takes refl) refl) refl) refl) refl
+report_cuts_taken machine tools (Some program) cuts true true takes = both (both (both (both (both takes refl) refl) refl) refl) refl
 
-report_spells : (machine tools : Text) (program : Option Text) (cuts : Option ℕ) → AreCutsInRange cuts → IsTaken (report_words machine tools program cuts)
+report_spells : (machine tools : Text) (program : Option Text) (cuts : Option ℕ) (all json : Bool) → AreCutsInRange cuts → IsTaken (report_words machine tools program cuts all json)
 unfolding clap_on_literals
-report_spells machine tools None None range = refl
-report_spells machine tools (Some program) None range = refl
-report_spells machine tools program (Some cuts) range =
+report_spells machine tools None None false false range = refl
+report_spells machine tools None None false true range = refl
+report_spells machine tools None None true false range = refl
+report_spells machine tools None None true true range = refl
+report_spells machine tools (Some program) None false false range = refl
+report_spells machine tools (Some program) None false true range = refl
+report_spells machine tools (Some program) None true false range = refl
+report_spells machine tools (Some program) None true true range = refl
+report_spells machine tools program (Some cuts) all json range =
     let text = Accepts-accepts false (Unsigned 1 65535) (decimal cuts) (decimal_in_range cuts range.0 range.1) in
-    report_cuts_taken machine tools program cuts (passes (accepts false (Unsigned 1 65535) (decimal cuts)) _ text)
+    report_cuts_taken machine tools program cuts all json (passes (accepts false (Unsigned 1 65535) (decimal cuts)) _ text)
 
-report_asked : (machine tools : Text) (program : Option Text) (cuts : Option ℕ) (found : Option (Text × List Row)) (options : Options) → AreCutsInRange cuts
-    → FindsReport machine tools program (text_of cuts) found → AreOptions found options → AsksForReport machine tools program cuts options
-report_asked machine tools program cuts None options range finds are = absurd finds
-report_asked machine tools program cuts (Some found) (ToReport report) range finds are =
-    let read = subst (λ (text : Option Text). AreCuts text report.cuts) finds.4 are.1.cuts in
-    (same_text _ _ _ are.1.machine finds.1, same_text _ _ _ are.1.tools finds.2, are.1.program ∙ finds.3, cuts_read cuts report.cuts range read)
-report_asked machine tools program cuts (Some found) (ToList list) range finds are = other_name (codes "report") (codes "list") (sym finds.0 ∙ are.0) (λ lengths. omega (arith, lengths))
-report_asked machine tools program cuts (Some found) (ToCertify certify) range finds are = other_name (codes "report") (codes "certify") (sym finds.0 ∙ are.0) (λ lengths. omega (arith, lengths))
-report_asked machine tools program cuts (Some found) (ToCheck check) range finds are = other_name (codes "report") (codes "check") (sym finds.0 ∙ are.0) (λ lengths. omega (arith, lengths))
-report_asked machine tools program cuts (Some found) (ToRun run) range finds are = report_is_no_run run.recording (sym finds.0 ∙ are.0)
-report_asked machine tools program cuts (Some found) (ToRunThrough run) range finds are = report_is_no_run run.recording (sym finds.0 ∙ are.0)
-report_asked machine tools program cuts (Some found) (ToDraw draw) range finds are = other_name (codes "report") (codes "draw") (sym finds.0 ∙ are.0) (λ lengths. omega (arith, lengths))
-report_asked machine tools program cuts (Some found) (ToShow show) range finds are = other_name (codes "report") (codes "show") (sym finds.0 ∙ are.0) (λ lengths. omega (arith, lengths))
-report_asked machine tools program cuts (Some found) (ToExplain number) range finds are = other_name (codes "report") (codes "explain") (sym finds.0 ∙ are.0) (λ lengths. omega (arith, lengths))
-report_asked machine tools program cuts (Some found) (ToHelp command) range finds are = other_name (codes "report") (codes "help") (sym finds.0 ∙ are.0) (λ lengths. omega (arith, lengths))
-report_asked machine tools program cuts (Some found) ToVersion range finds are = other_name (codes "report") (codes "version") (sym finds.0 ∙ are) (λ lengths. omega (arith, lengths))
+report_asked : (machine tools : Text) (program : Option Text) (cuts : Option ℕ) (all json : Bool) (found : Option (Text × List Row)) (options : Options) → AreCutsInRange cuts
+    → FindsReport machine tools program (text_of cuts) all json found → AreOptions found options → AsksForReport machine tools program cuts all json options
+report_asked machine tools program cuts all json None options range finds are = absurd finds
+report_asked machine tools program cuts all json (Some found) (ToReport report) range finds are =
+    let read = subst (λ (text : Option Text). AreCuts text report.cuts) finds.4 are.1.cuts in (
+      same_text _ _ _ are.1.machine finds.1,
+      same_text _ _ _ are.1.tools finds.2,
+      are.1.program ∙ finds.3,
+      cuts_read cuts report.cuts range read,
+      are.1.all ∙ finds.5,
+      are.1.json ∙ finds.6,
+    )
+report_asked machine tools program cuts all json (Some found) (ToList list) range finds are = other_name (codes "report") (codes "list") (sym finds.0 ∙ are.0) (λ lengths. omega (arith, lengths))
+report_asked machine tools program cuts all json (Some found) (ToCertify certify) range finds are = other_name (codes "report") (codes "certify") (sym finds.0 ∙ are.0) (λ lengths. omega (arith, lengths))
+report_asked machine tools program cuts all json (Some found) (ToCheck check) range finds are = other_name (codes "report") (codes "check") (sym finds.0 ∙ are.0) (λ lengths. omega (arith, lengths))
+report_asked machine tools program cuts all json (Some found) (ToRun run) range finds are = report_is_no_run run.recording (sym finds.0 ∙ are.0)
+report_asked machine tools program cuts all json (Some found) (ToRunThrough run) range finds are = report_is_no_run run.recording (sym finds.0 ∙ are.0)
+report_asked machine tools program cuts all json (Some found) (ToDraw draw) range finds are = other_name (codes "report") (codes "draw") (sym finds.0 ∙ are.0) (λ lengths. omega (arith, lengths))
+report_asked machine tools program cuts all json (Some found) (ToShow show) range finds are = other_name (codes "report") (codes "show") (sym finds.0 ∙ are.0) (λ lengths. omega (arith, lengths))
+report_asked machine tools program cuts all json (Some found) (ToExplain number) range finds are = other_name (codes "report") (codes "explain") (sym finds.0 ∙ are.0) (λ lengths. omega (arith, lengths))
+report_asked machine tools program cuts all json (Some found) (ToHelp command) range finds are = other_name (codes "report") (codes "help") (sym finds.0 ∙ are.0) (λ lengths. omega (arith, lengths))
+report_asked machine tools program cuts all json (Some found) ToVersion range finds are = other_name (codes "report") (codes "version") (sym finds.0 ∙ are) (λ lengths. omega (arith, lengths))
 
-pub report_taken : (words : List Text) (machine tools : Text) (program : Option Text) (cuts : Option ℕ) → AreCutsInRange cuts
-    → words ≡ report_words machine tools program cuts → IsTaken words
-report_taken words machine tools program cuts range spelled = subst IsTaken (sym spelled) (report_spells machine tools program cuts range)
+pub report_taken : (words : List Text) (machine tools : Text) (program : Option Text) (cuts : Option ℕ) (all json : Bool) → AreCutsInRange cuts
+    → words ≡ report_words machine tools program cuts all json → IsTaken words
+report_taken words machine tools program cuts all json range spelled = subst IsTaken (sym spelled) (report_spells machine tools program cuts all json range)
 
-pub report_read : (words : List Text) (machine tools : Text) (program : Option Text) (cuts : Option ℕ) (options : Options) → AreCutsInRange cuts
-    → words ≡ report_words machine tools program cuts → AreOptions (subcommand_of ngc_app words) options → AsksForReport machine tools program cuts options
-report_read words machine tools program cuts options range spelled are =
+pub report_read : (words : List Text) (machine tools : Text) (program : Option Text) (cuts : Option ℕ) (all json : Bool) (options : Options) → AreCutsInRange cuts
+    → words ≡ report_words machine tools program cuts all json → AreOptions (subcommand_of ngc_app words) options
+    → AsksForReport machine tools program cuts all json options
+report_read words machine tools program cuts all json options range spelled are =
     let Are : List Text → Type 0 = λ ws. AreOptions (subcommand_of ngc_app ws) options in
-    report_asked machine tools program cuts _ options range (report_finds machine tools program cuts) (subst Are spelled are)
+    report_asked machine tools program cuts all json _ options range (report_finds machine tools program cuts all json) (subst Are spelled are)
 
 -- the command whose help was asked for is this
 abbrev FindsHelp : Option Text → Option (Text × List Row) → Type 0

@@ -201,7 +201,9 @@ report_sound =
     let tools = set_is_sound FitsCuts _ refl refl refl (λ v none. no_cuts (codes "tools") v refl) in
     let program = set_is_sound FitsCuts _ refl refl refl (λ v none. no_cuts (codes "program") v refl) in
     let cuts = set_is_sound FitsCuts _ refl refl refl (λ v none same. cuts_fit v none) in
-    (machine, (tools, (program, (cuts, (help_is_sound FitsCuts _ refl refl, tt)))))
+    let all = flag_is_sound FitsCuts _ (codes "true") (codes "false") refl refl refl (λ v. no_cuts (codes "all") v refl) in
+    let json = flag_is_sound FitsCuts _ (codes "true") (codes "false") refl refl refl (λ v. no_cuts (codes "json") v refl) in
+    (machine, (tools, (program, (cuts, (all, (json, (help_is_sound FitsCuts _ refl refl, tt)))))))
 
 report_values : (words : List Text) → level_fault report_shape [] nothing_held words false [] ≡ [] → HasReportValues (rows_after report_shape.rules [] words)
 report_values words none =

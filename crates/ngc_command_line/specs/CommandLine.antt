@@ -80,11 +80,11 @@ abbrev pub show_app : App
 show_app = fold with_rule (new_app (codes "show"))
     (required_file (codes "machine") ∷ file_option (codes "tools") ∷ [])
 
--- `report --machine FILE --tools FILE [--program FILE] [--cuts N]`
+-- `report --machine FILE --tools FILE [--program FILE] [--cuts N] [--all] [--json]`
 abbrev pub report_app : App
 report_app = fold with_rule (new_app (codes "report"))
     (required_file (codes "machine") ∷ required_file (codes "tools")
-    ∷ file_option (codes "program") ∷ cuts_option ∷ [])
+    ∷ file_option (codes "program") ∷ cuts_option ∷ flag (codes "all") ∷ flag (codes "json") ∷ [])
 
 -- `N`, a number from 1 to 999, which may not be left out
 abbrev pub number_argument : Rule
@@ -190,10 +190,11 @@ abbrev pub show_words : Text → Option Text → List Text
 show_words machine tools = codes "show" ∷ (codes "--machine=" ++ machine) ∷ file_words (codes "--tools=") tools
 
 -- the words of `ngc report` with these options, in one spelling
-abbrev pub report_words : Text → Text → Option Text → Option ℕ → List Text
-report_words machine tools program cuts = codes "report"
+abbrev pub report_words : Text → Text → Option Text → Option ℕ → Bool → Bool → List Text
+report_words machine tools program cuts all json = codes "report"
     ∷ (codes "--machine=" ++ machine) ∷ (codes "--tools=" ++ tools)
-    ∷ (file_words (codes "--program=") program ++ cuts_words cuts)
+    ∷ (file_words (codes "--program=") program ++ cuts_words cuts
+    ++ flag_words (codes "--all") all ++ flag_words (codes "--json") json)
 
 -- the words of `ngc run` or `ngc pulses` with these options, in one spelling
 abbrev pub run_words : Recording → Text → Text → Text → Option Text → Option Text → Bool → List Text

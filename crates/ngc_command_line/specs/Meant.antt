@@ -126,6 +126,8 @@ pub record AreReportOptions (rows : List Row) (options : ReportOptions) : Type 0
   pub tools : Some options.tools.now ≡ first_of (codes "tools") rows
   pub program : option_map (λ name. name.now) options.program ≡ first_of (codes "program") rows
   pub cuts : AreCuts (first_of (codes "cuts") rows) options.cuts
+  pub all : options.all ≡ is_set (codes "all") rows
+  pub json : options.json ≡ is_set (codes "json") rows
 
 -- a value was found under the name
 abbrev pub HasValue : Text → List Row → Type 0
@@ -252,12 +254,12 @@ AsksForShow machine tools (ToShow show) =
 AsksForShow machine tools other = ⊥
 
 -- `report` is asked for, with these options, and 8 cuts where none are given
-abbrev pub AsksForReport : Text → Text → Option Text → Option ℕ → Options → Type 0
-AsksForReport machine tools program cuts (ToReport report) =
+abbrev pub AsksForReport : Text → Text → Option Text → Option ℕ → Bool → Bool → Options → Type 0
+AsksForReport machine tools program cuts all json (ToReport report) =
     (report.machine.now ≡ machine) × (report.tools.now ≡ tools)
     × (option_map (λ name. name.now) report.program ≡ program)
-    × (report.cuts ≡ unwrap_or cuts 8)
-AsksForReport machine tools program cuts other = ⊥
+    × (report.cuts ≡ unwrap_or cuts 8) × (report.all ≡ all) × (report.json ≡ json)
+AsksForReport machine tools program cuts all json other = ⊥
 
 -- `help` is asked for, of this command
 abbrev pub AsksForHelp : Option Text → Options → Type 0

@@ -229,11 +229,12 @@ pub fn read_options<'a>(alloc: Global, words: &'a [&'a str]) -> Result<Options<'
     ensures spelled_show { (machine : Text) (tools : Option Text)
         → texts words.entry.now ≡ show_words machine tools
         → MatchResult result (AsksForShow machine tools) (λ fault. fault ≡ UsageFault.Memory) }
-    // `report --machine=FILE --tools=FILE --program=FILE --cuts=N` is read as it is spelled, where the
-    // last two may be left out.
+    // `report --machine=FILE --tools=FILE --program=FILE --cuts=N --all --json` is read as it is
+    // spelled, where the last four may be left out.
     ensures spelled_report { (machine tools : Text) (program : Option Text) (cuts : Option ℕ)
-        → AreCutsInRange cuts → texts words.entry.now ≡ report_words machine tools program cuts
-        → MatchResult result (AsksForReport machine tools program cuts)
+        (all json : Bool)
+        → AreCutsInRange cuts → texts words.entry.now ≡ report_words machine tools program cuts all json
+        → MatchResult result (AsksForReport machine tools program cuts all json)
         (λ fault. fault ≡ UsageFault.Memory) }
     // So are `help`, `help COMMAND` with the name of a command, and `version`.
     ensures spelled_help { (command : Option Text) → AreCommands command

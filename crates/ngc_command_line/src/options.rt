@@ -162,5 +162,9 @@ pub struct ReportOptions<'a> {
     pub program: Option<&'a str>,
     /// The most pieces that a motion is cut into, from 1 to 65,535. Where none is given it is 8.
     pub cuts: u16,
+    /// Whether every command that no cut clears is told, and not the first alone.
+    pub all: bool,
+    /// Whether the report is a JSON document in place of sentences.
+    pub json: bool,
     ghost some_cuts: { 1 ≤ cuts },
 }

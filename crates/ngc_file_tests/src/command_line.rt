@@ -348,30 +348,49 @@ fn reads_show(rt: HostRuntime) -> Result<(), Fail> {
     Ok(())
 }
 
-const REPORTS: &[(&str, Option<&str>, u16)] = &[
-    ("report --machine=mill.toml --tools=table.toml", None, 8),
+// The program, the cuts, whether every command is told, and whether the report is a JSON document.
+const REPORTS: &[(&str, (Option<&str>, u16, bool, bool))] = &[
+    (
+        "report --machine=mill.toml --tools=table.toml",
+        (None, 8, false, false),
+    ),
     (
         "report --machine mill.toml --tools table.toml --program a.ngc --cuts 3|\
          report --cuts=3 --program=a.ngc --tools=table.toml --machine=mill.toml",
-        Some("a.ngc"),
-        3,
+        (Some("a.ngc"), 3, false, false),
     ),
     (
         "report --machine=mill.toml --tools=table.toml --cuts 65535",
-        None,
-        65_535,
+        (None, 65_535, false, false),
+    ),
+    (
+        "report --machine=mill.toml --tools=table.toml --all|\
+         report --all --tools table.toml --machine mill.toml",
+        (None, 8, true, false),
+    ),
+    (
+        "report --machine=mill.toml --tools=table.toml --json|\
+         report --json --tools table.toml --machine mill.toml",
+        (None, 8, false, true),
+    ),
+    (
+        "report --machine mill.toml --tools table.toml --program a.ngc --cuts 3 --all --json|\
+         report --json --all --cuts=3 --program=a.ngc --tools=table.toml --machine=mill.toml",
+        (Some("a.ngc"), 3, true, true),
     ),
 ];
 
 #[test]
 fn reads_report(rt: HostRuntime) -> Result<(), Fail> {
-    for (lines, program, cuts) in REPORTS {
+    for (lines, (program, cuts, all, json)) in REPORTS {
         assert!(rt; *cuts > 0);
         let wanted = ReportOptions {
             machine: "mill.toml",
             tools: "table.toml",
             program: *program,
             cuts: *cuts,
+            all: *all,
+            json: *json,
         };
         assert!(rt;
             are_read_as(rt.alloc(), lines, Options::Report(wanted))?,
@@ -571,9 +590,19 @@ const LAST_WORDS: &[(&str, &str, &str)] = &[
         "'--cuts <N>'|try '--help'",
     ),
     (
+        "report --machine=mill.toml --tools=table.toml --program=a.ngc --cuts=3 --all --json",
+        "--machine=a|--tools=a|--program=a|--cuts=5|--all|--json",
+        "multiple times|Usage: ngc report",
+    ),
+    (
         "report --machine=mill.toml --tools=table.toml",
         "--delete|--certificate=a",
         "unexpected argument|Usage: ngc report",
+    ),
+    (
+        "report --machine=mill.toml --tools=table.toml",
+        "--all=on|--json=on",
+        "'on'|Usage: ngc report",
     ),
 ];
 
@@ -638,6 +667,7 @@ const SHOW_HELP: &str = "Print a machine and its tools in millimetres, with warn
 const REPORT_HELP: &str = "Tell whether a part program fits, and how long it takes|\
                            Usage: ngc report [OPTIONS] --machine <FILE> --tools <FILE>|--machine <FILE>|--tools <FILE>|\
                            --program <FILE>|[default: standard input]|--cuts <N>|[default: 8]|\
+                           --all|--json|Print the same facts as a JSON document|\
                            ngc report --program examples/slot.ngc|Exit status:|`ngc explain 113` explains it.";
 
 const EXPLAIN_HELP: &str =

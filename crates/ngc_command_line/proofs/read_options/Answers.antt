@@ -50,7 +50,7 @@ pub returns-clause-spelled_show : goal.returns-clause-spelled_show
 returns-clause-spelled_show c = λ machine tools spelled. show_read _ machine tools _ spelled (returns-clause-options c)
 
 pub returns-clause-spelled_report : goal.returns-clause-spelled_report
-returns-clause-spelled_report c = λ machine tools program cuts range spelled. report_read _ machine tools program cuts _ range spelled (returns-clause-options c)
+returns-clause-spelled_report c = λ machine tools program cuts all json range spelled. report_read _ machine tools program cuts all json _ range spelled (returns-clause-options c)
 
 pub returns-clause-spelled_help : goal.returns-clause-spelled_help
 returns-clause-spelled_help c = λ command among spelled. help_read _ command _ among spelled (returns-clause-options c)
@@ -86,8 +86,8 @@ returns-in-Err-clause-spelled_show c = λ machine tools spelled.
     c.usage_fault.ensures (taken_is_memory _ _ c.in-Err.error c.in-Ok.ensures (show_taken _ machine tools spelled) c.in-Err.ensures.kinds)
 
 pub returns-in-Err-clause-spelled_report : goal.returns-in-Err-clause-spelled_report
-returns-in-Err-clause-spelled_report c = λ machine tools program cuts range spelled.
-    c.usage_fault.ensures (taken_is_memory _ _ c.in-Err.error c.in-Ok.ensures (report_taken _ machine tools program cuts range spelled) c.in-Err.ensures.kinds)
+returns-in-Err-clause-spelled_report c = λ machine tools program cuts all json range spelled.
+    c.usage_fault.ensures (taken_is_memory _ _ c.in-Err.error c.in-Ok.ensures (report_taken _ machine tools program cuts all json range spelled) c.in-Err.ensures.kinds)
 
 pub returns-in-Err-clause-spelled_help : goal.returns-in-Err-clause-spelled_help
 returns-in-Err-clause-spelled_help c = λ command among spelled.

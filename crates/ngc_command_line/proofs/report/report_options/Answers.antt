@@ -9,4 +9,6 @@ returns c = record {
   tools = c.required-2.ensures;
   program = c.get_str.ensures ∙ first_value-rows (found_of c.args.found.now) (codes "program");
   cuts = c.cuts_of.ensures;
+  all = c.flag_is_set.ensures;
+  json = c.flag_is_set-2.ensures;
 }
