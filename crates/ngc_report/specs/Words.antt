@@ -88,10 +88,10 @@ command_text k s =
     codes "Command " ++ decimal k ++ codes " of line " ++ decimal s.line ++ codes ", with " ++ tool_text s.tool ++ codes ", from " ++ place_text s.from ++
     codes " to " ++ place_text s.to ++ codes ".\n"
 
--- the height from which on the tool passes over a fixture, where the travel has it
+-- the height from which on a fixture is passed over, where the travel has it
 unfoldable pub over_text : Option ℤ → List ℕ
 over_text None = codes ".\n"
-over_text (Some height) = codes "; the tool passes over it from Z " ++ mm_text height ++ codes " up.\n"
+over_text (Some height) = codes "; from Z " ++ mm_text height ++ codes " up it passes over.\n"
 
 abbrev pub met_text : Met → List ℕ
 met_text m =

@@ -283,11 +283,11 @@ fn add_side(chunk: &mut Chunk, margin: &Margin)
 
 fn add_height(chunk: &mut Chunk, height: i64)
     requires { length chunk.old + 90 ≤ CHUNK_SIZE }
-    ensures { chunk.new ≡ chunk.old ++ (codes "; the tool passes over it from Z " ++ mm_text height ++ codes " up.\n") }
+    ensures { chunk.new ≡ chunk.old ++ (codes "; from Z " ++ mm_text height ++ codes " up it passes over.\n") }
 {
-    chunk.add_text(b"; the tool passes over it from Z ");
+    chunk.add_text(b"; from Z ");
     add_length(chunk, height);
-    chunk.add_text(b" up.\n");
+    chunk.add_text(b" up it passes over.\n");
 }
 
 #[tactic(auto, unfolding(crate::specs::Words::over_text))]

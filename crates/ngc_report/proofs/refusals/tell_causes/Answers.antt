@@ -38,7 +38,7 @@ loop-index-preserved g c =
     went c.args.form (g.W.Sink.written c.args.sink.now) (g.W.Sink.written c.loop-index.sink) (g.W.Sink.written c.tell_scene.new.sink) c.args.chunk.now c.loop-index.chunk c.tell_scene.new.chunk
     one (causes_lines m cs (drop (i + 1) ks)) (causes_lines m cs (drop i ks)) (causes_lines m cs ks)
     (next_cause m cs ks i c.loop-index-test.true) c.loop-index.invariant.ahead (rw c.scene-scene.ensures.scene at c.in-Ok.ensures.told) in
-    record { ahead = ahead; stands = c.scene-scene.ensures.stands; failures = search rules; }
+    record { ahead = ahead; stands = c.scene-scene.ensures.stands; failures = search rules }
 
 pub returns-clause-told : goal.returns-clause-told
 returns-clause-told g c =
