@@ -1,5 +1,5 @@
 -- What a setup sheet tells of a machine and of its tools. Our own.
-use Rattle.std.specs.Prelude.{ℕ, ◌+◌, min, ℤ, pos, ◌+ℤ◌, ◌*ℤ◌, List, [], ◌∷◌, ◌++◌, filter, flat_map, Bool, true, false, if◌then◌else◌}
+use Rattle.std.specs.Prelude.{ℕ, ◌+◌, min, ℤ, pos, ◌+ℤ◌, ◌*ℤ◌, List, [], ◌∷◌, ◌++◌, map, filter, flat_map, Bool, true, false, if◌then◌else◌}
 use Rattle.ngc_machine.specs.Machine.{MachineFile}
 use Rattle.ngc_machine.specs.declared.machine.Fixture.{Fixture}
 use Rattle.ngc_machine.specs.declared.parts.Part.{Part}
@@ -110,3 +110,14 @@ is_warning _ = false
 
 abbrev pub warnings_text : MachineFile → List Tool → List ℕ
 warnings_text m tools = lines_text (filter is_warning (sheet m tools))
+
+-- ---- the same warnings for a JSON document
+
+-- a warning as an object of it
+abbrev pub as_fact : Line → Line
+as_fact (lines.Warning w) = lines.WarningFact w
+as_fact l = l
+
+-- an object for each warning, in the order of the sheet
+abbrev pub warning_facts : MachineFile → List Tool → List ℕ
+warning_facts m tools = lines_text (map as_fact (filter is_warning (sheet m tools)))

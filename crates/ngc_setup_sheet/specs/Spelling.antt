@@ -81,22 +81,28 @@ figure_text (figures.Place p) = place_text p
 figure_text (figures.Part s diameter) = span_text s ++ codes ", diameter " ++ length_text diameter ++ codes " mm"
 
 unfoldable pub warning_text : Warning → List ℕ
-warning_text warnings.Speed = codes "the greatest speed is not from 0.1 to 1000 mm/s\n"
-warning_text warnings.Acceleration = codes "the acceleration is not from 1 to 20000 mm/s^2\n"
-warning_text (warnings.Travel axes.X) = codes "the travel on X is less than 10 mm\n"
-warning_text (warnings.Travel axes.Y) = codes "the travel on Y is less than 10 mm\n"
-warning_text (warnings.Travel axes.Z) = codes "the travel on Z is less than 10 mm\n"
-warning_text (warnings.Thin n) = codes "fixture " ++ decimal n ++ codes " is thinner than 0.1 mm: its corners are in nanometres\n"
-warning_text (warnings.OutOfReach n) = codes "fixture " ++ decimal n ++ codes " is where no tool reaches\n"
-warning_text (warnings.Short n) = codes "tool " ++ decimal n ++ codes " is shorter than 1 mm: lengths are in nanometres\n"
-warning_text (warnings.Offset n) = codes "tool " ++ decimal n ++ codes " has an offset of more than twice or less than half its length\n"
+warning_text warnings.Speed = codes "the greatest speed is not from 0.1 to 1000 mm/s"
+warning_text warnings.Acceleration = codes "the acceleration is not from 1 to 20000 mm/s^2"
+warning_text (warnings.Travel axes.X) = codes "the travel on X is less than 10 mm"
+warning_text (warnings.Travel axes.Y) = codes "the travel on Y is less than 10 mm"
+warning_text (warnings.Travel axes.Z) = codes "the travel on Z is less than 10 mm"
+warning_text (warnings.Thin n) = codes "fixture " ++ decimal n ++ codes " is thinner than 0.1 mm: its corners are in nanometres"
+warning_text (warnings.OutOfReach n) = codes "fixture " ++ decimal n ++ codes " is where no tool reaches"
+warning_text (warnings.Short n) = codes "tool " ++ decimal n ++ codes " is shorter than 1 mm: lengths are in nanometres"
+warning_text (warnings.Offset n) = codes "tool " ++ decimal n ++ codes " has an offset of more than twice or less than half its length"
+
+-- an object of a JSON document, behind a comma and a line feed. A JSON string has its characters as they are but for quotation
+-- marks, backslashes and control characters, which it escapes (RFC 8259): of these a warning has none
+abbrev pub warning_object : Warning → List ℕ
+warning_object w = codes ",\n{\"fact\":\"warning\",\"text\":\"" ++ warning_text w ++ codes "\"}"
 
 abbrev pub line_text : Line → List ℕ
 line_text lines.Machine = codes "machine\n"
 line_text (lines.Fixture n) = codes "fixture " ++ decimal n ++ codes "\n"
 line_text (lines.Tool n) = codes "tool " ++ decimal n ++ codes "\n"
 line_text (lines.Fact f figure) = fact_text f ++ figure_text figure ++ codes "\n"
-line_text (lines.Warning w) = codes "warning: " ++ warning_text w
+line_text (lines.Warning w) = codes "warning: " ++ warning_text w ++ codes "\n"
+line_text (lines.WarningFact w) = warning_object w
 
 abbrev pub lines_text : List Line → List ℕ
 lines_text told = flat_map line_text told

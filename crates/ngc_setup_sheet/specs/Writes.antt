@@ -1,10 +1,23 @@
 -- Lines on their way to a sink. Our own.
-use Rattle.std.specs.Prelude.{ℕ, List, Option, Result}
+use Rattle.std.specs.Prelude.{ℕ, List, map, filter, Option, Result}
 use Rattle.ngc_fixed_length.specs.declared.writing.WriteFault.{WriteFault}
 use Rattle.ngc_certificate_text.specs.Collects.{Collects}
+use Rattle.ngc_setup_sheet.specs.Sheets.{is_warning, as_fact}
 use Rattle.ngc_setup_sheet.specs.Spelling.{lines_text}
 use Rattle.ngc_setup_sheet.specs.declared.line.Line.{Line}
+use Rattle.ngc_setup_sheet.specs.declared.writer.Style.{Style}
+use Rattle.ngc_setup_sheet.specs.declared.writer.Style.TheVariants as styles
 
 -- the text of lines comes behind what was collected; where a write fails, a beginning of both is written
 abbrev pub Writes : Option (List ℕ) → Option (List ℕ) → List ℕ → List ℕ → Result (Unit {0}) WriteFault → List Line → Type 0
 Writes old new before after result told = Collects old new before after result (lines_text told)
+
+-- a line in a style
+abbrev pub styled : Style → Line → Line
+styled styles.Lines l = l
+styled styles.Facts l = as_fact l
+
+-- those of these lines that are warnings, in a style
+abbrev pub chosen : Style → List Line → List Line
+chosen styles.Lines told = filter is_warning told
+chosen styles.Facts told = map as_fact (filter is_warning told)

@@ -74,7 +74,7 @@ pub enum Warning {
     Offset(u32),
 }
 
-/// A line of a setup sheet.
+/// A line of a setup sheet, or what stands in a JSON document in place of a warning.
 #[derive(Clone, Copy)]
 pub enum Line {
     /// What follows is of the machine.
@@ -85,6 +85,8 @@ pub enum Line {
     Tool(u32),
     Fact(Fact, Figure),
     Warning(Warning),
+    /// The warning as an object of a JSON document.
+    WarningFact(Warning),
 }
 
 impl Default for Line {

@@ -1,7 +1,7 @@
 //! How lines are spelled.
 ghost use Rattle.std.specs.Prelude.{◌≡◌, ◌+◌, ◌*◌, ◌<◌, ◌≤◌, ◌++◌, codes, decimal, length};
 ghost use Rattle.ngc_output.specs.Collected.{CHUNK_SIZE, HasLineRoom};
-ghost use Rattle.ngc_setup_sheet.specs.Spelling.{decimals, kept, number_text, size_text, sign_text, length_text, thousandths_text, span_text, place_text, fact_text, figure_text, warning_text, line_text};
+ghost use Rattle.ngc_setup_sheet.specs.Spelling.{decimals, kept, number_text, size_text, sign_text, length_text, thousandths_text, span_text, place_text, fact_text, figure_text, warning_text, warning_object, line_text};
 
 use crate::line::{Axis, Fact, Figure, Line, Span, Warning};
 use itoa::Integer;
@@ -221,33 +221,31 @@ fn add_warning(chunk: &mut Chunk, warning: &Warning)
     ensures short { length chunk.new ≤ length chunk.old + 160 }
 {
     match warning {
-        Warning::Speed => chunk.add_text(b"the greatest speed is not from 0.1 to 1000 mm/s\n"),
-        Warning::Acceleration => chunk.add_text(
-            b"the acceleration is not from 1 to 20000 mm/s^2\n",
-        ),
-        Warning::Travel(Axis::X) => chunk.add_text(b"the travel on X is less than 10 mm\n"),
-        Warning::Travel(Axis::Y) => chunk.add_text(b"the travel on Y is less than 10 mm\n"),
-        Warning::Travel(Axis::Z) => chunk.add_text(b"the travel on Z is less than 10 mm\n"),
+        Warning::Speed => chunk.add_text(b"the greatest speed is not from 0.1 to 1000 mm/s"),
+        Warning::Acceleration => chunk.add_text(b"the acceleration is not from 1 to 20000 mm/s^2"),
+        Warning::Travel(Axis::X) => chunk.add_text(b"the travel on X is less than 10 mm"),
+        Warning::Travel(Axis::Y) => chunk.add_text(b"the travel on Y is less than 10 mm"),
+        Warning::Travel(Axis::Z) => chunk.add_text(b"the travel on Z is less than 10 mm"),
         Warning::Thin(number) => add_numbered(
             chunk,
             b"fixture ",
             *number,
-            b" is thinner than 0.1 mm: its corners are in nanometres\n",
+            b" is thinner than 0.1 mm: its corners are in nanometres",
         ),
         Warning::OutOfReach(number) => {
-            add_numbered(chunk, b"fixture ", *number, b" is where no tool reaches\n")
+            add_numbered(chunk, b"fixture ", *number, b" is where no tool reaches")
         }
         Warning::Short(number) => add_numbered(
             chunk,
             b"tool ",
             *number,
-            b" is shorter than 1 mm: lengths are in nanometres\n",
+            b" is shorter than 1 mm: lengths are in nanometres",
         ),
         Warning::Offset(number) => add_numbered(
             chunk,
             b"tool ",
             *number,
-            b" has an offset of more than twice or less than half its length\n",
+            b" has an offset of more than twice or less than half its length",
         ),
     }
 }
@@ -264,10 +262,20 @@ fn add_fact(chunk: &mut Chunk, told: &Fact, figure: &Figure)
 
 fn add_warned(chunk: &mut Chunk, warning: &Warning)
     requires { HasLineRoom chunk.old }
-    ensures { chunk.new ≡ chunk.old ++ (codes "warning: " ++ warning_text warning.now) }
+    ensures { chunk.new ≡ chunk.old ++ (codes "warning: " ++ warning_text warning.now ++ codes "\n") }
 {
     chunk.add_text(b"warning: ");
     add_warning(chunk, warning);
+    chunk.add_text(b"\n");
+}
+
+fn add_warning_object(chunk: &mut Chunk, warning: &Warning)
+    requires { HasLineRoom chunk.old }
+    ensures { chunk.new ≡ chunk.old ++ warning_object warning.now }
+{
+    chunk.add_text(b",\n{\"fact\":\"warning\",\"text\":\"");
+    add_warning(chunk, warning);
+    chunk.add_text(b"\"}");
 }
 
 /// Adds the text of a line.
@@ -281,5 +289,6 @@ pub(crate) fn add_line(chunk: &mut Chunk, line: &Line)
         Line::Tool(number) => add_numbered(chunk, b"tool ", *number, b"\n"),
         Line::Fact(fact, figure) => add_fact(chunk, fact, figure),
         Line::Warning(warning) => add_warned(chunk, warning),
+        Line::WarningFact(warning) => add_warning_object(chunk, warning),
     }
 }

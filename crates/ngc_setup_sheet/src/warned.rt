@@ -1,16 +1,16 @@
 //! The warnings of a sheet alone.
-ghost use Rattle.std.specs.Prelude.{◌≡◌, ◌++◌, filter, flat_map, OnOk, OnErr};
+ghost use Rattle.std.specs.Prelude.{◌≡◌, ◌++◌, flat_map, OnOk, OnErr};
 ghost use Rattle.std.specs.Io.KnownBytes.{Appends};
 ghost use Rattle.ngc_fixed_length.specs.Failures.{CountsFailure};
 ghost use Rattle.ngc_fixed_length.specs.Written.{AppendsBeginning};
 ghost use Rattle.ngc_machine.specs.Machine.{file_of};
 ghost use Rattle.ngc_setup_sheet.specs.Reaches.{IsReach};
-ghost use Rattle.ngc_setup_sheet.specs.Sheets.{fixtures_from, tool_lines, sheet, is_warning, warnings_text};
-ghost use Rattle.ngc_setup_sheet.specs.Writes.{Writes};
+ghost use Rattle.ngc_setup_sheet.specs.Sheets.{fixtures_from, tool_lines, sheet, warnings_text, warning_facts};
+ghost use Rattle.ngc_setup_sheet.specs.Writes.{Writes, chosen};
 
 use crate::lines::{fixture_lines, machine_lines, tool_lines};
 use crate::reach::Reach;
-use crate::writer::write_warning_lines;
+use crate::writer::{Style, write_warning_lines};
 use ngc_fixed_length::{Sink, WriteFault};
 use ngc_machine::{Machine, Tool};
 use ngc_output::Chunk;
@@ -18,17 +18,18 @@ use std::alloc::Allocator;
 
 fn warn_of_fixtures<A: Allocator, W: Sink>(
     chunk: &mut Chunk,
+    style: Style,
     machine: &Machine<A>,
     reach: &Reach,
     sink: &mut W,
 ) -> Result<(), WriteFault>
     requires { IsReach reach.now }
-    ensures written { Writes (W.written sink.old) (W.written sink.new) chunk.old chunk.new result (filter is_warning (fixtures_from (file_of machine.now) reach.now 0 (file_of machine.now).fixtures)) }
+    ensures written { Writes (W.written sink.old) (W.written sink.new) chunk.old chunk.new result (chosen style (fixtures_from (file_of machine.now) reach.now 0 (file_of machine.now).fixtures)) }
     ensures counts { CountsFailure (W.failures sink.old) (W.failures sink.new) result }
 {
     for (i, fixture) in machine.fixtures.as_slice().iter().enumerate() {
         let lines = fixture_lines(machine, reach, i, fixture);
-        match write_warning_lines(chunk, lines.as_slice(), sink) {
+        match write_warning_lines(chunk, style, lines.as_slice(), sink) {
             Ok(()) => {}
             Err(fault) => return Err(fault),
         }
@@ -36,13 +37,18 @@ fn warn_of_fixtures<A: Allocator, W: Sink>(
     Ok(())
 }
 
-fn warn_of_tools<W: Sink>(chunk: &mut Chunk, tools: &[Tool], sink: &mut W) -> Result<(), WriteFault>
-    ensures written { Writes (W.written sink.old) (W.written sink.new) chunk.old chunk.new result (filter is_warning (flat_map tool_lines tools.now)) }
+fn warn_of_tools<W: Sink>(
+    chunk: &mut Chunk,
+    style: Style,
+    tools: &[Tool],
+    sink: &mut W,
+) -> Result<(), WriteFault>
+    ensures written { Writes (W.written sink.old) (W.written sink.new) chunk.old chunk.new result (chosen style (flat_map tool_lines tools.now)) }
     ensures counts { CountsFailure (W.failures sink.old) (W.failures sink.new) result }
 {
     for tool in tools {
         let lines = tool_lines(tool);
-        match write_warning_lines(chunk, lines.as_slice(), sink) {
+        match write_warning_lines(chunk, style, lines.as_slice(), sink) {
             Ok(()) => {}
             Err(fault) => return Err(fault),
         }
@@ -52,23 +58,24 @@ fn warn_of_tools<W: Sink>(chunk: &mut Chunk, tools: &[Tool], sink: &mut W) -> Re
 
 fn warn_of_all<A: Allocator, W: Sink>(
     chunk: &mut Chunk,
+    style: Style,
     machine: &Machine<A>,
     tools: &[Tool],
     sink: &mut W,
 ) -> Result<(), WriteFault>
-    ensures written { Writes (W.written sink.old) (W.written sink.new) chunk.old chunk.new result (filter is_warning (sheet (file_of machine.now) tools.now)) }
+    ensures written { Writes (W.written sink.old) (W.written sink.new) chunk.old chunk.new result (chosen style (sheet (file_of machine.now) tools.now)) }
     ensures counts { CountsFailure (W.failures sink.old) (W.failures sink.new) result }
 {
     let lines = machine_lines(machine);
-    match write_warning_lines(chunk, lines.as_slice(), sink) {
+    match write_warning_lines(chunk, style, lines.as_slice(), sink) {
         Ok(()) => {}
         Err(fault) => return Err(fault),
     }
-    match warn_of_fixtures(chunk, machine, &Reach::of(tools), sink) {
+    match warn_of_fixtures(chunk, style, machine, &Reach::of(tools), sink) {
         Ok(()) => {}
         Err(fault) => return Err(fault),
     }
-    warn_of_tools(chunk, tools, sink)
+    warn_of_tools(chunk, style, tools, sink)
 }
 
 /// Writes the warnings of a machine and of its tools, those of the setup sheet alone and in its order, each a line that begins
@@ -85,7 +92,29 @@ pub fn write_warnings<A: Allocator, W: Sink>(
     ensures counts { CountsFailure (W.failures sink.old) (W.failures sink.new) result }
 {
     let mut chunk = Chunk::new();
-    match warn_of_all(&mut chunk, machine, tools, sink) {
+    match warn_of_all(&mut chunk, Style::Lines, machine, tools, sink) {
+        Ok(()) => chunk.write_out(sink),
+        Err(fault) => Err(fault),
+    }
+}
+
+/// Writes the warnings that `write_warnings` writes, in its order, each as an object of a JSON document behind a comma and a line
+/// feed; nothing where nothing looks wrong.
+///
+/// An object has the member `fact`, which is `warning`, and then `text`, the warning's words. So the objects continue an array in
+/// which something stands. It takes no memory. After a fault (902) a beginning of the text is written, and the sink has counted
+/// the failure.
+pub fn write_warning_facts<A: Allocator, W: Sink>(
+    machine: &Machine<A>,
+    tools: &[Tool],
+    sink: &mut W,
+) -> Result<(), WriteFault>
+    ensures ok { OnOk result (Appends (W.written sink.old) (W.written sink.new) (warning_facts (file_of machine.now) tools.now)) }
+    ensures fault { OnErr result (AppendsBeginning (W.written sink.old) (W.written sink.new) (warning_facts (file_of machine.now) tools.now)) }
+    ensures counts { CountsFailure (W.failures sink.old) (W.failures sink.new) result }
+{
+    let mut chunk = Chunk::new();
+    match warn_of_all(&mut chunk, Style::Facts, machine, tools, sink) {
         Ok(()) => chunk.write_out(sink),
         Err(fault) => Err(fault),
     }

@@ -1,16 +1,25 @@
 //! How lines are written.
-ghost use Rattle.std.specs.Prelude.{◌≡◌, ◌∷◌, [], filter};
+ghost use Rattle.std.specs.Prelude.{◌≡◌, ◌∷◌, []};
 ghost use Rattle.ngc_fixed_length.specs.Failures.{CountsFailure};
 ghost use Rattle.ngc_output.specs.Collected.{HasLineRoom};
 ghost use Rattle.ngc_certificate_text.specs.Collects.{Collects};
-ghost use Rattle.ngc_setup_sheet.specs.Sheets.{is_warning};
+ghost use Rattle.ngc_setup_sheet.specs.Sheets.{is_warning, as_fact};
 ghost use Rattle.ngc_setup_sheet.specs.Spelling.{line_text};
-ghost use Rattle.ngc_setup_sheet.specs.Writes.{Writes};
+ghost use Rattle.ngc_setup_sheet.specs.Writes.{Writes, styled, chosen};
 
 use crate::line::Line;
 use crate::spelling::add_line;
 use ngc_fixed_length::{Sink, WriteFault};
 use ngc_output::Chunk;
+
+/// How warnings are told.
+#[derive(Clone, Copy)]
+pub(crate) enum Style {
+    /// As lines of the sheet.
+    Lines,
+    /// As objects of a JSON document.
+    Facts,
+}
 
 fn write_line<W: Sink>(chunk: &mut Chunk, line: &Line, sink: &mut W) -> Result<(), WriteFault>
     ensures text { Collects (W.written sink.old) (W.written sink.new) chunk.old chunk.new result (line_text line.now) }
@@ -47,32 +56,64 @@ fn is_warning(line: &Line) -> bool
 {
     match line {
         Line::Warning(_) => true,
-        Line::Machine | Line::Fixture(_) | Line::Tool(_) | Line::Fact(_, _) => false,
+        Line::Machine
+        | Line::Fixture(_)
+        | Line::Tool(_)
+        | Line::Fact(_, _)
+        | Line::WarningFact(_) => false,
     }
 }
 
-fn write_if_warning<W: Sink>(chunk: &mut Chunk, line: &Line, sink: &mut W) -> Result<(), WriteFault>
-    ensures written { Writes (W.written sink.old) (W.written sink.new) chunk.old chunk.new result (filter is_warning (line.now ∷ [])) }
+fn as_fact(line: &Line) -> Line
+    ensures { result ≡ as_fact line.now }
+{
+    match line {
+        Line::Warning(warning) => Line::WarningFact(*warning),
+        Line::Machine
+        | Line::Fixture(_)
+        | Line::Tool(_)
+        | Line::Fact(_, _)
+        | Line::WarningFact(_) => *line,
+    }
+}
+
+fn styled(style: Style, line: &Line) -> Line
+    ensures { result ≡ styled style line.now }
+{
+    match style {
+        Style::Lines => *line,
+        Style::Facts => as_fact(line),
+    }
+}
+
+fn write_if_warning<W: Sink>(
+    chunk: &mut Chunk,
+    style: Style,
+    line: &Line,
+    sink: &mut W,
+) -> Result<(), WriteFault>
+    ensures written { Writes (W.written sink.old) (W.written sink.new) chunk.old chunk.new result (chosen style (line.now ∷ [])) }
     ensures counts { CountsFailure (W.failures sink.old) (W.failures sink.new) result }
 {
     if is_warning(line) {
-        write_line(chunk, line, sink)
+        write_line(chunk, &styled(style, line), sink)
     } else {
         Ok(())
     }
 }
 
-/// Writes those lines that are warnings, one after another.
+/// Writes those lines that are warnings, one after another, in a style.
 pub(crate) fn write_warning_lines<W: Sink>(
     chunk: &mut Chunk,
+    style: Style,
     lines: &[Line],
     sink: &mut W,
 ) -> Result<(), WriteFault>
-    ensures written { Writes (W.written sink.old) (W.written sink.new) chunk.old chunk.new result (filter is_warning lines.now) }
+    ensures written { Writes (W.written sink.old) (W.written sink.new) chunk.old chunk.new result (chosen style lines.now) }
     ensures counts { CountsFailure (W.failures sink.old) (W.failures sink.new) result }
 {
     for line in lines {
-        match write_if_warning(chunk, line, sink) {
+        match write_if_warning(chunk, style, line, sink) {
             Ok(()) => {}
             Err(fault) => return Err(fault),
         }

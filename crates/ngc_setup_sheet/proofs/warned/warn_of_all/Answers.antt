@@ -1,10 +1,10 @@
 use Rattle.std.proofs.Common.{List, ◌++◌, flat_map, subst}
-use Rattle.std.specs.Prelude.{filter}
 use Rattle.ngc_fixed_length.specs.Written.{AppendsBeginning}
 use Rattle.ngc_output.specs.Collected.{WritesFront}
 use Rattle.ngc_machine.specs.Machine.{file_of}
 use Rattle.ngc_setup_sheet.specs.Reaches.{reach_of}
-use Rattle.ngc_setup_sheet.specs.Sheets.{machine_lines, fixtures_from, tool_lines, is_warning}
+use Rattle.ngc_setup_sheet.specs.Sheets.{machine_lines, fixtures_from, tool_lines}
+use Rattle.ngc_setup_sheet.specs.Writes.{chosen}
 use Rattle.ngc_setup_sheet.specs.Spelling.{lines_text}
 use Rattle.ngc_setup_sheet.specs.declared.reach.Reach.{Reach}
 use Rattle.ngc_setup_sheet.specs.declared.line.Line.{Line}
@@ -16,7 +16,7 @@ returns-in-Err-clause-written g c =
     let m = file_of c.args.machine.now in
     let ts = c.args.tools.now in
     let behind : List Line = fixtures_from m (reach_of ts) 0 m.fixtures ++ flat_map tool_lines ts in
-    first_stopped (g.W.Sink.written c.args.sink.now) (g.W.Sink.written c.write_warning_lines.new.sink) c.args.chunk.now (machine_lines m) behind
+    first_stopped c.args.style (g.W.Sink.written c.args.sink.now) (g.W.Sink.written c.write_warning_lines.new.sink) c.args.chunk.now (machine_lines m) behind
     (rw (c.as_slice.ensures.value, c.machine_lines-lines.ensures) at c.in-Err.ensures.written)
 
 pub returns-in-Err-warn_of_fixtures-clause-written : goal.returns-in-Err-warn_of_fixtures-clause-written
@@ -24,11 +24,11 @@ returns-in-Err-warn_of_fixtures-clause-written g c =
     let m = file_of c.args.machine.now in
     let ts = c.args.tools.now in
     let fixtures : List Line = fixtures_from m (reach_of ts) 0 m.fixtures in
-    second_stopped (g.W.Sink.written c.args.sink.now) (g.W.Sink.written c.write_warning_lines.new.sink) (g.W.Sink.written c.warn_of_fixtures.new.sink)
+    second_stopped c.args.style (g.W.Sink.written c.args.sink.now) (g.W.Sink.written c.write_warning_lines.new.sink) (g.W.Sink.written c.warn_of_fixtures.new.sink)
     c.args.chunk.now c.write_warning_lines.new.chunk (machine_lines m) fixtures (flat_map tool_lines ts)
     (rw (c.as_slice.ensures.value, c.machine_lines-lines.ensures) at c.in-Ok.ensures.written)
     (subst (λ (r : Reach). AppendsBeginning (g.W.Sink.written c.write_warning_lines.new.sink) (g.W.Sink.written c.warn_of_fixtures.new.sink)
-    (c.write_warning_lines.new.chunk ++ lines_text (filter is_warning (fixtures_from m r 0 m.fixtures))))
+    (c.write_warning_lines.new.chunk ++ lines_text (chosen c.args.style (fixtures_from m r 0 m.fixtures))))
     c.of.ensures.value c.in-Err-warn_of_fixtures.ensures.written)
 
 pub returns-clause-written : goal.returns-clause-written
@@ -36,11 +36,11 @@ returns-clause-written g c =
     let m = file_of c.args.machine.now in
     let ts = c.args.tools.now in
     let fixtures : List Line = fixtures_from m (reach_of ts) 0 m.fixtures in
-    all_three c.warn_of_tools.result (g.W.Sink.written c.args.sink.now) (g.W.Sink.written c.write_warning_lines.new.sink) (g.W.Sink.written c.warn_of_fixtures.new.sink)
+    all_three c.args.style c.warn_of_tools.result (g.W.Sink.written c.args.sink.now) (g.W.Sink.written c.write_warning_lines.new.sink) (g.W.Sink.written c.warn_of_fixtures.new.sink)
     (g.W.Sink.written c.warn_of_tools.new.sink)
     c.args.chunk.now c.write_warning_lines.new.chunk c.warn_of_fixtures.new.chunk c.warn_of_tools.new.chunk (machine_lines m) fixtures (flat_map tool_lines ts)
     (rw (c.as_slice.ensures.value, c.machine_lines-lines.ensures) at c.in-Ok.ensures.written)
     (subst (λ (r : Reach). WritesFront (g.W.Sink.written c.write_warning_lines.new.sink) (g.W.Sink.written c.warn_of_fixtures.new.sink)
-    (c.write_warning_lines.new.chunk ++ lines_text (filter is_warning (fixtures_from m r 0 m.fixtures))) c.warn_of_fixtures.new.chunk)
+    (c.write_warning_lines.new.chunk ++ lines_text (chosen c.args.style (fixtures_from m r 0 m.fixtures))) c.warn_of_fixtures.new.chunk)
     c.of.ensures.value c.in-Ok-warn_of_fixtures.ensures.written)
     c.warn_of_tools.ensures.written

@@ -1,14 +1,14 @@
 use Rattle.std.proofs.Common.{◌≡◌, drop}
-use Rattle.std.specs.Prelude.{filter}
 use Rattle.ngc_machine.specs.Machine.{file_of}
-use Rattle.ngc_setup_sheet.specs.Sheets.{fixtures_from, is_warning}
+use Rattle.ngc_setup_sheet.specs.Sheets.{fixtures_from}
+use Rattle.ngc_setup_sheet.specs.Writes.{chosen}
 use Rattle.ngc_setup_sheet.proofs.Ahead.{Ahead}
 use Rattle.ngc_setup_sheet.proofs.warned.warn_of_fixtures.Given as goal
 
 abbrev pub invariant-loop-i : goal.invariant-loop-i
 invariant-loop-i g l = record {
   ahead : Ahead (g.W.Sink.written l.initial.sink) (g.W.Sink.written l.sink) l.initial.chunk l.chunk
-      (filter is_warning (fixtures_from (file_of l.machine) l.reach l.i (drop l.i l.machine.fixtures.items)))
-      (filter is_warning (fixtures_from (file_of l.machine) l.reach 0 l.machine.fixtures.items));
+      (chosen l.style (fixtures_from (file_of l.machine) l.reach l.i (drop l.i l.machine.fixtures.items)))
+      (chosen l.style (fixtures_from (file_of l.machine) l.reach 0 l.machine.fixtures.items));
   failures : g.W.Sink.failures l.sink ≡ g.W.Sink.failures l.initial.sink;
 }

@@ -1,6 +1,6 @@
 use Rattle.std.proofs.Common.{◌+◌, drop, flat_map, rules}
-use Rattle.std.specs.Prelude.{filter}
-use Rattle.ngc_setup_sheet.specs.Sheets.{tool_lines, is_warning}
+use Rattle.ngc_setup_sheet.specs.Sheets.{tool_lines}
+use Rattle.ngc_setup_sheet.specs.Writes.{chosen}
 use Rattle.ngc_setup_sheet.proofs.Ahead.{went, stopped}
 use Rattle.ngc_setup_sheet.proofs.Alone.{next_tool_warned}
 use Rattle.ngc_setup_sheet.proofs.warned.warn_of_tools.Goals as goal
@@ -11,9 +11,9 @@ returns-in-Err-clause-written g c =
     let i = c.loop-tool.tool-index in
     let t = c.tool-item.result in
     stopped (g.W.Sink.written c.args.sink.now) (g.W.Sink.written c.loop-tool.sink) (g.W.Sink.written c.write_warning_lines.new.sink) c.args.chunk.now c.loop-tool.chunk
-    (filter is_warning (tool_lines t)) (filter is_warning (flat_map tool_lines (drop (i + 1) ts)))
-    (filter is_warning (flat_map tool_lines (drop i ts))) (filter is_warning (flat_map tool_lines ts))
-    (next_tool_warned ts i t c.loop-tool-test.true c.tool-item.is) c.loop-tool.invariant.ahead
+    (chosen c.args.style (tool_lines t)) (chosen c.args.style (flat_map tool_lines (drop (i + 1) ts)))
+    (chosen c.args.style (flat_map tool_lines (drop i ts))) (chosen c.args.style (flat_map tool_lines ts))
+    (next_tool_warned c.args.style ts i t c.loop-tool-test.true c.tool-item.is) c.loop-tool.invariant.ahead
     (rw (c.as_slice.ensures.value, c.tool_lines-lines.ensures) at c.in-Err.ensures.written)
 
 pub loop-tool-preserved : goal.loop-tool-preserved
@@ -25,9 +25,9 @@ loop-tool-preserved g c =
       ahead =
           went (g.W.Sink.written c.args.sink.now) (g.W.Sink.written c.loop-tool.sink) (g.W.Sink.written c.write_warning_lines.new.sink)
           c.args.chunk.now c.loop-tool.chunk c.write_warning_lines.new.chunk
-          (filter is_warning (tool_lines t)) (filter is_warning (flat_map tool_lines (drop (i + 1) ts)))
-          (filter is_warning (flat_map tool_lines (drop i ts))) (filter is_warning (flat_map tool_lines ts))
-          (next_tool_warned ts i t c.loop-tool-test.true c.tool-item.is) c.loop-tool.invariant.ahead
+          (chosen c.args.style (tool_lines t)) (chosen c.args.style (flat_map tool_lines (drop (i + 1) ts)))
+          (chosen c.args.style (flat_map tool_lines (drop i ts))) (chosen c.args.style (flat_map tool_lines ts))
+          (next_tool_warned c.args.style ts i t c.loop-tool-test.true c.tool-item.is) c.loop-tool.invariant.ahead
           (rw (c.as_slice.ensures.value, c.tool_lines-lines.ensures) at c.in-Ok.ensures.written);
       failures = search rules;
     }
