@@ -126,7 +126,7 @@ const MACHINE_ROWS: &[(&str, &str, &str)] = &[
     (
         "low = [0, 0, -100000000]",
         "low = [0, 0, 1]",
-        "The key `low` is refused. Asked is on each axis at most what `high` has.\nLine 8: low = [0, 0, 1]\n",
+        "The key `low` is refused. Asked is on each axis at most the number that `high` has.\nLine 8: low = [0, 0, 1]\n",
     ),
     (
         "start = [0, 0, 0]",
@@ -161,7 +161,7 @@ const MACHINE_ROWS: &[(&str, &str, &str)] = &[
     (
         "high = [6, 6, 6]",
         "high = [6, 5, 6]",
-        "In fixture 1, counted from 0, the key `low` is refused. Asked is on each axis less than what `high` has.\nLine 17: low = [5, 5, 5]\n",
+        "In fixture 1, counted from 0, the key `low` is refused. Asked is on each axis less than the number that `high` has.\nLine 17: low = [5, 5, 5]\n",
     ),
     (
         "high = [1, 1, 1]",
@@ -181,7 +181,7 @@ const MACHINE_ROWS: &[(&str, &str, &str)] = &[
     (
         FIXTURES,
         "fixture = [{low = [0, 0, 0], high = [1, 1, 0]}]\n",
-        "In fixture 0, counted from 0, the key `low` is refused. Asked is on each axis less than what `high` has.\n",
+        "In fixture 0, counted from 0, the key `low` is refused. Asked is on each axis less than the number that `high` has.\n",
     ),
 ];
 

@@ -1,8 +1,8 @@
 -- The lines of a file, one after another.
-use Rattle.std.proofs.Common.{◌≡◌, ℕ, ◌+◌, ◌<◌, ◌≤◌, List, [], ◌∷◌, ◌++◌, length, Bool, true, false, cond, nat_eq, refl, ap, sym, ◌∙◌, arith, subst}
+use Rattle.std.proofs.Common.{◌≡◌, ℕ, ◌+◌, ◌<◌, ◌≤◌, List, [], ◌∷◌, ◌++◌, length, Bool, true, false, cond, refl, ap, sym, ◌∙◌, arith}
 use Rattle.std.specs.Prelude.{◌==◌}
 use Rattle.std.proofs.lemmas.List.{append-nil}
-use Rattle.ngc_setup_sheet.specs.Quoted.{longer_first, lines_of, line_of, behind_line, line_text, sought, found_or, quote_from}
+use Rattle.ngc_setup_sheet.specs.Quoted.{longer_first, lines_of, line_of, behind_line, shown_line, sought, found_or, quote_from}
 use Rattle.ngc_setup_sheet.specs.declared.quoted.Seek.{Seek}
 
 -- a byte that is no line feed
@@ -38,7 +38,7 @@ behind_line-less (b ∷ bytes) h =
 
 pub quote_from-next : (header key : List ℕ) (ahead number : ℕ) (bytes line behind : List ℕ) (is : Seek) → 0 < length bytes → line ≡ line_of bytes → behind ≡ behind_line bytes
     → is ≡ sought header key ahead line
-    → quote_from header key ahead number (lines_of bytes) ≡ found_or is (line_text number line) (λ still. quote_from header key still (number + 1) (lines_of behind))
+    → quote_from header key ahead number (lines_of bytes) ≡ found_or is (shown_line number line) (λ still. quote_from header key still (number + 1) (lines_of behind))
 quote_from-next header key ahead number bytes line behind is h l b s =
     ap (quote_from header key ahead number) (lines_of-split bytes h) ∙ rw (s, l, b) refl
 

@@ -1,14 +1,14 @@
 -- Values and tables, and the trees that they stand for.
-use Rattle.std.proofs.Common.{◌≡◌, ℕ, ◌+◌, ◌<◌, ◌≤◌, ◌⊎◌, inl, inr, List, [], ◌∷◌, length, take, drop, get_or, min, map, Bool, true, false, cond, ◌&&◌, string_bytes, Option, Some, None, option_map, not, refl, ◌∙◌, ap, sym, arith}
+use Rattle.std.proofs.Common.{◌≡◌, ℕ, ◌≤◌, ◌⊎◌, inl, inr, List, [], ◌∷◌, length, take, min, Bool, true, false, cond, string_bytes, Option, Some, None, option_map, not, refl, ◌∙◌, ap, sym, arith}
 use Rattle.std.specs.List.{find}
 use Rattle.std.specs.Map.{keys_of}
-use Rattle.std.proofs.lemmas.List.{take_all, drop_more}
-use Rattle.toml.specs.Data.{Data, string, integer, float, boolean, datetime, array, table, Items, Members, as_array, as_table}
-use Rattle.toml.specs.View.{view, items_view, members_view}
+use Rattle.std.proofs.lemmas.List.{take_all}
+use Rattle.toml.specs.Data.{Data, string, integer, float, boolean, datetime, array, table, as_array}
+use Rattle.toml.specs.View.{items_view, members_view}
 use Rattle.toml.specs.declared.value.Value.{Value}
 use Rattle.toml.proofs.Views.{Entry}
 use Rattle.ngc_machine.specs.Tree.{is_one_of}
-use Rattle.ngc_setup_sheet.specs.Asks.{three, unknown_key, unknown_in, item_count, all_items}
+use Rattle.ngc_setup_sheet.specs.Asks.{three, unknown_key, item_count}
 
 enough : (n m : ℕ) → (n ≤ m) ⊎ (m ≤ n)
 enough n m = grind (arith)

@@ -108,9 +108,11 @@ is_array_at least most e (Some value) = is_array least most e value
 
 -- ---- what is asked, or of it the kind alone
 
+-- a number of the kind has any size
 abbrev pub bounds : Bool → ℤ → ℤ → Bounds
 bounds kind low high = if kind then record { low = negsuc 9223372036854775807; high = pos 9223372036854775807 } else record { low = low; high = high }
 
+-- and there are any number of tables
 abbrev pub least_count : Bool → ℕ → ℕ
 least_count kind least = if kind then 0 else least
 

@@ -1,5 +1,5 @@
 -- The words of mistakes. Our own.
-use Rattle.std.specs.Prelude.{ℕ, ◌+◌, List, ◌++◌, map, codes, decimal}
+use Rattle.std.specs.Prelude.{ℕ, List, ◌++◌, map, codes, decimal}
 use Rattle.ngc_machine.specs.Faults.{number_of}
 use Rattle.ngc_setup_sheet.specs.Quoted.{shown, quote_of}
 use Rattle.ngc_setup_sheet.specs.declared.mistake.Mistake.{Mistake}
@@ -21,7 +21,7 @@ asked_text rules.Corner = codes "Asked is a whole number from 1 to 1,000,000: th
 asked_text rules.Turn = codes "Asked is a whole number from 1 to 1,000,000,000,000: on arcs the square of the rate, times `step`, is at most this times the radius in nm.\n"
 asked_text rules.Low = codes "Asked are three whole numbers from -1,000,000,000 to 1,000,000,000: the least X, Y and Z of the travel in nm.\n"
 asked_text rules.High = codes "Asked are three whole numbers from -1,000,000,000 to 1,000,000,000: the greatest X, Y and Z of the travel in nm.\n"
-asked_text rules.LowAtMostHigh = codes "Asked is on each axis at most what `high` has.\n"
+asked_text rules.LowAtMostHigh = codes "Asked is on each axis at most the number that `high` has.\n"
 asked_text rules.StartWithin = codes "Asked are three whole numbers, on each axis from `low` to `high`: where the axes stand when a program starts, in nm.\n"
 asked_text rules.StartOnGrid = codes "Asked are whole multiples of `step`.\n"
 asked_text rules.Home28 = codes "Asked are three whole numbers from -1,000,000,000 to 1,000,000,000: where G28 goes, in nm.\n"
@@ -30,7 +30,7 @@ asked_text rules.Origins = codes "Asked are nine times three whole numbers from 
 asked_text rules.Fixtures = codes "Asked are at most 256 tables `[[fixture]]`, each with `low` and `high`.\n"
 asked_text rules.LowCorner = codes "Asked are three whole numbers from -4,000,000,000 to 4,000,000,000: the lower corner in nm.\n"
 asked_text rules.HighCorner = codes "Asked are three whole numbers from -4,000,000,000 to 4,000,000,000: the upper corner in nm.\n"
-asked_text rules.LowBelowHigh = codes "Asked is on each axis less than what `high` has.\n"
+asked_text rules.LowBelowHigh = codes "Asked is on each axis less than the number that `high` has.\n"
 asked_text rules.ToolsVersion = codes "Asked is 1, or 2 where tools have `parts`: the version of this format.\n"
 asked_text rules.Tools = codes "Asked are at most 1,000 tables `[[tool]]`.\n"
 asked_text rules.Number = codes "Asked is a whole number from 1 to 9,999: what T and H call the tool.\n"

@@ -1,5 +1,5 @@
 -- The first mistake of a machine file or of a tool table. Our own.
-use Rattle.std.specs.Prelude.{ℕ, ◌+◌, ◌==◌, ℤ, pos, negsuc, List, [], ◌∷◌, Option, Some, None, option_map, unwrap_or, is_some, Bool, true, false, not, ◌||◌, codes, if◌then◌else◌}
+use Rattle.std.specs.Prelude.{ℕ, ◌+◌, ◌==◌, pos, negsuc, List, [], ◌∷◌, Option, Some, None, option_map, unwrap_or, is_some, Bool, true, false, not, ◌||◌, codes, if◌then◌else◌}
 use Rattle.std.specs.List.{find}
 use Rattle.std.specs.Option.{option_or}
 use Rattle.std.specs.Ordering.{int_eq}

@@ -11,8 +11,8 @@ abbrev pub shown : ℕ → ℕ
 shown b = if nat_lt 31 b && nat_lt b 127 then b else (if b == 9 || b == 13 then 32 else 63)
 
 -- at most 256 bytes of a line
-abbrev pub line_text : ℕ → List ℕ → List ℕ
-line_text number line = codes "Line " ++ decimal number ++ codes ": " ++ map shown (take 256 line) ++ codes "\n"
+abbrev pub shown_line : ℕ → List ℕ → List ℕ
+shown_line number line = codes "Line " ++ decimal number ++ codes ": " ++ map shown (take 256 line) ++ codes "\n"
 
 -- ---- lines
 
@@ -66,7 +66,7 @@ found_or (seeks.Ahead ahead) here behind = behind ahead
 abbrev pub quote_from : List ℕ → List ℕ → ℕ → ℕ → List (List ℕ) → List ℕ
 quote_from header key ahead number [] = []
 quote_from header key ahead number (line ∷ lines) =
-    found_or (sought header key ahead line) (line_text number line) (λ still. quote_from header key still (number + 1) lines)
+    found_or (sought header key ahead line) (shown_line number line) (λ still. quote_from header key still (number + 1) lines)
 
 -- ---- the line of a key in a table
 

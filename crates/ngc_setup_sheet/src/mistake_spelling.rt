@@ -37,7 +37,7 @@ fn asked(rule: Rule) -> &'static [u8]
             b"Asked are three whole numbers from -1,000,000,000 to 1,000,000,000: the least X, Y and Z of the travel in nm.\n",
         Rule::High =>
             b"Asked are three whole numbers from -1,000,000,000 to 1,000,000,000: the greatest X, Y and Z of the travel in nm.\n",
-        Rule::LowAtMostHigh => b"Asked is on each axis at most what `high` has.\n",
+        Rule::LowAtMostHigh => b"Asked is on each axis at most the number that `high` has.\n",
         Rule::StartWithin =>
             b"Asked are three whole numbers, on each axis from `low` to `high`: where the axes stand when a program starts, in nm.\n",
         Rule::StartOnGrid => b"Asked are whole multiples of `step`.\n",
@@ -53,7 +53,7 @@ fn asked(rule: Rule) -> &'static [u8]
             b"Asked are three whole numbers from -4,000,000,000 to 4,000,000,000: the lower corner in nm.\n",
         Rule::HighCorner =>
             b"Asked are three whole numbers from -4,000,000,000 to 4,000,000,000: the upper corner in nm.\n",
-        Rule::LowBelowHigh => b"Asked is on each axis less than what `high` has.\n",
+        Rule::LowBelowHigh => b"Asked is on each axis less than the number that `high` has.\n",
         Rule::ToolsVersion =>
             b"Asked is 1, or 2 where tools have `parts`: the version of this format.\n",
         Rule::Tools => b"Asked are at most 1,000 tables `[[tool]]`.\n",

@@ -1,7 +1,7 @@
 //! The line of a file in which a key stands.
 ghost use Rattle.std.specs.Prelude.{◌≡◌, ◌+◌, ◌<◌, ◌≤◌, ◌++◌, codes, decimal, length, map, take};
 ghost use Rattle.ngc_output.specs.Collected.{CHUNK_SIZE};
-ghost use Rattle.ngc_setup_sheet.specs.Quoted.{shown, line_text, line_of, behind_line, lines_of, unindented, ends_key, begins, gives, sought, quote_from, header_text, headers, quote_of};
+ghost use Rattle.ngc_setup_sheet.specs.Quoted.{shown, shown_line, line_of, behind_line, lines_of, unindented, ends_key, begins, gives, sought, quote_from, header_text, headers, quote_of};
 
 use crate::mistake::Section;
 use ngc_output::Chunk;
@@ -35,7 +35,7 @@ fn first_bytes(line: &[u8]) -> &[u8]
 
 fn add_line(chunk: &mut Chunk, number: usize, line: &[u8])
     requires { length chunk.old + 400 ≤ CHUNK_SIZE }
-    ensures { chunk.new ≡ chunk.old ++ line_text number line.now }
+    ensures { chunk.new ≡ chunk.old ++ shown_line number line.now }
 {
     chunk.add_text(b"Line ");
     chunk.add_number(number);
