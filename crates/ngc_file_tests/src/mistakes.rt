@@ -219,7 +219,7 @@ const FIRST_ROWS: &[(&str, &str, &str)] = &[
     (
         "radius = 4000000",
         "diameter = 8000000",
-        "In `[[tool]]` 1, counted from 0, the key `diameter` is unknown. Known are in version 1 `number`, `length`, `radius` and `offset`, in version 2 `number`, `offset`, `bottom` and `parts`.\nLine 10: diameter = 8000000\n",
+        "In `[[tool]]` 1, counted from 0, the key `diameter` is unknown. Known are `number`, `length`, `radius` and `offset`.\nLine 10: diameter = 8000000\n",
     ),
     (
         "version = 1",

@@ -46,13 +46,15 @@ unfoldable pub known_text : Section → List ℕ
 known_text sections.Machine = codes "Known are `version`, `step`, `ticks_per_second`, `max_rate`, `change`, `corner`, `turn`, `low`, `high`, `start`, `home28`, `home30`, `origins`, `fixture`, and in version 2 `axis_rate`.\n"
 known_text (sections.Fixture n) = codes "Known are `low` and `high`.\n"
 known_text sections.Tools = codes "Known are `version` and `tool`.\n"
-known_text (sections.Tool n) = codes "Known are in version 1 `number`, `length`, `radius` and `offset`, in version 2 `number`, `offset`, `bottom` and `parts`.\n"
+known_text (sections.FirstTool n) = codes "Known are `number`, `length`, `radius` and `offset`.\n"
+known_text (sections.SecondTool n) = codes "Known are `number`, `offset`, `bottom` and `parts`.\n"
 
 abbrev pub section_text : Section → List ℕ
 section_text sections.Machine = codes "The"
 section_text (sections.Fixture n) = codes "In fixture " ++ decimal n ++ codes ", counted from 0, the"
 section_text sections.Tools = codes "The"
-section_text (sections.Tool n) = codes "In `[[tool]]` " ++ decimal n ++ codes ", counted from 0, the"
+section_text (sections.FirstTool n) = codes "In `[[tool]]` " ++ decimal n ++ codes ", counted from 0, the"
+section_text (sections.SecondTool n) = codes "In `[[tool]]` " ++ decimal n ++ codes ", counted from 0, the"
 
 abbrev pub sentence_text : Section → List ℕ → List ℕ → List ℕ → List ℕ
 sentence_text section key said asked = section_text section ++ codes " key `" ++ map shown key ++ codes "` is " ++ said ++ asked

@@ -14,8 +14,6 @@ use Rattle.ngc_setup_sheet.specs.Keys.{key_text}
 use Rattle.ngc_setup_sheet.specs.MistakeTexts.{mistake_text}
 use Rattle.ngc_setup_sheet.specs.declared.mistake.Ask.{Ask}
 use Rattle.ngc_setup_sheet.specs.declared.mistake.Ask.TheVariants as asks
-use Rattle.ngc_setup_sheet.specs.declared.mistake.Item.{Item}
-use Rattle.ngc_setup_sheet.specs.declared.mistake.Item.TheVariants as items
 use Rattle.ngc_setup_sheet.specs.declared.mistake.Mistake.{Mistake}
 use Rattle.ngc_setup_sheet.specs.declared.mistake.Mistake.TheVariants as mistakes
 use Rattle.ngc_setup_sheet.specs.declared.mistake.Rule.{Rule}
@@ -23,10 +21,10 @@ use Rattle.ngc_setup_sheet.specs.declared.mistake.Rule.TheVariants as rules
 use Rattle.ngc_setup_sheet.specs.declared.mistake.Section.{Section}
 use Rattle.ngc_setup_sheet.specs.declared.mistake.Section.TheVariants as sections
 
--- ---- which fault asks what of a key
+-- ---- which fault asks what of a key, by the table
 
-abbrev pub machine_rows : List (FileFault × Rule × Ask)
-machine_rows =
+abbrev pub rows_of : Section → List (FileFault × Rule × Ask)
+rows_of sections.Machine =
     (faults.Version, rules.Version, asks.Whole (pos 1) (pos 2)) ∷
     (faults.Step, rules.Step, asks.Whole (pos 500) (pos 50000)) ∷
     (faults.TicksPerSecond, rules.TicksPerSecond, asks.Whole (pos 1) (pos 1000000)) ∷
@@ -44,33 +42,31 @@ machine_rows =
     (faults.Places, rules.Home30, asks.Three (negsuc 999999999) (pos 1000000000)) ∷
     (faults.Places, rules.Origins, asks.Origins) ∷
     (faults.Fixtures, rules.Fixtures, asks.Tables 256) ∷ []
-
-abbrev pub fixture_rows : List (FileFault × Rule × Ask)
-fixture_rows =
+rows_of (sections.Fixture n) =
     (faults.Fixtures, rules.LowCorner, asks.Three (negsuc 3999999999) (pos 4000000000)) ∷
     (faults.Fixtures, rules.HighCorner, asks.Three (negsuc 3999999999) (pos 4000000000)) ∷
     (faults.Fixtures, rules.LowBelowHigh, asks.BelowHigh) ∷ []
-
-abbrev pub table_rows : List (FileFault × Rule × Ask)
-table_rows =
+rows_of sections.Tools =
     (faults.Version, rules.ToolsVersion, asks.Whole (pos 1) (pos 2)) ∷
     (faults.Tools, rules.Tools, asks.Tables 1000) ∷ []
-
--- of a tool of one part
-abbrev pub first_tool_rows : List (FileFault × Rule × Ask)
-first_tool_rows =
+rows_of (sections.FirstTool n) =
     (faults.Tools, rules.Number, asks.Whole (pos 1) (pos 9999)) ∷
     (faults.Tools, rules.Length, asks.Whole (pos 0) (pos 1000000000)) ∷
     (faults.Tools, rules.Radius, asks.Whole (pos 0) (pos 1000000000)) ∷
     (faults.Tools, rules.Offset, asks.Whole (negsuc 999999999) (pos 1000000000)) ∷ []
-
--- of a tool of several parts
-abbrev pub second_tool_rows : List (FileFault × Rule × Ask)
-second_tool_rows =
+rows_of (sections.SecondTool n) =
     (faults.Tools, rules.Number, asks.Whole (pos 1) (pos 9999)) ∷
     (faults.Tools, rules.Offset, asks.Whole (negsuc 999999999) (pos 1000000000)) ∷
     (faults.Tools, rules.Bottom, asks.Whole (negsuc 999999999) (pos 0)) ∷
     (faults.Tools, rules.Parts, asks.Parts) ∷ []
+
+-- the keys that it may have
+abbrev pub keys_of : Section → List (List ℕ)
+keys_of sections.Machine = codes "axis_rate" ∷ common_keys
+keys_of (sections.Fixture n) = codes "low" ∷ codes "high" ∷ []
+keys_of sections.Tools = codes "version" ∷ codes "tool" ∷ []
+keys_of (sections.FirstTool n) = codes "number" ∷ codes "length" ∷ codes "radius" ∷ codes "offset" ∷ []
+keys_of (sections.SecondTool n) = codes "number" ∷ codes "offset" ∷ codes "bottom" ∷ codes "parts" ∷ []
 
 -- ---- the first mistake of a table
 
@@ -86,11 +82,10 @@ abbrev pub complaint : Section → Data → Rule → Mistake
 complaint section tree rule = if is_some (get (key_text rule) tree) then mistakes.Refused section rule else mistakes.Missing section rule
 
 -- a key that is unknown goes first
-abbrev pub found : Section → Data → Option (List ℕ) → Option Rule → Option Mistake
-found section tree unknown rule = option_or (option_map (mistakes.Unknown section) unknown) (option_map (complaint section tree) rule)
-
-abbrev pub table_mistake : FileFault → Section → List (List ℕ) → List (FileFault × Rule × Ask) → Data → Option Mistake
-table_mistake fault section keys rows tree = found section tree (unknown_in keys tree) (unmet fault tree rows)
+abbrev pub table_mistake : FileFault → Section → Data → Option Mistake
+table_mistake fault section tree =
+    option_or (option_map (mistakes.Unknown section) (unknown_in (keys_of section) tree))
+    (option_map (complaint section tree) (unmet fault tree (rows_of section)))
 
 abbrev pub items_at : List ℕ → Data → Items
 items_at key tree = items_of (get key tree)
@@ -101,17 +96,16 @@ items_at key tree = items_of (get key tree)
 
 -- ---- of tables that stand several times
 
-abbrev pub item_mistake : FileFault → Item → ℕ → Data → Option Mistake
-item_mistake fault items.Fixture i = table_mistake fault (sections.Fixture i) (codes "low" ∷ codes "high" ∷ []) fixture_rows
-item_mistake fault items.FirstTool i =
-    table_mistake fault (sections.Tool i) (codes "number" ∷ codes "length" ∷ codes "radius" ∷ codes "offset" ∷ []) first_tool_rows
-item_mistake fault items.SecondTool i =
-    table_mistake fault (sections.Tool i) (codes "number" ∷ codes "offset" ∷ codes "bottom" ∷ codes "parts" ∷ []) second_tool_rows
+abbrev pub numbered : Section → ℕ → Section
+numbered (sections.Fixture n) i = sections.Fixture i
+numbered (sections.FirstTool n) i = sections.FirstTool i
+numbered (sections.SecondTool n) i = sections.SecondTool i
+numbered section i = section
 
 -- numbered from i on
-abbrev pub first_in : FileFault → Item → ℕ → Items → Option Mistake
-first_in fault kind i no_items = None
-first_in fault kind i (item value items) = option_or (item_mistake fault kind i value) (first_in fault kind (i + 1) items)
+abbrev pub first_in : FileFault → Section → ℕ → Items → Option Mistake
+first_in fault section i no_items = None
+first_in fault section i (item value items) = option_or (table_mistake fault (numbered section i) value) (first_in fault section (i + 1) items)
 
 -- both have the same number
 abbrev pub is_again : Data → Data → Bool
@@ -123,28 +117,29 @@ stands_again value no_items = false
 stands_again value (item other items) = is_again value other || stands_again value items
 
 -- a tool whose number stands again behind it
-abbrev pub first_again : ℕ → Items → Option Mistake
-first_again i no_items = None
-first_again i (item value items) =
-    if stands_again value items then Some (mistakes.Refused (sections.Tool i) rules.NumberOnce) else first_again (i + 1) items
+abbrev pub first_again : Section → ℕ → Items → Option Mistake
+first_again section i no_items = None
+first_again section i (item value items) =
+    if stands_again value items then Some (mistakes.Refused (numbered section i) rules.NumberOnce) else first_again section (i + 1) items
 
 -- ---- of a whole file
 
 abbrev pub machine_mistake_in : FileFault → Data → Mistake
 machine_mistake_in fault tree =
     unwrap_or
-    (option_or (table_mistake fault sections.Machine (codes "axis_rate" ∷ common_keys) machine_rows tree)
-    (first_in fault items.Fixture 0 (items_at (codes "fixture") tree)))
+    (option_or (table_mistake fault sections.Machine tree) (first_in fault (sections.Fixture 0) 0 (items_at (codes "fixture") tree)))
     (mistakes.Other fault)
 
-abbrev pub tools_in : Data → Item
-tools_in tree = if is_second tree then items.SecondTool else items.FirstTool
+abbrev pub first_tool : Data → Section
+first_tool tree = if is_second tree then sections.SecondTool 0 else sections.FirstTool 0
+
+abbrev pub tool_mistake : FileFault → Section → Items → Option Mistake
+tool_mistake fault section items = option_or (first_in fault section 0 items) (first_again section 0 items)
 
 abbrev pub tools_mistake_in : FileFault → Data → Mistake
 tools_mistake_in fault tree =
     unwrap_or
-    (option_or (table_mistake fault sections.Tools (codes "version" ∷ codes "tool" ∷ []) table_rows tree)
-    (option_or (first_in fault (tools_in tree) 0 (items_at (codes "tool") tree)) (first_again 0 (items_at (codes "tool") tree))))
+    (option_or (table_mistake fault sections.Tools tree) (tool_mistake fault (first_tool tree) (items_at (codes "tool") tree)))
     (mistakes.Other fault)
 
 -- ---- of the bytes of a file

@@ -74,14 +74,16 @@ abbrev pub header_text : Section → List ℕ
 header_text sections.Machine = codes "[[fixture]]"
 header_text (sections.Fixture n) = codes "[[fixture]]"
 header_text sections.Tools = codes "[[tool]]"
-header_text (sections.Tool n) = codes "[[tool]]"
+header_text (sections.FirstTool n) = codes "[[tool]]"
+header_text (sections.SecondTool n) = codes "[[tool]]"
 
 -- how many headers come before it
 abbrev pub headers : Section → ℕ
 headers sections.Machine = 0
 headers (sections.Fixture n) = n + 1
 headers sections.Tools = 0
-headers (sections.Tool n) = n + 1
+headers (sections.FirstTool n) = n + 1
+headers (sections.SecondTool n) = n + 1
 
 abbrev pub quote_of : Section → List ℕ → List ℕ → List ℕ
 quote_of section key bytes = quote_from (header_text section) key (headers section) 1 (lines_of bytes)

@@ -20,7 +20,7 @@ mod warnings;
 mod writer;
 
 pub use line::{Axis, Fact, Figure, Line, Span, Warning};
-pub use mistake::{Ask, Bounds, Each, Item, Mistake, Rule, Section, Word};
+pub use mistake::{Ask, Bounds, Each, Mistake, Rule, Section, Word};
 pub use mistaken::{write_machine_mistake, write_tools_mistake};
 pub use quoted::Seek;
 pub use sheet::write_sheet;

@@ -11,8 +11,10 @@ pub enum Section {
     Fixture(usize),
     /// The tool table itself.
     Tools,
-    /// The tool with this number in the file's order, from 0.
-    Tool(usize),
+    /// The tool with this number in the file's order, from 0, as version 1 has it.
+    FirstTool(usize),
+    /// The same, as version 2 has it.
+    SecondTool(usize),
 }
 
 /// What is asked of a key, in words.
@@ -131,16 +133,6 @@ impl Word {
         let _len = self.bytes.len();
         self.bytes.as_slice()
     }
-}
-
-/// A table that stands several times.
-#[derive(Clone, Copy)]
-pub enum Item {
-    Fixture,
-    /// A tool of one part, as version 1 has it.
-    FirstTool,
-    /// A tool of several parts, as version 2 has it.
-    SecondTool,
 }
 
 /// What is wrong in a machine file or in a tool table.

@@ -81,8 +81,8 @@ fn known(section: Section) -> &'static [u8]
             b"Known are `version`, `step`, `ticks_per_second`, `max_rate`, `change`, `corner`, `turn`, `low`, `high`, `start`, `home28`, `home30`, `origins`, `fixture`, and in version 2 `axis_rate`.\n",
         Section::Fixture(_) => b"Known are `low` and `high`.\n",
         Section::Tools => b"Known are `version` and `tool`.\n",
-        Section::Tool(_) =>
-            b"Known are in version 1 `number`, `length`, `radius` and `offset`, in version 2 `number`, `offset`, `bottom` and `parts`.\n",
+        Section::FirstTool(_) => b"Known are `number`, `length`, `radius` and `offset`.\n",
+        Section::SecondTool(_) => b"Known are `number`, `offset`, `bottom` and `parts`.\n",
     }
 }
 
@@ -99,7 +99,7 @@ fn add_section(chunk: &mut Chunk, section: Section)
             number,
             b", counted from 0, the",
         ),
-        Section::Tool(number) => add_numbered(
+        Section::FirstTool(number) | Section::SecondTool(number) => add_numbered(
             chunk,
             b"In `[[tool]]` ",
             number,

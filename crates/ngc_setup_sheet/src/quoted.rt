@@ -140,7 +140,7 @@ fn header(section: Section) -> &'static [u8]
 {
     match section {
         Section::Machine | Section::Fixture(_) => b"[[fixture]]",
-        Section::Tools | Section::Tool(_) => b"[[tool]]",
+        Section::Tools | Section::FirstTool(_) | Section::SecondTool(_) => b"[[tool]]",
     }
 }
 
@@ -149,7 +149,8 @@ fn headers(section: Section) -> u128
 {
     match section {
         Section::Machine | Section::Tools => 0,
-        Section::Fixture(number) | Section::Tool(number) => number as u128 + 1,
+        Section::Fixture(number) | Section::FirstTool(number) | Section::SecondTool(number) =>
+            number as u128 + 1,
     }
 }
 

@@ -2,14 +2,14 @@
 ghost use Rattle.std.specs.Prelude.{◌≡◌, ◌≤◌, length};
 ghost use Rattle.toml.specs.View.{view};
 ghost use Rattle.ngc_setup_sheet.specs.Keys.{key_text};
-ghost use Rattle.ngc_setup_sheet.specs.Mistakes.{is_row_met, unmet};
+ghost use Rattle.ngc_setup_sheet.specs.Mistakes.{rows_of, is_row_met, unmet};
 
-use crate::mistake::{Ask, Rule};
+use crate::mistake::{Ask, Rule, Section};
 use crate::tree::is_met;
 use ngc_machine::FileFault;
 use toml::Value;
 
-pub(crate) const MACHINE: [(FileFault, Rule, Ask); 17] = [
+const MACHINE: [(FileFault, Rule, Ask); 17] = [
     (FileFault::Version, Rule::Version, Ask::Whole(1, 2)),
     (FileFault::Step, Rule::Step, Ask::Whole(500, 50_000)),
     (
@@ -53,7 +53,7 @@ pub(crate) const MACHINE: [(FileFault, Rule, Ask); 17] = [
     (FileFault::Fixtures, Rule::Fixtures, Ask::Tables(256)),
 ];
 
-pub(crate) const FIXTURE: [(FileFault, Rule, Ask); 3] = [
+const FIXTURE: [(FileFault, Rule, Ask); 3] = [
     (
         FileFault::Fixtures,
         Rule::LowCorner,
@@ -67,12 +67,12 @@ pub(crate) const FIXTURE: [(FileFault, Rule, Ask); 3] = [
     (FileFault::Fixtures, Rule::LowBelowHigh, Ask::BelowHigh),
 ];
 
-pub(crate) const TABLE: [(FileFault, Rule, Ask); 2] = [
+const TABLE: [(FileFault, Rule, Ask); 2] = [
     (FileFault::Version, Rule::ToolsVersion, Ask::Whole(1, 2)),
     (FileFault::Tools, Rule::Tools, Ask::Tables(1_000)),
 ];
 
-pub(crate) const FIRST_TOOL: [(FileFault, Rule, Ask); 4] = [
+const FIRST_TOOL: [(FileFault, Rule, Ask); 4] = [
     (FileFault::Tools, Rule::Number, Ask::Whole(1, 9_999)),
     (FileFault::Tools, Rule::Length, Ask::Whole(0, 1_000_000_000)),
     (FileFault::Tools, Rule::Radius, Ask::Whole(0, 1_000_000_000)),
@@ -83,7 +83,7 @@ pub(crate) const FIRST_TOOL: [(FileFault, Rule, Ask); 4] = [
     ),
 ];
 
-pub(crate) const SECOND_TOOL: [(FileFault, Rule, Ask); 4] = [
+const SECOND_TOOL: [(FileFault, Rule, Ask); 4] = [
     (FileFault::Tools, Rule::Number, Ask::Whole(1, 9_999)),
     (
         FileFault::Tools,
@@ -140,8 +140,7 @@ fn is_row_met(fault: FileFault, tree: &Value, row: &(FileFault, Rule, Ask)) -> b
     }
 }
 
-/// The rule of the first row that a table does not meet.
-pub(crate) fn unmet(fault: FileFault, tree: &Value, rows: &[(FileFault, Rule, Ask)]) -> Option<Rule>
+fn unmet_of(fault: FileFault, tree: &Value, rows: &[(FileFault, Rule, Ask)]) -> Option<Rule>
     ensures { result ≡ unmet fault (view tree.now) rows.now }
 {
     for row in rows {
@@ -150,4 +149,17 @@ pub(crate) fn unmet(fault: FileFault, tree: &Value, rows: &[(FileFault, Rule, As
         }
     }
     None
+}
+
+/// The first rule that a table does not meet.
+pub(crate) fn unmet(fault: FileFault, section: Section, tree: &Value) -> Option<Rule>
+    ensures { result ≡ unmet fault (view tree.now) (rows_of section) }
+{
+    match section {
+        Section::Machine => unmet_of(fault, tree, &MACHINE),
+        Section::Fixture(_) => unmet_of(fault, tree, &FIXTURE),
+        Section::Tools => unmet_of(fault, tree, &TABLE),
+        Section::FirstTool(_) => unmet_of(fault, tree, &FIRST_TOOL),
+        Section::SecondTool(_) => unmet_of(fault, tree, &SECOND_TOOL),
+    }
 }

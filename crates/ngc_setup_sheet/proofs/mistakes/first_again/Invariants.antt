@@ -4,4 +4,4 @@ use Rattle.ngc_setup_sheet.specs.Mistakes.{first_again}
 use Rattle.ngc_setup_sheet.proofs.mistakes.first_again.Given as goal
 
 abbrev pub invariant-loop-i : goal.invariant-loop-i
-invariant-loop-i l = first_again 0 (items_view l.values) ≡ first_again l.i (items_view (drop l.i l.values))
+invariant-loop-i l = first_again l.section 0 (items_view l.values) ≡ first_again l.section l.i (items_view (drop l.i l.values))

@@ -5,4 +5,4 @@ use Rattle.ngc_setup_sheet.proofs.mistakes.first_in.Given as goal
 
 abbrev pub invariant-loop-i : goal.invariant-loop-i
 invariant-loop-i l =
-    first_in l.fault l.item 0 (items_view l.values) ≡ first_in l.fault l.item l.i (items_view (drop l.i l.values))
+    first_in l.fault l.section 0 (items_view l.values) ≡ first_in l.fault l.section l.i (items_view (drop l.i l.values))
