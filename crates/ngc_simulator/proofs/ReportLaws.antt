@@ -29,9 +29,11 @@ use Rattle.ngc_checker.specs.declared.fault.CheckFault.TheVariants as checks
 use Rattle.ngc_behaviour.specs.Headline.{job_of}
 use Rattle.ngc_command_line.specs.declared.options.ReportOptions.{ReportOptions}
 use Rattle.ngc_machine.specs.Machine.{MachineFile}
-use Rattle.ngc_simulator.specs.Answers.{ReportsOn}
+use Rattle.ngc_simulator.specs.Answers.{ReportsOn, request_of}
 use Rattle.ngc_simulator.specs.Jobs.{AreMeanings, IsMadeFor, IsProgram, WhyNotMade, refused_at}
-use Rattle.ngc_simulator.specs.Reporting.{IsAcceptedOf, IsFitReport, IsPassed, IsRefusalReport, IsRejectionReport, IsTimed, LastsFor, Reports, TakesTicks, commands_of, fault_text, fits_text, is_on, refusal_text, rejection_text}
+use Rattle.ngc_simulator.specs.Reporting.{IsAcceptedOf, IsFitReport, IsPassed, IsRefusalReport, IsReportOf, IsRejectionReport, IsTimed, LastsFor, Reports, TakesTicks, commands_of, fault_text, fits_text, is_on, refusal_text, refusals_text, rejection_text}
+use Rattle.ngc_simulator.specs.declared.request.ReportRequest.{ReportRequest}
+use Rattle.ngc_certificate.specs.Uncleared.{AreUncleared}
 use Rattle.ngc_simulator.specs.Setups.{FileBytes, KeepsFiles}
 use Rattle.ngc_simulator.specs.Shops.{GivesShop}
 use Rattle.ngc_simulator.specs.declared.certifier.CertifyFault.{CertifyFault}
@@ -152,12 +154,12 @@ finds setup bytes text off on found is_text means is_found =
 alike : (setup : Setup) (bytes : List ℕ) (off on : List Command) (means : AreMeanings setup bytes off on) → has_deleted means.program.lines ≡ false → off ≡ on
 alike setup bytes off on means none = same_commands _ _ _ (same_at_both means.program setup none ∙ means.off_means) means.on_means
 
-module _ (setup : Setup) (bytes : List ℕ) (cuts : ℕ) (text : ProgramText) (c : CertificateData) (a : AcceptedData) (is_text : program_of bytes ≡ Ok text)
-    (made : IsMadeFor setup bytes cuts c) (accepted : IsAcceptedOf text setup a) where
+module _ (setup : Setup) (bytes : List ℕ) (request : ReportRequest) (text : ProgramText) (c : CertificateData) (a : AcceptedData) (is_text : program_of bytes ≡ Ok text)
+    (made : IsMadeFor setup bytes request.cuts c) (accepted : IsAcceptedOf text setup a) where
   abbrev whole : RunTime → RunTime → List ℕ
-  whole off_time on_time = fits_text (has_deleted made.means.program.lines) setup made.off made.on c off_time on_time
+  whole off_time on_time = fits_text request.form (has_deleted made.means.program.lines) setup made.off made.on c off_time on_time
 
-  fit : (off_time on_time : RunTime) → LastsFor setup.machine made.off off_time → LastsFor setup.machine made.on on_time → IsFitReport setup bytes cuts (whole off_time on_time)
+  fit : (off_time on_time : RunTime) → LastsFor setup.machine made.off off_time → LastsFor setup.machine made.on on_time → IsFitReport setup bytes request (whole off_time on_time)
   fit off_time on_time off_lasts on_lasts = record {
     certificate = c;
     made = made;
@@ -181,28 +183,28 @@ module _ (setup : Setup) (bytes : List ℕ) (cuts : ℕ) (text : ProgramText) (c
       subst (λ cs. LastsFor setup.machine cs time) (alike setup bytes made.off made.on made.means plain) (off_at time is_timed)
 
   is_whole : (named found : Bool) (off_time on_time : RunTime) → Finds text found → found ≡ named
-      → fits_text named setup a.off a.on c off_time on_time ≡ whole off_time on_time
+      → fits_text request.form named setup a.off a.on c off_time on_time ≡ whole off_time on_time
   is_whole named found off_time on_time is_found is =
       let same = accepted_commands setup bytes text made.off made.on a is_text made.means accepted in
-      ap (λ cs. fits_text named setup cs a.on c off_time on_time) same.0
-      ∙ ap (λ cs. fits_text named setup made.off cs c off_time on_time) same.1
-      ∙ ap (λ d. fits_text d setup made.off made.on c off_time on_time) (sym (finds setup bytes text made.off made.on found is_text made.means is_found ∙ is))
+      ap (λ cs. fits_text request.form named setup cs a.on c off_time on_time) same.0
+      ∙ ap (λ cs. fits_text request.form named setup made.off cs c off_time on_time) same.1
+      ∙ ap (λ d. fits_text request.form d setup made.off made.on c off_time on_time) (sym (finds setup bytes text made.off made.on found is_text made.means is_found ∙ is))
 
   pub told_fits : (named found : Bool) (off_time on_time : RunTime) (old new : Option (List ℕ)) → Finds text found → found ≡ named → LastsFor setup.machine made.off off_time
-      → LastsFor setup.machine made.on on_time → Appends old new (fits_text named setup a.off a.on c off_time on_time) → Reports setup bytes cuts old new (Ok tt)
+      → LastsFor setup.machine made.on on_time → Appends old new (fits_text request.form named setup a.off a.on c off_time on_time) → Reports setup bytes request old new (Ok tt)
   told_fits named found off_time on_time old new is_found is off_lasts on_lasts wrote =
       (whole off_time on_time, fit off_time on_time off_lasts on_lasts, appends_as old new _ _ (is_whole named found off_time on_time is_found is) wrote)
 
   pub fits_stopped : (named found : Bool) (off_time on_time : RunTime) (old new : Option (List ℕ)) (fault : WriteFault) → Finds text found → found ≡ named → LastsFor setup.machine made.off off_time
-      → LastsFor setup.machine made.on on_time → AppendsBeginning old new (fits_text named setup a.off a.on c off_time on_time)
-      → Reports setup bytes cuts old new (Err (certifies.Write fault))
+      → LastsFor setup.machine made.on on_time → AppendsBeginning old new (fits_text request.form named setup a.off a.on c off_time on_time)
+      → Reports setup bytes request old new (Err (certifies.Write fault))
   fits_stopped named found off_time on_time old new fault is_found is off_lasts on_lasts wrote =
       (whole off_time on_time, inl (fit off_time on_time off_lasts on_lasts), begins_as old new _ _ (is_whole named found off_time on_time is_found is) wrote)
 
 -- where memory ran out nothing is written
-pub no_memory : (setup : Setup) (bytes : List ℕ) (cuts : ℕ) (known : Option (List ℕ)) (fault : MakeFault) → fault ≡ Memory → Reports setup bytes cuts known known (Err (certifies.Make fault))
-no_memory setup bytes cuts known Memory is = keeps_same known
-no_memory setup bytes cuts known (NotCleared s k) is = cc
+pub no_memory : (setup : Setup) (bytes : List ℕ) (request : ReportRequest) (known : Option (List ℕ)) (fault : MakeFault) → fault ≡ Memory → Reports setup bytes request known known (Err (certifies.Make fault))
+no_memory setup bytes request known Memory is = keeps_same known
+no_memory setup bytes request known (NotCleared s k) is = cc
 
 -- ---- a program of which a command isn't cleared
 
@@ -210,84 +212,182 @@ means_on : (setup : Setup) (bytes : List ℕ) (off on : List Command) (means : A
 means_on setup bytes off on means Off = means.off_means
 means_on setup bytes off on means On = means.on_means
 
-module _ (setup : Setup) (bytes : List ℕ) (cuts : ℕ) (text : ProgramText) (s : Setting) (k : ℕ) (is_text : program_of bytes ≡ Ok text)
-    (why : WhyNotMade setup bytes cuts (certifies.Make (NotCleared s k))) where
-  abbrev whole_refusal : List ℕ
-  whole_refusal = refusal_text (has_deleted why.2.program.lines) s setup.machine (commands_of s why.0 why.1) k why.2.is_program.text.lines
-
-  refusal : IsRefusalReport setup bytes cuts s k whole_refusal
-  refusal = record { off = why.0; on = why.1; means = why.2; made = why.3; tells = refl }
-
-  meant : (b : Bool) (commands : List Command) → b ≡ is_on s → Means text setup b (Ok commands) → commands ≡ commands_of s why.0 why.1
-  meant b commands is means =
+module _ (setup : Setup) (bytes : List ℕ) (request : ReportRequest) (text : ProgramText) (s : Setting) (k : ℕ) (is_text : program_of bytes ≡ Ok text)
+    (why : WhyNotMade setup bytes request.cuts (certifies.Make (NotCleared s k))) where
+  meant : (t : Setting) (b : Bool) (commands : List Command) → b ≡ is_on t → Means text setup b (Ok commands) → commands ≡ commands_of t why.0 why.1
+  meant t b commands is means =
       same_commands _ _ _ (of_program bytes text why.2.program (λ p. meaning p setup b ≡ Ok commands) is_text why.2.is_program means)
-      (ap (meaning why.2.program setup) is ∙ means_on setup bytes why.0 why.1 why.2 s)
+      (ap (meaning why.2.program setup) is ∙ means_on setup bytes why.0 why.1 why.2 t)
 
-  refusal_is : (b found : Bool) (commands given : List Command) → b ≡ is_on s → Means text setup b (Ok commands) → given ≡ commands → Finds text found
-      → refusal_text found s setup.machine given k text.lines ≡ whole_refusal
-  refusal_is b found commands given is means same is_found =
-      ap (λ cs. refusal_text found s setup.machine cs k text.lines) (same ∙ meant b commands is means)
-      ∙ ap (λ d. refusal_text d s setup.machine (commands_of s why.0 why.1) k text.lines) (sym (finds setup bytes text why.0 why.1 found is_text why.2 is_found))
-      ∙ ap (λ (t : ProgramText). refusal_text (has_deleted why.2.program.lines) s setup.machine (commands_of s why.0 why.1) k t.lines) (same_text bytes text why.2.program is_text why.2.is_program)
-
-  pub told_refusal : (b found : Bool) (commands given : List Command) (old new : Option (List ℕ)) → b ≡ is_on s → Means text setup b (Ok commands) → given ≡ commands → Finds text found
-      → Appends old new (refusal_text found s setup.machine given k text.lines) → Reports setup bytes cuts old new (Err (certifies.Make (NotCleared s k)))
-  told_refusal b found commands given old new is means same is_found wrote =
-      (whole_refusal, refusal, subst (Appends old new) (refusal_is b found commands given is means same is_found) wrote)
-
-  pub refusal_stopped : (b found : Bool) (commands given : List Command) (old new : Option (List ℕ)) (fault : WriteFault) → b ≡ is_on s → Means text setup b (Ok commands) → given ≡ commands
-      → Finds text found → AppendsBeginning old new (refusal_text found s setup.machine given k text.lines) → Reports setup bytes cuts old new (Err (certifies.Write fault))
-  refusal_stopped b found commands given old new fault is means same is_found wrote =
-      (whole_refusal, inr (inl (s, k, refusal)), subst (AppendsBeginning old new) (refusal_is b found commands given is means same is_found) wrote)
-
-  -- it had a meaning, so now memory ran out
-  pub not_meant : (b : Bool) (fault : ProgramFault) (told : CertifyFault) (known : Option (List ℕ)) → b ≡ is_on s → told ≡ refused_at s fault
-      → ((rs : List Reading) → AreReadings text.lines rs → Fails fault (meaning (program_said text rs) setup b)) → Reports setup bytes cuts known known (Err told)
-  not_meant b fault told known is is_told fails =
-      subst (λ (t : CertifyFault). Reports setup bytes cuts known known (Err t)) (sym is_told)
+  -- it has a meaning at each setting, so where it is said to have none memory ran out
+  pub not_meant : (t : Setting) (b : Bool) (fault : ProgramFault) (told : CertifyFault) (known : Option (List ℕ)) → b ≡ is_on t → told ≡ refused_at t fault
+      → ((rs : List Reading) → AreReadings text.lines rs → Fails fault (meaning (program_said text rs) setup b)) → Reports setup bytes request known known (Err told)
+  not_meant t b fault told known is is_told fails =
+      subst (λ (f : CertifyFault). Reports setup bytes request known known (Err f)) (sym is_told)
       (by_fault fault (of_program bytes text why.2.program (λ p. Fails fault (meaning p setup b)) is_text why.2.is_program fails))
     where
-      by_fault : (fault : ProgramFault) → Fails fault (meaning why.2.program setup b) → Reports setup bytes cuts known known (Err (refused_at s fault))
+      by_fault : (fault : ProgramFault) → Fails fault (meaning why.2.program setup b) → Reports setup bytes request known known (Err (refused_at t fault))
       by_fault programs.Memory fails = keeps_same known
       by_fault (programs.At line e) fails =
-          let bad : Err (programs.At line e) ≡ Ok (commands_of s why.0 why.1) = sym fails ∙ ap (meaning why.2.program setup) is ∙ means_on setup bytes why.0 why.1 why.2 s in
+          let bad : Err (programs.At line e) ≡ Ok (commands_of t why.0 why.1) = sym fails ∙ ap (meaning why.2.program setup) is ∙ means_on setup bytes why.0 why.1 why.2 t in
           cc
+
+  -- ---- the first command alone
+
+  abbrev whole_refusal : List ℕ
+  whole_refusal = refusal_text request.form (has_deleted why.2.program.lines) s setup.machine (commands_of s why.0 why.1) k why.2.is_program.text.lines
+
+  first_report : request.all ≡ false → IsRefusalReport setup bytes request s k whole_refusal
+  first_report first =
+      subst (λ b. IsReportOf b setup bytes request s k whole_refusal) (sym first) (record { off = why.0; on = why.1; means = why.2; made = why.3; tells = refl })
+
+  refusal_is : (b found : Bool) (commands given : List Command) → b ≡ is_on s → Means text setup b (Ok commands) → given ≡ commands → Finds text found
+      → refusal_text request.form found s setup.machine given k text.lines ≡ whole_refusal
+  refusal_is b found commands given is means same is_found =
+      ap (λ cs. refusal_text request.form found s setup.machine cs k text.lines) (same ∙ meant s b commands is means)
+      ∙ ap (λ d. refusal_text request.form d s setup.machine (commands_of s why.0 why.1) k text.lines) (sym (finds setup bytes text why.0 why.1 found is_text why.2 is_found))
+      ∙ ap (λ (t : ProgramText). refusal_text request.form (has_deleted why.2.program.lines) s setup.machine (commands_of s why.0 why.1) k t.lines) (same_text bytes text why.2.program is_text why.2.is_program)
+
+  pub told_refusal : request.all ≡ false → (b found : Bool) (commands given : List Command) (old new : Option (List ℕ)) → b ≡ is_on s → Means text setup b (Ok commands) → given ≡ commands → Finds text found
+      → Appends old new (refusal_text request.form found s setup.machine given k text.lines) → Reports setup bytes request old new (Err (certifies.Make (NotCleared s k)))
+  told_refusal first b found commands given old new is means same is_found wrote =
+      (whole_refusal, first_report first, subst (Appends old new) (refusal_is b found commands given is means same is_found) wrote)
+
+  pub refusal_stopped : request.all ≡ false → (b found : Bool) (commands given : List Command) (old new : Option (List ℕ)) (fault : WriteFault) → b ≡ is_on s → Means text setup b (Ok commands) → given ≡ commands
+      → Finds text found → AppendsBeginning old new (refusal_text request.form found s setup.machine given k text.lines) → Reports setup bytes request old new (Err (certifies.Write fault))
+  refusal_stopped first b found commands given old new fault is means same is_found wrote =
+      (whole_refusal, inr (inl (s, k, first_report first)), subst (AppendsBeginning old new) (refusal_is b found commands given is means same is_found) wrote)
+
+  -- ---- all commands
+
+  abbrev whole_list : List ℕ → List ℕ → List ℕ
+  whole_list off_ks on_ks = refusals_text request.form (has_deleted why.2.program.lines) setup.machine why.0 why.1 off_ks on_ks
+
+  all_report : request.all ≡ true → (off_ks on_ks : List ℕ) → AreUncleared setup.machine request.cuts why.0 off_ks → AreUncleared setup.machine request.cuts why.1 on_ks
+      → IsRefusalReport setup bytes request s k (whole_list off_ks on_ks)
+  all_report all off_ks on_ks off_are on_are = subst (λ b. IsReportOf b setup bytes request s k (whole_list off_ks on_ks)) (sym all) (record {
+    off = why.0;
+    on = why.1;
+    means = why.2;
+    made = why.3;
+    off_ks = off_ks;
+    off_uncleared = off_are;
+    on_ks = on_ks;
+    on_uncleared = on_are;
+    tells = refl;
+  })
+
+  uncleared_at : (t : Setting) (commands given : List Command) (ks : List ℕ) → Means text setup (is_on t) (Ok commands) → given ≡ commands
+      → AreUncleared setup.machine request.cuts given ks → AreUncleared setup.machine request.cuts (commands_of t why.0 why.1) ks
+  uncleared_at t commands given ks means same are =
+      subst (λ (cs : List Command). AreUncleared setup.machine request.cuts cs ks) (same ∙ meant t (is_on t) commands refl means) are
+
+  -- where both settings are alike
+  once_is : (found : Bool) (commands given : List Command) (ks : List ℕ) → Means text setup false (Ok commands) → given ≡ commands → Finds text found → found ≡ false
+      → refusals_text request.form false setup.machine given given ks ks ≡ whole_list ks ks
+  once_is found commands given ks means same is_found none =
+      let plain = finds setup bytes text why.0 why.1 found is_text why.2 is_found ∙ none in
+      ap (λ cs. refusals_text request.form false setup.machine cs cs ks ks) (same ∙ meant Off false commands refl means)
+      ∙ ap (λ d. refusals_text request.form d setup.machine why.0 why.1 ks ks) (sym plain)
+
+  once_report : request.all ≡ true → (found : Bool) (commands given : List Command) (ks : List ℕ) → Means text setup false (Ok commands) → given ≡ commands → Finds text found → found ≡ false
+      → AreUncleared setup.machine request.cuts given ks → IsRefusalReport setup bytes request s k (whole_list ks ks)
+  once_report all found commands given ks means same is_found none are =
+      let off_are = uncleared_at Off commands given ks means same are in
+      let plain = finds setup bytes text why.0 why.1 found is_text why.2 is_found ∙ none in
+      all_report all ks ks off_are (subst (λ (cs : List Command). AreUncleared setup.machine request.cuts cs ks) (alike setup bytes why.0 why.1 why.2 plain) off_are)
+
+  pub told_once : request.all ≡ true → (found : Bool) (commands given : List Command) (ks : List ℕ) (old new : Option (List ℕ)) → Means text setup false (Ok commands) → given ≡ commands → Finds text found
+      → found ≡ false → AreUncleared setup.machine request.cuts given ks → Appends old new (refusals_text request.form false setup.machine given given ks ks)
+      → Reports setup bytes request old new (Err (certifies.Make (NotCleared s k)))
+  told_once all found commands given ks old new means same is_found none are wrote = (
+    whole_list ks ks,
+    once_report all found commands given ks means same is_found none are,
+    subst (Appends old new) (once_is found commands given ks means same is_found none) wrote,
+  )
+
+  pub once_stopped : request.all ≡ true → (found : Bool) (commands given : List Command) (ks : List ℕ) (old new : Option (List ℕ)) (fault : WriteFault) → Means text setup false (Ok commands) → given ≡ commands
+      → Finds text found → found ≡ false → AreUncleared setup.machine request.cuts given ks → AppendsBeginning old new (refusals_text request.form false setup.machine given given ks ks)
+      → Reports setup bytes request old new (Err (certifies.Write fault))
+  once_stopped all found commands given ks old new fault means same is_found none are wrote = (
+    whole_list ks ks,
+    inr (inl (s, k, once_report all found commands given ks means same is_found none are)),
+    subst (AppendsBeginning old new) (once_is found commands given ks means same is_found none) wrote,
+  )
+
+  -- where they aren't
+  both_is : (found : Bool) (off given_off on given_on : List Command) (off_ks on_ks : List ℕ) → Means text setup false (Ok off) → given_off ≡ off → Means text setup true (Ok on) → given_on ≡ on
+      → Finds text found → found ≡ true → refusals_text request.form true setup.machine given_off given_on off_ks on_ks ≡ whole_list off_ks on_ks
+  both_is found off given_off on given_on off_ks on_ks off_means same_off on_means same_on is_found some =
+      ap (λ cs. refusals_text request.form true setup.machine cs given_on off_ks on_ks) (same_off ∙ meant Off false off refl off_means)
+      ∙ ap (λ cs. refusals_text request.form true setup.machine why.0 cs off_ks on_ks) (same_on ∙ meant On true on refl on_means)
+      ∙ ap (λ d. refusals_text request.form d setup.machine why.0 why.1 off_ks on_ks) (sym (finds setup bytes text why.0 why.1 found is_text why.2 is_found ∙ some))
+
+  both_report : request.all ≡ true → (off given_off on given_on : List Command) (off_ks on_ks : List ℕ) → Means text setup false (Ok off) → given_off ≡ off → Means text setup true (Ok on) → given_on ≡ on
+      → AreUncleared setup.machine request.cuts given_off off_ks → AreUncleared setup.machine request.cuts given_on on_ks → IsRefusalReport setup bytes request s k (whole_list off_ks on_ks)
+  both_report all off given_off on given_on off_ks on_ks off_means same_off on_means same_on off_are on_are =
+      all_report all off_ks on_ks (uncleared_at Off off given_off off_ks off_means same_off off_are) (uncleared_at On on given_on on_ks on_means same_on on_are)
+
+  pub told_both : request.all ≡ true → (found : Bool) (off given_off on given_on : List Command) (off_ks on_ks : List ℕ) (old new : Option (List ℕ)) → Means text setup false (Ok off) → given_off ≡ off
+      → Means text setup true (Ok on) → given_on ≡ on → Finds text found → found ≡ true → AreUncleared setup.machine request.cuts given_off off_ks → AreUncleared setup.machine request.cuts given_on on_ks
+      → Appends old new (refusals_text request.form true setup.machine given_off given_on off_ks on_ks) → Reports setup bytes request old new (Err (certifies.Make (NotCleared s k)))
+  told_both all found off given_off on given_on off_ks on_ks old new off_means same_off on_means same_on is_found some off_are on_are wrote = (
+    whole_list off_ks on_ks,
+    both_report all off given_off on given_on off_ks on_ks off_means same_off on_means same_on off_are on_are,
+    subst (Appends old new) (both_is found off given_off on given_on off_ks on_ks off_means same_off on_means same_on is_found some) wrote,
+  )
+
+  pub both_stopped : request.all ≡ true → (found : Bool) (off given_off on given_on : List Command) (off_ks on_ks : List ℕ) (old new : Option (List ℕ)) (fault : WriteFault) → Means text setup false (Ok off) → given_off ≡ off
+      → Means text setup true (Ok on) → given_on ≡ on → Finds text found → found ≡ true → AreUncleared setup.machine request.cuts given_off off_ks → AreUncleared setup.machine request.cuts given_on on_ks
+      → AppendsBeginning old new (refusals_text request.form true setup.machine given_off given_on off_ks on_ks) → Reports setup bytes request old new (Err (certifies.Write fault))
+  both_stopped all found off given_off on given_on off_ks on_ks old new fault off_means same_off on_means same_on is_found some off_are on_are wrote = (
+    whole_list off_ks on_ks,
+    inr (inl (s, k, both_report all off given_off on given_on off_ks on_ks off_means same_off on_means same_on off_are on_are)),
+    subst (AppendsBeginning old new) (both_is found off given_off on given_on off_ks on_ks off_means same_off on_means same_on is_found some) wrote,
+  )
 
 -- ---- a program that is refused
 
-module _ (setup : Setup) (bytes : List ℕ) (cuts : ℕ) (text : ProgramText) (s : Setting) (number : ℕ) (fault : ProgramFault) (is_text : program_of bytes ≡ Ok text)
-    (why : WhyNotMade setup bytes cuts (certifies.Program s fault)) where
+module _ (setup : Setup) (bytes : List ℕ) (request : ReportRequest) (text : ProgramText) (s : Setting) (number : ℕ) (fault : ProgramFault) (is_text : program_of bytes ≡ Ok text)
+    (why : WhyNotMade setup bytes request.cuts (certifies.Program s fault)) where
   abbrev whole_rejection : List ℕ
-  whole_rejection = fault_text (has_deleted why.0.lines) s fault why.1.text.lines
+  whole_rejection = fault_text request.form (has_deleted why.0.lines) s fault why.1.text.lines
 
-  rejection : IsRejectionReport setup bytes s fault whole_rejection
+  rejection : IsRejectionReport setup bytes request s fault whole_rejection
   rejection = record { program = why.0; is_program = why.1; refused = why.2; tells = refl }
 
-  rejection_is : (found : Bool) (e : Fault) → fault ≡ programs.At number e → Finds text found → rejection_text found s number text.lines ≡ whole_rejection
+  rejection_is : (found : Bool) (e : Fault) → fault ≡ programs.At number e → Finds text found → rejection_text request.form found s number e text.lines ≡ whole_rejection
   rejection_is found e is is_found =
-      ap (λ d. rejection_text d s number text.lines) (of_program bytes text why.0 (λ p. found ≡ has_deleted p.lines) is_text why.1 is_found)
-      ∙ ap (λ (t : ProgramText). rejection_text (has_deleted why.0.lines) s number t.lines) (same_text bytes text why.0 is_text why.1)
-      ∙ ap (λ f. fault_text (has_deleted why.0.lines) s f why.1.text.lines) (sym is)
+      ap (λ d. rejection_text request.form d s number e text.lines) (of_program bytes text why.0 (λ p. found ≡ has_deleted p.lines) is_text why.1 is_found)
+      ∙ ap (λ (t : ProgramText). rejection_text request.form (has_deleted why.0.lines) s number e t.lines) (same_text bytes text why.0 is_text why.1)
+      ∙ ap (λ f. fault_text request.form (has_deleted why.0.lines) s f why.1.text.lines) (sym is)
 
   pub told_rejection : (found : Bool) (e : Fault) (old new : Option (List ℕ)) → fault ≡ programs.At number e → Finds text found
-      → Appends old new (rejection_text found s number text.lines) → Reports setup bytes cuts old new (Err (certifies.Program s (programs.At number e)))
+      → Appends old new (rejection_text request.form found s number e text.lines) → Reports setup bytes request old new (Err (certifies.Program s (programs.At number e)))
   told_rejection found e old new is is_found wrote = (
     whole_rejection,
-    subst (λ (f : ProgramFault). IsRejectionReport setup bytes s f whole_rejection) is rejection,
+    subst (λ (f : ProgramFault). IsRejectionReport setup bytes request s f whole_rejection) is rejection,
     subst (Appends old new) (rejection_is found e is is_found) wrote,
   )
 
   pub rejection_stopped : (found : Bool) (e : Fault) (old new : Option (List ℕ)) (stopped : WriteFault) → fault ≡ programs.At number e → Finds text found
-      → AppendsBeginning old new (rejection_text found s number text.lines) → Reports setup bytes cuts old new (Err (certifies.Write stopped))
+      → AppendsBeginning old new (rejection_text request.form found s number e text.lines) → Reports setup bytes request old new (Err (certifies.Write stopped))
   rejection_stopped found e old new stopped is is_found wrote =
       (whole_rejection, inr (inr (s, fault, rejection)), subst (AppendsBeginning old new) (rejection_is found e is is_found) wrote)
 
 -- ---- on the files that the command line names
 
+-- what is asked for is what the options say
+pub asked : (options : ReportOptions) (shop : Shop) (request : ReportRequest) (source old new : Option (List ℕ)) (outcome : Result (Unit {0}) CertifyFault)
+    → request ≡ request_of options → IfSome source (λ text. Reports (setup_of shop.machine shop.tools) text request old new outcome)
+    → IfSome source (λ text. Reports (setup_of shop.machine shop.tools) text (request_of options) old new outcome)
+asked options shop request source old new outcome is reports =
+    subst (λ (r : ReportRequest). IfSome source (λ text. Reports (setup_of shop.machine shop.tools) text r old new outcome)) is reports
+
 pub reported_files : (bytes after : FileBytes) (options : ReportOptions) (shop : Shop) (source : Option (List ℕ)) (old new : Option (List ℕ)) (outcome : Result (Unit {0}) CertifyFault)
     → GivesShop bytes (Some options.machine.now) (Some options.tools.now) (Ok shop) → KeepsFiles bytes after
     → source ≡ after (option_map (λ n. n.now) options.program)
-    → IfSome source (λ text. Reports (setup_of shop.machine shop.tools) text options.cuts old new outcome) → ReportsOn bytes options old new outcome
+    → IfSome source (λ text. Reports (setup_of shop.machine shop.tools) text (request_of options) old new outcome) → ReportsOn bytes options old new outcome
 reported_files bytes after options shop source old new outcome said keeps is reports =
-    on_setup bytes (Some options.machine.now) (Some options.tools.now) (setup_of shop.machine shop.tools) (λ setup. IfSome (bytes (option_map (λ n. n.now) options.program)) (λ text. Reports setup text options.cuts old new outcome))
-    said.0 said.1 (of_file _ source (λ text. Reports (setup_of shop.machine shop.tools) text options.cuts old new outcome) (is ∙ keeps (option_map (λ n. n.now) options.program)) reports)
+    on_setup bytes (Some options.machine.now) (Some options.tools.now) (setup_of shop.machine shop.tools) (λ setup. IfSome (bytes (option_map (λ n. n.now) options.program)) (λ text. Reports setup text (request_of options) old new outcome))
+    said.0 said.1 (of_file _ source (λ text. Reports (setup_of shop.machine shop.tools) text (request_of options) old new outcome) (is ∙ keeps (option_map (λ n. n.now) options.program)) reports)

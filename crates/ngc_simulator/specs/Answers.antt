@@ -1,5 +1,5 @@
 -- What a run of the program comes to.
-use Rattle.std.specs.Prelude.{◌≡◌, ◌⊎◌, ℕ, false, List, [], ◌∷◌, ◌++◌, Option, Some, Result, Ok, Err, IfSome, option_map, MatchOption, None}
+use Rattle.std.specs.Prelude.{◌≡◌, ◌⊎◌, ℕ, Bool, true, false, List, [], ◌∷◌, ◌++◌, Option, Some, Result, Ok, Err, IfSome, option_map, MatchOption, None}
 use Rattle.std.specs.Io.KnownBytes.{Appends, Keeps}
 use Rattle.ngc_command_line.specs.declared.options.ListOptions.{ListOptions}
 use Rattle.ngc_command_line.specs.declared.options.CertifyOptions.{CertifyOptions}
@@ -36,7 +36,10 @@ use Rattle.ngc_simulator.specs.Lists.{Lists, FailsByWriting}
 use Rattle.ngc_drawing.specs.declared.view.View.{View}
 use Rattle.ngc_simulator.specs.Drawing.{DrawsGiven, DrawsProgram, FailsByDrawing, view_named}
 use Rattle.ngc_simulator.specs.Showing.{Shows}
+use Rattle.ngc_report.specs.declared.form.Form.{Form}
+use Rattle.ngc_report.specs.declared.form.Form.TheVariants.{Words, Json}
 use Rattle.ngc_simulator.specs.Reporting.{Reports}
+use Rattle.ngc_simulator.specs.declared.request.ReportRequest.{ReportRequest}
 use Rattle.ngc_simulator.specs.Jobs.{Certifies, FailsByCertifying, Checks, FailsByChecking}
 use Rattle.ngc_simulator.specs.Running.{Runs, RunsThrough, FailsByRunning}
 use Rattle.ngc_canonical.specs.State.{Setup}
@@ -87,10 +90,23 @@ abbrev pub ShowsOn : FileBytes → ShowOptions → Option (List ℕ) → Option 
 ShowsOn bytes options old new outcome =
     OnSetup bytes (Some options.machine.now) (option_map (λ name. name.now) options.tools) (λ setup. Shows setup old new outcome)
 
+-- what a report is asked for
+abbrev pub form_asked : Bool → Form
+form_asked false = Words
+form_asked true = Json
+
+abbrev pub request_of : ReportOptions → ReportRequest
+request_of options = record {
+  cuts = options.cuts;
+  all = options.all;
+  form = form_asked options.json;
+  some_cuts = options.some_cuts;
+}
+
 abbrev pub ReportsOn : FileBytes → ReportOptions → Option (List ℕ) → Option (List ℕ) → Result (Unit {0}) CertifyFault → Type 0
 ReportsOn bytes options old new outcome =
     OnSetup bytes (Some options.machine.now) (Some options.tools.now) (λ setup.
-    IfSome (bytes (option_map (λ name. name.now) options.program)) (λ text. Reports setup text options.cuts old new outcome))
+    IfSome (bytes (option_map (λ name. name.now) options.program)) (λ text. Reports setup text (request_of options) old new outcome))
 
 -- A machine file or tool table that is refused leaves what was written as it was, and so does a file that isn't read.
 abbrev pub StopsEarly : FileBytes → Option (List ℕ) → Option (List ℕ) → Option (List ℕ) → Option (List ℕ) → AnswerFault → Type 0

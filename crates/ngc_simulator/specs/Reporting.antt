@@ -1,5 +1,5 @@
 -- What telling whether a program fits comes to. Our own.
-use Rattle.std.specs.Prelude.{◌≡◌, ◌⊎◌, ℕ, List, [], ◌++◌, codes, decimal, slice_get, Option, Some, None, option_map, Result, Ok, Err, Bool, true, false, if◌then◌else◌}
+use Rattle.std.specs.Prelude.{◌≡◌, ◌⊎◌, ℕ, List, [], ◌++◌, codes, decimal, slice_get, Option, Some, None, is_some, option_map, Result, Ok, Err, Bool, true, false, if◌then◌else◌}
 use Rattle.std.specs.Io.KnownBytes.{Appends, Keeps}
 use Rattle.ngc_fixed_length.specs.Grid.{grid}
 use Rattle.ngc_fixed_length.specs.Written.{AppendsBeginning}
@@ -9,6 +9,8 @@ use Rattle.ngc_line_reader.specs.ProgramText.{ProgramText, program_of, AreReadin
 use Rattle.ngc_line_reader.specs.ProgramView.{FaultIs}
 use Rattle.ngc_machine.specs.Machine.{MachineFile}
 use Rattle.ngc_canonical.specs.declared.command.Command.{Command}
+use Rattle.ngc_canonical.specs.Faults.{fault_number}
+use Rattle.ngc_canonical.specs.declared.fault.Fault.{Fault}
 use Rattle.ngc_canonical.specs.declared.fault.ProgramFault.{ProgramFault}
 use Rattle.ngc_canonical.specs.declared.fault.ProgramFault.TheVariants as programs
 use Rattle.ngc_canonical.specs.State.{Setup}
@@ -19,23 +21,28 @@ use Rattle.ngc_certificate_text.specs.Certificate.{CertificateData, Entry}
 use Rattle.ngc_certificate.specs.declared.fault.MakeFault.TheVariants.{NotCleared, Memory}
 use Rattle.ngc_certificate.specs.Made.{IsMade}
 use Rattle.ngc_certificate.specs.PieceFault.{place_fault}
+use Rattle.ngc_certificate.specs.Uncleared.{AreUncleared}
 use Rattle.ngc_checker.specs.Accepted.{AcceptedData, Keeps as KeepsGiven}
 use Rattle.ngc_checker.specs.FirstRefusal.{first_refusal}
 use Rattle.ngc_behaviour.specs.State.{Job}
 use Rattle.ngc_behaviour.specs.Headline.{job_of}
 use Rattle.ngc_run_log.specs.declared.report.Report.{Report}
 use Rattle.ngc_run_log.specs.Through.{IsLoggedThrough}
+use Rattle.ngc_report.specs.Forms.{closing, opening, report_text}
+use Rattle.ngc_report.specs.Marks.{named_line}
 use Rattle.ngc_report.specs.Quotes.{quoted}
-use Rattle.ngc_report.specs.Reports.{fit_lines, refusal_lines}
+use Rattle.ngc_report.specs.Reports.{all_lines, fit_lines, refusal_lines}
 use Rattle.ngc_report.specs.Warnings.{warning_lines}
-use Rattle.ngc_report.specs.Words.{report_text}
-use Rattle.ngc_setup_sheet.specs.Sheets.{warnings_text}
+use Rattle.ngc_report.specs.declared.form.Form.{Form}
+use Rattle.ngc_report.specs.declared.form.Form.TheVariants.{Words, Json}
+use Rattle.ngc_setup_sheet.specs.Sheets.{warning_facts, warnings_text}
 use Rattle.ngc_simulator.specs.declared.certifier.CertifyFault.{CertifyFault}
 use Rattle.ngc_simulator.specs.declared.certifier.CertifyFault.TheVariants as certifies
 use Rattle.ngc_simulator.specs.declared.done.RunTime.{RunTime}
 use Rattle.ngc_simulator.specs.Drawing.{met_at}
 use Rattle.ngc_simulator.specs.Jobs.{AreMeanings, IsMadeFor, IsProgram, IsRefusedAt}
-use Rattle.ngc_simulator.specs.Times.{time_text}
+use Rattle.ngc_simulator.specs.Times.{seconds_text, time_text}
+use Rattle.ngc_simulator.specs.declared.request.ReportRequest.{ReportRequest}
 
 -- ---- how long it takes
 
@@ -48,30 +55,60 @@ abbrev pub LastsFor : MachineFile → List Command → RunTime → Type 0
 LastsFor machine commands time = TakesTicks (job_of machine commands) time.ticks × (time.ticks_per_second ≡ machine.ticks_per_second)
 
 -- the line that tells it
-abbrev pub takes_line : RunTime → List ℕ
-takes_line time =
+abbrev pub takes_words : RunTime → List ℕ
+takes_words time =
     codes "It takes " ++ decimal time.ticks ++ codes " ticks, " ++ time_text time ++ codes " at " ++ decimal time.ticks_per_second
     ++ codes " ticks a second.\n"
+
+abbrev pub takes_fact : RunTime → List ℕ
+takes_fact time =
+    codes ",\n{\"fact\":\"time\",\"ticks\":" ++ decimal time.ticks ++ codes ",\"ticks_per_second\":" ++ decimal time.ticks_per_second
+    ++ codes ",\"seconds\":" ++ seconds_text time ++ codes "}"
+
+abbrev pub takes_line : Form → RunTime → List ℕ
+takes_line Words time = takes_words time
+takes_line Json time = takes_fact time
 
 -- ---- texts
 
 -- the line that names the setting, in a program with lines that begin with `/`
-abbrev pub heading : Bool → Setting → List ℕ
-heading named Off = if named then codes "With block delete off:\n" else []
-heading named On = if named then codes "With block delete on:\n" else []
+abbrev pub setting_line : Form → Setting → List ℕ
+setting_line Words Off = codes "With block delete off:\n"
+setting_line Words On = codes "With block delete on:\n"
+setting_line Json Off = codes ",\n{\"fact\":\"setting\",\"block_delete\":false}"
+setting_line Json On = codes ",\n{\"fact\":\"setting\",\"block_delete\":true}"
+
+-- what stands before the first setting of a report, and before the other
+abbrev pub heading : Form → Bool → Bool → Setting → List ℕ
+heading form first named s = (if first then opening form else []) ++ (if named then setting_line form s else [])
 
 -- what fits at a setting, how long it takes, and what looks wrong there
-abbrev pub setting_text : Bool → Setting → MachineFile → List Command → List Entry → RunTime → List ℕ
-setting_text named s machine commands motions time =
-    heading named s ++ (report_text (fit_lines machine commands motions) ++ (takes_line time ++ report_text (warning_lines machine commands)))
+abbrev pub setting_text : Form → Bool → Bool → Setting → MachineFile → List Command → List Entry → RunTime → List ℕ
+setting_text form first named s machine commands motions time =
+    heading form first named s
+    ++ (report_text form (fit_lines machine commands motions) ++ (takes_line form time ++ report_text form (warning_lines machine commands)))
 
--- at both settings, or once where they are alike; and what looks wrong of the machine and of its tools
-abbrev pub fits_text : Bool → Setup → List Command → List Command → CertificateData → RunTime → RunTime → List ℕ
-fits_text false setup off on c off_time on_time =
-    setting_text false Off setup.machine off c.off off_time ++ warnings_text setup.machine setup.tools
-fits_text true setup off on c off_time on_time =
-    setting_text true Off setup.machine off c.off off_time
-    ++ (setting_text true On setup.machine on c.on on_time ++ warnings_text setup.machine setup.tools)
+-- what looks wrong of the machine and of its tools
+abbrev pub shop_text : Form → Setup → List ℕ
+shop_text Words setup = warnings_text setup.machine setup.tools
+shop_text Json setup = warning_facts setup.machine setup.tools
+
+-- at both settings, or once where they are alike; and the shop
+abbrev pub fits_text : Form → Bool → Setup → List Command → List Command → CertificateData → RunTime → RunTime → List ℕ
+fits_text form false setup off on c off_time on_time =
+    setting_text form true false Off setup.machine off c.off off_time ++ (shop_text form setup ++ closing form)
+fits_text form true setup off on c off_time on_time =
+    setting_text form true true Off setup.machine off c.off off_time
+    ++ (setting_text form false true On setup.machine on c.on on_time ++ (shop_text form setup ++ closing form))
+
+-- the number of the fault that is answered, which `ngc explain` knows more of
+abbrev pub hint : Form → ℕ → List ℕ
+hint Words number = codes "`ngc explain " ++ decimal number ++ codes "` tells more.\n"
+hint Json number = codes ",\n{\"fact\":\"fault\",\"number\":" ++ decimal number ++ codes "}"
+
+-- the end of a report of what is refused
+abbrev pub ending : Form → ℕ → List ℕ
+ending form number = hint form number ++ closing form
 
 -- the command that a refusal is told of, and none where the start point isn't clear
 abbrev pub told_command : Option ℕ → ℕ → Option ℕ
@@ -83,27 +120,46 @@ abbrev pub told_number : List Command → Option ℕ → Option ℕ
 told_number commands None = None
 told_number commands (Some k) = option_map (λ c. c.line) (slice_get commands k)
 
-abbrev pub quoted_if : Option ℕ → List Line → List ℕ
-quoted_if None lines = []
-quoted_if (Some number) lines = quoted number lines
+abbrev pub quoted_if : Form → Option ℕ → List Line → List ℕ
+quoted_if form None lines = []
+quoted_if form (Some number) lines = quoted form number lines
 
 -- what is in the way of a command, and its line
-abbrev pub cause_text : MachineFile → List Command → Option ℕ → Option ℕ → List Line → List ℕ
-cause_text machine commands told fixture lines = report_text (refusal_lines machine commands told fixture) ++ quoted_if (told_number commands told) lines
+abbrev pub cause_text : Form → MachineFile → List Command → Option ℕ → Option ℕ → List Line → List ℕ
+cause_text form machine commands told fixture lines =
+    report_text form (refusal_lines machine commands told fixture) ++ (quoted_if form (told_number commands told) lines ++ ending form 304)
 
 -- what is in the way of command k at a setting
-abbrev pub refusal_text : Bool → Setting → MachineFile → List Command → ℕ → List Line → List ℕ
-refusal_text named s machine commands k lines =
-    heading named s
-    ++ cause_text machine commands (told_command (place_fault machine None (grid machine.step machine.start)) k) (met_at machine commands k) lines
+abbrev pub refusal_text : Form → Bool → Setting → MachineFile → List Command → ℕ → List Line → List ℕ
+refusal_text form named s machine commands k lines =
+    heading form true named s
+    ++ cause_text form machine commands (told_command (place_fault machine None (grid machine.step machine.start)) k) (met_at machine commands k) lines
 
--- a program that is refused at a line
-abbrev pub rejection_text : Bool → Setting → ℕ → List Line → List ℕ
-rejection_text named s number lines = heading named s ++ (codes "The program is refused.\n" ++ quoted number lines)
+-- all that is in the way at a setting
+abbrev pub setting_refusals : Form → Bool → Bool → Setting → MachineFile → List Command → List ℕ → List ℕ
+setting_refusals form first named s machine commands ks =
+    heading form first named s
+    ++ report_text form (all_lines machine commands (is_some (place_fault machine None (grid machine.step machine.start))) ks)
 
-abbrev pub fault_text : Bool → Setting → ProgramFault → List Line → List ℕ
-fault_text named s (programs.At number fault) lines = rejection_text named s number lines
-fault_text named s programs.Memory lines = []
+-- at both settings, or once where they are alike
+abbrev pub refusals_text : Form → Bool → MachineFile → List Command → List Command → List ℕ → List ℕ → List ℕ
+refusals_text form false machine off on off_ks on_ks = setting_refusals form true false Off machine off off_ks ++ ending form 304
+refusals_text form true machine off on off_ks on_ks =
+    setting_refusals form true true Off machine off off_ks ++ (setting_refusals form false true On machine on on_ks ++ ending form 304)
+
+-- a program that is refused
+abbrev pub refused_line : Form → List ℕ
+refused_line Words = codes "The program is refused.\n"
+refused_line Json = codes ",\n{\"fact\":\"verdict\",\"fits\":false}"
+
+-- at a line, with the word that a fault names
+abbrev pub rejection_text : Form → Bool → Setting → ℕ → Fault → List Line → List ℕ
+rejection_text form named s number fault lines =
+    heading form true named s ++ (refused_line form ++ (quoted form number lines ++ (named_line form number fault lines ++ ending form (fault_number fault))))
+
+abbrev pub fault_text : Form → Bool → Setting → ProgramFault → List Line → List ℕ
+fault_text form named s (programs.At number fault) lines = rejection_text form named s number fault lines
+fault_text form named s programs.Memory lines = []
 
 abbrev pub commands_of : Setting → List Command → List Command → List Command
 commands_of Off off on = off
@@ -116,47 +172,72 @@ is_on On = true
 -- ---- reports
 
 -- the report of a file's program for which a certificate is made
-pub record IsFitReport (setup : Setup) (bytes : List ℕ) (cuts : ℕ) (text : List ℕ) : Type 0 where
+pub record IsFitReport (setup : Setup) (bytes : List ℕ) (request : ReportRequest) (text : List ℕ) : Type 0 where
   pub certificate : CertificateData
-  pub made : IsMadeFor setup bytes cuts certificate
+  pub made : IsMadeFor setup bytes request.cuts certificate
   pub off_time : RunTime
   pub off_lasts : LastsFor setup.machine made.off off_time
   pub on_time : RunTime
   pub on_lasts : LastsFor setup.machine made.on on_time
-  pub tells : text ≡ fits_text (has_deleted made.means.program.lines) setup made.off made.on certificate off_time on_time
+  pub tells : text ≡ fits_text request.form (has_deleted made.means.program.lines) setup made.off made.on certificate off_time on_time
 
 -- the report of one of which command k isn't cleared at a setting
-pub record IsRefusalReport (setup : Setup) (bytes : List ℕ) (cuts : ℕ) (s : Setting) (k : ℕ) (text : List ℕ) : Type 0 where
+pub record IsFirstReport (setup : Setup) (bytes : List ℕ) (request : ReportRequest) (s : Setting) (k : ℕ) (text : List ℕ) : Type 0 where
   pub off : List Command
   pub on : List Command
   pub means : AreMeanings setup bytes off on
-  pub made : IsMade setup.machine cuts off on (Err (NotCleared s k))
-  pub tells : text ≡ refusal_text (has_deleted means.program.lines) s setup.machine (commands_of s off on) k means.is_program.text.lines
+  pub made : IsMade setup.machine request.cuts off on (Err (NotCleared s k))
+  pub tells : text ≡ refusal_text request.form (has_deleted means.program.lines) s setup.machine (commands_of s off on) k means.is_program.text.lines
+
+-- the report of all commands that aren't cleared, at either setting
+pub record IsAllReport (setup : Setup) (bytes : List ℕ) (request : ReportRequest) (s : Setting) (k : ℕ) (text : List ℕ) : Type 0 where
+  pub off : List Command
+  pub on : List Command
+  pub means : AreMeanings setup bytes off on
+  pub made : IsMade setup.machine request.cuts off on (Err (NotCleared s k))
+  pub off_ks : List ℕ
+  pub off_uncleared : AreUncleared setup.machine request.cuts off off_ks
+  pub on_ks : List ℕ
+  pub on_uncleared : AreUncleared setup.machine request.cuts on on_ks
+  pub tells : text ≡ refusals_text request.form (has_deleted means.program.lines) setup.machine off on off_ks on_ks
+
+abbrev pub IsReportOf : Bool → Setup → List ℕ → ReportRequest → Setting → ℕ → List ℕ → Type 0
+IsReportOf false setup bytes request s k text = IsFirstReport setup bytes request s k text
+IsReportOf true setup bytes request s k text = IsAllReport setup bytes request s k text
+
+abbrev pub IsRefusalReport : Setup → List ℕ → ReportRequest → Setting → ℕ → List ℕ → Type 0
+IsRefusalReport setup bytes request s k text = IsReportOf request.all setup bytes request s k text
 
 -- the report of one that is refused at a setting, at a line
-pub record IsRejectionReport (setup : Setup) (bytes : List ℕ) (s : Setting) (fault : ProgramFault) (text : List ℕ) : Type 0 where
+pub record IsRejectionReport (setup : Setup) (bytes : List ℕ) (request : ReportRequest) (s : Setting) (fault : ProgramFault) (text : List ℕ) : Type 0 where
   pub program : ProgramLines
   pub is_program : IsProgram bytes program
   pub refused : IsRefusedAt setup program s fault
-  pub tells : text ≡ fault_text (has_deleted program.lines) s fault is_program.text.lines
+  pub tells : text ≡ fault_text request.form (has_deleted program.lines) s fault is_program.text.lines
 
 -- one of them
-abbrev pub IsReport : Setup → List ℕ → ℕ → List ℕ → Type 0
-IsReport setup bytes cuts text =
-    IsFitReport setup bytes cuts text ⊎ (((s : Setting) × (k : ℕ) × IsRefusalReport setup bytes cuts s k text)
-    ⊎ ((s : Setting) × (fault : ProgramFault) × IsRejectionReport setup bytes s fault text))
+abbrev pub IsReport : Setup → List ℕ → ReportRequest → List ℕ → Type 0
+IsReport setup bytes request text =
+    IsFitReport setup bytes request text ⊎ (((s : Setting) × (k : ℕ) × IsRefusalReport setup bytes request s k text)
+    ⊎ ((s : Setting) × (fault : ProgramFault) × IsRejectionReport setup bytes request s fault text))
 
 -- Of a program's file and a sink: the report of what fits was written, or that of what is in the way or of the line that is refused,
 -- which is answered; or a beginning of one where the sink failed. Where there is none, what was written is as it was.
-abbrev pub Reports : Setup → List ℕ → ℕ → Option (List ℕ) → Option (List ℕ) → Result (Unit {0}) CertifyFault → Type 0
-Reports setup bytes cuts old new (Ok u) = (text : List ℕ) × IsFitReport setup bytes cuts text × Appends old new text
-Reports setup bytes cuts old new (Err (certifies.Read fault)) = FaultIs fault (program_of bytes) × Keeps old new
-Reports setup bytes cuts old new (Err (certifies.Program s fault)) = (text : List ℕ) × IsRejectionReport setup bytes s fault text × Appends old new text
-Reports setup bytes cuts old new (Err (certifies.Make (NotCleared s k))) = (text : List ℕ) × IsRefusalReport setup bytes cuts s k text × Appends old new text
-Reports setup bytes cuts old new (Err (certifies.Make Memory)) = Keeps old new
-Reports setup bytes cuts old new (Err (certifies.Write fault)) = (text : List ℕ) × IsReport setup bytes cuts text × AppendsBeginning old new text
+abbrev pub Reports : Setup → List ℕ → ReportRequest → Option (List ℕ) → Option (List ℕ) → Result (Unit {0}) CertifyFault → Type 0
+Reports setup bytes request old new (Ok u) = (text : List ℕ) × IsFitReport setup bytes request text × Appends old new text
+Reports setup bytes request old new (Err (certifies.Read fault)) = FaultIs fault (program_of bytes) × Keeps old new
+Reports setup bytes request old new (Err (certifies.Program s fault)) =
+    (text : List ℕ) × IsRejectionReport setup bytes request s fault text × Appends old new text
+Reports setup bytes request old new (Err (certifies.Make (NotCleared s k))) =
+    (text : List ℕ) × IsRefusalReport setup bytes request s k text × Appends old new text
+Reports setup bytes request old new (Err (certifies.Make Memory)) = Keeps old new
+Reports setup bytes request old new (Err (certifies.Write fault)) = (text : List ℕ) × IsReport setup bytes request text × AppendsBeginning old new text
 
 -- ---- of a program that was read
+
+-- whether a line of it begins with `/`
+abbrev pub HasDeleted : ProgramText → Bool → Type 0
+HasDeleted text found = (rs : List Reading) → AreReadings text.lines rs → found ≡ has_deleted (program_said text rs).lines
 
 -- nothing is refused of a certificate for it
 abbrev pub IsPassed : ProgramText → Setup → CertificateData → Type 0

@@ -18,6 +18,11 @@ abbrev pub time_text : RunTime → List ℕ
 time_text time =
     clock_text (time.ticks / time.ticks_per_second) ++ codes "." ++ three_digits (time.ticks % time.ticks_per_second * 1000 / time.ticks_per_second)
 
+-- seconds as a number
+abbrev pub seconds_text : RunTime → List ℕ
+seconds_text time =
+    decimal (time.ticks / time.ticks_per_second) ++ codes "." ++ three_digits (time.ticks % time.ticks_per_second * 1000 / time.ticks_per_second)
+
 -- the line that tells it
 abbrev pub time_line : RunTime → List ℕ
 time_line time = codes "ngc: ticks " ++ decimal time.ticks ++ codes " time " ++ time_text time ++ codes "\n"

@@ -1,11 +1,12 @@
 //! What the program tells of a run through a program.
 ghost use Rattle.std.specs.Prelude.{◌≡◌, ◌+◌, ◌≤◌, ◌++◌, length};
 ghost use Rattle.ngc_output.specs.Collected.{CHUNK_SIZE};
-ghost use Rattle.ngc_simulator.specs.Reporting.{takes_line};
-ghost use Rattle.ngc_simulator.specs.Times.{clock_text, three_digits, time_line, time_text, two_digits};
+ghost use Rattle.ngc_simulator.specs.Reporting.{takes_fact, takes_line, takes_words};
+ghost use Rattle.ngc_simulator.specs.Times.{clock_text, seconds_text, three_digits, time_line, time_text, two_digits};
 
 use crate::done::RunTime;
 use ngc_output::Chunk;
+use ngc_report::Form;
 
 fn add_two_digits(chunk: &mut Chunk, number: u128)
     requires { length chunk.old + 80 ≤ CHUNK_SIZE }
@@ -60,10 +61,20 @@ pub(crate) fn add_time_line(chunk: &mut Chunk, time: &RunTime)
     chunk.add_text(b"\n");
 }
 
-/// The line of a report that tells how long a program takes.
-pub(crate) fn add_takes_line(chunk: &mut Chunk, time: &RunTime)
+fn add_seconds(chunk: &mut Chunk, time: &RunTime)
+    requires { length chunk.old + 170 ≤ CHUNK_SIZE }
+    ensures text { chunk.new ≡ chunk.old ++ seconds_text time.now }
+    ensures short { length chunk.new ≤ length chunk.old + 161 }
+{
+    let per_second = u128::from(time.ticks_per_second);
+    chunk.add_number(time.ticks / per_second);
+    chunk.add_text(b".");
+    add_three_digits(chunk, time.ticks % per_second * 1000 / per_second);
+}
+
+fn add_takes_words(chunk: &mut Chunk, time: &RunTime)
     requires { length chunk.old + 600 ≤ CHUNK_SIZE }
-    ensures { chunk.new ≡ chunk.old ++ takes_line time.now }
+    ensures { chunk.new ≡ chunk.old ++ takes_words time.now }
 {
     chunk.add_text(b"It takes ");
     chunk.add_number(time.ticks);
@@ -72,4 +83,28 @@ pub(crate) fn add_takes_line(chunk: &mut Chunk, time: &RunTime)
     chunk.add_text(b" at ");
     chunk.add_number(time.ticks_per_second);
     chunk.add_text(b" ticks a second.\n");
+}
+
+fn add_takes_fact(chunk: &mut Chunk, time: &RunTime)
+    requires { length chunk.old + 600 ≤ CHUNK_SIZE }
+    ensures { chunk.new ≡ chunk.old ++ takes_fact time.now }
+{
+    chunk.add_text(b",\n{\"fact\":\"time\",\"ticks\":");
+    chunk.add_number(time.ticks);
+    chunk.add_text(b",\"ticks_per_second\":");
+    chunk.add_number(time.ticks_per_second);
+    chunk.add_text(b",\"seconds\":");
+    add_seconds(chunk, time);
+    chunk.add_text(b"}");
+}
+
+/// The line of a report that tells how long a program takes.
+pub(crate) fn add_takes_line(chunk: &mut Chunk, form: Form, time: &RunTime)
+    requires { length chunk.old + 600 ≤ CHUNK_SIZE }
+    ensures { chunk.new ≡ chunk.old ++ takes_line form time.now }
+{
+    match form {
+        Form::Words => add_takes_words(chunk, time),
+        Form::Json => add_takes_fact(chunk, time),
+    }
 }

@@ -1,17 +1,35 @@
 //! The report of a program, from the files that the command line names.
-ghost use Rattle.std.specs.Prelude.{◌≤◌};
-ghost use Rattle.ngc_simulator.specs.Answers.{FailsByOutput, ReportComes, report_inputs};
+ghost use Rattle.std.specs.Prelude.{◌≡◌};
+ghost use Rattle.ngc_simulator.specs.Answers.{FailsByOutput, ReportComes, form_asked, report_inputs, request_of};
 ghost use Rattle.ngc_simulator.specs.Unread.{FailsByInput, SourceFails};
 
 use crate::done::Done;
 use crate::fault::AnswerFault;
 use crate::files::Files;
 use crate::reporting::report_program;
+use crate::request::ReportRequest;
 use crate::setup::read_shop;
 use ngc_command_line::ReportOptions;
 use ngc_fixed_length::Sink;
 use ngc_input::InputFault;
+use ngc_report::Form;
 use std::alloc::Global;
+
+fn form_asked(json: bool) -> Form
+    ensures { result ≡ form_asked json }
+{
+    if json { Form::Json } else { Form::Words }
+}
+
+fn request_of(options: &ReportOptions<'_>) -> ReportRequest
+    ensures { result ≡ request_of options.now }
+{
+    ReportRequest {
+        cuts: options.cuts,
+        all: options.all,
+        form: form_asked(options.json),
+    }
+}
 
 /// The report of a program. Its faults are those of a certificate that isn't made.
 pub(crate) fn report_files<F: Files, W: Sink>(
@@ -20,7 +38,6 @@ pub(crate) fn report_files<F: Files, W: Sink>(
     files: &mut F,
     output: &mut W,
 ) -> Result<Done, AnswerFault>
-    requires { 1 ≤ options.now.cuts }
     ensures comes { ReportComes (F.bytes files.old) options.now (W.written output.old) (W.written output.new) result }
     ensures unread { FailsByInput (SourceFails F.R.remaining F.R.failures) (F.bytes files.old) (report_inputs options.now) (F.failures files.old) (F.failures files.new) result }
     ensures sink { FailsByOutput result (W.failures output.old) (W.failures output.new) }
@@ -38,7 +55,7 @@ pub(crate) fn report_files<F: Files, W: Sink>(
         &mut source,
         &shop.machine,
         &shop.tools,
-        options.cuts,
+        request_of(options),
         output,
     ) {
         Ok(()) => Ok(Done::Quietly),

@@ -4,16 +4,24 @@ use super::{MACHINE, Outcome, SomeFiles, TOOLS, Texts, on_the_mill, outcome_of, 
 use ngc_fixed_length::Device;
 use ngc_simulator::{Options, ReportOptions};
 use ngc_test_devices::FailingSink;
+use serde_json::Value;
 use std::alloc::Global;
 use std::process::Abort;
+use std::test::Fail;
 
-fn report_options(program: Option<&str>) -> ReportOptions<'_> {
+fn report_of(program: Option<&str>, all: bool, json: bool) -> ReportOptions<'_> {
     ReportOptions {
         machine: "machine",
         tools: "tools",
         program,
         cuts: 8,
+        all,
+        json,
     }
+}
+
+fn report_options(program: Option<&str>) -> ReportOptions<'_> {
+    report_of(program, false, false)
 }
 
 // A path step in each tick, and a thousand ticks a second. A clamp stands before the way along X, and ends 5 mm below it.
@@ -119,6 +127,7 @@ Z from 0 mm to 0 mm, 100 mm left below and 0 mm left above.
 Command 0 of line 1, with no tool, from X 0 mm, Y 0 mm, Z 0 mm to X 302.5 mm, Y 0 mm, Z 0 mm.
 It leaves the travel above X: 2.5 mm too far.
 Line 1: G0 X302.5
+`ngc explain 304` tells more.
 ";
 
 const INTO_THE_CLAMP: &str = "The program does not fit.
@@ -128,6 +137,7 @@ Z from -10 mm to 0 mm, 90 mm left below and 0 mm left above.
 Command 2 of line 3, with tool 1, from X 0 mm, Y 0 mm, Z -10 mm to X 50 mm, Y 0 mm, Z -10 mm.
 It meets fixture 0, from X 40 mm, Y 0 mm, Z -100 mm to X 60 mm, Y 20 mm, Z -5 mm.
 Line 3: X50
+`ngc explain 304` tells more.
 ";
 
 // 100 + 100 + 100 path steps, a tool, 10000 + 1000 + 5000 + 5000 path steps, and the end. The machine makes 600 mm a minute. Home
@@ -158,6 +168,7 @@ Z from 0 mm to 0 mm, 100 mm left below and 0 mm left above.
 Command 1 of line 4, with no tool, from X 200 mm, Y 0 mm, Z 0 mm to X 350 mm, Y 0 mm, Z 0 mm.
 It leaves the travel above X: 50 mm too far.
 Line 4: G0 X150
+`ngc explain 304` tells more.
 ";
 
 const STARTS_WITHIN: &str = "The program does not fit.
@@ -165,7 +176,8 @@ X from 50 mm to 50 mm, 50 mm left below and 250 mm left above.
 Y from 10 mm to 10 mm, 10 mm left below and 290 mm left above.
 Z from -10 mm to -10 mm, 90 mm left below and 10 mm left above.
 The start is refused, at X 50 mm, Y 10 mm, Z -10 mm.
-It meets fixture 0, from X 40 mm, Y 0 mm, Z -100 mm to X 60 mm, Y 20 mm, Z -5 mm.
+It meets fixture 0, from X 40 mm, Y 0 mm, Z -100 mm to X 60 mm, Y 20 mm, Z -5 mm; from Z -5 mm up it passes over.
+`ngc explain 304` tells more.
 ";
 
 // A machine, a program, and the status, the output and the line of a fault that its report comes to.
@@ -206,10 +218,245 @@ const REPORTS: &[(&str, &str, u8, &str, &str)] = &[
         MACHINE,
         "G0 X[1/0]\nM2\n",
         3,
-        "The program is refused.\nLine 1: G0 X[1/0]\n",
+        "The program is refused.\nLine 1: G0 X[1/0]\n`ngc explain 102` tells more.\n",
         "ngc: fault 311 setting off fault 102 line 1\n",
     ),
-    ("", "M2\n", 3, "", "ngc: fault 269 machine\n"),
+    (
+        MACHINE,
+        "G0 X1\nG0 G5 X1\nM2\n",
+        3,
+        UNKNOWN_CODE,
+        "ngc: fault 311 setting off fault 204 line 2\n",
+    ),
+    (
+        MACHINE,
+        "X1\nM2\n",
+        3,
+        WITHOUT_USE,
+        "ngc: fault 311 setting off fault 207 line 1\n",
+    ),
+    (
+        MACHINE,
+        "G43\nM2\n",
+        3,
+        WORD_MISSING,
+        "ngc: fault 311 setting off fault 208 line 1\n",
+    ),
+];
+
+const UNKNOWN_CODE: &str = "The program is refused.
+Line 2: G0 G5 X1
+           ^
+The code G5 is unknown.
+`ngc explain 204` tells more.
+";
+
+const WITHOUT_USE: &str = "The program is refused.
+Line 1: X1
+        ^
+Nothing uses the word X.
+`ngc explain 207` tells more.
+";
+
+const WORD_MISSING: &str = "The program is refused.
+Line 1: G43
+The word H is missing.
+`ngc explain 208` tells more.
+";
+
+// The second and the third motion meet the clamp, and the fifth and the sixth leave the travel.
+const FOUR_REFUSED: &str = "G0 Y10 Z-10\nX50\nX0\nZ0\nX310\nX100\nM2\n";
+
+const FOUR_REFUSED_REPORT: &str = "The program does not fit.
+X from 0 mm to 310 mm, 0 mm left below and 10 mm too far above.
+Y from 0 mm to 10 mm, 0 mm left below and 290 mm left above.
+Z from -10 mm to 0 mm, 90 mm left below and 0 mm left above.
+Command 1 of line 2, with no tool, from X 0 mm, Y 10 mm, Z -10 mm to X 50 mm, Y 10 mm, Z -10 mm.
+It meets fixture 0, from X 40 mm, Y 0 mm, Z -100 mm to X 60 mm, Y 20 mm, Z -5 mm; from Z -5 mm up it passes over.
+Command 2 of line 3, with no tool, from X 50 mm, Y 10 mm, Z -10 mm to X 0 mm, Y 10 mm, Z -10 mm.
+It meets fixture 0, from X 40 mm, Y 0 mm, Z -100 mm to X 60 mm, Y 20 mm, Z -5 mm; from Z -5 mm up it passes over.
+Command 4 of line 5, with no tool, from X 0 mm, Y 10 mm, Z 0 mm to X 310 mm, Y 10 mm, Z 0 mm.
+It leaves the travel above X: 10 mm too far.
+Command 5 of line 6, with no tool, from X 310 mm, Y 10 mm, Z 0 mm to X 100 mm, Y 10 mm, Z 0 mm.
+It leaves the travel above X: 10 mm too far.
+`ngc explain 304` tells more.
+";
+
+const REFUSED_WITH_OFF: &str = "G0 Y10 Z-10\n/X50\n/X0\nM2\n";
+
+const REFUSED_WITH_OFF_REPORT: &str = "With block delete off:
+The program does not fit.
+X from 0 mm to 50 mm, 0 mm left below and 250 mm left above.
+Y from 0 mm to 10 mm, 0 mm left below and 290 mm left above.
+Z from -10 mm to 0 mm, 90 mm left below and 0 mm left above.
+Command 1 of line 2, with no tool, from X 0 mm, Y 10 mm, Z -10 mm to X 50 mm, Y 10 mm, Z -10 mm.
+It meets fixture 0, from X 40 mm, Y 0 mm, Z -100 mm to X 60 mm, Y 20 mm, Z -5 mm; from Z -5 mm up it passes over.
+Command 2 of line 3, with no tool, from X 50 mm, Y 10 mm, Z -10 mm to X 0 mm, Y 10 mm, Z -10 mm.
+It meets fixture 0, from X 40 mm, Y 0 mm, Z -100 mm to X 60 mm, Y 20 mm, Z -5 mm; from Z -5 mm up it passes over.
+With block delete on:
+The program fits: every position is inside the travel and clear of every fixture.
+X from 0 mm to 0 mm, 0 mm left below and 300 mm left above.
+Y from 0 mm to 10 mm, 0 mm left below and 290 mm left above.
+Z from -10 mm to 0 mm, 90 mm left below and 0 mm left above.
+`ngc explain 304` tells more.
+";
+
+const WITHIN_ALL_REPORT: &str = "The program does not fit.
+X from 50 mm to 50 mm, 50 mm left below and 250 mm left above.
+Y from 10 mm to 10 mm, 10 mm left below and 290 mm left above.
+Z from -10 mm to 0 mm, 90 mm left below and 0 mm left above.
+The start is refused, at X 50 mm, Y 10 mm, Z -10 mm.
+It meets fixture 0, from X 40 mm, Y 0 mm, Z -100 mm to X 60 mm, Y 20 mm, Z -5 mm; from Z -5 mm up it passes over.
+Command 0 of line 1, with no tool, from X 50 mm, Y 10 mm, Z -10 mm to X 50 mm, Y 10 mm, Z 0 mm.
+It meets fixture 0, from X 40 mm, Y 0 mm, Z -100 mm to X 60 mm, Y 20 mm, Z -5 mm; from Z -5 mm up it passes over.
+`ngc explain 304` tells more.
+";
+
+// The same with `--all`.
+const ALL_REPORTS: &[(&str, &str, u8, &str, &str)] = &[
+    (QUICK, TWO_USES, 0, TWO_USES_REPORT, ""),
+    (
+        QUICK,
+        FOUR_REFUSED,
+        4,
+        FOUR_REFUSED_REPORT,
+        "ngc: fault 304 setting off command 1\n",
+    ),
+    (
+        QUICK,
+        REFUSED_WITH_OFF,
+        4,
+        REFUSED_WITH_OFF_REPORT,
+        "ngc: fault 304 setting off command 1\n",
+    ),
+    (
+        WITHIN,
+        "G0 Z0\nM2\n",
+        4,
+        WITHIN_ALL_REPORT,
+        "ngc: fault 304 setting off command 0\n",
+    ),
+];
+
+const TWO_USES_FACTS: &str = r#"[{"fact":"report","version":1},
+{"fact":"verdict","fits":true},
+{"fact":"extent","axis":"X","low":0,"high":30000000,"left_below":0,"left_above":270000000},
+{"fact":"extent","axis":"Y","low":0,"high":0,"left_below":0,"left_above":300000000},
+{"fact":"extent","axis":"Z","low":0,"high":0,"left_below":100000000,"left_above":0},
+{"fact":"use","tool":null,"traverses":1,"feeds":0,"arcs":0,"dwells":0,"stops":0,"nearest_fixture":0,"distance":10000000},
+{"fact":"use","tool":1,"traverses":1,"feeds":0,"arcs":0,"dwells":1,"stops":0,"nearest_fixture":0,"distance":7000000},
+{"fact":"time","ticks":4502,"ticks_per_second":1000,"seconds":4.502}
+]
+"#;
+
+const THIN_FACTS: &str = r#"[{"fact":"report","version":1},
+{"fact":"verdict","fits":true},
+{"fact":"extent","axis":"X","low":0,"high":0,"left_below":0,"left_above":300000000},
+{"fact":"extent","axis":"Y","low":0,"high":0,"left_below":0,"left_above":300000000},
+{"fact":"extent","axis":"Z","low":0,"high":0,"left_below":100000000,"left_above":0},
+{"fact":"time","ticks":1,"ticks_per_second":1000,"seconds":0.001},
+{"fact":"warning","text":"fixture 0 is thinner than 0.1 mm: its corners are in nanometres"}
+]
+"#;
+
+const WARNED_TWICE: &str = "/G0 Z-1\n/Z0\nM2\n";
+
+// 100 + 100 + 1 ticks, and one.
+const WARNED_TWICE_FACTS: &str = r#"[{"fact":"report","version":1},
+{"fact":"setting","block_delete":false},
+{"fact":"verdict","fits":true},
+{"fact":"extent","axis":"X","low":0,"high":0,"left_below":0,"left_above":300000000},
+{"fact":"extent","axis":"Y","low":0,"high":0,"left_below":0,"left_above":300000000},
+{"fact":"extent","axis":"Z","low":-1000000,"high":0,"left_below":99000000,"left_above":0},
+{"fact":"use","tool":null,"traverses":2,"feeds":0,"arcs":0,"dwells":0,"stops":0,"nearest_fixture":0,"distance":40000000},
+{"fact":"time","ticks":201,"ticks_per_second":1000,"seconds":0.201},
+{"fact":"warning","text":"motions without a tool, away from the height of the start","count":2,"line":1},
+{"fact":"setting","block_delete":true},
+{"fact":"verdict","fits":true},
+{"fact":"extent","axis":"X","low":0,"high":0,"left_below":0,"left_above":300000000},
+{"fact":"extent","axis":"Y","low":0,"high":0,"left_below":0,"left_above":300000000},
+{"fact":"extent","axis":"Z","low":0,"high":0,"left_below":100000000,"left_above":0},
+{"fact":"time","ticks":1,"ticks_per_second":1000,"seconds":0.001}
+]
+"#;
+
+const INTO_THE_CLAMP_FACTS: &str = r#"[{"fact":"report","version":1},
+{"fact":"verdict","fits":false},
+{"fact":"extent","axis":"X","low":0,"high":50000000,"left_below":0,"left_above":250000000},
+{"fact":"extent","axis":"Y","low":0,"high":0,"left_below":0,"left_above":300000000},
+{"fact":"extent","axis":"Z","low":-10000000,"high":0,"left_below":90000000,"left_above":0},
+{"fact":"command","index":2,"line":3,"tool":1,"from":[0,0,-10000000],"to":[50000000,0,-10000000]},
+{"fact":"obstacle","kind":"fixture","fixture":0,"low":[40000000,0,-100000000],"high":[60000000,20000000,-5000000],"over_from_z":null},
+{"fact":"line","number":3,"text":"X50"},
+{"fact":"fault","number":304}
+]
+"#;
+
+const TOO_FAR_FACTS: &str = r#"[{"fact":"report","version":1},
+{"fact":"verdict","fits":false},
+{"fact":"extent","axis":"X","low":0,"high":302500000,"left_below":0,"left_above":-2500000},
+{"fact":"extent","axis":"Y","low":0,"high":0,"left_below":0,"left_above":300000000},
+{"fact":"extent","axis":"Z","low":0,"high":0,"left_below":100000000,"left_above":0},
+{"fact":"command","index":0,"line":1,"tool":null,"from":[0,0,0],"to":[302500000,0,0]},
+{"fact":"obstacle","kind":"travel","axis":"X","side":"above","left":-2500000},
+{"fact":"line","number":1,"text":"G0 X302.5"},
+{"fact":"fault","number":304}
+]
+"#;
+
+const WITHIN_FACTS: &str = r#"[{"fact":"report","version":1},
+{"fact":"verdict","fits":false},
+{"fact":"extent","axis":"X","low":50000000,"high":50000000,"left_below":50000000,"left_above":250000000},
+{"fact":"extent","axis":"Y","low":10000000,"high":10000000,"left_below":10000000,"left_above":290000000},
+{"fact":"extent","axis":"Z","low":-10000000,"high":-10000000,"left_below":90000000,"left_above":10000000},
+{"fact":"start","at":[50000000,10000000,-10000000]},
+{"fact":"obstacle","kind":"fixture","fixture":0,"low":[40000000,0,-100000000],"high":[60000000,20000000,-5000000],"over_from_z":-5000000},
+{"fact":"fault","number":304}
+]
+"#;
+
+const UNKNOWN_CODE_FACTS: &str = r#"[{"fact":"report","version":1},
+{"fact":"verdict","fits":false},
+{"fact":"line","number":1,"text":"G0 G5 (\"a\" \\)"},
+{"fact":"mark","line":1,"column":4},
+{"fact":"reason","text":"The code G5 is unknown."},
+{"fact":"fault","number":204}
+]
+"#;
+
+// The same with `--json`.
+const FACTS: &[(&str, &str, u8, &str, &str)] = &[
+    (QUICK, TWO_USES, 0, TWO_USES_FACTS, ""),
+    (THIN, "M2\n", 0, THIN_FACTS, ""),
+    (QUICK, WARNED_TWICE, 0, WARNED_TWICE_FACTS, ""),
+    (
+        QUICK,
+        "T1 M6\nG0 Z-10\nX50\nM2\n",
+        4,
+        INTO_THE_CLAMP_FACTS,
+        "ngc: fault 304 setting off command 2\n",
+    ),
+    (
+        MACHINE,
+        "G0 X302.5\nM2\n",
+        4,
+        TOO_FAR_FACTS,
+        "ngc: fault 304 setting off command 0\n",
+    ),
+    (
+        WITHIN,
+        "M2\n",
+        4,
+        WITHIN_FACTS,
+        "ngc: fault 304 setting off command 0\n",
+    ),
+    (
+        MACHINE,
+        "G0 G5 (\"a\" \\)\nM2\n",
+        3,
+        UNKNOWN_CODE_FACTS,
+        "ngc: fault 311 setting off fault 204 line 1\n",
+    ),
 ];
 
 fn on<'a>(machine: &'a str, program: &'a str) -> Texts<'a> {
@@ -220,13 +467,42 @@ fn on<'a>(machine: &'a str, program: &'a str) -> Texts<'a> {
     }
 }
 
+fn are_reported(
+    rt: &impl Abort,
+    alloc: Global,
+    options: ReportOptions<'_>,
+    rows: &[(&str, &str, u8, &str, &str)],
+) {
+    for (machine, program, status, output, errors) in rows {
+        let found = outcome_of(alloc, on(machine, program), &Options::Report(options));
+        found.is(rt, *status, output, errors, program);
+    }
+}
+
 #[test]
 fn reports(rt: HostRuntime) {
-    for (machine, program, status, output, errors) in REPORTS {
-        let options = Options::Report(report_options(None));
-        let found = outcome_of(rt.alloc(), on(machine, program), &options);
-        found.is(&rt, *status, output, errors, program);
+    are_reported(&rt, rt.alloc(), report_options(None), REPORTS);
+}
+
+#[test]
+fn reports_of_all_commands(rt: HostRuntime) {
+    are_reported(&rt, rt.alloc(), report_of(None, true, false), ALL_REPORTS);
+}
+
+#[test]
+fn reports_as_documents(rt: HostRuntime) {
+    are_reported(&rt, rt.alloc(), report_of(None, false, true), FACTS);
+}
+
+// Another parser reads them, and finds the version.
+#[test]
+fn documents_are_json(rt: HostRuntime) -> Result<(), Fail> {
+    for (_, program, _, output, _) in FACTS {
+        let document = Value::from_str(rt.alloc(), output)?;
+        let version = document.pointer("/0/version").and_then(Value::as_u64);
+        same(&rt, program, &version, &Some(1));
     }
+    Ok(())
 }
 
 #[test]

@@ -1,5 +1,5 @@
 use Rattle.std.proofs.Common.{[], ◌∷◌, Some, Ok, Err, inl, ap, ◌∙◌}
-use Rattle.ngc_simulator.proofs.ReportLaws.{reported_files}
+use Rattle.ngc_simulator.proofs.ReportLaws.{asked, reported_files}
 use Rattle.ngc_simulator.specs.Answers.{program_input}
 use Rattle.ngc_simulator.specs.Unread.{OfProgram, SourceFails, shop_inputs, unread_by}
 use Rattle.ngc_simulator.proofs.UnreadLaws.{certify_told, shop_read, told_before, told_behind}
@@ -10,12 +10,12 @@ use Rattle.ngc_simulator.proofs.reporting_files.report_files.Goals as goal
 pub returns-in-Ok-report_program-clause-comes : goal.returns-in-Ok-report_program-clause-comes
 returns-in-Ok-report_program-clause-comes g c =
     reported_files (g.F.Files.bytes c.args.files.now) (g.F.Files.bytes c.read_shop.new.files) c.args.options.now c.in-Ok.shop _ (g.W.Sink.written c.args.output.now) (g.W.Sink.written c.report_program.new.output) (Ok tt)
-    c.in-Ok.ensures.said c.read_shop.ensures.keeps c.in-Ok-source.ensures.bytes c.in-Ok-report_program.ensures.reports
+    c.in-Ok.ensures.said c.read_shop.ensures.keeps c.in-Ok-source.ensures.bytes (asked c.args.options.now c.in-Ok.shop c.request_of.result _ _ _ (Ok tt) c.request_of.ensures c.in-Ok-report_program.ensures.reports)
 
 pub returns-clause-comes : goal.returns-clause-comes
 returns-clause-comes g c =
     reported_files (g.F.Files.bytes c.args.files.now) (g.F.Files.bytes c.read_shop.new.files) c.args.options.now c.in-Ok.shop _ (g.W.Sink.written c.args.output.now) (g.W.Sink.written c.report_program.new.output) (Err c.in-Err-report_program.fault)
-    c.in-Ok.ensures.said c.read_shop.ensures.keeps c.in-Ok-source.ensures.bytes c.in-Err-report_program.ensures.reports
+    c.in-Ok.ensures.said c.read_shop.ensures.keeps c.in-Ok-source.ensures.bytes (asked c.args.options.now c.in-Ok.shop c.request_of.result _ _ _ (Err c.in-Err-report_program.fault) c.request_of.ensures c.in-Err-report_program.ensures.reports)
 
 pub returns-in-Err-clause-unread : goal.returns-in-Err-clause-unread
 returns-in-Err-clause-unread g c =

@@ -2,7 +2,7 @@ use Rattle.std.proofs.Common.{codes}
 use Rattle.std.specs.Prelude.{decimal}
 use Rattle.ngc_simulator.specs.Times.{time_text}
 use Rattle.ngc_simulator.proofs.Added.{seven_added}
-use Rattle.ngc_simulator.proofs.report_time.add_takes_line.Goals as goal
+use Rattle.ngc_simulator.proofs.report_time.add_takes_words.Goals as goal
 
 pub returns : goal.returns
 returns c =

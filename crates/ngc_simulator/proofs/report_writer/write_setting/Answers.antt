@@ -2,32 +2,32 @@ use Rattle.std.proofs.Common.{ap}
 use Rattle.ngc_fixed_length.proofs.Appended.{appends_both, begins_after}
 use Rattle.ngc_machine.specs.Machine.{file_of}
 use Rattle.ngc_report.specs.Reports.{fit_lines}
-use Rattle.ngc_report.specs.Words.{report_text}
+use Rattle.ngc_report.specs.Forms.{report_text}
 use Rattle.ngc_simulator.proofs.ReportLaws.{appends_as, begins_as, begins_first, begins_last, err_weaker, ok_weaker}
-use Rattle.ngc_simulator.proofs.reporting.write_setting.Goals as goal
+use Rattle.ngc_simulator.proofs.report_writer.write_setting.Goals as goal
 
 pub returns-in-Err-clause-fault : goal.returns-in-Err-clause-fault
-returns-in-Err-clause-fault g c = begins_first _ _ _ _ (begins_as _ _ _ _ c.heading_text.ensures c.in-Err.ensures.fault)
+returns-in-Err-clause-fault g c = begins_first _ _ _ _ c.in-Err.ensures.fault
 
 pub returns-in-Err-write_fit-clause-fault : goal.returns-in-Err-write_fit-clause-fault
 returns-in-Err-write_fit-clause-fault g c =
-    begins_after _ _ _ _ _ _ (appends_as _ _ _ _ c.heading_text.ensures c.in-Ok.ensures.ok)
-    (begins_as _ _ _ _ (ap (λ motions. report_text (fit_lines (file_of c.args.machine.now) c.args.commands.now motions)) c.motions.ensures) c.in-Err-write_fit.ensures.fault)
+    begins_after _ _ _ _ _ _ c.in-Ok.ensures.ok
+    (begins_as _ _ _ _ (ap (λ motions. report_text c.args.form (fit_lines (file_of c.args.machine.now) c.args.commands.now motions)) c.motions.ensures) c.in-Err-write_fit.ensures.fault)
 
 pub returns-in-Err-write_takes_line-clause-fault : goal.returns-in-Err-write_takes_line-clause-fault
 returns-in-Err-write_takes_line-clause-fault g c =
-    let head = appends_as _ _ _ _ c.heading_text.ensures c.in-Ok.ensures.ok in
-    let fits = appends_as _ _ _ _ (ap (λ motions. report_text (fit_lines (file_of c.args.machine.now) c.args.commands.now motions)) c.motions.ensures) c.in-Ok-write_fit.ensures.ok in
+    let head = c.in-Ok.ensures.ok in
+    let fits = appends_as _ _ _ _ (ap (λ motions. report_text c.args.form (fit_lines (file_of c.args.machine.now) c.args.commands.now motions)) c.motions.ensures) c.in-Ok-write_fit.ensures.ok in
     begins_last _ _ _ _ _ head (begins_last _ _ _ _ _ fits (begins_first _ _ _ _ c.in-Err-write_takes_line.ensures.fault))
 
 pub returns-clause-ok : goal.returns-clause-ok
 returns-clause-ok g c =
-    let head = appends_as _ _ _ _ c.heading_text.ensures c.in-Ok.ensures.ok in
-    let fits = appends_as _ _ _ _ (ap (λ motions. report_text (fit_lines (file_of c.args.machine.now) c.args.commands.now motions)) c.motions.ensures) c.in-Ok-write_fit.ensures.ok in
+    let head = c.in-Ok.ensures.ok in
+    let fits = appends_as _ _ _ _ (ap (λ motions. report_text c.args.form (fit_lines (file_of c.args.machine.now) c.args.commands.now motions)) c.motions.ensures) c.in-Ok-write_fit.ensures.ok in
     ok_weaker c.write_warnings.result _ _ (λ wrote. appends_both _ _ _ _ _ head (appends_both _ _ _ _ _ fits (appends_both _ _ _ _ _ c.in-Ok-write_takes_line.ensures.ok wrote))) c.write_warnings.ensures.ok
 
 pub returns-clause-fault : goal.returns-clause-fault
 returns-clause-fault g c =
-    let head = appends_as _ _ _ _ c.heading_text.ensures c.in-Ok.ensures.ok in
-    let fits = appends_as _ _ _ _ (ap (λ motions. report_text (fit_lines (file_of c.args.machine.now) c.args.commands.now motions)) c.motions.ensures) c.in-Ok-write_fit.ensures.ok in
+    let head = c.in-Ok.ensures.ok in
+    let fits = appends_as _ _ _ _ (ap (λ motions. report_text c.args.form (fit_lines (file_of c.args.machine.now) c.args.commands.now motions)) c.motions.ensures) c.in-Ok-write_fit.ensures.ok in
     err_weaker c.write_warnings.result _ _ (λ wrote. begins_last _ _ _ _ _ head (begins_last _ _ _ _ _ fits (begins_last _ _ _ _ _ c.in-Ok-write_takes_line.ensures.ok wrote))) c.write_warnings.ensures.fault

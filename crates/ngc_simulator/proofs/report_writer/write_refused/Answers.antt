@@ -6,19 +6,19 @@ use Rattle.ngc_line_reader.specs.ProgramView.{text_in}
 use Rattle.ngc_machine.specs.Machine.{file_of}
 use Rattle.ngc_simulator.specs.Reporting.{cause_text, told_command}
 use Rattle.ngc_simulator.proofs.ReportLaws.{appends_as, begins_as, begins_first, begins_last, err_weaker, ok_weaker}
-use Rattle.ngc_simulator.proofs.reporting.write_refused.Goals as goal
+use Rattle.ngc_simulator.proofs.report_writer.write_refused.Goals as goal
 
 pub returns-in-Err-clause-fault : goal.returns-in-Err-clause-fault
-returns-in-Err-clause-fault g c = begins_first _ _ _ _ (begins_as _ _ _ _ c.heading_text.ensures c.in-Err.ensures.fault)
+returns-in-Err-clause-fault g c = begins_first _ _ _ _ c.in-Err.ensures.fault
 
 pub returns-clause-ok : goal.returns-clause-ok
 returns-clause-ok g c =
-    let cause : Option ℕ → Option ℕ → List ℕ = λ told fixture. cause_text (file_of c.args.machine.now) c.args.commands.now told fixture (text_in c.args.program.now).lines in
+    let cause : Option ℕ → Option ℕ → List ℕ = λ told fixture. cause_text c.args.form (file_of c.args.machine.now) c.args.commands.now told fixture (text_in c.args.program.now).lines in
     let is = ap (λ told. cause told c.met_at-fixture.result) c.told_command-told.ensures ∙ ap (cause (told_command (place_fault (file_of c.args.machine.now) None (grid (file_of c.args.machine.now).step (file_of c.args.machine.now).start)) c.args.command)) c.met_at-fixture.ensures in
-    ok_weaker c.write_cause.result _ _ (λ wrote. appends_both _ _ _ _ _ (appends_as _ _ _ _ c.heading_text.ensures c.in-Ok.ensures.ok) (appends_as _ _ _ _ is wrote)) c.write_cause.ensures.ok
+    ok_weaker c.write_cause.result _ _ (λ wrote. appends_both _ _ _ _ _ c.in-Ok.ensures.ok (appends_as _ _ _ _ is wrote)) c.write_cause.ensures.ok
 
 pub returns-clause-fault : goal.returns-clause-fault
 returns-clause-fault g c =
-    let cause : Option ℕ → Option ℕ → List ℕ = λ told fixture. cause_text (file_of c.args.machine.now) c.args.commands.now told fixture (text_in c.args.program.now).lines in
+    let cause : Option ℕ → Option ℕ → List ℕ = λ told fixture. cause_text c.args.form (file_of c.args.machine.now) c.args.commands.now told fixture (text_in c.args.program.now).lines in
     let is = ap (λ told. cause told c.met_at-fixture.result) c.told_command-told.ensures ∙ ap (cause (told_command (place_fault (file_of c.args.machine.now) None (grid (file_of c.args.machine.now).step (file_of c.args.machine.now).start)) c.args.command)) c.met_at-fixture.ensures in
-    err_weaker c.write_cause.result _ _ (λ wrote. begins_last _ _ _ _ _ (appends_as _ _ _ _ c.heading_text.ensures c.in-Ok.ensures.ok) (begins_as _ _ _ _ is wrote)) c.write_cause.ensures.fault
+    err_weaker c.write_cause.result _ _ (λ wrote. begins_last _ _ _ _ _ c.in-Ok.ensures.ok (begins_as _ _ _ _ is wrote)) c.write_cause.ensures.fault
