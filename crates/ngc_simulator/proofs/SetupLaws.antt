@@ -1,11 +1,17 @@
 -- What is said of a file's text, and of what the files of a run say.
-use Rattle.std.proofs.Common.{◌≡◌, ℕ, List, [], Option, Some, None, Result, Ok, IfSome, subst, ◌∙◌}
+use Rattle.std.proofs.Common.{◌≡◌, ℕ, List, [], Option, Some, None, Result, Ok, Err, IfSome, refl, subst, sym, ◌∙◌}
+use Rattle.std.specs.Prelude.{IsOk}
 use Rattle.ngc_canonical.specs.State.{Setup}
-use Rattle.ngc_machine.specs.Machine.{row_machine}
+use Rattle.ngc_machine.specs.Machine.{MachineFile, row_machine}
 use Rattle.ngc_machine.specs.MachineText.{machine_file}
 use Rattle.ngc_machine.specs.ToolText.{tool_table}
 use Rattle.ngc_machine.specs.declared.fault.FileFault.{FileFault}
-use Rattle.ngc_simulator.specs.Setups.{FileBytes, IfSaid, KeepsFiles, IfMachine, IfTools, OnSetup, AreSetup}
+use Rattle.ngc_machine.specs.declared.tools.Tool.{Tool}
+use Rattle.ngc_simulator.specs.Setups.{FileBytes, IfSaid, KeepsFiles, IfMachine, IfTools, OnSetup, AreSetup, GivesSetup}
+use Rattle.ngc_simulator.specs.Shops.{RefusesShop, tools_answer}
+use Rattle.ngc_simulator.specs.declared.fault.AnswerFault.{AnswerFault}
+use Rattle.ngc_simulator.specs.declared.fault.SetupFault.{SetupFault}
+use Rattle.ngc_simulator.specs.declared.fault.SetupFault.TheVariants.{Refused, Unread}
 
 -- of the bytes that were read, and so of those of the file
 pub carried : (known : Option (List ℕ)) (items slice : List ℕ) (P : List ℕ → Type 0) → slice ≡ items → IfSome known (λ bytes. items ≡ bytes) → P slice → IfSome known P
@@ -42,3 +48,15 @@ on_setup bytes machine tools setup P machine_said tools_said p =
 -- of a file's bytes, from a source that gives them
 pub of_file : (known source : Option (List ℕ)) (P : List ℕ → Type 0) → source ≡ known → IfSome source P → IfSome known P
 of_file known source P is p = subst (λ (k : Option (List ℕ)). IfSome k P) is p
+
+-- a tool table that is refused behind a machine file that was read
+pub refused_tools : {X : Type 0} (view : X → List Tool) (bytes after : FileBytes) (machine tools : Option (List ℕ)) (m : MachineFile) (fault : SetupFault) (answer : AnswerFault)
+    → answer ≡ tools_answer fault → IfMachine bytes machine (λ says. says ≡ Ok m) → KeepsFiles bytes after → IfTools after tools (GivesSetup view (Err fault))
+    → RefusesShop bytes machine tools answer
+refused_tools view bytes after machine tools m fault answer is read keeps refused = subst (RefusesShop bytes machine tools) (sym is) (of_fault fault refused) where
+  of_fault : (fault : SetupFault) → IfTools after tools (GivesSetup view (Err fault)) → RefusesShop bytes machine tools (tools_answer fault)
+  of_fault (Refused e) refused = (
+    said_weaker machine_file row_machine bytes machine (λ says. says ≡ Ok m) IsOk (λ says is_m. subst IsOk (sym is_m) refl) read,
+    said_before tool_table [] bytes after tools (GivesSetup view (Err (Refused e))) keeps refused,
+  )
+  of_fault (Unread e) refused = tt

@@ -45,6 +45,7 @@ use Rattle.ngc_simulator.specs.Running.{Runs, RunsThrough, FailsByRunning}
 use Rattle.ngc_canonical.specs.State.{Setup}
 use Rattle.ngc_simulator.specs.Setups.{FileBytes, OnSetup}
 use Rattle.ngc_simulator.specs.Shops.{RefusesShop}
+use Rattle.ngc_simulator.specs.Mistaken.{TellsRefusal}
 use Rattle.ngc_simulator.specs.Times.{time_line}
 use Rattle.ngc_simulator.specs.Unread.{Input, OfProgram, OfCertificate, OfEvents, shop_inputs, FailsByInput}
 
@@ -149,16 +150,18 @@ DrawComes bytes options (Some view) old new (Err fault) = StopsEarly bytes (Some
 abbrev pub ShowComes : FileBytes → ShowOptions → Option (List ℕ) → Option (List ℕ) → Result Done AnswerFault → Type 0
 ShowComes bytes options old new (Ok Quietly) = ShowsOn bytes options old new (Ok tt)
 ShowComes bytes options old new (Ok (RunThrough time)) = ⊥
-ShowComes bytes options old new (Err (answers.Show fault)) = ShowsOn bytes options old new (Err fault)
+ShowComes bytes options old new (Err (answers.Show fault)) =
+    ShowsOn bytes options old new (Err fault)
+    ⊎ TellsRefusal bytes (Some options.machine.now) (option_map (λ name. name.now) options.tools) old new (answers.Show fault)
 ShowComes bytes options old new (Err fault) =
-    StopsEarly bytes (Some options.machine.now) (option_map (λ name. name.now) options.tools) old new fault
+    TellsRefusal bytes (Some options.machine.now) (option_map (λ name. name.now) options.tools) old new fault
 
 -- its faults are those of certifying
 abbrev pub ReportComes : FileBytes → ReportOptions → Option (List ℕ) → Option (List ℕ) → Result Done AnswerFault → Type 0
 ReportComes bytes options old new (Ok Quietly) = ReportsOn bytes options old new (Ok tt)
 ReportComes bytes options old new (Ok (RunThrough time)) = ⊥
 ReportComes bytes options old new (Err (answers.Certify fault)) = ReportsOn bytes options old new (Err fault)
-ReportComes bytes options old new (Err fault) = StopsEarly bytes (Some options.machine.now) (Some options.tools.now) old new fault
+ReportComes bytes options old new (Err fault) = TellsRefusal bytes (Some options.machine.now) (Some options.tools.now) old new fault
 
 -- the run's ticks, and how many of them its machine gives a second
 pub record IsTimeOf (setup : Setup) (report : Report) (time : RunTime) : Type 0 where

@@ -9,6 +9,7 @@ pub mod Showing
 pub mod Reporting
 pub mod Setups
 pub mod Shops
+pub mod Mistaken
 pub mod Status
 pub mod Answers
 pub mod Unread

@@ -1,5 +1,5 @@
 -- What reading the machine file and the tool table comes to.
-use Rattle.std.specs.Prelude.{◌≡◌, ℕ, List, Option, Result, Ok, Err}
+use Rattle.std.specs.Prelude.{◌≡◌, ℕ, List, Option, Result, Ok, Err, IsOk}
 use Rattle.ngc_machine.specs.Machine.{file_of}
 use Rattle.ngc_machine.specs.Tools.{tools_of}
 use Rattle.ngc_simulator.specs.declared.fault.AnswerFault.{AnswerFault}
@@ -17,10 +17,10 @@ abbrev pub tools_answer : SetupFault → AnswerFault
 tools_answer (Refused e) = answers.Tools e
 tools_answer (Unread e) = answers.Input e
 
--- a refusal of one of the two files is that file's
+-- a refusal of one of the two files is that file's, and a tool table is refused behind a machine file that isn't
 abbrev pub RefusesShop : FileBytes → Option (List ℕ) → Option (List ℕ) → AnswerFault → Type 0
 RefusesShop bytes machine tools (answers.Machine e) = IfMachine bytes machine (Refuses e)
-RefusesShop bytes machine tools (answers.Tools e) = IfTools bytes tools (Refuses e)
+RefusesShop bytes machine tools (answers.Tools e) = IfMachine bytes machine IsOk × IfTools bytes tools (Refuses e)
 RefusesShop bytes machine tools (answers.Input e) = Unit {0}
 RefusesShop bytes machine tools (answers.List e) = ⊥
 RefusesShop bytes machine tools (answers.Certify e) = ⊥

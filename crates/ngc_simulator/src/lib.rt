@@ -11,6 +11,7 @@ mod files;
 mod guide;
 mod lister;
 mod listing;
+mod mistaken_files;
 mod opening;
 mod program;
 mod report;

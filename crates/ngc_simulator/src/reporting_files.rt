@@ -6,9 +6,9 @@ ghost use Rattle.ngc_simulator.specs.Unread.{FailsByInput, SourceFails};
 use crate::done::Done;
 use crate::fault::AnswerFault;
 use crate::files::Files;
+use crate::mistaken_files::read_shop_telling;
 use crate::reporting::report_program;
 use crate::request::ReportRequest;
-use crate::setup::read_shop;
 use ngc_command_line::ReportOptions;
 use ngc_fixed_length::Sink;
 use ngc_input::InputFault;
@@ -31,7 +31,8 @@ fn request_of(options: &ReportOptions<'_>) -> ReportRequest
     }
 }
 
-/// The report of a program. Its faults are those of a certificate that isn't made.
+/// The report of a program. Its faults are those of a certificate that isn't made. Of a machine file or a tool table that is refused
+/// the mistake is written.
 pub(crate) fn report_files<F: Files, W: Sink>(
     alloc: Global,
     options: &ReportOptions<'_>,
@@ -42,7 +43,7 @@ pub(crate) fn report_files<F: Files, W: Sink>(
     ensures unread { FailsByInput (SourceFails F.R.remaining F.R.failures) (F.bytes files.old) (report_inputs options.now) (F.failures files.old) (F.failures files.new) result }
     ensures sink { FailsByOutput result (W.failures output.old) (W.failures output.new) }
 {
-    let shop = match read_shop(alloc, Some(options.machine), Some(options.tools), files) {
+    let shop = match read_shop_telling(alloc, options.machine, Some(options.tools), files, output) {
         Ok(shop) => shop,
         Err(fault) => return Err(fault),
     };

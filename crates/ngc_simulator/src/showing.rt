@@ -5,13 +5,13 @@ ghost use Rattle.ngc_simulator.specs.Unread.{FailsByInput, SourceFails};
 use crate::done::Done;
 use crate::fault::AnswerFault;
 use crate::files::Files;
-use crate::setup::read_shop;
+use crate::mistaken_files::read_shop_telling;
 use ngc_command_line::ShowOptions;
 use ngc_fixed_length::Sink;
 use ngc_setup_sheet::write_sheet;
 use std::alloc::Global;
 
-/// A setup sheet. Both files are read before anything is written.
+/// A setup sheet. Both files are read before anything is written, and of one that is refused the mistake is.
 pub(crate) fn show_files<F: Files, W: Sink>(
     alloc: Global,
     options: &ShowOptions<'_>,
@@ -22,7 +22,7 @@ pub(crate) fn show_files<F: Files, W: Sink>(
     ensures unread { FailsByInput (SourceFails F.R.remaining F.R.failures) (F.bytes files.old) (show_inputs options.now) (F.failures files.old) (F.failures files.new) result }
     ensures sink { FailsByOutput result (W.failures output.old) (W.failures output.new) }
 {
-    let shop = match read_shop(alloc, Some(options.machine), options.tools, files) {
+    let shop = match read_shop_telling(alloc, options.machine, options.tools, files, output) {
         Ok(shop) => shop,
         Err(fault) => return Err(fault),
     };

@@ -1,4 +1,4 @@
-use Rattle.std.proofs.Common.{ℕ, List, Option, Some, Result, Ok, Err, subst}
+use Rattle.std.proofs.Common.{ℕ, List, Option, Some, Result, Ok, Err, inl, subst}
 use Rattle.std.specs.Prelude.{option_map}
 use Rattle.std.specs.Io.KnownBytes.{Appends}
 use Rattle.ngc_canonical.specs.Interpreter.{setup_of}
@@ -25,14 +25,17 @@ shown bytes options shop old new outcome said shows =
 
 pub returns-in-Ok-write_sheet-clause-comes : goal.returns-in-Ok-write_sheet-clause-comes
 returns-in-Ok-write_sheet-clause-comes g c =
-    let old = g.W.Sink.written c.args.output.now in
+    let old = g.W.Sink.written c.read_shop_telling.new.output in
     let new = g.W.Sink.written c.write_sheet.new.sink in
-    shown (g.F.Files.bytes c.args.files.now) c.args.options.now c.in-Ok.shop old new (Ok tt) c.in-Ok.ensures.said
-    (subst (λ (ts : List Tool). Appends old new (sheet_text (file_of c.in-Ok.shop.machine) ts)) c.tools.ensures.tools c.in-Ok-write_sheet.ensures.ok)
+    subst (λ (o : Option (List ℕ)). ShowsOn (g.F.Files.bytes c.args.files.now) c.args.options.now o new (Ok tt)) c.in-Ok.ensures.said.1
+    (shown (g.F.Files.bytes c.args.files.now) c.args.options.now c.in-Ok.shop old new (Ok tt) c.in-Ok.ensures.said.0
+    (subst (λ (ts : List Tool). Appends old new (sheet_text (file_of c.in-Ok.shop.machine) ts)) c.tools.ensures.tools c.in-Ok-write_sheet.ensures.ok))
 
 pub returns-clause-comes : goal.returns-clause-comes
 returns-clause-comes g c =
-    let old = g.W.Sink.written c.args.output.now in
+    let old = g.W.Sink.written c.read_shop_telling.new.output in
     let new = g.W.Sink.written c.write_sheet.new.sink in
-    shown (g.F.Files.bytes c.args.files.now) c.args.options.now c.in-Ok.shop old new (Err c.in-Err-write_sheet.fault) c.in-Ok.ensures.said
-    (subst (λ (ts : List Tool). AppendsBeginning old new (sheet_text (file_of c.in-Ok.shop.machine) ts)) c.tools.ensures.tools c.in-Err-write_sheet.ensures.fault)
+    inl
+    (subst (λ (o : Option (List ℕ)). ShowsOn (g.F.Files.bytes c.args.files.now) c.args.options.now o new (Err c.in-Err-write_sheet.fault)) c.in-Ok.ensures.said.1
+    (shown (g.F.Files.bytes c.args.files.now) c.args.options.now c.in-Ok.shop old new (Err c.in-Err-write_sheet.fault) c.in-Ok.ensures.said.0
+    (subst (λ (ts : List Tool). AppendsBeginning old new (sheet_text (file_of c.in-Ok.shop.machine) ts)) c.tools.ensures.tools c.in-Err-write_sheet.ensures.fault)))

@@ -1,0 +1,48 @@
+-- What is told of a machine file or a tool table that is refused. Our own.
+use Rattle.std.specs.Prelude.{◌≡◌, ◌≢◌, ◌⊎◌, ℕ, List, Option, Some, Result, Ok, Err, IfSome, IsSomeAnd}
+use Rattle.std.specs.Io.KnownBytes.{Appends, Keeps}
+use Rattle.ngc_fixed_length.specs.Failures.{Rises}
+use Rattle.ngc_fixed_length.specs.Written.{AppendsBeginning}
+use Rattle.ngc_machine.specs.declared.fault.FileFault.{FileFault}
+use Rattle.ngc_machine.specs.declared.fault.FileFault.TheVariants.{Memory}
+use Rattle.ngc_setup_sheet.specs.Mistakes.{machine_mistake_text, tools_mistake_text}
+use Rattle.ngc_simulator.specs.declared.fault.AnswerFault.{AnswerFault}
+use Rattle.ngc_simulator.specs.declared.fault.AnswerFault.TheVariants as answers
+use Rattle.ngc_simulator.specs.declared.setup.Shop.{Shop}
+use Rattle.ngc_simulator.specs.Setups.{FileBytes}
+use Rattle.ngc_simulator.specs.Shops.{GivesShop, RefusesShop}
+
+-- P of the text that tells a file's mistake, where the file is known; that memory runs out is no mistake of it
+abbrev pub OfText : (List ℕ → FileFault → List ℕ) → FileFault → Option (List ℕ) → (List ℕ → Type 0) → Type 0
+OfText text e known P = (e ≢ Memory) × IfSome known (λ bytes. P (text bytes e))
+
+-- the same of the one of two files that is refused
+abbrev pub OfMistake : FileBytes → Option (List ℕ) → Option (List ℕ) → AnswerFault → (List ℕ → Type 0) → Type 0
+OfMistake bytes machine tools (answers.Machine e) P = IsSomeAnd machine (λ name. OfText machine_mistake_text e (bytes (Some name)) P)
+OfMistake bytes machine tools (answers.Tools e) P = IsSomeAnd tools (λ name. OfText tools_mistake_text e (bytes (Some name)) P)
+OfMistake bytes machine tools fault P = ⊥
+
+-- A file that is refused has its mistake told, or nothing where memory ran out; and where the sink failed, a beginning of it.
+-- A file that isn't read leaves what was written as it was.
+abbrev pub TellsRefusal : FileBytes → Option (List ℕ) → Option (List ℕ) → Option (List ℕ) → Option (List ℕ) → AnswerFault → Type 0
+TellsRefusal bytes machine tools old new (answers.Show fault) =
+    (refused : AnswerFault) × RefusesShop bytes machine tools refused × OfMistake bytes machine tools refused (AppendsBeginning old new)
+TellsRefusal bytes machine tools old new fault =
+    RefusesShop bytes machine tools fault × (Keeps old new ⊎ OfMistake bytes machine tools fault (Appends old new))
+
+-- the two files' machine and tools, with nothing written, or what is told in their place
+abbrev pub GivesTold : FileBytes → Option (List ℕ) → Option (List ℕ) → Option (List ℕ) → Option (List ℕ) → Result Shop AnswerFault → Type 0
+GivesTold bytes machine tools old new (Ok shop) = GivesShop bytes machine tools (Ok shop) × (new ≡ old)
+GivesTold bytes machine tools old new (Err fault) = TellsRefusal bytes machine tools old new fault
+
+-- what telling one file's mistake comes to, where the file may not be read again
+abbrev pub TellsMistake : ((List ℕ → Type 0) → Type 0) → Option (List ℕ) → Option (List ℕ) → Result (Unit {0}) AnswerFault → Type 0
+TellsMistake Of old new (Ok u) = Keeps old new ⊎ Of (Appends old new)
+TellsMistake Of old new (Err (answers.Show fault)) = Of (AppendsBeginning old new)
+TellsMistake Of old new (Err (answers.Input fault)) = Keeps old new
+TellsMistake Of old new (Err fault) = ⊥
+
+-- the sink's count of failures rose where the write failed
+abbrev pub FailsByTelling : {T : Type 0} → Result T AnswerFault → ℕ → ℕ → Type 0
+FailsByTelling (Err (answers.Show fault)) old new = Rises old new
+FailsByTelling outcome old new = new ≡ old

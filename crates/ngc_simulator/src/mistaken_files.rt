@@ -1,0 +1,101 @@
+//! The mistake of a machine file or a tool table that is refused, told before its fault.
+ghost use Rattle.std.specs.Prelude.{Some, option_map, IsSomeAnd};
+ghost use Rattle.ngc_setup_sheet.specs.Mistakes.{machine_mistake_text, tools_mistake_text};
+ghost use Rattle.ngc_simulator.specs.Mistaken.{FailsByTelling, GivesTold, OfText, TellsMistake};
+ghost use Rattle.ngc_simulator.specs.Setups.{KeepsFiles};
+ghost use Rattle.ngc_simulator.specs.Unread.{FailsByInput, OfMachine, OfTools, SourceFails, setup_input, shop_inputs};
+
+use crate::fault::AnswerFault;
+use crate::files::Files;
+use crate::setup::{Shop, bytes_of, read_shop};
+use ngc_fixed_length::Sink;
+use ngc_input::InputFault;
+use ngc_machine::FileFault;
+use ngc_setup_sheet::{write_machine_mistake, write_tools_mistake};
+use std::alloc::Global;
+
+// Of the file's bytes, which are read once more. Nothing is written where memory runs out.
+fn tell_machine_mistake<F: Files, W: Sink>(
+    alloc: Global,
+    name: &str,
+    fault: FileFault,
+    files: &mut F,
+    output: &mut W,
+) -> Result<(), AnswerFault>
+    ensures tells { TellsMistake (OfText machine_mistake_text fault (F.bytes files.old (Some name.now))) (W.written output.old) (W.written output.new) result }
+    ensures keeps { KeepsFiles (F.bytes files.old) (F.bytes files.new) }
+    ensures unread { FailsByInput (SourceFails F.R.remaining F.R.failures) (F.bytes files.old) (setup_input OfMachine (Some name.now)) (F.failures files.old) (F.failures files.new) result }
+    ensures sink { FailsByTelling result (W.failures output.old) (W.failures output.new) }
+{
+    if fault == FileFault::Memory {
+        return Ok(());
+    }
+    let bytes = match bytes_of(alloc, name, files) {
+        Ok(bytes) => bytes,
+        Err(InputFault::Device) => return Err(AnswerFault::Input(InputFault::Device)),
+        Err(InputFault::Memory | InputFault::TooLong) => return Ok(()),
+    };
+    match write_machine_mistake(alloc, bytes.as_slice(), fault, output) {
+        Ok(()) => Ok(()),
+        Err(fault) => Err(AnswerFault::Show(fault)),
+    }
+}
+
+fn tell_tools_mistake<F: Files, W: Sink>(
+    alloc: Global,
+    name: &str,
+    fault: FileFault,
+    files: &mut F,
+    output: &mut W,
+) -> Result<(), AnswerFault>
+    ensures tells { TellsMistake (OfText tools_mistake_text fault (F.bytes files.old (Some name.now))) (W.written output.old) (W.written output.new) result }
+    ensures keeps { KeepsFiles (F.bytes files.old) (F.bytes files.new) }
+    ensures unread { FailsByInput (SourceFails F.R.remaining F.R.failures) (F.bytes files.old) (setup_input OfTools (Some name.now)) (F.failures files.old) (F.failures files.new) result }
+    ensures sink { FailsByTelling result (W.failures output.old) (W.failures output.new) }
+{
+    if fault == FileFault::Memory {
+        return Ok(());
+    }
+    let bytes = match bytes_of(alloc, name, files) {
+        Ok(bytes) => bytes,
+        Err(InputFault::Device) => return Err(AnswerFault::Input(InputFault::Device)),
+        Err(InputFault::Memory | InputFault::TooLong) => return Ok(()),
+    };
+    match write_tools_mistake(alloc, bytes.as_slice(), fault, output) {
+        Ok(()) => Ok(()),
+        Err(fault) => Err(AnswerFault::Show(fault)),
+    }
+}
+
+/// The machine and its tools, as `read_shop` reads them, or the fault for which there are none. Where it refuses a file, the
+/// file's mistake is written first: 901 where the file isn't read a second time, 902 where the write fails.
+pub(crate) fn read_shop_telling<F: Files, W: Sink>(
+    alloc: Global,
+    machine: &str,
+    tools: Option<&str>,
+    files: &mut F,
+    output: &mut W,
+) -> Result<Shop, AnswerFault>
+    ensures said { GivesTold (F.bytes files.old) (Some machine.now) (option_map (λ n. n.now) tools.entry) (W.written output.old) (W.written output.new) result }
+    ensures keeps { KeepsFiles (F.bytes files.old) (F.bytes files.new) }
+    // The first that isn't read can't be opened, its source fails, or it is too long.
+    ensures unread { FailsByInput (SourceFails F.R.remaining F.R.failures) (F.bytes files.old) (shop_inputs (Some machine.now) (option_map (λ n. n.now) tools.entry)) (F.failures files.old) (F.failures files.new) result }
+    ensures sink { FailsByTelling result (W.failures output.old) (W.failures output.new) }
+{
+    match (read_shop(alloc, Some(machine), tools, files), tools) {
+        (Ok(shop), _) => Ok(shop),
+        (Err(AnswerFault::Machine(fault)), _) => {
+            match tell_machine_mistake(alloc, machine, fault, files, output) {
+                Ok(()) => Err(AnswerFault::Machine(fault)),
+                Err(fault) => Err(fault),
+            }
+        }
+        (Err(AnswerFault::Tools(fault)), Some(tools)) => {
+            match tell_tools_mistake(alloc, tools, fault, files, output) {
+                Ok(()) => Err(AnswerFault::Tools(fault)),
+                Err(fault) => Err(fault),
+            }
+        }
+        (Err(fault), _) => Err(fault),
+    }
+}
