@@ -2,7 +2,7 @@
 use super::checks::{holds, same};
 use super::{MACHINE, Outcome, SomeFiles, TOOLS, Texts, on_the_mill, outcome_of, status_of};
 use ngc_fixed_length::Device;
-use ngc_simulator::{Options, ReportOptions};
+use ngc_simulator::{Options, ReportOptions, ShowOptions};
 use ngc_test_devices::FailingSink;
 use serde_json::Value;
 use std::alloc::Global;
@@ -241,6 +241,27 @@ const REPORTS: &[(&str, &str, u8, &str, &str)] = &[
         3,
         WORD_MISSING,
         "ngc: fault 311 setting off fault 208 line 1\n",
+    ),
+    ("", "M2\n", 3, NO_VERSION, "ngc: fault 269 machine\n"),
+];
+
+const NO_VERSION: &str =
+    "The key `version` is missing. Asked is 1, or 2 where the file has `axis_rate`: the version of this format.
+";
+
+const WRONG_VERSION: &str =
+    "The key `version` is refused. Asked is 1, or 2 where tools have `parts`: the version of this format.
+Line 1: version = 3
+";
+
+// A machine file and a tool table, of which one is refused, and what `ngc show` prints of that.
+const REFUSED_FILES: &[(&str, &str, &str, &str)] = &[
+    ("", TOOLS, NO_VERSION, "ngc: fault 269 machine\n"),
+    (
+        MACHINE,
+        "version = 3\n",
+        WRONG_VERSION,
+        "ngc: fault 261 tools\n",
     ),
 ];
 
@@ -492,6 +513,23 @@ fn reports_of_all_commands(rt: HostRuntime) {
 #[test]
 fn reports_as_documents(rt: HostRuntime) {
     are_reported(&rt, rt.alloc(), report_of(None, false, true), FACTS);
+}
+
+#[test]
+fn refused_files_are_shown(rt: HostRuntime) {
+    let options = Options::Show(ShowOptions {
+        machine: "machine",
+        tools: Some("tools"),
+    });
+    for (machine, tools, output, errors) in REFUSED_FILES {
+        let texts = Texts {
+            machine: machine.as_bytes(),
+            tools: tools.as_bytes(),
+            ..on_the_mill("M2\n")
+        };
+        let found = outcome_of(rt.alloc(), texts, &options);
+        found.is(&rt, 3, output, errors, errors);
+    }
 }
 
 // Another parser reads them, and finds the version.
