@@ -2,7 +2,7 @@ use crate::checks::same;
 use crate::given::{BESIDE_THE_LINE, machine_with, point};
 use ngc_canonical::{Action, Command, Motion, Pace, Way};
 use ngc_certificate::{Setting, make};
-use ngc_report::{write_fit, write_refusal};
+use ngc_report::{Form, write_fit, write_refusal};
 use ngc_test_devices::FailingSink;
 use std::process::Abort;
 use std::test::Fail;
@@ -45,6 +45,7 @@ fn a_program_that_fits(rt: HostRuntime) -> Result<(), Fail> {
     let certificate = make(rt.alloc(), &commands, &commands, &machine, 8)?;
     let mut sink = FailingSink::new(rt.alloc(), 100, 10_000);
     write_fit(
+        Form::Words,
         &machine,
         &commands,
         certificate.motions(Setting::Off),
@@ -64,7 +65,7 @@ fn a_motion_that_goes_too_far(rt: HostRuntime) -> Result<(), Fail> {
     let machine = machine_with(rt.alloc(), BESIDE_THE_LINE)?;
     let commands = [traverse(&rt, 302_500_000, 0)];
     let mut sink = FailingSink::new(rt.alloc(), 100, 10_000);
-    write_refusal(&machine, &commands, Some(0), None, &mut sink)?;
+    write_refusal(Form::Words, &machine, &commands, Some(0), None, &mut sink)?;
     same(
         &rt,
         &"too far",
