@@ -5,4 +5,5 @@ pub mod Step
 pub mod Run
 pub mod Safety
 pub mod Progress
+pub mod Stretch
 pub mod Headline

@@ -5,3 +5,4 @@ pub mod Panel
 pub mod Drive
 pub mod Fields
 pub mod Opening
+pub mod Coasting

@@ -1,21 +1,25 @@
-ghost use Rattle.std.specs.Prelude.{◌≡◌, ◌≤◌, ◌++◌, ◌∷◌, [], true, false, Ok, IfOk, IfErr, OnErr};
+ghost use Rattle.std.specs.Prelude.{◌≡◌, ◌≤◌, ◌++◌, ◌∷◌, [], replicate, true, false, None, Ok, IfOk, IfErr, OnErr};
 ghost use Rattle.circular_buffer.specs.Buffer.{keep_last};
 ghost use Rattle.ngc_behaviour.specs.Headline.{job_of};
 ghost use Rattle.ngc_behaviour.specs.Progress.{GoesOn, TravelsAtLeast};
 ghost use Rattle.ngc_behaviour.specs.State.{opening, command_at, loaded};
+ghost use Rattle.ngc_behaviour.specs.Stretch.{Stretch};
 ghost use Rattle.ngc_behaviour.specs.Step.{Step, LoadCommand, Rests, Serves, TickBy};
 ghost use Rattle.ngc_checker.specs.Accepted.{commands_at};
+ghost use Rattle.ngc_events.specs.declared.event.Event.TheVariants.{Tick};
+ghost use Rattle.ngc_events.specs.declared.reply.Reply.TheVariants.{Ticked};
+ghost use Rattle.ngc_controller.specs.Coasting.{coasted, CoastsFor};
 ghost use Rattle.ngc_controller.specs.Controller.{KEPT, from_the_last};
 ghost use Rattle.ngc_controller.specs.Fields.{DWELL_LIMIT, TravelsOn, IsServed};
 ghost use Rattle.ngc_controller.specs.Loaded.{AreShort, LoadsShort};
 ghost use Rattle.ngc_controller.specs.Ring.{IsMoving};
 
-use crate::ending::{dwells_on, ending_of, panel_after, tool_after};
+use crate::ending::{dwell_left, dwells_on, ending_of, panel_after, tool_after};
 use crate::panel::Panel;
 use crate::progress::Progress;
 use crate::route::Loaded;
 use circular_buffer::HeapCircularBuffer;
-use ngc_canonical::Action;
+use ngc_canonical::{Action, Command};
 use ngc_checker::{Accepted, MemoryFault};
 use ngc_events::{Ending, Event, EventFault, Reply};
 use ngc_fixed_length::StepPos;
@@ -66,6 +70,19 @@ impl<K: ArcKernel + Drop, A: Allocator> Model for Controller<K, A> {
         × (c.recent.capacity ≡ KEPT) };
 }
 
+// Keeps the replies to so many ticks in which nothing was told.
+fn keep_quiet<A: Allocator>(recent: &mut HeapCircularBuffer<Reply, A>, ticks: u64)
+    requires { recent.old.capacity ≡ KEPT }
+    ensures items { recent.new.items ≡ keep_last KEPT (recent.old.items ++ replicate ticks (Ticked None None)) }
+    ensures capacity { recent.new.capacity ≡ KEPT }
+{
+    // More of them would push each other out.
+    let kept = ticks.min(recent.capacity() as u64);
+    for _ in 0..kept {
+        recent.push_back(QUIET);
+    }
+}
+
 impl<K: ArcKernel + Drop, A: Allocator + Copy> Controller<K, A> {
     /// A controller whose machine stands still at the start point, with nothing loaded and no tool mounted. It takes all its
     /// memory here; where there is too little (900), what was accepted is handed back.
@@ -114,6 +131,85 @@ impl<K: ArcKernel + Drop, A: Allocator + Copy> Controller<K, A> {
             self.recent.push_back(reply);
         }
         outcome
+    }
+
+    /// Gives ticks, at most so many, in which nothing is told: the motion at the head goes on at the rate of the last tick and
+    /// no pulse is due, or the dwell at the head goes on. Answers how many were given, 0 where the next tick may tell
+    /// something. It takes no memory.
+    pub fn coast(&mut self, most: u64) -> u64
+        ensures job { self.new.job ≡ self.old.job }
+        ensures few { result ≤ most }
+        ensures state { self.new.state ≡ coasted result self.old.state }
+        ensures coasts { Stretch self.old.job self.old.state self.new.state (replicate result Tick) (replicate result (Ok (Ticked None None))) }
+        ensures recent { self.new.recent ≡ keep_last KEPT (self.old.recent ++ replicate result (Ticked None None)) }
+    {
+        let ticks = self.go_on(most);
+        keep_quiet(&mut self.recent, ticks);
+        ticks
+    }
+
+    // Ticks by the kind of the head.
+    fn go_on(&mut self, most: u64) -> u64
+        ensures job { self.new.job ≡ self.old.job }
+        ensures recent { self.new.recent ≡ self.old.recent }
+        ensures few { result ≤ most }
+        ensures state { self.new.state ≡ coasted result self.old.state }
+        ensures coasts { CoastsFor self.old.job self.old.state result }
+    {
+        if self.panel.stopped {
+            return 0;
+        }
+        if self.progress.ring.moves() {
+            return self.travel_on(most);
+        }
+        if self.panel.held {
+            return 0;
+        }
+        match self.progress.action() {
+            Some(action) => self.dwell_on(action, most),
+            None => 0,
+        }
+    }
+
+    // The head is a motion with path steps, and goes on at the rate of the last tick.
+    fn travel_on(&mut self, most: u64) -> u64
+        requires moves { IsMoving self.old.state.ring }
+        requires runs { self.old.state.stopped ≡ false }
+        ensures job { self.new.job ≡ self.old.job }
+        ensures recent { self.new.recent ≡ self.old.recent }
+        ensures few { result ≤ most }
+        ensures state { self.new.state ≡ coasted result self.old.state }
+        ensures coasts { CoastsFor self.old.job self.old.state result }
+    {
+        let wish = self.panel.wish(self.progress.drive.target);
+        let ticks = self.progress.drive.ramp.coast(wish, most);
+        if ticks == 0 {
+            return 0;
+        }
+        self.position = self.progress.ring.follow(false);
+        ticks
+    }
+
+    // The head travels nothing, and dwells on.
+    fn dwell_on(&mut self, action: Action, most: u64) -> u64
+        requires head { IsServed self.old.state.ring action }
+        requires runs { self.old.state.stopped ≡ false }
+        requires free { self.old.state.held ≡ false }
+        ensures job { self.new.job ≡ self.old.job }
+        ensures recent { self.new.recent ≡ self.old.recent }
+        ensures few { result ≤ most }
+        ensures state { self.new.state ≡ coasted result self.old.state }
+        ensures coasts { CoastsFor self.old.job self.old.state result }
+    {
+        let machine = self.accepted.machine();
+        let left = dwell_left(&action, self.progress.dwelt, machine.ticks_per_second);
+        let ticks = left.min(u128::from(most)) as u64;
+        if ticks == 0 {
+            return 0;
+        }
+        self.progress.drive.halt();
+        self.progress.dwelt += u128::from(ticks);
+        ticks
     }
 
     // Does what an event asks for.
@@ -266,6 +362,13 @@ impl<K: ArcKernel + Drop, A: Allocator + Copy> Controller<K, A> {
         let effective = self.panel.effective();
         self.progress.aim(effective, self.accepted.machine());
         Ok(Reply::Overridden(percent))
+    }
+
+    /// The commands that it runs.
+    pub fn commands(&self) -> &[Command]
+        ensures { result.now ≡ self.now.job.commands }
+    {
+        self.accepted.commands(self.block_delete)
     }
 
     /// The machine's position, in steps.

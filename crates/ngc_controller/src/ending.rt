@@ -1,5 +1,5 @@
 //! How actions that travel nothing end, and what they leave.
-ghost use Rattle.std.specs.Prelude.{◌≡◌, ◌≤◌, ◌+◌, suc, nat_lt, true, Option};
+ghost use Rattle.std.specs.Prelude.{◌≡◌, ◌≤◌, ◌+◌, ◌-◌, suc, nat_lt, true, Option};
 ghost use Rattle.ngc_behaviour.specs.State.{Job, State};
 ghost use Rattle.ngc_behaviour.specs.Step.{ticks_of, ending};
 ghost use Rattle.ngc_controller.specs.Fields.{DWELL_LIMIT, panel_after, tool_after};
@@ -21,6 +21,22 @@ pub fn dwells_on(action: &Action, dwelt: u128, ticks_per_second: u32) -> bool
             (dwelt + 1) * 1_000_000 < u128::from(*millionths) * u128::from(ticks_per_second)
         }
         _ => false,
+    }
+}
+
+/// How many ticks an action that has dwelt so many dwells on, before the one in which it ends.
+pub fn dwell_left(action: &Action, dwelt: u128, ticks_per_second: u32) -> u128
+    requires { dwelt ≤ DWELL_LIMIT }
+    ensures value { (job : Job) → job.machine.ticks_per_second ≡ ticks_per_second → result ≡ ticks_of job action.now - suc dwelt }
+    ensures brief { dwelt + result ≤ DWELL_LIMIT }
+{
+    match action {
+        // In millionths of a tick.
+        Action::Dwell(millionths) => {
+            let whole = u128::from(*millionths) * u128::from(ticks_per_second);
+            (whole.saturating_sub(1) / 1_000_000).saturating_sub(dwelt)
+        }
+        _ => 0,
     }
 }
 

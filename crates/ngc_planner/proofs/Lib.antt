@@ -1,6 +1,7 @@
 pub mod BoundLaws
 pub mod BrakingLaws
 pub mod CapLaws
+pub mod CoastLaws
 pub mod CoordinateLaws
 pub mod Examples
 pub mod Points
