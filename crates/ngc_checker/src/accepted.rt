@@ -1,11 +1,12 @@
 //! What the checker accepted.
-ghost use Rattle.std.specs.Prelude.{◌≡◌};
+ghost use Rattle.std.specs.Prelude.{◌≡◌, IfOk};
 ghost use Rattle.ngc_machine.specs.Machine.{file_of};
 ghost use Rattle.ngc_machine.specs.Tools.{tools_of};
 ghost use Rattle.ngc_checker.specs.Accepted.{commands_at, IsAccepted};
 ghost use Rattle.ngc_checker.specs.Held.{held};
 
 use ngc_canonical::Command;
+use ngc_certificate::MemoryFault;
 use ngc_machine::{Machine, Tools};
 use std::alloc::Allocator;
 use std::marker::Model;
@@ -76,5 +77,26 @@ impl<A: Allocator> Accepted<A> {
         ensures { tools_of result.now ≡ self.now.tools }
     {
         &self.tools
+    }
+}
+
+impl<A: Allocator + Copy> Accepted<A> {
+    /// The same once more. It fails where memory is refused.
+    pub fn copy(&self, alloc: A) -> Result<Accepted<A>, MemoryFault>
+        ensures { IfOk result (λ a. a ≡ self.now) }
+    {
+        let Ok(machine) = self.machine.copy(alloc) else {
+            return Err(MemoryFault);
+        };
+        let Ok(tools) = self.tools.copy(alloc) else {
+            return Err(MemoryFault);
+        };
+        let Ok(off) = Vec::from_slice(alloc, self.off.as_slice()) else {
+            return Err(MemoryFault);
+        };
+        let Ok(on) = Vec::from_slice(alloc, self.on.as_slice()) else {
+            return Err(MemoryFault);
+        };
+        Ok(Accepted::new(machine, tools, off, on))
     }
 }

@@ -21,7 +21,8 @@ use Rattle.ngc_run_log.specs.declared.trace.Trace.{Trace}
 use Rattle.ngc_run_log.specs.Tracing.{opening_text, trace_text, trace_after, ticks_of, last_text, whole_text}
 use Rattle.ngc_run_log.specs.Forms.{IsTracedRun, IsUntracedRun}
 use Rattle.ngc_run_log.specs.Runs.{last_position, IsRun, Reports}
-use Rattle.ngc_run_log.specs.Recording.{Stretch, Counts, HasFew, Records, IsRecorded, IsCutShort}
+use Rattle.ngc_behaviour.specs.Stretch.{Stretch}
+use Rattle.ngc_run_log.specs.Recording.{Counts, HasFew, Records, IsRecorded, IsCutShort}
 
 -- nothing was given yet: the machine stands in this state, and the recorder is new
 pub record AreNew (first : Trace) (job : Job) (state : State) (recorder : Recorder) : Type 0 where

@@ -18,7 +18,8 @@ use Rattle.ngc_run_log.specs.declared.recorder.Recorder.{Recorder}
 use Rattle.ngc_run_log.specs.Tracing.{trace_text, trace_after, ticks_of}
 use Rattle.ngc_run_log.specs.Runs.{is_refusal, last_position}
 use Rattle.ngc_run_log.specs.declared.trace.Trace.{Trace}
-use Rattle.ngc_run_log.specs.Recording.{last_state, Stretch, Counts, HasFew, Collects, Records, IsRecorded, IsCutShort}
+use Rattle.ngc_behaviour.specs.Stretch.{last_state, Stretch}
+use Rattle.ngc_run_log.specs.Recording.{Counts, HasFew, Collects, Records, IsRecorded, IsCutShort}
 use Rattle.ngc_run_log.proofs.Traces.{trace_text-append, trace_after-append, trace_text-none, trace_after-none, few_ticks}
 
 -- ---- lists

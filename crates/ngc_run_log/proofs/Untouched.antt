@@ -24,7 +24,8 @@ use Rattle.ngc_controller.specs.Loaded.{AreShort}
 use Rattle.ngc_run_log.specs.declared.recorder.Recorder.{Recorder}
 use Rattle.ngc_run_log.specs.Tracing.{trace_text}
 use Rattle.ngc_run_log.specs.Runs.{is_refusal}
-use Rattle.ngc_run_log.specs.Recording.{Stretch, HasFew}
+use Rattle.ngc_behaviour.specs.Stretch.{Stretch}
+use Rattle.ngc_run_log.specs.Recording.{HasFew}
 use Rattle.ngc_run_log.specs.Through.{IsLoadTickOrStart, TellsEnd}
 use Rattle.ngc_run_log.specs.Stretches.{IsUntouched, IsGiven, IsGivenLast, GoesBy, BreaksOff, TicksBy, Works, spent, ending_in, is_stop, does_in, SPENT_LIMIT, TellsBy, TellsHead, GoesBehind, FinishesHead, Finishes}
 use Rattle.ngc_run_log.proofs.Joined.{one_step, stretches_joined, records_joined, begun_behind, begun_more, none_recorded, count_by-append, few_more}
@@ -135,7 +136,7 @@ all_left : (P : Queued → Type 0) (ended : Option Ending) (old new : State) →
 all_left P None old new h a = subst (AllByRecursion P) (sym h.1) a
 all_left P (Some e) old new h a = subst (AllByRecursion P) (sym h.1) (all_behind P old.ring a)
 
-untouched_tick : (job : Job) (old : State) (o : Outcome) (new : State) → IsUntouched job old → Goes old.ring old o new → new.dwelt ≤ DWELL_LIMIT → IsUntouched job new
+pub untouched_tick : (job : Job) (old : State) (o : Outcome) (new : State) → IsUntouched job old → Goes old.ring old o new → new.dwelt ≤ DWELL_LIMIT → IsUntouched job new
 untouched_tick job old o new u g brief = record {
   machine = u.machine;
   not_held = g.held ∙ u.not_held;
@@ -316,7 +317,7 @@ spent_little job s u = omega (arith, u.travelled, u.dwelt)
 
 -- ---- the end told
 
-tells_behind : (xs ys : List Outcome) → TellsEnd ys → TellsEnd (xs ++ ys)
+pub tells_behind : (xs ys : List Outcome) → TellsEnd ys → TellsEnd (xs ++ ys)
 tells_behind xs ys t = (xs ++ t.0, ap (λ l. xs ++ l) t.1 ∙ sym (append_assoc xs t.0 (Ok (Ticked None (Some End)) ∷ [])))
 
 tells_before : (xs ys : List Outcome) → ys ≡ [] → TellsEnd xs → TellsEnd (xs ++ ys)

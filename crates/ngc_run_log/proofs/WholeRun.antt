@@ -20,7 +20,7 @@ use Rattle.ngc_run_log.specs.declared.recorder.Recorder.{Recorder}
 use Rattle.ngc_run_log.specs.declared.trace.Trace.{Trace}
 use Rattle.ngc_run_log.specs.Tracing.{last_text}
 use Rattle.ngc_run_log.specs.Runs.{IsRun, Reports}
-use Rattle.ngc_run_log.specs.Recording.{last_state, Stretch}
+use Rattle.ngc_behaviour.specs.Stretch.{last_state, Stretch}
 use Rattle.ngc_run_log.specs.Forms.{IsTracedThrough, IsTracedOff}
 use Rattle.ngc_run_log.specs.Stretches.{IsUntouched, GoesBy, BreaksOff, Finishes}
 use Rattle.ngc_run_log.proofs.Comes.{AreNew, all_written, all_begun, some_begun, reports}
@@ -40,7 +40,7 @@ opening_untouched job s machine opens =
     } in
     subst (IsUntouched job) (sym opens) here
 
-opens_runs : (job : Job) (s t : State) (events : List Event) (outcomes : List Outcome) → RunsSafely job → RunsInTime job → s ≡ opening job.machine → Stretch job s t events outcomes →
+pub opens_runs : (job : Job) (s t : State) (events : List Event) (outcomes : List Outcome) → RunsSafely job → RunsInTime job → s ≡ opening job.machine → Stretch job s t events outcomes →
     (run : IsRun job events outcomes) × (t ≡ last_state (opening job.machine) run.states)
 opens_runs job s t events outcomes safe in_time opens stretch =
     let R : State → Type 0 = λ x. Run job x events outcomes stretch.states in
@@ -57,11 +57,11 @@ opens_runs job s t events outcomes safe in_time opens stretch =
     (run, stretch.last ∙ ap (λ (x : State). last_state x stretch.states) opens)
 
 -- where the last command stands
-count_to : (before : List Command) (last : Command) → suc (length before) ≡ length (before ++ last ∷ [])
+pub count_to : (before : List Command) (last : Command) → suc (length before) ≡ length (before ++ last ∷ [])
 count_to [] last = refl
 count_to (c ∷ before) last = ap suc (count_to before last)
 
-last_at : (before : List Command) (last : Command) → slice_get (before ++ last ∷ []) (length before) ≡ Some last
+pub last_at : (before : List Command) (last : Command) → slice_get (before ++ last ∷ []) (length before) ≡ Some last
 last_at [] last = refl
 last_at (c ∷ before) last = last_at before last
 

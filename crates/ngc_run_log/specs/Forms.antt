@@ -17,7 +17,7 @@ use Rattle.ngc_run_log.specs.declared.trace.Form.TheVariants.{Log, Pulses}
 use Rattle.ngc_run_log.specs.declared.trace.Trace.{Trace}
 use Rattle.ngc_run_log.specs.Log.{log}
 use Rattle.ngc_run_log.specs.Tracing.{whole_text}
-use Rattle.ngc_run_log.specs.Recording.{last_state}
+use Rattle.ngc_behaviour.specs.Stretch.{last_state}
 use Rattle.ngc_run_log.specs.Runs.{IsRun, Reports}
 use Rattle.ngc_run_log.specs.Through.{IsSmoothRun, TellsEnd}
 

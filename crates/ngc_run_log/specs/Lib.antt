@@ -5,3 +5,4 @@ pub mod Runs
 pub mod Through
 pub mod Forms
 pub mod Stretches
+pub mod Parts

@@ -1,28 +1,17 @@
--- A stretch of a run, as it is recorded on the way: from one state of the machine to a later one. Our own.
+-- What is recorded of a stretch of a run. Our own.
 use Rattle.std.specs.Prelude.{◌≡◌, ℕ, ◌+◌, ◌≤◌, List, [], ◌∷◌, ◌++◌, length, count_by, Option}
 use Rattle.std.specs.Io.KnownBytes.{Appends}
 use Rattle.ngc_fixed_length.specs.Written.{AppendsBeginning}
 use Rattle.ngc_events.specs.declared.event.Event.{Event}
 use Rattle.ngc_behaviour.specs.State.{Job, State}
 use Rattle.ngc_behaviour.specs.Step.{Outcome}
-use Rattle.ngc_behaviour.specs.Run.{Run, positions}
-use Rattle.ngc_behaviour.specs.Progress.{KeepGoing, is_tick}
+use Rattle.ngc_behaviour.specs.Run.{positions}
+use Rattle.ngc_behaviour.specs.Progress.{is_tick}
+use Rattle.ngc_behaviour.specs.Stretch.{Stretch}
 use Rattle.ngc_run_log.specs.declared.report.Report.{Report}
 use Rattle.ngc_run_log.specs.declared.recorder.Recorder.{Recorder}
 use Rattle.ngc_run_log.specs.Tracing.{trace_text, trace_after, ticks_of}
 use Rattle.ngc_run_log.specs.Runs.{is_refusal, last_position}
-
--- the last of these states, or s where there is none
-abbrev pub last_state : State → List State → State
-last_state s [] = s
-last_state s (t ∷ ts) = last_state t ts
-
--- these events lead from a state to another, and each tick that is free to goes on
-pub record Stretch (job : Job) (old new : State) (events : List Event) (outcomes : List Outcome) : Type 0 where
-  pub states : List State
-  pub runs : Run job old events outcomes states
-  pub goes_on : KeepGoing job old events states
-  pub last : new ≡ last_state old states
 
 -- the report's numbers grow by those of these events
 pub record Counts (events : List Event) (outcomes : List Outcome) (old new : Report) : Type 0 where

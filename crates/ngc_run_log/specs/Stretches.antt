@@ -1,5 +1,5 @@
 -- How a run goes on that nobody touches: from one event to a later one. Our own.
-use Rattle.std.specs.Prelude.{◌≡◌, ℕ, suc, slice_get, ◌+◌, ◌*◌, ◌^◌, ◌≤◌, ◌<◌, List, [], ◌∷◌, ◌++◌, length, count_by, Option, None, Some, Ok, Err, Bool, true, false}
+use Rattle.std.specs.Prelude.{◌≡◌, ℕ, suc, slice_get, ◌+◌, ◌-◌, ◌*◌, ◌^◌, ◌≤◌, ◌<◌, List, [], ◌∷◌, ◌++◌, length, count_by, Option, None, Some, Ok, Err, Bool, true, false}
 use Rattle.std.specs.List.{AllByRecursion}
 use Rattle.ngc_fixed_length.specs.Written.{AppendsBeginning}
 use Rattle.ngc_machine.specs.MachineRanges.{IsMachine}
@@ -18,7 +18,8 @@ use Rattle.ngc_controller.specs.Fields.{DWELL_LIMIT}
 use Rattle.ngc_controller.specs.Loaded.{AreShort, LoadsShort}
 use Rattle.ngc_run_log.specs.declared.recorder.Recorder.{Recorder}
 use Rattle.ngc_run_log.specs.Tracing.{trace_text}
-use Rattle.ngc_run_log.specs.Recording.{Stretch, Records}
+use Rattle.ngc_behaviour.specs.Stretch.{Stretch}
+use Rattle.ngc_run_log.specs.Recording.{Records}
 use Rattle.ngc_run_log.specs.Runs.{is_refusal}
 use Rattle.ngc_run_log.specs.Through.{IsLoadTickOrStart, TellsEnd}
 
@@ -110,6 +111,13 @@ pub record Works (old new : State) : Type 0 where
   pub running : new.stopped ≡ false
   pub ring : new.ring ≡ old.ring
   pub spends : spent old < spent new
+
+-- ticks of which nothing is told: the head goes on
+pub record Coasts (old new : ControllerData) (before after : Recorder) (written : Option (List ℕ)) : Type 0 where
+  pub goes : GoesBy (spent new.state - spent old.state) 0 0 old new before after written written
+  pub ring : new.state.ring ≡ old.state.ring
+  pub running : new.state.stopped ≡ false
+  pub spends : spent old.state ≤ spent new.state
 
 -- what a tick leaves, by how a command ended in it: without a stop the machine isn't stopped
 abbrev pub LeavesBy : Option Ending → State → State → Type 0

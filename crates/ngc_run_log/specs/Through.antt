@@ -13,7 +13,7 @@ use Rattle.ngc_run_log.specs.declared.report.Report.{Report}
 use Rattle.ngc_run_log.specs.declared.report.RunFault.{RunFault}
 use Rattle.ngc_run_log.specs.declared.report.RunFault.TheVariants.{Memory, Write}
 use Rattle.ngc_run_log.specs.Log.{log}
-use Rattle.ngc_run_log.specs.Recording.{last_state}
+use Rattle.ngc_behaviour.specs.Stretch.{last_state}
 use Rattle.ngc_run_log.specs.Runs.{is_refusal, IsRun, Reports}
 
 -- nobody touches the panel but to start again

@@ -1,6 +1,8 @@
 //! What is kept of a run while it goes on.
-ghost use Rattle.std.specs.Prelude.{◌≡◌, ◌^◌, ◌++◌, [], ◌∷◌, IfOk, OnOk, OnErr};
+ghost use Rattle.std.specs.Prelude.{◌≡◌, ◌+◌, ◌^◌, ◌++◌, ℕ, List, [], ◌∷◌, replicate, Option, None, Ok, IfOk, OnOk, OnErr};
 ghost use Rattle.std.specs.Io.KnownBytes.{Appends};
+ghost use Rattle.ngc_events.specs.declared.event.Event.TheVariants.{Tick};
+ghost use Rattle.ngc_events.specs.declared.reply.Reply.TheVariants.{Ticked};
 ghost use Rattle.ngc_fixed_length.specs.Failures.{CountsFailure};
 ghost use Rattle.ngc_fixed_length.specs.Written.{AppendsBeginning};
 ghost use Rattle.ngc_run_log.specs.Recording.{HasFew, Records};
@@ -62,7 +64,7 @@ impl Recorder {
             },
         ) = outcome
         {
-            self.trace.rest();
+            self.trace.rest(1);
             return Ok(());
         }
         match self.chunk.make_room(sink) {
@@ -71,6 +73,22 @@ impl Recorder {
         }
         self.trace.tell(outcome, &mut self.chunk);
         Ok(())
+    }
+
+    /// Counts ticks of which nothing is told.
+    pub(crate) fn rest(&mut self, count: u64)
+        requires { HasFew (2 ^ 125 + 2 ^ 102) self.old }
+        ensures { (written : Option (List ℕ)) → Records (replicate count Tick) (replicate count (Ok (Ticked None None))) self.old self.new written written }
+    {
+        self.report.ticks += u128::from(count);
+        self.trace.rest(count);
+    }
+
+    /// How many ticks were given.
+    pub(crate) fn ticks(&self) -> u128
+        ensures { result ≡ self.now.report.ticks }
+    {
+        self.report.ticks
     }
 
     /// Writes the rest of the text, and answers the report.

@@ -1,5 +1,5 @@
 //! A run through a whole program: nobody touches the panel but to start again behind a stop.
-ghost use Rattle.std.specs.Prelude.{◌≡◌, ◌≤◌, ◌<◌, ◌+◌, ◌-◌, ◌*◌, ◌^◌, min, length, false, OnOk, OnErr, IfOk};
+ghost use Rattle.std.specs.Prelude.{◌≡◌, ◌≤◌, ◌<◌, ◌+◌, ◌-◌, ◌*◌, ◌^◌, ℕ, List, Option, min, length, false, OnOk, OnErr, IfOk};
 ghost use Rattle.ngc_behaviour.specs.Headline.{job_of, RunsInTime, RunsSafely};
 ghost use Rattle.ngc_behaviour.specs.State.{RING, loaded, opening};
 ghost use Rattle.ngc_canonical.specs.Joined.{HasEnd};
@@ -10,7 +10,7 @@ ghost use Rattle.ngc_machine.specs.MachineRanges.{IsMachine};
 ghost use Rattle.ngc_run_log.specs.Forms.{GoesThroughAs, IsTracedThrough, IsTracedOff, PulsesGoThrough};
 ghost use Rattle.ngc_run_log.specs.Recording.{HasFew};
 ghost use Rattle.ngc_run_log.specs.Runs.{FailsByWriting};
-ghost use Rattle.ngc_run_log.specs.Stretches.{IsUntouched, IsGiven, IsGivenLast, GoesBy, BreaksOff, TicksBy, GoesBehind, FinishesHead, Finishes, ending_in, is_stop};
+ghost use Rattle.ngc_run_log.specs.Stretches.{IsUntouched, IsGiven, Coasts, IsGivenLast, GoesBy, BreaksOff, TicksBy, GoesBehind, FinishesHead, Finishes, ending_in, is_stop};
 ghost use Rattle.ngc_run_log.specs.Through.{GoesThrough};
 ghost use Rattle.ngc_run_log.specs.Tracing.{ticks_of};
 
@@ -60,6 +60,7 @@ fn load_next<A: Allocator + Copy, W: Sink>(
     requires left { loaded controller.old.state < length controller.old.job.commands }
     requires few { HasFew (2 ^ 126) recorder.old }
     ensures goes { OnOk result (GoesBy 1 1 0 controller.old controller.new recorder.old recorder.new (W.written sink.old) (W.written sink.new)) }
+    ensures still { OnOk result (recorder.new.report.ticks ≡ recorder.old.report.ticks) }
     ensures runs { OnOk result (controller.new.state.stopped ≡ false) }
     ensures fault { OnErr result (BreaksOff controller.old recorder.old (W.written sink.old) (W.written sink.new)) }
     ensures failures { CountsFailure (W.failures sink.old) (W.failures sink.new) result }
@@ -119,6 +120,20 @@ fn tick<A: Allocator + Copy, W: Sink>(
     }
 }
 
+// Gives the ticks that follow of which nothing is told.
+fn coast<A: Allocator + Copy>(controller: &mut Controller<ArcPath, A>, recorder: &mut Recorder)
+    requires untouched { IsUntouched controller.old.job controller.old.state }
+    requires runs { controller.old.state.stopped ≡ false }
+    requires some { 1 ≤ length controller.old.state.ring }
+    requires few { HasFew (2 ^ 125 + 2 ^ 102) recorder.old }
+    ensures { (written : Option (List ℕ)) → Coasts controller.old controller.new recorder.old recorder.new written }
+{
+    let count = controller.coast(u64::MAX);
+    // No command dwells for ever.
+    let _dwelt = controller.dwelt();
+    recorder.rest(count);
+}
+
 // Starts again where a command ended by a stop.
 fn go_on_behind<A: Allocator + Copy, W: Sink>(
     ending: Ending,
@@ -164,11 +179,12 @@ fn finish_head<A: Allocator + Copy, W: Sink>(
         if let Some(ending) = ended {
             return go_on_behind(ending, controller, recorder, sink);
         }
+        coast(controller, recorder);
     }
 }
 
 // Loads so many commands.
-fn fill_ring<A: Allocator + Copy, W: Sink>(
+pub(crate) fn fill_ring<A: Allocator + Copy, W: Sink>(
     controller: &mut Controller<ArcPath, A>,
     count: usize,
     recorder: &mut Recorder,
@@ -180,6 +196,7 @@ fn fill_ring<A: Allocator + Copy, W: Sink>(
     requires runs { controller.old.state.stopped ≡ false }
     requires few { HasFew (2 ^ 120) recorder.old }
     ensures goes { OnOk result (GoesBy count count 0 controller.old controller.new recorder.old recorder.new (W.written sink.old) (W.written sink.new)) }
+    ensures still { OnOk result (recorder.new.report.ticks ≡ recorder.old.report.ticks) }
     ensures runs { OnOk result (controller.new.state.stopped ≡ false) }
     ensures fault { OnErr result (BreaksOff controller.old recorder.old (W.written sink.old) (W.written sink.new)) }
     ensures failures { CountsFailure (W.failures sink.old) (W.failures sink.new) result }
@@ -194,7 +211,7 @@ fn fill_ring<A: Allocator + Copy, W: Sink>(
 }
 
 // Loads so many commands more, each behind the end of one before it.
-fn keep_full<A: Allocator + Copy, W: Sink>(
+pub(crate) fn keep_full<A: Allocator + Copy, W: Sink>(
     controller: &mut Controller<ArcPath, A>,
     count: usize,
     recorder: &mut Recorder,
@@ -206,7 +223,7 @@ fn keep_full<A: Allocator + Copy, W: Sink>(
     requires few_commands { count ≤ COMMAND_LIMIT }
     requires untouched { IsUntouched controller.old.job controller.old.state }
     requires runs { controller.old.state.stopped ≡ false }
-    requires few { HasFew (2 ^ 121) recorder.old }
+    requires few { HasFew (2 ^ 124) recorder.old }
     ensures goes { OnOk result (GoesBy (count * 2 ^ 103) count count controller.old controller.new recorder.old recorder.new (W.written sink.old) (W.written sink.new)) }
     ensures runs { OnOk result (controller.new.state.stopped ≡ false) }
     ensures fault { OnErr result (BreaksOff controller.old recorder.old (W.written sink.old) (W.written sink.new)) }
@@ -226,7 +243,7 @@ fn keep_full<A: Allocator + Copy, W: Sink>(
 }
 
 // Goes on until so many commands are done.
-fn finish<A: Allocator + Copy, W: Sink>(
+pub(crate) fn finish<A: Allocator + Copy, W: Sink>(
     controller: &mut Controller<ArcPath, A>,
     count: usize,
     recorder: &mut Recorder,
@@ -238,6 +255,7 @@ fn finish<A: Allocator + Copy, W: Sink>(
     requires runs { controller.old.state.stopped ≡ false }
     requires few { HasFew (2 ^ 124) recorder.old }
     ensures goes { OnOk result (Finishes (count * 2 ^ 103) 0 count controller.old controller.new recorder.old recorder.new (W.written sink.old) (W.written sink.new)) }
+    ensures runs { OnOk result (controller.new.state.stopped ≡ false) }
     ensures fault { OnErr result (BreaksOff controller.old recorder.old (W.written sink.old) (W.written sink.new)) }
     ensures failures { CountsFailure (W.failures sink.old) (W.failures sink.new) result }
 {

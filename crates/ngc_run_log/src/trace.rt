@@ -1,5 +1,5 @@
-//! What is written of a run: its log, or its pulses.
-ghost use Rattle.std.specs.Prelude.{◌≡◌, ◌≤◌, ◌^◌, ◌++◌, ◌∷◌, [], Ok, None};
+//! What is written of a run: its log, its pulses, or nothing.
+ghost use Rattle.std.specs.Prelude.{◌≡◌, ◌≤◌, ◌+◌, ◌^◌, ◌++◌, ◌∷◌, [], replicate, Ok, None};
 ghost use Rattle.ngc_events.specs.declared.reply.Reply.TheVariants.{Ticked};
 ghost use Rattle.ngc_machine.specs.Ranges.{IsRate};
 ghost use Rattle.ngc_output.specs.Collected.{HasLineRoom};
@@ -26,6 +26,17 @@ pub(crate) enum Form {
 pub(crate) enum Trace {
     Log,
     Pulses(PulseDump),
+    Untold,
+}
+
+// Counts ticks without a pulse.
+fn rest_for(dump: &mut PulseDump, count: u64)
+    requires { dump.old.ticks + count ≤ 2 ^ 126 + 1 }
+    ensures { dump.new ≡ record dump.old { ticks = dump.old.ticks + count } }
+{
+    for _tick in 0..count {
+        dump.rest();
+    }
 }
 
 // Adds a tick whose pulse leads to a position, or one without.
@@ -59,19 +70,19 @@ impl Trace {
         ensures { chunk.new ≡ chunk.old ++ opening_text self.now }
     {
         match self {
-            Trace::Log => {}
+            Trace::Log | Trace::Untold => {}
             Trace::Pulses(dump) => dump.open(chunk),
         }
     }
 
-    /// Counts a tick in which nothing was commanded and nothing ended, which has no text.
-    pub(crate) fn rest(&mut self)
-        requires { ticks_of self.old ≤ 2 ^ 126 }
-        ensures { self.new ≡ trace_after self.old (Ok (Ticked None None) ∷ []) }
+    /// Counts ticks in which nothing was commanded and nothing ended, which have no text.
+    pub(crate) fn rest(&mut self, count: u64)
+        requires { ticks_of self.old + count ≤ 2 ^ 126 + 1 }
+        ensures { self.new ≡ trace_after self.old (replicate count (Ok (Ticked None None))) }
     {
         match self {
-            Trace::Log => {}
-            Trace::Pulses(dump) => dump.rest(),
+            Trace::Log | Trace::Untold => {}
+            Trace::Pulses(dump) => rest_for(dump, count),
         }
     }
 
@@ -89,6 +100,7 @@ impl Trace {
                     add_tick(dump, *position, chunk);
                 }
             }
+            Trace::Untold => {}
         }
     }
 
@@ -99,7 +111,7 @@ impl Trace {
         ensures { chunk.new ≡ chunk.old ++ last_text self.now }
     {
         match self {
-            Trace::Log => {}
+            Trace::Log | Trace::Untold => {}
             Trace::Pulses(dump) => dump.close(chunk),
         }
     }

@@ -1,4 +1,4 @@
-use Rattle.std.proofs.Common.{◌^◌, ap, length, arith, rules, refl}
+use Rattle.std.proofs.Common.{◌^◌, ap, length, arith, rules, refl, ◌∙◌}
 use Rattle.ngc_behaviour.specs.State.{Job}
 use Rattle.ngc_run_log.proofs.Untouched.{none_yet, goes_both, breaks_later, few_behind}
 use Rattle.ngc_run_log.proofs.through.fill_ring.Goals as goal
@@ -6,6 +6,7 @@ use Rattle.ngc_run_log.proofs.through.fill_ring.Goals as goal
 pub loop-command-init : goal.loop-command-init
 loop-command-init g c = record {
   goes = none_yet 0 _ _ _ c.requires.untouched;
+  still = refl;
   running = c.requires.runs;
   failures = refl;
 }
@@ -24,6 +25,7 @@ load_next-requires-clause-left g c =
 pub loop-command-preserved : goal.loop-command-preserved
 loop-command-preserved g c = record {
   goes = goes_both _ 1 _ _ 1 _ 0 0 _ _ _ _ _ _ _ _ _ _ c.loop-command.invariant.goes c.in-Ok.ensures.goes (omega arith) (omega arith) (omega arith);
+  still = c.in-Ok.ensures.still ∙ c.loop-command.invariant.still;
   running = c.in-Ok.ensures.runs;
   failures = search rules;
 }

@@ -1,6 +1,6 @@
-use Rattle.std.proofs.Common.{◌^◌, arith, rules, refl, ◌∙◌}
+use Rattle.std.proofs.Common.{◌+◌, ◌^◌, arith, rules, refl, ◌∙◌}
 use Rattle.std.proofs.lemmas.Result.{on_ok_weaker, on_err_weaker}
-use Rattle.ngc_run_log.proofs.Untouched.{none_yet, breaks_later, few_behind, spent_little, tick_more, tick_last, head_done}
+use Rattle.ngc_run_log.proofs.Untouched.{none_yet, breaks_later, few_behind, goes_both, spent_little, tick_more, tick_last, head_done}
 use Rattle.ngc_run_log.proofs.through.finish_head.Goals as goal
 
 pub ticks-init : goal.ticks-init
@@ -19,13 +19,30 @@ tick-requires-clause-few g c =
 pub returns-in-Err-clause-fault : goal.returns-in-Err-clause-fault
 returns-in-Err-clause-fault g c = breaks_later _ _ _ _ _ _ _ _ _ _ c.ticks.invariant.goes c.in-Err.ensures.fault
 
+pub coast-requires-clause-few : goal.coast-requires-clause-few
+coast-requires-clause-few g c =
+    let more = tick_more _ _ _ _ _ _ _ _ _ _ c.in_default.is c.ticks.invariant.goes c.in-Ok.ensures.ticks in
+    let little = spent_little _ _ more.0.untouched in
+    few_behind _ _ _ (2 ^ 125) (2 ^ 125 + 2 ^ 102) _ _ _ _ _ _ more.0 c.requires.few (omega (arith, little))
+
+pub ticks-smaller : goal.ticks-smaller
+ticks-smaller g c =
+    let more = tick_more _ _ _ _ _ _ _ _ _ _ c.in_default.is c.ticks.invariant.goes c.in-Ok.ensures.ticks in
+    let coasts = c.coast.ensures (g.W.Sink.written c.tick.new.sink) in
+    let little = spent_little _ _ more.0.untouched in
+    let works = more.1.spends in
+    let spends = coasts.spends in
+    omega (arith, little, works, spends)
+
 pub ticks-preserved : goal.ticks-preserved
 ticks-preserved g c =
     let more = tick_more _ _ _ _ _ _ _ _ _ _ c.in_default.is c.ticks.invariant.goes c.in-Ok.ensures.ticks in
+    let coasts = c.coast.ensures (g.W.Sink.written c.tick.new.sink) in
+    let spends = coasts.spends in
     record {
-      goes = more.0;
-      same = more.1.ring ∙ c.ticks.invariant.same;
-      running = more.1.running;
+      goes = goes_both _ _ _ 0 0 0 0 0 0 _ _ _ _ _ _ _ _ _ more.0 coasts.goes (omega (arith, spends)) refl refl;
+      same = coasts.ring ∙ more.1.ring ∙ c.ticks.invariant.same;
+      running = coasts.running;
       failures = search rules;
     }
 

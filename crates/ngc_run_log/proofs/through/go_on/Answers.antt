@@ -7,7 +7,7 @@ pub fill_ring-requires-clause-few : goal.fill_ring-requires-clause-few
 fill_ring-requires-clause-few g c = at_most_more 0 (2 ^ 120) _ c.requires.few (omega arith)
 
 pub keep_full-requires-clause-few : goal.keep_full-requires-clause-few
-keep_full-requires-clause-few g c = few_behind _ _ _ 0 (2 ^ 121) _ _ _ _ _ _ c.in-Ok.ensures.goes c.requires.few (omega (arith, c.requires.few_commands, c.min-first.ensures))
+keep_full-requires-clause-few g c = few_behind _ _ _ 0 (2 ^ 124) _ _ _ _ _ _ c.in-Ok.ensures.goes c.requires.few (omega (arith, c.requires.few_commands, c.min-first.ensures))
 
 pub returns-in-Err-keep_full-clause-fault : goal.returns-in-Err-keep_full-clause-fault
 returns-in-Err-keep_full-clause-fault g c = breaks_later _ _ _ _ _ _ _ _ _ _ c.in-Ok.ensures.goes c.in-Err-keep_full.ensures.fault

@@ -11,14 +11,14 @@ loop-command-init g c = record {
 }
 
 pub finish_head-requires-clause-few : goal.finish_head-requires-clause-few
-finish_head-requires-clause-few g c = few_behind _ _ _ (2 ^ 121) (2 ^ 125) _ _ _ _ _ _ c.loop-command.invariant.goes c.requires.few (omega (arith, c.requires.few_commands))
+finish_head-requires-clause-few g c = few_behind _ _ _ (2 ^ 124) (2 ^ 125) _ _ _ _ _ _ c.loop-command.invariant.goes c.requires.few (omega (arith, c.requires.few_commands))
 
 pub finish_head-requires-clause-some : goal.finish_head-requires-clause-some
 finish_head-requires-clause-some g c = omega (arith, c.loop-command.invariant.goes.ring, c.requires.some)
 
 pub load_next-requires-clause-few : goal.load_next-requires-clause-few
 load_next-requires-clause-few g c =
-    let before = few_behind _ _ _ (2 ^ 121) (2 ^ 125) _ _ _ _ _ _ c.loop-command.invariant.goes c.requires.few (omega (arith, c.requires.few_commands)) in
+    let before = few_behind _ _ _ (2 ^ 124) (2 ^ 125) _ _ _ _ _ _ c.loop-command.invariant.goes c.requires.few (omega (arith, c.requires.few_commands)) in
     few_behind _ _ _ (2 ^ 125) (2 ^ 126) _ _ _ _ _ _ c.in-Ok.ensures.goes.goes before (omega arith)
 
 pub load_next-requires-clause-room : goal.load_next-requires-clause-room

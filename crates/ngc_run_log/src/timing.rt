@@ -1,0 +1,204 @@
+//! How long a run through a program takes, and with each tool.
+ghost use Rattle.std.specs.Prelude.{◌≡◌, ◌≤◌, ◌<◌, ◌+◌, ◌^◌, length, false, None, IfErr, IfOk};
+ghost use Rattle.ngc_behaviour.specs.Headline.{job_of, RunsInTime, RunsSafely};
+ghost use Rattle.ngc_behaviour.specs.State.{RING, loaded, opening};
+ghost use Rattle.ngc_canonical.specs.Joined.{HasEnd};
+ghost use Rattle.ngc_canonical.specs.State.{COMMAND_LIMIT};
+ghost use Rattle.ngc_checker.specs.Accepted.{commands_at};
+ghost use Rattle.ngc_machine.specs.MachineRanges.{IsMachine};
+ghost use Rattle.ngc_run_log.specs.Parts.{FinishesPart, GoesParted, IsTimedThrough, changes_tool, part_length};
+ghost use Rattle.ngc_run_log.specs.Recording.{HasFew};
+ghost use Rattle.ngc_run_log.specs.Stretches.{GoesBy, IsUntouched};
+
+use crate::recorder::Recorder;
+use crate::report::RunFault;
+use crate::through::{fill_ring, finish, keep_full};
+use crate::trace::Trace;
+use ngc_canonical::{Action, Command};
+use ngc_checker::Accepted;
+use ngc_controller::Controller;
+use ngc_fixed_length::{DeviceFault, Sink};
+use ngc_step_kernel::ArcPath;
+use std::alloc::Allocator;
+
+/// How many commands may be loaded and not done.
+const RING: usize = 16;
+
+/// How long a run through a program takes.
+#[derive(Debug, Drop)]
+pub struct Timing<A: Allocator> {
+    /// How many ticks were given.
+    pub ticks: u128,
+    /// How many of them up to the end of the first change of the tool, and then from the end of each change to that of the next one, or to
+    /// the program's end.
+    pub parts: Vec<u128, A>,
+}
+
+/// A sink that drops what it takes, and never fails.
+#[derive(Drop)]
+struct Nowhere;
+
+impl Sink for Nowhere {
+    ghost written = { λ _. None };
+
+    ghost failures = { λ _. 0 };
+
+    fn push(&mut self, buf: &[u8]) -> Result<usize, DeviceFault> {
+        Ok(buf.len())
+    }
+}
+
+fn changes_tool(action: &Action) -> bool
+    ensures { result ≡ changes_tool action.now }
+{
+    match action {
+        Action::Mount(_) => true,
+        _ => false,
+    }
+}
+
+// How many commands there are up to the next change of the tool, with it.
+fn part_length(commands: &[Command]) -> usize
+    ensures { result ≡ part_length commands.now }
+{
+    for (i, command) in commands.iter().enumerate() {
+        if changes_tool(&command.action) {
+            return i + 1;
+        }
+    }
+    commands.len()
+}
+
+// Loads the first commands.
+fn load_first<A: Allocator + Copy>(
+    controller: &mut Controller<ArcPath, A>,
+    count: usize,
+    recorder: &mut Recorder,
+)
+    requires room { length controller.old.state.ring + count ≤ RING }
+    requires left { loaded controller.old.state + count ≤ length controller.old.job.commands }
+    requires untouched { IsUntouched controller.old.job controller.old.state }
+    requires runs { controller.old.state.stopped ≡ false }
+    requires few { HasFew 0 recorder.old }
+    ensures goes { GoesBy count count 0 controller.old controller.new recorder.old recorder.new None None }
+    ensures still { recorder.new.report.ticks ≡ recorder.old.report.ticks }
+    ensures runs { controller.new.state.stopped ≡ false }
+{
+    let mut nowhere = Nowhere;
+    match fill_ring(controller, count, recorder, &mut nowhere) {
+        Ok(()) => {}
+        Err(_) => unreachable!(),
+    }
+}
+
+// Goes on until so many commands more are done, and loads as many of those that aren't yet.
+fn finish_part<A: Allocator + Copy>(
+    controller: &mut Controller<ArcPath, A>,
+    count: usize,
+    unloaded: usize,
+    recorder: &mut Recorder,
+)
+    requires enough { count ≤ length controller.old.state.ring + unloaded }
+    requires some { 0 < unloaded → 1 ≤ length controller.old.state.ring }
+    requires room { length controller.old.state.ring ≤ RING }
+    requires left { loaded controller.old.state + unloaded ≡ length controller.old.job.commands }
+    requires few_commands { count ≤ COMMAND_LIMIT }
+    requires untouched { IsUntouched controller.old.job controller.old.state }
+    requires runs { controller.old.state.stopped ≡ false }
+    requires few { HasFew (2 ^ 123) recorder.old }
+    ensures goes { FinishesPart count unloaded controller.old controller.new recorder.old recorder.new }
+    ensures runs { controller.new.state.stopped ≡ false }
+{
+    let mut nowhere = Nowhere;
+    let loads = count.min(unloaded);
+    match keep_full(controller, loads, recorder, &mut nowhere) {
+        Ok(()) => {}
+        Err(_) => unreachable!(),
+    }
+    match finish(controller, count - loads, recorder, &mut nowhere) {
+        Ok(()) => {}
+        Err(_) => unreachable!(),
+    }
+}
+
+// Goes through all commands, of which so many aren't loaded yet, and answers the ticks of each part.
+fn time_parts<A: Allocator + Copy>(
+    alloc: A,
+    controller: &mut Controller<ArcPath, A>,
+    unloaded: usize,
+    recorder: &mut Recorder,
+) -> Result<Vec<u128, A>, RunFault>
+    requires none_done { controller.old.state.done ≡ 0 }
+    requires some { 0 < unloaded → 1 ≤ length controller.old.state.ring }
+    requires room { length controller.old.state.ring ≤ RING }
+    requires left { loaded controller.old.state + unloaded ≡ length controller.old.job.commands }
+    requires few_commands { length controller.old.job.commands ≤ COMMAND_LIMIT }
+    requires untouched { IsUntouched controller.old.job controller.old.state }
+    requires runs { controller.old.state.stopped ≡ false }
+    requires few { HasFew 16 recorder.old }
+    ensures parts { IfOk result (λ parts. GoesParted (2 ^ 123) unloaded (length controller.old.job.commands) controller.old controller.new recorder.old recorder.new parts.items) }
+    ensures memory { IfErr result (λ fault. fault ≡ RunFault.Memory) }
+{
+    let count = controller.commands().len();
+    let mut parts = Vec::new(alloc);
+    let mut done = 0;
+    let mut left = unloaded;
+    while done < count {
+        let before = recorder.ticks();
+        let length = part_length(&controller.commands()[done..]);
+        finish_part(controller, length, left, recorder);
+        match parts.push(recorder.ticks() - before) {
+            Ok(()) => {}
+            Err(_) => return Err(RunFault::Memory),
+        }
+        left = left.saturating_sub(length);
+        done += length;
+    }
+    Ok(parts)
+}
+
+// Goes through all commands.
+fn time_all<A: Allocator + Copy>(
+    alloc: A,
+    controller: &mut Controller<ArcPath, A>,
+) -> Result<Timing<A>, RunFault>
+    requires opens { controller.old.state ≡ opening controller.old.job.machine }
+    requires machine { IsMachine controller.old.job.machine }
+    requires safe { RunsSafely controller.old.job }
+    requires in_time { RunsInTime controller.old.job }
+    requires has_end { HasEnd controller.old.job.commands }
+    requires few_commands { length controller.old.job.commands ≤ COMMAND_LIMIT }
+    ensures times { IfOk result (λ t. IsTimedThrough controller.old.job t.ticks t.parts.items) }
+    ensures memory { IfErr result (λ fault. fault ≡ RunFault.Memory) }
+{
+    let mut recorder = Recorder::new(Trace::Untold, controller.position());
+    let count = controller.commands().len();
+    let first = count.min(RING);
+    load_first(controller, first, &mut recorder);
+    match time_parts(alloc, controller, count - first, &mut recorder) {
+        Ok(parts) => Ok(Timing {
+            ticks: recorder.ticks(),
+            parts,
+        }),
+        Err(fault) => Err(fault),
+    }
+}
+
+/// How long it takes to run what was accepted through to its end, at a setting of block delete, as [`run_through`](crate::run_through) does, in
+/// ticks; and how long with each tool. Nothing is written. Only want of memory is a fault (900).
+pub fn time_through<A: Allocator + Copy>(
+    alloc: A,
+    accepted: Accepted<A>,
+    block_delete: bool,
+) -> Result<Timing<A>, RunFault>
+    ensures times { IfOk result (λ t. IsTimedThrough (job_of accepted.machine (commands_at block_delete accepted)) t.ticks t.parts.items) }
+    ensures memory { IfErr result (λ fault. fault ≡ RunFault.Memory) }
+{
+    // What holds of all that was accepted makes the run a safe one, which is done in time.
+    let _machine = accepted.machine();
+    let mut controller = match Controller::<ArcPath, A>::new(alloc, accepted, block_delete) {
+        Ok(controller) => controller,
+        Err(_) => return Err(RunFault::Memory),
+    };
+    time_all(alloc, &mut controller)
+}
