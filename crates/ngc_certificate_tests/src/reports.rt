@@ -27,7 +27,7 @@ const FIT: &str = "The program fits: every position is inside the travel and cle
 X from 0 mm to 10 mm, 0 mm left below and 290 mm left above.
 Y from 0 mm to 10 mm, 0 mm left below and 290 mm left above.
 Z from 0 mm to 0 mm, 100 mm left below and 0 mm left above.
-With no tool: traverses 1, feeds 0, arcs 0, dwells 0, stops 0; nearest fixture 0, 2.99 mm away.
+With no tool: traverses 1 along 14.142135 mm, feeds 0 along 0 mm, arcs 0, dwells 0, stops 0; nearest fixture 0, 2.99 mm away.
 ";
 
 const TOO_FAR: &str = "The program does not fit.

@@ -77,7 +77,7 @@ impl Source for Text<'_> {
     }
 }
 
-// The program, which is on standard input, and the files `machine`, `tools`, `certificate` and `events`.
+// The program, which is on standard input and in the file `program`, and the files `machine`, `tools`, `certificate` and `events`.
 #[derive(Clone, Copy)]
 struct Texts<'a> {
     program: &'a [u8],
@@ -122,7 +122,7 @@ impl<'a> Files for SomeFiles<'a> {
 
     fn source(&mut self, name: Option<&str>) -> Result<Text<'a>, ReadFault> {
         let rest = match name {
-            None => self.texts.program,
+            None | Some("program") => self.texts.program,
             Some("machine") => self.texts.machine,
             Some("tools") => self.texts.tools,
             Some("certificate") => self.texts.certificate,

@@ -1,5 +1,5 @@
 -- The line with a number, found one by one.
-use Rattle.std.proofs.Common.{◌≡◌, ℕ, zero, suc, ◌+◌, ◌==◌, ◌<◌, List, [], ◌∷◌, length, take, Option, Some, None, Bool, true, false, ap, sym, ◌∙◌, refl}
+use Rattle.std.proofs.Common.{◌≡◌, ℕ, zero, suc, ◌==◌, List, [], ◌∷◌, take, Option, Some, None, Bool, true, false, ap, sym, ◌∙◌, refl}
 use Rattle.std.proofs.lemmas.Bool.{eq-eqb, ne_eqb}
 use Rattle.std.specs.List.{slice_get}
 use Rattle.std.specs.Option.{option_map}

@@ -1,12 +1,12 @@
 -- The first line of a text, and lines by their number.
-use Rattle.std.proofs.Common.{◌≡◌, ◌≢◌, ◌≤◌, ◌<◌, ◌+◌, ◌-◌, ℕ, List, [], ◌∷◌, ◌++◌, length, take, drop, Bool, true, false, Option, Some, None, ap, sym, ◌∙◌, refl, arith}
+use Rattle.std.proofs.Common.{◌≡◌, ◌≢◌, ◌≤◌, ◌+◌, ◌-◌, ℕ, List, [], ◌∷◌, ◌++◌, length, take, drop, Bool, true, false, Some, None, ap, sym, ◌∙◌, refl, arith}
 use Rattle.std.specs.Prelude.{◌==◌}
 use Rattle.std.proofs.lemmas.Bool.Decides.{nat_tests}
 use Rattle.std.proofs.lemmas.List.{take_all, drop-drop, length-drop}
 use Rattle.memchr.specs.Find.{IsFirstByte, is_byte}
 use Rattle.ngc_line_reader.specs.Load.{NoFeed, IsSplit}
 use Rattle.ngc_line_reader.specs.Program.{split_lines, numbered, lines_of}
-use Rattle.ngc_line_reader.proofs.Feeds.{feed_found, no_feed_found, feed_within, split_last}
+use Rattle.ngc_line_reader.proofs.Feeds.{feed_found, no_feed_found, split_last}
 use Rattle.ngc_report.specs.Quotes.{bytes_with}
 
 not_feed : (b : ℕ) → b ≢ 10 → (b == 10) ≡ false

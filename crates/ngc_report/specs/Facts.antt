@@ -51,9 +51,9 @@ along_fact a =
 
 abbrev pub use_fact : ToolUse → Option Nearest → List ℕ
 use_fact u n =
-    codes ",\n{\"fact\":\"use\",\"tool\":" ++ tool_fact u.tool ++ codes ",\"traverses\":" ++ decimal u.traverses ++ codes ",\"feeds\":" ++
-    decimal u.feeds ++ codes ",\"arcs\":" ++ decimal u.arcs ++ codes ",\"dwells\":" ++ decimal u.dwells ++ codes ",\"stops\":" ++
-    decimal u.stops ++ codes ",\"nearest_fixture\":" ++ nearest_fact n
+    codes ",\n{\"fact\":\"use\",\"tool\":" ++ tool_fact u.tool ++ codes ",\"traverses\":" ++ decimal u.traverses ++ codes ",\"traverse_way\":" ++
+    decimal u.traverse_way ++ codes ",\"feeds\":" ++ decimal u.feeds ++ codes ",\"feed_way\":" ++ decimal u.feed_way ++ codes ",\"arcs\":" ++
+    decimal u.arcs ++ codes ",\"dwells\":" ++ decimal u.dwells ++ codes ",\"stops\":" ++ decimal u.stops ++ codes ",\"nearest_fixture\":" ++ nearest_fact n
 
 abbrev pub start_fact : Scene → List ℕ
 start_fact s = codes ",\n{\"fact\":\"start\",\"at\":" ++ triple s.from ++ codes "}"

@@ -2,6 +2,7 @@ pub mod Extents
 pub mod Rooms
 pub mod Gaps
 pub mod Nearing
+pub mod Ways
 pub mod Uses
 pub mod Margins
 pub mod Scenes

@@ -1,5 +1,5 @@
 -- The uses of tools in a program. Our own.
-use Rattle.std.specs.Prelude.{nat_lt, List, [], ◌∷◌, ◌++◌, count_by, take_while, Option, Some, None, Bool, true, false, not, ◌||◌, if◌then◌else◌}
+use Rattle.std.specs.Prelude.{ℕ, nat_lt, List, [], ◌∷◌, ◌++◌, count_by, sum_by, take_while, Option, Some, None, Bool, true, false, not, ◌||◌, if◌then◌else◌}
 use Rattle.ngc_machine.specs.declared.tools.Tool.{Tool}
 use Rattle.ngc_canonical.specs.declared.command.Action.{Action}
 use Rattle.ngc_canonical.specs.declared.command.Action.TheVariants.{Move, Mount, Dwell, Stop, OptionalStop}
@@ -8,6 +8,7 @@ use Rattle.ngc_canonical.specs.declared.movement.Pace.{Pace}
 use Rattle.ngc_canonical.specs.declared.movement.Pace.TheVariants.{Rapid, Feed}
 use Rattle.ngc_canonical.specs.declared.movement.Way.{Way}
 use Rattle.ngc_canonical.specs.declared.movement.Way.TheVariants.{Line, Arc}
+use Rattle.ngc_report.specs.Ways.{length_of}
 use Rattle.ngc_report.specs.declared.uses.ToolUse.{ToolUse}
 use Rattle.ngc_report.specs.declared.uses.ToolUses.{ToolUses}
 
@@ -70,6 +71,14 @@ is_dwell c = dwells c.action
 abbrev pub is_stop : Command → Bool
 is_stop c = stops c.action
 
+-- ---- how far the tool goes along lines, in nanometres
+
+abbrev pub traversed : Command → ℕ
+traversed c = if is_traverse c then length_of c else 0
+
+abbrev pub fed : Command → ℕ
+fed c = if is_feed c then length_of c else 0
+
 -- ---- uses
 
 -- the commands before the next change
@@ -81,7 +90,9 @@ abbrev pub use_of : Option Tool → List Command → ToolUse
 use_of tool commands = record {
   tool = tool;
   traverses = count_by is_traverse (stretch commands);
+  traverse_way = sum_by traversed (stretch commands);
   feeds = count_by is_feed (stretch commands);
+  feed_way = sum_by fed (stretch commands);
   arcs = count_by is_arc (stretch commands);
   dwells = count_by is_dwell (stretch commands);
   stops = count_by is_stop (stretch commands);

@@ -80,8 +80,8 @@ along_text a =
 
 abbrev pub use_text : ToolUse → Option Nearest → List ℕ
 use_text u n =
-    codes "With " ++ tool_text u.tool ++ codes ": traverses " ++ decimal u.traverses ++ codes ", feeds " ++ decimal u.feeds ++ codes ", arcs " ++
-    decimal u.arcs ++ codes ", dwells " ++ decimal u.dwells ++ codes ", stops " ++ decimal u.stops ++ nearest_text n
+    codes "With " ++ tool_text u.tool ++ codes ": traverses " ++ decimal u.traverses ++ codes " along " ++ size_text u.traverse_way ++
+    codes " mm, feeds " ++ decimal u.feeds ++ codes " along " ++ size_text u.feed_way ++ codes " mm, arcs " ++ decimal u.arcs ++ codes ", dwells " ++ decimal u.dwells ++ codes ", stops " ++ decimal u.stops ++ nearest_text n
 
 abbrev pub command_text : ℕ → Scene → List ℕ
 command_text k s =

@@ -1,7 +1,8 @@
 //! The uses of tools in a program.
-ghost use Rattle.std.specs.Prelude.{◌≡◌, ◌∷◌, [], MatchOption, count_by};
-ghost use Rattle.ngc_report.specs.Uses.{is_change, is_traverse, is_feed, is_arc, is_dwell, is_stop, stretch, use_of, moves, changes, tool_uses, uses_left};
+ghost use Rattle.std.specs.Prelude.{◌≡◌, ◌^◌, ◌<◌, ◌∷◌, [], MatchOption, count_by, sum_by};
+ghost use Rattle.ngc_report.specs.Uses.{is_change, is_traverse, is_feed, is_arc, is_dwell, is_stop, traversed, fed, stretch, use_of, moves, changes, tool_uses, uses_left};
 
+use crate::ways::length_of;
 use ngc_canonical::{Action, Command, Motion, Pace, Tool, Way};
 
 /// The use of a tool: from the command that mounts it to the next change, or to the end. Its motions are traverses, feeds along
@@ -11,7 +12,12 @@ pub struct ToolUse {
     /// As it is mounted; `None` without a tool.
     pub tool: Option<Tool>,
     pub traverses: usize,
+    /// The sum of their lengths in nanometres, each rounded down.
+    pub traverse_way: u128,
+    /// Those along lines.
     pub feeds: usize,
+    /// The sum of their lengths, likewise.
+    pub feed_way: u128,
     pub arcs: usize,
     pub dwells: usize,
     /// M0, M1 and M60.
@@ -97,6 +103,28 @@ fn is_stop(command: &Command) -> bool
     }
 }
 
+fn traversed(command: &Command) -> u64
+    ensures value { result ≡ traversed command.now }
+    ensures bound { result < 2 ^ 39 }
+{
+    if is_traverse(command) {
+        length_of(command)
+    } else {
+        0
+    }
+}
+
+fn fed(command: &Command) -> u64
+    ensures value { result ≡ fed command.now }
+    ensures bound { result < 2 ^ 39 }
+{
+    if is_feed(command) {
+        length_of(command)
+    } else {
+        0
+    }
+}
+
 /// The commands before the next change.
 fn stretch(commands: &[Command]) -> &[Command]
     ensures { result.now ≡ stretch commands.now }
@@ -115,10 +143,30 @@ fn traverses_in(commands: &[Command]) -> usize
     commands.iter().filter(|c| is_traverse(c)).count()
 }
 
+fn traverse_way_in(commands: &[Command]) -> u128
+    ensures { result ≡ sum_by traversed commands.now }
+{
+    let mut way = 0;
+    for command in commands {
+        way += u128::from(traversed(command));
+    }
+    way
+}
+
 fn feeds_in(commands: &[Command]) -> usize
     ensures { result ≡ count_by is_feed commands.now }
 {
     commands.iter().filter(|c| is_feed(c)).count()
+}
+
+fn feed_way_in(commands: &[Command]) -> u128
+    ensures { result ≡ sum_by fed commands.now }
+{
+    let mut way = 0;
+    for command in commands {
+        way += u128::from(fed(command));
+    }
+    way
 }
 
 fn arcs_in(commands: &[Command]) -> usize
@@ -148,7 +196,9 @@ impl ToolUse {
         ToolUse {
             tool,
             traverses: traverses_in(commands),
+            traverse_way: traverse_way_in(commands),
             feeds: feeds_in(commands),
+            feed_way: feed_way_in(commands),
             arcs: arcs_in(commands),
             dwells: dwells_in(commands),
             stops: stops_in(commands),

@@ -84,6 +84,15 @@ pub(crate) fn add_size(chunk: &mut Chunk, nanometres: u128)
     add_fraction(chunk, (nanometres % 1_000_000) as u64);
 }
 
+/// Adds a count, of 20 digits at most.
+pub(crate) fn add_count(chunk: &mut Chunk, count: usize)
+    requires { length chunk.old + 40 ≤ CHUNK_SIZE }
+    ensures text { chunk.new ≡ chunk.old ++ decimal count }
+    ensures short { length chunk.new ≤ length chunk.old + 20 }
+{
+    chunk.add_number(count);
+}
+
 /// Adds a length in nanometres as millimetres.
 #[tactic(auto, unfolding(crate::specs::Words::mm_text))]
 fn add_wide(chunk: &mut Chunk, nanometres: i128)
@@ -231,15 +240,19 @@ fn add_use(chunk: &mut Chunk, one: &ToolUse, nearest: &Option<Nearest>)
     chunk.add_text(b"With ");
     add_tool(chunk, &one.tool);
     chunk.add_text(b": traverses ");
-    chunk.add_number(one.traverses);
-    chunk.add_text(b", feeds ");
-    chunk.add_number(one.feeds);
-    chunk.add_text(b", arcs ");
-    chunk.add_number(one.arcs);
+    add_count(chunk, one.traverses);
+    chunk.add_text(b" along ");
+    add_size(chunk, one.traverse_way);
+    chunk.add_text(b" mm, feeds ");
+    add_count(chunk, one.feeds);
+    chunk.add_text(b" along ");
+    add_size(chunk, one.feed_way);
+    chunk.add_text(b" mm, arcs ");
+    add_count(chunk, one.arcs);
     chunk.add_text(b", dwells ");
-    chunk.add_number(one.dwells);
+    add_count(chunk, one.dwells);
     chunk.add_text(b", stops ");
-    chunk.add_number(one.stops);
+    add_count(chunk, one.stops);
     add_nearest(chunk, nearest);
 }
 

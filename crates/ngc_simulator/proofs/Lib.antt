@@ -10,3 +10,5 @@ pub mod RunLaws
 pub mod DrawLaws
 pub mod UnreadLaws
 pub mod ReportLaws
+pub mod UseTimeLaws
+pub mod UnreadableLaws

@@ -31,14 +31,14 @@ use Rattle.ngc_command_line.specs.declared.options.ReportOptions.{ReportOptions}
 use Rattle.ngc_machine.specs.Machine.{MachineFile}
 use Rattle.ngc_simulator.specs.Answers.{ReportsOn, request_of}
 use Rattle.ngc_simulator.specs.Jobs.{AreMeanings, IsMadeFor, IsProgram, WhyNotMade, refused_at}
-use Rattle.ngc_simulator.specs.Reporting.{IsAcceptedOf, IsFitReport, IsPassed, IsRefusalReport, IsReportOf, IsRejectionReport, IsTimed, LastsFor, Reports, TakesTicks, commands_of, fault_text, fits_text, is_on, refusal_text, refusals_text, rejection_text}
+use Rattle.ngc_simulator.specs.Reporting.{IsAcceptedOf, IsFitReport, IsPassed, IsRefusalReport, IsReportOf, IsRejectionReport, IsTimed, LastsFor, Reports, commands_of, fault_text, fits_text, is_on, refusal_text, refusals_text, rejection_text}
 use Rattle.ngc_simulator.specs.declared.request.ReportRequest.{ReportRequest}
 use Rattle.ngc_certificate.specs.Uncleared.{AreUncleared}
 use Rattle.ngc_simulator.specs.Setups.{FileBytes, KeepsFiles}
 use Rattle.ngc_simulator.specs.Shops.{GivesShop}
 use Rattle.ngc_simulator.specs.declared.certifier.CertifyFault.{CertifyFault}
 use Rattle.ngc_simulator.specs.declared.certifier.CertifyFault.TheVariants as certifies
-use Rattle.ngc_simulator.specs.declared.done.RunTime.{RunTime}
+use Rattle.ngc_simulator.specs.Times.{ProgramTimeData}
 use Rattle.ngc_simulator.specs.declared.setup.Shop.{Shop}
 use Rattle.ngc_simulator.proofs.JobLaws.{Says, keeps_same}
 use Rattle.ngc_simulator.proofs.ListLaws.{Means}
@@ -104,14 +104,13 @@ means_at : (program : ProgramLines) (setup : Setup) (block_delete : Bool) (a : A
 means_at program setup false a keeps = keeps.off
 means_at program setup true a keeps = keeps.on
 
-pub timed : (text : ProgramText) (setup : Setup) (block_delete : Bool) (a : AcceptedData) (ticks per_second : ℕ) → IsAcceptedOf text setup a
-    → TakesTicks (job_of a.machine (commands_at block_delete a)) ticks → per_second ≡ setup.machine.ticks_per_second
-    → (rs : List Reading) → AreReadings text.lines rs → (commands : List Command) × (meaning (program_said text rs) setup block_delete ≡ Ok commands)
-    × (TakesTicks (job_of setup.machine commands) ticks × (per_second ≡ setup.machine.ticks_per_second))
-timed text setup block_delete a ticks per_second accepted takes same = λ rs are. (
+-- what was accepted of it takes as long as it does
+pub timed : (text : ProgramText) (setup : Setup) (block_delete : Bool) (a : AcceptedData) (time : ProgramTimeData) → IsAcceptedOf text setup a → LastsFor a.machine (commands_at block_delete a) time →
+    IsTimed text setup block_delete time
+timed text setup block_delete a time accepted lasts = λ rs are. (
   commands_at block_delete a,
   means_at (program_said text rs) setup block_delete a (accepted rs are),
-  (subst (λ (m : MachineFile). TakesTicks (job_of m (commands_at block_delete a)) ticks) (accepted rs are).machine takes, same),
+  subst (λ (m : MachineFile). LastsFor m (commands_at block_delete a) time) (accepted rs are).machine lasts,
 )
 
 -- ---- a program that fits
@@ -135,7 +134,7 @@ accepted_commands setup bytes text off on a is_text means accepted =
     let keeps = of_program bytes text means.program (λ p. KeepsGiven p setup a) is_text means.is_program accepted in
     (same_commands _ _ _ keeps.off means.off_means, same_commands _ _ _ keeps.on means.on_means)
 
-lasts : (setup : Setup) (bytes : List ℕ) (text : ProgramText) (program : ProgramLines) (block_delete : Bool) (commands : List Command) (time : RunTime) → program_of bytes ≡ Ok text
+lasts : (setup : Setup) (bytes : List ℕ) (text : ProgramText) (program : ProgramLines) (block_delete : Bool) (commands : List Command) (time : ProgramTimeData) → program_of bytes ≡ Ok text
     → IsProgram bytes program → meaning program setup block_delete ≡ Ok commands → IsTimed text setup block_delete time → LastsFor setup.machine commands time
 lasts setup bytes text program block_delete commands time is_text is means is_timed =
     let told = of_program bytes text program (λ p. (cs : List Command) × (meaning p setup block_delete ≡ Ok cs) × LastsFor setup.machine cs time) is_text is is_timed in
@@ -156,10 +155,10 @@ alike setup bytes off on means none = same_commands _ _ _ (same_at_both means.pr
 
 module _ (setup : Setup) (bytes : List ℕ) (request : ReportRequest) (text : ProgramText) (c : CertificateData) (a : AcceptedData) (is_text : program_of bytes ≡ Ok text)
     (made : IsMadeFor setup bytes request.cuts c) (accepted : IsAcceptedOf text setup a) where
-  abbrev whole : RunTime → RunTime → List ℕ
+  abbrev whole : ProgramTimeData → ProgramTimeData → List ℕ
   whole off_time on_time = fits_text request.form (has_deleted made.means.program.lines) setup made.off made.on c off_time on_time
 
-  fit : (off_time on_time : RunTime) → LastsFor setup.machine made.off off_time → LastsFor setup.machine made.on on_time → IsFitReport setup bytes request (whole off_time on_time)
+  fit : (off_time on_time : ProgramTimeData) → LastsFor setup.machine made.off off_time → LastsFor setup.machine made.on on_time → IsFitReport setup bytes request (whole off_time on_time)
   fit off_time on_time off_lasts on_lasts = record {
     certificate = c;
     made = made;
@@ -170,19 +169,19 @@ module _ (setup : Setup) (bytes : List ℕ) (request : ReportRequest) (text : Pr
     tells = refl;
   }
 
-  pub off_at : (time : RunTime) → IsTimed text setup false time → LastsFor setup.machine made.off time
+  pub off_at : (time : ProgramTimeData) → IsTimed text setup false time → LastsFor setup.machine made.off time
   off_at time is_timed = lasts setup bytes text made.means.program false made.off time is_text made.means.is_program made.means.off_means is_timed
 
-  pub on_at : (time : RunTime) → IsTimed text setup true time → LastsFor setup.machine made.on time
+  pub on_at : (time : ProgramTimeData) → IsTimed text setup true time → LastsFor setup.machine made.on time
   on_at time is_timed = lasts setup bytes text made.means.program true made.on time is_text made.means.is_program made.means.on_means is_timed
 
   -- where no line begins with `/`, what is timed with block delete off goes for both settings
-  pub alike_at : (time : RunTime) (found : Bool) → Finds text found → found ≡ false → IsTimed text setup false time → LastsFor setup.machine made.on time
+  pub alike_at : (time : ProgramTimeData) (found : Bool) → Finds text found → found ≡ false → IsTimed text setup false time → LastsFor setup.machine made.on time
   alike_at time found is_found none is_timed =
       let plain = finds setup bytes text made.off made.on found is_text made.means is_found ∙ none in
       subst (λ cs. LastsFor setup.machine cs time) (alike setup bytes made.off made.on made.means plain) (off_at time is_timed)
 
-  is_whole : (named found : Bool) (off_time on_time : RunTime) → Finds text found → found ≡ named
+  is_whole : (named found : Bool) (off_time on_time : ProgramTimeData) → Finds text found → found ≡ named
       → fits_text request.form named setup a.off a.on c off_time on_time ≡ whole off_time on_time
   is_whole named found off_time on_time is_found is =
       let same = accepted_commands setup bytes text made.off made.on a is_text made.means accepted in
@@ -190,12 +189,12 @@ module _ (setup : Setup) (bytes : List ℕ) (request : ReportRequest) (text : Pr
       ∙ ap (λ cs. fits_text request.form named setup made.off cs c off_time on_time) same.1
       ∙ ap (λ d. fits_text request.form d setup made.off made.on c off_time on_time) (sym (finds setup bytes text made.off made.on found is_text made.means is_found ∙ is))
 
-  pub told_fits : (named found : Bool) (off_time on_time : RunTime) (old new : Option (List ℕ)) → Finds text found → found ≡ named → LastsFor setup.machine made.off off_time
+  pub told_fits : (named found : Bool) (off_time on_time : ProgramTimeData) (old new : Option (List ℕ)) → Finds text found → found ≡ named → LastsFor setup.machine made.off off_time
       → LastsFor setup.machine made.on on_time → Appends old new (fits_text request.form named setup a.off a.on c off_time on_time) → Reports setup bytes request old new (Ok tt)
   told_fits named found off_time on_time old new is_found is off_lasts on_lasts wrote =
       (whole off_time on_time, fit off_time on_time off_lasts on_lasts, appends_as old new _ _ (is_whole named found off_time on_time is_found is) wrote)
 
-  pub fits_stopped : (named found : Bool) (off_time on_time : RunTime) (old new : Option (List ℕ)) (fault : WriteFault) → Finds text found → found ≡ named → LastsFor setup.machine made.off off_time
+  pub fits_stopped : (named found : Bool) (off_time on_time : ProgramTimeData) (old new : Option (List ℕ)) (fault : WriteFault) → Finds text found → found ≡ named → LastsFor setup.machine made.off off_time
       → LastsFor setup.machine made.on on_time → AppendsBeginning old new (fits_text request.form named setup a.off a.on c off_time on_time)
       → Reports setup bytes request old new (Err (certifies.Write fault))
   fits_stopped named found off_time on_time old new fault is_found is off_lasts on_lasts wrote =

@@ -1,6 +1,6 @@
 -- Which file of a run isn't read, from what is told of each.
 use Rattle.std.proofs.Common.{◌≡◌, ℕ, List, [], ◌∷◌, ◌++◌, Option, Some, None, Result, Ok, Err, IfSome, inl, inr, refl, ap, subst, sym, ◌∙◌}
-use Rattle.std.specs.Prelude.{MatchOption, IsOk}
+use Rattle.std.specs.Prelude.{IfErr, IsOk, MatchOption}
 use Rattle.ngc_certificate_text.specs.declared.fault.CertificateFault.{CertificateFault}
 use Rattle.ngc_certificate_text.specs.declared.fault.CertificateFault.TheVariants as texts
 use Rattle.ngc_input.specs.declared.fault.InputFault.{InputFault}
@@ -13,7 +13,7 @@ use Rattle.ngc_simulator.specs.Setups.{FileBytes, IfMachine, KeepsFiles}
 use Rattle.ngc_simulator.specs.Shops.{GivesShop, machine_answer, tools_answer}
 use Rattle.ngc_simulator.specs.Jobs.{NeverReads}
 use Rattle.ngc_simulator.specs.Running.{ReadsNoFile}
-use Rattle.ngc_simulator.specs.Unread.{Kind, OfMachine, OfTools, OfProgram, OfCertificate, IsReadAs, Input, setup_input, shop_inputs, AtFirst, TellsKindUnread, TellsFirstUnread, FailsBy, FailsByInput, program_unread, certificate_unread, setup_unread}
+use Rattle.ngc_simulator.specs.Unread.{Kind, OfMachine, OfTools, OfProgram, OfCertificate, IsReadAs, Input, setup_input, shop_inputs, AtFirst, TellsKindUnread, TellsFirstUnread, FailsBy, FailsByInput, program_unread, certificate_unread, setup_unread, unread_by}
 use Rattle.ngc_simulator.specs.declared.certifier.CertifyFault.{CertifyFault}
 use Rattle.ngc_simulator.specs.declared.certifier.CertifyFault.TheVariants as certifies
 use Rattle.ngc_simulator.specs.declared.checking.CheckingFault.{CheckingFault}
@@ -169,6 +169,15 @@ certify_told fails bytes files name old new (certifies.Program setting e) all sa
 certify_told fails bytes files name old new (certifies.Make e) all same failed = same
 certify_told fails bytes files name old new (certifies.Write e) all same failed = same
 
+-- a program that is opened by its name once more
+pub program_again : (fails : Option (List ℕ) → Type 0) (bytes later : FileBytes) (files : List Input) (program : Option (List ℕ)) (name : List ℕ) (old mid new : ℕ) (answer : CertifyFault)
+    → program ≡ Some name → AllRead bytes files → later (Some name) ≡ bytes (Some name) → mid ≡ old
+    → FailsByInput {T = Unit {0}} fails later (record { kind = OfProgram; name = Some name } ∷ []) mid new (Err (answers.Certify answer))
+    → FailsByInput {T = Unit {0}} fails bytes (files ++ record { kind = OfProgram; name = program } ∷ []) old new (Err (answers.Certify answer))
+program_again fails bytes later files program name old mid new answer named all same_bytes same told =
+    subst (λ (p : Option (List ℕ)). FailsByInput {T = Unit {0}} fails bytes (files ++ record { kind = OfProgram; name = p } ∷ []) old new (Err (answers.Certify answer))) (sym named)
+    (told_behind fails bytes later files OfProgram (Some name) [] old mid new (unread_by (answers.Certify answer)) all same_bytes same told)
+
 pub check_told : (fails : Option (List ℕ) → Type 0) (bytes : FileBytes) (files : List Input) (name : Option (List ℕ)) (old new : ℕ) (fault : CheckingFault)
     → NeverReads {T = Unit {0}} (Err fault) → AllRead bytes files → new ≡ old → (fault ≡ checks.Certificate texts.ReadFailed → fails (bytes name))
     → FailsByInput {T = Unit {0}} fails bytes (files ++ record { kind = OfCertificate; name = name } ∷ []) old new (Err (answers.Check fault))
@@ -186,3 +195,10 @@ run_told fails bytes files old new (running.Certificate e) never same = absurd n
 run_told fails bytes files old new (running.Events e) never same = same
 run_told fails bytes files old new (running.Check e) never same = same
 run_told fails bytes files old new (running.Run e) never same = same
+
+-- a fault that tells of no file, where none is opened
+pub nothing_read : {T : Type 0} (fails : Option (List ℕ) → Type 0) (bytes : FileBytes) (files : List Input) (count : ℕ) (outcome : Result T AnswerFault)
+    → IfErr outcome (λ fault. unread_by fault ≡ None) → FailsByInput fails bytes files count count outcome
+nothing_read fails bytes files count (Ok value) is = refl
+nothing_read fails bytes files count (Err fault) is =
+    subst (λ (why : Option InputFault). MatchOption why (count ≡ count) (TellsFirstUnread fails bytes files count count)) (sym is) refl

@@ -22,6 +22,7 @@ use Rattle.ngc_simulator.specs.declared.drawing.DrawingFault.{DrawingFault}
 use Rattle.ngc_simulator.specs.declared.drawing.DrawingFault.TheVariants.{UnknownView}
 use Rattle.ngc_simulator.specs.declared.lister.ListFault.{ListFault}
 use Rattle.ngc_simulator.specs.declared.certifier.CertifyFault.{CertifyFault}
+use Rattle.ngc_simulator.specs.declared.certifier.CertifyFault.TheVariants as certifies
 use Rattle.ngc_simulator.specs.declared.checking.CheckingFault.{CheckingFault}
 use Rattle.ngc_simulator.specs.declared.running.RunningFault.{RunningFault}
 use Rattle.ngc_simulator.specs.declared.fault.AnswerFault.{AnswerFault}
@@ -47,6 +48,7 @@ use Rattle.ngc_simulator.specs.Setups.{FileBytes, OnSetup}
 use Rattle.ngc_simulator.specs.Shops.{RefusesShop}
 use Rattle.ngc_simulator.specs.Mistaken.{TellsRefusal}
 use Rattle.ngc_simulator.specs.Times.{time_line}
+use Rattle.ngc_simulator.specs.Unreadable.{TellsUnreadable}
 use Rattle.ngc_simulator.specs.Unread.{Input, OfProgram, OfCertificate, OfEvents, shop_inputs, FailsByInput}
 
 -- what `list`, `certify`, `check` and `run` come to on the files that they name
@@ -152,16 +154,27 @@ ShowComes bytes options old new (Ok Quietly) = ShowsOn bytes options old new (Ok
 ShowComes bytes options old new (Ok (RunThrough time)) = ⊥
 ShowComes bytes options old new (Err (answers.Show fault)) =
     ShowsOn bytes options old new (Err fault)
-    ⊎ TellsRefusal bytes (Some options.machine.now) (option_map (λ name. name.now) options.tools) old new (answers.Show fault)
+    ⊎ TellsRefusal Words bytes (Some options.machine.now) (option_map (λ name. name.now) options.tools) old new (answers.Show fault)
 ShowComes bytes options old new (Err fault) =
-    TellsRefusal bytes (Some options.machine.now) (option_map (λ name. name.now) options.tools) old new fault
+    TellsRefusal Words bytes (Some options.machine.now) (option_map (λ name. name.now) options.tools) old new fault
+
+-- what telling of a program that can't be read comes to on the files that they name
+abbrev pub UnreadableOn : FileBytes → ReportOptions → Option (List ℕ) → Option (List ℕ) → CertifyFault → Type 0
+UnreadableOn bytes options old new fault =
+    OnSetup bytes (Some options.machine.now) (Some options.tools.now) (λ setup.
+    IfSome (bytes (option_map (λ name. name.now) options.program)) (λ text.
+    TellsUnreadable (form_asked options.json) (option_map (λ name. name.now) options.program) text old new fault))
 
 -- its faults are those of certifying
 abbrev pub ReportComes : FileBytes → ReportOptions → Option (List ℕ) → Option (List ℕ) → Result Done AnswerFault → Type 0
 ReportComes bytes options old new (Ok Quietly) = ReportsOn bytes options old new (Ok tt)
 ReportComes bytes options old new (Ok (RunThrough time)) = ⊥
+ReportComes bytes options old new (Err (answers.Certify (certifies.Read fault))) = UnreadableOn bytes options old new (certifies.Read fault)
+ReportComes bytes options old new (Err (answers.Certify (certifies.Write fault))) =
+    ReportsOn bytes options old new (Err (certifies.Write fault)) ⊎ UnreadableOn bytes options old new (certifies.Write fault)
 ReportComes bytes options old new (Err (answers.Certify fault)) = ReportsOn bytes options old new (Err fault)
-ReportComes bytes options old new (Err fault) = TellsRefusal bytes (Some options.machine.now) (Some options.tools.now) old new fault
+ReportComes bytes options old new (Err fault) =
+    TellsRefusal (form_asked options.json) bytes (Some options.machine.now) (Some options.tools.now) old new fault
 
 -- the run's ticks, and how many of them its machine gives a second
 pub record IsTimeOf (setup : Setup) (report : Report) (time : RunTime) : Type 0 where

@@ -7,6 +7,7 @@ pub mod Running
 pub mod Drawing
 pub mod Showing
 pub mod Reporting
+pub mod Unreadable
 pub mod Setups
 pub mod Shops
 pub mod Mistaken

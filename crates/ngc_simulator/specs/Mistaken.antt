@@ -1,39 +1,53 @@
 -- What is told of a machine file or a tool table that is refused. Our own.
-use Rattle.std.specs.Prelude.{◌≡◌, ◌≢◌, ◌⊎◌, ℕ, List, Option, Some, Result, Ok, Err, IfSome, IsSomeAnd}
+use Rattle.std.specs.Prelude.{◌≡◌, ◌≢◌, ◌⊎◌, ℕ, List, ◌++◌, Option, Some, Result, Ok, Err, IfSome, IsSomeAnd}
 use Rattle.std.specs.Io.KnownBytes.{Appends, Keeps}
 use Rattle.ngc_fixed_length.specs.Failures.{Rises}
 use Rattle.ngc_fixed_length.specs.Written.{AppendsBeginning}
+use Rattle.ngc_machine.specs.Faults.{number_of as file_number}
 use Rattle.ngc_machine.specs.declared.fault.FileFault.{FileFault}
 use Rattle.ngc_machine.specs.declared.fault.FileFault.TheVariants.{Memory}
+use Rattle.ngc_report.specs.Forms.{opening}
+use Rattle.ngc_report.specs.declared.form.Form.{Form}
+use Rattle.ngc_report.specs.declared.form.Form.TheVariants.{Words, Json}
 use Rattle.ngc_setup_sheet.specs.Mistakes.{machine_mistake_text, tools_mistake_text}
 use Rattle.ngc_simulator.specs.declared.fault.AnswerFault.{AnswerFault}
 use Rattle.ngc_simulator.specs.declared.fault.AnswerFault.TheVariants as answers
 use Rattle.ngc_simulator.specs.declared.setup.Shop.{Shop}
+use Rattle.ngc_simulator.specs.Reporting.{ending}
 use Rattle.ngc_simulator.specs.Setups.{FileBytes}
 use Rattle.ngc_simulator.specs.Shops.{GivesShop, RefusesShop}
 
--- P of the text that tells a file's mistake, where the file is known; that memory runs out is no mistake of it
-abbrev pub OfText : (List ℕ → FileFault → List ℕ) → FileFault → Option (List ℕ) → (List ℕ → Type 0) → Type 0
-OfText text e known P = (e ≢ Memory) × IfSome known (λ bytes. P (text bytes e))
+-- a document has the fault's number alone
+abbrev pub fault_document : ℕ → List ℕ
+fault_document number = opening Json ++ ending Json number
+
+-- what tells a file's mistake: a text in words, or a document
+abbrev pub told_text : Form → (List ℕ → FileFault → List ℕ) → List ℕ → FileFault → List ℕ
+told_text Words text bytes e = text bytes e
+told_text Json text bytes e = fault_document (file_number e)
+
+-- P of that, where the file is known; that memory runs out is no mistake of it
+abbrev pub OfText : Form → (List ℕ → FileFault → List ℕ) → FileFault → Option (List ℕ) → (List ℕ → Type 0) → Type 0
+OfText form text e known P = (e ≢ Memory) × IfSome known (λ bytes. P (told_text form text bytes e))
 
 -- the same of the one of two files that is refused
-abbrev pub OfMistake : FileBytes → Option (List ℕ) → Option (List ℕ) → AnswerFault → (List ℕ → Type 0) → Type 0
-OfMistake bytes machine tools (answers.Machine e) P = IsSomeAnd machine (λ name. OfText machine_mistake_text e (bytes (Some name)) P)
-OfMistake bytes machine tools (answers.Tools e) P = IsSomeAnd tools (λ name. OfText tools_mistake_text e (bytes (Some name)) P)
-OfMistake bytes machine tools fault P = ⊥
+abbrev pub OfMistake : Form → FileBytes → Option (List ℕ) → Option (List ℕ) → AnswerFault → (List ℕ → Type 0) → Type 0
+OfMistake form bytes machine tools (answers.Machine e) P = IsSomeAnd machine (λ name. OfText form machine_mistake_text e (bytes (Some name)) P)
+OfMistake form bytes machine tools (answers.Tools e) P = IsSomeAnd tools (λ name. OfText form tools_mistake_text e (bytes (Some name)) P)
+OfMistake form bytes machine tools fault P = ⊥
 
 -- A file that is refused has its mistake told, or nothing where memory ran out; and where the sink failed, a beginning of it.
 -- A file that isn't read leaves what was written as it was.
-abbrev pub TellsRefusal : FileBytes → Option (List ℕ) → Option (List ℕ) → Option (List ℕ) → Option (List ℕ) → AnswerFault → Type 0
-TellsRefusal bytes machine tools old new (answers.Show fault) =
-    (refused : AnswerFault) × RefusesShop bytes machine tools refused × OfMistake bytes machine tools refused (AppendsBeginning old new)
-TellsRefusal bytes machine tools old new fault =
-    RefusesShop bytes machine tools fault × (Keeps old new ⊎ OfMistake bytes machine tools fault (Appends old new))
+abbrev pub TellsRefusal : Form → FileBytes → Option (List ℕ) → Option (List ℕ) → Option (List ℕ) → Option (List ℕ) → AnswerFault → Type 0
+TellsRefusal form bytes machine tools old new (answers.Show fault) =
+    (refused : AnswerFault) × RefusesShop bytes machine tools refused × OfMistake form bytes machine tools refused (AppendsBeginning old new)
+TellsRefusal form bytes machine tools old new fault =
+    RefusesShop bytes machine tools fault × (Keeps old new ⊎ OfMistake form bytes machine tools fault (Appends old new))
 
 -- the two files' machine and tools, with nothing written, or what is told in their place
-abbrev pub GivesTold : FileBytes → Option (List ℕ) → Option (List ℕ) → Option (List ℕ) → Option (List ℕ) → Result Shop AnswerFault → Type 0
-GivesTold bytes machine tools old new (Ok shop) = GivesShop bytes machine tools (Ok shop) × (new ≡ old)
-GivesTold bytes machine tools old new (Err fault) = TellsRefusal bytes machine tools old new fault
+abbrev pub GivesTold : Form → FileBytes → Option (List ℕ) → Option (List ℕ) → Option (List ℕ) → Option (List ℕ) → Result Shop AnswerFault → Type 0
+GivesTold form bytes machine tools old new (Ok shop) = GivesShop bytes machine tools (Ok shop) × (new ≡ old)
+GivesTold form bytes machine tools old new (Err fault) = TellsRefusal form bytes machine tools old new fault
 
 -- what telling one file's mistake comes to, where the file may not be read again
 abbrev pub TellsMistake : ((List ℕ → Type 0) → Type 0) → Option (List ℕ) → Option (List ℕ) → Result (Unit {0}) AnswerFault → Type 0

@@ -24,10 +24,8 @@ use Rattle.ngc_certificate.specs.PieceFault.{place_fault}
 use Rattle.ngc_certificate.specs.Uncleared.{AreUncleared}
 use Rattle.ngc_checker.specs.Accepted.{AcceptedData, Keeps as KeepsGiven}
 use Rattle.ngc_checker.specs.FirstRefusal.{first_refusal}
-use Rattle.ngc_behaviour.specs.State.{Job}
 use Rattle.ngc_behaviour.specs.Headline.{job_of}
-use Rattle.ngc_run_log.specs.declared.report.Report.{Report}
-use Rattle.ngc_run_log.specs.Through.{IsLoggedThrough}
+use Rattle.ngc_run_log.specs.Parts.{IsTimedThrough}
 use Rattle.ngc_report.specs.Forms.{closing, opening, report_text}
 use Rattle.ngc_report.specs.Marks.{named_line}
 use Rattle.ngc_report.specs.Quotes.{quoted}
@@ -41,18 +39,15 @@ use Rattle.ngc_simulator.specs.declared.certifier.CertifyFault.TheVariants as ce
 use Rattle.ngc_simulator.specs.declared.done.RunTime.{RunTime}
 use Rattle.ngc_simulator.specs.Drawing.{met_at}
 use Rattle.ngc_simulator.specs.Jobs.{AreMeanings, IsMadeFor, IsProgram, IsRefusedAt}
-use Rattle.ngc_simulator.specs.Times.{seconds_text, time_text}
+use Rattle.ngc_simulator.specs.Times.{ProgramTimeData, seconds_text, time_text, uses_text}
 use Rattle.ngc_simulator.specs.declared.request.ReportRequest.{ReportRequest}
 
 -- ---- how long it takes
 
--- a run of a job to its end, whose log is kept nowhere, has so many ticks
-abbrev pub TakesTicks : Job → ℕ → Type 0
-TakesTicks job ticks = (report : Report) × IsLoggedThrough job None None report × (ticks ≡ report.ticks)
-
--- a machine goes through these commands in this time
-abbrev pub LastsFor : MachineFile → List Command → RunTime → Type 0
-LastsFor machine commands time = TakesTicks (job_of machine commands) time.ticks × (time.ticks_per_second ≡ machine.ticks_per_second)
+-- a machine goes through these commands in this time, and through each part of them
+abbrev pub LastsFor : MachineFile → List Command → ProgramTimeData → Type 0
+LastsFor machine commands time =
+    IsTimedThrough (job_of machine commands) time.whole.ticks time.parts × (time.whole.ticks_per_second ≡ machine.ticks_per_second)
 
 -- the line that tells it
 abbrev pub takes_words : RunTime → List ℕ
@@ -69,6 +64,10 @@ abbrev pub takes_line : Form → RunTime → List ℕ
 takes_line Words time = takes_words time
 takes_line Json time = takes_fact time
 
+-- the whole and each use
+abbrev pub duration_text : Form → List Command → ProgramTimeData → List ℕ
+duration_text form commands time = takes_line form time.whole ++ uses_text form commands time
+
 -- ---- texts
 
 -- the line that names the setting, in a program with lines that begin with `/`
@@ -83,10 +82,10 @@ abbrev pub heading : Form → Bool → Bool → Setting → List ℕ
 heading form first named s = (if first then opening form else []) ++ (if named then setting_line form s else [])
 
 -- what fits at a setting, how long it takes, and what looks wrong there
-abbrev pub setting_text : Form → Bool → Bool → Setting → MachineFile → List Command → List Entry → RunTime → List ℕ
+abbrev pub setting_text : Form → Bool → Bool → Setting → MachineFile → List Command → List Entry → ProgramTimeData → List ℕ
 setting_text form first named s machine commands motions time =
     heading form first named s
-    ++ (report_text form (fit_lines machine commands motions) ++ (takes_line form time ++ report_text form (warning_lines machine commands)))
+    ++ (report_text form (fit_lines machine commands motions) ++ (duration_text form commands time ++ report_text form (warning_lines machine commands)))
 
 -- what looks wrong of the machine and of its tools
 abbrev pub shop_text : Form → Setup → List ℕ
@@ -94,7 +93,7 @@ shop_text Words setup = warnings_text setup.machine setup.tools
 shop_text Json setup = warning_facts setup.machine setup.tools
 
 -- at both settings, or once where they are alike; and the shop
-abbrev pub fits_text : Form → Bool → Setup → List Command → List Command → CertificateData → RunTime → RunTime → List ℕ
+abbrev pub fits_text : Form → Bool → Setup → List Command → List Command → CertificateData → ProgramTimeData → ProgramTimeData → List ℕ
 fits_text form false setup off on c off_time on_time =
     setting_text form true false Off setup.machine off c.off off_time ++ (shop_text form setup ++ closing form)
 fits_text form true setup off on c off_time on_time =
@@ -175,9 +174,9 @@ is_on On = true
 pub record IsFitReport (setup : Setup) (bytes : List ℕ) (request : ReportRequest) (text : List ℕ) : Type 0 where
   pub certificate : CertificateData
   pub made : IsMadeFor setup bytes request.cuts certificate
-  pub off_time : RunTime
+  pub off_time : ProgramTimeData
   pub off_lasts : LastsFor setup.machine made.off off_time
-  pub on_time : RunTime
+  pub on_time : ProgramTimeData
   pub on_lasts : LastsFor setup.machine made.on on_time
   pub tells : text ≡ fits_text request.form (has_deleted made.means.program.lines) setup made.off made.on certificate off_time on_time
 
@@ -248,7 +247,7 @@ abbrev pub IsAcceptedOf : ProgramText → Setup → AcceptedData → Type 0
 IsAcceptedOf text setup a = (rs : List Reading) → AreReadings text.lines rs → KeepsGiven (program_said text rs) setup a
 
 -- it takes so long at a setting of block delete
-abbrev pub IsTimed : ProgramText → Setup → Bool → RunTime → Type 0
+abbrev pub IsTimed : ProgramText → Setup → Bool → ProgramTimeData → Type 0
 IsTimed text setup block_delete time = (rs : List Reading) → AreReadings text.lines rs →
     (commands : List Command) × (meaning (program_said text rs) setup block_delete ≡ Ok commands) × LastsFor setup.machine commands time
 

@@ -1,5 +1,11 @@
--- How long a run through a program took, as it is told. Our own.
-use Rattle.std.specs.Prelude.{ℕ, ◌*◌, ◌/◌, ◌%◌, List, ◌++◌, codes, decimal}
+-- How long a run through a program takes, as it is told. Our own.
+use Rattle.std.specs.Prelude.{ℕ, ◌*◌, ◌/◌, ◌%◌, List, [], ◌∷◌, ◌++◌, drop, codes, decimal, Option, None, Some, if◌then◌else◌}
+use Rattle.ngc_canonical.specs.declared.command.Command.{Command}
+use Rattle.ngc_machine.specs.declared.tools.Tool.{Tool}
+use Rattle.ngc_report.specs.Uses.{moves, tool_uses, use_of}
+use Rattle.ngc_report.specs.declared.form.Form.{Form}
+use Rattle.ngc_report.specs.declared.form.Form.TheVariants.{Words, Json}
+use Rattle.ngc_report.specs.declared.uses.ToolUse.{ToolUse}
 use Rattle.ngc_simulator.specs.declared.done.RunTime.{RunTime}
 
 -- a number below 100, and one below 1000
@@ -26,3 +32,45 @@ seconds_text time =
 -- the line that tells it
 abbrev pub time_line : RunTime → List ℕ
 time_line time = codes "ngc: ticks " ++ decimal time.ticks ++ codes " time " ++ time_text time ++ codes "\n"
+
+-- ---- with each tool
+
+-- the whole run, and its ticks up to the end of the first change of the tool, and of each change to that of the next
+pub record ProgramTimeData : Type 0 where
+  pub whole : RunTime
+  pub parts : List ℕ
+
+-- the ticks of the uses that are told: what comes before the first change is one of them where something moves there
+abbrev pub ticks_told : List Command → List ℕ → List ℕ
+ticks_told commands parts = if moves (use_of None commands) then parts else drop 1 parts
+
+unfoldable pub named_tool : Option Tool → List ℕ
+named_tool None = codes "no tool"
+named_tool (Some tool) = codes "tool " ++ decimal tool.number
+
+-- its number, or null without one
+unfoldable pub tool_value : Option Tool → List ℕ
+tool_value None = codes "null"
+tool_value (Some tool) = decimal tool.number
+
+abbrev pub use_time_words : Option Tool → RunTime → List ℕ
+use_time_words tool time = codes "With " ++ named_tool tool ++ codes " it takes " ++ decimal time.ticks ++ codes " ticks, " ++ time_text time ++ codes ".\n"
+
+abbrev pub use_time_fact : Option Tool → RunTime → List ℕ
+use_time_fact tool time =
+    codes ",\n{\"fact\":\"use_time\",\"tool\":" ++ tool_value tool ++ codes ",\"ticks\":" ++ decimal time.ticks ++ codes ",\"seconds\":"
+    ++ seconds_text time ++ codes "}"
+
+unfoldable pub use_time : Form → Option Tool → RunTime → List ℕ
+use_time Words tool time = use_time_words tool time
+use_time Json tool time = use_time_fact tool time
+
+-- a line for each use
+abbrev pub use_times : Form → RunTime → List ToolUse → List ℕ → List ℕ
+use_times form whole [] ticks = []
+use_times form whole (u ∷ us) [] = []
+use_times form whole (u ∷ us) (n ∷ ns) = use_time form u.tool (record whole { ticks = n }) ++ use_times form whole us ns
+
+-- of a program
+abbrev pub uses_text : Form → List Command → ProgramTimeData → List ℕ
+uses_text form commands time = use_times form time.whole (tool_uses commands) (ticks_told commands time.parts)

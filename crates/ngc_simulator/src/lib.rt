@@ -14,6 +14,7 @@ mod listing;
 mod mistaken_files;
 mod opening;
 mod program;
+mod program_time;
 mod report;
 mod report_certificates;
 mod report_drawing;
@@ -28,6 +29,8 @@ mod setup;
 mod showing;
 mod through;
 mod timing;
+mod unread_files;
+mod use_times;
 
 pub use certifier::{CertifyFault, certify};
 pub use checking::{CheckingFault, check_program};

@@ -38,7 +38,7 @@ fn add_clock(chunk: &mut Chunk, seconds: u128)
     add_two_digits(chunk, seconds % 60);
 }
 
-fn add_time(chunk: &mut Chunk, time: &RunTime)
+pub(crate) fn add_time(chunk: &mut Chunk, time: &RunTime)
     requires { length chunk.old + 330 ≤ CHUNK_SIZE }
     ensures text { chunk.new ≡ chunk.old ++ time_text time.now }
     ensures short { length chunk.new ≤ length chunk.old + 323 }
@@ -61,7 +61,7 @@ pub(crate) fn add_time_line(chunk: &mut Chunk, time: &RunTime)
     chunk.add_text(b"\n");
 }
 
-fn add_seconds(chunk: &mut Chunk, time: &RunTime)
+pub(crate) fn add_seconds(chunk: &mut Chunk, time: &RunTime)
     requires { length chunk.old + 170 ≤ CHUNK_SIZE }
     ensures text { chunk.new ≡ chunk.old ++ seconds_text time.now }
     ensures short { length chunk.new ≤ length chunk.old + 161 }

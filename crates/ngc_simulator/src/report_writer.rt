@@ -14,11 +14,13 @@ ghost use Rattle.ngc_canonical.specs.Faults.{fault_number};
 ghost use Rattle.ngc_output.specs.Collected.{HasLineRoom};
 ghost use Rattle.ngc_report.specs.Forms.{closing, opening};
 ghost use Rattle.ngc_report.specs.Marks.{named_line};
-ghost use Rattle.ngc_simulator.specs.Reporting.{cause_text, ending, fits_text, heading, hint, quoted_if, refusal_text, refusals_text, refused_line, rejection_text, setting_line, setting_refusals, setting_text, shop_text, takes_line, told_command, told_number};
+ghost use Rattle.ngc_simulator.specs.Reporting.{cause_text, duration_text, ending, fits_text, heading, hint, quoted_if, refusal_text, refusals_text, refused_line, rejection_text, setting_line, setting_refusals, setting_text, shop_text, takes_line, told_command, told_number};
 
 use crate::done::RunTime;
 use crate::drawing::met_at;
+use crate::program_time::ProgramTime;
 use crate::report_time::add_takes_line;
+use crate::use_times::write_use_times;
 use ngc_canonical::{Command, Fault};
 use ngc_certificate::{Setting, place_fault};
 use ngc_certificate_text::Certificate;
@@ -156,6 +158,24 @@ fn write_takes_line<W: Sink>(form: Form, time: &RunTime, output: &mut W) -> Resu
     chunk.write_out(output)
 }
 
+// How long a program takes, and with each tool.
+fn write_duration<A: Allocator, W: Sink>(
+    form: Form,
+    commands: &[Command],
+    time: &ProgramTime<A>,
+    output: &mut W,
+) -> Result<(), WriteFault>
+    ensures ok { OnOk result (Appends (W.written output.old) (W.written output.new) (duration_text form commands.now time.now)) }
+    ensures fault { OnErr result (AppendsBeginning (W.written output.old) (W.written output.new) (duration_text form commands.now time.now)) }
+    ensures counts { CountsFailure (W.failures output.old) (W.failures output.new) result }
+{
+    match write_takes_line(form, &time.whole, output) {
+        Ok(()) => {}
+        Err(fault) => return Err(fault),
+    }
+    write_use_times(form, commands, time, output)
+}
+
 // What fits at a setting, how long it takes, and what looks wrong there.
 fn write_setting<A: Allocator, W: Sink>(
     form: Form,
@@ -165,7 +185,7 @@ fn write_setting<A: Allocator, W: Sink>(
     setting: Setting,
     commands: &[Command],
     certificate: &Certificate<A>,
-    time: &RunTime,
+    time: &ProgramTime<A>,
     output: &mut W,
 ) -> Result<(), WriteFault>
     ensures ok { OnOk result (Appends (W.written output.old) (W.written output.new) (setting_text form first named setting (file_of machine.now) commands.now (entries_at setting (said_of certificate.now)) time.now)) }
@@ -186,7 +206,7 @@ fn write_setting<A: Allocator, W: Sink>(
         Ok(()) => {}
         Err(fault) => return Err(fault),
     }
-    match write_takes_line(form, time, output) {
+    match write_duration(form, commands, time, output) {
         Ok(()) => {}
         Err(fault) => return Err(fault),
     }
@@ -235,7 +255,7 @@ pub(crate) fn write_once<A: Allocator, W: Sink>(
     tools: &Tools<A>,
     accepted: &Accepted<A>,
     certificate: &Certificate<A>,
-    time: &RunTime,
+    time: &ProgramTime<A>,
     output: &mut W,
 ) -> Result<(), WriteFault>
     ensures ok { OnOk result (Appends (W.written output.old) (W.written output.new) (fits_text form false (setup_of machine.now tools.now) accepted.now.off accepted.now.on (said_of certificate.now) time.now time.now)) }
@@ -267,8 +287,8 @@ pub(crate) fn write_both<A: Allocator, W: Sink>(
     tools: &Tools<A>,
     accepted: &Accepted<A>,
     certificate: &Certificate<A>,
-    off_time: &RunTime,
-    on_time: &RunTime,
+    off_time: &ProgramTime<A>,
+    on_time: &ProgramTime<A>,
     output: &mut W,
 ) -> Result<(), WriteFault>
     ensures ok { OnOk result (Appends (W.written output.old) (W.written output.new) (fits_text form true (setup_of machine.now tools.now) accepted.now.off accepted.now.on (said_of certificate.now) off_time.now on_time.now)) }

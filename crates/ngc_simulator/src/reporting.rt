@@ -54,7 +54,7 @@ fn report_fit<A: Allocator + Copy, W: Sink>(
         Ok(accepted) => accepted,
         Err(fault) => return Err(CertifyFault::Make(fault)),
     };
-    let off_time = match time_of(alloc, program, machine, tools, certificate, false) {
+    let off_time = match time_of(alloc, &accepted, false) {
         Ok(time) => time,
         Err(fault) => return Err(CertifyFault::Make(fault)),
     };
@@ -72,7 +72,7 @@ fn report_fit<A: Allocator + Copy, W: Sink>(
             Err(fault) => return Err(CertifyFault::Write(fault)),
         }
     }
-    let on_time = match time_of(alloc, program, machine, tools, certificate, true) {
+    let on_time = match time_of(alloc, &accepted, true) {
         Ok(time) => time,
         Err(fault) => return Err(CertifyFault::Make(fault)),
     };

@@ -3,12 +3,14 @@ ghost use Rattle.std.specs.Prelude.{◌≡◌};
 ghost use Rattle.ngc_simulator.specs.Answers.{FailsByOutput, ReportComes, form_asked, report_inputs, request_of};
 ghost use Rattle.ngc_simulator.specs.Unread.{FailsByInput, SourceFails};
 
+use crate::certifier::CertifyFault;
 use crate::done::Done;
 use crate::fault::AnswerFault;
 use crate::files::Files;
 use crate::mistaken_files::read_shop_telling;
 use crate::reporting::report_program;
 use crate::request::ReportRequest;
+use crate::unread_files::tell_unreadable;
 use ngc_command_line::ReportOptions;
 use ngc_fixed_length::Sink;
 use ngc_input::InputFault;
@@ -32,7 +34,7 @@ fn request_of(options: &ReportOptions<'_>) -> ReportRequest
 }
 
 /// The report of a program. Its faults are those of a certificate that isn't made. Of a machine file or a tool table that is refused
-/// the mistake is written.
+/// the mistake is written, and of a named program that can't be read the line at fault.
 pub(crate) fn report_files<F: Files, W: Sink>(
     alloc: Global,
     options: &ReportOptions<'_>,
@@ -43,7 +45,9 @@ pub(crate) fn report_files<F: Files, W: Sink>(
     ensures unread { FailsByInput (SourceFails F.R.remaining F.R.failures) (F.bytes files.old) (report_inputs options.now) (F.failures files.old) (F.failures files.new) result }
     ensures sink { FailsByOutput result (W.failures output.old) (W.failures output.new) }
 {
-    let shop = match read_shop_telling(alloc, options.machine, Some(options.tools), files, output) {
+    let request = request_of(options);
+    let (machine, tools) = (options.machine, Some(options.tools));
+    let shop = match read_shop_telling(alloc, request.form, machine, tools, files, output) {
         Ok(shop) => shop,
         Err(fault) => return Err(fault),
     };
@@ -51,15 +55,27 @@ pub(crate) fn report_files<F: Files, W: Sink>(
         Ok(source) => source,
         Err(_) => return Err(AnswerFault::Input(InputFault::Device)),
     };
-    match report_program(
+    let fault = match report_program(
         alloc,
         &mut source,
         &shop.machine,
         &shop.tools,
-        request_of(options),
+        request,
         output,
     ) {
-        Ok(()) => Ok(Done::Quietly),
-        Err(fault) => Err(AnswerFault::Certify(fault)),
+        Ok(()) => return Ok(Done::Quietly),
+        Err(fault) => fault,
+    };
+    // Standard input isn't read again.
+    let name = match options.program {
+        Some(name) => name,
+        None => return Err(AnswerFault::Certify(fault)),
+    };
+    match fault {
+        CertifyFault::Read(fault) => {
+            let told = tell_unreadable(alloc, request.form, name, fault, files, output);
+            Err(AnswerFault::Certify(told))
+        }
+        _ => Err(AnswerFault::Certify(fault)),
     }
 }

@@ -8,6 +8,7 @@ use crate::files::Files;
 use crate::mistaken_files::read_shop_telling;
 use ngc_command_line::ShowOptions;
 use ngc_fixed_length::Sink;
+use ngc_report::Form;
 use ngc_setup_sheet::write_sheet;
 use std::alloc::Global;
 
@@ -22,7 +23,8 @@ pub(crate) fn show_files<F: Files, W: Sink>(
     ensures unread { FailsByInput (SourceFails F.R.remaining F.R.failures) (F.bytes files.old) (show_inputs options.now) (F.failures files.old) (F.failures files.new) result }
     ensures sink { FailsByOutput result (W.failures output.old) (W.failures output.new) }
 {
-    let shop = match read_shop_telling(alloc, options.machine, options.tools, files, output) {
+    let (machine, tools) = (options.machine, options.tools);
+    let shop = match read_shop_telling(alloc, Form::Words, machine, tools, files, output) {
         Ok(shop) => shop,
         Err(fault) => return Err(fault),
     };

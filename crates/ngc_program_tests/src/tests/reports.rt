@@ -1,8 +1,9 @@
 //! `ngc report`: whole texts, with figures that were reckoned by hand.
 use super::checks::{holds, same};
-use super::{MACHINE, Outcome, SomeFiles, TOOLS, Texts, on_the_mill, outcome_of, status_of};
+use super::{MACHINE, Outcome, SomeFiles, TOOLS, Text, Texts, on_the_mill, outcome_of, status_of};
 use ngc_fixed_length::Device;
-use ngc_simulator::{Options, ReportOptions, ShowOptions};
+use ngc_line_reader::ReadFault;
+use ngc_simulator::{Files, Options, ReportOptions, ShowOptions};
 use ngc_test_devices::FailingSink;
 use serde_json::Value;
 use std::alloc::Global;
@@ -87,7 +88,8 @@ It takes 1 ticks, 0:00:00.001 at 1000 ticks a second.
 warning: fixture 0 is thinner than 0.1 mm: its corners are in nanometres
 ";
 
-// 3000 path steps, a tool, 1000 path steps, half a second, and the end: 3000 + 1 + 1000 + 500 + 1 ticks. Tool 1 reaches 3 mm to
+// 3000 path steps, a tool, 1000 path steps, half a second, and the end: 3000 + 1 + 1000 + 500 + 1 ticks. The tick of the change is told
+// of the tool before it. Tool 1 reaches 3 mm to
 // each side.
 const TWO_USES: &str = "G0 X30\nT1 M6\nG0 X20\nG4 P0.5\nM2\n";
 
@@ -96,9 +98,11 @@ const TWO_USES_REPORT: &str =
 X from 0 mm to 30 mm, 0 mm left below and 270 mm left above.
 Y from 0 mm to 0 mm, 0 mm left below and 300 mm left above.
 Z from 0 mm to 0 mm, 100 mm left below and 0 mm left above.
-With no tool: traverses 1, feeds 0, arcs 0, dwells 0, stops 0; nearest fixture 0, 10 mm away.
-With tool 1: traverses 1, feeds 0, arcs 0, dwells 1, stops 0; nearest fixture 0, 7 mm away.
+With no tool: traverses 1 along 30 mm, feeds 0 along 0 mm, arcs 0, dwells 0, stops 0; nearest fixture 0, 10 mm away.
+With tool 1: traverses 1 along 10 mm, feeds 0 along 0 mm, arcs 0, dwells 1, stops 0; nearest fixture 0, 7 mm away.
 It takes 4502 ticks, 0:00:04.502 at 1000 ticks a second.
+With no tool it takes 3001 ticks, 0:00:03.001.
+With tool 1 it takes 1501 ticks, 0:00:01.501.
 ";
 
 // 3000 + 1000 + 2000 + 1 ticks, and 3000 + 1 without the lines that begin with `/`.
@@ -109,15 +113,17 @@ The program fits: every position is inside the travel and clear of every fixture
 X from 0 mm to 30 mm, 0 mm left below and 270 mm left above.
 Y from 0 mm to 0 mm, 0 mm left below and 300 mm left above.
 Z from 0 mm to 0 mm, 100 mm left below and 0 mm left above.
-With no tool: traverses 2, feeds 0, arcs 0, dwells 1, stops 0; nearest fixture 0, 10 mm away.
+With no tool: traverses 2 along 50 mm, feeds 0 along 0 mm, arcs 0, dwells 1, stops 0; nearest fixture 0, 10 mm away.
 It takes 6001 ticks, 0:00:06.001 at 1000 ticks a second.
+With no tool it takes 6001 ticks, 0:00:06.001.
 With block delete on:
 The program fits: every position is inside the travel and clear of every fixture.
 X from 0 mm to 30 mm, 0 mm left below and 270 mm left above.
 Y from 0 mm to 0 mm, 0 mm left below and 300 mm left above.
 Z from 0 mm to 0 mm, 100 mm left below and 0 mm left above.
-With no tool: traverses 1, feeds 0, arcs 0, dwells 0, stops 0; nearest fixture 0, 10 mm away.
+With no tool: traverses 1 along 30 mm, feeds 0 along 0 mm, arcs 0, dwells 0, stops 0; nearest fixture 0, 10 mm away.
 It takes 3001 ticks, 0:00:03.001 at 1000 ticks a second.
+With no tool it takes 3001 ticks, 0:00:03.001.
 ";
 
 const TOO_FAR: &str = "The program does not fit.
@@ -141,7 +147,7 @@ Line 3: X50
 ";
 
 // 100 + 100 + 100 path steps, a tool, 10000 + 1000 + 5000 + 5000 path steps, and the end. The machine makes 600 mm a minute. Home
-// is reached from below the clamp's top, beside the clamp.
+// is reached from below the clamp's top, beside the clamp, from X1 Y50 Z-10: 51 mm, since 51 * 51 is 1 + 2500 + 100.
 const WARNED: &str = "G0 Z-1\nF601 G1 X1\nG0 Z0\nT1 M6\nG0 Y100\nZ-10\nG28 Y50\nM2\n";
 
 const WARNED_REPORT: &str =
@@ -149,9 +155,11 @@ const WARNED_REPORT: &str =
 X from 0 mm to 1 mm, 0 mm left below and 299 mm left above.
 Y from 0 mm to 100 mm, 0 mm left below and 200 mm left above.
 Z from -10 mm to 0 mm, 90 mm left below and 0 mm left above.
-With no tool: traverses 2, feeds 1, arcs 0, dwells 0, stops 0; nearest fixture 0, 39 mm away.
-With tool 1: traverses 4, feeds 0, arcs 0, dwells 0, stops 0; nearest fixture 0, 36 mm away.
+With no tool: traverses 2 along 2 mm, feeds 1 along 1 mm, arcs 0, dwells 0, stops 0; nearest fixture 0, 39 mm away.
+With tool 1: traverses 4 along 211 mm, feeds 0 along 0 mm, arcs 0, dwells 0, stops 0; nearest fixture 0, 36 mm away.
 It takes 21302 ticks, 0:00:21.302 at 1000 ticks a second.
+With no tool it takes 301 ticks, 0:00:00.301.
+With tool 1 it takes 21001 ticks, 0:00:21.001.
 warning: motions without a tool, away from the height of the start: 3, the first in line 1.
 warning: feeds above the greatest speed of the machine: 1, the first in line 2.
 warning: traverses home along X or Y, below the top of a fixture: 1, the first in line 7.
@@ -265,6 +273,30 @@ const REFUSED_FILES: &[(&str, &str, &str, &str)] = &[
     ),
 ];
 
+// What `ngc report --json` prints of one.
+const REFUSED_FACTS: &[(&str, &str, &str, &str)] = &[
+    (
+        "",
+        TOOLS,
+        "[{\"fact\":\"report\",\"version\":1},\n{\"fact\":\"fault\",\"number\":269}\n]\n",
+        "ngc: fault 269 machine\n",
+    ),
+    (
+        MACHINE,
+        "version = 3\n",
+        "[{\"fact\":\"report\",\"version\":1},\n{\"fact\":\"fault\",\"number\":261}\n]\n",
+        "ngc: fault 261 tools\n",
+    ),
+];
+
+// The same of `ngc show` with too many tables of one kind.
+const TOO_MANY_FIXTURES: &str =
+    "The key `fixture` is refused. Asked are at most 256 tables `[[fixture]]`, each with `low` and `high`.
+";
+
+const TOO_MANY_TOOLS: &str = "The key `tool` is refused. Asked are at most 1,000 tables `[[tool]]`.
+";
+
 const UNKNOWN_CODE: &str = "The program is refused.
 Line 2: G0 G5 X1
            ^
@@ -364,9 +396,11 @@ const TWO_USES_FACTS: &str = r#"[{"fact":"report","version":1},
 {"fact":"extent","axis":"X","low":0,"high":30000000,"left_below":0,"left_above":270000000},
 {"fact":"extent","axis":"Y","low":0,"high":0,"left_below":0,"left_above":300000000},
 {"fact":"extent","axis":"Z","low":0,"high":0,"left_below":100000000,"left_above":0},
-{"fact":"use","tool":null,"traverses":1,"feeds":0,"arcs":0,"dwells":0,"stops":0,"nearest_fixture":0,"distance":10000000},
-{"fact":"use","tool":1,"traverses":1,"feeds":0,"arcs":0,"dwells":1,"stops":0,"nearest_fixture":0,"distance":7000000},
-{"fact":"time","ticks":4502,"ticks_per_second":1000,"seconds":4.502}
+{"fact":"use","tool":null,"traverses":1,"traverse_way":30000000,"feeds":0,"feed_way":0,"arcs":0,"dwells":0,"stops":0,"nearest_fixture":0,"distance":10000000},
+{"fact":"use","tool":1,"traverses":1,"traverse_way":10000000,"feeds":0,"feed_way":0,"arcs":0,"dwells":1,"stops":0,"nearest_fixture":0,"distance":7000000},
+{"fact":"time","ticks":4502,"ticks_per_second":1000,"seconds":4.502},
+{"fact":"use_time","tool":null,"ticks":3001,"seconds":3.001},
+{"fact":"use_time","tool":1,"ticks":1501,"seconds":1.501}
 ]
 "#;
 
@@ -389,8 +423,9 @@ const WARNED_TWICE_FACTS: &str = r#"[{"fact":"report","version":1},
 {"fact":"extent","axis":"X","low":0,"high":0,"left_below":0,"left_above":300000000},
 {"fact":"extent","axis":"Y","low":0,"high":0,"left_below":0,"left_above":300000000},
 {"fact":"extent","axis":"Z","low":-1000000,"high":0,"left_below":99000000,"left_above":0},
-{"fact":"use","tool":null,"traverses":2,"feeds":0,"arcs":0,"dwells":0,"stops":0,"nearest_fixture":0,"distance":40000000},
+{"fact":"use","tool":null,"traverses":2,"traverse_way":2000000,"feeds":0,"feed_way":0,"arcs":0,"dwells":0,"stops":0,"nearest_fixture":0,"distance":40000000},
 {"fact":"time","ticks":201,"ticks_per_second":1000,"seconds":0.201},
+{"fact":"use_time","tool":null,"ticks":201,"seconds":0.201},
 {"fact":"warning","text":"motions without a tool, away from the height of the start","count":2,"line":1},
 {"fact":"setting","block_delete":true},
 {"fact":"verdict","fits":true},
@@ -480,6 +515,90 @@ const FACTS: &[(&str, &str, u8, &str, &str)] = &[
     ),
 ];
 
+const NO_NUMBER: &str = "The program can't be read.
+Line 2: G0 X1.2.3
+           ^
+`ngc explain 113` tells more.
+";
+
+// Programs with a fault of their text, in the file `program`.
+const UNREADABLE: &[(&str, &str, u8, &str, &str)] = &[
+    (
+        MACHINE,
+        "G0 X1\nG0 X1.2.3\nM2\n",
+        3,
+        NO_NUMBER,
+        "ngc: fault 113 line 2 column 4\n",
+    ),
+    (
+        MACHINE,
+        "%\nG0 X1\n",
+        3,
+        "The program can't be read.\n`ngc explain 121` tells more.\n",
+        "ngc: fault 121\n",
+    ),
+    (
+        MACHINE,
+        "G0 X1\nM2\nG0 X1 @",
+        3,
+        "The program can't be read.\nLine 3: G0 X1 @\n              ^\n`ngc explain 112` tells more.\n",
+        "ngc: fault 112 line 3 column 7\n",
+    ),
+];
+
+const NO_NUMBER_FACTS: &str = r#"[{"fact":"report","version":1},
+{"fact":"unreadable"},
+{"fact":"line","number":2,"text":"G0 X1.2.3"},
+{"fact":"mark","line":2,"column":4},
+{"fact":"fault","number":113}
+]
+"#;
+
+const NO_END_FACTS: &str = r#"[{"fact":"report","version":1},
+{"fact":"unreadable"},
+{"fact":"fault","number":121}
+]
+"#;
+
+const QUOTATION_FACTS: &str = r#"[{"fact":"report","version":1},
+{"fact":"unreadable"},
+{"fact":"line","number":1,"text":"G0 X1 \"\\"},
+{"fact":"mark","line":1,"column":7},
+{"fact":"fault","number":112}
+]
+"#;
+
+// The same with `--json`.
+const UNREADABLE_FACTS: &[(&str, &str, u8, &str, &str)] = &[
+    (
+        MACHINE,
+        "G0 X1\nG0 X1.2.3\nM2\n",
+        3,
+        NO_NUMBER_FACTS,
+        "ngc: fault 113 line 2 column 4\n",
+    ),
+    (MACHINE, "%\nG0 X1\n", 3, NO_END_FACTS, "ngc: fault 121\n"),
+    (
+        MACHINE,
+        "G0 X1 \"\\\nM2\n",
+        3,
+        QUOTATION_FACTS,
+        "ngc: fault 112 line 1 column 7\n",
+    ),
+];
+
+// On standard input, which isn't read again.
+const UNREADABLE_INPUT: &[(&str, &str, u8, &str, &str)] = &[
+    (
+        MACHINE,
+        "G0 X1\nG0 X1.2.3\nM2\n",
+        3,
+        "",
+        "ngc: fault 113 line 2 column 4\n",
+    ),
+    (MACHINE, "%\nG0 X1\n", 3, "", "ngc: fault 121\n"),
+];
+
 fn on<'a>(machine: &'a str, program: &'a str) -> Texts<'a> {
     Texts {
         machine: machine.as_bytes(),
@@ -516,29 +635,95 @@ fn reports_as_documents(rt: HostRuntime) {
 }
 
 #[test]
-fn refused_files_are_shown(rt: HostRuntime) {
-    let options = Options::Show(ShowOptions {
-        machine: "machine",
-        tools: Some("tools"),
-    });
-    for (machine, tools, output, errors) in REFUSED_FILES {
+fn programs_that_cannot_be_read(rt: HostRuntime) {
+    let named = Some("program");
+    are_reported(&rt, rt.alloc(), report_options(named), UNREADABLE);
+    are_reported(
+        &rt,
+        rt.alloc(),
+        report_of(named, false, true),
+        UNREADABLE_FACTS,
+    );
+    are_reported(&rt, rt.alloc(), report_options(None), UNREADABLE_INPUT);
+    are_reported(
+        &rt,
+        rt.alloc(),
+        report_of(None, false, true),
+        UNREADABLE_INPUT,
+    );
+}
+
+const SHOW: Options<'static> = Options::Show(ShowOptions {
+    machine: "machine",
+    tools: Some("tools"),
+});
+
+fn are_refused(
+    rt: &impl Abort,
+    alloc: Global,
+    options: &Options<'_>,
+    rows: &[(&str, &str, &str, &str)],
+) {
+    for (machine, tools, output, errors) in rows {
         let texts = Texts {
             machine: machine.as_bytes(),
             tools: tools.as_bytes(),
             ..on_the_mill("M2\n")
         };
-        let found = outcome_of(rt.alloc(), texts, &options);
-        found.is(&rt, 3, output, errors, errors);
+        let found = outcome_of(alloc, texts, options);
+        found.is(rt, 3, output, errors, errors);
     }
+}
+
+#[test]
+fn refused_files(rt: HostRuntime) {
+    are_refused(&rt, rt.alloc(), &SHOW, REFUSED_FILES);
+    let report = Options::Report(report_options(None));
+    are_refused(&rt, rt.alloc(), &report, REFUSED_FILES);
+    let document = Options::Report(report_of(None, false, true));
+    are_refused(&rt, rt.alloc(), &document, REFUSED_FACTS);
+}
+
+#[test]
+fn too_many_tables(rt: HostRuntime) -> Result<(), Fail> {
+    let fixtures = "[[fixture]]\nlow = [0, 0, 0]\nhigh = [1, 1, 1]\n".repeat(rt.alloc(), 257)?;
+    let machine = format!(in rt.alloc(); "{MACHINE}{fixtures}")?;
+    let tools = "[[tool]]\nnumber = 1\nlength = 0\nradius = 0\noffset = 0\n".repeat(
+        rt.alloc(),
+        1001,
+    )?;
+    let tools = format!(in rt.alloc(); "version = 1\n{tools}")?;
+    are_refused(
+        &rt,
+        rt.alloc(),
+        &SHOW,
+        &[
+            (
+                machine.as_str(),
+                TOOLS,
+                TOO_MANY_FIXTURES,
+                "ngc: fault 267 machine\n",
+            ),
+            (
+                MACHINE,
+                tools.as_str(),
+                TOO_MANY_TOOLS,
+                "ngc: fault 268 tools\n",
+            ),
+        ],
+    );
+    Ok(())
 }
 
 // Another parser reads them, and finds the version.
 #[test]
 fn documents_are_json(rt: HostRuntime) -> Result<(), Fail> {
-    for (_, program, _, output, _) in FACTS {
-        let document = Value::from_str(rt.alloc(), output)?;
-        let version = document.pointer("/0/version").and_then(Value::as_u64);
-        same(&rt, program, &version, &Some(1));
+    for rows in [FACTS, UNREADABLE_FACTS] {
+        for (_, program, _, output, _) in rows {
+            let document = Value::from_str(rt.alloc(), output)?;
+            let version = document.pointer("/0/version").and_then(Value::as_u64);
+            same(&rt, program, &version, &Some(1));
+        }
     }
     Ok(())
 }
@@ -551,11 +736,18 @@ fn a_program_that_is_not_there(rt: HostRuntime) {
     same(&rt, &"nowhere", &found.failures, &1);
 }
 
-fn breaks_off_after(rt: &impl Abort, alloc: Global, texts: Texts<'_>, whole: &str, calls: usize) {
+fn breaks_off_after(
+    rt: &impl Abort,
+    alloc: Global,
+    texts: Texts<'_>,
+    options: ReportOptions<'_>,
+    whole: &str,
+    calls: usize,
+) {
     let mut files = SomeFiles { texts, failures: 0 };
     let mut sink = FailingSink::new(alloc, calls, 1);
     let mut errors = Device::new(Vec::new(alloc));
-    let options = Options::Report(report_options(None));
+    let options = Options::Report(options);
     let status = status_of(alloc, &options, &mut files, &mut sink, &mut errors);
     same(rt, &calls, &sink.taken.len(), &calls);
     holds(
@@ -575,11 +767,72 @@ fn breaks_off_after(rt: &impl Abort, alloc: Global, texts: Texts<'_>, whole: &st
 // Behind and within each part of the report; and in a refusal, of which 304 is not told then.
 #[test]
 fn reports_that_break_off(rt: HostRuntime) {
+    let options = report_options(None);
     for calls in [0, 23, 30, 380, 400, 437, 459, 872] {
-        breaks_off_after(&rt, rt.alloc(), on(QUICK, DELETED), DELETED_REPORT, calls);
+        let texts = on(QUICK, DELETED);
+        breaks_off_after(&rt, rt.alloc(), texts, options, DELETED_REPORT, calls);
     }
     for calls in [0, 1, 300] {
         let texts = on(MACHINE, "G0 X302.5\nM2\n");
-        breaks_off_after(&rt, rt.alloc(), texts, TOO_FAR, calls);
+        breaks_off_after(&rt, rt.alloc(), texts, options, TOO_FAR, calls);
     }
+}
+
+// Behind and within the sentence, the line with its mark, and the hint.
+#[test]
+fn unreadable_programs_break_off(rt: HostRuntime) {
+    let options = report_options(Some("program"));
+    for calls in [0, 27, 30, 58, 60] {
+        let texts = on(MACHINE, "G0 X1\nG0 X1.2.3\nM2\n");
+        breaks_off_after(&rt, rt.alloc(), texts, options, NO_NUMBER, calls);
+    }
+}
+
+// The files of a text, of which the program is opened once.
+#[derive(Drop)]
+struct OnceFiles<'a> {
+    files: SomeFiles<'a>,
+    opened: bool,
+}
+
+impl<'a> Files for OnceFiles<'a> {
+    ghost use Rattle.std.specs.Prelude.{None};
+
+    type R = Text<'a>;
+
+    ghost failures = { λ f. f.files.failures };
+
+    ghost bytes = { λ _ _. None };
+
+    fn source(&mut self, name: Option<&str>) -> Result<Text<'a>, ReadFault> {
+        let is_program = name == Some("program");
+        let found = if is_program && self.opened {
+            Some("nowhere")
+        } else {
+            name
+        };
+        self.opened = self.opened || is_program;
+        self.files.source(found)
+    }
+}
+
+#[test]
+fn a_program_that_is_not_there_again(rt: HostRuntime) {
+    let texts = on(MACHINE, "G0 X1.2.3\nM2\n");
+    let mut files = OnceFiles {
+        files: SomeFiles { texts, failures: 0 },
+        opened: false,
+    };
+    let mut output = Device::new(Vec::new(rt.alloc()));
+    let mut errors = Device::new(Vec::new(rt.alloc()));
+    let options = Options::Report(report_options(Some("program")));
+    let status = status_of(rt.alloc(), &options, &mut files, &mut output, &mut errors);
+    let found = Outcome {
+        status,
+        output: output.into_inner(),
+        errors: errors.into_inner(),
+        failures: files.files.failures,
+    };
+    found.is(&rt, 1, "", "ngc: fault 901\n", "opened again");
+    same(&rt, &"opened again", &found.failures, &1);
 }

@@ -1,5 +1,4 @@
-use Rattle.std.proofs.Common.{◌∙◌, ap, refl}
-use Rattle.std.specs.Option.{option_map}
+use Rattle.std.proofs.Common.{◌∙◌, refl}
 use Rattle.ngc_report.specs.Quotes.{marked, quote}
 use Rattle.ngc_report.proofs.source_lines.marked_line.Goals as goal
 

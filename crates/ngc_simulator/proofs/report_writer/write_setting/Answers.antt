@@ -14,20 +14,20 @@ returns-in-Err-write_fit-clause-fault g c =
     begins_after _ _ _ _ _ _ c.in-Ok.ensures.ok
     (begins_as _ _ _ _ (ap (λ motions. report_text c.args.form (fit_lines (file_of c.args.machine.now) c.args.commands.now motions)) c.motions.ensures) c.in-Err-write_fit.ensures.fault)
 
-pub returns-in-Err-write_takes_line-clause-fault : goal.returns-in-Err-write_takes_line-clause-fault
-returns-in-Err-write_takes_line-clause-fault g c =
+pub returns-in-Err-write_duration-clause-fault : goal.returns-in-Err-write_duration-clause-fault
+returns-in-Err-write_duration-clause-fault g c =
     let head = c.in-Ok.ensures.ok in
     let fits = appends_as _ _ _ _ (ap (λ motions. report_text c.args.form (fit_lines (file_of c.args.machine.now) c.args.commands.now motions)) c.motions.ensures) c.in-Ok-write_fit.ensures.ok in
-    begins_last _ _ _ _ _ head (begins_last _ _ _ _ _ fits (begins_first _ _ _ _ c.in-Err-write_takes_line.ensures.fault))
+    begins_last _ _ _ _ _ head (begins_last _ _ _ _ _ fits (begins_first _ _ _ _ c.in-Err-write_duration.ensures.fault))
 
 pub returns-clause-ok : goal.returns-clause-ok
 returns-clause-ok g c =
     let head = c.in-Ok.ensures.ok in
     let fits = appends_as _ _ _ _ (ap (λ motions. report_text c.args.form (fit_lines (file_of c.args.machine.now) c.args.commands.now motions)) c.motions.ensures) c.in-Ok-write_fit.ensures.ok in
-    ok_weaker c.write_warnings.result _ _ (λ wrote. appends_both _ _ _ _ _ head (appends_both _ _ _ _ _ fits (appends_both _ _ _ _ _ c.in-Ok-write_takes_line.ensures.ok wrote))) c.write_warnings.ensures.ok
+    ok_weaker c.write_warnings.result _ _ (λ wrote. appends_both _ _ _ _ _ head (appends_both _ _ _ _ _ fits (appends_both _ _ _ _ _ c.in-Ok-write_duration.ensures.ok wrote))) c.write_warnings.ensures.ok
 
 pub returns-clause-fault : goal.returns-clause-fault
 returns-clause-fault g c =
     let head = c.in-Ok.ensures.ok in
     let fits = appends_as _ _ _ _ (ap (λ motions. report_text c.args.form (fit_lines (file_of c.args.machine.now) c.args.commands.now motions)) c.motions.ensures) c.in-Ok-write_fit.ensures.ok in
-    err_weaker c.write_warnings.result _ _ (λ wrote. begins_last _ _ _ _ _ head (begins_last _ _ _ _ _ fits (begins_last _ _ _ _ _ c.in-Ok-write_takes_line.ensures.ok wrote))) c.write_warnings.ensures.fault
+    err_weaker c.write_warnings.result _ _ (λ wrote. begins_last _ _ _ _ _ head (begins_last _ _ _ _ _ fits (begins_last _ _ _ _ _ c.in-Ok-write_duration.ensures.ok wrote))) c.write_warnings.ensures.fault

@@ -2,7 +2,7 @@ use Rattle.std.proofs.Common.{true, false}
 use Rattle.ngc_canonical.specs.Interpreter.{setup_of}
 use Rattle.ngc_certificate_text.specs.Contents.{said_of}
 use Rattle.ngc_line_reader.specs.ProgramView.{text_in}
-use Rattle.ngc_simulator.proofs.ReportLaws.{alike_at, fits_stopped, no_memory, off_at, on_at, told_fits}
+use Rattle.ngc_simulator.proofs.ReportLaws.{alike_at, fits_stopped, no_memory, off_at, on_at, timed, told_fits}
 use Rattle.ngc_simulator.proofs.reporting.report_fit.Goals as goal
 
 pub returns-in-Err-clause-reports : goal.returns-in-Err-clause-reports
@@ -19,8 +19,8 @@ returns-in-Ok-write_once-clause-reports g c = λ bytes is_text made.
     let said = said_of c.args.certificate.now in
     told_fits setup bytes c.args.request text said c.in-Ok.accepted is_text made c.in-Ok.ensures.keeps false c.has_deleted_lines.result c.in-Ok-time_of.time c.in-Ok-time_of.time _ _
     c.has_deleted_lines.ensures c.if-not-has_deleted_lines.true
-    (off_at setup bytes c.args.request text said c.in-Ok.accepted is_text made c.in-Ok.ensures.keeps c.in-Ok-time_of.time c.in-Ok-time_of.ensures.lasts)
-    (alike_at setup bytes c.args.request text said c.in-Ok.accepted is_text made c.in-Ok.ensures.keeps c.in-Ok-time_of.time c.has_deleted_lines.result c.has_deleted_lines.ensures c.if-not-has_deleted_lines.true c.in-Ok-time_of.ensures.lasts)
+    (off_at setup bytes c.args.request text said c.in-Ok.accepted is_text made c.in-Ok.ensures.keeps c.in-Ok-time_of.time (timed text setup false c.in-Ok.accepted c.in-Ok-time_of.time c.in-Ok.ensures.keeps c.in-Ok-time_of.ensures.lasts))
+    (alike_at setup bytes c.args.request text said c.in-Ok.accepted is_text made c.in-Ok.ensures.keeps c.in-Ok-time_of.time c.has_deleted_lines.result c.has_deleted_lines.ensures c.if-not-has_deleted_lines.true (timed text setup false c.in-Ok.accepted c.in-Ok-time_of.time c.in-Ok.ensures.keeps c.in-Ok-time_of.ensures.lasts))
     c.in-Ok-write_once.ensures.ok
 
 pub returns-in-Err-write_once-clause-reports : goal.returns-in-Err-write_once-clause-reports
@@ -30,8 +30,8 @@ returns-in-Err-write_once-clause-reports g c = λ bytes is_text made.
     let said = said_of c.args.certificate.now in
     fits_stopped setup bytes c.args.request text said c.in-Ok.accepted is_text made c.in-Ok.ensures.keeps false c.has_deleted_lines.result c.in-Ok-time_of.time c.in-Ok-time_of.time _ _ c.in-Err-write_once.fault
     c.has_deleted_lines.ensures c.if-not-has_deleted_lines.true
-    (off_at setup bytes c.args.request text said c.in-Ok.accepted is_text made c.in-Ok.ensures.keeps c.in-Ok-time_of.time c.in-Ok-time_of.ensures.lasts)
-    (alike_at setup bytes c.args.request text said c.in-Ok.accepted is_text made c.in-Ok.ensures.keeps c.in-Ok-time_of.time c.has_deleted_lines.result c.has_deleted_lines.ensures c.if-not-has_deleted_lines.true c.in-Ok-time_of.ensures.lasts)
+    (off_at setup bytes c.args.request text said c.in-Ok.accepted is_text made c.in-Ok.ensures.keeps c.in-Ok-time_of.time (timed text setup false c.in-Ok.accepted c.in-Ok-time_of.time c.in-Ok.ensures.keeps c.in-Ok-time_of.ensures.lasts))
+    (alike_at setup bytes c.args.request text said c.in-Ok.accepted is_text made c.in-Ok.ensures.keeps c.in-Ok-time_of.time c.has_deleted_lines.result c.has_deleted_lines.ensures c.if-not-has_deleted_lines.true (timed text setup false c.in-Ok.accepted c.in-Ok-time_of.time c.in-Ok.ensures.keeps c.in-Ok-time_of.ensures.lasts))
     c.in-Err-write_once.ensures.fault
 
 pub returns-in-Err-time_of-2-clause-reports : goal.returns-in-Err-time_of-2-clause-reports
@@ -45,8 +45,8 @@ returns-in-Ok-write_both-clause-reports g c = λ bytes is_text made.
     let said = said_of c.args.certificate.now in
     told_fits setup bytes c.args.request text said c.in-Ok.accepted is_text made c.in-Ok.ensures.keeps true c.has_deleted_lines.result c.in-Ok-time_of.time c.in-Ok-time_of-2.time _ _
     c.has_deleted_lines.ensures c.if-not-has_deleted_lines.false
-    (off_at setup bytes c.args.request text said c.in-Ok.accepted is_text made c.in-Ok.ensures.keeps c.in-Ok-time_of.time c.in-Ok-time_of.ensures.lasts)
-    (on_at setup bytes c.args.request text said c.in-Ok.accepted is_text made c.in-Ok.ensures.keeps c.in-Ok-time_of-2.time c.in-Ok-time_of-2.ensures.lasts)
+    (off_at setup bytes c.args.request text said c.in-Ok.accepted is_text made c.in-Ok.ensures.keeps c.in-Ok-time_of.time (timed text setup false c.in-Ok.accepted c.in-Ok-time_of.time c.in-Ok.ensures.keeps c.in-Ok-time_of.ensures.lasts))
+    (on_at setup bytes c.args.request text said c.in-Ok.accepted is_text made c.in-Ok.ensures.keeps c.in-Ok-time_of-2.time (timed text setup true c.in-Ok.accepted c.in-Ok-time_of-2.time c.in-Ok.ensures.keeps c.in-Ok-time_of-2.ensures.lasts))
     c.in-Ok-write_both.ensures.ok
 
 pub returns-clause-reports : goal.returns-clause-reports
@@ -56,6 +56,6 @@ returns-clause-reports g c = λ bytes is_text made.
     let said = said_of c.args.certificate.now in
     fits_stopped setup bytes c.args.request text said c.in-Ok.accepted is_text made c.in-Ok.ensures.keeps true c.has_deleted_lines.result c.in-Ok-time_of.time c.in-Ok-time_of-2.time _ _ c.in-Err-write_both.fault
     c.has_deleted_lines.ensures c.if-not-has_deleted_lines.false
-    (off_at setup bytes c.args.request text said c.in-Ok.accepted is_text made c.in-Ok.ensures.keeps c.in-Ok-time_of.time c.in-Ok-time_of.ensures.lasts)
-    (on_at setup bytes c.args.request text said c.in-Ok.accepted is_text made c.in-Ok.ensures.keeps c.in-Ok-time_of-2.time c.in-Ok-time_of-2.ensures.lasts)
+    (off_at setup bytes c.args.request text said c.in-Ok.accepted is_text made c.in-Ok.ensures.keeps c.in-Ok-time_of.time (timed text setup false c.in-Ok.accepted c.in-Ok-time_of.time c.in-Ok.ensures.keeps c.in-Ok-time_of.ensures.lasts))
+    (on_at setup bytes c.args.request text said c.in-Ok.accepted is_text made c.in-Ok.ensures.keeps c.in-Ok-time_of-2.time (timed text setup true c.in-Ok.accepted c.in-Ok-time_of-2.time c.in-Ok.ensures.keeps c.in-Ok-time_of-2.ensures.lasts))
     c.in-Err-write_both.ensures.fault

@@ -1,0 +1,17 @@
+use Rattle.ngc_fixed_length.proofs.Appended.{appends_both}
+use Rattle.ngc_report.specs.Forms.{opening}
+use Rattle.ngc_report.specs.declared.form.Form.TheVariants.{Json}
+use Rattle.ngc_simulator.specs.Reporting.{ending}
+use Rattle.ngc_simulator.proofs.ReportLaws.{begins_first, begins_last, err_weaker, ok_weaker}
+use Rattle.ngc_simulator.proofs.mistaken_files.write_fault_document.Goals as goal
+
+pub returns-in-Err-clause-fault : goal.returns-in-Err-clause-fault
+returns-in-Err-clause-fault g c = begins_first _ _ (opening Json) (ending Json c.args.number) c.in-Err.ensures.fault
+
+pub returns-clause-ok : goal.returns-clause-ok
+returns-clause-ok g c =
+    ok_weaker c.write_ending.result _ _ (λ wrote. appends_both _ _ _ (opening Json) (ending Json c.args.number) c.in-Ok.ensures.ok wrote) c.write_ending.ensures.ok
+
+pub returns-clause-fault : goal.returns-clause-fault
+returns-clause-fault g c =
+    err_weaker c.write_ending.result _ _ (λ wrote. begins_last _ _ _ (opening Json) (ending Json c.args.number) c.in-Ok.ensures.ok wrote) c.write_ending.ensures.fault

@@ -1,0 +1,46 @@
+-- What is told of a program that can't be read. Our own.
+use Rattle.std.specs.Prelude.{◌≡◌, ◌⊎◌, ℕ, List, [], ◌++◌, codes, Option, IsSome, Bool, true, false}
+use Rattle.std.specs.Io.KnownBytes.{Appends, Keeps}
+use Rattle.ngc_fixed_length.specs.Written.{AppendsBeginning}
+use Rattle.ngc_line_reader.specs.Program.{lines_of}
+use Rattle.ngc_line_reader.specs.ProgramText.{program_of}
+use Rattle.ngc_line_reader.specs.ProgramView.{FaultIs}
+use Rattle.ngc_line_reader.specs.ReadFaults.{number_of as read_number}
+use Rattle.ngc_line_reader.specs.declared.program.fault.ReadFault.{ReadFault}
+use Rattle.ngc_line_reader.specs.declared.program.fault.ReadFault.TheVariants as reads
+use Rattle.ngc_report.specs.Forms.{opening}
+use Rattle.ngc_report.specs.Quotes.{bytes_with, marked}
+use Rattle.ngc_report.specs.declared.form.Form.{Form}
+use Rattle.ngc_report.specs.declared.form.Form.TheVariants.{Words, Json}
+use Rattle.ngc_simulator.specs.Reporting.{ending}
+use Rattle.ngc_simulator.specs.declared.certifier.CertifyFault.{CertifyFault}
+use Rattle.ngc_simulator.specs.declared.certifier.CertifyFault.TheVariants as certifies
+
+abbrev pub unreadable_line : Form → List ℕ
+unreadable_line Words = codes "The program can't be read.\n"
+unreadable_line Json = codes ",\n{\"fact\":\"unreadable\"}"
+
+-- the line at fault with a mark below its column, or nothing where no line is
+abbrev pub marked_fault : Form → ReadFault → List ℕ → List ℕ
+marked_fault form (reads.Line number e) bytes = marked form number e.column (bytes_with number (lines_of bytes))
+marked_fault form _ bytes = []
+
+-- the report of a program whose text has this fault
+abbrev pub unreadable_text : Form → ReadFault → List ℕ → List ℕ
+unreadable_text form fault bytes = opening form ++ (unreadable_line form ++ (marked_fault form fault bytes ++ ending form (read_number fault)))
+
+-- that memory ran out or a device failed is no fault of the text
+abbrev pub is_of_text : ReadFault → Bool
+is_of_text reads.Memory = false
+is_of_text reads.Device = false
+is_of_text _ = true
+
+-- The program has this fault, which is told of a named file alone, since standard input isn't read again; and where the sink failed, a
+-- beginning of that is written. A file that isn't read again, as where it is too long or memory runs out, has nothing told.
+abbrev pub TellsUnreadable : Form → Option (List ℕ) → List ℕ → Option (List ℕ) → Option (List ℕ) → CertifyFault → Type 0
+TellsUnreadable form name bytes old new (certifies.Read fault) =
+    FaultIs fault (program_of bytes)
+    × (Keeps old new ⊎ (IsSome name × (is_of_text fault ≡ true) × Appends old new (unreadable_text form fault bytes)))
+TellsUnreadable form name bytes old new (certifies.Write e) =
+    (fault : ReadFault) × IsSome name × (is_of_text fault ≡ true) × FaultIs fault (program_of bytes) × AppendsBeginning old new (unreadable_text form fault bytes)
+TellsUnreadable form name bytes old new _ = ⊥
