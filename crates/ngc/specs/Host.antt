@@ -1,6 +1,6 @@
 -- How often a source answered a fault.
 use Rattle.std.specs.Prelude.{ℕ}
-use Rattle.ngc_fixed_length.specs.Device.{failures_of as device_failures}
+use Rattle.ngc_text.specs.Device.{failures_of as device_failures}
 use Rattle.ngc.specs.declared.host.HostSource.{HostSource}
 use Rattle.ngc.specs.declared.host.HostSource.TheVariants.{Input, Named}
 

@@ -1,8 +1,8 @@
 ghost use Rattle.ngc.specs.Host.{failures_of};
 
-use ngc_fixed_length::{Device, DeviceFault, Source};
 use ngc_line_reader::ReadFault;
 use ngc_simulator::Files;
+use ngc_text::{Device, DeviceFault, Source};
 use std::fs::File;
 use std::io::Stdin;
 

@@ -7,8 +7,8 @@ mod output;
 use crate::host::HostFiles;
 use crate::output::Output;
 use arrayvec::ArrayVec;
-use ngc_fixed_length::{Device, write_all};
 use ngc_simulator::{UsageFault, answer, read_options};
+use ngc_text::{Device, write_all};
 use std::process::ExitCode;
 use std::{env, io};
 

@@ -1,4 +1,4 @@
-use ngc_fixed_length::{DeviceFault, Sink};
+use ngc_text::{DeviceFault, Sink};
 use std::io::{self, Stdout, Write};
 
 /// Standard output. It remembers where its reader went away, as `head` does behind its lines.

@@ -4,7 +4,7 @@ use crate::checks::{holds, same};
 use crate::reading::{SAMPLE, TEXTS};
 use linked_list_allocator::LocalHeap;
 use ngc_certificate_text::{Certificate, CertificateFault, CertificateReader, Motions, Setting};
-use ngc_fixed_length::Device;
+use ngc_text::Device;
 use std::alloc::{AllocError, Global};
 use std::process::Abort;
 use std::test::Fail;

@@ -5,9 +5,9 @@ use crate::given::machine_with;
 use ngc_canonical::interpret;
 use ngc_certificate_text::Motions;
 use ngc_drawing::{Refusal, View, write_svg};
-use ngc_fixed_length::Device;
 use ngc_line_reader::Program;
 use ngc_machine::Tools;
+use ngc_text::Device;
 use std::alloc::Global;
 use std::test::Fail;
 

@@ -2,10 +2,10 @@
 use crate::checks::{holds, same};
 use crate::running::accepted_on;
 use ngc_events::read_events;
-use ngc_fixed_length::Device;
 use ngc_machine::Machine;
 use ngc_run_log::{write_pulses, write_pulses_through};
 use ngc_test_devices::FailingSink;
+use ngc_text::Device;
 use std::alloc::Global;
 use std::process::Abort;
 use std::test::Fail;

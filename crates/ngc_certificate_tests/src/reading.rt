@@ -4,8 +4,9 @@ use crate::checks::{holds, same};
 use crate::given::piece;
 use linked_list_allocator::LocalHeap;
 use ngc_certificate_text::{Certificate, CertificateFault, Cut, Piece, Setting};
-use ngc_fixed_length::{Device, Nm, Point2};
+use ngc_fixed_length::{Nm, Point2};
 use ngc_test_devices::{EndlessSource, SlowSource};
+use ngc_text::Device;
 use std::alloc::{AllocError, Global};
 use std::test::Fail;
 

@@ -4,10 +4,10 @@ use ngc_canonical::interpret;
 use ngc_certificate::make;
 use ngc_checker::{Accepted, check};
 use ngc_events::read_events;
-use ngc_fixed_length::Device;
 use ngc_line_reader::Program;
 use ngc_machine::{Machine, Tools, row_machine};
 use ngc_run_log::{run, run_through};
+use ngc_text::Device;
 use std::alloc::Global;
 use std::test::Fail;
 

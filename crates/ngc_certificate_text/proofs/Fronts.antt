@@ -3,10 +3,10 @@ use Rattle.std.proofs.Common.{◌≡◌, ◌+◌, ◌<◌, ℕ, List, ◌∷◌,
 use Rattle.std.proofs.lemmas.List.{append_assoc, append-nil, flat_map_more, take_more, take-append-drop}
 use Rattle.std.proofs.lemmas.List.Concat.{flat_map-append}
 use Rattle.std.specs.Io.KnownBytes.{Appends}
-use Rattle.ngc_fixed_length.specs.Written.{AppendsBeginning}
-use Rattle.ngc_fixed_length.proofs.Appended.{appends_both, begins_after}
-use Rattle.ngc_fixed_length.specs.declared.writing.WriteFault.{WriteFault}
-use Rattle.ngc_output.specs.Collected.{WritesFront}
+use Rattle.ngc_text.specs.Written.{AppendsBeginning}
+use Rattle.ngc_text.proofs.Appended.{appends_both, begins_after}
+use Rattle.ngc_text.specs.declared.writing.WriteFault.{WriteFault}
+use Rattle.ngc_text.specs.Collected.{WritesFront}
 use Rattle.ngc_certificate_text.specs.Collects.{Collects}
 
 -- one text and then another

@@ -1,8 +1,8 @@
 -- A certificate's text, as far as its parts are collected and written.
 use Rattle.std.proofs.Common.{◌≡◌, ◌<◌, ℕ, List, [], ◌++◌, length, get_or, codes, decimal, Option, ap, sym, subst, ◌∙◌}
 use Rattle.std.proofs.lemmas.List.{append_assoc, get_or_default}
-use Rattle.ngc_fixed_length.specs.Written.{AppendsBeginning}
-use Rattle.ngc_output.specs.Collected.{WritesFront}
+use Rattle.ngc_text.specs.Written.{AppendsBeginning}
+use Rattle.ngc_text.specs.Collected.{WritesFront}
 use Rattle.ngc_certificate_text.specs.Certificate.{Entry, entry_at}
 use Rattle.ngc_certificate_text.specs.declared.piece.Piece.{Piece}
 use Rattle.ngc_certificate_text.proofs.Fronts.{front_more, front_moved, front_stopped, longer, beginning_written}

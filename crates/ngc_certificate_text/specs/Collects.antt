@@ -1,8 +1,8 @@
 -- Text that is collected, and written from the front where room is wanted. Our own.
 use Rattle.std.specs.Prelude.{ℕ, List, ◌++◌, Option, Result, MatchResult}
-use Rattle.ngc_fixed_length.specs.Written.{AppendsBeginning}
-use Rattle.ngc_fixed_length.specs.declared.writing.WriteFault.{WriteFault}
-use Rattle.ngc_output.specs.Collected.{WritesFront}
+use Rattle.ngc_text.specs.Written.{AppendsBeginning}
+use Rattle.ngc_text.specs.declared.writing.WriteFault.{WriteFault}
+use Rattle.ngc_text.specs.Collected.{WritesFront}
 
 -- a text comes behind what was collected: the front of both is written and the rest is still collected, or a beginning is written
 abbrev pub Collects : Option (List ℕ) → Option (List ℕ) → List ℕ → List ℕ → Result (Unit {0}) WriteFault → List ℕ → Type 0

@@ -1,6 +1,6 @@
 -- What a source's failure does. Our own.
 use Rattle.std.specs.Prelude.{◌≡◌, ℕ, Result, Ok, Err}
-use Rattle.ngc_fixed_length.specs.Failures.{Rises}
+use Rattle.ngc_text.specs.Failures.{Rises}
 use Rattle.ngc_certificate_text.specs.declared.fault.CertificateFault.{CertificateFault}
 use Rattle.ngc_certificate_text.specs.declared.fault.CertificateFault.TheVariants as faults
 

@@ -1,5 +1,5 @@
 ghost use Rattle.std.specs.Prelude.{◌≡◌, IfOk, IfSome};
-ghost use Rattle.ngc_fixed_length.specs.Failures.{Rises};
+ghost use Rattle.ngc_text.specs.Failures.{Rises};
 ghost use Rattle.ngc_certificate_text.specs.Contents.{said_of, form_of};
 ghost use Rattle.ngc_certificate_text.specs.Joined.{contents};
 ghost use Rattle.ngc_certificate_text.specs.Pulled.{FailsByReading};
@@ -10,7 +10,7 @@ ghost use Rattle.ngc_certificate_text.specs.declared.fault.CertificateFault.TheV
 use crate::certificate::Certificate;
 use crate::fault::CertificateFault;
 use crate::reader::CertificateReader;
-use ngc_fixed_length::Source;
+use ngc_text::Source;
 use std::alloc::Allocator;
 
 // The certificate in its form.

@@ -1,9 +1,9 @@
 ghost use Rattle.std.specs.Prelude.{◌≡◌, ◌+◌, ◌<◌, ◌≤◌, ◌++◌, codes, decimal, flat_map, length, OnOk, OnErr};
 ghost use Rattle.std.specs.Fmt.{signed_decimal};
 ghost use Rattle.std.specs.Io.KnownBytes.{Appends};
-ghost use Rattle.ngc_fixed_length.specs.Failures.{CountsFailure};
-ghost use Rattle.ngc_fixed_length.specs.Written.{AppendsBeginning};
-ghost use Rattle.ngc_output.specs.Collected.{CHUNK_SIZE, HasLineRoom};
+ghost use Rattle.ngc_text.specs.Failures.{CountsFailure};
+ghost use Rattle.ngc_text.specs.Written.{AppendsBeginning};
+ghost use Rattle.ngc_text.specs.Collected.{CHUNK_SIZE, HasLineRoom};
 ghost use Rattle.ngc_certificate_text.specs.Collects.{Collects};
 ghost use Rattle.ngc_certificate_text.specs.Contents.{form_of};
 ghost use Rattle.ngc_certificate_text.specs.Spelling.{steps_text, cut_text, piece_line, motion_line, entry_lines, setting_lines, parted_spelling};
@@ -15,8 +15,8 @@ use crate::certificate::{Certificate, EntryKind};
 use crate::expected::Indices;
 use crate::motions::Motions;
 use crate::piece::{Cut, Piece};
-use ngc_fixed_length::{Sink, StepPos, WriteFault};
-use ngc_output::Chunk;
+use ngc_fixed_length::StepPos;
+use ngc_text::{Chunk, Sink, WriteFault};
 use std::alloc::Allocator;
 
 fn add_count(chunk: &mut Chunk, steps: i32)

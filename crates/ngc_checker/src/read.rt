@@ -1,5 +1,5 @@
 ghost use Rattle.std.specs.Prelude.{◌≡◌, List, IfSome, Err};
-ghost use Rattle.ngc_fixed_length.specs.Failures.{Rises};
+ghost use Rattle.ngc_text.specs.Failures.{Rises};
 ghost use Rattle.ngc_line_reader.specs.Grammar.{Reading};
 ghost use Rattle.ngc_line_reader.specs.ProgramText.{AreReadings};
 ghost use Rattle.ngc_line_reader.specs.ProgramView.{text_in};
@@ -12,9 +12,9 @@ use crate::accepted::Accepted;
 use crate::check_fault::CheckReadFault;
 use crate::check_reader::CheckReader;
 use ngc_certificate_text::CertificateFault;
-use ngc_fixed_length::Source;
 use ngc_line_reader::Program;
 use ngc_machine::{Machine, Tools};
+use ngc_text::Source;
 use std::alloc::Allocator;
 
 /// Whether the certificate that a source gives shows that a program is safe on a machine with its tools: what `Certificate::read`

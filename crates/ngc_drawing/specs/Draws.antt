@@ -1,6 +1,6 @@
 -- Shapes on their way to a sink. Our own.
 use Rattle.std.specs.Prelude.{ℕ, ℤ, List, Option, Result}
-use Rattle.ngc_fixed_length.specs.declared.writing.WriteFault.{WriteFault}
+use Rattle.ngc_text.specs.declared.writing.WriteFault.{WriteFault}
 use Rattle.ngc_certificate_text.specs.Collects.{Collects}
 use Rattle.ngc_drawing.specs.Spelling.{shapes_text}
 use Rattle.ngc_drawing.specs.declared.shape.Shape.{Shape}

@@ -1,6 +1,6 @@
 -- The faults of drawing. Our own.
 use Rattle.std.specs.Prelude.{◌≡◌, ℕ, Result, Ok, Err}
-use Rattle.ngc_fixed_length.specs.Failures.{Rises}
+use Rattle.ngc_text.specs.Failures.{Rises}
 use Rattle.ngc_drawing.specs.declared.fault.DrawFault.{DrawFault}
 use Rattle.ngc_drawing.specs.declared.fault.DrawFault.TheVariants.{Memory, Write}
 

@@ -1,6 +1,6 @@
 //! The bodies of tools over the boxes of a certificate.
 ghost use Rattle.std.specs.Prelude.{◌≡◌, ◌≤◌, ◌++◌, length};
-ghost use Rattle.ngc_fixed_length.specs.Failures.{CountsFailure};
+ghost use Rattle.ngc_text.specs.Failures.{CountsFailure};
 ghost use Rattle.ngc_machine.specs.Machine.{file_of};
 ghost use Rattle.ngc_drawing.specs.Bodies.{tool_at, filled, bodies_lead, bodies_end, swept, swept_from};
 ghost use Rattle.ngc_drawing.specs.Draws.{Draws};
@@ -14,8 +14,7 @@ use crate::view::View;
 use arrayvec::ArrayVec;
 use ngc_canonical::{Machine, Tool};
 use ngc_collision::Solid;
-use ngc_fixed_length::{Sink, WriteFault};
-use ngc_output::Chunk;
+use ngc_text::{Chunk, Sink, WriteFault};
 use std::alloc::Allocator;
 
 fn tool_at(tools: &[Option<Tool>], rank: usize) -> Option<Tool>

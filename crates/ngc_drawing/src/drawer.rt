@@ -1,6 +1,6 @@
 //! How shapes are written.
-ghost use Rattle.ngc_fixed_length.specs.Failures.{CountsFailure};
-ghost use Rattle.ngc_output.specs.Collected.{HasLineRoom};
+ghost use Rattle.ngc_text.specs.Failures.{CountsFailure};
+ghost use Rattle.ngc_text.specs.Collected.{HasLineRoom};
 ghost use Rattle.ngc_certificate_text.specs.Collects.{Collects};
 ghost use Rattle.ngc_drawing.specs.Draws.{Draws};
 ghost use Rattle.ngc_drawing.specs.Spelling.{shape_text};
@@ -8,8 +8,7 @@ ghost use Rattle.ngc_drawing.specs.Spelling.{shape_text};
 use crate::shape::Shape;
 use crate::sheet::Unit;
 use crate::spelling::add_shape;
-use ngc_fixed_length::{Sink, WriteFault};
-use ngc_output::Chunk;
+use ngc_text::{Chunk, Sink, WriteFault};
 
 /// Draws a shape, in a drawing of this unit.
 fn draw<W: Sink>(

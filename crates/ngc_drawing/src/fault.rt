@@ -1,6 +1,6 @@
 ghost use Rattle.std.specs.Prelude.{◌≡◌};
 
-use ngc_fixed_length::WriteFault;
+use ngc_text::WriteFault;
 use thiserror::Error;
 
 /// Why no picture is drawn, or only a beginning of one.

@@ -1,8 +1,8 @@
 //! The whole picture.
 ghost use Rattle.std.specs.Prelude.{◌≡◌, ◌<◌, ◌≤◌, ◌*◌, unsigned_abs, ◌++◌, ◌∷◌, [], length, drop, map, OnOk, OnErr, Err};
 ghost use Rattle.std.specs.Io.KnownBytes.{Appends, Keeps};
-ghost use Rattle.ngc_fixed_length.specs.Failures.{CountsFailure};
-ghost use Rattle.ngc_fixed_length.specs.Written.{AppendsBeginning};
+ghost use Rattle.ngc_text.specs.Failures.{CountsFailure};
+ghost use Rattle.ngc_text.specs.Written.{AppendsBeginning};
 ghost use Rattle.ngc_machine.specs.Machine.{file_of};
 ghost use Rattle.ngc_drawing.specs.declared.shape.Shape.TheVariants as drawn;
 ghost use Rattle.ngc_drawing.specs.Draws.{Draws};
@@ -27,9 +27,8 @@ use crate::view::{View, to_micrometres};
 use arrayvec::ArrayVec;
 use ngc_canonical::{Action, Command, Fixture, Machine, Tool, Way};
 use ngc_certificate_text::Motions;
-use ngc_fixed_length::{Sink, WriteFault};
 use ngc_machine::Part;
-use ngc_output::Chunk;
+use ngc_text::{Chunk, Sink, WriteFault};
 use std::alloc::Allocator;
 
 const SCALES: [u64; 15] = [

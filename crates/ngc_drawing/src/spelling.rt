@@ -1,5 +1,5 @@
 ghost use Rattle.std.specs.Prelude.{◌≡◌, ◌+◌, ◌*◌, ◌<◌, ◌≤◌, ◌++◌, codes, decimal, length};
-ghost use Rattle.ngc_output.specs.Collected.{CHUNK_SIZE, HasLineRoom};
+ghost use Rattle.ngc_text.specs.Collected.{CHUNK_SIZE, HasLineRoom};
 ghost use Rattle.ngc_drawing.specs.Units.{IsUnit};
 ghost use Rattle.ngc_drawing.specs.declared.shape.Shape.TheVariants as shapes;
 ghost use Rattle.ngc_drawing.specs.Spelling.{sign_text, turned_sign, decimals, size_text, length_text, down_text, spot_text, area_text, colour_text, ink_text, sign_at, axes_text, mark_text, turn_text, begin_text, scale_text, tool_text, shape_text};
@@ -7,7 +7,7 @@ ghost use Rattle.ngc_drawing.specs.Spelling.{sign_text, turned_sign, decimals, s
 use crate::shape::{Ink, Mark, Shape, Sheet};
 use crate::spot::{Rectangle, Spot};
 use crate::view::View;
-use ngc_output::Chunk;
+use ngc_text::Chunk;
 
 fn sign(micrometres: i64) -> &'static [u8]
     ensures text { result.now ≡ sign_text micrometres }

@@ -1,6 +1,6 @@
 //! The path, motion by motion.
 ghost use Rattle.std.specs.Prelude.{◌≡◌, ◌≤◌, ◌++◌, length, map};
-ghost use Rattle.ngc_fixed_length.specs.Failures.{CountsFailure};
+ghost use Rattle.ngc_text.specs.Failures.{CountsFailure};
 ghost use Rattle.ngc_canonical.specs.Movement.{start_of};
 ghost use Rattle.ngc_drawing.specs.declared.shape.Shape.TheVariants as drawn;
 ghost use Rattle.ngc_drawing.specs.Arcs.{corner_spots};
@@ -18,8 +18,8 @@ use crate::view::{View, to_micrometres};
 use arrayvec::ArrayVec;
 use ngc_arc_geometry::Arc;
 use ngc_canonical::{Action, Way};
-use ngc_fixed_length::{Point3, Sink, Turn, WriteFault};
-use ngc_output::Chunk;
+use ngc_fixed_length::{Point3, Turn};
+use ngc_text::{Chunk, Sink, WriteFault};
 
 /// Where the extreme points of an arc and its end are seen.
 pub(crate) fn corner_spots(view: View, arc: &Arc) -> ArrayVec<Spot, 5>

@@ -2,9 +2,9 @@
 use Rattle.std.proofs.Common.{◌≡◌, ℕ, List, [], ◌∷◌, ◌++◌, Option, Some, None, ap, sym, codes, subst, refl, ◌∙◌}
 use Rattle.std.proofs.lemmas.List.{append_assoc, append-nil}
 use Rattle.std.specs.Io.KnownBytes.{Appends}
-use Rattle.ngc_fixed_length.specs.Written.{AppendsBeginning}
+use Rattle.ngc_text.specs.Written.{AppendsBeginning}
 use Rattle.ngc_fault_texts.specs.Told.{joined}
-use Rattle.ngc_fixed_length.proofs.Appended.{appends_both, begins_after}
+use Rattle.ngc_text.proofs.Appended.{appends_both, begins_after}
 
 -- some bytes are written, and then comes the rest
 abbrev pub Reached : Option (List ℕ) → Option (List ℕ) → List ℕ → List ℕ → Type 0

@@ -2,8 +2,8 @@
 use Rattle.std.specs.Prelude.{◌≡◌, ◌==◌, ℕ, List, [], ◌∷◌, ◌++◌, Option, Some, Result, Ok, Err, map, codes, decimal, if◌then◌else◌}
 use Rattle.std.specs.Borrow.{Bor}
 use Rattle.std.specs.Io.KnownBytes.{Appends}
-use Rattle.ngc_fixed_length.specs.Failures.{Rises}
-use Rattle.ngc_fixed_length.specs.Written.{AppendsBeginning}
+use Rattle.ngc_text.specs.Failures.{Rises}
+use Rattle.ngc_text.specs.Written.{AppendsBeginning}
 use Rattle.ngc_fault_texts.specs.Numbers.{fault_numbers}
 use Rattle.ngc_fault_texts.specs.declared.telling.ExplainFault.{ExplainFault}
 use Rattle.ngc_fault_texts.specs.declared.telling.ExplainFault.TheVariants.{Unknown, Write}

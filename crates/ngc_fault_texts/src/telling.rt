@@ -1,15 +1,15 @@
 ghost use Rattle.std.specs.Prelude.{◌≡◌, ◌==◌, ◌↔◌, OnErr, OnOk, Err, false};
 ghost use Rattle.std.specs.List.{list_any};
 ghost use Rattle.std.specs.Io.KnownBytes.{Appends};
-ghost use Rattle.ngc_fixed_length.specs.Failures.{CountsFailure};
-ghost use Rattle.ngc_fixed_length.specs.Written.{AppendsBeginning};
+ghost use Rattle.ngc_text.specs.Failures.{CountsFailure};
+ghost use Rattle.ngc_text.specs.Written.{AppendsBeginning};
 ghost use Rattle.ngc_fault_texts.specs.Numbers.{is_fault};
 ghost use Rattle.ngc_fault_texts.specs.Told.{FailsByWriting, Tells, all_of, column_line};
 ghost use Rattle.ngc_fault_texts.specs.Told.{beginning_of, explain_fault_number, mend_of, row_text, told, told_in};
 
 use crate::parts::{Part, Row, page};
 use itoa::Buffer;
-use ngc_fixed_length::{Sink, WriteFault, write_all};
+use ngc_text::{Sink, WriteFault, write_all};
 use thiserror::Error;
 
 /// Why a number isn't explained.

@@ -1,10 +1,9 @@
-//! What no clause of `ngc_input` says: that calls succeed, that memory which is refused is told, and a source of which
+//! What no clause of `read_whole` says: that calls succeed, that memory which is refused is told, and a source of which
 //! the contract knows no bytes.
 use crate::checks::{holds, same};
 use linked_list_allocator::LocalHeap;
-use ngc_fixed_length::{Device, Source};
-use ngc_input::{CHUNK, InputFault, read_whole};
 use ngc_test_devices::{EndlessSource, SlowSource};
+use ngc_text::{Device, InputFault, PULL_SIZE, Source, read_whole};
 use std::alloc::{AllocError, Allocator, Global};
 use std::process::Abort;
 use std::test::Fail;
@@ -39,7 +38,15 @@ fn file_is_read(
     Ok(is_read(alloc, &mut source, file.as_slice(), limit))
 }
 
-const LENGTHS: &[usize] = &[0, 1, CHUNK - 1, CHUNK, CHUNK + 1, 2 * CHUNK, 3 * CHUNK + 7];
+const LENGTHS: &[usize] = &[
+    0,
+    1,
+    PULL_SIZE - 1,
+    PULL_SIZE,
+    PULL_SIZE + 1,
+    2 * PULL_SIZE,
+    3 * PULL_SIZE + 7,
+];
 
 #[test]
 fn files_around_a_chunk(rt: HostRuntime) -> Result<(), Fail> {
@@ -52,7 +59,7 @@ fn files_around_a_chunk(rt: HostRuntime) -> Result<(), Fail> {
     Ok(())
 }
 
-const EXCEEDED: &[usize] = &[0, 1, CHUNK - 1, CHUNK, 2 * CHUNK + 5];
+const EXCEEDED: &[usize] = &[0, 1, PULL_SIZE - 1, PULL_SIZE, 2 * PULL_SIZE + 5];
 
 #[test]
 fn files_beyond_a_limit(rt: HostRuntime) -> Result<(), Fail> {
@@ -71,7 +78,7 @@ fn a_file_without_end(rt: HostRuntime) {
         let mut source = EndlessSource::new(b"", 0);
         let fault = read_whole(rt.alloc(), &mut source, *limit).err();
         same(&rt, limit, &fault, &Some(InputFault::TooLong));
-        holds(&rt, limit, source.given <= (*limit + CHUNK) as u64);
+        holds(&rt, limit, source.given <= (*limit + PULL_SIZE) as u64);
     }
 }
 
@@ -140,7 +147,7 @@ fn is_read_in(rt: &impl Abort, heap: &LocalHeap, file: &[u8], blocks: usize) -> 
 
 #[test]
 fn refused_memory(rt: HostRuntime) -> Result<(), Fail> {
-    let file = file_of(rt.alloc(), 2 * CHUNK)?;
+    let file = file_of(rt.alloc(), 2 * PULL_SIZE)?;
     let mut refused = 0u32;
     let mut done = 0u32;
     for blocks in 1..12usize {

@@ -1,9 +1,9 @@
 //! What no clause of `ngc_setup_sheet` says of mistakes: their sentences for whole files, and that calls succeed.
 use crate::checks::{holds, same};
-use ngc_fixed_length::Device;
 use ngc_machine::{FileFault, Machine, Tools};
 use ngc_setup_sheet::{write_machine_mistake, write_tools_mistake};
 use ngc_test_devices::FailingSink;
+use ngc_text::Device;
 use std::alloc::Global;
 use std::test::Fail;
 

@@ -1,8 +1,8 @@
 //! What no clause of `ngc_setup_sheet` says: the text of whole sheets, and that calls succeed.
-use ngc_fixed_length::{Device, WriteFault};
 use ngc_machine::{Machine, Tools, row_machine};
 use ngc_setup_sheet::write_sheet;
 use ngc_test_devices::FailingSink;
+use ngc_text::{Device, WriteFault};
 use std::alloc::Global;
 use std::test::Fail;
 

@@ -1,4 +1,3 @@
 pub mod GridLemmas
 pub mod Nearest
-pub mod Appended
 pub mod RootLaws

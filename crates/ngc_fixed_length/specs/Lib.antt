@@ -4,9 +4,6 @@ pub mod Length
 pub mod Grid
 pub mod LinePath
 pub mod Limits
-pub mod Failures
-pub mod Device
-pub mod Written
 pub mod Signed
 pub mod Places
 pub mod Roots

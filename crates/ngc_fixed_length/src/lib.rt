@@ -1,7 +1,6 @@
 //! Values, lengths and grid points of a numerical controller, in whole numbers alone.
 #![tactic(auto)]
 
-mod device;
 mod fault;
 mod length;
 mod modes;
@@ -10,9 +9,7 @@ mod roots;
 mod rounding;
 mod units;
 mod value;
-mod writing;
 
-pub use device::{Device, DeviceFault, Sink, Source};
 pub use fault::NumberFault;
 pub use length::Nm;
 pub use modes::{Distance, FeedMode, Plane, ReturnMode, System, Turn};
@@ -21,4 +18,3 @@ pub use roots::{root_ceil, root_floor};
 pub use rounding::rounded_quotient;
 pub use units::Units;
 pub use value::Value;
-pub use writing::{WriteFault, write_all};

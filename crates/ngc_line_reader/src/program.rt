@@ -1,6 +1,6 @@
 ghost use Rattle.std.specs.Prelude.{ℕ, List, ◌≡◌, ◌<◌, ◌≤◌, IsOk, length, IfOk, IfSome, Some, slice_get, IsTrue, ◌==◌};
 ghost use Rattle.std.specs.Option.{option_map};
-ghost use Rattle.ngc_fixed_length.specs.Failures.{Rises};
+ghost use Rattle.ngc_text.specs.Failures.{Rises};
 ghost use Rattle.ngc_line_reader.specs.ReadLine.{line_read};
 ghost use Rattle.ngc_line_reader.specs.ScanLine.{parts_of};
 ghost use Rattle.ngc_line_reader.specs.Shown.{ShowsReading};
@@ -10,7 +10,7 @@ ghost use Rattle.ngc_line_reader.specs.declared.program.fault.ReadFault.TheVaria
 
 use crate::line::Line;
 use crate::program::stored::StoredLines;
-use ngc_fixed_length::Source;
+use ngc_text::Source;
 use std::alloc::Allocator;
 
 mod fault;

@@ -1,9 +1,9 @@
 use checks::same;
-use ngc_fixed_length::{Device, DeviceFault, Sink, Source};
 use ngc_line_reader::ReadFault;
 use ngc_simulator::{
     CertifyOptions, Files, Format, ListOptions, Options, Recording, RunOptions, answer,
 };
+use ngc_text::{Device, DeviceFault, Sink, Source};
 use std::alloc::Global;
 use std::process::Abort;
 

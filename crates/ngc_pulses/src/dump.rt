@@ -1,13 +1,13 @@
 ghost use Rattle.std.specs.Prelude.{◌≡◌, ◌+◌, ◌≤◌, ◌^◌, ◌++◌, length};
 ghost use Rattle.ngc_machine.specs.Ranges.{IsRate};
-ghost use Rattle.ngc_output.specs.Collected.{CHUNK_SIZE, HasLineRoom};
+ghost use Rattle.ngc_text.specs.Collected.{CHUNK_SIZE, HasLineRoom};
 ghost use Rattle.ngc_pulses.specs.Dumping.{after_tick, closing_text, first_state, tick_text};
 ghost use Rattle.ngc_pulses.specs.Vcd.{header};
 
 use crate::axis_step::{Directions, Steps};
 use crate::stamps::Stamps;
 use ngc_fixed_length::StepPos;
-use ngc_output::Chunk;
+use ngc_text::Chunk;
 use std::marker::Model;
 
 const HEADER: &[u8] = b"$timescale 1 ns $end

@@ -1,13 +1,13 @@
 //! Changes of wires, each behind its time.
 ghost use Rattle.std.specs.Prelude.{◌≡◌, ◌+◌, ◌≤◌, ◌^◌, ◌++◌, ◌∷◌, [], length, true, false};
 ghost use Rattle.ngc_machine.specs.Ranges.{IsRate};
-ghost use Rattle.ngc_output.specs.Collected.{CHUNK_SIZE};
+ghost use Rattle.ngc_text.specs.Collected.{CHUNK_SIZE};
 ghost use Rattle.ngc_pulses.specs.Dumping.{AddsChanges};
 ghost use Rattle.ngc_pulses.specs.Vcd.{levels, level, stamp, tick_changes, time_of, turn, turns};
 
 use crate::axis_step::{AxisStep, Steps};
 use crate::wire::Wire;
-use ngc_output::Chunk;
+use ngc_text::Chunk;
 
 const NANOSECONDS: u128 = 1_000_000_000;
 

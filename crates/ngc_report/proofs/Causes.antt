@@ -4,7 +4,7 @@ use Rattle.std.proofs.lemmas.List.{append-nil, drop_more, drop_all}
 use Rattle.std.proofs.Math.Seq.{take-add}
 use Rattle.std.proofs.lemmas.List.Concat.{flat_map-cons}
 use Rattle.std.proofs.lemmas.List.Sums.{fold-append}
-use Rattle.ngc_output.specs.Collected.{WritesFront}
+use Rattle.ngc_text.specs.Collected.{WritesFront}
 use Rattle.ngc_machine.specs.Machine.{MachineFile}
 use Rattle.ngc_canonical.specs.Movement.{actions_of}
 use Rattle.ngc_canonical.specs.declared.command.Command.{Command}

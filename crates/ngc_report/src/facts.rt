@@ -1,7 +1,7 @@
 //! How the lines of a report are spelled as facts of a JSON document.
 ghost use Rattle.std.specs.Prelude.{◌≡◌, ◌+◌, ◌≤◌, ◌++◌, codes, decimal, length};
 ghost use Rattle.std.specs.Fmt.{signed_decimal};
-ghost use Rattle.ngc_output.specs.Collected.{CHUNK_SIZE, HasLineRoom};
+ghost use Rattle.ngc_text.specs.Collected.{CHUNK_SIZE, HasLineRoom};
 ghost use Rattle.ngc_report.specs.Facts.{tool_fact, triple, nearest_fact, along_fact, use_fact, side_fact, start_fact, command_fact, over_fact, travel_fact, fixture_fact, obstacle_fact, warning_fact, line_fact};
 ghost use Rattle.ngc_report.specs.Words.{concern_text};
 
@@ -14,7 +14,7 @@ use crate::warnings::Warning;
 use crate::words::{add_count, axis_name, concern_words};
 use ngc_canonical::Tool;
 use ngc_fixed_length::{Nm, Point3};
-use ngc_output::Chunk;
+use ngc_text::Chunk;
 
 #[tactic(auto, unfolding(crate::specs::Facts::tool_fact))]
 fn add_tool(chunk: &mut Chunk, tool: &Option<Tool>)

@@ -2,12 +2,12 @@
 ghost use Rattle.std.specs.Prelude.{◌≡◌, ◌+◌, ◌≤◌, ◌++◌, length, OnOk, OnErr};
 ghost use Rattle.std.specs.Option.{option_or};
 ghost use Rattle.std.specs.Io.KnownBytes.{Appends};
-ghost use Rattle.ngc_fixed_length.specs.Failures.{CountsFailure};
-ghost use Rattle.ngc_fixed_length.specs.Written.{AppendsBeginning};
+ghost use Rattle.ngc_text.specs.Failures.{CountsFailure};
+ghost use Rattle.ngc_text.specs.Written.{AppendsBeginning};
 ghost use Rattle.ngc_line_reader.specs.Letter.{letter_byte};
 ghost use Rattle.ngc_line_reader.specs.ProgramView.{text_in};
 ghost use Rattle.ngc_line_reader.specs.ScanLine.{parts_of};
-ghost use Rattle.ngc_output.specs.Collected.{CHUNK_SIZE, HasLineRoom};
+ghost use Rattle.ngc_text.specs.Collected.{CHUNK_SIZE, HasLineRoom};
 ghost use Rattle.ngc_report.specs.Marks.{number_of, written_number, is_wanted, fits, first_word, named_word, mark_of, mark_if, letter_text, number_text, unknown_text, idle_text, missing_text, phrase, has_phrase, words_sentence, fact_sentence, sentence, named_line};
 
 use crate::form::Form;
@@ -15,10 +15,9 @@ use crate::quotes::line_bytes;
 use crate::source_lines::add_mark;
 use crate::words::{add_size, sign};
 use ngc_canonical::Fault;
-use ngc_fixed_length::{Sink, WriteFault};
 use ngc_line_reader::{Letter, Line, Program, RawWord, Symbol, Token, read_line};
 use ngc_modal_state::{MissingWord, ModalFault};
-use ngc_output::Chunk;
+use ngc_text::{Chunk, Sink, WriteFault};
 use std::alloc::Allocator;
 
 fn letter_byte(letter: Letter) -> u8

@@ -2,17 +2,16 @@
 ghost use Rattle.std.specs.Prelude.{◌≡◌, ◌+◌, ◌*◌, ◌++◌, ◌≤◌, flat_map, length, OnOk, OnErr};
 ghost use Rattle.std.specs.Option.{option_map};
 ghost use Rattle.std.specs.Io.KnownBytes.{Appends};
-ghost use Rattle.ngc_fixed_length.specs.Failures.{CountsFailure};
-ghost use Rattle.ngc_fixed_length.specs.Written.{AppendsBeginning};
+ghost use Rattle.ngc_text.specs.Failures.{CountsFailure};
+ghost use Rattle.ngc_text.specs.Written.{AppendsBeginning};
 ghost use Rattle.ngc_line_reader.specs.ProgramView.{text_in};
-ghost use Rattle.ngc_output.specs.Collected.{CHUNK_SIZE, HasLineRoom};
+ghost use Rattle.ngc_text.specs.Collected.{CHUNK_SIZE, HasLineRoom};
 ghost use Rattle.ngc_report.specs.Quotes.{shown, line_with, bytes_text, escaped, words_quote, fact_quote, quote, quoted};
 
 use crate::form::Form;
 use arrayvec::ArrayVec;
-use ngc_fixed_length::{Sink, WriteFault};
 use ngc_line_reader::Program;
-use ngc_output::Chunk;
+use ngc_text::{Chunk, Sink, WriteFault};
 use std::alloc::Allocator;
 
 fn shown(byte: u8) -> u8

@@ -1,8 +1,8 @@
 //! Reports of all commands that are refused.
 ghost use Rattle.std.specs.Prelude.{◌≡◌, ◌≤◌, ◌++◌, length, take, OnOk, OnErr};
 ghost use Rattle.std.specs.Io.KnownBytes.{Appends};
-ghost use Rattle.ngc_fixed_length.specs.Failures.{CountsFailure};
-ghost use Rattle.ngc_fixed_length.specs.Written.{AppendsBeginning};
+ghost use Rattle.ngc_text.specs.Failures.{CountsFailure};
+ghost use Rattle.ngc_text.specs.Written.{AppendsBeginning};
 ghost use Rattle.ngc_machine.specs.Machine.{file_of};
 ghost use Rattle.ngc_report.specs.Forms.{report_text};
 ghost use Rattle.ngc_report.specs.Reports.{Tells, all_lines, causes_lines, start_lines_if, verdict_line};
@@ -14,8 +14,7 @@ use crate::line::Line;
 use crate::report::{alongs, tell_all, tell_scene, tell_start};
 use crate::scene::{Reached, Scene, gone_on, scene_of, standing};
 use ngc_canonical::{Command, Machine};
-use ngc_fixed_length::{Sink, WriteFault};
-use ngc_output::Chunk;
+use ngc_text::{Chunk, Sink, WriteFault};
 use std::alloc::Allocator;
 
 /// How the machine stands behind the first of the commands.

@@ -1,12 +1,12 @@
 //! How reports are written.
 ghost use Rattle.std.specs.Prelude.{◌≡◌, ◌++◌, min, OnOk, OnErr};
 ghost use Rattle.std.specs.Io.KnownBytes.{Appends};
-ghost use Rattle.ngc_fixed_length.specs.Failures.{CountsFailure};
+ghost use Rattle.ngc_text.specs.Failures.{CountsFailure};
 ghost use Rattle.ngc_fixed_length.specs.Length.{IsStep};
-ghost use Rattle.ngc_fixed_length.specs.Written.{AppendsBeginning};
+ghost use Rattle.ngc_text.specs.Written.{AppendsBeginning};
 ghost use Rattle.ngc_certificate_text.specs.Collects.{Collects};
 ghost use Rattle.ngc_machine.specs.Machine.{file_of};
-ghost use Rattle.ngc_output.specs.Collected.{HasLineRoom};
+ghost use Rattle.ngc_text.specs.Collected.{HasLineRoom};
 ghost use Rattle.ngc_report.specs.Reports.{Tells, motions_in, along, alongs, use_lines, fit_lines, start_lines, scene_lines, cause_lines, refusal_lines};
 ghost use Rattle.ngc_report.specs.Uses.{tool_uses};
 ghost use Rattle.ngc_report.specs.Forms.{spelled, report_text};
@@ -23,8 +23,8 @@ use crate::uses::{ToolUse, ToolUses};
 use crate::words::add_line;
 use ngc_canonical::{Command, Machine};
 use ngc_certificate_text::Motions;
-use ngc_fixed_length::{GridBox, Nm, Sink, WriteFault};
-use ngc_output::Chunk;
+use ngc_fixed_length::{GridBox, Nm};
+use ngc_text::{Chunk, Sink, WriteFault};
 use std::alloc::Allocator;
 
 #[tactic(auto, unfolding(crate::specs::Forms::spelled))]

@@ -2,18 +2,17 @@
 ghost use Rattle.std.specs.Prelude.{◌≡◌, ◌∷◌, ◌+◌, ◌++◌, ◌≤◌, ◌<◌, length, replicate, OnOk, OnErr};
 ghost use Rattle.std.specs.Option.{option_map};
 ghost use Rattle.std.specs.Io.KnownBytes.{Appends};
-ghost use Rattle.ngc_fixed_length.specs.Failures.{CountsFailure};
-ghost use Rattle.ngc_fixed_length.specs.Written.{AppendsBeginning};
+ghost use Rattle.ngc_text.specs.Failures.{CountsFailure};
+ghost use Rattle.ngc_text.specs.Written.{AppendsBeginning};
 ghost use Rattle.ngc_line_reader.specs.Program.{lines_of, split_lines};
-ghost use Rattle.ngc_output.specs.Collected.{CHUNK_SIZE};
+ghost use Rattle.ngc_text.specs.Collected.{CHUNK_SIZE};
 ghost use Rattle.ngc_report.specs.Quotes.{bytes_with, fact_mark, indent, mark, marked, words_mark};
 
 use crate::form::Form;
 use crate::quotes::quote_of;
 use itoa::Buffer;
 use memchr::memchr;
-use ngc_fixed_length::{Sink, WriteFault};
-use ngc_output::Chunk;
+use ngc_text::{Chunk, Sink, WriteFault};
 
 /// The first line, and what stands behind its line feed.
 fn cut_line(bytes: &[u8]) -> (&[u8], &[u8])

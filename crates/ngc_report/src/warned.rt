@@ -1,8 +1,8 @@
 //! How warnings on a program are written.
 ghost use Rattle.std.specs.Prelude.{OnOk, OnErr};
 ghost use Rattle.std.specs.Io.KnownBytes.{Appends};
-ghost use Rattle.ngc_fixed_length.specs.Failures.{CountsFailure};
-ghost use Rattle.ngc_fixed_length.specs.Written.{AppendsBeginning};
+ghost use Rattle.ngc_text.specs.Failures.{CountsFailure};
+ghost use Rattle.ngc_text.specs.Written.{AppendsBeginning};
 ghost use Rattle.ngc_machine.specs.Machine.{file_of};
 ghost use Rattle.ngc_report.specs.Reports.{Tells};
 ghost use Rattle.ngc_report.specs.Warnings.{warned, warning_lines};
@@ -13,8 +13,7 @@ use crate::line::Line;
 use crate::report::tell_all;
 use crate::warnings::{Concern, warning_about};
 use ngc_canonical::{Command, Machine};
-use ngc_fixed_length::{Sink, WriteFault};
-use ngc_output::Chunk;
+use ngc_text::{Chunk, Sink, WriteFault};
 use std::alloc::Allocator;
 
 fn tell_warned<A: Allocator, W: Sink>(

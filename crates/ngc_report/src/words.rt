@@ -1,6 +1,6 @@
 //! How the lines of a report are spelled.
 ghost use Rattle.std.specs.Prelude.{◌≡◌, ◌+◌, ◌*◌, ◌<◌, ◌≤◌, ◌++◌, codes, decimal, take, unsigned_abs, length};
-ghost use Rattle.ngc_output.specs.Collected.{CHUNK_SIZE, HasLineRoom};
+ghost use Rattle.ngc_text.specs.Collected.{CHUNK_SIZE, HasLineRoom};
 ghost use Rattle.ngc_report.specs.Words.{sign_text, decimals, telling, size_text, mm_text, room_words, room_text, place_text, axis_text, side_text, tool_text, nearest_text, along_text, use_text, command_text, over_text, met_text, obstacle_text, concern_text, warning_text, line_text};
 
 use crate::line::{Along, Line};
@@ -11,7 +11,7 @@ use crate::uses::ToolUse;
 use crate::warnings::{Concern, Warning};
 use ngc_canonical::Tool;
 use ngc_fixed_length::{Nm, Point3};
-use ngc_output::Chunk;
+use ngc_text::Chunk;
 
 pub(crate) fn sign(nanometres: i128) -> &'static [u8]
     ensures text { result.now ≡ sign_text nanometres }

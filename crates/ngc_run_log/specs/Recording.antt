@@ -1,7 +1,7 @@
 -- What is recorded of a stretch of a run. Our own.
 use Rattle.std.specs.Prelude.{◌≡◌, ℕ, ◌+◌, ◌≤◌, List, [], ◌∷◌, ◌++◌, length, count_by, Option}
 use Rattle.std.specs.Io.KnownBytes.{Appends}
-use Rattle.ngc_fixed_length.specs.Written.{AppendsBeginning}
+use Rattle.ngc_text.specs.Written.{AppendsBeginning}
 use Rattle.ngc_events.specs.declared.event.Event.{Event}
 use Rattle.ngc_behaviour.specs.State.{Job, State}
 use Rattle.ngc_behaviour.specs.Step.{Outcome}

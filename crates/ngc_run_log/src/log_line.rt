@@ -1,12 +1,12 @@
 //! The text of a log.
 ghost use Rattle.std.specs.Prelude.{◌≡◌, ◌+◌, ◌≤◌, ◌++◌, length};
 ghost use Rattle.std.specs.Fmt.{signed_decimal};
-ghost use Rattle.ngc_output.specs.Collected.{CHUNK_SIZE, HasLineRoom};
+ghost use Rattle.ngc_text.specs.Collected.{CHUNK_SIZE, HasLineRoom};
 ghost use Rattle.ngc_run_log.specs.Log.{numbered_line, ending_text, position_text, switch_text, text_of};
 
 use ngc_events::{Ending, EventFault, Reply};
 use ngc_fixed_length::StepPos;
-use ngc_output::Chunk;
+use ngc_text::Chunk;
 
 fn add_numbered(chunk: &mut Chunk, word: &[u8], number: u32)
     requires room { length chunk.old + 100 ≤ CHUNK_SIZE }

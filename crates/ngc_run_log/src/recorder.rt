@@ -3,16 +3,16 @@ ghost use Rattle.std.specs.Prelude.{◌≡◌, ◌+◌, ◌^◌, ◌++◌, ℕ, 
 ghost use Rattle.std.specs.Io.KnownBytes.{Appends};
 ghost use Rattle.ngc_events.specs.declared.event.Event.TheVariants.{Tick};
 ghost use Rattle.ngc_events.specs.declared.reply.Reply.TheVariants.{Ticked};
-ghost use Rattle.ngc_fixed_length.specs.Failures.{CountsFailure};
-ghost use Rattle.ngc_fixed_length.specs.Written.{AppendsBeginning};
+ghost use Rattle.ngc_text.specs.Failures.{CountsFailure};
+ghost use Rattle.ngc_text.specs.Written.{AppendsBeginning};
 ghost use Rattle.ngc_run_log.specs.Recording.{HasFew, Records};
 ghost use Rattle.ngc_run_log.specs.Tracing.{last_text, opening_text};
 
 use crate::report::Report;
 use crate::trace::Trace;
 use ngc_events::{Event, EventFault, Reply};
-use ngc_fixed_length::{Sink, StepPos, WriteFault};
-use ngc_output::Chunk;
+use ngc_fixed_length::StepPos;
+use ngc_text::{Chunk, Sink, WriteFault};
 
 /// The report so far, and what its text has beyond what is written.
 #[derive(Drop)]

@@ -3,7 +3,8 @@ ghost use Rattle.ngc_run_log.specs.Recording.{AreAtMost, Counts};
 ghost use Rattle.ngc_run_log.specs.Runs.{number_of};
 
 use ngc_events::{Event, EventFault, Reply};
-use ngc_fixed_length::{StepPos, WriteFault};
+use ngc_fixed_length::StepPos;
+use ngc_text::WriteFault;
 use thiserror::Error;
 
 /// What a run came to.

@@ -2,7 +2,7 @@ ghost use Rattle.std.specs.Prelude.{◌≡◌, ◌<◌, ◌^◌, replicate, IfOk
 ghost use Rattle.ngc_behaviour.specs.Headline.{job_of, RunsInTime, RunsSafely};
 ghost use Rattle.ngc_behaviour.specs.State.{opening};
 ghost use Rattle.ngc_checker.specs.Accepted.{commands_at};
-ghost use Rattle.ngc_fixed_length.specs.Failures.{CountsFailure};
+ghost use Rattle.ngc_text.specs.Failures.{CountsFailure};
 ghost use Rattle.ngc_run_log.specs.Forms.{ComesAs, IsTracedRun, IsUntracedRun, PulsesCome};
 ghost use Rattle.ngc_run_log.specs.Recording.{HasFew, IsCutShort, IsRecorded};
 ghost use Rattle.ngc_run_log.specs.Runs.{ComesTo, FailsByWriting};
@@ -14,8 +14,8 @@ use crate::trace::{Form, Trace};
 use ngc_checker::Accepted;
 use ngc_controller::Controller;
 use ngc_events::EventLine;
-use ngc_fixed_length::{Sink, WriteFault};
 use ngc_step_kernel::ArcPath;
+use ngc_text::{Sink, WriteFault};
 use std::alloc::Allocator;
 
 fn run_line<A: Allocator + Copy, W: Sink>(

@@ -5,7 +5,7 @@ ghost use Rattle.ngc_behaviour.specs.State.{RING, loaded, opening};
 ghost use Rattle.ngc_canonical.specs.Joined.{HasEnd};
 ghost use Rattle.ngc_canonical.specs.State.{COMMAND_LIMIT};
 ghost use Rattle.ngc_checker.specs.Accepted.{commands_at};
-ghost use Rattle.ngc_fixed_length.specs.Failures.{CountsFailure};
+ghost use Rattle.ngc_text.specs.Failures.{CountsFailure};
 ghost use Rattle.ngc_machine.specs.MachineRanges.{IsMachine};
 ghost use Rattle.ngc_run_log.specs.Forms.{GoesThroughAs, IsTracedThrough, IsTracedOff, PulsesGoThrough};
 ghost use Rattle.ngc_run_log.specs.Recording.{HasFew};
@@ -20,8 +20,8 @@ use crate::trace::{Form, Trace};
 use ngc_checker::Accepted;
 use ngc_controller::Controller;
 use ngc_events::{Ending, Event, EventFault, Reply};
-use ngc_fixed_length::{Sink, WriteFault};
 use ngc_step_kernel::ArcPath;
+use ngc_text::{Sink, WriteFault};
 use std::alloc::Allocator;
 
 /// How many commands may be loaded and not done.

@@ -17,8 +17,8 @@ use crate::trace::Trace;
 use ngc_canonical::{Action, Command};
 use ngc_checker::Accepted;
 use ngc_controller::Controller;
-use ngc_fixed_length::{DeviceFault, Sink};
 use ngc_step_kernel::ArcPath;
+use ngc_text::{DeviceFault, Sink};
 use std::alloc::Allocator;
 
 /// How many commands may be loaded and not done.

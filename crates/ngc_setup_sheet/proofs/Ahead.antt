@@ -4,9 +4,9 @@ use Rattle.std.proofs.lemmas.List.{append_assoc, append-nil}
 use Rattle.std.proofs.lemmas.List.Concat.{flat_map-append}
 use Rattle.std.specs.Prelude.{OnErr}
 use Rattle.std.specs.Io.KnownBytes.{Appends}
-use Rattle.ngc_fixed_length.specs.Written.{AppendsBeginning}
-use Rattle.ngc_fixed_length.specs.declared.writing.WriteFault.{WriteFault}
-use Rattle.ngc_output.specs.Collected.{WritesFront}
+use Rattle.ngc_text.specs.Written.{AppendsBeginning}
+use Rattle.ngc_text.specs.declared.writing.WriteFault.{WriteFault}
+use Rattle.ngc_text.specs.Collected.{WritesFront}
 use Rattle.ngc_certificate_text.proofs.Fronts.{front_more, front_stopped, longer, beginning_written}
 use Rattle.ngc_setup_sheet.specs.Writes.{Writes}
 use Rattle.ngc_setup_sheet.specs.Spelling.{line_text, lines_text}

@@ -4,9 +4,9 @@ use Rattle.std.specs.Prelude.{map, filter}
 use Rattle.std.proofs.lemmas.List.{append-nil, map-append}
 use Rattle.std.proofs.lemmas.List.Concat.{flat_map-append}
 use Rattle.std.proofs.lemmas.List.Elements.{filter-append}
-use Rattle.ngc_fixed_length.specs.Written.{AppendsBeginning}
-use Rattle.ngc_fixed_length.specs.declared.writing.WriteFault.{WriteFault}
-use Rattle.ngc_output.specs.Collected.{WritesFront}
+use Rattle.ngc_text.specs.Written.{AppendsBeginning}
+use Rattle.ngc_text.specs.declared.writing.WriteFault.{WriteFault}
+use Rattle.ngc_text.specs.Collected.{WritesFront}
 use Rattle.ngc_machine.specs.Machine.{MachineFile}
 use Rattle.ngc_machine.specs.declared.machine.Fixture.{Fixture}
 use Rattle.ngc_machine.specs.declared.tools.Tool.{Tool}

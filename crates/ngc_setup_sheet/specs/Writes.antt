@@ -1,6 +1,6 @@
 -- Lines on their way to a sink. Our own.
 use Rattle.std.specs.Prelude.{ℕ, List, map, filter, Option, Result}
-use Rattle.ngc_fixed_length.specs.declared.writing.WriteFault.{WriteFault}
+use Rattle.ngc_text.specs.declared.writing.WriteFault.{WriteFault}
 use Rattle.ngc_certificate_text.specs.Collects.{Collects}
 use Rattle.ngc_setup_sheet.specs.Sheets.{is_warning, as_fact}
 use Rattle.ngc_setup_sheet.specs.Spelling.{lines_text}

@@ -1,7 +1,7 @@
 //! How mistakes are spelled.
 ghost use Rattle.std.specs.Prelude.{◌≡◌, ◌+◌, ◌≤◌, ◌++◌, codes, decimal, length, map, take};
 ghost use Rattle.ngc_machine.specs.Faults.{number_of};
-ghost use Rattle.ngc_output.specs.Collected.{CHUNK_SIZE};
+ghost use Rattle.ngc_text.specs.Collected.{CHUNK_SIZE};
 ghost use Rattle.ngc_setup_sheet.specs.Keys.{key_text};
 ghost use Rattle.ngc_setup_sheet.specs.MistakeTexts.{asked_text, known_text, section_text, sentence_text, mistake_text};
 ghost use Rattle.ngc_setup_sheet.specs.Quoted.{shown, quote_of};
@@ -10,7 +10,7 @@ use crate::mistake::{Mistake, Rule, Section};
 use crate::quoted::{add_quote, add_shown};
 use crate::rows::key;
 use crate::spelling::add_numbered;
-use ngc_output::Chunk;
+use ngc_text::Chunk;
 
 #[tactic(auto, unfolding(crate::specs::MistakeTexts::asked_text))]
 fn asked(rule: Rule) -> &'static [u8]

@@ -3,16 +3,16 @@ ghost use Rattle.std.specs.Prelude.{◌≡◌, ◌⊎◌, option_map, OnOk, OnEr
 ghost use Rattle.std.specs.Io.KnownBytes.{Appends, Keeps};
 ghost use Rattle.toml.specs.Errors.{IsBlank};
 ghost use Rattle.toml.specs.View.{view};
-ghost use Rattle.ngc_fixed_length.specs.Failures.{CountsFailure};
-ghost use Rattle.ngc_fixed_length.specs.Written.{AppendsBeginning};
+ghost use Rattle.ngc_text.specs.Failures.{CountsFailure};
+ghost use Rattle.ngc_text.specs.Written.{AppendsBeginning};
 ghost use Rattle.ngc_setup_sheet.specs.Mistakes.{machine_mistake_in, tools_mistake_in, in_document, machine_mistake_text, tools_mistake_text};
 
 use crate::mistake::Mistake;
 use crate::mistake_spelling::text;
 use crate::mistakes::{machine_mistake_in, tools_mistake_in};
 use crate::tree::read_tree;
-use ngc_fixed_length::{Sink, WriteFault};
 use ngc_machine::FileFault;
+use ngc_text::{Sink, WriteFault};
 use std::alloc::Global;
 use toml::Value;
 

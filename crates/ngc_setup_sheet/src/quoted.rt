@@ -1,10 +1,10 @@
 //! The line of a file in which a key stands.
 ghost use Rattle.std.specs.Prelude.{◌≡◌, ◌+◌, ◌<◌, ◌≤◌, ◌++◌, codes, decimal, length, map, take};
-ghost use Rattle.ngc_output.specs.Collected.{CHUNK_SIZE};
+ghost use Rattle.ngc_text.specs.Collected.{CHUNK_SIZE};
 ghost use Rattle.ngc_setup_sheet.specs.Quoted.{shown, shown_line, line_of, behind_line, lines_of, unindented, ends_key, begins, gives, sought, quote_from, header_text, headers, quote_of};
 
 use crate::mistake::Section;
-use ngc_output::Chunk;
+use ngc_text::Chunk;
 
 fn shown(byte: u8) -> u8
     ensures { result ≡ shown byte }

@@ -1,12 +1,12 @@
 //! How lines are spelled.
 ghost use Rattle.std.specs.Prelude.{◌≡◌, ◌+◌, ◌*◌, ◌<◌, ◌≤◌, ◌++◌, codes, decimal, length};
-ghost use Rattle.ngc_output.specs.Collected.{CHUNK_SIZE, HasLineRoom};
+ghost use Rattle.ngc_text.specs.Collected.{CHUNK_SIZE, HasLineRoom};
 ghost use Rattle.ngc_setup_sheet.specs.Spelling.{decimals, kept, number_text, size_text, sign_text, length_text, thousandths_text, span_text, place_text, fact_text, figure_text, warning_text, warning_object, line_text};
 
 use crate::line::{Axis, Fact, Figure, Line, Span, Warning};
 use itoa::Integer;
 use ngc_fixed_length::Point3;
-use ngc_output::Chunk;
+use ngc_text::Chunk;
 
 fn decimals(millionths: u32) -> [u8; 7]
     requires { millionths < 1000000 }

@@ -1,7 +1,7 @@
 //! How lines are written.
 ghost use Rattle.std.specs.Prelude.{◌≡◌, ◌∷◌, []};
-ghost use Rattle.ngc_fixed_length.specs.Failures.{CountsFailure};
-ghost use Rattle.ngc_output.specs.Collected.{HasLineRoom};
+ghost use Rattle.ngc_text.specs.Failures.{CountsFailure};
+ghost use Rattle.ngc_text.specs.Collected.{HasLineRoom};
 ghost use Rattle.ngc_certificate_text.specs.Collects.{Collects};
 ghost use Rattle.ngc_setup_sheet.specs.Sheets.{is_warning, as_fact};
 ghost use Rattle.ngc_setup_sheet.specs.Spelling.{line_text};
@@ -9,8 +9,7 @@ ghost use Rattle.ngc_setup_sheet.specs.Writes.{Writes, styled, chosen};
 
 use crate::line::Line;
 use crate::spelling::add_line;
-use ngc_fixed_length::{Sink, WriteFault};
-use ngc_output::Chunk;
+use ngc_text::{Chunk, Sink, WriteFault};
 
 /// How warnings are told.
 #[derive(Clone, Copy)]

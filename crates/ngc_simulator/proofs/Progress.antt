@@ -3,9 +3,9 @@ use Rattle.std.proofs.Common.{◌≡◌, ◌+◌, ◌<◌, ◌≤◌, ℕ, ℤ, 
 use Rattle.std.proofs.lemmas.List.{append_assoc, append-nil, drop_more}
 use Rattle.std.proofs.Math.ListN.{drop_of_length-le}
 use Rattle.std.specs.Io.KnownBytes.{Appends}
-use Rattle.ngc_fixed_length.specs.Written.{AppendsBeginning}
-use Rattle.ngc_fixed_length.proofs.Appended.{appends_both, begins_after}
-use Rattle.ngc_output.specs.Collected.{WritesFront}
+use Rattle.ngc_text.specs.Written.{AppendsBeginning}
+use Rattle.ngc_text.proofs.Appended.{appends_both, begins_after}
+use Rattle.ngc_text.specs.Collected.{WritesFront}
 use Rattle.ngc_canonical.specs.declared.command.Command.{Command}
 use Rattle.ngc_simulator.specs.Listing.{listing_line, listing_from}
 

@@ -1,9 +1,9 @@
 -- What the second sink takes.
 use Rattle.std.proofs.Common.{◌≡◌, ℕ, List, Result, Ok, Err, OnOk, OnErr, inl, inr, subst}
 use Rattle.std.specs.Io.KnownBytes.{Appends}
-use Rattle.ngc_fixed_length.specs.Failures.{CountsFailure}
-use Rattle.ngc_fixed_length.specs.Written.{AppendsBeginning}
-use Rattle.ngc_fixed_length.specs.declared.writing.WriteFault.{WriteFault}
+use Rattle.ngc_text.specs.Failures.{CountsFailure}
+use Rattle.ngc_text.specs.Written.{AppendsBeginning}
+use Rattle.ngc_text.specs.declared.writing.WriteFault.{WriteFault}
 use Rattle.ngc_simulator.specs.Answers.{Taking, Takes}
 
 took : (r : Result (Unit {0}) WriteFault) (sink : Taking) (text : List ℕ)

@@ -3,7 +3,7 @@ use Rattle.std.proofs.Common.{◌≡◌, ℕ, List, [], ◌∷◌, ◌++◌, Opt
 use Rattle.std.specs.Prelude.{IfErr, IsOk, MatchOption}
 use Rattle.ngc_certificate_text.specs.declared.fault.CertificateFault.{CertificateFault}
 use Rattle.ngc_certificate_text.specs.declared.fault.CertificateFault.TheVariants as texts
-use Rattle.ngc_input.specs.declared.fault.InputFault.{InputFault}
+use Rattle.ngc_text.specs.declared.input_fault.InputFault.{InputFault}
 use Rattle.ngc_line_reader.specs.declared.program.fault.ReadFault.{ReadFault}
 use Rattle.ngc_line_reader.specs.declared.program.fault.ReadFault.TheVariants as reads
 use Rattle.ngc_machine.specs.Machine.{MachineFile}

@@ -14,9 +14,9 @@ use Rattle.ngc_command_line.specs.declared.options.Options.TheVariants as comman
 use Rattle.ngc_fault_texts.specs.Numbers.{is_fault}
 use Rattle.ngc_fault_texts.specs.Told.{FailsByWriting as FailsByExplaining, Tells as TellsFault}
 use Rattle.ngc_fault_texts.specs.declared.telling.ExplainFault.TheVariants.{Unknown}
-use Rattle.ngc_fixed_length.specs.Failures.{Rises}
-use Rattle.ngc_fixed_length.specs.Written.{AppendsBeginning}
-use Rattle.ngc_fixed_length.specs.declared.writing.WriteFault.{WriteFault}
+use Rattle.ngc_text.specs.Failures.{Rises}
+use Rattle.ngc_text.specs.Written.{AppendsBeginning}
+use Rattle.ngc_text.specs.declared.writing.WriteFault.{WriteFault}
 use Rattle.ngc_run_log.specs.declared.report.Report.{Report}
 use Rattle.ngc_simulator.specs.declared.drawing.DrawingFault.{DrawingFault}
 use Rattle.ngc_simulator.specs.declared.drawing.DrawingFault.TheVariants.{UnknownView}

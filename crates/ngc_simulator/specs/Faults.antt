@@ -19,7 +19,7 @@ use Rattle.ngc_checker.specs.declared.fault.CheckFault.TheVariants as refusals
 use Rattle.ngc_events.specs.Faults.{number_of as events_number}
 use Rattle.ngc_events.specs.declared.fault.EventsFault.{EventsFault}
 use Rattle.ngc_events.specs.declared.fault.EventsFault.TheVariants as events
-use Rattle.ngc_input.specs.Input.{number_of as input_number}
+use Rattle.ngc_text.specs.Input.{number_of as input_number}
 use Rattle.ngc_line_reader.specs.ReadFaults.{number_of as read_number}
 use Rattle.ngc_line_reader.specs.declared.program.fault.ReadFault.{ReadFault}
 use Rattle.ngc_line_reader.specs.declared.program.fault.ReadFault.TheVariants as reads

@@ -1,8 +1,8 @@
 -- What is written where help or the version is asked for.
 use Rattle.std.specs.Prelude.{◌≡◌, ℕ, List, Option, Result, Ok, Err, codes}
 use Rattle.std.specs.Io.KnownBytes.{Appends, Keeps}
-use Rattle.ngc_fixed_length.specs.Failures.{Rises}
-use Rattle.ngc_fixed_length.specs.Written.{AppendsBeginning}
+use Rattle.ngc_text.specs.Failures.{Rises}
+use Rattle.ngc_text.specs.Written.{AppendsBeginning}
 use Rattle.ngc_simulator.specs.declared.guide.GuideFault.{GuideFault}
 use Rattle.ngc_simulator.specs.declared.guide.GuideFault.TheVariants.{Help, Write}
 

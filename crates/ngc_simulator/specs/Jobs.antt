@@ -1,8 +1,8 @@
 -- What certifying and checking a program come to. Our own.
 use Rattle.std.specs.Prelude.{◌≡◌, ℕ, List, Option, None, Result, Ok, Err, codes, true, false}
 use Rattle.std.specs.Io.KnownBytes.{Appends, Keeps}
-use Rattle.ngc_fixed_length.specs.Failures.{Rises}
-use Rattle.ngc_fixed_length.specs.Written.{AppendsBeginning}
+use Rattle.ngc_text.specs.Failures.{Rises}
+use Rattle.ngc_text.specs.Written.{AppendsBeginning}
 use Rattle.ngc_line_reader.specs.Grammar.{Reading}
 use Rattle.ngc_line_reader.specs.ProgramText.{ProgramText, program_of, AreReadings}
 use Rattle.ngc_line_reader.specs.ProgramView.{FaultIs}

@@ -4,9 +4,9 @@ use Rattle.ngc_certificate_text.specs.Said.{certificate_said}
 use Rattle.ngc_certificate_text.specs.declared.fault.CertificateFault.{CertificateFault}
 use Rattle.ngc_certificate_text.specs.declared.fault.CertificateFault.TheVariants as texts
 use Rattle.ngc_events.specs.Events.{events_said}
-use Rattle.ngc_fixed_length.specs.Failures.{Rises}
-use Rattle.ngc_input.specs.declared.fault.InputFault.{InputFault}
-use Rattle.ngc_input.specs.declared.fault.InputFault.TheVariants as inputs
+use Rattle.ngc_text.specs.Failures.{Rises}
+use Rattle.ngc_text.specs.declared.input_fault.InputFault.{InputFault}
+use Rattle.ngc_text.specs.declared.input_fault.InputFault.TheVariants as inputs
 use Rattle.ngc_line_reader.specs.ProgramText.{program_of}
 use Rattle.ngc_line_reader.specs.declared.program.fault.ReadFault.{ReadFault}
 use Rattle.ngc_line_reader.specs.declared.program.fault.ReadFault.TheVariants as reads

@@ -2,7 +2,7 @@ ghost use Rattle.std.specs.Prelude.{◌≡◌, ◌≤◌, ℕ, List, IfOk, IfSom
 ghost use Rattle.ngc_canonical.specs.Interpreter.{setup_of};
 ghost use Rattle.ngc_certificate_text.specs.Contents.{form_of, said_of};
 ghost use Rattle.ngc_certificate_text.specs.Joined.{Parted};
-ghost use Rattle.ngc_fixed_length.specs.Failures.{Rises};
+ghost use Rattle.ngc_text.specs.Failures.{Rises};
 ghost use Rattle.ngc_line_reader.specs.ProgramText.{program_of, HaveReadings};
 ghost use Rattle.ngc_line_reader.specs.ProgramView.{text_in};
 ghost use Rattle.ngc_line_reader.specs.declared.program.fault.ReadFault.TheVariants.{Device};
@@ -20,10 +20,9 @@ use ngc_canonical::{ProgramFault, has_deleted_lines, interpret};
 use ngc_certificate::{MakeFault, Setting, join, make, make_alike};
 use ngc_certificate_text::Certificate;
 use ngc_command_line::{CertifyOptions, Format};
-use ngc_fixed_length::{Sink, Source, WriteFault};
-use ngc_input::InputFault;
 use ngc_line_reader::{Program, ReadFault};
 use ngc_machine::{Machine, Tools};
+use ngc_text::{InputFault, Sink, Source, WriteFault};
 use std::alloc::{Allocator, Global};
 use thiserror::Error;
 

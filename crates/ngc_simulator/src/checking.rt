@@ -1,7 +1,7 @@
 ghost use Rattle.std.specs.Prelude.{◌≡◌, ℕ, List, IfSome, Ok, Err};
 ghost use Rattle.ngc_canonical.specs.Interpreter.{setup_of};
 ghost use Rattle.ngc_certificate_text.specs.declared.fault.CertificateFault.TheVariants.{ReadFailed};
-ghost use Rattle.ngc_fixed_length.specs.Failures.{Rises};
+ghost use Rattle.ngc_text.specs.Failures.{Rises};
 ghost use Rattle.ngc_line_reader.specs.ProgramText.{program_of, HaveReadings};
 ghost use Rattle.ngc_line_reader.specs.ProgramView.{text_in};
 ghost use Rattle.ngc_simulator.specs.Answers.{CheckComes, FailsByOutput, check_inputs};
@@ -16,10 +16,9 @@ use crate::setup::read_shop;
 use ngc_certificate_text::CertificateFault;
 use ngc_checker::{CheckFault, CheckReadFault, check_source};
 use ngc_command_line::CheckOptions;
-use ngc_fixed_length::{Sink, Source, WriteFault, write_all};
-use ngc_input::InputFault;
 use ngc_line_reader::{Program, ReadFault};
 use ngc_machine::{Machine, Tools};
+use ngc_text::{InputFault, Sink, Source, WriteFault, write_all};
 use std::alloc::{Allocator, Global};
 use thiserror::Error;
 

@@ -16,9 +16,10 @@ use ngc_certificate::{
 use ngc_certificate_text::{Certificate, CertificateFault, Motions};
 use ngc_checker::{CheckFault, setting_fault};
 use ngc_drawing::{DrawFault, Refusal, View, write_svg};
-use ngc_fixed_length::{Point3, Sink};
+use ngc_fixed_length::Point3;
 use ngc_line_reader::{Program, ReadFault};
 use ngc_machine::{Machine, Tool, Tools};
+use ngc_text::Sink;
 use std::alloc::Allocator;
 use thiserror::Error;
 

@@ -12,7 +12,7 @@ use crate::opening::{read_certificate, read_program};
 use crate::setup::read_shop;
 use ngc_command_line::DrawOptions;
 use ngc_drawing::View;
-use ngc_fixed_length::Sink;
+use ngc_text::Sink;
 use std::alloc::Global;
 
 // A picture without a certificate. Each file is read before the next one is opened.

@@ -5,9 +5,8 @@ use crate::guide::GuideFault;
 use crate::lister::ListFault;
 use crate::running::RunningFault;
 use ngc_fault_texts::ExplainFault;
-use ngc_fixed_length::WriteFault;
-use ngc_input::InputFault;
 use ngc_machine::FileFault;
+use ngc_text::{InputFault, WriteFault};
 use thiserror::Error;
 
 /// Why a run does not do what it was asked.

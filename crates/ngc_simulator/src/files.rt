@@ -1,10 +1,10 @@
 ghost use Rattle.std.specs.Prelude.{◌≡◌, ℕ, List, Option, IfOk, IfErr, IsSome, option_map};
-ghost use Rattle.ngc_fixed_length.specs.Failures.{CountsFailure};
+ghost use Rattle.ngc_text.specs.Failures.{CountsFailure};
 ghost use Rattle.ngc_line_reader.specs.declared.program.fault.ReadFault.TheVariants.{Device};
 ghost use Rattle.ngc_simulator.specs.Setups.{KeepsFiles, KeepsNamed};
 
-use ngc_fixed_length::Source;
 use ngc_line_reader::ReadFault;
+use ngc_text::Source;
 
 /// The files that a run is given.
 pub trait Files {

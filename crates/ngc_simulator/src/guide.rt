@@ -1,12 +1,12 @@
 //! The help of a command, and the program's version.
 ghost use Rattle.std.specs.Prelude.{◌≡◌, OnErr, OnOk};
 ghost use Rattle.std.specs.Io.KnownBytes.{Appends};
-ghost use Rattle.ngc_fixed_length.specs.Failures.{CountsFailure};
-ghost use Rattle.ngc_fixed_length.specs.Written.{AppendsBeginning};
+ghost use Rattle.ngc_text.specs.Failures.{CountsFailure};
+ghost use Rattle.ngc_text.specs.Written.{AppendsBeginning};
 ghost use Rattle.ngc_simulator.specs.Guides.{FailsByGuiding, Guides, version_text};
 
 use ngc_command_line::{HelpFault, help_text};
-use ngc_fixed_length::{Sink, WriteFault, write_all};
+use ngc_text::{Sink, WriteFault, write_all};
 use std::alloc::Global;
 use thiserror::Error;
 

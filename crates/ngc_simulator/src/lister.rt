@@ -1,6 +1,6 @@
 ghost use Rattle.std.specs.Prelude.{◌≡◌, IfSome, Err};
 ghost use Rattle.ngc_canonical.specs.Interpreter.{setup_of};
-ghost use Rattle.ngc_fixed_length.specs.Failures.{Rises};
+ghost use Rattle.ngc_text.specs.Failures.{Rises};
 ghost use Rattle.ngc_line_reader.specs.declared.program.fault.ReadFault.TheVariants.{Device};
 ghost use Rattle.ngc_simulator.specs.Answers.{ListComes, FailsByOutput, list_inputs};
 ghost use Rattle.ngc_simulator.specs.Lists.{Lists, FailsByWriting};
@@ -13,10 +13,9 @@ use crate::listing::write_list;
 use crate::setup::read_shop;
 use ngc_canonical::{ProgramFault, interpret};
 use ngc_command_line::ListOptions;
-use ngc_fixed_length::{Sink, Source, WriteFault};
-use ngc_input::InputFault;
 use ngc_line_reader::{Program, ReadFault};
 use ngc_machine::{Machine, Tools};
+use ngc_text::{InputFault, Sink, Source, WriteFault};
 use std::alloc::{Allocator, Global};
 use thiserror::Error;
 

@@ -1,17 +1,17 @@
 ghost use Rattle.std.specs.Prelude.{◌≡◌, ◌+◌, ◌≤◌, ◌++◌, length, OnOk, OnErr};
 ghost use Rattle.std.specs.Fmt.{signed_decimal};
 ghost use Rattle.std.specs.Io.KnownBytes.{Appends};
-ghost use Rattle.ngc_fixed_length.specs.Failures.{CountsFailure};
+ghost use Rattle.ngc_text.specs.Failures.{CountsFailure};
 ghost use Rattle.ngc_fixed_length.specs.Length.{IsStep};
-ghost use Rattle.ngc_fixed_length.specs.Written.{AppendsBeginning};
-ghost use Rattle.ngc_output.specs.Collected.{CHUNK_SIZE, HasLineRoom};
+ghost use Rattle.ngc_text.specs.Written.{AppendsBeginning};
+ghost use Rattle.ngc_text.specs.Collected.{CHUNK_SIZE, HasLineRoom};
 ghost use Rattle.ngc_canonical.specs.Movement.{end_of};
 ghost use Rattle.ngc_simulator.specs.Listing.{place_text, steps_text, end_text, feed_text, turn_text, plane_text, arc_text, spindle_text, coolant_text, number_of_tool, switch_text, way_text, pace_text, act_text, listing_line, listing};
 
 use ngc_arc_geometry::Arc;
 use ngc_canonical::{Action, Command, CoolantState, Feed, Motion, Pace, SpindleState, Tool, Way};
-use ngc_fixed_length::{Nm, Plane, Point3, Sink, StepPos, Turn, WriteFault};
-use ngc_output::Chunk;
+use ngc_fixed_length::{Nm, Plane, Point3, StepPos, Turn};
+use ngc_text::{Chunk, Sink, WriteFault};
 
 fn add_place(chunk: &mut Chunk, place: &Point3)
     requires { length chunk.old + 122 ≤ CHUNK_SIZE }

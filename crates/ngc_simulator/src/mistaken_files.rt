@@ -1,8 +1,8 @@
 //! The mistake of a machine file or a tool table that is refused, told before its fault.
 ghost use Rattle.std.specs.Prelude.{◌≡◌, ◌≢◌, IfErr, IsSomeAnd, None, OnErr, OnOk, Some, option_map};
 ghost use Rattle.std.specs.Io.KnownBytes.{Appends};
-ghost use Rattle.ngc_fixed_length.specs.Failures.{CountsFailure};
-ghost use Rattle.ngc_fixed_length.specs.Written.{AppendsBeginning};
+ghost use Rattle.ngc_text.specs.Failures.{CountsFailure};
+ghost use Rattle.ngc_text.specs.Written.{AppendsBeginning};
 ghost use Rattle.ngc_machine.specs.Faults.{number_of as file_number};
 ghost use Rattle.ngc_machine.specs.declared.fault.FileFault.TheVariants.{Memory};
 ghost use Rattle.ngc_report.specs.declared.form.Form.TheVariants.{Words};
@@ -15,11 +15,10 @@ use crate::fault::AnswerFault;
 use crate::files::Files;
 use crate::report_writer::write_ending;
 use crate::setup::{Shop, bytes_of, read_shop};
-use ngc_fixed_length::{Sink, WriteFault, write_all};
-use ngc_input::InputFault;
 use ngc_machine::FileFault;
 use ngc_report::Form;
 use ngc_setup_sheet::{write_machine_mistake, write_tools_mistake};
+use ngc_text::{InputFault, Sink, WriteFault, write_all};
 use std::alloc::Global;
 
 fn write_fault_document<W: Sink>(number: u16, output: &mut W) -> Result<(), WriteFault>

@@ -19,8 +19,7 @@ use crate::showing::show_files;
 use crate::through::run_through_files;
 use ngc_command_line::Options;
 use ngc_fault_texts::explain;
-use ngc_fixed_length::Sink;
-use ngc_output::Chunk;
+use ngc_text::{Chunk, Sink};
 use std::alloc::Global;
 
 fn run_command<F: Files, W: Sink>(

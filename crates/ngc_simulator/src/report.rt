@@ -1,6 +1,6 @@
 //! What the program tells of a fault.
 ghost use Rattle.std.specs.Prelude.{◌≡◌, ◌+◌, ◌≤◌, ◌++◌, length, decimal, codes};
-ghost use Rattle.ngc_output.specs.Collected.{CHUNK_SIZE};
+ghost use Rattle.ngc_text.specs.Collected.{CHUNK_SIZE};
 ghost use Rattle.ngc_simulator.specs.Faults.{list_number, list_place, fault_line, list_status, read_place, read_status, program_place, answer_number, answer_place, answer_status, file_place, file_status, guide_number, guide_status, explain_status};
 
 use crate::fault::AnswerFault;
@@ -14,7 +14,7 @@ use ngc_command_line::HelpFault;
 use ngc_fault_texts::ExplainFault;
 use ngc_line_reader::ReadFault;
 use ngc_machine::FileFault;
-use ngc_output::Chunk;
+use ngc_text::Chunk;
 
 impl ListFault {
     /// The fault's number.

@@ -1,6 +1,6 @@
 //! What the program tells of a certificate that isn't made or isn't accepted.
 ghost use Rattle.std.specs.Prelude.{◌≡◌, ◌+◌, ◌≤◌, ◌++◌, length, decimal, codes};
-ghost use Rattle.ngc_output.specs.Collected.{CHUNK_SIZE};
+ghost use Rattle.ngc_text.specs.Collected.{CHUNK_SIZE};
 ghost use Rattle.ngc_simulator.specs.Faults.{setting_place, command_place, fixture_place, piece_place, refused_place, make_place, check_place, line_of_text, certify_place, checking_place, certify_number, checking_number, make_status, certify_status, text_status, check_status, checking_status};
 
 use crate::certifier::CertifyFault;
@@ -10,7 +10,7 @@ use ngc_canonical::ProgramFault;
 use ngc_certificate::{MakeFault, PieceFault, Setting};
 use ngc_certificate_text::CertificateFault;
 use ngc_checker::CheckFault;
-use ngc_output::Chunk;
+use ngc_text::Chunk;
 
 impl CertifyFault {
     /// The fault's number.

@@ -1,13 +1,13 @@
 //! What the program tells of a picture that isn't drawn.
 ghost use Rattle.std.specs.Prelude.{◌≡◌, ◌+◌, ◌≤◌, ◌++◌, length};
-ghost use Rattle.ngc_output.specs.Collected.{CHUNK_SIZE};
+ghost use Rattle.ngc_text.specs.Collected.{CHUNK_SIZE};
 ghost use Rattle.ngc_simulator.specs.Faults.{drawing_number, drawing_place, drawing_status};
 
 use crate::drawing::DrawingFault;
 use crate::report::{add_program_place, add_reading_place, status_of_reading};
 use crate::report_certificates::{add_check_place, add_text_line, status_of_check, status_of_text};
 use ngc_canonical::ProgramFault;
-use ngc_output::Chunk;
+use ngc_text::Chunk;
 
 impl DrawingFault {
     /// The fault's number.

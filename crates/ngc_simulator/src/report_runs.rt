@@ -1,13 +1,13 @@
 //! What the program tells of a run that isn't made or breaks off.
 ghost use Rattle.std.specs.Prelude.{◌≡◌, ◌+◌, ◌≤◌, ◌++◌, length};
-ghost use Rattle.ngc_output.specs.Collected.{CHUNK_SIZE};
+ghost use Rattle.ngc_text.specs.Collected.{CHUNK_SIZE};
 ghost use Rattle.ngc_simulator.specs.Faults.{events_place, events_status, running_number, running_place, running_status};
 
 use crate::report::{add_reading_place, status_of_reading};
 use crate::report_certificates::{add_check_place, add_text_line, status_of_check, status_of_text};
 use crate::running::RunningFault;
 use ngc_events::EventsFault;
-use ngc_output::Chunk;
+use ngc_text::Chunk;
 
 impl RunningFault {
     /// The fault's number.

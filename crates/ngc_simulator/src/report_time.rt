@@ -1,12 +1,12 @@
 //! What the program tells of a run through a program.
 ghost use Rattle.std.specs.Prelude.{◌≡◌, ◌+◌, ◌≤◌, ◌++◌, length};
-ghost use Rattle.ngc_output.specs.Collected.{CHUNK_SIZE};
+ghost use Rattle.ngc_text.specs.Collected.{CHUNK_SIZE};
 ghost use Rattle.ngc_simulator.specs.Reporting.{takes_fact, takes_line, takes_words};
 ghost use Rattle.ngc_simulator.specs.Times.{clock_text, seconds_text, three_digits, time_line, time_text, two_digits};
 
 use crate::done::RunTime;
-use ngc_output::Chunk;
 use ngc_report::Form;
+use ngc_text::Chunk;
 
 fn add_two_digits(chunk: &mut Chunk, number: u128)
     requires { length chunk.old + 80 ≤ CHUNK_SIZE }

@@ -5,13 +5,13 @@ ghost use Rattle.ngc_canonical.specs.Interpreter.{setup_of};
 ghost use Rattle.ngc_certificate.specs.PieceFault.{place_fault};
 ghost use Rattle.ngc_certificate_text.specs.Certificate.{entries_at};
 ghost use Rattle.ngc_certificate_text.specs.Contents.{said_of};
-ghost use Rattle.ngc_fixed_length.specs.Failures.{CountsFailure};
+ghost use Rattle.ngc_text.specs.Failures.{CountsFailure};
 ghost use Rattle.ngc_fixed_length.specs.Grid.{grid};
-ghost use Rattle.ngc_fixed_length.specs.Written.{AppendsBeginning};
+ghost use Rattle.ngc_text.specs.Written.{AppendsBeginning};
 ghost use Rattle.ngc_line_reader.specs.ProgramView.{text_in};
 ghost use Rattle.ngc_machine.specs.Machine.{file_of};
 ghost use Rattle.ngc_canonical.specs.Faults.{fault_number};
-ghost use Rattle.ngc_output.specs.Collected.{HasLineRoom};
+ghost use Rattle.ngc_text.specs.Collected.{HasLineRoom};
 ghost use Rattle.ngc_report.specs.Forms.{closing, opening};
 ghost use Rattle.ngc_report.specs.Marks.{named_line};
 ghost use Rattle.ngc_simulator.specs.Reporting.{cause_text, duration_text, ending, fits_text, heading, hint, quoted_if, refusal_text, refusals_text, refused_line, rejection_text, setting_line, setting_refusals, setting_text, shop_text, takes_line, told_command, told_number};
@@ -25,14 +25,13 @@ use ngc_canonical::{Command, Fault};
 use ngc_certificate::{Setting, place_fault};
 use ngc_certificate_text::Certificate;
 use ngc_checker::Accepted;
-use ngc_fixed_length::{Sink, WriteFault, write_all};
 use ngc_line_reader::Program;
 use ngc_machine::{Machine, Tools};
-use ngc_output::Chunk;
 use ngc_report::{
     Form, write_fit, write_line, write_named, write_refusal, write_refusals, write_warnings,
 };
 use ngc_setup_sheet::{write_warning_facts, write_warnings as write_shop_warnings};
+use ngc_text::{Chunk, Sink, WriteFault, write_all};
 use std::alloc::Allocator;
 
 // The line that names a setting.

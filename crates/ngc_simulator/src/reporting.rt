@@ -3,7 +3,7 @@ ghost use Rattle.std.specs.Prelude.{◌≡◌, ◌≤◌, ℕ, List, IfSome, Ok,
 ghost use Rattle.ngc_canonical.specs.Interpreter.{setup_of};
 ghost use Rattle.ngc_canonical.specs.State.{Setup};
 ghost use Rattle.ngc_certificate_text.specs.Contents.{said_of};
-ghost use Rattle.ngc_fixed_length.specs.Failures.{Rises};
+ghost use Rattle.ngc_text.specs.Failures.{Rises};
 ghost use Rattle.ngc_line_reader.specs.ProgramText.{program_of, HaveReadings};
 ghost use Rattle.ngc_line_reader.specs.ProgramView.{text_in};
 ghost use Rattle.ngc_line_reader.specs.declared.program.fault.ReadFault.TheVariants.{Device};
@@ -19,9 +19,9 @@ use crate::timing::{accept, time_of};
 use ngc_canonical::{ProgramFault, has_deleted_lines, interpret};
 use ngc_certificate::{MakeFault, Setting, uncleared};
 use ngc_certificate_text::Certificate;
-use ngc_fixed_length::{Sink, Source};
 use ngc_line_reader::Program;
 use ngc_machine::{Machine, Tools};
+use ngc_text::{Sink, Source};
 use std::alloc::Allocator;
 
 fn is_on(setting: Setting) -> bool

@@ -12,9 +12,8 @@ use crate::reporting::report_program;
 use crate::request::ReportRequest;
 use crate::unread_files::tell_unreadable;
 use ngc_command_line::ReportOptions;
-use ngc_fixed_length::Sink;
-use ngc_input::InputFault;
 use ngc_report::Form;
+use ngc_text::{InputFault, Sink};
 use std::alloc::Global;
 
 fn form_asked(json: bool) -> Form

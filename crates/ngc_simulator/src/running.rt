@@ -20,10 +20,10 @@ use ngc_certificate_text::{Certificate, CertificateFault};
 use ngc_checker::{Accepted, CheckFault, check};
 use ngc_command_line::{Recording, RunOptions};
 use ngc_events::{EventLine, EventsFault, read_events};
-use ngc_fixed_length::Sink;
 use ngc_line_reader::{Program, ReadFault};
 use ngc_machine::{Machine, Tools};
 use ngc_run_log::{Report, RunFault, run, write_pulses};
+use ngc_text::Sink;
 use std::alloc::{Allocator, Global};
 use thiserror::Error;
 

@@ -11,8 +11,8 @@ ghost use Rattle.ngc_machine.specs.Tools.{tools_of};
 
 use crate::fault::{AnswerFault, SetupFault};
 use crate::files::Files;
-use ngc_input::{InputFault, read_whole};
 use ngc_machine::{Machine, Tools, row_machine};
+use ngc_text::{InputFault, read_whole};
 use std::alloc::Global;
 
 /// The machine and its tools.

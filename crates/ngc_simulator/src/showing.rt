@@ -7,9 +7,9 @@ use crate::fault::AnswerFault;
 use crate::files::Files;
 use crate::mistaken_files::read_shop_telling;
 use ngc_command_line::ShowOptions;
-use ngc_fixed_length::Sink;
 use ngc_report::Form;
 use ngc_setup_sheet::write_sheet;
+use ngc_text::Sink;
 use std::alloc::Global;
 
 /// A setup sheet. Both files are read before anything is written, and of one that is refused the mistake is.

@@ -20,10 +20,10 @@ use crate::setup::read_shop;
 use ngc_certificate_text::Certificate;
 use ngc_checker::{Accepted, check};
 use ngc_command_line::{Recording, RunThroughOptions};
-use ngc_fixed_length::Sink;
 use ngc_line_reader::Program;
 use ngc_machine::{Machine, Tools};
 use ngc_run_log::{Report, RunFault, run_through, write_pulses_through};
+use ngc_text::Sink;
 use std::alloc::{Allocator, Global};
 
 // Runs what was accepted through to its end, and writes what is asked for.

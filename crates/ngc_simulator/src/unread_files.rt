@@ -1,8 +1,8 @@
 //! The fault of a program that can't be read, told before it is answered.
 ghost use Rattle.std.specs.Prelude.{◌≡◌, ◌++◌, [], ◌∷◌, Err, IfSome, OnErr, OnOk, Some};
 ghost use Rattle.std.specs.Io.KnownBytes.{Appends};
-ghost use Rattle.ngc_fixed_length.specs.Failures.{CountsFailure};
-ghost use Rattle.ngc_fixed_length.specs.Written.{AppendsBeginning};
+ghost use Rattle.ngc_text.specs.Failures.{CountsFailure};
+ghost use Rattle.ngc_text.specs.Written.{AppendsBeginning};
 ghost use Rattle.ngc_line_reader.specs.ProgramText.{program_of};
 ghost use Rattle.ngc_line_reader.specs.ProgramView.{FaultIs};
 ghost use Rattle.ngc_line_reader.specs.declared.program.fault.ReadFault.TheVariants.{Device};
@@ -18,10 +18,9 @@ use crate::certifier::CertifyFault;
 use crate::files::Files;
 use crate::report_writer::write_ending;
 use crate::setup::bytes_of;
-use ngc_fixed_length::{Sink, WriteFault, write_all};
-use ngc_input::InputFault;
 use ngc_line_reader::ReadFault;
 use ngc_report::{Form, write_source_line};
+use ngc_text::{InputFault, Sink, WriteFault, write_all};
 use std::alloc::Global;
 
 fn is_of_text(fault: ReadFault) -> bool

@@ -1,19 +1,18 @@
 //! How long a program takes with each tool, as a report tells it.
 ghost use Rattle.std.specs.Prelude.{◌≡◌, ◌+◌, ◌≤◌, ◌++◌, length, OnOk, OnErr};
 ghost use Rattle.std.specs.Io.KnownBytes.{Appends};
-ghost use Rattle.ngc_fixed_length.specs.Failures.{CountsFailure};
-ghost use Rattle.ngc_fixed_length.specs.Written.{AppendsBeginning};
-ghost use Rattle.ngc_output.specs.Collected.{CHUNK_SIZE};
+ghost use Rattle.ngc_text.specs.Failures.{CountsFailure};
+ghost use Rattle.ngc_text.specs.Written.{AppendsBeginning};
+ghost use Rattle.ngc_text.specs.Collected.{CHUNK_SIZE};
 ghost use Rattle.ngc_simulator.specs.Times.{named_tool, ticks_told, tool_value, use_time, use_time_fact, use_time_words, uses_text};
 
 use crate::done::RunTime;
 use crate::program_time::ProgramTime;
 use crate::report_time::{add_seconds, add_time};
 use ngc_canonical::Command;
-use ngc_fixed_length::{Sink, WriteFault};
 use ngc_machine::Tool;
-use ngc_output::Chunk;
 use ngc_report::{Form, ToolUse, ToolUses};
+use ngc_text::{Chunk, Sink, WriteFault};
 use std::alloc::Allocator;
 
 #[tactic(auto, unfolding(crate::specs::Times::named_tool))]

@@ -1,4 +1,4 @@
-use ngc_fixed_length::{DeviceFault, Source};
+use ngc_text::{DeviceFault, Source};
 
 /// Gives a text, and then the same byte without end. It fills each buffer, and never fails.
 #[derive(Drop)]

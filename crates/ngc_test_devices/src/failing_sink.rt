@@ -1,4 +1,4 @@
-use ngc_fixed_length::{DeviceFault, Sink};
+use ngc_text::{DeviceFault, Sink};
 use std::alloc::Global;
 
 /// Takes bytes for so many calls, and fails at each later one.

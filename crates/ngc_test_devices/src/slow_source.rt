@@ -1,4 +1,4 @@
-use ngc_fixed_length::{DeviceFault, Source};
+use ngc_text::{DeviceFault, Source};
 
 /// Gives a text slowly, and fails in place of one of its bytes or of its end.
 #[derive(Drop)]

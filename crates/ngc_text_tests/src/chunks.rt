@@ -1,6 +1,5 @@
 use crate::checks::same;
-use ngc_fixed_length::Device;
-use ngc_output::Chunk;
+use ngc_text::{Chunk, Device};
 use std::test::Fail;
 
 #[test]

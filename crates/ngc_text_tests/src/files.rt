@@ -1,9 +1,10 @@
 use crate::checks::{holds, same};
 use crate::values::value;
 use linked_list_allocator::LocalHeap;
-use ngc_fixed_length::{Device, Value};
+use ngc_fixed_length::Value;
 use ngc_line_reader::{FaultKind, Letter, Line, LineFault, Operator, Program, ReadFault, Symbol};
 use ngc_test_devices::SlowSource;
+use ngc_text::Device;
 use std::alloc::Global;
 use std::process::Abort;
 use std::test::Fail;

@@ -4,10 +4,10 @@ use super::checks::same;
 use super::{
     LIST, MACHINE, RUN, Texts, certify_options, comes_to, on_the_mill, outcome_of, status_of,
 };
-use ngc_fixed_length::Device;
 use ngc_line_reader::ReadFault;
 use ngc_simulator::{Files, ListOptions, Options};
 use ngc_test_devices::SlowSource;
+use ngc_text::Device;
 use std::alloc::Global;
 use std::process::Abort;
 use std::test::Fail;

@@ -4,12 +4,13 @@ use super::checks::{holds, same};
 use super::jobs::{End, Job, Shop, certify_text, written_by};
 use super::runs::{SHORT_WAY_EVENTS, SHORT_WAY_LOG, SHORT_WAY_REPORT};
 use linked_list_allocator::LocalHeap;
-use ngc_fixed_length::{Device, StepPos};
+use ngc_fixed_length::StepPos;
 use ngc_line_reader::Program;
 use ngc_simulator::{
     Accepted, ArcPath, Certificate, Controller, Ending, Event, EventFault, Reply, Tools, check,
     read_events, row_machine, run,
 };
+use ngc_text::Device;
 use std::alloc::{Allocator, Global};
 use std::process::Abort;
 use std::test::Fail;

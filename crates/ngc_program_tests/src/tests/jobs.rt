@@ -1,11 +1,11 @@
 //! What the program does, on the built-in machine, over any allocator and sink.
 use super::checks::same;
-use ngc_fixed_length::{Device, Sink};
 use ngc_line_reader::Program;
 use ngc_simulator::{
     Certificate, Format, Machine, Recording, Report, Tools, certify, check_program, list,
     row_machine, run_program,
 };
+use ngc_text::{Device, Sink};
 use std::alloc::{Allocator, Global};
 use std::process::Abort;
 

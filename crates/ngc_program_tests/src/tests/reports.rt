@@ -1,10 +1,10 @@
 //! `ngc report`: whole texts, with figures that were reckoned by hand.
 use super::checks::{holds, same};
 use super::{MACHINE, Outcome, SomeFiles, TOOLS, Text, Texts, on_the_mill, outcome_of, status_of};
-use ngc_fixed_length::Device;
 use ngc_line_reader::ReadFault;
 use ngc_simulator::{Files, Options, ReportOptions, ShowOptions};
 use ngc_test_devices::FailingSink;
+use ngc_text::Device;
 use serde_json::Value;
 use std::alloc::Global;
 use std::process::Abort;

@@ -4,9 +4,9 @@ use super::checks::{holds, same};
 use super::jobs::{End, Job};
 use super::runs::{SHORT_WAY_EVENTS, SHORT_WAY_LOG, certificate_of};
 use super::{NO_TEXTS, RUN, SHORT_WAY, SomeFiles, Texts, on_the_mill, outcome_of, status_of};
-use ngc_fixed_length::Device;
 use ngc_simulator::Options;
 use ngc_test_devices::FailingSink;
+use ngc_text::Device;
 use std::alloc::Global;
 use std::process::Abort;
 

@@ -1,5 +1,5 @@
 use Rattle.std.proofs.Common.{◌≡◌, ◌++◌, ◌≤◌, flat_map, take, drop}
-use Rattle.ngc_output.specs.Collected.{WritesFront}
+use Rattle.ngc_text.specs.Collected.{WritesFront}
 use Rattle.ngc_certificate_text.specs.Order.{items_in}
 use Rattle.ngc_certificate_text.specs.Spelling.{item_lines}
 use Rattle.ngc_certificate_text.proofs.write.write_entries.Given as goal

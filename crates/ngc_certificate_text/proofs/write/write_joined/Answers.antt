@@ -1,6 +1,6 @@
 use Rattle.std.proofs.Common.{◌++◌}
-use Rattle.ngc_fixed_length.specs.Written.{AppendsBeginning}
-use Rattle.ngc_output.specs.Collected.{WritesFront}
+use Rattle.ngc_text.specs.Written.{AppendsBeginning}
+use Rattle.ngc_text.specs.Collected.{WritesFront}
 use Rattle.ngc_certificate_text.proofs.Passing.{as_spelled}
 use Rattle.ngc_certificate_text.proofs.Spelled.{stopped_in_first, stopped_in_second, stopped_behind, made_whole}
 use Rattle.ngc_certificate_text.proofs.write.write_joined.Goals as goal

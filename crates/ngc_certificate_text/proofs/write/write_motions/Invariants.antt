@@ -1,5 +1,5 @@
 use Rattle.std.proofs.Common.{◌≡◌, ◌++◌, flat_map, take}
-use Rattle.ngc_output.specs.Collected.{WritesFront}
+use Rattle.ngc_text.specs.Collected.{WritesFront}
 use Rattle.ngc_certificate_text.specs.Spelling.{entry_lines}
 use Rattle.ngc_certificate_text.proofs.write.write_motions.Given as goal
 

@@ -1,5 +1,5 @@
 use Rattle.std.proofs.Common.{◌≡◌, ◌++◌, flat_map, take}
-use Rattle.ngc_output.specs.Collected.{WritesFront}
+use Rattle.ngc_text.specs.Collected.{WritesFront}
 use Rattle.ngc_drawing.specs.Spelling.{shape_text}
 use Rattle.ngc_drawing.proofs.drawer.draw_all.Given as goal
 

@@ -1,9 +1,9 @@
 use Rattle.std.proofs.Common.{ℕ, subst, List, Option, Result, Ok, Err}
 use Rattle.std.specs.Prelude.{OnOk, OnErr}
 use Rattle.std.specs.Io.KnownBytes.{Appends}
-use Rattle.ngc_fixed_length.specs.Written.{AppendsBeginning}
-use Rattle.ngc_fixed_length.specs.declared.writing.WriteFault.{WriteFault}
-use Rattle.ngc_output.specs.Collected.{WritesFront}
+use Rattle.ngc_text.specs.Written.{AppendsBeginning}
+use Rattle.ngc_text.specs.declared.writing.WriteFault.{WriteFault}
+use Rattle.ngc_text.specs.Collected.{WritesFront}
 use Rattle.ngc_certificate_text.proofs.Fronts.{all_written, beginning_written}
 use Rattle.ngc_drawing.proofs.Whole.{from_start}
 use Rattle.ngc_drawing.specs.Pictures.{text_of}

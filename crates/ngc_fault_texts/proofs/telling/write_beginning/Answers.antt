@@ -1,6 +1,6 @@
 use Rattle.std.proofs.Common.{OnOk, OnErr, List, ℕ, subst, ◌∙◌}
 use Rattle.std.specs.Io.KnownBytes.{Appends}
-use Rattle.ngc_fixed_length.specs.Written.{AppendsBeginning}
+use Rattle.ngc_text.specs.Written.{AppendsBeginning}
 use Rattle.ngc_fault_texts.proofs.Reached.{beginning_same}
 use Rattle.ngc_fault_texts.proofs.telling.write_beginning.Goals as goal
 

@@ -1,5 +1,5 @@
 use Rattle.std.proofs.Common.{OnErr, List, ℕ, ap₂, subst, sym, ◌∙◌}
-use Rattle.ngc_fixed_length.specs.Written.{AppendsBeginning}
+use Rattle.ngc_text.specs.Written.{AppendsBeginning}
 use Rattle.ngc_fault_texts.specs.Told.{column_line}
 use Rattle.ngc_fault_texts.proofs.Reached.{column_same}
 use Rattle.ngc_fault_texts.proofs.telling.write_column.Goals as goal

@@ -1,5 +1,5 @@
 use Rattle.std.proofs.Common.{◌≡◌, ◌++◌, flat_map, take}
-use Rattle.ngc_output.specs.Collected.{WritesFront}
+use Rattle.ngc_text.specs.Collected.{WritesFront}
 use Rattle.ngc_report.specs.Forms.{spelled}
 use Rattle.ngc_report.proofs.report.tell_all.Given as goal
 

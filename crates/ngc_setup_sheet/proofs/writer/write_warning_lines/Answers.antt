@@ -1,8 +1,8 @@
 use Rattle.std.proofs.Common.{rules, List, ℕ, ◌++◌, flat_map, ap, subst, ◌∙◌}
 use Rattle.std.proofs.lemmas.List.{take_all}
 use Rattle.ngc_certificate_text.proofs.Fronts.{one_more, stopped_at}
-use Rattle.ngc_fixed_length.specs.Written.{AppendsBeginning}
-use Rattle.ngc_output.specs.Collected.{WritesFront}
+use Rattle.ngc_text.specs.Written.{AppendsBeginning}
+use Rattle.ngc_text.specs.Collected.{WritesFront}
 use Rattle.ngc_setup_sheet.proofs.Alone.{told_of, told_of_all}
 use Rattle.ngc_setup_sheet.proofs.writer.write_warning_lines.Goals as goal
 

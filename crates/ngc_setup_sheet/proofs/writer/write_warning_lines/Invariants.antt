@@ -1,5 +1,5 @@
 use Rattle.std.proofs.Common.{◌≡◌, ◌++◌, flat_map, take}
-use Rattle.ngc_output.specs.Collected.{WritesFront}
+use Rattle.ngc_text.specs.Collected.{WritesFront}
 use Rattle.ngc_setup_sheet.proofs.Alone.{told_of}
 use Rattle.ngc_setup_sheet.proofs.writer.write_warning_lines.Given as goal
 

@@ -3,7 +3,7 @@ use Rattle.ngc_simulator.proofs.FileLaws.{certified_files}
 use Rattle.ngc_simulator.specs.Answers.{program_input}
 use Rattle.ngc_simulator.specs.Unread.{OfProgram, SourceFails, shop_inputs, unread_by}
 use Rattle.ngc_simulator.proofs.UnreadLaws.{certify_told, shop_read, told_before, told_behind}
-use Rattle.ngc_input.specs.declared.fault.InputFault.TheVariants.{Device}
+use Rattle.ngc_text.specs.declared.input_fault.InputFault.TheVariants.{Device}
 use Rattle.std.specs.Prelude.{option_map}
 use Rattle.ngc_simulator.proofs.certifier.certify_files.Goals as goal
 

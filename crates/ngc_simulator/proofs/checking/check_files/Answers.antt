@@ -4,7 +4,7 @@ use Rattle.ngc_simulator.proofs.JobLaws.{if_known}
 use Rattle.ngc_simulator.specs.Answers.{certificate_input, program_input}
 use Rattle.ngc_simulator.specs.Unread.{OfCertificate, OfProgram, SourceFails, program_unread, shop_inputs, unread_by}
 use Rattle.ngc_simulator.proofs.UnreadLaws.{all_read, check_told, is_read, shop_read, told_before, told_behind}
-use Rattle.ngc_input.specs.declared.fault.InputFault.TheVariants.{Device}
+use Rattle.ngc_text.specs.declared.input_fault.InputFault.TheVariants.{Device}
 use Rattle.std.specs.Prelude.{option_map}
 use Rattle.ngc_line_reader.specs.ProgramText.{program_of}
 use Rattle.ngc_simulator.proofs.checking.check_files.Goals as goal

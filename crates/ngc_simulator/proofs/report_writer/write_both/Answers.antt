@@ -2,7 +2,7 @@ use Rattle.std.proofs.Common.{ap, true, false}
 use Rattle.ngc_certificate_text.specs.Certificate.{entries_at}
 use Rattle.ngc_certificate_text.specs.Contents.{said_of}
 use Rattle.ngc_certificate_text.specs.declared.piece.Setting.TheVariants.{Off, On}
-use Rattle.ngc_fixed_length.proofs.Appended.{appends_both}
+use Rattle.ngc_text.proofs.Appended.{appends_both}
 use Rattle.ngc_machine.specs.Machine.{file_of}
 use Rattle.ngc_simulator.specs.Reporting.{setting_text}
 use Rattle.ngc_simulator.proofs.ReportLaws.{appends_as, begins_as, begins_first, begins_last, err_weaker, ok_weaker}

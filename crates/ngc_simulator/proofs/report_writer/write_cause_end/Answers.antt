@@ -1,4 +1,4 @@
-use Rattle.ngc_fixed_length.proofs.Appended.{appends_both}
+use Rattle.ngc_text.proofs.Appended.{appends_both}
 use Rattle.ngc_simulator.proofs.ReportLaws.{begins_first, begins_last, err_weaker, ok_weaker}
 use Rattle.ngc_simulator.proofs.report_writer.write_cause_end.Goals as goal
 

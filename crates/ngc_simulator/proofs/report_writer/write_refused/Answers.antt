@@ -1,6 +1,6 @@
 use Rattle.std.proofs.Common.{◌∙◌, ℕ, List, None, Option, ap}
 use Rattle.ngc_certificate.specs.PieceFault.{place_fault}
-use Rattle.ngc_fixed_length.proofs.Appended.{appends_both}
+use Rattle.ngc_text.proofs.Appended.{appends_both}
 use Rattle.ngc_fixed_length.specs.Grid.{grid}
 use Rattle.ngc_line_reader.specs.ProgramView.{text_in}
 use Rattle.ngc_machine.specs.Machine.{file_of}

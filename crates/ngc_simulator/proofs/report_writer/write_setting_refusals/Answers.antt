@@ -1,5 +1,5 @@
 use Rattle.std.proofs.Common.{ap}
-use Rattle.ngc_fixed_length.proofs.Appended.{appends_both}
+use Rattle.ngc_text.proofs.Appended.{appends_both}
 use Rattle.ngc_machine.specs.Machine.{file_of}
 use Rattle.ngc_report.specs.Forms.{report_text}
 use Rattle.ngc_report.specs.Reports.{all_lines}

@@ -10,7 +10,7 @@ use Rattle.ngc_simulator.specs.declared.certifier.CertifyFault.TheVariants.{Read
 use Rattle.ngc_simulator.specs.declared.fault.AnswerFault.TheVariants.{Certify}
 use Rattle.ngc_simulator.proofs.UnreadLaws.{certify_told, program_again, shop_read, told_before, told_behind}
 use Rattle.ngc_simulator.proofs.UnreadableLaws.{TellsKnown, reported_comes, told_comes}
-use Rattle.ngc_input.specs.declared.fault.InputFault.TheVariants.{Device}
+use Rattle.ngc_text.specs.declared.input_fault.InputFault.TheVariants.{Device}
 use Rattle.std.specs.Prelude.{IsSome, option_map}
 use Rattle.ngc_simulator.proofs.reporting_files.report_files.Goals as goal
 

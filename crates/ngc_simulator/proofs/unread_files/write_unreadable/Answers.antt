@@ -1,6 +1,6 @@
 use Rattle.std.proofs.Common.{◌++◌, ap}
 use Rattle.std.proofs.lemmas.List.{append_assoc}
-use Rattle.ngc_fixed_length.proofs.Appended.{appends_both}
+use Rattle.ngc_text.proofs.Appended.{appends_both}
 use Rattle.ngc_line_reader.specs.ReadFaults.{number_of as read_number}
 use Rattle.ngc_report.specs.Forms.{opening}
 use Rattle.ngc_simulator.specs.Reporting.{ending}

@@ -1,5 +1,0 @@
-use Rattle.std.proofs.Common.{rules}
-use Rattle.ngc_fixed_length.proofs.device.Device.new.Goals as goal
-
-pub returns-clause-failures : goal.returns-clause-failures
-returns-clause-failures g c = search rules

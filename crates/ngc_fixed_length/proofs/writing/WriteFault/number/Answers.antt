@@ -1,5 +1,0 @@
-use Rattle.std.proofs.Common.{rules}
-use Rattle.ngc_fixed_length.proofs.writing.WriteFault.number.Goals as goal
-
-pub returns : goal.returns
-returns c = search rules

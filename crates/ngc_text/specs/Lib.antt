@@ -1,0 +1,5 @@
+pub mod Failures
+pub mod Device
+pub mod Written
+pub mod Input
+pub mod Collected
