@@ -16,7 +16,7 @@ use Rattle.ngc_planner.specs.Pulses.{is_stepping, is_path_step, up_to_whole}
 use Rattle.ngc_events.specs.declared.event.Event.{Event}
 use Rattle.ngc_events.specs.declared.event.Event.TheVariants.{Load, Tick, Hold, Resume, Override, StopSwitch, Start}
 use Rattle.ngc_behaviour.specs.State.{Job, Queued, State, opening, loaded, command_at, path_steps, millionths, RING}
-use Rattle.ngc_behaviour.specs.Step.{Outcome, Step, LoadCommand, MayTake, Rests, Finishes, Dwells, Serves, Travels, HeadTick, TickBy, popped, after, place_after, ticks_of}
+use Rattle.ngc_behaviour.specs.Step.{Outcome, Step, LoadCommand, MayTake, Rests, Finishes, Dwells, Serves, Travels, HeadTick, TickBy, without_head, after, place_after, ticks_of}
 use Rattle.ngc_behaviour.specs.RateRules.{GoesOnInto}
 use Rattle.ngc_behaviour.specs.Run.{Run, step_to, pulses}
 use Rattle.ngc_behaviour.specs.Progress.{is_tick}
@@ -183,9 +183,9 @@ rest_grows : (axis : Axis) (moves : Action → Bool) (most : ℕ) (old new : Sta
 rest_grows axis moves most old new n = subst (Grows axis moves most old) (sym n) (stands axis moves most old (record old { rate = 0 }) refl refl)
 
 finish_grows : (axis : Axis) (moves : Action → Bool) (most : ℕ) (l : Queued) (old new : State) → old.travelled ≤ millionths l - 1 → path_steps l ≡ 0 →
-    new ≡ after l.command.action (record (popped 0 old) { rate = 0 }) → Grows axis moves most old new
+    new ≡ after l.command.action (record (without_head 0 old) { rate = 0 }) → Grows axis moves most old new
 finish_grows axis moves most l old new f z n =
-    let a = after_stays l.command.action (record (popped 0 old) { rate = 0 }) in
+    let a = after_stays l.command.action (record (without_head 0 old) { rate = 0 }) in
     let travelled : new.travelled ≡ 0 = ap (λ (s : State). s.travelled) n ∙ a.2 in
     let position : new.position ≡ old.position = ap (λ (s : State). s.position) n ∙ a.3 in
     let before = no_more_than moves old.ring old.travelled in let next = no_more_than moves new.ring new.travelled in

@@ -16,7 +16,7 @@ use Rattle.ngc_events.specs.declared.reply.Ending.{Ending}
 use Rattle.ngc_events.specs.declared.reply.Ending.TheVariants.{Done, Stopped, End}
 use Rattle.ngc_events.specs.declared.reply.Reply.TheVariants.{Loaded, Ticked, Held, Resumed, Overridden, Switched, Started}
 use Rattle.ngc_behaviour.specs.State.{Job, Queued, State, RING, loaded, command_at, path_steps, millionths}
-use Rattle.ngc_behaviour.specs.Step.{Outcome, Step, LoadCommand, MayTake, Rests, Finishes, Dwells, Serves, Travels, HeadTick, TickBy, popped, after, ending, ends_at, pulse, place_before, place_after, ticks_of}
+use Rattle.ngc_behaviour.specs.Step.{Outcome, Step, LoadCommand, MayTake, Rests, Finishes, Dwells, Serves, Travels, HeadTick, TickBy, without_head, after, ending, ends_at, pulse, place_before, place_after, ticks_of}
 use Rattle.ngc_behaviour.specs.Run.{position_in}
 use Rattle.ngc_behaviour.proofs.Cases.{match_with}
 use Rattle.ngc_behaviour.proofs.RatesOfRun.{Fits, GoesOver, goes_over, travel_small}
@@ -159,7 +159,7 @@ on_way job l ls old o new m e some f t =
     let slow : v ≤ MILLION = travel_small job l ls old o new m.max_rate.greatest t in
     let over = t0 + v - millionths l in
     let was : spot old ≡ spot_of old.done (l ∷ ls) t0 old.position = ap (λ r. spot_of old.done r t0 old.position) e in
-    let done = popped over (record old { rate = v; position = point l.path (place_after l old v) }) in
+    let done = without_head over (record old { rate = v; position = point l.path (place_after l old v) }) in
     let on : State = record old { rate = v; position = point l.path (place_after l old v); travelled = t0 + v } in
     let says = ap position_in t.says ∙ said_position (nat_lt (place_before old) (place_after l old v)) (point l.path (place_after l old v)) (ends_at l old v) in
     two_cases (nat_le (millionths l) (t0 + v)) (Effect job (spot old) (spot new) o)
@@ -218,7 +218,7 @@ finished job l ls old o new e z f = passes (record {
   head = l;
   others = ls;
   was = ap (λ r. spot_of old.done r old.travelled old.position) e;
-  is = ap spot f.goes_on ∙ same_spot l.command.action (record (popped 0 old) { rate = 0 }) ∙ ap (λ r. spot_of (suc old.done) (drop 1 r) 0 old.position) e;
+  is = ap spot f.goes_on ∙ same_spot l.command.action (record (without_head 0 old) { rate = 0 }) ∙ ap (λ r. spot_of (suc old.done) (drop 1 r) 0 old.position) e;
   none = z;
   silent = ap position_in f.says;
   ends = λ h. only_end l.command.action old (sym (ap tells_end f.says) ∙ h);

@@ -18,7 +18,7 @@ use Rattle.ngc_events.specs.declared.event.Event.{Event}
 use Rattle.ngc_events.specs.declared.event.Event.TheVariants.{Load, Tick, Hold, Resume, Override, StopSwitch, Start}
 use Rattle.ngc_behaviour.specs.State.{Job, Queued, State, opening, loaded, command_at, path_steps, millionths, effective, RING}
 use Rattle.ngc_behaviour.specs.Reach.{rest}
-use Rattle.ngc_behaviour.specs.Step.{Outcome, Step, LoadCommand, MayTake, Rests, Finishes, Dwells, Serves, Travels, HeadTick, TickBy, popped, after, ticks_of}
+use Rattle.ngc_behaviour.specs.Step.{Outcome, Step, LoadCommand, MayTake, Rests, Finishes, Dwells, Serves, Travels, HeadTick, TickBy, without_head, after, ticks_of}
 use Rattle.ngc_behaviour.specs.Run.{Run}
 use Rattle.ngc_behaviour.specs.Progress.{IsFree, TravelsAtLeast, GoesOn, KeepGoing, is_tick, is_free, ComesToHead, has_head, free_ticks, ticks_for, least_rate}
 use Rattle.ngc_behaviour.specs.Headline.{EndsInTime, MachinesRunInTime}
@@ -61,9 +61,9 @@ travel_ahead job l ls old o new t =
       | inr s ↦ inl (s.0, let t = s.2 in omega (arith, t))
     ]
 
-finish_ahead : (l : Queued) (old new : State) → new ≡ after l.command.action (record (popped 0 old) { rate = 0 }) → GoesAhead old new
+finish_ahead : (l : Queued) (old new : State) → new ≡ after l.command.action (record (without_head 0 old) { rate = 0 }) → GoesAhead old new
 finish_ahead l old new n =
-    let a = after_stays l.command.action (record (popped 0 old) { rate = 0 }) in inr (ap (λ (s : State). s.done) n ∙ a.0)
+    let a = after_stays l.command.action (record (without_head 0 old) { rate = 0 }) in inr (ap (λ (s : State). s.done) n ∙ a.0)
 
 head_ahead : (job : Job) (l : Queued) (ls : List Queued) (old : State) (o : Outcome) (new : State) → HeadTick job l ls old o new → GoesAhead old new
 head_ahead job l ls old o new t =

@@ -17,7 +17,7 @@ use Rattle.ngc_planner.specs.Pulses.{is_stepping, is_path_step}
 use Rattle.ngc_events.specs.declared.event.Event.{Event}
 use Rattle.ngc_events.specs.declared.event.Event.TheVariants.{Load, Tick, Hold, Resume, Override, StopSwitch, Start}
 use Rattle.ngc_behaviour.specs.State.{Job, Queued, State, opening, loaded, command_at, path_steps, millionths, RING}
-use Rattle.ngc_behaviour.specs.Step.{Outcome, Step, LoadCommand, MayTake, Rests, Finishes, Dwells, Serves, Travels, HeadTick, TickBy, popped, after, place_after, ticks_of}
+use Rattle.ngc_behaviour.specs.Step.{Outcome, Step, LoadCommand, MayTake, Rests, Finishes, Dwells, Serves, Travels, HeadTick, TickBy, without_head, after, place_after, ticks_of}
 use Rattle.ngc_behaviour.specs.Run.{Run, step_to, pulses}
 use Rattle.ngc_behaviour.specs.Safety.{TickKeeps}
 use Rattle.ngc_behaviour.specs.Progress.{is_tick}
@@ -249,9 +249,9 @@ finish_walks job l ls done travelled position z t (c ∷ cs) place at joined fit
 
 finish_both : (job : Job) (l : Queued) (ls : List Queued) (old new : State) → old.ring ≡ l ∷ ls → old.travelled ≤ millionths l - 1 → path_steps l ≡ 0 →
     WalksIn job old →
-    new ≡ after l.command.action (record (popped 0 old) { rate = 0 }) → Both job old new
+    new ≡ after l.command.action (record (without_head 0 old) { rate = 0 }) → Both job old new
 finish_both job l ls old new e f z walks n =
-    let a = after_stays l.command.action (record (popped 0 old) { rate = 0 }) in
+    let a = after_stays l.command.action (record (without_head 0 old) { rate = 0 }) in
     let t : old.travelled ≡ 0 = omega (arith, f, z) in
     let done : new.done ≡ suc old.done = ap (λ (s : State). s.done) n ∙ a.0 in
     let ring : new.ring ≡ ls = ap (λ (s : State). s.ring) n ∙ a.1 ∙ ap (drop 1) e in

@@ -18,7 +18,7 @@ use Rattle.ngc_events.specs.declared.event.Event.TheVariants.{Load, Tick, Hold, 
 use Rattle.ngc_behaviour.specs.State.{Job, Queued, State, opening, loaded, command_at, path_steps, millionths, RING}
 use Rattle.ngc_behaviour.specs.Reach.{stops, flows_into}
 use Rattle.ngc_behaviour.specs.RateRules.{GoesOnInto, KeepsRateRules}
-use Rattle.ngc_behaviour.specs.Step.{Outcome, Step, LoadCommand, Rests, Finishes, Dwells, Serves, Travels, HeadTick, TickBy, popped, after, ticks_of, place_after}
+use Rattle.ngc_behaviour.specs.Step.{Outcome, Step, LoadCommand, Rests, Finishes, Dwells, Serves, Travels, HeadTick, TickBy, without_head, after, ticks_of, place_after}
 use Rattle.ngc_fixed_length.specs.LinePath.{point}
 use Rattle.ngc_behaviour.specs.Run.{Run}
 use Rattle.ngc_behaviour.specs.Safety.{TickKeeps, EventKeeps, KeepRates}
@@ -74,9 +74,9 @@ rest_keeps job [] old new e f slow n = subst (Kept job [] old) (sym n) ((refl, s
 rest_keeps job (l ∷ ls) old new e f slow n = subst (Kept job (l ∷ ls) old) (sym n) (resting job l ls old slow f, subst (λ r. Fits r old.travelled) (sym e) f)
 
 finish_keeps : (job : Job) (l : Queued) (ls : List Queued) (old new : State) → old.travelled ≤ millionths l - 1 → old.rate ≤ job.machine.change →
-    new ≡ after l.command.action (record (popped 0 old) { rate = 0 }) → Kept job (l ∷ ls) old new
+    new ≡ after l.command.action (record (without_head 0 old) { rate = 0 }) → Kept job (l ∷ ls) old new
 finish_keeps job l ls old new f slow n =
-    let a = after_stays l.command.action (record (popped 0 old) { rate = 0 }) in
+    let a = after_stays l.command.action (record (without_head 0 old) { rate = 0 }) in
     let r : new.rate ≡ 0 = ap (λ (s : State). s.rate) n ∙ a.4 in
     let t : new.travelled ≡ 0 = ap (λ (s : State). s.travelled) n ∙ a.2 in
     (subst (KeepsRateRules job l ls old) (sym r) (resting job l ls old slow f), none_fits new.ring new.travelled t)
@@ -137,7 +137,7 @@ travel_keeps job l ls old o new m e some f t =
       t.may.rules,
       subst (λ (s : State). Fits s.ring s.travelled) (sym t.goes_on)
           (travel_fits (nat_le (millionths l) (old.travelled + new.rate))
-          (popped (old.travelled + new.rate - millionths l) (record old { rate = new.rate; position = point l.path (place_after l old new.rate) }))
+          (without_head (old.travelled + new.rate - millionths l) (record old { rate = new.rate; position = point l.path (place_after l old new.rate) }))
           (record old { rate = new.rate; position = point l.path (place_after l old new.rate); travelled = old.travelled + new.rate })
           (λ b. subst (λ r. Fits (drop 1 r) (old.travelled + new.rate - millionths l)) (sym e) (over_fits l ls (old.travelled + new.rate - millionths l) over))
           (λ b. let short : old.travelled + new.rate < millionths l = grind (arith, nat_tests) in

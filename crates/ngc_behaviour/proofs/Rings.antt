@@ -8,7 +8,7 @@ use Rattle.ngc_canonical.specs.declared.command.Command.{Command}
 use Rattle.ngc_events.specs.declared.event.Event.{Event}
 use Rattle.ngc_events.specs.declared.event.Event.TheVariants.{Load, Tick, Hold, Resume, Override, StopSwitch, Start}
 use Rattle.ngc_behaviour.specs.State.{Job, Queued, State, RING, loaded, command_at, path_steps, millionths}
-use Rattle.ngc_behaviour.specs.Step.{Outcome, Step, LoadCommand, MayTake, Rests, Finishes, Dwells, Serves, Travels, HeadTick, TickBy, popped, place_after, ticks_of}
+use Rattle.ngc_behaviour.specs.Step.{Outcome, Step, LoadCommand, MayTake, Rests, Finishes, Dwells, Serves, Travels, HeadTick, TickBy, without_head, place_after, ticks_of}
 use Rattle.ngc_behaviour.proofs.Cases.{match_with}
 use Rattle.ngc_behaviour.proofs.RatesOfRun.{after_stays}
 
@@ -37,12 +37,12 @@ travel_ring : (job : Job) (l : Queued) (ls : List Queued) (old : State) (o : Out
 travel_ring job l ls old o new t =
     let there : State = record old { rate = new.rate; position = point l.path (place_after l old new.rate) } in
     subst (RingAfter job old) (sym t.goes_on)
-    (by_test (RingAfter job old) (nat_le (millionths l) (old.travelled + new.rate)) (popped (old.travelled + new.rate - millionths l) there)
+    (by_test (RingAfter job old) (nat_le (millionths l) (old.travelled + new.rate)) (without_head (old.travelled + new.rate - millionths l) there)
     (record there { travelled = old.travelled + new.rate }) (shrinks (refl, refl)) (stays (refl, refl)))
 
 finish_ring : (job : Job) (a : Action) (old : State) (o : Outcome) (new : State) → Finishes job a old o new → RingAfter job old new
 finish_ring job a old o new f =
-    let kept = after_stays a (record (popped 0 old) { rate = 0 }) in
+    let kept = after_stays a (record (without_head 0 old) { rate = 0 }) in
     shrinks (ap (λ (s : State). s.done) f.goes_on ∙ kept.0, ap (λ (s : State). s.ring) f.goes_on ∙ kept.1)
 
 head_ring : (job : Job) (l : Queued) (ls : List Queued) (old : State) (o : Outcome) (new : State) → HeadTick job l ls old o new → RingAfter job old new

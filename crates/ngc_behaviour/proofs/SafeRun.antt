@@ -22,7 +22,7 @@ use Rattle.ngc_certificate.proofs.SafeOnPath.{safe_on_path}
 use Rattle.ngc_events.specs.declared.event.Event.{Event}
 use Rattle.ngc_events.specs.declared.event.Event.TheVariants.{Load, Tick, Hold, Resume, Override, StopSwitch, Start}
 use Rattle.ngc_behaviour.specs.State.{Job, Queued, State, loaded, command_at, path_steps, millionths, RING}
-use Rattle.ngc_behaviour.specs.Step.{Outcome, Step, LoadCommand, MayTake, Rests, Finishes, Dwells, Serves, Travels, HeadTick, TickBy, popped, after, place_after, ticks_of}
+use Rattle.ngc_behaviour.specs.Step.{Outcome, Step, LoadCommand, MayTake, Rests, Finishes, Dwells, Serves, Travels, HeadTick, TickBy, without_head, after, place_after, ticks_of}
 use Rattle.ngc_behaviour.specs.Run.{Run}
 use Rattle.ngc_behaviour.specs.Safety.{AreSafe}
 use Rattle.ngc_behaviour.proofs.Cases.{match_with}
@@ -174,7 +174,7 @@ on_head job l ls old o new e s whole (c ∷ cs) entries place at clear joined ev
       | inl u ↦
           let p : 0 < path_steps l = let b = u.0 in grind (arith, nat_tests) in
           subst (HoldsIn job) (sym u.1.goes_on)
-          (if_holds (HoldsIn job) (nat_le (millionths l) (old.travelled + new.rate)) (popped (old.travelled + new.rate - millionths l) (record old { rate = new.rate; position = point l.path (place_after l old new.rate) })) (record old { rate = new.rate; position = point l.path (place_after l old new.rate); travelled = old.travelled + new.rate })
+          (if_holds (HoldsIn job) (nat_le (millionths l) (old.travelled + new.rate)) (without_head (old.travelled + new.rate - millionths l) (record old { rate = new.rate; position = point l.path (place_after l old new.rate) })) (record old { rate = new.rate; position = point l.path (place_after l old new.rate); travelled = old.travelled + new.rate })
           (λ b. subst (λ k. Holds job (suc old.done) (drop 1 old.ring) (point l.path k) old.tool) (sym (whole_way l old new.rate b))
           (subst (λ ring. Holds job (suc old.done) (drop 1 ring) (point l.path (path_steps l)) old.tool) (sym e)
           (arrived job old.done l ls old.tool c.action cs entries place s (next_at job old.done c cs at) clear joined even fits.1 fits.2 p)))
@@ -197,7 +197,7 @@ on_head job l ls old o new e s whole (c ∷ cs) entries place at clear joined ev
           | inr d ↦
               let z : path_steps l ≡ 0 = let b = u.0 in grind (arith, nat_tests) in
               subst (HoldsIn job) (sym d.1.goes_on)
-              (after_keeps job l.command.action (record (popped 0 old) { rate = 0 })
+              (after_keeps job l.command.action (record (without_head 0 old) { rate = 0 })
               (subst (λ ring. Holds job (suc old.done) (drop 1 ring) old.position (tool_after l.command.action old.tool)) (sym e)
               (subst (λ (k : Command). Holds job (suc old.done) ls old.position (tool_after k.action old.tool)) (sym fits.0)
               (served job old.done l ls old.position old.tool c.action cs entries place (next_at job old.done c cs at) clear joined even fits.1 fits.2 whole.safe z (stands z)))))

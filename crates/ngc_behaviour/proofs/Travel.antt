@@ -4,7 +4,7 @@ use Rattle.std.specs.Prelude.{nat_le, if◌then◌else◌}
 use Rattle.std.proofs.lemmas.Bool.Decides.{nat_tests}
 use Rattle.ngc_fixed_length.specs.LinePath.{point}
 use Rattle.ngc_behaviour.specs.State.{Job, Queued, State, millionths}
-use Rattle.ngc_behaviour.specs.Step.{Outcome, Travels, popped, place_after}
+use Rattle.ngc_behaviour.specs.Step.{Outcome, Travels, without_head, place_after}
 
 -- what a tick of rate v that travels leaves: the head is done, with what is beyond travelled on the next, or goes on
 pub record Moved (l : Queued) (old : State) (v : ℕ) (new : State) : Type 0 where
@@ -22,7 +22,7 @@ moved job l ls old o new t =
     let there : State = record old { rate = new.rate; position = point l.path (place_after l old new.rate) } in
     subst (Moved l old new.rate) (sym t.goes_on)
     (by_test (Moved l old new.rate) (nat_le (millionths l) (old.travelled + new.rate))
-    (popped (old.travelled + new.rate - millionths l) there)
+    (without_head (old.travelled + new.rate - millionths l) there)
     (record there { travelled = old.travelled + new.rate })
     (λ b. let full : millionths l ≤ old.travelled + new.rate = grind (arith, nat_tests) in record { position = refl; state = inl (full, refl, refl, refl) })
     (λ b. let short : old.travelled + new.rate < millionths l = grind (arith, nat_tests) in record { position = refl; state = inr (refl, refl, refl, short) }))

@@ -65,14 +65,14 @@ ending actions.End s = End
 ending _ s = Done s.done
 
 -- the head leaves the ring, with so many millionths travelled on the next
-abbrev pub popped : ℕ → State → State
-popped over s = record s { done = suc s.done; ring = drop 1 s.ring; travelled = over; dwelt = 0 }
+abbrev pub without_head : ℕ → State → State
+without_head over s = record s { done = suc s.done; ring = drop 1 s.ring; travelled = over; dwelt = 0 }
 
 -- an action that travels nothing is done, or dwells on
 pub record Finishes (job : Job) (action : Action) (old : State) (outcome : Outcome) (new : State) : Type 0 where
   pub slow : old.rate ≤ job.machine.change
   pub says : outcome ≡ Ok (Ticked None (Some (ending action old)))
-  pub goes_on : new ≡ after action (record (popped 0 old) { rate = 0 })
+  pub goes_on : new ≡ after action (record (without_head 0 old) { rate = 0 })
 
 pub record Dwells (job : Job) (old : State) (outcome : Outcome) (new : State) : Type 0 where
   pub slow : old.rate ≤ job.machine.change
@@ -100,7 +100,7 @@ ends_at l s v = if nat_le (millionths l) (s.travelled + v) then Some (ending l.c
 abbrev pub moved_by : Queued → State → ℕ → State
 moved_by l s v = let there = record s { rate = v; position = point l.path (place_after l s v) } in
     if nat_le (millionths l) (s.travelled + v)
-    then popped (s.travelled + v - millionths l) there
+    then without_head (s.travelled + v - millionths l) there
     else record there { travelled = s.travelled + v }
 
 pub record Travels (job : Job) (l : Queued) (ls : List Queued) (old : State) (outcome : Outcome) (new : State) : Type 0 where

@@ -9,8 +9,8 @@ use Rattle.ngc_modal_state.specs.declared.block.Block.{Block}
 use Rattle.ngc_modal_state.specs.declared.code.Coolant.TheVariants as coolant
 use Rattle.ngc_modal_state.specs.declared.code.LengthCode.{LengthCode}
 use Rattle.ngc_modal_state.specs.declared.code.LengthCode.TheVariants as lengths
-use Rattle.ngc_modal_state.specs.declared.code.Motion.{Motion}
-use Rattle.ngc_modal_state.specs.declared.code.Motion.TheVariants as motions
+use Rattle.ngc_modal_state.specs.declared.code.MotionMode.{MotionMode}
+use Rattle.ngc_modal_state.specs.declared.code.MotionMode.TheVariants as motions
 use Rattle.ngc_modal_state.specs.declared.code.Once.{Once}
 use Rattle.ngc_modal_state.specs.declared.code.Once.TheVariants as once
 use Rattle.ngc_modal_state.specs.declared.code.Stopping.{Stopping}
@@ -86,7 +86,7 @@ frame (Some once.ClearOffset) b = one acts.ClearOffset tt
 frame (Some once.SuspendOffset) b = one acts.SuspendOffset tt
 frame (Some once.RestoreOffset) b = one acts.RestoreOffset tt
 
-move : (code : Motion) (f : Option ℤ) (b : Block) → Passes (move_effect code f b)
+move : (code : MotionMode) (f : Option ℤ) (b : Block) → Passes (move_effect code f b)
 move motions.Traverse f b = marked _ _ tt
 move motions.Straight f b = marked _ _ tt
 move (motions.Arc turn) f b = marked _ _ tt

@@ -16,9 +16,9 @@ use Rattle.ngc_arc_geometry.specs.declared.fault.ArcFault.TheVariants.{NoAxisWor
 use Rattle.ngc_canned_cycles.specs.declared.cycle.CycleMove.{CycleMove}
 use Rattle.ngc_canned_cycles.specs.declared.cycle.CycleMove.TheVariants as cycle_moves
 use Rattle.ngc_modal_state.specs.declared.block.AxisWords.{AxisWords}
-use Rattle.ngc_modal_state.specs.declared.code.Hole.{Hole}
-use Rattle.ngc_modal_state.specs.declared.code.Motion.{Motion}
-use Rattle.ngc_modal_state.specs.declared.code.Motion.TheVariants as motions
+use Rattle.ngc_modal_state.specs.declared.code.CycleCode.{CycleCode}
+use Rattle.ngc_modal_state.specs.declared.code.MotionMode.{MotionMode}
+use Rattle.ngc_modal_state.specs.declared.code.MotionMode.TheVariants as motions
 use Rattle.ngc_modal_state.specs.declared.code.Stopping.{Stopping}
 use Rattle.ngc_modal_state.specs.declared.code.Stopping.TheVariants as stops
 use Rattle.ngc_modal_state.specs.declared.effect.ArcWords.{ArcWords}
@@ -198,7 +198,7 @@ unfolding make_moves
 make_moves_open [] s h = h
 make_moves_open (move ∷ rest) s h = onward Open Open (make_move move s) (make_moves rest) (make_move_open move s h) (make_moves_open rest)
 
-cycle_open : (hole : Hole) (axes : AxisWords) (words : CycleWords) (s : State) → Open s → IfOk (cycle hole axes words s) Open
+cycle_open : (hole : CycleCode) (axes : AxisWords) (words : CycleWords) (s : State) → Open s → IfOk (cycle hole axes words s) Open
 cycle_open hole axes words s h =
     after Open (kept_after s axes words) _ (λ kept.
     after Open (cycle_of hole s axes words kept) _ (λ c.
@@ -207,7 +207,7 @@ cycle_open hole axes words s h =
 
 -- ---- all effects
 
-with_motion_open : (code : Motion) (s : State) → Open s → Open (with_motion code s)
+with_motion_open : (code : MotionMode) (s : State) → Open s → Open (with_motion code s)
 with_motion_open (motions.Cycle hole) s h = h
 with_motion_open code s h = h
 

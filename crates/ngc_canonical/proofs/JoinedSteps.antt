@@ -23,9 +23,9 @@ use Rattle.ngc_arc_geometry.proofs.FormatRadii.{radii_of_centre, radii_of_radius
 use Rattle.ngc_canned_cycles.specs.declared.cycle.CycleMove.{CycleMove}
 use Rattle.ngc_canned_cycles.specs.declared.cycle.CycleMove.TheVariants as cycle_moves
 use Rattle.ngc_modal_state.specs.declared.block.AxisWords.{AxisWords}
-use Rattle.ngc_modal_state.specs.declared.code.Hole.{Hole}
-use Rattle.ngc_modal_state.specs.declared.code.Motion.{Motion}
-use Rattle.ngc_modal_state.specs.declared.code.Motion.TheVariants as motions
+use Rattle.ngc_modal_state.specs.declared.code.CycleCode.{CycleCode}
+use Rattle.ngc_modal_state.specs.declared.code.MotionMode.{MotionMode}
+use Rattle.ngc_modal_state.specs.declared.code.MotionMode.TheVariants as motions
 use Rattle.ngc_modal_state.specs.declared.code.Stopping.{Stopping}
 use Rattle.ngc_modal_state.specs.declared.code.Stopping.TheVariants as stops
 use Rattle.ngc_modal_state.specs.declared.effect.ArcWords.{ArcWords}
@@ -164,7 +164,7 @@ unfolding make_moves
 make_moves_holds p [] s h = h
 make_moves_holds p (move ∷ rest) s h = onward (Holds p) (Holds p) (make_move move s) (make_moves rest) (make_move_holds p move s h) (make_moves_holds p rest)
 
-cycle_holds : (p : Point3) (hole : Hole) (axes : AxisWords) (words : CycleWords) (s : State) → Holds p s → IfOk (cycle hole axes words s) (Holds p)
+cycle_holds : (p : Point3) (hole : CycleCode) (axes : AxisWords) (words : CycleWords) (s : State) → Holds p s → IfOk (cycle hole axes words s) (Holds p)
 cycle_holds p hole axes words s h =
     after (Holds p) (kept_after s axes words) _ (λ kept.
     after (Holds p) (cycle_of hole s axes words kept) _ (λ c.
@@ -173,7 +173,7 @@ cycle_holds p hole axes words s h =
 
 -- ---- all effects
 
-with_motion_holds : (p : Point3) (code : Motion) (s : State) → Holds p s → Holds p (with_motion code s)
+with_motion_holds : (p : Point3) (code : MotionMode) (s : State) → Holds p s → Holds p (with_motion code s)
 with_motion_holds p (motions.Cycle hole) s h = h
 with_motion_holds p code s h = h
 

@@ -5,13 +5,13 @@ use Rattle.ngc_fixed_length.specs.declared.modes.Plane.{Plane}
 use Rattle.ngc_fixed_length.specs.declared.modes.Plane.TheVariants.{XY, ZX, YZ}
 use Rattle.ngc_fixed_length.specs.declared.points.Point3.{Point3}
 use Rattle.ngc_modal_state.specs.declared.block.AxisWords.{AxisWords}
-use Rattle.ngc_modal_state.specs.declared.code.Hole.{Hole}
-use Rattle.ngc_modal_state.specs.declared.code.Hole.TheVariants as codes
+use Rattle.ngc_modal_state.specs.declared.code.CycleCode.{CycleCode}
+use Rattle.ngc_modal_state.specs.declared.code.CycleCode.TheVariants as codes
 use Rattle.ngc_modal_state.specs.declared.effect.CycleWords.{CycleWords}
 use Rattle.ngc_modal_state.specs.Use.{depth_word}
 use Rattle.ngc_offsets.specs.Frames.{to_machine, to_program}
 use Rattle.ngc_offsets.specs.declared.fault.FrameFault.TheVariants.{BeyondRange}
-use Rattle.ngc_canned_cycles.specs.declared.cycle.Hole.{Hole as CycleHole}
+use Rattle.ngc_canned_cycles.specs.declared.cycle.Hole.{Hole}
 use Rattle.ngc_canned_cycles.specs.declared.cycle.Hole.TheVariants.{Drill, DrillWithDwell, Peck, Bore, BoreWithStop, BoreWithDwell}
 use Rattle.ngc_canned_cycles.specs.declared.cycle.Cycle.{Cycle}
 use Rattle.ngc_canned_cycles.specs.declared.cycle.Start.{Start}
@@ -58,7 +58,7 @@ kept_after s axes words = do
     peck = unwrap_or peck s.kept.peck;
   })
 
-abbrev pub hole_of : Hole → Kept → CycleHole
+abbrev pub hole_of : CycleCode → Kept → Hole
 hole_of codes.Drill kept = Drill
 hole_of codes.DrillWithDwell kept = DrillWithDwell kept.dwell
 hole_of codes.Peck kept = Peck kept.peck
@@ -66,7 +66,7 @@ hole_of codes.Bore kept = Bore
 hole_of codes.BoreWithStop kept = BoreWithStop kept.dwell
 hole_of codes.BoreWithDwell kept = BoreWithDwell kept.dwell
 
-abbrev pub cycle_of : Hole → State → AxisWords → CycleWords → Kept → Result Cycle Fault
+abbrev pub cycle_of : CycleCode → State → AxisWords → CycleWords → Kept → Result Cycle Fault
 cycle_of hole s axes words kept = do
   u ← word_length s.modes.units (word_u s.modes.plane axes)
   v ← word_length s.modes.units (word_v s.modes.plane axes)
@@ -131,7 +131,7 @@ refusal c start feed = do
   fed ← refuse_if (feed == 0) faults.FeedZero
   refuse_if (not (is_in_range c start)) (faults.Frame BeyondRange)
 
-abbrev pub cycle : Hole → AxisWords → CycleWords → State → Result State Fault
+abbrev pub cycle : CycleCode → AxisWords → CycleWords → State → Result State Fault
 cycle hole axes words s = do
   kept ← kept_after s axes words
   c ← cycle_of hole s axes words kept

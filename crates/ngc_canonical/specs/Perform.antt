@@ -1,8 +1,8 @@
 -- What each effect does, by cases (NISTIR 6556, 3.5 to 3.8): the state after it, or a fault.
 use Rattle.std.specs.Prelude.{unsigned_abs, List, [], ◌∷◌, Result, Ok, true}
 use Rattle.ngc_fixed_length.specs.Limits.{nanometres_of}
-use Rattle.ngc_modal_state.specs.declared.code.Motion.{Motion}
-use Rattle.ngc_modal_state.specs.declared.code.Motion.TheVariants as motions
+use Rattle.ngc_modal_state.specs.declared.code.MotionMode.{MotionMode}
+use Rattle.ngc_modal_state.specs.declared.code.MotionMode.TheVariants as motions
 use Rattle.ngc_modal_state.specs.declared.code.Stopping.{Stopping}
 use Rattle.ngc_modal_state.specs.declared.code.Stopping.TheVariants as stops
 use Rattle.ngc_modal_state.specs.declared.modes.Modes.{Modes}
@@ -23,7 +23,7 @@ abbrev pub with_modes : Modes → State → State
 with_modes m s = record s { modes = m }
 
 -- a code that is no cycle ends the series
-abbrev pub with_motion : Motion → State → State
+abbrev pub with_motion : MotionMode → State → State
 with_motion (motions.Cycle hole) s = with_modes (record s.modes { motion = motions.Cycle hole }) s
 with_motion code s = unseries (with_modes (record s.modes { motion = code }) s)
 

@@ -17,9 +17,9 @@ use crate::movement::{Feed, Pace, Way};
 use crate::places::word_length;
 use crate::spindle::spindle_state;
 use crate::state::{Interpreter, Kept, Refusal};
-use ngc_canned_cycles::{Cycle, CycleFault, CycleMove, Hole as CycleHole, Start, fill};
+use ngc_canned_cycles::{Cycle, CycleFault, CycleMove, Hole, Start, fill};
 use ngc_fixed_length::{Nm, Plane, Point3, Value};
-use ngc_modal_state::{AxisWords, CycleWords, Hole};
+use ngc_modal_state::{AxisWords, CycleCode, CycleWords};
 use ngc_offsets::FrameFault;
 use smallvec::SmallVec;
 use std::alloc::Allocator;
@@ -54,16 +54,16 @@ fn depth_word(plane: Plane, axes: &AxisWords) -> Option<Value>
     }
 }
 
-fn hole_of(hole: Hole, kept: &Kept) -> CycleHole
+fn hole_of(hole: CycleCode, kept: &Kept) -> Hole
     ensures { result ≡ hole_with hole kept.now }
 {
     match hole {
-        Hole::Drill => CycleHole::Drill,
-        Hole::DrillWithDwell => CycleHole::DrillWithDwell(kept.dwell),
-        Hole::Peck => CycleHole::Peck(kept.peck),
-        Hole::Bore => CycleHole::Bore,
-        Hole::BoreWithStop => CycleHole::BoreWithStop(kept.dwell),
-        Hole::BoreWithDwell => CycleHole::BoreWithDwell(kept.dwell),
+        CycleCode::Drill => Hole::Drill,
+        CycleCode::DrillWithDwell => Hole::DrillWithDwell(kept.dwell),
+        CycleCode::Peck => Hole::Peck(kept.peck),
+        CycleCode::Bore => Hole::Bore,
+        CycleCode::BoreWithStop => Hole::BoreWithStop(kept.dwell),
+        CycleCode::BoreWithDwell => Hole::BoreWithDwell(kept.dwell),
     }
 }
 
@@ -108,7 +108,7 @@ impl<A: Allocator + Copy> Interpreter<A> {
 
     fn cycle_of(
         &self,
-        hole: Hole,
+        hole: CycleCode,
         axes: &AxisWords,
         words: &CycleWords,
         kept: &Kept,
@@ -245,7 +245,7 @@ impl<A: Allocator + Copy> Interpreter<A> {
     /// G81, G82, G83, G85, G86, G89.
     pub(crate) fn cycle(
         &mut self,
-        hole: Hole,
+        hole: CycleCode,
         axes: &AxisWords,
         words: &CycleWords,
     ) -> Result<(), Refusal>

@@ -20,5 +20,5 @@ pub use command::{Action, Command, CoolantState, SpindleState};
 pub use deleted::has_deleted_lines;
 pub use fault::{Fault, ProgramFault};
 pub use movement::{Feed, Motion, Pace, Way};
-pub use ngc_machine::{FileFault, Fixture, Machine, Tool, Tools, row_machine};
+pub use ngc_machine::{FileFault, Fixture, Machine, Tool, Tools, built_in_machine};
 pub use program::interpret;

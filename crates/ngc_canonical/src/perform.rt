@@ -6,16 +6,16 @@ ghost use Rattle.ngc_canonical.specs.Perform.{with_motion, stop as stopped, perf
 use crate::command::Action;
 use crate::state::{Interpreter, Refusal};
 use ngc_machine::{Machine, Tools};
-use ngc_modal_state::{Effect, Motion, Stopping};
+use ngc_modal_state::{Effect, MotionMode, Stopping};
 use std::alloc::Allocator;
 
 impl<A: Allocator + Copy> Interpreter<A> {
     // A code that is no cycle ends the series of cycles.
-    fn set_motion(&mut self, motion: Motion)
+    fn set_motion(&mut self, motion: MotionMode)
         ensures { state_of self.new ≡ with_motion motion (state_of self.old) }
     {
         self.modes.motion = motion;
-        if !matches!(motion, Motion::Cycle(_)) {
+        if !matches!(motion, MotionMode::Cycle(_)) {
             self.series = None;
         }
     }

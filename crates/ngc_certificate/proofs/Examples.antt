@@ -9,7 +9,7 @@ use Rattle.ngc_fixed_length.specs.declared.modes.Turn.TheVariants.{Clockwise}
 use Rattle.ngc_fixed_length.specs.declared.points.GridBox.{GridBox}
 use Rattle.ngc_fixed_length.specs.declared.points.Point3.{Point3}
 use Rattle.ngc_arc_geometry.specs.Shape.{ArcShape}
-use Rattle.ngc_machine.specs.Machine.{MachineFile, row_machine}
+use Rattle.ngc_machine.specs.Machine.{MachineFile, built_in_machine}
 use Rattle.ngc_canonical.specs.declared.command.Action.TheVariants.{Move, Mount}
 use Rattle.ngc_canonical.specs.declared.command.Command.{Command}
 use Rattle.ngc_canonical.specs.declared.movement.Pace.TheVariants.{Rapid}
@@ -36,7 +36,7 @@ abbrev line : ℕ → GridBox → Piece
 line t b = record { end = Part t; bounds = b }
 
 abbrev with_fixture : Point3 → Point3 → MachineFile
-with_fixture low high = record row_machine { fixtures = record { low = low; high = high } ∷ [] }
+with_fixture low high = record built_in_machine { fixtures = record { low = low; high = high } ∷ [] }
 
 -- from zero, so far along X
 abbrev along_x : ℤ → Way
@@ -51,30 +51,30 @@ text : parted_spelling (both (pieces_of (pos 10000) (along_x (pos 30000)) 1)) �
 unfolding digits
 text = refl
 
-accepted : pieces_fault row_machine None (along_x (pos 30000)) (line 65536 (box (pos 0) (pos 0) (pos 0) (pos 3) (pos 0) (pos 0)) ∷ []) ≡ None
+accepted : pieces_fault built_in_machine None (along_x (pos 30000)) (line 65536 (box (pos 0) (pos 0) (pos 0) (pos 3) (pos 0) (pos 0)) ∷ []) ≡ None
 accepted = refl
 
-too_small : pieces_fault row_machine None (along_x (pos 30000)) (line 65536 (box (pos 0) (pos 0) (pos 0) (pos 2) (pos 0) (pos 0)) ∷ []) ≡ Some (at_piece 0 NotCovered)
+too_small : pieces_fault built_in_machine None (along_x (pos 30000)) (line 65536 (box (pos 0) (pos 0) (pos 0) (pos 2) (pos 0) (pos 0)) ∷ []) ≡ Some (at_piece 0 NotCovered)
 too_small = refl
 
-larger : pieces_fault row_machine None (along_x (pos 30000)) (line 65536 (box (pos 0) (pos 0) (pos 0) (pos 4) (pos 0) (pos 0)) ∷ []) ≡ None
+larger : pieces_fault built_in_machine None (along_x (pos 30000)) (line 65536 (box (pos 0) (pos 0) (pos 0) (pos 4) (pos 0) (pos 0)) ∷ []) ≡ None
 larger = refl
 
-outside : pieces_fault row_machine None (along_x (pos 30000)) (line 65536 (box (negsuc 0) (pos 0) (pos 0) (pos 3) (pos 0) (pos 0)) ∷ []) ≡ Some (at_piece 0 OutsideTravel)
+outside : pieces_fault built_in_machine None (along_x (pos 30000)) (line 65536 (box (negsuc 0) (pos 0) (pos 0) (pos 3) (pos 0) (pos 0)) ∷ []) ≡ Some (at_piece 0 OutsideTravel)
 outside = refl
 
-too_short : pieces_fault row_machine None (along_x (pos 30000)) (line 65535 (box (pos 0) (pos 0) (pos 0) (pos 3) (pos 0) (pos 0)) ∷ []) ≡ Some (at_piece 0 Chain)
+too_short : pieces_fault built_in_machine None (along_x (pos 30000)) (line 65535 (box (pos 0) (pos 0) (pos 0) (pos 3) (pos 0) (pos 0)) ∷ []) ≡ Some (at_piece 0 Chain)
 too_short = refl
 
-twice : pieces_fault row_machine None (along_x (pos 30000)) (line 65536 (box (pos 0) (pos 0) (pos 0) (pos 3) (pos 0) (pos 0)) ∷ line 65536 (box (pos 0) (pos 0) (pos 0) (pos 3) (pos 0) (pos 0)) ∷ []) ≡ Some (at_piece 1 Chain)
+twice : pieces_fault built_in_machine None (along_x (pos 30000)) (line 65536 (box (pos 0) (pos 0) (pos 0) (pos 3) (pos 0) (pos 0)) ∷ line 65536 (box (pos 0) (pos 0) (pos 0) (pos 3) (pos 0) (pos 0)) ∷ []) ≡ Some (at_piece 1 Chain)
 twice = refl
 
 -- ---- the travel's border
 
-to_the_border : pieces_fault row_machine None (along_x (pos 300000000)) (pieces_of (pos 10000) (along_x (pos 300000000)) 1) ≡ None
+to_the_border : pieces_fault built_in_machine None (along_x (pos 300000000)) (pieces_of (pos 10000) (along_x (pos 300000000)) 1) ≡ None
 to_the_border = refl
 
-beyond_the_border : pieces_fault row_machine None (along_x (pos 300006000)) (pieces_of (pos 10000) (along_x (pos 300006000)) 1) ≡ Some (at_piece 0 OutsideTravel)
+beyond_the_border : pieces_fault built_in_machine None (along_x (pos 300006000)) (pieces_of (pos 10000) (along_x (pos 300006000)) 1) ≡ Some (at_piece 0 OutsideTravel)
 beyond_the_border = refl
 
 -- ---- a fixture beside a slanted line: undivided it is met, in two pieces it isn't

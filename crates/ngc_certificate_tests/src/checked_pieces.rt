@@ -5,7 +5,7 @@ use linked_list_allocator::LocalHeap;
 use ngc_certificate_text::{Certificate, CertificateFault};
 use ngc_checker::{CheckReadFault, CheckReader, MemoryFault, check, check_source};
 use ngc_line_reader::Program;
-use ngc_machine::{Machine, Tools, row_machine};
+use ngc_machine::{Machine, Tools, built_in_machine};
 use ngc_test_devices::SlowSource;
 use ngc_text::Device;
 use std::alloc::{AllocError, Global};
@@ -168,7 +168,7 @@ const ROWS: &[(&str, &str, Option<u16>)] = &[
 
 #[test]
 fn certificates_checked_in_pieces(rt: HostRuntime) -> Result<(), Fail> {
-    let machine = row_machine(rt.alloc());
+    let machine = built_in_machine(rt.alloc());
     for (program, lines, number) in ROWS {
         let text = format!(in rt.alloc(); "ngc-certificate 1\n{lines}")?;
         is_checked_in_pieces(&rt, rt.alloc(), &machine, program, text.as_str(), number)?;
@@ -236,7 +236,7 @@ const JOINED_ROWS: &[(&str, &str, Option<u16>)] = &[
 
 #[test]
 fn joined_certificates_checked_in_pieces(rt: HostRuntime) -> Result<(), Fail> {
-    let machine = row_machine(rt.alloc());
+    let machine = built_in_machine(rt.alloc());
     for (program, lines, number) in JOINED_ROWS {
         let text = format!(in rt.alloc(); "ngc-certificate 2\n{lines}")?;
         is_checked_in_pieces(&rt, rt.alloc(), &machine, program, text.as_str(), number)?;
@@ -258,7 +258,7 @@ const STAYING: &[(&str, Result<(), CertificateFault>)] = &[
 #[test]
 fn a_fault_of_the_text_stays(rt: HostRuntime) -> Result<(), Fail> {
     let program = Program::read(rt.alloc(), &mut Device::new(b"G0 X1 M2\n".as_slice()))?;
-    let machine = row_machine(rt.alloc());
+    let machine = built_in_machine(rt.alloc());
     let tools = Tools::empty(rt.alloc());
     let mut reader = CheckReader::new(rt.alloc(), &program, &machine, &tools)?;
     for (piece, wanted) in STAYING {
@@ -279,7 +279,7 @@ fn a_fault_of_the_text_stays(rt: HostRuntime) -> Result<(), Fail> {
 // Whether a heap has memory for the reader and what it reads for; `None` where it doesn't even hold the program.
 fn accepts_in(rt: &impl Abort, heap: &LocalHeap) -> Option<bool> {
     let program = Program::read(heap, &mut Device::new(b"G0 X1 M2\n".as_slice())).ok()?;
-    let machine = row_machine(heap);
+    let machine = built_in_machine(heap);
     let tools = Tools::empty(heap);
     let Ok(mut reader) = CheckReader::new(heap, &program, &machine, &tools) else {
         return Some(false);
@@ -355,7 +355,7 @@ const LAST_PIECES: &[(&str, Option<u16>)] = &[
 fn a_certificate_of_several_pieces(rt: HostRuntime) -> Result<(), Fail> {
     let text = there_and_back(rt.alloc())?;
     let program = Program::read(rt.alloc(), &mut Device::new(text.as_bytes()))?;
-    let machine = row_machine(rt.alloc());
+    let machine = built_in_machine(rt.alloc());
     for (last, number) in LAST_PIECES {
         let text = long_certificate(rt.alloc(), last)?;
         holds(&rt, &"longer than a piece", text.len() > 65_536);
@@ -381,7 +381,7 @@ fn failing_answer(
 #[test]
 fn a_source_that_fails_is_told(rt: HostRuntime) -> Result<(), Fail> {
     let program = Program::read(rt.alloc(), &mut Device::new(b"G0 X1 M2\n".as_slice()))?;
-    let machine = row_machine(rt.alloc());
+    let machine = built_in_machine(rt.alloc());
     for failing in 0..=ACCEPTED.len() {
         let found = failing_answer(rt.alloc(), &program, &machine, ACCEPTED, failing);
         let fault = CheckReadFault::Certificate(CertificateFault::ReadFailed);
@@ -400,7 +400,7 @@ fn accepted_and(alloc: Global, behind: u8) -> Result<Vec<u8>, AllocError> {
 #[test]
 fn no_more_is_pulled_behind_the_end(rt: HostRuntime) -> Result<(), Fail> {
     let program = Program::read(rt.alloc(), &mut Device::new(b"G0 X1 M2\n".as_slice()))?;
-    let machine = row_machine(rt.alloc());
+    let machine = built_in_machine(rt.alloc());
     for behind in b"\nx" {
         let text = accepted_and(rt.alloc(), *behind)?;
         let found = failing_answer(rt.alloc(), &program, &machine, text.as_slice(), text.len());

@@ -6,7 +6,7 @@ use ngc_certificate_text::{Certificate, Cut, Motions, Piece, Setting};
 use ngc_checker::{Accepted, CheckFault, check};
 use ngc_fixed_length::{GridBox, Nm, Point3, StepPos};
 use ngc_line_reader::Program;
-use ngc_machine::{Fixture, Machine, Tools, row_machine};
+use ngc_machine::{Fixture, Machine, Tools, built_in_machine};
 use ngc_text::Device;
 use std::alloc::{AllocError, Allocator, Global};
 use std::process::Abort;
@@ -33,9 +33,9 @@ fn a_motion_each<A: Allocator + Copy>(alloc: A) -> Result<Certificate<A>, AllocE
     Ok(Certificate::parted(one_motion(alloc)?, one_motion(alloc)?))
 }
 
-// The row machine with a fixture far from zero.
+// The built-in machine with a fixture far from zero.
 fn machine_with_fixture<A: Allocator>(alloc: A) -> Option<Machine<A>> {
-    let mut machine = row_machine(alloc);
+    let mut machine = built_in_machine(alloc);
     let low = Nm::from_nanometres(200_000_000).ok()?;
     let high = Nm::from_nanometres(300_000_000).ok()?;
     let fixture = Fixture {
@@ -72,7 +72,7 @@ fn accepted_on(alloc: Global, machine: &Machine<Global>) -> Result<Accepted<Glob
 
 #[test]
 fn what_was_accepted_is_told(rt: HostRuntime) -> Result<(), Fail> {
-    let machine = row_machine(rt.alloc());
+    let machine = built_in_machine(rt.alloc());
     let accepted = accepted_on(rt.alloc(), &machine)?;
     let way = Way::Line {
         start: point(&rt, 0, 0),
@@ -115,7 +115,7 @@ fn what_was_accepted_is_told(rt: HostRuntime) -> Result<(), Fail> {
 fn refusal(alloc: Global) -> Result<CheckFault, Fail> {
     let program = Program::read(alloc, &mut Device::new(PROGRAM))?;
     let certificate = Certificate::parted(one_motion(alloc)?, Motions::new(alloc));
-    let machine = row_machine(alloc);
+    let machine = built_in_machine(alloc);
     let checked = check_program(alloc, &program, &machine, &certificate);
     Ok(checked.err().ok_or("a refusal")?)
 }

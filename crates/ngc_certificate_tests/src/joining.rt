@@ -4,7 +4,7 @@ use crate::given::{BESIDE_THE_LINE, machine_with, point};
 use linked_list_allocator::LocalHeap;
 use ngc_canonical::{Action, Command, Motion, Pace, Way};
 use ngc_certificate::{Certificate, Motions, join, make};
-use ngc_machine::row_machine;
+use ngc_machine::built_in_machine;
 use ngc_text::Device;
 use std::alloc::Global;
 use std::process::Abort;
@@ -86,7 +86,7 @@ fn number_of_joining(
 ) -> Result<u16, Fail> {
     let commands = [slanted(rt)];
     let room = LocalHeap::new(alloc, 65_536)?;
-    let certificate = make(&room, &commands, &commands, &row_machine(&room), 8)?;
+    let certificate = make(&room, &commands, &commands, &built_in_machine(&room), 8)?;
     let filler = Vec::<u8, _>::with_capacity(heap, taken);
     let number = match join(heap, certificate, &commands, &commands) {
         Ok(_) => 0,

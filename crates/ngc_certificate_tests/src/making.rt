@@ -4,7 +4,7 @@ use linked_list_allocator::LocalHeap;
 use ngc_canonical::{Action, Command, Feed, Motion, Pace, Way};
 use ngc_certificate::{Cut, MakeFault, Motions, Piece, Setting, make};
 use ngc_fixed_length::{Plane, Point3};
-use ngc_machine::{Machine, row_machine};
+use ngc_machine::{Machine, built_in_machine};
 use std::alloc::{Allocator, Global};
 use std::process::Abort;
 use std::test::Fail;
@@ -195,7 +195,7 @@ fn a_setting_without_the_line(rt: HostRuntime) -> Result<(), Fail> {
 #[test]
 fn a_circle_in_one_piece(rt: HostRuntime) -> Result<(), Fail> {
     let around = way_around(&rt)?;
-    let machine = row_machine(rt.alloc());
+    let machine = built_in_machine(rt.alloc());
     let certificate = make(rt.alloc(), &around, &around, &machine, 1)?;
     let left = point(&rt, 10_000_000, 50_000_000).in_plane(Plane::XY);
     let whole = [piece(Cut::Place(left), (998, 1_998, 0), (7_002, 8_002, 0))];
@@ -211,7 +211,7 @@ fn a_circle_in_one_piece(rt: HostRuntime) -> Result<(), Fail> {
 // Whether a certificate is made with the memory of a heap.
 fn is_made_in(rt: &impl Abort, heap: &LocalHeap, commands: &[Command; 2]) -> bool {
     let whole = [line_piece(65_536, 0, 1_000)];
-    let machine = row_machine(heap);
+    let machine = built_in_machine(heap);
     let is_made = match make(heap, commands, commands, &machine, 8) {
         Ok(certificate) => {
             same(rt, &"motions", &certificate.off.len(), &2);

@@ -6,7 +6,7 @@ use linked_list_allocator::LocalHeap;
 use ngc_canonical::{Command, interpret};
 use ngc_certificate::uncleared;
 use ngc_line_reader::Program;
-use ngc_machine::{Machine, Tools, row_machine};
+use ngc_machine::{Machine, Tools, built_in_machine};
 use ngc_text::Device;
 use std::alloc::Global;
 use std::process::Abort;
@@ -117,7 +117,7 @@ const OUT_AND_BACK: &[u32] = &[0, 1];
 // Whether two of three commands are listed with the memory of a heap.
 fn is_listed_in(rt: &impl Abort, heap: &LocalHeap, commands: &[Command]) -> bool {
     assert!(rt; commands.len() == 3);
-    let is_listed = match uncleared(heap, commands, &row_machine(heap), 8) {
+    let is_listed = match uncleared(heap, commands, &built_in_machine(heap), 8) {
         Ok(indices) => {
             same(rt, &"out and back", &indices.as_slice(), &OUT_AND_BACK);
             true
@@ -133,7 +133,11 @@ fn is_listed_in(rt: &impl Abort, heap: &LocalHeap, commands: &[Command]) -> bool
 
 #[test]
 fn refused_memory(rt: HostRuntime) -> Result<(), Fail> {
-    let commands = commands_of(rt.alloc(), &row_machine(rt.alloc()), "G0 X400\nX10\nM2\n")?;
+    let commands = commands_of(
+        rt.alloc(),
+        &built_in_machine(rt.alloc()),
+        "G0 X400\nX10\nM2\n",
+    )?;
     let mut refused = 0u32;
     let mut done = 0u32;
     for blocks in 1..40usize {

@@ -46,7 +46,7 @@ const ARROWS: &str =
 
 const END: &str = "</text></g>\n</g>\n</svg>\n";
 
-// Of a view of the row machine: the travel, where its low corner stands, and the names of the axes.
+// Of a view of the built-in machine: the travel, where its low corner stands, and the names of the axes.
 fn seen(view: View) -> (&'static str, &'static str, (&'static str, &'static str)) {
     match view {
         View::Top => (
@@ -150,7 +150,7 @@ fn commands_of(
     Ok(interpret(alloc, &program, machine, &tools, is_on(setting))?)
 }
 
-// A program on the row machine at a setting, with a certificate.
+// A program on the built-in machine at a setting, with a certificate.
 #[derive(Clone, Copy)]
 struct Case {
     view: View,

@@ -8,7 +8,7 @@ use ngc_certificate::{
     place_fault,
 };
 use ngc_fixed_length::{Nm, Point2, StepPos};
-use ngc_machine::{Machine, Part, Parts, Tool, row_machine};
+use ngc_machine::{Machine, Part, Parts, Tool, built_in_machine};
 use std::alloc::Global;
 use std::process::Abort;
 use std::test::Fail;
@@ -107,7 +107,7 @@ static ALONE: [(u32, (i32, i32, i32), (i32, i32, i32), Option<PieceFault>); 10] 
 
 #[test]
 fn a_line_in_one_piece(rt: HostRuntime) {
-    let machine = row_machine(rt.alloc());
+    let machine = built_in_machine(rt.alloc());
     let way = line(&rt, 30_000, 0);
     for (part, low, high, fault) in &ALONE {
         let found = fault_alone(&machine, &way, &piece(Cut::Part(*part), *low, *high));
@@ -132,7 +132,7 @@ static CHAINS: [(usize, (u32, u32), Option<PieceRefusal>); 8] = [
 
 #[test]
 fn pieces_follow_each_other(rt: HostRuntime) {
-    let machine = row_machine(rt.alloc());
+    let machine = built_in_machine(rt.alloc());
     let way = line(&rt, 30_000, 0);
     for (count, (first, second), fault) in &CHAINS {
         let pieces = [

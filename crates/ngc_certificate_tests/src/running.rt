@@ -5,15 +5,15 @@ use ngc_certificate::make;
 use ngc_checker::{Accepted, check};
 use ngc_events::read_events;
 use ngc_line_reader::Program;
-use ngc_machine::{Machine, Tools, row_machine};
+use ngc_machine::{Machine, Tools, built_in_machine};
 use ngc_run_log::{run, run_through};
 use ngc_text::Device;
 use std::alloc::Global;
 use std::test::Fail;
 
-// A program without deleted lines, on the row machine.
+// A program without deleted lines, on the built-in machine.
 fn accepted(alloc: Global, program: &str) -> Result<Accepted<Global>, Fail> {
-    let machine = row_machine(alloc);
+    let machine = built_in_machine(alloc);
     accepted_on(alloc, &machine, program)
 }
 

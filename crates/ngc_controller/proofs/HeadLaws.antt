@@ -9,7 +9,7 @@ use Rattle.ngc_machine.specs.MachineRanges.{IsMachine}
 use Rattle.ngc_machine.specs.declared.tools.Tool.{Tool}
 use Rattle.ngc_planner.specs.declared.leg.Leg.{Leg}
 use Rattle.ngc_planner.specs.Caps.{MILLION}
-use Rattle.ngc_planner.specs.Ramp.{RampState, IsRest, TicksTo, next_rest, ticked}
+use Rattle.ngc_planner.specs.Ramp.{RampState, IsRest, TicksTo, next_rest, after_tick}
 use Rattle.ngc_planner.proofs.RampLaws.{ends_slowly}
 use Rattle.ngc_behaviour.specs.State.{Job, Queued, State, millionths, effective}
 use Rattle.ngc_behaviour.specs.Reach.{leg_of, legs_behind}
@@ -83,7 +83,7 @@ pub record Ends (r s : RampState) (behind : List Leg) (v : ℕ) : Type 0 where
   pub legs : s.legs ≡ behind
   pub change : s.change ≡ r.change
 
-goes : (r s : RampState) (legs : List Leg) (v : ℕ) (ended : Bool) → ended ≡ nat_le r.rest v → ended ≡ false → s ≡ ticked r legs v → Goes r s v
+goes : (r s : RampState) (legs : List Leg) (v : ℕ) (ended : Bool) → ended ≡ nat_le r.rest v → ended ≡ false → s ≡ after_tick r legs v → Goes r s v
 goes r s legs v ended test on e =
     let less : v < r.rest = grind (arith, nat_tests) in
     let ends : RampState = record r { rate = v; rest = next_rest (v - r.rest) legs; legs = legs } in
@@ -96,7 +96,7 @@ goes r s legs v ended test on e =
       change = ap (λ (x : RampState). x.change) whole;
     }
 
-ends : (r s : RampState) (legs : List Leg) (v : ℕ) (ended : Bool) → ended ≡ nat_le r.rest v → ended ≡ true → s ≡ ticked r legs v → Ends r s legs v
+ends : (r s : RampState) (legs : List Leg) (v : ℕ) (ended : Bool) → ended ≡ nat_le r.rest v → ended ≡ true → s ≡ after_tick r legs v → Ends r s legs v
 ends r s legs v ended test done e =
     let all : r.rest ≤ v = grind (arith, nat_tests) in
     let there : RampState = record r { rate = v; rest = next_rest (v - r.rest) legs; legs = legs } in

@@ -15,7 +15,7 @@ use Rattle.ngc_events.specs.declared.reply.Reply.TheVariants.{Loaded}
 use Rattle.ngc_events.specs.declared.event_fault.EventFault.TheVariants.{RingFull}
 use Rattle.ngc_behaviour.specs.Headline.{job_of}
 use Rattle.ngc_behaviour.specs.State.{Job, Queued, State, RING, command_at}
-use Rattle.ngc_behaviour.specs.Step.{Outcome, MayTake, LoadCommand, Dwells, Finishes, Serves, after, popped, ticks_of}
+use Rattle.ngc_behaviour.specs.Step.{Outcome, MayTake, LoadCommand, Dwells, Finishes, Serves, after, without_head, ticks_of}
 use Rattle.ngc_controller.specs.declared.drive.Drive.{Drive}
 use Rattle.ngc_controller.specs.declared.panel.Panel.{Panel}
 use Rattle.ngc_controller.specs.Drive.{flows_on, last_flows_on, legs_of, with_one_more, IsTarget}
@@ -130,7 +130,7 @@ after_by _ s tool panel = refl
 
 pub finished : (a : Action) (s : State) (tool mounted : Option Tool) (panel set : Panel) (k : ℕ) (xs : List Queued) (w t d : ℕ) →
     k ≡ suc s.done → xs ≡ drop 1 s.ring → w ≡ 0 → t ≡ 0 → d ≡ 0 → mounted ≡ tool_after a tool → set ≡ panel_after a panel →
-    with_panel (record s { done = k; ring = xs; rate = w; travelled = t; dwelt = d }) mounted set ≡ after a (record (popped 0 (with_panel s tool panel)) { rate = 0 })
+    with_panel (record s { done = k; ring = xs; rate = w; travelled = t; dwelt = d }) mounted set ≡ after a (record (without_head 0 (with_panel s tool panel)) { rate = 0 })
 finished a s tool mounted panel set k xs w t d e1 e2 e3 e4 e5 e6 e7 =
     let whole : with_panel (record s { done = k; ring = xs; rate = w; travelled = t; dwelt = d }) mounted set ≡ with_panel (record s { done = suc s.done; ring = drop 1 s.ring; rate = 0; travelled = 0; dwelt = 0 }) (tool_after a tool) (panel_after a panel) = cc in
     whole ∙ after_by a (record s { done = suc s.done; ring = drop 1 s.ring; rate = 0; travelled = 0; dwelt = 0 }) tool panel

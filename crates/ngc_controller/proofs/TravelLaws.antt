@@ -18,7 +18,7 @@ use Rattle.ngc_behaviour.specs.Reach.{leg_of, legs_behind}
 use Rattle.ngc_events.specs.declared.reply.Ending.{Ending}
 use Rattle.ngc_events.specs.declared.reply.Ending.TheVariants.{Done}
 use Rattle.ngc_events.specs.declared.reply.Reply.TheVariants.{Ticked}
-use Rattle.ngc_behaviour.specs.Step.{Outcome, Travels, place_after, pulse, ends_at, ending, moved_by, popped}
+use Rattle.ngc_behaviour.specs.Step.{Outcome, Travels, place_after, pulse, ends_at, ending, moved_by, without_head}
 use Rattle.ngc_behaviour.proofs.RampFit.{may_travel, travels_at_least}
 use Rattle.ngc_controller.specs.Loaded.{next_place}
 
@@ -127,7 +127,7 @@ goes_on job l ls old new r v next due p t xs w h at within less far same rate is
     let on : nat_le (millionths l) (old.travelled + v) ≡ false = grind (arith, nat_tests) in
     let place = point l.path (place_after l old v) in
     let there : State = record old { rate = v; position = place } in
-    let by = going (nat_le (millionths l) (old.travelled + v)) (popped (old.travelled + v - millionths l) there) (record there { travelled = old.travelled + v }) (Some (ending l.command.action old)) on in
+    let by = going (nat_le (millionths l) (old.travelled + v)) (without_head (old.travelled + v - millionths l) there) (record there { travelled = old.travelled + v }) (Some (ending l.command.action old)) on in
     let state : new ≡ record there { travelled = old.travelled + v } =
     is ∙ ap (λ (ys : List Queued). record old { ring = ys; rate = w; position = p; travelled = t }) same
     ∙ ap (λ (x : ℕ). record old { rate = x; position = p; travelled = t }) rate
@@ -145,8 +145,8 @@ ends_there job l ls old new r v next due p t xs w k d h motion at within ends be
     let place = point l.path (place_after l old v) in
     let there : State = record old { rate = v; position = place } in
     let left : t ≡ old.travelled + v - millionths l = omega arith in
-    let by = done_with (nat_le (millionths l) (old.travelled + v)) (popped (old.travelled + v - millionths l) there) (record there { travelled = old.travelled + v }) (Some (ending l.command.action old)) over in
-    let state : new ≡ popped (old.travelled + v - millionths l) there =
+    let by = done_with (nat_le (millionths l) (old.travelled + v)) (without_head (old.travelled + v - millionths l) there) (record there { travelled = old.travelled + v }) (Some (ending l.command.action old)) over in
+    let state : new ≡ without_head (old.travelled + v - millionths l) there =
     is ∙ ap (λ (ys : List Queued). record old { done = k; ring = ys; rate = w; position = p; travelled = t; dwelt = d }) same
     ∙ ap (λ (x : ℕ). record old { done = k; ring = drop 1 old.ring; rate = x; position = p; travelled = t; dwelt = d }) rate
     ∙ ap (λ (q : StepPos). record old { done = k; ring = drop 1 old.ring; rate = v; position = q; travelled = t; dwelt = d }) h.point_at

@@ -2,7 +2,7 @@
 use crate::checks::{holds, same};
 use linked_list_allocator::LocalHeap;
 use ngc_fixed_length::{Nm, Point3};
-use ngc_machine::{AxisRates, FileFault, Machine, Part, Parts, Tool, Tools, row_machine};
+use ngc_machine::{AxisRates, FileFault, Machine, Part, Parts, Tool, Tools, built_in_machine};
 use std::alloc::Global;
 use std::process::Abort;
 use std::test::Fail;
@@ -44,7 +44,7 @@ fn machine_fault(alloc: Global, bytes: &[u8]) -> u16 {
     }
 }
 
-// The same once a piece of the row machine's file is another, as `piece -> other`.
+// The same once a piece of the built-in machine's file is another, as `piece -> other`.
 fn changed_machine_fault(alloc: Global, change: &str) -> Result<u16, Fail> {
     let (piece, other) = change.split_once(" -> ").ok_or("a piece and another")?;
     let (before, after) = ROW_MACHINE.split_once(piece).ok_or("a piece of the file")?;
@@ -78,13 +78,13 @@ fn are_same(one: &Machine<Global>, other: &Machine<Global>) -> bool {
 }
 
 #[test]
-fn the_row_machine_and_its_file_are_one(rt: HostRuntime) -> Result<(), Fail> {
+fn the_built_in_machine_and_its_file_are_one(rt: HostRuntime) -> Result<(), Fail> {
     let file = Machine::read(rt.alloc(), ROW_MACHINE.as_bytes())?;
-    let is_the_row_machine = are_same(&file, &row_machine(rt.alloc()));
+    let is_the_built_in_machine = are_same(&file, &built_in_machine(rt.alloc()));
     holds(
         &rt,
         &"machine",
-        is_the_row_machine && file.fixtures.is_empty(),
+        is_the_built_in_machine && file.fixtures.is_empty(),
     );
     same(&rt, &"step", &file.step.nanometres(), &10_000);
     let (low, high) = ([0, 0, -100_000_000], [300_000_000, 300_000_000, 0]);
@@ -134,7 +134,7 @@ high = [4, 5, 6]
     Ok(())
 }
 
-// Each row is a number, and changes of the row machine's file that are refused with it, between bars.
+// Each row is a number, and changes of the built-in machine's file that are refused with it, between bars.
 const MACHINE_FILES: &[(u16, &str)] = &[
     (
         0,

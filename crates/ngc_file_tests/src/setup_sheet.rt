@@ -1,5 +1,5 @@
 //! What no clause of `ngc_setup_sheet` says: the text of whole sheets, and that calls succeed.
-use ngc_machine::{Machine, Tools, row_machine};
+use ngc_machine::{Machine, Tools, built_in_machine};
 use ngc_setup_sheet::write_sheet;
 use ngc_test_devices::FailingSink;
 use ngc_text::{Device, WriteFault};
@@ -95,9 +95,9 @@ fn sheet(alloc: Global, machine: &str, tools: &str) -> Result<Vec<u8>, Fail> {
 }
 
 #[test]
-fn the_row_machine(rt: HostRuntime) -> Result<(), Fail> {
+fn the_built_in_machine(rt: HostRuntime) -> Result<(), Fail> {
     let mut sink = Device::new(Vec::new(rt.alloc()));
-    write_sheet(&row_machine(rt.alloc()), &[], &mut sink)?;
+    write_sheet(&built_in_machine(rt.alloc()), &[], &mut sink)?;
     assert_eq!(rt;
         std::str::from_utf8(sink.into_inner().as_slice())?,
         ROW_SHEET

@@ -2,7 +2,7 @@ use crate::checks::{holds, same};
 use crate::given::{grid_box, length};
 use ngc_collision::{first_met, is_in_travel};
 use ngc_fixed_length::{GridBox, Nm};
-use ngc_machine::{Machine, Part, Parts, Tool, row_machine};
+use ngc_machine::{Machine, Part, Parts, Tool, built_in_machine};
 use std::alloc::Global;
 use std::process::Abort;
 use std::test::Fail;
@@ -54,7 +54,7 @@ fn tool(rt: &impl Abort, size: Option<(i64, i64)>) -> Option<Tool> {
     })
 }
 
-// The row machine with one fixture.
+// The built-in machine with one fixture.
 fn machine_with(alloc: Global, fixture: &str) -> Result<Machine<Global>, Fail> {
     let text = format!(in alloc; "{ROW_MACHINE}[[fixture]]\n{fixture}")?;
     Ok(Machine::read(alloc, text.as_bytes())?)
@@ -78,7 +78,7 @@ static TRAVEL: [((i32, i32, i32), (i32, i32, i32), bool); 9] = [
 
 #[test]
 fn travel_limits_are_included(rt: HostRuntime) {
-    let machine = row_machine(rt.alloc());
+    let machine = built_in_machine(rt.alloc());
     for (low, high, inside) in &TRAVEL {
         let found = is_in_travel(&machine, &grid_box(*low, *high));
         same(&rt, &(low, high), &found, inside);
@@ -255,7 +255,7 @@ fn tools_of_several_parts(rt: HostRuntime) -> Result<(), Fail> {
     Ok(())
 }
 
-// The first fixture of the row machine, with one fixture more, that a tool meets.
+// The first fixture of the built-in machine, with one fixture more, that a tool meets.
 fn met_among(
     alloc: Global,
     fixture: &str,
@@ -274,7 +274,7 @@ static LOWEST: [((i32, i32, i32), (i32, i32, i32), Option<u32>); 5] = [
     ((25_700, 50, -500), (30_000, 50, -500), None),
 ];
 
-// The row machine with a row of fixtures.
+// The built-in machine with a row of fixtures.
 fn machine_with_256(alloc: Global) -> Result<Machine<Global>, Fail> {
     let text = text_with_256(alloc)?;
     Ok(Machine::read(alloc, text.as_bytes())?)

@@ -6,7 +6,7 @@ use crate::given::{Format, arc, ends, point};
 use ngc_arc_geometry::ArcFault;
 use ngc_canonical::{Action, Feed, Motion, Pace, Way};
 use ngc_fixed_length::{Plane, Turn, Units};
-use ngc_machine::{Machine, row_machine};
+use ngc_machine::{Machine, built_in_machine};
 use ngc_planner::{Leg, Ramp, bound_of, braking, cap_of, joint_of, target_at, turn_rate};
 use std::alloc::Global;
 use std::process::Abort;
@@ -138,7 +138,7 @@ static RATES: [(Course, u64, Rate, u128); 10] = [
 
 #[test]
 fn rates_of_motions(rt: HostRuntime) {
-    let machine = row_machine(rt.alloc());
+    let machine = built_in_machine(rt.alloc());
     for (course, steps, rate, wanted) in &RATES {
         match rate_on(&rt, &machine, *course, *steps, *rate) {
             Ok(found) => same(&rt, &(rate, course), &found, wanted),
@@ -155,7 +155,7 @@ const CORNERS: &[((i64, i64, i64), u64)] = &[
 
 #[test]
 fn corners(rt: HostRuntime) {
-    let machine = row_machine(rt.alloc());
+    let machine = built_in_machine(rt.alloc());
     let middle = (1_000_000, 0, 0);
     let along = Action::Move(traverse(&rt, (0, 0, 0), middle));
     for (end, joint) in CORNERS {

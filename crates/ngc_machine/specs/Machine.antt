@@ -43,8 +43,8 @@ file_of m = record {
 }
 
 -- a small mill of 300 mm by 300 mm by 100 mm, with steps of 0.01 mm and no fixture
-abbrev pub row_machine : MachineFile
-row_machine = record {
+abbrev pub built_in_machine : MachineFile
+built_in_machine = record {
   step = pos 10000;
   ticks_per_second = 10000;
   max_rate = 400000;

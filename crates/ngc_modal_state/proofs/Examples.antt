@@ -3,7 +3,7 @@ use Rattle.std.proofs.Common.{◌≡◌, ℤ, pos, List, [], ◌∷◌, Some, No
 use Rattle.ngc_fixed_length.specs.declared.units.Units.TheVariants.{Inches}
 use Rattle.ngc_line_reader.specs.declared.letter.Letter.{Letter}
 use Rattle.ngc_line_reader.specs.declared.letter.Letter.TheVariants.{F, G, K, P, Q, R, X, Y}
-use Rattle.ngc_modal_state.specs.declared.code.Motion.TheVariants.{Straight}
+use Rattle.ngc_modal_state.specs.declared.code.MotionMode.TheVariants.{Straight}
 use Rattle.ngc_modal_state.specs.declared.effect.Effect.{Effect}
 use Rattle.ngc_modal_state.specs.declared.effect.Effect.TheVariants as acts
 use Rattle.ngc_modal_state.specs.declared.fault.MissingWord.TheVariants as missing

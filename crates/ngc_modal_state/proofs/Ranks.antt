@@ -3,8 +3,8 @@ use Rattle.std.proofs.Common.{◌≡◌, ℕ, ◌≤◌, List, [], ◌∷◌, �
 use Rattle.std.specs.Prelude.{ℤ, option_map, option_to_list}
 use Rattle.ngc_fixed_length.specs.declared.modes.FeedMode.{FeedMode}
 use Rattle.ngc_fixed_length.specs.declared.modes.FeedMode.TheVariants.{PerMinute, InverseTime}
-use Rattle.ngc_modal_state.specs.declared.code.Motion.{Motion}
-use Rattle.ngc_modal_state.specs.declared.code.Motion.TheVariants as motions
+use Rattle.ngc_modal_state.specs.declared.code.MotionMode.{MotionMode}
+use Rattle.ngc_modal_state.specs.declared.code.MotionMode.TheVariants as motions
 use Rattle.ngc_modal_state.specs.declared.code.LengthCode.{LengthCode}
 use Rattle.ngc_modal_state.specs.declared.code.LengthCode.TheVariants as lengths
 use Rattle.ngc_modal_state.specs.declared.code.Once.{Once}
@@ -72,7 +72,7 @@ frame (Some once.ClearOffset) b = one acts.ClearOffset
 frame (Some once.SuspendOffset) b = one acts.SuspendOffset
 frame (Some once.RestoreOffset) b = one acts.RestoreOffset
 
-move : (code : Motion) (f : Option ℤ) (b : Block) → HasRank 20 (move_effect code f b)
+move : (code : MotionMode) (f : Option ℤ) (b : Block) → HasRank 20 (move_effect code f b)
 move motions.Traverse f b = marked _ _
 move motions.Straight f b = marked _ _
 move (motions.Arc turn) f b = marked _ _

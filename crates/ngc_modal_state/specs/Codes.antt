@@ -11,8 +11,8 @@ use Rattle.ngc_fixed_length.specs.declared.modes.System.TheVariants.{First, Seco
 use Rattle.ngc_line_reader.specs.declared.letter.Letter.{Letter}
 use Rattle.ngc_line_reader.specs.declared.letter.Letter.TheVariants.{G, M}
 use Rattle.ngc_modal_state.specs.Tables.{at_number, has_number}
-use Rattle.ngc_modal_state.specs.declared.code.Hole.TheVariants.{Drill, DrillWithDwell, Peck, Bore, BoreWithStop, BoreWithDwell}
-use Rattle.ngc_modal_state.specs.declared.code.Motion.TheVariants as motions
+use Rattle.ngc_modal_state.specs.declared.code.CycleCode.TheVariants.{Drill, DrillWithDwell, Peck, Bore, BoreWithStop, BoreWithDwell}
+use Rattle.ngc_modal_state.specs.declared.code.MotionMode.TheVariants as motions
 use Rattle.ngc_modal_state.specs.declared.code.LengthCode.TheVariants as lengths
 use Rattle.ngc_modal_state.specs.declared.code.PathControl.TheVariants.{ExactPath, ExactStop, Continuous}
 use Rattle.ngc_modal_state.specs.declared.code.Once.TheVariants as once

@@ -5,8 +5,8 @@ use Rattle.ngc_fixed_length.specs.declared.modes.System.TheVariants.{First, Seco
 use Rattle.ngc_fixed_length.specs.declared.modes.FeedMode.{FeedMode}
 use Rattle.ngc_fixed_length.specs.declared.modes.FeedMode.TheVariants.{PerMinute, InverseTime}
 use Rattle.ngc_modal_state.specs.Tables.{at_number}
-use Rattle.ngc_modal_state.specs.declared.code.Motion.{Motion}
-use Rattle.ngc_modal_state.specs.declared.code.Motion.TheVariants as motions
+use Rattle.ngc_modal_state.specs.declared.code.MotionMode.{MotionMode}
+use Rattle.ngc_modal_state.specs.declared.code.MotionMode.TheVariants as motions
 use Rattle.ngc_modal_state.specs.declared.code.LengthCode.{LengthCode}
 use Rattle.ngc_modal_state.specs.declared.code.LengthCode.TheVariants as lengths
 use Rattle.ngc_modal_state.specs.declared.code.Once.{Once}
@@ -105,7 +105,7 @@ abbrev pub mark : Effect → Bool → Option Effect
 mark effect stands = if stands then Some effect else None
 
 -- the line's motion, where it moves; an arc without axis words is refused when it is made
-abbrev pub move_effect : Motion → Option ℤ → Block → Option Effect
+abbrev pub move_effect : MotionMode → Option ℤ → Block → Option Effect
 move_effect motions.Traverse f b = mark (acts.Traverse (is_machine_place b.once) b.axes) (has_axes b)
 move_effect motions.Straight f b = mark (acts.Straight (is_machine_place b.once) b.axes f) (has_axes b)
 move_effect (motions.Arc turn) f b = mark (acts.Arc turn b.axes (arc_words b) f) (has_axes b || has_arc_words b)

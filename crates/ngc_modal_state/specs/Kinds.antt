@@ -2,57 +2,57 @@
 use Rattle.std.specs.Prelude.{ℕ, ◌==◌, Option, Some, Bool, true, false, not}
 use Rattle.ngc_fixed_length.specs.declared.modes.FeedMode.{FeedMode}
 use Rattle.ngc_fixed_length.specs.declared.modes.FeedMode.TheVariants.{PerMinute, InverseTime}
-use Rattle.ngc_modal_state.specs.declared.code.Hole.{Hole}
-use Rattle.ngc_modal_state.specs.declared.code.Hole.TheVariants.{Drill, DrillWithDwell, Peck, Bore, BoreWithStop, BoreWithDwell}
-use Rattle.ngc_modal_state.specs.declared.code.Motion.{Motion}
-use Rattle.ngc_modal_state.specs.declared.code.Motion.TheVariants.{Traverse, Straight, Arc, Cancel, Cycle}
+use Rattle.ngc_modal_state.specs.declared.code.CycleCode.{CycleCode}
+use Rattle.ngc_modal_state.specs.declared.code.CycleCode.TheVariants.{Drill, DrillWithDwell, Peck, Bore, BoreWithStop, BoreWithDwell}
+use Rattle.ngc_modal_state.specs.declared.code.MotionMode.{MotionMode}
+use Rattle.ngc_modal_state.specs.declared.code.MotionMode.TheVariants.{Traverse, Straight, Arc, Cancel, Cycle}
 use Rattle.ngc_modal_state.specs.declared.code.LengthCode.{LengthCode}
 use Rattle.ngc_modal_state.specs.declared.code.LengthCode.TheVariants as lengths
 use Rattle.ngc_modal_state.specs.declared.code.Once.{Once}
 use Rattle.ngc_modal_state.specs.declared.code.Once.TheVariants as once
 
-abbrev pub is_straight : Motion → Bool
+abbrev pub is_straight : MotionMode → Bool
 is_straight Traverse = true
 is_straight Straight = true
 is_straight _ = false
 
-abbrev pub is_arc : Motion → Bool
+abbrev pub is_arc : MotionMode → Bool
 is_arc (Arc turn) = true
 is_arc _ = false
 
-abbrev pub is_cycle : Motion → Bool
+abbrev pub is_cycle : MotionMode → Bool
 is_cycle (Cycle hole) = true
 is_cycle _ = false
 
-abbrev pub is_cancel : Motion → Bool
+abbrev pub is_cancel : MotionMode → Bool
 is_cancel Cancel = true
 is_cancel _ = false
 
-abbrev pub feeds : Motion → Bool
+abbrev pub feeds : MotionMode → Bool
 feeds Straight = true
 feeds (Arc turn) = true
 feeds _ = false
 
-abbrev pub hole_dwells : Hole → Bool
+abbrev pub hole_dwells : CycleCode → Bool
 hole_dwells DrillWithDwell = true
 hole_dwells BoreWithStop = true
 hole_dwells BoreWithDwell = true
 hole_dwells _ = false
 
-abbrev pub hole_pecks : Hole → Bool
+abbrev pub hole_pecks : CycleCode → Bool
 hole_pecks Peck = true
 hole_pecks _ = false
 
-abbrev pub dwells : Motion → Bool
+abbrev pub dwells : MotionMode → Bool
 dwells (Cycle hole) = hole_dwells hole
 dwells _ = false
 
-abbrev pub pecks : Motion → Bool
+abbrev pub pecks : MotionMode → Bool
 pecks (Cycle hole) = hole_pecks hole
 pecks _ = false
 
 -- the number of a hole's code
-abbrev pub hole_number : Hole → ℕ
+abbrev pub hole_number : CycleCode → ℕ
 hole_number Drill = 81
 hole_number DrillWithDwell = 82
 hole_number Peck = 83
@@ -61,7 +61,7 @@ hole_number BoreWithStop = 86
 hole_number BoreWithDwell = 89
 
 -- the second is a cycle of another code than the first
-abbrev pub begins_cycle : Motion → Motion → Bool
+abbrev pub begins_cycle : MotionMode → MotionMode → Bool
 begins_cycle (Cycle before) (Cycle hole) = not (hole_number before == hole_number hole)
 begins_cycle _ (Cycle hole) = true
 begins_cycle _ _ = false

@@ -7,8 +7,8 @@ use Rattle.ngc_fixed_length.specs.declared.modes.Plane.TheVariants.{XY, ZX, YZ}
 use Rattle.ngc_fixed_length.specs.declared.modes.FeedMode.{FeedMode}
 use Rattle.ngc_line_reader.specs.declared.letter.Letter.{Letter}
 use Rattle.ngc_line_reader.specs.declared.letter.Letter.TheVariants.{F, H, I, J, K, L, P, Q, R, X, Y, Z}
-use Rattle.ngc_modal_state.specs.declared.code.Motion.{Motion}
-use Rattle.ngc_modal_state.specs.declared.code.Motion.TheVariants.{Cancel}
+use Rattle.ngc_modal_state.specs.declared.code.MotionMode.{MotionMode}
+use Rattle.ngc_modal_state.specs.declared.code.MotionMode.TheVariants.{Cancel}
 use Rattle.ngc_modal_state.specs.declared.code.Once.{Once}
 use Rattle.ngc_modal_state.specs.declared.modes.Modes.{Modes}
 use Rattle.ngc_modal_state.specs.declared.block.AxisWords.{AxisWords}
@@ -40,11 +40,11 @@ abbrev pub feed_mode_of : Modes → Block → FeedMode
 feed_mode_of m b = unwrap_or b.feed_mode m.feed_mode
 
 -- the motion code that is in force on the line: one that is kept is suspended by G10, G28, G30 and G92
-abbrev pub in_force : Modes → Block → Motion
+abbrev pub in_force : Modes → Block → MotionMode
 in_force m b = unwrap_or b.motion (if takes_axes b.once then Cancel else m.motion)
 
 -- the motion code that uses the line's letters: a kept one does so only with axis words, or as an arc
-abbrev pub user : Modes → Block → Motion
+abbrev pub user : Modes → Block → MotionMode
 user m b = unwrap_or b.motion (if has_axes b || is_arc (in_force m b) then in_force m b else Cancel)
 
 -- ---- 206: two uses of one word
@@ -67,25 +67,25 @@ abbrev pub uses_axes : Modes → Block → Bool
 uses_axes m b = takes_axes b.once || not (is_cancel (in_force m b))
 
 -- I, J and K of an arc are those of the plane
-abbrev pub uses_i : Motion → Plane → Bool
+abbrev pub uses_i : MotionMode → Plane → Bool
 uses_i motion YZ = false
 uses_i motion _ = is_arc motion
 
-abbrev pub uses_j : Motion → Plane → Bool
+abbrev pub uses_j : MotionMode → Plane → Bool
 uses_j motion ZX = false
 uses_j motion _ = is_arc motion
 
-abbrev pub uses_k : Motion → Plane → Bool
+abbrev pub uses_k : MotionMode → Plane → Bool
 uses_k motion XY = false
 uses_k motion _ = is_arc motion
 
-abbrev pub uses_r : Motion → Bool
+abbrev pub uses_r : MotionMode → Bool
 uses_r motion = is_arc motion || is_cycle motion
 
-abbrev pub uses_p : Option Once → Motion → Bool
+abbrev pub uses_p : Option Once → MotionMode → Bool
 uses_p code motion = is_dwell code || sets_origin code || dwells motion
 
-abbrev pub uses_l : Option Once → Motion → Bool
+abbrev pub uses_l : Option Once → MotionMode → Bool
 uses_l code motion = sets_origin code || is_cycle motion
 
 -- the word stands there and nothing uses it

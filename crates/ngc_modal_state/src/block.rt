@@ -4,7 +4,7 @@ ghost use Rattle.ngc_parameters.specs.Stored.{pairs_of};
 ghost use Rattle.ngc_modal_state.specs.Block.{is_m_word};
 ghost use Rattle.ngc_modal_state.specs.BlockWords.{first_value};
 
-use crate::code::{Code, Coolant, LengthCode, Motion, Once, PathControl, Spindle, Stopping};
+use crate::code::{Code, Coolant, LengthCode, MotionMode, Once, PathControl, Spindle, Stopping};
 use crate::fault::ModalFault;
 use crate::table::{g_code, m_code};
 use ngc_fixed_length::{Distance, FeedMode, Plane, ReturnMode, System, Units, Value};
@@ -22,7 +22,7 @@ pub struct AxisWords {
 /// A line's words: of each modal group its code, of each letter its value.
 #[derive(Clone, Copy)]
 pub struct Block {
-    pub motion: Option<Motion>,
+    pub motion: Option<MotionMode>,
     pub plane: Option<Plane>,
     pub distance: Option<Distance>,
     pub feed_mode: Option<FeedMode>,

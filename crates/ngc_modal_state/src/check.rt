@@ -3,7 +3,7 @@ ghost use Rattle.ngc_modal_state.specs.Use.{idle, lacks, depth_letter as letter_
 ghost use Rattle.ngc_modal_state.specs.Tables.{first_where as first_in};
 
 use crate::block::{AxisWords, Block};
-use crate::code::Motion;
+use crate::code::MotionMode;
 use crate::fault::{MissingWord, ModalFault};
 use crate::modes::Modes;
 use crate::range::{is_negative, is_not_whole_from};
@@ -72,7 +72,7 @@ impl Block {
         ensures { result ≡ claimed_twice modes.now self.now }
     {
         let user = self.user(modes);
-        let moves = !self.motion.unwrap_or(Motion::Cancel).is_cancel();
+        let moves = !self.motion.unwrap_or(MotionMode::Cancel).is_cancel();
         (self.takes_axes() && self.has_axes() && moves)
             || (self.p.is_some() && self.is_dwell() && user.dwells())
             || (user.is_arc() && self.r.is_some() && self.has_offsets())
@@ -107,7 +107,7 @@ impl Block {
     {
         let needed = self.sets_offset()
             || self.is_machine_place()
-            || self.motion.unwrap_or(Motion::Cancel).is_cycle();
+            || self.motion.unwrap_or(MotionMode::Cancel).is_cycle();
         needed && !self.has_axes()
     }
 

@@ -1,8 +1,8 @@
 use ngc_fixed_length::{Distance, FeedMode, Plane, ReturnMode, System, Turn, Units};
 
-/// What a canned cycle does at its hole.
+/// The code of a canned cycle: what it does at its hole.
 #[derive(Clone, Copy, Debug, PartialEq, Eq)]
-pub enum Hole {
+pub enum CycleCode {
     /// G81
     Drill,
     /// G82
@@ -17,9 +17,9 @@ pub enum Hole {
     BoreWithDwell,
 }
 
-/// What axis words do.
+/// The motion mode: what axis words do.
 #[derive(Clone, Copy, Debug, PartialEq, Eq)]
-pub enum Motion {
+pub enum MotionMode {
     /// A motion in a straight line at the greatest rate: G0.
     Traverse,
     /// A motion in a straight line at the feed: G1.
@@ -29,7 +29,7 @@ pub enum Motion {
     /// Nothing: no motion code is in force (G80).
     Cancel,
     /// A canned cycle: G81 to G83, G85, G86, G89.
-    Cycle(Hole),
+    Cycle(CycleCode),
 }
 
 /// The tool length offset.
@@ -109,7 +109,7 @@ pub enum Coolant {
 /// A G or M code. Those of one variant are a modal group.
 #[derive(Clone, Copy)]
 pub enum Code {
-    Motion(Motion),
+    Motion(MotionMode),
     Plane(Plane),
     Distance(Distance),
     FeedMode(FeedMode),

@@ -1,5 +1,5 @@
 use crate::block::AxisWords;
-use crate::code::{Coolant, Hole, Motion, PathControl, Spindle, Stopping};
+use crate::code::{Coolant, CycleCode, MotionMode, PathControl, Spindle, Stopping};
 use ngc_fixed_length::{Distance, FeedMode, Plane, ReturnMode, System, Turn, Units, Value};
 
 /// The two home positions of a machine: G28, G30.
@@ -77,7 +77,7 @@ pub enum Effect {
     /// G92.3
     RestoreOffset,
     /// A motion code that stands on the line.
-    Motion(Motion),
+    Motion(MotionMode),
     /// G0; in machine coordinates where G53 stands.
     Traverse {
         machine: bool,
@@ -98,7 +98,7 @@ pub enum Effect {
     },
     /// G81 to G89
     Cycle {
-        hole: Hole,
+        hole: CycleCode,
         axes: AxisWords,
         words: CycleWords,
     },

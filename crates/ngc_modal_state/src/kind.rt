@@ -1,9 +1,9 @@
 ghost use Rattle.std.specs.Prelude.{◌≡◌};
 
 use crate::block::Block;
-use crate::code::{Hole, LengthCode, Motion, Once};
+use crate::code::{CycleCode, LengthCode, MotionMode, Once};
 
-impl Hole {
+impl CycleCode {
     ghost use Rattle.ngc_modal_state.specs.Kinds.{hole_dwells, hole_pecks, hole_number};
 
     // Whether the hole takes P.
@@ -12,7 +12,7 @@ impl Hole {
     {
         matches!(
             self,
-            Hole::DrillWithDwell | Hole::BoreWithStop | Hole::BoreWithDwell
+            CycleCode::DrillWithDwell | CycleCode::BoreWithStop | CycleCode::BoreWithDwell
         )
     }
 
@@ -20,7 +20,7 @@ impl Hole {
     fn pecks(self) -> bool
         ensures { result ≡ hole_pecks self }
     {
-        matches!(self, Hole::Peck)
+        matches!(self, CycleCode::Peck)
     }
 
     // The number of the hole's G code.
@@ -28,52 +28,52 @@ impl Hole {
         ensures { result ≡ hole_number self }
     {
         match self {
-            Hole::Drill => 81,
-            Hole::DrillWithDwell => 82,
-            Hole::Peck => 83,
-            Hole::Bore => 85,
-            Hole::BoreWithStop => 86,
-            Hole::BoreWithDwell => 89,
+            CycleCode::Drill => 81,
+            CycleCode::DrillWithDwell => 82,
+            CycleCode::Peck => 83,
+            CycleCode::Bore => 85,
+            CycleCode::BoreWithStop => 86,
+            CycleCode::BoreWithDwell => 89,
         }
     }
 }
 
-impl Motion {
+impl MotionMode {
     ghost use Rattle.ngc_modal_state.specs.Kinds.{is_straight, is_arc, is_cycle, is_cancel, feeds, dwells, pecks, begins_cycle};
 
     // G0, G1
     pub(crate) fn is_straight(self) -> bool
         ensures { result ≡ is_straight self }
     {
-        matches!(self, Motion::Traverse | Motion::Straight)
+        matches!(self, MotionMode::Traverse | MotionMode::Straight)
     }
 
     // G2, G3
     pub(crate) fn is_arc(self) -> bool
         ensures { result ≡ is_arc self }
     {
-        matches!(self, Motion::Arc(_))
+        matches!(self, MotionMode::Arc(_))
     }
 
     // G81 to G89
     pub(crate) fn is_cycle(self) -> bool
         ensures { result ≡ is_cycle self }
     {
-        matches!(self, Motion::Cycle(_))
+        matches!(self, MotionMode::Cycle(_))
     }
 
     // G80
     pub(crate) fn is_cancel(self) -> bool
         ensures { result ≡ is_cancel self }
     {
-        matches!(self, Motion::Cancel)
+        matches!(self, MotionMode::Cancel)
     }
 
     // G1 to G3
     pub(crate) fn feeds(self) -> bool
         ensures { result ≡ feeds self }
     {
-        matches!(self, Motion::Straight | Motion::Arc(_))
+        matches!(self, MotionMode::Straight | MotionMode::Arc(_))
     }
 
     // G82, G86, G89
@@ -81,7 +81,7 @@ impl Motion {
         ensures { result ≡ dwells self }
     {
         match self {
-            Motion::Cycle(hole) => hole.dwells(),
+            MotionMode::Cycle(hole) => hole.dwells(),
             _ => false,
         }
     }
@@ -91,18 +91,19 @@ impl Motion {
         ensures { result ≡ pecks self }
     {
         match self {
-            Motion::Cycle(hole) => hole.pecks(),
+            MotionMode::Cycle(hole) => hole.pecks(),
             _ => false,
         }
     }
 
     // Whether it is a cycle of another code than the motion mode before it.
-    pub(crate) fn begins_cycle(self, before: Motion) -> bool
+    pub(crate) fn begins_cycle(self, before: MotionMode) -> bool
         ensures { result ≡ begins_cycle before self }
     {
         match (before, self) {
-            (Motion::Cycle(before), Motion::Cycle(hole)) => before.number() != hole.number(),
-            (_, Motion::Cycle(_)) => true,
+            (MotionMode::Cycle(before), MotionMode::Cycle(hole)) => before.number()
+                != hole.number(),
+            (_, MotionMode::Cycle(_)) => true,
             _ => false,
         }
     }

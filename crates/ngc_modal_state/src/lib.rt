@@ -15,7 +15,7 @@ mod table;
 mod used;
 
 pub use block::{AxisWords, Block};
-pub use code::{Coolant, Hole, LengthCode, Motion, Once, PathControl, Spindle, Stopping};
+pub use code::{Coolant, CycleCode, LengthCode, MotionMode, Once, PathControl, Spindle, Stopping};
 pub use effect::{ArcWords, CycleWords, Effect, Home};
 pub use fault::{MissingWord, ModalFault};
 pub use modes::Modes;

@@ -1,12 +1,12 @@
 ghost use Rattle.std.specs.Prelude.{◌≡◌};
 
-use crate::code::{Motion, PathControl};
+use crate::code::{MotionMode, PathControl};
 use ngc_fixed_length::{Distance, FeedMode, Plane, ReturnMode, Units};
 
 /// The modes in force that say what a line's words mean.
 #[derive(Clone, Copy)]
 pub struct Modes {
-    pub motion: Motion,
+    pub motion: MotionMode,
     pub plane: Plane,
     pub units: Units,
     pub distance: Distance,
@@ -23,7 +23,7 @@ impl Modes {
         ensures { result ≡ start_modes }
     {
         Modes {
-            motion: Motion::Cancel,
+            motion: MotionMode::Cancel,
             plane: Plane::XY,
             units: Units::Millimetres,
             distance: Distance::Absolute,

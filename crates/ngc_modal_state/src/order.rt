@@ -3,7 +3,7 @@ ghost use Rattle.arrayvec.specs.ArrayVec.{array_vec_len};
 ghost use Rattle.ngc_modal_state.specs.Effects.{standing, mark as marked, system_at as system_by};
 
 use crate::block::Block;
-use crate::code::{Coolant, LengthCode, Motion, Once};
+use crate::code::{Coolant, LengthCode, MotionMode, Once};
 use crate::effect::{ArcWords, CycleWords, Effect, Home};
 use crate::fault::ModalFault;
 use crate::modes::Modes;
@@ -153,14 +153,14 @@ impl Block {
     }
 
     // The line's motion by a motion code, where it moves.
-    fn move_effect(&self, motion: Motion, inverse: Option<Value>) -> Option<Effect>
+    fn move_effect(&self, motion: MotionMode, inverse: Option<Value>) -> Option<Effect>
         ensures { result ≡ move_effect motion inverse self.now }
     {
         let axes = self.axes;
         let machine = self.is_machine_place();
         match motion {
-            Motion::Traverse => mark(Effect::Traverse { machine, axes }, self.has_axes()),
-            Motion::Straight => mark(
+            MotionMode::Traverse => mark(Effect::Traverse { machine, axes }, self.has_axes()),
+            MotionMode::Straight => mark(
                 Effect::Straight {
                     machine,
                     axes,
@@ -168,7 +168,7 @@ impl Block {
                 },
                 self.has_axes(),
             ),
-            Motion::Arc(turn) => mark(
+            MotionMode::Arc(turn) => mark(
                 Effect::Arc {
                     turn,
                     axes,
@@ -177,8 +177,8 @@ impl Block {
                 },
                 self.has_axes() || self.has_arc_words(),
             ),
-            Motion::Cancel => None,
-            Motion::Cycle(hole) => Some(Effect::Cycle {
+            MotionMode::Cancel => None,
+            MotionMode::Cycle(hole) => Some(Effect::Cycle {
                 hole,
                 axes,
                 words: self.cycle_words(),

@@ -2,7 +2,9 @@ ghost use Rattle.std.specs.Prelude.{◌≡◌};
 ghost use Rattle.ngc_modal_state.specs.Codes.{tenths as tenths_of, g_code as g_code_of, m_code as m_code_of, motion_codes, once_codes, mode_codes, g_codes, m_codes};
 ghost use Rattle.ngc_modal_state.specs.Tables.{at_number};
 
-use crate::code::{Code, Coolant, Hole, LengthCode, Motion, Once, PathControl, Spindle, Stopping};
+use crate::code::{
+    Code, Coolant, CycleCode, LengthCode, MotionMode, Once, PathControl, Spindle, Stopping,
+};
 use crate::fault::ModalFault;
 use ngc_fixed_length::{Distance, FeedMode, Plane, ReturnMode, System, Turn, Units, Value};
 use ngc_line_reader::Letter;
@@ -25,17 +27,17 @@ fn motion_code(tenths: u64) -> Option<Code>
     ensures { result ≡ at_number tenths motion_codes }
 {
     let motion = match tenths {
-        0 => Motion::Traverse,
-        10 => Motion::Straight,
-        20 => Motion::Arc(Turn::Clockwise),
-        30 => Motion::Arc(Turn::Counterclockwise),
-        800 => Motion::Cancel,
-        810 => Motion::Cycle(Hole::Drill),
-        820 => Motion::Cycle(Hole::DrillWithDwell),
-        830 => Motion::Cycle(Hole::Peck),
-        850 => Motion::Cycle(Hole::Bore),
-        860 => Motion::Cycle(Hole::BoreWithStop),
-        890 => Motion::Cycle(Hole::BoreWithDwell),
+        0 => MotionMode::Traverse,
+        10 => MotionMode::Straight,
+        20 => MotionMode::Arc(Turn::Clockwise),
+        30 => MotionMode::Arc(Turn::Counterclockwise),
+        800 => MotionMode::Cancel,
+        810 => MotionMode::Cycle(CycleCode::Drill),
+        820 => MotionMode::Cycle(CycleCode::DrillWithDwell),
+        830 => MotionMode::Cycle(CycleCode::Peck),
+        850 => MotionMode::Cycle(CycleCode::Bore),
+        860 => MotionMode::Cycle(CycleCode::BoreWithStop),
+        890 => MotionMode::Cycle(CycleCode::BoreWithDwell),
         _ => return None,
     };
     Some(Code::Motion(motion))

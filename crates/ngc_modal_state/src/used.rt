@@ -2,30 +2,30 @@ ghost use Rattle.std.specs.Prelude.{◌≡◌};
 ghost use Rattle.ngc_modal_state.specs.Use.{uses_i as i_used, uses_j as j_used, uses_k as k_used, uses_r as r_used};
 
 use crate::block::Block;
-use crate::code::Motion;
+use crate::code::MotionMode;
 use crate::modes::Modes;
 use ngc_fixed_length::{FeedMode, Plane};
 
 // I, J and K of an arc are those of its plane.
-pub(crate) fn uses_i(motion: Motion, plane: Plane) -> bool
+pub(crate) fn uses_i(motion: MotionMode, plane: Plane) -> bool
     ensures { result ≡ i_used motion plane }
 {
     motion.is_arc() && !matches!(plane, Plane::YZ)
 }
 
-pub(crate) fn uses_j(motion: Motion, plane: Plane) -> bool
+pub(crate) fn uses_j(motion: MotionMode, plane: Plane) -> bool
     ensures { result ≡ j_used motion plane }
 {
     motion.is_arc() && !matches!(plane, Plane::ZX)
 }
 
-pub(crate) fn uses_k(motion: Motion, plane: Plane) -> bool
+pub(crate) fn uses_k(motion: MotionMode, plane: Plane) -> bool
     ensures { result ≡ k_used motion plane }
 {
     motion.is_arc() && !matches!(plane, Plane::XY)
 }
 
-pub(crate) fn uses_r(motion: Motion) -> bool
+pub(crate) fn uses_r(motion: MotionMode) -> bool
     ensures { result ≡ r_used motion }
 {
     motion.is_arc() || motion.is_cycle()
@@ -70,25 +70,25 @@ impl Block {
     }
 
     // The motion code that is in force on the line: one that is kept is suspended by G10, G28, G30 and G92.
-    pub(crate) fn motion_in_force(&self, modes: &Modes) -> Motion
+    pub(crate) fn motion_in_force(&self, modes: &Modes) -> MotionMode
         ensures { result ≡ in_force modes.now self.now }
     {
         match self.motion {
             Some(motion) => motion,
-            None if self.takes_axes() => Motion::Cancel,
+            None if self.takes_axes() => MotionMode::Cancel,
             None => modes.motion,
         }
     }
 
     // The motion code that uses the line's letters: a kept one does so only with axis words, or as an arc.
-    pub(crate) fn user(&self, modes: &Modes) -> Motion
+    pub(crate) fn user(&self, modes: &Modes) -> MotionMode
         ensures { result ≡ user modes.now self.now }
     {
         let kept = self.motion_in_force(modes);
         if self.motion.is_some() || self.has_axes() || kept.is_arc() {
             kept
         } else {
-            Motion::Cancel
+            MotionMode::Cancel
         }
     }
 
@@ -99,13 +99,13 @@ impl Block {
         self.takes_axes() || !self.motion_in_force(modes).is_cancel()
     }
 
-    pub(crate) fn uses_p(&self, motion: Motion) -> bool
+    pub(crate) fn uses_p(&self, motion: MotionMode) -> bool
         ensures { result ≡ uses_p self.now.once motion }
     {
         self.is_dwell() || self.sets_origin() || motion.dwells()
     }
 
-    pub(crate) fn uses_l(&self, motion: Motion) -> bool
+    pub(crate) fn uses_l(&self, motion: MotionMode) -> bool
         ensures { result ≡ uses_l self.now.once motion }
     {
         self.sets_origin() || motion.is_cycle()

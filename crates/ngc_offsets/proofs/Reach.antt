@@ -46,4 +46,4 @@ origin_within f system h = h.origins (index system) zero_point (rw h.nine (index
 pub IsWithin-shift_of : (f : Offsets) → AreInRange f → IsWithin SHIFT_LIMIT (shift_of f)
 IsWithin-shift_of f h =
     let o : IsWithin OFFSET_LIMIT (origin_of f f.active) = origin_within f f.active h in
-    record { x = omega (arith, ints, o.x, h.axis.x); y = omega (arith, ints, o.y, h.axis.y); z = omega (arith, ints, o.z, h.axis.z, h.length) }
+    record { x = omega (arith, ints, o.x, h.axis_offset.x); y = omega (arith, ints, o.y, h.axis_offset.y); z = omega (arith, ints, o.z, h.axis_offset.z, h.length) }

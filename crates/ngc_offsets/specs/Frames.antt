@@ -28,7 +28,7 @@ origin_of f system = slice_index_or f.origins (index system) zero_point
 
 -- at the start the first system is active, and nothing is offset
 abbrev pub start_frames : List Point3 → Offsets
-start_frames origins = record { origins = origins; active = First; axis = zero_point; saved = zero_point; length = pos 0 }
+start_frames origins = record { origins = origins; active = First; axis_offset = zero_point; saved = zero_point; length = pos 0 }
 
 -- the tool length offset is on Z
 abbrev pub on_z : ℤ → Point3
@@ -39,7 +39,7 @@ abbrev pub base_of : Offsets → Point3
 base_of f = plus (origin_of f f.active) (on_z f.length)
 
 abbrev pub shift_of : Offsets → Point3
-shift_of f = plus (base_of f) f.axis
+shift_of f = plus (base_of f) f.axis_offset
 
 abbrev pub to_machine : Offsets → Point3 → Point3
 to_machine f p = plus p (shift_of f)
@@ -84,18 +84,18 @@ new_axis place base had given = do
 
 abbrev pub set_axis : Offsets → Point3 → AxisLengths → Result Offsets FrameFault
 set_axis f place given = do
-  axis ← new_axis place (base_of f) f.axis given
-  Ok (record f { axis = axis; saved = axis })
+  axis ← new_axis place (base_of f) f.axis_offset given
+  Ok (record f { axis_offset = axis; saved = axis })
 
 -- G92.1, G92.2, G92.3
 abbrev pub clear : Offsets → Offsets
-clear f = record f { axis = zero_point; saved = zero_point }
+clear f = record f { axis_offset = zero_point; saved = zero_point }
 
 abbrev pub suspend : Offsets → Offsets
-suspend f = record f { axis = zero_point }
+suspend f = record f { axis_offset = zero_point }
 
 abbrev pub restore : Offsets → Offsets
-restore f = record f { axis = f.saved }
+restore f = record f { axis_offset = f.saved }
 
 -- G43 with the offset of its tool, if there is such a tool; G49 and H0 with 0
 abbrev pub set_length : Offsets → Option ℤ → Result Offsets FrameFault

@@ -8,7 +8,7 @@ pub record Offsets : Type 0 where
   pub origins : List Point3
   pub active : System
   -- the axis offset in force, and the one that G92 saved
-  pub axis : Point3
+  pub axis_offset : Point3
   pub saved : Point3
   -- the tool length offset, on Z
   pub length : ℤ

@@ -47,7 +47,7 @@ IsProgrammedPlace p = IsWithin PROGRAMMED_LIMIT p
 pub record AreInRange (f : Offsets) : Type 0 where
   pub nine : length f.origins ≡ 9
   pub origins : All (IsWithin OFFSET_LIMIT) f.origins
-  pub axis : IsWithin OFFSET_LIMIT f.axis
+  pub axis_offset : IsWithin OFFSET_LIMIT f.axis_offset
   pub saved : IsWithin OFFSET_LIMIT f.saved
   pub length : IsOffset f.length
 

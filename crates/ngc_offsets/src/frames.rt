@@ -17,7 +17,7 @@ use std::marker::Model;
 pub struct Frames {
     pub origins: [Point3; 9],
     pub active: System,
-    pub axis: Point3,
+    pub axis_offset: Point3,
     pub saved: Point3,
     pub length: Nm,
 }
@@ -28,11 +28,11 @@ impl Model for Frames {
 
     ghost Value = { Offsets };
 
-    ghost view = { λ f. record { origins = f.origins; active = f.active; axis = f.axis; saved = f.saved; length = f.length } };
+    ghost view = { λ f. record { origins = f.origins; active = f.active; axis_offset = f.axis_offset; saved = f.saved; length = f.length } };
 
-    ghost invariant = { λ f. AreInRange (record { origins = f.origins; active = f.active; axis = f.axis; saved = f.saved; length = f.length }) };
+    ghost invariant = { λ f. AreInRange (record { origins = f.origins; active = f.active; axis_offset = f.axis_offset; saved = f.saved; length = f.length }) };
 
-    ghost inverse = { λ f. record { origins = f.origins; active = f.active; axis = f.axis; saved = f.saved; length = f.length } };
+    ghost inverse = { λ f. record { origins = f.origins; active = f.active; axis_offset = f.axis_offset; saved = f.saved; length = f.length } };
 }
 
 fn index_of(system: System) -> usize
@@ -144,7 +144,7 @@ impl Frames {
         Frames {
             origins: nine,
             active: System::First,
-            axis: zero(),
+            axis_offset: zero(),
             saved: zero(),
             length: Nm::zero(),
         }
@@ -169,7 +169,7 @@ impl Frames {
         ensures range { IsWithin SHIFT_LIMIT result }
         ensures offsets { AreInRange self.now }
     {
-        plus(&self.base(), &self.axis)
+        plus(&self.base(), &self.axis_offset)
     }
 
     /// The machine place of a programmed one: it is offset by the active system's origin, the axis offset and, on Z, the
@@ -228,9 +228,9 @@ impl Frames {
         ensures { Becomes result self.old self.new (set_axis self.old place given.now) }
     {
         let base = self.base();
-        let axis = new_axis(&place, &base, &self.axis, given)?;
-        self.axis = axis;
-        self.saved = self.axis;
+        let axis = new_axis(&place, &base, &self.axis_offset, given)?;
+        self.axis_offset = axis;
+        self.saved = self.axis_offset;
         Ok(())
     }
 
@@ -260,14 +260,14 @@ impl Frames {
     pub fn suspend(&mut self)
         ensures { self.new ≡ suspend self.old }
     {
-        self.axis = zero();
+        self.axis_offset = zero();
     }
 
     /// G92.3: brings the saved axis offset back.
     pub fn restore(&mut self)
         ensures { self.new ≡ restore self.old }
     {
-        self.axis = self.saved;
+        self.axis_offset = self.saved;
     }
 
     /// G54 to G59.3: selects a coordinate system.

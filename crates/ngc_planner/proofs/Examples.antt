@@ -5,7 +5,7 @@ use Rattle.ngc_fixed_length.specs.declared.modes.Plane.TheVariants.{XY}
 use Rattle.ngc_fixed_length.specs.declared.modes.Turn.TheVariants.{Clockwise}
 use Rattle.ngc_fixed_length.specs.declared.points.Point3.{Point3}
 use Rattle.ngc_arc_geometry.specs.Shape.{ArcShape}
-use Rattle.ngc_machine.specs.Machine.{row_machine}
+use Rattle.ngc_machine.specs.Machine.{built_in_machine}
 use Rattle.ngc_canonical.specs.declared.command.Action.{Action}
 use Rattle.ngc_canonical.specs.declared.command.Action.TheVariants.{Move}
 use Rattle.ngc_canonical.specs.declared.movement.Feed.{Feed}
@@ -44,62 +44,62 @@ unfolding braking_terms
 braking_high = refl
 
 -- 60 mm a minute over 10 mm
-cap_long : cap_of (feed (at (pos 10000000) (pos 0) (pos 0)) (PerMinute 60000000)) 1000 row_machine ≡ 10000
+cap_long : cap_of (feed (at (pos 10000000) (pos 0) (pos 0)) (PerMinute 60000000)) 1000 built_in_machine ≡ 10000
 unfolding whole_root_above
 cap_long = refl
 
 -- 3 mm and 4 mm on two axes
-cap_slanted : cap_of (feed (at (pos 3000000) (pos 4000000) (pos 0)) (PerMinute 60000000)) 400 row_machine ≡ 8000
+cap_slanted : cap_of (feed (at (pos 3000000) (pos 4000000) (pos 0)) (PerMinute 60000000)) 400 built_in_machine ≡ 8000
 unfolding whole_root_above
 cap_slanted = refl
 
 -- a feed so low that the cap would be 0
-cap_raised : cap_of (feed (at (pos 10000000) (pos 0) (pos 0)) (PerMinute 100)) 1000 row_machine ≡ 1
+cap_raised : cap_of (feed (at (pos 10000000) (pos 0) (pos 0)) (PerMinute 100)) 1000 built_in_machine ≡ 1
 unfolding whole_root_above
 cap_raised = refl
 
-cap_arc : cap_of (along (arc (pos 5000000) (at (pos 10000000) (pos 0) (pos 0))) (PerMinute 60000000)) 2000 row_machine ≡ 7067
+cap_arc : cap_of (along (arc (pos 5000000) (at (pos 10000000) (pos 0) (pos 0))) (PerMinute 60000000)) 2000 built_in_machine ≡ 7067
 cap_arc = refl
 
-cap_helix : cap_of (along (arc (pos 5000000) (at (pos 10000000) (pos 0) (pos 1000000))) (PerMinute 60000000)) 2000 row_machine ≡ 5770
+cap_helix : cap_of (along (arc (pos 5000000) (at (pos 10000000) (pos 0) (pos 1000000))) (PerMinute 60000000)) 2000 built_in_machine ≡ 5770
 cap_helix = refl
 
 -- twice a minute
-cap_inverse : cap_of (feed (at (pos 10000000) (pos 0) (pos 0)) (Inverse 2000000)) 1000 row_machine ≡ 3333
+cap_inverse : cap_of (feed (at (pos 10000000) (pos 0) (pos 0)) (Inverse 2000000)) 1000 built_in_machine ≡ 3333
 unfolding whole_root_above
 cap_inverse = refl
 
 -- a full circle with a radius of 1 mm
-turn_small : turn_rate row_machine (ways.Arc (arc (pos 1000000) (at (pos 0) (pos 0) (pos 0)))) ≡ 316227
+turn_small : turn_rate built_in_machine (ways.Arc (arc (pos 1000000) (at (pos 0) (pos 0) (pos 0)))) ≡ 316227
 unfolding whole_root
 turn_small = refl
 
 -- a feed motion at twice its cap at most, also behind a traverse
-bound_feed : bound_of row_machine (feed (at (pos 10000000) (pos 0) (pos 0)) (PerMinute 60000000)) 1000 ≡ 20000
+bound_feed : bound_of built_in_machine (feed (at (pos 10000000) (pos 0) (pos 0)) (PerMinute 60000000)) 1000 ≡ 20000
 unfolding whole_root_above
 bound_feed = refl
 
-target_feed : target_at row_machine (feed (at (pos 10000000) (pos 0) (pos 0)) (PerMinute 60000000)) 1000 50 ≡ 5000
+target_feed : target_at built_in_machine (feed (at (pos 10000000) (pos 0) (pos 0)) (PerMinute 60000000)) 1000 50 ≡ 5000
 unfolding whole_root_above
 target_feed = refl
 
 -- no override makes more of a traverse than the greatest rate
-target_traverse : target_at row_machine (traverse (at (pos 0) (pos 0) (pos 0)) (at (pos 1000000) (pos 0) (pos 0))) 100 200 ≡ 400000
+target_traverse : target_at built_in_machine (traverse (at (pos 0) (pos 0) (pos 0)) (at (pos 1000000) (pos 0) (pos 0))) 100 200 ≡ 400000
 target_traverse = refl
 
-target_none : target_at row_machine (traverse (at (pos 0) (pos 0) (pos 0)) (at (pos 1000000) (pos 0) (pos 0))) 100 0 ≡ 0
+target_none : target_at built_in_machine (traverse (at (pos 0) (pos 0) (pos 0)) (at (pos 1000000) (pos 0) (pos 0))) 100 0 ≡ 0
 target_none = refl
 
-least_traverse : least_travel row_machine (traverse (at (pos 0) (pos 0) (pos 0)) (at (pos 1000000) (pos 0) (pos 0))) 100 ≡ 1000
+least_traverse : least_travel built_in_machine (traverse (at (pos 0) (pos 0) (pos 0)) (at (pos 1000000) (pos 0) (pos 0))) 100 ≡ 1000
 least_traverse = refl
 
-joint_corner : joint_of row_machine (traverse (at (pos 0) (pos 0) (pos 0)) (at (pos 1000000) (pos 0) (pos 0))) (traverse (at (pos 1000000) (pos 0) (pos 0)) (at (pos 1000000) (pos 1000000) (pos 0))) ≡ 50000
+joint_corner : joint_of built_in_machine (traverse (at (pos 0) (pos 0) (pos 0)) (at (pos 1000000) (pos 0) (pos 0))) (traverse (at (pos 1000000) (pos 0) (pos 0)) (at (pos 1000000) (pos 1000000) (pos 0))) ≡ 50000
 joint_corner = refl
 
-joint_back : joint_of row_machine (traverse (at (pos 0) (pos 0) (pos 0)) (at (pos 1000000) (pos 0) (pos 0))) (traverse (at (pos 1000000) (pos 0) (pos 0)) (at (pos 0) (pos 0) (pos 0))) ≡ 50000
+joint_back : joint_of built_in_machine (traverse (at (pos 0) (pos 0) (pos 0)) (at (pos 1000000) (pos 0) (pos 0))) (traverse (at (pos 1000000) (pos 0) (pos 0)) (at (pos 0) (pos 0) (pos 0))) ≡ 50000
 joint_back = refl
 
-joint_straight : joint_of row_machine (traverse (at (pos 0) (pos 0) (pos 0)) (at (pos 1000000) (pos 0) (pos 0))) (traverse (at (pos 1000000) (pos 0) (pos 0)) (at (pos 3000000) (pos 0) (pos 0))) ≡ 1000000
+joint_straight : joint_of built_in_machine (traverse (at (pos 0) (pos 0) (pos 0)) (at (pos 1000000) (pos 0) (pos 0))) (traverse (at (pos 1000000) (pos 0) (pos 0)) (at (pos 3000000) (pos 0) (pos 0))) ≡ 1000000
 joint_straight = refl
 
 -- a leg of so many path steps, with a bound, and with this joint at both of its ends

@@ -11,7 +11,7 @@ use Rattle.ngc_behaviour.proofs.Cases.{match_with}
 use Rattle.ngc_behaviour.specs.Progress.{KeepGoing}
 use Rattle.ngc_behaviour.specs.Run.{Run}
 use Rattle.ngc_behaviour.specs.State.{Job, Queued, State, path_steps, millionths}
-use Rattle.ngc_behaviour.specs.Step.{Step, TickBy, HeadTick, Travels, Rests, Serves, Dwells, Finishes, ticks_of, popped, pulse, ending, place_after}
+use Rattle.ngc_behaviour.specs.Step.{Step, TickBy, HeadTick, Travels, Rests, Serves, Dwells, Finishes, ticks_of, without_head, pulse, ending, place_after}
 use Rattle.ngc_behaviour.specs.Stretch.{last_state, Stretch}
 use Rattle.ngc_controller.specs.Controller.{ControllerData}
 use Rattle.ngc_controller.specs.Fields.{DWELL_LIMIT}
@@ -28,7 +28,7 @@ no_end : (p : Option StepPos) (ended : Option Ending) → quiet ≡ Ok (Ticked p
 no_end p ended says = cc
 
 moved_dwelt : (b : Bool) (s t there : State) (over further : ℕ) (p : Option StepPos) (e : Ending) → quiet ≡ Ok (Ticked p (if b then Some e else None)) → there.dwelt ≡ s.dwelt →
-    t ≡ (if b then popped over there else record there { travelled = further }) → s.dwelt ≤ t.dwelt
+    t ≡ (if b then without_head over there else record there { travelled = further }) → s.dwelt ≤ t.dwelt
 moved_dwelt true s t there over further p e says same is = absurd (let never = no_end p (Some e) says in cc)
 moved_dwelt false s t there over further p e says same is = let d : t.dwelt ≡ there.dwelt = ap (λ (x : State). x.dwelt) is in omega (arith, d, same)
 

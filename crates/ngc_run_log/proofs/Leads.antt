@@ -14,7 +14,7 @@ use Rattle.ngc_events.specs.declared.event.Event.TheVariants.{Load, Tick, Hold, 
 use Rattle.ngc_events.specs.declared.reply.Ending.{Ending}
 use Rattle.ngc_events.specs.declared.reply.Reply.TheVariants.{Ticked}
 use Rattle.ngc_behaviour.specs.State.{Job, Queued, State, RING, opening, loaded, command_at, path_steps, millionths}
-use Rattle.ngc_behaviour.specs.Step.{Outcome, Step, LoadCommand, Rests, Serves, Dwells, Finishes, Travels, HeadTick, TickBy, popped, place_before, place_after, pulse, ends_at, ending, ticks_of}
+use Rattle.ngc_behaviour.specs.Step.{Outcome, Step, LoadCommand, Rests, Serves, Dwells, Finishes, Travels, HeadTick, TickBy, without_head, place_before, place_after, pulse, ends_at, ending, ticks_of}
 use Rattle.ngc_behaviour.specs.Run.{Run, step_to, pulses}
 use Rattle.ngc_behaviour.specs.Safety.{start_of_job}
 use Rattle.ngc_behaviour.specs.Progress.{is_tick}
@@ -63,7 +63,7 @@ travels_tell job l ls old o new e f some walks t =
 
 finish_tells : (job : Job) (a : Action) (old : State) (o : Outcome) (new : State) → Finishes job a old o new → Tells old o new
 finish_tells job a old o new f =
-    let kept = after_stays a (record (popped 0 old) { rate = 0 }) in
+    let kept = after_stays a (record (without_head 0 old) { rate = 0 }) in
     record {
       position = None;
       ended = Some (ending a old);

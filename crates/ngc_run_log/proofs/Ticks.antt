@@ -18,7 +18,7 @@ use Rattle.ngc_events.specs.declared.reply.Ending.TheVariants.{Done, Stopped, En
 use Rattle.ngc_events.specs.declared.reply.Reply.TheVariants.{Ticked}
 use Rattle.ngc_behaviour.specs.State.{Job, Queued, State, path_steps, millionths}
 use Rattle.ngc_behaviour.specs.Reach.{rest}
-use Rattle.ngc_behaviour.specs.Step.{Outcome, Step, MayTake, Rests, Finishes, Dwells, Serves, Travels, HeadTick, TickBy, popped, after, ending, pulse, place_after, ticks_of}
+use Rattle.ngc_behaviour.specs.Step.{Outcome, Step, MayTake, Rests, Finishes, Dwells, Serves, Travels, HeadTick, TickBy, without_head, after, ending, pulse, place_after, ticks_of}
 use Rattle.ngc_behaviour.specs.Progress.{IsFree, TravelsAtLeast, GoesOn}
 use Rattle.ngc_behaviour.proofs.Cases.{match_with}
 use Rattle.ngc_run_log.specs.Stretches.{IsUntouched, is_stop, LeavesBy, TellsBy}
@@ -66,7 +66,7 @@ goes_by : (ring : List Queued) (old new : State) (o : Outcome) (v x m : ℕ) (p 
     (b ≡ false → old.travelled + v < x) →
     TellsBy (Some e) ring (o ∷ []) →
     o ≡ Ok (Ticked p (if b then Some e else None)) →
-    new ≡ (if b then popped (old.travelled + v - x) (record old { rate = v; position = q }) else record old { rate = v; position = q; travelled = old.travelled + v }) →
+    new ≡ (if b then without_head (old.travelled + v - x) (record old { rate = v; position = q }) else record old { rate = v; position = q; travelled = old.travelled + v }) →
     Goes ring old o new
 goes_by ring old new o v x m p q e true quiet runs long some small far least go short tells says is =
     let t : new.travelled ≡ old.travelled + v - x = ap (λ (s : State). s.travelled) is in
@@ -159,7 +159,7 @@ stop_tells _ s t runs switch h = runs
 finish_goes : (job : Job) (l : Queued) (ls : List Queued) (old : State) (o : Outcome) (new : State) → old.stopped ≡ false → Finishes job l.command.action old o new → Goes (l ∷ ls) old o new
 finish_goes job l ls old o new runs f =
     let a = l.command.action in
-    let there : State = record (popped 0 old) { rate = 0 } in
+    let there : State = record (without_head 0 old) { rate = 0 } in
     let kept = after_panel a there in
     let t : new.travelled ≡ 0 = ap (λ (s : State). s.travelled) f.goes_on ∙ kept.travelled in
     record {

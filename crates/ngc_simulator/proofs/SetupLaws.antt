@@ -2,7 +2,7 @@
 use Rattle.std.proofs.Common.{◌≡◌, ℕ, List, [], Option, Some, None, Result, Ok, Err, IfSome, refl, subst, sym, ◌∙◌}
 use Rattle.std.specs.Prelude.{IsOk}
 use Rattle.ngc_canonical.specs.State.{Setup}
-use Rattle.ngc_machine.specs.Machine.{MachineFile, row_machine}
+use Rattle.ngc_machine.specs.Machine.{MachineFile, built_in_machine}
 use Rattle.ngc_machine.specs.MachineText.{machine_file}
 use Rattle.ngc_machine.specs.ToolText.{tool_table}
 use Rattle.ngc_machine.specs.declared.fault.FileFault.{FileFault}
@@ -38,7 +38,7 @@ pub on_setup : (bytes : FileBytes) (machine tools : Option (List ℕ)) (setup : 
     → IfMachine bytes machine (λ says. says ≡ Ok setup.machine) → IfTools bytes tools (λ says. says ≡ Ok setup.tools) → P setup
     → OnSetup bytes machine tools P
 on_setup bytes machine tools setup P machine_said tools_said p =
-    said_weaker machine_file row_machine bytes machine (λ says. says ≡ Ok setup.machine)
+    said_weaker machine_file built_in_machine bytes machine (λ says. says ≡ Ok setup.machine)
     (λ m. IfTools bytes tools (λ t. (s : Setup) × AreSetup m t s × P s))
     (λ m said_m.
     said_weaker tool_table [] bytes tools (λ says. says ≡ Ok setup.tools) (λ t. (s : Setup) × AreSetup m t s × P s)
@@ -56,7 +56,7 @@ pub refused_tools : {X : Type 0} (view : X → List Tool) (bytes after : FileByt
 refused_tools view bytes after machine tools m fault answer is read keeps refused = subst (RefusesShop bytes machine tools) (sym is) (of_fault fault refused) where
   of_fault : (fault : SetupFault) → IfTools after tools (GivesSetup view (Err fault)) → RefusesShop bytes machine tools (tools_answer fault)
   of_fault (Refused e) refused = (
-    said_weaker machine_file row_machine bytes machine (λ says. says ≡ Ok m) IsOk (λ says is_m. subst IsOk (sym is_m) refl) read,
+    said_weaker machine_file built_in_machine bytes machine (λ says. says ≡ Ok m) IsOk (λ says is_m. subst IsOk (sym is_m) refl) read,
     said_before tool_table [] bytes after tools (GivesSetup view (Err (Refused e))) keeps refused,
   )
   of_fault (Unread e) refused = tt

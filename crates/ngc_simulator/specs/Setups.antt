@@ -1,7 +1,7 @@
 -- What the machine file and the tool table that a command line names say.
 use Rattle.std.specs.Prelude.{◌≡◌, ◌≢◌, ℕ, List, [], Option, Some, None, Result, Ok, Err, IfSome}
 use Rattle.ngc_canonical.specs.State.{Setup}
-use Rattle.ngc_machine.specs.Machine.{MachineFile, row_machine}
+use Rattle.ngc_machine.specs.Machine.{MachineFile, built_in_machine}
 use Rattle.ngc_machine.specs.MachineText.{machine_file}
 use Rattle.ngc_machine.specs.ToolText.{tool_table}
 use Rattle.ngc_machine.specs.declared.fault.FileFault.{FileFault}
@@ -33,7 +33,7 @@ pub record AreSetup (machine : Result MachineFile FileFault) (tools : Result (Li
 
 -- of what the machine file and the tool table say, and of what is taken where none is named
 abbrev pub IfMachine : FileBytes → Option (List ℕ) → (Result MachineFile FileFault → Type 0) → Type 0
-IfMachine bytes name P = IfSaid machine_file row_machine bytes name P
+IfMachine bytes name P = IfSaid machine_file built_in_machine bytes name P
 
 abbrev pub IfTools : FileBytes → Option (List ℕ) → (Result (List Tool) FileFault → Type 0) → Type 0
 IfTools bytes name P = IfSaid tool_table [] bytes name P

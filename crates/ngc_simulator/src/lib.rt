@@ -56,7 +56,7 @@ pub use ngc_controller::{Controller, MemoryFault};
 pub use ngc_drawing::{DrawFault, Refusal, View, write_svg};
 pub use ngc_events::{Ending, Event, EventFault, EventLine, EventsFault, Reply, read_events};
 pub use ngc_fault_texts::{ExplainFault, explain};
-pub use ngc_machine::{FileFault, Fixture, Machine, Tool, Tools, row_machine};
+pub use ngc_machine::{FileFault, Fixture, Machine, Tool, Tools, built_in_machine};
 pub use ngc_report::Form;
 pub use ngc_run_log::{Report, RunFault, run, run_through, write_pulses, write_pulses_through};
 pub use ngc_setup_sheet::write_sheet;

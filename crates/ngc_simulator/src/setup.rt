@@ -1,6 +1,6 @@
 //! The machine and its tools, from the files that the command line names.
 ghost use Rattle.std.specs.Prelude.{◌≡◌, [], IfErr, IfOk, IfSome, OnOk, Some, option_map};
-ghost use Rattle.ngc_machine.specs.Machine.{row_machine as row_file};
+ghost use Rattle.ngc_machine.specs.Machine.{built_in_machine as row_file};
 ghost use Rattle.ngc_machine.specs.MachineText.{machine_file};
 ghost use Rattle.ngc_machine.specs.ToolText.{tool_table};
 ghost use Rattle.ngc_machine.specs.Machine.{file_of};
@@ -11,7 +11,7 @@ ghost use Rattle.ngc_machine.specs.Tools.{tools_of};
 
 use crate::fault::{AnswerFault, SetupFault};
 use crate::files::Files;
-use ngc_machine::{Machine, Tools, row_machine};
+use ngc_machine::{Machine, Tools, built_in_machine};
 use ngc_text::{InputFault, read_whole};
 use std::alloc::Global;
 
@@ -87,7 +87,7 @@ pub fn read_machine<F: Files>(
     ensures unread { FailsBy setup_unread (SourceFails F.R.remaining F.R.failures) (F.bytes files.old) (setup_input OfMachine (option_map (λ n. n.now) name.entry)) (F.failures files.old) (F.failures files.new) result }
 {
     match name {
-        None => Ok(row_machine(alloc)),
+        None => Ok(built_in_machine(alloc)),
         Some(name) => named_machine(alloc, name, files),
     }
 }

@@ -3,8 +3,8 @@ use arrayvec::ArrayVec;
 use ngc_fixed_length::{Distance, FeedMode, Plane, ReturnMode, System, Turn, Units, Value};
 use ngc_line_reader::{Letter, read_line};
 use ngc_modal_state::{
-    ArcWords, AxisWords, Block, Coolant, CycleWords, Effect, Hole, Home, MissingWord, ModalFault,
-    Modes, Motion, PathControl, Spindle, Stopping, laws,
+    ArcWords, AxisWords, Block, Coolant, CycleCode, CycleWords, Effect, Home, MissingWord,
+    ModalFault, Modes, MotionMode, PathControl, Spindle, Stopping, laws,
 };
 use ngc_parameters::{Store, Word};
 use std::alloc::Allocator;
@@ -12,7 +12,7 @@ use std::process::Abort;
 use std::test::Fail;
 
 // What words do in the modes at a program's start, but for the motion in force.
-fn effects_of(words: &[Word], motion: Motion) -> Result<ArrayVec<Effect, 24>, ModalFault> {
+fn effects_of(words: &[Word], motion: MotionMode) -> Result<ArrayVec<Effect, 24>, ModalFault> {
     let modes = Modes {
         motion,
         ..Modes::start()
@@ -27,7 +27,7 @@ fn effects_of(words: &[Word], motion: Motion) -> Result<ArrayVec<Effect, 24>, Mo
 // The fault of a line in these modes, where it has no effects.
 fn fault<A: Allocator>(
     store: &Store<A>,
-    motion: Motion,
+    motion: MotionMode,
     text: &str,
 ) -> Result<Option<ModalFault>, Fail> {
     let line = read_line(text.as_bytes())?;
@@ -36,7 +36,7 @@ fn fault<A: Allocator>(
 }
 
 // The number of the fault of a line in these modes, 0 where it has effects.
-fn number<A: Allocator>(store: &Store<A>, motion: Motion, text: &str) -> Result<u16, Fail> {
+fn number<A: Allocator>(store: &Store<A>, motion: MotionMode, text: &str) -> Result<u16, Fail> {
     match fault(store, motion, text)? {
         None => Ok(0),
         Some(fault) => Ok(fault.number()),
@@ -46,7 +46,7 @@ fn number<A: Allocator>(store: &Store<A>, motion: Motion, text: &str) -> Result<
 // Whether a line in these modes has these effects.
 fn does<A: Allocator>(
     store: &Store<A>,
-    motion: Motion,
+    motion: MotionMode,
     text: &str,
     wanted: &[Effect],
 ) -> Result<bool, Fail> {
@@ -57,9 +57,9 @@ fn does<A: Allocator>(
 }
 
 // By the motion in force: lines, and the numbers of their faults, 0 where a line has effects.
-const FAULTS: &[(Motion, &[(&str, u16)])] = &[
+const FAULTS: &[(MotionMode, &[(&str, u16)])] = &[
     (
-        Motion::Cancel,
+        MotionMode::Cancel,
         &[
             ("G0 X1 G1", 201),
             ("G28 G92 X1", 201),
@@ -135,11 +135,11 @@ const FAULTS: &[(Motion, &[(&str, u16)])] = &[
         ],
     ),
     (
-        Motion::Cycle(Hole::DrillWithDwell),
+        MotionMode::Cycle(CycleCode::DrillWithDwell),
         &[("G4 P1 X1", 206), ("G4 P1", 0)],
     ),
     (
-        Motion::Cycle(Hole::Peck),
+        MotionMode::Cycle(CycleCode::Peck),
         &[
             ("R1", 207),
             ("X1 R1 Q1 L2", 0),
@@ -173,72 +173,88 @@ const UNKNOWN: &[(&str, Letter, i64)] = &[
 ];
 
 // By the motion in force: lines, and the letter of each that nothing uses.
-const IDLE: &[(Motion, &str, Letter)] = &[
-    (Motion::Cancel, "X1", Letter::X),
-    (Motion::Cancel, "Z1 Y2", Letter::Y),
-    (Motion::Cancel, "K2 Z1 G80", Letter::Z),
-    (Motion::Cancel, "G2 X10 Y0 K5", Letter::K),
-    (Motion::Cancel, "G19 G2 Y10 I5", Letter::I),
-    (Motion::Cancel, "G18 G2 X10 J5", Letter::J),
-    (Motion::Cancel, "G1 X1 R2", Letter::R),
-    (Motion::Cancel, "G64 P1", Letter::P),
-    (Motion::Cancel, "G0 L1", Letter::L),
-    (Motion::Cancel, "G81 X1 Z-1 R0 Q1", Letter::Q),
-    (Motion::Cancel, "G49 H1", Letter::H),
-    (Motion::Cancel, "G4 P1 H1 Q2 L3 K4", Letter::K),
-    (Motion::Cancel, "G64 H1 Q1 L1 P1 R1", Letter::R),
-    (Motion::Cancel, "G64 H1 Q1 L1 P1", Letter::P),
-    (Motion::Cancel, "G64 H1 Q1 L1", Letter::L),
-    (Motion::Cancel, "G64 H1 Q1", Letter::Q),
-    (Motion::Cancel, "G4 J1", Letter::J),
-    (Motion::Cycle(Hole::Peck), "L2 R1", Letter::R),
-    (Motion::Cycle(Hole::Peck), "X1 P1", Letter::P),
-    (Motion::Traverse, "X1 I1", Letter::I),
+const IDLE: &[(MotionMode, &str, Letter)] = &[
+    (MotionMode::Cancel, "X1", Letter::X),
+    (MotionMode::Cancel, "Z1 Y2", Letter::Y),
+    (MotionMode::Cancel, "K2 Z1 G80", Letter::Z),
+    (MotionMode::Cancel, "G2 X10 Y0 K5", Letter::K),
+    (MotionMode::Cancel, "G19 G2 Y10 I5", Letter::I),
+    (MotionMode::Cancel, "G18 G2 X10 J5", Letter::J),
+    (MotionMode::Cancel, "G1 X1 R2", Letter::R),
+    (MotionMode::Cancel, "G64 P1", Letter::P),
+    (MotionMode::Cancel, "G0 L1", Letter::L),
+    (MotionMode::Cancel, "G81 X1 Z-1 R0 Q1", Letter::Q),
+    (MotionMode::Cancel, "G49 H1", Letter::H),
+    (MotionMode::Cancel, "G4 P1 H1 Q2 L3 K4", Letter::K),
+    (MotionMode::Cancel, "G64 H1 Q1 L1 P1 R1", Letter::R),
+    (MotionMode::Cancel, "G64 H1 Q1 L1 P1", Letter::P),
+    (MotionMode::Cancel, "G64 H1 Q1 L1", Letter::L),
+    (MotionMode::Cancel, "G64 H1 Q1", Letter::Q),
+    (MotionMode::Cancel, "G4 J1", Letter::J),
+    (MotionMode::Cycle(CycleCode::Peck), "L2 R1", Letter::R),
+    (MotionMode::Cycle(CycleCode::Peck), "X1 P1", Letter::P),
+    (MotionMode::Traverse, "X1 I1", Letter::I),
 ];
 
 // By the motion in force: lines, and the word of each that is missing.
-const MISSING: &[(Motion, &str, MissingWord)] = &[
-    (Motion::Cancel, "G4", MissingWord::Letter(Letter::P)),
-    (Motion::Cancel, "G43 G4", MissingWord::Letter(Letter::P)),
-    (Motion::Cancel, "G10", MissingWord::Letter(Letter::L)),
-    (Motion::Cancel, "G10 P1", MissingWord::Letter(Letter::L)),
-    (Motion::Cancel, "G10 L2", MissingWord::Letter(Letter::P)),
-    (Motion::Cancel, "G43", MissingWord::Letter(Letter::H)),
-    (Motion::Cancel, "G43 G92", MissingWord::Letter(Letter::H)),
-    (Motion::Cancel, "G92", MissingWord::Axis),
-    (Motion::Cancel, "G0 G53", MissingWord::Axis),
-    (Motion::Cancel, "G81 R1", MissingWord::Axis),
-    (Motion::Cancel, "G93 G1 X1", MissingWord::Letter(Letter::F)),
+const MISSING: &[(MotionMode, &str, MissingWord)] = &[
+    (MotionMode::Cancel, "G4", MissingWord::Letter(Letter::P)),
+    (MotionMode::Cancel, "G43 G4", MissingWord::Letter(Letter::P)),
+    (MotionMode::Cancel, "G10", MissingWord::Letter(Letter::L)),
+    (MotionMode::Cancel, "G10 P1", MissingWord::Letter(Letter::L)),
+    (MotionMode::Cancel, "G10 L2", MissingWord::Letter(Letter::P)),
+    (MotionMode::Cancel, "G43", MissingWord::Letter(Letter::H)),
     (
-        Motion::Traverse,
+        MotionMode::Cancel,
+        "G43 G92",
+        MissingWord::Letter(Letter::H),
+    ),
+    (MotionMode::Cancel, "G92", MissingWord::Axis),
+    (MotionMode::Cancel, "G0 G53", MissingWord::Axis),
+    (MotionMode::Cancel, "G81 R1", MissingWord::Axis),
+    (
+        MotionMode::Cancel,
+        "G93 G1 X1",
+        MissingWord::Letter(Letter::F),
+    ),
+    (
+        MotionMode::Traverse,
         "G93 G2 X1",
         MissingWord::Letter(Letter::F),
     ),
-    (Motion::Cancel, "G81 X1", MissingWord::Letter(Letter::R)),
-    (Motion::Cancel, "G93 G81 X1", MissingWord::Letter(Letter::R)),
-    (Motion::Cancel, "G82 X1 R0", MissingWord::Letter(Letter::Z)),
+    (MotionMode::Cancel, "G81 X1", MissingWord::Letter(Letter::R)),
     (
-        Motion::Cancel,
+        MotionMode::Cancel,
+        "G93 G81 X1",
+        MissingWord::Letter(Letter::R),
+    ),
+    (
+        MotionMode::Cancel,
+        "G82 X1 R0",
+        MissingWord::Letter(Letter::Z),
+    ),
+    (
+        MotionMode::Cancel,
         "G18 G81 X1 Z-1 R0",
         MissingWord::Letter(Letter::Y),
     ),
     (
-        Motion::Cancel,
+        MotionMode::Cancel,
         "G19 G81 Y1 Z-1 R0",
         MissingWord::Letter(Letter::X),
     ),
     (
-        Motion::Cancel,
+        MotionMode::Cancel,
         "G82 X1 Z-1 R0",
         MissingWord::Letter(Letter::P),
     ),
     (
-        Motion::Cancel,
+        MotionMode::Cancel,
         "G83 X1 Z-1 R0",
         MissingWord::Letter(Letter::Q),
     ),
     (
-        Motion::Cycle(Hole::Peck),
+        MotionMode::Cycle(CycleCode::Peck),
         "G81 X1",
         MissingWord::Letter(Letter::R),
     ),
@@ -252,7 +268,7 @@ fn unknown_codes(rt: HostRuntime) -> Result<(), Fail> {
             letter: *letter,
             millionths: *millionths,
         };
-        let found = fault(&store, Motion::Cancel, text)?;
+        let found = fault(&store, MotionMode::Cancel, text)?;
         same(&rt, text, &found, &Some(wanted));
     }
     Ok(())
@@ -324,7 +340,7 @@ fn stop_effects() -> [Effect; 6] {
         },
         Effect::Speed(value(1_000_000_000)),
         Effect::Spindle(Spindle::Start(Turn::Clockwise)),
-        Effect::Motion(Motion::Straight),
+        Effect::Motion(MotionMode::Straight),
         Effect::Straight {
             machine: false,
             axes: on_x(1_000_000),
@@ -341,7 +357,7 @@ fn inch_effects() -> [Effect; 4] {
             units: Units::Inches,
         },
         Effect::Units(Units::Inches),
-        Effect::Motion(Motion::Straight),
+        Effect::Motion(MotionMode::Straight),
         Effect::Straight {
             machine: false,
             axes: on_x(1_000_000),
@@ -377,7 +393,7 @@ fn mode_effects() -> [Effect; 9] {
 fn arc_effects() -> [Effect; 3] {
     [
         Effect::FeedMode(FeedMode::InverseTime),
-        Effect::Motion(Motion::Arc(Turn::Counterclockwise)),
+        Effect::Motion(MotionMode::Arc(Turn::Counterclockwise)),
         Effect::Arc {
             turn: Turn::Counterclockwise,
             axes: on_x(10_000_000),
@@ -389,7 +405,7 @@ fn arc_effects() -> [Effect; 3] {
 
 fn traverse_effects() -> [Effect; 2] {
     [
-        Effect::Motion(Motion::Traverse),
+        Effect::Motion(MotionMode::Traverse),
         Effect::Traverse {
             machine: true,
             axes: on_x(10_000_000),
@@ -404,9 +420,9 @@ fn cycle_effects() -> [Effect; 4] {
             units: Units::Millimetres,
         },
         Effect::Distance(Distance::Incremental),
-        Effect::Motion(Motion::Cycle(Hole::Drill)),
+        Effect::Motion(MotionMode::Cycle(CycleCode::Drill)),
         Effect::Cycle {
-            hole: Hole::Drill,
+            hole: CycleCode::Drill,
             axes: on_xz(1_000_000, -2_000_000),
             words: CycleWords {
                 l: Some(value(3_000_000)),
@@ -428,7 +444,7 @@ fn executes<A: Allocator>(
     same(
         rt,
         &text,
-        &does(store, Motion::Cancel, text, wanted)?,
+        &does(store, MotionMode::Cancel, text, wanted)?,
         &true,
     );
     Ok(())
@@ -451,7 +467,7 @@ fn order_of_execution(rt: HostRuntime) -> Result<(), Fail> {
     executes(&rt, &store, "G91 G81 X1 Z-2 R-1 F60 L3", &cycle_effects())
 }
 
-fn single_effects_of_lines() -> [(Motion, &'static str, Effect); 11] {
+fn single_effects_of_lines() -> [(MotionMode, &'static str, Effect); 11] {
     let arc = Effect::Arc {
         turn: Turn::Clockwise,
         axes: no_axes(),
@@ -471,19 +487,19 @@ fn single_effects_of_lines() -> [(Motion, &'static str, Effect); 11] {
         home: Home::Second,
         axes: no_axes(),
     };
-    let in_arc = Motion::Arc(Turn::Clockwise);
+    let in_arc = MotionMode::Arc(Turn::Clockwise);
     [
         (in_arc, "I5", arc),
-        (Motion::Cancel, "G2", Effect::Motion(in_arc)),
+        (MotionMode::Cancel, "G2", Effect::Motion(in_arc)),
         (in_arc, "G28 X10", home),
         (in_arc, "G30", home_again),
-        (Motion::Cancel, "G10 L2 P2 X1 Z-2", origin),
-        (Motion::Cancel, "G92 X1 Z-2", offset),
-        (Motion::Cancel, "G92.1", Effect::ClearOffset),
-        (Motion::Cancel, "G92.2", Effect::SuspendOffset),
-        (Motion::Cancel, "G92.3", Effect::RestoreOffset),
-        (Motion::Cancel, "G43 H1", Effect::ToolLength(Some(1))),
-        (Motion::Cancel, "G4 P0.5", Effect::Dwell(value(500_000))),
+        (MotionMode::Cancel, "G10 L2 P2 X1 Z-2", origin),
+        (MotionMode::Cancel, "G92 X1 Z-2", offset),
+        (MotionMode::Cancel, "G92.1", Effect::ClearOffset),
+        (MotionMode::Cancel, "G92.2", Effect::SuspendOffset),
+        (MotionMode::Cancel, "G92.3", Effect::RestoreOffset),
+        (MotionMode::Cancel, "G43 H1", Effect::ToolLength(Some(1))),
+        (MotionMode::Cancel, "G4 P0.5", Effect::Dwell(value(500_000))),
     ]
 }
 

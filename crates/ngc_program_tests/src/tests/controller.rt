@@ -7,8 +7,8 @@ use linked_list_allocator::LocalHeap;
 use ngc_fixed_length::StepPos;
 use ngc_line_reader::Program;
 use ngc_simulator::{
-    Accepted, ArcPath, Certificate, Controller, Ending, Event, EventFault, Reply, Tools, check,
-    read_events, row_machine, run,
+    Accepted, ArcPath, Certificate, Controller, Ending, Event, EventFault, Reply, Tools,
+    built_in_machine, check, read_events, run,
 };
 use ngc_text::Device;
 use std::alloc::{Allocator, Global};
@@ -21,7 +21,7 @@ const TOOLS: &[u8] =
 // What is accepted of a program on the built-in machine, with the certificate that is made for it.
 fn accepted(rt: &impl Abort, alloc: Global, text: &str) -> Result<Accepted<Global>, Fail> {
     let tools = Tools::read(alloc, TOOLS)?;
-    let machine = row_machine(alloc);
+    let machine = built_in_machine(alloc);
     let shop = Shop { machine, tools };
     let mut written = Device::new(Vec::new(alloc));
     let ending = certify_text(alloc, text, &shop, &mut written);
@@ -38,7 +38,14 @@ fn accepted_on<A: Allocator + Copy>(
 ) -> Option<Accepted<A>> {
     let program = Program::read(alloc, &mut Device::new(text.as_bytes())).ok()?;
     let certificate = Certificate::read(alloc, &mut Device::new(written)).ok()?;
-    check(alloc, &program, &row_machine(alloc), tools, &certificate).ok()
+    check(
+        alloc,
+        &program,
+        &built_in_machine(alloc),
+        tools,
+        &certificate,
+    )
+    .ok()
 }
 
 pub(super) fn controller(

@@ -2,8 +2,8 @@
 use super::checks::same;
 use ngc_line_reader::Program;
 use ngc_simulator::{
-    Certificate, Format, Machine, Recording, Report, Tools, certify, check_program, list,
-    row_machine, run_program,
+    Certificate, Format, Machine, Recording, Report, Tools, built_in_machine, certify,
+    check_program, list, run_program,
 };
 use ngc_text::{Device, Sink};
 use std::alloc::{Allocator, Global};
@@ -64,7 +64,7 @@ pub(super) struct Shop<A: Allocator> {
 impl<A: Allocator + Copy> Shop<A> {
     fn built_in(alloc: A) -> Shop<A> {
         Shop {
-            machine: row_machine(alloc),
+            machine: built_in_machine(alloc),
             tools: Tools::empty(alloc),
         }
     }

@@ -1,5 +1,5 @@
 ghost use Rattle.std.specs.Prelude.{◌≡◌};
-ghost use Rattle.ngc_machine.specs.Machine.{file_of, row_machine as row_file};
+ghost use Rattle.ngc_machine.specs.Machine.{file_of, built_in_machine as row_file};
 ghost use Rattle.ngc_fixed_length.specs.Places.{zero_point as zero_place};
 
 use crate::machine::{AxisRates, Machine};
@@ -19,7 +19,7 @@ fn zero_point() -> Point3
 
 /// The machine that is taken where no machine file is given: travel of 300 mm by 300 mm by 100 mm below zero, steps of
 /// 0.01 mm, no fixture. It takes no memory.
-pub fn row_machine<A: Allocator>(alloc: A) -> Machine<A>
+pub fn built_in_machine<A: Allocator>(alloc: A) -> Machine<A>
     ensures { file_of result ≡ row_file }
 {
     let low = Point3 {
