@@ -14,7 +14,8 @@ use Rattle.ngc_arc_geometry.specs.ArcBand.{leeway, spread, IsInBand}
 use Rattle.ngc_arc_geometry.specs.ArcSides.{IsBetweenEnds}
 use Rattle.ngc_arc_geometry.specs.ArcOrder.{Passes, GoesOn}
 
--- a list of n moves from the grid point of the start to that of the end, in the swept box, that follows the arc
+-- a list of n moves from the grid point of the start to that of the end, in the swept box, that
+-- follows the arc
 pub record IsArcOf (step : ℤ) (a : ArcShape) (n : ℕ) (path : List StepPos) : Type 0 where
   -- unit moves from end to end, inside the box
   pub weak : IsWeakArcOf step a n path

@@ -1,4 +1,5 @@
--- A path keeps to its arc's sector (NISTIR 6556, 3.5.3), but for its ends. How near to them is our own.
+-- A path keeps to its arc's sector (NISTIR 6556, 3.5.3), but for its ends. How near to them is our
+-- own.
 use Rattle.std.specs.Prelude.{◌≡◌, ◌⊎◌, ℕ, true}
 use Rattle.ngc_fixed_length.specs.declared.points.Point2.{Point2}
 use Rattle.ngc_arc_geometry.specs.Shape.{ArcShape, start_of, end_of}

@@ -1,4 +1,5 @@
--- The centre of an arc, by its two formats (NISTIR 6556, 3.5.3.1 and 3.5.3.2). How it is rounded is our own.
+-- The centre of an arc, by its two formats (NISTIR 6556, 3.5.3.1 and 3.5.3.2). How it is rounded is
+-- our own.
 use Rattle.std.specs.Prelude.{ℕ, ◌+◌, ◌*◌, ◌==◌, nat_le, nat_lt, ℤ, pos, ◌*ℤ◌, neg_ℤ, unsigned_abs, Result, Ok, Err, not, is_none, unwrap_or, ◌&&◌, if◌then◌else◌}
 use Rattle.std.specs.Int.{int_signum}
 use Rattle.ngc_fixed_length.specs.Places.{in_plane, from, shifted, dot}
@@ -66,7 +67,8 @@ aside_point s square d2 d = record {
 abbrev pub reach : ℕ → ℕ → ℕ
 reach r t = 4 * (r + t) * (r + t)
 
--- across the chord where the radius reaches its middle; the middle where it is too short by no more than t
+-- across the chord where the radius reaches its middle; the middle where it is too short by no more
+-- than t
 abbrev pub radius_centre : ℕ → Ends → ℤ → Result Point2 ArcFault
 radius_centre t e r =
     if nat_le (chord_square e) (4 * (unsigned_abs r * unsigned_abs r))

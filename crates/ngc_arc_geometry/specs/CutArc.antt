@@ -67,7 +67,8 @@ abbrev pub cut_boxes : ℤ → ArcShape → Point2 → List Point2 → List Grid
 cut_boxes step a p [] = []
 cut_boxes step a p (q ∷ qs) = cut_box step a p q ∷ cut_boxes step a q qs
 
--- each point of a path that follows a cut arc lies in the box of some piece, where the inner radius is at least eight steps
+-- each point of a path that follows a cut arc lies in the box of some piece, where the inner radius
+-- is at least eight steps
 abbrev pub CoveredByCuts : Type 0
 CoveredByCuts = (step : ℤ) (a : ArcShape) (cuts : List Point2) (path : List StepPos) (k : ℕ) →
     pos 1 ≤ℤ step → HasEvenRadii a → IsTrue (is_large step a) → IsCutChain step a (start_of a) cuts →

@@ -1,4 +1,5 @@
--- The radii of an arc at its start and end. How far they may differ follows NISTIR 6556, 3.5.3.2; the bounds are our own.
+-- The radii of an arc at its start and end. How far they may differ follows NISTIR 6556, 3.5.3.2;
+-- the bounds are our own.
 use Rattle.std.specs.Prelude.{ℕ, ◌≤◌, ◌<◌, ◌+◌, ◌-◌, ◌*◌, ◌==◌, nat_le, min, max, unsigned_abs, Result, Ok, Bool, not, ◌||◌}
 use Rattle.ngc_fixed_length.specs.Places.{from, dot}
 use Rattle.ngc_fixed_length.specs.Roots.{whole_root, whole_root_above}
@@ -18,7 +19,8 @@ lo a = min (squared_distance a.centre (start_of a)) (squared_distance a.centre (
 abbrev pub hi : ArcShape → ℕ
 hi a = max (squared_distance a.centre (start_of a)) (squared_distance a.centre (end_of a))
 
--- the radii as whole numbers: the greatest that isn't above the lesser, and the least that isn't below the greater
+-- the radii as whole numbers: the greatest that isn't above the lesser, and the least that isn't
+-- below the greater
 abbrev pub inner_radius : ArcShape → ℕ
 inner_radius a = whole_root (lo a)
 
@@ -45,8 +47,8 @@ with_equal_radii t a =
 abbrev pub HasRadiiInRange : ArcShape → Type 0
 HasRadiiInRange a = lo a + hi a ≤ 2 * (2000006000 * 2000006000)
 
--- what both formats give: the greater radius is at most 2*10^9 nm, but for the centre's rounding and the tolerance, and it is
--- above the lesser by at most the tolerance and what whole roots add
+-- what both formats give: the greater radius is at most 2*10^9 nm, but for the centre's rounding
+-- and the tolerance, and it is above the lesser by at most the tolerance and what whole roots add
 pub record IsArc (a : ArcShape) : Type 0 where
   pub start : IsNear a.start
   pub end : IsNear a.end
@@ -54,7 +56,8 @@ pub record IsArc (a : ArcShape) : Type 0 where
   pub radius : hi a ≤ 2000020000 * 2000020000
   pub even : outer_radius a ≤ inner_radius a + 6000
 
--- what both formats give of the radii: the lesser above 0, the greater at most a little over 2*10^9 nm, and nearly equal
+-- what both formats give of the radii: the lesser above 0, the greater at most a little over 2*10^9
+-- nm, and nearly equal
 pub record HasEvenRadii (a : ArcShape) : Type 0 where
   pub some_radius : 0 < lo a
   pub radius : hi a ≤ 2000020000 * 2000020000

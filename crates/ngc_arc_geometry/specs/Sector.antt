@@ -1,4 +1,5 @@
--- The sector of an arc, from its start to its end in its sense of turning, both included (NISTIR 6556, 3.5.3).
+-- The sector of an arc, from its start to its end in its sense of turning, both included (NISTIR
+-- 6556, 3.5.3).
 use Rattle.std.specs.Prelude.{ℕ, ℤ, pos, ◌+ℤ◌, ◌-ℤ◌, neg_ℤ, int_le, int_lt, List, [], ◌∷◌, ◌++◌, take, drop, filter, Bool, true, ◌&&◌, ◌||◌, if◌then◌else◌}
 use Rattle.ngc_fixed_length.specs.Places.{from, cross, dot}
 use Rattle.ngc_fixed_length.specs.Signed.{is_zero}
@@ -51,7 +52,8 @@ quadrant_points Clockwise c r =
     record { u = c.u -ℤ r; v = c.v } ∷
     record { u = c.u; v = c.v +ℤ r } ∷ []
 
--- of four half axes, from u on in the sense of turning, the first that a direction (u, v) meets; v counts towards the second
+-- of four half axes, from u on in the sense of turning, the first that a direction (u, v) meets; v
+-- counts towards the second
 abbrev pub first_met : ℤ → ℤ → ℕ
 first_met u v =
     if int_lt (pos 0) v && int_le (pos 0) u then 1

@@ -21,7 +21,8 @@ start_of a = in_plane a.plane a.start
 abbrev pub end_of : ArcShape → Point2
 end_of a = in_plane a.plane a.end
 
--- how far out on each axis the ends may lie, 90 metres: ten less than lengths reach, so that all points of an arc are lengths
+-- how far out on each axis the ends may lie, 90 metres: ten less than lengths reach, so that all
+-- points of an arc are lengths
 abbrev pub END_LIMIT : ℕ
 END_LIMIT = 90000000000
 

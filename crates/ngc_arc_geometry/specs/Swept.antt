@@ -28,7 +28,8 @@ greatest f p ps = fold int_max (f p) (map f ps)
 abbrev pub other_points : ArcShape → List Point2
 other_points a = end_of a ∷ extremes a
 
--- along an axis of the plane: of the points' coordinates with the margin on both sides, the grid points inside
+-- along an axis of the plane: of the points' coordinates with the margin on both sides, the grid
+-- points inside
 abbrev pub low_at : ℤ → ArcShape → (Point2 → ℤ) → ℤ
 low_at step a f = grid_above step (least f (start_of a) (other_points a) -ℤ margin step a)
 

@@ -12,7 +12,8 @@ const SQUARE_LIMIT: u128 = 4_000_000_000_000_000_000;
 
 /// An arc in a plane about its centre, or a helix where the heights of its ends differ.
 ///
-/// The radii at start and end are above 0, at most 2*10^9 nm but for the rounding of the centre, and nearly equal.
+/// The radii at start and end are above 0, at most 2*10^9 nm but for the rounding of the centre,
+/// and nearly equal.
 #[derive(Clone, Copy, Debug, PartialEq, Eq)]
 pub struct Arc {
     plane: Plane,
@@ -42,11 +43,13 @@ impl Arc {
     ghost use Rattle.ngc_arc_geometry.specs.Radii.{lo, hi, inner_radius, outer_radius, with_equal_radii, HasRadiiInRange, IsArc};
     ghost use Rattle.ngc_arc_geometry.specs.Centre.{IsEnds, arc_about, centre_format, radius_format};
 
-    /// The arc in centre format: I, J and K lead from its start to its centre (NISTIR 6556, 3.5.3.2). Where the end lies in
-    /// the direction of the start from the centre it is a full circle. Both ends lie within 90 metres of zero on each axis.
+    /// The arc in centre format: I, J and K lead from its start to its centre (NISTIR 6556,
+    /// 3.5.3.2). Where the end lies in the direction of the start from the centre it is a full
+    /// circle. Both ends lie within 90 metres of zero on each axis.
     ///
-    /// Of several faults the first in this order is answered: 241 without an axis word of the plane, 242 without an offset,
-    /// 246 for a radius of 0 or over 2*10^9 nm, 243 for radii that differ by more than 2,000 nm, or 5,080 nm in inches.
+    /// Of several faults the first in this order is answered: 241 without an axis word of the
+    /// plane, 242 without an offset, 246 for a radius of 0 or over 2*10^9 nm, 243 for radii that
+    /// differ by more than 2,000 nm, or 5,080 nm in inches.
     pub fn centre_format(units: Units, ends: &Ends, offsets: &Offsets) -> Result<Arc, ArcFault>
         requires { IsEnds ends.now }
         ensures { result ≡ centre_format units ends.now offsets.now }
@@ -65,13 +68,14 @@ impl Arc {
         Arc::with_equal_radii(ends, centre.point(), tolerance(units))
     }
 
-    /// The arc in radius format (NISTIR 6556, 3.5.3.1): it turns through at most half a circle where the radius is above 0,
-    /// and through more where it is below, but for the rounding of the centre to a nanometre. Both ends lie within 90 metres
-    /// of zero on each axis.
+    /// The arc in radius format (NISTIR 6556, 3.5.3.1): it turns through at most half a circle
+    /// where the radius is above 0, and through more where it is below, but for the rounding of the
+    /// centre to a nanometre. Both ends lie within 90 metres of zero on each axis.
     ///
-    /// Of several faults the first in this order is answered: 241 without an axis word of the plane, 245 where the end equals
-    /// the start in the plane, 246 for a radius of 0 or over 2*10^9 nm, 244 where the radius falls short of half the way from
-    /// start to end by more than 2,000 nm, or 5,080 nm in inches, 246 where the centre is rounded onto an end, 243.
+    /// Of several faults the first in this order is answered: 241 without an axis word of the
+    /// plane, 245 where the end equals the start in the plane, 246 for a radius of 0 or over 2*10^9
+    /// nm, 244 where the radius falls short of half the way from start to end by more than 2,000
+    /// nm, or 5,080 nm in inches, 246 where the centre is rounded onto an end, 243.
     pub fn radius_format(units: Units, ends: &Ends, radius: Nm) -> Result<Arc, ArcFault>
         requires { IsEnds ends.now }
         ensures { result ≡ radius_format units ends.now radius }

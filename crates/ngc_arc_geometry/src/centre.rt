@@ -33,7 +33,8 @@ impl Ends {
         }
     }
 
-    /// The way from the chord's middle to the centre, where the radius, by its square, reaches that far.
+    /// The way from the chord's middle to the centre, where the radius, by its square, reaches that
+    /// far.
     fn offset_from_middle(&self, square: u128, is_long: bool) -> Way
         requires chord { 0 < chord_square self.now }
         requires reached { chord_square self.now ≤ 4 * square }

@@ -16,7 +16,8 @@ pub(crate) fn side(turn: Turn, is_long: bool) -> i64
     }
 }
 
-/// How far the centre lies from the middle of the chord on one axis, by the chord's length on the other.
+/// How far the centre lies from the middle of the chord on one axis, by the chord's length on the
+/// other.
 pub(crate) fn aside(square: u128, chord_square: u128, part: i64) -> i64
     requires chord { 0 < chord_square }
     requires reached { chord_square ≤ 4 * square }

@@ -51,8 +51,8 @@ impl GridArc {
         }
     }
 
-    /// Whether a point of the plane is at most a step nearer to the centre than the inner radius, and at most a step farther
-    /// than the outer one.
+    /// Whether a point of the plane is at most a step nearer to the centre than the inner radius,
+    /// and at most a step farther than the outer one.
     fn is_in_band(&self, point: &Point2) -> bool
         ensures { result ≡ is_in_band self.now.arc (unsigned_abs self.now.step) point.now }
     {
@@ -63,7 +63,8 @@ impl GridArc {
         inner * inner <= square && square <= outer * outer
     }
 
-    /// Whether the way round from one point to another is more than none and at most a quarter, within a closed quadrant.
+    /// Whether the way round from one point to another is more than none and at most a quarter,
+    /// within a closed quadrant.
     fn turns_on(&self, from: &Point2, to: &Point2) -> bool
         ensures { result ≡ turns_on self.now.arc from.now to.now }
     {
@@ -72,7 +73,8 @@ impl GridArc {
         first.shares_quadrant(&second) && 0 < self.arc.turn_from(from, to)
     }
 
-    /// Whether the start's direction lies on the short way round from one point to another, the first one left out.
+    /// Whether the start's direction lies on the short way round from one point to another, the
+    /// first one left out.
     fn passes_start(&self, from: &Point2, to: &Point2) -> bool
         ensures { result ≡ passes_start self.now.arc from.now to.now }
     {
@@ -86,9 +88,10 @@ impl GridArc {
         self.is_in_band(to) && self.arc.in_sector(*to) && !self.passes_start(from, to)
     }
 
-    /// Whether, of an arc that is cut into several pieces, a piece may lead from one point to another: it turns on in the
-    /// arc's sense within a closed quadrant about the centre; the last one ends at the arc's end, another one in the sector,
-    /// within a step of the radii, and before the start's direction comes again.
+    /// Whether, of an arc that is cut into several pieces, a piece may lead from one point to
+    /// another: it turns on in the arc's sense within a closed quadrant about the centre; the last
+    /// one ends at the arc's end, another one in the sector, within a step of the radii, and before
+    /// the start's direction comes again.
     pub fn cut_follows(&self, last: bool, from: &Point2, to: &Point2) -> bool
         ensures { result ≡ cut_follows self.now.step self.now.arc last from.now to.now }
     {
@@ -100,7 +103,8 @@ impl GridArc {
             })
     }
 
-    /// Whether the inner radius is at least eight steps. Where it is less, each piece needs the box of the whole arc.
+    /// Whether the inner radius is at least eight steps. Where it is less, each piece needs the box
+    /// of the whole arc.
     pub fn is_large(&self) -> bool
         ensures { result ≡ is_large self.now.step self.now.arc }
     {
@@ -116,7 +120,8 @@ impl GridArc {
         self.margin.nanometres()
     }
 
-    /// The grid points along an axis of the plane between two points, with the margin on both sides.
+    /// The grid points along an axis of the plane between two points, with the margin on both
+    /// sides.
     fn range_between(&self, axis: PlaneAxis, from: &Point2, to: &Point2) -> GridRange
         ensures low { result.low ≡ grid_above self.now.step (int_min (along axis from.now) (along axis to.now) -ℤ margin self.now.step self.now.arc) }
         ensures high { result.high ≡ grid_below self.now.step (int_max (along axis from.now) (along axis to.now) +ℤ margin self.now.step self.now.arc) }
@@ -125,8 +130,8 @@ impl GridArc {
         GridRange::around(self.step, &span, self.margin())
     }
 
-    /// The box of a piece from one point of the plane to another: in the plane that of both points, grown by the margin; on
-    /// the third axis from one end's grid point to the other's.
+    /// The box of a piece from one point of the plane to another: in the plane that of both points,
+    /// grown by the margin; on the third axis from one end's grid point to the other's.
     pub fn cut_box(&self, from: &Point2, to: &Point2) -> GridBox
         ensures value { result ≡ cut_box self.now.step self.now.arc from.now to.now }
         ensures ordered { IsTrue (is_below result.low result.high) }

@@ -11,7 +11,8 @@ pub struct Offsets {
     pub v: Option<Nm>,
 }
 
-/// What both formats of an arc are given: plane, sense of turning, ends, and whether an axis word of the plane stands.
+/// What both formats of an arc are given: plane, sense of turning, ends, and whether an axis word
+/// of the plane stands.
 #[derive(Clone, Copy)]
 pub struct Ends {
     pub plane: Plane,

@@ -7,7 +7,8 @@ pub fn weak_path()
     ensures { FollowingIsWeak }
 {}
 
-/// Each point of a path that follows an arc lies in the box of some piece of it, where the arc is cut.
+/// Each point of a path that follows an arc lies in the box of some piece of it, where the arc is
+/// cut.
 pub fn covered_by_cuts()
     ensures { CoveredByCuts }
 {}

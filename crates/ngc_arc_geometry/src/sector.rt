@@ -61,7 +61,8 @@ impl Arc {
         point.u.nanometres() == end.u.nanometres() && point.v.nanometres() == end.v.nanometres()
     }
 
-    /// Twice the area that two points span about the centre, above 0 where the arc's sense leads from the first to the other.
+    /// Twice the area that two points span about the centre, above 0 where the arc's sense leads
+    /// from the first to the other.
     pub(crate) fn turn_from(&self, first: &Point2, second: &Point2) -> i128
         ensures { result ≡ turn_from self.now first.now second.now }
     {
@@ -89,14 +90,16 @@ impl Arc {
         self.turn_from(first, second) == 0 && product > 0
     }
 
-    /// Whether the arc is a full circle: its end lies in the direction of its start from the centre.
+    /// Whether the arc is a full circle: its end lies in the direction of its start from the
+    /// centre.
     pub fn is_full_circle(&self) -> bool
         ensures { result ≡ is_full self.now }
     {
         self.same_direction(&self.start_in_plane(), &self.end_in_plane())
     }
 
-    /// Whether a point of the plane lies in the arc's sector: from start to end in its sense of turning, both included.
+    /// Whether a point of the plane lies in the arc's sector: from start to end in its sense of
+    /// turning, both included.
     pub fn in_sector(&self, point: Point2) -> bool
         ensures { result ≡ in_sector self.now point }
     {
@@ -163,7 +166,8 @@ impl Arc {
         points
     }
 
-    /// The quadrant points at the outer radius that lie in the sector, in the arc's order from its start on.
+    /// The quadrant points at the outer radius that lie in the sector, in the arc's order from its
+    /// start on.
     pub fn extremes(&self) -> ArrayVec<Point2, 4>
         ensures { result.items ≡ extremes self.now }
     {

@@ -22,7 +22,8 @@ impl Arc {
         root_ceil(radii.greater) - root_floor(radii.lesser)
     }
 
-    /// How far the box of the arc reaches beyond its points in the plane: two steps and the difference of the radii.
+    /// How far the box of the arc reaches beyond its points in the plane: two steps and the
+    /// difference of the radii.
     ///
     /// The step is 500 to 50,000 nm.
     pub fn margin(&self, step: Nm) -> Nm
@@ -34,7 +35,8 @@ impl Arc {
         moved(step, step.nanometres() + self.radius_difference() as i64)
     }
 
-    /// From the least to the greatest coordinate of the ends and the quadrant points along an axis of the plane.
+    /// From the least to the greatest coordinate of the ends and the quadrant points along an axis
+    /// of the plane.
     fn span_along(&self, axis: PlaneAxis) -> Span
         ensures low { result.low ≡ least (along axis) (start_of self.now) (other_points self.now) }
         ensures high { result.high ≡ greatest (along axis) (start_of self.now) (other_points self.now) }
@@ -74,8 +76,8 @@ impl Arc {
         }
     }
 
-    /// The box of grid points that holds all of the arc: in the plane that of its ends and quadrant points, grown by the
-    /// margin; on the third axis from one end's grid point to the other's.
+    /// The box of grid points that holds all of the arc: in the plane that of its ends and quadrant
+    /// points, grown by the margin; on the third axis from one end's grid point to the other's.
     ///
     /// The step is 500 to 50,000 nm.
     pub fn swept_box(&self, step: Nm) -> GridBox

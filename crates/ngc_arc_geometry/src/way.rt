@@ -3,7 +3,8 @@ ghost use Rattle.std.specs.Prelude.{◌≡◌, ◌^◌, ◌*◌, ◌≤◌, ◌*
 use ngc_fixed_length::{Nm, Point2};
 use std::marker::Model;
 
-/// A way in a plane, or a point of it that may lie farther out than lengths reach: at most 4*10^11 nm on each axis.
+/// A way in a plane, or a point of it that may lie farther out than lengths reach: at most 4*10^11
+/// nm on each axis.
 #[derive(Clone, Copy, Debug, PartialEq, Eq)]
 pub(crate) struct Way {
     u: i64,
@@ -119,7 +120,8 @@ impl Way {
         self.v
     }
 
-    /// The product of two ways, which is above 0 where the angle between them is less than a right one.
+    /// The product of two ways, which is above 0 where the angle between them is less than a right
+    /// one.
     pub(crate) fn dot(&self, other: &Way) -> i128
         ensures value { result ≡ dot self.now other.now }
         ensures bound { unsigned_abs result ≤ 4 * 10 ^ 23 }
@@ -127,7 +129,8 @@ impl Way {
         product(self.u, other.u) + product(self.v, other.v)
     }
 
-    /// Twice the area that two ways span, above 0 where the first turns towards the other counterclockwise.
+    /// Twice the area that two ways span, above 0 where the first turns towards the other
+    /// counterclockwise.
     pub(crate) fn cross(&self, other: &Way) -> i128
         ensures value { result ≡ cross self.now other.now }
         ensures bound { unsigned_abs result ≤ 4 * 10 ^ 23 }

@@ -24,7 +24,8 @@ abbrev pub turned_by : ℕ → Quadrant → Quadrant
 turned_by zero q = q
 turned_by (suc n) q = following (turned_by n q)
 
--- from (x, y) of some quadrant on to (z, w), n quadrants on, it is more than nothing and at most a whole turn
+-- from (x, y) of some quadrant on to (z, w), n quadrants on, it is more than nothing and at most a
+-- whole turn
 abbrev pub IsATurn : ℕ → ℕ → ℕ → ℕ → ℕ → Type 0
 IsATurn zero x y z w = y * z < x * w
 IsATurn (suc zero) x y z w = Unit {0}
@@ -42,7 +43,8 @@ abbrev pub axis_points : ArcShape → Spoke → ℕ → ℕ → ℕ → List Poi
 axis_points a b r n zero = []
 axis_points a b r n (suc c) = placed a (axis_spoke b r n) ∷ axis_points a b r (suc n) c
 
--- the first of the half axes that are at or past a point at y of its quadrant, counted from the one that its quadrant begins with
+-- the first of the half axes that are at or past a point at y of its quadrant, counted from the one
+-- that its quadrant begins with
 abbrev pub first_axis : ℕ → ℕ
 first_axis zero = 0
 first_axis (suc y) = 1

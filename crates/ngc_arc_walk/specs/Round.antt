@@ -16,7 +16,8 @@ pub record IsRound (a : ArcShape) (b e : Spoke) (whole : ℕ) : Type 0 where
   pub turn : IsATurn whole b.x b.y e.x e.y
   pub some_radius : 0 < outer_radius a
 
--- its quadrant points are those from the first at or past its start to the last that its end is at or past, four at most
+-- its quadrant points are those from the first at or past its start to the last that its end is at
+-- or past, four at most
 abbrev pub QuadrantPointsAre : Type 0
 QuadrantPointsAre = (a : ArcShape) (b e : Spoke) (whole : ℕ) → IsRound a b e whole →
     extremes a ≡ axis_points a b (outer_radius a) (first_axis b.y) (min 4 (whole + 1 - first_axis b.y))

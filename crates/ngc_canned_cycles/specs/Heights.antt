@@ -1,4 +1,5 @@
--- The heights of a cycle and the place of each of its repeats, in programmed coordinates (NISTIR 6556, 3.5.16 and 3.5.20).
+-- The heights of a cycle and the place of each of its repeats, in programmed coordinates (NISTIR
+-- 6556, 3.5.16 and 3.5.20).
 use Rattle.std.specs.Prelude.{ℕ, ◌/◌, ℤ, pos, ◌+ℤ◌, ◌*ℤ◌, unsigned_abs, Option, Some, None}
 use Rattle.ngc_fixed_length.specs.Limits.{MILLION, IsLength}
 use Rattle.ngc_fixed_length.specs.Places.{in_plane, height}

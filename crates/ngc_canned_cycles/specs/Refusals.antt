@@ -70,7 +70,8 @@ abbrev pub is_repeat_in_range : Cycle → Start → ℕ → Bool
 is_repeat_in_range c s j =
     is_in_range_if_given c.u (repeat_place c s j).u && is_in_range_if_given c.v (repeat_place c s j).v
 
--- the coordinates that the words give: R, the bottom, and the places of the first and the last repeat
+-- the coordinates that the words give: R, the bottom, and the places of the first and the last
+-- repeat
 abbrev pub is_in_range : Cycle → Start → Bool
 is_in_range c s =
     is_within COORDINATE_LIMIT (retract_of c s) && is_within COORDINATE_LIMIT (bottom_of c s) &&

@@ -35,8 +35,8 @@ pub struct Cycle {
     pub repeats: Option<Value>,
 }
 
-/// Where a cycle begins: the programmed place before the line, the programmed height before the series of cycles, and
-/// whether the spindle turns.
+/// Where a cycle begins: the programmed place before the line, the programmed height before the
+/// series of cycles, and whether the spindle turns.
 #[derive(Clone, Copy)]
 pub struct Start {
     pub place: Point3,
@@ -44,8 +44,8 @@ pub struct Start {
     pub turning: bool,
 }
 
-/// Where a hole is made, in programmed coordinates: its place in the plane, the heights of R and of the bottom, and the
-/// height to which the tool clears behind it.
+/// Where a hole is made, in programmed coordinates: its place in the plane, the heights of R and of
+/// the bottom, and the height to which the tool clears behind it.
 #[derive(Clone, Copy)]
 pub struct Site {
     pub plane: Plane,

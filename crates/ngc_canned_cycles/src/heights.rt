@@ -52,7 +52,8 @@ fn relative(distance: Distance, base: i128, length: Nm) -> i128
     }
 }
 
-// The coordinate of a repeat on one axis of the plane: the word itself, or the word added once for each repeat.
+// The coordinate of a repeat on one axis of the plane: the word itself, or the word added once for
+// each repeat.
 fn repeat_on_axis(distance: Distance, repeat: u32, before: Nm, given: Option<Nm>) -> i128
     ensures value { result ≡ repeat_along distance repeat before given }
     ensures length { IsLength before }

@@ -50,8 +50,8 @@ impl Cycle {
     }
 }
 
-/// The moves of a repeat, counted from 1; the first traverse to R belongs to repeat 1. Refused as by `Cycle::check`, or with
-/// `Memory`. NISTIR 6556, 3.5.16.
+/// The moves of a repeat, counted from 1; the first traverse to R belongs to repeat 1. Refused as
+/// by `Cycle::check`, or with `Memory`. NISTIR 6556, 3.5.16.
 pub fn expand<A: Allocator + Copy>(
     alloc: A,
     cycle: &Cycle,
@@ -68,8 +68,8 @@ pub fn expand<A: Allocator + Copy>(
     Ok(moves)
 }
 
-/// The same in room that is there already, for a caller that makes all repeats: the moves take the place of what `moves`
-/// held. After a refusal it may hold anything.
+/// The same in room that is there already, for a caller that makes all repeats: the moves take the
+/// place of what `moves` held. After a refusal it may hold anything.
 pub fn fill<A: Allocator + Copy>(
     moves: &mut SmallVec<CycleMove, 16, A>,
     cycle: &Cycle,

@@ -111,8 +111,9 @@ impl Cycle {
         self.repeat_count() as u16
     }
 
-    /// What refuses the cycle, once for a line: the first of `RetractBelowBottom`, `BadRepeats`, `BadPeck`, `NegativeDwell`,
-    /// `SpindleNotTurning` and `InverseTime` that stands. After `Ok` there are from 1 to 9,999 repeats.
+    /// What refuses the cycle, once for a line: the first of `RetractBelowBottom`, `BadRepeats`,
+    /// `BadPeck`, `NegativeDwell`, `SpindleNotTurning` and `InverseTime` that stands. After `Ok`
+    /// there are from 1 to 9,999 repeats.
     pub fn check(&self, start: &Start) -> Result<(), CycleFault>
         ensures value { result ≡ check self.now start.now }
         ensures repeats { OnOk result (AreRepeats (repeats_of self.now.repeats)) }
@@ -164,8 +165,8 @@ impl Cycle {
             && last
     }
 
-    /// Whether the coordinates that the words give are at most 10^9 nm in size: R, the bottom, and the places of the first
-    /// and the last repeat. Then each repeat between them has its moves.
+    /// Whether the coordinates that the words give are at most 10^9 nm in size: R, the bottom, and
+    /// the places of the first and the last repeat. Then each repeat between them has its moves.
     pub fn is_in_range(&self, start: &Start) -> bool
         ensures value { result ≡ is_in_range self.now start.now }
         ensures lengths { IsTrue result → (j : ℕ) → 1 ≤ j → j ≤ repeats_of self.now.repeats → AreLengths self.now start.now j }

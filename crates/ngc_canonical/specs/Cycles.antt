@@ -1,4 +1,5 @@
--- A line's canned cycle: its words and those kept, and its moves as commands (NISTIR 6556, 3.5.16 and 3.5.20).
+-- A line's canned cycle: its words and those kept, and its moves as commands (NISTIR 6556, 3.5.16
+-- and 3.5.20).
 use Rattle.std.specs.Prelude.{ℕ, ◌==◌, ℤ, unsigned_abs, List, [], ◌∷◌, flat_map, Option, Some, Result, Ok, is_some, unwrap_or, not}
 use Rattle.ngc_fixed_length.specs.Places.{height, in_plane, at_height}
 use Rattle.ngc_fixed_length.specs.declared.modes.Plane.{Plane}
@@ -83,7 +84,8 @@ cycle_of hole s axes words kept = do
     repeats = words.l;
   })
 
--- the machine's height before the series, which begins here if none is under way, and the place at that height
+-- the machine's height before the series, which begins here if none is under way, and the place at
+-- that height
 abbrev pub series_of : State → ℤ
 series_of s = unwrap_or s.series (height s.modes.plane s.place)
 

@@ -10,12 +10,14 @@ use Rattle.ngc_canonical.specs.Meaning.{Program, meaning, has_deleted}
 use Rattle.ngc_canonical.specs.Movement.{actions_of, ways_of, AreJoined}
 use Rattle.ngc_canonical.specs.State.{Setup, COMMAND_LIMIT}
 
--- the first motion begins at the machine's start point, and each further one where the motion before it ends
+-- the first motion begins at the machine's start point, and each further one where the motion
+-- before it ends
 abbrev pub Joined : Type 0
 Joined = (program : Program) (setup : Setup) (block_delete : Bool) (commands : List Command) → meaning program setup block_delete ≡ Ok commands
     → AreJoined setup.machine.start (ways_of (actions_of commands))
 
--- an arc has some radius, at most a little over two metres, and the same at both ends but for a few micrometres
+-- an arc has some radius, at most a little over two metres, and the same at both ends but for a few
+-- micrometres
 abbrev pub IsEvenIfArc : Way → Type 0
 IsEvenIfArc (Line start end) = Unit {0}
 IsEvenIfArc (Arc arc) = HasEvenRadii arc

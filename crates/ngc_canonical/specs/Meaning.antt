@@ -1,4 +1,5 @@
--- The meaning of a program: its commands, or its first fault and that fault's line (NISTIR 6556, 3.8 and 3.6.1).
+-- The meaning of a program: its commands, or its first fault and that fault's line (NISTIR 6556,
+-- 3.8 and 3.6.1).
 use Rattle.std.specs.Prelude.{◌≡◌, ℕ, ◌+◌, ℤ, List, [], ◌∷◌, length, Option, Some, None, Result, Ok, Err, Bool, true, false, ◌&&◌, ◌||◌, if◌then◌else◌}
 use Rattle.ngc_line_reader.specs.Grammar.{Item, Reading}
 use Rattle.ngc_line_reader.specs.Program.{Line}
@@ -104,7 +105,8 @@ with_readings [] rs = []
 with_readings (line ∷ lines) [] = []
 with_readings (line ∷ lines) (r ∷ rs) = record { number = line.number; reading = r } ∷ with_readings lines rs
 
--- in a marked file two lines stand beside those that are read: the first % and, behind them, the second
+-- in a marked file two lines stand beside those that are read: the first % and, behind them, the
+-- second
 abbrev pub mark_of : Bool → ℕ → Option ℕ
 mark_of true count = Some (count + 2)
 mark_of false count = None

@@ -56,8 +56,8 @@ pub record State : Type 0 where
   pub commands : List Command
   pub ended : Bool
 
--- At the start all parameters are 0, feed and speed are 0, spindle and coolant are off, no tool is selected, and the axes stand
--- at the machine's start point.
+-- At the start all parameters are 0, feed and speed are 0, spindle and coolant are off, no tool is
+-- selected, and the axes stand at the machine's start point.
 abbrev pub start_state : MachineFile → State
 start_state machine = record {
   line = 0;
@@ -87,7 +87,8 @@ with_command action s = record s { commands = s.commands ++ record { line = s.li
 abbrev pub emit : Action → State → Result State Fault
 emit action s = if nat_lt (length s.commands) COMMAND_LIMIT then Ok (with_command action s) else Err TooManyCommands
 
--- a change of frames, plane or tool length, and a motion code that is no cycle, end the series of cycles
+-- a change of frames, plane or tool length, and a motion code that is no cycle, end the series of
+-- cycles
 abbrev pub unseries : State → State
 unseries s = record s { series = None }
 

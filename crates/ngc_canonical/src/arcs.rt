@@ -107,7 +107,8 @@ impl<A: Allocator + Copy> Interpreter<A> {
         self.arc_by(radius, words, &ends)
     }
 
-    /// G2, G3. Without an axis word of the plane nothing moves whose feed or lengths could be at fault.
+    /// G2, G3. Without an axis word of the plane nothing moves whose feed or lengths could be at
+    /// fault.
     pub(crate) fn arc(
         &mut self,
         turn: Turn,

@@ -37,7 +37,8 @@ pub enum Action {
     Stop,
     /// A stop where the panel's stop switch is on: M1.
     OptionalStop,
-    /// The program's end, with spindle and coolant off: M2, M30, or the second `%` of a marked file.
+    /// The program's end, with spindle and coolant off: M2, M30, or the second `%` of a marked
+    /// file.
     End,
 }
 

@@ -1,14 +1,14 @@
 //! Laws about the definitions alone.
 ghost use Rattle.ngc_canonical.specs.Joined.{Joined, ArcsHaveEvenRadii, FewCommands, EndsLast, HaveEnd, SameAtBoth};
 
-/// The motions of a program are joined: the first begins at the machine's start point, and each further one where the motion
-/// before it ends.
+/// The motions of a program are joined: the first begins at the machine's start point, and each
+/// further one where the motion before it ends.
 pub fn joined()
     ensures { Joined }
 {}
 
-/// Each arc of a program has some radius, at most a little over two metres, and its radii at start and end are the same but for
-/// a few micrometres.
+/// Each arc of a program has some radius, at most a little over two metres, and its radii at start
+/// and end are the same but for a few micrometres.
 pub fn arcs_have_even_radii()
     ensures { ArcsHaveEvenRadii }
 {}

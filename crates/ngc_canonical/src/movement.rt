@@ -3,7 +3,8 @@ ghost use Rattle.std.specs.Prelude.{◌≡◌};
 use ngc_arc_geometry::Arc;
 use ngc_fixed_length::Point3;
 
-/// The feed of a motion: nanometres a minute, or in inverse time how often a minute the motion could be made, in millionths.
+/// The feed of a motion: nanometres a minute, or in inverse time how often a minute the motion
+/// could be made, in millionths.
 #[derive(Clone, Copy, Debug, PartialEq, Eq)]
 pub enum Feed {
     PerMinute(u64),
@@ -17,8 +18,8 @@ pub enum Pace {
     Feed(Feed),
 }
 
-/// The way of the axes, in nanometres of the machine before they are rounded to the grid: straight from start to end, or
-/// along an arc or a helix.
+/// The way of the axes, in nanometres of the machine before they are rounded to the grid: straight
+/// from start to end, or along an arc or a helix.
 #[derive(Clone, Copy, Debug, PartialEq, Eq)]
 pub enum Way {
     Line { start: Point3, end: Point3 },

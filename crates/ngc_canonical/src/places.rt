@@ -44,7 +44,8 @@ fn stands(words: &AxisWords) -> bool
     words.x.is_some() || words.y.is_some() || words.z.is_some()
 }
 
-// The tool length offset that G43 with its H, or G49, puts in force; none for a tool that the table doesn't have.
+// The tool length offset that G43 with its H, or G49, puts in force; none for a tool that the table
+// doesn't have.
 fn tool_length<A: Allocator>(tools: &Tools<A>, h: Option<u32>) -> Option<Nm>
     ensures { result ≡ length_taken (tools_of tools.now) h }
 {
@@ -172,7 +173,8 @@ impl<A: Allocator> Interpreter<A> {
         self.series = None;
     }
 
-    /// G28, G30: through the programmed place, if axis words stand, to the home position on all axes.
+    /// G28, G30: through the programmed place, if axis words stand, to the home position on all
+    /// axes.
     pub(crate) fn go_home(
         &mut self,
         machine: &Machine<A>,

@@ -84,7 +84,8 @@ impl<A: Allocator + Copy> Interpreter<A> {
         self.line = line;
     }
 
-    /// Executes a line of the program, unless block delete takes it out. `work` is where its values and effects are found.
+    /// Executes a line of the program, unless block delete takes it out. `work` is where its values
+    /// and effects are found.
     pub(crate) fn take_line(
         &mut self,
         machine: &Machine<A>,
@@ -144,9 +145,9 @@ fn mark_of<A: Allocator>(program: &Program<A>) -> Option<u32>
     }
 }
 
-/// The commands of a program on a machine with its tools, at a setting of block delete, in the order in which they are
-/// executed, or its first fault with its line (101, 102, 120, 131 to 133, 201 to 210, 221, 222, 231 to 236, 241 to 246, 251,
-/// 252), or 900.
+/// The commands of a program on a machine with its tools, at a setting of block delete, in the
+/// order in which they are executed, or its first fault with its line (101, 102, 120, 131 to 133,
+/// 201 to 210, 221, 222, 231 to 236, 241 to 246, 251, 252), or 900.
 ///
 /// With block delete on, lines that begin with `/` are taken out before anything is evaluated.
 pub fn interpret<A: Allocator + Copy>(
@@ -156,9 +157,11 @@ pub fn interpret<A: Allocator + Copy>(
     tools: &Tools<A>,
     block_delete: bool,
 ) -> Result<Vec<Command, A>, ProgramFault>
-    // Whatever the lines' readings are (each line has one, and only one), the answer is what they mean.
+    // Whatever the lines' readings are (each line has one, and only one), the answer is what they
+    // mean.
     ensures commands { (rs : List Reading) → AreReadings (text_in program.now).lines rs → GivesMeaning (λ v. v.items) result (meaning (program_said (text_in program.now) rs) (setup_of machine.now tools.now) block_delete) }
-    // The first motion begins at the machine's start point, and each further one where the motion before it ends.
+    // The first motion begins at the machine's start point, and each further one where the motion
+    // before it ends.
     ensures joined { IfOk result (λ v. AreJoined (file_of machine.now).start (ways_of (actions_of v.items))) }
     // Each arc has some radius, in range, and nearly the same at both ends.
     ensures radii { IfOk result (λ v. HaveEvenRadii (ways_of (actions_of v.items))) }

@@ -1,5 +1,5 @@
--- What the motions of both settings of a certificate have in common from the first on, and the certificate that is joined over it.
--- Our own.
+-- What the motions of both settings of a certificate have in common from the first on, and the
+-- certificate that is joined over it. Our own.
 use Rattle.std.specs.Prelude.{◌≡◌, ℕ, ◌<◌, ◌≤◌, List, length, slice_get, Option, Some, None, option_and_then}
 use Rattle.ngc_canonical.specs.declared.command.Action.{Action}
 use Rattle.ngc_canonical.specs.declared.command.Action.TheVariants.{Move}

@@ -37,8 +37,8 @@ grown_box step b e s t = record {
 abbrev pub line_box : ℤ → Point3 → Point3 → ℕ → ℕ → GridBox
 line_box step b e s t = common_box (grown_box step b e s t) (box_of (grid step b) (grid step e))
 
--- an arc in one piece needs its swept box; so does each piece where the inner radius is below eight steps, and else what lies
--- about its two cuts
+-- an arc in one piece needs its swept box; so does each piece where the inner radius is below eight
+-- steps, and else what lies about its two cuts
 abbrev pub arc_box : ℤ → ArcShape → Stretch → Point2 → GridBox
 arc_box step a s q = if s.several && is_large step a then cut_box step a (place_of a s.begin) q else swept_box step a
 

@@ -1,4 +1,5 @@
--- Boxes of steps as the crate keeps them, which may reach further than grid points do, and what its loop keeps. Our own.
+-- Boxes of steps as the crate keeps them, which may reach further than grid points do, and what its
+-- loop keeps. Our own.
 use Rattle.std.specs.Prelude.{ℕ, ◌≤◌, ℤ, FitsSigned, List, [], ◌∷◌, Option, None, Bool}
 use Rattle.std.specs.Int.{w32}
 use Rattle.ngc_fixed_length.specs.Grid.{grid}

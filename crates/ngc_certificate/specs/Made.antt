@@ -1,4 +1,5 @@
--- The certificate that is made for the commands of a program at both settings of block delete. Our own.
+-- The certificate that is made for the commands of a program at both settings of block delete. Our
+-- own.
 use Rattle.std.specs.Prelude.{◌≡◌, ℕ, zero, suc, ◌+◌, ◌*◌, ◌/◌, ◌≤◌, nat_lt, ℤ, List, [], ◌∷◌, ◌++◌, length, Option, Some, None, option_map, Result, Ok, Err, Bool, true, false, ◌&&◌}
 use Rattle.std.specs.List.{find, filter}
 use Rattle.std.specs.Option.{is_none}
@@ -89,8 +90,9 @@ MayFind machine most tool (Arc a) found = MayStand machine most tool a found
 
 -- ---- what may be made
 
--- From command k on, with the tool mounted and the place reached so far: each motion with pieces that may be found for it, or the
--- first command that isn't cleared, a motion for which none are found or a tool change that meets a fixture.
+-- From command k on, with the tool mounted and the place reached so far: each motion with pieces
+-- that may be found for it, or the first command that isn't cleared, a motion for which none are
+-- found or a tool change that meets a fixture.
 abbrev pub IsMadeFrom : MachineFile → ℕ → ℕ → Option Tool → Point3 → List Action → Result (List Entry) ℕ → Type 0
 IsMadeFrom machine most k tool place [] says = says ≡ Ok []
 IsMadeFrom machine most k tool place (Mount new ∷ actions) says =
@@ -104,7 +106,8 @@ IsMadeFrom machine most k tool place (_ ∷ actions) says = IsMadeFrom machine m
 abbrev pub IsSettingMade : MachineFile → ℕ → List Command → Result (List Entry) ℕ → Type 0
 IsSettingMade machine most commands says = IsMadeFrom machine most 0 None machine.start (actions_of commands) says
 
--- both settings, or the first command that isn't cleared; that of a start point which isn't clear is command 0, block delete off
+-- both settings, or the first command that isn't cleared; that of a start point which isn't clear
+-- is command 0, block delete off
 abbrev pub join_settings : Result (List Entry) ℕ → Result (List Entry) ℕ → Result CertificateData MakeFault
 join_settings (Err k) on = Err (NotCleared Off k)
 join_settings (Ok off) (Err k) = Err (NotCleared On k)

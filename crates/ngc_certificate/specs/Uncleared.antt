@@ -20,8 +20,9 @@ abbrev pub unless_cleared : Bool → ℕ → List ℕ → List ℕ
 unless_cleared true k ks = ks
 unless_cleared false k ks = k ∷ ks
 
--- From command k on, with the tool mounted and the place reached so far: each command that isn't cleared, a motion for which no
--- pieces are found or a tool change that meets a fixture. Behind it the motion is at its end all the same, and the tool mounted.
+-- From command k on, with the tool mounted and the place reached so far: each command that isn't
+-- cleared, a motion for which no pieces are found or a tool change that meets a fixture. Behind it
+-- the motion is at its end all the same, and the tool mounted.
 abbrev pub AreUnclearedFrom : MachineFile → ℕ → ℕ → Option Tool → Point3 → List Action → List ℕ → Type 0
 AreUnclearedFrom machine most k tool place [] ks = ks ≡ []
 AreUnclearedFrom machine most k tool place (Mount new ∷ actions) ks =

@@ -12,7 +12,8 @@ pub(crate) struct Corner {
     pub(crate) z: i64,
 }
 
-/// A box from its lowest to its highest corner, which may lie beyond the grid points that 32 bits reach.
+/// A box from its lowest to its highest corner, which may lie beyond the grid points that 32 bits
+/// reach.
 #[derive(Clone, Copy)]
 pub(crate) struct Bounds {
     pub(crate) low: Corner,

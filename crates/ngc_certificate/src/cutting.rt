@@ -17,7 +17,8 @@ use std::alloc::{AllocError, Allocator};
 /// How far from zero cuts lie, in nanometres.
 const CUT_LIMIT: u64 = 4_000_000_000;
 
-/// How far from the centre the pieces of an arc meet where it crosses an axis: a step inside the arc or a step outside.
+/// How far from the centre the pieces of an arc meet where it crosses an axis: a step inside the
+/// arc or a step outside.
 #[derive(Clone, Copy, Debug, PartialEq, Eq)]
 pub(crate) enum Stops {
     Inner,
@@ -50,8 +51,8 @@ fn is_good_cut(place: &Point2) -> bool
 }
 
 impl<A: Allocator> Cutter<'_, A> {
-    /// Where the piece that begins at a spot may go at most: the arc's end if it lies ahead in the same quadrant, else the
-    /// axis ahead.
+    /// Where the piece that begins at a spot may go at most: the arc's end if it lies ahead in the
+    /// same quadrant, else the axis ahead.
     fn stop_ahead(&self, quadrant: &Quadrant, spot: &Spot) -> Spot {
         let end = self.arc.end().in_plane(self.arc.plane());
         if let Some(end) = quadrant.spot_of(&end) {
@@ -122,8 +123,9 @@ impl<'a, A: Allocator> Cutter<'a, A> {
     }
 }
 
-/// Fills `pieces` with an arc that is cut into at most `most` of them, each as long as clears it, by way of the quadrant
-/// directions ahead, and answers whether several pieces reach its end. Where they don't, what stands in `pieces` says nothing.
+/// Fills `pieces` with an arc that is cut into at most `most` of them, each as long as clears it,
+/// by way of the quadrant directions ahead, and answers whether several pieces reach its end. Where
+/// they don't, what stands in `pieces` says nothing.
 pub(crate) fn cut_arc<A: Allocator>(
     machine: &Machine<A>,
     tool: &Option<Tool>,

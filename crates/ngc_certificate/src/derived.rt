@@ -87,8 +87,8 @@ pub(crate) fn whole_box(step: Nm, way: &Way) -> GridBox
     }
 }
 
-/// The box that a piece of a line needs at least; `whole` is the box of the line's grid ends, and cuts are at most
-/// 65,536.
+/// The box that a piece of a line needs at least; `whole` is the box of the line's grid ends, and
+/// cuts are at most 65,536.
 pub(crate) fn line_box(
     step: Nm,
     start: &Point3,

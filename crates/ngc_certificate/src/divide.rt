@@ -42,7 +42,8 @@ fn cuts_of(k: u32, count: u32) -> Cuts
     }
 }
 
-/// A line's piece between two cuts, in the least box that holds it; `whole` is the box of the line's grid ends.
+/// A line's piece between two cuts, in the least box that holds it; `whole` is the box of the
+/// line's grid ends.
 fn line_piece(step: Nm, start: &Point3, end: &Point3, cuts: &Cuts, whole: &GridBox) -> Piece
     requires step { IsStep step }
     requires on_line { IsOnLine cuts.now }

@@ -7,7 +7,8 @@ use thiserror::Error;
 /// Why a piece is refused.
 #[derive(Clone, Copy, Debug, PartialEq, Eq, Error)]
 pub enum PieceFault {
-    /// 313: the piece isn't of its motion's kind, or doesn't follow the piece before it, or the motion doesn't end with it.
+    /// 313: the piece isn't of its motion's kind, or doesn't follow the piece before it, or the
+    /// motion doesn't end with it.
     #[error("the piece does not follow the one before it")]
     Chain,
     /// 314: the box doesn't hold the piece.
@@ -16,7 +17,8 @@ pub enum PieceFault {
     /// 315: the box leaves the travel limits.
     #[error("the box leaves the travel limits")]
     OutsideTravel,
-    /// 316: over the box the tool's body meets this fixture, the lowest one that it meets, counted from 0.
+    /// 316: over the box the tool's body meets this fixture, the lowest one that it meets, counted
+    /// from 0.
     #[error("the body meets fixture {0}")]
     MeetsFixture(u32),
 }
@@ -46,8 +48,8 @@ pub struct PieceRefusal {
 /// Why no certificate is made.
 #[derive(Clone, Copy, Debug, PartialEq, Eq, Error)]
 pub enum MakeFault {
-    /// 304: no number of pieces that was tried clears this command, counted from 0, at this setting of block delete. Of a
-    /// start point that isn't clear it is command 0 with block delete off.
+    /// 304: no number of pieces that was tried clears this command, counted from 0, at this setting
+    /// of block delete. Of a start point that isn't clear it is command 0 with block delete off.
     #[error("no certificate clears command {command}")]
     NotCleared { setting: Setting, command: u32 },
     /// 900

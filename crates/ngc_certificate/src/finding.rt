@@ -36,7 +36,8 @@ fn clears_in<A: Allocator>(
     Ok(pieces_fault(machine, *tool, way, pieces.as_slice()).is_none())
 }
 
-// Makes `pieces` those of a motion in the first number of pieces that no refusal meets, and answers whether there is one.
+// Makes `pieces` those of a motion in the first number of pieces that no refusal meets, and answers
+// whether there is one.
 fn find_count<A: Allocator>(
     machine: &Machine<A>,
     tool: &Option<Tool>,
@@ -58,7 +59,8 @@ fn find_count<A: Allocator>(
     clears_in(machine, tool, way, most, pieces)
 }
 
-// Makes `pieces` those of an arc that is cut by way of these stops, and answers whether no refusal meets them.
+// Makes `pieces` those of an arc that is cut by way of these stops, and answers whether no refusal
+// meets them.
 fn clears_cut<A: Allocator>(
     machine: &Machine<A>,
     tool: &Option<Tool>,
@@ -76,7 +78,8 @@ fn clears_cut<A: Allocator>(
     Ok(pieces_fault(machine, *tool, &Way::Arc(*arc), pieces.as_slice()).is_none())
 }
 
-// Makes `pieces` those of an arc: one where that clears it, else several if a way to cut it is found.
+// Makes `pieces` those of an arc: one where that clears it, else several if a way to cut it is
+// found.
 fn find_arc<A: Allocator>(
     machine: &Machine<A>,
     tool: &Option<Tool>,
@@ -97,7 +100,8 @@ fn find_arc<A: Allocator>(
     clears_cut(machine, tool, arc, most, Stops::Outer, pieces)
 }
 
-/// Makes `pieces` such as a motion may stand in with this tool mounted, `most` at most, and answers whether any are found.
+/// Makes `pieces` such as a motion may stand in with this tool mounted, `most` at most, and answers
+/// whether any are found.
 pub(crate) fn find_clear<A: Allocator>(
     machine: &Machine<A>,
     tool: &Option<Tool>,

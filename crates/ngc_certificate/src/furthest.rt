@@ -25,8 +25,8 @@ pub(crate) struct Band {
 }
 
 impl Band {
-    /// From a step below the inner radius to a step above the outer one; the margin is two steps and what lies between the
-    /// radii.
+    /// From a step below the inner radius to a step above the outer one; the margin is two steps
+    /// and what lies between the radii.
     pub(crate) fn of(arc: &Arc, step: u64) -> Band
         requires { step ≤ 50000 }
     {
@@ -57,8 +57,9 @@ impl Band {
     }
 }
 
-/// The first coordinate after the greatest multiple of the step that lies below a coordinate. The sides of boxes are multiples,
-/// and one that is found for a coordinate from there on doesn't lie below the given one.
+/// The first coordinate after the greatest multiple of the step that lies below a coordinate. The
+/// sides of boxes are multiples, and one that is found for a coordinate from there on doesn't lie
+/// below the given one.
 fn after_multiple_below(step: Nm, coordinate: i64) -> i64
     requires step { IsStep step }
     requires coordinate { unsigned_abs coordinate ≤ 200000000000000 }
@@ -93,7 +94,8 @@ struct Limit {
 }
 
 impl Limit {
-    /// The square of the least x that the inside of a band may come to, from a spot on and before a stop.
+    /// The square of the least x that the inside of a band may come to, from a spot on and before a
+    /// stop.
     fn nearest(&self, band: &Band, from: &Spot, stop: &Spot) -> u128
         ensures { result ≤ 4000000000000000000000000000000 }
     {
@@ -176,7 +178,8 @@ impl<A: Allocator> Begin<'_, A> {
         [before, beyond]
     }
 
-    /// What stops pieces from here where the controlled point may not stand in a block, if that may stop any.
+    /// What stops pieces from here where the controlled point may not stand in a block, if that may
+    /// stop any.
     fn limit_at(&self, block: &Block) -> Option<Limit> {
         let kept_from = self.quadrant.sight_of(self.plane, block);
         if self.least.x.high <= kept_from.x.low
@@ -206,7 +209,8 @@ impl<A: Allocator> Begin<'_, A> {
         limits
     }
 
-    /// The square of the least x that the way along the inside of the band may come to past a fixture, before a stop.
+    /// The square of the least x that the way along the inside of the band may come to past a
+    /// fixture, before a stop.
     fn nearest_past(&self, fixture: &Fixture, stop: &Spot) -> u128
         ensures { result ≤ 4000000000000000000000000000000 }
     {
@@ -257,11 +261,13 @@ impl<A: Allocator> Begin<'_, A> {
         highest.clamp(0, most as i64) as u64
     }
 
-    /// The furthest point towards a stop that a piece from here may go to, and `None` where that leads nowhere.
+    /// The furthest point towards a stop that a piece from here may go to, and `None` where that
+    /// leads nowhere.
     ///
-    /// Boxes of pieces from here grow as x falls and as y rises. A fixture inside the arc keeps x from falling below some
-    /// limit, one outside keeps y from rising above one. So the way along the inside of the band, and then straight up, comes
-    /// to the corner of both limits, or to the rim of the band before it.
+    /// Boxes of pieces from here grow as x falls and as y rises. A fixture inside the arc keeps x
+    /// from falling below some limit, one outside keeps y from rising above one. So the way along
+    /// the inside of the band, and then straight up, comes to the corner of both limits, or to the
+    /// rim of the band before it.
     pub(crate) fn furthest(&self, stop: &Spot) -> Option<Point2> {
         if self.clears_to(stop) {
             return self.quadrant.point_at(stop);

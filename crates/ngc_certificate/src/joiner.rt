@@ -77,7 +77,8 @@ fn common_beginning<A: Allocator>(
     fewer
 }
 
-/// A certificate of version 2 with the motions of this one, joined where the settings begin alike, or 900.
+/// A certificate of version 2 with the motions of this one, joined where the settings begin alike,
+/// or 900.
 ///
 /// ```text
 /// let certificate = make(alloc, off, on, &machine, 8)?;
@@ -85,9 +86,10 @@ fn common_beginning<A: Allocator>(
 /// joined.write(&mut output)?;
 /// ```
 ///
-/// The certificate's motions are those of the commands with block delete off and on. A motion of each setting is joined as long
-/// as all before it are, where both go the same way, which is straight or the same arc from the same start to the same end, and
-/// have the same pieces. Behind those come the motions that are left, of `off` and then of `on`. A motion that is none of the
+/// The certificate's motions are those of the commands with block delete off and on. A motion of
+/// each setting is joined as long as all before it are, where both go the same way, which is
+/// straight or the same arc from the same start to the same end, and have the same pieces. Behind
+/// those come the motions that are left, of `off` and then of `on`. A motion that is none of the
 /// commands' is never joined.
 pub fn join<A: Allocator>(
     alloc: A,

@@ -1,4 +1,5 @@
-//! What stops a piece of an arc: travel limits and fixtures, as a quadrant about its centre sees them.
+//! What stops a piece of an arc: travel limits and fixtures, as a quadrant about its centre sees
+//! them.
 ghost use Rattle.std.specs.Prelude.{◌≤◌, unsigned_abs};
 ghost use Rattle.ngc_fixed_length.specs.Length.{IsStep};
 
@@ -92,8 +93,8 @@ impl Block {
         }
     }
 
-    /// Where the controlled point may not stand, since a part of its tool, whose foot stands so far above that point, would
-    /// meet a fixture.
+    /// Where the controlled point may not stand, since a part of its tool, whose foot stands so far
+    /// above that point, would meet a fixture.
     pub(crate) fn kept_from(fixture: &Fixture, part: &Part, foot: i64) -> Block
         requires { unsigned_abs foot ≤ 500000000000 }
     {

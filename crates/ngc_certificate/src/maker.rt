@@ -17,7 +17,8 @@ use ngc_certificate_text::{Certificate, Motions, Piece, Setting};
 use ngc_fixed_length::Point3;
 use std::alloc::Allocator;
 
-/// Why a setting has no motions with pieces: it doesn't clear this command, counted from 0, or memory ran out.
+/// Why a setting has no motions with pieces: it doesn't clear this command, counted from 0, or
+/// memory ran out.
 #[derive(Clone, Copy, Debug)]
 enum Refusal {
     NotCleared(u32),
@@ -151,12 +152,13 @@ fn fault_at(setting: Setting, refusal: Refusal) -> MakeFault
     }
 }
 
-/// A certificate for the commands of a program with block delete off and on, on a machine; or the first command that isn't
-/// cleared (304), or 900.
+/// A certificate for the commands of a program with block delete off and on, on a machine; or the
+/// first command that isn't cleared (304), or 900.
 ///
-/// A line is tried in 1, 2, 4 .. pieces of about one length below `cuts`, and then in `cuts`, of which the first number that
-/// clears is taken. An arc stands in one piece where that clears it; else it is cut into at most `cuts`, where a way is found.
-/// `cuts` is at least 1. Each setting has at most a million commands.
+/// A line is tried in 1, 2, 4 .. pieces of about one length below `cuts`, and then in `cuts`, of
+/// which the first number that clears is taken. An arc stands in one piece where that clears it;
+/// else it is cut into at most `cuts`, where a way is found. `cuts` is at least 1. Each setting has
+/// at most a million commands.
 pub fn make<A: Allocator + Copy>(
     alloc: A,
     off: &[Command],
@@ -191,7 +193,8 @@ pub fn make<A: Allocator + Copy>(
     Ok(Certificate::parted(off, on))
 }
 
-/// The same of a program that has these commands at both settings: what is found for one serves the other.
+/// The same of a program that has these commands at both settings: what is found for one serves the
+/// other.
 pub fn make_alike<A: Allocator + Copy>(
     alloc: A,
     commands: &[Command],

@@ -12,7 +12,8 @@ use ngc_certificate_text::Piece;
 use ngc_fixed_length::Point3;
 use std::alloc::{AllocError, Allocator};
 
-/// The tool that is mounted and the place that is reached, whether or not the commands so far are cleared.
+/// The tool that is mounted and the place that is reached, whether or not the commands so far are
+/// cleared.
 #[derive(Clone, Copy, Debug)]
 struct Reached {
     tool: Option<Tool>,
@@ -28,7 +29,8 @@ impl Reached {
         is_clear_at(machine, &tool, &self.place)
     }
 
-    // A motion to its end. Answers whether pieces are found that clear it. `pieces` is room for them.
+    // A motion to its end. Answers whether pieces are found that clear it. `pieces` is room for
+    // them.
     fn move_along<A: Allocator>(
         &mut self,
         machine: &Machine<A>,
@@ -65,9 +67,10 @@ impl Reached {
 
 /// Every command that isn't cleared on a machine, by its index from 0, in order; or 900.
 ///
-/// These are the motions for which no pieces are found, tried as `make` does with the same `cuts`, and the tool changes at which
-/// the tool's body meets a fixture. Such a motion is taken to reach its end all the same, and such a tool to be mounted. A start
-/// point that isn't clear is no command, and isn't told here. `cuts` is at least 1, and there are at most a million commands.
+/// These are the motions for which no pieces are found, tried as `make` does with the same `cuts`,
+/// and the tool changes at which the tool's body meets a fixture. Such a motion is taken to reach
+/// its end all the same, and such a tool to be mounted. A start point that isn't clear is no
+/// command, and isn't told here. `cuts` is at least 1, and there are at most a million commands.
 ///
 /// Memory is taken for the answer and for the pieces of one motion.
 pub fn uncleared<A: Allocator + Copy>(

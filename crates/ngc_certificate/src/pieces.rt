@@ -94,8 +94,8 @@ impl PieceJudge {
         }
     }
 
-    /// The first refusal of the next piece, which is the motion's last one or isn't, on the machine that the judge was made
-    /// for.
+    /// The first refusal of the next piece, which is the motion's last one or isn't, on the machine
+    /// that the judge was made for.
     pub fn next<A: Allocator>(
         &mut self,
         machine: &Machine<A>,
@@ -153,8 +153,8 @@ fn first_refusal<A: Allocator>(
     None
 }
 
-/// The first refusal of the pieces of a motion with this tool mounted. There are at most 65,535 pieces; of none the chain is
-/// refused.
+/// The first refusal of the pieces of a motion with this tool mounted. There are at most 65,535
+/// pieces; of none the chain is refused.
 pub fn pieces_fault<A: Allocator>(
     machine: &Machine<A>,
     tool: Option<Tool>,
@@ -172,7 +172,8 @@ pub fn pieces_fault<A: Allocator>(
     first_refusal(machine, tool, way, pieces)
 }
 
-/// The lowest fixture, counted from 0, that the tool's body meets where its controlled point stands at a place.
+/// The lowest fixture, counted from 0, that the tool's body meets where its controlled point stands
+/// at a place.
 pub fn place_fault<A: Allocator>(
     machine: &Machine<A>,
     tool: Option<Tool>,

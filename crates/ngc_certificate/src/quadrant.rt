@@ -5,7 +5,8 @@ use crate::limits::{Block, Span};
 use ngc_arc_geometry::Arc;
 use ngc_fixed_length::{Nm, Plane, Point2, Turn};
 
-/// A point of a quadrant by its distances from the centre, of which x falls and y rises as the arc goes on.
+/// A point of a quadrant by its distances from the centre, of which x falls and y rises as the arc
+/// goes on.
 #[derive(Clone, Copy)]
 pub(crate) struct Spot {
     pub(crate) x: u64,
@@ -26,7 +27,8 @@ pub(crate) struct Quadrant {
     from_u: bool,
 }
 
-/// A box as a quadrant sees it: along its axes, x and y as those of spots, coordinates rise away from the centre.
+/// A box as a quadrant sees it: along its axes, x and y as those of spots, coordinates rise away
+/// from the centre.
 #[derive(Clone, Copy)]
 pub(crate) struct Sight {
     pub(crate) x: Span,
@@ -56,7 +58,8 @@ fn at_distance(from: Nm, above: bool, distance: u64) -> Option<Nm>
 }
 
 impl Spot {
-    /// Whether the way round the centre from here to another spot of the quadrant goes on, and not back or straight out.
+    /// Whether the way round the centre from here to another spot of the quadrant goes on, and not
+    /// back or straight out.
     pub(crate) fn is_before(&self, other: &Spot) -> bool {
         let ahead = u128::from(self.x) * u128::from(other.y);
         let behind = u128::from(self.y) * u128::from(other.x);
@@ -65,7 +68,8 @@ impl Spot {
 }
 
 impl Quadrant {
-    /// The one that the arc goes through from a point on: the next one, where the point lies on an axis.
+    /// The one that the arc goes through from a point on: the next one, where the point lies on an
+    /// axis.
     pub(crate) fn ahead_of(arc: &Arc, point: &Point2) -> Quadrant {
         let centre = arc.centre();
         let u = rise(centre.u, point.u);

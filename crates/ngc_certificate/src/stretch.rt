@@ -1,7 +1,7 @@
 use ngc_certificate_text::Cut;
 
-/// Where a piece stands in its motion: the cut where it begins, whether the motion has several pieces, and whether this is
-/// the last of them.
+/// Where a piece stands in its motion: the cut where it begins, whether the motion has several
+/// pieces, and whether this is the last of them.
 #[derive(Clone, Copy, Debug, PartialEq, Eq)]
 pub struct Stretch {
     pub begin: Cut,

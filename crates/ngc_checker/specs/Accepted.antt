@@ -1,4 +1,5 @@
--- What was accepted: a program's commands at both settings of block delete, its machine and its tools. Our own.
+-- What was accepted: a program's commands at both settings of block delete, its machine and its
+-- tools. Our own.
 use Rattle.std.specs.Prelude.{◌≡◌, ◌≤◌, List, length, Option, Some, None, Result, Ok, Err, Bool, true, false}
 use Rattle.ngc_fixed_length.specs.declared.points.Point3.{Point3}
 use Rattle.ngc_machine.specs.Machine.{MachineFile}
@@ -26,8 +27,8 @@ abbrev pub commands_at : Bool → AcceptedData → List Command
 commands_at false a = a.off
 commands_at true a = a.on
 
--- a setting's commands: there are few enough, each motion begins where the one before it ends, each arc has even radii,
--- the last one is the end, and nothing comes after an end
+-- a setting's commands: there are few enough, each motion begins where the one before it ends, each
+-- arc has even radii, the last one is the end, and nothing comes after an end
 pub record AreCommands (start : Point3) (commands : List Command) : Type 0 where
   pub count : length commands ≤ COMMAND_LIMIT
   pub joined : AreJoined start (ways_of (actions_of commands))

@@ -9,8 +9,9 @@ use Rattle.ngc_checker.specs.declared.check_fault.CheckReadFault.TheVariants as 
 use Rattle.ngc_checker.specs.Accepted.{AcceptedData, Keeps}
 use Rattle.ngc_checker.specs.CheckView.{text_verdict}
 
--- exactly: yes where the text has no fault and nothing is refused, with what the checker keeps then; else the text's fault, but for want of
--- memory and the source's failure, or the first refusal
+-- exactly: yes where the text has no fault and nothing is refused, with what the checker keeps
+-- then; else the text's fault, but for want of memory and the source's failure, or the first
+-- refusal
 abbrev pub AnswersText : {X : Type 0} → (X → AcceptedData) → Program → Setup → List ℕ → Result X CheckReadFault → Type 0
 AnswersText view program setup text (Ok x) = (text_verdict program setup text ≡ Ok None) × Keeps program setup (view x)
 AnswersText view program setup text (Err (reads.Certificate fault)) = FaultIs fault (text_verdict program setup text)

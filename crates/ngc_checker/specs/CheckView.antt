@@ -1,4 +1,5 @@
--- What a reader that checks a certificate will answer, as functions of the bytes that follow. Our own.
+-- What a reader that checks a certificate will answer, as functions of the bytes that follow. Our
+-- own.
 use Rattle.std.specs.Prelude.{◌≡◌, ℕ, List, Option, Some, None, Result, Ok, Err}
 use Rattle.ngc_canonical.specs.Meaning.{Program}
 use Rattle.ngc_canonical.specs.State.{Setup}
@@ -16,7 +17,8 @@ use Rattle.ngc_checker.specs.Accepted.{AcceptedData, Answers, Keeps}
 use Rattle.ngc_checker.specs.Checked.{judged, kept_by}
 use Rattle.ngc_checker.specs.FirstRefusal.{first_refusal}
 
--- what a text comes to: its fault, or else the first refusal of the certificate that it says, or none
+-- what a text comes to: its fault, or else the first refusal of the certificate that it says, or
+-- none
 abbrev pub Verdict : Type 0
 Verdict = Result (Option CheckFault) CertificateFault
 
@@ -43,7 +45,8 @@ kept_in r = kept_by r.text.judge
 abbrev pub room_in : {A : Type 0} → CheckReader A → ℕ
 room_in r = room_of r.text.lines
 
--- exactly: yes with what was kept where nothing is refused, else the text's fault or the first refusal
+-- exactly: yes with what was kept where nothing is refused, else the text's fault or the first
+-- refusal
 abbrev pub GivesVerdict : {X : Type 0} → (X → AcceptedData) → Option AcceptedData → Result X CheckReadFault → Verdict → Type 0
 GivesVerdict view kept (Ok x) says = (says ≡ Ok None) × (kept ≡ Some (view x))
 GivesVerdict view kept (Err (reads.Certificate fault)) says = says ≡ Err fault
@@ -51,14 +54,15 @@ GivesVerdict view kept (Err (reads.Check fault)) says = says ≡ Ok (Some fault)
 
 -- ---- the whole text
 
--- what a reader of a certificate's text answers: the text's fault, or else what the checker answers for what it says
+-- what a reader of a certificate's text answers: the text's fault, or else what the checker answers
+-- for what it says
 abbrev pub AnswersSaid : {X : Type 0} → (X → AcceptedData) → Program → Setup → List ℕ → Result X CheckReadFault → Type 0
 AnswersSaid view program setup text (Ok x) = (c : CertificateData) × (certificate_said text ≡ Ok c) × Answers view program setup c (Ok x)
 AnswersSaid view program setup text (Err (reads.Certificate fault)) = certificate_said text ≡ Err fault
 AnswersSaid {X} view program setup text (Err (reads.Check fault)) = (c : CertificateData) × (certificate_said text ≡ Ok c) × Answers {X = X} view program setup c (Err fault)
 
--- What a reader makes of the joined pieces is exactly what the checker answers for the certificate that they say, or the
--- text's fault.
+-- What a reader makes of the joined pieces is exactly what the checker answers for the certificate
+-- that they say, or the text's fault.
 abbrev pub VerdictIsAnswer : Type 0
 VerdictIsAnswer =
     (program : Program) (setup : Setup) (text : List ℕ) (kept : Option AcceptedData) (answer : Result AcceptedData CheckReadFault)

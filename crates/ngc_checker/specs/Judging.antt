@@ -20,8 +20,8 @@ use Rattle.ngc_checker.specs.Walking.{fault_left}
 use Rattle.ngc_machine.specs.declared.tools.Tool.{Tool}
 use Rattle.ngc_certificate.specs.PieceFault.{◌or◌}
 
--- What a judge keeps: machine, tools and commands; what is known of each setting; and how many pieces come yet of a motion
--- that has begun.
+-- What a judge keeps: machine, tools and commands; what is known of each setting; and how many
+-- pieces come yet of a motion that has begun.
 pub record JudgeData : Type 0 where
   pub machine : MachineFile
   pub tools : List Tool
@@ -31,18 +31,21 @@ pub record JudgeData : Type 0 where
   pub on_walk : SettingJudge
   pub left : ℕ
 
--- the first refusal, where this is left of a certificate: pieces matter to a setting where its motion has begun
+-- the first refusal, where this is left of a certificate: pieces matter to a setting where its
+-- motion has begun
 abbrev pub verdict_left : MachineFile → List Command → List Command → SettingJudge → SettingJudge → Rest → Option CheckFault
 verdict_left machine off on off_walk on_walk r =
     fault_left machine Off off off_walk r.pieces (certificate_of r).off or fault_left machine On on on_walk r.pieces (certificate_of r).on
 
--- a setting's walk stands among its commands, and so many pieces may come yet of its motion that has begun
+-- a setting's walk stands among its commands, and so many pieces may come yet of its motion that
+-- has begun
 pub record IsWalking (machine : MachineFile) (commands : List Command) (walk : SettingJudge) (left : ℕ) : Type 0 where
   pub index : walk.walk.index ≤ length commands
   pub following : IsFollowing machine walk.following left
   pub none : left ≡ 0 → walk.following ≡ None
 
--- The lines so far and those that come say some certificate, and the verdict is that of both together.
+-- The lines so far and those that come say some certificate, and the verdict is that of both
+-- together.
 pub record IsJudge (machine : MachineFile) (off on : List Command) (off_walk on_walk : SettingJudge) (left : ℕ) : Type 0 where
   pub good_machine : IsMachine machine
   pub off_commands : AreCommands machine.start off

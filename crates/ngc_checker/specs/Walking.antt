@@ -1,4 +1,5 @@
--- What is left of a check on the way through a setting's commands, as the motions of a certificate come. Our own.
+-- What is left of a check on the way through a setting's commands, as the motions of a certificate
+-- come. Our own.
 use Rattle.std.specs.Prelude.{ℕ, ◌-◌, List, map, drop, Option, Some, None, option_map}
 use Rattle.ngc_machine.specs.Machine.{MachineFile}
 use Rattle.ngc_canonical.specs.Movement.{actions_of, motion_indices}

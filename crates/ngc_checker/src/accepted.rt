@@ -11,8 +11,9 @@ use ngc_machine::{Machine, Tools};
 use std::alloc::Allocator;
 use std::marker::Model;
 
-/// A program that was accepted on a machine with its tools: its commands at both settings of block delete, and copies of
-/// machine and tools. Some certificate is valid for them. Only `check`, `check_source` and `CheckReader` make one.
+/// A program that was accepted on a machine with its tools: its commands at both settings of block
+/// delete, and copies of machine and tools. Some certificate is valid for them. Only `check`,
+/// `check_source` and `CheckReader` make one.
 #[derive(Drop)]
 pub struct Accepted<A: Allocator> {
     machine: Machine<A>,

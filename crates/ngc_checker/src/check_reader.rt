@@ -27,8 +27,8 @@ use ngc_line_reader::Program;
 use ngc_machine::{Machine, Tools};
 use std::alloc::Allocator;
 
-/// A check of a certificate whose text comes in pieces of any size. Of the certificate no more is kept than a line that a
-/// piece's end cut and the first refusal.
+/// A check of a certificate whose text comes in pieces of any size. Of the certificate no more is
+/// kept than a line that a piece's end cut and the first refusal.
 ///
 /// ```text
 /// let mut reader = CheckReader::new(alloc, &program, &machine, &tools)?;
@@ -37,8 +37,8 @@ use std::alloc::Allocator;
 /// let accepted = reader.finish()?;
 /// ```
 ///
-/// It answers what `Certificate::read` and then `check` answer for all pieces joined. A line may be cut anywhere, and a piece
-/// may have no bytes. After a fault each later call answers it again.
+/// It answers what `Certificate::read` and then `check` answer for all pieces joined. A line may be
+/// cut anywhere, and a piece may have no bytes. After a fault each later call answers it again.
 #[derive(Drop)]
 pub struct CheckReader<A: Allocator> {
     text: JudgedLines<A>,
@@ -85,8 +85,8 @@ impl<A: Allocator> CheckReader<A> {
     ghost use Rattle.ngc_certificate_text.specs.Reader.{AnswerIs, FaultIs};
     ghost use Rattle.ngc_checker.specs.CheckView.{text_verdict, outcome_in, firm_in, refusal_in, kept_in, room_in, GivesVerdict};
 
-    /// A reader that was fed nothing yet. The program is executed at both settings of block delete; why it is refused is
-    /// answered by `finish`. It fails where memory is refused.
+    /// A reader that was fed nothing yet. The program is executed at both settings of block delete;
+    /// why it is refused is answered by `finish`. It fails where memory is refused.
     pub fn new(
         alloc: A,
         program: &Program<A>,
@@ -113,13 +113,16 @@ impl<A: Allocator> CheckReader<A> {
         }
     }
 
-    /// Takes the next bytes of the text, any number of them, and asks for no memory. A fault of the text is answered as soon
-    /// as it stands: by the piece with the line feed that ends its line, or with the 257th byte of a line that is too long.
+    /// Takes the next bytes of the text, any number of them, and asks for no memory. A fault of the
+    /// text is answered as soon as it stands: by the piece with the line feed that ends its line,
+    /// or with the 257th byte of a line that is too long.
     pub fn feed(&mut self, piece: &[u8]) -> Result<(), CertificateFault>
-        // The fault is the one that the lines so far have whatever follows, and where they have none, none is answered.
+        // The fault is the one that the lines so far have whatever follows, and where they have
+        // none, none is answered.
         ensures answer { AnswerIs result (firm_in self.old piece.now) }
         ensures firm { OnOk result ((more rest : List ℕ) → firm_in self.old (piece.now ++ more) rest ≡ firm_in self.new more rest) }
-        // Whatever follows, the text comes to the same as if this piece stood in front of it: a fault stays.
+        // Whatever follows, the text comes to the same as if this piece stood in front of it: a
+        // fault stays.
         ensures text { (rest : List ℕ) → MatchResult result (λ _. outcome_in self.old (piece.now ++ rest) ≡ outcome_in self.new rest) (λ fault. FaultIs fault (outcome_in self.old (piece.now ++ rest))) }
         ensures keeps { kept_in self.new ≡ kept_in self.old }
         // A fault is kept, and answered again.
@@ -152,8 +155,9 @@ impl<A: Allocator> CheckReader<A> {
         }
     }
 
-    /// What is accepted, where no byte comes any more; else the fault of the text that was answered, or that of a line that is
-    /// missing or lacks its line feed; else the first refusal, as `check` has it.
+    /// What is accepted, where no byte comes any more; else the fault of the text that was
+    /// answered, or that of a line that is missing or lacks its line feed; else the first refusal,
+    /// as `check` has it.
     pub fn finish(self) -> Result<Accepted<A>, CheckReadFault>
         ensures said { GivesVerdict (λ a. a) (kept_in self) result (outcome_in self []) }
         ensures again { IfSome (refusal_in self) (λ fault. result ≡ Err (CheckReadFault.Certificate fault)) }

@@ -49,11 +49,13 @@ fn settings_fault<A: Allocator>(
     setting_fault(machine, Setting::On, on, motions)
 }
 
-/// Whether a certificate shows that a program is safe on a machine with its tools, at both settings of block delete.
+/// Whether a certificate shows that a program is safe on a machine with its tools, at both settings
+/// of block delete.
 ///
-/// The first refusal is answered: 311 with block delete off, then on; and then for off, and after it for on, 312, 318, and
-/// the commands in their order: of a tool change 317, of a motion its pieces in their order, of a piece 313 to 316, the
-/// fixtures in theirs. 900 says nothing of the program.
+/// The first refusal is answered: 311 with block delete off, then on; and then for off, and after
+/// it for on, 312, 318, and the commands in their order: of a tool change 317, of a motion its
+/// pieces in their order, of a piece 313 to 316, the fixtures in theirs. 900 says nothing of the
+/// program.
 pub fn check<A: Allocator + Copy>(
     alloc: A,
     program: &Program<A>,

@@ -13,8 +13,8 @@ use ngc_fixed_length::Point3;
 use ngc_machine::{Machine, Tool};
 use std::alloc::Allocator;
 
-/// Between two commands: the index of the next one, the tool that is mounted, where the axes stand, and the first refusal of
-/// the commands so far.
+/// Between two commands: the index of the next one, the tool that is mounted, where the axes stand,
+/// and the first refusal of the commands so far.
 #[derive(Clone, Copy)]
 pub struct CommandWalk {
     pub index: u32,

@@ -14,8 +14,9 @@ pub enum CheckFault {
         setting: Setting,
         fault: ProgramFault,
     },
-    /// 312: the indices of the program's motions and of the certificate's are two lists, and this is the index at the first
-    /// place where they differ, the lesser of the two where both have one there.
+    /// 312: the indices of the program's motions and of the certificate's are two lists, and this
+    /// is the index at the first place where they differ, the lesser of the two where both have one
+    /// there.
     #[error("program and certificate differ at command {command}")]
     MotionsDiffer {
         setting: Setting,

@@ -17,7 +17,8 @@ use crate::judge::Judge;
 use ngc_certificate_text::{CertificateFault, CertificateLines, Told};
 use std::alloc::Allocator;
 
-/// The lines of a certificate's text, and what is known of the certificate so far; or why the program is refused.
+/// The lines of a certificate's text, and what is known of the certificate so far; or why the
+/// program is refused.
 #[derive(Drop)]
 pub struct JudgedLines<A: Allocator> {
     pub lines: CertificateLines,

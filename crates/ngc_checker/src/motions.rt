@@ -36,8 +36,8 @@ fn difference_behind<A: Allocator>(motions: &Motions<A>, next: usize) -> Option<
     }
 }
 
-/// The index, from 0, at the first place where the motions of the commands and those of the certificate differ: the lesser of
-/// the two where both have one there.
+/// The index, from 0, at the first place where the motions of the commands and those of the
+/// certificate differ: the lesser of the two where both have one there.
 pub fn first_difference<A: Allocator>(commands: &[Command], motions: &Motions<A>) -> Option<u32>
     requires { length commands.now ≤ COMMAND_LIMIT }
     ensures { result ≡ first_difference (motion_indices 0 (actions_of commands.now)) (indices_from 0 motions.now) }

@@ -17,11 +17,13 @@ use ngc_machine::{Machine, Tools};
 use ngc_text::Source;
 use std::alloc::Allocator;
 
-/// Whether the certificate that a source gives shows that a program is safe on a machine with its tools: what `Certificate::read`
-/// and then `check` answer, but the certificate is judged as it comes, and no box of it is kept.
+/// Whether the certificate that a source gives shows that a program is safe on a machine with its
+/// tools: what `Certificate::read` and then `check` answer, but the certificate is judged as it
+/// comes, and no box of it is kept.
 ///
-/// A fault of the text goes before 311 to 318. Memory is asked for before anything is pulled: 900 says nothing of program and
-/// text. No more is pulled once a fault of the text stands or the text has ended.
+/// A fault of the text goes before 311 to 318. Memory is asked for before anything is pulled: 900
+/// says nothing of program and text. No more is pulled once a fault of the text stands or the text
+/// has ended.
 pub fn check_source<A: Allocator + Copy, S: Source>(
     alloc: A,
     program: &Program<A>,
@@ -29,7 +31,8 @@ pub fn check_source<A: Allocator + Copy, S: Source>(
     tools: &Tools<A>,
     source: &mut S,
 ) -> Result<Accepted<A>, CheckReadFault>
-    // Where the source's bytes are known, and whatever the lines' readings are: each line has one, and only one.
+    // Where the source's bytes are known, and whatever the lines' readings are: each line has one,
+    // and only one.
     ensures said { (rs : List Reading) → AreReadings (text_in program.now).lines rs → IfSome (S.remaining source.old)
         (λ text. AnswersText (λ a. a) (program_said (text_in program.now) rs) (setup_of machine.now tools.now) text result) }
     // Only a source that failed is said to have failed.

@@ -1,4 +1,5 @@
-//! The way through the commands of a setting: each motion with its pieces, each tool change at its place.
+//! The way through the commands of a setting: each motion with its pieces, each tool change at its
+//! place.
 ghost use Rattle.std.specs.Prelude.{◌≡◌, ◌+◌, ◌∷◌, ◌≤◌, length, List, None};
 ghost use Rattle.ngc_machine.specs.Machine.{file_of};
 ghost use Rattle.ngc_canonical.specs.Movement.{actions_of};
@@ -13,7 +14,8 @@ use ngc_fixed_length::Point3;
 use ngc_machine::{Machine, Tool};
 use std::alloc::Allocator;
 
-/// Between two commands: the tool that is mounted, where the axes stand, and which motion of the certificate is next.
+/// Between two commands: the tool that is mounted, where the axes stand, and which motion of the
+/// certificate is next.
 #[derive(Clone, Copy)]
 pub struct Walk {
     pub tool: Option<Tool>,
@@ -89,7 +91,8 @@ impl Walk {
     }
 }
 
-/// The first fault of the commands of a setting, in their order: of a motion's pieces, or of a tool change.
+/// The first fault of the commands of a setting, in their order: of a motion's pieces, or of a tool
+/// change.
 pub fn commands_fault<A: Allocator>(
     machine: &Machine<A>,
     setting: Setting,

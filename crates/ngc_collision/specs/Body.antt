@@ -22,8 +22,8 @@ nanometres_of step p = record { x = p.x *ℤ step; y = p.y *ℤ step; z = p.z *�
 abbrev pub span : ℤ → GridBox → Solid
 span step b = record { low = nanometres_of step b.low; high = nanometres_of step b.high }
 
--- the box that a part fills, its foot so far above the controlled point, while that point goes all over a box: the radius to
--- each side, the length above the foot
+-- the box that a part fills, its foot so far above the controlled point, while that point goes all
+-- over a box: the radius to each side, the length above the foot
 abbrev pub filled : Part → ℤ → Solid → Solid
 filled part foot b = record {
   low = record { x = b.low.x -ℤ part.radius; y = b.low.y -ℤ part.radius; z = b.low.z +ℤ foot };

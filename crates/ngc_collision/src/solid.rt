@@ -92,7 +92,8 @@ impl Place {
         }
     }
 
-    /// The lowest corner of a part whose foot stands so far above the controlled point, which is here.
+    /// The lowest corner of a part whose foot stands so far above the controlled point, which is
+    /// here.
     fn lowest_filled(&self, part: &Part, foot: i64) -> Place
         requires here { IsReached self.now }
         requires foot { unsigned_abs foot ≤ FOOT_REACH }
@@ -105,7 +106,8 @@ impl Place {
         }
     }
 
-    /// The highest corner of a part whose foot stands so far above the controlled point, which is here.
+    /// The highest corner of a part whose foot stands so far above the controlled point, which is
+    /// here.
     fn highest_filled(&self, part: &Part, foot: i64) -> Place
         requires here { IsReached self.now }
         requires foot { unsigned_abs foot ≤ FOOT_REACH }
@@ -140,8 +142,8 @@ impl Solid {
         }
     }
 
-    /// The box that a part fills, its foot so far above the controlled point, while that point goes all over this box: the
-    /// radius to each side, the length above the foot.
+    /// The box that a part fills, its foot so far above the controlled point, while that point goes
+    /// all over this box: the radius to each side, the length above the foot.
     fn filled(&self, part: &Part, foot: i64) -> Solid
         requires low { IsReached self.now.low }
         requires high { IsReached self.now.high }
@@ -154,8 +156,8 @@ impl Solid {
         }
     }
 
-    /// The boxes that the parts of a tool fill while its controlled point goes all over this one: each part stands on the one
-    /// before.
+    /// The boxes that the parts of a tool fill while its controlled point goes all over this one:
+    /// each part stands on the one before.
     fn stacked(&self, tool: &Tool) -> ArrayVec<Solid, 4>
         requires low { IsReached self.now.low }
         requires high { IsReached self.now.high }
@@ -170,8 +172,8 @@ impl Solid {
         solids
     }
 
-    /// The boxes that the parts of a tool, or the controlled point alone, fill while that point goes all over a box of grid
-    /// points.
+    /// The boxes that the parts of a tool, or the controlled point alone, fill while that point
+    /// goes all over a box of grid points.
     pub fn swept(step: Nm, tool: Option<Tool>, bounds: &GridBox) -> ArrayVec<Solid, 4>
         requires { IsStep step }
         ensures { bodies tool (span step bounds.now) ≡ map solid_of result.items }

@@ -1,4 +1,5 @@
--- The numbers of faults, in the order of the page docs/FAULTS.md. Several rows of it may have one number.
+-- The numbers of faults, in the order of the page docs/FAULTS.md. Several rows of it may have one
+-- number.
 use Rattle.std.specs.Prelude.{◌==◌, ℕ, Bool, List, [], ◌∷◌, ◌++◌}
 use Rattle.std.specs.List.{list_any}
 

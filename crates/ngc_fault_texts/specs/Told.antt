@@ -60,7 +60,8 @@ IsExplanation number text = (parts : List Part) × (numbers_of parts ≡ fault_n
 abbrev pub Explains : (List ℕ → Type 0) → ℕ → Type 0
 Explains Holds number = (text : List ℕ) × IsExplanation number text × Holds text
 
--- What is written of a number: what is told of it, or a beginning where the sink failed. An unknown number leaves what was written.
+-- What is written of a number: what is told of it, or a beginning where the sink failed. An unknown
+-- number leaves what was written.
 abbrev pub Tells : ℕ → Option (List ℕ) → Option (List ℕ) → Result (Unit {0}) ExplainFault → Type 0
 Tells number old new (Ok u) = Explains (Appends old new) number
 Tells number old new (Err Unknown) = new ≡ old

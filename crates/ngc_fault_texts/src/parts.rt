@@ -8,8 +8,8 @@ use crate::runs::{events, log, shell};
 use crate::setups::{certificates, setup};
 use crate::shapes::{arcs, cycles};
 
-/// What is told of a fault at one place of the page. The lines of a text are at most 96 characters long, where the example's and the
-/// answer's first lines have their words in front.
+/// What is told of a fault at one place of the page. The lines of a text are at most 96 characters
+/// long, where the example's and the answer's first lines have their words in front.
 #[derive(Clone, Copy)]
 pub struct Row {
     pub number: u16,

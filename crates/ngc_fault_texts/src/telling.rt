@@ -153,11 +153,13 @@ fn is_on(parts: &[Part], number: u16) -> bool
     parts.iter().any(|part| is_in(part.rows, number))
 }
 
-/// Writes what the page docs/FAULTS.md tells of a fault: some ten lines for each of its rows, of at most 96 characters.
+/// Writes what the page docs/FAULTS.md tells of a fault: some ten lines for each of its rows, of at
+/// most 96 characters.
 pub fn explain<W: Sink>(number: u16, output: &mut W) -> Result<(), ExplainFault>
     // Only a number that no fault has is unknown.
     ensures unknown { (result ≡ Err ExplainFault.Unknown) ↔ (is_fault number ≡ false) }
-    // What is written are the rows with this number of a page that has all faults, or a beginning where a write failed.
+    // What is written are the rows with this number of a page that has all faults, or a beginning
+    // where a write failed.
     ensures tells { Tells number (W.written output.old) (W.written output.new) result }
     // A fault of writing comes only from a sink that failed.
     ensures sink { FailsByWriting result (W.failures output.old) (W.failures output.new) }

@@ -43,7 +43,8 @@ box_of p q = record { low = lesser_corner p q; high = greater_corner p q }
 abbrev pub common_box : GridBox → GridBox → GridBox
 common_box a b = record { low = greater_corner a.low b.low; high = lesser_corner a.high b.high }
 
--- of the grid points that aren't below a length the first, in steps; of those that aren't above it the last
+-- of the grid points that aren't below a length the first, in steps; of those that aren't above it
+-- the last
 abbrev pub grid_above : ℤ → ℤ → ℤ
 grid_above step l = neg_ℤ (int_div_euclid (neg_ℤ l) step)
 

@@ -1,4 +1,5 @@
--- How large numbers may be, and what arithmetic on values gives. Our own rule: the manual leaves precision open.
+-- How large numbers may be, and what arithmetic on values gives. Our own rule: the manual leaves
+-- precision open.
 use Rattle.std.specs.Prelude.{ℕ, ℤ, pos, ◌+ℤ◌, ◌-ℤ◌, ◌*ℤ◌, ◌==◌, unsigned_abs, ◌≤◌, Result, Err, if◌then◌else◌}
 use Rattle.ngc_fixed_length.specs.declared.fault.NumberFault.{NumberFault}
 use Rattle.ngc_fixed_length.specs.declared.fault.NumberFault.TheVariants.{DivisionByZero}

@@ -38,7 +38,8 @@ shifted p d = record { u = p.u +ℤ d.u; v = p.v +ℤ d.v }
 abbrev pub from : Point2 → Point2 → Point2
 from c p = record { u = p.u -ℤ c.u; v = p.v -ℤ c.v }
 
--- twice the area that d and e span, above 0 where d turns towards e counterclockwise; and their product
+-- twice the area that d and e span, above 0 where d turns towards e counterclockwise; and their
+-- product
 abbrev pub cross : Point2 → Point2 → ℤ
 cross d e = (d.u *ℤ e.v) -ℤ (d.v *ℤ e.u)
 

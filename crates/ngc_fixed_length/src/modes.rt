@@ -1,5 +1,5 @@
-/// A plane by its axes u and v, so that u turns towards v counterclockwise as seen from the positive end of the third axis:
-/// G17, G18, G19.
+/// A plane by its axes u and v, so that u turns towards v counterclockwise as seen from the
+/// positive end of the third axis: G17, G18, G19.
 #[derive(Clone, Copy, Debug, PartialEq, Eq)]
 pub enum Plane {
     XY,
@@ -14,7 +14,8 @@ pub enum Distance {
     Incremental,
 }
 
-/// What an F word gives: lengths a minute (G94), or how often a minute the motion could be made (G93).
+/// What an F word gives: lengths a minute (G94), or how often a minute the motion could be made
+/// (G93).
 #[derive(Clone, Copy, Debug, PartialEq, Eq)]
 pub enum FeedMode {
     PerMinute,

@@ -27,8 +27,8 @@ pub struct StepPos {
     pub z: i32,
 }
 
-/// The grid points from the lowest corner to the highest, both included. With a low corner above the high one on some axis
-/// it holds no point.
+/// The grid points from the lowest corner to the highest, both included. With a low corner above
+/// the high one on some axis it holds no point.
 #[derive(Clone, Copy, Debug, PartialEq, Eq)]
 pub struct GridBox {
     pub low: StepPos,

@@ -74,7 +74,8 @@ impl Value {
         Value::from_millionths(rounded_quotient(product, 1_000_000))
     }
 
-    /// The quotient to the nearest millionth, ties away from zero; `DivisionByZero` at a zero divisor, or `TooLarge`.
+    /// The quotient to the nearest millionth, ties away from zero; `DivisionByZero` at a zero
+    /// divisor, or `TooLarge`.
     pub fn div(self, other: Value) -> Result<Value, NumberFault>
         ensures { result ≡ quotient self other }
     {
@@ -85,8 +86,8 @@ impl Value {
         Value::from_millionths(rounded_quotient(dividend, i128::from(other.millionths)))
     }
 
-    /// So many units in nanometres, to the nearest one, ties away from zero. A feed, in nanometres a minute, has no other
-    /// bound than a value's.
+    /// So many units in nanometres, to the nearest one, ties away from zero. A feed, in nanometres
+    /// a minute, has no other bound than a value's.
     pub fn nanometres(self, units: Units) -> i64
         ensures value { result ≡ nanometres_of units self }
         ensures bound { unsigned_abs result ≤ 25400000000000000 }
@@ -95,7 +96,8 @@ impl Value {
         rounded_quotient(product, 1_000_000) as i64
     }
 
-    /// The length of so many units to the nearest nanometre, ties away from zero, or `TooLarge` above 10^11 nm.
+    /// The length of so many units to the nearest nanometre, ties away from zero, or `TooLarge`
+    /// above 10^11 nm.
     pub fn to_nm(self, units: Units) -> Result<Nm, NumberFault>
         ensures { result ≡ length_of units self }
     {

@@ -1,6 +1,7 @@
--- What a line may say, and how it is spelled (NISTIR 6556, 3.3, "Format of a line"). A line is, in order, an optional '/' (block
--- delete), an optional line number, and words, parameter settings and comments in any number and order; here each is a tree, and
--- its spelling a text without white space, letters in upper case. Our own: the remark behind ';', and that a sign stands before
+-- What a line may say, and how it is spelled (NISTIR 6556, 3.3, "Format of a line"). A line is, in
+-- order, an optional '/' (block delete), an optional line number, and words, parameter settings and
+-- comments in any number and order; here each is a tree, and its spelling a text without white
+-- space, letters in upper case. Our own: the remark behind ';', and that a sign stands before
 -- digits alone, so that -#1 and -[..] have no spelling.
 use Rattle.std.specs.Prelude.{ℕ, ◌≡◌, ◌≢◌, ◌≤◌, ◌<◌, List, [], ◌∷◌, ◌++◌, length, Option, Some, None, Bool, false, IsTrue, if◌then◌else◌, ◌+◌}
 use Rattle.std.specs.Char.{is_ascii_digit}
@@ -16,14 +17,16 @@ pub data Sign : Type 0 where
   plus : Sign
   minus : Sign
 
--- a number as it is written (3.3.2.1): a sign or none, digits, and further ones where there is a point
+-- a number as it is written (3.3.2.1): a sign or none, digits, and further ones where there is a
+-- point
 pub record Numeral : Type 0 where
   pub sign : Sign
   pub whole : List ℕ
   pub decimals : Option (List ℕ)
 
--- A real value: a number; a parameter's value, by its index (3.3.2.2); an expression in brackets (3.3.2.3), as its first value
--- and what follows that there: the bracket's end, or an operator, a value and what follows that.
+-- A real value: a number; a parameter's value, by its index (3.3.2.2); an expression in brackets
+-- (3.3.2.3), as its first value and what follows that there: the bracket's end, or an operator, a
+-- value and what follows that.
 mutual
   pub data Real : Type 0 where
     number : Numeral → Real
@@ -34,13 +37,15 @@ mutual
     close : Rest
     next : Operator → Real → Rest → Rest
 
--- a word, its letter and value (3.3.2); a setting, its index and value (3.3.3); a comment in parentheses (3.3.4)
+-- a word, its letter and value (3.3.2); a setting, its index and value (3.3.3); a comment in
+-- parentheses (3.3.4)
 pub data Item : Type 0 where
   word : Letter → Real → Item
   setting : Real → Real → Item
   comment : List ℕ → Item
 
--- a line: whether it begins with '/', its number's digits (3.3.1), its items, and what stands after a semicolon
+-- a line: whether it begins with '/', its number's digits (3.3.1), its items, and what stands after
+-- a semicolon
 pub record Reading : Type 0 where
   pub deleted : Bool
   pub number : Option (List ℕ)

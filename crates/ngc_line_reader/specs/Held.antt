@@ -1,5 +1,6 @@
--- How a Line holds a reading: words and settings in the order in which they are written (NISTIR 6556, 3.3.6), with their columns,
--- and the tokens of all values in one list. The limits are our own.
+-- How a Line holds a reading: words and settings in the order in which they are written (NISTIR
+-- 6556, 3.3.6), with their columns, and the tokens of all values in one list. The limits are our
+-- own.
 use Rattle.std.specs.Prelude.{ℕ, ◌+◌, ◌≤◌, ◌≡◌, List, [], ◌∷◌, ◌++◌, length}
 use Rattle.std.specs.Option.{option_map}
 use Rattle.ngc_line_reader.specs.declared.token.Token.{Token}
@@ -27,8 +28,9 @@ token_count (word letter value) = length (symbols_of value)
 token_count (setting index value) = length (symbols_of index) + length (symbols_of value)
 token_count (comment bytes) = 0
 
--- The words, with their columns and the places where their tokens begin. The first item's tokens begin at first, end is
--- the text behind the items, and place gives the column of a byte by the number of bytes from it on.
+-- The words, with their columns and the places where their tokens begin. The first item's tokens
+-- begin at first, end is the text behind the items, and place gives the column of a byte by the
+-- number of bytes from it on.
 abbrev pub words_from : (ℕ → ℕ) → ℕ → List Item → List ℕ → List RawWord
 words_from place first [] end = []
 words_from place first (word letter value ∷ items) end =

@@ -1,4 +1,5 @@
--- How the words, settings and tokens of lines are kept: one line's behind the other's, and for each line where its own lie.
+-- How the words, settings and tokens of lines are kept: one line's behind the other's, and for each
+-- line where its own lie.
 use Rattle.std.specs.Prelude.{ℤ, ◌+◌, ◌≤◌, ◌≡◌, List, [], length, slice_range, map, Bool, Option, Some, None, Result, Ok, Err}
 use Rattle.std.specs.List.{AllByRecursion}
 use Rattle.ngc_line_reader.specs.declared.fault.LineFault.{LineFault}

@@ -1,5 +1,5 @@
--- The letters that begin words (NISTIR 6556, 3.3.2 and its table of letters). All of that table's letters can be written; N is
--- the line number's.
+-- The letters that begin words (NISTIR 6556, 3.3.2 and its table of letters). All of that table's
+-- letters can be written; N is the line number's.
 use Rattle.std.specs.Prelude.{ℕ, ◌==◌, List, [], ◌∷◌, Option, find}
 use Rattle.ngc_line_reader.specs.declared.letter.Letter.{Letter}
 use Rattle.ngc_line_reader.specs.declared.letter.Letter.TheVariants as letters

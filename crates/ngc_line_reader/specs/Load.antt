@@ -26,7 +26,8 @@ abbrev pub after_blanks : List ℕ → List ℕ
 after_blanks [] = []
 after_blanks (b ∷ rest) = if (b == 32) || (b == 9) then after_blanks rest else b ∷ rest
 
--- the number of the line after so many that are read: in a marked file the first % line stands before it
+-- the number of the line after so many that are read: in a marked file the first % line stands
+-- before it
 abbrev pub number_in : Phase → ℕ → ℕ
 number_in Start done = done + 1
 number_in Marked done = done + 2
@@ -105,7 +106,8 @@ pub record GoesOn (lines : List ℕ → List (List ℕ)) (line rest : List ℕ) 
   pub behind : List (List ℕ)
   pub split : lines (line ++ rest) ≡ (line ++ more) ∷ behind
 
--- A way to part bytes into lines: a line feed ends one, and one that is too long already goes on whatever follows.
+-- A way to part bytes into lines: a line feed ends one, and one that is too long already goes on
+-- whatever follows.
 pub record PartsLines (lines : List ℕ → List (List ℕ)) : Type 0 where
   pub ends : (line rest : List ℕ) → NoFeed line → lines (line ++ (10 ∷ rest)) ≡ line ∷ lines rest
   pub long : (line rest : List ℕ) → NoFeed line → 256 < length line → GoesOn lines line rest

@@ -1,5 +1,5 @@
--- What a number is worth (NISTIR 6556, 3.3.2.1), in millionths. Our own: decimals from the seventh on are rounded to the nearest
--- millionth, ties away from zero.
+-- What a number is worth (NISTIR 6556, 3.3.2.1), in millionths. Our own: decimals from the seventh
+-- on are rounded to the nearest millionth, ties away from zero.
 use Rattle.std.specs.Prelude.{ℕ, ◌+◌, ◌-◌, ◌*◌, ◌^◌, ℤ, pos, neg_ℤ, List, ◌++◌, length, Bool, true, false}
 use Rattle.std.specs.List.{fold}
 use Rattle.ngc_fixed_length.specs.Rounding.{nearest_size}

@@ -1,11 +1,12 @@
 -- Which lines of a file are read, and the number that each has in the file.
 --
--- From NISTIR 6556 come the lines themselves (section 3.3, "Format of a line") and the files that are demarcated with
--- percents: if the first line that isn't blank has nothing but a percent sign and white space, a second such line must
--- follow, and what stands behind it is ignored.
+-- From NISTIR 6556 come the lines themselves (section 3.3, "Format of a line") and the files that
+-- are demarcated with percents: if the first line that isn't blank has nothing but a percent sign
+-- and white space, a second such line must follow, and what stands behind it is ignored.
 --
--- Our own are: a line ends at a line feed, and the last may lack it; a line of more than 256 bytes is no percent line; in a
--- file that isn't marked a percent line ends the text too; and the blank lines in front of the first percent line are read.
+-- Our own are: a line ends at a line feed, and the last may lack it; a line of more than 256 bytes
+-- is no percent line; in a file that isn't marked a percent line ends the text too; and the blank
+-- lines in front of the first percent line are read.
 use Rattle.std.specs.Prelude.{ℕ, ◌+◌, ◌==◌, ◌&&◌, nat_le, List, [], ◌∷◌, length, take_while, Bool, true, false, not, if◌then◌else◌}
 use Rattle.std.specs.List.{list_any}
 use Rattle.ngc_line_reader.specs.Text.{text}

@@ -1,5 +1,5 @@
--- Reading a whole line, with the first fault that is met. A line of more than 256 bytes is refused at column 257 before any other
--- fault (our own).
+-- Reading a whole line, with the first fault that is met. A line of more than 256 bytes is refused
+-- at column 257 before any other fault (our own).
 use Rattle.std.specs.Prelude.{ℕ, List, length, nat_le, Result, Err, if◌then◌else◌}
 use Rattle.ngc_line_reader.specs.declared.fault.FaultKind.TheVariants.{LineTooLong}
 use Rattle.ngc_line_reader.specs.declared.fault.LineFault.{LineFault}

@@ -9,7 +9,8 @@ use Rattle.ngc_line_reader.specs.Grammar.{Numeral, IsNumeral, numeral_text, Item
 use Rattle.ngc_line_reader.specs.Numbers.{numeral_value}
 use Rattle.ngc_line_reader.specs.Held.{word_count}
 
--- a whole number that is no value stands in it: behind a byte and before a text that are no parts of a number
+-- a whole number that is no value stands in it: behind a byte and before a text that are no parts
+-- of a number
 pub record HasTooLarge (s : List ℕ) : Type 0 where
   pub front : List ℕ
   pub mark : ℕ

@@ -1,5 +1,6 @@
--- Reading a real value from left to right, with the first fault that is met (our own: the manual names no faults). The
--- definitions on lines stand on Grammar; these say only which fault is answered, and what was read up to it.
+-- Reading a real value from left to right, with the first fault that is met (our own: the manual
+-- names no faults). The definitions on lines stand on Grammar; these say only which fault is
+-- answered, and what was read up to it.
 use Rattle.std.specs.Prelude.{ℕ, zero, suc, ◌≡◌, ◌==◌, ◌&&◌, ◌||◌, nat_le, not, ℤ, List, [], ◌∷◌, ◌++◌, length, drop, Option, Some, None, Bool, false, Result, Ok, Err, if◌then◌else◌}
 use Rattle.std.specs.Char.{is_ascii_digit}
 use Rattle.std.specs.List.{take_while, prefix_len}
@@ -31,7 +32,8 @@ abbrev pub begins : ℕ → List ℕ → Bool
 begins b [] = false
 begins b (c ∷ s) = c == b
 
--- the characters that stand somewhere outside comments: digits, letters and # % ( ) * + - . / ; = [ ]
+-- the characters that stand somewhere outside comments: digits, letters and # % ( ) * + - . / ; = [
+-- ]
 abbrev pub is_known : ℕ → Bool
 is_known c = (nat_le 65 c && nat_le c 91) || (nat_le 45 c && nat_le c 57) || (nat_le 40 c && nat_le c 43) || (c == 35) || (c == 37) || (c == 59) || (c == 61) || (c == 93)
 

@@ -1,4 +1,5 @@
--- Reading the items of a line from left to right, with the first fault that is met (our own: the manual names no faults).
+-- Reading the items of a line from left to right, with the first fault that is met (our own: the
+-- manual names no faults).
 use Rattle.std.specs.Prelude.{ℕ, zero, suc, ◌+◌, ◌==◌, ◌&&◌, ◌||◌, nat_le, not, List, [], ◌∷◌, ◌++◌, length, drop, slice_index, Option, Some, None, Bool, Result, Ok, Err, if◌then◌else◌}
 use Rattle.std.specs.Char.{is_ascii_digit}
 use Rattle.std.specs.List.{prefix_len}

@@ -1,4 +1,5 @@
--- What a line says in words, settings and tokens, where it lies (NISTIR 6556, 3.3.6); how lines are kept is our own.
+-- What a line says in words, settings and tokens, where it lies (NISTIR 6556, 3.3.6); how lines are
+-- kept is our own.
 use Rattle.std.specs.Prelude.{ℕ, ◌≡◌, List, Bool}
 use Rattle.ngc_line_reader.specs.declared.line.LineView.{LineView}
 use Rattle.ngc_line_reader.specs.declared.line.RawWord.{RawWord}

@@ -1,4 +1,5 @@
--- How lines are stored: their bytes one behind the other, and for each line its number and where it ends.
+-- How lines are stored: their bytes one behind the other, and for each line its number and where it
+-- ends.
 use Rattle.std.specs.Prelude.{ℕ, zero, suc, ◌*◌, ◌==◌, ◌&&◌, nat_le, is_ok, List, [], ◌∷◌, length, slice_range, Bool}
 use Rattle.std.specs.List.{list_all}
 use Rattle.ngc_line_reader.specs.declared.program.stored.LineEnd.{LineEnd}

@@ -1,12 +1,14 @@
--- The text of a line: what white space and the case of letters don't change (NISTIR 6556, 3.3: spaces and tabs stand anywhere
--- but in comments, inside numbers too, and letters are read without regard to case there). Our own: a carriage return is white
--- space where it is the line's last byte, and ';' outside parentheses begins a comment up to the line's end.
+-- The text of a line: what white space and the case of letters don't change (NISTIR 6556, 3.3:
+-- spaces and tabs stand anywhere but in comments, inside numbers too, and letters are read without
+-- regard to case there). Our own: a carriage return is white space where it is the line's last
+-- byte, and ';' outside parentheses begins a comment up to the line's end.
 use Rattle.std.specs.Prelude.{ℕ, ◌-◌, ◌+◌, List, [], ◌∷◌, ◌++◌, length, Option, Some, None, Bool, ◌==◌, ◌&&◌, ◌||◌, nat_le, slice_index, if◌then◌else◌}
 use Rattle.std.specs.Option.{option_to_list, option_map}
 use Rattle.ngc_line_reader.specs.declared.text.Place.{Place}
 use Rattle.ngc_line_reader.specs.declared.text.Place.TheVariants.{Outside, InComment, InRemark}
 
--- where the byte after b stands: '(' opens a comment, ')' closes it, ';' begins a remark, which nothing closes
+-- where the byte after b stands: '(' opens a comment, ')' closes it, ';' begins a remark, which
+-- nothing closes
 abbrev pub place_after : Place → ℕ → Place
 place_after Outside b = if b == 40 then InComment else (if b == 59 then InRemark else Outside)
 place_after InComment b = if b == 41 then Outside else InComment
@@ -19,7 +21,8 @@ is_blank b last = (b == 32) || ((b == 9) || ((b == 13) && last))
 abbrev pub upper : ℕ → ℕ
 upper b = if nat_le 97 b && nat_le b 122 then b - 32 else b
 
--- what the text has of a byte: outside comments nothing of a blank, and letters in upper case; inside every byte as it is
+-- what the text has of a byte: outside comments nothing of a blank, and letters in upper case;
+-- inside every byte as it is
 abbrev pub kept : Place → ℕ → Bool → Option ℕ
 kept Outside b last = if is_blank b last then None else Some (upper b)
 kept InComment b last = Some b

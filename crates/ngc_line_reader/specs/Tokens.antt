@@ -1,5 +1,5 @@
--- A real value as the list of its symbols, in the order in which they are written, and as tokens, which are symbols with their
--- columns.
+-- A real value as the list of its symbols, in the order in which they are written, and as tokens,
+-- which are symbols with their columns.
 use Rattle.std.specs.Prelude.{ℕ, List, [], ◌∷◌, ◌++◌, length, map}
 use Rattle.ngc_fixed_length.specs.Limits.{IsValue}
 use Rattle.ngc_line_reader.specs.declared.token.Symbol.{Symbol}
@@ -22,7 +22,8 @@ abbrev mutual
 abbrev pub symbols : List Token → List Symbol
 symbols tokens = map (λ t. t.symbol) tokens
 
--- a symbol that is the first of a text; place gives the column of a byte by the number of bytes from it on
+-- a symbol that is the first of a text; place gives the column of a byte by the number of bytes
+-- from it on
 abbrev pub token_at : (ℕ → ℕ) → Symbol → List ℕ → Token
 token_at place symbol text = record { symbol = symbol; column = place (length text) }
 

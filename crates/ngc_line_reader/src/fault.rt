@@ -28,7 +28,8 @@ pub enum FaultKind {
     TooManyWords,
 }
 
-/// Why a line is refused, and the column, from 1, of the first byte of the item that it is refused for.
+/// Why a line is refused, and the column, from 1, of the first byte of the item that it is refused
+/// for.
 #[derive(Clone, Copy, Debug, PartialEq, Eq, Error)]
 #[error("{kind}, column {column}")]
 pub struct LineFault {

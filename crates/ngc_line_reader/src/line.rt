@@ -12,7 +12,8 @@ pub struct RawWord {
     pub first: u16,
 }
 
-/// A setting: its column, from 1, and where in the line's tokens those of its index and of its value begin.
+/// A setting: its column, from 1, and where in the line's tokens those of its index and of its
+/// value begin.
 #[derive(Clone, Copy, Default, PartialEq, Eq)]
 pub struct RawSetting {
     pub column: u16,
@@ -20,8 +21,8 @@ pub struct RawSetting {
     pub value: u16,
 }
 
-/// What a line says: whether block delete takes it out, its number, and its words, settings and tokens in the order in which
-/// they are written.
+/// What a line says: whether block delete takes it out, its number, and its words, settings and
+/// tokens in the order in which they are written.
 #[derive(Drop)]
 pub struct Line {
     pub deleted: bool,
@@ -31,7 +32,8 @@ pub struct Line {
     pub tokens: ArrayVec<Token, 256>,
 }
 
-/// What a line says, but for its number, where it lies: at most 64 words, 64 settings and 256 tokens.
+/// What a line says, but for its number, where it lies: at most 64 words, 64 settings and 256
+/// tokens.
 #[derive(Clone, Copy)]
 pub struct LineView<'a> {
     pub deleted: bool,

@@ -61,7 +61,8 @@ impl<A: Allocator> Program<A> {
         self.lines.number(index)
     }
 
-    /// The bytes of a line that is read, without its line feed. Reading them again answers no fault.
+    /// The bytes of a line that is read, without its line feed. Reading them again answers no
+    /// fault.
     pub fn bytes(&self, index: usize) -> &[u8]
         requires { index < length (text_in self.now).lines }
         ensures value { option_map (λ l. l.bytes) (slice_get (text_in self.now).lines index) ≡ Some result.now }
@@ -70,9 +71,10 @@ impl<A: Allocator> Program<A> {
         self.lines.bytes(index)
     }
 
-    /// What a line that is read says, in place of what `line` holds, as `Line::read` finds it in the line's bytes: whether block
-    /// delete takes it out, its words, its settings, and the symbols of its values. It was kept when the line was read, without
-    /// the columns of tokens, which are 0 then, and without the number behind `N`, so `line.number` stays as it is.
+    /// What a line that is read says, in place of what `line` holds, as `Line::read` finds it in
+    /// the line's bytes: whether block delete takes it out, its words, its settings, and the
+    /// symbols of its values. It was kept when the line was read, without the columns of tokens,
+    /// which are 0 then, and without the number behind `N`, so `line.number` stays as it is.
     pub fn load(&self, index: usize, line: &mut Line)
         requires { index < length (text_in self.now).lines }
         ensures { (bytes : List ℕ) → option_map (λ l. l.bytes) (slice_get (text_in self.now).lines index) ≡ Some bytes → ShowsReading bytes line.new.deleted (parts_of line.new) }
@@ -88,12 +90,13 @@ impl<A: Allocator> Program<A> {
         Program { lines, marked }
     }
 
-    /// The lines of a file up to the end of its text, or the first fault. No more is pulled once the text has ended or a
-    /// fault stands.
+    /// The lines of a file up to the end of its text, or the first fault. No more is pulled once
+    /// the text has ended or a fault stands.
     pub fn read<R: Source>(alloc: A, source: &mut R) -> Result<Program<A>, ReadFault>
     where
         A: Copy,
-        // Where the source's bytes are known, the answer is what they say, but for want of memory and the source's failure.
+        // Where the source's bytes are known, the answer is what they say, but for want of memory
+        // and the source's failure.
         ensures text { IfSome (R.remaining source.old) (λ bytes. OutcomeIs result (program_of bytes)) }
         // Each line has a reading.
         ensures readings { IfOk result (λ p. HaveReadings (text_in p).lines) }

@@ -1,5 +1,10 @@
+-- Look-up in two tables, one after the other.
 pub mod TableLaws
+-- Words by letter and value.
 pub mod Words
+-- A list that grows by what stands.
 pub mod Standing
+-- A line's effects come in order of their ranks, and are few.
 pub mod Ranks
+-- Lines, computed: a definition that says another thing fails here.
 mod Examples

@@ -1,4 +1,5 @@
--- A line's block: of each modal group the one code, of each letter the one value (NISTIR 6556, 3.4 and 3.3.5).
+-- A line's block: of each modal group the one code, of each letter the one value (NISTIR 6556, 3.4
+-- and 3.3.5).
 use Rattle.std.specs.Prelude.{ℤ, nat_lt, List, [], ◌∷◌, Option, Some, None, Result, Ok, Err, Bool, true, false, count_by, is_some, if◌then◌else◌, ◌||◌}
 use Rattle.ngc_line_reader.specs.declared.letter.Letter.{Letter}
 use Rattle.ngc_line_reader.specs.declared.letter.Letter.TheVariants as letters
@@ -49,7 +50,8 @@ no_words = record {
   t = None;
 }
 
--- whether the block has a code of a code's group already; M7 and M8 may stand together, and neither with M9
+-- whether the block has a code of a code's group already; M7 and M8 may stand together, and neither
+-- with M9
 abbrev pub has_group : Code → Block → Bool
 has_group (codes.Motion c) b = is_some b.motion
 has_group (codes.Plane c) b = is_some b.plane

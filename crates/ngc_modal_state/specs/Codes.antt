@@ -1,5 +1,5 @@
--- Which code a G or M word's value is (NISTIR 6556, 3.5 and 3.6). A code is written in tenths: 592 is G59.2.
--- A value must be a code exactly: our own rule, as the manual allows a small difference.
+-- Which code a G or M word's value is (NISTIR 6556, 3.5 and 3.6). A code is written in tenths: 592
+-- is G59.2. A value must be a code exactly: our own rule, as the manual allows a small difference.
 use Rattle.std.specs.Prelude.{ℕ, ◌/◌, ◌%◌, ◌==◌, ℤ, pos, negsuc, List, [], ◌∷◌, ◌++◌, Option, Some, None, Result, Ok, Err, Bool, true, false, if◌then◌else◌}
 use Rattle.ngc_fixed_length.specs.declared.units.Units.TheVariants.{Millimetres, Inches}
 use Rattle.ngc_fixed_length.specs.declared.modes.Plane.TheVariants.{XY, ZX, YZ}

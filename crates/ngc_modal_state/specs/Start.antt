@@ -1,4 +1,5 @@
--- The modes at the start: G80 G17 G21 G90 G94 G98 G64. Our own: the manual leaves most of them to the machine.
+-- The modes at the start: G80 G17 G21 G90 G94 G98 G64. Our own: the manual leaves most of them to
+-- the machine.
 use Rattle.ngc_fixed_length.specs.declared.units.Units.TheVariants.{Millimetres}
 use Rattle.ngc_fixed_length.specs.declared.modes.Plane.TheVariants.{XY}
 use Rattle.ngc_fixed_length.specs.declared.modes.Distance.TheVariants.{Absolute}

@@ -1,4 +1,5 @@
--- Which code uses which letter, and what is missing (NISTIR 6556, 3.5 and 3.7; which words are refused is our own rule).
+-- Which code uses which letter, and what is missing (NISTIR 6556, 3.5 and 3.7; which words are
+-- refused is our own rule).
 use Rattle.std.specs.Prelude.{ℕ, ◌/◌, ◌%◌, ◌==◌, nat_le, ℤ, [], ◌∷◌, unsigned_abs, Option, Some, None, Result, Bool, false, not, is_some, is_none, unwrap_or, ◌&&◌, ◌||◌, if◌then◌else◌}
 use Rattle.ngc_fixed_length.specs.Signed.{is_negative}
 use Rattle.ngc_fixed_length.specs.Limits.{MILLION}
@@ -39,11 +40,13 @@ plane_of m b = unwrap_or b.plane m.plane
 abbrev pub feed_mode_of : Modes → Block → FeedMode
 feed_mode_of m b = unwrap_or b.feed_mode m.feed_mode
 
--- the motion code that is in force on the line: one that is kept is suspended by G10, G28, G30 and G92
+-- the motion code that is in force on the line: one that is kept is suspended by G10, G28, G30 and
+-- G92
 abbrev pub in_force : Modes → Block → MotionMode
 in_force m b = unwrap_or b.motion (if takes_axes b.once then Cancel else m.motion)
 
--- the motion code that uses the line's letters: a kept one does so only with axis words, or as an arc
+-- the motion code that uses the line's letters: a kept one does so only with axis words, or as an
+-- arc
 abbrev pub user : Modes → Block → MotionMode
 user m b = unwrap_or b.motion (if has_axes b || is_arc (in_force m b) then in_force m b else Cancel)
 
@@ -92,7 +95,8 @@ uses_l code motion = sets_origin code || is_cycle motion
 abbrev pub idle : Option ℤ → Bool → Bool
 idle word used = is_some word && not used
 
--- The letter of a word that stands there and that nothing uses: of several the first in this order. F, S and T may always stand.
+-- The letter of a word that stands there and that nothing uses: of several the first in this order.
+-- F, S and T may always stand.
 unfoldable pub idle_letter : Modes → Block → Option Letter
 idle_letter m b = first_where (
     (idle b.axes.x (uses_axes m b), X) ∷

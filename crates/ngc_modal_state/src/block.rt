@@ -107,7 +107,8 @@ impl Block {
         }
     }
 
-    // Whether there is a code of the same group already: M7 and M8 may stand together, and neither with M9.
+    // Whether there is a code of the same group already: M7 and M8 may stand together, and neither
+    // with M9.
     fn has_group(&self, code: Code) -> bool
         ensures { result ≡ has_group code self.now }
     {
@@ -194,8 +195,8 @@ impl Block {
         Ok(())
     }
 
-    /// The block of a line's words. Where they make none: more than four M words (202), or else what is wrong with the
-    /// first word from the left that doesn't fit (201, 203 to 205).
+    /// The block of a line's words. Where they make none: more than four M words (202), or else
+    /// what is wrong with the first word from the left that doesn't fit (201, 203 to 205).
     pub fn new(words: &[Word]) -> Result<Block, ModalFault>
         ensures { result ≡ block_of (pairs_of words.now) }
     {

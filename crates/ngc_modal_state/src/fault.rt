@@ -25,7 +25,8 @@ pub enum ModalFault {
     /// 203
     #[error("a letter that may stand once is repeated")]
     LetterRepeated,
-    /// 204: the word's letter, G or M, and its value in millionths. It is the first from the left that doesn't fit.
+    /// 204: the word's letter, G or M, and its value in millionths. It is the first from the left
+    /// that doesn't fit.
     #[error("the {} code is unknown", spelled(*.letter))]
     UnknownCode { letter: Letter, millionths: i64 },
     /// 205: A, B, C, D, G38.2, G41, G42, G84, G87, G88.
@@ -34,11 +35,12 @@ pub enum ModalFault {
     /// 206
     #[error("two codes on the line use the same word")]
     ClaimedTwice,
-    /// 207: the letter of a word that nothing uses, of several the first of X, Y, Z, I, J, K, R, P, L, Q, H (our own).
+    /// 207: the letter of a word that nothing uses, of several the first of X, Y, Z, I, J, K, R, P,
+    /// L, Q, H (our own).
     #[error("no code on the line uses the word {}", spelled(*.0))]
     WithoutUse(Letter),
-    /// 208: of several words the first of P of G4, L and P of G10, H of G43, an axis word, F in inverse time, and on a cycle's
-    /// first line R, the bottom, P, Q (our own).
+    /// 208: of several words the first of P of G4, L and P of G10, H of G43, an axis word, F in
+    /// inverse time, and on a cycle's first line R, the bottom, P, Q (our own).
     #[error("{0}, which a code on the line needs, is missing")]
     WordMissing(MissingWord),
     /// 209

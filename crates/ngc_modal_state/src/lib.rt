@@ -1,4 +1,5 @@
-//! A line's words by modal groups, which code uses which letter, and what the line does in order of execution.
+//! A line's words by modal groups, which code uses which letter, and what the line does in order of
+//! execution.
 #![tactic(auto)]
 
 mod block;

@@ -209,7 +209,8 @@ impl Block {
         add(effects, self.dwell_effect());
     }
 
-    // Plane, units, radius compensation, tool length, coordinate system, path control, distance and return mode.
+    // Plane, units, radius compensation, tool length, coordinate system, path control, distance and
+    // return mode.
     #[tactic(auto, unfolding(crate::specs::Effects::mode_effects))]
     fn add_modes(&self, effects: &mut ArrayVec<Effect, 24>)
         requires { array_vec_len effects.old ≤ 16 }
@@ -242,9 +243,9 @@ impl Block {
         add(effects, self.stopping.map(Effect::Stopping));
     }
 
-    /// What the line does, in order of execution, in place of what `effects` holds. Refused, by 210 or else the first of 206
-    /// to 209 that applies, where a word is claimed twice, without use, missing or out of its range. After a fault what
-    /// `effects` holds is unspecified.
+    /// What the line does, in order of execution, in place of what `effects` holds. Refused, by 210
+    /// or else the first of 206 to 209 that applies, where a word is claimed twice, without use,
+    /// missing or out of its range. After a fault what `effects` holds is unspecified.
     #[tactic(auto, using(crate::proofs::Standing::in_parts))]
     pub fn effects(
         &self,

@@ -69,7 +69,8 @@ impl Block {
         self.feed_mode.unwrap_or(modes.feed_mode)
     }
 
-    // The motion code that is in force on the line: one that is kept is suspended by G10, G28, G30 and G92.
+    // The motion code that is in force on the line: one that is kept is suspended by G10, G28, G30
+    // and G92.
     pub(crate) fn motion_in_force(&self, modes: &Modes) -> MotionMode
         ensures { result ≡ in_force modes.now self.now }
     {
@@ -80,7 +81,8 @@ impl Block {
         }
     }
 
-    // The motion code that uses the line's letters: a kept one does so only with axis words, or as an arc.
+    // The motion code that uses the line's letters: a kept one does so only with axis words, or as
+    // an arc.
     pub(crate) fn user(&self, modes: &Modes) -> MotionMode
         ensures { result ≡ user modes.now self.now }
     {

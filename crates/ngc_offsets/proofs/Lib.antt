@@ -1,1 +1,2 @@
+-- Places that words give stay in the machine's reach.
 pub mod Reach

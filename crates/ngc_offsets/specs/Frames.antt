@@ -1,4 +1,5 @@
--- Where a programmed place lies in the machine, and how the offsets change (NISTIR 6556, 3.2.2, 3.5.5, 3.5.11, 3.5.13, 3.5.18).
+-- Where a programmed place lies in the machine, and how the offsets change (NISTIR 6556, 3.2.2,
+-- 3.5.5, 3.5.11, 3.5.13, 3.5.18).
 use Rattle.std.specs.Prelude.{ℕ, ℤ, pos, ◌-ℤ◌, List, Option, Some, None, Result, Ok, Err, slice_index_or, slice_set}
 use Rattle.ngc_fixed_length.specs.declared.modes.System.{System}
 use Rattle.ngc_fixed_length.specs.declared.modes.System.TheVariants.{First, Second, Third, Fourth, Fifth, Sixth, Seventh, Eighth, Ninth}
@@ -51,7 +52,8 @@ to_program f p = minus p (shift_of f)
 abbrev pub IsReachable : Offsets → Point3 → Type 0
 IsReachable f p = IsMachinePlace (to_machine f p)
 
--- one axis of an origin or offset: a missing word keeps what was there, and a length gives it by a rule
+-- one axis of an origin or offset: a missing word keeps what was there, and a length gives it by a
+-- rule
 abbrev pub on_axis : (ℤ → Result ℤ FrameFault) → ℤ → Option ℤ → Result ℤ FrameFault
 on_axis rule had None = Ok had
 on_axis rule had (Some l) = rule l

@@ -10,9 +10,9 @@ use crate::range::{coordinate, minus, offset, plus, sum};
 use ngc_fixed_length::{Distance, Nm, Point3, System};
 use std::marker::Model;
 
-/// Where programmed coordinates lie in the machine: the origins of the nine coordinate systems, which of them is active,
-/// the axis offset in force and the one that G92 saved, and the tool length offset, on Z. Each is at most 4*10^9 nm in
-/// size.
+/// Where programmed coordinates lie in the machine: the origins of the nine coordinate systems,
+/// which of them is active, the axis offset in force and the one that G92 saved, and the tool
+/// length offset, on Z. Each is at most 4*10^9 nm in size.
 #[derive(Clone, Copy)]
 pub struct Frames {
     pub origins: [Point3; 9],
@@ -85,7 +85,8 @@ fn new_coordinate(had: Nm, given: Option<Nm>) -> Result<Nm, FrameFault>
     }
 }
 
-// The axis offset after G92, by which a machine place gets the coordinates given; a missing one stays.
+// The axis offset after G92, by which a machine place gets the coordinates given; a missing one
+// stays.
 fn new_axis(
     place: &Point3,
     base: &Point3,
@@ -172,8 +173,8 @@ impl Frames {
         plus(&self.base(), &self.axis_offset)
     }
 
-    /// The machine place of a programmed one: it is offset by the active system's origin, the axis offset and, on Z, the
-    /// tool length offset. NISTIR 6556, 3.2.2.
+    /// The machine place of a programmed one: it is offset by the active system's origin, the axis
+    /// offset and, on Z, the tool length offset. NISTIR 6556, 3.2.2.
     pub fn to_machine(&self, place: Point3) -> Point3
         requires { IsReachable self.now place }
         ensures { result ≡ to_machine self.now place }
@@ -192,9 +193,9 @@ impl Frames {
         minus(&place, &self.shift())
     }
 
-    /// The machine place that a line's lengths give, from the machine place where it begins. After G91 they are added to the
-    /// programmed current point. `BeyondRange` where a programmed coordinate that they give is over 10^9 nm in size.
-    /// NISTIR 6556, 3.5.17.
+    /// The machine place that a line's lengths give, from the machine place where it begins. After
+    /// G91 they are added to the programmed current point. `BeyondRange` where a programmed
+    /// coordinate that they give is over 10^9 nm in size. NISTIR 6556, 3.5.17.
     pub fn target(
         &self,
         distance: Distance,
@@ -210,8 +211,8 @@ impl Frames {
         Ok(plus(&programmed, &shift))
     }
 
-    /// G10 L2: sets a system's origin on the axes given. `BeyondRange` where a length is over 4*10^9 nm in size; the frames
-    /// are then unchanged. NISTIR 6556, 3.5.5.
+    /// G10 L2: sets a system's origin on the axes given. `BeyondRange` where a length is over
+    /// 4*10^9 nm in size; the frames are then unchanged. NISTIR 6556, 3.5.5.
     pub fn set_origin(&mut self, system: System, given: &AxisLengths) -> Result<(), FrameFault>
         ensures { Becomes result self.old self.new (set_origin self.old system given.now) }
     {
@@ -221,9 +222,9 @@ impl Frames {
         Ok(())
     }
 
-    /// G92: makes the machine place have the programmed coordinates given, by the axis offset, which is saved too.
-    /// `BeyondRange` where a coordinate is over 10^9 nm in size or an offset over 4*10^9 nm; the frames are then unchanged.
-    /// NISTIR 6556, 3.5.18.
+    /// G92: makes the machine place have the programmed coordinates given, by the axis offset,
+    /// which is saved too. `BeyondRange` where a coordinate is over 10^9 nm in size or an offset
+    /// over 4*10^9 nm; the frames are then unchanged. NISTIR 6556, 3.5.18.
     pub fn set_axis(&mut self, place: Point3, given: &AxisLengths) -> Result<(), FrameFault>
         ensures { Becomes result self.old self.new (set_axis self.old place given.now) }
     {
@@ -234,8 +235,8 @@ impl Frames {
         Ok(())
     }
 
-    /// G43 with the offset of its tool, or G49 and H0 with 0. `NoSuchTool` where there is none, `BeyondRange` over 4*10^9 nm
-    /// in size; the frames are then unchanged. NISTIR 6556, 3.5.11.
+    /// G43 with the offset of its tool, or G49 and H0 with 0. `NoSuchTool` where there is none,
+    /// `BeyondRange` over 4*10^9 nm in size; the frames are then unchanged. NISTIR 6556, 3.5.11.
     pub fn set_length(&mut self, length: Option<Nm>) -> Result<(), FrameFault>
         ensures { Becomes result self.old self.new (set_length self.old length) }
     {

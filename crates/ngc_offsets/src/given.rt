@@ -28,7 +28,8 @@ fn given_on_axis(distance: Distance, current: Nm, given: Option<Nm>) -> Result<N
     }
 }
 
-/// The place that a line's lengths give from a current place; a missing length keeps its coordinate.
+/// The place that a line's lengths give from a current place; a missing length keeps its
+/// coordinate.
 pub(crate) fn given_place(
     distance: Distance,
     current: &Point3,
@@ -43,9 +44,9 @@ pub(crate) fn given_place(
     Ok(Point3 { x, y, z })
 }
 
-/// The machine place that a line gives with G53, from the machine place where it begins: its lengths are machine
-/// coordinates whatever the distance mode, with no origin, offset or tool length. `BeyondRange` where one is over 10^9 nm
-/// in size. NISTIR 6556, 3.5.12.
+/// The machine place that a line gives with G53, from the machine place where it begins: its
+/// lengths are machine coordinates whatever the distance mode, with no origin, offset or tool
+/// length. `BeyondRange` where one is over 10^9 nm in size. NISTIR 6556, 3.5.12.
 pub fn machine_target(place: Point3, given: &AxisLengths) -> Result<Point3, FrameFault>
     ensures value { result ≡ target_in_machine place given.now }
     ensures range { IsMachinePlace place → IfOk result IsMachinePlace }

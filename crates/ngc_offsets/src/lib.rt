@@ -1,4 +1,5 @@
-//! Coordinate systems, axis offsets and tool length: where programmed coordinates lie in the machine.
+//! Coordinate systems, axis offsets and tool length: where programmed coordinates lie in the
+//! machine.
 #![tactic(auto)]
 
 mod fault;

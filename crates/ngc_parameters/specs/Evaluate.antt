@@ -1,5 +1,5 @@
--- Values over symbols, from left to right, for contracts of private functions: Meaning has the values of trees. steps bounds the
--- number of symbols, room the nesting.
+-- Values over symbols, from left to right, for contracts of private functions: Meaning has the
+-- values of trees. steps bounds the number of symbols, room the nesting.
 use Rattle.std.specs.Prelude.{ℕ, zero, suc, ◌-◌, ◌==◌, ℤ, List, [], ◌∷◌, Result, Ok, Err, if◌then◌else◌}
 use Rattle.ngc_line_reader.specs.declared.token.Operator.TheVariants.{Add, Subtract, Multiply, Divide}
 use Rattle.ngc_line_reader.specs.declared.token.Symbol.{Symbol}

@@ -1,6 +1,7 @@
--- The value of a real value, from what the parameters hold (NISTIR 6556, 3.3.2.1 to 3.3.2.3, and 3.3.3 for settings): * and / bind
--- tighter than + and -, equal ones go from left to right, and all values of a line are found before its settings are made. Our
--- own: values are whole millionths, rounded to the nearest; an index is exactly whole; at most 16 brackets and # stand in one
+-- The value of a real value, from what the parameters hold (NISTIR 6556, 3.3.2.1 to 3.3.2.3, and
+-- 3.3.3 for settings): * and / bind tighter than + and -, equal ones go from left to right, and all
+-- values of a line are found before its settings are made. Our own: values are whole millionths,
+-- rounded to the nearest; an index is exactly whole; at most 16 brackets and # stand in one
 -- another; of several faults the first from left to right counts.
 use Rattle.std.specs.Prelude.{ℕ, zero, suc, ◌/◌, ◌%◌, ◌==◌, nat_le, ◌&&◌, ℤ, pos, negsuc, unsigned_abs, List, [], ◌∷◌, Result, Ok, Err, if◌then◌else◌}
 use Rattle.ngc_fixed_length.specs.declared.fault.NumberFault.{NumberFault}
@@ -40,7 +41,8 @@ apply Subtract x y = from_number (difference x y)
 apply Multiply x y = from_number (product x y)
 apply Divide x y = from_number (quotient x y)
 
--- what stands in brackets before the term that is being read: nothing, or a sum and the sign after it
+-- what stands in brackets before the term that is being read: nothing, or a sum and the sign after
+-- it
 pub data Before : Type 0 where
   nothing : Before
   left : ℤ → Operator → Before
@@ -50,8 +52,9 @@ abbrev pub joined : Before → ℤ → Result ℤ EvalFault
 joined nothing term = Ok term
 joined (left total operator) term = apply operator total term
 
--- In brackets and behind # the nesting grows by one, and there is room for so much of it.
--- * and / work on the term at once; + and - end it. So these bind less, and equal ones go from left to right.
+-- In brackets and behind # the nesting grows by one, and there is room for so much of it. * and /
+-- work on the term at once; + and - end it. So these bind less, and equal ones go from left to
+-- right.
 unfoldable mutual
   pub value_within : ℕ → Parameters → Real → Result ℤ EvalFault
   value_within room parameters (number n) = from_number (limited (numeral_value n))

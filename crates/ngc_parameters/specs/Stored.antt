@@ -66,7 +66,8 @@ settings_on p tokens ss = settings_after p tokens [] ss
 abbrev pub values_on : Parameters → Parts → Result (List (Letter × ℤ) × List (ℕ × ℤ)) EvalFault
 values_on p line = words_on p line.tokens line.words >>= λ ws. settings_on p line.tokens line.settings >>= λ ss. Ok (ws, ss)
 
--- words' letters and values, and settings' indices and values; all values are found from the same parameters
+-- words' letters and values, and settings' indices and values; all values are found from the same
+-- parameters
 abbrev pub line_values : Parameters → List Item → Result (List (Letter × ℤ) × List (ℕ × ℤ)) EvalFault
 line_values p items = words_of p items >>= λ ws. settings_of p items >>= λ ss. Ok (ws, ss)
 

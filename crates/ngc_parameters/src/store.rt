@@ -183,8 +183,9 @@ impl<A: Allocator> Store<A> {
         Ok(Store { values })
     }
 
-    /// The values of a line's words, and what its settings do, in place of what `values` holds. All are found from what the
-    /// parameters hold now. After a fault what `values` holds is unspecified.
+    /// The values of a line's words, and what its settings do, in place of what `values` holds. All
+    /// are found from what the parameters hold now. After a fault what `values` holds is
+    /// unspecified.
     pub fn read(&self, line: LineView<'_>, values: &mut LineValues) -> Result<(), EvalFault>
         ensures value { (bytes : List ℕ) (r : Reading) → items_of (view_parts line.entry) ≡ items_said bytes r → AllWithinLimit r.items → Gives (λ _. values_in values.new) result (line_values (parameters_of self.now) r.items) }
         ensures not_memory { IfErr result (λ e. e ≢ EvalFault.Memory) }
@@ -192,7 +193,8 @@ impl<A: Allocator> Store<A> {
         line_of(self.values.as_slice(), line, values)
     }
 
-    /// The values of a line's words, and what its settings do. All are found from what the parameters hold now.
+    /// The values of a line's words, and what its settings do. All are found from what the
+    /// parameters hold now.
     pub fn words(&self, line: &Line) -> Result<(ArrayVec<Word, 64>, Changes), EvalFault>
         ensures value { (bytes : List ℕ) (r : Reading) → Holds bytes line.now r → AllWithinLimit r.items → Gives (λ x. (pairs_of x.0.items, changes_of x.1)) result (line_values (parameters_of self.now) r.items) }
         ensures not_memory { IfErr result (λ e. e ≢ EvalFault.Memory) }

@@ -1,4 +1,5 @@
--- The pulses of a run as a value change dump (IEEE 1364-2005, clause 18): what the motor drivers see.
+-- The pulses of a run as a value change dump (IEEE 1364-2005, clause 18): what the motor drivers
+-- see.
 use Rattle.std.specs.Prelude.{ℕ, zero, suc, ◌+◌, ◌-◌, ◌*◌, ◌/◌, ◌^◌, min, nat_eq, ℤ, pos, negsuc, List, [], ◌∷◌, ◌++◌, length, decimal, codes, Bool, true, false, not, if◌then◌else◌}
 use Rattle.ngc_fixed_length.specs.declared.points.StepPos.{StepPos}
 use Rattle.ngc_pulses.specs.declared.axis_step.AxisStep.{AxisStep}
@@ -9,7 +10,8 @@ use Rattle.ngc_pulses.specs.declared.wire.Wire.TheVariants.{XStep, XDirection, Y
 
 -- ---- times
 
--- The nanosecond in which a half tick begins, each rounded down by itself. Times go no further than 64 bits.
+-- The nanosecond in which a half tick begins, each rounded down by itself. Times go no further than
+-- 64 bits.
 abbrev pub time_of : ℕ → ℕ → ℕ
 time_of ticks_per_second half = min (half * 1000000000 / (2 * ticks_per_second)) (2 ^ 64 - 1)
 
@@ -47,7 +49,8 @@ level half high wire s = if s.steps then record { half = half; wire = wire; high
 abbrev pub levels : ℕ → Bool → Steps → List Change
 levels half high s = level half high XStep s.x ++ (level half high YStep s.y ++ level half high ZStep s.z)
 
--- Tick n, the first being tick 1, sets the directions at half tick 2n - 1, the steps at 2n, and takes them back at 2n + 1. Here `before` is n - 1.
+-- Tick n, the first being tick 1, sets the directions at half tick 2n - 1, the steps at 2n, and
+-- takes them back at 2n + 1. Here `before` is n - 1.
 abbrev pub tick_changes : ℕ → Steps → List Change
 tick_changes before s = turns (2 * before + 1) s ++ (levels (2 * before + 2) true s ++ levels (2 * before + 3) false s)
 
@@ -96,7 +99,8 @@ header =
 abbrev pub all_down : Directions
 all_down = record { x = false; y = false; z = false }
 
--- The dump of ticks with these pulses. The last time is that at which a next tick would set its steps, so that viewers show the whole run.
+-- The dump of ticks with these pulses. The last time is that at which a next tick would set its
+-- steps, so that viewers show the whole run.
 abbrev pub vcd : ℕ → List StepPos → List ℕ
 vcd ticks_per_second pulses =
     header ++ (dumped ticks_per_second 0 (changes 0 all_down pulses) ++ stamp ticks_per_second (2 * length pulses + 2))

@@ -31,10 +31,11 @@ $dumpvars
 $end
 ";
 
-/// The value change dump of a run's pulses, behind some of its ticks: a step and a direction of each axis, high for up.
+/// The value change dump of a run's pulses, behind some of its ticks: a step and a direction of
+/// each axis, high for up.
 ///
-/// A tick sets the directions of the axes that step where they change, half a tick later the steps, and half a tick later
-/// takes the steps back. Times are whole nanoseconds, each rounded down.
+/// A tick sets the directions of the axes that step where they change, half a tick later the steps,
+/// and half a tick later takes the steps back. Times are whole nanoseconds, each rounded down.
 #[derive(Drop)]
 pub struct PulseDump {
     stamps: Stamps,
@@ -58,7 +59,8 @@ impl Model for PulseDump {
 }
 
 impl PulseDump {
-    /// A dump behind no ticks, with a machine that stands at a position, in steps. It ticks 1 to 1,000,000 times a second.
+    /// A dump behind no ticks, with a machine that stands at a position, in steps. It ticks 1 to
+    /// 1,000,000 times a second.
     pub fn new(ticks_per_second: u32, position: StepPos) -> PulseDump
         requires { IsRate ticks_per_second }
         ensures { result ≡ first_state ticks_per_second position }

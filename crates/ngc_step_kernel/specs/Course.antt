@@ -1,4 +1,5 @@
--- The course of an arc over the grid of its plane: straight to the joint, to the entry, round with the wheel, and straight to the end.
+-- The course of an arc over the grid of its plane: straight to the joint, to the entry, round with
+-- the wheel, and straight to the end.
 use Rattle.std.specs.Prelude.{◌≡◌, ℕ, zero, suc, ◌+◌, ◌-◌, ◌<◌, ◌≤◌, nat_le, if◌then◌else◌}
 use Rattle.ngc_wheel.specs.declared.spoke.Spoke.{Spoke}
 use Rattle.ngc_wheel.specs.Wheel.{next_roll, IsSmall}

@@ -1,4 +1,5 @@
--- Where a wheel begins: at the joint, or a move on from it where the joint lies behind the start's direction. Our own.
+-- Where a wheel begins: at the joint, or a move on from it where the joint lies behind the start's
+-- direction. Our own.
 use Rattle.std.specs.Prelude.{◌≡◌, ◌⊎◌, ℕ, ◌+◌, ◌<◌, nat_lt, Bool, ℤ, pos, ◌-ℤ◌, ◌*ℤ◌, ◌≤ℤ◌, ◌<ℤ◌, unsigned_abs}
 use Rattle.ngc_wheel.specs.Around.{way_to}
 use Rattle.ngc_wheel.specs.Entering.{IsEntry}

@@ -1,4 +1,5 @@
--- An arc's course, lifted to three axes: the moves of its plane and the steps of its height are each spread over all moves.
+-- An arc's course, lifted to three axes: the moves of its plane and the steps of its height are
+-- each spread over all moves.
 use Rattle.std.specs.Prelude.{◌≡◌, ℕ, ◌+◌, ◌*◌, ◌≤◌, ℤ, pos, neg_ℤ, List}
 use Rattle.ngc_fixed_length.specs.declared.modes.Plane.{Plane}
 use Rattle.ngc_fixed_length.specs.declared.modes.Plane.TheVariants.{XY, ZX, YZ}

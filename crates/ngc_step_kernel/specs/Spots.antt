@@ -51,7 +51,8 @@ roll_move r Second = record { u = opposite (across r); v = along r }
 roll_move r Third = record { u = opposite (along r); v = opposite (across r) }
 roll_move r Fourth = record { u = across r; v = opposite (along r) }
 
--- how many moves straight from p to q there are, and where k of them lead: diagonal first, then along one axis
+-- how many moves straight from p to q there are, and where k of them lead: diagonal first, then
+-- along one axis
 abbrev pub straight_moves : Spot → Spot → ℕ
 straight_moves p q = max (distance p.u q.u) (distance p.v q.v)
 

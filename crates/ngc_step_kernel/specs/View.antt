@@ -33,7 +33,8 @@ pub record IsView (a : View) : Type 0 where
   pub start : IsRadius a.start
   pub end : IsRadius a.end
 
--- along an axis p steps of length g is the grid place nearest to where the way b from c leads once it is moved from radius s to r
+-- along an axis p steps of length g is the grid place nearest to where the way b from c leads once
+-- it is moved from radius s to r
 abbrev pub IsMoved : ℕ → ℕ → ℕ → ℤ → ℤ → ℤ → Type 0
 IsMoved g s r c b p = 2 * unsigned_abs (((c *ℤ pos s) +ℤ (b *ℤ pos r)) -ℤ (p *ℤ pos (s * g))) ≤ s * g
 
@@ -51,7 +52,8 @@ pub record IsInReach (g : ℕ) (c : Way) (p : Spot) : Type 0 where
 abbrev pub way_from : ℕ → Way → Spot → Way
 way_from g c p = record { u = (p.u *ℤ pos g) -ℤ c.u; v = (p.v *ℤ pos g) -ℤ c.v }
 
--- how many quadrants on the end lies from a wheel's first point, so many counted from 0 to 3; none where it is reached before the wheel
+-- how many quadrants on the end lies from a wheel's first point, so many counted from 0 to 3; none
+-- where it is reached before the wheel
 abbrev pub quadrants_left : ℕ → Bool → Bool → Option ℕ
 quadrants_left zero true before = if before then Some 0 else None
 quadrants_left zero false before = Some 4

@@ -201,7 +201,8 @@ impl<W: Wheel + Drop> ArcKernel for RoundPath<W> {
 }
 
 impl RoundPath<SquareWheel> {
-    /// How many square roots were taken for the path: at most 16 once it is made, and no more on the way.
+    /// How many square roots were taken for the path: at most 16 once it is made, and no more on
+    /// the way.
     pub fn roots(&self) -> u64
         ensures { result ≡ self.now.roots }
     {

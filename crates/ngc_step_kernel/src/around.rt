@@ -68,7 +68,8 @@ impl Entry {
     }
 }
 
-/// How many quadrants on the end lies from a wheel's first point, or none where its direction is reached before the wheel.
+/// How many quadrants on the end lies from a wheel's first point, or none where its direction is
+/// reached before the wheel.
 fn quadrants_left(view: &View, first: &Spoke, end: &Spoke) -> Option<u32>
     requires start { IsWay view.now.start }
     requires end { IsWay view.now.end }
@@ -97,7 +98,8 @@ fn is_tiny(view: &View, step: u64) -> bool
     4 * lesser < 9 * u128::from(step * step)
 }
 
-/// The radius of the circle that a wheel rolls on: the end's, or two and a quarter steps where that is less.
+/// The radius of the circle that a wheel rolls on: the end's, or two and a quarter steps where that
+/// is less.
 fn circle_of(radius: u64, step: u64) -> u64
     requires radius { radius ≤ 2000020000 }
     requires short { step ≤ 50000 }
@@ -108,8 +110,9 @@ fn circle_of(radius: u64, step: u64) -> u64
 }
 
 impl Plan {
-    /// From an arc's start to its end, round its centre: straight where it is tiny; else by the joint, the entry and a wheel, but
-    /// without the wheel where the end's direction is reached before it.
+    /// From an arc's start to its end, round its centre: straight where it is tiny; else by the
+    /// joint, the entry and a wheel, but without the wheel where the end's direction is reached
+    /// before it.
     ///
     /// It takes two roots, or none.
     pub(crate) fn around<W: Wheel + Drop>(

@@ -2,15 +2,16 @@ use crate::rolls::rolls;
 use crate::spot::Spot;
 use ngc_wheel::{Spoke, Wheel};
 
-/// An arc's way over the grid of its plane: straight to a joint at the radius of its end, onto the wheel, round with it, and
-/// straight to the end.
+/// An arc's way over the grid of its plane: straight to a joint at the radius of its end, onto the
+/// wheel, round with it, and straight to the end.
 #[derive(Clone, Copy)]
 pub(crate) struct Plan {
     pub start: Spot,
     pub joint: Spot,
     pub entry: Spot,
     pub end: Spot,
-    /// The moves to the joint, those to the entry, those to the wheel's last point, and all of them.
+    /// The moves to the joint, those to the entry, those to the wheel's last point, and all of
+    /// them.
     pub joined: u32,
     pub entered: u32,
     pub rolled: u32,
@@ -87,7 +88,8 @@ impl Plan {
         }
     }
 
-    /// By a joint and an entry, and round from there with a wheel until the end's direction, so many quadrants on, is reached.
+    /// By a joint and an entry, and round from there with a wheel until the end's direction, so
+    /// many quadrants on, is reached.
     pub(crate) fn round<W: Wheel + Drop>(
         start: Spot,
         joint: Spot,

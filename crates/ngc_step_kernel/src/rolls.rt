@@ -26,7 +26,8 @@ fn left_after(left: u32, roll: Roll, at: &Spoke, end: &Spoke) -> Option<u32>
     Some(left)
 }
 
-/// The moves round the centre before the end's direction, so many quadrants on, is reached, and where they lead from the entry.
+/// The moves round the centre before the end's direction, so many quadrants on, is reached, and
+/// where they lead from the entry.
 pub(crate) fn rolls<W: Wheel + Drop>(
     entry: Spot,
     first: Spoke,

@@ -65,8 +65,8 @@ pub(crate) fn limit_of(radius: u64, step: u64) -> u64
     reach * reach
 }
 
-/// The move that leads from a joint behind the start's direction to a point in it or ahead of it: along the lesser axis, and
-/// along the greater one too where the limit asks for it.
+/// The move that leads from a joint behind the start's direction to a point in it or ahead of it:
+/// along the lesser axis, and along the greater one too where the limit asks for it.
 pub(crate) fn entering(joint: Spoke, is_steep: bool, step: u64, limit: u64) -> Roll
     requires x { joint.x ≤ 2900000000 }
     requires y { joint.y ≤ 2900000000 }

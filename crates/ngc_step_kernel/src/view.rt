@@ -9,8 +9,8 @@ use crate::spot::Spot;
 use ngc_arc_geometry::Arc;
 use ngc_fixed_length::{Point2, Turn, rounded_quotient};
 
-/// An arc about its centre, as one that turns from u towards v: a clockwise one is seen in the mirror. Where its centre lies,
-/// and the ways from there to its start and its end, in nanometres.
+/// An arc about its centre, as one that turns from u towards v: a clockwise one is seen in the
+/// mirror. Where its centre lies, and the ways from there to its start and its end, in nanometres.
 #[derive(Clone, Copy)]
 pub(crate) struct View {
     pub centre: Way,
@@ -98,7 +98,8 @@ impl View {
         }
     }
 
-    /// The grid point nearest to where the start lies once it is moved along its ray from its radius to another.
+    /// The grid point nearest to where the start lies once it is moved along its ray from its
+    /// radius to another.
     pub(crate) fn joint(&self, radius: u64, other: u64, step: u64) -> Spot
         requires view { IsView self.now }
         requires some { 0 < radius }

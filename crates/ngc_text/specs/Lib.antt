@@ -3,3 +3,5 @@ pub mod Device
 pub mod Written
 pub mod Input
 pub mod Collected
+pub mod Decimals
+pub mod Millimetres

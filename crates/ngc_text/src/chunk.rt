@@ -1,4 +1,4 @@
-ghost use Rattle.std.specs.Prelude.{◌≡◌, ◌+◌, ◌≤◌, ◌++◌, ℕ, List, [], length, OnOk, OnErr};
+ghost use Rattle.std.specs.Prelude.{◌≡◌, ◌+◌, ◌≤◌, ◌++◌, ℕ, List, [], codes, length, OnOk, OnErr};
 ghost use Rattle.std.specs.Io.KnownBytes.{Appends};
 ghost use Rattle.ngc_text.specs.Failures.{CountsFailure};
 ghost use Rattle.ngc_text.specs.Written.{AppendsBeginning};
@@ -9,7 +9,8 @@ use arrayvec::ArrayVec;
 use itoa::{Buffer, Integer};
 use std::marker::Model;
 
-/// Text that is collected until a large piece of it is written: a system call a line would be too dear.
+/// Text that is collected until a large piece of it is written: a system call a line would be too
+/// dear.
 ///
 /// It holds at most 16,384 bytes, and `make_room` leaves 512 of them free, enough for a line.
 #[derive(Drop)]
@@ -44,7 +45,8 @@ impl Chunk {
         let _ = self.bytes.try_extend_from_slice(text);
     }
 
-    /// Adds a number's decimal digits, behind a minus sign below zero. Room for 40 bytes must be there.
+    /// Adds a number's decimal digits, behind a minus sign below zero. Room for 40 bytes must be
+    /// there.
     pub fn add_number<I: Integer>(&mut self, number: I)
         requires { length self.old + 40 ≤ CHUNK_SIZE }
         ensures text { self.new ≡ self.old ++ I.text number }
@@ -54,7 +56,22 @@ impl Chunk {
         self.add_text(buffer.format(number).as_bytes());
     }
 
-    /// Writes what is collected. After a fault a beginning of it is written, and the sink has counted the failure.
+    /// Adds three numbers as `add_number` does, with a space between each and the next. Room for
+    /// 122 bytes must be there.
+    pub fn add_three<I: Integer>(&mut self, first: I, second: I, third: I)
+        requires { length self.old + 122 ≤ CHUNK_SIZE }
+        ensures text { self.new ≡ self.old ++ I.text first ++ codes " " ++ I.text second ++ codes " " ++ I.text third }
+        ensures short { length self.new ≤ length self.old + 122 }
+    {
+        self.add_number(first);
+        self.add_text(b" ");
+        self.add_number(second);
+        self.add_text(b" ");
+        self.add_number(third);
+    }
+
+    /// Writes what is collected. After a fault a beginning of it is written, and the sink has
+    /// counted the failure.
     pub fn write_out<W: Sink>(&mut self, sink: &mut W) -> Result<(), WriteFault>
         ensures ok { OnOk result (Appends (W.written sink.old) (W.written sink.new) self.old) }
         ensures empty { OnOk result (self.new ≡ []) }

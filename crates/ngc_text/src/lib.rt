@@ -1,13 +1,17 @@
-//! Text on its way in and out: sources and sinks that count their failures, whole files up to a limit, and text in large pieces.
+//! Text on its way in and out: sources and sinks that count their failures, whole files up to a
+//! limit, text in large pieces, decimal spellings and millimetres.
 #![tactic(auto)]
 
 mod chunk;
+mod decimal;
 mod device;
 mod input_fault;
+mod millimetres;
 mod reading;
 mod writing;
 
 pub use chunk::Chunk;
+pub use decimal::decimal_in;
 pub use device::{Device, DeviceFault, Sink, Source};
 pub use input_fault::InputFault;
 pub use reading::{PULL_SIZE, read_whole};

@@ -20,7 +20,8 @@ impl WriteFault {
     }
 }
 
-/// Writes the whole text. After a fault a beginning of it is written, and the sink has counted the failure.
+/// Writes the whole text. After a fault a beginning of it is written, and the sink has counted the
+/// failure.
 pub fn write_all<W: Sink>(sink: &mut W, text: &[u8]) -> Result<(), WriteFault>
     ensures ok { OnOk result (Appends (W.written sink.old) (W.written sink.new) text.now) }
     ensures fault { OnErr result (AppendsBeginning (W.written sink.old) (W.written sink.new) text.now) }

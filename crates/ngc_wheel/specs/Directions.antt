@@ -1,7 +1,8 @@
 -- Directions from the centre, by quadrants counted on from one of them. Our own.
 use Rattle.std.specs.Prelude.{ℕ, zero, suc, ◌+◌, ◌*◌, ◌≤◌}
 
--- Of a point (x, y) of some quadrant and a point (z, w) that lies n quadrants on: their cross product is at least 0.
+-- Of a point (x, y) of some quadrant and a point (z, w) that lies n quadrants on: their cross
+-- product is at least 0.
 abbrev pub IsAhead : ℕ → ℕ → ℕ → ℕ → ℕ → Type 0
 IsAhead zero x y z w = y * z ≤ x * w
 IsAhead (suc zero) x y z w = Unit {0}

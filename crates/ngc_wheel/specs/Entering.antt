@@ -5,9 +5,10 @@ use Rattle.ngc_wheel.specs.declared.spoke.Roll.TheVariants.{Outward, Diagonal, I
 use Rattle.ngc_wheel.specs.declared.spoke.Spoke.{Spoke}
 use Rattle.ngc_wheel.specs.Wheel.{square}
 
--- the move that leads into the direction or ahead of it: over the half axis where that is less than g away; else along the first
--- half axis where the direction is steep and along the second where it isn't, or along both: where it is steep if the limit allows
--- that, where it isn't if the limit doesn't allow the move along the second alone
+-- the move that leads into the direction or ahead of it: over the half axis where that is less than
+-- g away; else along the first half axis where the direction is steep and along the second where it
+-- isn't, or along both: where it is steep if the limit allows that, where it isn't if the limit
+-- doesn't allow the move along the second alone
 abbrev pub IsEntry : ℕ → ℕ → Bool → Spoke → Roll → Type 0
 IsEntry g limit steep s Over = s.x < g
 IsEntry g limit steep s Outward = (steep ≡ false) × (g ≤ s.x) × (square s.x (s.y + g) ≤ limit)

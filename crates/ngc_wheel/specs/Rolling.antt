@@ -37,8 +37,8 @@ pub record IsNearCircle (r d : ℕ) (s : Spoke) : Type 0 where
   pub inner : (r - d) * (r - d) ≤ square s.x s.y
   pub outer : square s.x s.y ≤ (r + d) * (r + d)
 
--- points 0 to n of a wheel whose limit is two fifths of a step beyond the circle of radius r, which has at least eight steps,
--- and which begins within four fifths of a step of it
+-- points 0 to n of a wheel whose limit is two fifths of a step beyond the circle of radius r, which
+-- has at least eight steps, and which begins within four fifths of a step of it
 pub record GoesRound (g r n : ℕ) (at : ℕ → Spoke) (quadrant : ℕ → ℕ) : Type 0 where
   pub step : 500 ≤ g
   pub large : 8 * g ≤ r

@@ -5,7 +5,8 @@ use Rattle.ngc_wheel.specs.declared.square.SquareWheel.TheInside.{Inside as Squa
 use Rattle.ngc_wheel.specs.declared.column.ColumnWheel.TheInside.{Inside as ColumnInside}
 use Rattle.ngc_wheel.specs.Wheel.{square}
 
--- where the point is, how long its moves are, and the greatest squared distance that a move may lead to by choice
+-- where the point is, how long its moves are, and the greatest squared distance that a move may
+-- lead to by choice
 pub record Turning : Type 0 where
   pub place : Spoke
   pub pace : ℕ
@@ -19,7 +20,8 @@ pub record IsSquareWheel (w : SquareInside) : Type 0 where
   pub short_step : w.step ≤ 50000
   pub square : w.square ≡ square w.spoke.x w.spoke.y
 
--- at this coordinate along one axis, how far the limit reaches along the other: the whole root of what it leaves
+-- at this coordinate along one axis, how far the limit reaches along the other: the whole root of
+-- what it leaves
 pub record IsColumn (limit at reach : ℕ) : Type 0 where
   pub inside : at * at ≤ limit
   pub reached : at * at + reach * reach ≤ limit

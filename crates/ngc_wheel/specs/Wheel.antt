@@ -16,8 +16,9 @@ rolled g Diagonal s = record { quadrant = s.quadrant; x = s.x - g; y = s.y + g }
 rolled g Inward s = record { quadrant = s.quadrant; x = s.x - g; y = s.y }
 rolled g Over s = record { quadrant = following s.quadrant; x = s.y; y = g - s.x }
 
--- the move that is due: over the half axis where that is less than g away; else the first of outward, diagonal and inward that
--- leads no farther out than the limit, a squared distance, inward whether it does or not
+-- the move that is due: over the half axis where that is less than g away; else the first of
+-- outward, diagonal and inward that leads no farther out than the limit, a squared distance, inward
+-- whether it does or not
 abbrev pub IsRoll : ℕ → ℕ → Spoke → Roll → Type 0
 IsRoll g limit s Over = s.x < g
 IsRoll g limit s Outward = (g ≤ s.x) × (square s.x (s.y + g) ≤ limit)

@@ -10,8 +10,8 @@ struct Column {
     reach: u64,
 }
 
-/// A wheel that finds how far the limit reaches in each column of the point's greater coordinate, by a root, and keeps that as
-/// long as the point stays in the column.
+/// A wheel that finds how far the limit reaches in each column of the point's greater coordinate,
+/// by a root, and keeps that as long as the point stays in the column.
 #[derive(Drop)]
 pub struct ColumnWheel {
     spoke: Spoke,

@@ -1,5 +1,5 @@
-/// A quadrant of the plane about a centre, from u on in the sense of turning. Each has the half axis that it begins with, and
-/// not the one that it ends with.
+/// A quadrant of the plane about a centre, from u on in the sense of turning. Each has the half
+/// axis that it begins with, and not the one that it ends with.
 #[derive(Clone, Copy)]
 pub enum Quadrant {
     First,
@@ -8,8 +8,9 @@ pub enum Quadrant {
     Fourth,
 }
 
-/// A point about a centre, by its quadrant: `x` along the half axis that the quadrant begins with, `y` along the next one,
-/// both in nanometres. So in each quadrant a point that goes round loses x and gains y.
+/// A point about a centre, by its quadrant: `x` along the half axis that the quadrant begins with,
+/// `y` along the next one, both in nanometres. So in each quadrant a point that goes round loses x
+/// and gains y.
 #[derive(Clone, Copy)]
 pub struct Spoke {
     pub quadrant: Quadrant,
@@ -17,8 +18,8 @@ pub struct Spoke {
     pub y: u64,
 }
 
-/// A move of a point that goes round: along the second half axis away from the centre, along the first towards it, both at
-/// once, or over the second half axis into the next quadrant.
+/// A move of a point that goes round: along the second half axis away from the centre, along the
+/// first towards it, both at once, or over the second half axis into the next quadrant.
 #[derive(Clone, Copy)]
 pub enum Roll {
     Outward,

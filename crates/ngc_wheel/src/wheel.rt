@@ -4,8 +4,8 @@ ghost use Rattle.ngc_wheel.specs.Wheel.{rolled, IsRoll, IsSmall};
 
 use crate::spoke::{Roll, Spoke};
 
-/// A point that goes round a centre by unit moves, along a circle: as far out as a limit lets it. Lengths are nanometres, and
-/// the limit is the square of one.
+/// A point that goes round a centre by unit moves, along a circle: as far out as a limit lets it.
+/// Lengths are nanometres, and the limit is the square of one.
 pub trait Wheel {
     /// Where the point is.
     ghost place: { Self → Spoke };
@@ -16,7 +16,8 @@ pub trait Wheel {
     /// The greatest squared distance from the centre that a move may lead to by choice.
     ghost rim: { Self → ℕ };
 
-    /// A wheel at a point, whose moves are a step of 1 to 50,000 nm long; both coordinates of the point are at most 3*10^9 nm.
+    /// A wheel at a point, whose moves are a step of 1 to 50,000 nm long; both coordinates of the
+    /// point are at most 3*10^9 nm.
     fn new(spoke: Spoke, step: u64, limit: u64) -> Self
         requires step { 0 < step }
         requires short { step ≤ 50000 }
@@ -29,8 +30,8 @@ pub trait Wheel {
     fn spoke(&self) -> Spoke
         ensures { result ≡ place self.now };
 
-    /// Goes on by one move: over the half axis ahead where that is less than a step away, else outward if the limit allows it,
-    /// else diagonally if the limit allows that, else inward.
+    /// Goes on by one move: over the half axis ahead where that is less than a step away, else
+    /// outward if the limit allows it, else diagonally if the limit allows that, else inward.
     fn advance(&mut self) -> Roll
         requires { IsSmall (place self.old) }
         ensures roll { IsRoll (pace self.old) (rim self.old) (place self.old) result }

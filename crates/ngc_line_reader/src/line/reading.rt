@@ -124,14 +124,16 @@ impl Line {
         }
     }
 
-    /// Reads a line's bytes, its line feed not among them, in place of what it holds: what they say (NISTIR 6556, 3.3), or
-    /// the first fault from the left with the column of its item. After a fault what it holds is unspecified.
+    /// Reads a line's bytes, its line feed not among them, in place of what it holds: what they say
+    /// (NISTIR 6556, 3.3), or the first fault from the left with the column of its item. After a
+    /// fault what it holds is unspecified.
     pub fn read(&mut self, bytes: &[u8]) -> Result<(), LineFault>
         // What it holds then is a reading of the line.
         ensures found { OnOk result (HoldsReading bytes.now self.new) }
         // A line that has a reading within the limits is not refused.
         ensures only { (r : Reading) → Reads bytes.now r → WithinLimits r → length bytes.now ≤ 256 → IsOk result }
-        // Which fault comes: a line that is too long is refused as such, another by the first fault from the left.
+        // Which fault comes: a line that is too long is refused as such, another by the first fault
+        // from the left.
         ensures first { Gives (λ _. said_of self.new) result (line_read bytes.now) }
         // Only a line of more than 256 bytes is refused as too long.
         ensures long { IfErr result (λ f. f.kind ≡ FaultKind.LineTooLong → 256 < length bytes.now) }
@@ -153,14 +155,15 @@ impl Line {
     }
 }
 
-/// What a line says, or the first fault from the left with the column of its item. `Line::read` does the same in place, and is
-/// faster where many lines are read.
+/// What a line says, or the first fault from the left with the column of its item. `Line::read`
+/// does the same in place, and is faster where many lines are read.
 pub fn read_line(line: &[u8]) -> Result<Line, LineFault>
     // What is answered is a reading of the line.
     ensures found { IfOk result (λ answer. HoldsReading line.now answer) }
     // A line that has a reading within the limits is not refused.
     ensures only { (r : Reading) → Reads line.now r → WithinLimits r → length line.now ≤ 256 → IsOk result }
-    // Which fault comes: a line that is too long is refused as such, another by the first fault from the left.
+    // Which fault comes: a line that is too long is refused as such, another by the first fault
+    // from the left.
     ensures first { Gives said_of result (line_read line.now) }
     // Only a line of more than 256 bytes is refused as too long.
     ensures long { IfErr result (λ f. f.kind ≡ FaultKind.LineTooLong → 256 < length line.now) }

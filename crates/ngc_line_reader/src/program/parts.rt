@@ -19,7 +19,8 @@ pub enum Kind {
     Operator(Operator),
 }
 
-/// Where the words, settings, symbols and numbers of a line lie, and whether block delete takes it out.
+/// Where the words, settings, symbols and numbers of a line lie, and whether block delete takes it
+/// out.
 #[derive(Clone, Copy)]
 pub struct LineParts {
     pub words: u32,
@@ -169,7 +170,8 @@ impl<A: Allocator> PartLists<A> {
         })
     }
 
-    // What a line says, in place of what `line` holds; the columns of its tokens are not kept, nor is its number.
+    // What a line says, in place of what `line` holds; the columns of its tokens are not kept, nor
+    // is its number.
     pub(crate) fn load(&self, parts: LineParts, line: &mut Line)
         requires { IsWithin (parts_in self.now) parts }
         ensures deleted { line.new.deleted ≡ parts.deleted }

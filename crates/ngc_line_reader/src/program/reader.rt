@@ -69,7 +69,8 @@ impl<A: Allocator> ProgramReader<A> {
         // The fault is that of the lines so far, and where none stands, none is answered.
         ensures answer { AnswerIs result (fault_in self.old piece.now) }
         ensures firm { OnOk result ((rest : List ℕ) → fault_in self.old (piece.now ++ rest) ≡ fault_in self.new rest) }
-        // Whatever follows, the text comes to the same as if this piece stood in front of it: a fault stays.
+        // Whatever follows, the text comes to the same as if this piece stood in front of it: a
+        // fault stays.
         ensures text { (rest : List ℕ) → MatchResult result (λ _. outcome_in self.old (piece.now ++ rest) ≡ outcome_in self.new rest) (λ fault. FaultIs fault (outcome_in self.old (piece.now ++ rest))) }
         // A fault is kept, also want of memory, and answered again.
         ensures refusal { refusal_in self.new ≡ result_err result }

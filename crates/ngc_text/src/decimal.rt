@@ -1,0 +1,46 @@
+ghost use Rattle.std.specs.Prelude.{◌≡◌, ◌≤◌, IfSome};
+ghost use Rattle.std.specs.Option.{option_map};
+ghost use Rattle.ngc_text.specs.Decimals.{decimal_in as decimal_said, limited, digits_size, has_lead};
+
+// Greater numbers are taken for this one.
+const GREATEST: u64 = 10_000_000_000;
+
+// Some digits, and no zero in front of others.
+fn begins_number(digits: &[u8]) -> bool
+    ensures { result ≡ has_lead digits.now }
+{
+    match digits {
+        [] => false,
+        [first, rest @ ..] => *first != b'0' || rest.is_empty(),
+    }
+}
+
+// The number that digits give, or `GREATEST`.
+fn digits_size(digits: &[u8]) -> Option<u64>
+    ensures value { result ≡ digits_size digits.now }
+    ensures bound { IfSome result (λ n. n ≤ 10000000000) }
+{
+    let mut size = 0;
+    for byte in digits {
+        if !byte.is_ascii_digit() {
+            return None;
+        }
+        size = (10 * size + u64::from(byte.saturating_sub(b'0'))).min(GREATEST);
+    }
+    Some(size)
+}
+
+/// The number whose decimal spelling a text is: digits, with no zero in front of others and no
+/// sign.
+///
+/// Any number greater than 10,000,000,000 is answered as 10,000,000,000.
+pub fn decimal_in(text: &[u8]) -> Option<u64>
+    ensures value { result ≡ option_map limited (decimal_said text.now) }
+    ensures bound { IfSome result (λ n. n ≤ 10000000000) }
+{
+    if begins_number(text) {
+        digits_size(text)
+    } else {
+        None
+    }
+}
