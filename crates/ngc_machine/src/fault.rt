@@ -17,16 +17,19 @@ pub enum FileFault {
     /// 264: not 1 to 1,000,000, the bound for arcs not 1 to 10^12.
     #[error("a rate is out of range")]
     Rates,
-    /// 265: a limit over 10^9 nm in size or above its counterpart, or a start point beyond them or off the grid.
+    /// 265: a limit over 10^9 nm in size or above its counterpart, or a start point beyond them or
+    /// off the grid.
     #[error("the travel limits or the start point are out of range")]
     Travel,
     /// 266: over 10^9 nm in size.
     #[error("a home position or an origin is out of range")]
     Places,
-    /// 267: over 4*10^9 nm in size, a low corner that is not below the high one, or over 256 fixtures.
+    /// 267: over 4*10^9 nm in size, a low corner that is not below the high one, or over 256
+    /// fixtures.
     #[error("a fixture is out of range, or there are too many")]
     Fixtures,
-    /// 268: a number out of range or given twice, a tool without parts or with over four, or over 1,000 tools.
+    /// 268: a number out of range or given twice, a tool without parts or with over four, or over
+    /// 1,000 tools.
     #[error("a tool is out of range or given twice, or there are too many")]
     Tools,
     /// 269: not a TOML document, or a key that is unknown, missing or of the wrong kind or length.

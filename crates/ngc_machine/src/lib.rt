@@ -18,5 +18,7 @@ mod tree;
 pub use built_in::built_in_machine;
 pub use fault::FileFault;
 pub use machine::{AxisRates, Fixture, Machine};
+pub use machine_contents::{Coordinates, MACHINE_KEYS};
 pub use parts::{Part, Parts};
 pub use tools::{Tool, Tools};
+pub use tree::{coordinates, coordinates_at, is_one_of, read_tree, whole_at};

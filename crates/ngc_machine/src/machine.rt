@@ -13,7 +13,8 @@ pub struct Fixture {
     pub high: Point3,
 }
 
-/// The greatest rate at which each axis may take part in a motion, in millionths of a path step a tick, each 1 to 1,000,000.
+/// The greatest rate at which each axis may take part in a motion, in millionths of a path step a
+/// tick, each 1 to 1,000,000.
 #[derive(Clone, Copy, Debug, PartialEq, Eq)]
 pub struct AxisRates {
     pub x: u32,
@@ -42,7 +43,8 @@ pub struct Machine<A: Allocator> {
     pub low: Point3,
     /// The greatest coordinates of the travel, at most 10^9 nm in size.
     pub high: Point3,
-    /// Where the axes stand when the machine is started: within the travel, whole multiples of the step.
+    /// Where the axes stand when the machine is started: within the travel, whole multiples of the
+    /// step.
     pub start: Point3,
     /// The home position of G28, at most 10^9 nm in size.
     pub home28: Point3,
@@ -79,7 +81,8 @@ impl<A: Allocator> Machine<A> {
     ghost use Rattle.ngc_machine.specs.Machine.{file_of};
     ghost use Rattle.ngc_machine.specs.MachineRanges.{IsMachine};
 
-    /// The same machine once more, whose fixtures take memory of any allocator. It fails where memory is refused.
+    /// The same machine once more, whose fixtures take memory of any allocator. It fails where
+    /// memory is refused.
     pub fn copy<B: Allocator>(&self, alloc: B) -> Result<Machine<B>, AllocError>
         ensures same { IfOk result (λ m. file_of m ≡ file_of self.now) }
         ensures range { IsMachine (file_of self.now) }

@@ -90,7 +90,8 @@ fn has_axis_rates(numbers: &MachineNumbers) -> bool
     numbers.version == 2
 }
 
-/// The rates of the axes: those of a file of version 2, and of any other version those that bound no rate.
+/// The rates of the axes: those of a file of version 2, and of any other version those that bound
+/// no rate.
 #[tactic(auto, unfolding(crate::specs::MachineText::machine_axis_rates))]
 fn machine_axis_rates(numbers: &MachineNumbers, tree: &Value) -> Option<Coordinates>
     ensures { result ≡ machine_axis_rates numbers.now.version (view tree.now) }
@@ -146,8 +147,8 @@ fn machine_origins(tree: &Value) -> Option<[Coordinates; 9]>
     }
 }
 
-/// The keys of version 2, of which version 1 has all but the first.
-const KEYS: [&str; 15] = [
+/// The keys of a machine file of version 2, of which version 1 has all but the first.
+pub const MACHINE_KEYS: [&str; 15] = [
     "axis_rate",
     "version",
     "step",
@@ -169,14 +170,15 @@ fn has_machine_keys(numbers: &MachineNumbers, tree: &Value) -> bool
     ensures { result ≡ has_only (machine_keys numbers.now.version) (view tree.now) }
 {
     if has_axis_rates(numbers) {
-        has_only(tree, &KEYS)
+        has_only(tree, &MACHINE_KEYS)
     } else {
-        has_only(tree, &KEYS[1..])
+        has_only(tree, &MACHINE_KEYS[1..])
     }
 }
 
 impl MachineContents {
-    /// What the keys of a machine file name, where each is known, there, and of the right kind and length.
+    /// What the keys of a machine file name, where each is known, there, and of the right kind and
+    /// length.
     pub(crate) fn read(alloc: Global, tree: &Value) -> Result<Option<MachineContents>, AllocError>
         ensures contents { IfOk result (λ o. option_map values_of o ≡ machine_values (view tree.now)) }
         ensures memory { IfErr result (λ _. IsSome (get (codes "fixture") (view tree.now))) }

@@ -30,18 +30,6 @@ fn is_sized(limit: u64, point: &Coordinates) -> bool
         && point.z.unsigned_abs() <= limit
 }
 
-fn is_at_most(point: &Coordinates, other: &Coordinates) -> bool
-    ensures { result ≡ is_at_most point.now other.now }
-{
-    point.x <= other.x && point.y <= other.y && point.z <= other.z
-}
-
-fn is_below(point: &Coordinates, other: &Coordinates) -> bool
-    ensures { result ≡ is_below point.now other.now }
-{
-    point.x < other.x && point.y < other.y && point.z < other.z
-}
-
 fn is_multiple(step: i64, coordinate: i64) -> bool
     requires { pos 0 <ℤ step }
     ensures { result ≡ is_multiple step coordinate }
@@ -49,11 +37,28 @@ fn is_multiple(step: i64, coordinate: i64) -> bool
     coordinate % step == 0
 }
 
-fn is_on_grid(step: i64, point: &Coordinates) -> bool
-    requires { pos 0 <ℤ step }
-    ensures { result ≡ is_on_grid step point.now }
-{
-    is_multiple(step, point.x) && is_multiple(step, point.y) && is_multiple(step, point.z)
+impl Coordinates {
+    /// Whether each number is at most the other's.
+    pub fn is_at_most(&self, other: &Coordinates) -> bool
+        ensures { result ≡ is_at_most self.now other.now }
+    {
+        self.x <= other.x && self.y <= other.y && self.z <= other.z
+    }
+
+    /// Whether each number is less than the other's.
+    pub fn is_below(&self, other: &Coordinates) -> bool
+        ensures { result ≡ is_below self.now other.now }
+    {
+        self.x < other.x && self.y < other.y && self.z < other.z
+    }
+
+    /// Whether each number is a whole multiple of the step, which is more than 0.
+    pub fn is_on_grid(&self, step: i64) -> bool
+        requires { pos 0 <ℤ step }
+        ensures { result ≡ is_on_grid step self.now }
+    {
+        is_multiple(step, self.x) && is_multiple(step, self.y) && is_multiple(step, self.z)
+    }
 }
 
 #[tactic(auto, unfolding(crate::specs::MachineText::good_version))]
@@ -104,10 +109,10 @@ fn is_travel_good(numbers: &MachineNumbers, points: &MachinePoints) -> bool
 {
     is_sized(PLACE_LIMIT, &points.low)
         && is_sized(PLACE_LIMIT, &points.high)
-        && is_at_most(&points.low, &points.high)
-        && is_at_most(&points.low, &points.start)
-        && is_at_most(&points.start, &points.high)
-        && is_on_grid(numbers.step, &points.start)
+        && points.low.is_at_most(&points.high)
+        && points.low.is_at_most(&points.start)
+        && points.start.is_at_most(&points.high)
+        && points.start.is_on_grid(numbers.step)
 }
 
 fn are_origins_good(origins: &[Coordinates]) -> bool
@@ -129,7 +134,7 @@ fn is_fixture_good(fixture: &Corners) -> bool
 {
     is_sized(CORNER_LIMIT, &fixture.low)
         && is_sized(CORNER_LIMIT, &fixture.high)
-        && is_below(&fixture.low, &fixture.high)
+        && fixture.low.is_below(&fixture.high)
 }
 
 fn is_each_fixture_good(fixtures: &[Corners]) -> bool

@@ -23,8 +23,9 @@ fn read_contents(alloc: Global, bytes: &[u8]) -> Result<Option<MachineContents>,
 impl Machine<Global> {
     /// Reads a machine file, version 1 or 2: a TOML document of whole numbers.
     ///
-    /// It is refused with 269 where it is no such document or a key is unknown, missing or of the wrong kind or length, and
-    /// else with the first of 261 to 267 that holds; with 900 where memory was refused.
+    /// It is refused with 269 where it is no such document or a key is unknown, missing or of the
+    /// wrong kind or length, and else with the first of 261 to 267 that holds; with 900 where
+    /// memory was refused.
     pub fn read(alloc: Global, bytes: &[u8]) -> Result<Machine<Global>, FileFault>
         ensures file { GivesFile file_of result (machine_file bytes.now) }
         // A file of white space and comments alone is told as such even where there is no memory.

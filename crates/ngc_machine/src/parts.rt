@@ -3,7 +3,8 @@ ghost use Rattle.std.specs.Prelude.{◌≡◌, ◌≤◌, ◌<◌, ◌∷◌, []
 use ngc_fixed_length::Nm;
 use std::marker::Model;
 
-/// A part of a tool: a box of this length, and of twice the radius on X and Y. Lengths are nanometres.
+/// A part of a tool: a box of this length, and of twice the radius on X and Y. Lengths are
+/// nanometres.
 #[derive(Clone, Copy, Debug, PartialEq, Eq)]
 pub struct Part {
     /// 0 to 10^9.

@@ -162,7 +162,8 @@ fn tools_at(alloc: Global, version: i64, tree: &Value) -> Result<Option<Vec<Tool
 }
 
 impl ToolContents {
-    /// What the keys of a tool table name, where each is known, there, and of the right kind and length.
+    /// What the keys of a tool table name, where each is known, there, and of the right kind and
+    /// length.
     pub(crate) fn read(alloc: Global, tree: &Value) -> Result<Option<ToolContents>, AllocError>
         ensures contents { IfOk result (λ o. option_map values_of o ≡ table_values (view tree.now)) }
         ensures memory { IfErr result (λ _. IsSome (get (codes "tool") (view tree.now))) }

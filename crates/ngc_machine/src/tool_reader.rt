@@ -23,9 +23,9 @@ fn read_contents(alloc: Global, bytes: &[u8]) -> Result<Option<ToolContents>, Al
 impl Tools<Global> {
     /// Reads a tool table, version 1: a TOML document of whole numbers.
     ///
-    /// It is refused with 269 where it is no such document or a key is unknown, missing or of the wrong kind, and else with
-    /// 261 for another version and 268 for a number out of range, a tool's number twice or more than 1,000 tools; with 900
-    /// where memory was refused.
+    /// It is refused with 269 where it is no such document or a key is unknown, missing or of the
+    /// wrong kind, and else with 261 for another version and 268 for a number out of range, a
+    /// tool's number twice or more than 1,000 tools; with 900 where memory was refused.
     pub fn read(alloc: Global, bytes: &[u8]) -> Result<Tools<Global>, FileFault>
         ensures tools { GivesFile tools_of result (tool_table bytes.now) }
         // A file of white space and comments alone is told as such even where there is no memory.

@@ -11,8 +11,9 @@ use crate::machine_contents::Coordinates;
 use std::alloc::{AllocError, Global};
 use toml::{Table, Value};
 
-/// The tree of a document, where the bytes are one.
-pub(crate) fn read_tree(alloc: Global, bytes: &[u8]) -> Result<Option<Value>, AllocError>
+/// The tree of a TOML document, none where the bytes are no document in UTF-8. An error is memory
+/// that was refused.
+pub fn read_tree(alloc: Global, bytes: &[u8]) -> Result<Option<Value>, AllocError>
     ensures tree { IfOk result (λ tree. option_map view tree ≡ tree_of bytes.now) }
     ensures blank { IsBlank bytes.now → IsOk result }
 {
@@ -23,7 +24,8 @@ pub(crate) fn read_tree(alloc: Global, bytes: &[u8]) -> Result<Option<Value>, Al
     }
 }
 
-fn is_one_of(key: &str, keys: &[&str]) -> bool
+/// Whether a key is one of these.
+pub fn is_one_of(key: &str, keys: &[&str]) -> bool
     ensures { result ≡ is_one_of (map (λ k. k.now) keys.entry.now) key.now }
 {
     for known in keys {
@@ -50,15 +52,15 @@ pub(crate) fn has_only(tree: &Value, keys: &[&str]) -> bool
     }
 }
 
-/// The whole number under a key.
-pub(crate) fn whole_at(tree: &Value, key: &str) -> Option<i64>
+/// The whole number under a key, none where something else stands there or nothing.
+pub fn whole_at(tree: &Value, key: &str) -> Option<i64>
     ensures { result ≡ whole_at key.now (view tree.now) }
 {
     tree.get(key)?.as_integer()
 }
 
-/// An array of three whole numbers.
-pub(crate) fn coordinates(value: &Value) -> Option<Coordinates>
+/// An array of three whole numbers, none where the value is something else.
+pub fn coordinates(value: &Value) -> Option<Coordinates>
     ensures { result ≡ coordinates (view value.now) }
 {
     let [x, y, z] = value.as_array()?.as_slice() else {
@@ -71,8 +73,8 @@ pub(crate) fn coordinates(value: &Value) -> Option<Coordinates>
     })
 }
 
-/// The array of three whole numbers under a key.
-pub(crate) fn coordinates_at(tree: &Value, key: &str) -> Option<Coordinates>
+/// The array of three whole numbers under a key, none where something else stands there or nothing.
+pub fn coordinates_at(tree: &Value, key: &str) -> Option<Coordinates>
     ensures { result ≡ coordinates_at key.now (view tree.now) }
 {
     coordinates(tree.get(key)?)
