@@ -1,44 +1,19 @@
 -- Fields between single spaces, and lines between line feeds.
 use Rattle.std.proofs.Common.{◌≡◌, ℕ, ◌<◌, ◌^◌, ap, subst, Bool, true, false, Option, Some, None, List, [], ◌∷◌, ◌++◌, refl, sym, ◌∙◌, arith}
-use Rattle.std.specs.Prelude.{ℤ, map, ◌==◌, not, if◌then◌else◌}
+use Rattle.std.specs.Prelude.{ℤ, map, ◌==◌, if◌then◌else◌}
 use Rattle.std.specs.Fmt.{signed_decimal}
 use Rattle.std.specs.Int.Signed.{mag}
 use Rattle.std.specs.List.{list_all, slice_split, join_with_byte}
 use Rattle.std.specs.Option.{option_map, option_and_then}
 use Rattle.std.specs.Str.{bytes_eq}
 use Rattle.std.proofs.lemmas.Bool.{and_from, and_parts}
-use Rattle.std.proofs.lemmas.Bool.Decides.{nat_tests}
 use Rattle.std.proofs.lemmas.List.Folds.{list_all-append}
 use Rattle.std.proofs.lemmas.List.Splits.{join_with_byte-slice_split}
 use Rattle.std.proofs.lemmas.Slice.Eq.{bytes_eq-Decides}
+use Rattle.ngc_text.proofs.Splits.{lacks, split_joined}
 use Rattle.ngc_certificate_text.specs.Number.{fields, number_in}
 use Rattle.ngc_certificate_text.specs.Lines.{numbers_in, numbers_behind}
-use Rattle.ngc_certificate_text.proofs.NumberLaws.{lacks, signed_lacks, number_in-signed, number_spelled}
-
-other_byte : (b s : ℕ) → not (b == s) ≡ true → (b == s) ≡ false
-other_byte b s h = grind (arith, nat_tests)
-
--- the byte ends the first part
-pub split_here : (s : ℕ) (xs rest : List ℕ) → lacks s xs ≡ true → slice_split (λ b. b == s) (xs ++ (s ∷ rest)) ≡ xs ∷ slice_split (λ b. b == s) rest
-split_here s [] rest h = rw (same s) refl where
-  same : (s : ℕ) → (s == s) ≡ true
-  same s = grind (arith, nat_tests)
-split_here s (x ∷ xs) rest h =
-    let parts = and_parts (not (x == s)) (lacks s xs) h in
-    rw (other_byte x s parts.0, split_here s xs rest parts.1) refl
-
-pub split_last : (s : ℕ) (xs : List ℕ) → lacks s xs ≡ true → slice_split (λ b. b == s) xs ≡ xs ∷ []
-split_last s [] h = refl
-split_last s (x ∷ xs) h =
-    let parts = and_parts (not (x == s)) (lacks s xs) h in
-    rw (other_byte x s parts.0, split_last s xs parts.1) refl
-
--- joined parts fall apart again
-pub split_joined : (s : ℕ) (x : List ℕ) (xs : List (List ℕ)) → list_all (lacks s) (x ∷ xs) ≡ true → slice_split (λ b. b == s) (join_with_byte s (x ∷ xs)) ≡ x ∷ xs
-split_joined s x [] h = split_last s x (and_parts (lacks s x) true h).0
-split_joined s x (y ∷ ys) h =
-    let parts = and_parts (lacks s x) (list_all (lacks s) (y ∷ ys)) h in
-    split_here s x (join_with_byte s (y ∷ ys)) parts.0 ∙ ap (λ (l : List (List ℕ)). x ∷ l) (split_joined s y ys parts.1)
+use Rattle.ngc_certificate_text.proofs.NumberLaws.{signed_lacks, number_in-signed, number_spelled}
 
 pub joined_split : (s : ℕ) (text : List ℕ) → join_with_byte s (slice_split (λ b. b == s) text) ≡ text
 joined_split s text = join_with_byte-slice_split s text

@@ -21,7 +21,7 @@ use Rattle.ngc_certificate_text.specs.Certificate.{WHOLE, INDEX_LIMIT, PIECE_LIM
 use Rattle.ngc_certificate_text.specs.Spelling.{piece_line, motion_line}
 use Rattle.ngc_certificate_text.specs.Number.{fields}
 use Rattle.ngc_certificate_text.specs.Lines.{numbers_in, numbers_behind, is_count, ranged, one_count, setting_said, two_counts, motion_said, is_step, are_steps, good_box, boxed, line_piece, arc_piece, piece_in, piece_said, end_said}
-use Rattle.ngc_certificate_text.proofs.NumberLaws.{lacks}
+use Rattle.ngc_text.proofs.Splits.{lacks}
 use Rattle.ngc_certificate_text.proofs.FieldLaws.{AreSmall, line_text, line_fields, line_numbers, line_spelled, numbers_lack, numbers_in-signed, numbers_spelled, bytes_same, joined_split}
 
 -- ---- a line is short, and has no line feed

@@ -25,8 +25,8 @@ use Rattle.ngc_certificate_text.specs.EntryLines.{version_said, counts_said, ent
 use Rattle.ngc_certificate_text.specs.Joined.{Item, onto_motions, expansion, IsItem, is_on, may_follow, in_order, IsJoined, Form, Parted, Joined}
 use Rattle.ngc_certificate_text.specs.Lines.{setting_said, motion_said, piece_said, end_said, are_steps}
 use Rattle.ngc_certificate_text.specs.Said.{lines_of, Place, Said, then_read, next_number, line_is, line_in, line_at, several, entry_at, setting_at, settings_at, item_at, items_at, joined_at, said_with, version_is, nothing_in, ended, header_in, form_at, form_said, has_steps, HasSteps, item_steps, IsForm, OneSpelling}
-use Rattle.ngc_certificate_text.proofs.NumberLaws.{lacks}
-use Rattle.ngc_certificate_text.proofs.FieldLaws.{split_here, joined_split, bytes_same}
+use Rattle.ngc_text.proofs.Splits.{lacks, split_here}
+use Rattle.ngc_certificate_text.proofs.FieldLaws.{joined_split, bytes_same}
 use Rattle.ngc_certificate_text.proofs.LineLaws.{IsLine, IsName, setting_text, setting_line_is, setting_is_line, setting_reads, setting_spelled, motion_text, motion_is_line, motion_reads, motion_spelled, motion_line_is, IsHeld, piece_text, piece_is_line, piece_reads, piece_spelled, piece_line_is, end_is_line, end_reads, end_spelled}
 use Rattle.ngc_certificate_text.proofs.EntryLaws.{total, IsTaken, entry_text, entry_is_line, entry_reads, entry_spelled, item_line_is, counts_text, counts_is_line, counts_reads, counts_spelled, one_fewer, some_on, no_more, items_none, more_items, item_is, pieces_behind as entry_pieces}
 use Rattle.ngc_certificate_text.proofs.Taken.{text_left, then_ok, line_taken, ok_same, read_to, said_ok}

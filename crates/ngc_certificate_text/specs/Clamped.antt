@@ -1,26 +1,12 @@
 -- Numbers as they are held in 64 bits: those out of every range are taken for one another. Our own.
-use Rattle.std.specs.Prelude.{ℕ, min, ℤ, pos, negsuc, List, [], ◌∷◌, length, map, Option, Some, None, Bool, false, not}
-use Rattle.std.specs.Prelude.{◌==◌, ◌||◌, nat_le, if◌then◌else◌}
+use Rattle.std.specs.Prelude.{ℕ, min, ℤ, pos, negsuc, List, [], ◌∷◌, length, map, Option, Some, None, ◌==◌, nat_le, if◌then◌else◌}
 use Rattle.std.specs.Borrow.{Bor}
-use Rattle.std.specs.Str.{all_ascii_digits}
-use Rattle.std.specs.Str.Parse.{digits_value}
 use Rattle.ngc_certificate_text.specs.Number.{fields}
 use Rattle.ngc_certificate_text.specs.Lines.{numbers_in}
-
-abbrev pub limited_size : ℕ → ℕ
-limited_size n = min n 10000000000
 
 abbrev pub clamped : ℤ → ℤ
 clamped (pos n) = pos (min n 10000000000)
 clamped (negsuc n) = negsuc (min n 9999999999)
-
--- some bytes, and no zero in front of others
-abbrev pub has_lead : List ℕ → Bool
-has_lead [] = false
-has_lead (d ∷ ds) = not (d == 48) || (length ds == 0)
-
-abbrev pub digits_size : List ℕ → Option ℕ
-digits_size ds = if all_ascii_digits ds then Some (limited_size (digits_value 10 ds)) else None
 
 -- what stands behind a minus sign in front
 abbrev pub minus_tail : List ℕ → Option (List ℕ)

@@ -1,53 +1,13 @@
 ghost use Rattle.std.specs.Prelude.{◌≡◌, ◌<◌, ◌≤◌, min, [], ◌∷◌, length, IfSome, position, ◌==◌, pos};
 ghost use Rattle.std.specs.Option.{option_map};
-ghost use Rattle.ngc_certificate_text.specs.Number.{fields, size_in as size_said, number_in as number_said, negated};
-ghost use Rattle.ngc_certificate_text.specs.Clamped.{limited_size, clamped, digits_size, has_lead, minus_tail};
-ghost use Rattle.ngc_certificate_text.specs.Clamped.{all_fields, numbers_left};
+ghost use Rattle.ngc_certificate_text.specs.Number.{fields, number_in as number_said, negated};
+ghost use Rattle.ngc_certificate_text.specs.Clamped.{clamped, minus_tail, all_fields, numbers_left};
 
 use arrayvec::ArrayVec;
+use ngc_text::decimal_in;
 
 /// The numbers of a line.
 pub type Numbers = ArrayVec<i64, 8>;
-
-// A size that is out of every range: greater ones are taken for this one.
-const HUGE: u64 = 10_000_000_000;
-
-// Some digits, and no zero in front of others.
-fn begins_number(digits: &[u8]) -> bool
-    ensures { result ≡ has_lead digits.now }
-{
-    match digits {
-        [] => false,
-        [first, rest @ ..] => *first != b'0' || rest.is_empty(),
-    }
-}
-
-// The number that digits give, or `HUGE`.
-fn digits_size(digits: &[u8]) -> Option<u64>
-    ensures value { result ≡ digits_size digits.now }
-    ensures bound { IfSome result (λ n. n ≤ 10000000000) }
-{
-    let mut size = 0;
-    for byte in digits {
-        if !byte.is_ascii_digit() {
-            return None;
-        }
-        size = (10 * size + u64::from(byte.saturating_sub(b'0'))).min(HUGE);
-    }
-    Some(size)
-}
-
-// The number whose decimal spelling this is, or `HUGE`.
-fn size_in(digits: &[u8]) -> Option<u64>
-    ensures value { result ≡ option_map limited_size (size_said digits.now) }
-    ensures bound { IfSome result (λ n. n ≤ 10000000000) }
-{
-    if begins_number(digits) {
-        digits_size(digits)
-    } else {
-        None
-    }
-}
 
 // The bytes behind a minus sign in front.
 fn behind_minus(field: &[u8]) -> Option<&[u8]>
@@ -84,8 +44,8 @@ fn number_in(field: &[u8]) -> Option<i64>
     ensures { result ≡ option_map clamped (number_said field.now) }
 {
     match behind_minus(field) {
-        Some(digits) => negative(size_in(digits)),
-        None => positive(size_in(field)),
+        Some(digits) => negative(decimal_in(digits)),
+        None => positive(decimal_in(field)),
     }
 }
 

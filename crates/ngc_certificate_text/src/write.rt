@@ -1,5 +1,4 @@
 ghost use Rattle.std.specs.Prelude.{◌≡◌, ◌+◌, ◌<◌, ◌≤◌, ◌++◌, codes, decimal, flat_map, length, OnOk, OnErr};
-ghost use Rattle.std.specs.Fmt.{signed_decimal};
 ghost use Rattle.std.specs.Io.KnownBytes.{Appends};
 ghost use Rattle.ngc_text.specs.Failures.{CountsFailure};
 ghost use Rattle.ngc_text.specs.Written.{AppendsBeginning};
@@ -19,23 +18,13 @@ use ngc_fixed_length::StepPos;
 use ngc_text::{Chunk, Sink, WriteFault};
 use std::alloc::Allocator;
 
-fn add_count(chunk: &mut Chunk, steps: i32)
-    requires { length chunk.old + 41 ≤ CHUNK_SIZE }
-    ensures text { chunk.new ≡ chunk.old ++ codes " " ++ signed_decimal steps }
-    ensures short { length chunk.new ≤ length chunk.old + 41 }
-{
-    chunk.add_text(b" ");
-    chunk.add_number(steps);
-}
-
 fn add_steps(chunk: &mut Chunk, point: &StepPos)
     requires { length chunk.old + 123 ≤ CHUNK_SIZE }
     ensures text { chunk.new ≡ chunk.old ++ steps_text point.now }
     ensures short { length chunk.new ≤ length chunk.old + 123 }
 {
-    add_count(chunk, point.x);
-    add_count(chunk, point.y);
-    add_count(chunk, point.z);
+    chunk.add_text(b" ");
+    chunk.add_three(point.x, point.y, point.z);
 }
 
 fn add_cut(chunk: &mut Chunk, end: &Cut)

@@ -1,5 +1,5 @@
 -- The spelling of an event says it, and what says an event is its spelling.
-use Rattle.std.proofs.Common.{◌≡◌, ◌⊎◌, inl, inr, ℕ, zero, suc, ◌≤◌, ap, subst, Bool, true, false, Option, Some, None, List, ◌++◌, length, take, drop, refl, sym, ◌∙◌, arith}
+use Rattle.std.proofs.Common.{◌≡◌, ◌⊎◌, inl, inr, ℕ, zero, suc, ◌<◌, ◌≤◌, ◌^◌, ap, subst, Bool, true, false, Option, Some, None, List, ◌++◌, length, take, drop, refl, sym, ◌∙◌, arith}
 use Rattle.std.specs.Prelude.{codes, decimal, ◌==◌, nat_le, if◌then◌else◌}
 use Rattle.std.specs.Option.{option_map}
 use Rattle.std.specs.Str.{bytes_eq}
@@ -10,20 +10,41 @@ use Rattle.std.proofs.lemmas.Slice.Eq.{bytes_eq-Decides}
 use Rattle.ngc_events.specs.declared.event.Event.{Event}
 use Rattle.ngc_events.specs.declared.event.Event.TheVariants.{Load, Tick, Hold, Resume, Override, StopSwitch, Start}
 use Rattle.ngc_events.specs.declared.event.EventLine.{EventLine}
-use Rattle.ngc_events.specs.Events.{number_to, once, ticks, begins, word_said, event_said}
+use Rattle.ngc_text.specs.Decimals.{decimal_in}
+use Rattle.ngc_text.proofs.Splits.{lacks}
+use Rattle.ngc_text.proofs.DecimalLaws.{decimal_in-decimal, decimal_spelled, decimal_lacks}
+use Rattle.ngc_events.specs.Events.{up_to, number_to, once, ticks, begins, word_said, event_said}
 use Rattle.ngc_events.specs.Spelling.{words_of, is_given}
-use Rattle.ngc_events.proofs.NumberLaws.{number_reads, number_spelled, is_feedless, decimal_feedless}
 
 abbrev line_with : Event → ℕ → EventLine
 line_with event times = record { event = event; times = times }
+
+-- ---- numbers up to a limit
+
+at_most : (n limit : ℕ) → nat_le n limit ≡ true → n ≤ limit
+at_most n limit h = grind (arith, nat_tests)
+
+within : (n limit : ℕ) → n ≤ limit → nat_le n limit ≡ true
+within n limit h = grind (arith, nat_tests)
+
+number_reads : (limit n : ℕ) → n ≤ limit → limit < 2 ^ 64 → number_to limit (decimal n) ≡ Some n
+number_reads limit n small fits = ap (up_to limit) (decimal_in-decimal n (omega (arith, small, fits))) ∙ rw (within n limit small) refl
+
+if_within : (b : Bool) (m n : ℕ) → (if b then Some m else None) ≡ Some n → (b ≡ true) × (m ≡ n)
+if_within true m n e = (refl, cc e)
+if_within false m n e = absurd (cc e)
+
+kept : (limit : ℕ) (o : Option ℕ) (n : ℕ) → up_to limit o ≡ Some n → (o ≡ Some n) × (n ≤ limit)
+kept limit None n e = absurd (cc e)
+kept limit (Some m) n e = let k = if_within (nat_le m limit) m n e in (ap Some k.1, subst (λ (x : ℕ). x ≤ limit) k.1 (at_most m limit k.0))
+
+number_spelled : (limit : ℕ) (t : List ℕ) (n : ℕ) → number_to limit t ≡ Some n → limit < 2 ^ 64 → (t ≡ decimal n) × (n ≤ limit)
+number_spelled limit t n e fits = let k = kept limit (decimal_in t) n e in (decimal_spelled t n k.0 (omega (arith, k.1, fits)), k.1)
 
 -- ---- the spelling says the event
 
 one : (n : ℕ) → (n == 1) ≡ true → n ≡ 1
 one n h = grind (arith, nat_tests)
-
-at_most : (n limit : ℕ) → nat_le n limit ≡ true → n ≤ limit
-at_most n limit h = grind (arith, nat_tests)
 
 some_ticks : (n : ℕ) → 1 ≤ n → ticks (Some n) ≡ Some (line_with Tick n)
 some_ticks zero h = absurd (omega (arith, h))
@@ -55,18 +76,18 @@ event_reads (StopSwitch true) times h = is_once (StopSwitch true) times h
 event_reads (StopSwitch false) times h = is_once (StopSwitch false) times h
 event_reads Start times h = is_once Start times h
 
-pub words_feedless : (event : Event) (times : ℕ) → is_given event times ≡ true → is_feedless (words_of event times) ≡ true
+pub words_feedless : (event : Event) (times : ℕ) → is_given event times ≡ true → lacks 10 (words_of event times) ≡ true
 words_feedless Load times h = refl
 words_feedless Tick times h =
     let range = and_parts (nat_le 1 times) (nat_le times 1000000) h in
     let small = at_most times 1000000 range.1 in
-    decimal_feedless times (omega (arith, small))
+    decimal_lacks 10 times (omega arith) (omega (arith, small))
 words_feedless Hold times h = refl
 words_feedless Resume times h = refl
 words_feedless (Override percent) times h =
     let range = and_parts (nat_le percent 255) (times == 1) h in
     let small = at_most percent 255 range.0 in
-    decimal_feedless percent (omega (arith, small))
+    decimal_lacks 10 percent (omega arith) (omega (arith, small))
 words_feedless (StopSwitch true) times h = refl
 words_feedless (StopSwitch false) times h = refl
 words_feedless Start times h = refl
@@ -117,9 +138,6 @@ ticked (Some (suc n)) said h = (n, refl, some_same (line_with Tick (suc n)) said
 begun : (front line : List ℕ) → begins front line ≡ true → line ≡ front ++ drop (length front) line
 begun front line h =
     sym (take-append-drop (length front) line) ∙ ap (λ (l : List ℕ). l ++ drop (length front) line) (bytes_same (take (length front) line) front h)
-
-within : (n limit : ℕ) → n ≤ limit → nat_le n limit ≡ true
-within n limit h = grind (arith, nat_tests)
 
 tick_spelled : (line : List ℕ) (said : EventLine) → begins (codes "tick ") line ≡ true → ticks (number_to 1000000 (drop 5 line)) ≡ Some said → Spells line said
 tick_spelled line said front h =

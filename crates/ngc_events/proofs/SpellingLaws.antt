@@ -1,12 +1,13 @@
 -- The text of events says them, and what says events is their text.
 use Rattle.std.proofs.Common.{◌≡◌, ℕ, ◌+◌, ◌≤◌, ap, subst, Bool, true, false, Option, Some, None, Result, Ok, Err, List, [], ◌∷◌, ◌++◌, length, append_assoc, refl, sym, ◌∙◌, arith}
-use Rattle.std.specs.Prelude.{◌==◌, not, nat_le, if◌then◌else◌}
+use Rattle.std.specs.Prelude.{◌==◌, nat_le, if◌then◌else◌}
 use Rattle.std.specs.List.{list_all, join_with_byte}
 use Rattle.std.specs.Option.{ok_or}
 use Rattle.std.proofs.lemmas.Bool.{and_parts, and_from}
 use Rattle.std.proofs.lemmas.Bool.Decides.{nat_tests}
 use Rattle.std.proofs.lemmas.List.{nil_from_length}
 use Rattle.std.proofs.lemmas.List.Splits.{join_with_byte-slice_split}
+use Rattle.ngc_text.proofs.Splits.{split_here}
 use Rattle.ngc_events.specs.declared.event.EventLine.{EventLine}
 use Rattle.ngc_events.specs.declared.fault.EventsFault.{EventsFault}
 use Rattle.ngc_events.specs.declared.fault.EventsFault.TheVariants.{BadLine, TooManyLines}
@@ -14,7 +15,6 @@ use Rattle.ngc_events.specs.Events.{event_said, line_said, in_front, lines_said,
 use Rattle.ngc_events.specs.Reading.{said_from}
 use Rattle.ngc_events.specs.Spelling.{words_of, events_text, is_given, AreEvents, OneSpelling}
 use Rattle.ngc_events.proofs.LineFeeds.{lines_of}
-use Rattle.ngc_events.proofs.NumberLaws.{is_feedless}
 use Rattle.ngc_events.proofs.EventLaws.{event_reads, words_feedless, event_spelled}
 use Rattle.ngc_events.proofs.ReadLaws.{line_few, more_said, nothing_said}
 
@@ -26,23 +26,13 @@ are_given lines = list_all (λ (line : EventLine). is_given line.event line.time
 
 -- ---- the spelling says the events
 
-other_byte : (b : ℕ) → not (b == 10) ≡ true → (b == 10) ≡ false
-other_byte b h = grind (arith, nat_tests)
-
--- a line feed ends the first line
-split_here : (line rest : List ℕ) → is_feedless line ≡ true → lines_of (line ++ (10 ∷ rest)) ≡ line ∷ lines_of rest
-split_here [] rest h = refl
-split_here (b ∷ bs) rest h =
-    let parts = and_parts (not (b == 10)) (is_feedless bs) h in
-    rw (other_byte b parts.0, split_here bs rest parts.1) refl
-
 reads : (number : ℕ) (lines : List EventLine) → are_given lines ≡ true → number + length lines ≤ 1000001 → said_from number (events_text lines) ≡ Ok lines
 reads number [] given few = nothing_said number
 reads number (line ∷ lines) given few =
     let parts = and_parts (is_given line.event line.times) (are_given lines) given in
     let words = words_of line.event line.times in
     ap (said_from number) (append_assoc words (10 ∷ []) (events_text lines))
-    ∙ ap (lines_said number) (split_here words (events_text lines) (words_feedless line.event line.times parts.0))
+    ∙ ap (lines_said number) (split_here 10 words (events_text lines) (words_feedless line.event line.times parts.0))
     ∙ more_said number words (events_text lines)
     ∙ ap (λ (r : Result EventLine EventsFault). in_front r (said_from (number + 1) (events_text lines)))
     (line_few number (event_said words) (omega (arith, few)) ∙ ap (λ (o : Option EventLine). ok_or o (BadLine number)) (event_reads line.event line.times parts.0))

@@ -1,10 +1,10 @@
 -- What the bytes of an events file say: an event for each line, or the first fault. Our own.
 use Rattle.std.specs.Prelude.{ℕ, zero, suc, ◌+◌, nat_le, ◌==◌, List, [], ◌∷◌, length, take, drop, codes, Option, Some, None}
-use Rattle.std.specs.Prelude.{Result, Ok, Err, Bool, true, false, not, ◌&&◌, ◌||◌, if◌then◌else◌}
+use Rattle.std.specs.Prelude.{Result, Ok, Err, Bool, true, false, if◌then◌else◌}
 use Rattle.std.specs.List.{slice_split}
 use Rattle.std.specs.Option.{option_map, ok_or}
-use Rattle.std.specs.Str.{bytes_eq, all_ascii_digits}
-use Rattle.std.specs.Str.Parse.{digits_value}
+use Rattle.std.specs.Str.{bytes_eq}
+use Rattle.ngc_text.specs.Decimals.{decimal_in}
 use Rattle.ngc_events.specs.declared.event.Event.{Event}
 use Rattle.ngc_events.specs.declared.event.Event.TheVariants.{Load, Tick, Hold, Resume, Override, StopSwitch, Start}
 use Rattle.ngc_events.specs.declared.event.EventLine.{EventLine}
@@ -13,15 +13,14 @@ use Rattle.ngc_events.specs.declared.fault.EventsFault.TheVariants.{BadLine, Too
 
 -- ---- numbers
 
--- digits, and no zero in front of others
-abbrev pub are_digits : List ℕ → Bool
-are_digits [] = false
-are_digits (d ∷ ds) = all_ascii_digits (d ∷ ds) && (not (d == 48) || (length ds == 0))
+-- a number, where it is no greater than the limit
+abbrev pub up_to : ℕ → Option ℕ → Option ℕ
+up_to limit None = None
+up_to limit (Some n) = if nat_le n limit then Some n else None
 
 -- the number whose decimal spelling a text is, where it is no greater than the limit
 abbrev pub number_to : ℕ → List ℕ → Option ℕ
-number_to limit text =
-    if are_digits text && nat_le (digits_value 10 text) limit then Some (digits_value 10 text) else None
+number_to limit text = up_to limit (decimal_in text)
 
 -- ---- a line
 

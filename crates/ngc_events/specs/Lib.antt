@@ -1,4 +1,3 @@
-pub mod Digits
 pub mod Events
 pub mod Faults
 pub mod Given

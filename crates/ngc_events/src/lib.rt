@@ -7,7 +7,6 @@ mod event_fault;
 mod fault;
 pub mod laws;
 mod line;
-mod number;
 mod read;
 mod reply;
 

@@ -1,15 +1,26 @@
-ghost use Rattle.std.specs.Prelude.{◌≡◌};
+ghost use Rattle.std.specs.Prelude.{◌≡◌, ◌≤◌, IfSome};
 ghost use Rattle.std.specs.Str.{bytes_eq};
 ghost use Rattle.ngc_events.specs.Events.{number_to as number_said, once, ticks as ticks_said, override as override_said};
 ghost use Rattle.ngc_events.specs.Events.{word_said, event_said};
 
 use crate::event::{Event, EventLine};
-use crate::number::number_to;
+use ngc_text::decimal_in;
 
 fn once(event: Event) -> EventLine
     ensures { result ≡ once event }
 {
     EventLine { event, times: 1 }
+}
+
+// The number whose decimal spelling a text is, if it is no greater than the limit.
+fn number_to(limit: u32, text: &[u8]) -> Option<u32>
+    ensures value { result ≡ number_said limit text.now }
+    ensures within { IfSome result (λ n. n ≤ limit) }
+{
+    match decimal_in(text) {
+        Some(number) if number <= u64::from(limit) => Some(number as u32),
+        _ => None,
+    }
 }
 
 // So many ticks.

@@ -1,6 +1,5 @@
 //! The text of a log.
 ghost use Rattle.std.specs.Prelude.{◌≡◌, ◌+◌, ◌≤◌, ◌++◌, length};
-ghost use Rattle.std.specs.Fmt.{signed_decimal};
 ghost use Rattle.ngc_text.specs.Collected.{CHUNK_SIZE, HasLineRoom};
 ghost use Rattle.ngc_run_log.specs.Log.{numbered_line, ending_text, position_text, switch_text, text_of};
 
@@ -20,25 +19,13 @@ fn add_numbered(chunk: &mut Chunk, word: &[u8], number: u32)
     chunk.add_text(b"\n");
 }
 
-fn add_steps(chunk: &mut Chunk, steps: i32)
-    requires { length chunk.old + 40 ≤ CHUNK_SIZE }
-    ensures text { chunk.new ≡ chunk.old ++ signed_decimal steps }
-    ensures short { length chunk.new ≤ length chunk.old + 40 }
-{
-    chunk.add_number(steps);
-}
-
 fn add_position(chunk: &mut Chunk, position: &StepPos)
     requires { length chunk.old + 130 ≤ CHUNK_SIZE }
     ensures text { chunk.new ≡ chunk.old ++ position_text (Some position.now) }
     ensures short { length chunk.new ≤ length chunk.old + 127 }
 {
     chunk.add_text(b"pos ");
-    add_steps(chunk, position.x);
-    chunk.add_text(b" ");
-    add_steps(chunk, position.y);
-    chunk.add_text(b" ");
-    add_steps(chunk, position.z);
+    chunk.add_three(position.x, position.y, position.z);
     chunk.add_text(b"\n");
 }
 

@@ -1,15 +1,6 @@
 -- Texts that are added one after another.
-use Rattle.std.proofs.Common.{◌≡◌, ℕ, ℤ, List, ◌++◌, codes, ap, ◌∙◌}
+use Rattle.std.proofs.Common.{◌≡◌, ℕ, List, ◌++◌, ap, ◌∙◌}
 use Rattle.std.proofs.lemmas.List.{append_assoc}
-use Rattle.std.specs.Fmt.{signed_decimal}
-use Rattle.ngc_simulator.specs.Listing.{triple}
-
-pub triple_added : (old a b c d e : List ℕ) (x y z : ℤ)
-    → a ≡ old ++ signed_decimal x → b ≡ a ++ codes " " → c ≡ b ++ signed_decimal y → d ≡ c ++ codes " " → e ≡ d ++ signed_decimal z
-    → e ≡ old ++ triple x y z
-triple_added old a b c d e x y z ha hb hc hd he =
-    he ∙ ap (λ l. l ++ signed_decimal z) (hd ∙ ap (λ l. l ++ codes " ") (hc ∙ ap (λ l. l ++ signed_decimal y) (hb ∙ ap (λ l. l ++ codes " ") ha)))
-    ∙ simp append_assoc
 
 pub five_added : (old a b c d e p q r s t : List ℕ)
     → a ≡ old ++ p → b ≡ a ++ q → c ≡ b ++ r → d ≡ c ++ s → e ≡ d ++ t

@@ -1,49 +1,16 @@
 ghost use Rattle.std.specs.Prelude.{◌≡◌, ◌+◌, ◌≤◌, ◌++◌, length, OnOk, OnErr};
-ghost use Rattle.std.specs.Fmt.{signed_decimal};
 ghost use Rattle.std.specs.Io.KnownBytes.{Appends};
 ghost use Rattle.ngc_text.specs.Failures.{CountsFailure};
 ghost use Rattle.ngc_fixed_length.specs.Length.{IsStep};
 ghost use Rattle.ngc_text.specs.Written.{AppendsBeginning};
 ghost use Rattle.ngc_text.specs.Collected.{CHUNK_SIZE, HasLineRoom};
 ghost use Rattle.ngc_canonical.specs.Movement.{end_of};
-ghost use Rattle.ngc_simulator.specs.Listing.{place_text, steps_text, end_text, feed_text, turn_text, plane_text, arc_text, spindle_text, coolant_text, number_of_tool, switch_text, way_text, pace_text, act_text, listing_line, listing};
+ghost use Rattle.ngc_simulator.specs.Listing.{end_text, feed_text, turn_text, plane_text, arc_text, spindle_text, coolant_text, number_of_tool, switch_text, way_text, pace_text, act_text, listing_line, listing};
 
 use ngc_arc_geometry::Arc;
 use ngc_canonical::{Action, Command, CoolantState, Feed, Motion, Pace, SpindleState, Tool, Way};
-use ngc_fixed_length::{Nm, Plane, Point3, StepPos, Turn};
+use ngc_fixed_length::{Nm, Plane, Point3, Turn};
 use ngc_text::{Chunk, Sink, WriteFault};
-
-fn add_place(chunk: &mut Chunk, place: &Point3)
-    requires { length chunk.old + 122 ≤ CHUNK_SIZE }
-    ensures text { chunk.new ≡ chunk.old ++ place_text place.now }
-    ensures short { length chunk.new ≤ length chunk.old + 122 }
-{
-    chunk.add_number(place.x.nanometres());
-    chunk.add_text(b" ");
-    chunk.add_number(place.y.nanometres());
-    chunk.add_text(b" ");
-    chunk.add_number(place.z.nanometres());
-}
-
-fn add_count(chunk: &mut Chunk, steps: i32)
-    requires { length chunk.old + 40 ≤ CHUNK_SIZE }
-    ensures text { chunk.new ≡ chunk.old ++ signed_decimal steps }
-    ensures short { length chunk.new ≤ length chunk.old + 40 }
-{
-    chunk.add_number(steps);
-}
-
-fn add_steps(chunk: &mut Chunk, point: &StepPos)
-    requires { length chunk.old + 122 ≤ CHUNK_SIZE }
-    ensures text { chunk.new ≡ chunk.old ++ steps_text point.now }
-    ensures short { length chunk.new ≤ length chunk.old + 122 }
-{
-    add_count(chunk, point.x);
-    chunk.add_text(b" ");
-    add_count(chunk, point.y);
-    chunk.add_text(b" ");
-    add_count(chunk, point.z);
-}
 
 fn add_end(chunk: &mut Chunk, step: Nm, end: &Point3)
     requires room { length chunk.old + 250 ≤ CHUNK_SIZE }
@@ -51,9 +18,10 @@ fn add_end(chunk: &mut Chunk, step: Nm, end: &Point3)
     ensures text { chunk.new ≡ chunk.old ++ end_text step end.now }
     ensures short { length chunk.new ≤ length chunk.old + 250 }
 {
-    add_place(chunk, end);
+    let point = end.to_grid(step);
+    chunk.add_three(end.x.nanometres(), end.y.nanometres(), end.z.nanometres());
     chunk.add_text(b" grid ");
-    add_steps(chunk, &end.to_grid(step));
+    chunk.add_three(point.x, point.y, point.z);
 }
 
 fn add_feed(chunk: &mut Chunk, feed: &Feed)

@@ -11,13 +11,14 @@ fn collects_numbers_and_texts(rt: HostRuntime) -> Result<(), Fail> {
     chunk.add_text(b" ");
     chunk.add_number(-9_223_372_036_854_775_808i64);
     chunk.write_out(&mut sink)?;
-    chunk.add_text(b" 0");
+    chunk.add_text(b" ");
+    chunk.add_three(-1, 0, 2_147_483_647i32);
     chunk.write_out(&mut sink)?;
     same(
         &rt,
         &"text",
         &sink.into_inner().as_slice(),
-        &b"18446744073709551615 -9223372036854775808 0".as_slice(),
+        &b"18446744073709551615 -9223372036854775808 -1 0 2147483647".as_slice(),
     );
     Ok(())
 }

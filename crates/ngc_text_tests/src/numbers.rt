@@ -2,6 +2,7 @@ use crate::checks::same;
 use crate::values::{length, value};
 use ngc_fixed_length::{Nm, NumberFault, Units, Value, root_ceil, root_floor};
 use ngc_line_reader::Operator;
+use ngc_text::decimal_in;
 use std::test::Fail;
 
 const ARITHMETIC: &[(i64, Operator, i64, Result<i64, NumberFault>)] = &[
@@ -82,5 +83,23 @@ fn roots_are_exact(rt: HostRuntime) {
         assert!(rt; *square <= MOST);
         same(&rt, square, &root_floor(*square), floor);
         same(&rt, square, &root_ceil(*square), ceil);
+    }
+}
+
+const DECIMALS: &[(&[u8], Option<u64>)] = &[
+    (b"0", Some(0)),
+    (b"1000000", Some(1_000_000)),
+    (b"9999999999", Some(9_999_999_999)),
+    (b"123456789012345678901234567890", Some(10_000_000_000)),
+    (b"", None),
+    (b"00", None),
+    (b"+1", None),
+    (b"1 ", None),
+];
+
+#[test]
+fn a_number_has_one_decimal_spelling(rt: HostRuntime) {
+    for (text, wanted) in DECIMALS {
+        same(&rt, text, &decimal_in(text), wanted);
     }
 }

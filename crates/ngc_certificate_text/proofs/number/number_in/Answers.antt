@@ -6,7 +6,7 @@ use Rattle.ngc_certificate_text.proofs.Clamps.{minus_number, plain_number}
 use Rattle.ngc_certificate_text.proofs.number.number_in.Goals as goal
 
 pub returns-in-Some : goal.returns-in-Some
-returns-in-Some c = c.negative.ensures ∙ ap negated c.size_in.ensures.value ∙ minus_number c.args.field.now c.in-Some.digits.now (sym c.in-Some.ensures)
+returns-in-Some c = c.negative.ensures ∙ ap negated c.decimal_in.ensures.value ∙ minus_number c.args.field.now c.in-Some.digits.now (sym c.in-Some.ensures)
 
 pub returns-in-None : goal.returns-in-None
-returns-in-None c = c.positive.ensures ∙ ap (option_map pos) c.size_in-in-None.ensures.value ∙ plain_number c.args.field.now (sym c.in-None.ensures)
+returns-in-None c = c.positive.ensures ∙ ap (option_map pos) c.decimal_in-in-None.ensures.value ∙ plain_number c.args.field.now (sym c.in-None.ensures)
