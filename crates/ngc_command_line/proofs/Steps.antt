@@ -1,10 +1,19 @@
 -- What a step of building a command adds to what `clap` reads of it.
-use Rattle.std.proofs.Common.{◌≡◌, Bool, true, false, not, ◌&&◌, ap, ap₂, ◌∙◌, is_some, refl}
+use Rattle.std.proofs.Common.{◌≡◌, ℕ, ◌+◌, ◌<◌, Bool, true, false, not, ◌&&◌, List, [], ◌∷◌, ◌++◌, ap, ap₂, ◌∙◌, fold, get_or, is_some, length, map, refl, sym, take}
+use Rattle.std.proofs.lemmas.List.{take_more}
+use Rattle.std.proofs.lemmas.List.{map-append}
+use Rattle.std.proofs.lemmas.List.Sums.{fold-append}
 use Rattle.clap.specs.Words.{AddsArg, AddsSubcommand, App, Rule, app_of, rule_of, with_rule, with_subcommand}
 use Rattle.clap.specs.Walk.{is_empty}
 use Rattle.clap.specs.declared.builder.arg.Arg.{Arg}
 use Rattle.clap.specs.declared.builder.command.Command.{Command}
 use Rattle.clap.specs.declared.builder.command.Command.TheViews.{out-Command}
+use Rattle.ngc_command_line.specs.Rows.{rule_for, shape_named, taking}
+use Rattle.ngc_command_line.specs.declared.commands.Subcommand.{Subcommand}
+use Rattle.ngc_command_line.specs.declared.commands.Subcommand.TheVariants as named
+use Rattle.ngc_command_line.specs.declared.table.Argument.{Argument}
+use Rattle.ngc_command_line.specs.declared.table.Takes.{Takes}
+use Rattle.ngc_command_line.specs.declared.table.Takes.TheVariants.{Nothing, Text as ToText, Number}
 
 and_right : (a b : Bool) → (a && b) ≡ true → b ≡ true
 and_right true b h = h
@@ -56,3 +65,39 @@ adds_rule {old} {new} {a} {A} {R} is rule simple adds = adds.shape (simple_is_lo
 pub adds_subcommand : {old new sub : Command} {A S : App} → app_of old ≡ A → app_of sub ≡ S → S.top.is_plain ≡ true → AddsSubcommand old sub new → app_of new ≡ with_subcommand A S.top
 adds_subcommand {old} {new} {sub} {A} {S} is shape plain adds =
     adds.shape (plain_is_local sub S shape plain) ∙ ap₂ with_subcommand is (ap (λ (a : App). a.top) shape)
+
+-- a row's rule is simple
+pub rule_is_simple : (argument : Argument) → (rule_for argument).is_simple ≡ true
+rule_is_simple argument = of_kind argument.takes _ refl
+  where
+    of_kind : (takes : Takes) (rule : Rule) → rule.is_simple ≡ true → (taking takes rule).is_simple ≡ true
+    of_kind Nothing rule simple = simple
+    of_kind (ToText value) rule simple = simple
+    of_kind (Number value least most) rule simple = simple
+
+-- a subcommand is plain
+pub shape_is_plain : (subcommand : Subcommand) → (shape_named subcommand).is_plain ≡ true
+shape_is_plain named.List = refl
+shape_is_plain named.Certify = refl
+shape_is_plain named.Check = refl
+shape_is_plain named.Run = refl
+shape_is_plain named.Pulses = refl
+shape_is_plain named.Draw = refl
+shape_is_plain named.Show = refl
+shape_is_plain named.Report = refl
+shape_is_plain named.Explain = refl
+shape_is_plain named.Help = refl
+shape_is_plain named.Version = refl
+
+-- one more argument of a row
+pub adds_row : (old new : Command) (a : Arg) (A : App) (row : Argument) → app_of old ≡ A → rule_of a ≡ rule_for row → AddsArg old a new
+    → app_of new ≡ with_rule A (rule_for row)
+adds_row old new a A row is rule adds = adds_rule {old = old} {new = new} {a = a} {A = A} {R = rule_for row} is rule (rule_is_simple row) adds
+
+-- one more of a list
+pub folds_more : {X Y Z : Type 0} (f : Y → Z → Y) (g : X → Z) (a : Y) (xs : List X) (i : ℕ) (d : X) (new : Y) → i < length xs
+    → new ≡ f (fold f a (map g (take i xs))) (g (get_or xs i d)) → new ≡ fold f a (map g (take (i + 1) xs))
+folds_more f g a xs i d new within is =
+    let more : take (i + 1) xs ≡ take i xs ++ get_or xs i d ∷ [] = take_more xs i d within in
+    let mapped : map g (take (i + 1) xs) ≡ map g (take i xs) ++ g (get_or xs i d) ∷ [] = ap (map g) more ∙ map-append g (take i xs) (get_or xs i d ∷ []) in
+    is ∙ sym (ap (fold f a) mapped ∙ fold-append f a (map g (take i xs)) (g (get_or xs i d) ∷ []))

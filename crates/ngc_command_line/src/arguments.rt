@@ -1,12 +1,11 @@
-//! Options that several subcommands have, and what `clap` found for them.
+//! Arguments that several subcommands have, and what `clap` found for them.
 
-ghost use Rattle.std.specs.Prelude.{◌≡◌, Some, codes};
-ghost use Rattle.clap.specs.Words.{app_of, first_of, found_of, new_app, rows_of, rule_of};
-ghost use Rattle.ngc_command_line.specs.CommandLine.{file_option, flag, required_file};
+ghost use Rattle.std.specs.Prelude.{◌≡◌, Some};
+ghost use Rattle.clap.specs.Words.{first_of, found_of, rows_of};
 ghost use Rattle.ngc_command_line.specs.Meant.{HasValue, is_set};
 
-use clap::{Arg, ArgAction, ArgMatches, Command};
-use std::alloc::Global;
+use crate::table::{Argument, Takes};
+use clap::ArgMatches;
 
 // What the help of a command ends with.
 macro_rules! help_end {
@@ -31,95 +30,53 @@ A refusal names its fault by a number, as in `ngc: fault 113 line 7 column 4`.
 
 pub(crate) use help_end;
 
-// An option that takes the name of a file.
-pub(crate) fn file_argument<'a>(alloc: Global, name: &'a str, help: &'a str) -> Arg<'a>
-    ensures { rule_of result ≡ file_option name.entry.now }
-{
-    Arg::new(alloc, name)
-        .long(name)
-        .value_name("FILE")
-        .help(help)
-        .action(ArgAction::Set)
-}
+pub(crate) const PROGRAM: Argument<'static> = Argument {
+    name: "program",
+    is_named: true,
+    is_required: false,
+    takes: Takes::Text("FILE"),
+    help: "Part program to read [default: standard input]",
+};
 
-// An option that takes the name of a file and may not be left out.
-pub(crate) fn required_argument<'a>(alloc: Global, name: &'a str, help: &'a str) -> Arg<'a>
-    ensures { rule_of result ≡ required_file name.entry.now }
-{
-    file_argument(alloc, name, help).required(true)
-}
+pub(crate) const REQUIRED_MACHINE: Argument<'static> = Argument {
+    name: "machine",
+    is_named: true,
+    is_required: true,
+    takes: Takes::Text("FILE"),
+    help: "Machine file in TOML: its step, travel and fixtures",
+};
 
-// An option that takes no value.
-pub(crate) fn flag_argument<'a>(alloc: Global, name: &'a str, help: &'a str) -> Arg<'a>
-    ensures { rule_of result ≡ flag name.entry.now }
-{
-    Arg::new(alloc, name)
-        .long(name)
-        .help(help)
-        .action(ArgAction::SetTrue)
-}
+pub(crate) const REQUIRED_TOOLS: Argument<'static> = Argument {
+    name: "tools",
+    is_named: true,
+    is_required: true,
+    takes: Takes::Text("FILE"),
+    help: "Tool table in TOML: each tool's number, size\nand offset",
+};
 
-pub(crate) fn program_argument<'a>(alloc: Global) -> Arg<'a>
-    ensures { rule_of result ≡ file_option (codes "program") }
-{
-    file_argument(
-        alloc,
-        "program",
-        "Part program to read [default: standard input]",
-    )
-}
+pub(crate) const REQUIRED_CERTIFICATE: Argument<'static> = Argument {
+    name: "certificate",
+    is_named: true,
+    is_required: true,
+    takes: Takes::Text("FILE"),
+    help: "Certificate to check, as `ngc certify` prints it",
+};
 
-pub(crate) fn required_machine_argument<'a>(alloc: Global) -> Arg<'a>
-    ensures { rule_of result ≡ required_file (codes "machine") }
-{
-    required_argument(
-        alloc,
-        "machine",
-        "Machine file in TOML: its step, travel and fixtures",
-    )
-}
+pub(crate) const CUTS: Argument<'static> = Argument {
+    name: "cuts",
+    is_named: true,
+    is_required: false,
+    takes: Takes::Number("N", 1, 65_535),
+    help: "Most pieces that a motion is cut into, 1 to 65535\n[default: 8]",
+};
 
-pub(crate) fn required_tools_argument<'a>(alloc: Global) -> Arg<'a>
-    ensures { rule_of result ≡ required_file (codes "tools") }
-{
-    required_argument(
-        alloc,
-        "tools",
-        "Tool table in TOML: each tool's number, size\nand offset",
-    )
-}
-
-pub(crate) fn certificate_argument<'a>(alloc: Global) -> Arg<'a>
-    ensures { rule_of result ≡ required_file (codes "certificate") }
-{
-    required_argument(
-        alloc,
-        "certificate",
-        "Certificate to check, as `ngc certify` prints it",
-    )
-}
-
-pub(crate) fn delete_argument<'a>(alloc: Global) -> Arg<'a>
-    ensures { rule_of result ≡ flag (codes "delete") }
-{
-    flag_argument(
-        alloc,
-        "delete",
-        "Turn block delete on: leave out the lines\nthat begin with `/` [default: off]",
-    )
-}
-
-// A subcommand with no arguments yet.
-pub(crate) fn subcommand<'a>(
-    alloc: Global,
-    name: &'a str,
-    about: &'a str,
-    help_end: &'a str,
-) -> Command<'a>
-    ensures { app_of result ≡ new_app name.entry.now }
-{
-    Command::new(alloc, name).about(about).after_help(help_end)
-}
+pub(crate) const DELETE: Argument<'static> = Argument {
+    name: "delete",
+    is_named: true,
+    is_required: false,
+    takes: Takes::Nothing,
+    help: "Turn block delete on: leave out the lines\nthat begin with `/` [default: off]",
+};
 
 pub(crate) fn flag_is_set(found: &ArgMatches<'_>, name: &str) -> bool
     ensures { result ≡ is_set name.now (rows_of (found_of found.now)) }

@@ -1,61 +1,31 @@
 //! `ngc certify`.
 
-ghost use Rattle.std.specs.Prelude.{◌≡◌, IfOk, IfSome, Some, codes};
-ghost use Rattle.clap.specs.Words.{IsUnsignedIn, app_of, first_of, found_of, rows_of, rule_of};
-ghost use Rattle.ngc_command_line.specs.CommandLine.{certify_app, cuts_option, format_option};
+ghost use Rattle.std.specs.Prelude.{◌≡◌, IfSome, Some, codes};
+ghost use Rattle.clap.specs.Words.{IsUnsignedIn, first_of, found_of, rows_of};
 ghost use Rattle.ngc_command_line.specs.Meant.{AreCertifyOptions, AreCuts, HasCertifyValues, IsFormat};
 
-use crate::arguments::{
-    help_end, program_argument, required, required_machine_argument, required_tools_argument,
-    subcommand,
-};
+use crate::arguments::{CUTS, PROGRAM, REQUIRED_MACHINE, REQUIRED_TOOLS, help_end, required};
 use crate::options::{CertifyOptions, Format};
-use clap::builder::ValueParser;
-use clap::{Arg, ArgAction, ArgMatches, Command};
-use std::alloc::{AllocError, Global};
+use crate::table::{Argument, SubcommandRow, Takes};
+use clap::ArgMatches;
 
-pub(crate) fn cuts_argument<'a>(alloc: Global) -> Arg<'a>
-    ensures { rule_of result ≡ cuts_option }
-{
-    Arg::new(alloc, "cuts")
-        .long("cuts")
-        .value_name("N")
-        .help("Most pieces that a motion is cut into, 1 to 65535\n[default: 8]")
-        .action(ArgAction::Set)
-        .value_parser(ValueParser::unsigned(1, 65535))
-}
+const FORMAT: Argument<'static> = Argument {
+    name: "format",
+    is_named: true,
+    is_required: false,
+    takes: Takes::Number("VERSION", 1, 2),
+    help: "Version of the text, 1 or 2: 2 is shorter where both\nsettings of block delete begin alike\n[default: 1]",
+};
 
-fn format_argument<'a>(alloc: Global) -> Arg<'a>
-    ensures { rule_of result ≡ format_option }
-{
-    Arg::new(alloc, "format")
-        .long("format")
-        .value_name("VERSION")
-        .help(
-            "Version of the text, 1 or 2: 2 is shorter where both\nsettings of block delete begin alike\n[default: 1]",
-        )
-        .action(ArgAction::Set)
-        .value_parser(ValueParser::unsigned(1, 2))
-}
-
-pub(crate) fn certify_command<'a>(alloc: Global) -> Result<Command<'a>, AllocError>
-    ensures { IfOk result (λ c. app_of c ≡ certify_app) }
-{
-    subcommand(
-        alloc,
-        "certify",
-        "Print a certificate that travel is kept and fixtures are cleared",
-        help_end!(
-            "  ngc certify --program examples/slot.ngc \\
+pub(crate) static CERTIFY: SubcommandRow<'static> = SubcommandRow {
+    name: "certify",
+    about: "Print a certificate that travel is kept and fixtures are cleared",
+    help_end: help_end!(
+        "  ngc certify --program examples/slot.ngc \\
     --machine examples/clamped_mill.toml --tools examples/tools.toml > slot.cert"
-        ),
-    )
-    .arg(required_machine_argument(alloc))?
-    .arg(required_tools_argument(alloc))?
-    .arg(program_argument(alloc))?
-    .arg(cuts_argument(alloc))?
-    .arg(format_argument(alloc))
-}
+    ),
+    arguments: &[REQUIRED_MACHINE, REQUIRED_TOOLS, PROGRAM, CUTS, FORMAT],
+};
 
 fn cuts_in(text: &str) -> u16
     requires { IsUnsignedIn 1 65535 text.now }

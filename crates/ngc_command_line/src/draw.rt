@@ -1,57 +1,47 @@
 //! `ngc draw`.
 
-ghost use Rattle.std.specs.Prelude.{◌≡◌, IfOk, codes};
-ghost use Rattle.clap.specs.Words.{app_of, found_of, rows_of, rule_of};
-ghost use Rattle.ngc_command_line.specs.CommandLine.{draw_app, file_option};
+ghost use Rattle.clap.specs.Words.{found_of, rows_of};
 ghost use Rattle.ngc_command_line.specs.Meant.{AreDrawOptions, HasDrawValues};
 
 use crate::arguments::{
-    delete_argument, file_argument, flag_is_set, help_end, program_argument, required,
-    required_machine_argument, required_tools_argument, subcommand,
+    DELETE, PROGRAM, REQUIRED_MACHINE, REQUIRED_TOOLS, flag_is_set, help_end, required,
 };
 use crate::options::DrawOptions;
-use clap::{Arg, ArgAction, ArgMatches, Command};
-use std::alloc::{AllocError, Global};
+use crate::table::{Argument, SubcommandRow, Takes};
+use clap::ArgMatches;
 
-fn view_argument<'a>(alloc: Global) -> Arg<'a>
-    ensures { rule_of result ≡ file_option (codes "view") }
-{
-    Arg::new(alloc, "view")
-        .long("view")
-        .value_name("VIEW")
-        .help("From where to look: top, front or side\n[default: top]")
-        .action(ArgAction::Set)
-}
+const VIEW: Argument<'static> = Argument {
+    name: "view",
+    is_named: true,
+    is_required: false,
+    takes: Takes::Text("VIEW"),
+    help: "From where to look: top, front or side\n[default: top]",
+};
 
-fn drawn_certificate_argument<'a>(alloc: Global) -> Arg<'a>
-    ensures { rule_of result ≡ file_option (codes "certificate") }
-{
-    file_argument(
-        alloc,
-        "certificate",
-        "Certificate to check, as `ngc certify` prints it\n[default: try to make one]",
-    )
-}
+const CERTIFICATE: Argument<'static> = Argument {
+    name: "certificate",
+    is_named: true,
+    is_required: false,
+    takes: Takes::Text("FILE"),
+    help: "Certificate to check, as `ngc certify` prints it\n[default: try to make one]",
+};
 
-pub(crate) fn draw_command<'a>(alloc: Global) -> Result<Command<'a>, AllocError>
-    ensures { IfOk result (λ c. app_of c ≡ draw_app) }
-{
-    subcommand(
-        alloc,
-        "draw",
-        "Draw a part program, its fixtures and its travel as an SVG picture",
-        help_end!(
-            "  ngc draw --program examples/slot.ngc \\
+pub(crate) static DRAW: SubcommandRow<'static> = SubcommandRow {
+    name: "draw",
+    about: "Draw a part program, its fixtures and its travel as an SVG picture",
+    help_end: help_end!(
+        "  ngc draw --program examples/slot.ngc \\
     --machine examples/clamped_mill.toml --tools examples/tools.toml > slot.svg"
-        ),
-    )
-    .arg(required_machine_argument(alloc))?
-    .arg(required_tools_argument(alloc))?
-    .arg(drawn_certificate_argument(alloc))?
-    .arg(program_argument(alloc))?
-    .arg(view_argument(alloc))?
-    .arg(delete_argument(alloc))
-}
+    ),
+    arguments: &[
+        REQUIRED_MACHINE,
+        REQUIRED_TOOLS,
+        CERTIFICATE,
+        PROGRAM,
+        VIEW,
+        DELETE,
+    ],
+};
 
 pub(crate) fn draw_options<'a>(found: &ArgMatches<'a>) -> DrawOptions<'a>
     requires { HasDrawValues (rows_of (found_of found.now)) }

@@ -1,37 +1,27 @@
 //! `ngc explain`.
 
-ghost use Rattle.std.specs.Prelude.{◌≡◌, IfOk, Some, codes};
-ghost use Rattle.clap.specs.Words.{IsUnsignedIn, app_of, first_of, found_of, rows_of, rule_of};
-ghost use Rattle.ngc_command_line.specs.CommandLine.{explain_app, number_argument};
+ghost use Rattle.std.specs.Prelude.{◌≡◌, Some, codes};
+ghost use Rattle.clap.specs.Words.{IsUnsignedIn, first_of, found_of, rows_of};
 ghost use Rattle.ngc_command_line.specs.Meant.{HasExplainValues, IsNumber};
 
-use crate::arguments::{help_end, required, subcommand};
-use clap::builder::ValueParser;
-use clap::{Arg, ArgAction, ArgMatches, Command};
-use std::alloc::{AllocError, Global};
+use crate::arguments::{help_end, required};
+use crate::table::{Argument, SubcommandRow, Takes};
+use clap::ArgMatches;
 
-fn fault_argument<'a>(alloc: Global) -> Arg<'a>
-    ensures { rule_of result ≡ number_argument }
-{
-    Arg::new(alloc, "number")
-        .value_name("N")
-        .help("Number of a fault, as its line tells it")
-        .action(ArgAction::Set)
-        .value_parser(ValueParser::unsigned(1, 999))
-        .required(true)
-}
+const NUMBER: Argument<'static> = Argument {
+    name: "number",
+    is_named: false,
+    is_required: true,
+    takes: Takes::Number("N", 1, 999),
+    help: "Number of a fault, as its line tells it",
+};
 
-pub(crate) fn explain_command<'a>(alloc: Global) -> Result<Command<'a>, AllocError>
-    ensures { IfOk result (λ c. app_of c ≡ explain_app) }
-{
-    subcommand(
-        alloc,
-        "explain",
-        "Print the rule of a fault, an example, and what to do",
-        help_end!("  ngc explain 113"),
-    )
-    .arg(fault_argument(alloc))
-}
+pub(crate) static EXPLAIN: SubcommandRow<'static> = SubcommandRow {
+    name: "explain",
+    about: "Print the rule of a fault, an example, and what to do",
+    help_end: help_end!("  ngc explain 113"),
+    arguments: &[NUMBER],
+};
 
 fn number_in(text: &str) -> u16
     requires { IsUnsignedIn 1 999 text.now }

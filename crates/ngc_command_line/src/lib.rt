@@ -4,12 +4,12 @@
 //! text that `clap` gives.
 #![tactic(auto)]
 
-ghost use Rattle.std.specs.Prelude.{◌≡◌, Bool, IfOk, IsOkUnless, MatchResult, OnOk, Option, Some, ℕ, codes, ◌∷◌, [], fold};
-ghost use Rattle.clap.specs.Words.{Text, app_of, found_of, kind_of, rows_of, subcommand_of, with_subcommand};
+ghost use Rattle.std.specs.Prelude.{◌≡◌, Bool, IfOk, IsOkUnless, MatchResult, OnOk, Option, Some, ℕ, codes, ◌∷◌, []};
+ghost use Rattle.clap.specs.Words.{Text, found_of, kind_of, rows_of, subcommand_of};
 ghost use Rattle.clap.specs.Walk.{texts};
 ghost use Rattle.ngc_command_line.specs.CommandLine.{certify_words, check_words, draw_words, help_words, list_words, show_words};
-ghost use Rattle.ngc_command_line.specs.CommandLine.{ngc_app, ngc_settings, run_words};
-ghost use Rattle.ngc_command_line.specs.CommandLine.{certifying_shapes, guide_shapes, report_words, running_shapes};
+ghost use Rattle.ngc_command_line.specs.CommandLine.{ngc_app, run_words};
+ghost use Rattle.ngc_command_line.specs.CommandLine.{report_words};
 ghost use Rattle.ngc_command_line.specs.Meant.{AreCutsInRange, AreOptions, AsksForCertify};
 ghost use Rattle.ngc_command_line.specs.Meant.{AsksForCheck, AsksForDraw, AsksForList, AsksForRun, AsksForShow, AsksForHelp};
 ghost use Rattle.ngc_command_line.specs.Meant.{AreCommands, AsksForReport, help_fault_number};
@@ -18,6 +18,7 @@ ghost use Rattle.ngc_command_line.specs.Meant.{IsTaken, IsWhole, usage_fault_num
 mod arguments;
 mod certify;
 mod check;
+mod commands;
 mod draw;
 mod explain;
 mod guide;
@@ -26,24 +27,25 @@ mod options;
 mod report;
 mod run;
 mod show;
+mod table;
 
-use arguments::help_end;
-use certify::{certify_command, certify_options};
-use check::{check_command, check_options};
+use certify::certify_options;
+use check::check_options;
+use clap::ArgMatches;
 use clap::error::ErrorKind;
-use clap::{ArgMatches, Command};
-use draw::{draw_command, draw_options};
-use explain::{explain_command, explained_number};
-use guide::{help_command, topic, version_command};
-use list::{list_command, list_options};
+use commands::ngc_command;
+use draw::draw_options;
+use explain::explained_number;
+use guide::topic;
+use list::list_options;
 pub use options::{
     CertifyOptions, CheckOptions, DrawOptions, Format, ListOptions, Options, Recording,
     ReportOptions, RunOptions, RunThroughOptions, ShowOptions,
 };
-use report::{report_command, report_options};
-use run::{pulses_command, run_command, run_options};
-use show::{show_command, show_options};
-use std::alloc::{AllocError, Global};
+use report::report_options;
+use run::run_options;
+use show::show_options;
+use std::alloc::Global;
 use thiserror::Error;
 
 /// Why no options were read.
@@ -91,59 +93,6 @@ impl HelpFault {
             HelpFault::Memory => 900,
         }
     }
-}
-
-// The program's own settings, with no subcommand yet.
-fn bare_command<'a>(alloc: Global) -> Result<Command<'a>, AllocError>
-    ensures { IfOk result (λ c. app_of c ≡ ngc_settings) }
-{
-    Command::new(alloc, "ngc")
-        .no_binary_name(true)
-        .subcommand_required(true)
-        .disable_help_subcommand(true)
-        .about("List, certify, check, run and draw part programs in RS274/NGC")
-        .after_help(help_end!("  ngc list --program examples/facing.ngc"))
-        .bin_name("ngc")
-}
-
-// The commands that list a program, and make and check its certificate.
-fn with_certifying<'a>(alloc: Global, command: Command<'a>) -> Result<Command<'a>, AllocError>
-    ensures { IfOk result (λ c. app_of c ≡ fold with_subcommand (app_of command.entry) certifying_shapes) }
-{
-    command
-        .subcommand(list_command(alloc)?)?
-        .subcommand(certify_command(alloc)?)?
-        .subcommand(check_command(alloc)?)
-}
-
-// The commands that run a program, and show it.
-fn with_running<'a>(alloc: Global, command: Command<'a>) -> Result<Command<'a>, AllocError>
-    ensures { IfOk result (λ c. app_of c ≡ fold with_subcommand (app_of command.entry) running_shapes) }
-{
-    command
-        .subcommand(run_command(alloc)?)?
-        .subcommand(pulses_command(alloc)?)?
-        .subcommand(draw_command(alloc)?)?
-        .subcommand(show_command(alloc)?)?
-        .subcommand(report_command(alloc)?)
-}
-
-// The commands that read no file.
-fn with_guides<'a>(alloc: Global, command: Command<'a>) -> Result<Command<'a>, AllocError>
-    ensures { IfOk result (λ c. app_of c ≡ fold with_subcommand (app_of command.entry) guide_shapes) }
-{
-    command
-        .subcommand(explain_command(alloc)?)?
-        .subcommand(help_command(alloc)?)?
-        .subcommand(version_command(alloc))
-}
-
-fn ngc_command<'a>(alloc: Global) -> Result<Command<'a>, AllocError>
-    ensures { IfOk result (λ c. app_of c ≡ ngc_app) }
-{
-    let certifying = with_certifying(alloc, bare_command(alloc)?)?;
-    let running = with_running(alloc, certifying)?;
-    with_guides(alloc, running)
 }
 
 fn usage_fault(alloc: Global, error: clap::Error) -> UsageFault

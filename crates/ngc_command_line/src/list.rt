@@ -1,51 +1,35 @@
 //! `ngc list`.
 
-ghost use Rattle.std.specs.Prelude.{◌≡◌, IfOk, codes};
-ghost use Rattle.clap.specs.Words.{app_of, found_of, rows_of, rule_of};
-ghost use Rattle.ngc_command_line.specs.CommandLine.{file_option, list_app};
+ghost use Rattle.clap.specs.Words.{found_of, rows_of};
 ghost use Rattle.ngc_command_line.specs.Meant.{AreListOptions};
 
 use crate::ListOptions;
-use crate::arguments::{
-    delete_argument, file_argument, flag_is_set, help_end, program_argument, subcommand,
+use crate::arguments::{DELETE, PROGRAM, flag_is_set, help_end};
+use crate::table::{Argument, SubcommandRow, Takes};
+use clap::ArgMatches;
+
+const MACHINE: Argument<'static> = Argument {
+    name: "machine",
+    is_named: true,
+    is_required: false,
+    takes: Takes::Text("FILE"),
+    help: "Machine file in TOML: its step, start, home points\nand origins [default: a built-in small mill]",
 };
-use clap::{Arg, ArgMatches, Command};
-use std::alloc::{AllocError, Global};
 
-fn machine_argument<'a>(alloc: Global) -> Arg<'a>
-    ensures { rule_of result ≡ file_option (codes "machine") }
-{
-    file_argument(
-        alloc,
-        "machine",
-        "Machine file in TOML: its step, start, home points\nand origins [default: a built-in small mill]",
-    )
-}
+const TOOLS: Argument<'static> = Argument {
+    name: "tools",
+    is_named: true,
+    is_required: false,
+    takes: Takes::Text("FILE"),
+    help: "Tool table in TOML: each tool's number, size and offset\n[default: no tools]",
+};
 
-fn tools_argument<'a>(alloc: Global) -> Arg<'a>
-    ensures { rule_of result ≡ file_option (codes "tools") }
-{
-    file_argument(
-        alloc,
-        "tools",
-        "Tool table in TOML: each tool's number, size and offset\n[default: no tools]",
-    )
-}
-
-pub(crate) fn list_command<'a>(alloc: Global) -> Result<Command<'a>, AllocError>
-    ensures { IfOk result (λ c. app_of c ≡ list_app) }
-{
-    subcommand(
-        alloc,
-        "list",
-        "Print the commands of a part program, one a line",
-        help_end!("  ngc list --program examples/facing.ngc"),
-    )
-    .arg(program_argument(alloc))?
-    .arg(machine_argument(alloc))?
-    .arg(tools_argument(alloc))?
-    .arg(delete_argument(alloc))
-}
+pub(crate) static LIST: SubcommandRow<'static> = SubcommandRow {
+    name: "list",
+    about: "Print the commands of a part program, one a line",
+    help_end: help_end!("  ngc list --program examples/facing.ngc"),
+    arguments: &[PROGRAM, MACHINE, TOOLS, DELETE],
+};
 
 pub(crate) fn list_options<'a>(found: &ArgMatches<'a>) -> ListOptions<'a>
     ensures { AreListOptions (rows_of (found_of found.now)) result }

@@ -3,7 +3,7 @@
 ghost use Rattle.std.specs.Prelude.{◌≤◌};
 
 /// What the program is asked to do.
-#[derive(Clone, Copy, Debug, PartialEq, Eq)]
+#[derive(Clone, Copy, PartialEq, Eq)]
 pub enum Options<'a> {
     /// `ngc list`: print the commands of a part program.
     List(ListOptions<'a>),
@@ -30,7 +30,7 @@ pub enum Options<'a> {
 }
 
 /// The options of `ngc list`.
-#[derive(Clone, Copy, Debug, PartialEq, Eq)]
+#[derive(Clone, Copy, PartialEq, Eq)]
 pub struct ListOptions<'a> {
     /// The file of the part program. With none it comes from standard input.
     pub program: Option<&'a str>,
@@ -43,7 +43,7 @@ pub struct ListOptions<'a> {
 }
 
 /// The version of the text of a certificate.
-#[derive(Clone, Copy, Debug, PartialEq, Eq)]
+#[derive(Clone, Copy, PartialEq, Eq)]
 pub enum Format {
     /// Version 1: the motions of one setting of block delete, and then those of the other.
     One,
@@ -52,7 +52,7 @@ pub enum Format {
 }
 
 /// The options of `ngc certify`.
-#[derive(Clone, Copy, Debug, PartialEq, Eq)]
+#[derive(Clone, Copy, PartialEq, Eq)]
 pub struct CertifyOptions<'a> {
     /// The machine file.
     pub machine: &'a str,
@@ -68,7 +68,7 @@ pub struct CertifyOptions<'a> {
 }
 
 /// The options of `ngc check`.
-#[derive(Clone, Copy, Debug, PartialEq, Eq)]
+#[derive(Clone, Copy, PartialEq, Eq)]
 pub struct CheckOptions<'a> {
     /// The machine file.
     pub machine: &'a str,
@@ -81,7 +81,7 @@ pub struct CheckOptions<'a> {
 }
 
 /// What a run writes.
-#[derive(Clone, Copy, Debug, PartialEq, Eq)]
+#[derive(Clone, Copy, PartialEq, Eq)]
 pub enum Recording {
     /// `ngc run`: the log.
     Log,
@@ -90,7 +90,7 @@ pub enum Recording {
 }
 
 /// The options of `ngc run` and `ngc pulses` with events.
-#[derive(Clone, Copy, Debug, PartialEq, Eq)]
+#[derive(Clone, Copy, PartialEq, Eq)]
 pub struct RunOptions<'a> {
     /// What is written.
     pub recording: Recording,
@@ -109,7 +109,7 @@ pub struct RunOptions<'a> {
 }
 
 /// The options of `ngc run` and `ngc pulses` without events.
-#[derive(Clone, Copy, Debug, PartialEq, Eq)]
+#[derive(Clone, Copy, PartialEq, Eq)]
 pub struct RunThroughOptions<'a> {
     /// What is written.
     pub recording: Recording,
@@ -126,7 +126,7 @@ pub struct RunThroughOptions<'a> {
 }
 
 /// The options of `ngc draw`.
-#[derive(Clone, Copy, Debug, PartialEq, Eq)]
+#[derive(Clone, Copy, PartialEq, Eq)]
 pub struct DrawOptions<'a> {
     /// The machine file.
     pub machine: &'a str,
@@ -143,7 +143,7 @@ pub struct DrawOptions<'a> {
 }
 
 /// The options of `ngc show`.
-#[derive(Clone, Copy, Debug, PartialEq, Eq)]
+#[derive(Clone, Copy, PartialEq, Eq)]
 pub struct ShowOptions<'a> {
     /// The machine file.
     pub machine: &'a str,
@@ -152,7 +152,7 @@ pub struct ShowOptions<'a> {
 }
 
 /// The options of `ngc report`.
-#[derive(Clone, Copy, Debug, PartialEq, Eq)]
+#[derive(Clone, Copy, PartialEq, Eq)]
 pub struct ReportOptions<'a> {
     /// The machine file.
     pub machine: &'a str,

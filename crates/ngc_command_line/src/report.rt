@@ -1,54 +1,41 @@
 //! `ngc report`.
 
-ghost use Rattle.std.specs.Prelude.{◌≡◌, IfOk, codes};
-ghost use Rattle.clap.specs.Words.{app_of, found_of, rows_of, rule_of};
-ghost use Rattle.ngc_command_line.specs.CommandLine.{flag, report_app};
+ghost use Rattle.clap.specs.Words.{found_of, rows_of};
 ghost use Rattle.ngc_command_line.specs.Meant.{AreReportOptions, HasReportValues};
 
 use crate::arguments::{
-    flag_argument, flag_is_set, help_end, program_argument, required, required_machine_argument,
-    required_tools_argument, subcommand,
+    CUTS, PROGRAM, REQUIRED_MACHINE, REQUIRED_TOOLS, flag_is_set, help_end, required,
 };
-use crate::certify::{cuts_argument, cuts_of};
+use crate::certify::cuts_of;
 use crate::options::ReportOptions;
-use clap::{Arg, ArgMatches, Command};
-use std::alloc::{AllocError, Global};
+use crate::table::{Argument, SubcommandRow, Takes};
+use clap::ArgMatches;
 
-fn all_argument<'a>(alloc: Global) -> Arg<'a>
-    ensures { rule_of result ≡ flag (codes "all") }
-{
-    flag_argument(
-        alloc,
-        "all",
-        "Where it doesn't fit, tell every command that\nis in the way, and not the first alone",
-    )
-}
+const ALL: Argument<'static> = Argument {
+    name: "all",
+    is_named: true,
+    is_required: false,
+    takes: Takes::Nothing,
+    help: "Where it doesn't fit, tell every command that\nis in the way, and not the first alone",
+};
 
-fn json_argument<'a>(alloc: Global) -> Arg<'a>
-    ensures { rule_of result ≡ flag (codes "json") }
-{
-    flag_argument(alloc, "json", "Print the same facts as a JSON document")
-}
+const JSON: Argument<'static> = Argument {
+    name: "json",
+    is_named: true,
+    is_required: false,
+    takes: Takes::Nothing,
+    help: "Print the same facts as a JSON document",
+};
 
-pub(crate) fn report_command<'a>(alloc: Global) -> Result<Command<'a>, AllocError>
-    ensures { IfOk result (λ c. app_of c ≡ report_app) }
-{
-    subcommand(
-        alloc,
-        "report",
-        "Tell whether a part program fits, and how long it takes",
-        help_end!(
-            "  ngc report --program examples/slot.ngc \\
+pub(crate) static REPORT: SubcommandRow<'static> = SubcommandRow {
+    name: "report",
+    about: "Tell whether a part program fits, and how long it takes",
+    help_end: help_end!(
+        "  ngc report --program examples/slot.ngc \\
     --machine examples/clamped_mill.toml --tools examples/tools.toml"
-        ),
-    )
-    .arg(required_machine_argument(alloc))?
-    .arg(required_tools_argument(alloc))?
-    .arg(program_argument(alloc))?
-    .arg(cuts_argument(alloc))?
-    .arg(all_argument(alloc))?
-    .arg(json_argument(alloc))
-}
+    ),
+    arguments: &[REQUIRED_MACHINE, REQUIRED_TOOLS, PROGRAM, CUTS, ALL, JSON],
+};
 
 pub(crate) fn report_options<'a>(found: &ArgMatches<'a>) -> ReportOptions<'a>
     requires { HasReportValues (rows_of (found_of found.now)) }

@@ -1,74 +1,52 @@
 //! `ngc run` and `ngc pulses`.
 
-ghost use Rattle.std.specs.Prelude.{◌≡◌, IfOk, codes};
-ghost use Rattle.clap.specs.Words.{app_of, found_of, rows_of, rule_of};
-ghost use Rattle.ngc_command_line.specs.CommandLine.{file_option, pulses_app, run_app, with_run_rules};
+ghost use Rattle.clap.specs.Words.{found_of, rows_of};
 ghost use Rattle.ngc_command_line.specs.Meant.{AreRunsOptions, HasRunValues};
 
 use crate::arguments::{
-    certificate_argument, delete_argument, file_argument, flag_is_set, help_end, program_argument,
-    required, required_machine_argument, required_tools_argument, subcommand,
+    DELETE, PROGRAM, REQUIRED_CERTIFICATE, REQUIRED_MACHINE, REQUIRED_TOOLS, flag_is_set, help_end,
+    required,
 };
 use crate::options::{Options, Recording, RunOptions, RunThroughOptions};
-use clap::{Arg, ArgMatches, Command};
-use std::alloc::{AllocError, Global};
+use crate::table::{Argument, SubcommandRow, Takes};
+use clap::ArgMatches;
 
-fn events_argument<'a>(alloc: Global) -> Arg<'a>
-    ensures { rule_of result ≡ file_option (codes "events") }
-{
-    file_argument(
-        alloc,
-        "events",
-        "List of events: what is done at the panel, and when\n[default: run the program through]",
-    )
-}
+const EVENTS: Argument<'static> = Argument {
+    name: "events",
+    is_named: true,
+    is_required: false,
+    takes: Takes::Text("FILE"),
+    help: "List of events: what is done at the panel, and when\n[default: run the program through]",
+};
 
-// The options of a run, behind the name of its command.
-fn with_run_arguments<'a>(alloc: Global, command: Command<'a>) -> Result<Command<'a>, AllocError>
-    ensures { IfOk result (λ c. app_of c ≡ with_run_rules (app_of command.entry)) }
-{
-    command
-        .arg(required_machine_argument(alloc))?
-        .arg(required_tools_argument(alloc))?
-        .arg(certificate_argument(alloc))?
-        .arg(events_argument(alloc))?
-        .arg(program_argument(alloc))?
-        .arg(delete_argument(alloc))
-}
+const RUN_ARGUMENTS: &[Argument<'static>] = &[
+    REQUIRED_MACHINE,
+    REQUIRED_TOOLS,
+    REQUIRED_CERTIFICATE,
+    EVENTS,
+    PROGRAM,
+    DELETE,
+];
 
-pub(crate) fn run_command<'a>(alloc: Global) -> Result<Command<'a>, AllocError>
-    ensures { IfOk result (λ c. app_of c ≡ run_app) }
-{
-    with_run_arguments(
-        alloc,
-        subcommand(
-            alloc,
-            "run",
-            "Run a part program through, or over events, and print the log",
-            help_end!(
-                "  ngc run --program examples/slot.ngc --certificate slot.cert \\
+pub(crate) static RUN: SubcommandRow<'static> = SubcommandRow {
+    name: "run",
+    about: "Run a part program through, or over events, and print the log",
+    help_end: help_end!(
+        "  ngc run --program examples/slot.ngc --certificate slot.cert \\
     --machine examples/clamped_mill.toml --tools examples/tools.toml"
-            ),
-        ),
-    )
-}
+    ),
+    arguments: RUN_ARGUMENTS,
+};
 
-pub(crate) fn pulses_command<'a>(alloc: Global) -> Result<Command<'a>, AllocError>
-    ensures { IfOk result (λ c. app_of c ≡ pulses_app) }
-{
-    with_run_arguments(
-        alloc,
-        subcommand(
-            alloc,
-            "pulses",
-            "Run a part program as `run` does, and print the pulses as a VCD",
-            help_end!(
-                "  ngc pulses --program examples/slot.ngc --certificate slot.cert \\
+pub(crate) static PULSES: SubcommandRow<'static> = SubcommandRow {
+    name: "pulses",
+    about: "Run a part program as `run` does, and print the pulses as a VCD",
+    help_end: help_end!(
+        "  ngc pulses --program examples/slot.ngc --certificate slot.cert \\
     --machine examples/clamped_mill.toml --tools examples/tools.toml > slot.vcd"
-            ),
-        ),
-    )
-}
+    ),
+    arguments: RUN_ARGUMENTS,
+};
 
 // With events, or through to the program's end.
 pub(crate) fn run_options<'a>(recording: Recording, found: &ArgMatches<'a>) -> Options<'a>
