@@ -1,4 +1,5 @@
--- What is left of a certificate behind the lines that were read, by the line that comes next. Our own.
+-- What is left of a certificate behind the lines that were read, by the line that comes next. Our
+-- own.
 use Rattle.std.specs.Prelude.{◌≡◌, ℕ, ◌+◌, ◌-◌, ◌*◌, ◌≤◌, zero, suc, List, [], ◌++◌, map, codes, Option, Some, None, Result, Ok, Bool, true, false, IsTrue, not, ◌||◌, ◌==◌, nat_lt}
 use Rattle.ngc_certificate_text.specs.declared.expected.Expected.{Expected}
 use Rattle.ngc_certificate_text.specs.declared.expected.Expected.TheVariants as next
@@ -22,7 +23,8 @@ use Rattle.ngc_certificate_text.specs.Lines.{piece_said, end_said}
 pub use Rattle.ngc_certificate_text.specs.Said.{said_with, made_with}
 use Rattle.ngc_certificate_text.specs.Said.{Place, Said, then_read, line_at, several, entry_at, setting_at, items_at, header_in, ended}
 
--- the version where its line comes yet, the pieces that come yet of a motion that has begun, and the entries behind it
+-- the version where its line comes yet, the pieces that come yet of a motion that has begun, and
+-- the entries behind it
 pub record Rest : Type 0 where
   pub version : Option Version
   pub pieces : List Piece

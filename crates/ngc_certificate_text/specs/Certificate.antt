@@ -1,4 +1,5 @@
--- What a certificate says: for both settings of block delete the motions in order, each with its pieces. Our own.
+-- What a certificate says: for both settings of block delete the motions in order, each with its
+-- pieces. Our own.
 use Rattle.std.specs.Prelude.{ℕ, nat_le, ◌≤◌, List, [], length, slice_index_or, IsTrue, Bool, ◌&&◌}
 use Rattle.std.specs.List.{All, list_all}
 use Rattle.ngc_fixed_length.specs.Boxes.{is_below}

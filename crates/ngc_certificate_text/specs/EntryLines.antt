@@ -43,8 +43,8 @@ all_left c = record { off = c.off; on = c.on; behind_on = false }
 abbrev pub none_left : EntriesLeft → Bool
 none_left left = (left.off == 0) && (left.on == 0)
 
--- An entry of `off` alone comes directly behind none of `on` alone. So the last motion of `on` comes alone only where none of
--- `off` is left.
+-- An entry of `off` alone comes directly behind none of `on` alone. So the last motion of `on`
+-- comes alone only where none of `off` is left.
 abbrev pub may_come : EntriesLeft → Indices → Bool
 may_come left (Both i j) = nat_lt 0 left.off && nat_lt 0 left.on
 may_come left (Off i) = nat_lt 0 left.off && not left.behind_on

@@ -1,4 +1,5 @@
--- How motions are held in memory: the pieces of all of them in one list, and for each motion which of them are its own. Our own.
+-- How motions are held in memory: the pieces of all of them in one list, and for each motion which
+-- of them are its own. Our own.
 use Rattle.std.specs.Prelude.{◌+◌, ◌≤◌, List, take, drop, map, length}
 use Rattle.std.specs.List.{All}
 use Rattle.ngc_certificate_text.specs.declared.motions.Held.{Held}

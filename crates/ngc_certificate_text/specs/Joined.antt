@@ -1,4 +1,5 @@
--- A certificate of version 2: entries in the order of its lines, some of them for both settings. Our own.
+-- A certificate of version 2: entries in the order of its lines, some of them for both settings.
+-- Our own.
 use Rattle.std.specs.Prelude.{ℕ, ◌≤◌, nat_le, List, [], ◌∷◌, length, Option, Some, None, Bool, true, false, not, ◌&&◌, IsTrue}
 use Rattle.std.specs.List.{All, list_all}
 use Rattle.ngc_certificate_text.specs.declared.expected.Indices.{Indices}

@@ -1,4 +1,5 @@
--- What each line of a certificate says. A line whose numbers are out of range is still spelled right. Our own.
+-- What each line of a certificate says. A line whose numbers are out of range is still spelled
+-- right. Our own.
 use Rattle.std.specs.Prelude.{ℕ, ℤ, pos, neg_ℤ, unsigned_abs, int_le, List, [], ◌∷◌, codes, Option, Some, None, Result}
 use Rattle.std.specs.Prelude.{Ok, Err, Bool, ◌&&◌, if◌then◌else◌}
 use Rattle.std.specs.Option.{option_map, option_and_then}

@@ -1,4 +1,5 @@
--- How entries are held in memory: the motions of both settings, and of which settings each entry is one. Our own.
+-- How entries are held in memory: the motions of both settings, and of which settings each entry is
+-- one. Our own.
 use Rattle.std.specs.Prelude.{◌≡◌, List, [], ◌∷◌, map, Option, Some, None}
 use Rattle.ngc_certificate_text.specs.declared.expected.Indices.{Indices}
 use Rattle.ngc_certificate_text.specs.declared.expected.Indices.TheVariants as of

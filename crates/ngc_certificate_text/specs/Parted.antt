@@ -1,11 +1,11 @@
--- A certificate's text that comes in pieces of any size: what stands of it already. It is our own that a fault is answered as
--- soon as it stands.
+-- A certificate's text that comes in pieces of any size: what stands of it already. It is our own
+-- that a fault is answered as soon as it stands.
 use Rattle.std.specs.Prelude.{◌≡◌, ℕ, ◌<◌, ◌==◌, nat_le, List, [], ◌∷◌, ◌++◌, length, IsTrue, Bool, not, if◌then◌else◌}
 use Rattle.std.specs.List.{list_all}
 use Rattle.ngc_certificate_text.specs.Said.{lines_of}
 
--- The bytes that stand whatever follows, behind the beginning of a line: those of lines that a line feed ends, and of a line that
--- has more than 256 bytes already.
+-- The bytes that stand whatever follows, behind the beginning of a line: those of lines that a line
+-- feed ends, and of a line that has more than 256 bytes already.
 abbrev pub firm_behind : List ℕ → List ℕ → List ℕ
 firm_behind line [] = if nat_le (length line) 256 then [] else line
 firm_behind line (b ∷ bytes) =
@@ -35,7 +35,8 @@ pub record GoesOn (lines : List (List ℕ)) (line : List ℕ) : Type 0 where
   pub behind : List (List ℕ)
   pub split : lines ≡ (line ++ more) ∷ behind
 
--- A way to part bytes into lines: a line feed ends one, and one that is too long already goes on whatever follows.
+-- A way to part bytes into lines: a line feed ends one, and one that is too long already goes on
+-- whatever follows.
 pub record PartsLines (lines : List ℕ → List (List ℕ)) : Type 0 where
   pub ends : (line rest : List ℕ) → IsTrue (is_feedless line) → lines (line ++ (10 ∷ rest)) ≡ line ∷ lines rest
   pub long : (line rest : List ℕ) → IsTrue (is_feedless line) → 256 < length line → GoesOn (lines (line ++ rest)) line

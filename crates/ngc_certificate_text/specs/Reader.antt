@@ -1,4 +1,5 @@
--- What a reader of a certificate's text will answer, by the fault that it answered and what it makes of the lines. Our own.
+-- What a reader of a certificate's text will answer, by the fault that it answered and what it
+-- makes of the lines. Our own.
 use Rattle.std.specs.Prelude.{◌≡◌, ℕ, List, Option, Some, None, Result, Ok, Err}
 use Rattle.ngc_certificate_text.specs.declared.fault.CertificateFault.{CertificateFault}
 use Rattle.ngc_certificate_text.specs.declared.fault.CertificateFault.TheVariants as faults

@@ -28,7 +28,8 @@ pub struct Certificate<A: Allocator> {
     ghost whole: { (kinds : List EntryKind) → option_map (λ k. k.items) order ≡ Some kinds → IsWhole kinds off on } by { Prim.hlevel props },
 }
 
-// The kinds of the entries where the first `both` motions of each setting are joined: so many motions each setting has.
+// The kinds of the entries where the first `both` motions of each setting are joined: so many
+// motions each setting has.
 fn kinds_of<A: Allocator>(
     alloc: A,
     both: usize,
@@ -67,13 +68,15 @@ impl<A: Allocator> Certificate<A> {
         }
     }
 
-    /// The same motions as a certificate of version 2: the first `both` of each setting are joined, which have the same
-    /// pieces, and the others stand alone, those of `off` first. The memory for that is of `alloc`.
+    /// The same motions as a certificate of version 2: the first `both` of each setting are joined,
+    /// which have the same pieces, and the others stand alone, those of `off` first. The memory for
+    /// that is of `alloc`.
     pub fn joined(self, alloc: A, both: usize) -> Result<Certificate<A>, AllocError>
         requires { HaveSamePieces both (said_of self).off (said_of self).on }
         ensures said { IfOk result (λ c. said_of c ≡ said_of self) }
         ensures form { IfOk result (λ c. form_of c ≡ Joined (joined_first both (said_of self).off (said_of self).on)) }
-        // Its entries are in range, and none of `off` alone stands directly behind one of `on` alone.
+        // Its entries are in range, and none of `off` alone stands directly behind one of `on`
+        // alone.
         ensures entries { IsJoined (joined_first both (said_of self).off (said_of self).on) }
     {
         let Certificate { off, on, order: _ } = self;

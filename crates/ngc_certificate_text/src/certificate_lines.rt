@@ -12,8 +12,9 @@ use crate::told::Told;
 use arrayvec::ArrayVec;
 use memchr::memchr;
 
-/// The lines of a certificate's text that comes in pieces of any size: each is read as soon as its line feed has come. Of
-/// the text no more is kept than a line that a piece's end cut, and of the certificate nothing.
+/// The lines of a certificate's text that comes in pieces of any size: each is read as soon as its
+/// line feed has come. Of the text no more is kept than a line that a piece's end cut, and of the
+/// certificate nothing.
 #[derive(Drop)]
 pub struct CertificateLines {
     next: NextLine,
@@ -102,9 +103,10 @@ impl CertificateLines {
         }
     }
 
-    /// What the first line tells that ends in these bytes, with the bytes behind it; or `None` where no line ends in them,
-    /// and they are kept. A fault is answered as soon as it stands: with its line's line feed, or with the 257th byte of a
-    /// line that is too long. Behind a fault there is nothing more to ask.
+    /// What the first line tells that ends in these bytes, with the bytes behind it; or `None`
+    /// where no line ends in them, and they are kept. A fault is answered as soon as it stands:
+    /// with its line's line feed, or with the 257th byte of a line that is too long. Behind a fault
+    /// there is nothing more to ask.
     pub fn next<'a>(
         &mut self,
         bytes: &'a [u8],
@@ -139,8 +141,8 @@ impl CertificateLines {
         self.next.has_ended() && !self.cut.is_empty()
     }
 
-    /// Whether the text has ended, where no byte comes any more; else the fault of a line that is missing or lacks its line
-    /// feed.
+    /// Whether the text has ended, where no byte comes any more; else the fault of a line that is
+    /// missing or lacks its line feed.
     pub fn finish(&self) -> Result<(), CertificateFault>
         requires { IsReading self.now }
         ensures said { MatchResult result (λ _. left_by lines_of self.now [] ≡ Ok nothing_left) (λ fault. left_by lines_of self.now [] ≡ Err fault) }

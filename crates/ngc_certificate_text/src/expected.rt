@@ -6,7 +6,8 @@ ghost use Rattle.ngc_certificate_text.specs.Told.{behind_piece, behind_told, beh
 use crate::piece::Setting;
 use crate::told::{Told, Version};
 
-/// The index of a motion in its setting's list of commands, 0 to 999,999, or those of one motion of each setting.
+/// The index of a motion in its setting's list of commands, 0 to 999,999, or those of one motion of
+/// each setting.
 #[derive(Clone, Copy, Debug, PartialEq, Eq)]
 pub enum Indices {
     /// A motion of each setting with the same pieces: its index at `off`, and at `on`.
@@ -22,7 +23,8 @@ pub struct EntriesLeft {
     pub off: u32,
     /// How many motions of `on` they are.
     pub on: u32,
-    /// Whether they come directly behind a motion of `on` alone, so that none of `off` alone may come first.
+    /// Whether they come directly behind a motion of `on` alone, so that none of `off` alone may
+    /// come first.
     pub behind_on: bool,
 }
 

@@ -10,7 +10,8 @@ use crate::piece::Piece;
 use crate::told::{Told, Version};
 use std::alloc::{AllocError, Allocator};
 
-/// The certificate as far as its lines have come: the motions that are whole, and the pieces so far of one that has begun.
+/// The certificate as far as its lines have come: the motions that are whole, and the pieces so far
+/// of one that has begun.
 #[derive(Drop)]
 pub struct Found<A: Allocator> {
     version: Option<Version>,

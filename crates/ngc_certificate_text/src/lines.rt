@@ -29,7 +29,8 @@ pub enum LineFlaw {
     Range,
 }
 
-/// What the line of an entry says: its motions' indices in the lists of commands, and how many pieces they have.
+/// What the line of an entry says: its motions' indices in the lists of commands, and how many
+/// pieces they have.
 #[derive(Clone, Copy, Debug, PartialEq, Eq)]
 pub struct EntryLine {
     pub indices: Indices,

@@ -14,8 +14,8 @@ struct Held {
     start: usize,
 }
 
-/// The motions of a setting, in order: each with its index in the list of commands, at most 999,999, and with its
-/// pieces, 1 to 65,535. There are at most 1,000,000 motions.
+/// The motions of a setting, in order: each with its index in the list of commands, at most
+/// 999,999, and with its pieces, 1 to 65,535. There are at most 1,000,000 motions.
 #[derive(Drop)]
 pub struct Motions<A: Allocator> {
     held: Vec<Held, A>,

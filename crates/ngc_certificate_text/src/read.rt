@@ -46,14 +46,16 @@ fn read_form<A: Allocator + Copy, R: Source>(
 }
 
 impl<A: Allocator + Copy> Certificate<A> {
-    /// The certificate that a text says, of either version, or the first line at fault: 302 where the first line is
-    /// another or lacks its line feed, 303 where a number is out of its range or a box is inside out, 301 for any other
-    /// wrong line, for a missing one, for one of more than 256 bytes and for bytes behind the end.
+    /// The certificate that a text says, of either version, or the first line at fault: 302 where
+    /// the first line is another or lacks its line feed, 303 where a number is out of its range or
+    /// a box is inside out, 301 for any other wrong line, for a missing one, for one of more than
+    /// 256 bytes and for bytes behind the end.
     ///
-    /// No more is pulled once a fault stands or the text has ended. What the text announces takes no memory: only what
-    /// is read does.
+    /// No more is pulled once a fault stands or the text has ended. What the text announces takes
+    /// no memory: only what is read does.
     pub fn read<R: Source>(alloc: A, source: &mut R) -> Result<Certificate<A>, CertificateFault>
-        // Where the source's bytes are known, the answer is what they say, but for want of memory and a failure.
+        // Where the source's bytes are known, the answer is what they say, but for want of memory
+        // and a failure.
         ensures said { IfSome (R.remaining source.old)
             (λ bytes. GivesCertificate said_of result (certificate_said bytes)) }
         // So is its form.

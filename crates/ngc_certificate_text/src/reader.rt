@@ -57,10 +57,12 @@ impl<A: Allocator> CertificateReader<A> {
     /// stands: by the piece with the line feed that ends its line, or with the 257th byte of a line
     /// that is too long.
     pub fn feed(&mut self, piece: &[u8]) -> Result<(), CertificateFault>
-        // The fault is the one that the lines so far have whatever follows, and where they have none, none is answered.
+        // The fault is the one that the lines so far have whatever follows, and where they have
+        // none, none is answered.
         ensures answer { AnswerIs result (firm_in self.old piece.now) }
         ensures firm { OnOk result ((more rest : List ℕ) → firm_in self.old (piece.now ++ more) rest ≡ firm_in self.new more rest) }
-        // Whatever follows, the text comes to the same as if this piece stood in front of it: a fault stays.
+        // Whatever follows, the text comes to the same as if this piece stood in front of it: a
+        // fault stays.
         ensures text { (rest : List ℕ) → MatchResult result (λ _. outcome_in self.old (piece.now ++ rest) ≡ outcome_in self.new rest) (λ fault. FaultIs fault (outcome_in self.old (piece.now ++ rest))) }
         // A fault is kept, also want of memory, and answered again.
         ensures refusal { refusal_in self.new ≡ result_err result }

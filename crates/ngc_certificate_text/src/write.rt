@@ -385,8 +385,8 @@ fn write_form<A: Allocator, W: Sink>(
 }
 
 impl<A: Allocator> Certificate<A> {
-    /// Writes the certificate's text, of the version in which it was read or made: `setting off` and `setting on`, each with
-    /// its motions in order, or the entries of both in their order.
+    /// Writes the certificate's text, of the version in which it was read or made: `setting off`
+    /// and `setting on`, each with its motions in order, or the entries of both in their order.
     ///
     /// After a fault (902, and only where the sink failed) a beginning of the text is written.
     pub fn write<W: Sink>(&self, sink: &mut W) -> Result<(), WriteFault>

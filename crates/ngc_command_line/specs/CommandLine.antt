@@ -117,8 +117,8 @@ ngc_settings = let bare : App = new_app (codes "ngc") in record bare {
   };
 }
 
--- the program's commands: those that list a program, and make and check its certificate; those that run it, and show it; and those
--- that read no file
+-- the program's commands: those that list a program, and make and check its certificate; those that
+-- run it, and show it; and those that read no file
 abbrev pub certifying_shapes : List Shape
 certifying_shapes = list_app.top ∷ certify_app.top ∷ check_app.top ∷ []
 

@@ -32,7 +32,8 @@ use Rattle.ngc_command_line.specs.declared.UsageFault.TheVariants.{Usage, Memory
 abbrev pub IsTaken : List Text → Type 0
 IsTaken words = fault_of ngc_app words ≡ []
 
--- the first value of the flag is the text `true`, which `clap` gives it where it stands in the words
+-- the first value of the flag is the text `true`, which `clap` gives it where it stands in the
+-- words
 abbrev pub is_set : Text → List Row → Bool
 is_set name rows = option_map_or (λ value. bytes_eq value (codes "true")) (first_of name rows) false
 
@@ -54,8 +55,8 @@ abbrev pub format_number : Format → ℕ
 format_number One = 1
 format_number Two = 2
 
--- the version of a certificate's text: 1 where no text is given, else the one, 1 or 2, whose number's decimal the text is; a plus
--- sign may stand before it
+-- the version of a certificate's text: 1 where no text is given, else the one, 1 or 2, whose
+-- number's decimal the text is; a plus sign may stand before it
 abbrev pub IsFormat : Option Text → Format → Type 0
 IsFormat None format = format ≡ One
 IsFormat (Some text) format = IsNumeral 10 (without_leading_plus text)

@@ -161,7 +161,8 @@ pub fn read_options<'a>(alloc: Global, words: &'a [&'a str]) -> Result<Options<'
         → MatchResult result (AsksForCheck machine tools certificate program)
         (λ fault. fault ≡ UsageFault.Memory) }
     // `run --machine=FILE --tools=FILE --certificate=FILE --events=FILE --program=FILE --delete` is
-    // read as it is spelled, where the last three may be left out, and so is `pulses` with the same.
+    // read as it is spelled, where the last three may be left out, and so is `pulses` with the
+    // same.
     ensures spelled_run { (recording : Recording) (machine tools certificate : Text)
         (events program : Option Text) (delete : Bool)
         → texts words.entry.now ≡ run_words recording machine tools certificate events program delete
@@ -230,7 +231,8 @@ fn help_of<'a>(alloc: Global, words: &'a [&'a str]) -> Result<String, HelpFault>
     }
 }
 
-/// The help of a command, or with none that of the program: the text that `--help` behind the command's name gives.
+/// The help of a command, or with none that of the program: the text that `--help` behind the
+/// command's name gives.
 ///
 /// The texts are shown by tests.
 pub fn help_text(alloc: Global, command: Option<&str>) -> Result<String, HelpFault> {

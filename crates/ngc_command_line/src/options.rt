@@ -11,7 +11,8 @@ pub enum Options<'a> {
     Certify(CertifyOptions<'a>),
     /// `ngc check`: check a certificate of a part program.
     Check(CheckOptions<'a>),
-    /// `ngc run` and `ngc pulses` with events: run a part program on the machine over a list of events.
+    /// `ngc run` and `ngc pulses` with events: run a part program on the machine over a list of
+    /// events.
     Run(RunOptions<'a>),
     /// `ngc run` and `ngc pulses` without events: run a part program through to its end.
     RunThrough(RunThroughOptions<'a>),
@@ -19,7 +20,8 @@ pub enum Options<'a> {
     Draw(DrawOptions<'a>),
     /// `ngc show`: print what a machine file and a tool table say.
     Show(ShowOptions<'a>),
-    /// `ngc report`: tell whether a part program fits a machine, with how much room and how long it takes.
+    /// `ngc report`: tell whether a part program fits a machine, with how much room and how long it
+    /// takes.
     Report(ReportOptions<'a>),
     /// `ngc explain`: print what is told of the fault with this number, 1 to 999.
     Explain(u16),
@@ -136,7 +138,8 @@ pub struct DrawOptions<'a> {
     pub certificate: Option<&'a str>,
     /// The file of the part program. With none it comes from standard input.
     pub program: Option<&'a str>,
-    /// The name of the view: `top`, `front` or `side`, and else none has it. With none given it is from the top.
+    /// The name of the view: `top`, `front` or `side`, and else none has it. With none given it is
+    /// from the top.
     pub view: Option<&'a str>,
     /// Whether block delete is on, so that lines that begin with `/` are left out.
     pub delete: bool,

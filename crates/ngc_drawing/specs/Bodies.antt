@@ -25,7 +25,8 @@ use Rattle.ngc_drawing.specs.declared.view.View.TheVariants.{Top, Front, Side}
 abbrev pub sweep_of : ℕ → Piece → Sweep
 sweep_of rank piece = record { rank = rank; count = 1; bounds = piece.bounds }
 
--- the boxes of the motions, each with the rank of the tool that is mounted then; as far as commands and certificate both go
+-- the boxes of the motions, each with the rank of the tool that is mounted then; as far as commands
+-- and certificate both go
 abbrev pub boxes_from : List (Option Tool) → ℕ → List Action → List Entry → List Sweep
 boxes_from used rank [] entries = []
 boxes_from used rank (Mount tool ∷ actions) entries = boxes_from used (rank_of used (number_of tool)) actions entries
@@ -48,7 +49,8 @@ are_seen_alike Top a b = is_same_x a b && is_same_y a b
 are_seen_alike Front a b = is_same_x a b && is_same_z a b
 are_seen_alike Side a b = is_same_y a b && is_same_z a b
 
--- a box is drawn with those before it that have its tool, where they are fewer than so many, or seen at its place
+-- a box is drawn with those before it that have its tool, where they are fewer than so many, or
+-- seen at its place
 abbrev pub takes : View → ℕ → Sweep → Sweep → Bool
 takes view most s next = s.rank == next.rank && (nat_lt s.count most || are_seen_alike view s.bounds next.bounds)
 

@@ -14,7 +14,8 @@ use Rattle.ngc_arc_geometry.specs.Shape.{ArcShape, start_of, end_of}
 
 -- ---- directions from the centre
 
--- half way from d to e counterclockwise, of at most half a turn: their sum, and the way from d to e turned back by a right angle
+-- half way from d to e counterclockwise, of at most half a turn: their sum, and the way from d to e
+-- turned back by a right angle
 abbrev pub between : Point2 → Point2 → Point2
 between d e = record { u = (d.u +ℤ e.u) +ℤ (e.v -ℤ d.v); v = (d.v +ℤ e.v) +ℤ (d.u -ℤ e.u) }
 
@@ -46,7 +47,8 @@ size d = max (whole_root (unsigned_abs (dot d d))) 1
 abbrev pub along : ℕ → Point2 → Point2
 along radius d = record { u = nearest (d.u *ℤ pos radius) (pos (size d)); v = nearest (d.v *ℤ pos radius) (pos (size d)) }
 
--- the point that lies in a direction from the centre, at the outer radius, half way up from one point to another
+-- the point that lies in a direction from the centre, at the outer radius, half way up from one
+-- point to another
 abbrev pub point_between : ArcShape → Point3 → Point3 → Point2 → Point3
 point_between arc p q d =
     at_height arc.plane (shifted arc.centre (along (outer_radius arc) d)) (chord.halfway (height arc.plane p) (height arc.plane q))

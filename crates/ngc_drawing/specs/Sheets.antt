@@ -48,7 +48,8 @@ frame view machine commands = with_commands view (with_fixtures view (bench view
 abbrev pub unit_of : Rectangle → ℤ
 unit_of r = int_max (pos 100) (int_div (int_max (r.high.across -ℤ r.low.across) (r.high.up -ℤ r.low.up)) (pos 100))
 
--- with room for the names of the axes at the left, and for the scale and so many rows of the legend below
+-- with room for the names of the axes at the left, and for the scale and so many rows of the legend
+-- below
 abbrev pub sheet : Rectangle → ℕ → Sheet
 sheet r rows = record {
   left = r.low.across -ℤ (pos 8 *ℤ unit_of r);

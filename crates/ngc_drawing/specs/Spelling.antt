@@ -1,5 +1,6 @@
 -- The text of what is drawn: SVG 1.1, in millimetres. Our own use of it.
-use Rattle.std.specs.Prelude.{ℕ, zero, suc, ◌+◌, ◌/◌, ◌%◌, ◌==◌, ℤ, pos, negsuc, ◌*ℤ◌, unsigned_abs, List, [], ◌∷◌, ◌++◌, flat_map, codes, decimal, Bool, true, false, if◌then◌else◌}
+use Rattle.std.specs.Prelude.{ℕ, ◌+◌, ◌/◌, ◌%◌, ◌==◌, ℤ, pos, ◌-ℤ◌, ◌*ℤ◌, unsigned_abs, List, [], ◌∷◌, ◌++◌, flat_map, codes, decimal, Bool, true, false, if◌then◌else◌}
+use Rattle.ngc_text.specs.Millimetres.{sign_text}
 use Rattle.ngc_drawing.specs.declared.view.View.{View}
 use Rattle.ngc_drawing.specs.declared.view.View.TheVariants.{Top, Front, Side}
 use Rattle.ngc_drawing.specs.declared.spot.Rectangle.{Rectangle}
@@ -11,10 +12,6 @@ use Rattle.ngc_drawing.specs.declared.shape.Mark.TheVariants as marks
 use Rattle.ngc_drawing.specs.declared.shape.Shape.{Shape}
 use Rattle.ngc_drawing.specs.declared.shape.Shape.TheVariants as shapes
 use Rattle.ngc_drawing.specs.declared.shape.Sheet.{Sheet}
-
-abbrev pub sign_text : ℤ → List ℕ
-sign_text (pos n) = []
-sign_text (negsuc n) = codes "-"
 
 -- a point and three digits; 48 is the code of 0
 abbrev pub decimals : ℕ → List ℕ
@@ -29,14 +26,9 @@ unfolding size_text
 length_text z = sign_text z ++ size_text (unsigned_abs z)
 
 -- and with the other sign, since SVG counts downwards
-abbrev pub turned_sign : ℤ → List ℕ
-turned_sign (pos zero) = []
-turned_sign (pos (suc n)) = codes "-"
-turned_sign (negsuc n) = []
-
 unfoldable pub down_text : ℤ → List ℕ
 unfolding size_text
-down_text z = turned_sign z ++ size_text (unsigned_abs z)
+down_text z = sign_text (pos 0 -ℤ z) ++ size_text (unsigned_abs z)
 
 abbrev pub spot_text : Spot → List ℕ
 spot_text p = length_text p.across ++ codes " " ++ down_text p.up

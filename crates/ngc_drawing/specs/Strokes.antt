@@ -40,20 +40,23 @@ is_same_ink (inks.Feed m) (inks.Feed n) = m == n
 is_same_ink (inks.Traverse m) (inks.Traverse n) = m == n
 is_same_ink _ _ = false
 
--- a stroke goes on with the path that is drawn, where that has its ink and ends where the stroke begins, and else begins one
+-- a stroke goes on with the path that is drawn, where that has its ink and ends where the stroke
+-- begins, and else begins one
 abbrev pub lead : Option Run → Ink → Spot → List Shape
 lead None ink from = shapes.Path ink from ∷ []
 lead (Some run) ink from =
     if is_same_ink run.ink ink && is_same run.at from then [] else shapes.PathEnd ∷ shapes.Path ink from ∷ []
 
--- an arc's sense, seen in a view that faces its plane: X and Z of the front turn the other way than Z and X
+-- an arc's sense, seen in a view that faces its plane: X and Z of the front turn the other way than
+-- Z and X
 abbrev pub is_seen_clockwise : View → Turn → Bool
 is_seen_clockwise Front Clockwise = false
 is_seen_clockwise Front Counterclockwise = true
 is_seen_clockwise _ Clockwise = true
 is_seen_clockwise _ Counterclockwise = false
 
--- an arc in quarters, from one extreme point to the next; seen from its side, a line to and fro, and a helix point by point
+-- an arc in quarters, from one extreme point to the next; seen from its side, a line to and fro,
+-- and a helix point by point
 abbrev pub round : View → ArcShape → Spot → Shape
 round view arc to = shapes.Round (micrometres (pos (outer_radius arc))) (is_seen_clockwise view arc.turn) to
 

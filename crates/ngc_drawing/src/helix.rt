@@ -145,7 +145,8 @@ impl Heading {
         }
     }
 
-    /// Twice the area that this one and another span, above 0 where the other is ahead counterclockwise.
+    /// Twice the area that this one and another span, above 0 where the other is ahead
+    /// counterclockwise.
     fn cross(&self, other: &Heading) -> i128
         requires one { IsShort self.now }
         requires other { IsShort other.now }

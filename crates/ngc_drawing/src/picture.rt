@@ -484,12 +484,13 @@ fn write_picture<A: Allocator, W: Sink>(
     }
 }
 
-/// Writes the picture of a program on a machine, as SVG 1.1 in millimetres, seen from one side: travel, fixtures, the bodies of the
-/// tools over the boxes of a certificate's motions (of none, if there are no motions), home and start, the path of the commands,
-/// what is refused in red, a scale and a legend.
+/// Writes the picture of a program on a machine, as SVG 1.1 in millimetres, seen from one side:
+/// travel, fixtures, the bodies of the tools over the boxes of a certificate's motions (of none, if
+/// there are no motions), home and start, the path of the commands, what is refused in red, a scale
+/// and a legend.
 ///
-/// After a fault (900 for refused memory, when nothing is written; 902, and only where the sink failed) a beginning of the text is
-/// written.
+/// After a fault (900 for refused memory, when nothing is written; 902, and only where the sink
+/// failed) a beginning of the text is written.
 pub fn write_svg<A: Allocator + Copy, B: Allocator, W: Sink>(
     alloc: A,
     view: View,

@@ -1,8 +1,8 @@
 use crate::spot::{Rectangle, Spot};
 use crate::view::View;
 
-/// With what a path is drawn: the colour of the tool that is mounted then, by its rank among the tools that the program uses,
-/// dashed where the motion is a traverse; or the red of a fault.
+/// With what a path is drawn: the colour of the tool that is mounted then, by its rank among the
+/// tools that the program uses, dashed where the motion is a traverse; or the red of a fault.
 #[derive(Clone, Copy)]
 pub enum Ink {
     Feed(usize),
@@ -57,7 +57,8 @@ pub enum Shape {
     Path(Ink, Spot),
     /// Straight on to a spot.
     Line(Spot),
-    /// On to a spot along an arc of at most half a turn: its radius in micrometres, and whether it is seen to turn clockwise.
+    /// On to a spot along an arc of at most half a turn: its radius in micrometres, and whether it
+    /// is seen to turn clockwise.
     Round(i64, bool, Spot),
     /// The path or the bodies of a tool end.
     PathEnd,

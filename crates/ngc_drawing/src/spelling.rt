@@ -2,33 +2,12 @@ ghost use Rattle.std.specs.Prelude.{◌≡◌, ◌+◌, ◌*◌, ◌<◌, ◌≤
 ghost use Rattle.ngc_text.specs.Collected.{CHUNK_SIZE, HasLineRoom};
 ghost use Rattle.ngc_drawing.specs.Units.{IsUnit};
 ghost use Rattle.ngc_drawing.specs.declared.shape.Shape.TheVariants as shapes;
-ghost use Rattle.ngc_drawing.specs.Spelling.{sign_text, turned_sign, decimals, size_text, length_text, down_text, spot_text, area_text, colour_text, ink_text, sign_at, axes_text, mark_text, turn_text, begin_text, scale_text, tool_text, shape_text};
+ghost use Rattle.ngc_drawing.specs.Spelling.{decimals, size_text, length_text, down_text, spot_text, area_text, colour_text, ink_text, sign_at, axes_text, mark_text, turn_text, begin_text, scale_text, tool_text, shape_text};
 
 use crate::shape::{Ink, Mark, Shape, Sheet};
 use crate::spot::{Rectangle, Spot};
 use crate::view::View;
 use ngc_text::Chunk;
-
-fn sign(micrometres: i64) -> &'static [u8]
-    ensures text { result.now ≡ sign_text micrometres }
-    ensures short { length result.now ≤ 1 }
-{
-    if micrometres < 0 { b"-" } else { b"" }
-}
-
-fn wide_sign(micrometres: i128) -> &'static [u8]
-    ensures text { result.now ≡ sign_text micrometres }
-    ensures short { length result.now ≤ 1 }
-{
-    if micrometres < 0 { b"-" } else { b"" }
-}
-
-fn turned_sign(micrometres: i64) -> &'static [u8]
-    ensures text { result.now ≡ turned_sign micrometres }
-    ensures short { length result.now ≤ 1 }
-{
-    if 0 < micrometres { b"-" } else { b"" }
-}
 
 fn decimals(thousandths: u64) -> [u8; 4]
     requires { thousandths < 1000 }
@@ -70,7 +49,7 @@ fn add_length(chunk: &mut Chunk, micrometres: i64)
     ensures text { chunk.new ≡ chunk.old ++ length_text micrometres }
     ensures short { length chunk.new ≤ length chunk.old + 45 }
 {
-    chunk.add_text(sign(micrometres));
+    chunk.add_sign(i128::from(micrometres));
     add_size(chunk, micrometres.unsigned_abs());
 }
 
@@ -80,7 +59,7 @@ fn add_wide(chunk: &mut Chunk, micrometres: i128)
     ensures text { chunk.new ≡ chunk.old ++ length_text micrometres }
     ensures short { length chunk.new ≤ length chunk.old + 45 }
 {
-    chunk.add_text(wide_sign(micrometres));
+    chunk.add_sign(micrometres);
     add_wide_size(chunk, micrometres.unsigned_abs());
 }
 
@@ -91,7 +70,7 @@ fn add_down(chunk: &mut Chunk, micrometres: i64)
     ensures text { chunk.new ≡ chunk.old ++ down_text micrometres }
     ensures short { length chunk.new ≤ length chunk.old + 45 }
 {
-    chunk.add_text(turned_sign(micrometres));
+    chunk.add_sign(-i128::from(micrometres));
     add_size(chunk, micrometres.unsigned_abs());
 }
 

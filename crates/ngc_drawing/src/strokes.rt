@@ -92,7 +92,8 @@ fn corners(view: View, arc: &Arc) -> ArrayVec<Shape, 5>
     shapes
 }
 
-/// Draws the way from one point of an arc to another, at most half a turn apart, halved so many times.
+/// Draws the way from one point of an arc to another, at most half a turn apart, halved so many
+/// times.
 fn draw_curve<W: Sink>(
     chunk: &mut Chunk,
     unit: &Unit,

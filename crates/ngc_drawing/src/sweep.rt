@@ -16,7 +16,8 @@ use ngc_certificate_text::{Motions, Piece};
 use ngc_fixed_length::GridBox;
 use std::alloc::{AllocError, Allocator};
 
-/// Boxes that are drawn as one: the rank of their tool, how many they are, and the least box that holds them.
+/// Boxes that are drawn as one: the rank of their tool, how many they are, and the least box that
+/// holds them.
 #[derive(Clone, Copy)]
 pub(crate) struct Sweep {
     pub rank: usize,
@@ -24,8 +25,8 @@ pub(crate) struct Sweep {
     pub bounds: GridBox,
 }
 
-/// Between two commands: the rank of the mounted tool, which motion of the certificate is next, and the boxes that are drawn as
-/// one so far.
+/// Between two commands: the rank of the mounted tool, which motion of the certificate is next, and
+/// the boxes that are drawn as one so far.
 #[derive(Clone, Copy)]
 pub(crate) struct Sweeping {
     pub rank: usize,

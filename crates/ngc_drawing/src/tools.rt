@@ -64,7 +64,8 @@ fn add_used<A: Allocator>(
     }
 }
 
-/// The tools that motions use, each once, in the order of their first motions. It fails where memory is refused.
+/// The tools that motions use, each once, in the order of their first motions. It fails where
+/// memory is refused.
 pub(crate) fn used<A: Allocator>(
     alloc: A,
     commands: &[Command],

@@ -71,8 +71,8 @@ in_front (Ok line) (Ok others) = Ok (line ∷ others)
 in_front (Ok line) (Err fault) = Err fault
 in_front (Err fault) others = Err fault
 
--- what lines say, of which the first has this number; the last one is what stands behind the last line
--- feed, and must be empty
+-- what lines say, of which the first has this number; the last one is what stands behind the last
+-- line feed, and must be empty
 unfoldable pub lines_said : ℕ → List (List ℕ) → Result (List EventLine) EventsFault
 lines_said number [] = Ok []
 lines_said number (last ∷ []) = if length last == 0 then Ok [] else in_front (line_said number None) (Ok [])

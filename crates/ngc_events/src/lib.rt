@@ -1,5 +1,5 @@
-//! The events of a controller: what the panel, the loader and the pulse clock give to it, what it answers, and the file that
-//! lists events, one a line.
+//! The events of a controller: what the panel, the loader and the pulse clock give to it, what it
+//! answers, and the file that lists events, one a line.
 #![tactic(auto)]
 
 mod event;

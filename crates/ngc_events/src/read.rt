@@ -30,8 +30,8 @@ fn first_line(before: usize, text: &[u8]) -> Result<(EventLine, &[u8]), EventsFa
     }
 }
 
-/// The events that a text says, line by line, or the first fault: 711 where a line says no event or lacks its line
-/// feed, 712 where there are more than 1,000,000 lines.
+/// The events that a text says, line by line, or the first fault: 711 where a line says no event or
+/// lacks its line feed, 712 where there are more than 1,000,000 lines.
 pub fn read_events<A: Allocator>(alloc: A, text: &[u8]) -> Result<Vec<EventLine, A>, EventsFault>
     ensures { GivesEvents result (events_said text.now) }
 {

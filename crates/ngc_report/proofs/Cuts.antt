@@ -1,6 +1,7 @@
 -- The motions of a use, where there may be fewer.
-use Rattle.std.proofs.Common.{◌≡◌, ℕ, ◌+◌, ◌-◌, ◌≤◌, ◌⊎◌, inl, inr, List, [], ◌∷◌, ◌++◌, length, drop, take, min, ap, sym, ◌∙◌, arith}
+use Rattle.std.proofs.Common.{◌≡◌, ℕ, ◌+◌, ◌-◌, ◌≤◌, inl, inr, List, [], ◌∷◌, ◌++◌, length, drop, take, min, ap, sym, ◌∙◌, arith}
 use Rattle.std.proofs.lemmas.List.{drop-take, take_all, drop_all, drop-drop, length-drop}
+use Rattle.ngc_text.proofs.Firsts.{enough}
 use Rattle.ngc_machine.specs.Machine.{MachineFile}
 use Rattle.ngc_certificate_text.specs.Certificate.{Entry}
 use Rattle.ngc_report.specs.Nearing.{nearest}
@@ -8,18 +9,8 @@ use Rattle.ngc_report.specs.Reports.{use_lines, motions_in}
 use Rattle.ngc_report.specs.declared.line.Line.TheVariants as lines
 use Rattle.ngc_report.specs.declared.uses.ToolUse.{ToolUse}
 
-enough : (n m : ℕ) → (n ≤ m) ⊎ (m ≤ n)
-enough n m = grind (arith)
-
 few : {X : Type 0} (n k : ℕ) (xs : List X) → k ≡ min n (length xs) → take k xs ≡ take n xs
 few n k xs is = elim (enough n (length xs)) [
-  | inl h ↦ ap (λ i. take i xs) (omega arith)
-  | inr h ↦ take_all k xs (omega arith) ∙ sym (take_all n xs h)
-]
-
--- of a list's length the lesser is meant first
-pub taken : {X : Type 0} (n k : ℕ) (xs : List X) → k ≡ min (length xs) n → take k xs ≡ take n xs
-taken n k xs is = elim (enough n (length xs)) [
   | inl h ↦ ap (λ i. take i xs) (omega arith)
   | inr h ↦ take_all k xs (omega arith) ∙ sym (take_all n xs h)
 ]

@@ -1,5 +1,5 @@
--- The lines of a report as facts: objects of one JSON document (RFC 8259), each behind a comma, on a line of its own. Lengths are in
--- nanometres. Our own.
+-- The lines of a report as facts: objects of one JSON document (RFC 8259), each behind a comma, on
+-- a line of its own. Lengths are in nanometres. Our own.
 use Rattle.std.specs.Prelude.{ℕ, ℤ, List, ◌++◌, codes, decimal, Option, Some, None}
 use Rattle.std.specs.Fmt.{signed_decimal}
 use Rattle.ngc_fixed_length.specs.declared.points.Point3.{Point3}

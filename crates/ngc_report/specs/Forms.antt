@@ -14,7 +14,8 @@ spelled Json l = line_fact l
 abbrev pub report_text : Form → List Line → List ℕ
 report_text form report = flat_map (spelled form) report
 
--- what stands before the whole: a JSON document is an array, whose first fact gives the version of this format
+-- what stands before the whole: a JSON document is an array, whose first fact gives the version of
+-- this format
 abbrev pub opening : Form → List ℕ
 opening Words = []
 opening Json = codes "[{\"fact\":\"report\",\"version\":1}"

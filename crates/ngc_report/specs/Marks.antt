@@ -1,8 +1,9 @@
 -- Which word of a line a fault names, and how it is marked below the quoted line. Our own.
-use Rattle.std.specs.Prelude.{ℕ, ◌==◌, ℤ, unsigned_abs, List, [], ◌∷◌, ◌++◌, codes, find, Option, Some, None, is_none, Result, Ok, Err, Bool, true, false, ◌&&◌, if◌then◌else◌}
+use Rattle.std.specs.Prelude.{ℕ, ◌==◌, ℤ, List, [], ◌∷◌, ◌++◌, codes, find, Option, Some, None, is_none, Result, Ok, Err, Bool, true, false, ◌&&◌, if◌then◌else◌}
 use Rattle.std.specs.List.{slice_get}
 use Rattle.std.specs.Option.{option_map, option_and_then, option_or}
 use Rattle.std.specs.Ordering.{int_eq}
+use Rattle.ngc_text.specs.Millimetres.{length_text}
 use Rattle.ngc_line_reader.specs.Letter.{letter_byte}
 use Rattle.ngc_line_reader.specs.Program.{Line}
 use Rattle.ngc_line_reader.specs.ReadLine.{line_read}
@@ -23,7 +24,6 @@ use Rattle.ngc_report.specs.declared.marks.Wanted.TheVariants.{Any, Number, Reck
 use Rattle.ngc_report.specs.declared.form.Form.{Form}
 use Rattle.ngc_report.specs.declared.form.Form.TheVariants.{Words, Json}
 use Rattle.ngc_report.specs.Quotes.{bytes_with, mark}
-use Rattle.ngc_report.specs.Words.{sign_text, size_text}
 
 -- ---- the word
 
@@ -31,11 +31,13 @@ abbrev pub number_of : Symbol → Option ℤ
 number_of (symbols.Number n) = Some n
 number_of _ = None
 
--- the number that a word's value is written as, in millionths; none where it has brackets or a parameter
+-- the number that a word's value is written as, in millionths; none where it has brackets or a
+-- parameter
 abbrev pub written_number : List Token → RawWord → Option ℤ
 written_number tokens word = option_and_then (λ t. number_of t.symbol) (slice_get tokens word.first)
 
--- Of words with one letter any is wanted, or one that is written as this number, or one that isn't written as a number.
+-- Of words with one letter any is wanted, or one that is written as this number, or one that isn't
+-- written as a number.
 abbrev pub is_wanted : Wanted → Option ℤ → Bool
 is_wanted Any written = true
 is_wanted (Number millionths) (Some n) = int_eq n millionths
@@ -48,8 +50,8 @@ fits letter wanted tokens word = (letter_byte word.letter == letter_byte letter)
 abbrev pub first_word : Letter → Wanted → Parts → Option RawWord
 first_word letter wanted said = find (λ w. fits letter wanted said.tokens w) said.words
 
--- The word of a line that a fault names. An unknown code is the first that is written as its number, or else the first that isn't
--- written as a number.
+-- The word of a line that a fault names. An unknown code is the first that is written as its
+-- number, or else the first that isn't written as a number.
 abbrev pub named_word : Fault → Parts → Option RawWord
 named_word (Modal (UnknownCode letter millionths)) said = option_or (first_word letter (Number millionths) said) (first_word letter Reckoned said)
 named_word (Modal (WithoutUse letter)) said = first_word letter Any said
@@ -72,12 +74,9 @@ mark_if form number (Some column) = mark form number column
 unfoldable pub letter_text : Letter → List ℕ
 letter_text letter = letter_byte letter ∷ []
 
--- millionths as a number, exactly
-unfoldable pub number_text : ℤ → List ℕ
-number_text millionths = sign_text millionths ++ size_text (unsigned_abs millionths)
-
+-- the number is in millionths, as a length is in millionths of a millimetre
 abbrev pub unknown_text : Letter → ℤ → List ℕ
-unknown_text letter millionths = codes "The code " ++ letter_text letter ++ number_text millionths ++ codes " is unknown."
+unknown_text letter millionths = codes "The code " ++ letter_text letter ++ length_text millionths ++ codes " is unknown."
 
 abbrev pub idle_text : Letter → List ℕ
 idle_text letter = codes "Nothing uses the word " ++ letter_text letter ++ codes "."

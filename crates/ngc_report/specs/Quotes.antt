@@ -1,35 +1,25 @@
 -- A line of a program as a report shows it. Our own.
-use Rattle.std.specs.Prelude.{ℕ, ◌+◌, ◌==◌, nat_lt, min, List, [], ◌∷◌, ◌++◌, take, map, flat_map, replicate, length, codes, decimal, Option, Some, None, option_map, ◌&&◌, ◌||◌, if◌then◌else◌}
+use Rattle.std.specs.Prelude.{ℕ, ◌+◌, ◌==◌, min, List, [], ◌∷◌, ◌++◌, flat_map, replicate, length, codes, decimal, Option, Some, None, option_map, ◌||◌, if◌then◌else◌}
 use Rattle.std.specs.List.{find}
+use Rattle.ngc_text.specs.Shown.{shown_text, shown_line}
 use Rattle.ngc_line_reader.specs.Program.{Line}
 use Rattle.ngc_report.specs.declared.form.Form.{Form}
 use Rattle.ngc_report.specs.declared.form.Form.TheVariants.{Words, Json}
-
--- What a terminal prints is shown as it is. A tab and a carriage return are shown as a space, and every other byte as a question mark.
-abbrev pub shown : ℕ → ℕ
-shown b = if nat_lt 31 b && nat_lt b 127 then b else (if b == 9 || b == 13 then 32 else 63)
 
 -- the line with this number in the file
 abbrev pub line_with : ℕ → List Line → Option Line
 line_with number lines = find (λ l. l.number == number) lines
 
--- a line has at most 256 bytes
-abbrev pub bytes_text : List ℕ → List ℕ
-bytes_text bytes = map shown (take 256 bytes)
-
 -- in a JSON string a quotation mark and a backslash stand behind a backslash
 abbrev pub escaped : ℕ → List ℕ
 escaped b = if b == 34 || b == 92 then 92 ∷ b ∷ [] else b ∷ []
 
-abbrev pub words_quote : ℕ → List ℕ → List ℕ
-words_quote number bytes = codes "Line " ++ decimal number ++ codes ": " ++ bytes_text bytes ++ codes "\n"
-
 abbrev pub fact_quote : ℕ → List ℕ → List ℕ
-fact_quote number bytes = codes ",\n{\"fact\":\"line\",\"number\":" ++ decimal number ++ codes ",\"text\":\"" ++ flat_map escaped (bytes_text bytes) ++ codes "\"}"
+fact_quote number bytes = codes ",\n{\"fact\":\"line\",\"number\":" ++ decimal number ++ codes ",\"text\":\"" ++ flat_map escaped (shown_text bytes) ++ codes "\"}"
 
 unfoldable pub quote : Form → ℕ → Option (List ℕ) → List ℕ
 quote form number None = []
-quote Words number (Some bytes) = words_quote number bytes
+quote Words number (Some bytes) = shown_line number bytes
 quote Json number (Some bytes) = fact_quote number bytes
 
 abbrev pub bytes_with : ℕ → List Line → Option (List ℕ)
@@ -41,8 +31,8 @@ quoted form number lines = quote form number (bytes_with number lines)
 
 -- ---- marks
 
--- how many columns stand in front of a column of a line that is shown behind `Line 3: `; a line has at most 256, and one too long is
--- marked behind them
+-- how many columns stand in front of a column of a line that is shown behind `Line 3: `; a line has
+-- at most 256, and one too long is marked behind them
 abbrev pub indent : ℕ → ℕ → ℕ
 indent number column = length (decimal number) + min column 257 + 6
 

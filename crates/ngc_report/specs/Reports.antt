@@ -21,7 +21,8 @@ use Rattle.ngc_report.specs.declared.scene.Scene.{Scene}
 use Rattle.ngc_report.specs.declared.travel.AxisRoom.{AxisRoom}
 use Rattle.ngc_report.specs.declared.uses.ToolUse.{ToolUse}
 
--- the text of lines comes behind what was collected; where a write fails, a beginning of both is written
+-- the text of lines comes behind what was collected; where a write fails, a beginning of both is
+-- written
 abbrev pub Tells : Form → Option (List ℕ) → Option (List ℕ) → List ℕ → List ℕ → Result (Unit {0}) WriteFault → List Line → Type 0
 Tells form old new before after result told = Collects old new before after result (report_text form told)
 
@@ -37,7 +38,8 @@ alongs machine b =
 abbrev pub motions_in : ToolUse → ℕ
 motions_in u = u.traverses + u.feeds + u.arcs
 
--- each use, with what it comes nearest to; a certificate's motions go with those of the uses in order
+-- each use, with what it comes nearest to; a certificate's motions go with those of the uses in
+-- order
 abbrev pub use_lines : MachineFile → List ToolUse → List Entry → List Line
 use_lines machine [] motions = []
 use_lines machine (u ∷ us) motions =
@@ -69,7 +71,8 @@ refusal_lines machine commands command fixture =
 
 -- ---- all that is refused
 
--- each command with one of these indices that is a motion or a change of the tool, with what is in its way
+-- each command with one of these indices that is a motion or a change of the tool, with what is in
+-- its way
 abbrev pub causes_lines : MachineFile → List Command → List ℕ → List Line
 causes_lines machine commands ks = flat_map (λ k. scene_lines machine k None (scene_at machine commands k)) ks
 

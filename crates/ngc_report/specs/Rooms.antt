@@ -6,8 +6,8 @@ use Rattle.ngc_collision.specs.Body.{is_in_travel}
 use Rattle.ngc_report.specs.declared.travel.AxisRoom.{AxisRoom}
 use Rattle.ngc_report.specs.declared.travel.Room.{Room}
 
--- along an axis, in nanometres: how far the lowest point lies above the least coordinate of the travel, and the highest below the
--- greatest
+-- along an axis, in nanometres: how far the lowest point lies above the least coordinate of the
+-- travel, and the highest below the greatest
 abbrev pub axis_room : ℤ → ℤ → ℤ → ℤ → ℤ → AxisRoom
 axis_room step low high least greatest = record { below = (low *ℤ step) -ℤ least; above = greatest -ℤ (high *ℤ step) }
 

@@ -75,7 +75,8 @@ abbrev pub named : MachineFile → Option Tool → ℕ → Option Obstacle
 named machine tool i =
     option_map (λ f. obstacles.Fixture (record { number = i; fixture = f; over = over machine tool f })) (slice_get machine.fixtures i)
 
--- the fixture that is named; else the side of the travel that is left, or the first fixture that is met
+-- the fixture that is named; else the side of the travel that is left, or the first fixture that is
+-- met
 abbrev pub obstacle : MachineFile → Scene → Option ℕ → Option Obstacle
 obstacle machine scene (Some i) = named machine scene.tool i
 obstacle machine scene None =

@@ -1,6 +1,7 @@
 -- The lines of a report, in words and millimetres. Our own.
-use Rattle.std.specs.Prelude.{ℕ, ◌+◌, ◌/◌, ◌%◌, ◌==◌, ℤ, pos, negsuc, unsigned_abs, List, [], ◌∷◌, ◌++◌, take, codes, decimal, Option, Some, None, if◌then◌else◌}
+use Rattle.std.specs.Prelude.{ℕ, ℤ, pos, negsuc, unsigned_abs, List, ◌++◌, codes, decimal, Option, Some, None}
 use Rattle.ngc_fixed_length.specs.declared.points.Point3.{Point3}
+use Rattle.ngc_text.specs.Millimetres.{size_text, mm_text}
 use Rattle.ngc_machine.specs.declared.tools.Tool.{Tool}
 use Rattle.ngc_report.specs.declared.line.Along.{Along}
 use Rattle.ngc_report.specs.declared.line.Line.{Line}
@@ -20,28 +21,6 @@ use Rattle.ngc_report.specs.declared.warnings.Concern.TheVariants.{NoTool, FastF
 use Rattle.ngc_report.specs.declared.warnings.Warning.{Warning}
 
 -- ---- lengths
-
-abbrev pub sign_text : ℤ → List ℕ
-sign_text (pos n) = []
-sign_text (negsuc n) = codes "-"
-
--- a point and six digits; 48 is the code of 0
-abbrev pub decimals : ℕ → List ℕ
-decimals n =
-    46 ∷ (48 + n / 100000) ∷ (48 + n / 10000 % 10) ∷ (48 + n / 1000 % 10) ∷ (48 + n / 100 % 10) ∷ (48 + n / 10 % 10) ∷ (48 + n % 10) ∷ []
-
--- how many of these say something: noughts at the end don't, nor does a point without digits
-abbrev pub telling : ℕ → ℕ
-telling n =
-    if n == 0 then 0 else (if n % 100000 == 0 then 2 else (if n % 10000 == 0 then 3 else (if n % 1000 == 0 then 4
-    else (if n % 100 == 0 then 5 else (if n % 10 == 0 then 6 else 7)))))
-
--- nanometres as millimetres, exactly
-unfoldable pub size_text : ℕ → List ℕ
-size_text n = decimal (n / 1000000) ++ take (telling (n % 1000000)) (decimals (n % 1000000))
-
-unfoldable pub mm_text : ℤ → List ℕ
-mm_text z = sign_text z ++ (size_text (unsigned_abs z) ++ codes " mm")
 
 -- what is left on a side of the travel, or how much too far it goes there
 abbrev pub room_words : ℤ → List ℕ

@@ -31,8 +31,8 @@ fn axis_gap(low: i64, high: i64, least: i64, greatest: i64) -> i128
     greater(rise(high, least), rise(greatest, low))
 }
 
-/// How far a box stays away from a fixture, in nanometres: the greatest of the gaps along the three axes, by which the fixture
-/// might be larger on every side. It is below zero where they overlap.
+/// How far a box stays away from a fixture, in nanometres: the greatest of the gaps along the three
+/// axes, by which the fixture might be larger on every side. It is below zero where they overlap.
 pub fn gap(fixture: &Fixture, solid: &Solid) -> i128
     ensures value { result ≡ gap fixture.now (solid_of solid.now) }
     ensures bound { unsigned_abs result < 2 ^ 70 }

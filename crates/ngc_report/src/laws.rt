@@ -4,7 +4,8 @@ ghost use Rattle.ngc_report.specs.Gaps.{GapTells};
 ghost use Rattle.ngc_report.specs.Margins.{TightestTells};
 ghost use Rattle.ngc_report.specs.Rooms.{RoomTells};
 
-/// The extent of a program holds the start point and each point of each path that a motion may take.
+/// The extent of a program holds the start point and each point of each path that a motion may
+/// take.
 pub fn extent_holds()
     ensures paths { ExtentHoldsPaths }
     ensures start { ExtentHoldsStart }

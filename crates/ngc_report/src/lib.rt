@@ -1,7 +1,8 @@
-//! What a program does on a machine, in numbers and in words: how far it goes, and with how much room.
+//! What a program does on a machine, in numbers and in words: how far it goes, and with how much
+//! room.
 //!
-//! A report is lines of text, with lengths in millimetres, exactly. Of a program that fits, where tool 3 is mounted after a motion
-//! without a tool:
+//! A report is lines of text, with lengths in millimetres, exactly. Of a program that fits, where
+//! tool 3 is mounted after a motion without a tool:
 //!
 //! ```text
 //! The program fits: every position is inside the travel and clear of every fixture.
@@ -12,7 +13,8 @@
 //! With tool 3: traverses 12 along 374.5 mm, feeds 40 along 812.142135 mm, arcs 8, dwells 0, stops 1; nearest fixture 2, 4.25 mm away.
 //! ```
 //!
-//! Without fixtures a use ends behind its stops. Of a program that is refused, commands and fixtures count from 0:
+//! Without fixtures a use ends behind its stops. Of a program that is refused, commands and
+//! fixtures count from 0:
 //!
 //! ```text
 //! The program does not fit.
@@ -23,7 +25,8 @@
 //! It leaves the travel above X: 2.5 mm too far.
 //! ```
 //!
-//! The last line may be `It meets fixture 2, from X 10 mm, Y 20 mm, Z -30 mm to X 40 mm, Y 60 mm, Z 0 mm.`
+//! The last line may be `It meets fixture 2, from X 10 mm, Y 20 mm, Z -30 mm to X 40 mm, Y 60 mm, Z
+//! 0 mm.`
 //!
 //! Warnings, each with the number of commands and the line of the first:
 //!

@@ -19,7 +19,8 @@ pub enum Side {
     Above,
 }
 
-/// What is left on one side of the travel, in nanometres; below zero by how much a box leaves it there.
+/// What is left on one side of the travel, in nanometres; below zero by how much a box leaves it
+/// there.
 #[derive(Clone, Copy, Debug, PartialEq, Eq)]
 pub struct Margin {
     pub axis: Axis,
@@ -50,7 +51,8 @@ fn axis_margin(axis: Axis, room: &AxisRoom) -> Margin
 }
 
 impl Room {
-    /// The side with the least room; of sides with as little the first, in the order X below, X above, Y below and on.
+    /// The side with the least room; of sides with as little the first, in the order X below, X
+    /// above, Y below and on.
     pub fn tightest(&self) -> Margin
         ensures { result ≡ tightest self.now }
     {

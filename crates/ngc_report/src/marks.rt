@@ -8,12 +8,11 @@ ghost use Rattle.ngc_line_reader.specs.Letter.{letter_byte};
 ghost use Rattle.ngc_line_reader.specs.ProgramView.{text_in};
 ghost use Rattle.ngc_line_reader.specs.ScanLine.{parts_of};
 ghost use Rattle.ngc_text.specs.Collected.{CHUNK_SIZE, HasLineRoom};
-ghost use Rattle.ngc_report.specs.Marks.{number_of, written_number, is_wanted, fits, first_word, named_word, mark_of, mark_if, letter_text, number_text, unknown_text, idle_text, missing_text, phrase, has_phrase, words_sentence, fact_sentence, sentence, named_line};
+ghost use Rattle.ngc_report.specs.Marks.{number_of, written_number, is_wanted, fits, first_word, named_word, mark_of, mark_if, letter_text, unknown_text, idle_text, missing_text, phrase, has_phrase, words_sentence, fact_sentence, sentence, named_line};
 
 use crate::form::Form;
 use crate::quotes::line_bytes;
 use crate::source_lines::add_mark;
-use crate::words::{add_size, sign};
 use ngc_canonical::Fault;
 use ngc_line_reader::{Letter, Line, Program, RawWord, Symbol, Token, read_line};
 use ngc_modal_state::{MissingWord, ModalFault};
@@ -125,12 +124,12 @@ fn named_word(line: &Line, fault: &Fault) -> Option<RawWord>
     }
 }
 
-/// The column, from 1, of the word of a line that a fault names: of an unknown code (204), and of a word that nothing uses
-/// (207). There is none of any other fault, where no such word stands, and where the line's bytes, without its line feed, can't be
-/// read.
+/// The column, from 1, of the word of a line that a fault names: of an unknown code (204), and of a
+/// word that nothing uses (207). There is none of any other fault, where no such word stands, and
+/// where the line's bytes, without its line feed, can't be read.
 ///
-/// An unknown code is the first word of its letter that is written as that number, and else the first whose value has brackets or
-/// a parameter (our own).
+/// An unknown code is the first word of its letter that is written as that number, and else the
+/// first whose value has brackets or a parameter (our own).
 pub fn mark_of(bytes: &[u8], fault: &Fault) -> Option<u16>
     ensures { result ≡ mark_of bytes.now fault.now }
 {
@@ -138,16 +137,6 @@ pub fn mark_of(bytes: &[u8], fault: &Fault) -> Option<u16>
         Ok(line) => named_word(&line, fault).map(|word| word.column),
         Err(_) => None,
     }
-}
-
-#[tactic(auto, unfolding(crate::specs::Marks::number_text))]
-fn add_number(chunk: &mut Chunk, millionths: i64)
-    requires { length chunk.old + 48 ≤ CHUNK_SIZE }
-    ensures text { chunk.new ≡ chunk.old ++ number_text millionths }
-    ensures short { length chunk.new ≤ length chunk.old + 48 }
-{
-    chunk.add_text(sign(i128::from(millionths)));
-    add_size(chunk, u128::from(millionths.unsigned_abs()));
 }
 
 #[tactic(auto, unfolding(crate::specs::Marks::letter_text))]
@@ -166,7 +155,7 @@ fn add_unknown(chunk: &mut Chunk, letter: Letter, millionths: i64)
 {
     chunk.add_text(b"The code ");
     add_letter(chunk, letter);
-    add_number(chunk, millionths);
+    chunk.add_length(i128::from(millionths));
     chunk.add_text(b" is unknown.");
 }
 
@@ -284,7 +273,8 @@ fn named<A: Allocator>(program: &Program<A>, form: Form, number: u32, fault: &Fa
     chunk
 }
 
-/// Writes which word of a line a fault is about, below what `write_line` writes of that line, by its number in the file, from 1:
+/// Writes which word of a line a fault is about, below what `write_line` writes of that line, by
+/// its number in the file, from 1:
 ///
 /// ```text
 /// Line 3: G0 G5 X1
@@ -292,8 +282,9 @@ fn named<A: Allocator>(program: &Program<A>, form: Form, number: u32, fault: &Fa
 /// The code G5 is unknown.
 /// ```
 ///
-/// The sentence may be `Nothing uses the word K.`, `The word P is missing.` or `An axis word is missing.`; what is missing has no
-/// mark. Nothing is written of faults but 204, 207 and 208, and where no such line is read.
+/// The sentence may be `Nothing uses the word K.`, `The word P is missing.` or `An axis word is
+/// missing.`; what is missing has no mark. Nothing is written of faults but 204, 207 and 208, and
+/// where no such line is read.
 ///
 /// After a fault (902, and only where the sink failed) a beginning of the text is written.
 pub fn write_named<A: Allocator, W: Sink>(

@@ -11,7 +11,8 @@ use ngc_collision::Solid;
 use ngc_fixed_length::GridBox;
 use std::alloc::Allocator;
 
-/// The fixture that is nearest, by its number from 0, and its distance in nanometres. It is below zero where the two overlap.
+/// The fixture that is nearest, by its number from 0, and its distance in nanometres. It is below
+/// zero where the two overlap.
 #[derive(Clone, Copy, Debug, PartialEq, Eq)]
 pub struct Nearest {
     pub fixture: u32,
@@ -84,8 +85,9 @@ fn nearest_over<A: Allocator>(
 impl Nearest {
     ghost use Rattle.ngc_report.specs.Nearing.{nearest};
 
-    /// The nearest fixture over all pieces of the motions from `first` to before `end`, which are made with this tool: of those
-    /// as near the one with the lowest number. `None` without fixtures or without motions.
+    /// The nearest fixture over all pieces of the motions from `first` to before `end`, which are
+    /// made with this tool: of those as near the one with the lowest number. `None` without
+    /// fixtures or without motions.
     ///
     /// `end` is at most the number of motions.
     pub fn over<A: Allocator, B: Allocator>(

@@ -5,35 +5,13 @@ ghost use Rattle.std.specs.Io.KnownBytes.{Appends};
 ghost use Rattle.ngc_text.specs.Failures.{CountsFailure};
 ghost use Rattle.ngc_text.specs.Written.{AppendsBeginning};
 ghost use Rattle.ngc_line_reader.specs.ProgramView.{text_in};
-ghost use Rattle.ngc_text.specs.Collected.{CHUNK_SIZE, HasLineRoom};
-ghost use Rattle.ngc_report.specs.Quotes.{shown, line_with, bytes_text, escaped, words_quote, fact_quote, quote, quoted};
+ghost use Rattle.ngc_text.specs.Collected.{CHUNK_SIZE};
+ghost use Rattle.ngc_report.specs.Quotes.{line_with, escaped, fact_quote, quote, quoted};
 
 use crate::form::Form;
-use arrayvec::ArrayVec;
 use ngc_line_reader::Program;
-use ngc_text::{Chunk, Sink, WriteFault};
+use ngc_text::{Chunk, Sink, WriteFault, shown_bytes};
 use std::alloc::Allocator;
-
-fn shown(byte: u8) -> u8
-    ensures { result ≡ shown byte }
-{
-    match byte {
-        32..=126 => byte,
-        b'\t' | b'\r' => b' ',
-        _ => b'?',
-    }
-}
-
-fn shown_bytes(bytes: &[u8]) -> ArrayVec<u8, 256>
-    ensures text { result.items ≡ bytes_text bytes.now }
-    ensures few { length result.items ≤ 256 }
-{
-    let mut text = ArrayVec::new();
-    for byte in &bytes[..bytes.len().min(256)] {
-        text.push(shown(*byte));
-    }
-    text
-}
 
 /// The bytes of the line with this number in the file.
 pub(crate) fn line_bytes<A: Allocator>(program: &Program<A>, number: u32) -> Option<&[u8]>
@@ -45,18 +23,6 @@ pub(crate) fn line_bytes<A: Allocator>(program: &Program<A>, number: u32) -> Opt
         }
     }
     None
-}
-
-fn add_words(chunk: &mut Chunk, number: u32, bytes: &[u8])
-    requires { HasLineRoom chunk.old }
-    ensures text { chunk.new ≡ chunk.old ++ words_quote number bytes.now }
-    ensures short { length chunk.new ≤ length chunk.old + 500 }
-{
-    chunk.add_text(b"Line ");
-    chunk.add_number(number);
-    chunk.add_text(b": ");
-    chunk.add_text(shown_bytes(bytes).as_slice());
-    chunk.add_text(b"\n");
 }
 
 fn add_escaped(chunk: &mut Chunk, byte: u8)
@@ -101,14 +67,15 @@ pub(crate) fn quote_of(form: Form, number: u32, bytes: Option<&[u8]>) -> Chunk
     let mut chunk = Chunk::new();
     match (form, bytes) {
         (_, None) => {}
-        (Form::Words, Some(bytes)) => add_words(&mut chunk, number, bytes),
+        (Form::Words, Some(bytes)) => chunk.add_line(number as usize, bytes),
         (Form::Json, Some(bytes)) => add_fact(&mut chunk, number, bytes),
     }
     chunk
 }
 
-/// Writes a line of a program as `Line 3: G0 X400`, by its number in the file, from 1. Bytes that a terminal doesn't print are
-/// shown as `?`, and tabs as spaces. Nothing is written where no such line is read.
+/// Writes a line of a program as `Line 3: G0 X400`, by its number in the file, from 1. Bytes that a
+/// terminal doesn't print are shown as `?`, and tabs as spaces. Nothing is written where no such
+/// line is read.
 ///
 /// After a fault (902, and only where the sink failed) a beginning of the text is written.
 pub fn write_line<A: Allocator, W: Sink>(

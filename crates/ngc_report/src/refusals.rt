@@ -164,9 +164,9 @@ fn tell_everything<A: Allocator, W: Sink>(
     tell_refused(chunk, form, machine, commands, start, indices, sink)
 }
 
-/// Writes the report of a program of which these commands are refused, by their indices from 0, and the start, if it is: how far it
-/// goes along each axis, and for each what it does and what is in its way. With none of them the program fits. It takes the least
-/// time where the indices rise.
+/// Writes the report of a program of which these commands are refused, by their indices from 0, and
+/// the start, if it is: how far it goes along each axis, and for each what it does and what is in
+/// its way. With none of them the program fits. It takes the least time where the indices rise.
 ///
 /// After a fault (902, and only where the sink failed) a beginning of the text is written.
 pub fn write_refusals<A: Allocator, W: Sink>(

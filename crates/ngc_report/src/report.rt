@@ -245,8 +245,9 @@ fn tell_refusal<A: Allocator, W: Sink>(
     tell_cause(chunk, form, machine, commands, command, fixture, sink)
 }
 
-/// Writes the report of a program that fits, whose certificate has these motions: how far it goes along each axis with what is
-/// left there, and the uses of tools, each with the fixture that it comes nearest to.
+/// Writes the report of a program that fits, whose certificate has these motions: how far it goes
+/// along each axis with what is left there, and the uses of tools, each with the fixture that it
+/// comes nearest to.
 ///
 /// After a fault (902, and only where the sink failed) a beginning of the text is written.
 pub fn write_fit<A: Allocator, B: Allocator, W: Sink>(
@@ -267,8 +268,9 @@ pub fn write_fit<A: Allocator, B: Allocator, W: Sink>(
     }
 }
 
-/// Writes the report of a program that is refused at a command, by its index from 0, or at the start: how far it goes along each
-/// axis, what the command does, and what is in its way. A fixture that the fault names is told from 0.
+/// Writes the report of a program that is refused at a command, by its index from 0, or at the
+/// start: how far it goes along each axis, what the command does, and what is in its way. A fixture
+/// that the fault names is told from 0.
 ///
 /// After a fault (902, and only where the sink failed) a beginning of the text is written.
 pub fn write_refusal<A: Allocator, W: Sink>(

@@ -19,7 +19,8 @@ pub(crate) struct Reached {
     pub(crate) place: Point3,
 }
 
-/// What a command that may be refused does: a motion, a change of the tool, or none, which is the start.
+/// What a command that may be refused does: a motion, a change of the tool, or none, which is the
+/// start.
 #[derive(Clone, Copy, Debug, PartialEq, Eq)]
 pub struct Scene {
     /// The line of the program, from 1; 0 of the start.
@@ -40,7 +41,8 @@ pub struct Met {
     /// Its number, from 0.
     pub number: u32,
     pub fixture: Fixture,
-    /// The height of the controlled point, in nanometres, from which on the whole tool is over the fixture, where that is in the travel.
+    /// The height of the controlled point, in nanometres, from which on the whole tool is over the
+    /// fixture, where that is in the travel.
     pub over: Option<i64>,
 }
 
@@ -206,8 +208,9 @@ impl Scene {
         }
     }
 
-    /// What is in the way: the fixture that a fault names; where none is named, the side of the travel that the whole motion
-    /// leaves, or else the first fixture that the tool's body meets somewhere over the motion's box. `None` where neither is.
+    /// What is in the way: the fixture that a fault names; where none is named, the side of the
+    /// travel that the whole motion leaves, or else the first fixture that the tool's body meets
+    /// somewhere over the motion's box. `None` where neither is.
     pub fn obstacle<A: Allocator>(
         &self,
         machine: &Machine<A>,

@@ -109,8 +109,9 @@ fn marked_line(form: Form, number: u32, column: u16, bytes: Option<&[u8]>) -> Ch
     chunk
 }
 
-/// Writes a line of a program's text, by its number from 1, with a mark below the column, from 1, at which it is refused. Of a line of
-/// more than 256 bytes the first 256 are shown. Nothing is written where there is no such line.
+/// Writes a line of a program's text, by its number from 1, with a mark below the column, from 1,
+/// at which it is refused. Of a line of more than 256 bytes the first 256 are shown. Nothing is
+/// written where there is no such line.
 ///
 /// After a fault (902, and only where the sink failed) a beginning of the text is written.
 pub fn write_source_line<W: Sink>(

@@ -7,15 +7,16 @@ use ngc_fixed_length::{GridBox, Nm};
 use ngc_machine::Machine;
 use std::alloc::Allocator;
 
-/// What is left between a box and the travel limits along an axis, in nanometres. Where the box leaves the travel it is below
-/// zero, by as much as the box leaves it.
+/// What is left between a box and the travel limits along an axis, in nanometres. Where the box
+/// leaves the travel it is below zero, by as much as the box leaves it.
 #[derive(Clone, Copy, Debug, PartialEq, Eq)]
 pub struct AxisRoom {
     pub below: i64,
     pub above: i64,
 }
 
-/// What is left along each axis. Travel limits needn't lie on the grid, so it is no whole number of steps.
+/// What is left along each axis. Travel limits needn't lie on the grid, so it is no whole number of
+/// steps.
 #[derive(Clone, Copy, Debug, PartialEq, Eq)]
 pub struct Room {
     pub x: AxisRoom,

@@ -5,8 +5,8 @@ ghost use Rattle.ngc_report.specs.Uses.{is_change, is_traverse, is_feed, is_arc,
 use crate::ways::length_of;
 use ngc_canonical::{Action, Command, Motion, Pace, Tool, Way};
 
-/// The use of a tool: from the command that mounts it to the next change, or to the end. Its motions are traverses, feeds along
-/// lines, and arcs.
+/// The use of a tool: from the command that mounts it to the next change, or to the end. Its
+/// motions are traverses, feeds along lines, and arcs.
 #[derive(Clone, Copy, Debug, PartialEq, Eq)]
 pub struct ToolUse {
     /// As it is mounted; `None` without a tool.
@@ -24,8 +24,8 @@ pub struct ToolUse {
     pub stops: usize,
 }
 
-/// The uses of tools in a list of commands, one after another: first that without a tool, where something moves before the first
-/// change, and then one for each change. It takes no memory.
+/// The uses of tools in a list of commands, one after another: first that without a tool, where
+/// something moves before the first change, and then one for each change. It takes no memory.
 #[derive(Drop)]
 pub struct ToolUses<'a> {
     first: Option<ToolUse>,

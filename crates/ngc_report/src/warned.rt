@@ -54,12 +54,14 @@ fn tell_warnings<A: Allocator, W: Sink>(
     tell_warned(chunk, form, machine, Concern::LowHome, commands, sink)
 }
 
-/// Writes the warnings on a program: motions without a tool that leave the height of the start, feeds above the machine's
-/// greatest speed along an axis, and traverses home along X or Y below the top of a fixture. Each kind that there is has a line
-/// with the number of its commands, and the line of the program, from 1, that gives the first; of a program without any nothing is
+/// Writes the warnings on a program: motions without a tool that leave the height of the start,
+/// feeds above the machine's greatest speed along an axis, and traverses home along X or Y below
+/// the top of a fixture. Each kind that there is has a line with the number of its commands, and
+/// the line of the program, from 1, that gives the first; of a program without any nothing is
 /// written.
 ///
-/// It takes no memory. After a fault (902, and only where the sink failed) a beginning of the text is written.
+/// It takes no memory. After a fault (902, and only where the sink failed) a beginning of the text
+/// is written.
 pub fn write_warnings<A: Allocator, W: Sink>(
     form: Form,
     machine: &Machine<A>,

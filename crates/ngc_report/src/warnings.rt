@@ -19,10 +19,11 @@ use std::alloc::Allocator;
 pub enum Concern {
     /// Motions without a tool that don't stay at the height of the start.
     NoTool,
-    /// Feeds a minute above the machine's greatest speed along an axis. Inverse time feeds and traverses don't count.
+    /// Feeds a minute above the machine's greatest speed along an axis. Inverse time feeds and
+    /// traverses don't count.
     FastFeed,
-    /// Traverses along a line to a home position, not only up or down, on which a part of the tool's body, or without a tool the
-    /// controlled point, comes below the top of a fixture.
+    /// Traverses along a line to a home position, not only up or down, on which a part of the
+    /// tool's body, or without a tool the controlled point, comes below the top of a fixture.
     LowHome,
 }
 

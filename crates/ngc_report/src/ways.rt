@@ -41,7 +41,8 @@ fn straight_length(way: &Way) -> u64
     }
 }
 
-/// How long the line is that a command moves along, rounded down to a nanometre; 0 where it moves along none.
+/// How long the line is that a command moves along, rounded down to a nanometre; 0 where it moves
+/// along none.
 pub(crate) fn length_of(command: &Command) -> u64
     ensures value { result ≡ length_of command.now }
     ensures bound { result < 2 ^ 39 }

@@ -1,7 +1,8 @@
 //! How the lines of a report are spelled.
-ghost use Rattle.std.specs.Prelude.{◌≡◌, ◌+◌, ◌*◌, ◌<◌, ◌≤◌, ◌++◌, codes, decimal, take, unsigned_abs, length};
+ghost use Rattle.std.specs.Prelude.{◌≡◌, ◌+◌, ◌≤◌, ◌++◌, codes, decimal, length};
 ghost use Rattle.ngc_text.specs.Collected.{CHUNK_SIZE, HasLineRoom};
-ghost use Rattle.ngc_report.specs.Words.{sign_text, decimals, telling, size_text, mm_text, room_words, room_text, place_text, axis_text, side_text, tool_text, nearest_text, along_text, use_text, command_text, over_text, met_text, obstacle_text, concern_text, warning_text, line_text};
+ghost use Rattle.ngc_text.specs.Millimetres.{mm_text};
+ghost use Rattle.ngc_report.specs.Words.{room_words, room_text, place_text, axis_text, side_text, tool_text, nearest_text, along_text, use_text, command_text, over_text, met_text, obstacle_text, concern_text, warning_text, line_text};
 
 use crate::line::{Along, Line};
 use crate::margins::{Axis, Margin, Side};
@@ -13,77 +14,6 @@ use ngc_canonical::Tool;
 use ngc_fixed_length::{Nm, Point3};
 use ngc_text::Chunk;
 
-pub(crate) fn sign(nanometres: i128) -> &'static [u8]
-    ensures text { result.now ≡ sign_text nanometres }
-    ensures short { length result.now ≤ 1 }
-{
-    if nanometres < 0 { b"-" } else { b"" }
-}
-
-fn digit(value: u64) -> u8
-    requires { value < 10 }
-    ensures { result ≡ 48 + value }
-{
-    b'0' + value as u8
-}
-
-fn decimals(nanometres: u64) -> [u8; 7]
-    requires { nanometres < 1000000 }
-    ensures { result ≡ decimals nanometres }
-{
-    [
-        b'.',
-        digit(nanometres / 100_000),
-        digit(nanometres / 10_000 % 10),
-        digit(nanometres / 1_000 % 10),
-        digit(nanometres / 100 % 10),
-        digit(nanometres / 10 % 10),
-        digit(nanometres % 10),
-    ]
-}
-
-fn telling(nanometres: u64) -> usize
-    ensures value { result ≡ telling nanometres }
-    ensures few { result ≤ 7 }
-{
-    if nanometres == 0 {
-        0
-    } else if nanometres % 100_000 == 0 {
-        2
-    } else if nanometres % 10_000 == 0 {
-        3
-    } else if nanometres % 1_000 == 0 {
-        4
-    } else if nanometres % 100 == 0 {
-        5
-    } else if nanometres % 10 == 0 {
-        6
-    } else {
-        7
-    }
-}
-
-fn add_fraction(chunk: &mut Chunk, nanometres: u64)
-    requires small { nanometres < 1000000 }
-    requires room { length chunk.old + 7 ≤ CHUNK_SIZE }
-    ensures text { chunk.new ≡ chunk.old ++ take (telling nanometres) (decimals nanometres) }
-    ensures short { length chunk.new ≤ length chunk.old + 7 }
-{
-    let digits = decimals(nanometres);
-    chunk.add_text(&digits[..telling(nanometres)]);
-}
-
-/// Adds a size in nanometres as millimetres, exactly.
-#[tactic(auto, unfolding(crate::specs::Words::size_text))]
-pub(crate) fn add_size(chunk: &mut Chunk, nanometres: u128)
-    requires { length chunk.old + 47 ≤ CHUNK_SIZE }
-    ensures text { chunk.new ≡ chunk.old ++ size_text nanometres }
-    ensures short { length chunk.new ≤ length chunk.old + 47 }
-{
-    chunk.add_number(nanometres / 1_000_000);
-    add_fraction(chunk, (nanometres % 1_000_000) as u64);
-}
-
 /// Adds a count, of 20 digits at most.
 pub(crate) fn add_count(chunk: &mut Chunk, count: usize)
     requires { length chunk.old + 40 ≤ CHUNK_SIZE }
@@ -93,32 +23,12 @@ pub(crate) fn add_count(chunk: &mut Chunk, count: usize)
     chunk.add_number(count);
 }
 
-/// Adds a length in nanometres as millimetres.
-#[tactic(auto, unfolding(crate::specs::Words::mm_text))]
-fn add_wide(chunk: &mut Chunk, nanometres: i128)
-    requires { length chunk.old + 51 ≤ CHUNK_SIZE }
-    ensures text { chunk.new ≡ chunk.old ++ mm_text nanometres }
-    ensures short { length chunk.new ≤ length chunk.old + 51 }
-{
-    chunk.add_text(sign(nanometres));
-    add_size(chunk, nanometres.unsigned_abs());
-    chunk.add_text(b" mm");
-}
-
-fn add_length(chunk: &mut Chunk, nanometres: i64)
-    requires { length chunk.old + 51 ≤ CHUNK_SIZE }
-    ensures text { chunk.new ≡ chunk.old ++ mm_text nanometres }
-    ensures short { length chunk.new ≤ length chunk.old + 51 }
-{
-    add_wide(chunk, i128::from(nanometres));
-}
-
 fn add_coordinate(chunk: &mut Chunk, coordinate: Nm)
     requires { length chunk.old + 51 ≤ CHUNK_SIZE }
     ensures text { chunk.new ≡ chunk.old ++ mm_text coordinate }
     ensures short { length chunk.new ≤ length chunk.old + 51 }
 {
-    add_length(chunk, coordinate.nanometres());
+    chunk.add_millimetres(i128::from(coordinate.nanometres()));
 }
 
 fn room_words(nanometres: i64) -> &'static [u8]
@@ -139,7 +49,7 @@ fn add_room(chunk: &mut Chunk, nanometres: i64)
     ensures text { chunk.new ≡ chunk.old ++ room_text nanometres }
     ensures short { length chunk.new ≤ length chunk.old + 58 }
 {
-    add_size(chunk, u128::from(nanometres.unsigned_abs()));
+    chunk.add_size(u128::from(nanometres.unsigned_abs()));
     chunk.add_text(room_words(nanometres));
 }
 
@@ -202,7 +112,7 @@ fn add_distance(chunk: &mut Chunk, nearest: &Nearest)
     chunk.add_text(b"; nearest fixture ");
     chunk.add_number(nearest.fixture);
     chunk.add_text(b", ");
-    add_wide(chunk, nearest.distance);
+    chunk.add_millimetres(nearest.distance);
     chunk.add_text(b" away.\n");
 }
 
@@ -223,9 +133,9 @@ fn add_along(chunk: &mut Chunk, along: &Along)
 {
     chunk.add_text(axis_name(along.axis));
     chunk.add_text(b" from ");
-    add_length(chunk, along.low);
+    chunk.add_millimetres(i128::from(along.low));
     chunk.add_text(b" to ");
-    add_length(chunk, along.high);
+    chunk.add_millimetres(i128::from(along.high));
     chunk.add_text(b", ");
     add_room(chunk, along.room.below);
     chunk.add_text(b" below and ");
@@ -242,11 +152,11 @@ fn add_use(chunk: &mut Chunk, one: &ToolUse, nearest: &Option<Nearest>)
     chunk.add_text(b": traverses ");
     add_count(chunk, one.traverses);
     chunk.add_text(b" along ");
-    add_size(chunk, one.traverse_way);
+    chunk.add_size(one.traverse_way);
     chunk.add_text(b" mm, feeds ");
     add_count(chunk, one.feeds);
     chunk.add_text(b" along ");
-    add_size(chunk, one.feed_way);
+    chunk.add_size(one.feed_way);
     chunk.add_text(b" mm, arcs ");
     add_count(chunk, one.arcs);
     chunk.add_text(b", dwells ");
@@ -299,7 +209,7 @@ fn add_height(chunk: &mut Chunk, height: i64)
     ensures { chunk.new ≡ chunk.old ++ (codes "; from Z " ++ mm_text height ++ codes " up it passes over.\n") }
 {
     chunk.add_text(b"; from Z ");
-    add_length(chunk, height);
+    chunk.add_millimetres(i128::from(height));
     chunk.add_text(b" up it passes over.\n");
 }
 

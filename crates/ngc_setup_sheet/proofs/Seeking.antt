@@ -2,7 +2,8 @@
 use Rattle.std.proofs.Common.{◌≡◌, ℕ, ◌+◌, ◌<◌, ◌≤◌, List, [], ◌∷◌, ◌++◌, length, Bool, true, false, cond, refl, ap, sym, ◌∙◌, arith}
 use Rattle.std.specs.Prelude.{◌==◌}
 use Rattle.std.proofs.lemmas.List.{append-nil}
-use Rattle.ngc_setup_sheet.specs.Quoted.{longer_first, lines_of, line_of, behind_line, shown_line, sought, found_or, quote_from}
+use Rattle.ngc_text.specs.Shown.{shown_line}
+use Rattle.ngc_setup_sheet.specs.Quoted.{longer_first, lines_of, line_of, behind_line, sought, found_or, quote_from}
 use Rattle.ngc_setup_sheet.specs.declared.quoted.Seek.{Seek}
 
 -- a byte that is no line feed

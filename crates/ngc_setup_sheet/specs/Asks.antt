@@ -1,16 +1,16 @@
 -- What may be asked of a key, and whether a table meets it. Our own.
-use Rattle.std.specs.Prelude.{ℕ, ◌+◌, nat_le, ℤ, pos, negsuc, int_le, int_lt, int_rem, List, [], ◌∷◌, take, Option, Some, None, is_some, is_none, Bool, true, false, ◌&&◌, ◌||◌, codes, if◌then◌else◌}
+use Rattle.std.specs.Prelude.{ℕ, ◌+◌, nat_le, ℤ, pos, negsuc, int_lt, List, [], ◌∷◌, take, Option, Some, None, is_some, is_none, Bool, true, false, ◌&&◌, ◌||◌, codes, if◌then◌else◌}
 use Rattle.std.specs.Ordering.{int_eq}
-use Rattle.toml.specs.Data.{Data, array, table, Items, no_items, item, Members, no_members, member, get, as_integer, as_table}
-use Rattle.ngc_fixed_length.specs.Signed.{is_zero}
+use Rattle.toml.specs.Data.{Data, array, table, Items, no_items, item, Members, no_members, member, get, as_table}
+use Rattle.ngc_machine.specs.declared.machine_contents.Coordinates.{Coordinates}
+use Rattle.ngc_machine.specs.MachineText.{is_at_most, is_below, is_on_grid}
 use Rattle.ngc_machine.specs.Numbers.{from_to}
-use Rattle.ngc_machine.specs.Tree.{◌>>=◌, is_one_of, whole_at}
+use Rattle.ngc_machine.specs.Tree.{is_one_of, whole_at, coordinates, coordinates_at}
 use Rattle.ngc_setup_sheet.specs.declared.mistake.Ask.{Ask}
 use Rattle.ngc_setup_sheet.specs.declared.mistake.Ask.TheVariants as asks
 use Rattle.ngc_setup_sheet.specs.declared.mistake.Bounds.{Bounds}
 use Rattle.ngc_setup_sheet.specs.declared.mistake.Each.{Each}
 use Rattle.ngc_setup_sheet.specs.declared.mistake.Each.TheVariants as each
-use Rattle.ngc_setup_sheet.specs.declared.tree.Triple.{Triple}
 
 -- what is there passes
 abbrev pub passes : {A : Type 0} → (A → Bool) → Option A → Bool
@@ -31,41 +31,19 @@ is_second tree = passes (int_eq (pos 2)) (whole_at (codes "version") tree)
 
 -- ---- three of them
 
-abbrev pub three : Data → Option Triple
-three (array (item a (item b (item c no_items)))) = do
-  x ← as_integer a
-  y ← as_integer b
-  z ← as_integer c
-  Some (record { x = x; y = y; z = z })
-three _ = None
-
-abbrev pub three_at : List ℕ → Data → Option Triple
-three_at key tree = get key tree >>= three
-
-abbrev pub are_from : Bounds → Triple → Bool
+abbrev pub are_from : Bounds → Coordinates → Bool
 are_from b p = is_from b p.x && is_from b p.y && is_from b p.z
 
 abbrev pub is_three : Bounds → Data → Bool
-is_three b value = passes (are_from b) (three value)
-
-abbrev pub is_at_most : Triple → Triple → Bool
-is_at_most p q = int_le p.x q.x && int_le p.y q.y && int_le p.z q.z
-
-abbrev pub is_below : Triple → Triple → Bool
-is_below p q = int_lt p.x q.x && int_lt p.y q.y && int_lt p.z q.z
-
-abbrev pub is_multiple : ℤ → ℤ → Bool
-is_multiple step z = is_zero (int_rem z step)
-
-abbrev pub is_on_grid : ℤ → Triple → Bool
-is_on_grid step p = int_lt (pos 0) step && is_multiple step p.x && is_multiple step p.y && is_multiple step p.z
+is_three b value = passes (are_from b) (coordinates value)
 
 -- the three numbers under two keys
-abbrev pub related : (Triple → Triple → Bool) → List ℕ → List ℕ → Data → Bool
-related test key other tree = passes (λ p. passes (test p) (three_at other tree)) (three_at key tree)
+abbrev pub related : (Coordinates → Coordinates → Bool) → List ℕ → List ℕ → Data → Bool
+related test key other tree = passes (λ p. passes (test p) (coordinates_at other tree)) (coordinates_at key tree)
 
 abbrev pub is_start_on_grid : Data → Bool
-is_start_on_grid tree = passes (λ step. passes (is_on_grid step) (three_at (codes "start") tree)) (whole_at (codes "step") tree)
+is_start_on_grid tree =
+    passes (λ step. passes (λ start. int_lt (pos 0) step && is_on_grid step start) (coordinates_at (codes "start") tree)) (whole_at (codes "step") tree)
 
 -- ---- keys
 
@@ -132,6 +110,6 @@ is_met kind asks.Parts key tree =
 is_met kind asks.AtMostHigh key tree = kind || related is_at_most (codes "low") (codes "high") tree
 is_met kind asks.BelowHigh key tree = kind || related is_below (codes "low") (codes "high") tree
 is_met kind asks.Within key tree =
-    if kind then is_some (three_at key tree)
+    if kind then is_some (coordinates_at key tree)
     else related is_at_most (codes "low") (codes "start") tree && related is_at_most (codes "start") (codes "high") tree
 is_met kind asks.OnGrid key tree = kind || is_start_on_grid tree

@@ -10,7 +10,8 @@ rounded number unit = (2 * number + unit) / (2 * unit)
 abbrev pub step_speed : MachineFile → ℕ
 step_speed m = unsigned_abs m.step * m.ticks_per_second
 
--- the speed of a rate: of so many millionths of a step a tick, in millionths of a nanometre a second
+-- the speed of a rate: of so many millionths of a step a tick, in millionths of a nanometre a
+-- second
 abbrev pub speed : MachineFile → ℕ → ℕ
 speed m rate = rate * step_speed m
 

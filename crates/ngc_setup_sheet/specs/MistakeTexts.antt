@@ -1,7 +1,8 @@
 -- The words of mistakes. Our own.
-use Rattle.std.specs.Prelude.{ℕ, List, ◌++◌, map, codes, decimal}
+use Rattle.std.specs.Prelude.{ℕ, List, ◌++◌, codes, decimal}
 use Rattle.ngc_machine.specs.Faults.{number_of}
-use Rattle.ngc_setup_sheet.specs.Quoted.{shown, quote_of}
+use Rattle.ngc_text.specs.Shown.{shown_text}
+use Rattle.ngc_setup_sheet.specs.Quoted.{quote_of}
 use Rattle.ngc_setup_sheet.specs.declared.mistake.Mistake.{Mistake}
 use Rattle.ngc_setup_sheet.specs.declared.mistake.Mistake.TheVariants as mistakes
 use Rattle.ngc_setup_sheet.specs.declared.mistake.Rule.{Rule}
@@ -57,7 +58,7 @@ section_text (sections.FirstTool n) = codes "In `[[tool]]` " ++ decimal n ++ cod
 section_text (sections.SecondTool n) = codes "In `[[tool]]` " ++ decimal n ++ codes ", counted from 0, the"
 
 abbrev pub sentence_text : Section → List ℕ → List ℕ → List ℕ → List ℕ
-sentence_text section key said asked = section_text section ++ codes " key `" ++ map shown key ++ codes "` is " ++ said ++ asked
+sentence_text section key said asked = section_text section ++ codes " key `" ++ shown_text key ++ codes "` is " ++ said ++ asked
 
 -- what is wrong, and the line of the key where it is found
 abbrev pub mistake_text : List ℕ → Mistake → List ℕ

@@ -1,18 +1,11 @@
 -- The line of a file in which a key stands, as it is shown. Our own.
-use Rattle.std.specs.Prelude.{ℕ, ◌+◌, ◌-◌, ◌==◌, nat_lt, nat_eq, List, [], ◌∷◌, ◌++◌, length, take, drop, map, codes, decimal, Bool, false, ◌&&◌, ◌||◌, if◌then◌else◌}
+use Rattle.std.specs.Prelude.{ℕ, ◌+◌, ◌-◌, ◌==◌, nat_eq, List, [], ◌∷◌, length, drop, codes, Bool, false, ◌&&◌, ◌||◌, if◌then◌else◌}
 use Rattle.std.specs.List.{starts_with}
+use Rattle.ngc_text.specs.Shown.{shown_line}
 use Rattle.ngc_setup_sheet.specs.declared.quoted.Seek.{Seek}
 use Rattle.ngc_setup_sheet.specs.declared.quoted.Seek.TheVariants as seeks
 use Rattle.ngc_setup_sheet.specs.declared.mistake.Section.{Section}
 use Rattle.ngc_setup_sheet.specs.declared.mistake.Section.TheVariants as sections
-
--- What a terminal prints is shown as it is. A tab and a carriage return are shown as a space, and every other byte as a question mark.
-abbrev pub shown : ℕ → ℕ
-shown b = if nat_lt 31 b && nat_lt b 127 then b else (if b == 9 || b == 13 then 32 else 63)
-
--- at most 256 bytes of a line
-abbrev pub shown_line : ℕ → List ℕ → List ℕ
-shown_line number line = codes "Line " ++ decimal number ++ codes ": " ++ map shown (take 256 line) ++ codes "\n"
 
 -- ---- lines
 
@@ -50,7 +43,8 @@ begins word line = starts_with nat_eq (unindented line) word
 abbrev pub gives : List ℕ → List ℕ → Bool
 gives key line = begins key line && ends_key (drop (length key) (unindented line))
 
--- what a line is to the search for a key in a table, where so many headers still come before the table
+-- what a line is to the search for a key in a table, where so many headers still come before the
+-- table
 abbrev pub sought : List ℕ → List ℕ → ℕ → List ℕ → Seek
 sought header key ahead line =
     if begins header line

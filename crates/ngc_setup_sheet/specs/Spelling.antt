@@ -1,6 +1,7 @@
 -- How the lines of a setup sheet are spelled. Our own.
-use Rattle.std.specs.Prelude.{ℕ, ◌+◌, ◌*◌, ◌/◌, ◌%◌, ◌==◌, ℤ, pos, negsuc, ◌-ℤ◌, unsigned_abs, List, [], ◌∷◌, ◌++◌, take, flat_map, codes, decimal, if◌then◌else◌}
+use Rattle.std.specs.Prelude.{ℕ, ◌*◌, ◌/◌, ◌%◌, ◌-ℤ◌, unsigned_abs, List, ◌++◌, flat_map, codes, decimal}
 use Rattle.ngc_fixed_length.specs.declared.points.Point3.{Point3}
+use Rattle.ngc_text.specs.Millimetres.{number_text, size_text, length_text, mm_text}
 use Rattle.ngc_setup_sheet.specs.declared.line.Axis.TheVariants as axes
 use Rattle.ngc_setup_sheet.specs.declared.line.Fact.{Fact}
 use Rattle.ngc_setup_sheet.specs.declared.line.Fact.TheVariants as facts
@@ -12,40 +13,14 @@ use Rattle.ngc_setup_sheet.specs.declared.line.Span.{Span}
 use Rattle.ngc_setup_sheet.specs.declared.line.Warning.{Warning}
 use Rattle.ngc_setup_sheet.specs.declared.line.Warning.TheVariants as warnings
 
--- a point and six digits; 48 is the code of 0
-abbrev pub decimals : ℕ → List ℕ
-decimals n =
-    46 ∷ (48 + n / 100000) ∷ (48 + n / 10000 % 10) ∷ (48 + n / 1000 % 10) ∷ (48 + n / 100 % 10) ∷ (48 + n / 10 % 10) ∷ (48 + n % 10) ∷ []
-
--- how many of these are written: no noughts at the end, and no point alone
-abbrev pub kept : ℕ → ℕ
-kept n =
-    if n == 0 then 0 else (if n % 100000 == 0 then 2 else (if n % 10000 == 0 then 3 else (if n % 1000 == 0 then 4
-    else (if n % 100 == 0 then 5 else (if n % 10 == 0 then 6 else 7)))))
-
--- a whole number and millionths
-unfoldable pub number_text : ℕ → ℕ → List ℕ
-number_text whole millionths = decimal whole ++ take (kept millionths) (decimals millionths)
-
--- a size in nanometres as millimetres
-abbrev pub size_text : ℕ → List ℕ
-size_text n = number_text (n / 1000000) (n % 1000000)
-
 abbrev pub thousandths_text : ℕ → List ℕ
 thousandths_text n = number_text (n / 1000) (1000 * (n % 1000))
-
-abbrev pub sign_text : ℤ → List ℕ
-sign_text (pos n) = []
-sign_text (negsuc n) = codes "-"
-
-unfoldable pub length_text : ℤ → List ℕ
-length_text z = sign_text z ++ size_text (unsigned_abs z)
 
 abbrev pub span_text : Span → List ℕ
 span_text s = length_text s.low ++ codes " to " ++ length_text s.high ++ codes " mm, " ++ size_text (unsigned_abs (s.high -ℤ s.low)) ++ codes " mm long"
 
 abbrev pub place_text : Point3 → List ℕ
-place_text p = codes "X " ++ length_text p.x ++ codes " Y " ++ length_text p.y ++ codes " Z " ++ length_text p.z ++ codes " mm"
+place_text p = codes "X " ++ length_text p.x ++ codes " Y " ++ length_text p.y ++ codes " Z " ++ mm_text p.z
 
 unfoldable pub fact_text : Fact → List ℕ
 fact_text facts.Step = codes "  step                  "
@@ -71,14 +46,14 @@ fact_text facts.Offset = codes "  length offset         "
 fact_text facts.Part = codes "  part                  "
 
 unfoldable pub figure_text : Figure → List ℕ
-figure_text (figures.Length z) = length_text z ++ codes " mm"
+figure_text (figures.Length z) = mm_text z
 figure_text (figures.PerMillimetre n) = thousandths_text n ++ codes " a mm"
 figure_text (figures.PerSecond n) = decimal n ++ codes " a second"
 figure_text (figures.Speed n) = thousandths_text n ++ codes " mm/min"
 figure_text (figures.Acceleration n) = thousandths_text n ++ codes " mm/s^2"
 figure_text (figures.Span s) = span_text s
 figure_text (figures.Place p) = place_text p
-figure_text (figures.Part s diameter) = span_text s ++ codes ", diameter " ++ length_text diameter ++ codes " mm"
+figure_text (figures.Part s diameter) = span_text s ++ codes ", diameter " ++ mm_text diameter
 
 unfoldable pub warning_text : Warning → List ℕ
 warning_text warnings.Speed = codes "the greatest speed is not from 0.1 to 1000 mm/s"
@@ -91,8 +66,9 @@ warning_text (warnings.OutOfReach n) = codes "fixture " ++ decimal n ++ codes " 
 warning_text (warnings.Short n) = codes "tool " ++ decimal n ++ codes " is shorter than 1 mm: lengths are in nanometres"
 warning_text (warnings.Offset n) = codes "tool " ++ decimal n ++ codes " has an offset of more than twice or less than half its length"
 
--- an object of a JSON document, behind a comma and a line feed. A JSON string has its characters as they are but for quotation
--- marks, backslashes and control characters, which it escapes (RFC 8259): of these a warning has none
+-- an object of a JSON document, behind a comma and a line feed. A JSON string has its characters as
+-- they are but for quotation marks, backslashes and control characters, which it escapes (RFC
+-- 8259): of these a warning has none
 abbrev pub warning_object : Warning → List ℕ
 warning_object w = codes ",\n{\"fact\":\"warning\",\"text\":\"" ++ warning_text w ++ codes "\"}"
 

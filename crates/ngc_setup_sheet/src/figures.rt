@@ -76,7 +76,8 @@ pub(crate) fn acceleration<A: Allocator>(machine: &Machine<A>) -> u128
     rounded(gain(machine, u64::from(machine.change)), 1_000_000_000)
 }
 
-/// The greatest acceleration towards the centre of an arc, in thousandths of a millimetre per second squared.
+/// The greatest acceleration towards the centre of an arc, in thousandths of a millimetre per
+/// second squared.
 pub(crate) fn arc_acceleration<A: Allocator>(machine: &Machine<A>) -> u128
     ensures { result ≡ arc_acceleration (file_of machine.now) (file_of machine.now).turn }
 {

@@ -1,5 +1,5 @@
-//! The setup sheet of a machine: what its file and its tool table say in a shop's units, with warnings of what looks wrong; and
-//! of a file that is refused, its first mistake.
+//! The setup sheet of a machine: what its file and its tool table say in a shop's units, with
+//! warnings of what looks wrong; and of a file that is refused, its first mistake.
 #![tactic(auto)]
 
 mod figures;
@@ -24,5 +24,4 @@ pub use mistake::{Ask, Bounds, Each, Mistake, Rule, Section, Word};
 pub use mistaken::{write_machine_mistake, write_tools_mistake};
 pub use quoted::Seek;
 pub use sheet::write_sheet;
-pub use tree::Triple;
 pub use warned::{write_warning_facts, write_warnings};

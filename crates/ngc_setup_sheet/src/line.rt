@@ -42,7 +42,8 @@ pub enum Fact {
     Part,
 }
 
-/// A number with its unit. Lengths are nanometres, and what is rounded is in thousandths of the unit.
+/// A number with its unit. Lengths are nanometres, and what is rounded is in thousandths of the
+/// unit.
 #[derive(Clone, Copy)]
 pub enum Figure {
     Length(i64),

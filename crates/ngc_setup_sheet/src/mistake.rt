@@ -127,10 +127,8 @@ impl Word {
     }
 
     pub(crate) fn as_slice(&self) -> &[u8]
-        ensures bytes { result.now ≡ self.now }
-        ensures short { length result.now ≤ 64 }
+        ensures { result.now ≡ self.now }
     {
-        let _len = self.bytes.len();
         self.bytes.as_slice()
     }
 }

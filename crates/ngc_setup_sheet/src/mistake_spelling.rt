@@ -1,16 +1,16 @@
 //! How mistakes are spelled.
-ghost use Rattle.std.specs.Prelude.{◌≡◌, ◌+◌, ◌≤◌, ◌++◌, codes, decimal, length, map, take};
+ghost use Rattle.std.specs.Prelude.{◌≡◌, ◌+◌, ◌≤◌, ◌++◌, codes, length};
 ghost use Rattle.ngc_machine.specs.Faults.{number_of};
 ghost use Rattle.ngc_text.specs.Collected.{CHUNK_SIZE};
 ghost use Rattle.ngc_setup_sheet.specs.Keys.{key_text};
 ghost use Rattle.ngc_setup_sheet.specs.MistakeTexts.{asked_text, known_text, section_text, sentence_text, mistake_text};
-ghost use Rattle.ngc_setup_sheet.specs.Quoted.{shown, quote_of};
+ghost use Rattle.ngc_setup_sheet.specs.Quoted.{quote_of};
 
 use crate::mistake::{Mistake, Rule, Section};
-use crate::quoted::{add_quote, add_shown};
+use crate::quoted::add_quote;
 use crate::rows::key;
 use crate::spelling::add_numbered;
-use ngc_text::Chunk;
+use ngc_text::{Chunk, shown_bytes};
 
 #[tactic(auto, unfolding(crate::specs::MistakeTexts::asked_text))]
 fn asked(rule: Rule) -> &'static [u8]
@@ -110,24 +110,22 @@ fn add_section(chunk: &mut Chunk, section: Section)
 
 /// Adds what is said of a key, and what is asked.
 fn add_sentence(chunk: &mut Chunk, section: Section, key: &[u8], said: &[u8], asked: &[u8])
-    requires room { length chunk.old + 500 ≤ CHUNK_SIZE }
-    requires key { length key.now ≤ 64 }
+    requires room { length chunk.old + 640 ≤ CHUNK_SIZE }
     requires said { length said.now ≤ 10 }
     requires asked { length asked.now ≤ 200 }
     ensures text { chunk.new ≡ chunk.old ++ sentence_text section key.now said.now asked.now }
-    ensures short { length chunk.new ≤ length chunk.old + 500 }
+    ensures short { length chunk.new ≤ length chunk.old + 640 }
 {
     add_section(chunk, section);
     chunk.add_text(b" key `");
-    add_shown(chunk, key);
+    chunk.add_text(shown_bytes(key).as_slice());
     chunk.add_text(b"` is ");
     chunk.add_text(said);
     chunk.add_text(asked);
 }
 
 fn add_unknown(chunk: &mut Chunk, section: Section, key: &[u8], bytes: &[u8])
-    requires room { length chunk.old + 1000 ≤ CHUNK_SIZE }
-    requires key { length key.now ≤ 64 }
+    requires { length chunk.old + 1100 ≤ CHUNK_SIZE }
     ensures { chunk.new ≡ chunk.old ++ (sentence_text section key.now (codes "unknown. ") (known_text section) ++ quote_of section key.now bytes.now) }
 {
     add_sentence(chunk, section, key, b"unknown. ", known(section));
@@ -135,7 +133,7 @@ fn add_unknown(chunk: &mut Chunk, section: Section, key: &[u8], bytes: &[u8])
 }
 
 fn add_refused(chunk: &mut Chunk, section: Section, rule: Rule, bytes: &[u8])
-    requires { length chunk.old + 1000 ≤ CHUNK_SIZE }
+    requires { length chunk.old + 1100 ≤ CHUNK_SIZE }
     ensures { chunk.new ≡ chunk.old ++ (sentence_text section (key_text rule) (codes "refused. ") (asked_text rule) ++ quote_of section (key_text rule) bytes.now) }
 {
     let key = key(rule).as_bytes();
@@ -145,7 +143,7 @@ fn add_refused(chunk: &mut Chunk, section: Section, rule: Rule, bytes: &[u8])
 
 /// Adds what is wrong in a file.
 fn add_mistake(chunk: &mut Chunk, mistake: &Mistake, bytes: &[u8])
-    requires { length chunk.old + 1000 ≤ CHUNK_SIZE }
+    requires { length chunk.old + 1100 ≤ CHUNK_SIZE }
     ensures { chunk.new ≡ chunk.old ++ mistake_text bytes.now mistake.now }
 {
     match mistake {

@@ -10,8 +10,7 @@ ghost use Rattle.ngc_setup_sheet.specs.Mistakes.{machine_mistake_in, tools_mista
 use crate::mistake::Mistake;
 use crate::mistake_spelling::text;
 use crate::mistakes::{machine_mistake_in, tools_mistake_in};
-use crate::tree::read_tree;
-use ngc_machine::FileFault;
+use ngc_machine::{FileFault, read_tree};
 use ngc_text::{Sink, WriteFault};
 use std::alloc::Global;
 use toml::Value;
@@ -34,11 +33,11 @@ fn tools_mistake(tree: &Option<Value>, fault: FileFault) -> Mistake
     }
 }
 
-/// Writes the first mistake of a machine file that is refused with this fault: which key it is, what is asked of it, and in a
-/// second line the line of the file in which it stands.
+/// Writes the first mistake of a machine file that is refused with this fault: which key it is,
+/// what is asked of it, and in a second line the line of the file in which it stands.
 ///
-/// Nothing is written where memory for the file's tree is refused. After a fault (902) a beginning of the text is written, and
-/// the sink has counted the failure.
+/// Nothing is written where memory for the file's tree is refused. After a fault (902) a beginning
+/// of the text is written, and the sink has counted the failure.
 pub fn write_machine_mistake<W: Sink>(
     alloc: Global,
     bytes: &[u8],
@@ -57,7 +56,8 @@ pub fn write_machine_mistake<W: Sink>(
     }
 }
 
-/// Writes the first mistake of a tool table that is refused with this fault, as `write_machine_mistake` does.
+/// Writes the first mistake of a tool table that is refused with this fault, as
+/// `write_machine_mistake` does.
 pub fn write_tools_mistake<W: Sink>(
     alloc: Global,
     bytes: &[u8],

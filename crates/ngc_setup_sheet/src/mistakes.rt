@@ -6,8 +6,8 @@ ghost use Rattle.ngc_setup_sheet.specs.Mistakes.{keys_of, complaint, table_mista
 
 use crate::mistake::{Mistake, Rule, Section, Word};
 use crate::rows::{key, unmet};
-use crate::tree::{is_second, unknown_key, whole_at};
-use ngc_machine::FileFault;
+use crate::tree::{is_second, unknown_key};
+use ngc_machine::{FileFault, MACHINE_KEYS, whole_at};
 use toml::Value;
 
 fn complaint(section: Section, tree: &Value, rule: Rule) -> Mistake
@@ -19,24 +19,6 @@ fn complaint(section: Section, tree: &Value, rule: Rule) -> Mistake
         Mistake::Missing(section, rule)
     }
 }
-
-const MACHINE_KEYS: [&str; 15] = [
-    "axis_rate",
-    "version",
-    "step",
-    "ticks_per_second",
-    "max_rate",
-    "change",
-    "corner",
-    "turn",
-    "low",
-    "high",
-    "start",
-    "home28",
-    "home30",
-    "origins",
-    "fixture",
-];
 
 fn unknown(section: Section, tree: &Value) -> Option<Word>
     ensures { result ≡ unknown_in (keys_of section) (view tree.now) }

@@ -1,48 +1,10 @@
 //! The line of a file in which a key stands.
-ghost use Rattle.std.specs.Prelude.{◌≡◌, ◌+◌, ◌<◌, ◌≤◌, ◌++◌, codes, decimal, length, map, take};
+ghost use Rattle.std.specs.Prelude.{◌≡◌, ◌+◌, ◌≤◌, ◌++◌, length};
 ghost use Rattle.ngc_text.specs.Collected.{CHUNK_SIZE};
-ghost use Rattle.ngc_setup_sheet.specs.Quoted.{shown, shown_line, line_of, behind_line, lines_of, unindented, ends_key, begins, gives, sought, quote_from, header_text, headers, quote_of};
+ghost use Rattle.ngc_setup_sheet.specs.Quoted.{line_of, behind_line, lines_of, unindented, ends_key, begins, gives, sought, quote_from, header_text, headers, quote_of};
 
 use crate::mistake::Section;
 use ngc_text::Chunk;
-
-fn shown(byte: u8) -> u8
-    ensures { result ≡ shown byte }
-{
-    match byte {
-        32..=126 => byte,
-        b'\t' | b'\r' => b' ',
-        _ => b'?',
-    }
-}
-
-/// Adds bytes as a terminal shows them.
-pub(crate) fn add_shown(chunk: &mut Chunk, bytes: &[u8])
-    requires { length chunk.old + length bytes.now ≤ CHUNK_SIZE }
-    ensures { chunk.new ≡ chunk.old ++ map shown bytes.now }
-{
-    for byte in bytes {
-        chunk.add_text(&[shown(*byte)]);
-    }
-}
-
-fn first_bytes(line: &[u8]) -> &[u8]
-    ensures bytes { result.now ≡ take 256 line.now }
-    ensures short { length result.now ≤ 256 }
-{
-    &line[..line.len().min(256)]
-}
-
-fn add_line(chunk: &mut Chunk, number: usize, line: &[u8])
-    requires { length chunk.old + 400 ≤ CHUNK_SIZE }
-    ensures { chunk.new ≡ chunk.old ++ shown_line number line.now }
-{
-    chunk.add_text(b"Line ");
-    chunk.add_number(number);
-    chunk.add_text(b": ");
-    add_shown(chunk, first_bytes(line));
-    chunk.add_text(b"\n");
-}
 
 /// The first line, and what comes behind it.
 fn split_line(bytes: &[u8]) -> (&[u8], &[u8])
@@ -126,7 +88,7 @@ fn add_quote_from(chunk: &mut Chunk, header: &[u8], key: &[u8], headers: u128, b
     while !left.is_empty() {
         let (line, behind) = split_line(left);
         match sought(header, key, ahead, line) {
-            Seek::Found => return add_line(chunk, number, line),
+            Seek::Found => return chunk.add_line(number, line),
             Seek::Ended => return,
             Seek::Ahead(still) => ahead = still,
         }

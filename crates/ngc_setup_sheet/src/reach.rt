@@ -8,7 +8,8 @@ use ngc_fixed_length::Nm;
 use ngc_machine::{Fixture, Machine, Part, Parts, Tool};
 use std::alloc::Allocator;
 
-/// How far the bodies of tools go from the controlled point, in nanometres: to each side, down, and up.
+/// How far the bodies of tools go from the controlled point, in nanometres: to each side, down, and
+/// up.
 #[derive(Clone, Copy)]
 pub(crate) struct Reach {
     pub radius: i64,

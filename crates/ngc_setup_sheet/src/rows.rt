@@ -1,5 +1,5 @@
 //! What is asked of the keys of a file, and by which fault.
-ghost use Rattle.std.specs.Prelude.{◌≡◌, ◌≤◌, length};
+ghost use Rattle.std.specs.Prelude.{◌≡◌};
 ghost use Rattle.toml.specs.View.{view};
 ghost use Rattle.ngc_setup_sheet.specs.Keys.{key_text};
 ghost use Rattle.ngc_setup_sheet.specs.Mistakes.{rows_of, is_row_met, unmet};
@@ -101,8 +101,7 @@ const SECOND_TOOL: [(FileFault, Rule, Ask); 4] = [
 /// The key that a rule is about.
 #[tactic(auto, unfolding(crate::specs::Keys::key_text))]
 pub(crate) fn key(rule: Rule) -> &'static str
-    ensures text { result.now ≡ key_text rule }
-    ensures short { length result.now ≤ 16 }
+    ensures { result.now ≡ key_text rule }
 {
     match rule {
         Rule::Version | Rule::ToolsVersion => "version",

@@ -1,98 +1,20 @@
 //! How lines are spelled.
-ghost use Rattle.std.specs.Prelude.{◌≡◌, ◌+◌, ◌*◌, ◌<◌, ◌≤◌, ◌++◌, codes, decimal, length};
+ghost use Rattle.std.specs.Prelude.{◌≡◌, ◌+◌, ◌≤◌, ◌++◌, codes, decimal, length};
 ghost use Rattle.ngc_text.specs.Collected.{CHUNK_SIZE, HasLineRoom};
-ghost use Rattle.ngc_setup_sheet.specs.Spelling.{decimals, kept, number_text, size_text, sign_text, length_text, thousandths_text, span_text, place_text, fact_text, figure_text, warning_text, warning_object, line_text};
+ghost use Rattle.ngc_text.specs.Millimetres.{mm_text};
+ghost use Rattle.ngc_setup_sheet.specs.Spelling.{thousandths_text, span_text, place_text, fact_text, figure_text, warning_text, warning_object, line_text};
 
 use crate::line::{Axis, Fact, Figure, Line, Span, Warning};
 use itoa::Integer;
 use ngc_fixed_length::Point3;
 use ngc_text::Chunk;
 
-fn decimals(millionths: u32) -> [u8; 7]
-    requires { millionths < 1000000 }
-    ensures { result ≡ decimals millionths }
-{
-    [
-        b'.',
-        b'0' + (millionths / 100_000) as u8,
-        b'0' + (millionths / 10_000 % 10) as u8,
-        b'0' + (millionths / 1_000 % 10) as u8,
-        b'0' + (millionths / 100 % 10) as u8,
-        b'0' + (millionths / 10 % 10) as u8,
-        b'0' + (millionths % 10) as u8,
-    ]
-}
-
-fn kept(millionths: u32) -> usize
-    ensures value { result ≡ kept millionths }
-    ensures few { result ≤ 7 }
-{
-    if millionths == 0 {
-        0
-    } else if millionths % 100_000 == 0 {
-        2
-    } else if millionths % 10_000 == 0 {
-        3
-    } else if millionths % 1_000 == 0 {
-        4
-    } else if millionths % 100 == 0 {
-        5
-    } else if millionths % 10 == 0 {
-        6
-    } else {
-        7
-    }
-}
-
-/// Adds a number with as many decimals as it needs.
-#[tactic(auto, unfolding(crate::specs::Spelling::number_text))]
-fn add_decimal(chunk: &mut Chunk, whole: u128, millionths: u32)
-    requires room { length chunk.old + 47 ≤ CHUNK_SIZE }
-    requires part { millionths < 1000000 }
-    ensures text { chunk.new ≡ chunk.old ++ number_text whole millionths }
-    ensures short { length chunk.new ≤ length chunk.old + 47 }
-{
-    chunk.add_number(whole);
-    chunk.add_text(&decimals(millionths)[..kept(millionths)]);
-}
-
-/// Adds a size in nanometres as millimetres.
-fn add_size(chunk: &mut Chunk, nanometres: u64)
-    requires { length chunk.old + 47 ≤ CHUNK_SIZE }
-    ensures text { chunk.new ≡ chunk.old ++ size_text nanometres }
-    ensures short { length chunk.new ≤ length chunk.old + 47 }
-{
-    add_decimal(
-        chunk,
-        u128::from(nanometres / 1_000_000),
-        (nanometres % 1_000_000) as u32,
-    );
-}
-
 fn add_thousandths(chunk: &mut Chunk, number: u128)
     requires { length chunk.old + 47 ≤ CHUNK_SIZE }
     ensures text { chunk.new ≡ chunk.old ++ thousandths_text number }
     ensures short { length chunk.new ≤ length chunk.old + 47 }
 {
-    add_decimal(chunk, number / 1_000, 1_000 * (number % 1_000) as u32);
-}
-
-fn sign(nanometres: i64) -> &'static [u8]
-    ensures text { result.now ≡ sign_text nanometres }
-    ensures short { length result.now ≤ 1 }
-{
-    if nanometres < 0 { b"-" } else { b"" }
-}
-
-/// Adds a length in nanometres as millimetres.
-#[tactic(auto, unfolding(crate::specs::Spelling::length_text))]
-fn add_length(chunk: &mut Chunk, nanometres: i64)
-    requires { length chunk.old + 48 ≤ CHUNK_SIZE }
-    ensures text { chunk.new ≡ chunk.old ++ length_text nanometres }
-    ensures short { length chunk.new ≤ length chunk.old + 48 }
-{
-    chunk.add_text(sign(nanometres));
-    add_size(chunk, nanometres.unsigned_abs());
+    chunk.add_millionths(number / 1_000, 1_000 * (number % 1_000) as u32);
 }
 
 fn add_span(chunk: &mut Chunk, span: &Span)
@@ -100,11 +22,11 @@ fn add_span(chunk: &mut Chunk, span: &Span)
     ensures text { chunk.new ≡ chunk.old ++ span_text span.now }
     ensures short { length chunk.new ≤ length chunk.old + 160 }
 {
-    add_length(chunk, span.low);
+    chunk.add_length(i128::from(span.low));
     chunk.add_text(b" to ");
-    add_length(chunk, span.high);
+    chunk.add_length(i128::from(span.high));
     chunk.add_text(b" mm, ");
-    add_size(chunk, span.high.abs_diff(span.low));
+    chunk.add_size(u128::from(span.high.abs_diff(span.low)));
     chunk.add_text(b" mm long");
 }
 
@@ -114,12 +36,11 @@ fn add_place(chunk: &mut Chunk, place: &Point3)
     ensures short { length chunk.new ≤ length chunk.old + 160 }
 {
     chunk.add_text(b"X ");
-    add_length(chunk, place.x.nanometres());
+    chunk.add_length(i128::from(place.x.nanometres()));
     chunk.add_text(b" Y ");
-    add_length(chunk, place.y.nanometres());
+    chunk.add_length(i128::from(place.y.nanometres()));
     chunk.add_text(b" Z ");
-    add_length(chunk, place.z.nanometres());
-    chunk.add_text(b" mm");
+    chunk.add_millimetres(i128::from(place.z.nanometres()));
 }
 
 #[tactic(auto, unfolding(crate::specs::Spelling::fact_text))]
@@ -154,13 +75,12 @@ fn fact(fact: &Fact) -> &'static [u8]
 
 fn add_part(chunk: &mut Chunk, heights: &Span, diameter: i64)
     requires { length chunk.old + 230 ≤ CHUNK_SIZE }
-    ensures text { chunk.new ≡ chunk.old ++ (span_text heights.now ++ codes ", diameter " ++ length_text diameter ++ codes " mm") }
+    ensures text { chunk.new ≡ chunk.old ++ (span_text heights.now ++ codes ", diameter " ++ mm_text diameter) }
     ensures short { length chunk.new ≤ length chunk.old + 230 }
 {
     add_span(chunk, heights);
     chunk.add_text(b", diameter ");
-    add_length(chunk, diameter);
-    chunk.add_text(b" mm");
+    chunk.add_millimetres(i128::from(diameter));
 }
 
 /// Adds a number behind which a unit stands.
@@ -172,15 +92,6 @@ fn add_rounded(chunk: &mut Chunk, number: u128, unit: &[u8])
 {
     add_thousandths(chunk, number);
     chunk.add_text(unit);
-}
-
-fn add_millimetres(chunk: &mut Chunk, nanometres: i64)
-    requires { length chunk.old + 60 ≤ CHUNK_SIZE }
-    ensures text { chunk.new ≡ chunk.old ++ (length_text nanometres ++ codes " mm") }
-    ensures short { length chunk.new ≤ length chunk.old + 60 }
-{
-    add_length(chunk, nanometres);
-    chunk.add_text(b" mm");
 }
 
 /// Adds a text, a number and a text.
@@ -203,7 +114,7 @@ fn add_figure(chunk: &mut Chunk, figure: &Figure)
     ensures short { length chunk.new ≤ length chunk.old + 230 }
 {
     match figure {
-        Figure::Length(nanometres) => add_millimetres(chunk, *nanometres),
+        Figure::Length(nanometres) => chunk.add_millimetres(i128::from(*nanometres)),
         Figure::PerMillimetre(number) => add_rounded(chunk, *number, b" a mm"),
         Figure::PerSecond(number) => add_numbered(chunk, b"", *number, b" a second"),
         Figure::Speed(number) => add_rounded(chunk, *number, b" mm/min"),

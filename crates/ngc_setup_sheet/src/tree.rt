@@ -1,50 +1,23 @@
 //! Whether the tables of a file meet what is asked.
-ghost use Rattle.std.specs.Prelude.{◌≡◌, ◌<ℤ◌, pos, map, not, string_bytes, IfOk, IsOk, Option, option_map};
+ghost use Rattle.std.specs.Prelude.{◌≡◌, map, not, string_bytes, option_map};
 ghost use Rattle.std.specs.List.{find};
 ghost use Rattle.std.specs.Map.{keys_of};
 ghost use Rattle.toml.specs.Data.{get, array};
-ghost use Rattle.toml.specs.Errors.{IsBlank};
 ghost use Rattle.toml.specs.View.{view, items_view, table_view};
-ghost use Rattle.ngc_machine.specs.Tree.{tree_of, is_one_of, whole_at};
-ghost use Rattle.ngc_setup_sheet.specs.Asks.{passes, is_from, is_whole, is_second, three, three_at, are_from, is_three, is_at_most, is_below, related, is_multiple, is_on_grid, all_items, unknown_key, unknown_in, from_to_count, is_each, is_array, is_array_at, bounds, least_count, most_count, is_start_on_grid, is_met};
+ghost use Rattle.ngc_machine.specs.MachineText.{is_at_most, is_below};
+ghost use Rattle.ngc_machine.specs.Tree.{is_one_of};
+ghost use Rattle.ngc_setup_sheet.specs.Asks.{passes, is_from, is_whole, is_second, are_from, is_three, related, all_items, unknown_key, unknown_in, from_to_count, is_each, is_array, is_array_at, bounds, least_count, most_count, is_start_on_grid, is_met};
 ghost use Rattle.ngc_setup_sheet.specs.declared.mistake.Ask.TheVariants as asks;
 ghost use Rattle.ngc_setup_sheet.specs.declared.mistake.Each.TheVariants as each;
 
 use crate::mistake::{Ask, Bounds, Each, Word};
-use std::alloc::{AllocError, Global};
+use ngc_machine::{Coordinates, coordinates, coordinates_at, is_one_of, whole_at};
 use toml::{Table, Value};
-
-/// Three whole numbers of a file.
-#[derive(Clone, Copy)]
-pub struct Triple {
-    pub x: i64,
-    pub y: i64,
-    pub z: i64,
-}
-
-/// The tree of a document, where the bytes are one.
-pub(crate) fn read_tree(alloc: Global, bytes: &[u8]) -> Result<Option<Value>, AllocError>
-    ensures tree { IfOk result (λ tree. option_map view tree ≡ tree_of bytes.now) }
-    ensures blank { IsBlank bytes.now → IsOk result }
-{
-    match toml::table_from_slice(alloc, bytes) {
-        Ok(table) => Ok(Some(Value::Table(table))),
-        Err(error) if error.is_memory() => Err(AllocError),
-        Err(_) => Ok(None),
-    }
-}
 
 fn is_from(bounds: &Bounds, number: i64) -> bool
     ensures { result ≡ is_from bounds.now number }
 {
     bounds.low <= number && number <= bounds.high
-}
-
-/// The whole number under a key.
-pub(crate) fn whole_at(tree: &Value, key: &str) -> Option<i64>
-    ensures { result ≡ whole_at key.now (view tree.now) }
-{
-    tree.get(key)?.as_integer()
 }
 
 fn is_whole(tree: &Value, key: &str, bounds: &Bounds) -> bool
@@ -66,26 +39,7 @@ pub(crate) fn is_second(tree: &Value) -> bool
     }
 }
 
-fn three(value: &Value) -> Option<Triple>
-    ensures { result ≡ three (view value.now) }
-{
-    let [x, y, z] = value.as_array()?.as_slice() else {
-        return None;
-    };
-    Some(Triple {
-        x: x.as_integer()?,
-        y: y.as_integer()?,
-        z: z.as_integer()?,
-    })
-}
-
-fn three_at(tree: &Value, key: &str) -> Option<Triple>
-    ensures { result ≡ three_at key.now (view tree.now) }
-{
-    three(tree.get(key)?)
-}
-
-fn are_from(bounds: &Bounds, numbers: &Triple) -> bool
+fn are_from(bounds: &Bounds, numbers: &Coordinates) -> bool
     ensures { result ≡ are_from bounds.now numbers.now }
 {
     is_from(bounds, numbers.x) && is_from(bounds, numbers.y) && is_from(bounds, numbers.z)
@@ -94,7 +48,7 @@ fn are_from(bounds: &Bounds, numbers: &Triple) -> bool
 fn is_three(value: &Value, bounds: &Bounds) -> bool
     ensures { result ≡ is_three bounds.now (view value.now) }
 {
-    match three(value) {
+    match coordinates(value) {
         Some(numbers) => are_from(bounds, &numbers),
         None => false,
     }
@@ -109,26 +63,14 @@ fn is_three_at(tree: &Value, key: &str, bounds: &Bounds) -> bool
     }
 }
 
-fn is_at_most(numbers: &Triple, others: &Triple) -> bool
-    ensures { result ≡ is_at_most numbers.now others.now }
-{
-    numbers.x <= others.x && numbers.y <= others.y && numbers.z <= others.z
-}
-
-fn is_below(numbers: &Triple, others: &Triple) -> bool
-    ensures { result ≡ is_below numbers.now others.now }
-{
-    numbers.x < others.x && numbers.y < others.y && numbers.z < others.z
-}
-
 fn is_at_most_at(tree: &Value, key: &str, other: &str) -> bool
     ensures { result ≡ related is_at_most key.now other.now (view tree.now) }
 {
-    let Some(numbers) = three_at(tree, key) else {
+    let Some(numbers) = coordinates_at(tree, key) else {
         return false;
     };
-    match three_at(tree, other) {
-        Some(others) => is_at_most(&numbers, &others),
+    match coordinates_at(tree, other) {
+        Some(others) => numbers.is_at_most(&others),
         None => false,
     }
 }
@@ -136,29 +78,13 @@ fn is_at_most_at(tree: &Value, key: &str, other: &str) -> bool
 fn is_below_at(tree: &Value, key: &str, other: &str) -> bool
     ensures { result ≡ related is_below key.now other.now (view tree.now) }
 {
-    let Some(numbers) = three_at(tree, key) else {
+    let Some(numbers) = coordinates_at(tree, key) else {
         return false;
     };
-    match three_at(tree, other) {
-        Some(others) => is_below(&numbers, &others),
+    match coordinates_at(tree, other) {
+        Some(others) => numbers.is_below(&others),
         None => false,
     }
-}
-
-fn is_multiple(step: i64, number: i64) -> bool
-    requires { pos 0 <ℤ step }
-    ensures { result ≡ is_multiple step number }
-{
-    number % step == 0
-}
-
-fn is_on_grid(step: i64, numbers: &Triple) -> bool
-    ensures { result ≡ is_on_grid step numbers.now }
-{
-    0 < step
-        && is_multiple(step, numbers.x)
-        && is_multiple(step, numbers.y)
-        && is_multiple(step, numbers.z)
 }
 
 fn is_start_on_grid(tree: &Value) -> bool
@@ -167,21 +93,10 @@ fn is_start_on_grid(tree: &Value) -> bool
     let Some(step) = whole_at(tree, "step") else {
         return false;
     };
-    match three_at(tree, "start") {
-        Some(start) => is_on_grid(step, &start),
+    match coordinates_at(tree, "start") {
+        Some(start) => 0 < step && start.is_on_grid(step),
         None => false,
     }
-}
-
-fn is_one_of(key: &str, keys: &[&str]) -> bool
-    ensures { result ≡ is_one_of (map (λ k. k.now) keys.entry.now) key.now }
-{
-    for known in keys {
-        if key == *known {
-            return true;
-        }
-    }
-    false
 }
 
 fn first_other<'t>(table: &'t Table, keys: &[&str]) -> Option<&'t String>
@@ -313,7 +228,7 @@ fn is_within(tree: &Value, key: &str, kind: bool) -> bool
     ensures { result ≡ is_met kind asks.Within key.now (view tree.now) }
 {
     if kind {
-        three_at(tree, key).is_some()
+        coordinates_at(tree, key).is_some()
     } else {
         is_at_most_at(tree, "low", "start") && is_at_most_at(tree, "start", "high")
     }

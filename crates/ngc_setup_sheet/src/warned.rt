@@ -77,10 +77,11 @@ fn warn_of_all<A: Allocator, W: Sink>(
     warn_of_tools(chunk, style, tools, sink)
 }
 
-/// Writes the warnings of a machine and of its tools, those of the setup sheet alone and in its order, each a line that begins
-/// with `warning: `; nothing where nothing looks wrong.
+/// Writes the warnings of a machine and of its tools, those of the setup sheet alone and in its
+/// order, each a line that begins with `warning: `; nothing where nothing looks wrong.
 ///
-/// It takes no memory. After a fault (902) a beginning of the text is written, and the sink has counted the failure.
+/// It takes no memory. After a fault (902) a beginning of the text is written, and the sink has
+/// counted the failure.
 pub fn write_warnings<A: Allocator, W: Sink>(
     machine: &Machine<A>,
     tools: &[Tool],
@@ -97,12 +98,12 @@ pub fn write_warnings<A: Allocator, W: Sink>(
     }
 }
 
-/// Writes the warnings that `write_warnings` writes, in its order, each as an object of a JSON document behind a comma and a line
-/// feed; nothing where nothing looks wrong.
+/// Writes the warnings that `write_warnings` writes, in its order, each as an object of a JSON
+/// document behind a comma and a line feed; nothing where nothing looks wrong.
 ///
-/// An object has the member `fact`, which is `warning`, and then `text`, the warning's words. So the objects continue an array in
-/// which something stands. It takes no memory. After a fault (902) a beginning of the text is written, and the sink has counted
-/// the failure.
+/// An object has the member `fact`, which is `warning`, and then `text`, the warning's words. So
+/// the objects continue an array in which something stands. It takes no memory. After a fault (902)
+/// a beginning of the text is written, and the sink has counted the failure.
 pub fn write_warning_facts<A: Allocator, W: Sink>(
     machine: &Machine<A>,
     tools: &[Tool],

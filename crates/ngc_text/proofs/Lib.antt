@@ -8,3 +8,5 @@ pub mod DecimalLaws
 pub mod DigitLaws
 -- Texts that a byte parts.
 pub mod Splits
+-- The first elements of a list, where there may be fewer.
+pub mod Firsts

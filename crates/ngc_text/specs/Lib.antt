@@ -5,3 +5,4 @@ pub mod Input
 pub mod Collected
 pub mod Decimals
 pub mod Millimetres
+pub mod Shown

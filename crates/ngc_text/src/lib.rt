@@ -1,5 +1,5 @@
 //! Text on its way in and out: sources and sinks that count their failures, whole files up to a
-//! limit, text in large pieces, decimal spellings and millimetres.
+//! limit, text in large pieces, decimal spellings, millimetres, and lines as a terminal shows them.
 #![tactic(auto)]
 
 mod chunk;
@@ -8,6 +8,7 @@ mod device;
 mod input_fault;
 mod millimetres;
 mod reading;
+mod shown;
 mod writing;
 
 pub use chunk::Chunk;
@@ -15,4 +16,5 @@ pub use decimal::decimal_in;
 pub use device::{Device, DeviceFault, Sink, Source};
 pub use input_fault::InputFault;
 pub use reading::{PULL_SIZE, read_whole};
+pub use shown::shown_bytes;
 pub use writing::{WriteFault, write_all};

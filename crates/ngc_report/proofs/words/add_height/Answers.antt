@@ -1,10 +1,10 @@
 use Rattle.std.proofs.Common.{◌≡◌, arith, to_z, of_z}
-use Rattle.std.specs.Int.{w64}
+use Rattle.std.specs.Int.{w128}
 use Rattle.std.proofs.lemmas.Int.{ints}
 use Rattle.std.proofs.lemmas.List.{append_assoc}
 use Rattle.ngc_report.proofs.words.add_height.Goals as goal
 
 pub returns : goal.returns
 returns c =
-    let v0 : to_z w64 (of_z w64 c.args.height) ≡ c.args.height = omega (arith, ints) in
-    rw (c.add_text-2.ensures, c.add_length.ensures.text, v0, c.add_text.ensures) (simp append_assoc)
+    let v0 : to_z w128 (of_z w128 c.from.result) ≡ c.args.height = omega (arith, ints, c.from.ensures) in
+    rw (c.add_text-2.ensures, c.add_millimetres.ensures.text, v0, c.add_text.ensures) (simp append_assoc)

@@ -5,7 +5,7 @@ use Rattle.ngc_setup_sheet.proofs.quoted.add_quote_from.Goals as goal
 pub returns-in-Found : goal.returns-in-Found
 returns-in-Found c =
     let more : 0 < length c.loop-left.left.now = filled c.loop-left.left.now (sym c.is_empty.ensures ∙ c.loop-left-test.true) in
-    quoted_at _ _ _ _ _ c.loop-left.invariant.chunk c.add_line.ensures
+    quoted_at _ _ _ _ _ c.loop-left.invariant.chunk c.add_line.ensures.text
     (c.loop-left.invariant.same
     ∙ quote_from-next c.args.header.now c.args.key.now c.loop-left.ahead c.loop-left.number c.loop-left.left.now c.split_line.result.0.now c.split_line.result.1.now _
     more c.split_line.ensures.line c.split_line.ensures.behind c.in-Found.ensures)

@@ -1,9 +1,9 @@
 use Rattle.std.proofs.Common.{◌∙◌, ap}
 use Rattle.std.proofs.lemmas.List.{take_all}
 use Rattle.std.specs.Prelude.{map}
-use Rattle.ngc_report.specs.Quotes.{shown}
-use Rattle.ngc_report.proofs.Cuts.{taken}
-use Rattle.ngc_report.proofs.quotes.shown_bytes.Goals as goal
+use Rattle.ngc_text.specs.Shown.{shown}
+use Rattle.ngc_text.proofs.Firsts.{taken}
+use Rattle.ngc_text.proofs.shown.shown_bytes.Goals as goal
 
 pub returns-clause-text : goal.returns-clause-text
 returns-clause-text c =
