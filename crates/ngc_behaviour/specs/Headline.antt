@@ -23,8 +23,8 @@ abbrev pub RunsSafely : Job → Type 0
 RunsSafely job = (events : List Event) (outcomes : List Outcome) (states : List State) →
     Run job (opening job.machine) events outcomes states → IsSafeRun job events outcomes states
 
--- If the checker refuses nothing, then at either setting of block delete, for every list of events, every run of the machine
--- is safe.
+-- If the checker refuses nothing, then at either setting of block delete, for every list of events,
+-- every run of the machine is safe.
 abbrev pub Headline : Type 0
 Headline = (program : Program) (setup : Setup) (c : CertificateData) → IsMachine setup.machine →
     first_refusal program setup c ≡ None →
@@ -35,7 +35,8 @@ Headline = (program : Program) (setup : Setup) (c : CertificateData) → IsMachi
 abbrev pub AcceptedRunsSafely : Type 0
 AcceptedRunsSafely = (a : AcceptedData) → IsAccepted a → (block_delete : Bool) → RunsSafely (job_of a.machine (commands_at block_delete a))
 
--- On every machine within its ranges every tick of every run keeps the rules of rates, whatever the commands.
+-- On every machine within its ranges every tick of every run keeps the rules of rates, whatever the
+-- commands.
 abbrev pub KeepRatesAlways : Type 0
 KeepRatesAlways = (job : Job) → IsMachine job.machine → (events : List Event) (outcomes : List Outcome) (states : List State) →
     Run job (opening job.machine) events outcomes states → KeepRates job (opening job.machine) events states
@@ -46,8 +47,8 @@ KeepPaths = (job : Job) (events : List Event) (outcomes : List Outcome) (states 
     Run job (opening job.machine) events outcomes states →
     (k : ℕ) (l : Queued) → ComesToHead k l states → KeepsPath job k l states
 
--- On every machine within its ranges, in every run that keeps going, a motion with path steps and a least rate is done within
--- so many free ticks.
+-- On every machine within its ranges, in every run that keeps going, a motion with path steps and a
+-- least rate is done within so many free ticks.
 abbrev pub EndsInTime : Type 0
 EndsInTime = (job : Job) → IsMachine job.machine → (events : List Event) (outcomes : List Outcome) (states : List State) →
     Run job (opening job.machine) events outcomes states → KeepGoing job (opening job.machine) events states →

@@ -13,7 +13,8 @@ pub record IsFree (s : State) : Type 0 where
   pub not_stopped : s.stopped ≡ false
   pub some_override : 0 < effective s
 
--- a tick that is given while it is free travels at least so much on a head with path steps, or all that is left of it
+-- a tick that is given while it is free travels at least so much on a head with path steps, or all
+-- that is left of it
 abbrev pub TravelsAtLeast : Job → List Queued → State → ℕ → Type 0
 TravelsAtLeast job [] old v = Unit {0}
 TravelsAtLeast job (l ∷ ls) old v =
@@ -44,7 +45,8 @@ IsHead k l s = (s.done ≡ k) × (slice_get s.ring 0 ≡ Some l)
 abbrev pub ComesToHead : ℕ → Queued → List State → Type 0
 ComesToHead k l states = Any (IsHead k l) states
 
--- it is the job's command k, on a path that it may take, and command k is never at the head on another path
+-- it is the job's command k, on a path that it may take, and command k is never at the head on
+-- another path
 pub record KeepsPath (job : Job) (k : ℕ) (l : Queued) (states : List State) : Type 0 where
   pub command : command_at job k ≡ Some l.command
   pub path : MayTake job l.command.action l.path

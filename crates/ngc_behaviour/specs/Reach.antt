@@ -1,4 +1,5 @@
--- The ring's motions as the legs of a ramp: how far the way is loaded, and how far a rate may go on. Our own.
+-- The ring's motions as the legs of a ramp: how far the way is loaded, and how far a rate may go
+-- on. Our own.
 use Rattle.std.specs.Prelude.{ℕ, zero, suc, ◌-◌, nat_lt, List, [], ◌∷◌, Option, None, Bool, false, not, ◌&&◌, if◌then◌else◌}
 use Rattle.ngc_canonical.specs.declared.command.Action.{Action}
 use Rattle.ngc_canonical.specs.declared.command.Action.TheVariants.{Move}
@@ -19,7 +20,8 @@ abbrev pub stops : Action → Bool
 stops (Move m) = m.stop
 stops _ = false
 
--- the way goes on from a loaded command into the next one without a stop, where both are motions with path steps
+-- the way goes on from a loaded command into the next one without a stop, where both are motions
+-- with path steps
 abbrev pub flows_into : Queued → Queued → Bool
 flows_into l k = nat_lt 0 (path_steps l) && (not (stops l.command.action) && nat_lt 0 (path_steps k))
 

@@ -16,7 +16,8 @@ use Rattle.ngc_behaviour.specs.RateRules.{KeepsRateRules}
 use Rattle.ngc_behaviour.specs.Step.{Outcome}
 use Rattle.ngc_behaviour.specs.Run.{positions, pulses}
 
--- in each of these states the position is within travel, and the tool mounted then is clear of every fixture
+-- in each of these states the position is within travel, and the tool mounted then is clear of
+-- every fixture
 abbrev pub AreSafe : MachineFile → List State → Type 0
 AreSafe machine [] = Unit {0}
 AreSafe machine (s ∷ states) = IsSafe machine s.tool s.position × AreSafe machine states

@@ -21,7 +21,8 @@ pub record State : Type 0 where
   -- how many commands are done, and those that are loaded and not done
   pub done : ℕ
   pub ring : List Queued
-  -- of the first of these the millionths of a path step that were travelled, or the ticks that were dwelt
+  -- of the first of these the millionths of a path step that were travelled, or the ticks that were
+  -- dwelt
   pub travelled : ℕ
   pub dwelt : ℕ
   pub position : StepPos

@@ -1,4 +1,5 @@
--- One event, as a step of the machine: paths and rates are free within the rules (NISTIR 6556, 3.6.1 for stops, 3.5.4 for dwells). Our own otherwise.
+-- One event, as a step of the machine: paths and rates are free within the rules (NISTIR 6556,
+-- 3.6.1 for stops, 3.5.4 for dwells). Our own otherwise.
 use Rattle.std.specs.Prelude.{◌≡◌, ℕ, suc, ◌+◌, ◌-◌, ◌*◌, ◌/◌, ◌≤◌, max, min, nat_lt, nat_le, List, [], ◌∷◌, ◌++◌, length, drop, Option, Some, None, Result, Ok, Err, Bool, true, false, MatchBool, if◌then◌else◌}
 use Rattle.ngc_fixed_length.specs.declared.points.StepPos.{StepPos}
 use Rattle.ngc_fixed_length.specs.LinePath.{point}

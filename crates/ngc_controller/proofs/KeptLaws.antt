@@ -1,43 +1,60 @@
--- The latest replies, after many equal ones at once.
-use Rattle.std.proofs.Common.{◌≡◌, ℕ, ◌+◌, ◌-◌, ◌≤◌, min, List, [], ◌∷◌, ◌++◌, length, drop, ap, sym, ◌∙◌, inl, inr, arith, append_assoc, length-append, length-drop, drop-drop}
-use Rattle.std.specs.Prelude.{replicate}
+-- The last of a list, as more is added.
+use Rattle.std.proofs.Common.{◌≡◌, ℕ, zero, suc, ◌+◌, ◌-◌, ◌≤◌, min, List, [], ◌∷◌, ◌++◌, length, drop, refl, ap, sym, ◌∙◌, inl, inr, arith, length-append, length-drop, drop-drop}
+use Rattle.std.specs.Prelude.{replicate, flat_map}
 use Rattle.std.proofs.lemmas.Bool.{cases_lt}
-use Rattle.std.proofs.lemmas.List.{drop-append-le, drop-replicate, length-replicate, replicate_more}
+use Rattle.std.proofs.lemmas.List.{drop-append-le, drop-replicate, length-replicate}
+use Rattle.std.proofs.lemmas.List.Concat.{flat_map-cons}
 use Rattle.std.proofs.Math.Seq.{drop-append-add}
 use Rattle.circular_buffer.specs.Buffer.{keep_last}
 
 module _ {X : Type 0} where
-  -- what fits is kept
-  pub kept_all : (k : ℕ) (xs : List X) → length xs ≤ k → keep_last k xs ≡ xs
-  kept_all k xs fits = let none : length xs - k ≡ 0 = omega arith in ap (λ n. drop n xs) none
-
-  -- to keep the last at once is to keep them one by one
-  pub kept_more : (k : ℕ) (xs : List X) (x : X) → keep_last k (keep_last k xs ++ x ∷ []) ≡ keep_last k (xs ++ x ∷ [])
-  kept_more k xs x =
+  -- to keep the last at once is to keep them before and after more are added
+  pub kept_twice : (k : ℕ) (xs ys : List X) → keep_last k (keep_last k xs ++ ys) ≡ keep_last k (xs ++ ys)
+  kept_twice k xs ys =
       let d : ℕ = length xs - k in
-      let first : drop d xs ++ x ∷ [] ≡ drop d (xs ++ x ∷ []) = sym (drop-append-le d xs (x ∷ []) (omega arith)) in
-      let long = length-append xs (x ∷ []) in
-      let short = length-drop d (xs ++ x ∷ []) in
-      let all : d + (length (drop d (xs ++ x ∷ [])) - k) ≡ length (xs ++ x ∷ []) - k = omega arith in
-      ap (λ ys. keep_last k ys) first ∙ drop-drop (length (drop d (xs ++ x ∷ [])) - k) d (xs ++ x ∷ []) ∙ ap (λ m. drop m (xs ++ x ∷ [])) all
+      let first : drop d xs ++ ys ≡ drop d (xs ++ ys) = sym (drop-append-le d xs ys (omega arith)) in
+      let long = length-append xs ys in
+      let short = length-drop d (xs ++ ys) in
+      let all : d + (length (drop d (xs ++ ys)) - k) ≡ length (xs ++ ys) - k = omega arith in
+      ap (λ zs. keep_last k zs) first ∙ drop-drop (length (drop d (xs ++ ys)) - k) d (xs ++ ys) ∙ ap (λ m. drop m (xs ++ ys)) all
 
-  -- one more of equal ones
-  pub kept_next : (k i : ℕ) (xs ys : List X) (x : X) → ys ≡ keep_last k (xs ++ replicate i x) → keep_last k (ys ++ x ∷ []) ≡ keep_last k (xs ++ replicate (i + 1) x)
-  kept_next k i xs ys x e =
-      ap (λ zs. keep_last k (zs ++ x ∷ [])) e ∙ kept_more k (xs ++ replicate i x) x
-      ∙ ap (λ zs. keep_last k zs) (append_assoc xs (replicate i x) (x ∷ []) ∙ ap (λ zs. xs ++ zs) (replicate_more i x))
+  -- what has enough behind it isn't kept
+  pub kept_behind : (k : ℕ) (xs ys : List X) → k ≤ length ys → keep_last k (xs ++ ys) ≡ keep_last k ys
+  kept_behind k xs ys enough =
+      let long = length-append xs ys in
+      let at : length (xs ++ ys) - k ≡ length xs + (length ys - k) = omega arith in
+      ap (λ m. drop m (xs ++ ys)) at ∙ drop-append-add xs ys (length ys - k)
 
   -- of more than fit nothing else is kept
   kept_full : (k n : ℕ) (xs : List X) (x : X) → k ≤ n → keep_last k (xs ++ replicate n x) ≡ replicate k x
   kept_full k n xs x full =
-      let long = length-append xs (replicate n x) in
       let many = length-replicate n x in
-      let at : length (xs ++ replicate n x) - k ≡ length xs + (n - k) = omega arith in
-      let left : n - (n - k) ≡ k = omega arith in
-      ap (λ m. drop m (xs ++ replicate n x)) at ∙ drop-append-add xs (replicate n x) (n - k) ∙ drop-replicate (n - k) n x ∙ ap (λ m. replicate m x) left
+      let left : length (replicate n x) - k ≡ n - k = omega arith in
+      let all : n - (n - k) ≡ k = omega arith in
+      kept_behind k xs (replicate n x) (omega arith) ∙ ap (λ m. drop m (replicate n x)) left ∙ drop-replicate (n - k) n x ∙ ap (λ m. replicate m x) all
 
   pub kept_min : (k n m : ℕ) (xs : List X) (x : X) → m ≡ min n k → keep_last k (xs ++ replicate m x) ≡ keep_last k (xs ++ replicate n x)
   kept_min k n m xs x is = elim (cases_lt k n) [
     | inl more ↦ (kept_full k m xs x (omega arith) ∙ sym (kept_full k n xs x (omega arith)))
     | inr less ↦ (let same : m ≡ n = omega arith in ap (λ j. keep_last k (xs ++ replicate j x)) same)
   ]
+
+-- where each gives something, the last of them give the last of what they give
+module _ {X Y : Type 0} (f : Y → List X) (some : (y : Y) → 1 ≤ length (f y)) where
+  gives_enough : (ys : List Y) → length ys ≤ length (flat_map f ys)
+  gives_enough [] = omega arith
+  gives_enough (y ∷ ys) =
+      let behind = gives_enough ys in
+      let here = some y in
+      let both = ap (λ xs. length xs) (flat_map-cons f y ys) in
+      omega (arith, behind, here, both, length-append (f y) (flat_map f ys))
+
+  kept_from : (k d : ℕ) (ys : List Y) → d ≤ length ys - k → keep_last k (flat_map f (drop d ys)) ≡ keep_last k (flat_map f ys)
+  kept_from k zero ys few = refl
+  kept_from k (suc d) [] few = absurd (omega arith)
+  kept_from k (suc d) (y ∷ ys) few =
+      let enough = gives_enough ys in
+      kept_from k d ys (omega arith) ∙ sym (kept_behind k (f y) (flat_map f ys) (omega arith)) ∙ ap (λ xs. keep_last k xs) (sym (flat_map-cons f y ys))
+
+  pub kept_given : (k : ℕ) (ys : List Y) → keep_last k (flat_map f (keep_last k ys)) ≡ keep_last k (flat_map f ys)
+  kept_given k ys = kept_from k (length ys - k) ys (omega arith)

@@ -7,7 +7,8 @@ use Rattle.ngc_behaviour.specs.State.{Job, Queued, State, path_steps}
 use Rattle.ngc_behaviour.specs.Step.{place_before}
 use Rattle.ngc_behaviour.specs.Stretch.{Stretch}
 
--- n ticks at the rate of the last one, in which no pulse is due: the position is at the place on the head's path
+-- n ticks at the rate of the last one, in which no pulse is due: the position is at the place on
+-- the head's path
 abbrev pub travelled_on : ℕ → Queued → State → State
 travelled_on n l s = record s { travelled = s.travelled + n * s.rate; position = point l.path (place_before s) }
 

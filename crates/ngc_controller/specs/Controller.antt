@@ -3,7 +3,8 @@ use Rattle.std.specs.Prelude.{ℕ, ◌-◌, List, length, nat_lt, Option, None, 
 use Rattle.ngc_events.specs.declared.reply.Reply.{Reply}
 use Rattle.ngc_behaviour.specs.State.{Job, State}
 
--- what it runs, the machine's state, and the latest replies to events that were taken, the last one last
+-- what it runs, the machine's state, and the latest replies to events that were taken, the last one
+-- last
 pub record ControllerData : Type 0 where
   pub job : Job
   pub state : State

@@ -16,7 +16,8 @@ abbrev pub last_flows_on : Bool → List Queued → Bool
 last_flows_on before [] = before
 last_flows_on before (l ∷ ls) = last_flows_on (flows_on l) ls
 
--- the legs of a ring whose head is command k; whether the way came into the head without a stop is past
+-- the legs of a ring whose head is command k; whether the way came into the head without a stop is
+-- past
 abbrev pub legs_of : Job → ℕ → Bool → List Queued → List Leg
 legs_of job k joined [] = []
 legs_of job k joined (l ∷ ls) = if nat_lt 0 (path_steps l) then leg_of job k joined l ∷ legs_behind job (suc k) l ls else legs_behind job (suc k) l ls

@@ -16,8 +16,8 @@ use Rattle.ngc_controller.specs.Drive.{legs_of, last_flows_on, IsTarget}
 use Rattle.ngc_controller.specs.Panel.{effective_at}
 use Rattle.ngc_controller.specs.Ring.{RingData, IsMoving}
 
--- what is travelled of the head, with so much left of the ramp's first leg: that is the head's, where it is a motion with
--- path steps, and else nothing is travelled
+-- what is travelled of the head, with so much left of the ramp's first leg: that is the head's,
+-- where it is a motion with path steps, and else nothing is travelled
 abbrev pub travelled_of : List Queued → ℕ → ℕ
 travelled_of [] rest = 0
 travelled_of (l ∷ ls) rest = if nat_lt 0 (path_steps l) then millionths l - rest else 0
@@ -42,8 +42,8 @@ state_of done ring drive dwelt position tool panel = record {
 abbrev pub DWELL_LIMIT : ℕ
 DWELL_LIMIT = 2 ^ 100
 
--- what the fields keep: the ramp is on the head, where that is a motion with path steps; otherwise nothing travels, and the
--- motions behind the head are still whole
+-- what the fields keep: the ramp is on the head, where that is a motion with path steps; otherwise
+-- nothing travels, and the motions behind the head are still whole
 pub record IsInOrder (job : Job) (done : ℕ) (ring : RingData) (drive : Drive) (dwelt : ℕ) (panel : Panel) : Type 0 where
   pub machine : IsMachine job.machine
   pub change : drive.ramp.change ≡ job.machine.change

@@ -6,3 +6,4 @@ pub mod Drive
 pub mod Fields
 pub mod Opening
 pub mod Coasting
+pub mod Recent

@@ -8,7 +8,8 @@ use Rattle.ngc_planner.specs.Bounds.{IsMotion}
 use Rattle.ngc_behaviour.specs.State.{Queued, path_steps}
 use Rattle.ngc_controller.specs.Loaded.{LoadedData}
 
--- what is loaded, the head first, and the place on the head's path; the others are at the beginning of theirs
+-- what is loaded, the head first, and the place on the head's path; the others are at the beginning
+-- of theirs
 pub record RingData : Type 0 where
   pub loaded : List Queued
   pub place : ℕ

@@ -17,8 +17,8 @@ ghost use Rattle.ngc_controller.specs.Ring.{IsMoving};
 use crate::ending::{dwell_left, dwells_on, ending_of, panel_after, tool_after};
 use crate::panel::Panel;
 use crate::progress::Progress;
+use crate::recent::{QUIET, Recent};
 use crate::route::Loaded;
-use circular_buffer::HeapCircularBuffer;
 use ngc_canonical::{Action, Command};
 use ngc_checker::{Accepted, MemoryFault};
 use ngc_events::{Ending, Event, EventFault, Reply};
@@ -31,15 +31,8 @@ use std::marker::Model;
 /// How many commands may be loaded and not done.
 const RING: u32 = 16;
 
-/// How many replies are kept.
-const KEPT: usize = 256;
-
-const QUIET: Reply = Reply::Ticked {
-    position: None,
-    ending: None,
-};
-
-/// A machine that runs what was accepted, at a setting of block delete, driven by events. `K` leads its arcs over the grid.
+/// A machine that runs what was accepted, at a setting of block delete, driven by events. `K` leads
+/// its arcs over the grid.
 #[derive(Drop)]
 pub struct Controller<K: ArcKernel + Drop, A: Allocator> {
     accepted: Accepted<A>,
@@ -48,14 +41,14 @@ pub struct Controller<K: ArcKernel + Drop, A: Allocator> {
     position: StepPos,
     tool: Option<Tool>,
     panel: Panel,
-    recent: HeapCircularBuffer<Reply, A>,
+    recent: Recent<A>,
 }
 
 impl<K: ArcKernel + Drop, A: Allocator> Model for Controller<K, A> {
     ghost use Rattle.std.specs.Prelude.{◌≡◌};
     ghost use Rattle.ngc_behaviour.specs.Headline.{job_of};
     ghost use Rattle.ngc_checker.specs.Accepted.{commands_at};
-    ghost use Rattle.ngc_controller.specs.Controller.{ControllerData, KEPT};
+    ghost use Rattle.ngc_controller.specs.Controller.{ControllerData};
     ghost use Rattle.ngc_controller.specs.Fields.{state_of, IsInOrder};
 
     ghost Value = { ControllerData };
@@ -63,29 +56,16 @@ impl<K: ArcKernel + Drop, A: Allocator> Model for Controller<K, A> {
     ghost view = { λ c. record {
       job = job_of c.accepted.machine (commands_at c.block_delete c.accepted);
       state = state_of c.progress.done c.progress.ring c.progress.drive c.progress.dwelt c.position c.tool c.panel;
-      recent = c.recent.items;
+      recent = c.recent;
     } };
 
-    ghost invariant = { λ c. IsInOrder (job_of c.accepted.machine (commands_at c.block_delete c.accepted)) c.progress.done c.progress.ring c.progress.drive c.progress.dwelt c.panel
-        × (c.recent.capacity ≡ KEPT) };
-}
-
-// Keeps the replies to so many ticks in which nothing was told.
-fn keep_quiet<A: Allocator>(recent: &mut HeapCircularBuffer<Reply, A>, ticks: u64)
-    requires { recent.old.capacity ≡ KEPT }
-    ensures items { recent.new.items ≡ keep_last KEPT (recent.old.items ++ replicate ticks (Ticked None None)) }
-    ensures capacity { recent.new.capacity ≡ KEPT }
-{
-    // More of them would push each other out.
-    let kept = ticks.min(recent.capacity() as u64);
-    for _ in 0..kept {
-        recent.push_back(QUIET);
-    }
+    ghost invariant = { λ c. IsInOrder (job_of c.accepted.machine (commands_at c.block_delete c.accepted)) c.progress.done c.progress.ring c.progress.drive c.progress.dwelt c.panel };
 }
 
 impl<K: ArcKernel + Drop, A: Allocator + Copy> Controller<K, A> {
-    /// A controller whose machine stands still at the start point, with nothing loaded and no tool mounted. It takes all its
-    /// memory here; where there is too little (900), what was accepted is handed back.
+    /// A controller whose machine stands still at the start point, with nothing loaded and no tool
+    /// mounted. It takes all its memory here; where there is too little (900), what was accepted is
+    /// handed back.
     pub fn new(
         alloc: A,
         accepted: Accepted<A>,
@@ -100,7 +80,7 @@ impl<K: ArcKernel + Drop, A: Allocator + Copy> Controller<K, A> {
             Ok(progress) => progress,
             Err(_) => return Err((accepted, MemoryFault)),
         };
-        let recent = match HeapCircularBuffer::with_capacity(alloc, KEPT) {
+        let recent = match Recent::new(alloc) {
             Ok(recent) => recent,
             Err(_) => return Err((accepted, MemoryFault)),
         };
@@ -115,9 +95,10 @@ impl<K: ArcKernel + Drop, A: Allocator + Copy> Controller<K, A> {
         })
     }
 
-    /// Takes an event, and answers what the machine did. It takes no memory. A refused event leaves the controller as it was,
-    /// its latest replies too: an override over 200 percent (701), a load while sixteen commands are loaded and not done
-    /// (702), or a load behind the last command (703).
+    /// Takes an event, and answers what the machine did. It takes no memory. A refused event leaves
+    /// the controller as it was, its latest replies too: an override over 200 percent (701), a load
+    /// while sixteen commands are loaded and not done (702), or a load behind the last command
+    /// (703).
     pub fn event(&mut self, event: Event) -> Result<Reply, EventFault>
         ensures job { self.new.job ≡ self.old.job }
         ensures step { Step self.old.job self.old.state event result self.new.state }
@@ -128,14 +109,14 @@ impl<K: ArcKernel + Drop, A: Allocator + Copy> Controller<K, A> {
     {
         let outcome = self.take(event);
         if let Ok(reply) = outcome {
-            self.recent.push_back(reply);
+            self.recent.push(reply);
         }
         outcome
     }
 
-    /// Gives ticks, at most so many, in which nothing is told: the motion at the head goes on at the rate of the last tick and
-    /// no pulse is due, or the dwell at the head goes on. Answers how many were given, 0 where the next tick may tell
-    /// something. It takes no memory.
+    /// Gives ticks, at most so many, in which nothing is told: the motion at the head goes on at
+    /// the rate of the last tick and no pulse is due, or the dwell at the head goes on. Answers how
+    /// many were given, 0 where the next tick may tell something. It takes no memory.
     pub fn coast(&mut self, most: u64) -> u64
         ensures job { self.new.job ≡ self.old.job }
         ensures few { result ≤ most }
@@ -144,7 +125,7 @@ impl<K: ArcKernel + Drop, A: Allocator + Copy> Controller<K, A> {
         ensures recent { self.new.recent ≡ keep_last KEPT (self.old.recent ++ replicate result (Ticked None None)) }
     {
         let ticks = self.go_on(most);
-        keep_quiet(&mut self.recent, ticks);
+        self.recent.rest(ticks);
         ticks
     }
 
@@ -378,7 +359,8 @@ impl<K: ArcKernel + Drop, A: Allocator + Copy> Controller<K, A> {
         self.position
     }
 
-    /// The rate of the last tick, in millionths of a path step: 0 to 1,000,000, and 0 before the first.
+    /// The rate of the last tick, in millionths of a path step: 0 to 1,000,000, and 0 before the
+    /// first.
     pub fn rate(&self) -> u64
         ensures { result ≡ self.now.state.rate }
     {
@@ -400,11 +382,11 @@ impl<K: ArcKernel + Drop, A: Allocator + Copy> Controller<K, A> {
         self.tool
     }
 
-    /// The reply to the event that was taken `index` events before the last one, 0 for the last one itself. Those to the last
-    /// 256 are kept, and refused events don't count.
+    /// The reply to the event that was taken `index` events before the last one, 0 for the last one
+    /// itself. Those to the last 256 are kept, and refused events don't count.
     pub fn recent(&self, index: usize) -> Option<Reply>
         ensures { result ≡ from_the_last index self.now.recent }
     {
-        self.recent.nth_back(index).copied()
+        self.recent.from_the_last(index)
     }
 }

@@ -22,7 +22,8 @@ pub struct Drive {
     pub ramp: Ramp,
     /// In millionths of a path step a tick. It is kept, so that a tick need not compute it.
     pub target: u64,
-    /// Whether the command that was loaded last is a motion with path steps at whose end the axes need not stop.
+    /// Whether the command that was loaded last is a motion with path steps at whose end the axes
+    /// need not stop.
     pub flows_on: bool,
 }
 
@@ -71,7 +72,8 @@ fn exit_of<A: Allocator>(
     }
 }
 
-// The motion at an index, as a leg of the ramp: whether the way comes into it without a stop is `joined`.
+// The motion at an index, as a leg of the ramp: whether the way comes into it without a stop is
+// `joined`.
 fn leg_of<K: ArcKernel + Drop, A: Allocator>(
     commands: &[Command],
     index: u32,
@@ -95,7 +97,8 @@ fn leg_of<K: ArcKernel + Drop, A: Allocator>(
 }
 
 impl Drive {
-    /// One more command is loaded, at an index. A motion with path steps comes onto the ramp, which must have room.
+    /// One more command is loaded, at an index. A motion with path steps comes onto the ramp, which
+    /// must have room.
     pub fn load<K: ArcKernel + Drop, A: Allocator>(
         &mut self,
         loaded: &Loaded<K>,

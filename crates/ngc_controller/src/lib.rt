@@ -6,6 +6,7 @@ mod drive;
 mod ending;
 mod panel;
 mod progress;
+mod recent;
 mod ring;
 mod route;
 

@@ -29,7 +29,8 @@ pub struct Progress<K: ArcKernel + Drop, A: Allocator> {
 }
 
 impl<K: ArcKernel + Drop, A: Allocator> Progress<K, A> {
-    /// Nothing is loaded, and nothing is done. All memory is taken here. The change is that of the ramp, 1 to 1,000,000.
+    /// Nothing is loaded, and nothing is done. All memory is taken here. The change is that of the
+    /// ramp, 1 to 1,000,000.
     pub fn new(alloc: A, change: u64) -> Result<Progress<K, A>, AllocError>
         requires least { 1 ≤ change }
         requires greatest { change ≤ MILLION }
@@ -88,7 +89,8 @@ impl<K: ArcKernel + Drop, A: Allocator> Progress<K, A> {
         }
     }
 
-    /// The head is done, and the next command becomes the head. What a tick travelled beyond the end is on the ramp.
+    /// The head is done, and the next command becomes the head. What a tick travelled beyond the
+    /// end is on the ramp.
     pub fn leave<B: Allocator>(&mut self, percent: u8, machine: &Machine<B>)
         requires { self.old.done + 1 < 2 ^ 32 }
         ensures loaded { self.new.ring.loaded ≡ drop 1 self.old.ring.loaded }

@@ -94,8 +94,8 @@ impl<K: ArcKernel + Drop, A: Allocator> Ring<K, A> {
         }
     }
 
-    /// Goes one place on along the head's path, if it is due, and answers the point there. The head must be a motion with
-    /// path steps.
+    /// Goes one place on along the head's path, if it is due, and answers the point there. The head
+    /// must be a motion with path steps.
     pub fn follow(&mut self, due: bool) -> StepPos
         requires moves { IsMoving self.old.loaded }
         requires room { due ≡ true → HasNext self.old.loaded self.old.place }

@@ -1,6 +1,7 @@
 -- What braking takes: a sum that is also a closed form.
-use Rattle.std.proofs.Common.{◌≡◌, ℕ, zero, suc, ◌+◌, ◌-◌, ◌*◌, ◌/◌, ◌≤◌, ◌<◌, refl, ap, arith}
-use Rattle.std.proofs.Math.Nat.{div-le_self, div-mul-le_self, lt-div-mul-add}
+use Rattle.std.proofs.Common.{◌≡◌, ℕ, zero, suc, ◌+◌, ◌-◌, ◌*◌, ◌/◌, ◌≤◌, ◌<◌, inl, inr, refl, ap, arith}
+use Rattle.std.proofs.Math.Nat.{div-le_self, div-mul-le_self, lt-div-mul-add, mul-le-mul_left, le_of_mul-le-mul_left}
+use Rattle.std.proofs.lemmas.Bool.{cases_lt}
 use Rattle.std.proofs.lemmas.Nat.{mul-le}
 use Rattle.ngc_planner.specs.Braking.{braking, braking_terms}
 
@@ -80,3 +81,71 @@ pub few_ticks : (v a : ℕ) → v ≤ 1000000 → a ≤ 1000000 → (v + a - 1) 
 few_ticks v a slow short =
     let ticks = div-le_self (v + a - 1) a in
     mul-le ((v + a - 1) / a) v 2000000 1000000 (omega arith) slow
+
+-- ---- about a square: 8 a times it is no more than that of 2 v + a, and less by no more than that of a
+
+square_further : (x e : ℕ) → 2 * (x * (x + e)) ≤ x * x + (x + e) * (x + e)
+square_further x e = omega arith
+
+twice_product : (x y : ℕ) → x ≤ y → 2 * (x * y) ≤ x * x + y * y
+twice_product x y less =
+    let whole : y ≡ x + (y - x) = omega arith in
+    rw (← whole) at (square_further x (y - x))
+
+low_most : (v d : ℕ) → 2 * (v * d) ≤ v * v + d * d → 8 * ((v + d) * v) ≤ (2 * v + (v + d)) * (2 * v + (v + d))
+low_most v d h = omega (arith, h)
+
+low_square : (v a : ℕ) → v ≤ a → 8 * (a * v) ≤ (2 * v + a) * (2 * v + a)
+low_square v a low =
+    let whole : a ≡ v + (a - v) = omega arith in
+    elim (cases_lt (a - v) v) [
+      | inl near ↦ (rw (← whole) at (low_most v (a - v) (let h = twice_product (a - v) v (omega arith) in omega (arith, h))))
+      | inr far ↦ (rw (← whole) at (low_most v (a - v) (twice_product v (a - v) far)))
+    ]
+
+most_further : (w a s : ℕ) → 8 * (a * s) ≤ (2 * w + a) * (2 * w + a) → 8 * (a * (w + a + s)) ≤ (2 * (w + a) + a) * (2 * (w + a) + a)
+most_further w a s h = omega (arith, h)
+
+least_further : (w a s : ℕ) → 4 * (w * (w + a)) ≤ 8 * (a * s) → 4 * ((w + a) * (w + a + a)) ≤ 8 * (a * (w + a + s))
+least_further w a s h = omega (arith, h)
+
+most_by : (n v a : ℕ) → v ≤ n → 1 ≤ a → 8 * (a * braking v a) ≤ (2 * v + a) * (2 * v + a)
+most_by zero v a within some =
+    let none : v ≡ 0 = omega arith in
+    rw none (rw (braking_none a) (omega arith))
+most_by (suc n) v a within some = elim (cases_lt a v) [
+  | inl above ↦ (
+      let step = braking_step v a (omega arith) some in
+      let whole : v ≡ v - a + a = omega arith in
+      let more = most_further (v - a) a (braking (v - a) a) (most_by n (v - a) a (omega arith) some) in
+      rw step (rw (← whole) at more))
+  | inr low ↦ (rw (braking_low v a low some) (low_square v a low))
+]
+
+least_by : (n v a : ℕ) → v ≤ n → 1 ≤ a → 4 * (v * (v + a)) ≤ 8 * (a * braking v a)
+least_by zero v a within some =
+    let none : v ≡ 0 = omega arith in
+    rw none (omega arith)
+least_by (suc n) v a within some = elim (cases_lt a v) [
+  | inl above ↦ (
+      let step = braking_step v a (omega arith) some in
+      let whole : v ≡ v - a + a = omega arith in
+      let more = least_further (v - a) a (braking (v - a) a) (least_by n (v - a) a (omega arith) some) in
+      rw step (rw (← whole) at more))
+  | inr low ↦ (
+      let square = mul-le-mul_left v low in
+      rw (braking_low v a low some) (omega (arith, square)))
+]
+
+pub brakes_short : (v a way : ℕ) → 1 ≤ a → (2 * v + a) * (2 * v + a) < 8 * a * way → braking v a < way
+brakes_short v a way some short =
+    let most = most_by v v a (omega arith) some in
+    elim (cases_lt (braking v a) way) [
+      | inl less ↦ less
+      | inr more ↦ (let far = mul-le-mul_left a more in absurd (omega (arith, most, far, short)))
+    ]
+
+pub brakes_long : (v a way : ℕ) → 1 ≤ a → 8 * a * way ≤ 4 * v * (v + a) → way ≤ braking v a
+brakes_long v a way some long =
+    let least = least_by v v a (omega arith) some in
+    le_of_mul-le-mul_left {k = a} (omega (arith, least, long)) (omega arith)

@@ -1,10 +1,20 @@
+-- The greatest rate of a motion, and the least that it travels.
 pub mod BoundLaws
+-- What braking takes: a sum that is also a closed form.
 pub mod BrakingLaws
+-- Rounding a cap down.
 pub mod CapLaws
+-- Ticks in which nothing is told.
 pub mod CoastLaws
+-- What 64 bits make of a coordinate of a displacement.
 pub mod CoordinateLaws
+-- Caps, bounds and braking on worked motions, by computing the definitions.
 pub mod Examples
+-- Points with equal coordinates are equal.
 pub mod Points
+-- A tick of a ramp: that its rate is allowed, and what is kept.
 pub mod RampLaws
+-- How far the way is free: for a slower rate, for more legs, and after a tick.
 pub mod ReachLaws
+-- What the fields of a ramp stand for after a load and after a tick.
 pub mod StateLaws

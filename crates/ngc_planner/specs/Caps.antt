@@ -1,4 +1,5 @@
--- Feed caps, in millionths of a path step a tick. Our own; what F means is NISTIR 6556, 2.1.2.5 and 3.5.19.
+-- Feed caps, in millionths of a path step a tick. Our own; what F means is NISTIR 6556, 2.1.2.5 and
+-- 3.5.19.
 use Rattle.std.specs.Prelude.{ℕ, ◌+◌, ◌*◌, ◌/◌, ◌≤◌, max, unsigned_abs, if◌then◌else◌}
 use Rattle.ngc_fixed_length.specs.Grid.{distance}
 use Rattle.ngc_fixed_length.specs.Places.{height}
@@ -31,7 +32,8 @@ square n = n * n
 abbrev pub length_between : Point3 → Point3 → ℕ
 length_between b e = whole_root_above (square (distance b.x e.x) + square (distance b.y e.y) + square (distance b.z e.z))
 
--- thousandths of a step, a little more than a path step's length; an arc is a helix where its ends differ in height
+-- thousandths of a step, a little more than a path step's length; an arc is a helix where its ends
+-- differ in height
 abbrev pub crosswise : ArcShape → ℕ
 crosswise a = if same (height a.plane a.start) (height a.plane a.end) then 1415 else 1733
 

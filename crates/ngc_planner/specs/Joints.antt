@@ -11,7 +11,8 @@ use Rattle.ngc_canonical.specs.declared.movement.Way.{Way}
 use Rattle.ngc_canonical.specs.declared.movement.Way.TheVariants.{Line}
 use Rattle.ngc_planner.specs.Caps.{MILLION}
 
--- on the plane of two axes d and e point the same way or opposite ways, or one of them doesn't point at all
+-- on the plane of two axes d and e point the same way or opposite ways, or one of them doesn't
+-- point at all
 abbrev pub are_aligned : ℤ → ℤ → ℤ → ℤ → Bool
 are_aligned du dv eu ev = same (du *ℤ ev) (dv *ℤ eu)
 

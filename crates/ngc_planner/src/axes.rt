@@ -81,8 +81,9 @@ fn least_rate(rates: &AxisRates, axes: Axes) -> u32
     x.min(y.min(z))
 }
 
-/// The least rate of the axes that a motion along a way may move: of a line those on which the grid points of its ends
-/// differ, of an arc the two of its plane too. It is 1,000,000, which no rate is above, where there are none.
+/// The least rate of the axes that a motion along a way may move: of a line those on which the grid
+/// points of its ends differ, of an arc the two of its plane too. It is 1,000,000, which no rate is
+/// above, where there are none.
 pub fn axes_rate<A: Allocator>(way: &Way, machine: &Machine<A>) -> u32
     ensures { result ≡ axes_rate (file_of machine.now) way.now }
 {

@@ -23,7 +23,8 @@ fn arc_rate(arc: &Arc, turn: u64, step: u64) -> u64
     root_floor(u128::from(turn) * u128::from(radius) / u128::from(step))
 }
 
-/// The greatest rate that the machine's turn allows on an arc, and 1,000,000, which no rate is above, on a line.
+/// The greatest rate that the machine's turn allows on an arc, and 1,000,000, which no rate is
+/// above, on a line.
 pub fn turn_rate<A: Allocator>(way: &Way, machine: &Machine<A>) -> u64
     ensures { result ≡ turn_rate (file_of machine.now) way.now }
 {
@@ -61,8 +62,9 @@ fn greatest_rate<A: Allocator>(action: &Action, machine: &Machine<A>) -> u32
     machine.max_rate.min(axes_bound(action, machine))
 }
 
-/// The greatest rate of any tick on a motion of `n` path steps, at most 10^9: the machine's greatest rate, that of an axis
-/// which it may move, twice the feed cap, or what the turn on an arc allows. It is 0 for an action that is no motion.
+/// The greatest rate of any tick on a motion of `n` path steps, at most 10^9: the machine's
+/// greatest rate, that of an axis which it may move, twice the feed cap, or what the turn on an arc
+/// allows. It is 0 for an action that is no motion.
 pub fn bound_of<A: Allocator>(action: &Action, n: u64, machine: &Machine<A>) -> u64
     requires { n ≤ STEPS_LIMIT }
     ensures value { result ≡ bound_of (file_of machine.now) action.now n }
@@ -86,7 +88,8 @@ fn overridden(cap: u128, percent: u8) -> u128
     }
 }
 
-/// The rate that a tick on a motion of `n` path steps, at most 10^9, is to reach under an override in percent.
+/// The rate that a tick on a motion of `n` path steps, at most 10^9, is to reach under an override
+/// in percent.
 pub fn target_at<A: Allocator>(action: &Action, n: u64, percent: u8, machine: &Machine<A>) -> u64
     requires { n ≤ STEPS_LIMIT }
     ensures value { result ≡ target_at (file_of machine.now) action.now n percent }

@@ -29,8 +29,8 @@ fn length_between(start: &Point3, end: &Point3) -> u64
     root_ceil(x + y + z)
 }
 
-/// The thousandths of a step that a path step along an arc is taken for: a little more than the diagonal of a square, or
-/// of a cube on a helix.
+/// The thousandths of a step that a path step along an arc is taken for: a little more than the
+/// diagonal of a square, or of a cube on a helix.
 fn crosswise(arc: &Arc) -> u64
     ensures value { result ≡ crosswise arc.now }
     ensures least { 1 ≤ result }
@@ -113,8 +113,9 @@ fn feed_cap<A: Allocator>(way: &Way, n: u64, feed: &Feed, machine: &Machine<A>) 
     }
 }
 
-/// The feed cap of a motion of `n` path steps, at most 10^9, in millionths of a path step a tick: the greatest rate at a
-/// rapid pace, and otherwise what the feed allows, at least 1. It is 0 for an action that is no motion.
+/// The feed cap of a motion of `n` path steps, at most 10^9, in millionths of a path step a tick:
+/// the greatest rate at a rapid pace, and otherwise what the feed allows, at least 1. It is 0 for
+/// an action that is no motion.
 pub fn cap_of<A: Allocator>(action: &Action, n: u64, machine: &Machine<A>) -> u128
     requires { n ≤ STEPS_LIMIT }
     ensures value { result ≡ cap_of action.now n (file_of machine.now) }

@@ -48,14 +48,16 @@ impl Displacement {
         }
     }
 
-    /// The product of two displacements, which is above 0 where the angle between them is less than a right one.
+    /// The product of two displacements, which is above 0 where the angle between them is less than
+    /// a right one.
     fn dot(&self, other: &Displacement) -> i128
         ensures { result ≡ dot self.now other.now }
     {
         product(self.x, other.x) + product(self.y, other.y) + product(self.z, other.z)
     }
 
-    /// Whether two displacements are the same or opposite in direction as seen along z, or one of them is none.
+    /// Whether two displacements are the same or opposite in direction as seen along z, or one of
+    /// them is none.
     fn is_aligned_in_xy(&self, other: &Displacement) -> bool
         ensures { result ≡ are_aligned self.now.x self.now.y other.now.x other.now.y }
     {

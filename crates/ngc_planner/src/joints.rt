@@ -8,7 +8,8 @@ use ngc_canonical::{Action, Way};
 use ngc_machine::Machine;
 use std::alloc::Allocator;
 
-/// Whether a way goes on in the direction of the one before it: both are lines, and positive multiples of each other.
+/// Whether a way goes on in the direction of the one before it: both are lines, and positive
+/// multiples of each other.
 fn goes_straight_on(way: &Way, next: &Way) -> bool
     ensures { result ≡ goes_straight_on way.now next.now }
 {
@@ -26,8 +27,8 @@ fn goes_straight_on(way: &Way, next: &Way) -> bool
     }
 }
 
-/// The greatest rate at which one action ends and the next one begins: the machine's corner between two motions that
-/// don't go straight on, and otherwise 1,000,000, which no rate is above.
+/// The greatest rate at which one action ends and the next one begins: the machine's corner between
+/// two motions that don't go straight on, and otherwise 1,000,000, which no rate is above.
 pub fn joint_of<A: Allocator>(action: &Action, next: &Action, machine: &Machine<A>) -> u64
     ensures value { result ≡ joint_of (file_of machine.now) action.now next.now }
     ensures least { 1 ≤ result }

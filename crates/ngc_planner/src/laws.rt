@@ -6,8 +6,9 @@ pub fn greatest_bound()
     ensures { IsGreatestBound }
 {}
 
-/// On every motion the least of the change, the corner and its target at one percent is above 0, and no more than its
-/// target under any other override, its bound, and its joints with other commands.
+/// On every motion the least of the change, the corner and its target at one percent is above 0,
+/// and no more than its target under any other override, its bound, and its joints with other
+/// commands.
 pub fn least_travel()
     ensures { MayTravelLeast }
 {}

@@ -1,4 +1,5 @@
-//! Rates of motions, in millionths of a path step a tick: caps, bounds and targets, and the ramp that keeps to them.
+//! Rates of motions, in millionths of a path step a tick: caps, bounds and targets, and the ramp
+//! that keeps to them.
 #![tactic(auto)]
 
 mod axes;

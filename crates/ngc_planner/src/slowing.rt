@@ -1,9 +1,9 @@
-ghost use Rattle.std.specs.Prelude.{◌≡◌, ◌≤◌};
+ghost use Rattle.std.specs.Prelude.{◌≡◌, ◌≤◌, nat_lt};
 ghost use Rattle.ngc_planner.specs.Braking.{braking};
 ghost use Rattle.ngc_planner.specs.Caps.{MILLION};
 
-/// How far a rate of at most 1,000,000 goes on where each tick takes `change` from it, 1 to 1,000,000:
-/// rate + (rate - change) + (rate - 2 change) + .., while above 0.
+/// How far a rate of at most 1,000,000 goes on where each tick takes `change` from it, 1 to
+/// 1,000,000: rate + (rate - change) + (rate - 2 change) + .., while above 0.
 pub fn braking(rate: u64, change: u64) -> u64
     requires rate { rate ≤ MILLION }
     requires change_least { 1 ≤ change }
@@ -12,4 +12,24 @@ pub fn braking(rate: u64, change: u64) -> u64
 {
     let ticks = (rate + change - 1) / change;
     ticks * rate - change * (ticks * ticks.saturating_sub(1) / 2)
+}
+
+/// Whether that is less than a way.
+pub(crate) fn brakes_within(rate: u64, change: u64, way: u64) -> bool
+    requires rate { rate ≤ MILLION }
+    requires change_least { 1 ≤ change }
+    requires change_greatest { change ≤ MILLION }
+    ensures { result ≡ nat_lt (braking rate change) way }
+{
+    // 8 * change times the way to brake is at most the square of 2 * rate + change, and at least 4
+    // * rate * (rate + change): it is reckoned, by a division, only for a way that is between them.
+    let scaled = u128::from(8 * change) * u128::from(way);
+    let doubled = 2 * rate + change;
+    if u128::from(doubled * doubled) < scaled {
+        return true;
+    }
+    if scaled <= u128::from(4 * rate * (rate + change)) {
+        return false;
+    }
+    braking(rate, change) < way
 }

@@ -44,7 +44,9 @@ one_more_part job old mid new (k ∷ ks) n es fs os ps (es1, es2, os1, os2, s, e
 pub part_behind : (job : Job) (old mid new : State) (n : ℕ) (ns : List ℕ) (es fs : List Event) (os ps : List Outcome) → Stretch job old mid es os → count_by is_tick es ≡ 0 → mid.done ≡ old.done →
     GoesInParts job mid (n ∷ ns) fs ps new → GoesInParts job old (n ∷ ns) (es ++ fs) (os ++ ps) new
 part_behind job old mid new n ns es fs os ps before none same (fs1, fs2, ps1, ps2, s, events, outcomes, first, later) =
+    let begins = first.some in
     let part : IsPart job old s n (es ++ fs1) (os ++ ps1) = record {
+      some = omega (arith, begins, same);
       stretch = stretches_joined job old mid s es fs1 os ps1 before first.stretch;
       done = first.done ∙ ap (λ k. k + part_length (drop k job.commands)) same;
       ticks = omega (arith, first.ticks, none, count_by-append is_tick es fs1);
@@ -89,11 +91,12 @@ told_behind job at done xs ys same told = λ k c last found end.
     tells_behind xs ys (told k c last (ap (λ (j : Job). command_at j k) same ∙ found) end)
 
 pub part_more : (n k p r f d u t count : ℕ) (old mid new : ControllerData) (a b c : Recorder) (ns : List ℕ) → GoesParted n p f old mid a b ns → FinishesPart count u mid new b c → t ≡ c.report.ticks - b.report.ticks →
-    count ≡ part_length (drop f mid.job.commands) → mid.state.done ≡ f → (new.state.done ≡ length old.job.commands → u < count) →
+    count ≡ part_length (drop f mid.job.commands) → mid.state.done ≡ f → f < length old.job.commands → (new.state.done ≡ length old.job.commands → u < count) →
     n + count * 2 ^ 103 ≤ k → r ≡ p + min count u → d ≡ f + count → GoesParted k r d old new a c (ns ++ t ∷ [])
-part_more n k p r f d u t count old mid new a b c ns s m ticks is_length at last enough loads does =
+part_more n k p r f d u t count old mid new a b c ns s m ticks is_length at some last enough loads does =
     let S : Job → Type 0 = λ j. Stretch j mid.state new.state m.goes.events m.goes.outcomes in
     let part : IsPart old.job mid.state new.state t m.goes.events m.goes.outcomes = record {
+      some = omega (arith, at, some);
       stretch = subst S s.goes.job m.goes.stretch;
       done = m.goes.done ∙ ap (λ l. mid.state.done + l) (is_length ∙ ap (λ l. part_length l) (ap (λ (j : Job). drop f j.commands) s.goes.job ∙ ap (λ i. drop i old.job.commands) (sym at)));
       ticks = let counted = m.goes.records.counts.ticks in omega (arith, counted, ticks);
@@ -101,7 +104,7 @@ part_more n k p r f d u t count old mid new a b c ns s m ticks is_length at last
     record {
       goes = goes_both n (count * 2 ^ 103) k p (min count u) r f count d old mid new a b c None None None s.goes m.goes enough loads does;
       parted = one_more_part old.job old.state mid.state new.state ns t s.goes.events m.goes.events s.goes.outcomes m.goes.outcomes s.parted part;
-      told = λ some all. told_behind old.job mid.job new.state.done s.goes.outcomes m.goes.outcomes s.goes.job (m.told (last all));
+      told = λ any all. told_behind old.job mid.job new.state.done s.goes.outcomes m.goes.outcomes s.goes.job (m.told (last all));
     }
 
 -- a part has a command at least, and no more than there are

@@ -40,6 +40,16 @@ turn_cut job at s t u a b x y z e o k n same h done does goes wrote =
     subst P (turns_left e k n h)
     (cut_after job s t a b x y z (replicate k e) (e ∷ []) (replicate (n - k - 1) e) done (one_cut job t u b y z e o (subst S same does) (subst G same goes) wrote))
 
+-- and others at once behind it
+pub turns_recorded : (job at now : Job) (s t u v : State) (a b c d : Recorder) (x y z : Option (List ℕ)) (e : Event) (o : Outcome) (k n m : ℕ) → at ≡ job
+    → IsRecorded job s t a b x y (replicate k e) → Step at t e o u → GoesOn at t e u → Records (e ∷ []) (o ∷ []) b c y z → now ≡ at → IsRecorded now u v c d z z (replicate n e) → k + 1 + n ≡ m
+    → IsRecorded job s v a d x z (replicate m e)
+turns_recorded job at now s t u v a b c d x y z e o k n m same done does goes recorded still others all =
+    let J : Job → Type 0 = λ j. IsRecorded j u v c d z z (replicate n e) in
+    let P : List Event → Type 0 = λ es. IsRecorded job s v a d x z es in
+    subst P (replicate-append-replicate (k + 1) n e ∙ ap (λ i. replicate i e) all)
+    (recorded_both job s u v a c d x z z (replicate (k + 1) e) (replicate n e) (turn_recorded job at s t u a b c x y z e o k same done does goes recorded) (subst J (still ∙ same) others))
+
 pub few_turns : (job : Job) (s t : State) (a b : Recorder) (x y : Option (List ℕ)) (e : Event) (k n m : ℕ) → IsRecorded job s t a b x y (replicate k e) → HasFew n a → n + k ≤ m → HasFew m b
 few_turns job s t a b x y e k n m done few h = few_more job s t a b x y (replicate k e) n m done few (omega (arith, length-replicate k e))
 

@@ -26,8 +26,9 @@ part_length (c ∷ cs) = if changes_tool c.action then 1 else suc (part_length c
 
 -- ---- and of a run
 
--- up to the end of the next change of the tool, or of the last command: so many ticks
+-- from a command that isn't done up to the end of the next change of the tool, or of the last command: so many ticks
 pub record IsPart (job : Job) (old new : State) (n : ℕ) (events : List Event) (outcomes : List Outcome) : Type 0 where
+  pub some : old.done < length job.commands
   pub stretch : Stretch job old new events outcomes
   pub done : new.done ≡ old.done + part_length (drop old.done job.commands)
   pub ticks : n ≡ count_by is_tick events

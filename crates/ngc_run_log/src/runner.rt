@@ -1,4 +1,4 @@
-ghost use Rattle.std.specs.Prelude.{◌≡◌, ◌<◌, ◌^◌, replicate, IfOk, OnOk, OnErr};
+ghost use Rattle.std.specs.Prelude.{◌≡◌, ◌<◌, ◌≤◌, ◌^◌, ℕ, List, Option, replicate, IfOk, OnOk, OnErr};
 ghost use Rattle.ngc_behaviour.specs.Headline.{job_of, RunsInTime, RunsSafely};
 ghost use Rattle.ngc_behaviour.specs.State.{opening};
 ghost use Rattle.ngc_checker.specs.Accepted.{commands_at};
@@ -13,11 +13,32 @@ use crate::report::{Report, RunFault};
 use crate::trace::{Form, Trace};
 use ngc_checker::Accepted;
 use ngc_controller::Controller;
-use ngc_events::EventLine;
+use ngc_events::{Event, EventLine};
 use ngc_step_kernel::ArcPath;
 use ngc_text::{Sink, WriteFault};
 use std::alloc::Allocator;
 
+// Gives the ticks that follow of which nothing is told, at most so many, where a line gives ticks. Answers how many.
+fn coast<A: Allocator + Copy>(
+    controller: &mut Controller<ArcPath, A>,
+    event: Event,
+    most: u32,
+    recorder: &mut Recorder,
+) -> u32
+    requires { HasFew (2 ^ 125) recorder.old }
+    ensures job { controller.new.job ≡ controller.old.job }
+    ensures few { result ≤ most }
+    ensures recorded { (written : Option (List ℕ)) → IsRecorded controller.old.job controller.old.state controller.new.state recorder.old recorder.new written written (replicate result event) }
+{
+    let Event::Tick = event else {
+        return 0;
+    };
+    let ticks = controller.coast(u64::from(most));
+    recorder.rest(ticks);
+    ticks as u32
+}
+
+// Gives the event of a line as often as it says.
 fn run_line<A: Allocator + Copy, W: Sink>(
     controller: &mut Controller<ArcPath, A>,
     line: &EventLine,
@@ -31,12 +52,15 @@ fn run_line<A: Allocator + Copy, W: Sink>(
     ensures times { line.now.times < 2 ^ 32 }
     ensures failures { CountsFailure (W.failures sink.old) (W.failures sink.new) result }
 {
-    for _turn in 0..line.times {
+    let mut left = line.times;
+    'turns: while left > 0 {
         let outcome = controller.event(line.event);
         match recorder.add(line.event, &outcome, sink) {
             Ok(()) => {}
             Err(fault) => return Err(fault),
         }
+        left -= 1;
+        left -= coast(controller, line.event, left, recorder);
     }
     Ok(())
 }

@@ -74,7 +74,7 @@ loop-done-preserved g c =
     let now = c.ticks.ensures in
     record {
       goes = subst P (sym c.in-Ok.ensures.items)
-          (part_more _ _ _ _ done _ left _ k _ _ _ _ _ _ _ inv.goes part (omega (arith, before, now)) next.is_length next.at
+          (part_more _ _ _ _ done _ left _ k _ _ _ _ _ _ _ inv.goes part (omega (arith, before, now)) next.is_length next.at (omega (arith, test, counted))
           (λ all. more_than_left left (length c.loop-done.controller.state.ring) k inv.some some (omega (arith, all, moved, rest, lengths, at)))
           (omega arith) (omega (arith, later, fewer)) refl);
       fewer = omega (arith, later, fewer);

@@ -11,7 +11,7 @@ use Rattle.ngc_controller.proofs.controller.Controller.dwell_on.Goals as goal
 pub halt-requires : goal.halt-requires
 halt-requires g c =
     let p = c.self.inside.progress in
-    let o = c.self.invariant.0 in
+    let o = c.self.invariant in
     let served : IsServed p.ring.loaded c.args.action = subst (λ (x : ControllerData). IsServed x.state.ring c.args.action) (sym c.self.view_is) c.requires.head in
     omega (arith, o.change, o.slow (served_still p.ring.loaded c.args.action served))
 
@@ -35,4 +35,4 @@ returns-clause-coasts g c =
     let runs : i.panel.stopped ≡ false = ap (λ (x : ControllerData). x.state.stopped) c.self.view_is ∙ c.requires.runs in
     let free : i.panel.held ≡ false = ap (λ (x : ControllerData). x.state.held) c.self.view_is ∙ c.requires.free in
     let left = c.dwell_left-left.ensures.value job (ap (λ (m : MachineFile). m.ticks_per_second) (sym c.machine-machine.ensures.value)) in
-    rw (← c.self.view_is) (coasts_served job p.ring.loaded old c.args.action c.dwell_left-left.result c.min-ticks.result served refl runs free (c.self.invariant.0.slow (served_still p.ring.loaded c.args.action served)) left (omega (arith, c.min-ticks.ensures)))
+    rw (← c.self.view_is) (coasts_served job p.ring.loaded old c.args.action c.dwell_left-left.result c.min-ticks.result served refl runs free (c.self.invariant.slow (served_still p.ring.loaded c.args.action served)) left (omega (arith, c.min-ticks.ensures)))

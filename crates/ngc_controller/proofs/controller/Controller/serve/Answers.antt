@@ -18,7 +18,7 @@ pub halt-requires : goal.halt-requires
 halt-requires g c =
     let i = c.self.inside in
     let p = i.progress in
-    let o = c.self.invariant.0 in
+    let o = c.self.invariant in
     let served : IsServed p.ring.loaded c.args.action = subst (λ (x : ControllerData). IsServed x.state.ring c.args.action) (sym c.self.view_is) c.requires.head in
     omega (arith, o.change, o.slow (served_still p.ring.loaded c.args.action served))
 
@@ -26,33 +26,31 @@ pub invariant_of-self : goal.invariant_of-self
 invariant_of-self g c =
     let i = c.self.inside in
     let p = i.progress in
-    let o = c.self.invariant.0 in
-    (rests_still _ p.done p.ring p.drive c.halt.new.self p.dwelt _ i.panel o c.halt.ensures (c.dwells_on.ensures.brief c.if-dwells_on.true), c.self.invariant.1)
+    let o = c.self.invariant in
+    rests_still _ p.done p.ring p.drive c.halt.new.self p.dwelt _ i.panel o c.halt.ensures (c.dwells_on.ensures.brief c.if-dwells_on.true)
 
 pub invariant_of-self-2 : goal.invariant_of-self-2
 invariant_of-self-2 g c =
     let i = c.self.inside in
     let p = i.progress in
     let job = job_of i.accepted.machine (commands_at i.block_delete i.accepted) in
-    let o = c.self.invariant.0 in
+    let o = c.self.invariant in
     let served : IsServed p.ring.loaded c.args.action = subst (λ (x : ControllerData). IsServed x.state.ring c.args.action) (sym c.self.view_is) c.requires.head in
     let ramp : RampState = record p.drive.ramp { rate = 0 } in
     let halted : Drive = record p.drive { ramp = ramp } in
     let n = c.leave.new.self in
     let panel = c.panel_after-self-inside.result in
     let left = served_left job p.done p.ring p.drive p.dwelt i.panel c.args.action o served in
-    let target = target_as i.accepted.machine _ (effective_at panel) _ n.ring.loaded n.drive.target c.leave.ensures.target c.machine-machine.ensures.value c.effective.ensures in (
-      left_order job p.done p.ring.loaded ramp p.drive.flows_on panel n.done n.ring n.drive n.dwelt o.machine left.0 (ap (λ x. x / MILLION) left.1) o.flows_on (λ stopped. refl) o.few (served_some p.ring.loaded c.args.action served) c.leave.ensures.loaded c.leave.ensures.place c.leave.ensures.done c.leave.ensures.dwelt
-          (c.leave.ensures.ramp ∙ ap (λ (d : Drive). d.ramp) {y = halted} c.halt.ensures) (c.leave.ensures.flows_on ∙ ap (λ (d : Drive). d.flows_on) {y = halted} c.halt.ensures) target,
-      c.self.invariant.1,
-    )
+    let target = target_as i.accepted.machine _ (effective_at panel) _ n.ring.loaded n.drive.target c.leave.ensures.target c.machine-machine.ensures.value c.effective.ensures in
+    left_order job p.done p.ring.loaded ramp p.drive.flows_on panel n.done n.ring n.drive n.dwelt o.machine left.0 (ap (λ x. x / MILLION) left.1) o.flows_on (λ stopped. refl) o.few (served_some p.ring.loaded c.args.action served) c.leave.ensures.loaded c.leave.ensures.place c.leave.ensures.done c.leave.ensures.dwelt
+    (c.leave.ensures.ramp ∙ ap (λ (d : Drive). d.ramp) {y = halted} c.halt.ensures) (c.leave.ensures.flows_on ∙ ap (λ (d : Drive). d.flows_on) {y = halted} c.halt.ensures) target
 
 pub returns-clause-serves : goal.returns-clause-serves
 returns-clause-serves g c =
     let i = c.self.inside in
     let p = i.progress in
     let job = job_of i.accepted.machine (commands_at i.block_delete i.accepted) in
-    let o = c.self.invariant.0 in
+    let o = c.self.invariant in
     let old = state_of p.done p.ring p.drive p.dwelt i.position i.tool i.panel in
     let served : IsServed p.ring.loaded c.args.action = subst (λ (x : ControllerData). IsServed x.state.ring c.args.action) (sym c.self.view_is) c.requires.head in
     let still : RampState = record p.drive.ramp { rate = 0 } in

@@ -14,13 +14,13 @@ pub invariant_of-self : goal.invariant_of-self
 invariant_of-self g c =
     let i = c.self.inside in
     let p = i.progress in
-    let o = c.self.invariant.0 in
+    let o = c.self.invariant in
     let moves : IsMoving p.ring.loaded = subst (λ (x : ControllerData). IsMoving x.state.ring) (sym c.self.view_is) c.requires.moves in
     let runs : i.panel.stopped ≡ false = ap (λ (x : ControllerData). x.state.stopped) c.self.view_is ∙ c.requires.runs in
     let f = c.follow-self-inside in
     let t = c.tick-travel in
     let h = travels_by _ p.done p.ring f.new.self p.drive p.dwelt i.position i.tool i.panel t.new.self c.wish-wish.result t.result.rate t.result.due t.result.ended f.result o moves c.wish-wish.ensures t.ensures f.ensures.loaded f.ensures.place f.ensures.point in
-    (order_goes_on _ p.done p.ring f.new.self p.drive p.dwelt i.panel _ t.new.self c.wish-wish.result t.result.rate t.result.due t.result.ended f.result o h (goes_if t.result.ended c.if-not-travel.true) f.ensures.loaded runs, c.self.invariant.1)
+    order_goes_on _ p.done p.ring f.new.self p.drive p.dwelt i.panel _ t.new.self c.wish-wish.result t.result.rate t.result.due t.result.ended f.result o h (goes_if t.result.ended c.if-not-travel.true) f.ensures.loaded runs
 
 pub returns-then-not-travel-clause-travels : goal.returns-then-not-travel-clause-travels
 returns-then-not-travel-clause-travels g c =
@@ -28,7 +28,7 @@ returns-then-not-travel-clause-travels g c =
     let p = i.progress in
     let job = job_of i.accepted.machine (commands_at i.block_delete i.accepted) in
     let old = state_of p.done p.ring p.drive p.dwelt i.position i.tool i.panel in
-    let o = c.self.invariant.0 in
+    let o = c.self.invariant in
     let moves : IsMoving p.ring.loaded = subst (λ (x : ControllerData). IsMoving x.state.ring) (sym c.self.view_is) c.requires.moves in
     let f = c.follow-self-inside in
     let t = c.tick-travel in
@@ -42,7 +42,7 @@ invariant_of-self-2 g c =
     let p = i.progress in
     let job = job_of i.accepted.machine (commands_at i.block_delete i.accepted) in
     let old = state_of p.done p.ring p.drive p.dwelt i.position i.tool i.panel in
-    let o = c.self.invariant.0 in
+    let o = c.self.invariant in
     let moves : IsMoving p.ring.loaded = subst (λ (x : ControllerData). IsMoving x.state.ring) (sym c.self.view_is) c.requires.moves in
     let runs : i.panel.stopped ≡ false = ap (λ (x : ControllerData). x.state.stopped) c.self.view_is ∙ c.requires.runs in
     let f = c.follow-self-inside in
@@ -52,7 +52,7 @@ invariant_of-self-2 g c =
     let e = ends_on job p.ring.loaded old p.drive.ramp t.new.self c.wish-wish.result p.drive.target t.result.rate p.ring.place t.result.due t.result.ended f.new.self.place f.result h (ends_if t.result.ended c.if-not-travel.false) in
     let queue = c.leave.ensures.loaded ∙ ap (λ xs. drop 1 xs) f.ensures.loaded in
     let target = target_as i.accepted.machine _ (effective_at i.panel) _ n.ring.loaded n.drive.target c.leave.ensures.target c.machine.ensures.value c.effective.ensures in
-    (left_order job p.done p.ring.loaded t.new.self p.drive.flows_on i.panel n.done n.ring n.drive n.dwelt o.machine e.left e.place o.flows_on (λ stopped. cc) o.few e.some queue c.leave.ensures.place c.leave.ensures.done c.leave.ensures.dwelt c.leave.ensures.ramp c.leave.ensures.flows_on target, c.self.invariant.1)
+    left_order job p.done p.ring.loaded t.new.self p.drive.flows_on i.panel n.done n.ring n.drive n.dwelt o.machine e.left e.place o.flows_on (λ stopped. cc) o.few e.some queue c.leave.ensures.place c.leave.ensures.done c.leave.ensures.dwelt c.leave.ensures.ramp c.leave.ensures.flows_on target
 
 pub returns-clause-travels : goal.returns-clause-travels
 returns-clause-travels g c =
@@ -60,7 +60,7 @@ returns-clause-travels g c =
     let p = i.progress in
     let job = job_of i.accepted.machine (commands_at i.block_delete i.accepted) in
     let old = state_of p.done p.ring p.drive p.dwelt i.position i.tool i.panel in
-    let o = c.self.invariant.0 in
+    let o = c.self.invariant in
     let moves : IsMoving p.ring.loaded = subst (λ (x : ControllerData). IsMoving x.state.ring) (sym c.self.view_is) c.requires.moves in
     let f = c.follow-self-inside in
     let t = c.tick-travel in
