@@ -61,8 +61,7 @@ number_spelled (b ∷ rest) z e small = elim (by_sign (b == 45) (negated (decima
       decimal_spelled (b ∷ rest) s.0 s.1 (omega (arith, size, small)) ∙ ap signed_decimal (sym s.2)
 ]
 
--- ---- nor is a sign a space
-
+-- no space and no line feed stands in a number with a sign
 pub signed_lacks : (s : ℕ) (z : ℤ) → s < 45 → mag z < 2 ^ 63 → lacks s (signed_decimal z) ≡ true
 signed_lacks s (pos n) low h = decimal_lacks s n low (omega arith)
 signed_lacks s (negsuc n) low h = rw (decimal_lacks s (suc n) low (omega arith)) (other s low) where
