@@ -1,5 +1,6 @@
-//! What no clause says: that a certificate is checked as its text comes, in pieces of any size and from a source, that a fault of
-//! the text stays, that refused memory and a failing source are told, and when no more is pulled.
+//! What no clause says: that a certificate is checked as its text comes, in pieces of any size and
+//! from a source, that a fault of the text stays, that refused memory and a failing source are
+//! told, and when no more is pulled.
 use crate::checks::{holds, same};
 use linked_list_allocator::LocalHeap;
 use ngc_certificate_text::{Certificate, CertificateFault};
@@ -31,7 +32,8 @@ fn whole_answer(
     }
 }
 
-// What is answered for pieces of this size, where what follows a fault is fed too, and pieces of no bytes.
+// What is answered for pieces of this size, where what follows a fault is fed too, and pieces of no
+// bytes.
 fn pieces_answer(
     alloc: Global,
     program: &Program<Global>,
@@ -60,7 +62,8 @@ fn source_answer(
     check_source(alloc, program, machine, &Tools::empty(alloc), &mut source).err()
 }
 
-// Ends the test where a certificate is refused by another number, or otherwise in pieces or from a source than read whole.
+// Ends the test where a certificate is refused by another number, or otherwise in pieces or from a
+// source than read whole.
 fn is_checked_in_pieces(
     rt: &impl Abort,
     alloc: Global,
@@ -276,7 +279,8 @@ fn a_fault_of_the_text_stays(rt: HostRuntime) -> Result<(), Fail> {
     Ok(())
 }
 
-// Whether a heap has memory for the reader and what it reads for; `None` where it doesn't even hold the program.
+// Whether a heap has memory for the reader and what it reads for; `None` where it doesn't even hold
+// the program.
 fn accepts_in(rt: &impl Abort, heap: &LocalHeap) -> Option<bool> {
     let program = Program::read(heap, &mut Device::new(b"G0 X1 M2\n".as_slice())).ok()?;
     let machine = built_in_machine(heap);
@@ -291,7 +295,8 @@ fn accepts_in(rt: &impl Abort, heap: &LocalHeap) -> Option<bool> {
     Some(true)
 }
 
-// With little memory, and then with more and more: none, and from some size on yes. Feeding asks for none.
+// With little memory, and then with more and more: none, and from some size on yes. Feeding asks
+// for none.
 #[test]
 fn refused_memory_of_a_reader_is_told(rt: HostRuntime) -> Result<(), Fail> {
     let mut refused = 0u32;

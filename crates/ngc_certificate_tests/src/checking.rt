@@ -175,7 +175,8 @@ fn check_in<'a>(
     Ok(())
 }
 
-// What the check of the program answers with memory of this heap, or None where the heap doesn't even hold what is checked.
+// What the check of the program answers with memory of this heap, or None where the heap doesn't
+// even hold what is checked.
 fn outcome_in(rt: &impl Abort, heap: &LocalHeap) -> Option<Result<(), CheckFault>> {
     let checked = checked_in(heap)?;
     let used = heap.used();
@@ -184,7 +185,8 @@ fn outcome_in(rt: &impl Abort, heap: &LocalHeap) -> Option<Result<(), CheckFault
     Some(outcome)
 }
 
-// With little memory, and then with more and more: 900, and from some size on yes. None of it stays in use.
+// With little memory, and then with more and more: 900, and from some size on yes. None of it stays
+// in use.
 #[test]
 fn refused_memory_is_told(rt: HostRuntime) -> Result<(), Fail> {
     let mut refused = 0u32;

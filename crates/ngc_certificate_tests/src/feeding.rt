@@ -1,5 +1,5 @@
-//! What no clause says: that certificates are read in pieces of any size, when a fault is answered, and that one is
-//! answered again, also where memory is refused.
+//! What no clause says: that certificates are read in pieces of any size, when a fault is answered,
+//! and that one is answered again, also where memory is refused.
 use crate::checks::{holds, same};
 use crate::reading::{SAMPLE, TEXTS};
 use linked_list_allocator::LocalHeap;

@@ -1,4 +1,5 @@
-//! What plain numbers stand for, in nanometres and in steps; and the built-in machine with a fixture.
+//! What plain numbers stand for, in nanometres and in steps; and the built-in machine with a
+//! fixture.
 ghost use Rattle.std.specs.Prelude.{◌≡◌, ◌≤◌, unsigned_abs};
 ghost use Rattle.ngc_arc_geometry.specs.Shape.{IsNear};
 

@@ -1,5 +1,5 @@
-//! Arcs that are seen from their side: helices point by point, half circles to and fro. Half a millimetre times the sines of 22.5,
-//! 45 and 67.5 degrees is 0.191, 0.354 and 0.462 mm.
+//! Arcs that are seen from their side: helices point by point, half circles to and fro. Half a
+//! millimetre times the sines of 22.5, 45 and 67.5 degrees is 0.191, 0.354 and 0.462 mm.
 use crate::checks::same;
 use crate::given::machine_with;
 use ngc_canonical::interpret;

@@ -1,4 +1,5 @@
-//! What no clause says: that certificates are joined, what their text is then, and that refused memory is told.
+//! What no clause says: that certificates are joined, what their text is then, and that refused
+//! memory is told.
 use crate::checks::same;
 use crate::given::{BESIDE_THE_LINE, machine_with, point};
 use linked_list_allocator::LocalHeap;
@@ -40,7 +41,8 @@ fn motions_beside(
 
 const NO_FIXTURE: &str = "";
 
-// The fixture beside the line with block delete off, and on, and the text of the certificate that is joined.
+// The fixture beside the line with block delete off, and on, and the text of the certificate that
+// is joined.
 const ROWS: &[(&str, &str, &str)] = &[
     (
         NO_FIXTURE,

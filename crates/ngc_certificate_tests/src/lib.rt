@@ -1,4 +1,5 @@
-//! Tests of certificates, of their checker, of pictures and reports, and of the log and the pulses of what is run.
+//! Tests of certificates, of their checker, of pictures and reports, and of the log and the pulses
+//! of what is run.
 #![tactic(auto)]
 
 #[cfg(test)]

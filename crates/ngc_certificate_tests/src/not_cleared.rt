@@ -1,5 +1,5 @@
-//! What no clause says: that the commands which aren't cleared are listed, which ones in worked examples, and that refused memory
-//! is told.
+//! What no clause says: that the commands which aren't cleared are listed, which ones in worked
+//! examples, and that refused memory is told.
 use crate::checks::{holds, same};
 use crate::given::machine_with;
 use linked_list_allocator::LocalHeap;
@@ -18,7 +18,8 @@ low = [100000000, 100000000, -100000000]
 high = [120000000, 120000000, -20000000]
 ";
 
-// Tool 1 reaches 10 mm down, and clears the block at height zero. Tool 2 reaches 30 mm down, and doesn't.
+// Tool 1 reaches 10 mm down, and clears the block at height zero. Tool 2 reaches 30 mm down, and
+// doesn't.
 const TOOLS: &str = "version = 1
 [[tool]]
 number = 1
@@ -70,7 +71,8 @@ const ROWS: &[(&str, u16, &[u32])] = &[
     ),
     // Into it, and out of it.
     ("G0 Y110\nZ-30\nX110\nX200\nY200\nM2\n", 8, &[2, 3]),
-    // The long tool is mounted above the block, and goes away from there; the short one is clear there.
+    // The long tool is mounted above the block, and goes away from there; the short one is clear
+    // there.
     (
         "G0 X110 Y110\nT2 M6\nX200\nY200\nT1 M6\nX110 Y110\nM2\n",
         8,

@@ -1,5 +1,5 @@
-//! What no clause says: what a picture looks like, that refused memory is told, and that a sink which fails has a beginning of
-//! the text.
+//! What no clause says: what a picture looks like, that refused memory is told, and that a sink
+//! which fails has a beginning of the text.
 use crate::checks::{holds, same};
 use crate::given::{BESIDE_THE_LINE, machine_with};
 use linked_list_allocator::LocalHeap;
@@ -46,7 +46,8 @@ const ARROWS: &str =
 
 const END: &str = "</text></g>\n</g>\n</svg>\n";
 
-// Of a view of the built-in machine: the travel, where its low corner stands, and the names of the axes.
+// Of a view of the built-in machine: the travel, where its low corner stands, and the names of the
+// axes.
 fn seen(view: View) -> (&'static str, &'static str, (&'static str, &'static str)) {
     match view {
         View::Top => (
@@ -105,8 +106,8 @@ fn legend(alloc: Global, view: View) -> Result<String, Fail> {
     )?)
 }
 
-// A picture: what stands behind the travel, the path, what stands in red behind the marks, and the rows of the legend behind
-// the first.
+// A picture: what stands behind the travel, the path, what stands in red behind the marks, and the
+// rows of the legend behind the first.
 #[derive(Clone, Copy)]
 struct Drawn {
     view: View,

@@ -125,7 +125,8 @@ fn the_pulses_of_a_run_through(rt: HostRuntime) -> Result<(), Fail> {
     Ok(())
 }
 
-// A step and the same step back, 400 times: the dump is longer than what is collected before it is written.
+// A step and the same step back, 400 times: the dump is longer than what is collected before it is
+// written.
 fn long_program(alloc: Global) -> Result<String, Fail> {
     let mut text = String::new(alloc);
     for _turn in 0..400u32 {

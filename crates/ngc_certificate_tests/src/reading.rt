@@ -1,5 +1,5 @@
-//! What no clause says: that certificates are read, that what a text announces takes no memory, that memory which is
-//! refused is told, and when no more is pulled.
+//! What no clause says: that certificates are read, that what a text announces takes no memory,
+//! that memory which is refused is told, and when no more is pulled.
 use crate::checks::{holds, same};
 use crate::given::piece;
 use linked_list_allocator::LocalHeap;

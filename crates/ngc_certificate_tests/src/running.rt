@@ -52,7 +52,8 @@ const RUNS: &[(&str, &str, &str)] = &[
         "load\nhold\nresume\noverride 200\nswitch on\nswitch off\nstart\n",
         "load 0\nhold\nresume\noverride 200\nswitch on\nswitch off\nstart\n",
     ),
-    // Refused: an override that is too large, a load into a full ring, and one behind the last command.
+    // Refused: an override that is too large, a load into a full ring, and one behind the last
+    // command.
     (
         "M2\n",
         "override 201\nload\nload\n",

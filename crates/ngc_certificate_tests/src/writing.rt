@@ -1,5 +1,5 @@
-//! What no clause says: that calls succeed, what the text looks like, that memory which is refused is told, and that a
-//! sink which fails has a beginning of the text.
+//! What no clause says: that calls succeed, what the text looks like, that memory which is refused
+//! is told, and that a sink which fails has a beginning of the text.
 ghost use Rattle.std.specs.Prelude.{◌≡◌};
 ghost use Rattle.std.specs.List.{list_all};
 ghost use Rattle.ngc_fixed_length.specs.Signed.{is_within};

@@ -1,5 +1,5 @@
-//! What no clause of `ngc_command_line` says: spellings, refusals and their texts. Want of memory is not tested, since
-//! `clap` allocates by `Global`, which no test can make run out.
+//! What no clause of `ngc_command_line` says: spellings, refusals and their texts. Want of memory
+//! is not tested, since `clap` allocates by `Global`, which no test can make run out.
 use ngc_command_line::{
     CertifyOptions, CheckOptions, DrawOptions, Format, ListOptions, Options, Recording,
     ReportOptions, RunOptions, RunThroughOptions, ShowOptions, UsageFault, read_options,
@@ -18,7 +18,8 @@ fn are_read_as(alloc: Global, lines: &str, wanted: Options<'_>) -> Result<bool, 
     Ok(true)
 }
 
-// Command lines, and the program, the machine, the tools and the setting of block delete that they name.
+// Command lines, and the program, the machine, the tools and the setting of block delete that they
+// name.
 const LISTS: &[(&str, Option<&str>, Option<&str>, Option<&str>, bool)] = &[
     ("list", None, None, None, false),
     (
@@ -56,8 +57,8 @@ const LISTS: &[(&str, Option<&str>, Option<&str>, Option<&str>, bool)] = &[
         Some("table.toml"),
         true,
     ),
-    // A file's name may be any text in one word with its option. As a word of its own it begins with no hyphen,
-    // but for the hyphen alone.
+    // A file's name may be any text in one word with its option. As a word of its own it begins
+    // with no hyphen, but for the hyphen alone.
     ("list --program -", Some("-"), None, None, false),
     (
         "list --program=--delete",
@@ -449,7 +450,8 @@ fn stand_in_order(text: &str, parts: &[&str]) -> bool {
     true
 }
 
-// Whether the words are refused with a text that has these parts, which stand between bars, in their order.
+// Whether the words are refused with a text that has these parts, which stand between bars, in
+// their order.
 fn is_refused_with(alloc: Global, words: &[&str], parts: &str) -> Result<bool, AllocError> {
     let text = refusal(alloc, words)?;
     let parts: Vec<&str> = parts.split('|').collect(alloc)?;

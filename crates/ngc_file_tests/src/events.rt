@@ -1,5 +1,5 @@
-//! What no clause of `ngc_events` says: that calls succeed, that memory which is refused is told, and the words of the
-//! format.
+//! What no clause of `ngc_events` says: that calls succeed, that memory which is refused is told,
+//! and the words of the format.
 use crate::checks::{holds, same};
 use linked_list_allocator::LocalHeap;
 use ngc_events::{Event, EventLine, EventsFault, laws, read_events};

@@ -1,5 +1,5 @@
-//! What no clause of `read_whole` says: that calls succeed, that memory which is refused is told, and a source of which
-//! the contract knows no bytes.
+//! What no clause of `read_whole` says: that calls succeed, that memory which is refused is told,
+//! and a source of which the contract knows no bytes.
 use crate::checks::{holds, same};
 use linked_list_allocator::LocalHeap;
 use ngc_test_devices::{EndlessSource, SlowSource};

@@ -1,6 +1,6 @@
-//! Tests of what the program reads beside part programs: its command line, machine files, tool tables, events, and
-//! files as such; of the setup sheet, which says what machine files and tool tables mean; and of the sentences on mistakes
-//! in them.
+//! Tests of what the program reads beside part programs: its command line, machine files, tool
+//! tables, events, and files as such; of the setup sheet, which says what machine files and tool
+//! tables mean; and of the sentences on mistakes in them.
 #![tactic(auto)]
 
 #[cfg(test)]

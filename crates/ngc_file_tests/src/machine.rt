@@ -1,4 +1,5 @@
-//! What no clause of `ngc_machine` says: that calls succeed, the keys of the files, and the texts of faults.
+//! What no clause of `ngc_machine` says: that calls succeed, the keys of the files, and the texts
+//! of faults.
 use crate::checks::{holds, same};
 use linked_list_allocator::LocalHeap;
 use ngc_fixed_length::{Nm, Point3};
@@ -134,7 +135,8 @@ high = [4, 5, 6]
     Ok(())
 }
 
-// Each row is a number, and changes of the built-in machine's file that are refused with it, between bars.
+// Each row is a number, and changes of the built-in machine's file that are refused with it,
+// between bars.
 const MACHINE_FILES: &[(u16, &str)] = &[
     (
         0,
@@ -246,8 +248,8 @@ fn tools_are_read_and_found(rt: HostRuntime) -> Result<(), Fail> {
     Ok(())
 }
 
-// Each row is a number, and texts of tool tables that are refused with it, between bars. `ONE` stands for the tool of
-// number 1.
+// Each row is a number, and texts of tool tables that are refused with it, between bars. `ONE`
+// stands for the tool of number 1.
 const TOOL_TABLES: &[(u16, &str)] = &[
     (0, "version = 1"),
     (

@@ -1,4 +1,5 @@
-//! What no clause of `ngc_setup_sheet` says of mistakes: their sentences for whole files, and that calls succeed.
+//! What no clause of `ngc_setup_sheet` says of mistakes: their sentences for whole files, and that
+//! calls succeed.
 use crate::checks::{holds, same};
 use ngc_machine::{FileFault, Machine, Tools};
 use ngc_setup_sheet::{write_machine_mistake, write_tools_mistake};

@@ -25,8 +25,8 @@ const ROW_SHEET: &str = "machine
   home of G30           X 0 Y 0 Z 0 mm
 ";
 
-// A mill with 400 steps a millimetre and 40,000 ticks a second, whose X and Y go 50 mm/s and whose Z goes 10 mm/s, all at
-// 200 mm/s^2, and which takes up 10 mm/s at once; with a vise.
+// A mill with 400 steps a millimetre and 40,000 ticks a second, whose X and Y go 50 mm/s and whose
+// Z goes 10 mm/s, all at 200 mm/s^2, and which takes up 10 mm/s at once; with a vise.
 const MILL: &str = "version = 2
 step = 2500
 ticks_per_second = 40000
@@ -112,8 +112,8 @@ fn a_mill_with_a_vise_and_a_tool(rt: HostRuntime) -> Result<(), Fail> {
     Ok(())
 }
 
-// Each row: a piece of the mill's file or of its tool table, what stands in its place, and a line that the sheet then has; or
-// the beginning of a line that it then doesn't have, behind `no`.
+// Each row: a piece of the mill's file or of its tool table, what stands in its place, and a line
+// that the sheet then has; or the beginning of a line that it then doesn't have, behind `no`.
 const CHANGES: &[(&str, &str, &str)] = &[
     (
         "step = 2500",

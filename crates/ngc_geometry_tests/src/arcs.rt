@@ -236,8 +236,8 @@ static QUADRANTS: [(Turn, i64, bool, usize, (i64, i64), (i64, i64), bool); 3] = 
     ),
 ];
 
-// Whether it is a full circle, how many quadrant points it has and the second of them, and whether a point lies in the
-// sector.
+// Whether it is a full circle, how many quadrant points it has and the second of them, and whether
+// a point lies in the sector.
 #[test]
 fn sectors_and_quadrant_points(rt: HostRuntime) -> Result<(), Fail> {
     for (turn, x, is_full, count, second, other, is_inside) in &QUADRANTS {

@@ -9,7 +9,8 @@ use std::alloc::Global;
 use std::process::Abort;
 use std::test::Fail;
 
-// A way from zero: a line, or a circle in a plane about a point at 5 mm on its first axis, which may rise.
+// A way from zero: a line, or a circle in a plane about a point at 5 mm on its first axis, which
+// may rise.
 #[derive(Clone, Copy, Debug)]
 enum Course {
     Line(i64, i64, i64),

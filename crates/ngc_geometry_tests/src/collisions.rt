@@ -190,7 +190,8 @@ static STACKED: [(
     (i32, i32, i32),
     Option<u32>,
 ); 8] = [
-    // The holder ends 20 mm below the controlled point: it touches a fixture that is 30 mm below zero at -10 mm.
+    // The holder ends 20 mm below the controlled point: it touches a fixture that is 30 mm below
+    // zero at -10 mm.
     (
         BESIDE_THE_START,
         HOLDER,

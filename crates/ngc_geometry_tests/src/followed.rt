@@ -20,8 +20,8 @@ const CCW: Turn = Turn::Counterclockwise;
 
 const ORIGIN: Place = (0, 0, 0);
 
-// The arcs in millimetres and their steps; between which distances from its centre each point lies, and how many moves there
-// are at least.
+// The arcs in millimetres and their steps; between which distances from its centre each point lies,
+// and how many moves there are at least.
 static ARCS: [(Plane, Turn, Place, Place, Format, u16, (u64, u64), u64); 17] = [
     (
         XY,

@@ -241,8 +241,8 @@ fn a_hold_brakes_and_stands(rt: HostRuntime) {
     same(&rt, &"rate", &ramp.rate(), &0);
 }
 
-// Two legs of a hundred steps: the joint between them and whether the way goes on there, in fewer ticks than so many, and the
-// least and greatest rate at the end of the first.
+// Two legs of a hundred steps: the joint between them and whether the way goes on there, in fewer
+// ticks than so many, and the least and greatest rate at the end of the first.
 const JOINTS: &[(u64, bool, u32, u64, u64)] = &[
     (1_000_000, true, 920, 300_000, 400_000),
     (50_000, true, 1_250, 49_000, 50_000),
@@ -284,7 +284,8 @@ fn over_a_joint(rt: HostRuntime) {
     }
 }
 
-// With 400 ticks to reach the greatest rate and 400 to brake, and at that rate between, it would be 2,899.
+// With 400 ticks to reach the greatest rate and 400 to brake, and at that rate between, it would be
+// 2,899.
 #[test]
 fn ten_legs_without_a_stop(rt: HostRuntime) {
     let mut ramp = Ramp::new(1_000);

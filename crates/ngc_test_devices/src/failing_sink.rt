@@ -13,8 +13,9 @@ pub struct FailingSink {
 }
 
 impl FailingSink {
-    /// Takes at most `most` bytes a call, but at least one, for `calls_left` calls. A push of no bytes is no call, and never
-    /// fails. Where memory for what is taken is refused, it fails before.
+    /// Takes at most `most` bytes a call, but at least one, for `calls_left` calls. A push of no
+    /// bytes is no call, and never fails. Where memory for what is taken is refused, it fails
+    /// before.
     pub fn new(alloc: Global, calls_left: usize, most: usize) -> FailingSink {
         FailingSink {
             taken: Vec::new(alloc),

@@ -1,5 +1,5 @@
-//! Sources and sinks for tests, which are slow, endless or fail. The contracts know nothing of their bytes, so that a test
-//! over them shows what no clause says.
+//! Sources and sinks for tests, which are slow, endless or fail. The contracts know nothing of
+//! their bytes, so that a test over them shows what no clause says.
 #![tactic(auto)]
 
 mod endless_source;

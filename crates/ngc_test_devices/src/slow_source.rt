@@ -11,8 +11,9 @@ pub struct SlowSource<'a> {
 }
 
 impl<'a> SlowSource<'a> {
-    /// Gives at most `most` bytes of `text` a pull, and fails in place of the byte at `failing`, and at each pull from then
-    /// on. At the text's length it fails in place of the end, and at a greater number never.
+    /// Gives at most `most` bytes of `text` a pull, and fails in place of the byte at `failing`,
+    /// and at each pull from then on. At the text's length it fails in place of the end, and at a
+    /// greater number never.
     pub fn new(text: &'a [u8], most: usize, failing: usize) -> SlowSource<'a> {
         SlowSource {
             rest: text,

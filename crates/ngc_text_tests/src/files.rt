@@ -305,8 +305,8 @@ const BAD_SECOND: ReadFault = ReadFault::Line(
     },
 );
 
-// Files by their beginning and how many spaces follow it, at how many bytes their sources fail in turn, from which on
-// they are answered, and with which fault.
+// Files by their beginning and how many spaces follow it, at how many bytes their sources fail in
+// turn, from which on they are answered, and with which fault.
 const FAILING: &[(&str, usize, usize, usize, Option<ReadFault>)] = &[
     ("%\nG0 X1\nM2\n%\nrest", 0, 20, 13, None),
     ("G0 X1\nX..\nM2\n", 0, 14, 10, Some(BAD_SECOND)),

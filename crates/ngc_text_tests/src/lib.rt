@@ -1,4 +1,5 @@
-//! The tests of the crates that read a program's text and give it its meaning, and of the values beneath them.
+//! The tests of the crates that read a program's text and give it its meaning, and of the values
+//! beneath them.
 #![tactic(auto)]
 
 #[cfg(test)]

@@ -160,7 +160,8 @@ fn faults_of_lines(rt: HostRuntime) -> Result<(), Fail> {
     Ok(())
 }
 
-// Lines at a program's start, and the code of each that is unknown: its letter, and its value in millionths.
+// Lines at a program's start, and the code of each that is unknown: its letter, and its value in
+// millionths.
 const UNKNOWN: &[(&str, Letter, i64)] = &[
     ("G5 X1", Letter::G, 5_000_000),
     ("G1.05 X1", Letter::G, 1_050_000),

@@ -46,8 +46,8 @@ fn a_setting_counts_on_the_next_line(rt: HostRuntime) -> Result<(), Fail> {
     Ok(())
 }
 
-// For each store the lines that it is given: one that is made first, and one with its last value or the number of its
-// fault.
+// For each store the lines that it is given: one that is made first, and one with its last value or
+// the number of its fault.
 const LINES: &[&[(&str, &str, Result<i64, u16>)]] = &[
     &[
         ("#3=15 #3=6 X#3", "G0 X#3", Ok(6_000_000)),
