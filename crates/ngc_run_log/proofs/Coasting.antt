@@ -11,15 +11,15 @@ use Rattle.ngc_behaviour.proofs.Cases.{match_with}
 use Rattle.ngc_behaviour.specs.Progress.{KeepGoing}
 use Rattle.ngc_behaviour.specs.Run.{Run}
 use Rattle.ngc_behaviour.specs.State.{Job, Queued, State, path_steps, millionths}
-use Rattle.ngc_behaviour.specs.Step.{Step, TickBy, HeadTick, Travels, Rests, Serves, Dwells, Finishes, ticks_of, without_head, pulse, ending, place_after}
+use Rattle.ngc_behaviour.specs.Step.{TickBy, HeadTick, Travels, Rests, Serves, Dwells, Finishes, ticks_of, without_head, pulse, ending, place_after}
 use Rattle.ngc_behaviour.specs.Stretch.{last_state, Stretch}
 use Rattle.ngc_controller.specs.Controller.{ControllerData}
 use Rattle.ngc_controller.specs.Fields.{DWELL_LIMIT}
 use Rattle.ngc_run_log.specs.declared.recorder.Recorder.{Recorder}
 use Rattle.ngc_run_log.specs.Recording.{Records}
-use Rattle.ngc_run_log.specs.Stretches.{IsUntouched, Works, LeavesBy, GoesBy, Coasts, spent}
+use Rattle.ngc_run_log.specs.Stretches.{IsUntouched, Works, LeavesBy, Coasts, spent}
 use Rattle.ngc_run_log.proofs.Quiet.{quiet, quiet_kinds, quiet_refusals}
-use Rattle.ngc_run_log.proofs.Ticks.{Goes, HasLeft, tick_goes}
+use Rattle.ngc_run_log.proofs.Ticks.{HasLeft, tick_goes}
 use Rattle.ngc_run_log.proofs.Untouched.{untouched_tick}
 
 -- ---- no dwell gets shorter

@@ -1,5 +1,5 @@
 -- A run by itself, one part after another.
-use Rattle.std.proofs.Common.{◌≡◌, ℕ, zero, suc, take, ◌+◌, ◌-◌, ◌*◌, ◌^◌, ◌<◌, ◌≤◌, min, List, [], ◌∷◌, ◌++◌, length, drop, count_by, Option, None, Bool, true, false, refl, ap, sym, subst, ◌∙◌, arith}
+use Rattle.std.proofs.Common.{◌≡◌, ℕ, zero, suc, take, ◌+◌, ◌-◌, ◌*◌, ◌^◌, ◌<◌, ◌≤◌, min, List, [], ◌∷◌, ◌++◌, length, drop, count_by, None, Bool, true, false, refl, ap, sym, subst, ◌∙◌, arith}
 use Rattle.std.specs.Prelude.{slice_get, cond}
 use Rattle.std.proofs.lemmas.List.{append_assoc, append-nil, length-drop, take_all}
 use Rattle.ngc_canonical.specs.declared.command.Command.{Command}
@@ -9,16 +9,16 @@ use Rattle.ngc_behaviour.specs.Headline.{RunsSafely, RunsInTime}
 use Rattle.ngc_behaviour.specs.Progress.{is_tick}
 use Rattle.ngc_behaviour.specs.State.{Job, State, command_at, loaded, opening}
 use Rattle.ngc_behaviour.specs.Step.{Outcome}
-use Rattle.ngc_behaviour.specs.Stretch.{last_state, Stretch}
+use Rattle.ngc_behaviour.specs.Stretch.{Stretch}
 use Rattle.ngc_controller.specs.Controller.{ControllerData}
 use Rattle.ngc_run_log.specs.declared.recorder.Recorder.{Recorder}
 use Rattle.ngc_run_log.specs.declared.report.Report.{Report}
 use Rattle.ngc_run_log.specs.declared.trace.Trace.{Trace}
 use Rattle.ngc_run_log.specs.Parts.{part_length, IsPart, GoesInParts, IsTimedThrough, FinishesPart, GoesParted, changes_tool}
-use Rattle.ngc_run_log.specs.Stretches.{IsUntouched, GoesBy, Finishes, TellsDone}
+use Rattle.ngc_run_log.specs.Stretches.{IsUntouched, GoesBy, TellsDone}
 use Rattle.ngc_run_log.proofs.Comes.{AreNew}
 use Rattle.ngc_run_log.proofs.Joined.{stretches_joined, count_by-append}
-use Rattle.ngc_run_log.proofs.Untouched.{goes_both, none_yet, tells_behind, few_behind}
+use Rattle.ngc_run_log.proofs.Untouched.{goes_both, none_yet, tells_behind}
 use Rattle.ngc_run_log.proofs.WholeRun.{opens_runs, count_to, last_at}
 
 -- ---- parts

@@ -1,21 +1,23 @@
 -- Ticks of which nothing is told, as they are recorded.
-use Rattle.std.proofs.Common.{◌≡◌, ◌+◌, ℕ, zero, suc, List, [], ◌∷◌, ◌++◌, length, replicate, count_by, Option, None, Ok, refl, ap, sym, ◌∙◌, arith}
+use Rattle.std.proofs.Common.{◌≡◌, ◌+◌, ℕ, zero, suc, List, [], ◌∷◌, ◌++◌, length, replicate, count_by, Option, None, Ok, refl, ap, sym, subst, ◌∙◌, arith}
 use Rattle.std.specs.List.{AllByRecursion}
 use Rattle.std.proofs.KnownBytes.{Appends-nil}
 use Rattle.std.proofs.lemmas.List.{append-nil}
-use Rattle.ngc_fixed_length.specs.declared.points.StepPos.{StepPos}
+use Rattle.ngc_events.specs.declared.event.Event.{Event}
 use Rattle.ngc_events.specs.declared.event.Event.TheVariants.{Tick}
 use Rattle.ngc_events.specs.declared.reply.Reply.TheVariants.{Ticked}
+use Rattle.ngc_behaviour.specs.State.{Job, State}
 use Rattle.ngc_behaviour.specs.Step.{Outcome}
 use Rattle.ngc_behaviour.specs.Run.{positions}
 use Rattle.ngc_behaviour.specs.Progress.{is_tick}
+use Rattle.ngc_behaviour.specs.Stretch.{Stretch}
 use Rattle.ngc_pulses.specs.Dumping.{DumpState, ticks_text, after_ticks}
 use Rattle.ngc_run_log.specs.declared.recorder.Recorder.{Recorder}
 use Rattle.ngc_run_log.specs.declared.report.Report.{Report}
 use Rattle.ngc_run_log.specs.declared.trace.Trace.{Trace}
 use Rattle.ngc_run_log.specs.declared.trace.Trace.TheVariants.{Log, Pulses, Untold}
 use Rattle.ngc_run_log.specs.Log.{log}
-use Rattle.ngc_run_log.specs.Recording.{Counts, Records}
+use Rattle.ngc_run_log.specs.Recording.{Records, IsRecorded}
 use Rattle.ngc_run_log.specs.Runs.{is_refusal, last_position}
 use Rattle.ngc_run_log.specs.Through.{IsLoadTickOrStart}
 use Rattle.ngc_run_log.specs.Tracing.{ticks_in, trace_text, trace_after}
@@ -88,3 +90,10 @@ quiet_recorded n a b x counted traced same = record {
   trace = traced;
   collects = record { front = []; writes = Appends-nil x; splits = ap (λ l. a.chunk ++ l) (quiet_text a.trace n) ∙ append-nil a.chunk ∙ sym same };
 }
+
+-- where ticks are what is given
+pub quiet_given : (job : Job) (s t : State) (a b : Recorder) (x : Option (List ℕ)) (e : Event) (n : ℕ) → e ≡ Tick → Stretch job s t (replicate n Tick) (replicate n quiet) → Records (replicate n Tick) (replicate n quiet) a b x x →
+    IsRecorded job s t a b x x (replicate n e)
+quiet_given job s t a b x e n is goes recorded =
+    let P : Event → Type 0 = λ k. IsRecorded job s t a b x x (replicate n k) in
+    subst P (sym is) (record { outcomes = replicate n quiet; stretch = goes; records = recorded })

@@ -21,7 +21,8 @@ use Rattle.ngc_behaviour.specs.Stretch.{last_state}
 use Rattle.ngc_run_log.specs.Runs.{IsRun, Reports}
 use Rattle.ngc_run_log.specs.Through.{IsSmoothRun, TellsEnd}
 
--- the log of a run's outcomes, or the dump of its ticks' pulses: of the very pulses that a safe run bounds
+-- the log of a run's outcomes, or the dump of its ticks' pulses: of the very pulses that a safe run
+-- bounds
 abbrev pub text_as : Form → Job → List Event → List Outcome → List State → List ℕ
 text_as Log job events outcomes states = log outcomes
 text_as Pulses job events outcomes states = vcd job.machine.ticks_per_second (pulses (start_of_job job) events states)

@@ -1,5 +1,5 @@
 -- How long a run through a program takes with each tool. Our own.
-use Rattle.std.specs.Prelude.{◌≡◌, ℕ, suc, ◌+◌, ◌*◌, ◌^◌, ◌<◌, min, List, [], ◌∷◌, ◌++◌, length, drop, count_by, Option, None, Bool, true, false, if◌then◌else◌}
+use Rattle.std.specs.Prelude.{◌≡◌, ℕ, suc, ◌+◌, ◌*◌, ◌^◌, ◌<◌, min, List, [], ◌∷◌, ◌++◌, length, drop, count_by, None, Bool, true, false, if◌then◌else◌}
 use Rattle.ngc_canonical.specs.declared.command.Action.{Action}
 use Rattle.ngc_canonical.specs.declared.command.Action.TheVariants.{Mount}
 use Rattle.ngc_canonical.specs.declared.command.Command.{Command}
@@ -26,7 +26,8 @@ part_length (c ∷ cs) = if changes_tool c.action then 1 else suc (part_length c
 
 -- ---- and of a run
 
--- from a command that isn't done up to the end of the next change of the tool, or of the last command: so many ticks
+-- from a command that isn't done up to the end of the next change of the tool, or of the last
+-- command: so many ticks
 pub record IsPart (job : Job) (old new : State) (n : ℕ) (events : List Event) (outcomes : List Outcome) : Type 0 where
   pub some : old.done < length job.commands
   pub stretch : Stretch job old new events outcomes
@@ -40,7 +41,8 @@ GoesInParts job old (n ∷ ns) events outcomes new =
     (first : List Event) × (later : List Event) × (told : List Outcome) × (more : List Outcome) × (mid : State) ×
     (events ≡ first ++ later) × (outcomes ≡ told ++ more) × IsPart job old mid n first told × GoesInParts job mid ns later more new
 
--- a run by itself through all commands, the end told last, has so many ticks, and each part so many of them
+-- a run by itself through all commands, the end told last, has so many ticks, and each part so many
+-- of them
 pub record IsTimedThrough (job : Job) (n : ℕ) (times : List ℕ) : Type 0 where
   pub events : List Event
   pub outcomes : List Outcome

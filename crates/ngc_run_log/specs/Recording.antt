@@ -1,5 +1,5 @@
 -- What is recorded of a stretch of a run. Our own.
-use Rattle.std.specs.Prelude.{◌≡◌, ℕ, ◌+◌, ◌≤◌, List, [], ◌∷◌, ◌++◌, length, count_by, Option}
+use Rattle.std.specs.Prelude.{◌≡◌, ℕ, ◌+◌, ◌≤◌, List, ◌++◌, length, count_by, Option}
 use Rattle.std.specs.Io.KnownBytes.{Appends}
 use Rattle.ngc_text.specs.Written.{AppendsBeginning}
 use Rattle.ngc_events.specs.declared.event.Event.{Event}
@@ -31,7 +31,8 @@ pub record HasFew (n : ℕ) (recorder : Recorder) : Type 0 where
   pub report : AreAtMost n recorder.report
   pub ticks : ticks_of recorder.trace ≤ n
 
--- A text came behind what was collected. A beginning of both is written, and the rest is still collected.
+-- A text came behind what was collected. A beginning of both is written, and the rest is still
+-- collected.
 pub record Collects (old new : Option (List ℕ)) (before text after : List ℕ) : Type 0 where
   pub front : List ℕ
   pub writes : Appends old new front

@@ -25,7 +25,8 @@ abbrev pub last_position : StepPos → List StepPos → StepPos
 last_position p [] = p
 last_position p (q ∷ qs) = last_position q qs
 
--- a run over these events, from the opening state: it is safe, goes on at each tick that is free to, and is done in time
+-- a run over these events, from the opening state: it is safe, goes on at each tick that is free
+-- to, and is done in time
 pub record IsRun (job : Job) (events : List Event) (outcomes : List Outcome) : Type 0 where
   pub states : List State
   pub runs : Run job (opening job.machine) events outcomes states
@@ -56,7 +57,8 @@ pub record IsBrokenRun (job : Job) (lines : List EventLine) (old new : Option (L
   pub run : IsRun job given outcomes
   pub logged : AppendsBeginning old new (log outcomes)
 
--- What a run comes to, of the bytes of its sink where they are known. That memory ran out says that nothing was written.
+-- What a run comes to, of the bytes of its sink where they are known. That memory ran out says that
+-- nothing was written.
 abbrev pub ComesTo : Job → List EventLine → Option (List ℕ) → Option (List ℕ) → Result Report RunFault → Type 0
 ComesTo job lines old new (Ok report) = IsLoggedRun job lines old new report
 ComesTo job lines old new (Err (Write fault)) = IsBrokenRun job lines old new

@@ -23,8 +23,8 @@ use Rattle.ngc_run_log.specs.Recording.{Records}
 use Rattle.ngc_run_log.specs.Runs.{is_refusal}
 use Rattle.ngc_run_log.specs.Through.{IsLoadTickOrStart, TellsEnd}
 
--- the machine goes at an override of 100 percent, what is loaded are the job's next commands, each on its path, and what is done of the head is
--- within bounds
+-- the machine goes at an override of 100 percent, what is loaded are the job's next commands, each
+-- on its path, and what is done of the head is within bounds
 pub record IsUntouched (job : Job) (s : State) : Type 0 where
   pub machine : IsMachine job.machine
   pub not_held : s.held ≡ false

@@ -36,7 +36,8 @@ pub record IsSmoothRun (job : Job) (events : List Event) (outcomes : List Outcom
 abbrev pub TellsEnd : List Outcome → Type 0
 TellsEnd outcomes = (before : List Outcome) × (outcomes ≡ before ++ Ok (Ticked None (Some End)) ∷ [])
 
--- every command is done at the end, which is told last, and what was written is the log of what came of all events
+-- every command is done at the end, which is told last, and what was written is the log of what
+-- came of all events
 pub record IsLoggedThrough (job : Job) (old new : Option (List ℕ)) (report : Report) : Type 0 where
   pub events : List Event
   pub outcomes : List Outcome
@@ -53,7 +54,8 @@ pub record IsBrokenOff (job : Job) (old new : Option (List ℕ)) : Type 0 where
   pub smooth : IsSmoothRun job given outcomes
   pub logged : AppendsBeginning old new (log outcomes)
 
--- What it comes to, of the bytes of its sink where they are known. That memory ran out says that nothing was written.
+-- What it comes to, of the bytes of its sink where they are known. That memory ran out says that
+-- nothing was written.
 abbrev pub GoesThrough : Job → Option (List ℕ) → Option (List ℕ) → Result Report RunFault → Type 0
 GoesThrough job old new (Ok report) = IsLoggedThrough job old new report
 GoesThrough job old new (Err (Write fault)) = IsBrokenOff job old new

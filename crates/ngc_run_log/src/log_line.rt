@@ -77,7 +77,8 @@ fn add_reply(chunk: &mut Chunk, reply: &Reply)
     }
 }
 
-/// Adds what the log says of an outcome: nothing, a line, or two where a command ended with the step that was made.
+/// Adds what the log says of an outcome: nothing, a line, or two where a command ended with the
+/// step that was made.
 pub(crate) fn add_outcome(chunk: &mut Chunk, outcome: &Result<Reply, EventFault>)
     requires { HasLineRoom chunk.old }
     ensures text { chunk.new ≡ chunk.old ++ text_of outcome.now }

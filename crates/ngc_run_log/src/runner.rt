@@ -18,7 +18,8 @@ use ngc_step_kernel::ArcPath;
 use ngc_text::{Sink, WriteFault};
 use std::alloc::Allocator;
 
-// Gives the ticks that follow of which nothing is told, at most so many, where a line gives ticks. Answers how many.
+// Gives the ticks that follow of which nothing is told, at most so many, where a line gives ticks.
+// Answers how many.
 fn coast<A: Allocator + Copy>(
     controller: &mut Controller<ArcPath, A>,
     event: Event,
@@ -114,8 +115,9 @@ fn run_as<A: Allocator + Copy, W: Sink>(
     }
 }
 
-/// Runs what was accepted, at a setting of block delete, over events in their order, and writes the log: a line for what
-/// came of each event, and none for a tick in which nothing was commanded and nothing ended.
+/// Runs what was accepted, at a setting of block delete, over events in their order, and writes the
+/// log: a line for what came of each event, and none for a tick in which nothing was commanded and
+/// nothing ended.
 pub fn run<A: Allocator + Copy, W: Sink>(
     alloc: A,
     accepted: Accepted<A>,
@@ -129,9 +131,10 @@ pub fn run<A: Allocator + Copy, W: Sink>(
     run_as(alloc, accepted, block_delete, lines, Form::Log, sink)
 }
 
-/// Runs what was accepted, at a setting of block delete, over events in their order, and writes the pulses of its ticks as a
-/// value change dump: a step and a direction of each axis, in nanoseconds. What is no tick writes nothing. Want of memory is
-/// 900, with nothing written; where a write failed (902) a beginning of the dump is written.
+/// Runs what was accepted, at a setting of block delete, over events in their order, and writes the
+/// pulses of its ticks as a value change dump: a step and a direction of each axis, in nanoseconds.
+/// What is no tick writes nothing. Want of memory is 900, with nothing written; where a write
+/// failed (902) a beginning of the dump is written.
 pub fn write_pulses<A: Allocator + Copy, W: Sink>(
     alloc: A,
     accepted: Accepted<A>,

@@ -352,8 +352,8 @@ fn go_through_as<A: Allocator + Copy, W: Sink>(
 
 /// Runs what was accepted through to its end, at a setting of block delete, and writes the log: the
 /// ring is kept full while commands are left, each command gets the ticks that it takes, and behind
-/// each stop the machine is started again. Want of memory is 900, with nothing written; where a write
-/// failed (902) a beginning of the log is written.
+/// each stop the machine is started again. Want of memory is 900, with nothing written; where a
+/// write failed (902) a beginning of the log is written.
 pub fn run_through<A: Allocator + Copy, W: Sink>(
     alloc: A,
     accepted: Accepted<A>,
@@ -366,9 +366,9 @@ pub fn run_through<A: Allocator + Copy, W: Sink>(
     go_through_as(alloc, accepted, block_delete, Form::Log, sink)
 }
 
-/// Runs what was accepted through to its end as [`run_through`] does, and writes the pulses of all its
-/// ticks as a value change dump. Want of memory is 900, with nothing written; where a write failed
-/// (902) a beginning of the dump is written.
+/// Runs what was accepted through to its end as [`run_through`] does, and writes the pulses of all
+/// its ticks as a value change dump. Want of memory is 900, with nothing written; where a write
+/// failed (902) a beginning of the dump is written.
 pub fn write_pulses_through<A: Allocator + Copy, W: Sink>(
     alloc: A,
     accepted: Accepted<A>,

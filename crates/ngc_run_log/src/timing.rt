@@ -29,8 +29,8 @@ const RING: usize = 16;
 pub struct Timing<A: Allocator> {
     /// How many ticks were given.
     pub ticks: u128,
-    /// How many of them up to the end of the first change of the tool, and then from the end of each change to that of the next one, or to
-    /// the program's end.
+    /// How many of them up to the end of the first change of the tool, and then from the end of
+    /// each change to that of the next one, or to the program's end.
     pub parts: Vec<u128, A>,
 }
 
@@ -121,7 +121,8 @@ fn finish_part<A: Allocator + Copy>(
     }
 }
 
-// Goes through all commands, of which so many aren't loaded yet, and answers the ticks of each part.
+// Goes through all commands, of which so many aren't loaded yet, and answers the ticks of each
+// part.
 fn time_parts<A: Allocator + Copy>(
     alloc: A,
     controller: &mut Controller<ArcPath, A>,
@@ -184,8 +185,9 @@ fn time_all<A: Allocator + Copy>(
     }
 }
 
-/// How long it takes to run what was accepted through to its end, at a setting of block delete, as [`run_through`](crate::run_through) does, in
-/// ticks; and how long with each tool. Nothing is written. Only want of memory is a fault (900).
+/// How long it takes to run what was accepted through to its end, at a setting of block delete, as
+/// [`run_through`](crate::run_through) does, in ticks; and how long with each tool. Nothing is
+/// written. Only want of memory is a fault (900).
 pub fn time_through<A: Allocator + Copy>(
     alloc: A,
     accepted: Accepted<A>,

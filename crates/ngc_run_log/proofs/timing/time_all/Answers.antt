@@ -1,4 +1,4 @@
-use Rattle.std.proofs.Common.{ℕ, length, arith, subst, sym, refl}
+use Rattle.std.proofs.Common.{ℕ, arith, subst, sym, refl}
 use Rattle.ngc_run_log.specs.Parts.{IsTimedThrough}
 use Rattle.ngc_run_log.specs.declared.trace.Trace.TheVariants.{Untold}
 use Rattle.ngc_run_log.proofs.Comes.{AreNew, new_recorder, none_counted}

@@ -1,5 +1,5 @@
-use Rattle.ngc_run_log.proofs.Comes.{safe_of, in_time_of, opens_of}
-use Rattle.ngc_run_log.proofs.WholeRun.{end_of, few_accepted, machine_of}
+use Rattle.ngc_run_log.proofs.Comes.{safe_of, in_time_of}
+use Rattle.ngc_run_log.proofs.WholeRun.{end_of}
 use Rattle.ngc_run_log.proofs.timing.time_through.Goals as goal
 
 pub time_all-requires-clause-safe : goal.time_all-requires-clause-safe
