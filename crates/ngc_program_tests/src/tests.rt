@@ -77,7 +77,8 @@ impl Source for Text<'_> {
     }
 }
 
-// The program, which is on standard input and in the file `program`, and the files `machine`, `tools`, `certificate` and `events`.
+// The program, which is on standard input and in the file `program`, and the files `machine`,
+// `tools`, `certificate` and `events`.
 #[derive(Clone, Copy)]
 struct Texts<'a> {
     program: &'a [u8],
@@ -147,7 +148,8 @@ fn status_of<F: Files, W: Sink, E: Sink>(
     answer(alloc, options, files, output, errors)
 }
 
-// What a run of the program comes to: its status, its output, its line of a fault, and how many files weren't there.
+// What a run of the program comes to: its status, its output, its line of a fault, and how many
+// files weren't there.
 #[derive(Drop)]
 struct Outcome {
     status: u8,

@@ -12,7 +12,7 @@ use Rattle.ngc_canonical.specs.declared.fault.ProgramFault.{ProgramFault}
 use Rattle.ngc_canonical.specs.Interpreter.{setup_of}
 use Rattle.ngc_canonical.specs.State.{Setup}
 use Rattle.ngc_canonical.specs.Meaning.{meaning, program_said}
-use Rattle.ngc_certificate_text.specs.Certificate.{CertificateData, Entry}
+use Rattle.ngc_certificate_text.specs.Certificate.{CertificateData, Entry, entries_at}
 use Rattle.ngc_certificate_text.specs.Said.{certificate_said}
 use Rattle.ngc_certificate_text.specs.declared.piece.Setting.{Setting}
 use Rattle.ngc_certificate.specs.declared.fault.MakeFault.{MakeFault}
@@ -28,14 +28,14 @@ use Rattle.ngc_drawing.specs.declared.fault.DrawFault.TheVariants.{Memory, Write
 use Rattle.ngc_drawing.specs.declared.refusal.Refusal.{Refusal}
 use Rattle.ngc_drawing.specs.declared.view.View.{View}
 use Rattle.ngc_simulator.specs.Answers.{DrawsFrom, certificate_input, certificate_inputs, draw_inputs, program_input}
-use Rattle.ngc_simulator.specs.Drawing.{Draws, DrawsGiven, DrawsProgram, IsMadeRefusal, OnlyDraws, behind, fault_at, met_at, met_first, refusal_answer, setting_of, start_of}
+use Rattle.ngc_simulator.specs.Drawing.{Draws, DrawsGiven, DrawsProgram, IsGivenRefusal, IsMadeRefusal, behind, fault_at, met_at, met_first, refusal_answer, setting_of, start_of}
+use Rattle.ngc_simulator.specs.Faults.{of_picture}
 use Rattle.ngc_simulator.specs.Lists.{IsMeaning, IsRefused}
 use Rattle.ngc_simulator.specs.Setups.{FileBytes, KeepsFiles, KeepsNamed}
 use Rattle.ngc_simulator.specs.Shops.{GivesShop}
-use Rattle.ngc_simulator.specs.Unread.{FailsByInput, Input, shop_inputs}
-use Rattle.ngc_simulator.specs.declared.drawing.DrawingFault.{DrawingFault}
-use Rattle.ngc_simulator.specs.declared.drawing.DrawingFault.TheVariants as draws
+use Rattle.ngc_simulator.specs.Unread.{Input, shop_inputs}
 use Rattle.ngc_simulator.specs.declared.drawing.Reached.{Reached}
+use Rattle.ngc_simulator.specs.declared.fault.AnswerFault.{AnswerFault}
 use Rattle.ngc_simulator.specs.declared.fault.AnswerFault.TheVariants as answers
 use Rattle.ngc_simulator.specs.declared.setup.Shop.{Shop}
 use Rattle.ngc_simulator.proofs.JobLaws.{FailsSo, keeps_same}
@@ -89,7 +89,7 @@ pub drawing_stopped : (setup : Setup) (bytes : List ℕ) (block_delete : Bool) (
     (text : ProgramText) (commands given shown : List Command) (found : List Entry) (refusal : Option Refusal) (fault : DrawFault)
     → given ≡ commands → shown ≡ commands → found ≡ entries → program_of bytes ≡ Ok text → HaveReadings text.lines → Means text setup block_delete (Ok commands) → IsShown given refusal
     → AppendsBeginning old new (picture_text view setup.machine shown found refusal) → (fault ≡ Memory → Keeps old new)
-    → Draws setup bytes block_delete view entries IsShown old new (Err (draws.Draw fault))
+    → Draws setup bytes block_delete view entries IsShown old new (Err (of_picture fault))
 drawing_stopped setup bytes block_delete view entries IsShown old new text commands given shown found refusal Memory same same_shown same_found is_text have means shows wrote keeps = keeps refl
 drawing_stopped setup bytes block_delete view entries IsShown old new text commands given shown found refusal Write same same_shown same_found is_text have means shows wrote keeps = (
   picture_text view setup.machine shown found refusal,
@@ -104,7 +104,7 @@ drawing_stopped setup bytes block_delete view entries IsShown old new text comma
 )
 
 pub no_memory : (setup : Setup) (bytes : List ℕ) (block_delete : Bool) (view : View) (entries : List Entry) (IsShown : List Command → Option Refusal → Type 0) (known : Option (List ℕ)) (fault : DrawFault)
-    → fault ≡ Memory → Draws setup bytes block_delete view entries IsShown known known (Err (draws.Draw fault))
+    → fault ≡ Memory → Draws setup bytes block_delete view entries IsShown known known (Err (of_picture fault))
 no_memory setup bytes block_delete view entries IsShown known Memory is = keeps_same known
 no_memory setup bytes block_delete view entries IsShown known Write is = cc
 
@@ -134,7 +134,7 @@ pub given_fault : (setup : Setup) (bytes given_text : List ℕ) (block_delete : 
     (c : CertificateData) (fault : CheckFault)
     → given ≡ commands → program_of bytes ≡ Ok text → HaveReadings text.lines → Means text setup block_delete (Ok commands) → certificate_said given_text ≡ Ok c
     → Err fault ≡ refusal_answer (fault_at setup.machine (setting_of block_delete) given c)
-    → DrawsGiven setup bytes given_text block_delete view known known (Err (draws.Check fault))
+    → DrawsGiven setup bytes given_text block_delete view known known (Err (answers.Check fault))
 given_fault setup bytes given_text block_delete view known text commands given c fault same is_text have means said answers = (
   (
     commands,
@@ -146,15 +146,21 @@ given_fault setup bytes given_text block_delete view known text commands given c
   keeps_same known,
 )
 
+pub given_stopped : (setup : Setup) (bytes text : List ℕ) (block_delete : Bool) (view : View) (old new : Option (List ℕ)) (c : CertificateData) (fault : DrawFault) → certificate_said text ≡ Ok c
+    → Draws setup bytes block_delete view (entries_at (setting_of block_delete) c) (IsGivenRefusal setup.machine (setting_of block_delete) c) old new (Err (of_picture fault))
+    → DrawsGiven setup bytes text block_delete view old new (Err (of_picture fault))
+given_stopped setup bytes text block_delete view old new c Memory said draws = (c, said, draws)
+given_stopped setup bytes text block_delete view old new c Write said draws = (c, said, draws)
+
 -- ---- of the files that the command line names
 
-From : FileBytes → DrawOptions → View → Option (List ℕ) → Option (List ℕ) → Result (Unit {0}) DrawingFault → Setup → List ℕ → Option (List ℕ) → Type 0
+From : FileBytes → DrawOptions → View → Option (List ℕ) → Option (List ℕ) → Result (Unit {0}) AnswerFault → Setup → List ℕ → Option (List ℕ) → Type 0
 From bytes options view old new outcome setup text named =
     MatchOption named (DrawsProgram setup text options.delete view old new outcome) (λ name.
     IfSome (bytes (Some name)) (λ given. DrawsGiven setup text given options.delete view old new outcome))
 
 -- where no certificate is named
-pub plain_files : (bytes after : FileBytes) (options : DrawOptions) (view : View) (shop : Shop) (old new : Option (List ℕ)) (outcome : Result (Unit {0}) DrawingFault) (P : List ℕ → Type 0)
+pub plain_files : (bytes after : FileBytes) (options : DrawOptions) (view : View) (shop : Shop) (old new : Option (List ℕ)) (outcome : Result (Unit {0}) AnswerFault) (P : List ℕ → Type 0)
     → option_map (λ n. n.now) options.certificate ≡ None
     → GivesShop bytes (Some options.machine.now) (Some options.tools.now) (Ok shop) → KeepsFiles bytes after
     → IfSome (after (option_map (λ n. n.now) options.program)) P
@@ -173,7 +179,7 @@ plain_files bytes after options view shop old new outcome P is_none said keeps p
     on_known (Some a) q = on a q
 
 -- where one is
-pub given_files : (bytes after later : FileBytes) (options : DrawOptions) (name : List ℕ) (view : View) (shop : Shop) (old new : Option (List ℕ)) (outcome : Result (Unit {0}) DrawingFault) (P Q : List ℕ → Type 0)
+pub given_files : (bytes after later : FileBytes) (options : DrawOptions) (name : List ℕ) (view : View) (shop : Shop) (old new : Option (List ℕ)) (outcome : Result (Unit {0}) AnswerFault) (P Q : List ℕ → Type 0)
     → option_map (λ n. n.now) options.certificate ≡ Some name
     → GivesShop bytes (Some options.machine.now) (Some options.tools.now) (Ok shop) → KeepsFiles bytes after → KeepsNamed after later
     → IfSome (after (option_map (λ n. n.now) options.program)) P → IfSome (later (Some name)) Q
@@ -195,12 +201,3 @@ pub with_certificate : (P : List Input → Type 0) (options : DrawOptions) (view
     → P (draw_inputs options (Some view))
 with_certificate P options view name is p =
     subst (λ (named : Option (List ℕ)). P (shop_inputs (Some options.machine.now) (Some options.tools.now) ++ program_input (option_map (λ n. n.now) options.program) ∷ certificate_inputs named)) (sym is) p
-
-pub draw_told : (fails : Option (List ℕ) → Type 0) (bytes : FileBytes) (files : List Input) (old new : ℕ) (fault : DrawingFault)
-    → OnlyDraws {T = Unit {0}} (Err fault) → new ≡ old → FailsByInput {T = Unit {0}} fails bytes files old new (Err (answers.Draw fault))
-draw_told fails bytes files old new draws.UnknownView only same = absurd only
-draw_told fails bytes files old new (draws.Read e) only same = absurd only
-draw_told fails bytes files old new (draws.Certificate e) only same = absurd only
-draw_told fails bytes files old new (draws.Program e) only same = same
-draw_told fails bytes files old new (draws.Check e) only same = same
-draw_told fails bytes files old new (draws.Draw e) only same = same

@@ -9,19 +9,24 @@ use Rattle.ngc_line_reader.specs.ProgramText.{program_of}
 use Rattle.ngc_line_reader.specs.ProgramView.{FaultIs}
 use Rattle.ngc_line_reader.specs.declared.program.fault.ReadFault.{ReadFault}
 use Rattle.ngc_simulator.specs.Answers.{ListsOn, CertifiesOn, ChecksOn}
+use Rattle.ngc_simulator.specs.Faults.{OrOfReading}
 use Rattle.ngc_simulator.specs.Jobs.{Certifies, Checks}
 use Rattle.ngc_simulator.specs.Lists.{Lists}
 use Rattle.ngc_simulator.specs.Setups.{FileBytes, KeepsFiles, KeepsNamed}
 use Rattle.ngc_simulator.specs.Shops.{GivesShop}
-use Rattle.ngc_simulator.specs.declared.certifier.CertifyFault.{CertifyFault}
-use Rattle.ngc_simulator.specs.declared.checking.CheckingFault.{CheckingFault}
-use Rattle.ngc_simulator.specs.declared.checking.CheckingFault.TheVariants as checks
-use Rattle.ngc_simulator.specs.declared.lister.ListFault.{ListFault}
+use Rattle.ngc_simulator.specs.declared.fault.AnswerFault.{AnswerFault}
+use Rattle.ngc_simulator.specs.declared.fault.AnswerFault.TheVariants as answers
 use Rattle.ngc_simulator.specs.declared.setup.Shop.{Shop}
 use Rattle.ngc_simulator.proofs.JobLaws.{keeps_same, if_known}
 use Rattle.ngc_simulator.proofs.SetupLaws.{on_setup, of_file}
 
-pub listed : (bytes after : FileBytes) (options : ListOptions) (shop : Shop) (source : Option (List ℕ)) (old new : Option (List ℕ)) (outcome : Result (Unit {0}) ListFault)
+-- what comes of a program that is given can come where it is read first
+pub or_of_reading : (Of : AnswerFault → Type 0) (e : AnswerFault) → Of e → OrOfReading Of e
+or_of_reading Of (answers.Read e) of = tt
+or_of_reading Of (answers.Certificate e) of = tt
+or_of_reading Of _ of = of
+
+pub listed : (bytes after : FileBytes) (options : ListOptions) (shop : Shop) (source : Option (List ℕ)) (old new : Option (List ℕ)) (outcome : Result (Unit {0}) AnswerFault)
     → GivesShop bytes (option_map (λ n. n.now) options.machine) (option_map (λ n. n.now) options.tools) (Ok shop) → KeepsFiles bytes after
     → source ≡ after (option_map (λ n. n.now) options.program)
     → IfSome source (λ text. Lists (setup_of shop.machine shop.tools) text options.delete old new outcome) → ListsOn bytes options old new outcome
@@ -29,7 +34,7 @@ listed bytes after options shop source old new outcome said keeps is lists =
     on_setup bytes _ _ (setup_of shop.machine shop.tools) (λ setup. IfSome (bytes (option_map (λ n. n.now) options.program)) (λ text. Lists setup text options.delete old new outcome))
     said.0 said.1 (of_file _ source (λ text. Lists (setup_of shop.machine shop.tools) text options.delete old new outcome) (is ∙ keeps (option_map (λ n. n.now) options.program)) lists)
 
-pub certified_files : (bytes after : FileBytes) (options : CertifyOptions) (shop : Shop) (source : Option (List ℕ)) (old new : Option (List ℕ)) (outcome : Result (Unit {0}) CertifyFault)
+pub certified_files : (bytes after : FileBytes) (options : CertifyOptions) (shop : Shop) (source : Option (List ℕ)) (old new : Option (List ℕ)) (outcome : Result (Unit {0}) AnswerFault)
     → GivesShop bytes (Some options.machine.now) (Some options.tools.now) (Ok shop) → KeepsFiles bytes after
     → source ≡ after (option_map (λ n. n.now) options.program)
     → IfSome source (λ text. Certifies (setup_of shop.machine shop.tools) text options.cuts options.format old new outcome) → CertifiesOn bytes options old new outcome
@@ -43,7 +48,7 @@ both_files : (bytes : FileBytes) (first second : Option (List ℕ)) (known sourc
 both_files bytes first second known source P is_first is_second p =
     of_file first known (λ text. IfSome second (P text)) is_first (subst (λ (k : Option (List ℕ)). IfSome known (λ text. IfSome k (P text))) is_second p)
 
-pub checked_files : (bytes after later : FileBytes) (options : CheckOptions) (shop : Shop) (known source : Option (List ℕ)) (old new : Option (List ℕ)) (outcome : Result (Unit {0}) CheckingFault)
+pub checked_files : (bytes after later : FileBytes) (options : CheckOptions) (shop : Shop) (known source : Option (List ℕ)) (old new : Option (List ℕ)) (outcome : Result (Unit {0}) AnswerFault)
     → GivesShop bytes (Some options.machine.now) (Some options.tools.now) (Ok shop) → KeepsFiles bytes after → KeepsNamed after later
     → known ≡ after (option_map (λ n. n.now) options.program) → source ≡ later (Some options.certificate.now)
     → IfSome known (λ text. IfSome source (λ certificate. Checks (setup_of shop.machine shop.tools) text certificate old new outcome))
@@ -63,11 +68,11 @@ all_known (Some bytes) P on = on bytes
 pub unread_files : (bytes after : FileBytes) (options : CheckOptions) (shop : Shop) (source known : Option (List ℕ)) (fault : ReadFault)
     → GivesShop bytes (Some options.machine.now) (Some options.tools.now) (Ok shop) → KeepsFiles bytes after
     → source ≡ after (option_map (λ n. n.now) options.program)
-    → IfSome source (λ text. FaultIs fault (program_of text)) → ChecksOn bytes options known known (Err (checks.Read fault))
+    → IfSome source (λ text. FaultIs fault (program_of text)) → ChecksOn bytes options known known (Err (answers.Read fault))
 unread_files bytes after options shop source known fault said keeps is unread =
     on_setup bytes (Some options.machine.now) (Some options.tools.now) (setup_of shop.machine shop.tools)
-    (λ setup. IfSome (bytes (option_map (λ n. n.now) options.program)) (λ text. IfSome (bytes (Some options.certificate.now)) (λ certificate. Checks setup text certificate known known (Err (checks.Read fault)))))
+    (λ setup. IfSome (bytes (option_map (λ n. n.now) options.program)) (λ text. IfSome (bytes (Some options.certificate.now)) (λ certificate. Checks setup text certificate known known (Err (answers.Read fault)))))
     said.0 said.1
-    (of_file _ source (λ text. IfSome (bytes (Some options.certificate.now)) (λ certificate. Checks (setup_of shop.machine shop.tools) text certificate known known (Err (checks.Read fault))))
+    (of_file _ source (λ text. IfSome (bytes (Some options.certificate.now)) (λ certificate. Checks (setup_of shop.machine shop.tools) text certificate known known (Err (answers.Read fault))))
     (is ∙ keeps (option_map (λ n. n.now) options.program))
     (if_known source _ _ (λ text fault_is. all_known (bytes (Some options.certificate.now)) _ (λ certificate. (fault_is, keeps_same known))) unread))

@@ -1,5 +1,5 @@
 -- What certifying and checking a program come to, from what their parts come to.
-use Rattle.std.proofs.Common.{◌≡◌, ℕ, List, Option, Some, None, Bool, true, false, Result, Ok, Err, IfSome, refl, subst, sym, ◌∙◌}
+use Rattle.std.proofs.Common.{◌≡◌, ℕ, List, Option, Some, None, Bool, true, false, Result, Ok, Err, IfSome, IsErrAnd, MatchResult, refl, subst, sym, ◌∙◌}
 use Rattle.std.specs.Io.KnownBytes.{Appends, Keeps}
 use Rattle.ngc_text.specs.Written.{AppendsBeginning}
 use Rattle.ngc_text.specs.declared.writing.WriteFault.{WriteFault}
@@ -27,11 +27,18 @@ use Rattle.ngc_checker.specs.CheckSource.{AnswersText}
 use Rattle.ngc_checker.specs.FirstRefusal.{first_refusal}
 use Rattle.ngc_checker.proofs.AnswerLaw.{made_ok, first_is}
 use Rattle.ngc_command_line.specs.declared.options.Format.{Format}
-use Rattle.ngc_simulator.specs.declared.certifier.CertifyFault.{CertifyFault}
-use Rattle.ngc_simulator.specs.declared.certifier.CertifyFault.TheVariants as certifies
-use Rattle.ngc_simulator.specs.declared.checking.CheckingFault.TheVariants as checks
+use Rattle.ngc_simulator.specs.declared.fault.AnswerFault.{AnswerFault}
+use Rattle.ngc_simulator.specs.declared.fault.AnswerFault.TheVariants as answers
 use Rattle.ngc_simulator.specs.Jobs.{IsProgram, AreMeanings, IsMadeFor, IsCertificateFor, WhyNotMade, refused_at, Certifies, AreGiven, IsAcceptedText, Checks, accepted_text}
 use Rattle.ngc_simulator.proofs.ListLaws.{Means}
+
+-- what holds of an error holds of the outcome that it was turned into
+pub turned : {T E : Type 0} (r : Result T E) (e : E) (P : Result T E → Type 0) → IsErrAnd r (λ a. a ≡ e) → P (Err e) → P r
+turned (Ok value) e P is p = absurd is
+turned (Err a) e P is p = subst (λ x. P (Err x)) (sym is) p
+
+pub match_err : {T E : Type 0} (P : T → Type 0) (Q : E → Type 0) (r : Result T E) (e : E) → IsErrAnd r (λ a. a ≡ e) → Q e → MatchResult r P Q
+match_err P Q r e is q = turned r e (λ o. MatchResult o P Q) is q
 
 pub if_known : (known : Option (List ℕ)) (P Q : List ℕ → Type 0) → ((bytes : List ℕ) → P bytes → Q bytes) → IfSome known P → IfSome known Q
 if_known None P Q on p = tt
@@ -75,7 +82,7 @@ pub certified : (setup : Setup) (bytes : List ℕ) (cuts : ℕ) (format : Format
 certified setup bytes cuts format old new f is wrote = (f, is, wrote)
 
 pub certifying_stopped : (setup : Setup) (bytes : List ℕ) (cuts : ℕ) (format : Format) (old new : Option (List ℕ)) (f : Form) (fault : WriteFault) → IsCertificateFor setup bytes cuts format f
-    → AppendsBeginning old new (spelling f) → Certifies setup bytes cuts format old new (Err (certifies.Write fault))
+    → AppendsBeginning old new (spelling f) → Certifies setup bytes cuts format old new (Err (answers.Write fault))
 certifying_stopped setup bytes cuts format old new f fault is wrote = (f, is, wrote)
 
 pub keeps_same : (known : Option (List ℕ)) → Keeps known known
@@ -84,7 +91,7 @@ keeps_same (Some bytes) = refl
 
 pub not_made : {X : Type 0} (view : X → CertificateData) (setup : Setup) (bytes : List ℕ) (cuts : ℕ) (text : ProgramText) (off given_off on given_on : List Command) (fault : MakeFault)
     → given_off ≡ off → given_on ≡ on → program_of bytes ≡ Ok text → HaveReadings text.lines → Means text setup false (Ok off) → Means text setup true (Ok on)
-    → GivesMade view (Err fault) (IsMade setup.machine cuts given_off given_on) → WhyNotMade setup bytes cuts (certifies.Make fault)
+    → GivesMade view (Err fault) (IsMade setup.machine cuts given_off given_on) → WhyNotMade setup bytes cuts (answers.Make fault)
 not_made view setup bytes cuts text off given_off on given_on Memory same_off same_on is_text have off_means on_means says = tt
 not_made view setup bytes cuts text off given_off on given_on (NotCleared s k) same_off same_on is_text have off_means on_means says = (
   given_off,
@@ -116,19 +123,18 @@ refused_on_by setup bytes cuts text off programs.Memory is_text have off_means f
 refused_on_by setup bytes cuts text off (programs.At line e) is_text have off_means fails =
     (program_said text have.readings, is_program bytes text is_text have, (off, off_means have.readings have.are, fails have.readings have.are))
 
-pub refused_off : (setup : Setup) (bytes : List ℕ) (cuts : ℕ) (text : ProgramText) (fault : ProgramFault) (told : CertifyFault)
+pub refused_off : (setup : Setup) (bytes : List ℕ) (cuts : ℕ) (text : ProgramText) (fault : ProgramFault) (told : AnswerFault)
     → told ≡ refused_at Off fault → program_of bytes ≡ Ok text → HaveReadings text.lines → FailsSo text setup false fault → WhyNotMade setup bytes cuts told
 refused_off setup bytes cuts text fault told is is_text have fails = subst (WhyNotMade setup bytes cuts) (sym is) (refused_off_by setup bytes cuts text fault is_text have fails)
 
-pub refused_on : (setup : Setup) (bytes : List ℕ) (cuts : ℕ) (text : ProgramText) (off : List Command) (fault : ProgramFault) (told : CertifyFault)
+pub refused_on : (setup : Setup) (bytes : List ℕ) (cuts : ℕ) (text : ProgramText) (off : List Command) (fault : ProgramFault) (told : AnswerFault)
     → told ≡ refused_at On fault → program_of bytes ≡ Ok text → HaveReadings text.lines → Means text setup false (Ok off) → FailsSo text setup true fault → WhyNotMade setup bytes cuts told
 refused_on setup bytes cuts text off fault told is is_text have off_means fails = subst (WhyNotMade setup bytes cuts) (sym is) (refused_on_by setup bytes cuts text off fault is_text have off_means fails)
 
-pub nothing_certified : (setup : Setup) (bytes : List ℕ) (cuts : ℕ) (format : Format) (known : Option (List ℕ)) (fault : CertifyFault) → WhyNotMade setup bytes cuts fault → Certifies setup bytes cuts format known known (Err fault)
-nothing_certified setup bytes cuts format known (certifies.Read fault) why = absurd why
-nothing_certified setup bytes cuts format known (certifies.Program setting fault) why = (why, keeps_same known)
-nothing_certified setup bytes cuts format known (certifies.Make fault) why = (why, keeps_same known)
-nothing_certified setup bytes cuts format known (certifies.Write fault) why = absurd why
+pub nothing_certified : (setup : Setup) (bytes : List ℕ) (cuts : ℕ) (format : Format) (known : Option (List ℕ)) (fault : AnswerFault) → WhyNotMade setup bytes cuts fault → Certifies setup bytes cuts format known known (Err fault)
+nothing_certified setup bytes cuts format known (answers.Refused setting fault) why = (why, keeps_same known)
+nothing_certified setup bytes cuts format known (answers.Make fault) why = (why, keeps_same known)
+nothing_certified setup bytes cuts format known _ why = absurd why
 
 -- ---- checking
 
@@ -156,13 +162,13 @@ pub accepted : (setup : Setup) (bytes text : List ℕ) (old new : Option (List �
 accepted setup bytes text old new is wrote = (is, wrote)
 
 pub accepting_stopped : (setup : Setup) (bytes text : List ℕ) (old new : Option (List ℕ)) (fault : WriteFault) → IsAcceptedText setup bytes text
-    → AppendsBeginning old new accepted_text → Checks setup bytes text old new (Err (checks.Write fault))
+    → AppendsBeginning old new accepted_text → Checks setup bytes text old new (Err (answers.Write fault))
 accepting_stopped setup bytes text old new fault is wrote = (is, wrote)
 
 pub first_told : (setup : Setup) (bytes text : List ℕ) (known : Option (List ℕ)) (program : ProgramText) (fault : CheckFault)
     → program_of bytes ≡ Ok program → (have : HaveReadings program.lines)
     → AnswersText {X = AcceptedData} (λ a. a) (program_said program have.readings) setup text (Err (reads.Check fault))
-    → Checks setup bytes text known known (Err (checks.Check fault))
+    → Checks setup bytes text known known (Err (answers.Check fault))
 first_told setup bytes text known program fault is_text have says =
     let first = first_refusal (program_said program have.readings) setup in
     let said = made_ok first (certificate_said text) (Some fault) says in

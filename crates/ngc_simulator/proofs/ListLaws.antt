@@ -8,7 +8,7 @@ use Rattle.ngc_canonical.specs.declared.command.Command.{Command}
 use Rattle.ngc_canonical.specs.declared.fault.ProgramFault.{ProgramFault}
 use Rattle.ngc_canonical.specs.State.{Setup}
 use Rattle.ngc_canonical.specs.Meaning.{meaning, program_said}
-use Rattle.ngc_simulator.specs.declared.lister.ListFault.TheVariants.{Write}
+use Rattle.ngc_simulator.specs.declared.fault.AnswerFault.TheVariants as answers
 use Rattle.ngc_simulator.specs.Listing.{listing}
 use Rattle.ngc_simulator.specs.Lists.{IsListing, Lists}
 
@@ -32,7 +32,7 @@ is_listing setup bytes block_delete text commands is_text have means = record {
 
 pub write_stopped : (setup : Setup) (source : Option (List ℕ)) (block_delete : Bool) (old new : Option (List ℕ)) (text : ProgramText) (commands listed : List Command) (fault : WriteFault)
     → listed ≡ commands → IfSome source (λ bytes. program_of bytes ≡ Ok text) → HaveReadings text.lines → Means text setup block_delete (Ok commands)
-    → AppendsBeginning old new (listing setup.machine.step listed) → IfSome source (λ bytes. Lists setup bytes block_delete old new (Err (Write fault)))
+    → AppendsBeginning old new (listing setup.machine.step listed) → IfSome source (λ bytes. Lists setup bytes block_delete old new (Err (answers.Write fault)))
 write_stopped setup None block_delete old new text commands listed fault same is_text have means wrote = tt
 write_stopped setup (Some bytes) block_delete old new text commands listed fault same is_text have means wrote =
     let P : List Command → Type 0 = λ l. AppendsBeginning old new (listing setup.machine.step l) in

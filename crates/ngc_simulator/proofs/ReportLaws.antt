@@ -36,8 +36,8 @@ use Rattle.ngc_simulator.specs.declared.request.ReportRequest.{ReportRequest}
 use Rattle.ngc_certificate.specs.Uncleared.{AreUncleared}
 use Rattle.ngc_simulator.specs.Setups.{FileBytes, KeepsFiles}
 use Rattle.ngc_simulator.specs.Shops.{GivesShop}
-use Rattle.ngc_simulator.specs.declared.certifier.CertifyFault.{CertifyFault}
-use Rattle.ngc_simulator.specs.declared.certifier.CertifyFault.TheVariants as certifies
+use Rattle.ngc_simulator.specs.declared.fault.AnswerFault.{AnswerFault}
+use Rattle.ngc_simulator.specs.declared.fault.AnswerFault.TheVariants as answers
 use Rattle.ngc_simulator.specs.Times.{ProgramTimeData}
 use Rattle.ngc_simulator.specs.declared.setup.Shop.{Shop}
 use Rattle.ngc_simulator.proofs.JobLaws.{Says, keeps_same}
@@ -64,6 +64,10 @@ begins_as old new a b is h = let P : List ℕ → Type 0 = λ l. AppendsBeginnin
 pub ok_weaker : (r : Result (Unit {0}) WriteFault) (P Q : Type 0) → (P → Q) → OnOk r P → OnOk r Q
 ok_weaker (Ok u) P Q on p = on p
 ok_weaker (Err e) P Q on p = tt
+
+pub on_err : (r : Result (Unit {0}) WriteFault) (P : Type 0) → P → OnErr r P
+on_err (Ok u) P p = tt
+on_err (Err e) P p = p
 
 pub err_weaker : (r : Result (Unit {0}) WriteFault) (P Q : Type 0) → (P → Q) → OnErr r P → OnErr r Q
 err_weaker (Ok u) P Q on p = tt
@@ -196,12 +200,12 @@ module _ (setup : Setup) (bytes : List ℕ) (request : ReportRequest) (text : Pr
 
   pub fits_stopped : (named found : Bool) (off_time on_time : ProgramTimeData) (old new : Option (List ℕ)) (fault : WriteFault) → Finds text found → found ≡ named → LastsFor setup.machine made.off off_time
       → LastsFor setup.machine made.on on_time → AppendsBeginning old new (fits_text request.form named setup a.off a.on c off_time on_time)
-      → Reports setup bytes request old new (Err (certifies.Write fault))
+      → Reports setup bytes request old new (Err (answers.Write fault))
   fits_stopped named found off_time on_time old new fault is_found is off_lasts on_lasts wrote =
       (whole off_time on_time, inl (fit off_time on_time off_lasts on_lasts), begins_as old new _ _ (is_whole named found off_time on_time is_found is) wrote)
 
 -- where memory ran out nothing is written
-pub no_memory : (setup : Setup) (bytes : List ℕ) (request : ReportRequest) (known : Option (List ℕ)) (fault : MakeFault) → fault ≡ Memory → Reports setup bytes request known known (Err (certifies.Make fault))
+pub no_memory : (setup : Setup) (bytes : List ℕ) (request : ReportRequest) (known : Option (List ℕ)) (fault : MakeFault) → fault ≡ Memory → Reports setup bytes request known known (Err (answers.Make fault))
 no_memory setup bytes request known Memory is = keeps_same known
 no_memory setup bytes request known (NotCleared s k) is = cc
 
@@ -212,17 +216,17 @@ means_on setup bytes off on means Off = means.off_means
 means_on setup bytes off on means On = means.on_means
 
 module _ (setup : Setup) (bytes : List ℕ) (request : ReportRequest) (text : ProgramText) (s : Setting) (k : ℕ) (is_text : program_of bytes ≡ Ok text)
-    (why : WhyNotMade setup bytes request.cuts (certifies.Make (NotCleared s k))) where
+    (why : WhyNotMade setup bytes request.cuts (answers.Make (NotCleared s k))) where
   meant : (t : Setting) (b : Bool) (commands : List Command) → b ≡ is_on t → Means text setup b (Ok commands) → commands ≡ commands_of t why.0 why.1
   meant t b commands is means =
       same_commands _ _ _ (of_program bytes text why.2.program (λ p. meaning p setup b ≡ Ok commands) is_text why.2.is_program means)
       (ap (meaning why.2.program setup) is ∙ means_on setup bytes why.0 why.1 why.2 t)
 
   -- it has a meaning at each setting, so where it is said to have none memory ran out
-  pub not_meant : (t : Setting) (b : Bool) (fault : ProgramFault) (told : CertifyFault) (known : Option (List ℕ)) → b ≡ is_on t → told ≡ refused_at t fault
+  pub not_meant : (t : Setting) (b : Bool) (fault : ProgramFault) (told : AnswerFault) (known : Option (List ℕ)) → b ≡ is_on t → told ≡ refused_at t fault
       → ((rs : List Reading) → AreReadings text.lines rs → Fails fault (meaning (program_said text rs) setup b)) → Reports setup bytes request known known (Err told)
   not_meant t b fault told known is is_told fails =
-      subst (λ (f : CertifyFault). Reports setup bytes request known known (Err f)) (sym is_told)
+      subst (λ (f : AnswerFault). Reports setup bytes request known known (Err f)) (sym is_told)
       (by_fault fault (of_program bytes text why.2.program (λ p. Fails fault (meaning p setup b)) is_text why.2.is_program fails))
     where
       by_fault : (fault : ProgramFault) → Fails fault (meaning why.2.program setup b) → Reports setup bytes request known known (Err (refused_at t fault))
@@ -248,12 +252,12 @@ module _ (setup : Setup) (bytes : List ℕ) (request : ReportRequest) (text : Pr
       ∙ ap (λ (t : ProgramText). refusal_text request.form (has_deleted why.2.program.lines) s setup.machine (commands_of s why.0 why.1) k t.lines) (same_text bytes text why.2.program is_text why.2.is_program)
 
   pub told_refusal : request.all ≡ false → (b found : Bool) (commands given : List Command) (old new : Option (List ℕ)) → b ≡ is_on s → Means text setup b (Ok commands) → given ≡ commands → Finds text found
-      → Appends old new (refusal_text request.form found s setup.machine given k text.lines) → Reports setup bytes request old new (Err (certifies.Make (NotCleared s k)))
+      → Appends old new (refusal_text request.form found s setup.machine given k text.lines) → Reports setup bytes request old new (Err (answers.Make (NotCleared s k)))
   told_refusal first b found commands given old new is means same is_found wrote =
       (whole_refusal, first_report first, subst (Appends old new) (refusal_is b found commands given is means same is_found) wrote)
 
   pub refusal_stopped : request.all ≡ false → (b found : Bool) (commands given : List Command) (old new : Option (List ℕ)) (fault : WriteFault) → b ≡ is_on s → Means text setup b (Ok commands) → given ≡ commands
-      → Finds text found → AppendsBeginning old new (refusal_text request.form found s setup.machine given k text.lines) → Reports setup bytes request old new (Err (certifies.Write fault))
+      → Finds text found → AppendsBeginning old new (refusal_text request.form found s setup.machine given k text.lines) → Reports setup bytes request old new (Err (answers.Write fault))
   refusal_stopped first b found commands given old new fault is means same is_found wrote =
       (whole_refusal, inr (inl (s, k, first_report first)), subst (AppendsBeginning old new) (refusal_is b found commands given is means same is_found) wrote)
 
@@ -298,7 +302,7 @@ module _ (setup : Setup) (bytes : List ℕ) (request : ReportRequest) (text : Pr
 
   pub told_once : request.all ≡ true → (found : Bool) (commands given : List Command) (ks : List ℕ) (old new : Option (List ℕ)) → Means text setup false (Ok commands) → given ≡ commands → Finds text found
       → found ≡ false → AreUncleared setup.machine request.cuts given ks → Appends old new (refusals_text request.form false setup.machine given given ks ks)
-      → Reports setup bytes request old new (Err (certifies.Make (NotCleared s k)))
+      → Reports setup bytes request old new (Err (answers.Make (NotCleared s k)))
   told_once all found commands given ks old new means same is_found none are wrote = (
     whole_list ks ks,
     once_report all found commands given ks means same is_found none are,
@@ -307,7 +311,7 @@ module _ (setup : Setup) (bytes : List ℕ) (request : ReportRequest) (text : Pr
 
   pub once_stopped : request.all ≡ true → (found : Bool) (commands given : List Command) (ks : List ℕ) (old new : Option (List ℕ)) (fault : WriteFault) → Means text setup false (Ok commands) → given ≡ commands
       → Finds text found → found ≡ false → AreUncleared setup.machine request.cuts given ks → AppendsBeginning old new (refusals_text request.form false setup.machine given given ks ks)
-      → Reports setup bytes request old new (Err (certifies.Write fault))
+      → Reports setup bytes request old new (Err (answers.Write fault))
   once_stopped all found commands given ks old new fault means same is_found none are wrote = (
     whole_list ks ks,
     inr (inl (s, k, once_report all found commands given ks means same is_found none are)),
@@ -329,7 +333,7 @@ module _ (setup : Setup) (bytes : List ℕ) (request : ReportRequest) (text : Pr
 
   pub told_both : request.all ≡ true → (found : Bool) (off given_off on given_on : List Command) (off_ks on_ks : List ℕ) (old new : Option (List ℕ)) → Means text setup false (Ok off) → given_off ≡ off
       → Means text setup true (Ok on) → given_on ≡ on → Finds text found → found ≡ true → AreUncleared setup.machine request.cuts given_off off_ks → AreUncleared setup.machine request.cuts given_on on_ks
-      → Appends old new (refusals_text request.form true setup.machine given_off given_on off_ks on_ks) → Reports setup bytes request old new (Err (certifies.Make (NotCleared s k)))
+      → Appends old new (refusals_text request.form true setup.machine given_off given_on off_ks on_ks) → Reports setup bytes request old new (Err (answers.Make (NotCleared s k)))
   told_both all found off given_off on given_on off_ks on_ks old new off_means same_off on_means same_on is_found some off_are on_are wrote = (
     whole_list off_ks on_ks,
     both_report all off given_off on given_on off_ks on_ks off_means same_off on_means same_on off_are on_are,
@@ -338,7 +342,7 @@ module _ (setup : Setup) (bytes : List ℕ) (request : ReportRequest) (text : Pr
 
   pub both_stopped : request.all ≡ true → (found : Bool) (off given_off on given_on : List Command) (off_ks on_ks : List ℕ) (old new : Option (List ℕ)) (fault : WriteFault) → Means text setup false (Ok off) → given_off ≡ off
       → Means text setup true (Ok on) → given_on ≡ on → Finds text found → found ≡ true → AreUncleared setup.machine request.cuts given_off off_ks → AreUncleared setup.machine request.cuts given_on on_ks
-      → AppendsBeginning old new (refusals_text request.form true setup.machine given_off given_on off_ks on_ks) → Reports setup bytes request old new (Err (certifies.Write fault))
+      → AppendsBeginning old new (refusals_text request.form true setup.machine given_off given_on off_ks on_ks) → Reports setup bytes request old new (Err (answers.Write fault))
   both_stopped all found off given_off on given_on off_ks on_ks old new fault off_means same_off on_means same_on is_found some off_are on_are wrote = (
     whole_list off_ks on_ks,
     inr (inl (s, k, both_report all off given_off on given_on off_ks on_ks off_means same_off on_means same_on off_are on_are)),
@@ -348,7 +352,7 @@ module _ (setup : Setup) (bytes : List ℕ) (request : ReportRequest) (text : Pr
 -- ---- a program that is refused
 
 module _ (setup : Setup) (bytes : List ℕ) (request : ReportRequest) (text : ProgramText) (s : Setting) (number : ℕ) (fault : ProgramFault) (is_text : program_of bytes ≡ Ok text)
-    (why : WhyNotMade setup bytes request.cuts (certifies.Program s fault)) where
+    (why : WhyNotMade setup bytes request.cuts (answers.Refused s fault)) where
   abbrev whole_rejection : List ℕ
   whole_rejection = fault_text request.form (has_deleted why.0.lines) s fault why.1.text.lines
 
@@ -362,7 +366,7 @@ module _ (setup : Setup) (bytes : List ℕ) (request : ReportRequest) (text : Pr
       ∙ ap (λ f. fault_text request.form (has_deleted why.0.lines) s f why.1.text.lines) (sym is)
 
   pub told_rejection : (found : Bool) (e : Fault) (old new : Option (List ℕ)) → fault ≡ programs.At number e → Finds text found
-      → Appends old new (rejection_text request.form found s number e text.lines) → Reports setup bytes request old new (Err (certifies.Program s (programs.At number e)))
+      → Appends old new (rejection_text request.form found s number e text.lines) → Reports setup bytes request old new (Err (answers.Refused s (programs.At number e)))
   told_rejection found e old new is is_found wrote = (
     whole_rejection,
     subst (λ (f : ProgramFault). IsRejectionReport setup bytes request s f whole_rejection) is rejection,
@@ -370,20 +374,20 @@ module _ (setup : Setup) (bytes : List ℕ) (request : ReportRequest) (text : Pr
   )
 
   pub rejection_stopped : (found : Bool) (e : Fault) (old new : Option (List ℕ)) (stopped : WriteFault) → fault ≡ programs.At number e → Finds text found
-      → AppendsBeginning old new (rejection_text request.form found s number e text.lines) → Reports setup bytes request old new (Err (certifies.Write stopped))
+      → AppendsBeginning old new (rejection_text request.form found s number e text.lines) → Reports setup bytes request old new (Err (answers.Write stopped))
   rejection_stopped found e old new stopped is is_found wrote =
       (whole_rejection, inr (inr (s, fault, rejection)), subst (AppendsBeginning old new) (rejection_is found e is is_found) wrote)
 
 -- ---- on the files that the command line names
 
 -- what is asked for is what the options say
-pub asked : (options : ReportOptions) (shop : Shop) (request : ReportRequest) (source old new : Option (List ℕ)) (outcome : Result (Unit {0}) CertifyFault)
+pub asked : (options : ReportOptions) (shop : Shop) (request : ReportRequest) (source old new : Option (List ℕ)) (outcome : Result (Unit {0}) AnswerFault)
     → request ≡ request_of options → IfSome source (λ text. Reports (setup_of shop.machine shop.tools) text request old new outcome)
     → IfSome source (λ text. Reports (setup_of shop.machine shop.tools) text (request_of options) old new outcome)
 asked options shop request source old new outcome is reports =
     subst (λ (r : ReportRequest). IfSome source (λ text. Reports (setup_of shop.machine shop.tools) text r old new outcome)) is reports
 
-pub reported_files : (bytes after : FileBytes) (options : ReportOptions) (shop : Shop) (source : Option (List ℕ)) (old new : Option (List ℕ)) (outcome : Result (Unit {0}) CertifyFault)
+pub reported_files : (bytes after : FileBytes) (options : ReportOptions) (shop : Shop) (source : Option (List ℕ)) (old new : Option (List ℕ)) (outcome : Result (Unit {0}) AnswerFault)
     → GivesShop bytes (Some options.machine.now) (Some options.tools.now) (Ok shop) → KeepsFiles bytes after
     → source ≡ after (option_map (λ n. n.now) options.program)
     → IfSome source (λ text. Reports (setup_of shop.machine shop.tools) text (request_of options) old new outcome) → ReportsOn bytes options old new outcome

@@ -24,13 +24,15 @@ use Rattle.ngc_behaviour.specs.Headline.{job_of}
 use Rattle.ngc_command_line.specs.declared.options.Recording.{Recording}
 use Rattle.ngc_run_log.specs.declared.report.Report.{Report}
 use Rattle.ngc_run_log.specs.declared.report.RunFault.{RunFault}
+use Rattle.ngc_run_log.specs.declared.report.RunFault.TheVariants as runs
+use Rattle.ngc_simulator.specs.Faults.{of_run}
 use Rattle.ngc_simulator.specs.Answers.{IsTimeOf, IsTimeOn, RunsOn, RunsThroughOn}
 use Rattle.ngc_simulator.specs.Jobs.{IsNoCertificate}
 use Rattle.ngc_simulator.specs.Running.{IsAcceptedJob, RunsOver, RunsWhole, AreNoEvents, Runs, RunsThrough, RecordsRun, RecordsThrough}
 use Rattle.ngc_simulator.specs.Setups.{FileBytes, KeepsFiles, KeepsNamed}
 use Rattle.ngc_simulator.specs.Shops.{GivesShop}
-use Rattle.ngc_simulator.specs.declared.running.RunningFault.{RunningFault}
-use Rattle.ngc_simulator.specs.declared.running.RunningFault.TheVariants as running
+use Rattle.ngc_simulator.specs.declared.fault.AnswerFault.{AnswerFault}
+use Rattle.ngc_simulator.specs.declared.fault.AnswerFault.TheVariants as answers
 use Rattle.ngc_simulator.specs.declared.done.RunTime.{RunTime}
 use Rattle.ngc_simulator.specs.declared.setup.Shop.{Shop}
 use Rattle.ngc_simulator.proofs.JobLaws.{Says, given, keeps_same}
@@ -45,13 +47,13 @@ no_events A events texts.Memory says = tt
 
 pub events_refused : (A : Type 0) (recording : Recording) (setup : Setup) (bytes text events : List ℕ) (block_delete : Bool) (known : Option (List ℕ)) (program : ProgramText) (c : CertificateData) (fault : EventsFault)
     → program_of bytes ≡ Ok program → HaveReadings program.lines → certificate_said text ≡ Ok c → GivesEvents {A = A} (Err fault) (events_said events)
-    → Runs recording setup bytes text events block_delete known known (Err (running.Events fault))
+    → Runs recording setup bytes text events block_delete known known (Err (answers.Events fault))
 events_refused A recording setup bytes text events block_delete known program c fault is_text have said says =
     (((program_said program have.readings, c, given bytes text program c is_text have said), no_events A events fault says), keeps_same known)
 
 pub run_refused : (recording : Recording) (setup : Setup) (bytes text events : List ℕ) (block_delete : Bool) (known : Option (List ℕ)) (program : ProgramText) (c : CertificateData) (lines : List EventLine) (fault : CheckFault)
     → program_of bytes ≡ Ok program → HaveReadings program.lines → certificate_said text ≡ Ok c → events_said events ≡ Ok lines → Says program setup c (Err fault)
-    → Runs recording setup bytes text events block_delete known known (Err (running.Check fault))
+    → Runs recording setup bytes text events block_delete known known (Err (answers.Check fault))
 run_refused recording setup bytes text events block_delete known program c lines fault is_text have said are_lines says = (
   record {
     lines = lines;
@@ -95,8 +97,13 @@ ran_over recording setup bytes text events block_delete old new program c lines 
   comes = subst (λ ls. RecordsRun recording (job_of a.machine (commands_at block_delete a)) ls old new result) same comes;
 }
 
+pub run_failed : (recording : Recording) (setup : Setup) (bytes text events : List ℕ) (block_delete : Bool) (old new : Option (List ℕ)) (fault : RunFault)
+    → RunsOver recording setup bytes text events block_delete old new (Err fault) → Runs recording setup bytes text events block_delete old new (Err (of_run fault))
+run_failed recording setup bytes text events block_delete old new runs.Memory ran = ran
+run_failed recording setup bytes text events block_delete old new (runs.Write e) ran = ran
+
 -- of the bytes that were read, and so of those of the file
-pub run_over : (recording : Recording) (setup : Setup) (bytes text events slice items : List ℕ) (block_delete : Bool) (old new : Option (List ℕ)) (outcome : Result Report RunningFault)
+pub run_over : (recording : Recording) (setup : Setup) (bytes text events slice items : List ℕ) (block_delete : Bool) (old new : Option (List ℕ)) (outcome : Result Report AnswerFault)
     → slice ≡ items → items ≡ events → Runs recording setup bytes text slice block_delete old new outcome → Runs recording setup bytes text events block_delete old new outcome
 run_over recording setup bytes text events slice items block_delete old new outcome same read runs =
     subst (λ es. Runs recording setup bytes text es block_delete old new outcome) (same ∙ read) runs
@@ -133,7 +140,7 @@ on_files first second third known source events P Q R S is_first is_second is_th
     on_all (Some a) source events p q r = on_two source events a p q r
 
 -- of what was read: the shop, then the program, the certificate and the events
-pub ran_files : (bytes after later last : FileBytes) (options : RunOptions) (shop : Shop) (old new : Option (List ℕ)) (outcome : Result Report RunningFault) (P Q R : List ℕ → Type 0)
+pub ran_files : (bytes after later last : FileBytes) (options : RunOptions) (shop : Shop) (old new : Option (List ℕ)) (outcome : Result Report AnswerFault) (P Q R : List ℕ → Type 0)
     → GivesShop bytes (Some options.machine.now) (Some options.tools.now) (Ok shop) → KeepsFiles bytes after → KeepsNamed after later → KeepsFiles later last
     → IfSome (after (option_map (λ n. n.now) options.program)) P → IfSome (later (Some options.certificate.now)) Q → IfSome (last (Some options.events.now)) R
     → ((a b e : List ℕ) → P a → Q b → R e → Runs options.recording (setup_of shop.machine shop.tools) a b e options.delete old new outcome)
@@ -151,7 +158,7 @@ ran_files bytes after later last options shop old new outcome P Q R said keeps n
 
 pub through_refused : (recording : Recording) (setup : Setup) (bytes text : List ℕ) (block_delete : Bool) (known : Option (List ℕ)) (program : ProgramText) (c : CertificateData) (fault : CheckFault)
     → program_of bytes ≡ Ok program → HaveReadings program.lines → certificate_said text ≡ Ok c → Says program setup c (Err fault)
-    → RunsThrough recording setup bytes text block_delete known known (Err (running.Check fault))
+    → RunsThrough recording setup bytes text block_delete known known (Err (answers.Check fault))
 through_refused recording setup bytes text block_delete known program c fault is_text have said says = (
   record {
     program = program_said program have.readings;
@@ -172,6 +179,11 @@ went_through recording setup bytes text block_delete old new program c a result 
   goes_through = goes;
 }
 
+pub through_failed : (recording : Recording) (setup : Setup) (bytes text : List ℕ) (block_delete : Bool) (old new : Option (List ℕ)) (fault : RunFault)
+    → RunsWhole recording setup bytes text block_delete old new (Err fault) → RunsThrough recording setup bytes text block_delete old new (Err (of_run fault))
+through_failed recording setup bytes text block_delete old new runs.Memory ran = ran
+through_failed recording setup bytes text block_delete old new (runs.Write e) ran = ran
+
 -- of two files, where each is opened after the one before it
 pub on_two_files : (first second known source : Option (List ℕ)) (P Q : List ℕ → Type 0) (S : List ℕ → List ℕ → Type 0)
     → known ≡ first → source ≡ second → ((a b : List ℕ) → P a → Q b → S a b) → IfSome known P → IfSome source Q → IfSome first (λ a. IfSome second (S a))
@@ -187,7 +199,7 @@ on_two_files first second known source P Q S is_first is_second on p q =
     on_both (Some a) source p q = on_last source a p q
 
 -- of what was read: the shop, then the program and the certificate
-pub went_files : (bytes after later : FileBytes) (options : RunThroughOptions) (shop : Shop) (old new : Option (List ℕ)) (outcome : Result Report RunningFault) (P Q : List ℕ → Type 0)
+pub went_files : (bytes after later : FileBytes) (options : RunThroughOptions) (shop : Shop) (old new : Option (List ℕ)) (outcome : Result Report AnswerFault) (P Q : List ℕ → Type 0)
     → GivesShop bytes (Some options.machine.now) (Some options.tools.now) (Ok shop) → KeepsFiles bytes after → KeepsNamed after later
     → IfSome (after (option_map (λ n. n.now) options.program)) P → IfSome (later (Some options.certificate.now)) Q
     → ((a b : List ℕ) → P a → Q b → RunsThrough options.recording (setup_of shop.machine shop.tools) a b options.delete old new outcome)

@@ -7,11 +7,10 @@ use Rattle.ngc_machine.specs.MachineText.{machine_file}
 use Rattle.ngc_machine.specs.ToolText.{tool_table}
 use Rattle.ngc_machine.specs.declared.fault.FileFault.{FileFault}
 use Rattle.ngc_machine.specs.declared.tools.Tool.{Tool}
-use Rattle.ngc_simulator.specs.Setups.{FileBytes, IfSaid, KeepsFiles, IfMachine, IfTools, OnSetup, AreSetup, GivesSetup}
-use Rattle.ngc_simulator.specs.Shops.{RefusesShop, tools_answer}
+use Rattle.ngc_simulator.specs.Setups.{FileBytes, IfSaid, KeepsFiles, IfMachine, IfTools, OnSetup, AreSetup, Refuses}
+use Rattle.ngc_simulator.specs.Shops.{RefusesMachine, RefusesShop, RefusesTools}
 use Rattle.ngc_simulator.specs.declared.fault.AnswerFault.{AnswerFault}
-use Rattle.ngc_simulator.specs.declared.fault.SetupFault.{SetupFault}
-use Rattle.ngc_simulator.specs.declared.fault.SetupFault.TheVariants.{Refused, Unread}
+use Rattle.ngc_simulator.specs.declared.fault.AnswerFault.TheVariants as answers
 
 -- of the bytes that were read, and so of those of the file
 pub carried : (known : Option (List ℕ)) (items slice : List ℕ) (P : List ℕ → Type 0) → slice ≡ items → IfSome known (λ bytes. items ≡ bytes) → P slice → IfSome known P
@@ -49,14 +48,17 @@ on_setup bytes machine tools setup P machine_said tools_said p =
 pub of_file : (known source : Option (List ℕ)) (P : List ℕ → Type 0) → source ≡ known → IfSome source P → IfSome known P
 of_file known source P is p = subst (λ (k : Option (List ℕ)). IfSome k P) is p
 
--- a tool table that is refused behind a machine file that was read
-pub refused_tools : {X : Type 0} (view : X → List Tool) (bytes after : FileBytes) (machine tools : Option (List ℕ)) (m : MachineFile) (fault : SetupFault) (answer : AnswerFault)
-    → answer ≡ tools_answer fault → IfMachine bytes machine (λ says. says ≡ Ok m) → KeepsFiles bytes after → IfTools after tools (GivesSetup view (Err fault))
-    → RefusesShop bytes machine tools answer
-refused_tools view bytes after machine tools m fault answer is read keeps refused = subst (RefusesShop bytes machine tools) (sym is) (of_fault fault refused) where
-  of_fault : (fault : SetupFault) → IfTools after tools (GivesSetup view (Err fault)) → RefusesShop bytes machine tools (tools_answer fault)
-  of_fault (Refused e) refused = (
-    said_weaker machine_file built_in_machine bytes machine (λ says. says ≡ Ok m) IsOk (λ says is_m. subst IsOk (sym is_m) refl) read,
-    said_before tool_table [] bytes after tools (GivesSetup view (Err (Refused e))) keeps refused,
-  )
-  of_fault (Unread e) refused = tt
+-- a machine file that is refused, and a tool table that is behind a machine file that was read
+pub refused_machine : (bytes : FileBytes) (machine tools : Option (List ℕ)) (fault : AnswerFault) → RefusesMachine bytes machine fault → RefusesShop bytes machine tools fault
+refused_machine bytes machine tools (answers.Machine e) refuses = refuses
+refused_machine bytes machine tools (answers.Input e) refuses = tt
+refused_machine bytes machine tools _ refuses = absurd refuses
+
+pub refused_tools : (bytes after : FileBytes) (machine tools : Option (List ℕ)) (m : MachineFile) (fault : AnswerFault)
+    → IfMachine bytes machine (λ says. says ≡ Ok m) → KeepsFiles bytes after → RefusesTools after tools fault → RefusesShop bytes machine tools fault
+refused_tools bytes after machine tools m (answers.Tools e) read keeps refuses = (
+  said_weaker machine_file built_in_machine bytes machine (λ says. says ≡ Ok m) IsOk (λ says is_m. subst IsOk (sym is_m) refl) read,
+  said_before tool_table [] bytes after tools (Refuses e) keeps refuses,
+)
+refused_tools bytes after machine tools m (answers.Input e) read keeps refuses = tt
+refused_tools bytes after machine tools m _ read keeps refuses = absurd refuses

@@ -1,33 +1,24 @@
 -- Which file of a run isn't read, from what is told of each.
 use Rattle.std.proofs.Common.{◌≡◌, ℕ, List, [], ◌∷◌, ◌++◌, Option, Some, None, Result, Ok, Err, IfSome, inl, inr, refl, ap, subst, sym, ◌∙◌}
-use Rattle.std.specs.Prelude.{IfErr, IsOk, MatchOption}
+use Rattle.std.specs.Prelude.{IfErr, IsErrAnd, IsOk, MatchOption}
 use Rattle.ngc_certificate_text.specs.declared.fault.CertificateFault.{CertificateFault}
 use Rattle.ngc_certificate_text.specs.declared.fault.CertificateFault.TheVariants as texts
+use Rattle.ngc_text.specs.Failures.{Rises}
 use Rattle.ngc_text.specs.declared.input_fault.InputFault.{InputFault}
+use Rattle.ngc_text.specs.declared.input_fault.InputFault.TheVariants as inputs
 use Rattle.ngc_line_reader.specs.declared.program.fault.ReadFault.{ReadFault}
 use Rattle.ngc_line_reader.specs.declared.program.fault.ReadFault.TheVariants as reads
 use Rattle.ngc_machine.specs.Machine.{MachineFile}
 use Rattle.ngc_machine.specs.MachineText.{machine_file}
 use Rattle.ngc_machine.specs.ToolText.{tool_table}
 use Rattle.ngc_simulator.specs.Setups.{FileBytes, IfMachine, KeepsFiles}
-use Rattle.ngc_simulator.specs.Shops.{GivesShop, machine_answer, tools_answer}
-use Rattle.ngc_simulator.specs.Jobs.{NeverReads}
-use Rattle.ngc_simulator.specs.Running.{ReadsNoFile}
-use Rattle.ngc_simulator.specs.Unread.{Kind, OfMachine, OfTools, OfProgram, OfCertificate, IsReadAs, Input, setup_input, shop_inputs, AtFirst, TellsKindUnread, TellsFirstUnread, FailsBy, FailsByInput, program_unread, certificate_unread, setup_unread, unread_by}
-use Rattle.ngc_simulator.specs.declared.certifier.CertifyFault.{CertifyFault}
-use Rattle.ngc_simulator.specs.declared.certifier.CertifyFault.TheVariants as certifies
-use Rattle.ngc_simulator.specs.declared.checking.CheckingFault.{CheckingFault}
-use Rattle.ngc_simulator.specs.declared.checking.CheckingFault.TheVariants as checks
+use Rattle.ngc_simulator.specs.Shops.{GivesShop}
+use Rattle.ngc_simulator.specs.Faults.{OfCertifying, OfChecking, OfDrawing, OfListing, OfRunning}
+use Rattle.ngc_simulator.specs.Unread.{Kind, OfMachine, OfTools, OfProgram, OfCertificate, OfEvents, IsReadAs, Input, setup_input, shop_inputs, AtFirst, TellsKindUnread, TellsFirstUnread, FailsBy, FailsByInput, program_unread, certificate_unread, unread_by}
 use Rattle.ngc_simulator.specs.declared.fault.AnswerFault.{AnswerFault}
 use Rattle.ngc_simulator.specs.declared.fault.AnswerFault.TheVariants as answers
-use Rattle.ngc_simulator.specs.declared.fault.SetupFault.{SetupFault}
-use Rattle.ngc_simulator.specs.declared.fault.SetupFault.TheVariants.{Refused, Unread}
-use Rattle.ngc_simulator.specs.declared.lister.ListFault.{ListFault}
-use Rattle.ngc_simulator.specs.declared.lister.ListFault.TheVariants as lists
-use Rattle.ngc_simulator.specs.declared.running.RunningFault.{RunningFault}
-use Rattle.ngc_simulator.specs.declared.running.RunningFault.TheVariants as running
 use Rattle.ngc_simulator.specs.declared.setup.Shop.{Shop}
-use Rattle.ngc_simulator.proofs.JobLaws.{if_known}
+use Rattle.ngc_simulator.proofs.JobLaws.{if_known, turned}
 
 -- each of these files is read
 abbrev pub AllRead : FileBytes → List Input → Type 0
@@ -37,6 +28,10 @@ AllRead bytes (input ∷ more) = IfSome (bytes input.name) (IsReadAs input.kind)
 -- what one file by itself, or the only one of some, tells
 abbrev pub Told : (Option (List ℕ) → Type 0) → FileBytes → List Input → ℕ → ℕ → Option InputFault → Type 0
 Told fails bytes files old new why = MatchOption why (new ≡ old) (TellsFirstUnread fails bytes files old new)
+
+pub unread_told : {T : Type 0} (fails : Option (List ℕ) → Type 0) (bytes : FileBytes) (files : List Input) (old new : ℕ) (r : Result T AnswerFault) (e : AnswerFault)
+    → IsErrAnd r (λ a. a ≡ e) → Told fails bytes files old new (unread_by e) → FailsByInput fails bytes files old new r
+unread_told fails bytes files old new r e is told = turned r e (FailsByInput fails bytes files old new) is told
 
 pub first_before : (P : Kind → Option (List ℕ) → Type 0) (bytes : FileBytes) (files more : List Input) → AtFirst P bytes files → AtFirst P bytes (files ++ more)
 first_before P bytes [] more first = absurd first
@@ -67,6 +62,20 @@ told_behind fails bytes after files kind name more old mid new (Some fault) all 
     (inl (subst (λ n. TellsKindUnread fails kind (bytes name) n new fault) same (subst (λ (known : Option (List ℕ)). TellsKindUnread fails kind known mid new fault) same_bytes tells)))
 told_behind fails bytes after files kind name more old mid new (Some fault) all same_bytes same (inr (read, none)) = absurd none
 
+-- a file that couldn't be opened, behind files that were read and before others
+pub unopened : (fails : Option (List ℕ) → Type 0) (bytes : FileBytes) (files : List Input) (kind : Kind) (name : Option (List ℕ)) (more : List Input) (old mid new : ℕ) (e : InputFault)
+    → e ≡ inputs.Device → AllRead bytes files → mid ≡ old → Rises mid new → Told fails bytes (files ++ record { kind = kind; name = name } ∷ more) old new (Some e)
+unopened fails bytes files kind name more old mid new e is all same rises =
+    subst (λ (f : InputFault). Told fails bytes (files ++ record { kind = kind; name = name } ∷ more) old new (Some f)) (sym is)
+    (told_behind fails bytes bytes files kind name more old mid new (Some inputs.Device) all refl same (inl (by_kind kind)))
+  where
+    by_kind : (kind : Kind) → TellsKindUnread fails kind (bytes name) mid new inputs.Device
+    by_kind OfMachine = inl rises
+    by_kind OfTools = inl rises
+    by_kind OfProgram = inl rises
+    by_kind OfCertificate = inl rises
+    by_kind OfEvents = inl rises
+
 -- ---- that a file was read
 
 is_ok_of : {T E : Type 0} (says : Result T E) (value : T) → says ≡ Ok value → IsOk says
@@ -88,31 +97,14 @@ shop_read bytes (Some m) (Some t) shop said =
 
 -- ---- the machine file and the tool table
 
-pub machine_told : (fails : Option (List ℕ) → Type 0) (bytes : FileBytes) (machine tools : Option (List ℕ)) (old new : ℕ) (fault : SetupFault) (answer : AnswerFault)
-    → answer ≡ machine_answer fault → Told fails bytes (setup_input OfMachine machine) old new (setup_unread fault)
-    → FailsByInput {T = Shop} fails bytes (shop_inputs machine tools) old new (Err answer)
-machine_told fails bytes machine tools old new fault answer is told =
-    subst (λ a. FailsByInput {T = Shop} fails bytes (shop_inputs machine tools) old new (Err a)) (sym is) (of_fault fault told)
-  where
-    of_fault : (fault : SetupFault) → Told fails bytes (setup_input OfMachine machine) old new (setup_unread fault)
-        → FailsByInput {T = Shop} fails bytes (shop_inputs machine tools) old new (Err (machine_answer fault))
-    of_fault (Refused e) told = told
-    of_fault (Unread e) told = told_before fails bytes (setup_input OfMachine machine) (setup_input OfTools tools) old new (Some e) told
-
--- the tool table, behind a machine file that was read
-pub tools_told : (fails : Option (List ℕ) → Type 0) (bytes after : FileBytes) (machine tools : Option (List ℕ)) (old mid new : ℕ) (fault : SetupFault) (answer : AnswerFault)
-    → answer ≡ tools_answer fault → AllRead bytes (setup_input OfMachine machine) → KeepsFiles bytes after → mid ≡ old
-    → Told fails after (setup_input OfTools tools) mid new (setup_unread fault)
-    → FailsByInput {T = Shop} fails bytes (shop_inputs machine tools) old new (Err answer)
-tools_told fails bytes after machine tools old mid new fault answer is read keeps same told =
-    subst (λ a. FailsByInput {T = Shop} fails bytes (shop_inputs machine tools) old new (Err a)) (sym is) (of_fault tools fault told)
-  where
-    of_fault : (tools : Option (List ℕ)) (fault : SetupFault) → Told fails after (setup_input OfTools tools) mid new (setup_unread fault)
-        → FailsByInput {T = Shop} fails bytes (shop_inputs machine tools) old new (Err (tools_answer fault))
-    of_fault tools (Refused e) told = told ∙ same
-    of_fault None (Unread e) told = absurd told
-    of_fault (Some name) (Unread e) told =
-        told_behind fails bytes after (setup_input OfMachine machine) OfTools (Some name) [] old mid new (Some e) read (keeps (Some name)) same told
+-- behind a machine file that was read
+pub tools_told : (fails : Option (List ℕ) → Type 0) (bytes after : FileBytes) (machine tools : Option (List ℕ)) (old mid new : ℕ) (why : Option InputFault)
+    → AllRead bytes (setup_input OfMachine machine) → KeepsFiles bytes after → mid ≡ old
+    → Told fails after (setup_input OfTools tools) mid new why → Told fails bytes (shop_inputs machine tools) old new why
+tools_told fails bytes after machine tools old mid new None read keeps same told = told ∙ same
+tools_told fails bytes after machine None old mid new (Some e) read keeps same told = absurd told
+tools_told fails bytes after machine (Some name) old mid new (Some e) read keeps same told =
+    told_behind fails bytes after (setup_input OfMachine machine) OfTools (Some name) [] old mid new (Some e) read (keeps (Some name)) same told
 
 pub machine_read : (bytes : FileBytes) (machine : Option (List ℕ)) (m : MachineFile) → IfMachine bytes machine (λ says. says ≡ Ok m) → AllRead bytes (setup_input OfMachine machine)
 machine_read bytes None m said = tt
@@ -150,51 +142,64 @@ certificate_tried fails bytes name old new (Err fault) same failed = certificate
 
 -- ---- what a fault of a command tells, where its last file was opened behind files that were read
 
-pub list_told : (fails : Option (List ℕ) → Type 0) (bytes : FileBytes) (files : List Input) (name : Option (List ℕ)) (old new : ℕ) (fault : ListFault)
-    → AllRead bytes files → new ≡ old → (fault ≡ lists.Read reads.Device → fails (bytes name))
-    → FailsByInput {T = Unit {0}} fails bytes (files ++ record { kind = OfProgram; name = name } ∷ []) old new (Err (answers.List fault))
-list_told fails bytes files name old new (lists.Read e) all same failed =
+pub program_told : (fails : Option (List ℕ) → Type 0) (bytes : FileBytes) (files : List Input) (name : Option (List ℕ)) (old new : ℕ) (e : ReadFault)
+    → AllRead bytes files → new ≡ old → (answers.Read e ≡ answers.Read reads.Device → fails (bytes name))
+    → Told fails bytes (files ++ record { kind = OfProgram; name = name } ∷ []) old new (program_unread e)
+program_told fails bytes files name old new e all same failed =
     told_behind fails bytes bytes files OfProgram name [] old old new (program_unread e) all refl refl
-    (program_failed fails bytes name old new e same (λ is. failed (ap lists.Read is)))
-list_told fails bytes files name old new (lists.Program e) all same failed = same
-list_told fails bytes files name old new (lists.Write e) all same failed = same
+    (program_failed fails bytes name old new e same (λ is. failed (ap answers.Read is)))
 
-pub certify_told : (fails : Option (List ℕ) → Type 0) (bytes : FileBytes) (files : List Input) (name : Option (List ℕ)) (old new : ℕ) (fault : CertifyFault)
-    → AllRead bytes files → new ≡ old → (fault ≡ certifies.Read reads.Device → fails (bytes name))
-    → FailsByInput {T = Unit {0}} fails bytes (files ++ record { kind = OfProgram; name = name } ∷ []) old new (Err (answers.Certify fault))
-certify_told fails bytes files name old new (certifies.Read e) all same failed =
-    told_behind fails bytes bytes files OfProgram name [] old old new (program_unread e) all refl refl
-    (program_failed fails bytes name old new e same (λ is. failed (ap certifies.Read is)))
-certify_told fails bytes files name old new (certifies.Program setting e) all same failed = same
-certify_told fails bytes files name old new (certifies.Make e) all same failed = same
-certify_told fails bytes files name old new (certifies.Write e) all same failed = same
+pub list_told : (fails : Option (List ℕ) → Type 0) (bytes : FileBytes) (files : List Input) (name : Option (List ℕ)) (old new : ℕ) (fault : AnswerFault)
+    → OfListing fault → AllRead bytes files → new ≡ old → (fault ≡ answers.Read reads.Device → fails (bytes name))
+    → Told fails bytes (files ++ record { kind = OfProgram; name = name } ∷ []) old new (unread_by fault)
+list_told fails bytes files name old new (answers.Read e) of all same failed = program_told fails bytes files name old new e all same failed
+list_told fails bytes files name old new (answers.Program e) of all same failed = same
+list_told fails bytes files name old new (answers.Write e) of all same failed = same
+list_told fails bytes files name old new _ of all same failed = absurd of
+
+pub certify_told : (fails : Option (List ℕ) → Type 0) (bytes : FileBytes) (files : List Input) (name : Option (List ℕ)) (old new : ℕ) (fault : AnswerFault)
+    → OfCertifying fault → AllRead bytes files → new ≡ old → (fault ≡ answers.Read reads.Device → fails (bytes name))
+    → Told fails bytes (files ++ record { kind = OfProgram; name = name } ∷ []) old new (unread_by fault)
+certify_told fails bytes files name old new (answers.Read e) of all same failed = program_told fails bytes files name old new e all same failed
+certify_told fails bytes files name old new (answers.Refused setting e) of all same failed = same
+certify_told fails bytes files name old new (answers.Make e) of all same failed = same
+certify_told fails bytes files name old new (answers.Write e) of all same failed = same
+certify_told fails bytes files name old new _ of all same failed = absurd of
 
 -- a program that is opened by its name once more
-pub program_again : (fails : Option (List ℕ) → Type 0) (bytes later : FileBytes) (files : List Input) (program : Option (List ℕ)) (name : List ℕ) (old mid new : ℕ) (answer : CertifyFault)
+pub program_again : (fails : Option (List ℕ) → Type 0) (bytes later : FileBytes) (files : List Input) (program : Option (List ℕ)) (name : List ℕ) (old mid new : ℕ) (answer : AnswerFault)
     → program ≡ Some name → AllRead bytes files → later (Some name) ≡ bytes (Some name) → mid ≡ old
-    → FailsByInput {T = Unit {0}} fails later (record { kind = OfProgram; name = Some name } ∷ []) mid new (Err (answers.Certify answer))
-    → FailsByInput {T = Unit {0}} fails bytes (files ++ record { kind = OfProgram; name = program } ∷ []) old new (Err (answers.Certify answer))
+    → Told fails later (record { kind = OfProgram; name = Some name } ∷ []) mid new (unread_by answer)
+    → Told fails bytes (files ++ record { kind = OfProgram; name = program } ∷ []) old new (unread_by answer)
 program_again fails bytes later files program name old mid new answer named all same_bytes same told =
-    subst (λ (p : Option (List ℕ)). FailsByInput {T = Unit {0}} fails bytes (files ++ record { kind = OfProgram; name = p } ∷ []) old new (Err (answers.Certify answer))) (sym named)
-    (told_behind fails bytes later files OfProgram (Some name) [] old mid new (unread_by (answers.Certify answer)) all same_bytes same told)
+    subst (λ (p : Option (List ℕ)). Told fails bytes (files ++ record { kind = OfProgram; name = p } ∷ []) old new (unread_by answer)) (sym named)
+    (told_behind fails bytes later files OfProgram (Some name) [] old mid new (unread_by answer) all same_bytes same told)
 
-pub check_told : (fails : Option (List ℕ) → Type 0) (bytes : FileBytes) (files : List Input) (name : Option (List ℕ)) (old new : ℕ) (fault : CheckingFault)
-    → NeverReads {T = Unit {0}} (Err fault) → AllRead bytes files → new ≡ old → (fault ≡ checks.Certificate texts.ReadFailed → fails (bytes name))
-    → FailsByInput {T = Unit {0}} fails bytes (files ++ record { kind = OfCertificate; name = name } ∷ []) old new (Err (answers.Check fault))
-check_told fails bytes files name old new (checks.Read e) never all same failed = absurd never
-check_told fails bytes files name old new (checks.Certificate e) never all same failed =
+pub check_told : (fails : Option (List ℕ) → Type 0) (bytes : FileBytes) (files : List Input) (name : Option (List ℕ)) (old new : ℕ) (fault : AnswerFault)
+    → OfChecking fault → AllRead bytes files → new ≡ old → (fault ≡ answers.Certificate texts.ReadFailed → fails (bytes name))
+    → Told fails bytes (files ++ record { kind = OfCertificate; name = name } ∷ []) old new (unread_by fault)
+check_told fails bytes files name old new (answers.Certificate e) of all same failed =
     told_behind fails bytes bytes files OfCertificate name [] old old new (certificate_unread e) all refl refl
-    (certificate_failed fails bytes name old new e same (λ is. failed (ap checks.Certificate is)))
-check_told fails bytes files name old new (checks.Check e) never all same failed = same
-check_told fails bytes files name old new (checks.Write e) never all same failed = same
+    (certificate_failed fails bytes name old new e same (λ is. failed (ap answers.Certificate is)))
+check_told fails bytes files name old new (answers.Check e) of all same failed = same
+check_told fails bytes files name old new (answers.Write e) of all same failed = same
+check_told fails bytes files name old new _ of all same failed = absurd of
 
-pub run_told : (fails : Option (List ℕ) → Type 0) (bytes : FileBytes) (files : List Input) (old new : ℕ) (fault : RunningFault)
-    → ReadsNoFile {T = Unit {0}} (Err fault) → new ≡ old → FailsByInput {T = Unit {0}} fails bytes files old new (Err (answers.Run fault))
-run_told fails bytes files old new (running.Read e) never same = absurd never
-run_told fails bytes files old new (running.Certificate e) never same = absurd never
-run_told fails bytes files old new (running.Events e) never same = same
-run_told fails bytes files old new (running.Check e) never same = same
-run_told fails bytes files old new (running.Run e) never same = same
+pub run_told : (fails : Option (List ℕ) → Type 0) (bytes : FileBytes) (files : List Input) (old new : ℕ) (fault : AnswerFault)
+    → OfRunning fault → new ≡ old → Told fails bytes files old new (unread_by fault)
+run_told fails bytes files old new (answers.Events e) of same = same
+run_told fails bytes files old new (answers.Check e) of same = same
+run_told fails bytes files old new answers.Memory of same = same
+run_told fails bytes files old new (answers.Write e) of same = same
+run_told fails bytes files old new _ of same = absurd of
+
+pub draw_told : (fails : Option (List ℕ) → Type 0) (bytes : FileBytes) (files : List Input) (old new : ℕ) (fault : AnswerFault)
+    → OfDrawing fault → new ≡ old → Told fails bytes files old new (unread_by fault)
+draw_told fails bytes files old new (answers.Program e) of same = same
+draw_told fails bytes files old new (answers.Check e) of same = same
+draw_told fails bytes files old new answers.Memory of same = same
+draw_told fails bytes files old new (answers.Write e) of same = same
+draw_told fails bytes files old new _ of same = absurd of
 
 -- a fault that tells of no file, where none is opened
 pub nothing_read : {T : Type 0} (fails : Option (List ℕ) → Type 0) (bytes : FileBytes) (files : List Input) (count : ℕ) (outcome : Result T AnswerFault)

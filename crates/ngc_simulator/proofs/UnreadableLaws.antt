@@ -11,12 +11,12 @@ use Rattle.ngc_line_reader.specs.ProgramView.{FaultIs}
 use Rattle.ngc_line_reader.specs.declared.program.fault.ReadFault.{ReadFault}
 use Rattle.ngc_report.specs.declared.form.Form.{Form}
 use Rattle.ngc_simulator.specs.Answers.{ReportComes, ReportsOn, UnreadableOn, form_asked, request_of}
+use Rattle.ngc_simulator.specs.Faults.{OfCertifying, OfTelling}
 use Rattle.ngc_simulator.specs.Reporting.{Reports}
 use Rattle.ngc_simulator.specs.Setups.{FileBytes, KeepsFiles}
 use Rattle.ngc_simulator.specs.Shops.{GivesShop}
 use Rattle.ngc_simulator.specs.Unreadable.{TellsUnreadable, is_of_text, unreadable_text}
-use Rattle.ngc_simulator.specs.declared.certifier.CertifyFault.{CertifyFault}
-use Rattle.ngc_simulator.specs.declared.certifier.CertifyFault.TheVariants as certifies
+use Rattle.ngc_simulator.specs.declared.fault.AnswerFault.{AnswerFault}
 use Rattle.ngc_simulator.specs.declared.fault.AnswerFault.TheVariants as answers
 use Rattle.ngc_simulator.specs.declared.setup.Shop.{Shop}
 use Rattle.ngc_simulator.proofs.JobLaws.{if_known}
@@ -36,25 +36,24 @@ kept_keeps (Some xs) None new kept again = absurd kept
 kept_keeps (Some xs) (Some ys) None kept again = absurd again
 kept_keeps (Some xs) (Some ys) (Some zs) kept again = again ∙ kept
 
-tells_behind : (form : Form) (name : Option (List ℕ)) (bytes : List ℕ) (old mid new : Option (List ℕ)) (answer : CertifyFault)
+tells_behind : (form : Form) (name : Option (List ℕ)) (bytes : List ℕ) (old mid new : Option (List ℕ)) (answer : AnswerFault)
     → Keeps old mid → TellsUnreadable form name bytes mid new answer → TellsUnreadable form name bytes old new answer
-tells_behind form name bytes old mid new (certifies.Read e) kept (is, inl again) = (is, inl (kept_keeps old mid new kept again))
-tells_behind form name bytes old mid new (certifies.Read e) kept (is, inr (named, of_text, wrote)) = (is, inr (named, of_text, kept_appends old mid new _ kept wrote))
-tells_behind form name bytes old mid new (certifies.Program s e) kept tells = tells
-tells_behind form name bytes old mid new (certifies.Make e) kept tells = tells
-tells_behind form name bytes old mid new (certifies.Write e) kept (fault, named, of_text, is, begins) =
+tells_behind form name bytes old mid new (answers.Read e) kept (is, inl again) = (is, inl (kept_keeps old mid new kept again))
+tells_behind form name bytes old mid new (answers.Read e) kept (is, inr (named, of_text, wrote)) = (is, inr (named, of_text, kept_appends old mid new _ kept wrote))
+tells_behind form name bytes old mid new (answers.Write e) kept (fault, named, of_text, is, begins) =
     (fault, named, of_text, is, (begins.0, begins.1, begins.2, kept_appends old mid new _ kept begins.3))
+tells_behind form name bytes old mid new _ kept tells = absurd tells
 
 -- ---- of the text of a file that is read again
 
 -- where its bytes are known and the fault is theirs
-abbrev pub TellsKnown : Form → Option (List ℕ) → Option (List ℕ) → Option (List ℕ) → Option (List ℕ) → ReadFault → CertifyFault → Type 0
+abbrev pub TellsKnown : Form → Option (List ℕ) → Option (List ℕ) → Option (List ℕ) → Option (List ℕ) → ReadFault → AnswerFault → Type 0
 TellsKnown form name known old new fault answer = IfSome known (λ bytes. FaultIs fault (program_of bytes) → TellsUnreadable form name bytes old new answer)
 
 pub told_begun : (form : Form) (name known : Option (List ℕ)) (items slice : List ℕ) (old new : Option (List ℕ)) (fault : ReadFault) (stopped : WriteFault) → slice ≡ items → IfSome known (λ bytes. items ≡ bytes)
-    → IsSome name → is_of_text fault ≡ true → AppendsBeginning old new (unreadable_text form fault slice) → TellsKnown form name known old new fault (certifies.Write stopped)
+    → IsSome name → is_of_text fault ≡ true → AppendsBeginning old new (unreadable_text form fault slice) → TellsKnown form name known old new fault (answers.Write stopped)
 told_begun form name known items slice old new fault stopped same read named of_text wrote =
-    carried known items slice (λ bytes. FaultIs fault (program_of bytes) → TellsUnreadable form name bytes old new (certifies.Write stopped)) same read
+    carried known items slice (λ bytes. FaultIs fault (program_of bytes) → TellsUnreadable form name bytes old new (answers.Write stopped)) same read
     (λ is. (fault, named, of_text, is, wrote))
 
 -- ---- on the files that the command line names
@@ -68,52 +67,48 @@ module _ (bytes after : FileBytes) (options : ReportOptions) (shop : Shop) (sour
   known : (P : List ℕ → Type 0) → IfSome source P → Known P
   known P p = of_file _ source P (is_source ∙ keeps (option_map (λ n. n.now) options.program)) p
 
-  abbrev Reported : Option (List ℕ) → Result (Unit {0}) CertifyFault → List ℕ → Type 0
+  abbrev Reported : Option (List ℕ) → Result (Unit {0}) AnswerFault → List ℕ → Type 0
   Reported new outcome text = Reports (setup_of shop.machine shop.tools) text (request_of options) old new outcome
 
-  reports_on : (new : Option (List ℕ)) (outcome : Result (Unit {0}) CertifyFault) → Known (Reported new outcome) → ReportsOn bytes options old new outcome
+  reports_on : (new : Option (List ℕ)) (outcome : Result (Unit {0}) AnswerFault) → Known (Reported new outcome) → ReportsOn bytes options old new outcome
   reports_on new outcome reports =
       on_setup bytes (Some options.machine.now) (Some options.tools.now) (setup_of shop.machine shop.tools)
       (λ setup. Known (λ text. Reports setup text (request_of options) old new outcome)) said.0 said.1 reports
 
-  abbrev Tells : Option (List ℕ) → CertifyFault → List ℕ → Type 0
+  abbrev Tells : Option (List ℕ) → AnswerFault → List ℕ → Type 0
   Tells new answer text = TellsUnreadable (form_asked options.json) (option_map (λ n. n.now) options.program) text old new answer
 
-  unreadable_on : (new : Option (List ℕ)) (answer : CertifyFault) → Known (Tells new answer) → UnreadableOn bytes options old new answer
+  unreadable_on : (new : Option (List ℕ)) (answer : AnswerFault) → Known (Tells new answer) → UnreadableOn bytes options old new answer
   unreadable_on new answer tells =
       on_setup bytes (Some options.machine.now) (Some options.tools.now) (setup_of shop.machine shop.tools) (λ setup. Known (Tells new answer)) said.0 said.1 tells
 
   -- where nothing is told beside the report
-  pub reported_comes : (new : Option (List ℕ)) (fault : CertifyFault) → IfSome source (Reported new (Err fault)) → ReportComes bytes options old new (Err (answers.Certify fault))
-  reported_comes new (certifies.Read e) reports =
-      unreadable_on new (certifies.Read e)
-      (if_known _ (Reported new (Err (certifies.Read e))) (Tells new (certifies.Read e)) (λ text r. (r.0, inl r.1)) (known (Reported new (Err (certifies.Read e))) reports))
-  reported_comes new (certifies.Program s e) reports = reports_on new (Err (certifies.Program s e)) (known (Reported new (Err (certifies.Program s e))) reports)
-  reported_comes new (certifies.Make e) reports = reports_on new (Err (certifies.Make e)) (known (Reported new (Err (certifies.Make e))) reports)
-  reported_comes new (certifies.Write e) reports = inl (reports_on new (Err (certifies.Write e)) (known (Reported new (Err (certifies.Write e))) reports))
-
-  -- where the fault of the program is told
-  tells_comes : (new : Option (List ℕ)) (answer : CertifyFault) → Known (Tells new answer) → ReportComes bytes options old new (Err (answers.Certify answer))
-  tells_comes new (certifies.Read e) tells = unreadable_on new (certifies.Read e) tells
-  tells_comes new (certifies.Program s e) tells =
-      reports_on new (Err (certifies.Program s e)) (if_known _ (Tells new (certifies.Program s e)) (Reported new (Err (certifies.Program s e))) (λ text none. absurd none) tells)
-  tells_comes new (certifies.Make e) tells =
-      reports_on new (Err (certifies.Make e)) (if_known _ (Tells new (certifies.Make e)) (Reported new (Err (certifies.Make e))) (λ text none. absurd none) tells)
-  tells_comes new (certifies.Write e) tells = inr (unreadable_on new (certifies.Write e) tells)
+  pub reported_comes : (new : Option (List ℕ)) (fault : AnswerFault) → OfCertifying fault → IfSome source (Reported new (Err fault)) → ReportComes bytes options old new (Err fault)
+  reported_comes new (answers.Read e) of reports =
+      inr (inr (
+        tt,
+        unreadable_on new (answers.Read e)
+            (if_known _ (Reported new (Err (answers.Read e))) (Tells new (answers.Read e)) (λ text r. (r.0, inl r.1)) (known (Reported new (Err (answers.Read e))) reports)),
+      ))
+  reported_comes new fault of reports = inr (inl (of, reports_on new (Err fault) (known (Reported new (Err fault)) reports)))
 
   -- of two facts of the same file
   both_known : (k : Option (List ℕ)) (P Q R : List ℕ → Type 0) → ((text : List ℕ) → P text → Q text → R text) → IfSome k P → IfSome k Q → IfSome k R
   both_known None P Q R on p q = tt
   both_known (Some text) P Q R on p q = on text p q
 
-  pub told_comes : (later : FileBytes) (name : List ℕ) (mid new : Option (List ℕ)) (fault : ReadFault) (answer : CertifyFault)
-      → option_map (λ n. n.now) options.program ≡ Some name → KeepsFiles after later → IfSome source (Reported mid (Err (certifies.Read fault)))
-      → TellsKnown (form_asked options.json) (Some name) (later (Some name)) mid new fault answer → ReportComes bytes options old new (Err (answers.Certify answer))
-  told_comes later name mid new fault answer named keeps_later reports tells = tells_comes new answer
-      (both_known _ (Reported mid (Err (certifies.Read fault))) (λ text. FaultIs fault (program_of text) → TellsUnreadable (form_asked options.json) (Some name) text mid new answer) (Tells new answer)
-      (λ text r told.
-      tells_behind (form_asked options.json) _ text old mid new answer r.1
-      (subst (λ (n : Option (List ℕ)). TellsUnreadable (form_asked options.json) n text mid new answer) (sym named) (told r.0)))
-      (known (Reported mid (Err (certifies.Read fault))) reports)
-      (subst (λ (n : Option (List ℕ)). TellsKnown (form_asked options.json) (Some name) (bytes n) mid new fault answer) (sym named)
-      (of_file (bytes (Some name)) (later (Some name)) (λ text. FaultIs fault (program_of text) → TellsUnreadable (form_asked options.json) (Some name) text mid new answer) (keeps_later (Some name) ∙ keeps (Some name)) tells)))
+  -- where the fault of the program is told
+  pub told_comes : (later : FileBytes) (name : List ℕ) (mid new : Option (List ℕ)) (fault : ReadFault) (answer : AnswerFault) → OfTelling answer
+      → option_map (λ n. n.now) options.program ≡ Some name → KeepsFiles after later → IfSome source (Reported mid (Err (answers.Read fault)))
+      → TellsKnown (form_asked options.json) (Some name) (later (Some name)) mid new fault answer → ReportComes bytes options old new (Err answer)
+  told_comes later name mid new fault answer of named keeps_later reports tells = inr (inr (
+    of,
+    unreadable_on new answer
+        (both_known _ (Reported mid (Err (answers.Read fault))) (λ text. FaultIs fault (program_of text) → TellsUnreadable (form_asked options.json) (Some name) text mid new answer) (Tells new answer)
+        (λ text r told.
+        tells_behind (form_asked options.json) _ text old mid new answer r.1
+        (subst (λ (n : Option (List ℕ)). TellsUnreadable (form_asked options.json) n text mid new answer) (sym named) (told r.0)))
+        (known (Reported mid (Err (answers.Read fault))) reports)
+        (subst (λ (n : Option (List ℕ)). TellsKnown (form_asked options.json) (Some name) (bytes n) mid new fault answer) (sym named)
+        (of_file (bytes (Some name)) (later (Some name)) (λ text. FaultIs fault (program_of text) → TellsUnreadable (form_asked options.json) (Some name) text mid new answer) (keeps_later (Some name) ∙ keeps (Some name)) tells))),
+  ))

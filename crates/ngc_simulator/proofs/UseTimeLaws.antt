@@ -7,10 +7,11 @@ use Rattle.std.specs.Io.KnownBytes.{Appends}
 use Rattle.ngc_text.proofs.Appended.{appends_both}
 use Rattle.ngc_text.specs.Written.{AppendsBeginning}
 use Rattle.ngc_machine.specs.declared.tools.Tool.{Tool}
+use Rattle.ngc_report.specs.Words.{tool_text}
 use Rattle.ngc_report.specs.declared.form.Form.{Form}
 use Rattle.ngc_report.specs.declared.form.Form.TheVariants.{Words, Json}
 use Rattle.ngc_report.specs.declared.uses.ToolUse.{ToolUse}
-use Rattle.ngc_simulator.specs.Times.{clock_text, named_tool, three_digits, tool_value, use_time, use_times}
+use Rattle.ngc_simulator.specs.Times.{clock_text, three_digits, tool_value, use_time, use_times}
 use Rattle.ngc_simulator.specs.declared.done.RunTime.{RunTime}
 use Rattle.ngc_simulator.proofs.ReportLaws.{appends_as, begins_as, begins_first, begins_last}
 
@@ -48,7 +49,7 @@ none_left old now left all is h =
 same_time : (form : Form) (tool : Option Tool) (a b : RunTime) → a.ticks ≡ b.ticks → a.ticks_per_second ≡ b.ticks_per_second → use_time form tool a ≡ use_time form tool b
 unfolding use_time
 same_time Words tool a b same even =
-    ap₂ (λ x y. codes "With " ++ named_tool tool ++ codes " it takes " ++ decimal x ++ codes " ticks, " ++ (clock_text (x / y) ++ codes "." ++ three_digits (x % y * 1000 / y)) ++ codes ".\n") same even
+    ap₂ (λ x y. codes "With " ++ tool_text tool ++ codes " it takes " ++ decimal x ++ codes " ticks, " ++ (clock_text (x / y) ++ codes "." ++ three_digits (x % y * 1000 / y)) ++ codes ".\n") same even
 same_time Json tool a b same even =
     ap₂ (λ x y. codes ",\n{\"fact\":\"use_time\",\"tool\":" ++ tool_value tool ++ codes ",\"ticks\":" ++ decimal x ++ codes ",\"seconds\":"
     ++ (decimal (x / y) ++ codes "." ++ three_digits (x % y * 1000 / y)) ++ codes "}") same even

@@ -12,37 +12,28 @@ use Rattle.ngc_command_line.specs.declared.options.ShowOptions.{ShowOptions}
 use Rattle.ngc_command_line.specs.declared.options.Options.{Options}
 use Rattle.ngc_command_line.specs.declared.options.Options.TheVariants as commands
 use Rattle.ngc_fault_texts.specs.Numbers.{is_fault}
-use Rattle.ngc_fault_texts.specs.Told.{FailsByWriting as FailsByExplaining, Tells as TellsFault}
-use Rattle.ngc_fault_texts.specs.declared.telling.ExplainFault.TheVariants.{Unknown}
+use Rattle.ngc_fault_texts.specs.Told.{Tells as TellsFault}
+use Rattle.ngc_fault_texts.specs.declared.telling.ExplainFault.TheVariants.{Unknown, Write}
 use Rattle.ngc_text.specs.Failures.{Rises}
 use Rattle.ngc_text.specs.Written.{AppendsBeginning}
-use Rattle.ngc_text.specs.declared.writing.WriteFault.{WriteFault}
 use Rattle.ngc_run_log.specs.declared.report.Report.{Report}
-use Rattle.ngc_simulator.specs.declared.drawing.DrawingFault.{DrawingFault}
-use Rattle.ngc_simulator.specs.declared.drawing.DrawingFault.TheVariants.{UnknownView}
-use Rattle.ngc_simulator.specs.declared.lister.ListFault.{ListFault}
-use Rattle.ngc_simulator.specs.declared.certifier.CertifyFault.{CertifyFault}
-use Rattle.ngc_simulator.specs.declared.certifier.CertifyFault.TheVariants as certifies
-use Rattle.ngc_simulator.specs.declared.checking.CheckingFault.{CheckingFault}
-use Rattle.ngc_simulator.specs.declared.running.RunningFault.{RunningFault}
 use Rattle.ngc_simulator.specs.declared.fault.AnswerFault.{AnswerFault}
 use Rattle.ngc_simulator.specs.declared.fault.AnswerFault.TheVariants as answers
 use Rattle.ngc_simulator.specs.declared.done.Done.{Done}
 use Rattle.ngc_simulator.specs.declared.done.Done.TheVariants.{Quietly, RunThrough}
 use Rattle.ngc_simulator.specs.declared.done.RunTime.{RunTime}
-use Rattle.ngc_simulator.specs.declared.guide.GuideFault.TheVariants as guides
-use Rattle.ngc_simulator.specs.Guides.{FailsByGuiding, Guides, version_text}
-use Rattle.ngc_simulator.specs.Faults.{fault_line, answer_status}
-use Rattle.ngc_simulator.specs.Lists.{Lists, FailsByWriting}
+use Rattle.ngc_simulator.specs.Guides.{Guides, version_text}
+use Rattle.ngc_simulator.specs.Faults.{FailsByOutput, OfCertifying, OfChecking, OfDrawing, OfListing, OfReporting, OfRunning, OfTelling, OfWriting, OrOfReading, answer_status, fault_line}
+use Rattle.ngc_simulator.specs.Lists.{Lists}
 use Rattle.ngc_drawing.specs.declared.view.View.{View}
-use Rattle.ngc_simulator.specs.Drawing.{DrawsGiven, DrawsProgram, FailsByDrawing, view_named}
+use Rattle.ngc_simulator.specs.Drawing.{DrawsGiven, DrawsProgram, view_named}
 use Rattle.ngc_simulator.specs.Showing.{Shows}
 use Rattle.ngc_report.specs.declared.form.Form.{Form}
 use Rattle.ngc_report.specs.declared.form.Form.TheVariants.{Words, Json}
 use Rattle.ngc_simulator.specs.Reporting.{Reports}
 use Rattle.ngc_simulator.specs.declared.request.ReportRequest.{ReportRequest}
-use Rattle.ngc_simulator.specs.Jobs.{Certifies, FailsByCertifying, Checks, FailsByChecking}
-use Rattle.ngc_simulator.specs.Running.{Runs, RunsThrough, FailsByRunning}
+use Rattle.ngc_simulator.specs.Jobs.{Certifies, Checks}
+use Rattle.ngc_simulator.specs.Running.{Runs, RunsThrough}
 use Rattle.ngc_canonical.specs.State.{Setup}
 use Rattle.ngc_simulator.specs.Setups.{FileBytes, OnSetup}
 use Rattle.ngc_simulator.specs.Shops.{RefusesShop}
@@ -52,44 +43,44 @@ use Rattle.ngc_simulator.specs.Unreadable.{TellsUnreadable}
 use Rattle.ngc_simulator.specs.Unread.{Input, OfProgram, OfCertificate, OfEvents, shop_inputs, FailsByInput}
 
 -- what `list`, `certify`, `check` and `run` come to on the files that they name
-abbrev pub ListsOn : FileBytes → ListOptions → Option (List ℕ) → Option (List ℕ) → Result (Unit {0}) ListFault → Type 0
+abbrev pub ListsOn : FileBytes → ListOptions → Option (List ℕ) → Option (List ℕ) → Result (Unit {0}) AnswerFault → Type 0
 ListsOn bytes options old new outcome =
     OnSetup bytes (option_map (λ name. name.now) options.machine) (option_map (λ name. name.now) options.tools) (λ setup.
     IfSome (bytes (option_map (λ name. name.now) options.program)) (λ text. Lists setup text options.delete old new outcome))
 
-abbrev pub CertifiesOn : FileBytes → CertifyOptions → Option (List ℕ) → Option (List ℕ) → Result (Unit {0}) CertifyFault → Type 0
+abbrev pub CertifiesOn : FileBytes → CertifyOptions → Option (List ℕ) → Option (List ℕ) → Result (Unit {0}) AnswerFault → Type 0
 CertifiesOn bytes options old new outcome =
     OnSetup bytes (Some options.machine.now) (Some options.tools.now) (λ setup.
     IfSome (bytes (option_map (λ name. name.now) options.program)) (λ text. Certifies setup text options.cuts options.format old new outcome))
 
-abbrev pub ChecksOn : FileBytes → CheckOptions → Option (List ℕ) → Option (List ℕ) → Result (Unit {0}) CheckingFault → Type 0
+abbrev pub ChecksOn : FileBytes → CheckOptions → Option (List ℕ) → Option (List ℕ) → Result (Unit {0}) AnswerFault → Type 0
 ChecksOn bytes options old new outcome =
     OnSetup bytes (Some options.machine.now) (Some options.tools.now) (λ setup.
     IfSome (bytes (option_map (λ name. name.now) options.program)) (λ text.
     IfSome (bytes (Some options.certificate.now)) (λ certificate. Checks setup text certificate old new outcome)))
 
-abbrev pub RunsOn : FileBytes → RunOptions → Option (List ℕ) → Option (List ℕ) → Result Report RunningFault → Type 0
+abbrev pub RunsOn : FileBytes → RunOptions → Option (List ℕ) → Option (List ℕ) → Result Report AnswerFault → Type 0
 RunsOn bytes options old new outcome =
     OnSetup bytes (Some options.machine.now) (Some options.tools.now) (λ setup.
     IfSome (bytes (option_map (λ name. name.now) options.program)) (λ text.
     IfSome (bytes (Some options.certificate.now)) (λ certificate.
     IfSome (bytes (Some options.events.now)) (λ events. Runs options.recording setup text certificate events options.delete old new outcome))))
 
-abbrev pub RunsThroughOn : FileBytes → RunThroughOptions → Option (List ℕ) → Option (List ℕ) → Result Report RunningFault → Type 0
+abbrev pub RunsThroughOn : FileBytes → RunThroughOptions → Option (List ℕ) → Option (List ℕ) → Result Report AnswerFault → Type 0
 RunsThroughOn bytes options old new outcome =
     OnSetup bytes (Some options.machine.now) (Some options.tools.now) (λ setup.
     IfSome (bytes (option_map (λ name. name.now) options.program)) (λ text.
     IfSome (bytes (Some options.certificate.now)) (λ certificate. RunsThrough options.recording setup text certificate options.delete old new outcome)))
 
 -- a picture from this side, without a certificate or with one
-abbrev pub DrawsFrom : FileBytes → DrawOptions → View → Option (List ℕ) → Option (List ℕ) → Result (Unit {0}) DrawingFault → Type 0
+abbrev pub DrawsFrom : FileBytes → DrawOptions → View → Option (List ℕ) → Option (List ℕ) → Result (Unit {0}) AnswerFault → Type 0
 DrawsFrom bytes options view old new outcome =
     OnSetup bytes (Some options.machine.now) (Some options.tools.now) (λ setup.
     IfSome (bytes (option_map (λ name. name.now) options.program)) (λ text.
     MatchOption (option_map (λ name. name.now) options.certificate) (DrawsProgram setup text options.delete view old new outcome) (λ certificate.
     IfSome (bytes (Some certificate)) (λ given. DrawsGiven setup text given options.delete view old new outcome))))
 
-abbrev pub ShowsOn : FileBytes → ShowOptions → Option (List ℕ) → Option (List ℕ) → Result (Unit {0}) WriteFault → Type 0
+abbrev pub ShowsOn : FileBytes → ShowOptions → Option (List ℕ) → Option (List ℕ) → Result (Unit {0}) AnswerFault → Type 0
 ShowsOn bytes options old new outcome =
     OnSetup bytes (Some options.machine.now) (option_map (λ name. name.now) options.tools) (λ setup. Shows setup old new outcome)
 
@@ -106,75 +97,72 @@ request_of options = record {
   some_cuts = options.some_cuts;
 }
 
-abbrev pub ReportsOn : FileBytes → ReportOptions → Option (List ℕ) → Option (List ℕ) → Result (Unit {0}) CertifyFault → Type 0
+abbrev pub ReportsOn : FileBytes → ReportOptions → Option (List ℕ) → Option (List ℕ) → Result (Unit {0}) AnswerFault → Type 0
 ReportsOn bytes options old new outcome =
     OnSetup bytes (Some options.machine.now) (Some options.tools.now) (λ setup.
     IfSome (bytes (option_map (λ name. name.now) options.program)) (λ text. Reports setup text (request_of options) old new outcome))
 
--- A machine file or tool table that is refused leaves what was written as it was, and so does a file that isn't read.
+-- A machine file or tool table that is refused leaves what was written as it was, and so does a
+-- file that isn't read.
 abbrev pub StopsEarly : FileBytes → Option (List ℕ) → Option (List ℕ) → Option (List ℕ) → Option (List ℕ) → AnswerFault → Type 0
 StopsEarly bytes machine tools old new fault = RefusesShop bytes machine tools fault × Keeps old new
 
+-- What a command comes to: it is stopped, it does what it is for, or it fails by one of its faults.
+abbrev pub Comes : (AnswerFault → Type 0) → (AnswerFault → Type 0) → (Result (Unit {0}) AnswerFault → Type 0) → Result Done AnswerFault → Type 0
+Comes Stops MayFail Does (Ok Quietly) = Does (Ok tt)
+Comes Stops MayFail Does (Ok (RunThrough time)) = ⊥
+Comes Stops MayFail Does (Err fault) = Stops fault ⊎ (MayFail fault × Does (Err fault))
+
 abbrev pub ListComes : FileBytes → ListOptions → Option (List ℕ) → Option (List ℕ) → Result Done AnswerFault → Type 0
-ListComes bytes options old new (Ok Quietly) = ListsOn bytes options old new (Ok tt)
-ListComes bytes options old new (Ok (RunThrough time)) = ⊥
-ListComes bytes options old new (Err (answers.List fault)) = ListsOn bytes options old new (Err fault)
-ListComes bytes options old new (Err fault) =
-    StopsEarly bytes (option_map (λ name. name.now) options.machine) (option_map (λ name. name.now) options.tools) old new fault
+ListComes bytes options old new outcome =
+    Comes (StopsEarly bytes (option_map (λ name. name.now) options.machine) (option_map (λ name. name.now) options.tools) old new) OfListing
+    (ListsOn bytes options old new) outcome
 
 abbrev pub CertifyComes : FileBytes → CertifyOptions → Option (List ℕ) → Option (List ℕ) → Result Done AnswerFault → Type 0
-CertifyComes bytes options old new (Ok Quietly) = CertifiesOn bytes options old new (Ok tt)
-CertifyComes bytes options old new (Ok (RunThrough time)) = ⊥
-CertifyComes bytes options old new (Err (answers.Certify fault)) = CertifiesOn bytes options old new (Err fault)
-CertifyComes bytes options old new (Err fault) = StopsEarly bytes (Some options.machine.now) (Some options.tools.now) old new fault
+CertifyComes bytes options old new outcome =
+    Comes (StopsEarly bytes (Some options.machine.now) (Some options.tools.now) old new) OfCertifying (CertifiesOn bytes options old new) outcome
 
 abbrev pub CheckComes : FileBytes → CheckOptions → Option (List ℕ) → Option (List ℕ) → Result Done AnswerFault → Type 0
-CheckComes bytes options old new (Ok Quietly) = ChecksOn bytes options old new (Ok tt)
-CheckComes bytes options old new (Ok (RunThrough time)) = ⊥
-CheckComes bytes options old new (Err (answers.Check fault)) = ChecksOn bytes options old new (Err fault)
-CheckComes bytes options old new (Err fault) = StopsEarly bytes (Some options.machine.now) (Some options.tools.now) old new fault
+CheckComes bytes options old new outcome =
+    Comes (StopsEarly bytes (Some options.machine.now) (Some options.tools.now) old new) (OrOfReading OfChecking) (ChecksOn bytes options old new) outcome
 
 -- a run over events has a report, which the program does not write
+abbrev pub WithReport : (Result Report AnswerFault → Type 0) → Result (Unit {0}) AnswerFault → Type 0
+WithReport Does (Ok u) = (report : Report) × Does (Ok report)
+WithReport Does (Err fault) = Does (Err fault)
+
 abbrev pub RunComes : FileBytes → RunOptions → Option (List ℕ) → Option (List ℕ) → Result Done AnswerFault → Type 0
-RunComes bytes options old new (Ok Quietly) = (report : Report) × RunsOn bytes options old new (Ok report)
-RunComes bytes options old new (Ok (RunThrough time)) = ⊥
-RunComes bytes options old new (Err (answers.Run fault)) = RunsOn bytes options old new (Err fault)
-RunComes bytes options old new (Err fault) = StopsEarly bytes (Some options.machine.now) (Some options.tools.now) old new fault
+RunComes bytes options old new outcome =
+    Comes (StopsEarly bytes (Some options.machine.now) (Some options.tools.now) old new) (OrOfReading OfRunning) (WithReport (RunsOn bytes options old new)) outcome
 
 -- a view that isn't known is answered before a file is read
 abbrev pub DrawComes : FileBytes → DrawOptions → Option View → Option (List ℕ) → Option (List ℕ) → Result Done AnswerFault → Type 0
-DrawComes bytes options None old new outcome = (outcome ≡ Err (answers.Draw UnknownView)) × Keeps old new
-DrawComes bytes options (Some view) old new (Ok Quietly) = DrawsFrom bytes options view old new (Ok tt)
-DrawComes bytes options (Some view) old new (Ok (RunThrough time)) = ⊥
-DrawComes bytes options (Some view) old new (Err (answers.Draw fault)) = DrawsFrom bytes options view old new (Err fault)
-DrawComes bytes options (Some view) old new (Err fault) = StopsEarly bytes (Some options.machine.now) (Some options.tools.now) old new fault
+DrawComes bytes options None old new outcome = (outcome ≡ Err answers.UnknownView) × Keeps old new
+DrawComes bytes options (Some view) old new outcome =
+    Comes (StopsEarly bytes (Some options.machine.now) (Some options.tools.now) old new) (OrOfReading OfDrawing) (DrawsFrom bytes options view old new) outcome
 
 abbrev pub ShowComes : FileBytes → ShowOptions → Option (List ℕ) → Option (List ℕ) → Result Done AnswerFault → Type 0
-ShowComes bytes options old new (Ok Quietly) = ShowsOn bytes options old new (Ok tt)
-ShowComes bytes options old new (Ok (RunThrough time)) = ⊥
-ShowComes bytes options old new (Err (answers.Show fault)) =
-    ShowsOn bytes options old new (Err fault)
-    ⊎ TellsRefusal Words bytes (Some options.machine.now) (option_map (λ name. name.now) options.tools) old new (answers.Show fault)
-ShowComes bytes options old new (Err fault) =
-    TellsRefusal Words bytes (Some options.machine.now) (option_map (λ name. name.now) options.tools) old new fault
+ShowComes bytes options old new outcome =
+    Comes (TellsRefusal Words bytes (Some options.machine.now) (option_map (λ name. name.now) options.tools) old new) OfWriting
+    (ShowsOn bytes options old new) outcome
 
 -- what telling of a program that can't be read comes to on the files that they name
-abbrev pub UnreadableOn : FileBytes → ReportOptions → Option (List ℕ) → Option (List ℕ) → CertifyFault → Type 0
+abbrev pub UnreadableOn : FileBytes → ReportOptions → Option (List ℕ) → Option (List ℕ) → AnswerFault → Type 0
 UnreadableOn bytes options old new fault =
     OnSetup bytes (Some options.machine.now) (Some options.tools.now) (λ setup.
     IfSome (bytes (option_map (λ name. name.now) options.program)) (λ text.
     TellsUnreadable (form_asked options.json) (option_map (λ name. name.now) options.program) text old new fault))
 
--- its faults are those of certifying
+-- of a program that is read the report is told, and else its fault
+abbrev pub ReportFails : FileBytes → ReportOptions → Option (List ℕ) → Option (List ℕ) → AnswerFault → Type 0
+ReportFails bytes options old new fault =
+    (OfReporting fault × ReportsOn bytes options old new (Err fault)) ⊎ (OfTelling fault × UnreadableOn bytes options old new fault)
+
 abbrev pub ReportComes : FileBytes → ReportOptions → Option (List ℕ) → Option (List ℕ) → Result Done AnswerFault → Type 0
 ReportComes bytes options old new (Ok Quietly) = ReportsOn bytes options old new (Ok tt)
 ReportComes bytes options old new (Ok (RunThrough time)) = ⊥
-ReportComes bytes options old new (Err (answers.Certify (certifies.Read fault))) = UnreadableOn bytes options old new (certifies.Read fault)
-ReportComes bytes options old new (Err (answers.Certify (certifies.Write fault))) =
-    ReportsOn bytes options old new (Err (certifies.Write fault)) ⊎ UnreadableOn bytes options old new (certifies.Write fault)
-ReportComes bytes options old new (Err (answers.Certify fault)) = ReportsOn bytes options old new (Err fault)
 ReportComes bytes options old new (Err fault) =
-    TellsRefusal (form_asked options.json) bytes (Some options.machine.now) (Some options.tools.now) old new fault
+    TellsRefusal (form_asked options.json) bytes (Some options.machine.now) (Some options.tools.now) old new fault ⊎ ReportFails bytes options old new fault
 
 -- the run's ticks, and how many of them its machine gives a second
 pub record IsTimeOf (setup : Setup) (report : Report) (time : RunTime) : Type 0 where
@@ -189,26 +177,27 @@ abbrev pub RunThroughComes : FileBytes → RunThroughOptions → Option (List �
 RunThroughComes bytes options old new (Ok Quietly) = ⊥
 RunThroughComes bytes options old new (Ok (RunThrough time)) =
     (report : Report) × RunsThroughOn bytes options old new (Ok report) × IsTimeOn bytes options report time
-RunThroughComes bytes options old new (Err (answers.Run fault)) = RunsThroughOn bytes options old new (Err fault)
-RunThroughComes bytes options old new (Err fault) = StopsEarly bytes (Some options.machine.now) (Some options.tools.now) old new fault
+RunThroughComes bytes options old new (Err fault) =
+    StopsEarly bytes (Some options.machine.now) (Some options.tools.now) old new fault
+    ⊎ (OrOfReading OfRunning fault × RunsThroughOn bytes options old new (Err fault))
 
 -- `explain` reads no file, and neither do `help` and `version`
 abbrev pub ExplainComes : ℕ → Option (List ℕ) → Option (List ℕ) → Result Done AnswerFault → Type 0
 ExplainComes number old new (Ok Quietly) = TellsFault number old new (Ok tt)
 ExplainComes number old new (Ok (RunThrough time)) = ⊥
-ExplainComes number old new (Err (answers.Explain fault)) = TellsFault number old new (Err fault) × (fault ≡ Unknown → is_fault number ≡ false)
+ExplainComes number old new (Err answers.UnknownFault) = TellsFault number old new (Err Unknown) × (is_fault number ≡ false)
+ExplainComes number old new (Err (answers.Write fault)) = TellsFault number old new (Err (Write fault))
 ExplainComes number old new (Err fault) = ⊥
 
 abbrev pub HelpComes : Option (List ℕ) → Option (List ℕ) → Result Done AnswerFault → Type 0
 HelpComes old new (Ok Quietly) = Guides old new (Ok tt)
 HelpComes old new (Ok (RunThrough time)) = ⊥
-HelpComes old new (Err (answers.Guide fault)) = Guides old new (Err fault)
-HelpComes old new (Err fault) = ⊥
+HelpComes old new (Err fault) = Guides old new (Err fault)
 
 abbrev pub VersionComes : Option (List ℕ) → Option (List ℕ) → Result Done AnswerFault → Type 0
 VersionComes old new (Ok Quietly) = Appends old new version_text
 VersionComes old new (Ok (RunThrough time)) = ⊥
-VersionComes old new (Err (answers.Guide (guides.Write fault))) = AppendsBeginning old new version_text
+VersionComes old new (Err (answers.Write fault)) = AppendsBeginning old new version_text
 VersionComes old new (Err fault) = ⊥
 
 abbrev pub ComesBy : FileBytes → Options → Option (List ℕ) → Option (List ℕ) → Result Done AnswerFault → Type 0
@@ -224,21 +213,6 @@ ComesBy bytes (commands.Report options) old new outcome = ReportComes bytes opti
 ComesBy bytes (commands.Explain number) old new outcome = ExplainComes number old new outcome
 ComesBy bytes (commands.Help command) old new outcome = HelpComes old new outcome
 ComesBy bytes commands.Version old new outcome = VersionComes old new outcome
-
--- the first sink's count of failures rose where a write failed, and else it is what it was
-abbrev pub FailsByOutput : Result Done AnswerFault → ℕ → ℕ → Type 0
-FailsByOutput (Ok done) old new = new ≡ old
-FailsByOutput (Err (answers.List fault)) old new = FailsByWriting (Err fault) old new
-FailsByOutput (Err (answers.Certify fault)) old new = FailsByCertifying (Err fault) old new
-FailsByOutput (Err (answers.Check fault)) old new = FailsByChecking (Err fault) old new
-FailsByOutput (Err (answers.Run fault)) old new = FailsByRunning (Err fault) old new
-FailsByOutput (Err (answers.Draw fault)) old new = FailsByDrawing (Err fault) old new
-FailsByOutput (Err (answers.Show fault)) old new = Rises old new
-FailsByOutput (Err (answers.Explain fault)) old new = FailsByExplaining (Err fault) old new
-FailsByOutput (Err (answers.Guide fault)) old new = FailsByGuiding (Err fault) old new
-FailsByOutput (Err (answers.Machine fault)) old new = new ≡ old
-FailsByOutput (Err (answers.Tools fault)) old new = new ≡ old
-FailsByOutput (Err (answers.Input fault)) old new = new ≡ old
 
 -- the files of a command, in the order in which they are read
 abbrev pub program_input : Option (List ℕ) → Input
@@ -305,7 +279,8 @@ inputs_of (commands.Explain number) = []
 inputs_of (commands.Help command) = []
 inputs_of commands.Version = []
 
--- What a sink had taken and has taken now, where it is known, and how often it had failed and has failed now.
+-- What a sink had taken and has taken now, where it is known, and how often it had failed and has
+-- failed now.
 pub record Taking : Type 0 where
   pub old : Option (List ℕ)
   pub new : Option (List ℕ)
@@ -343,15 +318,16 @@ Tells (Ok Quietly) sink = (sink.new ≡ sink.old) × (sink.failures_now ≡ sink
 Tells (Ok (RunThrough time)) sink = Takes sink (time_line time)
 Tells (Err fault) sink = Takes sink (fault_line fault)
 
--- What files are given: their bytes, where they are known, which of them have a source that fails, and how often one couldn't be
--- opened before and now.
+-- What files are given: their bytes, where they are known, which of them have a source that fails,
+-- and how often one couldn't be opened before and now.
 pub record Given : Type 1 where
   pub bytes : FileBytes
   pub fails : Option (List ℕ) → Type 0
   pub failures : ℕ
   pub failures_now : ℕ
 
--- What the run came to, with the files that weren't read, the output, the status and the second sink that go with it.
+-- What the run came to, with the files that weren't read, the output, the status and the second
+-- sink that go with it.
 pub record Answers (files : Given) (options : Options) (output errors : Taking) (status : ℕ) : Type 0 where
   pub outcome : Result Done AnswerFault
   pub comes : ComesBy files.bytes options output.old output.new outcome

@@ -2,7 +2,6 @@
 use Rattle.std.specs.Prelude.{◌≡◌, ℕ, List, [], ◌∷◌, take, drop, Option, Some, None, Result, Ok, Err, Bool, codes, if◌then◌else◌}
 use Rattle.std.specs.Str.{bytes_eq}
 use Rattle.std.specs.Io.KnownBytes.{Appends, Keeps}
-use Rattle.ngc_text.specs.Failures.{Rises}
 use Rattle.ngc_text.specs.Written.{AppendsBeginning}
 use Rattle.ngc_fixed_length.specs.Grid.{grid}
 use Rattle.ngc_line_reader.specs.ProgramText.{program_of}
@@ -27,13 +26,12 @@ use Rattle.ngc_checker.specs.declared.fault.CheckFault.{CheckFault}
 use Rattle.ngc_checker.specs.declared.fault.CheckFault.TheVariants as checks
 use Rattle.ngc_checker.specs.FirstRefusal.{setting_fault}
 use Rattle.ngc_drawing.specs.Pictures.{picture_text}
-use Rattle.ngc_drawing.specs.declared.fault.DrawFault.TheVariants.{Memory, Write}
 use Rattle.ngc_drawing.specs.declared.refusal.Refusal.{Refusal}
 use Rattle.ngc_drawing.specs.declared.view.View.{View}
 use Rattle.ngc_drawing.specs.declared.view.View.TheVariants.{Top, Front, Side}
-use Rattle.ngc_simulator.specs.declared.drawing.DrawingFault.{DrawingFault}
-use Rattle.ngc_simulator.specs.declared.drawing.DrawingFault.TheVariants as draws
 use Rattle.ngc_simulator.specs.declared.drawing.Reached.{Reached}
+use Rattle.ngc_simulator.specs.declared.fault.AnswerFault.{AnswerFault}
+use Rattle.ngc_simulator.specs.declared.fault.AnswerFault.TheVariants as answers
 use Rattle.ngc_simulator.specs.Jobs.{IsNoCertificate}
 use Rattle.ngc_simulator.specs.Lists.{IsMeaning, IsRefused}
 
@@ -88,7 +86,8 @@ abbrev pub met_at : MachineFile → List Command → ℕ → Option ℕ
 met_at machine commands k =
     place_fault machine None (grid machine.step machine.start) or met_first machine (behind (start_of machine) (take k commands)) (drop k commands)
 
--- where no certificate is given: what making one for these commands tells, with as many pieces as `certify` tries by itself
+-- where no certificate is given: what making one for these commands tells, with as many pieces as
+-- `certify` tries by itself
 abbrev pub IsMadeRefusal : MachineFile → List Command → Option Refusal → Type 0
 IsMadeRefusal machine commands None = (c : CertificateData) × IsMade machine 8 commands commands (Ok c)
 IsMadeRefusal machine commands (Some refusal) =
@@ -124,7 +123,8 @@ refusal_answer (Some fault) = drawn_or fault (drawn_refusal fault)
 
 -- ---- the picture
 
--- the picture of what a file means with the motions of a certificate, and with what is refused of it
+-- the picture of what a file means with the motions of a certificate, and with what is refused of
+-- it
 pub record IsPicture (setup : Setup) (bytes : List ℕ) (block_delete : Bool) (view : View) (entries : List Entry) (IsShown : List Command → Option Refusal → Type 0) (text : List ℕ) : Type 0 where
   pub commands : List Command
   pub meaning : IsMeaning setup bytes block_delete (Ok commands)
@@ -132,45 +132,33 @@ pub record IsPicture (setup : Setup) (bytes : List ℕ) (block_delete : Bool) (v
   pub shows : IsShown commands refusal
   pub draws : text ≡ picture_text view setup.machine commands entries refusal
 
--- the picture was written, or a beginning of it where the sink failed; where there is none, what was written is as it was
-abbrev pub Draws : Setup → List ℕ → Bool → View → List Entry → (List Command → Option Refusal → Type 0) → Option (List ℕ) → Option (List ℕ) → Result (Unit {0}) DrawingFault → Type 0
+-- the picture was written, or a beginning of it where the sink failed; where there is none, what
+-- was written is as it was
+abbrev pub Draws : Setup → List ℕ → Bool → View → List Entry → (List Command → Option Refusal → Type 0) → Option (List ℕ) → Option (List ℕ) → Result (Unit {0}) AnswerFault → Type 0
 Draws setup bytes block_delete view entries IsShown old new (Ok u) = (text : List ℕ) × IsPicture setup bytes block_delete view entries IsShown text × Appends old new text
-Draws setup bytes block_delete view entries IsShown old new (Err (draws.Draw Write)) =
+Draws setup bytes block_delete view entries IsShown old new (Err (answers.Write fault)) =
     (text : List ℕ) × IsPicture setup bytes block_delete view entries IsShown text × AppendsBeginning old new text
-Draws setup bytes block_delete view entries IsShown old new (Err (draws.Draw Memory)) = Keeps old new
-Draws setup bytes block_delete view entries IsShown old new (Err (draws.Program fault)) = IsRefused setup bytes block_delete fault × Keeps old new
-Draws setup bytes block_delete view entries IsShown old new (Err (draws.Read fault)) = FaultIs fault (program_of bytes) × Keeps old new
-Draws setup bytes block_delete view entries IsShown old new (Err (draws.Certificate fault)) = ⊥
-Draws setup bytes block_delete view entries IsShown old new (Err (draws.Check fault)) = ⊥
-Draws setup bytes block_delete view entries IsShown old new (Err draws.UnknownView) = ⊥
+Draws setup bytes block_delete view entries IsShown old new (Err answers.Memory) = Keeps old new
+Draws setup bytes block_delete view entries IsShown old new (Err (answers.Program fault)) = IsRefused setup bytes block_delete fault × Keeps old new
+Draws setup bytes block_delete view entries IsShown old new (Err (answers.Read fault)) = FaultIs fault (program_of bytes) × Keeps old new
+Draws setup bytes block_delete view entries IsShown old new (Err _) = ⊥
 
 -- Of a program's file and a sink, without a certificate.
-abbrev pub DrawsProgram : Setup → List ℕ → Bool → View → Option (List ℕ) → Option (List ℕ) → Result (Unit {0}) DrawingFault → Type 0
+abbrev pub DrawsProgram : Setup → List ℕ → Bool → View → Option (List ℕ) → Option (List ℕ) → Result (Unit {0}) AnswerFault → Type 0
 DrawsProgram setup bytes block_delete view old new outcome = Draws setup bytes block_delete view [] (IsMadeRefusal setup.machine) old new outcome
 
 -- what a certificate refuses of commands
 abbrev pub IsGivenRefusal : MachineFile → Setting → CertificateData → List Command → Option Refusal → Type 0
 IsGivenRefusal machine s c commands refusal = refusal_answer (fault_at machine s commands c) ≡ Ok refusal
 
--- Of a program's file, a certificate's file and a sink. A fault of the certificate that isn't drawn is answered.
-abbrev pub DrawsGiven : Setup → List ℕ → List ℕ → Bool → View → Option (List ℕ) → Option (List ℕ) → Result (Unit {0}) DrawingFault → Type 0
-DrawsGiven setup bytes text block_delete view old new (Err (draws.Certificate fault)) = IsNoCertificate text fault × Keeps old new
-DrawsGiven setup bytes text block_delete view old new (Err (draws.Check fault)) =
+-- Of a program's file, a certificate's file and a sink. A fault of the certificate that isn't drawn
+-- is answered.
+abbrev pub DrawsGiven : Setup → List ℕ → List ℕ → Bool → View → Option (List ℕ) → Option (List ℕ) → Result (Unit {0}) AnswerFault → Type 0
+DrawsGiven setup bytes text block_delete view old new (Err (answers.Certificate fault)) = IsNoCertificate text fault × Keeps old new
+DrawsGiven setup bytes text block_delete view old new (Err (answers.Check fault)) =
     ((commands : List Command) × (c : CertificateData) × IsMeaning setup bytes block_delete (Ok commands) × (certificate_said text ≡ Ok c)
     × (refusal_answer (fault_at setup.machine (setting_of block_delete) commands c) ≡ Err fault)) × Keeps old new
-DrawsGiven setup bytes text block_delete view old new (Err (draws.Read fault)) = FaultIs fault (program_of bytes) × Keeps old new
+DrawsGiven setup bytes text block_delete view old new (Err (answers.Read fault)) = FaultIs fault (program_of bytes) × Keeps old new
 DrawsGiven setup bytes text block_delete view old new outcome =
     (c : CertificateData) × (certificate_said text ≡ Ok c)
     × Draws setup bytes block_delete view (entries_at (setting_of block_delete) c) (IsGivenRefusal setup.machine (setting_of block_delete) c) old new outcome
-
--- the sink's count of failures rose where a write failed, and else it is what it was
-abbrev pub FailsByDrawing : Result (Unit {0}) DrawingFault → ℕ → ℕ → Type 0
-FailsByDrawing (Err (draws.Draw Write)) old new = Rises old new
-FailsByDrawing _ old new = new ≡ old
-
--- the view, the program and the certificate are given
-abbrev pub OnlyDraws : {T : Type 0} → Result T DrawingFault → Type 0
-OnlyDraws (Err draws.UnknownView) = ⊥
-OnlyDraws (Err (draws.Read fault)) = ⊥
-OnlyDraws (Err (draws.Certificate fault)) = ⊥
-OnlyDraws _ = Unit {0}

@@ -1,5 +1,6 @@
--- The numbers of faults, and the lines that tell them. Our own.
-use Rattle.std.specs.Prelude.{ℕ, List, ◌++◌, codes, decimal, Option, Some, None}
+-- What the program answers in place of its output: the numbers of faults, the lines that tell them,
+-- and the statuses. Our own.
+use Rattle.std.specs.Prelude.{◌≡◌, ℕ, List, ◌++◌, codes, decimal, Option, Some, None, Result, Ok, Err}
 use Rattle.ngc_canonical.specs.Faults.{program_number}
 use Rattle.ngc_canonical.specs.declared.fault.ProgramFault.{ProgramFault}
 use Rattle.ngc_canonical.specs.declared.fault.ProgramFault.TheVariants as programs
@@ -16,9 +17,12 @@ use Rattle.ngc_certificate.specs.declared.fault.PieceFault.TheVariants as pieces
 use Rattle.ngc_checker.specs.Faults.{number_of as check_number}
 use Rattle.ngc_checker.specs.declared.fault.CheckFault.{CheckFault}
 use Rattle.ngc_checker.specs.declared.fault.CheckFault.TheVariants as refusals
+use Rattle.ngc_drawing.specs.declared.fault.DrawFault.{DrawFault}
+use Rattle.ngc_drawing.specs.declared.fault.DrawFault.TheVariants as drawings
 use Rattle.ngc_events.specs.Faults.{number_of as events_number}
 use Rattle.ngc_events.specs.declared.fault.EventsFault.{EventsFault}
 use Rattle.ngc_events.specs.declared.fault.EventsFault.TheVariants as events
+use Rattle.ngc_text.specs.Failures.{Rises}
 use Rattle.ngc_text.specs.Input.{number_of as input_number}
 use Rattle.ngc_line_reader.specs.ReadFaults.{number_of as read_number}
 use Rattle.ngc_line_reader.specs.declared.program.fault.ReadFault.{ReadFault}
@@ -26,76 +30,27 @@ use Rattle.ngc_line_reader.specs.declared.program.fault.ReadFault.TheVariants as
 use Rattle.ngc_machine.specs.Faults.{number_of as file_number}
 use Rattle.ngc_machine.specs.declared.fault.FileFault.{FileFault}
 use Rattle.ngc_machine.specs.declared.fault.FileFault.TheVariants as files
-use Rattle.ngc_run_log.specs.Runs.{number_of as run_number}
-use Rattle.ngc_simulator.specs.declared.certifier.CertifyFault.{CertifyFault}
-use Rattle.ngc_simulator.specs.declared.certifier.CertifyFault.TheVariants as certifies
-use Rattle.ngc_simulator.specs.declared.checking.CheckingFault.{CheckingFault}
-use Rattle.ngc_simulator.specs.declared.checking.CheckingFault.TheVariants as checks
-use Rattle.ngc_drawing.specs.Faults.{number_of as draw_number}
-use Rattle.ngc_simulator.specs.declared.drawing.DrawingFault.{DrawingFault}
-use Rattle.ngc_simulator.specs.declared.drawing.DrawingFault.TheVariants as draws
-use Rattle.ngc_simulator.specs.declared.lister.ListFault.{ListFault}
-use Rattle.ngc_simulator.specs.declared.lister.ListFault.TheVariants as lists
-use Rattle.ngc_simulator.specs.declared.running.RunningFault.{RunningFault}
-use Rattle.ngc_simulator.specs.declared.running.RunningFault.TheVariants as running
-use Rattle.ngc_command_line.specs.Meant.{help_fault_number}
-use Rattle.ngc_command_line.specs.declared.HelpFault.TheVariants as helps
-use Rattle.ngc_fault_texts.specs.Told.{explain_fault_number}
-use Rattle.ngc_fault_texts.specs.declared.telling.ExplainFault.{ExplainFault}
-use Rattle.ngc_fault_texts.specs.declared.telling.ExplainFault.TheVariants as explains
-use Rattle.ngc_simulator.specs.declared.guide.GuideFault.{GuideFault}
-use Rattle.ngc_simulator.specs.declared.guide.GuideFault.TheVariants as guides
+use Rattle.ngc_run_log.specs.declared.report.RunFault.{RunFault}
+use Rattle.ngc_run_log.specs.declared.report.RunFault.TheVariants as runs
 use Rattle.ngc_simulator.specs.declared.fault.AnswerFault.{AnswerFault}
 use Rattle.ngc_simulator.specs.declared.fault.AnswerFault.TheVariants as answers
-
-abbrev pub list_number : ListFault → ℕ
-list_number (lists.Read e) = read_number e
-list_number (lists.Program e) = program_number e
-list_number (lists.Write e) = 902
-
-abbrev pub certify_number : CertifyFault → ℕ
-certify_number (certifies.Read e) = read_number e
-certify_number (certifies.Program setting e) = 311
-certify_number (certifies.Make e) = make_number e
-certify_number (certifies.Write e) = 902
-
-abbrev pub checking_number : CheckingFault → ℕ
-checking_number (checks.Read e) = read_number e
-checking_number (checks.Certificate e) = text_number e
-checking_number (checks.Check e) = check_number e
-checking_number (checks.Write e) = 902
-
-abbrev pub running_number : RunningFault → ℕ
-running_number (running.Read e) = read_number e
-running_number (running.Certificate e) = text_number e
-running_number (running.Events e) = events_number e
-running_number (running.Check e) = check_number e
-running_number (running.Run e) = run_number e
-
-abbrev pub drawing_number : DrawingFault → ℕ
-drawing_number draws.UnknownView = 723
-drawing_number (draws.Read e) = read_number e
-drawing_number (draws.Certificate e) = text_number e
-drawing_number (draws.Program e) = program_number e
-drawing_number (draws.Check e) = check_number e
-drawing_number (draws.Draw e) = draw_number e
-
-abbrev pub guide_number : GuideFault → ℕ
-guide_number (guides.Help e) = help_fault_number e
-guide_number (guides.Write e) = 902
 
 abbrev pub answer_number : AnswerFault → ℕ
 answer_number (answers.Machine e) = file_number e
 answer_number (answers.Tools e) = file_number e
 answer_number (answers.Input e) = input_number e
-answer_number (answers.List e) = list_number e
-answer_number (answers.Certify e) = certify_number e
-answer_number (answers.Check e) = checking_number e
-answer_number (answers.Run e) = running_number e
-answer_number (answers.Draw e) = drawing_number e
-answer_number (answers.Show e) = 902
-answer_number (answers.Explain e) = explain_fault_number e
-answer_number (answers.Guide e) = guide_number e
+answer_number (answers.Read e) = read_number e
+answer_number (answers.Program e) = program_number e
+answer_number (answers.Refused setting e) = 311
+answer_number (answers.Make e) = make_number e
+answer_number (answers.Certificate e) = text_number e
+answer_number (answers.Check e) = check_number e
+answer_number (answers.Events e) = events_number e
+answer_number answers.Memory = 900
+answer_number (answers.Write e) = 902
+answer_number answers.UnknownFault = 721
+answer_number answers.UnknownCommand = 722
+answer_number answers.UnknownView = 723
 
 -- where a fault stands: a line and a column, a line, a file, or nowhere
 abbrev pub read_place : ReadFault → List ℕ
@@ -108,11 +63,6 @@ read_place reads.Device = codes ""
 abbrev pub program_place : ProgramFault → List ℕ
 program_place (programs.At line e) = codes " line " ++ decimal line
 program_place programs.Memory = codes ""
-
-abbrev pub list_place : ListFault → List ℕ
-list_place (lists.Read e) = read_place e
-list_place (lists.Program e) = program_place e
-list_place (lists.Write e) = codes ""
 
 abbrev pub setting_place : Setting → List ℕ
 setting_place Off = codes " setting off"
@@ -151,37 +101,10 @@ abbrev pub line_of_text : Option ℕ → List ℕ
 line_of_text None = codes ""
 line_of_text (Some line) = codes " certificate line " ++ decimal line
 
-abbrev pub certify_place : CertifyFault → List ℕ
-certify_place (certifies.Read e) = read_place e
-certify_place (certifies.Program setting e) = refused_place setting e
-certify_place (certifies.Make e) = make_place e
-certify_place (certifies.Write e) = codes ""
-
-abbrev pub checking_place : CheckingFault → List ℕ
-checking_place (checks.Read e) = read_place e
-checking_place (checks.Certificate e) = line_of_text (text_line e)
-checking_place (checks.Check e) = check_place e
-checking_place (checks.Write e) = codes ""
-
 abbrev pub events_place : EventsFault → List ℕ
 events_place (events.BadLine line) = codes " events line " ++ decimal line
 events_place events.TooManyLines = codes ""
 events_place events.Memory = codes ""
-
-abbrev pub running_place : RunningFault → List ℕ
-running_place (running.Read e) = read_place e
-running_place (running.Certificate e) = line_of_text (text_line e)
-running_place (running.Events e) = events_place e
-running_place (running.Check e) = check_place e
-running_place (running.Run e) = codes ""
-
-abbrev pub drawing_place : DrawingFault → List ℕ
-drawing_place draws.UnknownView = codes ""
-drawing_place (draws.Read e) = read_place e
-drawing_place (draws.Certificate e) = line_of_text (text_line e)
-drawing_place (draws.Program e) = program_place e
-drawing_place (draws.Check e) = check_place e
-drawing_place (draws.Draw e) = codes ""
 
 -- want of memory has no place
 abbrev pub file_place : List ℕ → FileFault → List ℕ
@@ -191,22 +114,21 @@ file_place name _ = name
 abbrev pub answer_place : AnswerFault → List ℕ
 answer_place (answers.Machine e) = file_place (codes " machine") e
 answer_place (answers.Tools e) = file_place (codes " tools") e
-answer_place (answers.Input e) = codes ""
-answer_place (answers.List e) = list_place e
-answer_place (answers.Certify e) = certify_place e
-answer_place (answers.Check e) = checking_place e
-answer_place (answers.Run e) = running_place e
-answer_place (answers.Draw e) = drawing_place e
-answer_place (answers.Show e) = codes ""
-answer_place (answers.Explain e) = codes ""
-answer_place (answers.Guide e) = codes ""
+answer_place (answers.Read e) = read_place e
+answer_place (answers.Program e) = program_place e
+answer_place (answers.Refused setting e) = refused_place setting e
+answer_place (answers.Make e) = make_place e
+answer_place (answers.Certificate e) = line_of_text (text_line e)
+answer_place (answers.Check e) = check_place e
+answer_place (answers.Events e) = events_place e
+answer_place _ = codes ""
 
 -- the line that tells a fault
 abbrev pub fault_line : AnswerFault → List ℕ
 fault_line e = codes "ngc: fault " ++ decimal (answer_number e) ++ answer_place e ++ codes "\n"
 
--- the exit status: 1 for input, output and memory, 3 for a file or a program that is refused, 4 for a certificate that is
--- refused or isn't made
+-- the exit status: 1 for input, output and memory, 3 for a file or a program that is refused, 4 for
+-- a certificate that is refused or isn't made
 abbrev pub read_status : ReadFault → ℕ
 read_status (reads.Line line e) = 3
 read_status reads.NoEnd = 3
@@ -214,21 +136,13 @@ read_status reads.TooManyLines = 3
 read_status reads.Memory = 1
 read_status reads.Device = 1
 
-abbrev pub list_status : ListFault → ℕ
-list_status (lists.Read e) = read_status e
-list_status (lists.Program (programs.At line e)) = 3
-list_status (lists.Program programs.Memory) = 1
-list_status (lists.Write e) = 1
+abbrev pub program_status : ProgramFault → ℕ
+program_status (programs.At line e) = 3
+program_status programs.Memory = 1
 
 abbrev pub make_status : MakeFault → ℕ
 make_status (makes.NotCleared setting command) = 4
 make_status makes.Memory = 1
-
-abbrev pub certify_status : CertifyFault → ℕ
-certify_status (certifies.Read e) = read_status e
-certify_status (certifies.Program setting e) = 3
-certify_status (certifies.Make e) = make_status e
-certify_status (certifies.Write e) = 1
 
 abbrev pub text_status : CertificateFault → ℕ
 text_status texts.Memory = 1
@@ -245,55 +159,106 @@ check_status (refusals.Piece setting command piece e) = 4
 check_status (refusals.ToolChange setting command fixture) = 4
 check_status refusals.Memory = 1
 
-abbrev pub checking_status : CheckingFault → ℕ
-checking_status (checks.Read e) = read_status e
-checking_status (checks.Certificate e) = text_status e
-checking_status (checks.Check e) = check_status e
-checking_status (checks.Write e) = 1
-
 abbrev pub events_status : EventsFault → ℕ
 events_status (events.BadLine line) = 3
 events_status events.TooManyLines = 3
 events_status events.Memory = 1
 
-abbrev pub running_status : RunningFault → ℕ
-running_status (running.Read e) = read_status e
-running_status (running.Certificate e) = text_status e
-running_status (running.Events e) = events_status e
-running_status (running.Check e) = check_status e
-running_status (running.Run e) = 1
-
-abbrev pub drawing_status : DrawingFault → ℕ
-drawing_status draws.UnknownView = 3
-drawing_status (draws.Read e) = read_status e
-drawing_status (draws.Certificate e) = text_status e
-drawing_status (draws.Program (programs.At line e)) = 3
-drawing_status (draws.Program programs.Memory) = 1
-drawing_status (draws.Check e) = check_status e
-drawing_status (draws.Draw e) = 1
-
 abbrev pub file_status : FileFault → ℕ
 file_status files.Memory = 1
 file_status _ = 3
-
-abbrev pub explain_status : ExplainFault → ℕ
-explain_status explains.Unknown = 3
-explain_status (explains.Write e) = 1
-
-abbrev pub guide_status : GuideFault → ℕ
-guide_status (guides.Help helps.Unknown) = 3
-guide_status (guides.Help helps.Memory) = 1
-guide_status (guides.Write e) = 1
 
 abbrev pub answer_status : AnswerFault → ℕ
 answer_status (answers.Machine e) = file_status e
 answer_status (answers.Tools e) = file_status e
 answer_status (answers.Input e) = 1
-answer_status (answers.List e) = list_status e
-answer_status (answers.Certify e) = certify_status e
-answer_status (answers.Check e) = checking_status e
-answer_status (answers.Run e) = running_status e
-answer_status (answers.Draw e) = drawing_status e
-answer_status (answers.Show e) = 1
-answer_status (answers.Explain e) = explain_status e
-answer_status (answers.Guide e) = guide_status e
+answer_status (answers.Read e) = read_status e
+answer_status (answers.Program e) = program_status e
+answer_status (answers.Refused setting e) = 3
+answer_status (answers.Make e) = make_status e
+answer_status (answers.Certificate e) = text_status e
+answer_status (answers.Check e) = check_status e
+answer_status (answers.Events e) = events_status e
+answer_status answers.Memory = 1
+answer_status (answers.Write e) = 1
+answer_status answers.UnknownFault = 3
+answer_status answers.UnknownCommand = 3
+answer_status answers.UnknownView = 3
+
+-- ---- what a run and a picture fail by
+
+abbrev pub of_run : RunFault → AnswerFault
+of_run runs.Memory = answers.Memory
+of_run (runs.Write e) = answers.Write e
+
+abbrev pub of_picture : DrawFault → AnswerFault
+of_picture drawings.Memory = answers.Memory
+of_picture drawings.Write = answers.Write (record {})
+
+-- ---- which faults can come of what
+
+abbrev pub OfListing : AnswerFault → Type 0
+OfListing (answers.Read e) = Unit {0}
+OfListing (answers.Program e) = Unit {0}
+OfListing (answers.Write e) = Unit {0}
+OfListing _ = ⊥
+
+-- of making a certificate, of a report on a program that is given, and of certifying one that is
+-- read
+abbrev pub OfMaking : AnswerFault → Type 0
+OfMaking (answers.Refused setting e) = Unit {0}
+OfMaking (answers.Make e) = Unit {0}
+OfMaking _ = ⊥
+
+abbrev pub OfReporting : AnswerFault → Type 0
+OfReporting (answers.Write e) = Unit {0}
+OfReporting fault = OfMaking fault
+
+abbrev pub OfCertifying : AnswerFault → Type 0
+OfCertifying (answers.Read e) = Unit {0}
+OfCertifying fault = OfReporting fault
+
+-- of checking, running and drawing a program that is given
+abbrev pub OfChecking : AnswerFault → Type 0
+OfChecking (answers.Certificate e) = Unit {0}
+OfChecking (answers.Check e) = Unit {0}
+OfChecking (answers.Write e) = Unit {0}
+OfChecking _ = ⊥
+
+abbrev pub OfRunning : AnswerFault → Type 0
+OfRunning (answers.Events e) = Unit {0}
+OfRunning (answers.Check e) = Unit {0}
+OfRunning answers.Memory = Unit {0}
+OfRunning (answers.Write e) = Unit {0}
+OfRunning _ = ⊥
+
+abbrev pub OfDrawing : AnswerFault → Type 0
+OfDrawing (answers.Program e) = Unit {0}
+OfDrawing (answers.Check e) = Unit {0}
+OfDrawing answers.Memory = Unit {0}
+OfDrawing (answers.Write e) = Unit {0}
+OfDrawing _ = ⊥
+
+-- the same where the program and the certificate are read first
+abbrev pub OrOfReading : (AnswerFault → Type 0) → AnswerFault → Type 0
+OrOfReading Of (answers.Read e) = Unit {0}
+OrOfReading Of (answers.Certificate e) = Unit {0}
+OrOfReading Of fault = Of fault
+
+-- of a setup sheet, and of telling that a program can't be read
+abbrev pub OfWriting : AnswerFault → Type 0
+OfWriting (answers.Write e) = Unit {0}
+OfWriting _ = ⊥
+
+abbrev pub OfTelling : AnswerFault → Type 0
+OfTelling (answers.Read e) = Unit {0}
+OfTelling fault = OfWriting fault
+
+-- the sink's count of failures rose where a write failed, and else it is what it was
+abbrev pub FailsWith : AnswerFault → ℕ → ℕ → Type 0
+FailsWith (answers.Write e) old new = Rises old new
+FailsWith _ old new = new ≡ old
+
+abbrev pub FailsByOutput : {T : Type 0} → Result T AnswerFault → ℕ → ℕ → Type 0
+FailsByOutput (Ok value) old new = new ≡ old
+FailsByOutput (Err fault) old new = FailsWith fault old new

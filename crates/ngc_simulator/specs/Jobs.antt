@@ -1,7 +1,6 @@
 -- What certifying and checking a program come to. Our own.
 use Rattle.std.specs.Prelude.{◌≡◌, ℕ, List, Option, None, Result, Ok, Err, codes, true, false}
 use Rattle.std.specs.Io.KnownBytes.{Appends, Keeps}
-use Rattle.ngc_text.specs.Failures.{Rises}
 use Rattle.ngc_text.specs.Written.{AppendsBeginning}
 use Rattle.ngc_line_reader.specs.Grammar.{Reading}
 use Rattle.ngc_line_reader.specs.ProgramText.{ProgramText, program_of, AreReadings}
@@ -28,10 +27,8 @@ use Rattle.ngc_certificate.specs.Made.{IsMade}
 use Rattle.ngc_certificate.specs.Valid.{IsValid}
 use Rattle.ngc_checker.specs.Accepted.{IsFirst}
 use Rattle.ngc_checker.specs.FirstRefusal.{first_refusal}
-use Rattle.ngc_simulator.specs.declared.certifier.CertifyFault.{CertifyFault}
-use Rattle.ngc_simulator.specs.declared.certifier.CertifyFault.TheVariants as certifies
-use Rattle.ngc_simulator.specs.declared.checking.CheckingFault.{CheckingFault}
-use Rattle.ngc_simulator.specs.declared.checking.CheckingFault.TheVariants as checks
+use Rattle.ngc_simulator.specs.declared.fault.AnswerFault.{AnswerFault}
+use Rattle.ngc_simulator.specs.declared.fault.AnswerFault.TheVariants as answers
 
 -- the program that a file's text is, by readings of its lines
 pub record IsProgram (bytes : List ℕ) (program : ProgramLines) : Type 0 where
@@ -70,15 +67,16 @@ pub record IsCertificateFor (setup : Setup) (bytes : List ℕ) (cuts : ℕ) (for
   pub made : IsMadeFor setup bytes cuts certificate
   pub written : IsWrittenAs format made.off made.on certificate f
 
--- a file's program is refused at a setting, and isn't with block delete off before it is with block delete on
+-- a file's program is refused at a setting, and isn't with block delete off before it is with block
+-- delete on
 abbrev pub IsRefusedAt : Setup → ProgramLines → Setting → ProgramFault → Type 0
 IsRefusedAt setup program Off fault = meaning program setup false ≡ Err fault
 IsRefusedAt setup program On fault = (off : List Command) × (meaning program setup false ≡ Ok off) × (meaning program setup true ≡ Err fault)
 
 -- why such a program has no certificate
-abbrev pub refused_at : Setting → ProgramFault → CertifyFault
-refused_at setting (programs.At line fault) = certifies.Program setting (programs.At line fault)
-refused_at setting programs.Memory = certifies.Make Memory
+abbrev pub refused_at : Setting → ProgramFault → AnswerFault
+refused_at setting (programs.At line fault) = answers.Refused setting (programs.At line fault)
+refused_at setting programs.Memory = answers.Make Memory
 
 -- no certificate is made for a file; that memory ran out says nothing
 abbrev pub IsNotMade : Setup → List ℕ → ℕ → MakeFault → Type 0
@@ -87,37 +85,21 @@ IsNotMade setup bytes cuts (NotCleared s k) =
     (off : List Command) × (on : List Command) × AreMeanings setup bytes off on × IsMade setup.machine cuts off on (Err (NotCleared s k))
 
 -- why no certificate is made for a file's program: it is refused, or it isn't cleared
-abbrev pub WhyNotMade : Setup → List ℕ → ℕ → CertifyFault → Type 0
-WhyNotMade setup bytes cuts (certifies.Read fault) = ⊥
-WhyNotMade setup bytes cuts (certifies.Program setting fault) = (program : ProgramLines) × IsProgram bytes program × IsRefusedAt setup program setting fault
-WhyNotMade setup bytes cuts (certifies.Make fault) = IsNotMade setup bytes cuts fault
-WhyNotMade setup bytes cuts (certifies.Write fault) = ⊥
+abbrev pub WhyNotMade : Setup → List ℕ → ℕ → AnswerFault → Type 0
+WhyNotMade setup bytes cuts (answers.Refused setting fault) = (program : ProgramLines) × IsProgram bytes program × IsRefusedAt setup program setting fault
+WhyNotMade setup bytes cuts (answers.Make fault) = IsNotMade setup bytes cuts fault
+WhyNotMade setup bytes cuts _ = ⊥
 
--- Of a program's file and a sink: the text of its certificate was written, or a beginning of it where the sink failed; where
--- none is made, what was written is as it was.
-abbrev pub Certifies : Setup → List ℕ → ℕ → Format → Option (List ℕ) → Option (List ℕ) → Result (Unit {0}) CertifyFault → Type 0
+-- Of a program's file and a sink: the text of its certificate was written, or a beginning of it
+-- where the sink failed; where none is made, what was written is as it was.
+abbrev pub Certifies : Setup → List ℕ → ℕ → Format → Option (List ℕ) → Option (List ℕ) → Result (Unit {0}) AnswerFault → Type 0
 Certifies setup bytes cuts format old new (Ok u) = (f : Form) × IsCertificateFor setup bytes cuts format f × Appends old new (spelling f)
-Certifies setup bytes cuts format old new (Err (certifies.Read fault)) = FaultIs fault (program_of bytes) × Keeps old new
-Certifies setup bytes cuts format old new (Err (certifies.Program setting fault)) = WhyNotMade setup bytes cuts (certifies.Program setting fault) × Keeps old new
-Certifies setup bytes cuts format old new (Err (certifies.Make fault)) = WhyNotMade setup bytes cuts (certifies.Make fault) × Keeps old new
-Certifies setup bytes cuts format old new (Err (certifies.Write fault)) =
+Certifies setup bytes cuts format old new (Err (answers.Read fault)) = FaultIs fault (program_of bytes) × Keeps old new
+Certifies setup bytes cuts format old new (Err (answers.Refused setting fault)) = WhyNotMade setup bytes cuts (answers.Refused setting fault) × Keeps old new
+Certifies setup bytes cuts format old new (Err (answers.Make fault)) = WhyNotMade setup bytes cuts (answers.Make fault) × Keeps old new
+Certifies setup bytes cuts format old new (Err (answers.Write fault)) =
     (f : Form) × IsCertificateFor setup bytes cuts format f × AppendsBeginning old new (spelling f)
-
--- the sink's count of failures rose where a write failed, and else it is what it was
-abbrev pub FailsByCertifying : Result (Unit {0}) CertifyFault → ℕ → ℕ → Type 0
-FailsByCertifying (Ok u) old new = new ≡ old
-FailsByCertifying (Err (certifies.Read fault)) old new = new ≡ old
-FailsByCertifying (Err (certifies.Program setting fault)) old new = new ≡ old
-FailsByCertifying (Err (certifies.Make fault)) old new = new ≡ old
-FailsByCertifying (Err (certifies.Write fault)) old new = Rises old new
-
--- no device is used to make a certificate
-abbrev pub UsesNoDevice : {T : Type 0} → Result T CertifyFault → Type 0
-UsesNoDevice (Ok value) = Unit {0}
-UsesNoDevice (Err (certifies.Read fault)) = ⊥
-UsesNoDevice (Err (certifies.Program setting fault)) = Unit {0}
-UsesNoDevice (Err (certifies.Make fault)) = Unit {0}
-UsesNoDevice (Err (certifies.Write fault)) = ⊥
+Certifies setup bytes cuts format old new (Err _) = ⊥
 
 -- ---- checking
 
@@ -145,27 +127,14 @@ IsNoCertificate text (texts.OutOfRange line) = certificate_said text ≡ Err (te
 abbrev pub accepted_text : List ℕ
 accepted_text = codes "accepted\n"
 
--- Of a program's file, a certificate's file and a sink: `accepted` was written where nothing is refused, or a beginning of it
--- where the sink failed; else the first refusal is answered, and what was written is as it was.
-abbrev pub Checks : Setup → List ℕ → List ℕ → Option (List ℕ) → Option (List ℕ) → Result (Unit {0}) CheckingFault → Type 0
+-- Of a program's file, a certificate's file and a sink: `accepted` was written where nothing is
+-- refused, or a beginning of it where the sink failed; else the first refusal is answered, and what
+-- was written is as it was.
+abbrev pub Checks : Setup → List ℕ → List ℕ → Option (List ℕ) → Option (List ℕ) → Result (Unit {0}) AnswerFault → Type 0
 Checks setup bytes text old new (Ok u) = IsAcceptedText setup bytes text × Appends old new accepted_text
-Checks setup bytes text old new (Err (checks.Read fault)) = FaultIs fault (program_of bytes) × Keeps old new
-Checks setup bytes text old new (Err (checks.Certificate fault)) = IsNoCertificate text fault × Keeps old new
-Checks setup bytes text old new (Err (checks.Check fault)) =
+Checks setup bytes text old new (Err (answers.Read fault)) = FaultIs fault (program_of bytes) × Keeps old new
+Checks setup bytes text old new (Err (answers.Certificate fault)) = IsNoCertificate text fault × Keeps old new
+Checks setup bytes text old new (Err (answers.Check fault)) =
     ((program : ProgramLines) × (c : CertificateData) × AreGiven bytes text program c × IsFirst fault (first_refusal program setup c)) × Keeps old new
-Checks setup bytes text old new (Err (checks.Write fault)) = IsAcceptedText setup bytes text × AppendsBeginning old new accepted_text
-
-abbrev pub FailsByChecking : Result (Unit {0}) CheckingFault → ℕ → ℕ → Type 0
-FailsByChecking (Ok u) old new = new ≡ old
-FailsByChecking (Err (checks.Read fault)) old new = new ≡ old
-FailsByChecking (Err (checks.Certificate fault)) old new = new ≡ old
-FailsByChecking (Err (checks.Check fault)) old new = new ≡ old
-FailsByChecking (Err (checks.Write fault)) old new = Rises old new
-
--- the program is given, and so isn't read
-abbrev pub NeverReads : {T : Type 0} → Result T CheckingFault → Type 0
-NeverReads (Ok value) = Unit {0}
-NeverReads (Err (checks.Read fault)) = ⊥
-NeverReads (Err (checks.Certificate fault)) = Unit {0}
-NeverReads (Err (checks.Check fault)) = Unit {0}
-NeverReads (Err (checks.Write fault)) = Unit {0}
+Checks setup bytes text old new (Err (answers.Write fault)) = IsAcceptedText setup bytes text × AppendsBeginning old new accepted_text
+Checks setup bytes text old new (Err _) = ⊥

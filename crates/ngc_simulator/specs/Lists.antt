@@ -1,7 +1,6 @@
 -- What listing a program comes to.
 use Rattle.std.specs.Prelude.{◌≡◌, ℕ, List, Option, Result, Ok, Err, Bool}
 use Rattle.std.specs.Io.KnownBytes.{Appends, Keeps}
-use Rattle.ngc_text.specs.Failures.{Rises}
 use Rattle.ngc_text.specs.Written.{AppendsBeginning}
 use Rattle.ngc_line_reader.specs.Grammar.{Reading}
 use Rattle.ngc_line_reader.specs.ProgramText.{ProgramText, program_of, AreReadings}
@@ -10,11 +9,12 @@ use Rattle.ngc_canonical.specs.declared.command.Command.{Command}
 use Rattle.ngc_canonical.specs.declared.fault.ProgramFault.{ProgramFault}
 use Rattle.ngc_canonical.specs.State.{Setup}
 use Rattle.ngc_canonical.specs.Meaning.{meaning, program_said, Fails}
-use Rattle.ngc_simulator.specs.declared.lister.ListFault.{ListFault}
-use Rattle.ngc_simulator.specs.declared.lister.ListFault.TheVariants.{Read, Program, Write}
+use Rattle.ngc_simulator.specs.declared.fault.AnswerFault.{AnswerFault}
+use Rattle.ngc_simulator.specs.declared.fault.AnswerFault.TheVariants as answers
 use Rattle.ngc_simulator.specs.Listing.{listing}
 
--- a file's text has lines with readings, whose meaning on a machine with its tools, at a setting of block delete, this is
+-- a file's text has lines with readings, whose meaning on a machine with its tools, at a setting of
+-- block delete, this is
 pub record IsMeaning (setup : Setup) (bytes : List ℕ) (block_delete : Bool) (says : Result (List Command) ProgramFault) : Type 0 where
   pub text : ProgramText
   pub is_text : program_of bytes ≡ Ok text
@@ -34,17 +34,12 @@ pub record IsRefused (setup : Setup) (bytes : List ℕ) (block_delete : Bool) (f
   pub meaning : IsMeaning setup bytes block_delete says
   pub fails : Fails fault says
 
--- Of a file, from what its sink had taken to what it has taken now: the listing of its meaning was written, or a beginning of
--- it where the sink failed; a refused program, and a file that isn't read, leave what was written as it was.
-abbrev pub Lists : Setup → List ℕ → Bool → Option (List ℕ) → Option (List ℕ) → Result (Unit {0}) ListFault → Type 0
+-- Of a file, from what its sink had taken to what it has taken now: the listing of its meaning was
+-- written, or a beginning of it where the sink failed; a refused program, and a file that isn't
+-- read, leave what was written as it was.
+abbrev pub Lists : Setup → List ℕ → Bool → Option (List ℕ) → Option (List ℕ) → Result (Unit {0}) AnswerFault → Type 0
 Lists setup bytes block_delete old new (Ok u) = (text : List ℕ) × IsListing setup bytes block_delete text × Appends old new text
-Lists setup bytes block_delete old new (Err (Read fault)) = FaultIs fault (program_of bytes) × Keeps old new
-Lists setup bytes block_delete old new (Err (Program fault)) = IsRefused setup bytes block_delete fault × Keeps old new
-Lists setup bytes block_delete old new (Err (Write fault)) = (text : List ℕ) × IsListing setup bytes block_delete text × AppendsBeginning old new text
-
--- the sink's count of failures rose where a write failed, and else it is what it was
-abbrev pub FailsByWriting : Result (Unit {0}) ListFault → ℕ → ℕ → Type 0
-FailsByWriting (Ok u) old new = new ≡ old
-FailsByWriting (Err (Read fault)) old new = new ≡ old
-FailsByWriting (Err (Program fault)) old new = new ≡ old
-FailsByWriting (Err (Write fault)) old new = Rises old new
+Lists setup bytes block_delete old new (Err (answers.Read fault)) = FaultIs fault (program_of bytes) × Keeps old new
+Lists setup bytes block_delete old new (Err (answers.Program fault)) = IsRefused setup bytes block_delete fault × Keeps old new
+Lists setup bytes block_delete old new (Err (answers.Write fault)) = (text : List ℕ) × IsListing setup bytes block_delete text × AppendsBeginning old new text
+Lists setup bytes block_delete old new (Err _) = ⊥

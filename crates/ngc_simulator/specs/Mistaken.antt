@@ -1,7 +1,6 @@
 -- What is told of a machine file or a tool table that is refused. Our own.
 use Rattle.std.specs.Prelude.{◌≡◌, ◌≢◌, ◌⊎◌, ℕ, List, ◌++◌, Option, Some, Result, Ok, Err, IfSome, IsSomeAnd}
 use Rattle.std.specs.Io.KnownBytes.{Appends, Keeps}
-use Rattle.ngc_text.specs.Failures.{Rises}
 use Rattle.ngc_text.specs.Written.{AppendsBeginning}
 use Rattle.ngc_machine.specs.Faults.{number_of as file_number}
 use Rattle.ngc_machine.specs.declared.fault.FileFault.{FileFault}
@@ -36,10 +35,10 @@ OfMistake form bytes machine tools (answers.Machine e) P = IsSomeAnd machine (λ
 OfMistake form bytes machine tools (answers.Tools e) P = IsSomeAnd tools (λ name. OfText form tools_mistake_text e (bytes (Some name)) P)
 OfMistake form bytes machine tools fault P = ⊥
 
--- A file that is refused has its mistake told, or nothing where memory ran out; and where the sink failed, a beginning of it.
--- A file that isn't read leaves what was written as it was.
+-- A file that is refused has its mistake told, or nothing where memory ran out; and where the sink
+-- failed, a beginning of it. A file that isn't read leaves what was written as it was.
 abbrev pub TellsRefusal : Form → FileBytes → Option (List ℕ) → Option (List ℕ) → Option (List ℕ) → Option (List ℕ) → AnswerFault → Type 0
-TellsRefusal form bytes machine tools old new (answers.Show fault) =
+TellsRefusal form bytes machine tools old new (answers.Write fault) =
     (refused : AnswerFault) × RefusesShop bytes machine tools refused × OfMistake form bytes machine tools refused (AppendsBeginning old new)
 TellsRefusal form bytes machine tools old new fault =
     RefusesShop bytes machine tools fault × (Keeps old new ⊎ OfMistake form bytes machine tools fault (Appends old new))
@@ -52,11 +51,6 @@ GivesTold form bytes machine tools old new (Err fault) = TellsRefusal form bytes
 -- what telling one file's mistake comes to, where the file may not be read again
 abbrev pub TellsMistake : ((List ℕ → Type 0) → Type 0) → Option (List ℕ) → Option (List ℕ) → Result (Unit {0}) AnswerFault → Type 0
 TellsMistake Of old new (Ok u) = Keeps old new ⊎ Of (Appends old new)
-TellsMistake Of old new (Err (answers.Show fault)) = Of (AppendsBeginning old new)
+TellsMistake Of old new (Err (answers.Write fault)) = Of (AppendsBeginning old new)
 TellsMistake Of old new (Err (answers.Input fault)) = Keeps old new
 TellsMistake Of old new (Err fault) = ⊥
-
--- the sink's count of failures rose where the write failed
-abbrev pub FailsByTelling : {T : Type 0} → Result T AnswerFault → ℕ → ℕ → Type 0
-FailsByTelling (Err (answers.Show fault)) old new = Rises old new
-FailsByTelling outcome old new = new ≡ old

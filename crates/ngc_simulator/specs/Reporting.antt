@@ -34,8 +34,8 @@ use Rattle.ngc_report.specs.Warnings.{warning_lines}
 use Rattle.ngc_report.specs.declared.form.Form.{Form}
 use Rattle.ngc_report.specs.declared.form.Form.TheVariants.{Words, Json}
 use Rattle.ngc_setup_sheet.specs.Sheets.{warning_facts, warnings_text}
-use Rattle.ngc_simulator.specs.declared.certifier.CertifyFault.{CertifyFault}
-use Rattle.ngc_simulator.specs.declared.certifier.CertifyFault.TheVariants as certifies
+use Rattle.ngc_simulator.specs.declared.fault.AnswerFault.{AnswerFault}
+use Rattle.ngc_simulator.specs.declared.fault.AnswerFault.TheVariants as answers
 use Rattle.ngc_simulator.specs.declared.done.RunTime.{RunTime}
 use Rattle.ngc_simulator.specs.Drawing.{met_at}
 use Rattle.ngc_simulator.specs.Jobs.{AreMeanings, IsMadeFor, IsProgram, IsRefusedAt}
@@ -220,17 +220,19 @@ IsReport setup bytes request text =
     IsFitReport setup bytes request text ⊎ (((s : Setting) × (k : ℕ) × IsRefusalReport setup bytes request s k text)
     ⊎ ((s : Setting) × (fault : ProgramFault) × IsRejectionReport setup bytes request s fault text))
 
--- Of a program's file and a sink: the report of what fits was written, or that of what is in the way or of the line that is refused,
--- which is answered; or a beginning of one where the sink failed. Where there is none, what was written is as it was.
-abbrev pub Reports : Setup → List ℕ → ReportRequest → Option (List ℕ) → Option (List ℕ) → Result (Unit {0}) CertifyFault → Type 0
+-- Of a program's file and a sink: the report of what fits was written, or that of what is in the
+-- way or of the line that is refused, which is answered; or a beginning of one where the sink
+-- failed. Where there is none, what was written is as it was.
+abbrev pub Reports : Setup → List ℕ → ReportRequest → Option (List ℕ) → Option (List ℕ) → Result (Unit {0}) AnswerFault → Type 0
 Reports setup bytes request old new (Ok u) = (text : List ℕ) × IsFitReport setup bytes request text × Appends old new text
-Reports setup bytes request old new (Err (certifies.Read fault)) = FaultIs fault (program_of bytes) × Keeps old new
-Reports setup bytes request old new (Err (certifies.Program s fault)) =
+Reports setup bytes request old new (Err (answers.Read fault)) = FaultIs fault (program_of bytes) × Keeps old new
+Reports setup bytes request old new (Err (answers.Refused s fault)) =
     (text : List ℕ) × IsRejectionReport setup bytes request s fault text × Appends old new text
-Reports setup bytes request old new (Err (certifies.Make (NotCleared s k))) =
+Reports setup bytes request old new (Err (answers.Make (NotCleared s k))) =
     (text : List ℕ) × IsRefusalReport setup bytes request s k text × Appends old new text
-Reports setup bytes request old new (Err (certifies.Make Memory)) = Keeps old new
-Reports setup bytes request old new (Err (certifies.Write fault)) = (text : List ℕ) × IsReport setup bytes request text × AppendsBeginning old new text
+Reports setup bytes request old new (Err (answers.Make Memory)) = Keeps old new
+Reports setup bytes request old new (Err (answers.Write fault)) = (text : List ℕ) × IsReport setup bytes request text × AppendsBeginning old new text
+Reports setup bytes request old new (Err _) = ⊥
 
 -- ---- of a program that was read
 
@@ -250,8 +252,3 @@ IsAcceptedOf text setup a = (rs : List Reading) → AreReadings text.lines rs �
 abbrev pub IsTimed : ProgramText → Setup → Bool → ProgramTimeData → Type 0
 IsTimed text setup block_delete time = (rs : List Reading) → AreReadings text.lines rs →
     (commands : List Command) × (meaning (program_said text rs) setup block_delete ≡ Ok commands) × LastsFor setup.machine commands time
-
--- the program is given, and so isn't read
-abbrev pub ReadsNoProgram : {T : Type 0} → Result T CertifyFault → Type 0
-ReadsNoProgram (Err (certifies.Read fault)) = ⊥
-ReadsNoProgram _ = Unit {0}

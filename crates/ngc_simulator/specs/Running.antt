@@ -18,13 +18,14 @@ use Rattle.ngc_behaviour.specs.State.{Job}
 use Rattle.ngc_behaviour.specs.Headline.{job_of}
 use Rattle.ngc_run_log.specs.declared.report.Report.{Report}
 use Rattle.ngc_run_log.specs.declared.report.RunFault.{RunFault}
+use Rattle.ngc_run_log.specs.declared.report.RunFault.TheVariants as runs
 use Rattle.ngc_run_log.specs.Forms.{PulsesCome, PulsesGoThrough}
-use Rattle.ngc_run_log.specs.Runs.{ComesTo, FailsByWriting}
+use Rattle.ngc_run_log.specs.Runs.{ComesTo}
 use Rattle.ngc_run_log.specs.Through.{GoesThrough}
 use Rattle.ngc_command_line.specs.declared.options.Recording.{Recording}
 use Rattle.ngc_command_line.specs.declared.options.Recording.TheVariants.{Log, Pulses}
-use Rattle.ngc_simulator.specs.declared.running.RunningFault.{RunningFault}
-use Rattle.ngc_simulator.specs.declared.running.RunningFault.TheVariants as running
+use Rattle.ngc_simulator.specs.declared.fault.AnswerFault.{AnswerFault}
+use Rattle.ngc_simulator.specs.declared.fault.AnswerFault.TheVariants as answers
 use Rattle.ngc_simulator.specs.Jobs.{AreGiven, IsNoCertificate}
 
 -- what a run over events comes to by what is written of it, and what a run to the end comes to
@@ -36,8 +37,8 @@ abbrev pub RecordsThrough : Recording → Job → Option (List ℕ) → Option (
 RecordsThrough Log = GoesThrough
 RecordsThrough Pulses = PulsesGoThrough
 
--- The job of a program's file at a setting of block delete: the commands that the program means there. Nothing is refused of it
--- and of a certificate's file.
+-- The job of a program's file at a setting of block delete: the commands that the program means
+-- there. Nothing is refused of it and of a certificate's file.
 pub record IsAcceptedJob (setup : Setup) (bytes text : List ℕ) (block_delete : Bool) (job : Job) : Type 0 where
   pub program : ProgramLines
   pub certificate : CertificateData
@@ -47,7 +48,8 @@ pub record IsAcceptedJob (setup : Setup) (bytes text : List ℕ) (block_delete :
   pub means : meaning program setup block_delete ≡ Ok commands
   pub is_job : job ≡ job_of setup.machine commands
 
--- the run of such a job over the events that a third file says, and what is written of it, and what it came to
+-- the run of such a job over the events that a third file says, and what is written of it, and what
+-- it came to
 pub record RunsOver (recording : Recording) (setup : Setup) (bytes text events : List ℕ) (block_delete : Bool) (old new : Option (List ℕ)) (result : Result Report RunFault) : Type 0 where
   pub job : Job
   pub accepted : IsAcceptedJob setup bytes text block_delete job
@@ -87,39 +89,25 @@ pub record IsRefusedWhole (setup : Setup) (bytes text : List ℕ) (fault : Check
   pub given : AreGiven bytes text program certificate
   pub first : IsFirst fault (first_refusal program setup certificate)
 
--- Of a program's file, a certificate's file, an events file and a sink: the log or the pulses of the run were written, or a beginning
--- where the sink failed; where there is no run, what was written is as it was.
-abbrev pub Runs : Recording → Setup → List ℕ → List ℕ → List ℕ → Bool → Option (List ℕ) → Option (List ℕ) → Result Report RunningFault → Type 0
+-- Of a program's file, a certificate's file, an events file and a sink: the log or the pulses of
+-- the run were written, or a beginning where the sink failed; where there is no run, what was
+-- written is as it was.
+abbrev pub Runs : Recording → Setup → List ℕ → List ℕ → List ℕ → Bool → Option (List ℕ) → Option (List ℕ) → Result Report AnswerFault → Type 0
 Runs recording setup bytes text events block_delete old new (Ok report) = RunsOver recording setup bytes text events block_delete old new (Ok report)
-Runs recording setup bytes text events block_delete old new (Err (running.Read fault)) = FaultIs fault (program_of bytes) × Keeps old new
-Runs recording setup bytes text events block_delete old new (Err (running.Certificate fault)) = IsNoCertificate text fault × Keeps old new
-Runs recording setup bytes text events block_delete old new (Err (running.Events fault)) = (AreRead bytes text × AreNoEvents events fault) × Keeps old new
-Runs recording setup bytes text events block_delete old new (Err (running.Check fault)) = IsRefusedRun setup bytes text events fault × Keeps old new
-Runs recording setup bytes text events block_delete old new (Err (running.Run fault)) = RunsOver recording setup bytes text events block_delete old new (Err fault)
+Runs recording setup bytes text events block_delete old new (Err (answers.Read fault)) = FaultIs fault (program_of bytes) × Keeps old new
+Runs recording setup bytes text events block_delete old new (Err (answers.Certificate fault)) = IsNoCertificate text fault × Keeps old new
+Runs recording setup bytes text events block_delete old new (Err (answers.Events fault)) = (AreRead bytes text × AreNoEvents events fault) × Keeps old new
+Runs recording setup bytes text events block_delete old new (Err (answers.Check fault)) = IsRefusedRun setup bytes text events fault × Keeps old new
+Runs recording setup bytes text events block_delete old new (Err answers.Memory) = RunsOver recording setup bytes text events block_delete old new (Err runs.Memory)
+Runs recording setup bytes text events block_delete old new (Err (answers.Write fault)) = RunsOver recording setup bytes text events block_delete old new (Err (runs.Write fault))
+Runs recording setup bytes text events block_delete old new (Err _) = ⊥
 
 -- Of a program's file, a certificate's file and a sink: the same of a run to the end.
-abbrev pub RunsThrough : Recording → Setup → List ℕ → List ℕ → Bool → Option (List ℕ) → Option (List ℕ) → Result Report RunningFault → Type 0
+abbrev pub RunsThrough : Recording → Setup → List ℕ → List ℕ → Bool → Option (List ℕ) → Option (List ℕ) → Result Report AnswerFault → Type 0
 RunsThrough recording setup bytes text block_delete old new (Ok report) = RunsWhole recording setup bytes text block_delete old new (Ok report)
-RunsThrough recording setup bytes text block_delete old new (Err (running.Read fault)) = FaultIs fault (program_of bytes) × Keeps old new
-RunsThrough recording setup bytes text block_delete old new (Err (running.Certificate fault)) = IsNoCertificate text fault × Keeps old new
-RunsThrough recording setup bytes text block_delete old new (Err (running.Events fault)) = ⊥
-RunsThrough recording setup bytes text block_delete old new (Err (running.Check fault)) = IsRefusedWhole setup bytes text fault × Keeps old new
-RunsThrough recording setup bytes text block_delete old new (Err (running.Run fault)) = RunsWhole recording setup bytes text block_delete old new (Err fault)
-
--- the sink's count of failures rose where a write failed, and else it is what it was
-abbrev pub FailsByRunning : Result Report RunningFault → ℕ → ℕ → Type 0
-FailsByRunning (Ok report) old new = new ≡ old
-FailsByRunning (Err (running.Read fault)) old new = new ≡ old
-FailsByRunning (Err (running.Certificate fault)) old new = new ≡ old
-FailsByRunning (Err (running.Events fault)) old new = new ≡ old
-FailsByRunning (Err (running.Check fault)) old new = new ≡ old
-FailsByRunning (Err (running.Run fault)) old new = FailsByWriting (Err fault) old new
-
--- program and certificate are given, and so aren't read
-abbrev pub ReadsNoFile : {T : Type 0} → Result T RunningFault → Type 0
-ReadsNoFile (Ok value) = Unit {0}
-ReadsNoFile (Err (running.Read fault)) = ⊥
-ReadsNoFile (Err (running.Certificate fault)) = ⊥
-ReadsNoFile (Err (running.Events fault)) = Unit {0}
-ReadsNoFile (Err (running.Check fault)) = Unit {0}
-ReadsNoFile (Err (running.Run fault)) = Unit {0}
+RunsThrough recording setup bytes text block_delete old new (Err (answers.Read fault)) = FaultIs fault (program_of bytes) × Keeps old new
+RunsThrough recording setup bytes text block_delete old new (Err (answers.Certificate fault)) = IsNoCertificate text fault × Keeps old new
+RunsThrough recording setup bytes text block_delete old new (Err (answers.Check fault)) = IsRefusedWhole setup bytes text fault × Keeps old new
+RunsThrough recording setup bytes text block_delete old new (Err answers.Memory) = RunsWhole recording setup bytes text block_delete old new (Err runs.Memory)
+RunsThrough recording setup bytes text block_delete old new (Err (answers.Write fault)) = RunsWhole recording setup bytes text block_delete old new (Err (runs.Write fault))
+RunsThrough recording setup bytes text block_delete old new (Err _) = ⊥

@@ -7,8 +7,6 @@ use Rattle.ngc_machine.specs.ToolText.{tool_table}
 use Rattle.ngc_machine.specs.declared.fault.FileFault.{FileFault}
 use Rattle.ngc_machine.specs.declared.fault.FileFault.TheVariants.{Memory}
 use Rattle.ngc_machine.specs.declared.tools.Tool.{Tool}
-use Rattle.ngc_simulator.specs.declared.fault.SetupFault.{SetupFault}
-use Rattle.ngc_simulator.specs.declared.fault.SetupFault.TheVariants.{Refused, Unread}
 
 -- the bytes of a file by its name, or of standard input, where they are known
 abbrev pub FileBytes : Type 0
@@ -46,9 +44,3 @@ OnSetup bytes machine tools P =
 -- a refusal is that of the file, unless memory ran out
 abbrev pub Refuses : {T : Type 0} → FileFault → Result T FileFault → Type 0
 Refuses e says = e ≢ Memory → says ≡ Err e
-
--- what was read is, seen by a view, what the file says
-abbrev pub GivesSetup : {X T : Type 0} → (X → T) → Result X SetupFault → Result T FileFault → Type 0
-GivesSetup view (Ok x) says = says ≡ Ok (view x)
-GivesSetup view (Err (Refused e)) says = Refuses e says
-GivesSetup view (Err (Unread e)) says = Unit {0}

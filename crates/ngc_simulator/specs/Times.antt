@@ -3,6 +3,7 @@ use Rattle.std.specs.Prelude.{ℕ, ◌*◌, ◌/◌, ◌%◌, List, [], ◌∷�
 use Rattle.ngc_canonical.specs.declared.command.Command.{Command}
 use Rattle.ngc_machine.specs.declared.tools.Tool.{Tool}
 use Rattle.ngc_report.specs.Uses.{moves, tool_uses, use_of}
+use Rattle.ngc_report.specs.Words.{tool_text}
 use Rattle.ngc_report.specs.declared.form.Form.{Form}
 use Rattle.ngc_report.specs.declared.form.Form.TheVariants.{Words, Json}
 use Rattle.ngc_report.specs.declared.uses.ToolUse.{ToolUse}
@@ -35,18 +36,16 @@ time_line time = codes "ngc: ticks " ++ decimal time.ticks ++ codes " time " ++ 
 
 -- ---- with each tool
 
--- the whole run, and its ticks up to the end of the first change of the tool, and of each change to that of the next
+-- the whole run, and its ticks up to the end of the first change of the tool, and of each change to
+-- that of the next
 pub record ProgramTimeData : Type 0 where
   pub whole : RunTime
   pub parts : List ℕ
 
--- the ticks of the uses that are told: what comes before the first change is one of them where something moves there
+-- the ticks of the uses that are told: what comes before the first change is one of them where
+-- something moves there
 abbrev pub ticks_told : List Command → List ℕ → List ℕ
 ticks_told commands parts = if moves (use_of None commands) then parts else drop 1 parts
-
-unfoldable pub named_tool : Option Tool → List ℕ
-named_tool None = codes "no tool"
-named_tool (Some tool) = codes "tool " ++ decimal tool.number
 
 -- its number, or null without one
 unfoldable pub tool_value : Option Tool → List ℕ
@@ -54,7 +53,7 @@ tool_value None = codes "null"
 tool_value (Some tool) = decimal tool.number
 
 abbrev pub use_time_words : Option Tool → RunTime → List ℕ
-use_time_words tool time = codes "With " ++ named_tool tool ++ codes " it takes " ++ decimal time.ticks ++ codes " ticks, " ++ time_text time ++ codes ".\n"
+use_time_words tool time = codes "With " ++ tool_text tool ++ codes " it takes " ++ decimal time.ticks ++ codes " ticks, " ++ time_text time ++ codes ".\n"
 
 abbrev pub use_time_fact : Option Tool → RunTime → List ℕ
 use_time_fact tool time =

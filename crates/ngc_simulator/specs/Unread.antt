@@ -12,15 +12,8 @@ use Rattle.ngc_line_reader.specs.declared.program.fault.ReadFault.{ReadFault}
 use Rattle.ngc_line_reader.specs.declared.program.fault.ReadFault.TheVariants as reads
 use Rattle.ngc_machine.specs.MachineText.{machine_file}
 use Rattle.ngc_machine.specs.ToolText.{tool_table}
-use Rattle.ngc_simulator.specs.declared.certifier.CertifyFault.TheVariants as certifies
-use Rattle.ngc_simulator.specs.declared.checking.CheckingFault.TheVariants as checks
-use Rattle.ngc_simulator.specs.declared.drawing.DrawingFault.TheVariants as draws
 use Rattle.ngc_simulator.specs.declared.fault.AnswerFault.{AnswerFault}
 use Rattle.ngc_simulator.specs.declared.fault.AnswerFault.TheVariants as answers
-use Rattle.ngc_simulator.specs.declared.fault.SetupFault.{SetupFault}
-use Rattle.ngc_simulator.specs.declared.fault.SetupFault.TheVariants.{Refused, Unread}
-use Rattle.ngc_simulator.specs.declared.lister.ListFault.TheVariants as lists
-use Rattle.ngc_simulator.specs.declared.running.RunningFault.TheVariants as running
 use Rattle.ngc_simulator.specs.declared.setup.TheConstants.{FILE_LIMIT}
 use Rattle.ngc_simulator.specs.Setups.{FileBytes}
 
@@ -90,7 +83,8 @@ TellsKindUnread fails kind known old new fault = TellsUnread fails known old new
 abbrev pub TellsFirstUnread : (Option (List ℕ) → Type 0) → FileBytes → List Input → ℕ → ℕ → InputFault → Type 0
 TellsFirstUnread fails bytes files old new fault = AtFirst (λ kind known. TellsKindUnread fails kind known old new fault) bytes files
 
--- ---- what a fault says of it: 901, and 900 where a file is read whole; other faults say that all that was opened was read
+-- ---- what a fault says of it: 901, and 900 where a file is read whole; other faults say that all
+-- that was opened was read
 
 abbrev pub program_unread : ReadFault → Option InputFault
 program_unread (reads.Line line fault) = None
@@ -106,24 +100,14 @@ certificate_unread texts.WrongHeader = None
 certificate_unread (texts.BadLine line) = None
 certificate_unread (texts.OutOfRange line) = None
 
-abbrev pub setup_unread : SetupFault → Option InputFault
-setup_unread (Refused fault) = None
-setup_unread (Unread fault) = Some fault
-
 abbrev pub unread_by : AnswerFault → Option InputFault
 unread_by (answers.Input fault) = Some fault
-unread_by (answers.List (lists.Read fault)) = program_unread fault
-unread_by (answers.Certify (certifies.Read fault)) = program_unread fault
-unread_by (answers.Check (checks.Read fault)) = program_unread fault
-unread_by (answers.Check (checks.Certificate fault)) = certificate_unread fault
-unread_by (answers.Run (running.Read fault)) = program_unread fault
-unread_by (answers.Run (running.Certificate fault)) = certificate_unread fault
-unread_by (answers.Draw (draws.Read fault)) = program_unread fault
-unread_by (answers.Draw (draws.Certificate fault)) = certificate_unread fault
+unread_by (answers.Read fault) = program_unread fault
+unread_by (answers.Certificate fault) = certificate_unread fault
 unread_by _ = None
 
--- The count of files that couldn't be opened rose where one couldn't, and else it is what it was. Where the outcome tells that a file
--- isn't read, the first one that isn't is so.
+-- The count of files that couldn't be opened rose where one couldn't, and else it is what it was.
+-- Where the outcome tells that a file isn't read, the first one that isn't is so.
 abbrev pub FailsBy : {T E : Type 0} → (E → Option InputFault) → (Option (List ℕ) → Type 0) → FileBytes → List Input → ℕ → ℕ → Result T E → Type 0
 FailsBy unread fails bytes files old new (Ok value) = new ≡ old
 FailsBy unread fails bytes files old new (Err fault) = MatchOption (unread fault) (new ≡ old) (TellsFirstUnread fails bytes files old new)

@@ -13,8 +13,8 @@ use Rattle.ngc_report.specs.Quotes.{bytes_with, marked}
 use Rattle.ngc_report.specs.declared.form.Form.{Form}
 use Rattle.ngc_report.specs.declared.form.Form.TheVariants.{Words, Json}
 use Rattle.ngc_simulator.specs.Reporting.{ending}
-use Rattle.ngc_simulator.specs.declared.certifier.CertifyFault.{CertifyFault}
-use Rattle.ngc_simulator.specs.declared.certifier.CertifyFault.TheVariants as certifies
+use Rattle.ngc_simulator.specs.declared.fault.AnswerFault.{AnswerFault}
+use Rattle.ngc_simulator.specs.declared.fault.AnswerFault.TheVariants as answers
 
 abbrev pub unreadable_line : Form → List ℕ
 unreadable_line Words = codes "The program can't be read.\n"
@@ -35,12 +35,13 @@ is_of_text reads.Memory = false
 is_of_text reads.Device = false
 is_of_text _ = true
 
--- The program has this fault, which is told of a named file alone, since standard input isn't read again; and where the sink failed, a
--- beginning of that is written. A file that isn't read again, as where it is too long or memory runs out, has nothing told.
-abbrev pub TellsUnreadable : Form → Option (List ℕ) → List ℕ → Option (List ℕ) → Option (List ℕ) → CertifyFault → Type 0
-TellsUnreadable form name bytes old new (certifies.Read fault) =
+-- The program has this fault, which is told of a named file alone, since standard input isn't read
+-- again; and where the sink failed, a beginning of that is written. A file that isn't read again,
+-- as where it is too long or memory runs out, has nothing told.
+abbrev pub TellsUnreadable : Form → Option (List ℕ) → List ℕ → Option (List ℕ) → Option (List ℕ) → AnswerFault → Type 0
+TellsUnreadable form name bytes old new (answers.Read fault) =
     FaultIs fault (program_of bytes)
     × (Keeps old new ⊎ (IsSome name × (is_of_text fault ≡ true) × Appends old new (unreadable_text form fault bytes)))
-TellsUnreadable form name bytes old new (certifies.Write e) =
+TellsUnreadable form name bytes old new (answers.Write e) =
     (fault : ReadFault) × IsSome name × (is_of_text fault ≡ true) × FaultIs fault (program_of bytes) × AppendsBeginning old new (unreadable_text form fault bytes)
 TellsUnreadable form name bytes old new _ = ⊥

@@ -1,46 +1,29 @@
-ghost use Rattle.std.specs.Prelude.{◌≡◌, ℕ, List, IfSome, Ok, Err};
+ghost use Rattle.std.specs.Prelude.{◌≡◌, ℕ, List, IfErr, IfSome, Ok, Err};
 ghost use Rattle.ngc_canonical.specs.Interpreter.{setup_of};
 ghost use Rattle.ngc_certificate_text.specs.declared.fault.CertificateFault.TheVariants.{ReadFailed};
 ghost use Rattle.ngc_text.specs.Failures.{Rises};
 ghost use Rattle.ngc_line_reader.specs.ProgramText.{program_of, HaveReadings};
 ghost use Rattle.ngc_line_reader.specs.ProgramView.{text_in};
-ghost use Rattle.ngc_simulator.specs.Answers.{CheckComes, FailsByOutput, check_inputs};
-ghost use Rattle.ngc_simulator.specs.Jobs.{Checks, FailsByChecking, NeverReads};
+ghost use Rattle.ngc_simulator.specs.Answers.{CheckComes, check_inputs};
+ghost use Rattle.ngc_simulator.specs.Faults.{FailsByOutput, OfChecking};
+ghost use Rattle.ngc_simulator.specs.Jobs.{Checks};
 ghost use Rattle.ngc_simulator.specs.Unread.{FailsByInput, SourceFails};
 
 use crate::done::Done;
 use crate::fault::AnswerFault;
 use crate::files::Files;
-use crate::opening::read_program;
+use crate::opening::{open_file, read_program};
 use crate::setup::read_shop;
-use ngc_certificate_text::CertificateFault;
-use ngc_checker::{CheckFault, CheckReadFault, check_source};
+use ngc_checker::{CheckReadFault, check_source};
 use ngc_command_line::CheckOptions;
-use ngc_line_reader::{Program, ReadFault};
+use ngc_line_reader::Program;
 use ngc_machine::{Machine, Tools};
-use ngc_text::{InputFault, Sink, Source, WriteFault, write_all};
+use ngc_text::{Sink, Source, write_all};
 use std::alloc::{Allocator, Global};
-use thiserror::Error;
 
-/// Why a certificate isn't accepted.
-#[derive(Clone, Copy, Debug, PartialEq, Eq, Error)]
-pub enum CheckingFault {
-    /// The program isn't read: 101, 111 to 119, 121, 122, 900, 901.
-    #[error(transparent)]
-    Read(ReadFault),
-    /// The certificate isn't read: 301 to 303, 900, 901.
-    #[error(transparent)]
-    Certificate(CertificateFault),
-    /// 311 to 318, 900
-    #[error(transparent)]
-    Check(CheckFault),
-    /// 902
-    #[error(transparent)]
-    Write(WriteFault),
-}
-
-/// Writes `accepted` where the certificate that a source gives shows that a program is safe on a machine with its tools.
-/// Nothing is written where it isn't; where a write fails, a beginning is written.
+/// Writes `accepted` where the certificate that a source gives shows that a program is safe on a
+/// machine with its tools. Nothing is written where it isn't; where a write fails, a beginning is
+/// written.
 pub fn check_program<A: Allocator + Copy, S: Source, W: Sink>(
     alloc: A,
     program: &Program<A>,
@@ -48,23 +31,22 @@ pub fn check_program<A: Allocator + Copy, S: Source, W: Sink>(
     tools: &Tools<A>,
     certificate: &mut S,
     output: &mut W,
-) -> Result<(), CheckingFault>
-    // Whatever file the program was read from, where the bytes of the certificate are known: the answer is that of both.
+) -> Result<(), AnswerFault>
+    // Whatever file the program was read from, where the bytes of the certificate are known: the
+    // answer is that of both.
     ensures checks { (bytes : List ℕ) → program_of bytes ≡ Ok (text_in program.now) → HaveReadings (text_in program.now).lines → IfSome (S.remaining certificate.old) (λ text. Checks (setup_of machine.now tools.now) bytes text (W.written output.old) (W.written output.new) result) }
     // A fault of reading or writing comes only from a device that failed.
-    ensures source { result ≡ Err (CheckingFault.Certificate ReadFailed) → Rises (S.failures certificate.old) (S.failures certificate.new) }
-    ensures sink { FailsByChecking result (W.failures output.old) (W.failures output.new) }
-    ensures given { NeverReads result }
+    ensures source { result ≡ Err (AnswerFault.Certificate ReadFailed) → Rises (S.failures certificate.old) (S.failures certificate.new) }
+    ensures sink { FailsByOutput result (W.failures output.old) (W.failures output.new) }
+    ensures faults { IfErr result OfChecking }
 {
     match check_source(alloc, program, machine, tools, certificate) {
         Ok(_) => {}
-        Err(CheckReadFault::Certificate(fault)) => return Err(CheckingFault::Certificate(fault)),
-        Err(CheckReadFault::Check(fault)) => return Err(CheckingFault::Check(fault)),
+        Err(CheckReadFault::Certificate(fault)) => return Err(AnswerFault::Certificate(fault)),
+        Err(CheckReadFault::Check(fault)) => return Err(AnswerFault::Check(fault)),
     }
-    match write_all(output, b"accepted\n") {
-        Ok(()) => Ok(()),
-        Err(fault) => Err(CheckingFault::Write(fault)),
-    }
+    write_all(output, b"accepted\n")?;
+    Ok(())
 }
 
 // Whether a certificate is accepted. The program is read before the certificate's file is opened.
@@ -78,27 +60,16 @@ pub(crate) fn check_files<F: Files, W: Sink>(
     ensures unread { FailsByInput (SourceFails F.R.remaining F.R.failures) (F.bytes files.old) (check_inputs options.now) (F.failures files.old) (F.failures files.new) result }
     ensures sink { FailsByOutput result (W.failures output.old) (W.failures output.new) }
 {
-    let shop = match read_shop(alloc, Some(options.machine), Some(options.tools), files) {
-        Ok(shop) => shop,
-        Err(fault) => return Err(fault),
-    };
-    let program = match read_program(alloc, options.program, files) {
-        Ok(program) => program,
-        Err(fault) => return Err(AnswerFault::Check(CheckingFault::Read(fault))),
-    };
-    let mut certificate = match files.source(Some(options.certificate)) {
-        Ok(certificate) => certificate,
-        Err(_) => return Err(AnswerFault::Input(InputFault::Device)),
-    };
-    match check_program(
+    let shop = read_shop(alloc, Some(options.machine), Some(options.tools), files)?;
+    let program = read_program(alloc, options.program, files)?;
+    let mut certificate = open_file(Some(options.certificate), files)?;
+    check_program(
         alloc,
         &program,
         &shop.machine,
         &shop.tools,
         &mut certificate,
         output,
-    ) {
-        Ok(()) => Ok(Done::Quietly),
-        Err(fault) => Err(AnswerFault::Check(fault)),
-    }
+    )?;
+    Ok(Done::Quietly)
 }

@@ -1,5 +1,5 @@
 //! Pictures of programs.
-ghost use Rattle.std.specs.Prelude.{◌≡◌, ◌≤◌, ℕ, List, IfOk, Ok, Some, None, MatchResult, length, option_map};
+ghost use Rattle.std.specs.Prelude.{◌≡◌, ◌≤◌, ℕ, List, IfErr, Ok, Some, None, MatchResult, length, option_map};
 ghost use Rattle.ngc_canonical.specs.Interpreter.{setup_of};
 ghost use Rattle.ngc_canonical.specs.State.{COMMAND_LIMIT};
 ghost use Rattle.ngc_certificate_text.specs.Contents.{said_of};
@@ -7,44 +7,22 @@ ghost use Rattle.ngc_certificate_text.specs.Said.{certificate_said};
 ghost use Rattle.ngc_line_reader.specs.ProgramText.{program_of, HaveReadings};
 ghost use Rattle.ngc_line_reader.specs.ProgramView.{text_in};
 ghost use Rattle.ngc_machine.specs.Machine.{file_of};
-ghost use Rattle.ngc_simulator.specs.Drawing.{DrawsGiven, DrawsProgram, FailsByDrawing, IsMadeRefusal, OnlyDraws, after_action, behind, drawn_refusal, fault_at, fixture_of, met_at, met_by, met_first, refusal_answer, setting_of, start_of, view_named};
+ghost use Rattle.ngc_simulator.specs.Faults.{FailsByOutput, OfDrawing};
+ghost use Rattle.ngc_simulator.specs.Drawing.{DrawsGiven, DrawsProgram, IsMadeRefusal, after_action, behind, drawn_refusal, fault_at, fixture_of, met_at, met_by, met_first, refusal_answer, setting_of, start_of, view_named};
 
-use ngc_canonical::{Action, Command, ProgramFault, interpret};
+use crate::fault::AnswerFault;
+use ngc_canonical::{Action, Command, interpret};
 use ngc_certificate::{
     MakeFault, PieceFault, PieceRefusal, Setting, make_alike, pieces_fault, place_fault, undivided,
 };
-use ngc_certificate_text::{Certificate, CertificateFault, Motions};
+use ngc_certificate_text::{Certificate, Motions};
 use ngc_checker::{CheckFault, setting_fault};
 use ngc_drawing::{DrawFault, Refusal, View, write_svg};
 use ngc_fixed_length::Point3;
-use ngc_line_reader::{Program, ReadFault};
+use ngc_line_reader::Program;
 use ngc_machine::{Machine, Tool, Tools};
 use ngc_text::Sink;
 use std::alloc::Allocator;
-use thiserror::Error;
-
-/// Why no picture is drawn, or only a beginning of one.
-#[derive(Clone, Copy, Debug, PartialEq, Eq, Error)]
-pub enum DrawingFault {
-    /// No view has the name: 723.
-    #[error("no view has this name")]
-    UnknownView,
-    /// The program isn't read: 101, 111 to 119, 121, 122, 900, 901.
-    #[error(transparent)]
-    Read(ReadFault),
-    /// The certificate isn't read: 301 to 303, 900, 901.
-    #[error(transparent)]
-    Certificate(CertificateFault),
-    /// The program is refused: 101, 102, 120, 131 to 133, 201 to 252, 900.
-    #[error(transparent)]
-    Program(ProgramFault),
-    /// The certificate isn't one of the program: 312 to 314.
-    #[error(transparent)]
-    Check(CheckFault),
-    /// 900, 902
-    #[error(transparent)]
-    Draw(DrawFault),
-}
 
 /// The view with this name, and the top where none is given.
 pub(crate) fn view_of(name: Option<&str>) -> Option<View>
@@ -232,7 +210,8 @@ fn setting_of(block_delete: bool) -> Setting
     }
 }
 
-// What is refused of these commands with a certificate, and drawn. What is no refusal for travel or a fixture isn't.
+// What is refused of these commands with a certificate, and drawn. What is no refusal for travel or
+// a fixture isn't.
 fn checked_refusal<A: Allocator>(
     machine: &Machine<A>,
     block_delete: bool,
@@ -252,8 +231,8 @@ fn checked_refusal<A: Allocator>(
     }
 }
 
-/// Draws a program on a machine, at a setting of block delete, with the motion that no certificate clears, and the fixture that
-/// it meets in one piece.
+/// Draws a program on a machine, at a setting of block delete, with the motion that no certificate
+/// clears, and the fixture that it meets in one piece.
 pub fn draw_program<A: Allocator + Copy, W: Sink>(
     alloc: A,
     program: &Program<A>,
@@ -262,22 +241,16 @@ pub fn draw_program<A: Allocator + Copy, W: Sink>(
     view: View,
     block_delete: bool,
     output: &mut W,
-) -> Result<(), DrawingFault>
+) -> Result<(), AnswerFault>
     // Whatever file the program was read from: the picture is that of what it means.
     ensures draws { (bytes : List ℕ) → program_of bytes ≡ Ok (text_in program.now) → HaveReadings (text_in program.now).lines → DrawsProgram (setup_of machine.now tools.now) bytes block_delete view (W.written output.old) (W.written output.new) result }
-    ensures sink { FailsByDrawing result (W.failures output.old) (W.failures output.new) }
-    ensures given { OnlyDraws result }
+    ensures sink { FailsByOutput result (W.failures output.old) (W.failures output.new) }
+    ensures faults { IfErr result OfDrawing }
 {
-    let commands = match interpret(alloc, program, machine, tools, block_delete) {
-        Ok(commands) => commands,
-        Err(fault) => return Err(DrawingFault::Program(fault)),
-    };
-    let refusal = match made_refusal(alloc, commands.as_slice(), machine) {
-        Ok(refusal) => refusal,
-        Err(fault) => return Err(DrawingFault::Draw(fault)),
-    };
+    let commands = interpret(alloc, program, machine, tools, block_delete)?;
+    let refusal = made_refusal(alloc, commands.as_slice(), machine)?;
     let none = Motions::new(alloc);
-    match write_svg(
+    write_svg(
         alloc,
         view,
         machine,
@@ -285,14 +258,13 @@ pub fn draw_program<A: Allocator + Copy, W: Sink>(
         &none,
         &refusal,
         output,
-    ) {
-        Ok(()) => Ok(()),
-        Err(fault) => Err(DrawingFault::Draw(fault)),
-    }
+    )?;
+    Ok(())
 }
 
-/// Draws a program on a machine, at a setting of block delete, with the bodies of the tools over the certificate's boxes, and the
-/// motion of which it doesn't show that it keeps to the travel and clears the fixtures.
+/// Draws a program on a machine, at a setting of block delete, with the bodies of the tools over
+/// the certificate's boxes, and the motion of which it doesn't show that it keeps to the travel and
+/// clears the fixtures.
 pub fn draw_certified<A: Allocator + Copy, W: Sink>(
     alloc: A,
     program: &Program<A>,
@@ -302,22 +274,16 @@ pub fn draw_certified<A: Allocator + Copy, W: Sink>(
     view: View,
     block_delete: bool,
     output: &mut W,
-) -> Result<(), DrawingFault>
+) -> Result<(), AnswerFault>
     // Whatever files the program and the certificate were read from.
     ensures draws { (bytes text : List ℕ) → program_of bytes ≡ Ok (text_in program.now) → HaveReadings (text_in program.now).lines → certificate_said text ≡ Ok (said_of certificate.now) → DrawsGiven (setup_of machine.now tools.now) bytes text block_delete view (W.written output.old) (W.written output.new) result }
-    ensures sink { FailsByDrawing result (W.failures output.old) (W.failures output.new) }
-    ensures given { OnlyDraws result }
+    ensures sink { FailsByOutput result (W.failures output.old) (W.failures output.new) }
+    ensures faults { IfErr result OfDrawing }
 {
-    let commands = match interpret(alloc, program, machine, tools, block_delete) {
-        Ok(commands) => commands,
-        Err(fault) => return Err(DrawingFault::Program(fault)),
-    };
-    let refusal = match checked_refusal(machine, block_delete, commands.as_slice(), certificate) {
-        Ok(refusal) => refusal,
-        Err(fault) => return Err(DrawingFault::Check(fault)),
-    };
+    let commands = interpret(alloc, program, machine, tools, block_delete)?;
+    let refusal = checked_refusal(machine, block_delete, commands.as_slice(), certificate)?;
     let motions = certificate.motions(setting_of(block_delete));
-    match write_svg(
+    write_svg(
         alloc,
         view,
         machine,
@@ -325,8 +291,6 @@ pub fn draw_certified<A: Allocator + Copy, W: Sink>(
         motions,
         &refusal,
         output,
-    ) {
-        Ok(()) => Ok(()),
-        Err(fault) => Err(DrawingFault::Draw(fault)),
-    }
+    )?;
+    Ok(())
 }

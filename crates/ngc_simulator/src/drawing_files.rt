@@ -1,11 +1,12 @@
 //! Pictures of programs, from the files that the command line names.
 ghost use Rattle.std.specs.Prelude.{◌≡◌, Ok, Some, option_map};
-ghost use Rattle.ngc_simulator.specs.Answers.{DrawComes, FailsByOutput, draw_inputs};
+ghost use Rattle.ngc_simulator.specs.Answers.{DrawComes, draw_inputs};
 ghost use Rattle.ngc_simulator.specs.Drawing.{view_named};
+ghost use Rattle.ngc_simulator.specs.Faults.{FailsByOutput};
 ghost use Rattle.ngc_simulator.specs.Unread.{FailsByInput, SourceFails};
 
 use crate::done::Done;
-use crate::drawing::{DrawingFault, draw_certified, draw_program, view_of};
+use crate::drawing::{draw_certified, draw_program, view_of};
 use crate::fault::AnswerFault;
 use crate::files::Files;
 use crate::opening::{read_certificate, read_program};
@@ -28,15 +29,9 @@ fn draw_plain<F: Files, W: Sink>(
     ensures unread { FailsByInput (SourceFails F.R.remaining F.R.failures) (F.bytes files.old) (draw_inputs options.now (Some view)) (F.failures files.old) (F.failures files.new) result }
     ensures sink { FailsByOutput result (W.failures output.old) (W.failures output.new) }
 {
-    let shop = match read_shop(alloc, Some(options.machine), Some(options.tools), files) {
-        Ok(shop) => shop,
-        Err(fault) => return Err(fault),
-    };
-    let program = match read_program(alloc, options.program, files) {
-        Ok(program) => program,
-        Err(fault) => return Err(AnswerFault::Draw(DrawingFault::Read(fault))),
-    };
-    match draw_program(
+    let shop = read_shop(alloc, Some(options.machine), Some(options.tools), files)?;
+    let program = read_program(alloc, options.program, files)?;
+    draw_program(
         alloc,
         &program,
         &shop.machine,
@@ -44,10 +39,8 @@ fn draw_plain<F: Files, W: Sink>(
         view,
         options.delete,
         output,
-    ) {
-        Ok(()) => Ok(Done::Quietly),
-        Err(fault) => Err(AnswerFault::Draw(fault)),
-    }
+    )?;
+    Ok(Done::Quietly)
 }
 
 // A picture with a certificate.
@@ -64,19 +57,10 @@ fn draw_with<F: Files, W: Sink>(
     ensures unread { FailsByInput (SourceFails F.R.remaining F.R.failures) (F.bytes files.old) (draw_inputs options.now (Some view)) (F.failures files.old) (F.failures files.new) result }
     ensures sink { FailsByOutput result (W.failures output.old) (W.failures output.new) }
 {
-    let shop = match read_shop(alloc, Some(options.machine), Some(options.tools), files) {
-        Ok(shop) => shop,
-        Err(fault) => return Err(fault),
-    };
-    let program = match read_program(alloc, options.program, files) {
-        Ok(program) => program,
-        Err(fault) => return Err(AnswerFault::Draw(DrawingFault::Read(fault))),
-    };
-    let certificate = match read_certificate(alloc, certificate, files) {
-        Ok(certificate) => certificate,
-        Err(fault) => return Err(AnswerFault::Draw(DrawingFault::Certificate(fault))),
-    };
-    match draw_certified(
+    let shop = read_shop(alloc, Some(options.machine), Some(options.tools), files)?;
+    let program = read_program(alloc, options.program, files)?;
+    let certificate = read_certificate(alloc, certificate, files)?;
+    draw_certified(
         alloc,
         &program,
         &shop.machine,
@@ -85,10 +69,8 @@ fn draw_with<F: Files, W: Sink>(
         view,
         options.delete,
         output,
-    ) {
-        Ok(()) => Ok(Done::Quietly),
-        Err(fault) => Err(AnswerFault::Draw(fault)),
-    }
+    )?;
+    Ok(Done::Quietly)
 }
 
 /// A picture of a program. The view is looked up before a file is read.
@@ -103,7 +85,7 @@ pub(crate) fn draw_files<F: Files, W: Sink>(
     ensures sink { FailsByOutput result (W.failures output.old) (W.failures output.new) }
 {
     let Some(view) = view_of(options.view) else {
-        return Err(AnswerFault::Draw(DrawingFault::UnknownView));
+        return Err(AnswerFault::UnknownView);
     };
     match options.certificate {
         None => draw_plain(alloc, options, view, files, output),

@@ -1,42 +1,31 @@
 //! The help of a command, and the program's version.
-ghost use Rattle.std.specs.Prelude.{◌≡◌, OnErr, OnOk};
+ghost use Rattle.std.specs.Prelude.{OnErr, OnOk};
 ghost use Rattle.std.specs.Io.KnownBytes.{Appends};
 ghost use Rattle.ngc_text.specs.Failures.{CountsFailure};
 ghost use Rattle.ngc_text.specs.Written.{AppendsBeginning};
-ghost use Rattle.ngc_simulator.specs.Guides.{FailsByGuiding, Guides, version_text};
+ghost use Rattle.ngc_simulator.specs.Faults.{FailsByOutput};
+ghost use Rattle.ngc_simulator.specs.Guides.{Guides, version_text};
 
+use crate::fault::AnswerFault;
 use ngc_command_line::{HelpFault, help_text};
 use ngc_text::{Sink, WriteFault, write_all};
 use std::alloc::Global;
-use thiserror::Error;
-
-/// Why no help or version is written.
-#[derive(Clone, Copy, Debug, PartialEq, Eq, Error)]
-pub enum GuideFault {
-    /// 722, 900
-    #[error(transparent)]
-    Help(HelpFault),
-    /// 902
-    #[error(transparent)]
-    Write(WriteFault),
-}
 
 pub(crate) fn write_help<W: Sink>(
     alloc: Global,
     command: Option<&str>,
     output: &mut W,
-) -> Result<(), GuideFault>
+) -> Result<(), AnswerFault>
     ensures guides { Guides (W.written output.old) (W.written output.new) result }
-    ensures sink { FailsByGuiding result (W.failures output.old) (W.failures output.new) }
+    ensures sink { FailsByOutput result (W.failures output.old) (W.failures output.new) }
 {
     let text = match help_text(alloc, command) {
         Ok(text) => text,
-        Err(fault) => return Err(GuideFault::Help(fault)),
+        Err(HelpFault::Unknown) => return Err(AnswerFault::UnknownCommand),
+        Err(HelpFault::Memory) => return Err(AnswerFault::Memory),
     };
-    match write_all(output, text.as_bytes()) {
-        Ok(()) => Ok(()),
-        Err(fault) => Err(GuideFault::Write(fault)),
-    }
+    write_all(output, text.as_bytes())?;
+    Ok(())
 }
 
 pub(crate) fn write_version<W: Sink>(output: &mut W) -> Result<(), WriteFault>

@@ -1,4 +1,5 @@
-//! What the program does: it lists part programs, makes their certificates, checks them, runs the machine and shows it.
+//! What the program does: it lists part programs, makes their certificates, checks them, runs the
+//! machine and shows it.
 #![tactic(auto)]
 
 mod certifier;
@@ -7,7 +8,9 @@ mod done;
 mod drawing;
 mod drawing_files;
 mod fault;
+mod fault_line;
 mod files;
+mod fit_writer;
 mod guide;
 mod lister;
 mod listing;
@@ -15,12 +18,9 @@ mod mistaken_files;
 mod opening;
 mod program;
 mod program_time;
-mod report;
-mod report_certificates;
-mod report_drawing;
-mod report_runs;
+mod refusal_writer;
+mod report_frame;
 mod report_time;
-mod report_writer;
 mod reporting;
 mod reporting_files;
 mod request;
@@ -32,14 +32,13 @@ mod timing;
 mod unread_files;
 mod use_times;
 
-pub use certifier::{CertifyFault, certify};
-pub use checking::{CheckingFault, check_program};
+pub use certifier::certify;
+pub use checking::check_program;
 pub use done::{Done, RunTime};
-pub use drawing::{DrawingFault, draw_certified, draw_program};
+pub use drawing::{draw_certified, draw_program};
 pub use fault::AnswerFault;
 pub use files::Files;
-pub use guide::GuideFault;
-pub use lister::{ListFault, list};
+pub use lister::list;
 pub use listing::write_list;
 pub use ngc_canonical::{
     Action, Command, CoolantState, Fault, Feed, Motion, Pace, ProgramFault, SpindleState, Way,
@@ -64,5 +63,5 @@ pub use ngc_step_kernel::{ArcKernel, ArcPath};
 pub use program::answer;
 pub use reporting::report_program;
 pub use request::ReportRequest;
-pub use running::{RunningFault, run_program};
+pub use running::run_program;
 pub use through::run_program_through;

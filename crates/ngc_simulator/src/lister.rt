@@ -1,41 +1,29 @@
-ghost use Rattle.std.specs.Prelude.{◌≡◌, IfSome, Err};
+ghost use Rattle.std.specs.Prelude.{◌≡◌, IfErr, IfSome, Err};
 ghost use Rattle.ngc_canonical.specs.Interpreter.{setup_of};
 ghost use Rattle.ngc_text.specs.Failures.{Rises};
 ghost use Rattle.ngc_line_reader.specs.declared.program.fault.ReadFault.TheVariants.{Device};
-ghost use Rattle.ngc_simulator.specs.Answers.{ListComes, FailsByOutput, list_inputs};
-ghost use Rattle.ngc_simulator.specs.Lists.{Lists, FailsByWriting};
+ghost use Rattle.ngc_simulator.specs.Answers.{ListComes, list_inputs};
+ghost use Rattle.ngc_simulator.specs.Faults.{FailsByOutput, OfListing};
+ghost use Rattle.ngc_simulator.specs.Lists.{Lists};
 ghost use Rattle.ngc_simulator.specs.Unread.{FailsByInput, SourceFails};
 
 use crate::done::Done;
 use crate::fault::AnswerFault;
 use crate::files::Files;
 use crate::listing::write_list;
+use crate::opening::open_file;
 use crate::setup::read_shop;
-use ngc_canonical::{ProgramFault, interpret};
+use ngc_canonical::interpret;
 use ngc_command_line::ListOptions;
-use ngc_line_reader::{Program, ReadFault};
+use ngc_line_reader::Program;
 use ngc_machine::{Machine, Tools};
-use ngc_text::{InputFault, Sink, Source, WriteFault};
+use ngc_text::{Sink, Source};
 use std::alloc::{Allocator, Global};
-use thiserror::Error;
 
-/// Why no listing is written.
-#[derive(Clone, Copy, Debug, PartialEq, Eq, Error)]
-pub enum ListFault {
-    /// The program isn't read: 101, 111 to 119, 121, 122, 900, 901.
-    #[error(transparent)]
-    Read(ReadFault),
-    /// The program is refused: 120 to 252, 900.
-    #[error(transparent)]
-    Program(ProgramFault),
-    /// 902
-    #[error(transparent)]
-    Write(WriteFault),
-}
-
-/// Writes the listing of a program's commands on a machine with its tools, at a setting of block delete. Nothing is written
-/// where the program isn't read (101, 111 to 119, 121, 122, 901) or is refused (101, 102, 120, 131 to 133, 201 to 252), nor
-/// for want of memory (900); where a write fails (902), a beginning is written.
+/// Writes the listing of a program's commands on a machine with its tools, at a setting of block
+/// delete. Nothing is written where the program isn't read (101, 111 to 119, 121, 122, 901) or is
+/// refused (101, 102, 120, 131 to 133, 201 to 252), nor for want of memory (900); where a write
+/// fails (902), a beginning is written.
 pub fn list<A: Allocator + Copy, R: Source, W: Sink>(
     alloc: A,
     source: &mut R,
@@ -43,25 +31,17 @@ pub fn list<A: Allocator + Copy, R: Source, W: Sink>(
     tools: &Tools<A>,
     block_delete: bool,
     output: &mut W,
-) -> Result<(), ListFault>
+) -> Result<(), AnswerFault>
     // Where the source's bytes are known, what is written is the listing of what they mean.
     ensures lists { IfSome (R.remaining source.old) (λ bytes. Lists (setup_of machine.now tools.now) bytes block_delete (W.written output.old) (W.written output.new) result) }
     // A fault of reading or writing comes only from a device that failed.
-    ensures source { result ≡ Err (ListFault.Read Device) → Rises (R.failures source.old) (R.failures source.new) }
-    ensures sink { FailsByWriting result (W.failures output.old) (W.failures output.new) }
+    ensures source { result ≡ Err (AnswerFault.Read Device) → Rises (R.failures source.old) (R.failures source.new) }
+    ensures sink { FailsByOutput result (W.failures output.old) (W.failures output.new) }
+    ensures faults { IfErr result OfListing }
 {
-    let program = match Program::read(alloc, source) {
-        Ok(program) => program,
-        Err(fault) => return Err(ListFault::Read(fault)),
-    };
-    let commands = match interpret(alloc, &program, machine, tools, block_delete) {
-        Ok(commands) => commands,
-        Err(fault) => return Err(ListFault::Program(fault)),
-    };
-    match write_list(commands.as_slice(), machine.step, output) {
-        Ok(()) => {}
-        Err(fault) => return Err(ListFault::Write(fault)),
-    }
+    let program = Program::read(alloc, source)?;
+    let commands = interpret(alloc, &program, machine, tools, block_delete)?;
+    write_list(commands.as_slice(), machine.step, output)?;
     Ok(())
 }
 
@@ -76,23 +56,15 @@ pub(crate) fn list_files<F: Files, W: Sink>(
     ensures unread { FailsByInput (SourceFails F.R.remaining F.R.failures) (F.bytes files.old) (list_inputs options.now) (F.failures files.old) (F.failures files.new) result }
     ensures sink { FailsByOutput result (W.failures output.old) (W.failures output.new) }
 {
-    let shop = match read_shop(alloc, options.machine, options.tools, files) {
-        Ok(shop) => shop,
-        Err(fault) => return Err(fault),
-    };
-    let mut source = match files.source(options.program) {
-        Ok(source) => source,
-        Err(_) => return Err(AnswerFault::Input(InputFault::Device)),
-    };
-    match list(
+    let shop = read_shop(alloc, options.machine, options.tools, files)?;
+    let mut source = open_file(options.program, files)?;
+    list(
         alloc,
         &mut source,
         &shop.machine,
         &shop.tools,
         options.delete,
         output,
-    ) {
-        Ok(()) => Ok(Done::Quietly),
-        Err(fault) => Err(AnswerFault::List(fault)),
-    }
+    )?;
+    Ok(Done::Quietly)
 }

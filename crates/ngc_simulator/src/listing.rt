@@ -207,8 +207,8 @@ fn add_line(chunk: &mut Chunk, step: Nm, index: usize, command: &Command)
     chunk.add_text(b"\n");
 }
 
-/// Writes the listing of commands: a line for each, with its index from 0, its line in the program, and the ideal end in
-/// nanometres with its grid point in steps of 500 to 50,000 nm.
+/// Writes the listing of commands: a line for each, with its index from 0, its line in the program,
+/// and the ideal end in nanometres with its grid point in steps of 500 to 50,000 nm.
 ///
 /// After a fault (902, and only where the sink failed) a beginning of the listing is written.
 pub fn write_list<W: Sink>(commands: &[Command], step: Nm, sink: &mut W) -> Result<(), WriteFault>

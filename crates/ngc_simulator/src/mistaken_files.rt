@@ -7,13 +7,14 @@ ghost use Rattle.ngc_machine.specs.Faults.{number_of as file_number};
 ghost use Rattle.ngc_machine.specs.declared.fault.FileFault.TheVariants.{Memory};
 ghost use Rattle.ngc_report.specs.declared.form.Form.TheVariants.{Words};
 ghost use Rattle.ngc_setup_sheet.specs.Mistakes.{machine_mistake_text, tools_mistake_text};
-ghost use Rattle.ngc_simulator.specs.Mistaken.{FailsByTelling, GivesTold, OfText, TellsMistake, fault_document};
+ghost use Rattle.ngc_simulator.specs.Faults.{FailsByOutput};
+ghost use Rattle.ngc_simulator.specs.Mistaken.{GivesTold, OfText, TellsMistake, fault_document};
 ghost use Rattle.ngc_simulator.specs.Setups.{KeepsFiles};
 ghost use Rattle.ngc_simulator.specs.Unread.{FailsByInput, OfMachine, OfTools, SourceFails, setup_input, shop_inputs, unread_by};
 
 use crate::fault::AnswerFault;
 use crate::files::Files;
-use crate::report_writer::write_ending;
+use crate::report_frame::{opening, write_ending};
 use crate::setup::{Shop, bytes_of, read_shop};
 use ngc_machine::FileFault;
 use ngc_report::Form;
@@ -26,10 +27,7 @@ fn write_fault_document<W: Sink>(number: u16, output: &mut W) -> Result<(), Writ
     ensures fault { OnErr result (AppendsBeginning (W.written output.old) (W.written output.new) (fault_document number)) }
     ensures counts { CountsFailure (W.failures output.old) (W.failures output.new) result }
 {
-    match write_all(output, b"[{\"fact\":\"report\",\"version\":1}") {
-        Ok(()) => {}
-        Err(fault) => return Err(fault),
-    }
+    write_all(output, opening(Form::Json))?;
     write_ending(Form::Json, number, output)
 }
 
@@ -37,15 +35,13 @@ fn write_fault_document<W: Sink>(number: u16, output: &mut W) -> Result<(), Writ
 fn tell_number<W: Sink>(fault: FileFault, output: &mut W) -> Result<(), AnswerFault>
     ensures tells { TellsMistake (λ P. (fault ≢ Memory) × P (fault_document (file_number fault))) (W.written output.old) (W.written output.new) result }
     ensures unread { IfErr result (λ fault. unread_by fault ≡ None) }
-    ensures sink { FailsByTelling result (W.failures output.old) (W.failures output.new) }
+    ensures sink { FailsByOutput result (W.failures output.old) (W.failures output.new) }
 {
     if fault == FileFault::Memory {
         return Ok(());
     }
-    match write_fault_document(fault.number(), output) {
-        Ok(()) => Ok(()),
-        Err(fault) => Err(AnswerFault::Show(fault)),
-    }
+    write_fault_document(fault.number(), output)?;
+    Ok(())
 }
 
 // Of the file's bytes, which are read once more. Nothing is written where memory runs out.
@@ -59,7 +55,7 @@ fn tell_machine_words<F: Files, W: Sink>(
     ensures tells { TellsMistake (OfText Words machine_mistake_text fault (F.bytes files.old (Some name.now))) (W.written output.old) (W.written output.new) result }
     ensures keeps { KeepsFiles (F.bytes files.old) (F.bytes files.new) }
     ensures unread { FailsByInput (SourceFails F.R.remaining F.R.failures) (F.bytes files.old) (setup_input OfMachine (Some name.now)) (F.failures files.old) (F.failures files.new) result }
-    ensures sink { FailsByTelling result (W.failures output.old) (W.failures output.new) }
+    ensures sink { FailsByOutput result (W.failures output.old) (W.failures output.new) }
 {
     if fault == FileFault::Memory {
         return Ok(());
@@ -69,10 +65,8 @@ fn tell_machine_words<F: Files, W: Sink>(
         Err(InputFault::Device) => return Err(AnswerFault::Input(InputFault::Device)),
         Err(InputFault::Memory | InputFault::TooLong) => return Ok(()),
     };
-    match write_machine_mistake(alloc, bytes.as_slice(), fault, output) {
-        Ok(()) => Ok(()),
-        Err(fault) => Err(AnswerFault::Show(fault)),
-    }
+    write_machine_mistake(alloc, bytes.as_slice(), fault, output)?;
+    Ok(())
 }
 
 fn tell_tools_words<F: Files, W: Sink>(
@@ -85,7 +79,7 @@ fn tell_tools_words<F: Files, W: Sink>(
     ensures tells { TellsMistake (OfText Words tools_mistake_text fault (F.bytes files.old (Some name.now))) (W.written output.old) (W.written output.new) result }
     ensures keeps { KeepsFiles (F.bytes files.old) (F.bytes files.new) }
     ensures unread { FailsByInput (SourceFails F.R.remaining F.R.failures) (F.bytes files.old) (setup_input OfTools (Some name.now)) (F.failures files.old) (F.failures files.new) result }
-    ensures sink { FailsByTelling result (W.failures output.old) (W.failures output.new) }
+    ensures sink { FailsByOutput result (W.failures output.old) (W.failures output.new) }
 {
     if fault == FileFault::Memory {
         return Ok(());
@@ -95,10 +89,8 @@ fn tell_tools_words<F: Files, W: Sink>(
         Err(InputFault::Device) => return Err(AnswerFault::Input(InputFault::Device)),
         Err(InputFault::Memory | InputFault::TooLong) => return Ok(()),
     };
-    match write_tools_mistake(alloc, bytes.as_slice(), fault, output) {
-        Ok(()) => Ok(()),
-        Err(fault) => Err(AnswerFault::Show(fault)),
-    }
+    write_tools_mistake(alloc, bytes.as_slice(), fault, output)?;
+    Ok(())
 }
 
 fn tell_machine_mistake<F: Files, W: Sink>(
@@ -112,7 +104,7 @@ fn tell_machine_mistake<F: Files, W: Sink>(
     ensures tells { TellsMistake (OfText form machine_mistake_text fault (F.bytes files.old (Some name.now))) (W.written output.old) (W.written output.new) result }
     ensures keeps { KeepsFiles (F.bytes files.old) (F.bytes files.new) }
     ensures unread { FailsByInput (SourceFails F.R.remaining F.R.failures) (F.bytes files.old) (setup_input OfMachine (Some name.now)) (F.failures files.old) (F.failures files.new) result }
-    ensures sink { FailsByTelling result (W.failures output.old) (W.failures output.new) }
+    ensures sink { FailsByOutput result (W.failures output.old) (W.failures output.new) }
 {
     match form {
         Form::Words => tell_machine_words(alloc, name, fault, files, output),
@@ -131,7 +123,7 @@ fn tell_tools_mistake<F: Files, W: Sink>(
     ensures tells { TellsMistake (OfText form tools_mistake_text fault (F.bytes files.old (Some name.now))) (W.written output.old) (W.written output.new) result }
     ensures keeps { KeepsFiles (F.bytes files.old) (F.bytes files.new) }
     ensures unread { FailsByInput (SourceFails F.R.remaining F.R.failures) (F.bytes files.old) (setup_input OfTools (Some name.now)) (F.failures files.old) (F.failures files.new) result }
-    ensures sink { FailsByTelling result (W.failures output.old) (W.failures output.new) }
+    ensures sink { FailsByOutput result (W.failures output.old) (W.failures output.new) }
 {
     match form {
         Form::Words => tell_tools_words(alloc, name, fault, files, output),
@@ -139,9 +131,10 @@ fn tell_tools_mistake<F: Files, W: Sink>(
     }
 }
 
-/// The machine and its tools, as `read_shop` reads them, or the fault for which there are none. Where it refuses a file, the
-/// file's mistake is written first, in words, or as a document that has the fault's number alone: 901 where the file isn't read a second
-/// time, 902 where the write fails.
+/// The machine and its tools, as `read_shop` reads them, or the fault for which there are none.
+/// Where it refuses a file, the file's mistake is written first, in words, or as a document that
+/// has the fault's number alone: 901 where the file isn't read a second time, 902 where the write
+/// fails.
 pub(crate) fn read_shop_telling<F: Files, W: Sink>(
     alloc: Global,
     form: Form,
@@ -154,21 +147,17 @@ pub(crate) fn read_shop_telling<F: Files, W: Sink>(
     ensures keeps { KeepsFiles (F.bytes files.old) (F.bytes files.new) }
     // The first that isn't read can't be opened, its source fails, or it is too long.
     ensures unread { FailsByInput (SourceFails F.R.remaining F.R.failures) (F.bytes files.old) (shop_inputs (Some machine.now) (option_map (λ n. n.now) tools.entry)) (F.failures files.old) (F.failures files.new) result }
-    ensures sink { FailsByTelling result (W.failures output.old) (W.failures output.new) }
+    ensures sink { FailsByOutput result (W.failures output.old) (W.failures output.new) }
 {
     match (read_shop(alloc, Some(machine), tools, files), tools) {
         (Ok(shop), _) => Ok(shop),
         (Err(AnswerFault::Machine(fault)), _) => {
-            match tell_machine_mistake(alloc, form, machine, fault, files, output) {
-                Ok(()) => Err(AnswerFault::Machine(fault)),
-                Err(fault) => Err(fault),
-            }
+            tell_machine_mistake(alloc, form, machine, fault, files, output)?;
+            Err(AnswerFault::Machine(fault))
         }
         (Err(AnswerFault::Tools(fault)), Some(tools)) => {
-            match tell_tools_mistake(alloc, form, tools, fault, files, output) {
-                Ok(()) => Err(AnswerFault::Tools(fault)),
-                Err(fault) => Err(fault),
-            }
+            tell_tools_mistake(alloc, form, tools, fault, files, output)?;
+            Err(AnswerFault::Tools(fault))
         }
         (Err(fault), _) => Err(fault),
     }

@@ -1,5 +1,6 @@
 ghost use Rattle.std.specs.Prelude.{◌≡◌};
-ghost use Rattle.ngc_simulator.specs.Answers.{Answers, ComesBy, FailsByOutput, IsQuiet, inputs_of};
+ghost use Rattle.ngc_simulator.specs.Answers.{Answers, ComesBy, IsQuiet, inputs_of};
+ghost use Rattle.ngc_simulator.specs.Faults.{FailsByOutput};
 ghost use Rattle.ngc_simulator.specs.Status.{IsStatus};
 ghost use Rattle.ngc_simulator.specs.Unread.{FailsByInput, SourceFails};
 
@@ -8,17 +9,17 @@ use crate::checking::check_files;
 use crate::done::Done;
 use crate::drawing_files::draw_files;
 use crate::fault::AnswerFault;
+use crate::fault_line::add_fault_line;
 use crate::files::Files;
-use crate::guide::{GuideFault, write_help, write_version};
+use crate::guide::{write_help, write_version};
 use crate::lister::list_files;
-use crate::report::add_fault_line;
 use crate::report_time::add_time_line;
 use crate::reporting_files::report_files;
 use crate::running::run_files;
 use crate::showing::show_files;
 use crate::through::run_through_files;
 use ngc_command_line::Options;
-use ngc_fault_texts::explain;
+use ngc_fault_texts::{ExplainFault, explain};
 use ngc_text::{Chunk, Sink};
 use std::alloc::Global;
 
@@ -43,22 +44,24 @@ fn run_command<F: Files, W: Sink>(
         Options::Report(options) => report_files(alloc, options, files, output),
         Options::Explain(number) => match explain(*number, output) {
             Ok(()) => Ok(Done::Quietly),
-            Err(fault) => Err(AnswerFault::Explain(fault)),
+            Err(ExplainFault::Unknown) => Err(AnswerFault::UnknownFault),
+            Err(ExplainFault::Write(fault)) => Err(AnswerFault::Write(fault)),
         },
-        Options::Help(command) => match write_help(alloc, *command, output) {
-            Ok(()) => Ok(Done::Quietly),
-            Err(fault) => Err(AnswerFault::Guide(fault)),
-        },
-        Options::Version => match write_version(output) {
-            Ok(()) => Ok(Done::Quietly),
-            Err(fault) => Err(AnswerFault::Guide(GuideFault::Write(fault))),
-        },
+        Options::Help(command) => {
+            write_help(alloc, *command, output)?;
+            Ok(Done::Quietly)
+        }
+        Options::Version => {
+            write_version(output)?;
+            Ok(Done::Quietly)
+        }
     }
 }
 
-/// Does what the options ask: writes output to the first sink, and the line of a fault, or of the time of a run to the end, to
-/// the second. It answers the exit status: 0 for done, 1 for input, output or memory, 3 for a file or a program that is refused, 4 for a certificate that is
-/// refused or isn't made.
+/// Does what the options ask: writes output to the first sink, and the line of a fault, or of the
+/// time of a run to the end, to the second. It answers the exit status: 0 for done, 1 for input,
+/// output or memory, 3 for a file or a program that is refused, 4 for a certificate that is refused
+/// or isn't made.
 pub fn answer<F: Files, W: Sink, E: Sink>(
     alloc: Global,
     options: &Options<'_>,
@@ -66,10 +69,12 @@ pub fn answer<F: Files, W: Sink, E: Sink>(
     output: &mut W,
     errors: &mut E,
 ) -> u8
-    // Of the files that the options name: the listing, the certificate, the word that it is accepted, the log of the run, or a fault, and the status and the second sink tell which.
+    // Of the files that the options name: the listing, the certificate, the word that it is
+    // accepted, the log of the run, or a fault, and the status and the second sink tell which.
     ensures answers { Answers (record { bytes = F.bytes files.old; fails = SourceFails F.R.remaining F.R.failures; failures = F.failures files.old; failures_now = F.failures files.new }) options.now (record { old = W.written output.old; new = W.written output.new; failures = W.failures output.old; failures_now = W.failures output.new }) (record { old = E.written errors.old; new = E.written errors.new; failures = E.failures errors.old; failures_now = E.failures errors.new }) result }
     ensures status { IsStatus result }
-    // What is done has written what it had to, and nothing to the second sink but the time of a run to the end.
+    // What is done has written what it had to, and nothing to the second sink but the time of a run
+    // to the end.
     ensures done { result ≡ 0 → W.failures output.new ≡ W.failures output.old }
     ensures quiet { IsQuiet options.now → result ≡ 0 → E.written errors.new ≡ E.written errors.old }
 {

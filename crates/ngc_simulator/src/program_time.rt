@@ -2,8 +2,9 @@ use crate::done::RunTime;
 use std::alloc::Allocator;
 use std::marker::Model;
 
-/// How long a program takes on a machine: the whole run, and how many of its ticks go to each part, up to the end of the first change of
-/// the tool, and from the end of each change to that of the next, or to the program's end.
+/// How long a program takes on a machine: the whole run, and how many of its ticks go to each part,
+/// up to the end of the first change of the tool, and from the end of each change to that of the
+/// next, or to the program's end.
 #[derive(Drop)]
 pub(crate) struct ProgramTime<A: Allocator> {
     pub(crate) whole: RunTime,

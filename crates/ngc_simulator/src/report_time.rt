@@ -49,7 +49,8 @@ pub(crate) fn add_time(chunk: &mut Chunk, time: &RunTime)
     add_three_digits(chunk, time.ticks % per_second * 1000 / per_second);
 }
 
-/// The line that tells a run's time on standard error: hours, minutes, seconds and thousandths of a second, rounded down.
+/// The line that tells a run's time on standard error: hours, minutes, seconds and thousandths of a
+/// second, rounded down.
 pub(crate) fn add_time_line(chunk: &mut Chunk, time: &RunTime)
     requires { length chunk.old + 500 ≤ CHUNK_SIZE }
     ensures { chunk.new ≡ chunk.old ++ time_line time.now }

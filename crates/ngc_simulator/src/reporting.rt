@@ -1,5 +1,5 @@
 //! Whether a program fits, with how much room and how long it takes, or what is in the way.
-ghost use Rattle.std.specs.Prelude.{◌≡◌, ◌≤◌, ℕ, List, IfSome, Ok, Err, true, false};
+ghost use Rattle.std.specs.Prelude.{◌≡◌, ◌≤◌, ℕ, List, IfErr, IfSome, Ok, Err, true, false};
 ghost use Rattle.ngc_canonical.specs.Interpreter.{setup_of};
 ghost use Rattle.ngc_canonical.specs.State.{Setup};
 ghost use Rattle.ngc_certificate_text.specs.Contents.{said_of};
@@ -7,13 +7,14 @@ ghost use Rattle.ngc_text.specs.Failures.{Rises};
 ghost use Rattle.ngc_line_reader.specs.ProgramText.{program_of, HaveReadings};
 ghost use Rattle.ngc_line_reader.specs.ProgramView.{text_in};
 ghost use Rattle.ngc_line_reader.specs.declared.program.fault.ReadFault.TheVariants.{Device};
-ghost use Rattle.ngc_simulator.specs.Jobs.{FailsByCertifying, IsMadeFor, UsesNoDevice, WhyNotMade};
-ghost use Rattle.ngc_simulator.specs.Reporting.{HasDeleted, IsPassed, ReadsNoProgram, Reports, is_on};
+ghost use Rattle.ngc_simulator.specs.Faults.{FailsByOutput, FailsWith, OfCertifying, OfMaking, OfReporting};
+ghost use Rattle.ngc_simulator.specs.Jobs.{IsMadeFor, WhyNotMade};
+ghost use Rattle.ngc_simulator.specs.Reporting.{HasDeleted, IsPassed, Reports, is_on};
 
-use crate::certifier::{CertifyFault, made, refused};
-use crate::report_writer::{
-    write_all_both, write_all_once, write_both, write_once, write_refused, write_rejection,
-};
+use crate::certifier::{made, refused};
+use crate::fault::AnswerFault;
+use crate::fit_writer::{write_both, write_once};
+use crate::refusal_writer::{write_all_both, write_all_once, write_refused, write_rejection};
 use crate::request::ReportRequest;
 use crate::timing::{accept, time_of};
 use ngc_canonical::{ProgramFault, has_deleted_lines, interpret};
@@ -33,7 +34,8 @@ fn is_on(setting: Setting) -> bool
     }
 }
 
-// The report of a program for which a certificate was made. Nothing is written before it is known how long the program takes.
+// The report of a program for which a certificate was made. Nothing is written before it is known
+// how long the program takes.
 fn report_fit<A: Allocator + Copy, W: Sink>(
     alloc: A,
     program: &Program<A>,
@@ -42,24 +44,18 @@ fn report_fit<A: Allocator + Copy, W: Sink>(
     certificate: &Certificate<A>,
     request: ReportRequest,
     output: &mut W,
-) -> Result<(), CertifyFault>
+) -> Result<(), AnswerFault>
     requires readings { HaveReadings (text_in program.now).lines }
     requires passes { IsPassed (text_in program.now) (setup_of machine.now tools.now) (said_of certificate.now) }
     // Whatever file the program was read from.
     ensures reports { (bytes : List ℕ) → program_of bytes ≡ Ok (text_in program.now) → IsMadeFor (setup_of machine.now tools.now) bytes request.cuts (said_of certificate.now) → Reports (setup_of machine.now tools.now) bytes request (W.written output.old) (W.written output.new) result }
-    ensures sink { FailsByCertifying result (W.failures output.old) (W.failures output.new) }
-    ensures given { ReadsNoProgram result }
+    ensures sink { FailsByOutput result (W.failures output.old) (W.failures output.new) }
+    ensures faults { IfErr result OfReporting }
 {
-    let accepted = match accept(alloc, program, machine, tools, certificate) {
-        Ok(accepted) => accepted,
-        Err(fault) => return Err(CertifyFault::Make(fault)),
-    };
-    let off_time = match time_of(alloc, &accepted, false) {
-        Ok(time) => time,
-        Err(fault) => return Err(CertifyFault::Make(fault)),
-    };
+    let accepted = accept(alloc, program, machine, tools, certificate)?;
+    let off_time = time_of(alloc, &accepted, false)?;
     if !has_deleted_lines(program) {
-        match write_once(
+        write_once(
             request.form,
             machine,
             tools,
@@ -67,16 +63,11 @@ fn report_fit<A: Allocator + Copy, W: Sink>(
             certificate,
             &off_time,
             output,
-        ) {
-            Ok(()) => return Ok(()),
-            Err(fault) => return Err(CertifyFault::Write(fault)),
-        }
+        )?;
+        return Ok(());
     }
-    let on_time = match time_of(alloc, &accepted, true) {
-        Ok(time) => time,
-        Err(fault) => return Err(CertifyFault::Make(fault)),
-    };
-    match write_both(
+    let on_time = time_of(alloc, &accepted, true)?;
+    write_both(
         request.form,
         machine,
         tools,
@@ -85,13 +76,12 @@ fn report_fit<A: Allocator + Copy, W: Sink>(
         &off_time,
         &on_time,
         output,
-    ) {
-        Ok(()) => Ok(()),
-        Err(fault) => Err(CertifyFault::Write(fault)),
-    }
+    )?;
+    Ok(())
 }
 
-// The report of a program of which a command isn't cleared at a setting, and the fault that is answered, where the first is told alone.
+// The report of a program of which a command isn't cleared at a setting, and the fault that is
+// answered, where the first is told alone.
 fn report_first<A: Allocator + Copy, W: Sink>(
     alloc: A,
     program: &Program<A>,
@@ -101,11 +91,11 @@ fn report_first<A: Allocator + Copy, W: Sink>(
     command: u32,
     request: ReportRequest,
     output: &mut W,
-) -> CertifyFault
+) -> AnswerFault
     requires { request.all ≡ false }
-    ensures reports { (bytes : List ℕ) → program_of bytes ≡ Ok (text_in program.now) → WhyNotMade (setup_of machine.now tools.now) bytes request.cuts (CertifyFault.Make (MakeFault.NotCleared setting command)) → Reports (setup_of machine.now tools.now) bytes request (W.written output.old) (W.written output.new) (Err result) }
-    ensures sink { FailsByCertifying (Err result) (W.failures output.old) (W.failures output.new) }
-    ensures given { ReadsNoProgram {T = Unit {0}} (Err result) }
+    ensures reports { (bytes : List ℕ) → program_of bytes ≡ Ok (text_in program.now) → WhyNotMade (setup_of machine.now tools.now) bytes request.cuts (AnswerFault.Make (MakeFault.NotCleared setting command)) → Reports (setup_of machine.now tools.now) bytes request (W.written output.old) (W.written output.new) (Err result) }
+    ensures sink { FailsWith result (W.failures output.old) (W.failures output.new) }
+    ensures faults { OfReporting result }
 {
     let commands = match interpret(alloc, program, machine, tools, is_on(setting)) {
         Ok(commands) => commands,
@@ -122,8 +112,8 @@ fn report_first<A: Allocator + Copy, W: Sink>(
         command,
         output,
     ) {
-        Ok(()) => CertifyFault::Make(MakeFault::NotCleared { setting, command }),
-        Err(fault) => CertifyFault::Write(fault),
+        Ok(()) => AnswerFault::Make(MakeFault::NotCleared { setting, command }),
+        Err(fault) => AnswerFault::Write(fault),
     }
 }
 
@@ -137,12 +127,12 @@ fn report_all_once<A: Allocator + Copy, W: Sink>(
     command: u32,
     request: ReportRequest,
     output: &mut W,
-) -> CertifyFault
+) -> AnswerFault
     requires all { request.all ≡ true }
     requires alike { HasDeleted (text_in program.now) false }
-    ensures reports { (bytes : List ℕ) → program_of bytes ≡ Ok (text_in program.now) → WhyNotMade (setup_of machine.now tools.now) bytes request.cuts (CertifyFault.Make (MakeFault.NotCleared setting command)) → Reports (setup_of machine.now tools.now) bytes request (W.written output.old) (W.written output.new) (Err result) }
-    ensures sink { FailsByCertifying (Err result) (W.failures output.old) (W.failures output.new) }
-    ensures given { ReadsNoProgram {T = Unit {0}} (Err result) }
+    ensures reports { (bytes : List ℕ) → program_of bytes ≡ Ok (text_in program.now) → WhyNotMade (setup_of machine.now tools.now) bytes request.cuts (AnswerFault.Make (MakeFault.NotCleared setting command)) → Reports (setup_of machine.now tools.now) bytes request (W.written output.old) (W.written output.new) (Err result) }
+    ensures sink { FailsWith result (W.failures output.old) (W.failures output.new) }
+    ensures faults { OfReporting result }
 {
     let commands = match interpret(alloc, program, machine, tools, false) {
         Ok(commands) => commands,
@@ -151,11 +141,11 @@ fn report_all_once<A: Allocator + Copy, W: Sink>(
     let given = commands.as_slice();
     let indices = match uncleared(alloc, given, machine, request.cuts) {
         Ok(indices) => indices,
-        Err(_) => return CertifyFault::Make(MakeFault::Memory),
+        Err(_) => return AnswerFault::Make(MakeFault::Memory),
     };
     match write_all_once(request.form, machine, given, indices.as_slice(), output) {
-        Ok(()) => CertifyFault::Make(MakeFault::NotCleared { setting, command }),
-        Err(fault) => CertifyFault::Write(fault),
+        Ok(()) => AnswerFault::Make(MakeFault::NotCleared { setting, command }),
+        Err(fault) => AnswerFault::Write(fault),
     }
 }
 
@@ -169,12 +159,12 @@ fn report_all_both<A: Allocator + Copy, W: Sink>(
     command: u32,
     request: ReportRequest,
     output: &mut W,
-) -> CertifyFault
+) -> AnswerFault
     requires all { request.all ≡ true }
     requires named { HasDeleted (text_in program.now) true }
-    ensures reports { (bytes : List ℕ) → program_of bytes ≡ Ok (text_in program.now) → WhyNotMade (setup_of machine.now tools.now) bytes request.cuts (CertifyFault.Make (MakeFault.NotCleared setting command)) → Reports (setup_of machine.now tools.now) bytes request (W.written output.old) (W.written output.new) (Err result) }
-    ensures sink { FailsByCertifying (Err result) (W.failures output.old) (W.failures output.new) }
-    ensures given { ReadsNoProgram {T = Unit {0}} (Err result) }
+    ensures reports { (bytes : List ℕ) → program_of bytes ≡ Ok (text_in program.now) → WhyNotMade (setup_of machine.now tools.now) bytes request.cuts (AnswerFault.Make (MakeFault.NotCleared setting command)) → Reports (setup_of machine.now tools.now) bytes request (W.written output.old) (W.written output.new) (Err result) }
+    ensures sink { FailsWith result (W.failures output.old) (W.failures output.new) }
+    ensures faults { OfReporting result }
 {
     let off = match interpret(alloc, program, machine, tools, false) {
         Ok(commands) => commands,
@@ -187,11 +177,11 @@ fn report_all_both<A: Allocator + Copy, W: Sink>(
     let (off, on) = (off.as_slice(), on.as_slice());
     let off_indices = match uncleared(alloc, off, machine, request.cuts) {
         Ok(indices) => indices,
-        Err(_) => return CertifyFault::Make(MakeFault::Memory),
+        Err(_) => return AnswerFault::Make(MakeFault::Memory),
     };
     let on_indices = match uncleared(alloc, on, machine, request.cuts) {
         Ok(indices) => indices,
-        Err(_) => return CertifyFault::Make(MakeFault::Memory),
+        Err(_) => return AnswerFault::Make(MakeFault::Memory),
     };
     let off_indices = off_indices.as_slice();
     let on_indices = on_indices.as_slice();
@@ -204,12 +194,13 @@ fn report_all_both<A: Allocator + Copy, W: Sink>(
         on_indices,
         output,
     ) {
-        Ok(()) => CertifyFault::Make(MakeFault::NotCleared { setting, command }),
-        Err(fault) => CertifyFault::Write(fault),
+        Ok(()) => AnswerFault::Make(MakeFault::NotCleared { setting, command }),
+        Err(fault) => AnswerFault::Write(fault),
     }
 }
 
-// The report of a program of which a command isn't cleared at a setting, and the fault that is answered.
+// The report of a program of which a command isn't cleared at a setting, and the fault that is
+// answered.
 fn report_refusal<A: Allocator + Copy, W: Sink>(
     alloc: A,
     program: &Program<A>,
@@ -219,10 +210,10 @@ fn report_refusal<A: Allocator + Copy, W: Sink>(
     command: u32,
     request: ReportRequest,
     output: &mut W,
-) -> CertifyFault
-    ensures reports { (bytes : List ℕ) → program_of bytes ≡ Ok (text_in program.now) → WhyNotMade (setup_of machine.now tools.now) bytes request.cuts (CertifyFault.Make (MakeFault.NotCleared setting command)) → Reports (setup_of machine.now tools.now) bytes request (W.written output.old) (W.written output.new) (Err result) }
-    ensures sink { FailsByCertifying (Err result) (W.failures output.old) (W.failures output.new) }
-    ensures given { ReadsNoProgram {T = Unit {0}} (Err result) }
+) -> AnswerFault
+    ensures reports { (bytes : List ℕ) → program_of bytes ≡ Ok (text_in program.now) → WhyNotMade (setup_of machine.now tools.now) bytes request.cuts (AnswerFault.Make (MakeFault.NotCleared setting command)) → Reports (setup_of machine.now tools.now) bytes request (W.written output.old) (W.written output.new) (Err result) }
+    ensures sink { FailsWith result (W.failures output.old) (W.failures output.new) }
+    ensures faults { OfReporting result }
 {
     if !request.all {
         return report_first(
@@ -249,10 +240,10 @@ fn report_unmade<A: Allocator + Copy, W: Sink>(
     fault: MakeFault,
     request: ReportRequest,
     output: &mut W,
-) -> CertifyFault
-    ensures reports { (bytes : List ℕ) → program_of bytes ≡ Ok (text_in program.now) → WhyNotMade (setup_of machine.now tools.now) bytes request.cuts (CertifyFault.Make fault) → Reports (setup_of machine.now tools.now) bytes request (W.written output.old) (W.written output.new) (Err result) }
-    ensures sink { FailsByCertifying (Err result) (W.failures output.old) (W.failures output.new) }
-    ensures given { ReadsNoProgram {T = Unit {0}} (Err result) }
+) -> AnswerFault
+    ensures reports { (bytes : List ℕ) → program_of bytes ≡ Ok (text_in program.now) → WhyNotMade (setup_of machine.now tools.now) bytes request.cuts (AnswerFault.Make fault) → Reports (setup_of machine.now tools.now) bytes request (W.written output.old) (W.written output.new) (Err result) }
+    ensures sink { FailsWith result (W.failures output.old) (W.failures output.new) }
+    ensures faults { OfReporting result }
 {
     match fault {
         MakeFault::NotCleared { setting, command } => {
@@ -260,7 +251,7 @@ fn report_unmade<A: Allocator + Copy, W: Sink>(
                 alloc, program, machine, tools, setting, command, request, output,
             )
         }
-        MakeFault::Memory => CertifyFault::Make(MakeFault::Memory),
+        MakeFault::Memory => AnswerFault::Make(MakeFault::Memory),
     }
 }
 
@@ -271,19 +262,19 @@ fn report_rejection<A: Allocator, W: Sink>(
     fault: ProgramFault,
     request: ReportRequest,
     output: &mut W,
-) -> CertifyFault
-    ensures reports { (setup : Setup) (bytes : List ℕ) → program_of bytes ≡ Ok (text_in program.now) → WhyNotMade setup bytes request.cuts (CertifyFault.Program setting fault) → Reports setup bytes request (W.written output.old) (W.written output.new) (Err result) }
-    ensures sink { FailsByCertifying (Err result) (W.failures output.old) (W.failures output.new) }
-    ensures given { ReadsNoProgram {T = Unit {0}} (Err result) }
+) -> AnswerFault
+    ensures reports { (setup : Setup) (bytes : List ℕ) → program_of bytes ≡ Ok (text_in program.now) → WhyNotMade setup bytes request.cuts (AnswerFault.Refused setting fault) → Reports setup bytes request (W.written output.old) (W.written output.new) (Err result) }
+    ensures sink { FailsWith result (W.failures output.old) (W.failures output.new) }
+    ensures faults { OfReporting result }
 {
     let (line, cause) = match fault {
         ProgramFault::At { line, fault } => (line, fault),
-        ProgramFault::Memory => return CertifyFault::Make(MakeFault::Memory),
+        ProgramFault::Memory => return AnswerFault::Make(MakeFault::Memory),
     };
     let named = has_deleted_lines(program);
     match write_rejection(request.form, program, named, setting, line, &cause, output) {
-        Ok(()) => CertifyFault::Program { setting, fault },
-        Err(fault) => CertifyFault::Write(fault),
+        Ok(()) => AnswerFault::Refused { setting, fault },
+        Err(fault) => AnswerFault::Write(fault),
     }
 }
 
@@ -293,29 +284,30 @@ fn report_fault<A: Allocator + Copy, W: Sink>(
     program: &Program<A>,
     machine: &Machine<A>,
     tools: &Tools<A>,
-    fault: CertifyFault,
+    fault: AnswerFault,
     request: ReportRequest,
     output: &mut W,
-) -> CertifyFault
-    requires { UsesNoDevice {T = Unit {0}} (Err fault) }
+) -> AnswerFault
+    requires { OfMaking fault }
     ensures reports { (bytes : List ℕ) → program_of bytes ≡ Ok (text_in program.now) → WhyNotMade (setup_of machine.now tools.now) bytes request.cuts fault → Reports (setup_of machine.now tools.now) bytes request (W.written output.old) (W.written output.new) (Err result) }
-    ensures sink { FailsByCertifying (Err result) (W.failures output.old) (W.failures output.new) }
-    ensures given { ReadsNoProgram {T = Unit {0}} (Err result) }
+    ensures sink { FailsWith result (W.failures output.old) (W.failures output.new) }
+    ensures faults { OfReporting result }
 {
     match fault {
-        CertifyFault::Make(fault) => {
+        AnswerFault::Make(fault) => {
             report_unmade(alloc, program, machine, tools, fault, request, output)
         },
-        CertifyFault::Program { setting, fault } => {
+        AnswerFault::Refused { setting, fault } => {
             report_rejection(program, setting, fault, request, output)
         }
         _ => fault,
     }
 }
 
-/// Writes whether a program fits on a machine with its tools: how far it goes and with how much room, how each tool is used and how
-/// long it takes; or what is in the way, and 304 is answered. A program with lines that begin with `/` has a report for each setting
-/// of block delete. Another fault writes nothing, but where a write fails (902), a beginning is written.
+/// Writes whether a program fits on a machine with its tools: how far it goes and with how much
+/// room, how each tool is used and how long it takes; or what is in the way, and 304 is answered. A
+/// program with lines that begin with `/` has a report for each setting of block delete. Another
+/// fault writes nothing, but where a write fails (902), a beginning is written.
 pub fn report_program<A: Allocator + Copy, R: Source, W: Sink>(
     alloc: A,
     source: &mut R,
@@ -323,17 +315,15 @@ pub fn report_program<A: Allocator + Copy, R: Source, W: Sink>(
     tools: &Tools<A>,
     request: ReportRequest,
     output: &mut W,
-) -> Result<(), CertifyFault>
+) -> Result<(), AnswerFault>
     // Where the source's bytes are known, what is written is the report of what they mean.
     ensures reports { IfSome (R.remaining source.old) (λ bytes. Reports (setup_of machine.now tools.now) bytes request (W.written output.old) (W.written output.new) result) }
     // A fault of reading or writing comes only from a device that failed.
-    ensures source { result ≡ Err (CertifyFault.Read Device) → Rises (R.failures source.old) (R.failures source.new) }
-    ensures sink { FailsByCertifying result (W.failures output.old) (W.failures output.new) }
+    ensures source { result ≡ Err (AnswerFault.Read Device) → Rises (R.failures source.old) (R.failures source.new) }
+    ensures sink { FailsByOutput result (W.failures output.old) (W.failures output.new) }
+    ensures faults { IfErr result OfCertifying }
 {
-    let program = match Program::read(alloc, source) {
-        Ok(program) => program,
-        Err(fault) => return Err(CertifyFault::Read(fault)),
-    };
+    let program = Program::read(alloc, source)?;
     match made(alloc, &program, machine, tools, request.cuts) {
         Ok(certificate) => report_fit(
             alloc,

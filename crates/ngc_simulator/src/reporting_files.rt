@@ -1,19 +1,20 @@
 //! The report of a program, from the files that the command line names.
 ghost use Rattle.std.specs.Prelude.{◌≡◌};
-ghost use Rattle.ngc_simulator.specs.Answers.{FailsByOutput, ReportComes, form_asked, report_inputs, request_of};
+ghost use Rattle.ngc_simulator.specs.Answers.{ReportComes, form_asked, report_inputs, request_of};
+ghost use Rattle.ngc_simulator.specs.Faults.{FailsByOutput};
 ghost use Rattle.ngc_simulator.specs.Unread.{FailsByInput, SourceFails};
 
-use crate::certifier::CertifyFault;
 use crate::done::Done;
 use crate::fault::AnswerFault;
 use crate::files::Files;
 use crate::mistaken_files::read_shop_telling;
+use crate::opening::open_file;
 use crate::reporting::report_program;
 use crate::request::ReportRequest;
 use crate::unread_files::tell_unreadable;
 use ngc_command_line::ReportOptions;
 use ngc_report::Form;
-use ngc_text::{InputFault, Sink};
+use ngc_text::Sink;
 use std::alloc::Global;
 
 fn form_asked(json: bool) -> Form
@@ -32,8 +33,9 @@ fn request_of(options: &ReportOptions<'_>) -> ReportRequest
     }
 }
 
-/// The report of a program. Its faults are those of a certificate that isn't made. Of a machine file or a tool table that is refused
-/// the mistake is written, and of a named program that can't be read the line at fault.
+/// The report of a program. Its faults are those of a certificate that isn't made. Of a machine
+/// file or a tool table that is refused the mistake is written, and of a named program that can't
+/// be read the line at fault.
 pub(crate) fn report_files<F: Files, W: Sink>(
     alloc: Global,
     options: &ReportOptions<'_>,
@@ -46,14 +48,8 @@ pub(crate) fn report_files<F: Files, W: Sink>(
 {
     let request = request_of(options);
     let (machine, tools) = (options.machine, Some(options.tools));
-    let shop = match read_shop_telling(alloc, request.form, machine, tools, files, output) {
-        Ok(shop) => shop,
-        Err(fault) => return Err(fault),
-    };
-    let mut source = match files.source(options.program) {
-        Ok(source) => source,
-        Err(_) => return Err(AnswerFault::Input(InputFault::Device)),
-    };
+    let shop = read_shop_telling(alloc, request.form, machine, tools, files, output)?;
+    let mut source = open_file(options.program, files)?;
     let fault = match report_program(
         alloc,
         &mut source,
@@ -68,13 +64,13 @@ pub(crate) fn report_files<F: Files, W: Sink>(
     // Standard input isn't read again.
     let name = match options.program {
         Some(name) => name,
-        None => return Err(AnswerFault::Certify(fault)),
+        None => return Err(fault),
     };
     match fault {
-        CertifyFault::Read(fault) => {
+        AnswerFault::Read(fault) => {
             let told = tell_unreadable(alloc, request.form, name, fault, files, output);
-            Err(AnswerFault::Certify(told))
+            Err(told)
         }
-        _ => Err(AnswerFault::Certify(fault)),
+        _ => Err(fault),
     }
 }

@@ -1,4 +1,4 @@
-ghost use Rattle.std.specs.Prelude.{◌≡◌, ℕ, List, Ok};
+ghost use Rattle.std.specs.Prelude.{◌≡◌, ℕ, List, IfErr, Ok};
 ghost use Rattle.ngc_canonical.specs.Interpreter.{setup_of};
 ghost use Rattle.ngc_behaviour.specs.Headline.{job_of};
 ghost use Rattle.ngc_checker.specs.Accepted.{commands_at};
@@ -7,8 +7,9 @@ ghost use Rattle.ngc_certificate_text.specs.Contents.{said_of};
 ghost use Rattle.ngc_certificate_text.specs.Said.{certificate_said};
 ghost use Rattle.ngc_line_reader.specs.ProgramText.{program_of, HaveReadings};
 ghost use Rattle.ngc_line_reader.specs.ProgramView.{text_in};
-ghost use Rattle.ngc_simulator.specs.Answers.{RunComes, FailsByOutput, run_inputs};
-ghost use Rattle.ngc_simulator.specs.Running.{Runs, FailsByRunning, ReadsNoFile, RecordsRun};
+ghost use Rattle.ngc_simulator.specs.Answers.{RunComes, run_inputs};
+ghost use Rattle.ngc_simulator.specs.Faults.{FailsByOutput, OfRunning};
+ghost use Rattle.ngc_simulator.specs.Running.{Runs, RecordsRun};
 ghost use Rattle.ngc_simulator.specs.Unread.{FailsByInput, SourceFails};
 
 use crate::done::Done;
@@ -16,36 +17,15 @@ use crate::fault::AnswerFault;
 use crate::files::Files;
 use crate::opening::{read_certificate, read_program};
 use crate::setup::{bytes_of, read_shop};
-use ngc_certificate_text::{Certificate, CertificateFault};
-use ngc_checker::{Accepted, CheckFault, check};
+use ngc_certificate_text::Certificate;
+use ngc_checker::{Accepted, check};
 use ngc_command_line::{Recording, RunOptions};
-use ngc_events::{EventLine, EventsFault, read_events};
-use ngc_line_reader::{Program, ReadFault};
+use ngc_events::{EventLine, read_events};
+use ngc_line_reader::Program;
 use ngc_machine::{Machine, Tools};
 use ngc_run_log::{Report, RunFault, run, write_pulses};
 use ngc_text::Sink;
 use std::alloc::{Allocator, Global};
-use thiserror::Error;
-
-/// Why a program isn't run, or its log or its pulses aren't written.
-#[derive(Clone, Copy, Debug, PartialEq, Eq, Error)]
-pub enum RunningFault {
-    /// The program isn't read: 101, 111 to 119, 121, 122, 900, 901.
-    #[error(transparent)]
-    Read(ReadFault),
-    /// The certificate isn't read: 301 to 303, 900, 901.
-    #[error(transparent)]
-    Certificate(CertificateFault),
-    /// The events are refused: 711, 712, 900.
-    #[error(transparent)]
-    Events(EventsFault),
-    /// The certificate isn't accepted: 311 to 318, 900.
-    #[error(transparent)]
-    Check(CheckFault),
-    /// 900, 902
-    #[error(transparent)]
-    Run(RunFault),
-}
 
 // Runs what was accepted over events, and writes what is asked for.
 fn record_run<A: Allocator + Copy, W: Sink>(
@@ -65,9 +45,9 @@ fn record_run<A: Allocator + Copy, W: Sink>(
     }
 }
 
-/// Runs a program on a machine with its tools, at a setting of block delete, over the events that a text says, and writes
-/// its log or its pulses. It is run only where the certificate shows that it is safe, and else nothing is written; where a write fails,
-/// a beginning is written.
+/// Runs a program on a machine with its tools, at a setting of block delete, over the events that a
+/// text says, and writes its log or its pulses. It is run only where the certificate shows that it
+/// is safe, and else nothing is written; where a write fails, a beginning is written.
 pub fn run_program<A: Allocator + Copy, W: Sink>(
     alloc: A,
     program: &Program<A>,
@@ -78,31 +58,24 @@ pub fn run_program<A: Allocator + Copy, W: Sink>(
     block_delete: bool,
     recording: Recording,
     output: &mut W,
-) -> Result<Report, RunningFault>
-    // Whatever files the program and the certificate were read from: the answer is that of these and of the events.
+) -> Result<Report, AnswerFault>
+    // Whatever files the program and the certificate were read from: the answer is that of these
+    // and of the events.
     ensures runs { (bytes text : List ℕ) → program_of bytes ≡ Ok (text_in program.now) → HaveReadings (text_in program.now).lines → certificate_said text ≡ Ok (said_of certificate.now) → Runs recording (setup_of machine.now tools.now) bytes text events.now block_delete (W.written output.old) (W.written output.new) result }
-    ensures sink { FailsByRunning result (W.failures output.old) (W.failures output.new) }
-    ensures given { ReadsNoFile result }
+    ensures sink { FailsByOutput result (W.failures output.old) (W.failures output.new) }
+    ensures faults { IfErr result OfRunning }
 {
-    let lines = match read_events(alloc, events) {
-        Ok(lines) => lines,
-        Err(fault) => return Err(RunningFault::Events(fault)),
-    };
-    let accepted = match check(alloc, program, machine, tools, certificate) {
-        Ok(accepted) => accepted,
-        Err(fault) => return Err(RunningFault::Check(fault)),
-    };
-    match record_run(
+    let lines = read_events(alloc, events)?;
+    let accepted = check(alloc, program, machine, tools, certificate)?;
+    let report = record_run(
         alloc,
         accepted,
         block_delete,
         lines.as_slice(),
         recording,
         output,
-    ) {
-        Ok(report) => Ok(report),
-        Err(fault) => Err(RunningFault::Run(fault)),
-    }
+    )?;
+    Ok(report)
 }
 
 // A run over events. Each file is read before the next one is opened.
@@ -116,23 +89,11 @@ pub(crate) fn run_files<F: Files, W: Sink>(
     ensures unread { FailsByInput (SourceFails F.R.remaining F.R.failures) (F.bytes files.old) (run_inputs options.now) (F.failures files.old) (F.failures files.new) result }
     ensures sink { FailsByOutput result (W.failures output.old) (W.failures output.new) }
 {
-    let shop = match read_shop(alloc, Some(options.machine), Some(options.tools), files) {
-        Ok(shop) => shop,
-        Err(fault) => return Err(fault),
-    };
-    let program = match read_program(alloc, options.program, files) {
-        Ok(program) => program,
-        Err(fault) => return Err(AnswerFault::Run(RunningFault::Read(fault))),
-    };
-    let certificate = match read_certificate(alloc, options.certificate, files) {
-        Ok(certificate) => certificate,
-        Err(fault) => return Err(AnswerFault::Run(RunningFault::Certificate(fault))),
-    };
-    let events = match bytes_of(alloc, options.events, files) {
-        Ok(events) => events,
-        Err(fault) => return Err(AnswerFault::Input(fault)),
-    };
-    match run_program(
+    let shop = read_shop(alloc, Some(options.machine), Some(options.tools), files)?;
+    let program = read_program(alloc, options.program, files)?;
+    let certificate = read_certificate(alloc, options.certificate, files)?;
+    let events = bytes_of(alloc, options.events, files)?;
+    run_program(
         alloc,
         &program,
         &shop.machine,
@@ -142,8 +103,6 @@ pub(crate) fn run_files<F: Files, W: Sink>(
         options.delete,
         options.recording,
         output,
-    ) {
-        Ok(_) => Ok(Done::Quietly),
-        Err(fault) => Err(AnswerFault::Run(fault)),
-    }
+    )?;
+    Ok(Done::Quietly)
 }

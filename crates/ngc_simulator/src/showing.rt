@@ -1,5 +1,6 @@
 //! The setup sheet of a machine, from the files that the command line names.
-ghost use Rattle.ngc_simulator.specs.Answers.{FailsByOutput, ShowComes, show_inputs};
+ghost use Rattle.ngc_simulator.specs.Answers.{ShowComes, show_inputs};
+ghost use Rattle.ngc_simulator.specs.Faults.{FailsByOutput};
 ghost use Rattle.ngc_simulator.specs.Unread.{FailsByInput, SourceFails};
 
 use crate::done::Done;
@@ -12,7 +13,8 @@ use ngc_setup_sheet::write_sheet;
 use ngc_text::Sink;
 use std::alloc::Global;
 
-/// A setup sheet. Both files are read before anything is written, and of one that is refused the mistake is.
+/// A setup sheet. Both files are read before anything is written, and of one that is refused the
+/// mistake is.
 pub(crate) fn show_files<F: Files, W: Sink>(
     alloc: Global,
     options: &ShowOptions<'_>,
@@ -24,12 +26,7 @@ pub(crate) fn show_files<F: Files, W: Sink>(
     ensures sink { FailsByOutput result (W.failures output.old) (W.failures output.new) }
 {
     let (machine, tools) = (options.machine, options.tools);
-    let shop = match read_shop_telling(alloc, Form::Words, machine, tools, files, output) {
-        Ok(shop) => shop,
-        Err(fault) => return Err(fault),
-    };
-    match write_sheet(&shop.machine, shop.tools.tools(), output) {
-        Ok(()) => Ok(Done::Quietly),
-        Err(fault) => Err(AnswerFault::Show(fault)),
-    }
+    let shop = read_shop_telling(alloc, Form::Words, machine, tools, files, output)?;
+    write_sheet(&shop.machine, shop.tools.tools(), output)?;
+    Ok(Done::Quietly)
 }

@@ -1,4 +1,4 @@
-ghost use Rattle.std.specs.Prelude.{◌≡◌, List, Ok, ℕ};
+ghost use Rattle.std.specs.Prelude.{◌≡◌, IfErr, List, Ok, ℕ};
 ghost use Rattle.ngc_canonical.specs.Interpreter.{setup_of};
 ghost use Rattle.ngc_behaviour.specs.Headline.{job_of};
 ghost use Rattle.ngc_checker.specs.Accepted.{commands_at};
@@ -7,15 +7,15 @@ ghost use Rattle.ngc_certificate_text.specs.Contents.{said_of};
 ghost use Rattle.ngc_certificate_text.specs.Said.{certificate_said};
 ghost use Rattle.ngc_line_reader.specs.ProgramText.{program_of, HaveReadings};
 ghost use Rattle.ngc_line_reader.specs.ProgramView.{text_in};
-ghost use Rattle.ngc_simulator.specs.Answers.{RunThroughComes, FailsByOutput, run_through_inputs};
-ghost use Rattle.ngc_simulator.specs.Running.{RunsThrough, RecordsThrough, FailsByRunning, ReadsNoFile};
+ghost use Rattle.ngc_simulator.specs.Answers.{RunThroughComes, run_through_inputs};
+ghost use Rattle.ngc_simulator.specs.Faults.{FailsByOutput, OfRunning};
+ghost use Rattle.ngc_simulator.specs.Running.{RunsThrough, RecordsThrough};
 ghost use Rattle.ngc_simulator.specs.Unread.{FailsByInput, SourceFails};
 
 use crate::done::{Done, RunTime};
 use crate::fault::AnswerFault;
 use crate::files::Files;
 use crate::opening::{read_certificate, read_program};
-use crate::running::RunningFault;
 use crate::setup::read_shop;
 use ngc_certificate_text::Certificate;
 use ngc_checker::{Accepted, check};
@@ -43,9 +43,9 @@ fn record_through<A: Allocator + Copy, W: Sink>(
     }
 }
 
-/// Runs a program through to its end on a machine with its tools, at a setting of block delete, and writes its log or its
-/// pulses. It is run only where the certificate shows that it is safe, and else nothing is written; where a write fails, a beginning is
-/// written.
+/// Runs a program through to its end on a machine with its tools, at a setting of block delete, and
+/// writes its log or its pulses. It is run only where the certificate shows that it is safe, and
+/// else nothing is written; where a write fails, a beginning is written.
 pub fn run_program_through<A: Allocator + Copy, W: Sink>(
     alloc: A,
     program: &Program<A>,
@@ -55,20 +55,15 @@ pub fn run_program_through<A: Allocator + Copy, W: Sink>(
     block_delete: bool,
     recording: Recording,
     output: &mut W,
-) -> Result<Report, RunningFault>
+) -> Result<Report, AnswerFault>
     // Whatever files the program and the certificate were read from: the answer is that of these.
     ensures runs { (bytes text : List ℕ) → program_of bytes ≡ Ok (text_in program.now) → HaveReadings (text_in program.now).lines → certificate_said text ≡ Ok (said_of certificate.now) → RunsThrough recording (setup_of machine.now tools.now) bytes text block_delete (W.written output.old) (W.written output.new) result }
-    ensures sink { FailsByRunning result (W.failures output.old) (W.failures output.new) }
-    ensures given { ReadsNoFile result }
+    ensures sink { FailsByOutput result (W.failures output.old) (W.failures output.new) }
+    ensures faults { IfErr result OfRunning }
 {
-    let accepted = match check(alloc, program, machine, tools, certificate) {
-        Ok(accepted) => accepted,
-        Err(fault) => return Err(RunningFault::Check(fault)),
-    };
-    match record_through(alloc, accepted, block_delete, recording, output) {
-        Ok(report) => Ok(report),
-        Err(fault) => Err(RunningFault::Run(fault)),
-    }
+    let accepted = check(alloc, program, machine, tools, certificate)?;
+    let report = record_through(alloc, accepted, block_delete, recording, output)?;
+    Ok(report)
 }
 
 // A run to the end, and how long it took. Each file is read before the next one is opened.
@@ -82,19 +77,10 @@ pub(crate) fn run_through_files<F: Files, W: Sink>(
     ensures unread { FailsByInput (SourceFails F.R.remaining F.R.failures) (F.bytes files.old) (run_through_inputs options.now) (F.failures files.old) (F.failures files.new) result }
     ensures sink { FailsByOutput result (W.failures output.old) (W.failures output.new) }
 {
-    let shop = match read_shop(alloc, Some(options.machine), Some(options.tools), files) {
-        Ok(shop) => shop,
-        Err(fault) => return Err(fault),
-    };
-    let program = match read_program(alloc, options.program, files) {
-        Ok(program) => program,
-        Err(fault) => return Err(AnswerFault::Run(RunningFault::Read(fault))),
-    };
-    let certificate = match read_certificate(alloc, options.certificate, files) {
-        Ok(certificate) => certificate,
-        Err(fault) => return Err(AnswerFault::Run(RunningFault::Certificate(fault))),
-    };
-    match run_program_through(
+    let shop = read_shop(alloc, Some(options.machine), Some(options.tools), files)?;
+    let program = read_program(alloc, options.program, files)?;
+    let certificate = read_certificate(alloc, options.certificate, files)?;
+    let report = run_program_through(
         alloc,
         &program,
         &shop.machine,
@@ -103,11 +89,9 @@ pub(crate) fn run_through_files<F: Files, W: Sink>(
         options.delete,
         options.recording,
         output,
-    ) {
-        Ok(report) => Ok(Done::RunThrough(RunTime {
-            ticks: report.ticks,
-            ticks_per_second: shop.machine.ticks_per_second,
-        })),
-        Err(fault) => Err(AnswerFault::Run(fault)),
-    }
+    )?;
+    Ok(Done::RunThrough(RunTime {
+        ticks: report.ticks,
+        ticks_per_second: shop.machine.ticks_per_second,
+    }))
 }

@@ -37,7 +37,8 @@ pub(crate) fn accept<A: Allocator + Copy>(
     }
 }
 
-/// How long a program takes that was accepted, at a setting of block delete; 900 where memory runs out.
+/// How long a program takes that was accepted, at a setting of block delete; 900 where memory runs
+/// out.
 pub(crate) fn time_of<A: Allocator + Copy>(
     alloc: A,
     accepted: &Accepted<A>,

@@ -1,22 +1,20 @@
 //! The fault of a program that can't be read, told before it is answered.
-ghost use Rattle.std.specs.Prelude.{◌≡◌, ◌++◌, [], ◌∷◌, Err, IfSome, OnErr, OnOk, Some};
+ghost use Rattle.std.specs.Prelude.{◌≡◌, [], ◌∷◌, Err, IfSome, OnErr, OnOk, Some};
 ghost use Rattle.std.specs.Io.KnownBytes.{Appends};
 ghost use Rattle.ngc_text.specs.Failures.{CountsFailure};
 ghost use Rattle.ngc_text.specs.Written.{AppendsBeginning};
 ghost use Rattle.ngc_line_reader.specs.ProgramText.{program_of};
 ghost use Rattle.ngc_line_reader.specs.ProgramView.{FaultIs};
 ghost use Rattle.ngc_line_reader.specs.declared.program.fault.ReadFault.TheVariants.{Device};
-ghost use Rattle.ngc_report.specs.Forms.{opening};
 ghost use Rattle.ngc_simulator.specs.Answers.{program_input};
-ghost use Rattle.ngc_simulator.specs.Jobs.{FailsByCertifying};
+ghost use Rattle.ngc_simulator.specs.Faults.{FailsWith, OfTelling};
 ghost use Rattle.ngc_simulator.specs.Setups.{KeepsFiles};
-ghost use Rattle.ngc_simulator.specs.declared.fault.AnswerFault.TheVariants.{Certify};
 ghost use Rattle.ngc_simulator.specs.Unread.{FailsByInput, SourceFails};
 ghost use Rattle.ngc_simulator.specs.Unreadable.{TellsUnreadable, is_of_text, marked_fault, unreadable_line, unreadable_text};
 
-use crate::certifier::CertifyFault;
+use crate::fault::AnswerFault;
 use crate::files::Files;
-use crate::report_writer::write_ending;
+use crate::report_frame::{opening, write_ending};
 use crate::setup::bytes_of;
 use ngc_line_reader::ReadFault;
 use ngc_report::{Form, write_source_line};
@@ -32,12 +30,12 @@ fn is_of_text(fault: ReadFault) -> bool
     }
 }
 
-fn unreadable_heading(form: Form) -> &'static [u8]
-    ensures { result.now ≡ opening form ++ unreadable_line form }
+fn unreadable_line(form: Form) -> &'static [u8]
+    ensures { result.now ≡ unreadable_line form }
 {
     match form {
         Form::Words => b"The program can't be read.\n",
-        Form::Json => b"[{\"fact\":\"report\",\"version\":1},\n{\"fact\":\"unreadable\"}",
+        Form::Json => b",\n{\"fact\":\"unreadable\"}",
     }
 }
 
@@ -73,19 +71,15 @@ fn write_unreadable<W: Sink>(
     ensures fault { OnErr result (AppendsBeginning (W.written output.old) (W.written output.new) (unreadable_text form fault text.now)) }
     ensures counts { CountsFailure (W.failures output.old) (W.failures output.new) result }
 {
-    match write_all(output, unreadable_heading(form)) {
-        Ok(()) => {}
-        Err(fault) => return Err(fault),
-    }
-    match write_marked_fault(form, text, fault, output) {
-        Ok(()) => {}
-        Err(fault) => return Err(fault),
-    }
+    write_all(output, opening(form))?;
+    write_all(output, unreadable_line(form))?;
+    write_marked_fault(form, text, fault, output)?;
     write_ending(form, fault.number(), output)
 }
 
-/// Writes why the program of a named file can't be read, with the line at fault, and gives the fault that is answered: 901 where the
-/// file, which is read once more, isn't read a second time, and 902 where the write fails. Nothing is written where memory runs out.
+/// Writes why the program of a named file can't be read, with the line at fault, and gives the
+/// fault that is answered: 901 where the file, which is read once more, isn't read a second time,
+/// and 902 where the write fails. Nothing is written where memory runs out.
 pub(crate) fn tell_unreadable<F: Files, W: Sink>(
     alloc: Global,
     form: Form,
@@ -93,23 +87,24 @@ pub(crate) fn tell_unreadable<F: Files, W: Sink>(
     fault: ReadFault,
     files: &mut F,
     output: &mut W,
-) -> CertifyFault
+) -> AnswerFault
     ensures tells { IfSome (F.bytes files.old (Some name.now)) (λ bytes. FaultIs fault (program_of bytes) → TellsUnreadable form (Some name.now) bytes (W.written output.old) (W.written output.new) result) }
     ensures keeps { KeepsFiles (F.bytes files.old) (F.bytes files.new) }
     // Whichever of the two sources of the file failed.
-    ensures unread { (fault ≡ Device → SourceFails F.R.remaining F.R.failures (F.bytes files.old (Some name.now))) → FailsByInput {T = Unit {0}} (SourceFails F.R.remaining F.R.failures) (F.bytes files.old) (program_input (Some name.now) ∷ []) (F.failures files.old) (F.failures files.new) (Err (Certify result)) }
-    ensures sink { FailsByCertifying (Err result) (W.failures output.old) (W.failures output.new) }
+    ensures unread { (fault ≡ Device → SourceFails F.R.remaining F.R.failures (F.bytes files.old (Some name.now))) → FailsByInput {T = Unit {0}} (SourceFails F.R.remaining F.R.failures) (F.bytes files.old) (program_input (Some name.now) ∷ []) (F.failures files.old) (F.failures files.new) (Err result) }
+    ensures sink { FailsWith result (W.failures output.old) (W.failures output.new) }
+    ensures faults { OfTelling result }
 {
     if !is_of_text(fault) {
-        return CertifyFault::Read(fault);
+        return AnswerFault::Read(fault);
     }
     let bytes = match bytes_of(alloc, name, files) {
         Ok(bytes) => bytes,
-        Err(InputFault::Device) => return CertifyFault::Read(ReadFault::Device),
-        Err(InputFault::Memory | InputFault::TooLong) => return CertifyFault::Read(fault),
+        Err(InputFault::Device) => return AnswerFault::Read(ReadFault::Device),
+        Err(InputFault::Memory | InputFault::TooLong) => return AnswerFault::Read(fault),
     };
     match write_unreadable(form, bytes.as_slice(), fault, output) {
-        Ok(()) => CertifyFault::Read(fault),
-        Err(fault) => CertifyFault::Write(fault),
+        Ok(()) => AnswerFault::Read(fault),
+        Err(fault) => AnswerFault::Write(fault),
     }
 }

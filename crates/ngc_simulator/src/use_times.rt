@@ -4,7 +4,8 @@ ghost use Rattle.std.specs.Io.KnownBytes.{Appends};
 ghost use Rattle.ngc_text.specs.Failures.{CountsFailure};
 ghost use Rattle.ngc_text.specs.Written.{AppendsBeginning};
 ghost use Rattle.ngc_text.specs.Collected.{CHUNK_SIZE};
-ghost use Rattle.ngc_simulator.specs.Times.{named_tool, ticks_told, tool_value, use_time, use_time_fact, use_time_words, uses_text};
+ghost use Rattle.ngc_report.specs.Words.{tool_text};
+ghost use Rattle.ngc_simulator.specs.Times.{ticks_told, tool_value, use_time, use_time_fact, use_time_words, uses_text};
 
 use crate::done::RunTime;
 use crate::program_time::ProgramTime;
@@ -15,10 +16,9 @@ use ngc_report::{Form, ToolUse, ToolUses};
 use ngc_text::{Chunk, Sink, WriteFault};
 use std::alloc::Allocator;
 
-#[tactic(auto, unfolding(crate::specs::Times::named_tool))]
 fn add_tool_words(chunk: &mut Chunk, tool: &Option<Tool>)
     requires { length chunk.old + 100 ≤ CHUNK_SIZE }
-    ensures text { chunk.new ≡ chunk.old ++ named_tool tool.now }
+    ensures text { chunk.new ≡ chunk.old ++ tool_text tool.now }
     ensures short { length chunk.new ≤ length chunk.old + 60 }
 {
     match tool {
@@ -125,10 +125,7 @@ pub(crate) fn write_use_times<A: Allocator, W: Sink>(
         };
         let mut lasts = time.whole;
         lasts.ticks = *ticks;
-        match write_use_time(form, &one.tool, &lasts, output) {
-            Ok(()) => {}
-            Err(fault) => return Err(fault),
-        }
+        write_use_time(form, &one.tool, &lasts, output)?;
         left = later;
     }
     Ok(())

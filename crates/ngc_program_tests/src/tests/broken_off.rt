@@ -1,4 +1,5 @@
-//! Files that break off: sources that fail at each byte in turn, and files of which only a beginning is there.
+//! Files that break off: sources that fail at each byte in turn, and files of which only a
+//! beginning is there.
 use super::certificates::{CHECK, POST, ROUND_THE_POST};
 use super::checks::same;
 use super::{
@@ -222,7 +223,8 @@ const WAY: &str = "0 1 traverse 10000000 50000000 0 grid 1000 5000 0\n\
     1 2 arc cw xy 40000000 50000000 to 10000000 50000000 0 grid 1000 5000 0 permin 600000000\n\
     2 3 end\n";
 
-// What is told of the beginnings of the way's program that have fewer than so many bytes, and no fewer than those before.
+// What is told of the beginnings of the way's program that have fewer than so many bytes, and no
+// fewer than those before.
 const BEGINNINGS: &[(usize, &str)] = &[
     (1, "ngc: fault 120 line 0\n"),
     (2, "ngc: fault 113 line 1 column 1\n"),

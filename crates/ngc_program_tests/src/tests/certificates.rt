@@ -477,7 +477,8 @@ const PIECES_OF_ARCS: &[(&str, &str, &str, Result<&str, (u8, &str)>)] = &[
     ),
 ];
 
-// The certificate of a motion to X10 Y50 and of these pieces behind it, at both settings of block delete.
+// The certificate of a motion to X10 Y50 and of these pieces behind it, at both settings of block
+// delete.
 fn certificate_of_an_arc(alloc: Global, pieces: &str) -> Result<String, Fail> {
     let motions = format!(in alloc;
         "2\nmotion 0 1\nline 65536 0 0 0 1000 5000 0\nmotion 1 {pieces}\n"
@@ -495,7 +496,8 @@ fn pieces_of_arcs(rt: HostRuntime) -> Result<(), Fail> {
     Ok(())
 }
 
-// Arcs round a fixture: in which program, in how many pieces at most, and how the certificate says the arc.
+// Arcs round a fixture: in which program, in how many pieces at most, and how the certificate says
+// the arc.
 const CUT_ARCS: &[(&str, u16, &[u8])] = &[
     (ROUND_THE_POST, 8, b"\nmotion 1 8\narc "),
     (ROUND_THE_POST, 100, b"\nmotion 1 8\narc "),

@@ -58,7 +58,8 @@ const SLOW: (u64, u64) = (0, 1_000);
 // More than a stop takes.
 const FAST: (u64, u64) = (1_001, 400_000);
 
-// A tick that goes past a corner is one of both motions, and the next one may be faster by the change.
+// A tick that goes past a corner is one of both motions, and the next one may be faster by the
+// change.
 const PAST_A_CORNER: (u64, u64) = (0, 51_000);
 
 // Of a motion: the bounds of its first rate, of its last, and its greatest.
@@ -77,7 +78,8 @@ const FROM_A_STAND_TO_A_STAND: &[Limits] = &[
     (FAST, SLOW, 400_000),
 ];
 
-// A program, how many commands are loaded before the first tick, within so many ticks, and its motions.
+// A program, how many commands are loaded before the first tick, within so many ticks, and its
+// motions.
 const PASSAGES: &[(&str, u32, u32, &[Limits])] = &[
     (TEN_LINES, 11, 5_000, FROM_A_STAND_TO_A_STAND),
     (TEN_STOPS, 11, 10_000, &[(ANY, SLOW, 400_000); 10]),
@@ -228,7 +230,8 @@ fn unrest_round_a_corner(rt: HostRuntime) -> Result<(), Fail> {
     Ok(())
 }
 
-// Each further motion is loaded in the tick behind the end of the one before, so that there is never one to look at.
+// Each further motion is loaded in the tick behind the end of the one before, so that there is
+// never one to look at.
 #[test]
 fn a_load_behind_each_end(rt: HostRuntime) -> Result<(), Fail> {
     let mut controller = controller(&rt, rt.alloc(), TEN_LINES)?;

@@ -50,8 +50,8 @@ fn is_answered(rt: &impl Abort, found: &(End, Vec<u8>), job: Job<'_>, wanted: Wa
 
 const ARENA: usize = 524_288;
 
-// Whether so many bytes do, from which nothing is given back but what was taken last. Once there are more, the job is
-// done, and all of them are given back behind it.
+// Whether so many bytes do, from which nothing is given back but what was taken last. Once there
+// are more, the job is done, and all of them are given back behind it.
 fn do_bytes_suffice(
     rt: &impl Abort,
     alloc: Global,

@@ -25,7 +25,8 @@ fn report_options(program: Option<&str>) -> ReportOptions<'_> {
     report_of(program, false, false)
 }
 
-// A path step in each tick, and a thousand ticks a second. A clamp stands before the way along X, and ends 5 mm below it.
+// A path step in each tick, and a thousand ticks a second. A clamp stands before the way along X,
+// and ends 5 mm below it.
 const QUICK: &str = "version = 1
 step = 10000
 ticks_per_second = 1000
@@ -88,9 +89,8 @@ It takes 1 ticks, 0:00:00.001 at 1000 ticks a second.
 warning: fixture 0 is thinner than 0.1 mm: its corners are in nanometres
 ";
 
-// 3000 path steps, a tool, 1000 path steps, half a second, and the end: 3000 + 1 + 1000 + 500 + 1 ticks. The tick of the change is told
-// of the tool before it. Tool 1 reaches 3 mm to
-// each side.
+// 3000 path steps, a tool, 1000 path steps, half a second, and the end: 3000 + 1 + 1000 + 500 + 1
+// ticks. The tick of the change is told of the tool before it. Tool 1 reaches 3 mm to each side.
 const TWO_USES: &str = "G0 X30\nT1 M6\nG0 X20\nG4 P0.5\nM2\n";
 
 const TWO_USES_REPORT: &str =
@@ -146,8 +146,9 @@ Line 3: X50
 `ngc explain 304` tells more.
 ";
 
-// 100 + 100 + 100 path steps, a tool, 10000 + 1000 + 5000 + 5000 path steps, and the end. The machine makes 600 mm a minute. Home
-// is reached from below the clamp's top, beside the clamp, from X1 Y50 Z-10: 51 mm, since 51 * 51 is 1 + 2500 + 100.
+// 100 + 100 + 100 path steps, a tool, 10000 + 1000 + 5000 + 5000 path steps, and the end. The
+// machine makes 600 mm a minute. Home is reached from below the clamp's top, beside the clamp, from
+// X1 Y50 Z-10: 51 mm, since 51 * 51 is 1 + 2500 + 100.
 const WARNED: &str = "G0 Z-1\nF601 G1 X1\nG0 Z0\nT1 M6\nG0 Y100\nZ-10\nG28 Y50\nM2\n";
 
 const WARNED_REPORT: &str =
@@ -188,7 +189,8 @@ It meets fixture 0, from X 40 mm, Y 0 mm, Z -100 mm to X 60 mm, Y 20 mm, Z -5 mm
 `ngc explain 304` tells more.
 ";
 
-// A machine, a program, and the status, the output and the line of a fault that its report comes to.
+// A machine, a program, and the status, the output and the line of a fault that its report comes
+// to.
 const REPORTS: &[(&str, &str, u8, &str, &str)] = &[
     (QUICK, TWO_USES, 0, TWO_USES_REPORT, ""),
     (QUICK, DELETED, 0, DELETED_REPORT, ""),

@@ -235,7 +235,8 @@ const ORDER_OF_REFUSALS: &[(&str, &str, &str, (&str, &str), Result<&str, (u8, &s
     ),
 ];
 
-// Program, certificate and events are read one after another, and the certificate is checked behind them.
+// Program, certificate and events are read one after another, and the certificate is checked behind
+// them.
 #[test]
 fn the_order_of_refusals(rt: HostRuntime) {
     for (program, certificate, events, names, wanted) in ORDER_OF_REFUSALS {
@@ -310,7 +311,8 @@ const VCD_HEADER: &str = "$timescale 1 ns $end\n$scope module ngc $end\n\
     $var wire 1 e z_step $end\n$var wire 1 f z_direction $end\n\
     $upscope $end\n$enddefinitions $end\n#0\n$dumpvars\n0a\n0b\n0c\n0d\n0e\n0f\n$end\n";
 
-// Three commands of a tick each, at 10,000 ticks a second: a fourth tick would set its steps at 0.4 ms.
+// Three commands of a tick each, at 10,000 ticks a second: a fourth tick would set its steps at 0.4
+// ms.
 #[test]
 fn pulses_of_a_run_without_events(rt: HostRuntime) -> Result<(), Fail> {
     let program = "M0\nM1\nM2\n";
@@ -351,8 +353,8 @@ fn pulses_over_events(rt: HostRuntime) -> Result<(), Fail> {
     Ok(())
 }
 
-// Ticks a second, a program, and the time of its run without events. A dwell takes its ticks, at least one, and each other
-// command of these takes one.
+// Ticks a second, a program, and the time of its run without events. A dwell takes its ticks, at
+// least one, and each other command of these takes one.
 const TIMES: &[(u32, &str, &str)] = &[
     (10_000, "M0\nM1\nM2\n", "ngc: ticks 3 time 0:00:00.000\n"),
     (3, "G4 P0\nM2\n", "ngc: ticks 2 time 0:00:00.666\n"),

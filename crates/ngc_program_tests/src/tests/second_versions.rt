@@ -31,8 +31,8 @@ const TO_THE_TOUCH: &str = "1\nmotion 1 1\nline 65536 0 0 -1000 0 0 0\n";
 
 const TOO_LOW: &str = "1\nmotion 1 1\nline 65536 0 0 -2000 0 0 0\n";
 
-// A tool table, a program, its motions at both settings of block delete, and what the check of them comes to beside a block
-// that ends 30 mm below the start.
+// A tool table, a program, its motions at both settings of block delete, and what the check of them
+// comes to beside a block that ends 30 mm below the start.
 const BESIDE_THE_BLOCK: &[(&str, &str, &str, Result<&str, (u8, &str)>)] = &[
     (
         CUTTER_AND_HOLDER,

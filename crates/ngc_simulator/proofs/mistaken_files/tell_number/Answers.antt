@@ -3,6 +3,6 @@ use Rattle.ngc_simulator.specs.Mistaken.{fault_document}
 use Rattle.ngc_simulator.proofs.ReportLaws.{appends_as}
 use Rattle.ngc_simulator.proofs.mistaken_files.tell_number.Goals as goal
 
-pub returns-in-Ok-clause-tells : goal.returns-in-Ok-clause-tells
-returns-in-Ok-clause-tells g c =
-    inr (search rules, appends_as _ _ _ _ (ap fault_document c.number.ensures) c.in-Ok.ensures.ok)
+pub returns-clause-tells : goal.returns-clause-tells
+returns-clause-tells g c =
+    inr (search rules, appends_as _ _ _ _ (ap fault_document c.number.ensures) c.in_ok-write_fault_document.ensures.ok)

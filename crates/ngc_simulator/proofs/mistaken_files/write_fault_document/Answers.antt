@@ -2,16 +2,16 @@ use Rattle.ngc_text.proofs.Appended.{appends_both}
 use Rattle.ngc_report.specs.Forms.{opening}
 use Rattle.ngc_report.specs.declared.form.Form.TheVariants.{Json}
 use Rattle.ngc_simulator.specs.Reporting.{ending}
-use Rattle.ngc_simulator.proofs.ReportLaws.{begins_first, begins_last, err_weaker, ok_weaker}
+use Rattle.ngc_simulator.proofs.ReportLaws.{appends_as, begins_as, begins_first, begins_last, err_weaker, ok_weaker, on_err}
 use Rattle.ngc_simulator.proofs.mistaken_files.write_fault_document.Goals as goal
 
-pub returns-in-Err-clause-fault : goal.returns-in-Err-clause-fault
-returns-in-Err-clause-fault g c = begins_first _ _ (opening Json) (ending Json c.args.number) c.in-Err.ensures.fault
+pub returns-in_err-write_all-clause-fault : goal.returns-in_err-write_all-clause-fault
+returns-in_err-write_all-clause-fault g c = on_err _ _ (begins_first _ _ (opening Json) (ending Json c.args.number) (begins_as _ _ _ _ c.opening.ensures.text c.in_err-write_all.ensures.fault))
 
 pub returns-clause-ok : goal.returns-clause-ok
 returns-clause-ok g c =
-    ok_weaker c.write_ending.result _ _ (λ wrote. appends_both _ _ _ (opening Json) (ending Json c.args.number) c.in-Ok.ensures.ok wrote) c.write_ending.ensures.ok
+    ok_weaker c.write_ending.result _ _ (λ wrote. appends_both _ _ _ (opening Json) (ending Json c.args.number) (appends_as _ _ _ _ c.opening.ensures.text c.in_ok-write_all.ensures.ok) wrote) c.write_ending.ensures.ok
 
 pub returns-clause-fault : goal.returns-clause-fault
 returns-clause-fault g c =
-    err_weaker c.write_ending.result _ _ (λ wrote. begins_last _ _ _ (opening Json) (ending Json c.args.number) c.in-Ok.ensures.ok wrote) c.write_ending.ensures.fault
+    err_weaker c.write_ending.result _ _ (λ wrote. begins_last _ _ _ (opening Json) (ending Json c.args.number) (appends_as _ _ _ _ c.opening.ensures.text c.in_ok-write_all.ensures.ok) wrote) c.write_ending.ensures.fault

@@ -1,94 +1,109 @@
 use Rattle.std.proofs.Common.{ℕ, List, [], ◌∷◌, Option, Some, Ok, Err, IfSome, inl, ap, refl, subst, sym, ◌∙◌}
 use Rattle.ngc_canonical.specs.Interpreter.{setup_of}
 use Rattle.ngc_report.specs.declared.form.Form.{Form}
+use Rattle.std.specs.Io.KnownBytes.{Keeps}
+use Rattle.ngc_simulator.proofs.JobLaws.{keeps_same, turned}
 use Rattle.ngc_simulator.proofs.ReportLaws.{asked, reported_files}
-use Rattle.ngc_simulator.specs.Answers.{ReportComes, ReportsOn, program_input, request_of}
+use Rattle.ngc_simulator.specs.Answers.{ReportComes, ReportsOn, program_input, request_of, report_inputs}
+use Rattle.ngc_simulator.specs.Mistaken.{TellsRefusal}
 use Rattle.ngc_simulator.specs.Reporting.{Reports}
 use Rattle.ngc_simulator.specs.Unread.{OfProgram, SourceFails, shop_inputs, unread_by}
-use Rattle.ngc_simulator.specs.declared.certifier.CertifyFault.{CertifyFault}
-use Rattle.ngc_simulator.specs.declared.certifier.CertifyFault.TheVariants.{Read}
-use Rattle.ngc_simulator.specs.declared.fault.AnswerFault.TheVariants.{Certify}
-use Rattle.ngc_simulator.proofs.UnreadLaws.{certify_told, program_again, shop_read, told_before, told_behind}
+use Rattle.ngc_simulator.specs.declared.fault.AnswerFault.{AnswerFault}
+use Rattle.ngc_simulator.specs.declared.fault.AnswerFault.TheVariants as answers
+use Rattle.ngc_simulator.proofs.UnreadLaws.{certify_told, program_again, shop_read, told_before, unopened, unread_told}
 use Rattle.ngc_simulator.proofs.UnreadableLaws.{TellsKnown, reported_comes, told_comes}
-use Rattle.ngc_text.specs.declared.input_fault.InputFault.TheVariants.{Device}
 use Rattle.std.specs.Prelude.{IsSome, option_map}
 use Rattle.ngc_simulator.proofs.reporting_files.report_files.Goals as goal
 
-pub returns-in-Ok-report_program-clause-comes : goal.returns-in-Ok-report_program-clause-comes
-returns-in-Ok-report_program-clause-comes g c =
+pub returns-in_err-shop-clause-comes : goal.returns-in_err-shop-clause-comes
+returns-in_err-shop-clause-comes g c =
+    turned _ c.in_err-shop.field-0.0 (ReportComes (g.F.Files.bytes c.args.files.now) c.args.options.now (g.W.Sink.written c.args.output.now) (g.W.Sink.written c.read_shop_telling.new.output)) c.from_residual.ensures.1
+    (inl (subst (λ (f : Form). TellsRefusal f (g.F.Files.bytes c.args.files.now) (Some c.args.options.now.machine.now) (Some c.args.options.now.tools.now) (g.W.Sink.written c.args.output.now) (g.W.Sink.written c.read_shop_telling.new.output) c.in_err-shop.field-0.0)
+    (ap (λ r. r.form) c.request_of-request.ensures) c.in_err-shop.ensures.said))
+
+pub returns-in_err-source-clause-comes : goal.returns-in_err-source-clause-comes
+returns-in_err-source-clause-comes g c =
+    let fault = answers.Input c.in_err-source.field-0.0 in
+    turned _ fault (ReportComes (g.F.Files.bytes c.args.files.now) c.args.options.now (g.W.Sink.written c.args.output.now) (g.W.Sink.written c.read_shop_telling.new.output)) c.from_residual-in_err-source.ensures.1
+    (inl (tt, inl (subst (λ (o : Option (List ℕ)). Keeps o (g.W.Sink.written c.read_shop_telling.new.output)) c.in_ok-shop.ensures.said.1 (keeps_same _))))
+
+pub returns-in-Ok-clause-comes : goal.returns-in-Ok-clause-comes
+returns-in-Ok-clause-comes g c =
     let new = g.W.Sink.written c.report_program.new.output in
-    subst (λ (o : Option (List ℕ)). ReportsOn (g.F.Files.bytes c.args.files.now) c.args.options.now o new (Ok tt)) c.in-Ok.ensures.said.1
-    (reported_files (g.F.Files.bytes c.args.files.now) (g.F.Files.bytes c.read_shop_telling.new.files) c.args.options.now c.in-Ok.shop _ (g.W.Sink.written c.read_shop_telling.new.output) new (Ok tt)
-    c.in-Ok.ensures.said.0 c.read_shop_telling.ensures.keeps c.in-Ok-source.ensures.bytes (asked c.args.options.now c.in-Ok.shop c.request_of-request.result _ _ _ (Ok tt) c.request_of-request.ensures c.in-Ok-report_program.ensures.reports))
+    subst (λ (o : Option (List ℕ)). ReportsOn (g.F.Files.bytes c.args.files.now) c.args.options.now o new (Ok tt)) c.in_ok-shop.ensures.said.1
+    (reported_files (g.F.Files.bytes c.args.files.now) (g.F.Files.bytes c.read_shop_telling.new.files) c.args.options.now c.in_ok-shop.shop _ (g.W.Sink.written c.read_shop_telling.new.output) new (Ok tt)
+    c.in_ok-shop.ensures.said.0 c.read_shop_telling.ensures.keeps c.in_ok-source.ensures.bytes (asked c.args.options.now c.in_ok-shop.shop c.request_of-request.result _ _ _ (Ok tt) c.request_of-request.ensures c.in-Ok.ensures.reports))
 
 pub returns-in-None-clause-comes : goal.returns-in-None-clause-comes
 returns-in-None-clause-comes g c =
-    let fault = c.in-Err-report_program.fault in
+    let fault = c.in-Err.fault in
     let new = g.W.Sink.written c.report_program.new.output in
-    subst (λ (o : Option (List ℕ)). ReportComes (g.F.Files.bytes c.args.files.now) c.args.options.now o new (Err (Certify fault))) c.in-Ok.ensures.said.1
-    (reported_comes (g.F.Files.bytes c.args.files.now) (g.F.Files.bytes c.read_shop_telling.new.files) c.args.options.now c.in-Ok.shop _ (g.W.Sink.written c.read_shop_telling.new.output)
-    c.in-Ok.ensures.said.0 c.read_shop_telling.ensures.keeps c.in-Ok-source.ensures.bytes new fault
-    (asked c.args.options.now c.in-Ok.shop c.request_of-request.result _ _ _ (Err fault) c.request_of-request.ensures c.in-Err-report_program.ensures.reports))
+    subst (λ (o : Option (List ℕ)). ReportComes (g.F.Files.bytes c.args.files.now) c.args.options.now o new (Err fault)) c.in_ok-shop.ensures.said.1
+    (reported_comes (g.F.Files.bytes c.args.files.now) (g.F.Files.bytes c.read_shop_telling.new.files) c.args.options.now c.in_ok-shop.shop _ (g.W.Sink.written c.read_shop_telling.new.output)
+    c.in_ok-shop.ensures.said.0 c.read_shop_telling.ensures.keeps c.in_ok-source.ensures.bytes new fault c.in-Err.ensures.faults
+    (asked c.args.options.now c.in_ok-shop.shop c.request_of-request.result _ _ _ (Err fault) c.request_of-request.ensures c.in-Err.ensures.reports))
 
 pub returns-clause-comes : goal.returns-clause-comes
 returns-clause-comes g c =
-    let fault = c.in-Err-report_program.fault in
+    let fault = c.in-Err.fault in
     let new = g.W.Sink.written c.report_program.new.output in
-    subst (λ (o : Option (List ℕ)). ReportComes (g.F.Files.bytes c.args.files.now) c.args.options.now o new (Err (Certify fault))) c.in-Ok.ensures.said.1
-    (reported_comes (g.F.Files.bytes c.args.files.now) (g.F.Files.bytes c.read_shop_telling.new.files) c.args.options.now c.in-Ok.shop _ (g.W.Sink.written c.read_shop_telling.new.output)
-    c.in-Ok.ensures.said.0 c.read_shop_telling.ensures.keeps c.in-Ok-source.ensures.bytes new fault
-    (asked c.args.options.now c.in-Ok.shop c.request_of-request.result _ _ _ (Err fault) c.request_of-request.ensures c.in-Err-report_program.ensures.reports))
+    subst (λ (o : Option (List ℕ)). ReportComes (g.F.Files.bytes c.args.files.now) c.args.options.now o new (Err fault)) c.in_ok-shop.ensures.said.1
+    (reported_comes (g.F.Files.bytes c.args.files.now) (g.F.Files.bytes c.read_shop_telling.new.files) c.args.options.now c.in_ok-shop.shop _ (g.W.Sink.written c.read_shop_telling.new.output)
+    c.in_ok-shop.ensures.said.0 c.read_shop_telling.ensures.keeps c.in_ok-source.ensures.bytes new fault c.in-Err.ensures.faults
+    (asked c.args.options.now c.in_ok-shop.shop c.request_of-request.result _ _ _ (Err fault) c.request_of-request.ensures c.in-Err.ensures.reports))
 
 pub returns-in-Read-clause-comes : goal.returns-in-Read-clause-comes
 returns-in-Read-clause-comes g c =
-    let shop = c.in-Ok.shop in
+    let shop = c.in_ok-shop.shop in
     let name = c.in-Some.name.now in
     let answer = c.tell_unreadable-told.result in
     let mid = g.W.Sink.written c.report_program.new.output in
     let new = g.W.Sink.written c.tell_unreadable-told.new.output in
-    let reports = asked c.args.options.now shop c.request_of-request.result _ _ mid (Err c.in-Err-report_program.fault) c.request_of-request.ensures c.in-Err-report_program.ensures.reports in
-    subst (λ (o : Option (List ℕ)). ReportComes (g.F.Files.bytes c.args.files.now) c.args.options.now o new (Err (Certify answer))) c.in-Ok.ensures.said.1
-    (told_comes (g.F.Files.bytes c.args.files.now) (g.F.Files.bytes c.read_shop_telling.new.files) c.args.options.now shop (g.F.R.Source.remaining c.in-Ok-source.source)
-    (g.W.Sink.written c.read_shop_telling.new.output) c.in-Ok.ensures.said.0 c.read_shop_telling.ensures.keeps c.in-Ok-source.ensures.bytes
-    (g.F.Files.bytes c.source.new.self) name mid new c.in-Read.fault answer (ap (option_map (λ n. n.now)) c.in-Some.is) (c.in-Ok-source.ensures.keeps (subst IsSome (sym c.in-Some.is) refl))
-    (subst (λ (f : CertifyFault). IfSome (g.F.R.Source.remaining c.in-Ok-source.source) (λ text. Reports (setup_of shop.machine shop.tools) text (request_of c.args.options.now) (g.W.Sink.written c.read_shop_telling.new.output) mid (Err f)))
+    let reports = asked c.args.options.now shop c.request_of-request.result _ _ mid (Err c.in-Err.fault) c.request_of-request.ensures c.in-Err.ensures.reports in
+    subst (λ (o : Option (List ℕ)). ReportComes (g.F.Files.bytes c.args.files.now) c.args.options.now o new (Err answer)) c.in_ok-shop.ensures.said.1
+    (told_comes (g.F.Files.bytes c.args.files.now) (g.F.Files.bytes c.read_shop_telling.new.files) c.args.options.now shop (g.F.R.Source.remaining c.in_ok-source.source)
+    (g.W.Sink.written c.read_shop_telling.new.output) c.in_ok-shop.ensures.said.0 c.read_shop_telling.ensures.keeps c.in_ok-source.ensures.bytes
+    (g.F.Files.bytes c.open_file.new.files) name mid new c.in-Read.fault answer c.tell_unreadable-told.ensures.faults (ap (option_map (λ n. n.now)) c.in-Some.is) (c.in_ok-source.ensures.keeps (subst IsSome (sym c.in-Some.is) refl))
+    (subst (λ (f : AnswerFault). IfSome (g.F.R.Source.remaining c.in_ok-source.source) (λ text. Reports (setup_of shop.machine shop.tools) text (request_of c.args.options.now) (g.W.Sink.written c.read_shop_telling.new.output) mid (Err f)))
     c.in-Read.is reports)
-    (subst (λ (f : Form). TellsKnown f (Some name) (g.F.Files.bytes c.source.new.self (Some name)) mid new c.in-Read.fault answer) (ap (λ r. r.form) c.request_of-request.ensures)
+    (subst (λ (f : Form). TellsKnown f (Some name) (g.F.Files.bytes c.open_file.new.files (Some name)) mid new c.in-Read.fault answer) (ap (λ r. r.form) c.request_of-request.ensures)
     c.tell_unreadable-told.ensures.tells))
 
-pub returns-in-Err-clause-unread : goal.returns-in-Err-clause-unread
-returns-in-Err-clause-unread g c =
-    told_before (SourceFails g.F.R.Source.remaining g.F.R.Source.failures) (g.F.Files.bytes c.args.files.now) (shop_inputs (Some c.args.options.now.machine.now) (Some c.args.options.now.tools.now)) (program_input (option_map (λ n. n.now) c.args.options.now.program) ∷ []) _ _ (unread_by c.in-Err.fault) c.in-Err.ensures.unread
+pub returns-in_err-shop-clause-unread : goal.returns-in_err-shop-clause-unread
+returns-in_err-shop-clause-unread g c =
+    unread_told (SourceFails g.F.R.Source.remaining g.F.R.Source.failures) (g.F.Files.bytes c.args.files.now) (report_inputs c.args.options.now) _ _ _ c.in_err-shop.field-0.0 c.from_residual.ensures.1
+    (told_before (SourceFails g.F.R.Source.remaining g.F.R.Source.failures) (g.F.Files.bytes c.args.files.now) (shop_inputs (Some c.args.options.now.machine.now) (Some c.args.options.now.tools.now)) (program_input (option_map (λ n. n.now) c.args.options.now.program) ∷ []) _ _ (unread_by c.in_err-shop.field-0.0) c.in_err-shop.ensures.unread)
 
-pub returns-in-Err-source-clause-unread : goal.returns-in-Err-source-clause-unread
-returns-in-Err-source-clause-unread g c =
-    told_behind (SourceFails g.F.R.Source.remaining g.F.R.Source.failures) (g.F.Files.bytes c.args.files.now) (g.F.Files.bytes c.read_shop_telling.new.files) (shop_inputs (Some c.args.options.now.machine.now) (Some c.args.options.now.tools.now)) OfProgram (option_map (λ n. n.now) c.args.options.now.program) [] _ _ _ (Some Device)
-    (shop_read (g.F.Files.bytes c.args.files.now) (Some c.args.options.now.machine.now) (Some c.args.options.now.tools.now) c.in-Ok.shop c.in-Ok.ensures.said.0) (c.read_shop_telling.ensures.keeps (option_map (λ n. n.now) c.args.options.now.program)) c.in-Ok.ensures.unread (inl (inl c.in-Err-source.ensures.counts))
+pub returns-in_err-source-clause-unread : goal.returns-in_err-source-clause-unread
+returns-in_err-source-clause-unread g c =
+    unread_told (SourceFails g.F.R.Source.remaining g.F.R.Source.failures) (g.F.Files.bytes c.args.files.now) (report_inputs c.args.options.now) _ _ _ (answers.Input c.in_err-source.field-0.0) c.from_residual-in_err-source.ensures.1
+    (unopened (SourceFails g.F.R.Source.remaining g.F.R.Source.failures) (g.F.Files.bytes c.args.files.now) (shop_inputs (Some c.args.options.now.machine.now) (Some c.args.options.now.tools.now)) OfProgram (option_map (λ n. n.now) c.args.options.now.program) [] _ _ _ c.in_err-source.field-0.0 c.in_err-source.ensures.fault
+    (shop_read (g.F.Files.bytes c.args.files.now) (Some c.args.options.now.machine.now) (Some c.args.options.now.tools.now) c.in_ok-shop.shop c.in_ok-shop.ensures.said.0) c.in_ok-shop.ensures.unread c.in_err-source.ensures.counts)
 
 pub returns-in-None-clause-unread : goal.returns-in-None-clause-unread
 returns-in-None-clause-unread g c =
-    certify_told (SourceFails g.F.R.Source.remaining g.F.R.Source.failures) (g.F.Files.bytes c.args.files.now) (shop_inputs (Some c.args.options.now.machine.now) (Some c.args.options.now.tools.now)) (option_map (λ n. n.now) c.args.options.now.program) _ _ c.in-Err-report_program.fault
-    (shop_read (g.F.Files.bytes c.args.files.now) (Some c.args.options.now.machine.now) (Some c.args.options.now.tools.now) c.in-Ok.shop c.in-Ok.ensures.said.0) (c.in-Ok-source.ensures.counts ∙ c.in-Ok.ensures.unread)
-    (λ is. record { opened = c.in-Ok-source.source; left = c.report_program.new.source; gave = c.in-Ok-source.ensures.bytes ∙ c.read_shop_telling.ensures.keeps (option_map (λ n. n.now) c.args.options.now.program); fails = c.in-Err-report_program.ensures.source (ap Err is) })
+    certify_told (SourceFails g.F.R.Source.remaining g.F.R.Source.failures) (g.F.Files.bytes c.args.files.now) (shop_inputs (Some c.args.options.now.machine.now) (Some c.args.options.now.tools.now)) (option_map (λ n. n.now) c.args.options.now.program) _ _ c.in-Err.fault c.in-Err.ensures.faults
+    (shop_read (g.F.Files.bytes c.args.files.now) (Some c.args.options.now.machine.now) (Some c.args.options.now.tools.now) c.in_ok-shop.shop c.in_ok-shop.ensures.said.0) (c.in_ok-source.ensures.counts ∙ c.in_ok-shop.ensures.unread)
+    (λ is. record { opened = c.in_ok-source.source; left = c.report_program.new.source; gave = c.in_ok-source.ensures.bytes ∙ c.read_shop_telling.ensures.keeps (option_map (λ n. n.now) c.args.options.now.program); fails = c.in-Err.ensures.source (ap Err is) })
 
 pub returns-clause-unread : goal.returns-clause-unread
 returns-clause-unread g c =
-    certify_told (SourceFails g.F.R.Source.remaining g.F.R.Source.failures) (g.F.Files.bytes c.args.files.now) (shop_inputs (Some c.args.options.now.machine.now) (Some c.args.options.now.tools.now)) (option_map (λ n. n.now) c.args.options.now.program) _ _ c.in-Err-report_program.fault
-    (shop_read (g.F.Files.bytes c.args.files.now) (Some c.args.options.now.machine.now) (Some c.args.options.now.tools.now) c.in-Ok.shop c.in-Ok.ensures.said.0) (c.in-Ok-source.ensures.counts ∙ c.in-Ok.ensures.unread)
-    (λ is. record { opened = c.in-Ok-source.source; left = c.report_program.new.source; gave = c.in-Ok-source.ensures.bytes ∙ c.read_shop_telling.ensures.keeps (option_map (λ n. n.now) c.args.options.now.program); fails = c.in-Err-report_program.ensures.source (ap Err is) })
+    certify_told (SourceFails g.F.R.Source.remaining g.F.R.Source.failures) (g.F.Files.bytes c.args.files.now) (shop_inputs (Some c.args.options.now.machine.now) (Some c.args.options.now.tools.now)) (option_map (λ n. n.now) c.args.options.now.program) _ _ c.in-Err.fault c.in-Err.ensures.faults
+    (shop_read (g.F.Files.bytes c.args.files.now) (Some c.args.options.now.machine.now) (Some c.args.options.now.tools.now) c.in_ok-shop.shop c.in_ok-shop.ensures.said.0) (c.in_ok-source.ensures.counts ∙ c.in_ok-shop.ensures.unread)
+    (λ is. record { opened = c.in_ok-source.source; left = c.report_program.new.source; gave = c.in_ok-source.ensures.bytes ∙ c.read_shop_telling.ensures.keeps (option_map (λ n. n.now) c.args.options.now.program); fails = c.in-Err.ensures.source (ap Err is) })
 
 pub returns-in-Read-clause-unread : goal.returns-in-Read-clause-unread
 returns-in-Read-clause-unread g c =
     let name = c.in-Some.name.now in
     let named = ap (option_map (λ n. n.now)) c.in-Some.is in
-    let keeps_later = c.in-Ok-source.ensures.keeps (subst IsSome (sym c.in-Some.is) refl) in
-    program_again (SourceFails g.F.R.Source.remaining g.F.R.Source.failures) (g.F.Files.bytes c.args.files.now) (g.F.Files.bytes c.source.new.self) (shop_inputs (Some c.args.options.now.machine.now) (Some c.args.options.now.tools.now))
+    let keeps_later = c.in_ok-source.ensures.keeps (subst IsSome (sym c.in-Some.is) refl) in
+    program_again (SourceFails g.F.R.Source.remaining g.F.R.Source.failures) (g.F.Files.bytes c.args.files.now) (g.F.Files.bytes c.open_file.new.files) (shop_inputs (Some c.args.options.now.machine.now) (Some c.args.options.now.tools.now))
     (option_map (λ n. n.now) c.args.options.now.program) name _ _ _ c.tell_unreadable-told.result named
-    (shop_read (g.F.Files.bytes c.args.files.now) (Some c.args.options.now.machine.now) (Some c.args.options.now.tools.now) c.in-Ok.shop c.in-Ok.ensures.said.0)
-    (keeps_later (Some name) ∙ c.read_shop_telling.ensures.keeps (Some name)) (c.in-Ok-source.ensures.counts ∙ c.in-Ok.ensures.unread)
+    (shop_read (g.F.Files.bytes c.args.files.now) (Some c.args.options.now.machine.now) (Some c.args.options.now.tools.now) c.in_ok-shop.shop c.in_ok-shop.ensures.said.0)
+    (keeps_later (Some name) ∙ c.read_shop_telling.ensures.keeps (Some name)) (c.in_ok-source.ensures.counts ∙ c.in_ok-shop.ensures.unread)
     (c.tell_unreadable-told.ensures.unread (λ is. record {
-      opened = c.in-Ok-source.source;
+      opened = c.in_ok-source.source;
       left = c.report_program.new.source;
-      gave = c.in-Ok-source.ensures.bytes ∙ ap (g.F.Files.bytes c.read_shop_telling.new.files) named ∙ sym (keeps_later (Some name));
-      fails = c.in-Err-report_program.ensures.source (ap Err (c.in-Read.is ∙ ap Read is));
+      gave = c.in_ok-source.ensures.bytes ∙ ap (g.F.Files.bytes c.read_shop_telling.new.files) named ∙ sym (keeps_later (Some name));
+      fails = c.in-Err.ensures.source (ap Err (c.in-Read.is ∙ ap answers.Read is));
     }))

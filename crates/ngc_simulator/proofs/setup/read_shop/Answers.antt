@@ -1,23 +1,30 @@
 use Rattle.std.specs.Prelude.{option_map}
-use Rattle.std.specs.declared.alloc.Global.{Global}
 use Rattle.ngc_machine.specs.Machine.{file_of}
-use Rattle.ngc_machine.specs.Tools.{tools_of}
-use Rattle.ngc_simulator.specs.Unread.{SourceFails}
-use Rattle.ngc_simulator.proofs.SetupLaws.{refused_tools}
-use Rattle.ngc_simulator.proofs.UnreadLaws.{machine_read, machine_told, tools_told}
+use Rattle.ngc_simulator.specs.Unread.{OfMachine, OfTools, SourceFails, setup_input, shop_inputs, unread_by}
+use Rattle.ngc_simulator.proofs.JobLaws.{turned}
+use Rattle.ngc_simulator.proofs.SetupLaws.{refused_machine, refused_tools}
+use Rattle.ngc_simulator.proofs.UnreadLaws.{machine_read, told_before, tools_told, unread_told}
+use Rattle.ngc_simulator.specs.Shops.{GivesShop}
 use Rattle.ngc_simulator.proofs.setup.read_shop.Goals as goal
 
-pub returns-in-Err-clause-unread : goal.returns-in-Err-clause-unread
-returns-in-Err-clause-unread g c =
-    machine_told (SourceFails g.F.R.Source.remaining g.F.R.Source.failures) (g.F.Files.bytes c.args.files.now) (option_map (λ n. n.now) c.args.machine) (option_map (λ n. n.now) c.args.tools) _ _ c.in-Err.fault _
-    c.machine_fault.ensures c.in-Err.ensures.unread
+pub returns-in_err-machine-clause-said : goal.returns-in_err-machine-clause-said
+returns-in_err-machine-clause-said g c =
+    turned _ c.in_err-machine.field-0.0 (GivesShop (g.F.Files.bytes c.args.files.now) (option_map (λ n. n.now) c.args.machine) (option_map (λ n. n.now) c.args.tools)) c.from_residual.ensures.1
+    (refused_machine (g.F.Files.bytes c.args.files.now) (option_map (λ n. n.now) c.args.machine) (option_map (λ n. n.now) c.args.tools) c.in_err-machine.field-0.0 c.in_err-machine.ensures.said)
 
-pub returns-in-Err-read_tools-clause-unread : goal.returns-in-Err-read_tools-clause-unread
-returns-in-Err-read_tools-clause-unread g c =
-    tools_told (SourceFails g.F.R.Source.remaining g.F.R.Source.failures) (g.F.Files.bytes c.args.files.now) (g.F.Files.bytes c.read_machine.new.files) (option_map (λ n. n.now) c.args.machine) (option_map (λ n. n.now) c.args.tools) _ _ _ c.in-Err-read_tools.fault _
-    c.tools_fault.ensures (machine_read _ _ (file_of c.in-Ok.machine) c.in-Ok.ensures.value) c.read_machine.ensures.keeps c.in-Ok.ensures.unread c.in-Err-read_tools.ensures.unread
+pub returns-in_err-tools-clause-said : goal.returns-in_err-tools-clause-said
+returns-in_err-tools-clause-said g c =
+    turned _ c.in_err-tools.field-0.0 (GivesShop (g.F.Files.bytes c.args.files.now) (option_map (λ n. n.now) c.args.machine) (option_map (λ n. n.now) c.args.tools)) c.from_residual-in_err-tools.ensures.1
+    (refused_tools (g.F.Files.bytes c.args.files.now) (g.F.Files.bytes c.read_machine.new.files) (option_map (λ n. n.now) c.args.machine) (option_map (λ n. n.now) c.args.tools) (file_of c.in_ok-machine.machine) c.in_err-tools.field-0.0
+    c.in_ok-machine.ensures.said c.read_machine.ensures.keeps c.in_err-tools.ensures.said)
 
-pub returns-in-Err-read_tools-clause-said : goal.returns-in-Err-read_tools-clause-said
-returns-in-Err-read_tools-clause-said g c =
-    refused_tools (tools_of {A = Global}) (g.F.Files.bytes c.args.files.now) (g.F.Files.bytes c.read_machine.new.files) (option_map (λ n. n.now) c.args.machine) (option_map (λ n. n.now) c.args.tools) (file_of c.in-Ok.machine) c.in-Err-read_tools.fault _
-    c.tools_fault.ensures c.in-Ok.ensures.value c.read_machine.ensures.keeps c.in-Err-read_tools.ensures.value
+pub returns-in_err-machine-clause-unread : goal.returns-in_err-machine-clause-unread
+returns-in_err-machine-clause-unread g c =
+    unread_told (SourceFails g.F.R.Source.remaining g.F.R.Source.failures) (g.F.Files.bytes c.args.files.now) (shop_inputs (option_map (λ n. n.now) c.args.machine) (option_map (λ n. n.now) c.args.tools)) _ _ _ c.in_err-machine.field-0.0 c.from_residual.ensures.1
+    (told_before (SourceFails g.F.R.Source.remaining g.F.R.Source.failures) (g.F.Files.bytes c.args.files.now) (setup_input OfMachine (option_map (λ n. n.now) c.args.machine)) (setup_input OfTools (option_map (λ n. n.now) c.args.tools)) _ _ (unread_by c.in_err-machine.field-0.0) c.in_err-machine.ensures.unread)
+
+pub returns-in_err-tools-clause-unread : goal.returns-in_err-tools-clause-unread
+returns-in_err-tools-clause-unread g c =
+    unread_told (SourceFails g.F.R.Source.remaining g.F.R.Source.failures) (g.F.Files.bytes c.args.files.now) (shop_inputs (option_map (λ n. n.now) c.args.machine) (option_map (λ n. n.now) c.args.tools)) _ _ _ c.in_err-tools.field-0.0 c.from_residual-in_err-tools.ensures.1
+    (tools_told (SourceFails g.F.R.Source.remaining g.F.R.Source.failures) (g.F.Files.bytes c.args.files.now) (g.F.Files.bytes c.read_machine.new.files) (option_map (λ n. n.now) c.args.machine) (option_map (λ n. n.now) c.args.tools) _ _ _ (unread_by c.in_err-tools.field-0.0)
+    (machine_read _ _ (file_of c.in_ok-machine.machine) c.in_ok-machine.ensures.said) c.read_machine.ensures.keeps c.in_ok-machine.ensures.unread c.in_err-tools.ensures.unread)
