@@ -32,20 +32,27 @@ by_order p q d up down =
       | inr less ↦ (inl (up less))
     ]
 
-squares_of : (x y : ℤ) → 2 * (unsigned_abs x * unsigned_abs x + unsigned_abs y * unsigned_abs y) ≡ unsigned_abs (x +ℤ y) * unsigned_abs (x +ℤ y) + unsigned_abs (y -ℤ x) * unsigned_abs (y -ℤ x)
+squares_of : (x y : ℤ) → 2 * (unsigned_abs x * unsigned_abs x + unsigned_abs y * unsigned_abs y)
+    ≡ unsigned_abs (x +ℤ y) * unsigned_abs (x +ℤ y) + unsigned_abs (y -ℤ x) * unsigned_abs (y -ℤ x)
 squares_of (pos a) (pos b) =
-    same_sign a b (unsigned_abs (pos a +ℤ pos b)) (unsigned_abs (pos b -ℤ pos a)) (omega (arith, ints)) (by_order a b (unsigned_abs (pos b -ℤ pos a)) (λ h. omega (arith, ints, h)) (λ h. omega (arith, ints, h)))
+    same_sign a b (unsigned_abs (pos a +ℤ pos b)) (unsigned_abs (pos b -ℤ pos a)) (omega (arith, ints))
+    (by_order a b (unsigned_abs (pos b -ℤ pos a)) (λ h. omega (arith, ints, h)) (λ h. omega (arith, ints, h)))
 squares_of (negsuc a) (negsuc b) =
-    same_sign (suc a) (suc b) (unsigned_abs (negsuc a +ℤ negsuc b)) (unsigned_abs (negsuc b -ℤ negsuc a)) (omega (arith, ints)) (by_order (suc a) (suc b) (unsigned_abs (negsuc b -ℤ negsuc a)) (λ h. omega (arith, ints, h)) (λ h. omega (arith, ints, h)))
+    same_sign (suc a) (suc b) (unsigned_abs (negsuc a +ℤ negsuc b)) (unsigned_abs (negsuc b -ℤ negsuc a)) (omega (arith, ints))
+    (by_order (suc a) (suc b) (unsigned_abs (negsuc b -ℤ negsuc a)) (λ h. omega (arith, ints, h)) (λ h. omega (arith, ints, h)))
 squares_of (pos a) (negsuc b) =
-    let e = same_sign a (suc b) (unsigned_abs (negsuc b -ℤ pos a)) (unsigned_abs (pos a +ℤ negsuc b)) (omega (arith, ints)) (by_order a (suc b) (unsigned_abs (pos a +ℤ negsuc b)) (λ h. omega (arith, ints, h)) (λ h. omega (arith, ints, h))) in
+    let e = same_sign a (suc b) (unsigned_abs (negsuc b -ℤ pos a)) (unsigned_abs (pos a +ℤ negsuc b)) (omega (arith, ints))
+    (by_order a (suc b) (unsigned_abs (pos a +ℤ negsuc b)) (λ h. omega (arith, ints, h)) (λ h. omega (arith, ints, h))) in
     omega (arith, e)
 squares_of (negsuc a) (pos b) =
-    let e = same_sign (suc a) b (unsigned_abs (pos b -ℤ negsuc a)) (unsigned_abs (negsuc a +ℤ pos b)) (omega (arith, ints)) (by_order (suc a) b (unsigned_abs (negsuc a +ℤ pos b)) (λ h. omega (arith, ints, h)) (λ h. omega (arith, ints, h))) in
+    let e = same_sign (suc a) b (unsigned_abs (pos b -ℤ negsuc a)) (unsigned_abs (negsuc a +ℤ pos b)) (omega (arith, ints))
+    (by_order (suc a) b (unsigned_abs (negsuc a +ℤ pos b)) (λ h. omega (arith, ints, h)) (λ h. omega (arith, ints, h))) in
     omega (arith, e)
 
 -- on one axis: the ends' squared distances from a point at most h from their middle
-axis_sum : (s e c : ℤ) (h : ℕ) → unsigned_abs (c -ℤ halfway s e) ≤ h → 2 * (unsigned_abs (s -ℤ c) * unsigned_abs (s -ℤ c) + unsigned_abs (e -ℤ c) * unsigned_abs (e -ℤ c)) ≤ (2 * h + 1) * (2 * h + 1) + unsigned_abs (e -ℤ s) * unsigned_abs (e -ℤ s)
+axis_sum : (s e c : ℤ) (h : ℕ) → unsigned_abs (c -ℤ halfway s e) ≤ h →
+    2 * (unsigned_abs (s -ℤ c) * unsigned_abs (s -ℤ c) + unsigned_abs (e -ℤ c) * unsigned_abs (e -ℤ c))
+    ≤ (2 * h + 1) * (2 * h + 1) + unsigned_abs (e -ℤ s) * unsigned_abs (e -ℤ s)
 axis_sum s e c h near =
     let half = half_near (s +ℤ e) in
     let sum : unsigned_abs ((s -ℤ c) +ℤ (e -ℤ c)) ≤ 2 * h + 1 = omega (arith, ints, half, near) in
@@ -55,7 +62,9 @@ axis_sum s e c h near =
     omega (arith, squares, square)
 
 -- the same in the plane
-pub plane_sum : (s e m c : Point2) (hu hv : ℕ) → m.u ≡ halfway s.u e.u → m.v ≡ halfway s.v e.v → unsigned_abs (c.u -ℤ m.u) ≤ hu → unsigned_abs (c.v -ℤ m.v) ≤ hv → 2 * (squared_distance c s + squared_distance c e) ≤ (2 * hu + 1) * (2 * hu + 1) + (2 * hv + 1) * (2 * hv + 1) + unsigned_abs (dot (from s e) (from s e))
+pub plane_sum : (s e m c : Point2) (hu hv : ℕ) → m.u ≡ halfway s.u e.u → m.v ≡ halfway s.v e.v → unsigned_abs (c.u -ℤ m.u) ≤ hu →
+    unsigned_abs (c.v -ℤ m.v) ≤ hv → 2 * (squared_distance c s + squared_distance c e)
+    ≤ (2 * hu + 1) * (2 * hu + 1) + (2 * hv + 1) * (2 * hv + 1) + unsigned_abs (dot (from s e) (from s e))
 plane_sum s e m c hu hv mu mv nu nv =
     let u = axis_sum s.u e.u c.u hu (rw (← mu) nu) in
     let v = axis_sum s.v e.v c.v hv (rw (← mv) nv) in

@@ -1,5 +1,6 @@
 -- The law of cut arcs: some piece's box holds each point of band and sector.
-use Rattle.std.proofs.Common.{◌≡◌, ℕ, zero, suc, ◌+◌, ◌-◌, ◌*◌, ◌<◌, ◌≤◌, inl, inr, ap, ap₂, arith, refl, subst, ℤ, pos, negsuc, ◌+ℤ◌, ◌-ℤ◌, ◌*ℤ◌, neg_ℤ, ◌≤ℤ◌, unsigned_abs, sym, ◌∙◌, ◌⊎◌, Bool, true, false, List, [], ◌∷◌}
+use Rattle.std.proofs.Common.{◌≡◌, ℕ, zero, suc, ◌+◌, ◌-◌, ◌*◌, ◌<◌, ◌≤◌, inl, inr, ap, ap₂, arith, refl, subst, ℤ, pos, negsuc, ◌+ℤ◌, ◌-ℤ◌, ◌*ℤ◌, neg_ℤ, ◌≤ℤ◌}
+use Rattle.std.proofs.Common.{unsigned_abs, sym, ◌∙◌, ◌⊎◌, Bool, true, false, List, [], ◌∷◌}
 use Rattle.std.specs.Prelude.{IsTrue, ◌&&◌, ◌||◌, not, int_le, int_lt, if◌then◌else◌, Any}
 use Rattle.std.specs.Int.{int_min, int_max}
 use Rattle.std.proofs.lemmas.Int.{ints, clamps}
@@ -19,7 +20,8 @@ use Rattle.ngc_arc_geometry.specs.GridPlaces.{seen, height_of}
 use Rattle.ngc_arc_geometry.specs.ArcBand.{leeway, spread, IsInBand}
 use Rattle.ngc_arc_geometry.specs.ArcSides.{IsBetweenEnds}
 use Rattle.ngc_arc_geometry.specs.ArcPath.{IsArcOf}
-use Rattle.ngc_arc_geometry.specs.CutArc.{is_in_band, share_quadrant, turns_on, passes_start, is_inner_cut, is_end, cut_follows, cut_box, IsCutChain, cut_boxes, CoveredByCuts}
+use Rattle.ngc_arc_geometry.specs.CutArc.{is_in_band, share_quadrant, turns_on, passes_start, is_inner_cut, is_end, cut_follows, cut_box, IsCutChain, cut_boxes}
+use Rattle.ngc_arc_geometry.specs.CutArc.{CoveredByCuts}
 use Rattle.ngc_arc_geometry.proofs.CutInts.{three_turns}
 use Rattle.ngc_arc_geometry.proofs.Squares.{first_within, second_within}
 use Rattle.ngc_arc_geometry.proofs.CutSigns.{onward, backward}
@@ -74,15 +76,18 @@ held g a q r p h k first second =
     in_box g a q r p h (among_faced a q r x (2 * g + (outer_radius a - inner_radius a))
     (between (faced a q) (faced a r) (faced a x) (inner_radius a - g) (2 * g + (outer_radius a - inner_radius a)) s.u s.v
     (subst (λ t. pos 1 ≤ℤ t) (turn_faced a q r) k.turns) (subst (λ t. pos 0 ≤ℤ t) (turn_faced a q x) first) (subst (λ t. pos 0 ≤ℤ t) (turn_faced a x r) second)
-    (banded a g q h.arc (omega (arith, h.small)) k.first) (banded a g r h.arc (omega (arith, h.small)) k.second) (banded a g x h.arc (omega (arith, h.small)) h.at)))
+    (banded a g q h.arc (omega (arith, h.small)) k.first) (banded a g r h.arc (omega (arith, h.small)) k.second)
+    (banded a g x h.arc (omega (arith, h.small)) h.at)))
 
-onward_in : (a : ArcShape) (z q r p : Point2) → pos 1 ≤ℤ turn_from a z q → pos 1 ≤ℤ turn_from a q r → pos 0 ≤ℤ turn_from a z p → pos 1 ≤ℤ turn_from a q p → pos 1 ≤ℤ turn_from a r p → pos 1 ≤ℤ turn_from a z r
+onward_in : (a : ArcShape) (z q r p : Point2) → pos 1 ≤ℤ turn_from a z q → pos 1 ≤ℤ turn_from a q r → pos 0 ≤ℤ turn_from a z p → pos 1 ≤ℤ turn_from a q p →
+    pos 1 ≤ℤ turn_from a r p → pos 1 ≤ℤ turn_from a z r
 onward_in a z q r p zq qr zp qp rp =
     subst (λ t. pos 1 ≤ℤ t) (sym (turn_faced a z r)) (onward (faced a z) (faced a q) (faced a r) (faced a p)
     (subst (λ t. pos 1 ≤ℤ t) (turn_faced a z q) zq) (subst (λ t. pos 1 ≤ℤ t) (turn_faced a q r) qr) (subst (λ t. pos 0 ≤ℤ t) (turn_faced a z p) zp)
     (subst (λ t. pos 1 ≤ℤ t) (turn_faced a q p) qp) (subst (λ t. pos 1 ≤ℤ t) (turn_faced a r p) rp))
 
-backward_in : (a : ArcShape) (z q r p : Point2) → pos 1 ≤ℤ turn_from a z q → pos 1 ≤ℤ turn_from a q r → pos 1 ≤ℤ turn_from a p z → pos 1 ≤ℤ turn_from a p q → pos 0 ≤ℤ turn_from a p r → pos 1 ≤ℤ turn_from a z r
+backward_in : (a : ArcShape) (z q r p : Point2) → pos 1 ≤ℤ turn_from a z q → pos 1 ≤ℤ turn_from a q r → pos 1 ≤ℤ turn_from a p z → pos 1 ≤ℤ turn_from a p q →
+    pos 0 ≤ℤ turn_from a p r → pos 1 ≤ℤ turn_from a z r
 backward_in a z q r p zq qr pz pq pr =
     subst (λ t. pos 1 ≤ℤ t) (sym (turn_faced a z r)) (backward (faced a z) (faced a q) (faced a r) (faced a p)
     (subst (λ t. pos 1 ≤ℤ t) (turn_faced a z q) zq) (subst (λ t. pos 1 ≤ℤ t) (turn_faced a q r) qr) (subst (λ t. pos 1 ≤ℤ t) (turn_faced a p z) pz)
@@ -266,14 +271,16 @@ by_start : (g : ℕ) (a : ArcShape) (q : Point2) (cuts : List Point2) (p : StepP
 by_start g a q [] p h c near = absurd c
 by_start g a q (r ∷ rs) p h c near =
     any_here (λ b. IsIn b p) (cut_box (pos g) a q r) (cut_boxes (pos g) a r rs)
-    (in_box g a q r p h (near_first q r (seen (pos g) a p) (g + (outer_radius a - inner_radius a)) (2 * g + (outer_radius a - inner_radius a)) near (omega arith)))
+    (in_box g a q r p h
+    (near_first q r (seen (pos g) a p) (g + (outer_radius a - inner_radius a)) (2 * g + (outer_radius a - inner_radius a)) near (omega arith)))
 
 by_end : (g : ℕ) (a : ArcShape) (q : Point2) (cuts : List Point2) (p : StepPos) → IsToHold g a p → IsCutChain (pos g) a q cuts →
     squared_distance (end_of a) (seen (pos g) a p) ≤ (g + (outer_radius a - inner_radius a)) * (g + (outer_radius a - inner_radius a)) → Held g a q cuts p
 by_end g a q [] p h c near = absurd c
 by_end g a q (r ∷ []) p h c near =
     let x = seen (pos g) a p in
-    let e = subst (λ t. squared_distance t x ≤ (g + (outer_radius a - inner_radius a)) * (g + (outer_radius a - inner_radius a))) (sym (ends_there g a q r c)) near in
+    let e = subst (λ t. squared_distance t x ≤ (g + (outer_radius a - inner_radius a)) * (g + (outer_radius a - inner_radius a)))
+    (sym (ends_there g a q r c)) near in
     any_here (λ b. IsIn b p) (cut_box (pos g) a q r) []
     (in_box g a q r p h (near_second q r x (g + (outer_radius a - inner_radius a)) (2 * g + (outer_radius a - inner_radius a)) e (omega arith)))
 by_end g a q (r ∷ s ∷ rs) p h c near = any_there (λ b. IsIn b p) (cut_box (pos g) a q r) (cut_boxes (pos g) a r (s ∷ rs)) (by_end g a r (s ∷ rs) p h c.1 near)
@@ -327,13 +334,15 @@ zero_of : (x : ℤ) → IsTrue (is_zero x) → x ≡ pos 0
 zero_of x h = grind (arith, ints, nat_tests)
 
 full_turn : (a : ArcShape) → IsTrue (is_full a) → turn_from a (start_of a) (end_of a) ≡ pos 0
-full_turn a h = zero_of _ (both (is_zero (turn_from a (start_of a) (end_of a))) (int_lt (pos 0) (dot (from a.centre (start_of a)) (from a.centre (end_of a)))) h).0
+full_turn a h =
+    zero_of _ (both (is_zero (turn_from a (start_of a) (end_of a))) (int_lt (pos 0) (dot (from a.centre (start_of a)) (from a.centre (end_of a)))) h).0
 
 full_before : (a : ArcShape) (x : Point2) → IsTrue (is_full a) → pos 1 ≤ℤ turn_from a x (start_of a) → pos 0 ≤ℤ turn_from a x (end_of a)
 full_before a x h before =
     let b = start_of a in let e = end_of a in
     let s = both (is_zero (turn_from a b e)) (int_lt (pos 0) (dot (from a.centre b) (from a.centre e))) h in
-    let d : pos 1 ≤ℤ dot (faced a b) (faced a e) = subst (λ k. pos 1 ≤ℤ k) (dot_by a b e) (omega (arith, ints, lt_of (pos 0) (dot (from a.centre b) (from a.centre e)) s.1)) in
+    let d : pos 1 ≤ℤ dot (faced a b) (faced a e) = subst (λ k. pos 1 ≤ℤ k) (dot_by a b e)
+    (omega (arith, ints, lt_of (pos 0) (dot (from a.centre b) (from a.centre e)) s.1)) in
     subst (λ k. pos 0 ≤ℤ k) (sym (turn_faced a x e))
     (full_side (faced a b) (faced a e) (faced a x) (sym (turn_faced a b e) ∙ full_turn a h) d (subst (λ k. pos 1 ≤ℤ k) (turn_faced a x b) before))
 
@@ -354,7 +363,8 @@ one_sector false false false last h = inr (inr (refl, inr h))
 behind_of : (t : ℤ) → int_le (pos 0) t ≡ false → (t +ℤ pos 1) ≤ℤ pos 0
 behind_of t h = grind (arith, ints)
 
-one_held : (g : ℕ) (a : ArcShape) (cuts : List Point2) (p : StepPos) → Held g a (start_of a) cuts p ⊎ ((pos 1 ≤ℤ turn_from a (start_of a) (end_of a)) × (pos 1 ≤ℤ turn_from a (end_of a) (seen (pos g) a p))) →
+one_held : (g : ℕ) (a : ArcShape) (cuts : List Point2) (p : StepPos) →
+    Held g a (start_of a) cuts p ⊎ ((pos 1 ≤ℤ turn_from a (start_of a) (end_of a)) × (pos 1 ≤ℤ turn_from a (end_of a) (seen (pos g) a p))) →
     ((pos 1 ≤ℤ turn_from a (start_of a) (end_of a)) → (pos 1 ≤ℤ turn_from a (end_of a) (seen (pos g) a p)) → ⊥) → Held g a (start_of a) cuts p
 one_held g a cuts p (inl h) never = h
 one_held g a cuts p (inr k) never = absurd (never k.0 k.1)
@@ -374,20 +384,24 @@ by_sector g a cuts p h c s =
       | inr before ↦ other_held g a cuts p (come_from g a b cuts p h c (start_reached a g h.arc) before (end_ahead s before)) (λ be. no_turn s before be)
     ]
   where
-    no_way : OneSector (is_full a) (is_ahead a (start_of a) (end_of a)) (is_ahead a (start_of a) (seen (pos g) a p)) (is_ahead a (seen (pos g) a p) (end_of a)) →
+    no_way : OneSector (is_full a) (is_ahead a (start_of a) (end_of a)) (is_ahead a (start_of a) (seen (pos g) a p))
+        (is_ahead a (seen (pos g) a p) (end_of a)) →
         pos 1 ≤ℤ turn_from a (start_of a) (end_of a) → pos 1 ≤ℤ turn_from a (end_of a) (seen (pos g) a p) → ⊥
     no_way (inl f) be ex = omega (arith, ints, full_turn a f, be)
     no_way (inr (inl k)) be ex = not_both a (seen (pos g) a p) (end_of a) (le_of (pos 0) (turn_from a (seen (pos g) a p) (end_of a)) k.1) ex
     no_way (inr (inr k)) be ex = omega (arith, ints, behind_of (turn_from a (start_of a) (end_of a)) k.0, be)
 
-    end_ahead : OneSector (is_full a) (is_ahead a (start_of a) (end_of a)) (is_ahead a (start_of a) (seen (pos g) a p)) (is_ahead a (seen (pos g) a p) (end_of a)) →
+    end_ahead : OneSector (is_full a) (is_ahead a (start_of a) (end_of a)) (is_ahead a (start_of a) (seen (pos g) a p))
+        (is_ahead a (seen (pos g) a p) (end_of a)) →
         pos 1 ≤ℤ turn_from a (seen (pos g) a p) (start_of a) → pos 0 ≤ℤ turn_from a (seen (pos g) a p) (end_of a)
     end_ahead (inl f) before = full_before a (seen (pos g) a p) f before
     end_ahead (inr (inl k)) before = le_of (pos 0) (turn_from a (seen (pos g) a p) (end_of a)) k.1
-    end_ahead (inr (inr (k, inl m))) before = absurd (not_both a (start_of a) (seen (pos g) a p) (le_of (pos 0) (turn_from a (start_of a) (seen (pos g) a p)) m) before)
+    end_ahead (inr (inr (k, inl m))) before =
+        absurd (not_both a (start_of a) (seen (pos g) a p) (le_of (pos 0) (turn_from a (start_of a) (seen (pos g) a p)) m) before)
     end_ahead (inr (inr (k, inr m))) before = le_of (pos 0) (turn_from a (seen (pos g) a p) (end_of a)) m
 
-    no_turn : OneSector (is_full a) (is_ahead a (start_of a) (end_of a)) (is_ahead a (start_of a) (seen (pos g) a p)) (is_ahead a (seen (pos g) a p) (end_of a)) →
+    no_turn : OneSector (is_full a) (is_ahead a (start_of a) (end_of a)) (is_ahead a (start_of a) (seen (pos g) a p))
+        (is_ahead a (seen (pos g) a p) (end_of a)) →
         pos 1 ≤ℤ turn_from a (seen (pos g) a p) (start_of a) → pos 1 ≤ℤ turn_from a (start_of a) (end_of a) → ⊥
     no_turn (inl f) before be = omega (arith, ints, full_turn a f, be)
     no_turn (inr (inl k)) before be = not_both a (start_of a) (seen (pos g) a p) (le_of (pos 0) (turn_from a (start_of a) (seen (pos g) a p)) k.0) before

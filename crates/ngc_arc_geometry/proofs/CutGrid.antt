@@ -39,7 +39,8 @@ pub record IsPlaced (plane : Plane) (p : StepPos) (lu hu lv hv lw hw : ℤ) : Ty
   pub w_low : lw ≤ℤ height plane (record { x = p.x; y = p.y; z = p.z })
   pub w_high : height plane (record { x = p.x; y = p.y; z = p.z }) ≤ℤ hw
 
-pub placed : (plane : Plane) (p : StepPos) (lu hu lv hv lw hw : ℤ) → IsPlaced plane p lu hu lv hv lw hw → IsBetween (grid_at plane lu lv lw) (grid_at plane hu hv hw) p
+pub placed : (plane : Plane) (p : StepPos) (lu hu lv hv lw hw : ℤ) → IsPlaced plane p lu hu lv hv lw hw →
+    IsBetween (grid_at plane lu lv lw) (grid_at plane hu hv hw) p
 placed XY p lu hu lv hv lw hw h = record { x_low = h.u_low; x_high = h.u_high; y_low = h.v_low; y_high = h.v_high; z_low = h.w_low; z_high = h.w_high }
 placed ZX p lu hu lv hv lw hw h = record { x_low = h.v_low; x_high = h.v_high; y_low = h.w_low; y_high = h.w_high; z_low = h.u_low; z_high = h.u_high }
 placed YZ p lu hu lv hv lw hw h = record { x_low = h.w_low; x_high = h.w_high; y_low = h.u_low; y_high = h.u_high; z_low = h.v_low; z_high = h.v_high }

@@ -58,10 +58,12 @@ both false b h = absurd (no_truth h)
 
 pub reached : (a : ArcShape) (w : ℕ) (p : Point2) → IsTrue (is_in_band a w p) → IsInBand a w p
 reached a w p h =
-    let e = both (nat_le ((inner_radius a - w) * (inner_radius a - w)) (squared_distance a.centre p)) (nat_le (squared_distance a.centre p) ((outer_radius a + w) * (outer_radius a + w))) h in
+    let e = both (nat_le ((inner_radius a - w) * (inner_radius a - w)) (squared_distance a.centre p))
+    (nat_le (squared_distance a.centre p) ((outer_radius a + w) * (outer_radius a + w))) h in
     record { inner = nat_of _ _ e.0; outer = nat_of _ _ e.1 }
 
-banded_by : (t : Turn) (i m : ℕ) (d : Point2) → i * i ≤ unsigned_abs (dot d d) → unsigned_abs (dot d d) ≤ (i + m) * (i + m) → IsBanded i m (faced_by t d).u (faced_by t d).v
+banded_by : (t : Turn) (i m : ℕ) (d : Point2) → i * i ≤ unsigned_abs (dot d d) → unsigned_abs (dot d d) ≤ (i + m) * (i + m) →
+    IsBanded i m (faced_by t d).u (faced_by t d).v
 unfolding faced_by
 banded_by Counterclockwise i m d h k = let e = square_sum d.u d.v in record { inner = omega (arith, e, h); outer = omega (arith, e, k) }
 banded_by Clockwise i m d h k = let e = square_sum d.u d.v in record { inner = omega (arith, e, h); outer = omega (arith, e, k) }

@@ -34,7 +34,8 @@ abbrev half : ℤ → Ends
 half x = ends XY Clockwise (point (pos 0) (pos 0) (pos 0)) (point x (pos 0) (pos 0))
 
 -- a half circle of radius 5 mm, and its swept box at a step of 10 µm
-half_circle : centre_format Millimetres (half (pos 10000000)) (offsets (pos 5000000) (pos 0)) ≡ Ok (arc_about (half (pos 10000000)) (place (pos 5000000) (pos 0)))
+half_circle : centre_format Millimetres (half (pos 10000000)) (offsets (pos 5000000) (pos 0))
+    ≡ Ok (arc_about (half (pos 10000000)) (place (pos 5000000) (pos 0)))
 half_circle = refl
 
 half_low : swept_low (pos 10000) (arc_about (half (pos 10000000)) (place (pos 5000000) (pos 0))) ≡ corner (negsuc 1) (negsuc 1) (pos 0)
@@ -46,7 +47,8 @@ unfolding whole_root whole_root_above
 half_high = refl
 
 -- an end that is 2 µm farther out is taken, one of 3 µm is not
-two_farther : centre_format Millimetres (half (pos 10002000)) (offsets (pos 5000000) (pos 0)) ≡ Ok (arc_about (half (pos 10002000)) (place (pos 5000000) (pos 0)))
+two_farther : centre_format Millimetres (half (pos 10002000)) (offsets (pos 5000000) (pos 0))
+    ≡ Ok (arc_about (half (pos 10002000)) (place (pos 5000000) (pos 0)))
 two_farther = refl
 
 three_farther : centre_format Millimetres (half (pos 10003000)) (offsets (pos 5000000) (pos 0)) ≡ Err RadiiDiffer

@@ -81,12 +81,15 @@ no_more (q ∷ qs) = false
 all_good : Sizes → ℤ → ArcShape → ℕ → ℕ → List Point2 → List StepPos → Bool
 all_good z step a n k qs [] = false
 all_good z step a n k qs (g ∷ []) =
-    point_is_good z a g (seen step a g) && height_is_good step a n k (height_of a g) && no_more (drop_near (z.w + z.s + z.d) qs (seen step a g)) && same_pos g (grid step a.end)
+    point_is_good z a g (seen step a g) && height_is_good step a n k (height_of a g) && no_more (drop_near (z.w + z.s + z.d) qs (seen step a g))
+    && same_pos g (grid step a.end)
 all_good z step a n k qs (g ∷ h ∷ gs) =
-    (point_is_good z a g (seen step a g) && height_is_good step a n k (height_of a g) && move_is_good z a g h (seen step a g) (seen step a h)) && all_good z step a n (suc k) (drop_near (z.w + z.s + z.d) qs (seen step a g)) (h ∷ gs)
+    (point_is_good z a g (seen step a g) && height_is_good step a n k (height_of a g) && move_is_good z a g h (seen step a g) (seen step a h))
+    && all_good z step a n (suc k) (drop_near (z.w + z.s + z.d) qs (seen step a g)) (h ∷ gs)
 
 abbrev is_short : ℤ → ArcShape → ℕ → Bool
-is_short step a n = nat_le (n * unsigned_abs step) (distance (start_height step a) (end_height step a) * unsigned_abs step + 8 * outer_radius a + 32 * spread a + 64 * unsigned_abs step)
+is_short step a n = nat_le (n * unsigned_abs step)
+    (distance (start_height step a) (end_height step a) * unsigned_abs step + 8 * outer_radius a + 32 * spread a + 64 * unsigned_abs step)
 
 follows : ℤ → ArcShape → List StepPos → Bool
 unfolding all_good
@@ -131,7 +134,13 @@ flat k = pos 0
 
 -- a full circle of radius five steps, clockwise from its west
 abbrev small_circle : ArcShape
-small_circle = record { plane = XY; turn = Clockwise; start = record { x = pos 0; y = pos 0; z = pos 0 }; end = record { x = pos 0; y = pos 0; z = pos 0 }; centre = record { u = pos 50000; v = pos 0 } }
+small_circle = record {
+  plane = XY;
+  turn = Clockwise;
+  start = record { x = pos 0; y = pos 0; z = pos 0 };
+  end = record { x = pos 0; y = pos 0; z = pos 0 };
+  centre = record { u = pos 50000; v = pos 0 };
+}
 
 abbrev small_path : List StepPos
 small_path = round_path 10000 (54000 * 54000) Clockwise (pos 5) (pos 0) flat (at (pos 0) (pos 0) (pos 0)) 28 0 (record { q = 2; x = 50000; y = 0 })
@@ -146,7 +155,13 @@ small_count = refl
 
 -- the half circle of radius 5 mm, clockwise, from west to east
 abbrev half_circle : ArcShape
-half_circle = record { plane = XY; turn = Clockwise; start = record { x = pos 0; y = pos 0; z = pos 0 }; end = record { x = pos 10000000; y = pos 0; z = pos 0 }; centre = record { u = pos 5000000; v = pos 0 } }
+half_circle = record {
+  plane = XY;
+  turn = Clockwise;
+  start = record { x = pos 0; y = pos 0; z = pos 0 };
+  end = record { x = pos 10000000; y = pos 0; z = pos 0 };
+  centre = record { u = pos 5000000; v = pos 0 };
+}
 
 abbrev half_path : List StepPos
 half_path = round_path 10000 (5004000 * 5004000) Clockwise (pos 500) (pos 0) flat (at (pos 1000) (pos 0) (pos 0)) 1414 0 (record { q = 2; x = 5000000; y = 0 })
@@ -157,7 +172,13 @@ half_follows = refl
 
 -- a helix: counterclockwise all round, down by three steps
 abbrev helix : ArcShape
-helix = record { plane = XY; turn = Counterclockwise; start = record { x = pos 0; y = pos 0; z = pos 0 }; end = record { x = pos 0; y = pos 0; z = negsuc 29999 }; centre = record { u = pos 50000; v = pos 0 } }
+helix = record {
+  plane = XY;
+  turn = Counterclockwise;
+  start = record { x = pos 0; y = pos 0; z = pos 0 };
+  end = record { x = pos 0; y = pos 0; z = negsuc 29999 };
+  centre = record { u = pos 50000; v = pos 0 };
+}
 
 abbrev down : ℕ → ℤ
 down k = neg_ℤ (pos ((2 * (k * 3) + 28) / (2 * 28)))
@@ -173,7 +194,8 @@ helix_follows = refl
 
 -- the wrong way round
 abbrev wrong_way : List StepPos
-wrong_way = round_path 10000 (5004000 * 5004000) Counterclockwise (pos 500) (pos 0) flat (at (pos 1000) (pos 0) (pos 0)) 1414 0 (record { q = 2; x = 5000000; y = 0 })
+wrong_way =
+    round_path 10000 (5004000 * 5004000) Counterclockwise (pos 500) (pos 0) flat (at (pos 1000) (pos 0) (pos 0)) 1414 0 (record { q = 2; x = 5000000; y = 0 })
 
 wrong_way_fails : follows (pos 10000) half_circle wrong_way ≡ false
 unfolding whole_root whole_root_above all_good follows round_path

@@ -1,5 +1,6 @@
 -- In both formats the radii of an arc fit their bounds, wherever its ends lie.
-use Rattle.std.proofs.Common.{◌≡◌, ℕ, ◌-◌, ◌*◌, ◌/◌, ◌^◌, ◌≤◌, ◌<◌, ◌==◌, nat_le, nat_lt, ℤ, pos, negsuc, ◌+ℤ◌, ◌-ℤ◌, ◌*ℤ◌, neg_ℤ, unsigned_abs, Bool, true, false, not, Result, Ok, Err, refl, subst, lit≤, arith}
+use Rattle.std.proofs.Common.{◌≡◌, ℕ, ◌-◌, ◌*◌, ◌/◌, ◌^◌, ◌≤◌, ◌<◌, ◌==◌, nat_le, nat_lt, ℤ, pos, negsuc, ◌+ℤ◌, ◌-ℤ◌, ◌*ℤ◌, neg_ℤ, unsigned_abs, Bool, true}
+use Rattle.std.proofs.Common.{false, not, Result, Ok, Err, refl, subst, lit≤, arith}
 use Rattle.std.specs.Int.{int_signum}
 use Rattle.std.specs.Prelude.{if◌then◌else◌}
 use Rattle.std.proofs.lemmas.Bool.Decides.{nat_tests}
@@ -23,7 +24,8 @@ use Rattle.ngc_arc_geometry.specs.Faults.{◌>>=◌, ◌>>◌, refuse_if}
 use Rattle.ngc_arc_geometry.specs.Tolerance.{tolerance}
 use Rattle.ngc_arc_geometry.specs.Chord.{aside, side}
 use Rattle.ngc_arc_geometry.specs.Radii.{lo, hi, SQUARE_LIMIT, roots_within, with_equal_radii, HasRadiiInRange, HasEvenRadii}
-use Rattle.ngc_arc_geometry.specs.Centre.{arc_about, offset_centre, centre_format, chord, chord_square, middle, aside_point, reach, radius_centre, radius_format}
+use Rattle.ngc_arc_geometry.specs.Centre.{arc_about, offset_centre, centre_format, chord, chord_square, middle, aside_point, reach, radius_centre}
+use Rattle.ngc_arc_geometry.specs.Centre.{radius_format}
 use Rattle.ngc_arc_geometry.proofs.Squares.{square_sum}
 use Rattle.ngc_arc_geometry.proofs.RadiiLemmas.{greater_bound, even_roots}
 use Rattle.ngc_arc_geometry.proofs.ChordLemmas.{aside_square, aside_bound}
@@ -136,10 +138,12 @@ range_where_reached e q is_long positive reached limit =
     let v2 = square_aside q d2 d.u positive reached limit (omega (arith, squares)) in
     let u_most = aside_bound (unsigned_abs d.v * unsigned_abs d.v) q d2 (unsigned_abs u) positive reached limit (omega (arith, squares)) u2 in
     let v_most = aside_bound (unsigned_abs d.u * unsigned_abs d.u) q d2 (unsigned_abs v) positive reached limit (omega (arith, squares)) v2 in
-    let u_size : unsigned_abs (neg_ℤ (s *ℤ int_signum d.v *ℤ u)) ≤ unsigned_abs u = rw size_of_negative (signed_size s (int_signum d.v) u (side_size e.turn is_long) (sign_size d.v)) in
+    let u_size : unsigned_abs (neg_ℤ (s *ℤ int_signum d.v *ℤ u)) ≤ unsigned_abs u =
+    rw size_of_negative (signed_size s (int_signum d.v) u (side_size e.turn is_long) (sign_size d.v)) in
     let v_size = signed_size s (int_signum d.u) v (side_size e.turn is_long) (sign_size d.u) in
     range_aside e (shifted (middle e) (aside_point s q d2 d)) q (unsigned_abs u) (unsigned_abs v)
-    (moved_by (middle e).u (neg_ℤ (s *ℤ int_signum d.v *ℤ u)) (unsigned_abs u) u_size) (moved_by (middle e).v (s *ℤ int_signum d.u *ℤ v) (unsigned_abs v) v_size)
+    (moved_by (middle e).u (neg_ℤ (s *ℤ int_signum d.v *ℤ u)) (unsigned_abs u) u_size)
+    (moved_by (middle e).v (s *ℤ int_signum d.u *ℤ v) (unsigned_abs v) v_size)
     positive reached limit u_most v_most u2 v2
 
 same_centre : (p q : Point2) → (let x : Result Point2 ArcFault = Ok p in let y : Result Point2 ArcFault = Ok q in x ≡ y) → p ≡ q
@@ -150,9 +154,11 @@ at_most : (n m : ℕ) → nat_le n m ≡ true → n ≤ m
 at_most n m h = grind (arith, nat_tests)
 
 -- the same by how the tests went
-range_by_tests : (t : ℕ) (e : Ends) (r : ℤ) (centre : Point2) (is_reached is_near : Bool) → t ≤ 5080 → 0 < chord_square e → unsigned_abs r * unsigned_abs r ≤ 4000000000000000000
+range_by_tests : (t : ℕ) (e : Ends) (r : ℤ) (centre : Point2) (is_reached is_near : Bool) → t ≤ 5080 → 0 < chord_square e →
+    unsigned_abs r * unsigned_abs r ≤ 4000000000000000000
     → nat_le (chord_square e) (4 * (unsigned_abs r * unsigned_abs r)) ≡ is_reached → nat_le (chord_square e) (reach (unsigned_abs r) t) ≡ is_near
-    → (let beside : Result Point2 ArcFault = Ok (shifted (middle e) (aside_point (side e.turn (is_negative r)) (unsigned_abs r * unsigned_abs r) (chord_square e) (chord e))) in
+    → (let beside : Result Point2 ArcFault =
+    Ok (shifted (middle e) (aside_point (side e.turn (is_negative r)) (unsigned_abs r * unsigned_abs r) (chord_square e) (chord e))) in
     let found : Result Point2 ArcFault = (if is_reached then beside else (if is_near then Ok (middle e) else Err RadiusTooSmall)) in found ≡ Ok centre)
     → HasRadiiInRange (arc_about e centre)
 range_by_tests t e r centre true is_near small positive limit reached near is =
@@ -163,11 +169,13 @@ range_by_tests t e r centre false true small positive limit reached near is =
     (range_at_middle e t (unsigned_abs r) limit small (at_most _ _ near))
 range_by_tests t e r centre false false small positive limit reached near is = absurd (cc is)
 
-range_about : (t : ℕ) (e : Ends) (r : ℤ) (centre : Point2) → t ≤ 5080 → 0 < chord_square e → unsigned_abs r * unsigned_abs r ≤ 4000000000000000000 → radius_centre t e r ≡ Ok centre
+range_about : (t : ℕ) (e : Ends) (r : ℤ) (centre : Point2) → t ≤ 5080 → 0 < chord_square e → unsigned_abs r * unsigned_abs r ≤ 4000000000000000000 →
+    radius_centre t e r ≡ Ok centre
     → HasRadiiInRange (arc_about e centre)
 range_about t e r centre small positive limit is = range_by_tests t e r centre _ _ small positive limit refl refl is
 
-even_about : (t : ℕ) (e : Ends) (r : Result Point2 ArcFault) (a : ArcShape) → t ≤ 5080 → ((centre : Point2) → r ≡ Ok centre → HasRadiiInRange (arc_about e centre))
+even_about : (t : ℕ) (e : Ends) (r : Result Point2 ArcFault) (a : ArcShape) → t ≤ 5080 →
+    ((centre : Point2) → r ≡ Ok centre → HasRadiiInRange (arc_about e centre))
     → (r >>= λ centre. with_equal_radii t (arc_about e centre)) ≡ Ok a → HasEvenRadii a
 even_about t e (Ok centre) a small range h = even_where_equal t (arc_about e centre) a small (range centre refl) h
 even_about t e (Err fault) a small range h = absurd (cc h)
@@ -179,4 +187,5 @@ radii_of_radius units e r a h =
     let tests = first_of _ found a h in
     let limit = not_over SQUARE_LIMIT (unsigned_abs r * unsigned_abs r) (not_so _ _ (last_of _ _ tt tests)) in
     let positive = above_zero (chord_square e) (not_so _ _ (last_of _ _ tt (first_of _ _ tt (first_of _ _ tt tests)))) in
-    even_about t e (radius_centre t e r) a (tolerance_small units) (λ centre is. range_about t e r centre (tolerance_small units) positive limit is) (last_of _ found a h)
+    even_about t e (radius_centre t e r) a (tolerance_small units) (λ centre is. range_about t e r centre (tolerance_small units) positive limit is)
+    (last_of _ found a h)

@@ -41,7 +41,8 @@ root_bound t lo hi s root within =
 pub greater_bound : (t lo hi : ℕ) → t ≤ 5080 → lo ≤ hi → lo + hi ≤ 2 * (2000006000 * 2000006000) → roots_within t lo hi ≡ true → hi ≤ 2000020000 * 2000020000
 greater_bound t lo hi small order sum within =
     let root = root_bound t lo hi 2000006000 (omega arith) within in
-    let square : (2000006000 + t) * (2000006000 + t) ≤ 2000020000 * 2000020000 = mul-le (2000006000 + t) (2000006000 + t) 2000020000 2000020000 (omega arith) (omega arith) in
+    let square : (2000006000 + t) * (2000006000 + t) ≤ 2000020000 * 2000020000 =
+    mul-le (2000006000 + t) (2000006000 + t) 2000020000 2000020000 (omega arith) (omega arith) in
     omega arith
 
 -- the whole roots differ by at most the tolerance and 1

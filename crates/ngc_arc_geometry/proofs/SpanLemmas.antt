@@ -41,11 +41,13 @@ ordered low high (pos n) first last step apart above below =
 ordered low high (negsuc n) first last step apart above below = absurd (omega (arith, ints, step.least))
 
 -- what 64 bits make of a coordinate less and more a margin
-pub less_margin : (z m : ℤ) → unsigned_abs z ≤ 100000000000 → unsigned_abs m ≤ 2000120000 → to_z w64 (of_z w64 (to_z w64 (of_z w64 z) -ℤ to_z w64 (of_z w64 m))) ≡ z -ℤ m
+pub less_margin : (z m : ℤ) → unsigned_abs z ≤ 100000000000 → unsigned_abs m ≤ 2000120000 →
+    to_z w64 (of_z w64 (to_z w64 (of_z w64 z) -ℤ to_z w64 (of_z w64 m))) ≡ z -ℤ m
 less_margin z m hz hm =
     rw (kept_coordinate z (omega arith), kept_coordinate m (omega arith)) (kept_coordinate (z -ℤ m) (omega (arith, ints)))
 
-pub more_margin : (z m : ℤ) → unsigned_abs z ≤ 100000000000 → unsigned_abs m ≤ 2000120000 → to_z w64 (of_z w64 (to_z w64 (of_z w64 z) +ℤ to_z w64 (of_z w64 m))) ≡ z +ℤ m
+pub more_margin : (z m : ℤ) → unsigned_abs z ≤ 100000000000 → unsigned_abs m ≤ 2000120000 →
+    to_z w64 (of_z w64 (to_z w64 (of_z w64 z) +ℤ to_z w64 (of_z w64 m))) ≡ z +ℤ m
 more_margin z m hz hm =
     rw (kept_coordinate z (omega arith), kept_coordinate m (omega arith)) (kept_coordinate (z +ℤ m) (omega (arith, ints)))
 

@@ -4,7 +4,8 @@ use Rattle.std.proofs.lemmas.Bool.Decides.{nat_tests}
 use Rattle.ngc_arc_geometry.specs.declared.fault.ArcFault.{ArcFault}
 use Rattle.ngc_arc_geometry.specs.Faults.{◌>>◌, refuse_if}
 
-pub four_pass : {A : Type 0} (b1 b2 b3 b4 : Bool) (e1 e2 e3 e4 : ArcFault) (r : Result A ArcFault) → b1 ≡ false → b2 ≡ false → b3 ≡ false → b4 ≡ false → (refuse_if b1 e1 >> refuse_if b2 e2 >> refuse_if b3 e3 >> refuse_if b4 e4 >> r) ≡ r
+pub four_pass : {A : Type 0} (b1 b2 b3 b4 : Bool) (e1 e2 e3 e4 : ArcFault) (r : Result A ArcFault) → b1 ≡ false → b2 ≡ false → b3 ≡ false → b4 ≡ false →
+    (refuse_if b1 e1 >> refuse_if b2 e2 >> refuse_if b3 e3 >> refuse_if b4 e4 >> r) ≡ r
 four_pass b1 b2 b3 b4 e1 e2 e3 e4 r p1 p2 p3 p4 = rw (p1, p2, p3, p4)
 
 -- tests that fail

@@ -7,7 +7,9 @@ use Rattle.ngc_arc_geometry.specs.Radii.{squared_distance, inner_radius, outer_r
 -- how far a path may go off its arc: one step where the inner radius is at least eight steps, else
 -- four
 abbrev pub leeway : ℤ → ArcShape → ℕ
-leeway step a = (if nat_le (8 * unsigned_abs step) (inner_radius a) then unsigned_abs step else 4 * unsigned_abs step)
+leeway step a =
+    (if nat_le (8 * unsigned_abs step) (inner_radius a) then unsigned_abs step
+    else 4 * unsigned_abs step)
 
 -- by how much the radii at start and end differ
 abbrev pub spread : ArcShape → ℕ

@@ -22,13 +22,18 @@ pub record IsArcOf (step : ℤ) (a : ArcShape) (n : ℕ) (path : List StepPos) :
   -- no point is far from the circles
   pub band : (k : ℕ) → k ≤ n → IsInBand a (leeway step a) (seen step a (point path k))
   -- each is in the sector, or near an end
-  pub sector : (k : ℕ) → k ≤ n → IsBetweenEnds a (leeway step a + spread a) (seen step a (point path k))
+  pub sector : (k : ℕ) → k ≤ n →
+      IsBetweenEnds a (leeway step a + spread a) (seen step a (point path k))
   -- the sector's quadrant points at the outer radius are passed in the arc's order
-  pub order : Passes (λ k. seen step a (point path k)) n (leeway step a + unsigned_abs step + spread a) 0 (extremes a)
+  pub order : Passes (λ k. seen step a (point path k)) n
+      (leeway step a + unsigned_abs step + spread a) 0 (extremes a)
   -- away from the ends no move turns back
-  pub onward : (k : ℕ) → k < n → GoesOn a (4 * unsigned_abs step + spread a) (seen step a (point path k)) (seen step a (point path (k + 1)))
+  pub onward : (k : ℕ) → k < n →
+      GoesOn a (4 * unsigned_abs step + spread a) (seen step a (point path k))
+      (seen step a (point path (k + 1)))
   -- the height follows its way as a straight line's axis does
-  pub rises : FollowsLine step n (height a.plane a.start) (height a.plane a.end) (λ k. height_of a (point path k))
+  pub rises : FollowsLine step n (height a.plane a.start) (height a.plane a.end)
+      (λ k. height_of a (point path k))
   -- no more moves than the height and somewhat more than a circle take
   pub short : n * unsigned_abs step ≤
       distance (start_height step a) (end_height step a) * unsigned_abs step
@@ -39,4 +44,5 @@ IsArcPath step a path = (n : ℕ) × IsArcOf step a n path
 
 -- a path that follows an arc is one that stays in the arc's swept box
 abbrev pub FollowingIsWeak : Type 0
-FollowingIsWeak = (step : ℤ) (a : ArcShape) (path : List StepPos) → IsArcPath step a path → IsWeakArcPath step a path
+FollowingIsWeak = (step : ℤ) (a : ArcShape) (path : List StepPos) → IsArcPath step a path →
+    IsWeakArcPath step a path

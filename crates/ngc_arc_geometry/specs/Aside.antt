@@ -10,5 +10,7 @@ square_of d = unsigned_abs (dot d d)
 pub record IsAside (chord : Point2) (square : ℕ) (offset : Point2) : Type 0 where
   pub u_bound : unsigned_abs offset.u ≤ 2000000000
   pub v_bound : unsigned_abs offset.v ≤ 2000000000
-  pub u : 4 * square_of chord * (unsigned_abs offset.u * unsigned_abs offset.u) ≤ unsigned_abs chord.v * unsigned_abs chord.v * (4 * square - square_of chord)
-  pub v : 4 * square_of chord * (unsigned_abs offset.v * unsigned_abs offset.v) ≤ unsigned_abs chord.u * unsigned_abs chord.u * (4 * square - square_of chord)
+  pub u : 4 * square_of chord * (unsigned_abs offset.u * unsigned_abs offset.u)
+      ≤ unsigned_abs chord.v * unsigned_abs chord.v * (4 * square - square_of chord)
+  pub v : 4 * square_of chord * (unsigned_abs offset.v * unsigned_abs offset.v)
+      ≤ unsigned_abs chord.u * unsigned_abs chord.u * (4 * square - square_of chord)

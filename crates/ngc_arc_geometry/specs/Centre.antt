@@ -1,6 +1,7 @@
 -- The centre of an arc, by its two formats (NISTIR 6556, 3.5.3.1 and 3.5.3.2). How it is rounded is
 -- our own.
-use Rattle.std.specs.Prelude.{ℕ, ◌+◌, ◌*◌, ◌==◌, nat_le, nat_lt, ℤ, pos, ◌*ℤ◌, neg_ℤ, unsigned_abs, Result, Ok, Err, not, is_none, unwrap_or, ◌&&◌, if◌then◌else◌}
+use Rattle.std.specs.Prelude.{ℕ, ◌+◌, ◌*◌, ◌==◌, nat_le, nat_lt, ℤ, pos, ◌*ℤ◌, neg_ℤ, unsigned_abs}
+use Rattle.std.specs.Prelude.{Result, Ok, Err, not, is_none, unwrap_or, ◌&&◌, if◌then◌else◌}
 use Rattle.std.specs.Int.{int_signum}
 use Rattle.ngc_fixed_length.specs.Places.{in_plane, from, shifted, dot}
 use Rattle.ngc_fixed_length.specs.Signed.{is_zero, is_negative}
@@ -10,7 +11,9 @@ use Rattle.ngc_arc_geometry.specs.Shape.{ArcShape, IsNear}
 use Rattle.ngc_arc_geometry.specs.declared.given.Ends.{Ends}
 use Rattle.ngc_arc_geometry.specs.declared.given.Offsets.{Offsets}
 use Rattle.ngc_arc_geometry.specs.declared.fault.ArcFault.{ArcFault}
-use Rattle.ngc_arc_geometry.specs.declared.fault.ArcFault.TheVariants.{NoAxisWord, NoOffset, RadiusTooSmall, EndIsStart, RadiusOutOfRange}
+use Rattle.ngc_arc_geometry.specs.declared.fault.ArcFault.TheVariants.{NoAxisWord, NoOffset}
+use Rattle.ngc_arc_geometry.specs.declared.fault.ArcFault.TheVariants.{RadiusTooSmall, EndIsStart}
+use Rattle.ngc_arc_geometry.specs.declared.fault.ArcFault.TheVariants.{RadiusOutOfRange}
 use Rattle.ngc_arc_geometry.specs.Faults.{◌>>=◌, ◌>>◌, refuse_if}
 use Rattle.ngc_arc_geometry.specs.Tolerance.{tolerance}
 use Rattle.ngc_arc_geometry.specs.Chord.{halfway, aside, side}
@@ -22,7 +25,8 @@ pub record IsEnds (e : Ends) : Type 0 where
   pub end : IsNear e.end
 
 abbrev pub arc_about : Ends → Point2 → ArcShape
-arc_about e centre = record { plane = e.plane; turn = e.turn; start = e.start; end = e.end; centre = centre }
+arc_about e centre =
+    record { plane = e.plane; turn = e.turn; start = e.start; end = e.end; centre = centre }
 
 abbrev pub start_in : Ends → Point2
 start_in e = in_plane e.plane e.start
@@ -54,7 +58,8 @@ abbrev pub chord_square : Ends → ℕ
 chord_square e = unsigned_abs (dot (chord e) (chord e))
 
 abbrev pub middle : Ends → Point2
-middle e = record { u = halfway (start_in e).u (end_in e).u; v = halfway (start_in e).v (end_in e).v }
+middle e =
+    record { u = halfway (start_in e).u (end_in e).u; v = halfway (start_in e).v (end_in e).v }
 
 -- from the middle, across the chord
 abbrev pub aside_point : ℤ → ℕ → ℕ → Point2 → Point2
@@ -72,8 +77,11 @@ reach r t = 4 * (r + t) * (r + t)
 abbrev pub radius_centre : ℕ → Ends → ℤ → Result Point2 ArcFault
 radius_centre t e r =
     if nat_le (chord_square e) (4 * (unsigned_abs r * unsigned_abs r))
-    then Ok (shifted (middle e) (aside_point (side e.turn (is_negative r)) (unsigned_abs r * unsigned_abs r) (chord_square e) (chord e)))
-    else (if nat_le (chord_square e) (reach (unsigned_abs r) t) then Ok (middle e) else Err RadiusTooSmall)
+    then Ok (shifted (middle e)
+    (aside_point (side e.turn (is_negative r)) (unsigned_abs r * unsigned_abs r)
+    (chord_square e) (chord e)))
+    else (if nat_le (chord_square e) (reach (unsigned_abs r) t) then Ok (middle e)
+    else Err RadiusTooSmall)
 
 abbrev pub radius_format : Units → Ends → ℤ → Result ArcShape ArcFault
 radius_format units e r =
@@ -81,4 +89,5 @@ radius_format units e r =
     refuse_if (chord_square e == 0) EndIsStart >>
     refuse_if (is_zero r) RadiusOutOfRange >>
     refuse_if (nat_lt SQUARE_LIMIT (unsigned_abs r * unsigned_abs r)) RadiusOutOfRange >>
-    (radius_centre (tolerance units) e r >>= λ centre. with_equal_radii (tolerance units) (arc_about e centre))
+    (radius_centre (tolerance units) e r >>= λ centre.
+    with_equal_radii (tolerance units) (arc_about e centre))

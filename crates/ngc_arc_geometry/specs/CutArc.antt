@@ -1,5 +1,7 @@
 -- Pieces of an arc that is cut. Our own.
-use Rattle.std.specs.Prelude.{ℕ, ◌+◌, ◌-◌, ◌*◌, ◌<◌, nat_le, ℤ, pos, ◌+ℤ◌, ◌-ℤ◌, ◌*ℤ◌, ◌≤ℤ◌, int_le, int_lt, unsigned_abs, List, [], ◌∷◌, length, Bool, true, false, not, ◌&&◌, if◌then◌else◌, IsTrue, Any}
+use Rattle.std.specs.Prelude.{ℕ, ◌+◌, ◌-◌, ◌*◌, ◌<◌, nat_le, ℤ, pos, ◌+ℤ◌, ◌-ℤ◌, ◌*ℤ◌, ◌≤ℤ◌, int_le}
+use Rattle.std.specs.Prelude.{int_lt, unsigned_abs, List, [], ◌∷◌, length, Bool, true, false, not}
+use Rattle.std.specs.Prelude.{◌&&◌, if◌then◌else◌, IsTrue, Any}
 use Rattle.std.specs.Int.{int_min, int_max}
 use Rattle.ngc_fixed_length.specs.Places.{from}
 use Rattle.ngc_fixed_length.specs.Signed.{same}
@@ -32,24 +34,31 @@ turns_on a p q = share_quadrant a p q && int_lt (pos 0) (turn_from a p q)
 
 -- on the short way from p on to q, without p, lies the direction of the arc's start
 abbrev pub passes_start : ArcShape → Point2 → Point2 → Bool
-passes_start a p q = int_lt (pos 0) (turn_from a p (start_of a)) && int_le (pos 0) (turn_from a (start_of a) q)
+passes_start a p q =
+    int_lt (pos 0) (turn_from a p (start_of a)) && int_le (pos 0) (turn_from a (start_of a) q)
 
 -- a cut inside the sector, once round at most
 abbrev pub is_inner_cut : ℤ → ArcShape → Point2 → Point2 → Bool
-is_inner_cut step a p q = is_in_band a (unsigned_abs step) q && (in_sector a q && not (passes_start a p q))
+is_inner_cut step a p q =
+    is_in_band a (unsigned_abs step) q && (in_sector a q && not (passes_start a p q))
 
 abbrev pub is_end : ArcShape → Point2 → Bool
 is_end a q = same q.u (end_of a).u && same q.v (end_of a).v
 
 -- piece from p to q of an arc of several pieces
 abbrev pub cut_follows : ℤ → ArcShape → Bool → Point2 → Point2 → Bool
-cut_follows step a last p q = turns_on a p q && (if last then is_end a q else is_inner_cut step a p q)
+cut_follows step a last p q =
+    turns_on a p q && (if last then is_end a q else is_inner_cut step a p q)
 
 -- the box of both cut points, grown by the margin, and the range of heights
 abbrev pub cut_box : ℤ → ArcShape → Point2 → Point2 → GridBox
 cut_box step a p q = record {
-  low = grid_at a.plane (grid_above step (int_min p.u q.u -ℤ margin step a)) (grid_above step (int_min p.v q.v -ℤ margin step a)) (int_min (start_height step a) (end_height step a));
-  high = grid_at a.plane (grid_below step (int_max p.u q.u +ℤ margin step a)) (grid_below step (int_max p.v q.v +ℤ margin step a)) (int_max (start_height step a) (end_height step a));
+  low = grid_at a.plane (grid_above step (int_min p.u q.u -ℤ margin step a))
+      (grid_above step (int_min p.v q.v -ℤ margin step a))
+      (int_min (start_height step a) (end_height step a));
+  high = grid_at a.plane (grid_below step (int_max p.u q.u +ℤ margin step a))
+      (grid_below step (int_max p.v q.v +ℤ margin step a))
+      (int_max (start_height step a) (end_height step a));
 }
 
 -- the inner radius is at least eight steps; else a piece needs the box of the whole arc
@@ -61,7 +70,8 @@ is_large step a = nat_le (8 * unsigned_abs step) (inner_radius a)
 abbrev pub IsCutChain : ℤ → ArcShape → Point2 → List Point2 → Type 0
 IsCutChain step a p [] = ⊥
 IsCutChain step a p (q ∷ []) = IsTrue (cut_follows step a true p q)
-IsCutChain step a p (q ∷ r ∷ qs) = IsTrue (cut_follows step a false p q) × IsCutChain step a q (r ∷ qs)
+IsCutChain step a p (q ∷ r ∷ qs) =
+    IsTrue (cut_follows step a false p q) × IsCutChain step a q (r ∷ qs)
 
 abbrev pub cut_boxes : ℤ → ArcShape → Point2 → List Point2 → List GridBox
 cut_boxes step a p [] = []
@@ -71,5 +81,7 @@ cut_boxes step a p (q ∷ qs) = cut_box step a p q ∷ cut_boxes step a q qs
 -- is at least eight steps
 abbrev pub CoveredByCuts : Type 0
 CoveredByCuts = (step : ℤ) (a : ArcShape) (cuts : List Point2) (path : List StepPos) (k : ℕ) →
-    pos 1 ≤ℤ step → HasEvenRadii a → IsTrue (is_large step a) → IsCutChain step a (start_of a) cuts →
-    IsArcPath step a path → k < length path → Any (λ b. IsIn b (point path k)) (cut_boxes step a (start_of a) cuts)
+    pos 1 ≤ℤ step → HasEvenRadii a → IsTrue (is_large step a) →
+    IsCutChain step a (start_of a) cuts →
+    IsArcPath step a path → k < length path →
+    Any (λ b. IsIn b (point path k)) (cut_boxes step a (start_of a) cuts)

@@ -1,7 +1,9 @@
 -- Steps that may refuse an arc.
 use Rattle.std.specs.Prelude.{ℕ, Result, Ok, Err, Bool, if◌then◌else◌}
 use Rattle.ngc_arc_geometry.specs.declared.fault.ArcFault.{ArcFault}
-use Rattle.ngc_arc_geometry.specs.declared.fault.ArcFault.TheVariants.{NoAxisWord, NoOffset, RadiiDiffer, RadiusTooSmall, EndIsStart, RadiusOutOfRange}
+use Rattle.ngc_arc_geometry.specs.declared.fault.ArcFault.TheVariants.{NoAxisWord, NoOffset}
+use Rattle.ngc_arc_geometry.specs.declared.fault.ArcFault.TheVariants.{RadiiDiffer, RadiusTooSmall}
+use Rattle.ngc_arc_geometry.specs.declared.fault.ArcFault.TheVariants.{EndIsStart, RadiusOutOfRange}
 
 -- the number of a fault
 abbrev pub number_of : ArcFault → ℕ

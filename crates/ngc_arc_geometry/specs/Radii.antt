@@ -1,12 +1,14 @@
 -- The radii of an arc at its start and end. How far they may differ follows NISTIR 6556, 3.5.3.2;
 -- the bounds are our own.
-use Rattle.std.specs.Prelude.{ℕ, ◌≤◌, ◌<◌, ◌+◌, ◌-◌, ◌*◌, ◌==◌, nat_le, min, max, unsigned_abs, Result, Ok, Bool, not, ◌||◌}
+use Rattle.std.specs.Prelude.{ℕ, ◌≤◌, ◌<◌, ◌+◌, ◌-◌, ◌*◌, ◌==◌, nat_le, min, max, unsigned_abs}
+use Rattle.std.specs.Prelude.{Result, Ok, Bool, not, ◌||◌}
 use Rattle.ngc_fixed_length.specs.Places.{from, dot}
 use Rattle.ngc_fixed_length.specs.Roots.{whole_root, whole_root_above}
 use Rattle.ngc_fixed_length.specs.declared.points.Point2.{Point2}
 use Rattle.ngc_arc_geometry.specs.Shape.{ArcShape, start_of, end_of, IsNear}
 use Rattle.ngc_arc_geometry.specs.declared.fault.ArcFault.{ArcFault}
-use Rattle.ngc_arc_geometry.specs.declared.fault.ArcFault.TheVariants.{RadiiDiffer, RadiusOutOfRange}
+use Rattle.ngc_arc_geometry.specs.declared.fault.ArcFault.TheVariants.{RadiiDiffer}
+use Rattle.ngc_arc_geometry.specs.declared.fault.ArcFault.TheVariants.{RadiusOutOfRange}
 use Rattle.ngc_arc_geometry.specs.Faults.{◌>>◌, refuse_if}
 
 abbrev pub squared_distance : Point2 → Point2 → ℕ

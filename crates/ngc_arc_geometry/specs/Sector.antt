@@ -1,6 +1,7 @@
 -- The sector of an arc, from its start to its end in its sense of turning, both included (NISTIR
 -- 6556, 3.5.3).
-use Rattle.std.specs.Prelude.{ℕ, ℤ, pos, ◌+ℤ◌, ◌-ℤ◌, neg_ℤ, int_le, int_lt, List, [], ◌∷◌, ◌++◌, take, drop, filter, Bool, true, ◌&&◌, ◌||◌, if◌then◌else◌}
+use Rattle.std.specs.Prelude.{ℕ, ℤ, pos, ◌+ℤ◌, ◌-ℤ◌, neg_ℤ, int_le, int_lt, List, [], ◌∷◌, ◌++◌}
+use Rattle.std.specs.Prelude.{take, drop, filter, Bool, true, ◌&&◌, ◌||◌, if◌then◌else◌}
 use Rattle.ngc_fixed_length.specs.Places.{from, cross, dot}
 use Rattle.ngc_fixed_length.specs.Signed.{is_zero}
 use Rattle.ngc_fixed_length.specs.declared.modes.Turn.{Turn}
@@ -23,7 +24,8 @@ is_ahead a p q = int_le (pos 0) (turn_from a p q)
 
 -- both lie in one direction from the centre
 abbrev pub same_direction : ArcShape → Point2 → Point2 → Bool
-same_direction a p q = is_zero (turn_from a p q) && int_lt (pos 0) (dot (from a.centre p) (from a.centre q))
+same_direction a p q =
+    is_zero (turn_from a p q) && int_lt (pos 0) (dot (from a.centre p) (from a.centre q))
 
 -- the end equals the start, or lies in its direction
 abbrev pub is_full : ArcShape → Bool
@@ -68,7 +70,8 @@ rotated n points = drop n points ++ take n points
 
 -- the four in the arc's order, from the first that it meets
 abbrev pub quadrants_in_turn : ArcShape → List Point2
-quadrants_in_turn a = rotated (first_quadrant a) (quadrant_points a.turn a.centre (pos (outer_radius a)))
+quadrants_in_turn a =
+    rotated (first_quadrant a) (quadrant_points a.turn a.centre (pos (outer_radius a)))
 
 -- the quadrant points at the outer radius in the sector, in the arc's order from its start on
 abbrev pub extremes : ArcShape → List Point2

@@ -51,11 +51,13 @@ grid_at YZ u v w = record { x = w; y = u; z = v }
 -- the lowest and the highest corner of the swept box
 abbrev pub swept_low : ℤ → ArcShape → StepPos
 swept_low step a =
-    grid_at a.plane (low_at step a (λ p. p.u)) (low_at step a (λ p. p.v)) (int_min (start_height step a) (end_height step a))
+    grid_at a.plane (low_at step a (λ p. p.u)) (low_at step a (λ p. p.v))
+    (int_min (start_height step a) (end_height step a))
 
 abbrev pub swept_high : ℤ → ArcShape → StepPos
 swept_high step a =
-    grid_at a.plane (high_at step a (λ p. p.u)) (high_at step a (λ p. p.v)) (int_max (start_height step a) (end_height step a))
+    grid_at a.plane (high_at step a (λ p. p.u)) (high_at step a (λ p. p.v))
+    (int_max (start_height step a) (end_height step a))
 
 abbrev pub swept_box : ℤ → ArcShape → GridBox
 swept_box step a = record { low = swept_low step a; high = swept_high step a }

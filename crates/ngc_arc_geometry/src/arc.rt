@@ -35,13 +35,21 @@ impl Model for Arc {
 
     ghost invariant = { λ a. IsArc (shape_of a) };
 
-    ghost inverse = { λ s. record { plane = s.plane; turn = s.turn; start = s.start; end = s.end; centre = s.centre } };
+    ghost inverse = { λ s. record {
+      plane = s.plane;
+      turn = s.turn;
+      start = s.start;
+      end = s.end;
+      centre = s.centre;
+    } };
 }
 
 impl Arc {
     ghost use Rattle.ngc_arc_geometry.specs.Shape.{IsNear};
-    ghost use Rattle.ngc_arc_geometry.specs.Radii.{lo, hi, inner_radius, outer_radius, with_equal_radii, HasRadiiInRange, IsArc};
-    ghost use Rattle.ngc_arc_geometry.specs.Centre.{IsEnds, arc_about, centre_format, radius_format};
+    ghost use Rattle.ngc_arc_geometry.specs.Radii.{lo, hi, inner_radius, outer_radius};
+    ghost use Rattle.ngc_arc_geometry.specs.Radii.{with_equal_radii, HasRadiiInRange, IsArc};
+    ghost use Rattle.ngc_arc_geometry.specs.Centre.{IsEnds, arc_about, centre_format};
+    ghost use Rattle.ngc_arc_geometry.specs.Centre.{radius_format};
 
     /// The arc in centre format: I, J and K lead from its start to its centre (NISTIR 6556,
     /// 3.5.3.2). Where the end lies in the direction of the start from the centre it is a full

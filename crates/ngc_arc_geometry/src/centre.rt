@@ -12,7 +12,8 @@ impl Ends {
     ghost use Rattle.ngc_arc_geometry.specs.Chord.{side as side_of};
     ghost use Rattle.ngc_arc_geometry.specs.Aside.{IsAside};
     ghost use Rattle.ngc_arc_geometry.specs.Radii.{HasRadiiInRange};
-    ghost use Rattle.ngc_arc_geometry.specs.Centre.{IsEnds, arc_about, chord, chord_square, middle, aside_point, radius_centre};
+    ghost use Rattle.ngc_arc_geometry.specs.Centre.{IsEnds, arc_about, chord, chord_square, middle};
+    ghost use Rattle.ngc_arc_geometry.specs.Centre.{aside_point, radius_centre};
 
     /// The way from start to end in the plane.
     pub(crate) fn chord(&self) -> Way
@@ -39,7 +40,8 @@ impl Ends {
         requires chord { 0 < chord_square self.now }
         requires reached { chord_square self.now ≤ 4 * square }
         requires limit { square ≤ 4 * 10 ^ 18 }
-        ensures value { result ≡ aside_point (side_of self.now.turn is_long) square (chord_square self.now) (chord self.now) }
+        ensures value { result ≡ aside_point (side_of self.now.turn is_long) square
+            (chord_square self.now) (chord self.now) }
         ensures short { IsAside (chord self.now) square result }
     {
         let chord = self.chord();
@@ -57,7 +59,8 @@ impl Ends {
         requires reached { chord_square self.now ≤ 4 * square }
         requires limit { square ≤ 4 * 10 ^ 18 }
         ensures value { result ≡ shifted (middle self.now)
-            (aside_point (side_of self.now.turn is_long) square (chord_square self.now) (chord self.now)) }
+            (aside_point (side_of self.now.turn is_long) square (chord_square self.now)
+            (chord self.now)) }
         ensures radii { HasRadiiInRange (arc_about self.now result) }
     {
         let middle = self.middle();

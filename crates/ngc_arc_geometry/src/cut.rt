@@ -3,7 +3,8 @@ ghost use Rattle.std.specs.Int.{int_min, int_max};
 ghost use Rattle.ngc_fixed_length.specs.Boxes.{grid_above, grid_below, is_below};
 ghost use Rattle.ngc_fixed_length.specs.Length.{IsStep};
 ghost use Rattle.ngc_arc_geometry.specs.Axes.{along};
-ghost use Rattle.ngc_arc_geometry.specs.CutArc.{share_quadrant, is_in_band, turns_on, passes_start, is_inner_cut, cut_follows, is_large, cut_box};
+ghost use Rattle.ngc_arc_geometry.specs.CutArc.{share_quadrant, is_in_band, turns_on, passes_start};
+ghost use Rattle.ngc_arc_geometry.specs.CutArc.{is_inner_cut, cut_follows, is_large, cut_box};
 ghost use Rattle.ngc_arc_geometry.specs.Swept.{margin};
 
 use crate::arc::Arc;
@@ -123,8 +124,12 @@ impl GridArc {
     /// The grid points along an axis of the plane between two points, with the margin on both
     /// sides.
     fn range_between(&self, axis: PlaneAxis, from: &Point2, to: &Point2) -> GridRange
-        ensures low { result.low ≡ grid_above self.now.step (int_min (along axis from.now) (along axis to.now) -ℤ margin self.now.step self.now.arc) }
-        ensures high { result.high ≡ grid_below self.now.step (int_max (along axis from.now) (along axis to.now) +ℤ margin self.now.step self.now.arc) }
+        ensures low { result.low ≡ grid_above self.now.step
+            (int_min (along axis from.now) (along axis to.now)
+            -ℤ margin self.now.step self.now.arc) }
+        ensures high { result.high ≡ grid_below self.now.step
+            (int_max (along axis from.now) (along axis to.now)
+            +ℤ margin self.now.step self.now.arc) }
     {
         let span = Span::between(axis.along(from), axis.along(to));
         GridRange::around(self.step, &span, self.margin())

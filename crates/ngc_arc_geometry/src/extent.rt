@@ -1,4 +1,5 @@
-ghost use Rattle.std.specs.Prelude.{◌≡◌, ◌*◌, ◌^◌, ◌<◌, ◌≤◌, pos, ◌≤ℤ◌, ◌+ℤ◌, ◌*ℤ◌, ◌-ℤ◌, unsigned_abs, fold, map, IsTrue};
+ghost use Rattle.std.specs.Prelude.{◌≡◌, ◌*◌, ◌^◌, ◌<◌, ◌≤◌, pos, ◌≤ℤ◌, ◌+ℤ◌, ◌*ℤ◌, ◌-ℤ◌};
+ghost use Rattle.std.specs.Prelude.{unsigned_abs, fold, map, IsTrue};
 ghost use Rattle.std.specs.Int.{int_min, int_max};
 ghost use Rattle.ngc_fixed_length.specs.Boxes.{grid_above, grid_below, is_below};
 ghost use Rattle.ngc_fixed_length.specs.Length.{IsStep};

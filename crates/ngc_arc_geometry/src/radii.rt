@@ -17,8 +17,10 @@ impl SquaredRadii {
     pub(crate) fn about(centre: &Way, start: &Point2, end: &Point2) -> SquaredRadii
         requires u { unsigned_abs centre.now.u ≤ 200000000000 }
         requires v { unsigned_abs centre.now.v ≤ 200000000000 }
-        ensures lesser { result.lesser ≡ min (squared_distance centre.now start.now) (squared_distance centre.now end.now) }
-        ensures greater { result.greater ≡ max (squared_distance centre.now start.now) (squared_distance centre.now end.now) }
+        ensures lesser { result.lesser ≡ min (squared_distance centre.now start.now)
+            (squared_distance centre.now end.now) }
+        ensures greater { result.greater ≡ max (squared_distance centre.now start.now)
+            (squared_distance centre.now end.now) }
     {
         let at_start = centre.to(start).square();
         let at_end = centre.to(end).square();

@@ -37,7 +37,8 @@ fn first_met(u: i64, v: i64) -> usize
 impl Arc {
     ghost use Rattle.ngc_arc_geometry.specs.Shape.{start_of, end_of};
     ghost use Rattle.ngc_arc_geometry.specs.CutArc.{is_end};
-    ghost use Rattle.ngc_arc_geometry.specs.Sector.{turn_from, is_ahead, same_direction, is_full, in_sector};
+    ghost use Rattle.ngc_arc_geometry.specs.Sector.{turn_from, is_ahead, same_direction, is_full};
+    ghost use Rattle.ngc_arc_geometry.specs.Sector.{in_sector};
 
     /// The start, by the plane's axes.
     pub(crate) fn start_in_plane(&self) -> Point2
@@ -117,12 +118,14 @@ impl Arc {
 }
 
 impl Arc {
-    ghost use Rattle.ngc_arc_geometry.specs.Sector.{quadrant_points, first_quadrant, quadrants_in_turn, extremes};
+    ghost use Rattle.ngc_arc_geometry.specs.Sector.{quadrant_points, first_quadrant};
+    ghost use Rattle.ngc_arc_geometry.specs.Sector.{quadrants_in_turn, extremes};
     ghost use Rattle.ngc_arc_geometry.specs.Radii.{outer_radius};
 
     /// The points at the outer radius on the plane's half axes, from u on in the sense of turning.
     fn quadrant_points(&self) -> [Point2; 4]
-        ensures { result ≡ quadrant_points self.now.turn self.now.centre (pos (outer_radius self.now)) }
+        ensures { result ≡ quadrant_points self.now.turn self.now.centre
+            (pos (outer_radius self.now)) }
     {
         let centre = self.centre();
         let radius = self.outer_radius() as i64;

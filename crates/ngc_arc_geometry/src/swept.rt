@@ -11,7 +11,8 @@ impl Arc {
     ghost use Rattle.ngc_arc_geometry.specs.Axes.{along};
     ghost use Rattle.ngc_arc_geometry.specs.Shape.{start_of};
     ghost use Rattle.ngc_arc_geometry.specs.Radii.{inner_radius, outer_radius};
-    ghost use Rattle.ngc_arc_geometry.specs.Swept.{margin, least, greatest, other_points, low_at, high_at, start_height, end_height, swept_box};
+    ghost use Rattle.ngc_arc_geometry.specs.Swept.{margin, least, greatest, other_points, low_at};
+    ghost use Rattle.ngc_arc_geometry.specs.Swept.{high_at, start_height, end_height, swept_box};
 
     /// By how much the rounded radii at start and end differ, in nanometres.
     fn radius_difference(&self) -> u64
@@ -39,7 +40,8 @@ impl Arc {
     /// of the plane.
     fn span_along(&self, axis: PlaneAxis) -> Span
         ensures low { result.low ≡ least (along axis) (start_of self.now) (other_points self.now) }
-        ensures high { result.high ≡ greatest (along axis) (start_of self.now) (other_points self.now) }
+        ensures high { result.high ≡ greatest (along axis) (start_of self.now)
+            (other_points self.now) }
         ensures low_bound { unsigned_abs result.low ≤ 10 ^ 11 }
         ensures high_bound { unsigned_abs result.high ≤ 10 ^ 11 }
     {
@@ -66,7 +68,8 @@ impl Arc {
     pub(crate) fn height_range(&self, step: Nm) -> GridRange
         requires { IsStep step }
         ensures low { result.low ≡ int_min (start_height step self.now) (end_height step self.now) }
-        ensures high { result.high ≡ int_max (start_height step self.now) (end_height step self.now) }
+        ensures high { result.high ≡ int_max (start_height step self.now)
+            (end_height step self.now) }
     {
         let start = self.start().height(self.plane()).to_grid(step);
         let end = self.end().height(self.plane()).to_grid(step);

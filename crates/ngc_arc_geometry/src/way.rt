@@ -140,7 +140,9 @@ impl Way {
 
     /// Whether both ways lead into one closed quadrant.
     pub(crate) fn shares_quadrant(&self, other: &Way) -> bool
-        ensures { result ≡ (int_le (pos 0) (self.now.u *ℤ other.now.u) && int_le (pos 0) (self.now.v *ℤ other.now.v)) }
+        ensures { result
+            ≡ (int_le (pos 0) (self.now.u *ℤ other.now.u)
+            && int_le (pos 0) (self.now.v *ℤ other.now.v)) }
     {
         0 <= product(self.u, other.u) && 0 <= product(self.v, other.v)
     }

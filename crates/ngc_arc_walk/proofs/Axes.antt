@@ -1,5 +1,6 @@
 -- The quadrant points of an arc, by quadrants from its start.
-use Rattle.std.proofs.Common.{◌≡◌, ℕ, zero, suc, ◌+◌, ◌-◌, ◌<◌, ◌≤◌, min, ℤ, pos, negsuc, ◌+ℤ◌, ◌-ℤ◌, neg_ℤ, inl, inr, List, [], ◌∷◌, filter, refl, sym, ◌∙◌, ap, subst, arith}
+use Rattle.std.proofs.Common.{◌≡◌, ℕ, zero, suc, ◌+◌, ◌-◌, ◌<◌, ◌≤◌, min, ℤ, pos, negsuc, ◌+ℤ◌, ◌-ℤ◌, neg_ℤ, inl, inr, List, [], ◌∷◌, filter, refl, sym, ◌∙◌}
+use Rattle.std.proofs.Common.{ap, subst, arith}
 use Rattle.std.specs.Prelude.{Bool, true, false}
 use Rattle.std.proofs.lemmas.Bool.{cases_lt}
 use Rattle.std.proofs.lemmas.Int.{ints}
@@ -78,7 +79,8 @@ first_is a b h =
 in_turn_from : (a : ArcShape) (q : Quadrant) → first_quadrant a ≡ number q → quadrants_in_turn a ≡ four_from a.turn a.centre q (outer_radius a)
 in_turn_from a q h = ap (λ n. rotated n (quadrant_points a.turn a.centre (pos (outer_radius a)))) h ∙ sym (four_points a.turn a.centre q (outer_radius a))
 
-in_turn : (a : ArcShape) (b : Spoke) → start_of a ≡ placed a b → 0 < b.x → (y : ℕ) → b.y ≡ y → quadrants_in_turn a ≡ axis_points a b (outer_radius a) (first_axis y) 4
+in_turn : (a : ArcShape) (b : Spoke) → start_of a ≡ placed a b → 0 < b.x → (y : ℕ) → b.y ≡ y →
+    quadrants_in_turn a ≡ axis_points a b (outer_radius a) (first_axis y) 4
 in_turn a b h bx zero e =
     in_turn_from a b.quadrant (first_is a b h ∙ ap (λ y. first_met (around b.quadrant b.x y).u (around b.quadrant b.x y).v) e ∙ met_on b.quadrant b.x bx)
 in_turn a b h bx (suc y) e =
@@ -96,7 +98,8 @@ axis_later : (j bx by r : ℕ) → (j ≡ 0 → by ≡ 0) → IsNoLater j bx by 
 axis_later zero bx by r h = let e = h refl in rw e (omega arith)
 axis_later (suc j) bx by r h = tt
 
-axis_in : (a : ArcShape) (b e : Spoke) (whole j : ℕ) → IsRound a b e whole → j ≤ whole → (j ≡ 0 → b.y ≡ 0) → in_sector a (placed a (axis_spoke b (outer_radius a) j)) ≡ true
+axis_in : (a : ArcShape) (b e : Spoke) (whole j : ℕ) → IsRound a b e whole → j ≤ whole → (j ≡ 0 → b.y ≡ 0) →
+    in_sector a (placed a (axis_spoke b (outer_radius a) j)) ≡ true
 axis_in a b e whole j r le first =
     let sum : j + (whole - j) ≡ whole = omega (arith, le) in
     let p = axis_spoke b (outer_radius a) j in
@@ -104,7 +107,8 @@ axis_in a b e whole j r le first =
     r.start_out (omega (arith, r.some_radius)) r.end_out (axis_later j b.x b.y (outer_radius a) first) (beside (whole - j) (outer_radius a) e.x e.y)
     (subst (λ k. IsATurn k b.x b.y e.x e.y) (sym sum) r.turn)
 
-axis_out : (a : ArcShape) (b e : Spoke) (whole j : ℕ) → IsRound a b e whole → whole < j → j ≤ 4 → (j ≡ 4 → 0 < b.y) → in_sector a (placed a (axis_spoke b (outer_radius a) j)) ≡ false
+axis_out : (a : ArcShape) (b e : Spoke) (whole j : ℕ) → IsRound a b e whole → whole < j → j ≤ 4 → (j ≡ 4 → 0 < b.y) →
+    in_sector a (placed a (axis_spoke b (outer_radius a) j)) ≡ false
 axis_out a b e whole j r less few last =
     out_of_round a b e (outer_radius a) j whole r.start r.end r.to_end less few last r.start_out r.end_out r.some_radius r.turn
 
@@ -123,7 +127,8 @@ kept_axes a b e whole (suc c) j r few first last =
           let none : min c (whole + 1 - suc j) ≡ 0 = omega (arith, out) in
           let none' : 0 ≡ min (suc c) (whole + 1 - j) = omega (arith, out) in
           dropped (in_sector a) p xs (axis_out a b e whole j r out (omega (arith, few)) (λ z. last (omega (arith, z))))
-          ∙ rest ∙ same_count a b (outer_radius a) (suc j) (min c (whole + 1 - suc j)) 0 none ∙ same_count a b (outer_radius a) j 0 (min (suc c) (whole + 1 - j)) none')
+          ∙ rest ∙ same_count a b (outer_radius a) (suc j) (min c (whole + 1 - suc j)) 0 none
+          ∙ same_count a b (outer_radius a) j 0 (min (suc c) (whole + 1 - j)) none')
       | inr inside ↦ (
           let more : suc (min c (whole + 1 - suc j)) ≡ min (suc c) (whole + 1 - j) = omega (arith, inside) in
           kept (in_sector a) p xs (axis_in a b e whole j r inside first) ∙ ap (λ ps. p ∷ ps) rest

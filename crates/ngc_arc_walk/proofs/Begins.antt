@@ -92,7 +92,8 @@ pub stands : (g p r : ℕ) (b j : Spoke) → IsJoined g p r b j → pos 0 ≤ℤ
 stands g p r b j h ahead = elim (four_ways b.quadrant j.quadrant) [
   | inl same ↦ (
       let m = moved_same b.quadrant g (p + 1) r b.x b.y j.x j.y (into g p r b.quadrant j.quadrant b.quadrant b.x b.y j.x j.y same h.moved) in
-      let c : cross (way_to b) (way_to j) ≡ pos (b.x * j.y) -ℤ pos (b.y * j.x) = ap (λ (z : Quadrant). cross (way_to b) (around z j.x j.y)) same ∙ cross_same b.quadrant b.x b.y j.x j.y in (
+      let c : cross (way_to b) (way_to j) ≡ pos (b.x * j.y) -ℤ pos (b.y * j.x) =
+      ap (λ (z : Quadrant). cross (way_to b) (around z j.x j.y)) same ∙ cross_same b.quadrant b.x b.y j.x j.y in (
         0,
         record {
           begins = same;
@@ -116,7 +117,8 @@ stands g p r b j h ahead = elim (four_ways b.quadrant j.quadrant) [
         },
       ))
   | inr (inr (inl opposite)) ↦ (
-      let m = moved_opposite b.quadrant g (p + 1) r b.x b.y j.x j.y (into g p r b.quadrant j.quadrant (following (following b.quadrant)) b.x b.y j.x j.y opposite h.moved) in
+      let m = moved_opposite b.quadrant g (p + 1) r b.x b.y j.x j.y
+      (into g p r b.quadrant j.quadrant (following (following b.quadrant)) b.x b.y j.x j.y opposite h.moved) in
       absurd (not_opposite g p r b.x b.y j.x j.y h.step h.far h.some h.round m.0 m.1))
   | inr (inr (inr before)) ↦ (
       let c : cross (way_to b) (way_to j) ≡ neg_ℤ (pos (b.x * j.x + b.y * j.y)) =
@@ -143,7 +145,8 @@ pub flat_is : (t : Bool) (bx by : ℕ) → t ≡ false → IsSteep t bx by → b
 flat_is false bx by e h = h
 flat_is true bx by e h = absurd (grind (arith, e))
 
-enters_same : (g limit p r : ℕ) (t : Bool) (b j : Spoke) (roll : Roll) → IsJoined g p r b j → j.quadrant ≡ b.quadrant → b.x * j.y < b.y * j.x → IsSteep t b.x b.y → g * g ≤ limit →
+enters_same : (g limit p r : ℕ) (t : Bool) (b j : Spoke) (roll : Roll) → IsJoined g p r b j → j.quadrant ≡ b.quadrant → b.x * j.y < b.y * j.x →
+    IsSteep t b.x b.y → g * g ≤ limit →
     IsJoint g (p + 1) r j.x b.x → IsJoint g (p + 1) r j.y b.y → IsEntry g limit t j roll → (begun : ℕ) × Begins g b (rolled g roll j) begun
 enters_same g limit p r t b j Over h same behind steep room mx my roll =
     let some : 0 < b.y = elim (cases_lt 0 b.y) [
@@ -224,18 +227,22 @@ enters_before g limit p r t b j Outward h before my mx roll = absurd (omega (ari
 enters_before g limit p r t b j Diagonal h before my mx roll = absurd (omega (arith, small_across g (p + 1) r b.y j.x (omega arith) mx, roll.0, h.step))
 enters_before g limit p r t b j Inward h before my mx roll = absurd (omega (arith, small_across g (p + 1) r b.y j.x (omega arith) mx, roll.1, h.step))
 
-pub enters : (g limit p r : ℕ) (t : Bool) (b j : Spoke) (roll : Roll) → IsJoined g p r b j → cross (way_to b) (way_to j) <ℤ pos 0 → (j.quadrant ≡ b.quadrant → IsSteep t b.x b.y) → g * g ≤ limit →
+pub enters : (g limit p r : ℕ) (t : Bool) (b j : Spoke) (roll : Roll) → IsJoined g p r b j → cross (way_to b) (way_to j) <ℤ pos 0 →
+    (j.quadrant ≡ b.quadrant → IsSteep t b.x b.y) → g * g ≤ limit →
     IsEntry g limit t j roll → (begun : ℕ) × Begins g b (rolled g roll j) begun
 enters g limit p r t b j roll h behind steep room entry = elim (four_ways b.quadrant j.quadrant) [
   | inl same ↦ (
       let m = moved_same b.quadrant g (p + 1) r b.x b.y j.x j.y (into g p r b.quadrant j.quadrant b.quadrant b.x b.y j.x j.y same h.moved) in
-      let c : cross (way_to b) (way_to j) ≡ pos (b.x * j.y) -ℤ pos (b.y * j.x) = ap (λ (z : Quadrant). cross (way_to b) (around z j.x j.y)) same ∙ cross_same b.quadrant b.x b.y j.x j.y in
+      let c : cross (way_to b) (way_to j) ≡ pos (b.x * j.y) -ℤ pos (b.y * j.x) =
+      ap (λ (z : Quadrant). cross (way_to b) (around z j.x j.y)) same ∙ cross_same b.quadrant b.x b.y j.x j.y in
       enters_same g limit p r t b j roll h same (omega (arith, ints, behind, c)) (steep same) room m.0 m.1 entry)
   | inr (inl next) ↦ (
-      let c : cross (way_to b) (way_to j) ≡ pos (b.x * j.x + b.y * j.y) = ap (λ (z : Quadrant). cross (way_to b) (around z j.x j.y)) next ∙ cross_next b.quadrant b.x b.y j.x j.y in
+      let c : cross (way_to b) (way_to j) ≡ pos (b.x * j.x + b.y * j.y) =
+      ap (λ (z : Quadrant). cross (way_to b) (around z j.x j.y)) next ∙ cross_next b.quadrant b.x b.y j.x j.y in
       absurd (omega (arith, ints, behind, c)))
   | inr (inr (inl opposite)) ↦ (
-      let m = moved_opposite b.quadrant g (p + 1) r b.x b.y j.x j.y (into g p r b.quadrant j.quadrant (following (following b.quadrant)) b.x b.y j.x j.y opposite h.moved) in
+      let m = moved_opposite b.quadrant g (p + 1) r b.x b.y j.x j.y
+      (into g p r b.quadrant j.quadrant (following (following b.quadrant)) b.x b.y j.x j.y opposite h.moved) in
       absurd (not_opposite g p r b.x b.y j.x j.y h.step h.far h.some h.round m.0 m.1))
   | inr (inr (inr before)) ↦ (
       let m = moved_before j.quadrant g (p + 1) r b.x b.y j.x j.y (from g p r b.quadrant j.quadrant (following j.quadrant) b.x b.y j.x j.y before h.moved) in

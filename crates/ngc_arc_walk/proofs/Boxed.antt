@@ -1,5 +1,6 @@
 -- A point between the rays of an arc, near its circles, is in a box round the arc's ends and quadrant points.
-use Rattle.std.proofs.Common.{◌≡◌, ℕ, zero, suc, ◌+◌, ◌-◌, ◌*◌, ◌<◌, ◌≤◌, ℤ, pos, ◌+ℤ◌, ◌-ℤ◌, ◌≤ℤ◌, neg_ℤ, List, [], ◌∷◌, fold, map, min, inl, inr, refl, sym, ◌∙◌, ap, subst, arith}
+use Rattle.std.proofs.Common.{◌≡◌, ℕ, zero, suc, ◌+◌, ◌-◌, ◌*◌, ◌<◌, ◌≤◌, ℤ, pos, ◌+ℤ◌, ◌-ℤ◌, ◌≤ℤ◌, neg_ℤ, List, [], ◌∷◌, fold, map, min, inl, inr, refl, sym}
+use Rattle.std.proofs.Common.{◌∙◌, ap, subst, arith}
 use Rattle.std.specs.Int.{int_min, int_max}
 use Rattle.std.proofs.lemmas.Bool.{cases_lt}
 use Rattle.std.proofs.lemmas.Int.{ints, clamps}
@@ -40,7 +41,8 @@ from_below x r h =
       | inl more ↦ (let a = square_le (r + 1) x (omega (arith, more)) in absurd (omega (arith, a, h)))
     ]
 
-pub not_beyond : (x y bx by low m : ℕ) → x * by ≤ y * bx → x * x + y * y ≤ (low + m) * (low + m) → low * low ≤ bx * bx + by * by → bx ≤ low → 0 < low → x ≤ bx + m
+pub not_beyond : (x y bx by low m : ℕ) → x * by ≤ y * bx → x * x + y * y ≤ (low + m) * (low + m) → low * low ≤ bx * bx + by * by → bx ≤ low →
+    0 < low → x ≤ bx + m
 not_beyond x y bx by low m past near round inside some =
     let a = beyond x y bx by past in
     let b = mul-le-mul_left (x * x) round in
@@ -99,7 +101,8 @@ end_held a = record {
   high = λ f. (let rest = max_above (int_max (f (start_of a)) (f (end_of a))) (map f (extremes a)) in omega (arith, ints, clamps, rest));
 }
 
-axis_low : (a : ArcShape) (b : Spoke) (r n c d : ℕ) (f : Point2 → ℤ) (x : ℤ) → d < c → fold int_min x (map f (axis_points a b r n c)) ≤ℤ f (placed a (axis_spoke b r (n + d)))
+axis_low : (a : ArcShape) (b : Spoke) (r n c d : ℕ) (f : Point2 → ℤ) (x : ℤ) → d < c →
+    fold int_min x (map f (axis_points a b r n c)) ≤ℤ f (placed a (axis_spoke b r (n + d)))
 axis_low a b r n zero d f x less = absurd (omega (arith, less))
 axis_low a b r n (suc c) zero f x less =
     let e : n ≡ n + 0 = omega arith in
@@ -111,7 +114,8 @@ axis_low a b r n (suc c) (suc d) f x less =
     subst (λ t. fold int_min x (map f (axis_points a b r n (suc c))) ≤ℤ f (placed a (axis_spoke b r t))) e
     (axis_low a b r (suc n) c d f (int_min x (f (placed a (axis_spoke b r n)))) (omega (arith, less)))
 
-axis_high : (a : ArcShape) (b : Spoke) (r n c d : ℕ) (f : Point2 → ℤ) (x : ℤ) → d < c → f (placed a (axis_spoke b r (n + d))) ≤ℤ fold int_max x (map f (axis_points a b r n c))
+axis_high : (a : ArcShape) (b : Spoke) (r n c d : ℕ) (f : Point2 → ℤ) (x : ℤ) → d < c →
+    f (placed a (axis_spoke b r (n + d))) ≤ℤ fold int_max x (map f (axis_points a b r n c))
 axis_high a b r n zero d f x less = absurd (omega (arith, less))
 axis_high a b r n (suc c) zero f x less =
     let e : n ≡ n + 0 = omega arith in
@@ -127,7 +131,8 @@ whole_turn : (b : Spoke) (r : ℕ) → axis_spoke b r 4 ≡ axis_spoke b r 0
 whole_turn b r = ap (λ (q : Quadrant). record { quadrant = q; x = r; y = 0 }) (four_on b.quadrant)
 
 -- a half axis that lies between start and end
-pub axis_held : (a : ArcShape) (b e : Spoke) (whole i : ℕ) → IsRound a b e whole → first_axis b.y ≤ i → i ≤ whole → whole ≤ 4 → IsInHull a (placed a (axis_spoke b (outer_radius a) i))
+pub axis_held : (a : ArcShape) (b e : Spoke) (whole i : ℕ) → IsRound a b e whole → first_axis b.y ≤ i → i ≤ whole → whole ≤ 4 →
+    IsInHull a (placed a (axis_spoke b (outer_radius a) i))
 axis_held a b e whole i way from to few =
     let r = outer_radius a in
     let n = first_axis b.y in
@@ -141,28 +146,33 @@ axis_held a b e whole i way from to few =
             low = λ f. (
                 let x = int_min (f (start_of a)) (f (end_of a)) in
                 let h = axis_low a b r n c d f x (omega (arith, less, to, from)) in
-                subst (λ t. fold int_min x (map f (extremes a)) ≤ℤ f (placed a (axis_spoke b r t))) sum (subst (λ ps. fold int_min x (map f ps) ≤ℤ f (placed a (axis_spoke b r (n + d)))) (sym same) h));
+                subst (λ t. fold int_min x (map f (extremes a)) ≤ℤ f (placed a (axis_spoke b r t))) sum
+                (subst (λ ps. fold int_min x (map f ps) ≤ℤ f (placed a (axis_spoke b r (n + d)))) (sym same) h));
             high = λ f. (
                 let x = int_max (f (start_of a)) (f (end_of a)) in
                 let h = axis_high a b r n c d f x (omega (arith, less, to, from)) in
-                subst (λ t. f (placed a (axis_spoke b r t)) ≤ℤ fold int_max x (map f (extremes a))) sum (subst (λ ps. f (placed a (axis_spoke b r (n + d))) ≤ℤ fold int_max x (map f ps)) (sym same) h));
+                subst (λ t. f (placed a (axis_spoke b r t)) ≤ℤ fold int_max x (map f (extremes a))) sum
+                (subst (λ ps. f (placed a (axis_spoke b r (n + d))) ≤ℤ fold int_max x (map f ps)) (sym same) h));
           })
       | inr more ↦ (
           let z : n ≡ 0 = omega (arith, more, to, few) in
           let last : 4 ≡ i = omega (arith, more, to, few) in
           let sum : n + 0 ≡ 0 = omega (arith, z) in
-          let back : placed a (axis_spoke b r 0) ≡ placed a (axis_spoke b r i) = ap (λ (s : Spoke). placed a s) (sym (whole_turn b r) ∙ ap (λ t. axis_spoke b r t) last) in
+          let back : placed a (axis_spoke b r 0) ≡ placed a (axis_spoke b r i) =
+          ap (λ (s : Spoke). placed a s) (sym (whole_turn b r) ∙ ap (λ t. axis_spoke b r t) last) in
           record {
             low = λ f. (
                 let x = int_min (f (start_of a)) (f (end_of a)) in
                 let h = axis_low a b r n c 0 f x (omega (arith, z, last, to)) in
                 subst (λ p. fold int_min x (map f (extremes a)) ≤ℤ f p) back
-                (subst (λ t. fold int_min x (map f (extremes a)) ≤ℤ f (placed a (axis_spoke b r t))) sum (subst (λ ps. fold int_min x (map f ps) ≤ℤ f (placed a (axis_spoke b r (n + 0)))) (sym same) h)));
+                (subst (λ t. fold int_min x (map f (extremes a)) ≤ℤ f (placed a (axis_spoke b r t))) sum
+                (subst (λ ps. fold int_min x (map f ps) ≤ℤ f (placed a (axis_spoke b r (n + 0)))) (sym same) h)));
             high = λ f. (
                 let x = int_max (f (start_of a)) (f (end_of a)) in
                 let h = axis_high a b r n c 0 f x (omega (arith, z, last, to)) in
                 subst (λ p. f p ≤ℤ fold int_max x (map f (extremes a))) back
-                (subst (λ t. f (placed a (axis_spoke b r t)) ≤ℤ fold int_max x (map f (extremes a))) sum (subst (λ ps. f (placed a (axis_spoke b r (n + 0))) ≤ℤ fold int_max x (map f ps)) (sym same) h)));
+                (subst (λ t. f (placed a (axis_spoke b r t)) ≤ℤ fold int_max x (map f (extremes a))) sum
+                (subst (λ ps. f (placed a (axis_spoke b r (n + 0))) ≤ℤ fold int_max x (map f ps)) (sym same) h)));
           })
     ]
 
@@ -175,25 +185,29 @@ pub record IsBetweenBoth (x y x0 y0 x1 y1 m : ℕ) : Type 0 where
   pub near : x1 ≤ x + m
   pub below : y ≤ y1 + m
 
-low_u : (q : Quadrant) (x y x0 y0 x1 y1 m : ℕ) (l : ℤ) → IsBetweenBoth x y x0 y0 x1 y1 m → l ≤ℤ (around q x0 y0).u → l ≤ℤ (around q x1 y1).u → (l -ℤ pos m) ≤ℤ (around q x y).u
+low_u : (q : Quadrant) (x y x0 y0 x1 y1 m : ℕ) (l : ℤ) → IsBetweenBoth x y x0 y0 x1 y1 m → l ≤ℤ (around q x0 y0).u → l ≤ℤ (around q x1 y1).u →
+    (l -ℤ pos m) ≤ℤ (around q x y).u
 low_u First x y x0 y0 x1 y1 m l h a b = omega (arith, ints, h.near, b)
 low_u Second x y x0 y0 x1 y1 m l h a b = let e = neg_is (pos y) in let f = neg_is (pos y1) in omega (arith, ints, h.below, b, e, f)
 low_u Third x y x0 y0 x1 y1 m l h a b = let e = neg_is (pos x) in let f = neg_is (pos x0) in omega (arith, ints, h.far, a, e, f)
 low_u Fourth x y x0 y0 x1 y1 m l h a b = omega (arith, ints, h.above, a)
 
-high_u : (q : Quadrant) (x y x0 y0 x1 y1 m : ℕ) (l : ℤ) → IsBetweenBoth x y x0 y0 x1 y1 m → (around q x0 y0).u ≤ℤ l → (around q x1 y1).u ≤ℤ l → (around q x y).u ≤ℤ (l +ℤ pos m)
+high_u : (q : Quadrant) (x y x0 y0 x1 y1 m : ℕ) (l : ℤ) → IsBetweenBoth x y x0 y0 x1 y1 m → (around q x0 y0).u ≤ℤ l → (around q x1 y1).u ≤ℤ l →
+    (around q x y).u ≤ℤ (l +ℤ pos m)
 high_u First x y x0 y0 x1 y1 m l h a b = omega (arith, ints, h.far, a)
 high_u Second x y x0 y0 x1 y1 m l h a b = let e = neg_is (pos y) in let f = neg_is (pos y0) in omega (arith, ints, h.above, a, e, f)
 high_u Third x y x0 y0 x1 y1 m l h a b = let e = neg_is (pos x) in let f = neg_is (pos x1) in omega (arith, ints, h.near, b, e, f)
 high_u Fourth x y x0 y0 x1 y1 m l h a b = omega (arith, ints, h.below, b)
 
-low_v : (q : Quadrant) (x y x0 y0 x1 y1 m : ℕ) (l : ℤ) → IsBetweenBoth x y x0 y0 x1 y1 m → l ≤ℤ (around q x0 y0).v → l ≤ℤ (around q x1 y1).v → (l -ℤ pos m) ≤ℤ (around q x y).v
+low_v : (q : Quadrant) (x y x0 y0 x1 y1 m : ℕ) (l : ℤ) → IsBetweenBoth x y x0 y0 x1 y1 m → l ≤ℤ (around q x0 y0).v → l ≤ℤ (around q x1 y1).v →
+    (l -ℤ pos m) ≤ℤ (around q x y).v
 low_v First x y x0 y0 x1 y1 m l h a b = omega (arith, ints, h.above, a)
 low_v Second x y x0 y0 x1 y1 m l h a b = omega (arith, ints, h.near, b)
 low_v Third x y x0 y0 x1 y1 m l h a b = let e = neg_is (pos y) in let f = neg_is (pos y1) in omega (arith, ints, h.below, b, e, f)
 low_v Fourth x y x0 y0 x1 y1 m l h a b = let e = neg_is (pos x) in let f = neg_is (pos x0) in omega (arith, ints, h.far, a, e, f)
 
-high_v : (q : Quadrant) (x y x0 y0 x1 y1 m : ℕ) (l : ℤ) → IsBetweenBoth x y x0 y0 x1 y1 m → (around q x0 y0).v ≤ℤ l → (around q x1 y1).v ≤ℤ l → (around q x y).v ≤ℤ (l +ℤ pos m)
+high_v : (q : Quadrant) (x y x0 y0 x1 y1 m : ℕ) (l : ℤ) → IsBetweenBoth x y x0 y0 x1 y1 m → (around q x0 y0).v ≤ℤ l → (around q x1 y1).v ≤ℤ l →
+    (around q x y).v ≤ℤ (l +ℤ pos m)
 high_v First x y x0 y0 x1 y1 m l h a b = omega (arith, ints, h.below, b)
 high_v Second x y x0 y0 x1 y1 m l h a b = omega (arith, ints, h.far, a)
 high_v Third x y x0 y0 x1 y1 m l h a b = let e = neg_is (pos y) in let f = neg_is (pos y0) in omega (arith, ints, h.above, a, e, f)
@@ -243,10 +257,12 @@ near_hull Clockwise c q x y x0 y0 x1 y1 m lu hu lv hv h p0 p1 =
     )
 
 pub held_between : (a : ArcShape) (s : Spoke) (x0 y0 x1 y1 m : ℕ) → IsBetweenBoth s.x s.y x0 y0 x1 y1 m →
-    IsInHull a (placed a (record { quadrant = s.quadrant; x = x0; y = y0 })) → IsInHull a (placed a (record { quadrant = s.quadrant; x = x1; y = y1 })) → IsNearHull a m (placed a s)
+    IsInHull a (placed a (record { quadrant = s.quadrant; x = x0; y = y0 })) → IsInHull a (placed a (record { quadrant = s.quadrant; x = x1; y = y1 })) →
+    IsNearHull a m (placed a s)
 held_between a s x0 y0 x1 y1 m h p q =
     let near = near_hull a.turn a.centre s.quadrant s.x s.y x0 y0 x1 y1 m
-    (least first_of (start_of a) (other_points a)) (greatest first_of (start_of a) (other_points a)) (least second_of (start_of a) (other_points a)) (greatest second_of (start_of a) (other_points a)) h
+    (least first_of (start_of a) (other_points a)) (greatest first_of (start_of a) (other_points a)) (least second_of (start_of a) (other_points a))
+    (greatest second_of (start_of a) (other_points a)) h
     (p.low first_of, p.high first_of, p.low second_of, p.high second_of) (q.low first_of, q.high first_of, q.low second_of, q.high second_of) in
     record { low_u = near.0; high_u = near.1; low_v = near.2; high_v = near.3 }
 
@@ -268,7 +284,8 @@ pub record IsEnd (a : ArcShape) (x y root : ℕ) : Type 0 where
   pub some : 0 < root
 
 -- along the first half axis a point past the ray b isn't far beyond b, and along the second it isn't far behind
-past_ray : (a : ArcShape) (g r : ℕ) (s : Spoke) (bx by root : ℕ) → IsNearBand a g r s → IsEnd a bx by root → by * s.x ≤ bx * s.y → (s.x ≤ bx + (2 * g + spread a)) × (by ≤ s.y + (2 * g + spread a))
+past_ray : (a : ArcShape) (g r : ℕ) (s : Spoke) (bx by root : ℕ) → IsNearBand a g r s → IsEnd a bx by root → by * s.x ≤ bx * s.y →
+    (s.x ≤ bx + (2 * g + spread a)) × (by ≤ s.y + (2 * g + spread a))
 past_ray a g r s bx by root band end past =
     let m = 2 * g + spread a in
     let within = from_below bx root (omega (arith, end.high)) in
@@ -281,26 +298,38 @@ past_ray a g r s bx by root band end past =
 -- of a point that is so many quadrants on from the start's and before the end's: the half axis behind it, or the start
 behind_it : (a : ArcShape) (g r : ℕ) (b e s : Spoke) (whole here root : ℕ) → IsRound a b e whole → whole ≤ 4 → IsNearBand a g r s → IsEnd a b.x b.y root →
     s.quadrant ≡ turned_by here b.quadrant → here ≤ whole → IsNoLater here b.x b.y s.x s.y →
-    (x0 : ℕ) × (y0 : ℕ) × (s.x ≤ x0 + (2 * g + spread a)) × (y0 ≤ s.y + (2 * g + spread a)) × IsInHull a (placed a (record { quadrant = s.quadrant; x = x0; y = y0 }))
+    (x0 : ℕ) × (y0 : ℕ) × (s.x ≤ x0 + (2 * g + spread a)) × (y0 ≤ s.y + (2 * g + spread a)) ×
+    IsInHull a (placed a (record { quadrant = s.quadrant; x = x0; y = y0 }))
 behind_it a g r b e s whole here root way few band end at le past =
     elim (cases_lt here (first_axis b.y)) [
       | inl before ↦ (
           let none : here ≡ 0 = omega (arith, before, at_most_one b.y) in
           let same : s.quadrant ≡ b.quadrant = at ∙ ap (λ m. turned_by m b.quadrant) none in
           let past' : by_zero b.x b.y s.x s.y = subst (λ m. IsNoLater m b.x b.y s.x s.y) none past in
-          let h = past_ray a g r s b.x b.y root band end past' in
-          (b.x, b.y, h.0, h.1, subst (λ p. IsInHull a p) (way.start ∙ ap (λ (q : Quadrant). placed a (record { quadrant = q; x = b.x; y = b.y })) (sym same)) (start_held a)))
+          let h = past_ray a g r s b.x b.y root band end past' in (
+            b.x,
+            b.y,
+            h.0,
+            h.1,
+            subst (λ p. IsInHull a p) (way.start ∙ ap (λ (q : Quadrant). placed a (record { quadrant = q; x = b.x; y = b.y })) (sym same)) (start_held a),
+          ))
       | inr reached ↦ (
           let r' = outer_radius a in
           let held = axis_held a b e whole here way reached le few in
-          let x = from_squares s.x (r + 2 * g) (omega (arith, band.below)) in
-          (r', 0, omega (arith, x, band.outside), omega arith, subst (λ (q : Quadrant). IsInHull a (placed a (record { quadrant = q; x = r'; y = 0 }))) (sym at) held))
+          let x = from_squares s.x (r + 2 * g) (omega (arith, band.below)) in (
+            r',
+            0,
+            omega (arith, x, band.outside),
+            omega arith,
+            subst (λ (q : Quadrant). IsInHull a (placed a (record { quadrant = q; x = r'; y = 0 }))) (sym at) held,
+          ))
     ]
 
 -- and the half axis ahead of it, or the end
 ahead_of_it : (a : ArcShape) (g r : ℕ) (b e s : Spoke) (whole here root : ℕ) → IsRound a b e whole → whole ≤ 4 → IsNearBand a g r s → IsEnd a e.x e.y root →
     s.quadrant ≡ turned_by here b.quadrant → here ≤ whole → IsNoLater (whole - here) s.x s.y e.x e.y →
-    (x1 : ℕ) × (y1 : ℕ) × (x1 ≤ s.x + (2 * g + spread a)) × (s.y ≤ y1 + (2 * g + spread a)) × IsInHull a (placed a (record { quadrant = s.quadrant; x = x1; y = y1 }))
+    (x1 : ℕ) × (y1 : ℕ) × (x1 ≤ s.x + (2 * g + spread a)) × (s.y ≤ y1 + (2 * g + spread a)) ×
+    IsInHull a (placed a (record { quadrant = s.quadrant; x = x1; y = y1 }))
 ahead_of_it a g r b e s whole here root way few band end at le before =
     elim (cases_lt here whole) [
       | inr last ↦ (
@@ -309,21 +338,36 @@ ahead_of_it a g r b e s whole here root way few band end at le before =
           let there : e.quadrant ≡ s.quadrant = way.to_end ∙ sym (at ∙ ap (λ m. turned_by m b.quadrant) same) in
           let before' : by_zero s.x s.y e.x e.y = subst (λ m. IsNoLater m s.x s.y e.x e.y) none before in
           let flipped : Spoke = record { quadrant = s.quadrant; x = s.y; y = s.x } in
-          let turned : IsNearBand a g r flipped = record { inside = band.inside; outside = band.outside; below = omega (arith, band.below); above = omega (arith, band.above) } in
-          let turned_end : IsEnd a e.y e.x root = record { low = omega (arith, end.low); high = omega (arith, end.high); inner = end.inner; outer = omega (arith, end.outer); some = end.some } in
-          let h = past_ray a g r flipped e.y e.x root turned turned_end (omega (arith, before')) in
-          (e.x, e.y, h.1, h.0, subst (λ p. IsInHull a p) (way.end ∙ ap (λ (q : Quadrant). placed a (record { quadrant = q; x = e.x; y = e.y })) there) (end_held a)))
+          let turned : IsNearBand a g r flipped =
+          record { inside = band.inside; outside = band.outside; below = omega (arith, band.below); above = omega (arith, band.above) } in
+          let turned_end : IsEnd a e.y e.x root =
+          record { low = omega (arith, end.low); high = omega (arith, end.high); inner = end.inner; outer = omega (arith, end.outer); some = end.some } in
+          let h = past_ray a g r flipped e.y e.x root turned turned_end (omega (arith, before')) in (
+            e.x,
+            e.y,
+            h.1,
+            h.0,
+            subst (λ p. IsInHull a p) (way.end ∙ ap (λ (q : Quadrant). placed a (record { quadrant = q; x = e.x; y = e.y })) there) (end_held a),
+          ))
       | inl more ↦ (
           let r' = outer_radius a in
           let held = axis_held a b e whole (suc here) way (omega (arith, at_most_one b.y)) (omega (arith, more)) few in
           let y = from_squares s.y (r + 2 * g) (omega (arith, band.below)) in
           let next : following s.quadrant ≡ turned_by (suc here) b.quadrant = ap following at in
-          let axis : IsInHull a (placed a (record { quadrant = following s.quadrant; x = r'; y = 0 })) = subst (λ (q : Quadrant). IsInHull a (placed a (record { quadrant = q; x = r'; y = 0 }))) (sym next) held in
-          (0, r', omega arith, omega (arith, y, band.outside), subst (λ (p : Point2). IsInHull a (shifted a.centre (mirrored a.turn p))) (sym (same_axis s.quadrant r')) axis))
+          let axis : IsInHull a (placed a (record { quadrant = following s.quadrant; x = r'; y = 0 })) =
+          subst (λ (q : Quadrant). IsInHull a (placed a (record { quadrant = q; x = r'; y = 0 }))) (sym next) held in (
+            0,
+            r',
+            omega arith,
+            omega (arith, y, band.outside),
+            subst (λ (p : Point2). IsInHull a (shifted a.centre (mirrored a.turn p))) (sym (same_axis s.quadrant r')) axis,
+          ))
     ]
 
-pub between_rays : (a : ArcShape) (g r : ℕ) (b e s : Spoke) (whole here first last : ℕ) → IsRound a b e whole → whole ≤ 4 → IsNearBand a g r s → IsEnd a b.x b.y first → IsEnd a e.x e.y last →
-    s.quadrant ≡ turned_by here b.quadrant → here ≤ whole → IsNoLater here b.x b.y s.x s.y → IsNoLater (whole - here) s.x s.y e.x e.y → IsNearHull a (2 * g + spread a) (placed a s)
+pub between_rays : (a : ArcShape) (g r : ℕ) (b e s : Spoke) (whole here first last : ℕ) → IsRound a b e whole → whole ≤ 4 → IsNearBand a g r s →
+    IsEnd a b.x b.y first → IsEnd a e.x e.y last →
+    s.quadrant ≡ turned_by here b.quadrant → here ≤ whole → IsNoLater here b.x b.y s.x s.y → IsNoLater (whole - here) s.x s.y e.x e.y →
+    IsNearHull a (2 * g + spread a) (placed a s)
 between_rays a g r b e s whole here first last way few band start end at le past before =
     let p = behind_it a g r b e s whole here first way few band start at le past in
     let q = ahead_of_it a g r b e s whole here last way few band end at le before in

@@ -13,7 +13,13 @@ use Rattle.ngc_wheel.specs.Rolling.{spoke_at, quadrant_at}
 use Rattle.ngc_wheel.proofs.Wheeling.{wheel_rolls}
 
 abbrev circle : ArcShape
-circle = record { plane = XY; turn = Clockwise; start = record { x = pos 4000; y = pos 0; z = pos 0 }; end = record { x = pos 4000; y = pos 0; z = pos 0 }; centre = record { u = pos 0; v = pos 0 } }
+circle = record {
+  plane = XY;
+  turn = Clockwise;
+  start = record { x = pos 4000; y = pos 0; z = pos 0 };
+  end = record { x = pos 4000; y = pos 0; z = pos 0 };
+  centre = record { u = pos 0; v = pos 0 };
+}
 
 abbrev east : Spoke
 east = record { quadrant = First; x = 4000; y = 0 }
@@ -47,6 +53,7 @@ all_round = record {
   ends = inr (refl, omega arith);
 }
 
-four : extremes circle ≡ placed circle (record { quadrant = First; x = 4000; y = 0 }) ∷ record { u = pos 0; v = negsuc 3999 } ∷ record { u = negsuc 3999; v = pos 0 } ∷ record { u = pos 0; v = pos 4000 } ∷ []
+four : extremes circle ≡ placed circle (record { quadrant = First; x = 4000; y = 0 }) ∷ record { u = pos 0; v = negsuc 3999 }
+    ∷ record { u = negsuc 3999; v = pos 0 } ∷ record { u = pos 0; v = pos 4000 } ∷ []
 unfolding whole_root whole_root_above
 four = refl

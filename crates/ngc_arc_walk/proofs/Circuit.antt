@@ -37,13 +37,16 @@ gap x z = unsigned_abs (pos z -ℤ pos x)
 squares : (p q : ℤ) (m n : ℕ) → unsigned_abs p ≡ m → unsigned_abs q ≡ n → unsigned_abs ((p *ℤ p) +ℤ (q *ℤ q)) ≡ m * m + n * n
 squares p q m n hp hq = square_sum p q ∙ ap (λ t. t * t + unsigned_abs q * unsigned_abs q) hp ∙ ap (λ t. m * m + t * t) hq
 
-placed_apart : (t : Turn) (c d e : Point2) → squared_distance (shifted c (mirrored t d)) (shifted c (mirrored t e)) ≡ unsigned_abs (e.u -ℤ d.u) * unsigned_abs (e.u -ℤ d.u) + unsigned_abs (e.v -ℤ d.v) * unsigned_abs (e.v -ℤ d.v)
+placed_apart : (t : Turn) (c d e : Point2) → squared_distance (shifted c (mirrored t d)) (shifted c (mirrored t e))
+    ≡ unsigned_abs (e.u -ℤ d.u) * unsigned_abs (e.u -ℤ d.u) + unsigned_abs (e.v -ℤ d.v) * unsigned_abs (e.v -ℤ d.v)
 placed_apart Counterclockwise c d e =
-    squares ((c.u +ℤ e.u) -ℤ (c.u +ℤ d.u)) ((c.v +ℤ e.v) -ℤ (c.v +ℤ d.v)) (unsigned_abs (e.u -ℤ d.u)) (unsigned_abs (e.v -ℤ d.v)) (omega (arith, ints)) (omega (arith, ints))
+    squares ((c.u +ℤ e.u) -ℤ (c.u +ℤ d.u)) ((c.v +ℤ e.v) -ℤ (c.v +ℤ d.v)) (unsigned_abs (e.u -ℤ d.u)) (unsigned_abs (e.v -ℤ d.v)) (omega (arith, ints))
+    (omega (arith, ints))
 placed_apart Clockwise c d e =
     let f = neg_is d.v in
     let g = neg_is e.v in
-    squares ((c.u +ℤ e.u) -ℤ (c.u +ℤ d.u)) ((c.v +ℤ neg_ℤ e.v) -ℤ (c.v +ℤ neg_ℤ d.v)) (unsigned_abs (e.u -ℤ d.u)) (unsigned_abs (e.v -ℤ d.v)) (omega (arith, ints)) (omega (arith, ints, f.0, f.1, g.0, g.1))
+    squares ((c.u +ℤ e.u) -ℤ (c.u +ℤ d.u)) ((c.v +ℤ neg_ℤ e.v) -ℤ (c.v +ℤ neg_ℤ d.v)) (unsigned_abs (e.u -ℤ d.u)) (unsigned_abs (e.v -ℤ d.v))
+    (omega (arith, ints)) (omega (arith, ints, f.0, f.1, g.0, g.1))
 
 two_squares : (p q : ℤ) (m n : ℕ) → unsigned_abs p ≡ m → unsigned_abs q ≡ n → unsigned_abs p * unsigned_abs p + unsigned_abs q * unsigned_abs q ≡ m * m + n * n
 two_squares p q m n hp hq = ap (λ t. t * t + unsigned_abs q * unsigned_abs q) hp ∙ ap (λ t. m * m + t * t) hq
@@ -56,17 +59,20 @@ around_apart Second x y z w =
     two_squares (neg_ℤ (pos w) -ℤ neg_ℤ (pos y)) (pos z -ℤ pos x) (gap y w) (gap x z) (omega (arith, ints, f.0, f.1, g.0, g.1)) refl ∙ omega arith
 around_apart Third x y z w =
     let f = neg_is (pos y) in let g = neg_is (pos w) in let h = neg_is (pos x) in let i = neg_is (pos z) in
-    two_squares (neg_ℤ (pos z) -ℤ neg_ℤ (pos x)) (neg_ℤ (pos w) -ℤ neg_ℤ (pos y)) (gap x z) (gap y w) (omega (arith, ints, h.0, h.1, i.0, i.1)) (omega (arith, ints, f.0, f.1, g.0, g.1))
+    two_squares (neg_ℤ (pos z) -ℤ neg_ℤ (pos x)) (neg_ℤ (pos w) -ℤ neg_ℤ (pos y)) (gap x z) (gap y w) (omega (arith, ints, h.0, h.1, i.0, i.1))
+    (omega (arith, ints, f.0, f.1, g.0, g.1))
 around_apart Fourth x y z w =
     let h = neg_is (pos x) in let i = neg_is (pos z) in
     two_squares (pos w -ℤ pos y) (neg_ℤ (pos z) -ℤ neg_ℤ (pos x)) (gap y w) (gap x z) refl (omega (arith, ints, h.0, h.1, i.0, i.1)) ∙ omega arith
 
-pub spokes_apart : (a : ArcShape) (s : Spoke) (z w : ℕ) → squared_distance (placed a s) (placed a (record { quadrant = s.quadrant; x = z; y = w })) ≡ gap s.x z * gap s.x z + gap s.y w * gap s.y w
+pub spokes_apart : (a : ArcShape) (s : Spoke) (z w : ℕ) → squared_distance (placed a s) (placed a (record { quadrant = s.quadrant; x = z; y = w }))
+    ≡ gap s.x z * gap s.x z + gap s.y w * gap s.y w
 spokes_apart a s z w = placed_apart a.turn a.centre (around s.quadrant s.x s.y) (around s.quadrant z w) ∙ around_apart s.quadrant s.x s.y z w
 
 -- ---- near an axis a point is at most a step farther in or out than the radius of its wheel
 
-pub along_axis : (g q h k l v x y : ℕ) → IsRim g q h k l v → v * v ≤ x * x + y * y + g * g → x * x + y * y ≤ limit_of q l + g * g → y ≤ g → (q + 1 ≤ x + g) × (x ≤ q + 1 + g)
+pub along_axis : (g q h k l v x y : ℕ) → IsRim g q h k l v → v * v ≤ x * x + y * y + g * g → x * x + y * y ≤ limit_of q l + g * g → y ≤ g →
+    (q + 1 ≤ x + g) × (x ≤ q + 1 + g)
 along_axis g q h k l v x y r above below near =
     let m = g - l in
     let em : m + l ≡ g = omega (arith, r.l_high) in
@@ -126,12 +132,14 @@ pub record IsCircuit (a : ArcShape) (g q h k l v n : ℕ) (at : ℕ → Spoke) (
   pub beside : first_axis b.y ≤ begun → (at 0).y ≤ g
   pub ends : (quadrant n ≡ left) ⊎ ((quadrant n + 1 ≡ left) × ((at n).x < g))
 
-pub below_on : (a : ArcShape) (g q h k l v n : ℕ) (at : ℕ → Spoke) (quadrant : ℕ → ℕ) (b e : Spoke) (begun left i : ℕ) → IsCircuit a g q h k l v n at quadrant b e begun left → i ≤ n → IsBelow g (limit_of q l) (at i)
+pub below_on : (a : ArcShape) (g q h k l v n : ℕ) (at : ℕ → Spoke) (quadrant : ℕ → ℕ) (b e : Spoke) (begun left i : ℕ) →
+    IsCircuit a g q h k l v n at quadrant b e begun left → i ≤ n → IsBelow g (limit_of q l) (at i)
 below_on a g q h k l v n at quadrant b e begun left i c le =
     let more = limit_grows g q h k l v c.rim in
     all_below g (limit_of q h) (limit_of q l) n at quadrant i c.walk.rolling more (omega (arith, more, wide_limit g q h k l v c.rim)) c.below le
 
-pub above_on : (a : ArcShape) (g q h k l v n : ℕ) (at : ℕ → Spoke) (quadrant : ℕ → ℕ) (b e : Spoke) (begun left i : ℕ) → IsCircuit a g q h k l v n at quadrant b e begun left → i ≤ n → IsAbove g v (at i)
+pub above_on : (a : ArcShape) (g q h k l v n : ℕ) (at : ℕ → Spoke) (quadrant : ℕ → ℕ) (b e : Spoke) (begun left i : ℕ) →
+    IsCircuit a g q h k l v n at quadrant b e begun left → i ≤ n → IsAbove g v (at i)
 above_on a g q h k l v n at quadrant b e begun left i c le =
     all_above g v (limit_of q h) n at quadrant i c.walk.rolling (limit_inside g q h k l v c.rim) (wide_inside g q h k l v c.rim) c.above le
 
@@ -139,35 +147,43 @@ pub gap_up : (x z d : ℕ) → x ≤ z + d → z ≤ x + d → gap x z ≤ d
 gap_up x z d hx hz = omega (arith, ints, hx, hz)
 
 -- a point at most a step behind an axis is near the axis' quadrant point, and one at most a step before it
-pub by_first : (a : ArcShape) (s : Spoke) (g q h k l v d : ℕ) → IsRim g q h k l v → IsBelow g (limit_of q l) s → IsAbove g v s → inner_radius a ≤ q + 1 → q + 1 ≤ outer_radius a →
+pub by_first : (a : ArcShape) (s : Spoke) (g q h k l v d : ℕ) → IsRim g q h k l v → IsBelow g (limit_of q l) s → IsAbove g v s → inner_radius a ≤ q + 1 →
+    q + 1 ≤ outer_radius a →
     spread a + 2 * g ≤ d → s.y ≤ g → IsWithin d (placed a s) (placed a (record { quadrant = s.quadrant; x = outer_radius a; y = 0 }))
 by_first a s g q h k l v d r below above inside outside wide near =
     let along = along_axis g q h k l v s.x s.y r above.all below.all near in
     let aside : gap s.y 0 ≤ g = gap_up s.y 0 g (omega (arith, near)) (omega arith) in
-    let off : gap s.x (outer_radius a) ≤ spread a + g = gap_up s.x (outer_radius a) (spread a + g) (omega (arith, along.1, outside)) (omega (arith, along.0, inside)) in
+    let off : gap s.x (outer_radius a) ≤ spread a + g = gap_up s.x (outer_radius a) (spread a + g) (omega (arith, along.1, outside))
+    (omega (arith, along.0, inside)) in
     let m = by_axis_point g (gap s.y 0) (gap s.x (outer_radius a)) (spread a) aside off in
     let w = square_le (spread a + 2 * g) d wide in
     subst (λ t. t ≤ d * d) (sym (spokes_apart a s (outer_radius a) 0)) (omega (arith, m, w))
 
-pub by_second : (a : ArcShape) (s : Spoke) (g q h k l v d : ℕ) → IsRim g q h k l v → IsBelow g (limit_of q l) s → IsAbove g v s → inner_radius a ≤ q + 1 → q + 1 ≤ outer_radius a →
+pub by_second : (a : ArcShape) (s : Spoke) (g q h k l v d : ℕ) → IsRim g q h k l v → IsBelow g (limit_of q l) s → IsAbove g v s → inner_radius a ≤ q + 1 →
+    q + 1 ≤ outer_radius a →
     spread a + 2 * g ≤ d → s.x ≤ g → IsWithin d (placed a s) (placed a (record { quadrant = following s.quadrant; x = outer_radius a; y = 0 }))
 by_second a s g q h k l v d r below above inside outside wide near =
     let along = along_axis g q h k l v s.y s.x r (omega (arith, above.all)) (omega (arith, below.all)) near in
     let aside : gap s.x 0 ≤ g = gap_up s.x 0 g (omega (arith, near)) (omega arith) in
-    let off : gap s.y (outer_radius a) ≤ spread a + g = gap_up s.y (outer_radius a) (spread a + g) (omega (arith, along.1, outside)) (omega (arith, along.0, inside)) in
+    let off : gap s.y (outer_radius a) ≤ spread a + g = gap_up s.y (outer_radius a) (spread a + g) (omega (arith, along.1, outside))
+    (omega (arith, along.0, inside)) in
     let m = by_axis_point g (gap s.x 0) (gap s.y (outer_radius a)) (spread a) aside off in
     let w = square_le (spread a + 2 * g) d wide in
-    let far : squared_distance (placed a s) (placed a (record { quadrant = s.quadrant; x = 0; y = outer_radius a })) ≤ d * d = subst (λ t. t ≤ d * d) (sym (spokes_apart a s 0 (outer_radius a))) (omega (arith, m, w)) in
+    let far : squared_distance (placed a s) (placed a (record { quadrant = s.quadrant; x = 0; y = outer_radius a })) ≤ d * d =
+    subst (λ t. t ≤ d * d) (sym (spokes_apart a s 0 (outer_radius a))) (omega (arith, m, w)) in
     subst (λ (p : Point2). squared_distance (placed a s) (shifted a.centre (mirrored a.turn p)) ≤ d * d) (same_axis s.quadrant (outer_radius a)) far
 
 -- so it comes by the quadrant points of its arc
-pub walk_passes : (a : ArcShape) (g q h k l v n : ℕ) (at : ℕ → Spoke) (quadrant : ℕ → ℕ) (b e : Spoke) (begun left d : ℕ) → IsCircuit a g q h k l v n at quadrant b e begun left →
+pub walk_passes : (a : ArcShape) (g q h k l v n : ℕ) (at : ℕ → Spoke) (quadrant : ℕ → ℕ) (b e : Spoke) (begun left d : ℕ) →
+    IsCircuit a g q h k l v n at quadrant b e begun left →
     spread a + 2 * g ≤ d → Passes (λ k. placed a (at k)) n d 0 (extremes a)
 walk_passes a g q h k l v n at quadrant b e begun left d w wide =
     passes a g (limit_of q h) d n at quadrant b e begun left (record {
       walk = w.walk;
-      behind = λ i le near. by_first a (at i) g q h k l v d w.rim (below_on a g q h k l v n at quadrant b e begun left i w le) (above_on a g q h k l v n at quadrant b e begun left i w le) w.inside w.outside wide near;
-      before = λ i le near. by_second a (at i) g q h k l v d w.rim (below_on a g q h k l v n at quadrant b e begun left i w le) (above_on a g q h k l v n at quadrant b e begun left i w le) w.inside w.outside wide near;
+      behind = λ i le near. by_first a (at i) g q h k l v d w.rim (below_on a g q h k l v n at quadrant b e begun left i w le)
+          (above_on a g q h k l v n at quadrant b e begun left i w le) w.inside w.outside wide near;
+      before = λ i le near. by_second a (at i) g q h k l v d w.rim (below_on a g q h k l v n at quadrant b e begun left i w le)
+          (above_on a g q h k l v n at quadrant b e begun left i w le) w.inside w.outside wide near;
       some_radius = omega (arith, w.outside);
       soon = w.soon;
       beside = w.beside;

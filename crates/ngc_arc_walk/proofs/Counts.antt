@@ -24,7 +24,8 @@ unmirrored (negsuc n) = refl
 seen_twice : (t : Turn) (c p : Point2) → shifted c (mirrored t (mirrored t (from c p))) ≡ p
 seen_twice Counterclockwise c p = same_point _ _ _ _ (omega (arith, ints)) (omega (arith, ints))
 seen_twice Clockwise c p =
-    same_point (c.u +ℤ (p.u -ℤ c.u)) (c.v +ℤ neg_ℤ (neg_ℤ (p.v -ℤ c.v))) p.u p.v (omega (arith, ints)) (ap (λ z. c.v +ℤ z) (unmirrored (p.v -ℤ c.v)) ∙ omega (arith, ints))
+    same_point (c.u +ℤ (p.u -ℤ c.u)) (c.v +ℤ neg_ℤ (neg_ℤ (p.v -ℤ c.v))) p.u p.v (omega (arith, ints))
+    (ap (λ z. c.v +ℤ z) (unmirrored (p.v -ℤ c.v)) ∙ omega (arith, ints))
 
 -- the spoke of a point's way from the centre, seen in the mirror where the arc is clockwise, is placed at that point
 pub placed_at : (a : ArcShape) (p : Point2) (s : Spoke) → around s.quadrant s.x s.y ≡ mirrored a.turn (from a.centre p) → p ≡ placed a s
@@ -62,7 +63,8 @@ IsCounted (suc (suc (suc (suc n)))) left area = ⊥
 pub counted_turn : (b e : Spoke) (begun n left : ℕ) → begun ≤ 1 → 0 < b.x → 0 < e.x → e.quadrant ≡ turned_by n (turned_by begun b.quadrant) →
     IsCounted n left (cross (around b.quadrant b.x b.y) (around e.quadrant e.x e.y)) → IsATurn (begun + left) b.x b.y e.x e.y
 counted_turn b e zero zero left few bx ex he h =
-    let c : cross (around b.quadrant b.x b.y) (around e.quadrant e.x e.y) ≡ pos (b.x * e.y) -ℤ pos (b.y * e.x) = (rw he (cross_same b.quadrant b.x b.y e.x e.y)) in
+    let c : cross (around b.quadrant b.x b.y) (around e.quadrant e.x e.y) ≡ pos (b.x * e.y) -ℤ pos (b.y * e.x) =
+    (rw he (cross_same b.quadrant b.x b.y e.x e.y)) in
     elim h [
       | inl ahead ↦ (
           let z : 0 ≡ 0 + left = omega (arith, ahead.1) in
@@ -75,7 +77,8 @@ counted_turn b e zero zero left few bx ex he h =
     ]
 counted_turn b e zero (suc zero) left few bx ex he h = let z : 1 ≡ 0 + left = omega (arith, h) in subst (λ k. IsATurn k b.x b.y e.x e.y) z tt
 counted_turn b e zero (suc (suc zero)) left few bx ex he h = let z : 2 ≡ 0 + left = omega (arith, h) in subst (λ k. IsATurn k b.x b.y e.x e.y) z tt
-counted_turn b e zero (suc (suc (suc zero))) left few bx ex he h = let m = h.0 in let z : 3 ≡ 0 + left = omega (arith, m) in subst (λ k. IsATurn k b.x b.y e.x e.y) z tt
+counted_turn b e zero (suc (suc (suc zero))) left few bx ex he h = let m = h.0 in let z : 3 ≡ 0 + left = omega (arith, m) in
+    subst (λ k. IsATurn k b.x b.y e.x e.y) z tt
 counted_turn b e zero (suc (suc (suc (suc n)))) left few bx ex he h = absurd h
 counted_turn b e (suc zero) zero left few bx ex he h =
     let c : cross (around b.quadrant b.x b.y) (around e.quadrant e.x e.y) ≡ pos (b.x * e.x + b.y * e.y) = (rw he (cross_next b.quadrant b.x b.y e.x e.y)) in
@@ -91,7 +94,8 @@ counted_turn b e (suc zero) (suc (suc (suc zero))) left few bx ex he h =
     let m = h.0 in
     let z : 4 ≡ 1 + left = omega (arith, m) in
     let same : e.quadrant ≡ b.quadrant = he ∙ four_on b.quadrant in
-    let c : cross (around b.quadrant b.x b.y) (around e.quadrant e.x e.y) ≡ pos (b.x * e.y) -ℤ pos (b.y * e.x) = (rw same (cross_same b.quadrant b.x b.y e.x e.y)) in
+    let c : cross (around b.quadrant b.x b.y) (around e.quadrant e.x e.y) ≡ pos (b.x * e.y) -ℤ pos (b.y * e.x) =
+    (rw same (cross_same b.quadrant b.x b.y e.x e.y)) in
     let sign : (pos (b.x * e.y) -ℤ pos (b.y * e.x)) ≤ℤ pos 0 = subst (λ t. t ≤ℤ pos 0) c h.1 in
     subst (λ k. IsATurn k b.x b.y e.x e.y) z (omega (arith, ints, sign))
 counted_turn b e (suc zero) (suc (suc (suc (suc n)))) left few bx ex he h = absurd h

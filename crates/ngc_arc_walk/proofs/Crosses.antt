@@ -1,5 +1,6 @@
 -- Cross products about an arc's centre, by quadrants.
-use Rattle.std.proofs.Common.{◌≡◌, ℕ, zero, suc, ◌+◌, ◌*◌, ◌<◌, ◌≤◌, ℤ, pos, negsuc, ◌+ℤ◌, ◌-ℤ◌, ◌*ℤ◌, neg_ℤ, ◌≤ℤ◌, ◌⊎◌, inl, inr, refl, sym, ◌∙◌, ap, subst, arith}
+use Rattle.std.proofs.Common.{◌≡◌, ℕ, zero, suc, ◌+◌, ◌*◌, ◌<◌, ◌≤◌, ℤ, pos, negsuc, ◌+ℤ◌, ◌-ℤ◌, ◌*ℤ◌, neg_ℤ, ◌≤ℤ◌, ◌⊎◌, inl, inr, refl, sym, ◌∙◌, ap, subst}
+use Rattle.std.proofs.Common.{arith}
 use Rattle.std.specs.Prelude.{true, false, int_le}
 use Rattle.std.proofs.lemmas.Bool.{cases_lt}
 use Rattle.std.proofs.lemmas.Int.{ints}
@@ -77,9 +78,11 @@ turn_placed a s t =
     let e = around t.quadrant t.x t.y in
     let m = mirrored a.turn d in
     let n = mirrored a.turn e in
-    ap (λ (p : Point2). turning a.turn (cross p (from a.centre (shifted a.centre n)))) (back a.centre m) ∙ ap (λ (p : Point2). turning a.turn (cross m p)) (back a.centre n) ∙ turned_cross a.turn d e
+    ap (λ (p : Point2). turning a.turn (cross p (from a.centre (shifted a.centre n)))) (back a.centre m)
+    ∙ ap (λ (p : Point2). turning a.turn (cross m p)) (back a.centre n) ∙ turned_cross a.turn d e
 
-pub dot_placed : (a : ArcShape) (s t : Spoke) → dot (from a.centre (placed a s)) (from a.centre (placed a t)) ≡ dot (around s.quadrant s.x s.y) (around t.quadrant t.x t.y)
+pub dot_placed : (a : ArcShape) (s t : Spoke) → dot (from a.centre (placed a s)) (from a.centre (placed a t))
+    ≡ dot (around s.quadrant s.x s.y) (around t.quadrant t.x t.y)
 dot_placed a s t =
     let d = around s.quadrant s.x s.y in
     let e = around t.quadrant t.x t.y in
@@ -143,12 +146,14 @@ int_false : (z : ℤ) → (z +ℤ pos 1) ≤ℤ pos 0 → int_le (pos 0) z ≡ f
 int_false (pos n) h = absurd (omega (arith, ints, h))
 int_false (negsuc n) h = refl
 
-pub is_ahead_true : (a : ArcShape) (s t : Spoke) (n : ℕ) → n ≤ 4 → t.quadrant ≡ turned_by n s.quadrant → IsAhead n s.x s.y t.x t.y → is_ahead a (placed a s) (placed a t) ≡ true
+pub is_ahead_true : (a : ArcShape) (s t : Spoke) (n : ℕ) → n ≤ 4 → t.quadrant ≡ turned_by n s.quadrant → IsAhead n s.x s.y t.x t.y →
+    is_ahead a (placed a s) (placed a t) ≡ true
 is_ahead_true a s t n few e h =
     let sign : pos 0 ≤ℤ cross (around s.quadrant s.x s.y) (around t.quadrant t.x t.y) = rw e (ahead_sign n s.quadrant s.x s.y t.x t.y few h) in
     int_true (turn_from a (placed a s) (placed a t)) (subst (λ z. pos 0 ≤ℤ z) (sym (turn_placed a s t)) sign)
 
-pub is_ahead_false : (a : ArcShape) (s t : Spoke) (n : ℕ) → n ≤ 4 → t.quadrant ≡ turned_by n s.quadrant → IsBehind n s.x s.y t.x t.y → is_ahead a (placed a s) (placed a t) ≡ false
+pub is_ahead_false : (a : ArcShape) (s t : Spoke) (n : ℕ) → n ≤ 4 → t.quadrant ≡ turned_by n s.quadrant → IsBehind n s.x s.y t.x t.y →
+    is_ahead a (placed a s) (placed a t) ≡ false
 is_ahead_false a s t n few e h =
     let sign : (cross (around s.quadrant s.x s.y) (around t.quadrant t.x t.y) +ℤ pos 1) ≤ℤ pos 0 = rw e (behind_sign n s.quadrant s.x s.y t.x t.y few h) in
     int_false (turn_from a (placed a s) (placed a t)) (subst (λ z. (z +ℤ pos 1) ≤ℤ pos 0) (sym (turn_placed a s t)) sign)

@@ -62,19 +62,22 @@ moved_same Second g s r bx by x y h = (same_side g s r bx x h.1, negative_side g
 moved_same Third g s r bx by x y h = (negative_side g s r bx x h.0, negative_side g s r by y h.1)
 moved_same Fourth g s r bx by x y h = (negative_side g s r bx x h.1, same_side g s r by y h.0)
 
-pub moved_next : (q : Quadrant) (g s r bx by x y : ℕ) → IsMovedPoint g s r (around q bx by) (around (following q) x y) → IsJoint g s r x by × IsAcross g s r bx y
+pub moved_next : (q : Quadrant) (g s r bx by x y : ℕ) → IsMovedPoint g s r (around q bx by) (around (following q) x y) →
+    IsJoint g s r x by × IsAcross g s r bx y
 moved_next First g s r bx by x y h = (same_side g s r by x h.1, far_side g s r bx y h.0)
 moved_next Second g s r bx by x y h = (negative_side g s r by x h.0, far_side g s r bx y h.1)
 moved_next Third g s r bx by x y h = (negative_side g s r by x h.1, near_side g s r bx y h.0)
 moved_next Fourth g s r bx by x y h = (same_side g s r by x h.0, near_side g s r bx y h.1)
 
-pub moved_opposite : (q : Quadrant) (g s r bx by x y : ℕ) → IsMovedPoint g s r (around q bx by) (around (following (following q)) x y) → IsAcross g s r bx x × IsAcross g s r by y
+pub moved_opposite : (q : Quadrant) (g s r bx by x y : ℕ) → IsMovedPoint g s r (around q bx by) (around (following (following q)) x y) →
+    IsAcross g s r bx x × IsAcross g s r by y
 moved_opposite First g s r bx by x y h = (far_side g s r bx x h.0, far_side g s r by y h.1)
 moved_opposite Second g s r bx by x y h = (far_side g s r bx x h.1, near_side g s r by y h.0)
 moved_opposite Third g s r bx by x y h = (near_side g s r bx x h.0, near_side g s r by y h.1)
 moved_opposite Fourth g s r bx by x y h = (near_side g s r bx x h.1, far_side g s r by y h.0)
 
-pub moved_before : (q : Quadrant) (g s r bx by x y : ℕ) → IsMovedPoint g s r (around (following q) bx by) (around q x y) → IsJoint g s r y bx × IsAcross g s r by x
+pub moved_before : (q : Quadrant) (g s r bx by x y : ℕ) → IsMovedPoint g s r (around (following q) bx by) (around q x y) →
+    IsJoint g s r y bx × IsAcross g s r by x
 moved_before First g s r bx by x y h = (same_side g s r bx y h.1, near_side g s r by x h.0)
 moved_before Second g s r bx by x y h = (negative_side g s r bx y h.0, near_side g s r by x h.1)
 moved_before Third g s r bx by x y h = (negative_side g s r bx y h.1, far_side g s r by x h.0)
@@ -104,7 +107,8 @@ not_opposite g p r bx by x y step far some round hx hy =
     let sum : r * (bx + by) ≤ (p + 1) * g = omega (arith, hx, hy) in
     let long : p ≤ bx + by = elim (cases_lt (bx + by) p) [
       | inr fine ↦ fine
-      | inl less ↦ (let a = mul-le-mul_left p (let h : bx + by + 1 ≤ p = omega (arith, less) in h) in let b = mul-le-mul_left (bx + by) (let h : bx + by ≤ p = omega (arith, less) in h) in absurd (omega (arith, a, b, round, less)))
+      | inl less ↦ (let a = mul-le-mul_left p (let h : bx + by + 1 ≤ p = omega (arith, less) in h) in
+          let b = mul-le-mul_left (bx + by) (let h : bx + by ≤ p = omega (arith, less) in h) in absurd (omega (arith, a, b, round, less)))
     ] in
     let a = mul-le-mul_left (bx + by) (let h : 2 * g + 1 ≤ r = omega (arith, far) in h) in
     let b = mul-le-mul_left g long in

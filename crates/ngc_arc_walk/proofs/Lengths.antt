@@ -41,13 +41,15 @@ once_round x y z w = x * w ≤ y * z
 abbrev same_quadrant : ℕ → ℕ → ℕ → ℕ → Type 0
 same_quadrant x y z w = y * z ≤ x * w
 
-last_not_past : (a : ArcShape) (g limit n : ℕ) (at : ℕ → Spoke) (quadrant : ℕ → ℕ) (b e : Spoke) (begun left : ℕ) → IsWalk a g limit n at quadrant b e begun left → begun ≡ 0 → left ≡ 4 → 4 ≤ quadrant n →
+last_not_past : (a : ArcShape) (g limit n : ℕ) (at : ℕ → Spoke) (quadrant : ℕ → ℕ) (b e : Spoke) (begun left : ℕ) →
+    IsWalk a g limit n at quadrant b e begun left → begun ≡ 0 → left ≡ 4 → 4 ≤ quadrant n →
     (at 0).x * (at n).y ≤ (at 0).y * (at n).x
 last_not_past a g limit n at quadrant b e begun left w none all le =
     let four : begun + left ≡ 4 = omega (arith, none, all) in
     let turn : once_round b.x b.y e.x e.y = subst (λ m. IsATurn m b.x b.y e.x e.y) four w.turn in
     let past : same_quadrant b.x b.y (at 0).x (at 0).y = subst (λ m. IsNoLater m b.x b.y (at 0).x (at 0).y) none w.past_start in
-    not_past (at n).x (at n).y e.x e.y b.x b.y (at 0).x (at 0).y w.end_out w.start_out (before_there (quadrant n) left (at n) e (omega (arith, all, le)) w.before_end) turn past
+    not_past (at n).x (at n).y e.x e.y b.x b.y (at 0).x (at 0).y w.end_out w.start_out
+    (before_there (quadrant n) left (at n) e (omega (arith, all, le)) w.before_end) turn past
 
 -- ---- so its moves make at most four quadrants' way, and by how much the circle is wide
 
@@ -62,7 +64,8 @@ record IsBetween (low m : ℕ) (s : Spoke) : Type 0 where
   above : low * low ≤ s.x * s.x + s.y * s.y
   below : s.x * s.x + s.y * s.y ≤ (low + m) * (low + m)
 
-walk_length : (a : ArcShape) (g u limit low m n : ℕ) (at : ℕ → Spoke) (quadrant : ℕ → ℕ) (b e : Spoke) (begun left : ℕ) → IsWalk a g limit n at quadrant b e begun left →
+walk_length : (a : ArcShape) (g u limit low m n : ℕ) (at : ℕ → Spoke) (quadrant : ℕ → ℕ) (b e : Spoke) (begun left : ℕ) →
+    IsWalk a g limit n at quadrant b e begun left →
     limit ≤ u * u → 2 * (g * g) ≤ u * u → IsBelow g (u * u) (at 0) → 0 < low → IsBetween low m (at 0) → IsBetween low m (at n) → n * g ≤ 8 * (u + g) + 2 * m
 walk_length a g u limit low m n at quadrant b e begun left w bound room below some first last =
     let far = far_on g u limit n at quadrant n w.rolling bound room below (omega arith) in
@@ -90,25 +93,30 @@ between_of a g r low s e band =
 
 -- ---- the lengths
 
-pub large_length : (a : ArcShape) (g q h k l v n : ℕ) (at : ℕ → Spoke) (quadrant : ℕ → ℕ) (b e : Spoke) (begun left : ℕ) → IsCircuit a g q h k l v n at quadrant b e begun left → n * g ≤ 8 * (q + 1) + 24 * g
+pub large_length : (a : ArcShape) (g q h k l v n : ℕ) (at : ℕ → Spoke) (quadrant : ℕ → ℕ) (b e : Spoke) (begun left : ℕ) →
+    IsCircuit a g q h k l v n at quadrant b e begun left → n * g ≤ 8 * (q + 1) + 24 * g
 large_length a g q h k l v n at quadrant b e begun left c =
     let z = c.rim in
     let more = limit_grows g q h k l v z in
     let low = q + 1 - 2 * g in
     let e_low : low + 2 * g ≡ q + 1 = omega (arith, z.far) in
-    let between : (i : ℕ) → i ≤ n → IsBetween low (4 * g) (at i) = λ i le. between_of a g (q + 1) low (at i) e_low (large_near a g q h k l v n at quadrant b e begun left i c le) in
-    let all = walk_length a g (q + 1 + l) (limit_of q h) low (4 * g) n at quadrant b e begun left c.walk more (omega (arith, more, wide_limit g q h k l v z)) c.below
+    let between : (i : ℕ) → i ≤ n →
+    IsBetween low (4 * g) (at i) = λ i le. between_of a g (q + 1) low (at i) e_low (large_near a g q h k l v n at quadrant b e begun left i c le) in
+    let all = walk_length a g (q + 1 + l) (limit_of q h) low (4 * g) n at quadrant b e begun left c.walk more
+    (omega (arith, more, wide_limit g q h k l v z)) c.below
     (omega (arith, e_low, z.far, z.step)) (between 0 (omega arith)) (between n (omega arith)) in
     omega (arith, all, z.l_high)
 
-small_between : (g o h l m v low : ℕ) (s : Spoke) → IsSmallSize g o h l m v → low + 2 * g ≡ o → IsBelow g ((o + l) * (o + l)) s → IsAbove g v s → IsBetween low (4 * g) s
+small_between : (g o h l m v low : ℕ) (s : Spoke) → IsSmallSize g o h l m v → low + 2 * g ≡ o → IsBelow g ((o + l) * (o + l)) s → IsAbove g v s →
+    IsBetween low (4 * g) s
 small_between g o h l m v low s z e below above =
     let inner = square_le (low + g) v (omega (arith, e, z.inner, z.m_high)) in
     let outer = square_le (10 * (o + l)) (10 * o + 11 * g) (omega (arith, z.l_high)) in
     let more = square_le (o + 2 * g) (low + 4 * g) (omega (arith, e)) in
     record { above = omega (arith, inner, above.all); below = omega (arith, outer, more, below.all) }
 
-pub small_length : (a : ArcShape) (g o h l m v r n : ℕ) (at : ℕ → Spoke) (quadrant : ℕ → ℕ) (b e : Spoke) (begun left : ℕ) → IsSmallCircuit a g o h l m v r n at quadrant b e begun left → n * g ≤ 8 * r + 33 * g
+pub small_length : (a : ArcShape) (g o h l m v r n : ℕ) (at : ℕ → Spoke) (quadrant : ℕ → ℕ) (b e : Spoke) (begun left : ℕ) →
+    IsSmallCircuit a g o h l m v r n at quadrant b e begun left → n * g ≤ 8 * r + 33 * g
 small_length a g o h l m v r n at quadrant b e begun left c =
     let z = c.size in
     let near = no_less g o r z.step c.circle in
@@ -116,7 +124,8 @@ small_length a g o h l m v r n at quadrant b e begun left c =
     let e_low : low + 2 * g ≡ o = omega (arith, z.least) in
     let between : (i : ℕ) → i ≤ n → IsBetween low (4 * g) (at i) = λ i le. small_between g o h l m v low (at i) z e_low
     (small_below a g o h l m v r n at quadrant b e begun left i c le) (small_above a g o h l m v r n at quadrant b e begun left i c le) in
-    let all = walk_length a g (o + l) ((o + h) * (o + h)) low (4 * g) n at quadrant b e begun left c.walk (more_limit g o h l m v z) (twice_high g o h l m v z) c.below
+    let all = walk_length a g (o + l) ((o + h) * (o + h)) low (4 * g) n at quadrant b e begun left c.walk (more_limit g o h l m v z)
+    (twice_high g o h l m v z) c.below
     (omega (arith, e_low, z.least, z.step)) (between 0 (omega arith)) (between n (omega arith)) in
     omega (arith, all, z.l_high, near.1)
 
@@ -129,12 +138,14 @@ few_moves n g r step bound length =
       | inr more ↦ (let p = mul-le-mul_left g more in absurd (omega (arith, p, length, bound, step)))
     ]
 
-pub large_few : (a : ArcShape) (g q h k l v n : ℕ) (at : ℕ → Spoke) (quadrant : ℕ → ℕ) (b e : Spoke) (begun left : ℕ) → IsCircuit a g q h k l v n at quadrant b e begun left → q + 1 ≤ 2000020000 → n < 100000000
+pub large_few : (a : ArcShape) (g q h k l v n : ℕ) (at : ℕ → Spoke) (quadrant : ℕ → ℕ) (b e : Spoke) (begun left : ℕ) →
+    IsCircuit a g q h k l v n at quadrant b e begun left → q + 1 ≤ 2000020000 → n < 100000000
 large_few a g q h k l v n at quadrant b e begun left c bound =
     let all = large_length a g q h k l v n at quadrant b e begun left c in
     few_moves n g (q + 1) c.rim.step bound (omega (arith, all))
 
-pub small_few : (a : ArcShape) (g o h l m v r n : ℕ) (at : ℕ → Spoke) (quadrant : ℕ → ℕ) (b e : Spoke) (begun left : ℕ) → IsSmallCircuit a g o h l m v r n at quadrant b e begun left → o ≤ 2000020000 → n < 100000000
+pub small_few : (a : ArcShape) (g o h l m v r n : ℕ) (at : ℕ → Spoke) (quadrant : ℕ → ℕ) (b e : Spoke) (begun left : ℕ) →
+    IsSmallCircuit a g o h l m v r n at quadrant b e begun left → o ≤ 2000020000 → n < 100000000
 small_few a g o h l m v r n at quadrant b e begun left c bound =
     let all = small_length a g o h l m v r n at quadrant b e begun left c in
     few_moves n g r c.size.step (let near = no_less g o r c.size.step c.circle in omega (arith, near.0, bound)) (omega (arith, all))

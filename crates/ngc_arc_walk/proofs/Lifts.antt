@@ -30,7 +30,8 @@ square_placed a s = ap (λ z. unsigned_abs z) (dot_placed a s s) ∙ square_arou
 
 -- ---- the clauses, for each point and each move of a walk
 
-pub circuit_in_band : (a : ArcShape) (g q h k l v n : ℕ) (at : ℕ → Spoke) (quadrant : ℕ → ℕ) (b e : Spoke) (begun left i w : ℕ) → IsCircuit a g q h k l v n at quadrant b e begun left → i ≤ n →
+pub circuit_in_band : (a : ArcShape) (g q h k l v n : ℕ) (at : ℕ → Spoke) (quadrant : ℕ → ℕ) (b e : Spoke) (begun left i w : ℕ) →
+    IsCircuit a g q h k l v n at quadrant b e begun left → i ≤ n →
     g ≤ w → IsInBand a w (placed a (at i))
 circuit_in_band a g q h k l v n at quadrant b e begun left i w c le some =
     let below = below_on a g q h k l v n at quadrant b e begun left i c le in
@@ -42,15 +43,18 @@ circuit_in_band a g q h k l v n at quadrant b e begun left i w c le some =
     let e = square_placed a (at i) in
     record { inner = omega (arith, near, less, e); outer = omega (arith, far, more, e) }
 
-pub circuit_between_ends : (a : ArcShape) (g q h k l v n : ℕ) (at : ℕ → Spoke) (quadrant : ℕ → ℕ) (b e : Spoke) (begun left i d : ℕ) → IsCircuit a g q h k l v n at quadrant b e begun left → i ≤ n →
+pub circuit_between_ends : (a : ArcShape) (g q h k l v n : ℕ) (at : ℕ → Spoke) (quadrant : ℕ → ℕ) (b e : Spoke) (begun left i d : ℕ) →
+    IsCircuit a g q h k l v n at quadrant b e begun left → i ≤ n →
     IsBetweenEnds a d (placed a (at i))
 circuit_between_ends a g q h k l v n at quadrant b e begun left i d w le = inl (walk_in_sector a g _ n at quadrant b e begun left i w.walk le)
 
-pub circuit_goes_on : (a : ArcShape) (g q h k l v n : ℕ) (at : ℕ → Spoke) (quadrant : ℕ → ℕ) (b e : Spoke) (begun left i d : ℕ) → IsCircuit a g q h k l v n at quadrant b e begun left → i < n →
+pub circuit_goes_on : (a : ArcShape) (g q h k l v n : ℕ) (at : ℕ → Spoke) (quadrant : ℕ → ℕ) (b e : Spoke) (begun left i d : ℕ) →
+    IsCircuit a g q h k l v n at quadrant b e begun left → i < n →
     GoesOn a d (placed a (at i)) (placed a (at (i + 1)))
 circuit_goes_on a g q h k l v n at quadrant b e begun left i d w le = inl (walk_goes_on a g _ n at quadrant i w.walk.rolling le)
 
-pub circuit_passes : (a : ArcShape) (g q h k l v n : ℕ) (at : ℕ → Spoke) (quadrant : ℕ → ℕ) (b e : Spoke) (begun left : ℕ) → IsCircuit a g q h k l v n at quadrant b e begun left →
+pub circuit_passes : (a : ArcShape) (g q h k l v n : ℕ) (at : ℕ → Spoke) (quadrant : ℕ → ℕ) (b e : Spoke) (begun left : ℕ) →
+    IsCircuit a g q h k l v n at quadrant b e begun left →
     Passes (λ k. placed a (at k)) n (leeway (pos g) a + unsigned_abs (pos g) + spread a) 0 (extremes a)
 circuit_passes a g q h k l v n at quadrant b e begun left w =
     let some = some_leeway g a in
@@ -63,8 +67,13 @@ pub passes_along : (f longer : ℕ → Point2) (place : ℕ → ℕ) (n m d i : 
     Passes f n d i qs → Passes longer m d (place i) qs
 passes_along f longer place n m d i [] same order room h = tt
 passes_along f longer place n m d i (q ∷ qs) same order room h =
-    let up = order h.0 n h.2 in
-    (place h.0, order i h.0 h.1, omega (arith, up, room), subst (λ (p : Point2). IsWithin d p q) (sym (same h.0 h.2)) h.3, passes_along f longer place n m d h.0 qs same order room h.4)
+    let up = order h.0 n h.2 in (
+      place h.0,
+      order i h.0 h.1,
+      omega (arith, up, room),
+      subst (λ (p : Point2). IsWithin d p q) (sym (same h.0 h.2)) h.3,
+      passes_along f longer place n m d h.0 qs same order room h.4,
+    )
 
 -- from an earlier place on
 pub passes_from_before : (f : ℕ → Point2) (n d i j : ℕ) (qs : List Point2) → j ≤ i → Passes f n d i qs → Passes f n d j qs

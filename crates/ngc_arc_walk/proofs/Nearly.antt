@@ -33,7 +33,8 @@ start_first p r bx by ex ey round great past =
     from_squares (p * ex) (r * bx) (omega (arith, a, b, c))
 
 -- along the first axis it isn't far ahead of the joint's x
-pub along_first : (g p r c x bx by ex ey : ℕ) → IsJoint g (p + 1) r x bx → p * p ≤ bx * bx + by * by → ex * ex + ey * ey ≤ r * r → by * ex ≤ bx * ey → r ≤ c * (p + 1) → 2 * ex ≤ 2 * x + g + 2 * c
+pub along_first : (g p r c x bx by ex ey : ℕ) → IsJoint g (p + 1) r x bx → p * p ≤ bx * bx + by * by → ex * ex + ey * ey ≤ r * r → by * ex ≤ bx * ey →
+    r ≤ c * (p + 1) → 2 * ex ≤ 2 * x + g + 2 * c
 along_first g p r c x bx by ex ey j round great past near =
     let a = start_first p r bx by ex ey round great past in
     let low : ex ≤ r = from_squares ex r (omega (arith, great)) in
@@ -41,7 +42,8 @@ along_first g p r c x bx by ex ey j round great past near =
     le_of_mul-le-mul_left d (omega arith)
 
 -- nor where the joint lies y beyond the half axis
-pub along_across : (g p r c y bx by ex ey : ℕ) → IsAcross g (p + 1) r bx y → p * p ≤ bx * bx + by * by → ex * ex + ey * ey ≤ r * r → by * ex ≤ bx * ey → r ≤ c * (p + 1) → 2 * (ex + y) ≤ g + 2 * c
+pub along_across : (g p r c y bx by ex ey : ℕ) → IsAcross g (p + 1) r bx y → p * p ≤ bx * bx + by * by → ex * ex + ey * ey ≤ r * r → by * ex ≤ bx * ey →
+    r ≤ c * (p + 1) → 2 * (ex + y) ≤ g + 2 * c
 along_across g p r c y bx by ex ey j round great past near =
     let a = start_first p r bx by ex ey round great past in
     let low : ex ≤ r = from_squares ex r (omega (arith, great)) in
@@ -49,7 +51,8 @@ along_across g p r c y bx by ex ey j round great past near =
     le_of_mul-le-mul_left d (omega arith)
 
 -- and along the second not far behind its y
-pub along_second : (g p q r d y bx by ex ey : ℕ) → IsJoint g (p + 1) r y by → bx * bx + by * by ≤ (p + 1) * (p + 1) → q * q ≤ ex * ex + ey * ey → by * ex ≤ bx * ey → r ≤ q + d → 2 * y ≤ 2 * ey + g + 2 * d
+pub along_second : (g p q r d y bx by ex ey : ℕ) → IsJoint g (p + 1) r y by → bx * bx + by * by ≤ (p + 1) * (p + 1) → q * q ≤ ex * ex + ey * ey →
+    by * ex ≤ bx * ey → r ≤ q + d → 2 * y ≤ 2 * ey + g + 2 * d
 along_second g p q r d y bx by ex ey j round small past near =
     let s = p + 1 in
     let a = beyond by bx ey ex past in
@@ -120,24 +123,31 @@ joint_within g q h k l v n s h' =
     omega (arith, h', a, b, c)
 
 limits : (g q h k l v : ℕ) → IsRim g q h k l v → (limit_of q h ≤ limit_of q l) × ((v + g) * (v + g) ≤ limit_of q h)
-limits g q h k l v s = (square_le (q + 1 + h) (q + 1 + l) (omega (arith, s.h_high, s.l_low, s.step)), square_le (v + g) (q + 1 + h) (omega (arith, s.inner, s.h_low, s.l_low, s.step)))
+limits g q h k l v s = (
+  square_le (q + 1 + h) (q + 1 + l) (omega (arith, s.h_high, s.l_low, s.step)),
+  square_le (v + g) (q + 1 + h) (omega (arith, s.inner, s.h_low, s.l_low, s.step)),
+)
 
 -- joint, first point and end in the start's quadrant: the wheel begins at the joint
-pub stands_here : (g q h k l v ex ey : ℕ) (steep : Bool) (j : Spoke) → IsRim g q h k l v → IsNearJoint g (q + 1) v steep j → IsRay q ex ey → j.x * ey ≤ j.y * ex →
+pub stands_here : (g q h k l v ex ey : ℕ) (steep : Bool) (j : Spoke) → IsRim g q h k l v → IsNearJoint g (q + 1) v steep j → IsRay q ex ey →
+    j.x * ey ≤ j.y * ex →
     2 * ex ≤ 2 * j.x + g + 40 → 2 * j.y ≤ 2 * ey + g + 2 → IsPair g (gap j.x ex) (gap j.y ey)
 stands_here g q h k l v ex ey steep j r near ray past first second =
     let a = rim_past g q h k l v j.x j.y ex ey r ray (joint_within g q h k l v (square j.x j.y) r near.high) past in
     let b = rim_before g q h k l v j.x j.y ex ey r ray near.low past in
-    here_pair g j.x j.y j.x j.y ex ey r.step (omega arith) (omega arith) past (omega (arith, a, r.l_high, r.step)) (omega (arith, b, r.l_high, r.step)) first second
+    here_pair g j.x j.y j.x j.y ex ey r.step (omega arith) (omega arith) past (omega (arith, a, r.l_high, r.step))
+    (omega (arith, b, r.l_high, r.step)) first second
 
 -- or where a move leads to
-pub rolls_here : (g q h k l v ex ey : ℕ) (steep : Bool) (j : Spoke) (roll : Roll) → IsRim g q h k l v → IsNearJoint g (q + 1) v steep j → IsRay q ex ey → g ≤ j.x → 0 < ex → IsEntry g (limit_of q h) steep j roll →
+pub rolls_here : (g q h k l v ex ey : ℕ) (steep : Bool) (j : Spoke) (roll : Roll) → IsRim g q h k l v → IsNearJoint g (q + 1) v steep j → IsRay q ex ey →
+    g ≤ j.x → 0 < ex → IsEntry g (limit_of q h) steep j roll →
     (rolled g roll j).x * ey ≤ (rolled g roll j).y * ex → 2 * ex ≤ 2 * j.x + g + 40 → 2 * j.y ≤ 2 * ey + g + 2 → IsPair g (gap j.x ex) (gap j.y ey)
 rolls_here g q h k l v ex ey steep j Over r near ray inside some entry past first second = absurd (omega (arith, entry, inside))
 rolls_here g q h k l v ex ey steep j Outward r near ray inside some entry past first second =
     let a = rim_past g q h k l v j.x (j.y + g) ex ey r ray (omega (arith, entry.2, limits g q h k l v r)) past in
     let b = rim_before g q h k l v j.x (j.y + g) ex ey r ray (omega (arith, near.low)) past in
-    here_pair g j.x j.y j.x (j.y + g) ex ey r.step (omega arith) (omega arith) past (omega (arith, a, r.l_high, r.step)) (omega (arith, b, r.l_high, r.step)) first second
+    here_pair g j.x j.y j.x (j.y + g) ex ey r.step (omega arith) (omega arith) past (omega (arith, a, r.l_high, r.step))
+    (omega (arith, b, r.l_high, r.step)) first second
 rolls_here g q h k l v ex ey steep j Diagonal r near ray inside some entry past first second =
     let t = j.x - g in
     let e : j.x ≡ t + g = omega (arith, inside) in
@@ -145,13 +155,16 @@ rolls_here g q h k l v ex ey steep j Diagonal r near ray inside some entry past 
       | inl up ↦ (
           let a = rim_past g q h k l v t (j.y + g) ex ey r ray (omega (arith, up.1, limits g q h k l v r)) past in
           let i : (q + 1) * (q + 1) ≡ (v + l) * (v + l) = ap (λ z. z * z) (sym r.inner) in
-          let b = short_steep g t j.x j.y ex ey v l e (near.steep_but up.0 inside) near.low past (omega (arith, ray.great, i)) (omega (arith, r.inner, r.far, r.l_high, r.step)) in
-          here_pair g j.x j.y t (j.y + g) ex ey r.step (omega (arith, e)) (omega arith) past (omega (arith, a, e, r.l_high, r.step)) (omega (arith, b, r.l_high, r.step)) first second)
+          let b = short_steep g t j.x j.y ex ey v l e (near.steep_but up.0 inside) near.low past (omega (arith, ray.great, i))
+          (omega (arith, r.inner, r.far, r.l_high, r.step)) in
+          here_pair g j.x j.y t (j.y + g) ex ey r.step (omega (arith, e)) (omega arith) past (omega (arith, a, e, r.l_high, r.step))
+          (omega (arith, b, r.l_high, r.step)) first second)
       | inr out ↦ (
           let a = short_flat g q t j.x j.y ex ey r.step r.far e (near.flat out.0 inside) near.high past ray some in
           let lim = limits g q h k l v r in
           let b = rim_before g q h k l v t (j.y + g) ex ey r ray (diagonal_above g v j.x j.y t e (omega (arith, out.1, lim))) past in
-          here_pair g j.x j.y t (j.y + g) ex ey r.step (omega (arith, e)) (omega arith) past (omega (arith, a)) (omega (arith, b, r.l_high, r.step)) first second)
+          here_pair g j.x j.y t (j.y + g) ex ey r.step (omega (arith, e)) (omega arith) past (omega (arith, a))
+          (omega (arith, b, r.l_high, r.step)) first second)
     ]
 rolls_here g q h k l v ex ey steep j Inward r near ray inside some entry past first second =
     let t = j.x - g in
@@ -161,7 +174,8 @@ rolls_here g q h k l v ex ey steep j Inward r near ray inside some entry past fi
     let high = joint_within g q h k l v (square j.x j.y) r near.high in
     let a = rim_past g q h k l v t j.y ex ey r ray (omega (arith, high, xx)) past in
     let b = rim_before g q h k l v t j.y ex ey r ray (inward_above g v t j.y (omega (arith, entry.2, lim))) past in
-    here_pair g j.x j.y t j.y ex ey r.step (omega (arith, e)) (omega arith) past (omega (arith, a, e, r.l_high, r.step)) (omega (arith, b, r.l_high, r.step)) first second
+    here_pair g j.x j.y t j.y ex ey r.step (omega (arith, e)) (omega arith) past (omega (arith, a, e, r.l_high, r.step))
+    (omega (arith, b, r.l_high, r.step)) first second
 
 -- ---- beside a half axis
 
@@ -193,7 +207,8 @@ end_far g q z w step far round few =
           let b = square_le (10 * w) (12 * g) few in
           let some = mul-le-mul_left g step in
           elim (cases_lt (36 * g) (5 * z)) [
-            | inl more ↦ (let c = mul-le-mul_left g (let i : 36 * g + 1 ≤ 5 * z = omega (arith, more) in i) in absurd (omega (arith, a, b, c, round, some, step)))
+            | inl more ↦ (let c = mul-le-mul_left g (let i : 36 * g + 1 ≤ 5 * z = omega (arith, more) in i) in
+                absurd (omega (arith, a, b, c, round, some, step)))
             | inr less ↦ (
                 let c = square_le (5 * z) (36 * g) less in
                 let e = square_le (15 * g) (2 * q) (omega (arith, far, step)) in
@@ -224,7 +239,8 @@ ray_low_second : (q z w : ℕ) → IsRay q z w → w ≤ q + 1
 ray_low_second q z w ray = from_squares w (q + 1) (omega (arith, ray.great))
 
 -- over the half axis, to an end in the quadrant that the joint (x, y) is left for
-pub over_pair : (g q h k l v x y z w : ℕ) → IsRim g q h k l v → IsRay q z w → v * v ≤ square x y → x < g → y * w ≤ (g - x) * z → 2 * y ≤ 2 * (q + 1) + g → IsPair g (x + w) (gap y z)
+pub over_pair : (g q h k l v x y z w : ℕ) → IsRim g q h k l v → IsRay q z w → v * v ≤ square x y → x < g → y * w ≤ (g - x) * z → 2 * y ≤ 2 * (q + 1) + g →
+    IsPair g (x + w) (gap y z)
 over_pair g q h k l v x y z w r ray above near past high =
     let u = g - x in
     let eu : u + x ≡ g = omega (arith, near) in
@@ -239,7 +255,8 @@ over_pair g q h k l v x y z w r ray above near past high =
     }
 
 -- to an end there it doesn't come short along the second axis
-pub over_behind : (g q h k l v x y z w : ℕ) → IsRim g q h k l v → IsRay q z w → v * v ≤ square x y → x < g → y * w ≤ (g - x) * z → 2 * y ≤ 2 * (q + 1) + g → 4 * y ≤ 4 * z + 3 * g
+pub over_behind : (g q h k l v x y z w : ℕ) → IsRim g q h k l v → IsRay q z w → v * v ≤ square x y → x < g → y * w ≤ (g - x) * z → 2 * y ≤ 2 * (q + 1) + g →
+    4 * y ≤ 4 * z + 3 * g
 over_behind g q h k l v x y z w r ray above near past high =
     let u = g - x in
     let eu : u + x ≡ g = omega (arith, near) in
@@ -248,7 +265,8 @@ over_behind g q h k l v x y z w r ray above near past high =
     omega (arith, far, high, r.step)
 
 -- to an end before it
-pub over_here : (g q h k l v x y ex ey : ℕ) → IsRim g q h k l v → IsRay q ex ey → v * v ≤ square x y → x < g → 2 * ex ≤ 2 * x + g + 40 → 2 * y ≤ 2 * ey + g + 2 → IsPair g (gap x ex) (gap y ey)
+pub over_here : (g q h k l v x y ex ey : ℕ) → IsRim g q h k l v → IsRay q ex ey → v * v ≤ square x y → x < g → 2 * ex ≤ 2 * x + g + 40 →
+    2 * y ≤ 2 * ey + g + 2 → IsPair g (gap x ex) (gap y ey)
 over_here g q h k l v x y ex ey r ray above near first second =
     let along = beside_far g q h k l v x y r above (omega (arith, near)) in
     let low = ray_low_second q ex ey ray in
@@ -259,7 +277,8 @@ over_here g q h k l v x y ex ey r ray above near first second =
     }
 
 -- the joint (x, y) lies beyond the half axis and the end doesn't
-pub back_pair : (g q h k l v x y ex ey : ℕ) → IsRim g q h k l v → IsRay q ex ey → v * v ≤ square x y → 2 * y ≤ g → 2 * (ex + y) ≤ g + 40 → 2 * x ≤ 2 * ey + g + 2 → IsPair g (ex + y) (gap ey x)
+pub back_pair : (g q h k l v x y ex ey : ℕ) → IsRim g q h k l v → IsRay q ex ey → v * v ≤ square x y → 2 * y ≤ g → 2 * (ex + y) ≤ g + 40 →
+    2 * x ≤ 2 * ey + g + 2 → IsPair g (ex + y) (gap ey x)
 back_pair g q h k l v x y ex ey r ray above near first second =
     let along = beside_far g q h k l v y x r (omega (arith, above)) (omega (arith, near)) in
     let low = ray_low_second q ex ey ray in
@@ -270,7 +289,8 @@ back_pair g q h k l v x y ex ey r ray above near first second =
     }
 
 -- both do
-pub beyond_pair : (g q h k l v x y z w : ℕ) → IsRim g q h k l v → IsRay q z w → v * v ≤ square x y → 2 * y ≤ g → x * w ≤ y * z → 2 * x ≤ 2 * (q + 1) + g → IsPair g (gap x z) (gap y w)
+pub beyond_pair : (g q h k l v x y z w : ℕ) → IsRim g q h k l v → IsRay q z w → v * v ≤ square x y → 2 * y ≤ g → x * w ≤ y * z → 2 * x ≤ 2 * (q + 1) + g →
+    IsPair g (gap x z) (gap y w)
 beyond_pair g q h k l v x y z w r ray above near past high =
     let low = ray_low q z w ray in
     let along = beside_far g q h k l v y x r (omega (arith, above)) (omega (arith, near)) in
@@ -282,9 +302,11 @@ beyond_pair g q h k l v x y z w r ray above near past high =
       one = inr (omega (arith, ints, off, near, r.step));
     }
 
-pub beyond_behind : (g q h k l v x y z w : ℕ) → IsRim g q h k l v → IsRay q z w → v * v ≤ square x y → 2 * y ≤ g → x * w ≤ y * z → 2 * x ≤ 2 * (q + 1) + g → 4 * x ≤ 4 * z + 3 * g
+pub beyond_behind : (g q h k l v x y z w : ℕ) → IsRim g q h k l v → IsRay q z w → v * v ≤ square x y → 2 * y ≤ g → x * w ≤ y * z → 2 * x ≤ 2 * (q + 1) + g →
+    4 * x ≤ 4 * z + 3 * g
 beyond_behind g q h k l v x y z w r ray above near past high =
-    let off = aside g q y x z w r.step r.far (omega (arith, near)) (beside_far g q h k l v y x r (omega (arith, above)) (omega (arith, near))) (ray_low q z w ray) past in
+    let off = aside g q y x z w r.step r.far (omega (arith, near)) (beside_far g q h k l v y x r (omega (arith, above)) (omega (arith, near)))
+    (ray_low q z w ray) past in
     let far = end_far g q z w r.step r.far ray.small (omega (arith, off, near)) in
     omega (arith, far, high, r.step)
 
@@ -297,13 +319,18 @@ pub record IsPlacedJoint (g p r : ℕ) (b j : Spoke) : Type 0 where
   pub alike : r ≤ 20 * (p + 1)
 
 joint_same : (g p r : ℕ) (b j : Spoke) → IsPlacedJoint g p r b j → j.quadrant ≡ b.quadrant → IsJoint g (p + 1) r j.x b.x × IsJoint g (p + 1) r j.y b.y
-joint_same g p r b j h same = moved_same b.quadrant g (p + 1) r b.x b.y j.x j.y (into g p r b.quadrant j.quadrant b.quadrant b.x b.y j.x j.y same h.joined.moved)
+joint_same g p r b j h same =
+    moved_same b.quadrant g (p + 1) r b.x b.y j.x j.y (into g p r b.quadrant j.quadrant b.quadrant b.x b.y j.x j.y same h.joined.moved)
 
-joint_next : (g p r : ℕ) (b j : Spoke) → IsPlacedJoint g p r b j → j.quadrant ≡ following b.quadrant → IsJoint g (p + 1) r j.x b.y × IsAcross g (p + 1) r b.x j.y
-joint_next g p r b j h next = moved_next b.quadrant g (p + 1) r b.x b.y j.x j.y (into g p r b.quadrant j.quadrant (following b.quadrant) b.x b.y j.x j.y next h.joined.moved)
+joint_next : (g p r : ℕ) (b j : Spoke) → IsPlacedJoint g p r b j → j.quadrant ≡ following b.quadrant →
+    IsJoint g (p + 1) r j.x b.y × IsAcross g (p + 1) r b.x j.y
+joint_next g p r b j h next =
+    moved_next b.quadrant g (p + 1) r b.x b.y j.x j.y (into g p r b.quadrant j.quadrant (following b.quadrant) b.x b.y j.x j.y next h.joined.moved)
 
-joint_before : (g p r : ℕ) (b j : Spoke) → IsPlacedJoint g p r b j → b.quadrant ≡ following j.quadrant → IsJoint g (p + 1) r j.y b.x × IsAcross g (p + 1) r b.y j.x
-joint_before g p r b j h before = moved_before j.quadrant g (p + 1) r b.x b.y j.x j.y (from g p r b.quadrant j.quadrant (following j.quadrant) b.x b.y j.x j.y before h.joined.moved)
+joint_before : (g p r : ℕ) (b j : Spoke) → IsPlacedJoint g p r b j → b.quadrant ≡ following j.quadrant →
+    IsJoint g (p + 1) r j.y b.x × IsAcross g (p + 1) r b.y j.x
+joint_before g p r b j h before =
+    moved_before j.quadrant g (p + 1) r b.x b.y j.x j.y (from g p r b.quadrant j.quadrant (following j.quadrant) b.x b.y j.x j.y before h.joined.moved)
 
 -- what the start's ray says of the joint and the end, by quadrants, where the end is at most d nearer to the centre than r
 pub record IsBehind (g r d : ℕ) (b j e : Spoke) : Type 0 where
@@ -328,7 +355,8 @@ behind_joint g p q r d b j e h ray out near =
       second_next = λ next past. along_second g p q r d j.x b.x b.y e.x e.y (joint_next g p r b j h next).0 h.round ray.small (omega (arith, past)) near;
       small_next = λ next. small_across g (p + 1) r b.x j.y (omega arith) (joint_next g p r b j h next).1;
       high_next = λ next. joint_far g p r j.x b.x b.y (joint_next g p r b j h next).0 h.round;
-      first_before = λ before past. along_first g p r 20 j.y b.x b.y e.x e.y (joint_before g p r b j h before).0 h.joined.round great (omega (arith, past)) h.alike;
+      first_before =
+          λ before past. along_first g p r 20 j.y b.x b.y e.x e.y (joint_before g p r b j h before).0 h.joined.round great (omega (arith, past)) h.alike;
       high_before = λ before. joint_far g p r j.y b.y b.x (joint_before g p r b j h before).0 (omega (arith, h.round));
     }
 
@@ -336,23 +364,27 @@ pub large_behind : (g q p : ℕ) (b j e : Spoke) → IsPlacedJoint g p (q + 1) b
 large_behind g q p b j e h ray = behind_joint g p q (q + 1) 1 b j e h ray (omega arith) (omega arith)
 
 -- a wheel that begins at the joint
-pub large_stands_way : (g q h k l v p begun whole : ℕ) (steep : Bool) (b j e : Spoke) → IsRim g q h k l v → IsPlacedJoint g p (q + 1) b j → IsNearJoint g (q + 1) v steep j → IsRay q e.x e.y →
+pub large_stands_way : (g q h k l v p begun whole : ℕ) (steep : Bool) (b j e : Spoke) → IsRim g q h k l v → IsPlacedJoint g p (q + 1) b j →
+    IsNearJoint g (q + 1) v steep j → IsRay q e.x e.y →
     IsReached b j e begun whole → SomeWay (IsPair g) j e
 large_stands_way g q h k l v p begun whole steep b j e r placed near ray reach =
     let w = large_behind g q p b j e placed ray in
     settled_stands (IsPair g) b j e begun whole reach (record {
       here = λ same turn past. stands_here g q h k l v e.x e.y steep j r near ray past (w.first same turn) (omega (arith, w.second same turn));
-      back = λ next turn. back_pair g q h k l v j.x j.y e.x e.y r ray near.low (w.small_next next) (w.across next turn) (omega (arith, w.second_next next turn));
+      back =
+          λ next turn. back_pair g q h k l v j.x j.y e.x e.y r ray near.low (w.small_next next) (w.across next turn) (omega (arith, w.second_next next turn));
       beyond = λ next past. beyond_pair g q h k l v j.x j.y e.x e.y r ray near.low (w.small_next next) past (w.high_next next);
     })
 
 -- and where one move leads to its first point
-pub large_enters_way : (g q h k l v p begun whole : ℕ) (steep : Bool) (b j e : Spoke) (roll : Roll) → IsRim g q h k l v → IsPlacedJoint g p (q + 1) b j → IsNearJoint g (q + 1) v steep j → IsRay q e.x e.y → 0 < e.x →
+pub large_enters_way : (g q h k l v p begun whole : ℕ) (steep : Bool) (b j e : Spoke) (roll : Roll) → IsRim g q h k l v → IsPlacedJoint g p (q + 1) b j →
+    IsNearJoint g (q + 1) v steep j → IsRay q e.x e.y → 0 < e.x →
     cross (way_to b) (way_to j) <ℤ pos 0 → IsEntry g (limit_of q h) steep j roll → IsReached b (rolled g roll j) e begun whole → SomeWay (IsPair g) j e
 large_enters_way g q h k l v p begun whole steep b j e roll r placed near ray some behind entry reach =
     let w = large_behind g q p b j e placed ray in
     settled_enters (IsPair g) g (limit_of q h) steep b j e roll begun whole reach behind entry (record {
-      here = λ same inside turn past. rolls_here g q h k l v e.x e.y steep j roll r near ray inside some entry past (w.first same turn) (omega (arith, w.second same turn));
+      here = λ same inside turn past. rolls_here g q h k l v e.x e.y steep j roll r near ray inside some entry past (w.first same turn)
+          (omega (arith, w.second same turn));
       over_here = λ same less turn. over_here g q h k l v j.x j.y e.x e.y r ray near.low less (w.first same turn) (omega (arith, w.second same turn));
       over = λ same less past. over_pair g q h k l v j.x j.y e.x e.y r ray near.low less past (w.high same);
       before = λ before less turn past. over_pair g q h k l v j.x j.y e.x e.y r ray near.low less past (w.high_before before);

@@ -21,7 +21,8 @@ use Rattle.ngc_arc_walk.proofs.Begins.{Begins}
 use Rattle.ngc_arc_walk.proofs.Shorts.{IsByAxis}
 use Rattle.ngc_arc_walk.proofs.SmallCircuit.{by_first, by_second}
 
-one_point : (a : ArcShape) (b s : Spoke) (d j c : ℕ) → c ≤ 1 → (0 < c → IsWithin d (placed a s) (placed a (axis_spoke b (outer_radius a) j))) → Passes (λ k. placed a s) 0 d 0 (axis_points a b (outer_radius a) j c)
+one_point : (a : ArcShape) (b s : Spoke) (d j c : ℕ) → c ≤ 1 → (0 < c → IsWithin d (placed a s) (placed a (axis_spoke b (outer_radius a) j))) →
+    Passes (λ k. placed a s) 0 d 0 (axis_points a b (outer_radius a) j c)
 one_point a b s d j zero few near = tt
 one_point a b s d j (suc zero) few near = (0, omega arith, omega arith, near (omega arith), tt)
 one_point a b s d j (suc (suc c)) few near = absurd (omega (arith, few))
@@ -36,16 +37,20 @@ passes_at_one a b e s whole d round few near =
 pub stood_by_axis : (g : ℕ) (b j : Spoke) (begun : ℕ) → Begins g b j begun → first_axis b.y ≤ begun → IsByAxis g (turned_by begun b.quadrant) j
 stood_by_axis g b j begun at few = inl (at.begins, at.beside few)
 
-pub rolled_by_axis : (g limit : ℕ) (t : Bool) (b j : Spoke) (begun : ℕ) (roll : Roll) → IsEntry g limit t j roll → Begins g b (rolled g roll j) begun → first_axis b.y ≤ begun → IsByAxis g (turned_by begun b.quadrant) j
+pub rolled_by_axis : (g limit : ℕ) (t : Bool) (b j : Spoke) (begun : ℕ) (roll : Roll) → IsEntry g limit t j roll → Begins g b (rolled g roll j) begun →
+    first_axis b.y ≤ begun → IsByAxis g (turned_by begun b.quadrant) j
 rolled_by_axis g limit t b j begun Over entry at few = inr (at.begins, omega (arith, entry))
 rolled_by_axis g limit t b j begun Outward entry at few = inl (at.begins, omega (arith, at.beside few))
 rolled_by_axis g limit t b j begun Diagonal entry at few = inl (at.begins, omega (arith, at.beside few))
 rolled_by_axis g limit t b j begun Inward entry at few = inl (at.begins, at.beside few)
 
 -- round small circles such a point is near the axis' quadrant point
-pub small_by_axis : (a : ArcShape) (s : Spoke) (z : Quadrant) (g o h l m v r d : ℕ) → IsSmallSize g o h l m v → IsBelow g ((o + l) * (o + l)) s → IsAbove g v s → inner_radius a ≤ r → r ≤ outer_radius a → (r ≤ o) × (o ≤ r + g) →
+pub small_by_axis : (a : ArcShape) (s : Spoke) (z : Quadrant) (g o h l m v r d : ℕ) → IsSmallSize g o h l m v → IsBelow g ((o + l) * (o + l)) s →
+    IsAbove g v s → inner_radius a ≤ r → r ≤ outer_radius a → (r ≤ o) × (o ≤ r + g) →
     spread a + 5 * g ≤ d → IsByAxis g z s → IsWithin d (placed a s) (placed a (record { quadrant = z; x = outer_radius a; y = 0 }))
 small_by_axis a s z g o h l m v r d size below above inside outside circle wide (inl p) =
-    subst (λ (t : Quadrant). IsWithin d (placed a s) (placed a (record { quadrant = t; x = outer_radius a; y = 0 }))) p.0 (by_first a s g o h l m v r d size below above inside outside circle wide p.1)
+    subst (λ (t : Quadrant). IsWithin d (placed a s) (placed a (record { quadrant = t; x = outer_radius a; y = 0 }))) p.0
+    (by_first a s g o h l m v r d size below above inside outside circle wide p.1)
 small_by_axis a s z g o h l m v r d size below above inside outside circle wide (inr p) =
-    subst (λ (t : Quadrant). IsWithin d (placed a s) (placed a (record { quadrant = t; x = outer_radius a; y = 0 }))) p.0 (by_second a s g o h l m v r d size below above inside outside circle wide p.1)
+    subst (λ (t : Quadrant). IsWithin d (placed a s) (placed a (record { quadrant = t; x = outer_radius a; y = 0 }))) p.0
+    (by_second a s g o h l m v r d size below above inside outside circle wide p.1)

@@ -1,5 +1,6 @@
 -- The way from the joint to the end, as the start's quadrant sees it: along the first of its half axes and along the second.
-use Rattle.std.proofs.Common.{◌≡◌, ℕ, ◌+◌, ◌*◌, ◌<◌, ◌≤◌, ℤ, pos, ◌<ℤ◌, ◌≤ℤ◌, ◌+ℤ◌, ◌-ℤ◌, ◌*ℤ◌, neg_ℤ, unsigned_abs, ◌⊎◌, inl, inr, refl, sym, ◌∙◌, subst, arith}
+use Rattle.std.proofs.Common.{◌≡◌, ℕ, ◌+◌, ◌*◌, ◌<◌, ◌≤◌, ℤ, pos, ◌<ℤ◌, ◌≤ℤ◌, ◌+ℤ◌, ◌-ℤ◌, ◌*ℤ◌, neg_ℤ, unsigned_abs, ◌⊎◌, inl, inr, refl, sym, ◌∙◌, subst}
+use Rattle.std.proofs.Common.{arith}
 use Rattle.std.specs.Prelude.{Bool}
 use Rattle.std.proofs.lemmas.Int.{ints}
 use borrow.Author.Differences.{neg_is}
@@ -16,7 +17,8 @@ use Rattle.ngc_wheel.specs.Wheel.{rolled}
 use Rattle.ngc_wheel.proofs.Beginnings.{IsNearJoint}
 use Rattle.ngc_wheel.proofs.NearEnd.{IsRim, IsRay, limit_of}
 use Rattle.ngc_arc_walk.proofs.Circuit.{gap}
-use Rattle.ngc_arc_walk.proofs.Nearly.{IsPair, IsPlacedJoint, large_behind, stands_here, rolls_here, over_here, over_pair, over_behind, back_pair, beyond_pair, beyond_behind}
+use Rattle.ngc_arc_walk.proofs.Nearly.{IsPair, IsPlacedJoint, large_behind, stands_here, rolls_here, over_here, over_pair, over_behind, back_pair, beyond_pair}
+use Rattle.ngc_arc_walk.proofs.Nearly.{beyond_behind}
 use Rattle.ngc_arc_walk.proofs.Reached.{IsReached, by_stands, by_enters}
 
 -- from p to q it is m along the quadrant's first half axis and n along its second
@@ -84,7 +86,8 @@ pub record IsOnward (g : ℕ) (m n : ℤ) : Type 0 where
   pub second_behind : pos 0 ≤ℤ ((pos 4 *ℤ n) +ℤ pos (3 * g))
   pub one : (pos 0 ≤ℤ ((pos 20 *ℤ m) +ℤ pos (21 * g))) ⊎ ((pos 20 *ℤ n) ≤ℤ pos (21 * g))
 
-from_pair : (g : ℕ) (m n : ℤ) → IsPair g (unsigned_abs m) (unsigned_abs n) → (pos 2 *ℤ m) ≤ℤ pos (g + 40) → pos 0 ≤ℤ ((pos 4 *ℤ n) +ℤ pos (3 * g)) → IsOnward g m n
+from_pair : (g : ℕ) (m n : ℤ) → IsPair g (unsigned_abs m) (unsigned_abs n) → (pos 2 *ℤ m) ≤ℤ pos (g + 40) → pos 0 ≤ℤ ((pos 4 *ℤ n) +ℤ pos (3 * g)) →
+    IsOnward g m n
 from_pair g m n pair first second = record {
   first_ahead = first;
   first_behind = omega (arith, ints, pair.first);
@@ -97,7 +100,8 @@ from_pair g m n pair first second = record {
 abbrev pub GoesOnward : ℕ → Spoke → Spoke → Spoke → Type 0
 GoesOnward g b j e = (m : ℤ) × (n : ℤ) × IsTurned b.quadrant (way_to j) (way_to e) m n × IsOnward g m n
 
-onward_by : (g : ℕ) (b j e : Spoke) (c d : Quadrant) (m n : ℤ) → j.quadrant ≡ c → e.quadrant ≡ d → IsTurned b.quadrant (around c j.x j.y) (around d e.x e.y) m n → IsOnward g m n → GoesOnward g b j e
+onward_by : (g : ℕ) (b j e : Spoke) (c d : Quadrant) (m n : ℤ) → j.quadrant ≡ c → e.quadrant ≡ d →
+    IsTurned b.quadrant (around c j.x j.y) (around d e.x e.y) m n → IsOnward g m n → GoesOnward g b j e
 onward_by g b j e c d m n hj he t o = (
   m,
   n,
@@ -106,13 +110,15 @@ onward_by g b j e c d m n hj he t o = (
   o,
 )
 
-onward_here : (g : ℕ) (b j e : Spoke) → j.quadrant ≡ b.quadrant → e.quadrant ≡ b.quadrant → IsPair g (gap j.x e.x) (gap j.y e.y) → 500 ≤ g → 2 * e.x ≤ 2 * j.x + g + 40 → 2 * j.y ≤ 2 * e.y + g + 2 → GoesOnward g b j e
+onward_here : (g : ℕ) (b j e : Spoke) → j.quadrant ≡ b.quadrant → e.quadrant ≡ b.quadrant → IsPair g (gap j.x e.x) (gap j.y e.y) → 500 ≤ g →
+    2 * e.x ≤ 2 * j.x + g + 40 → 2 * j.y ≤ 2 * e.y + g + 2 → GoesOnward g b j e
 onward_here g b j e hj he pair step first second =
     onward_by g b j e b.quadrant b.quadrant (pos e.x -ℤ pos j.x) (pos e.y -ℤ pos j.y) hj he (turned_here b.quadrant j.x j.y e.x e.y)
     (from_pair g (pos e.x -ℤ pos j.x) (pos e.y -ℤ pos j.y) pair (omega (arith, ints, first)) (omega (arith, ints, second, step)))
 
 -- a wheel that begins at the joint
-pub large_stands_onward : (g q h k l v p begun whole : ℕ) (steep : Bool) (b j e : Spoke) → IsRim g q h k l v → IsPlacedJoint g p (q + 1) b j → IsNearJoint g (q + 1) v steep j → IsRay q e.x e.y →
+pub large_stands_onward : (g q h k l v p begun whole : ℕ) (steep : Bool) (b j e : Spoke) → IsRim g q h k l v → IsPlacedJoint g p (q + 1) b j →
+    IsNearJoint g (q + 1) v steep j → IsRay q e.x e.y →
     IsReached b j e begun whole → GoesOnward g b j e
 large_stands_onward g q h k l v p begun whole steep b j e r placed near ray reach =
     let w = large_behind g q p b j e placed ray in
@@ -125,12 +131,14 @@ large_stands_onward g q h k l v p begun whole steep b j e r placed near ray reac
           let second : 2 * j.x ≤ 2 * e.y + g + 2 = omega (arith, w.second_next next turn) in
           let pair = back_pair g q h k l v j.x j.y e.x e.y r ray near.low (w.small_next next) first second in
           onward_by g b j e (following b.quadrant) b.quadrant (pos (e.x + j.y)) (pos e.y -ℤ pos j.x) next to (turned_back b.quadrant j.x j.y e.x e.y)
-          (from_pair g (pos (e.x + j.y)) (pos e.y -ℤ pos j.x) (record { first = pair.first; second = omega (arith, ints, pair.second); one = inl (omega (arith, first, r.step)) })
+          (from_pair g (pos (e.x + j.y)) (pos e.y -ℤ pos j.x)
+          (record { first = pair.first; second = omega (arith, ints, pair.second); one = inl (omega (arith, first, r.step)) })
           (omega (arith, ints, first)) (omega (arith, ints, second, r.step))));
       beyond = λ next to past. (
           let pair = beyond_pair g q h k l v j.x j.y e.x e.y r ray near.low (w.small_next next) past (w.high_next next) in
           let second = beyond_behind g q h k l v j.x j.y e.x e.y r ray near.low (w.small_next next) past (w.high_next next) in
-          onward_by g b j e (following b.quadrant) (following b.quadrant) (pos j.y -ℤ pos e.y) (pos e.x -ℤ pos j.x) next to (turned_next b.quadrant j.x j.y e.x e.y)
+          onward_by g b j e (following b.quadrant) (following b.quadrant) (pos j.y -ℤ pos e.y) (pos e.x -ℤ pos j.x) next to
+          (turned_next b.quadrant j.x j.y e.x e.y)
           (from_pair g (pos j.y -ℤ pos e.y) (pos e.x -ℤ pos j.x) (record {
             first = omega (arith, ints, pair.second);
             second = omega (arith, ints, pair.first);
@@ -140,14 +148,16 @@ large_stands_onward g q h k l v p begun whole steep b j e r placed near ray reac
     })
 
 -- and where one move leads to its first point
-pub large_enters_onward : (g q h k l v p begun whole : ℕ) (steep : Bool) (b j e : Spoke) (roll : Roll) → IsRim g q h k l v → IsPlacedJoint g p (q + 1) b j → IsNearJoint g (q + 1) v steep j → IsRay q e.x e.y → 0 < e.x →
+pub large_enters_onward : (g q h k l v p begun whole : ℕ) (steep : Bool) (b j e : Spoke) (roll : Roll) → IsRim g q h k l v → IsPlacedJoint g p (q + 1) b j →
+    IsNearJoint g (q + 1) v steep j → IsRay q e.x e.y → 0 < e.x →
     cross (way_to b) (way_to j) <ℤ pos 0 → IsEntry g (limit_of q h) steep j roll → IsReached b (rolled g roll j) e begun whole → GoesOnward g b j e
 large_enters_onward g q h k l v p begun whole steep b j e roll r placed near ray some behind entry reach =
     let w = large_behind g q p b j e placed ray in
     by_enters (GoesOnward g b j e) g (limit_of q h) steep b j e roll begun whole reach behind entry (record {
       here = λ same to inside turn past. (
           let second : 2 * j.y ≤ 2 * e.y + g + 2 = omega (arith, w.second same turn) in
-          onward_here g b j e same to (rolls_here g q h k l v e.x e.y steep j roll r near ray inside some entry past (w.first same turn) second) r.step (w.first same turn) second);
+          onward_here g b j e same to (rolls_here g q h k l v e.x e.y steep j roll r near ray inside some entry past (w.first same turn) second) r.step
+          (w.first same turn) second);
       over_here = λ same to less turn. (
           let second : 2 * j.y ≤ 2 * e.y + g + 2 = omega (arith, w.second same turn) in
           onward_here g b j e same to (over_here g q h k l v j.x j.y e.x e.y r ray near.low less (w.first same turn) second) r.step (w.first same turn) second);
@@ -166,7 +176,8 @@ large_enters_onward g q h k l v p begun whole steep b j e roll r placed near ray
           let pair = over_pair g q h k l v j.x j.y e.x e.y r ray near.low less past (w.high_before before) in
           let first = w.first_before before turn in
           let t : IsTurned b.quadrant (around j.quadrant j.x j.y) (around (following j.quadrant) e.x e.y) (pos e.x -ℤ pos j.y) (pos (j.x + e.y)) =
-          subst (λ (z : Quadrant). IsTurned z (around j.quadrant j.x j.y) (around (following j.quadrant) e.x e.y) (pos e.x -ℤ pos j.y) (pos (j.x + e.y))) (sym before) (turned_before j.quadrant j.x j.y e.x e.y) in
+          subst (λ (z : Quadrant). IsTurned z (around j.quadrant j.x j.y) (around (following j.quadrant) e.x e.y) (pos e.x -ℤ pos j.y) (pos (j.x + e.y)))
+          (sym before) (turned_before j.quadrant j.x j.y e.x e.y) in
           onward_by g b j e j.quadrant (following j.quadrant) (pos e.x -ℤ pos j.y) (pos (j.x + e.y)) refl (to ∙ before) t
           (from_pair g (pos e.x -ℤ pos j.y) (pos (j.x + e.y)) (record {
             first = pair.second;

@@ -26,7 +26,8 @@ use Rattle.ngc_arc_walk.specs.Round.{IsRound}
 pub record IsPassing (a : ArcShape) (g limit d n : ℕ) (at : ℕ → Spoke) (quadrant : ℕ → ℕ) (b e : Spoke) (begun left : ℕ) : Type 0 where
   pub walk : IsWalk a g limit n at quadrant b e begun left
   pub behind : (i : ℕ) → i ≤ n → (at i).y ≤ g → IsWithin d (placed a (at i)) (placed a (record { quadrant = (at i).quadrant; x = outer_radius a; y = 0 }))
-  pub before : (i : ℕ) → i ≤ n → (at i).x ≤ g → IsWithin d (placed a (at i)) (placed a (record { quadrant = following (at i).quadrant; x = outer_radius a; y = 0 }))
+  pub before : (i : ℕ) → i ≤ n → (at i).x ≤ g →
+      IsWithin d (placed a (at i)) (placed a (record { quadrant = following (at i).quadrant; x = outer_radius a; y = 0 }))
   pub some_radius : 0 < outer_radius a
   pub soon : begun ≤ first_axis b.y
   pub beside : first_axis b.y ≤ begun → (at 0).y ≤ g
@@ -63,7 +64,8 @@ in_order g limit n at quadrant i k way le less =
     ]
 
 -- the move into a quadrant begins it less than a step from its axis
-enters : (g limit : ℕ) (s : Spoke) (r : Roll) (here j : ℕ) → IsRoll g limit s r → here < j → j ≤ quadrants_of here r → (quadrants_of here r ≡ j) × ((rolled g r s).y ≤ g)
+enters : (g limit : ℕ) (s : Spoke) (r : Roll) (here j : ℕ) → IsRoll g limit s r → here < j → j ≤ quadrants_of here r →
+    (quadrants_of here r ≡ j) × ((rolled g r s).y ≤ g)
 enters g limit s Outward here j roll less more = absurd (omega (arith, less, more))
 enters g limit s Diagonal here j roll less more = absurd (omega (arith, less, more))
 enters g limit s Inward here j roll less more = absurd (omega (arith, less, more))
@@ -87,7 +89,8 @@ first_place g limit n at quadrant (suc m) j way le some more =
 -- ---- the quadrant points
 
 -- from place i on, which lies before the j-th axis
-passes_from : (a : ArcShape) (g limit d n : ℕ) (at : ℕ → Spoke) (quadrant : ℕ → ℕ) (b e : Spoke) (begun left : ℕ) → IsPassing a g limit d n at quadrant b e begun left →
+passes_from : (a : ArcShape) (g limit d n : ℕ) (at : ℕ → Spoke) (quadrant : ℕ → ℕ) (b e : Spoke) (begun left : ℕ) →
+    IsPassing a g limit d n at quadrant b e begun left →
     (c j i : ℕ) → i ≤ n → begun + quadrant i < j → j + c ≤ begun + left + 1 →
     Passes (λ k. placed a (at k)) n d i (axis_points a b (outer_radius a) j c)
 passes_from a g limit d n at quadrant b e begun left w zero j i le before few = tt
@@ -99,10 +102,16 @@ passes_from a g limit d n at quadrant b e begun left w (suc c) j i le before few
           let count : begun + quadrant f.0 ≡ j = omega (arith, f.2, before) in
           let order = in_order g limit n at quadrant i f.0 way le (omega (arith, before, count)) in
           let there : (at f.0).quadrant ≡ turned_by j b.quadrant =
-          quadrant_on g limit n at quadrant f.0 way f.1 ∙ ap (turned_by (quadrant f.0)) w.walk.begins ∙ turned_sum begun (quadrant f.0) b.quadrant ∙ ap (λ m. turned_by m b.quadrant) count in
+          quadrant_on g limit n at quadrant f.0 way f.1 ∙ ap (turned_by (quadrant f.0)) w.walk.begins ∙ turned_sum begun (quadrant f.0) b.quadrant
+          ∙ ap (λ m. turned_by m b.quadrant) count in
           let near = w.behind f.0 f.1 f.3 in
-          let rest = passes_from a g limit d n at quadrant b e begun left w c (suc j) f.0 f.1 (omega (arith, count)) (omega (arith, few)) in
-          (f.0, order, f.1, subst (λ (z : Quadrant). IsWithin d (placed a (at f.0)) (placed a (record { quadrant = z; x = outer_radius a; y = 0 }))) there near, rest))
+          let rest = passes_from a g limit d n at quadrant b e begun left w c (suc j) f.0 f.1 (omega (arith, count)) (omega (arith, few)) in (
+            f.0,
+            order,
+            f.1,
+            subst (λ (z : Quadrant). IsWithin d (placed a (at f.0)) (placed a (record { quadrant = z; x = outer_radius a; y = 0 }))) there near,
+            rest,
+          ))
       | inl beyond ↦ elim w.ends [
         | inl done ↦ absurd (omega (arith, done, beyond, few))
         | inr last ↦ (
@@ -111,13 +120,19 @@ passes_from a g limit d n at quadrant b e begun left w (suc c) j i le before few
             quadrant_on g limit n at quadrant n way (omega arith) ∙ ap (turned_by (quadrant n)) w.walk.begins ∙ turned_sum begun (quadrant n) b.quadrant in
             let there : following (at n).quadrant ≡ turned_by j b.quadrant = ap following here ∙ ap (λ m. turned_by m b.quadrant) count in
             let near = w.before n (omega arith) (omega (arith, last.1)) in
-            let rest = passes_from a g limit d n at quadrant b e begun left w c (suc j) n (omega arith) (omega (arith, beyond)) (omega (arith, few)) in
-            (n, le, omega arith, subst (λ (z : Quadrant). IsWithin d (placed a (at n)) (placed a (record { quadrant = z; x = outer_radius a; y = 0 }))) there near, rest))
+            let rest = passes_from a g limit d n at quadrant b e begun left w c (suc j) n (omega arith) (omega (arith, beyond)) (omega (arith, few)) in (
+              n,
+              le,
+              omega arith,
+              subst (λ (z : Quadrant). IsWithin d (placed a (at n)) (placed a (record { quadrant = z; x = outer_radius a; y = 0 }))) there near,
+              rest,
+            ))
       ]
     ]
 
 -- from the start, with the axis that it begins on or past
-passes_all : (a : ArcShape) (g limit d n : ℕ) (at : ℕ → Spoke) (quadrant : ℕ → ℕ) (b e : Spoke) (begun left : ℕ) → IsPassing a g limit d n at quadrant b e begun left →
+passes_all : (a : ArcShape) (g limit d n : ℕ) (at : ℕ → Spoke) (quadrant : ℕ → ℕ) (b e : Spoke) (begun left : ℕ) →
+    IsPassing a g limit d n at quadrant b e begun left →
     (c : ℕ) → first_axis b.y + c ≤ begun + left + 1 → Passes (λ k. placed a (at k)) n d 0 (axis_points a b (outer_radius a) (first_axis b.y) c)
 passes_all a g limit d n at quadrant b e begun left w zero few = tt
 passes_all a g limit d n at quadrant b e begun left w (suc c) few =
@@ -128,15 +143,22 @@ passes_all a g limit d n at quadrant b e begun left w (suc c) few =
           let same : begun ≡ first_axis b.y = omega (arith, past, w.soon) in
           let there : (at 0).quadrant ≡ turned_by (first_axis b.y) b.quadrant = w.walk.begins ∙ ap (λ m. turned_by m b.quadrant) same in
           let near = w.behind 0 (omega arith) (w.beside past) in
-          let rest = passes_from a g limit d n at quadrant b e begun left w c (suc (first_axis b.y)) 0 (omega arith) (omega (arith, starts, same)) (omega (arith, few)) in
-          (0, omega arith, omega arith, subst (λ (z : Quadrant). IsWithin d (placed a (at 0)) (placed a (record { quadrant = z; x = outer_radius a; y = 0 }))) there near, rest))
+          let rest = passes_from a g limit d n at quadrant b e begun left w c (suc (first_axis b.y)) 0 (omega arith) (omega (arith, starts, same))
+          (omega (arith, few)) in (
+            0,
+            omega arith,
+            omega arith,
+            subst (λ (z : Quadrant). IsWithin d (placed a (at 0)) (placed a (record { quadrant = z; x = outer_radius a; y = 0 }))) there near,
+            rest,
+          ))
     ]
 
 pub at_most_one : (y : ℕ) → first_axis y ≤ 1
 at_most_one zero = omega arith
 at_most_one (suc y) = omega arith
 
-round_of : (a : ArcShape) (g limit d n : ℕ) (at : ℕ → Spoke) (quadrant : ℕ → ℕ) (b e : Spoke) (begun left : ℕ) → IsPassing a g limit d n at quadrant b e begun left → IsRound a b e (begun + left)
+round_of : (a : ArcShape) (g limit d n : ℕ) (at : ℕ → Spoke) (quadrant : ℕ → ℕ) (b e : Spoke) (begun left : ℕ) →
+    IsPassing a g limit d n at quadrant b e begun left → IsRound a b e (begun + left)
 round_of a g limit d n at quadrant b e begun left w = record {
   start = w.walk.start;
   end = w.walk.end;
@@ -148,7 +170,8 @@ round_of a g limit d n at quadrant b e begun left w = record {
 }
 
 -- Such a walk comes within d of each quadrant point of its arc, one after the other.
-pub passes : (a : ArcShape) (g limit d n : ℕ) (at : ℕ → Spoke) (quadrant : ℕ → ℕ) (b e : Spoke) (begun left : ℕ) → IsPassing a g limit d n at quadrant b e begun left →
+pub passes : (a : ArcShape) (g limit d n : ℕ) (at : ℕ → Spoke) (quadrant : ℕ → ℕ) (b e : Spoke) (begun left : ℕ) →
+    IsPassing a g limit d n at quadrant b e begun left →
     Passes (λ k. placed a (at k)) n d 0 (extremes a)
 passes a g limit d n at quadrant b e begun left w =
     let few : first_axis b.y + min 4 (begun + left + 1 - first_axis b.y) ≤ begun + left + 1 = omega (arith, at_most_one b.y) in

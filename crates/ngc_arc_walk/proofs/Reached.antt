@@ -102,7 +102,8 @@ at_most_one zero = omega arith
 at_most_one (suc y) = omega arith
 
 -- as the walk's beginning and the search for its end say
-pub reached : (g : ℕ) (b f e : Spoke) (begun whole : ℕ) → Begins g b f begun → e.quadrant ≡ turned_by whole b.quadrant → IsATurn whole b.x b.y e.x e.y → whole ≤ begun → (whole ≡ begun → f.x * e.y ≤ f.y * e.x) →
+pub reached : (g : ℕ) (b f e : Spoke) (begun whole : ℕ) → Begins g b f begun → e.quadrant ≡ turned_by whole b.quadrant → IsATurn whole b.x b.y e.x e.y →
+    whole ≤ begun → (whole ≡ begun → f.x * e.y ≤ f.y * e.x) →
     IsReached b f e begun whole
 reached g b f e begun whole h to turn few past = record {
   few = omega (arith, h.soon, at_most_one b.y);
@@ -153,11 +154,13 @@ same_before p q h = sym (four_on p) ∙ ap (λ (z : Quadrant). following (follow
 
 not_ahead : (b j : Spoke) → cross (way_to b) (way_to j) <ℤ pos 0 → j.quadrant ≡ following b.quadrant → ⊥
 not_ahead b j behind next =
-    let c : cross (way_to b) (way_to j) ≡ pos (b.x * j.x + b.y * j.y) = ap (λ (z : Quadrant). cross (way_to b) (around z j.x j.y)) next ∙ cross_next b.quadrant b.x b.y j.x j.y in
+    let c : cross (way_to b) (way_to j) ≡ pos (b.x * j.x + b.y * j.y) =
+    ap (λ (z : Quadrant). cross (way_to b) (around z j.x j.y)) next ∙ cross_next b.quadrant b.x b.y j.x j.y in
     absurd (omega (arith, ints, behind, c))
 
 -- in the joint's quadrant
-enters_in : (R : Type 0) (g : ℕ) (b j e : Spoke) (roll : Roll) (begun whole : ℕ) → IsReached b (rolled g roll j) e begun whole → cross (way_to b) (way_to j) <ℤ pos 0 → g ≤ j.x →
+enters_in : (R : Type 0) (g : ℕ) (b j e : Spoke) (roll : Roll) (begun whole : ℕ) → IsReached b (rolled g roll j) e begun whole →
+    cross (way_to b) (way_to j) <ℤ pos 0 → g ≤ j.x →
     (rolled g roll j).quadrant ≡ j.quadrant → EntersCases R g b j e roll → R
 enters_in R g b j e roll zero zero r behind inside stays s = elim r.past [
   | inl none ↦ absurd (omega (arith, none))
@@ -190,7 +193,8 @@ enters_over R g b j e (suc zero) (suc (suc n)) r near s = elim r.past [
 ]
 enters_over R g b j e (suc (suc m)) n r near s = absurd (omega (arith, r.few))
 
-pub by_enters : (R : Type 0) (g limit : ℕ) (steep : Bool) (b j e : Spoke) (roll : Roll) (begun whole : ℕ) → IsReached b (rolled g roll j) e begun whole → cross (way_to b) (way_to j) <ℤ pos 0 →
+pub by_enters : (R : Type 0) (g limit : ℕ) (steep : Bool) (b j e : Spoke) (roll : Roll) (begun whole : ℕ) → IsReached b (rolled g roll j) e begun whole →
+    cross (way_to b) (way_to j) <ℤ pos 0 →
     IsEntry g limit steep j roll → EntersCases R g b j e roll → R
 by_enters R g limit steep b j e Over begun whole r behind entry s = enters_over R g b j e begun whole r entry s
 by_enters R g limit steep b j e Outward begun whole r behind entry s = enters_in R g b j e Outward begun whole r behind entry.1 refl s
@@ -217,7 +221,8 @@ pub record EntersSettled (P : ℕ → ℕ → Type 0) (g : ℕ) (b j e : Spoke) 
   pub over : j.quadrant ≡ b.quadrant → j.x < g → j.y * e.y ≤ (g - j.x) * e.x → P (j.x + e.y) (gap j.y e.x)
   pub before : b.quadrant ≡ following j.quadrant → j.x < g → b.y * e.x < b.x * e.y → j.y * e.y ≤ (g - j.x) * e.x → P (j.x + e.y) (gap j.y e.x)
 
-pub settled_enters : (P : ℕ → ℕ → Type 0) (g limit : ℕ) (steep : Bool) (b j e : Spoke) (roll : Roll) (begun whole : ℕ) → IsReached b (rolled g roll j) e begun whole → cross (way_to b) (way_to j) <ℤ pos 0 →
+pub settled_enters : (P : ℕ → ℕ → Type 0) (g limit : ℕ) (steep : Bool) (b j e : Spoke) (roll : Roll) (begun whole : ℕ) →
+    IsReached b (rolled g roll j) e begun whole → cross (way_to b) (way_to j) <ℤ pos 0 →
     IsEntry g limit steep j roll → EntersSettled P g b j e roll → SomeWay P j e
 settled_enters P g limit steep b j e roll begun whole r behind entry s = by_enters (SomeWay P j e) g limit steep b j e roll begun whole r behind entry (record {
   here = λ same to inside turn past. way_same P b.quadrant j e same to (s.here same inside turn past);

@@ -1,5 +1,6 @@
 -- Which spokes the sector of an arc has, and which it has not.
-use Rattle.std.proofs.Common.{◌≡◌, ℕ, zero, suc, ◌+◌, ◌-◌, ◌*◌, ◌<◌, ◌≤◌, ℤ, pos, ◌-ℤ◌, negsuc, neg_ℤ, ◌≤ℤ◌, unsigned_abs, ◌⊎◌, inl, inr, refl, sym, ◌∙◌, ap, subst, arith}
+use Rattle.std.proofs.Common.{◌≡◌, ℕ, zero, suc, ◌+◌, ◌-◌, ◌*◌, ◌<◌, ◌≤◌, ℤ, pos, ◌-ℤ◌, negsuc, neg_ℤ, ◌≤ℤ◌, unsigned_abs, ◌⊎◌, inl, inr, refl, sym, ◌∙◌, ap}
+use Rattle.std.proofs.Common.{subst, arith}
 use Rattle.std.specs.Prelude.{Bool, true, false, int_lt, ◌&&◌, ◌||◌, if◌then◌else◌}
 use Rattle.std.proofs.lemmas.Bool.{cases_lt}
 use Rattle.std.proofs.lemmas.Int.{ints}
@@ -19,7 +20,8 @@ use Rattle.ngc_wheel.specs.Directions.{IsNoLater}
 use Rattle.ngc_arc_geometry.specs.Shape.{ArcShape, start_of, end_of}
 use Rattle.ngc_arc_geometry.specs.Sector.{turn_from, is_ahead, same_direction, in_sector}
 use Rattle.ngc_arc_walk.specs.Placed.{mirrored, placed, turned_by, axis_spoke, IsATurn}
-use Rattle.ngc_arc_walk.proofs.Crosses.{times_neg, neg_times, negs_times, turn_placed, dot_placed, four_on, same_axis, IsBehind, ahead_or_behind, is_ahead_true, is_ahead_false}
+use Rattle.ngc_arc_walk.proofs.Crosses.{times_neg, neg_times, negs_times, turn_placed, dot_placed, four_on, same_axis, IsBehind, ahead_or_behind, is_ahead_true}
+use Rattle.ngc_arc_walk.proofs.Crosses.{is_ahead_false}
 
 -- the test of the definition, with start and end by name
 abbrev pub between : ArcShape → Point2 → Point2 → Point2 → Bool
@@ -68,10 +70,12 @@ nothing z e = rw e refl
 both : (i j : Bool) → i ≡ true → j ≡ true → (i && j) ≡ true
 both i j hi hj = rw (hi, hj) refl
 
-pub same_ray : (a : ArcShape) (s t : Spoke) → t.quadrant ≡ s.quadrant → 0 < s.x → 0 < t.x → s.x * t.y ≡ s.y * t.x → same_direction a (placed a s) (placed a t) ≡ true
+pub same_ray : (a : ArcShape) (s t : Spoke) → t.quadrant ≡ s.quadrant → 0 < s.x → 0 < t.x → s.x * t.y ≡ s.y * t.x →
+    same_direction a (placed a s) (placed a t) ≡ true
 same_ray a s t e hs ht h =
     let c : turn_from a (placed a s) (placed a t) ≡ pos 0 = turn_placed a s t ∙ (rw e (cross_same s.quadrant s.x s.y t.x t.y ∙ omega (arith, ints, h))) in
-    let d : dot (from a.centre (placed a s)) (from a.centre (placed a t)) ≡ pos (s.x * t.x + s.y * t.y) = dot_placed a s t ∙ (rw e (dot_same s.quadrant s.x s.y t.x t.y)) in
+    let d : dot (from a.centre (placed a s)) (from a.centre (placed a t)) ≡ pos (s.x * t.x + s.y * t.y) =
+    dot_placed a s t ∙ (rw e (dot_same s.quadrant s.x s.y t.x t.y)) in
     both _ _ (nothing _ c) (positive _ (s.x * t.x + s.y * t.y) d (omega (arith, mul-le 1 1 s.x t.x hs ht)))
 
 -- ---- what lies between
@@ -158,7 +162,8 @@ between_somewhere a b p e m (suc n) hp he bx some ex bp pe turn =
           let hq : e.quadrant ≡ turned_by n q.quadrant = he ∙ sym (turned_sum 1 n p.quadrant ∙ ap (λ k. turned_by k p.quadrant) one) in
           let last : IsNoLater n p.y 0 e.x e.y = beside n p.y e.x e.y in
           let turn' : IsATurn (suc m + n) b.x b.y e.x e.y = subst (λ k. IsATurn k b.x b.y e.x e.y) sum turn in
-          subst (λ z. between a (placed a b) (placed a e) z ≡ true) (sym (on_axis a p x)) (between_ahead a b q e (suc m) n (ap following hp) hq bx y ex tt last turn'))
+          subst (λ z. between a (placed a b) (placed a e) z ≡ true) (sym (on_axis a p x))
+          (between_ahead a b q e (suc m) n (ap following hp) hq bx y ex tt last turn'))
     ]
 
 -- A point m quadrants on from the start b and n before the end e, with neither behind its own ray, lies in the sector.
@@ -211,11 +216,13 @@ rays_apart a b e (suc zero) few h bx ex turn =
     some_turn a b e (subst (λ z. 0 < unsigned_abs z) (sym c) (omega (arith, ints, mul-le 1 1 b.x e.x bx ex)))
 rays_apart a b e (suc (suc zero)) few h bx ex turn =
     let i = neg_is (pos (b.x * e.x + b.y * e.y)) in
-    let d : dot (from a.centre (placed a b)) (from a.centre (placed a e)) ≡ neg_ℤ (pos (b.x * e.x + b.y * e.y)) = dot_placed a b e ∙ (rw h (dot_opposite b.quadrant b.x b.y e.x e.y)) in
+    let d : dot (from a.centre (placed a b)) (from a.centre (placed a e)) ≡ neg_ℤ (pos (b.x * e.x + b.y * e.y)) =
+    dot_placed a b e ∙ (rw h (dot_opposite b.quadrant b.x b.y e.x e.y)) in
     not_right _ _ (not_positive _ (subst (λ z. z ≤ℤ pos 0) (sym d) (omega (arith, ints, i.0, i.1))))
 rays_apart a b e (suc (suc (suc zero))) few h bx ex turn =
     let i = neg_is (pos (b.x * e.x + b.y * e.y)) in
-    let c : turn_from a (placed a b) (placed a e) ≡ neg_ℤ (pos (b.x * e.x + b.y * e.y)) = turn_placed a b e ∙ (rw h (cross_behind b.quadrant b.x b.y e.x e.y)) in
+    let c : turn_from a (placed a b) (placed a e) ≡ neg_ℤ (pos (b.x * e.x + b.y * e.y)) =
+    turn_placed a b e ∙ (rw h (cross_behind b.quadrant b.x b.y e.x e.y)) in
     some_turn a b e (subst (λ z. 0 < unsigned_abs z) (sym c) (omega (arith, ints, i.0, i.1, mul-le 1 1 b.x e.x bx ex)))
 rays_apart a b e (suc (suc (suc (suc n)))) few h bx ex turn = absurd (omega (arith, few))
 
@@ -239,7 +246,8 @@ both_behind (suc j) zero bx by ex ey r less few last b e some turn large = absur
 both_behind (suc j) (suc zero) bx by ex ey r less few last b e some turn large = absurd large
 both_behind (suc zero) (suc (suc n)) bx by ex ey r less few last b e some turn large = absurd (omega (arith, less))
 both_behind (suc (suc zero)) (suc (suc n)) bx by ex ey r less few last b e some turn large = absurd (omega (arith, less))
-both_behind (suc (suc (suc zero))) (suc (suc zero)) bx by ex ey r less few last b e some turn large = (omega (arith, mul-le 1 1 bx r b some), omega (arith, mul-le 1 1 r ex some e))
+both_behind (suc (suc (suc zero))) (suc (suc zero)) bx by ex ey r less few last b e some turn large =
+    (omega (arith, mul-le 1 1 bx r b some), omega (arith, mul-le 1 1 r ex some e))
 both_behind (suc (suc (suc zero))) (suc (suc (suc n))) bx by ex ey r less few last b e some turn large = absurd (omega (arith, less))
 both_behind (suc (suc (suc (suc zero)))) (suc (suc zero)) bx by ex ey r less few last b e some turn large =
     (omega (arith, mul-le 1 1 by r (last refl) some), omega (arith, mul-le 1 1 r ey some (some_factor bx ey (by * ex) large)))
@@ -274,5 +282,6 @@ out_of_round a b e r j n hb hend he less few last bx ex some turn =
           ])
       | inr behind ↦ (
           let two = both_behind j n b.x b.y e.x e.y r less few last bx ex some turn behind in
-          unless_large _ _ _ _ apart (is_ahead_false a b e n (omega (arith, less, few)) he behind) (is_ahead_false a b p j few refl two.0) (is_ahead_false a p e (n + 4 - j) small hp two.1))
+          unless_large _ _ _ _ apart (is_ahead_false a b e n (omega (arith, less, few)) he behind) (is_ahead_false a b p j few refl two.0)
+          (is_ahead_false a p e (n + 4 - j) small hp two.1))
     ]

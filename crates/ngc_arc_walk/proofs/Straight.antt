@@ -25,8 +25,10 @@ use Rattle.ngc_arc_walk.proofs.Reached.{IsApart, SomeWay}
 apart_there : (t : Turn) (c p q : Point2) (m n : ℕ) → IsApart p q m n → IsApart (shifted c (mirrored t p)) (shifted c (mirrored t q)) m n
 apart_there Counterclockwise c p q m n (inl h) = inl (omega (arith, ints, h.0), omega (arith, ints, h.1))
 apart_there Counterclockwise c p q m n (inr h) = inr (omega (arith, ints, h.0), omega (arith, ints, h.1))
-apart_there Clockwise c p q m n (inl h) = let f = neg_is p.v in let g = neg_is q.v in inl (omega (arith, ints, h.0), omega (arith, ints, h.1, f.0, f.1, g.0, g.1))
-apart_there Clockwise c p q m n (inr h) = let f = neg_is p.v in let g = neg_is q.v in inr (omega (arith, ints, h.0), omega (arith, ints, h.1, f.0, f.1, g.0, g.1))
+apart_there Clockwise c p q m n (inl h) = let f = neg_is p.v in let g = neg_is q.v in
+    inl (omega (arith, ints, h.0), omega (arith, ints, h.1, f.0, f.1, g.0, g.1))
+apart_there Clockwise c p q m n (inr h) = let f = neg_is p.v in let g = neg_is q.v in
+    inr (omega (arith, ints, h.0), omega (arith, ints, h.1, f.0, f.1, g.0, g.1))
 
 pub apart_placed : (a : ArcShape) (j e : Spoke) (m n : ℕ) → IsApart (way_to j) (way_to e) m n → IsApart (placed a j) (placed a e) m n
 apart_placed a j e m n h = apart_there a.turn a.centre (way_to j) (way_to e) m n h
@@ -55,7 +57,8 @@ pub two_at_most : (g : ℕ) (j z e : ℤ) → 20 * distance j e < 37 * g → 2 *
 two_at_most g j z e near close steps = by_steps g j z steps.0 steps.1 (omega (arith, ints, near, close))
 
 -- less than half a step from e it is, or farther where two moves lead to z
-axis_near : (g : ℕ) (j m z e : ℤ) → 500 ≤ g → 20 * distance j e < 37 * g → 2 * distance z e ≤ g → IsMiddle g j m z → (2 * distance m e ≤ g) ⊎ ((20 * distance m e < 17 * g) × (21 * g < 20 * distance j e))
+axis_near : (g : ℕ) (j m z e : ℤ) → 500 ≤ g → 20 * distance j e < 37 * g → 2 * distance z e ≤ g → IsMiddle g j m z →
+    (2 * distance m e ≤ g) ⊎ ((20 * distance m e < 17 * g) × (21 * g < 20 * distance j e))
 axis_near g j m z e step near close (inl h) = inl (omega (arith, ints, close, h.0))
 axis_near g j m z e step near close (inr (inl h)) = inr (omega (arith, ints, step, near, close, h.0, h.1), omega (arith, ints, step, near, close, h.0, h.1))
 axis_near g j m z e step near close (inr (inr h)) = inr (omega (arith, ints, step, near, close, h.0, h.1), omega (arith, ints, step, near, close, h.0, h.1))
@@ -110,7 +113,8 @@ middle_near g p m z e step close nearest mu mv = elim (axis_near g p.u m.u z.u e
 ]
 
 -- two moves at most lead from p to z
-pub goes_straight : (g : ℕ) (p z e : Point2) → IsCloseBy g p e → IsNearest g z e → IsSteps g p.u z.u → IsSteps g p.v z.v → (m : Point2) × IsMiddle g p.u m.u z.u × IsMiddle g p.v m.v z.v
+pub goes_straight : (g : ℕ) (p z e : Point2) → IsCloseBy g p e → IsNearest g z e → IsSteps g p.u z.u → IsSteps g p.v z.v →
+    (m : Point2) × IsMiddle g p.u m.u z.u × IsMiddle g p.v m.v z.v
 goes_straight g p z e close nearest su sv =
     let a = two_at_most g p.u z.u e.u close.u nearest.u su in
     let b = two_at_most g p.v z.v e.v close.v nearest.v sv in

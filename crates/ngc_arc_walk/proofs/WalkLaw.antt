@@ -23,7 +23,8 @@ circuit a g q n at quadrant b e begun left w = record {
   ends = w.ends;
 }
 
-follows : (a : ArcShape) (g q n : ℕ) (at : ℕ → Spoke) (quadrant : ℕ → ℕ) (b e : Spoke) (begun left : ℕ) → IsArcWalk a g (q + 1) n at quadrant b e begun left → Follows a g n at
+follows : (a : ArcShape) (g q n : ℕ) (at : ℕ → Spoke) (quadrant : ℕ → ℕ) (b e : Spoke) (begun left : ℕ) → IsArcWalk a g (q + 1) n at quadrant b e begun left →
+    Follows a g n at
 follows a g q n at quadrant b e begun left w =
     let c = circuit a g q n at quadrant b e begun left w in
     record {

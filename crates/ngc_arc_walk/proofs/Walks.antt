@@ -47,7 +47,8 @@ later : (m x y z w : ℕ) → 0 < m → IsNoLater m x y z w
 later zero x y z w h = absurd (omega (arith, h))
 later (suc m) x y z w h = tt
 
-no_later_on : (g limit : ℕ) (s : Spoke) (r : Roll) (m bx by : ℕ) → IsRoll g limit s r → IsNoLater m bx by s.x s.y → IsNoLater (quadrants_of m r) bx by (rolled g r s).x (rolled g r s).y
+no_later_on : (g limit : ℕ) (s : Spoke) (r : Roll) (m bx by : ℕ) → IsRoll g limit s r → IsNoLater m bx by s.x s.y →
+    IsNoLater (quadrants_of m r) bx by (rolled g r s).x (rolled g r s).y
 no_later_on g limit s Outward zero bx by roll h = stays_past bx by s.x s.y s.x (s.y + g) (omega arith) (omega arith) h
 no_later_on g limit s Diagonal zero bx by roll h = stays_past bx by s.x s.y (s.x - g) (s.y + g) (omega arith) (omega arith) h
 no_later_on g limit s Inward zero bx by roll h = stays_past bx by s.x s.y (s.x - g) s.y (omega arith) (omega arith) h
@@ -72,7 +73,8 @@ fewer : (x' y' x y ex ey : ℕ) → x' ≤ x → y ≤ y' → y' * ex < x' * ey 
 fewer x' y' x y ex ey hx hy h = let p = mul-le-mul_left ey hx in let q = mul-le-mul_left ex hy in omega (arith, h, p, q)
 
 -- one that is before the end's ray after a move was so before it
-was_before : (g limit : ℕ) (s e : Spoke) (r : Roll) (here last : ℕ) → IsRoll g limit s r → IsBeforeEnd (quadrants_of here r) last (rolled g r s) e → IsBeforeEnd here last s e
+was_before : (g limit : ℕ) (s e : Spoke) (r : Roll) (here last : ℕ) → IsRoll g limit s r → IsBeforeEnd (quadrants_of here r) last (rolled g r s) e →
+    IsBeforeEnd here last s e
 was_before g limit s e Outward here last roll (inl less) = inl less
 was_before g limit s e Outward here last roll (inr h) = inr (h.0, fewer s.x (s.y + g) s.x s.y e.x e.y (omega arith) (omega arith) h.1)
 was_before g limit s e Diagonal here last roll (inl less) = inl less
@@ -82,7 +84,8 @@ was_before g limit s e Inward here last roll (inr h) = inr (h.0, fewer (s.x - g)
 was_before g limit s e Over here last roll (inl less) = inl (omega (arith, less))
 was_before g limit s e Over here last roll (inr h) = inl (omega (arith, h.0))
 
-along_quadrant : (a : ArcShape) (s : Spoke) (x y : ℕ) → s.y * x ≤ s.x * y → pos 0 ≤ℤ turn_from a (placed a s) (placed a (record { quadrant = s.quadrant; x = x; y = y }))
+along_quadrant : (a : ArcShape) (s : Spoke) (x y : ℕ) → s.y * x ≤ s.x * y →
+    pos 0 ≤ℤ turn_from a (placed a s) (placed a (record { quadrant = s.quadrant; x = x; y = y }))
 along_quadrant a s x y h =
     let e = turn_placed a s (record { quadrant = s.quadrant; x = x; y = y }) ∙ cross_same s.quadrant s.x s.y x y in
     subst (λ z. pos 0 ≤ℤ z) (sym e) (omega (arith, ints, h))
@@ -97,7 +100,8 @@ turns a g limit s Over roll =
 
 -- ---- all moves
 
-pub quadrant_on : (g limit n : ℕ) (at : ℕ → Spoke) (quadrant : ℕ → ℕ) (k : ℕ) → IsRolling g limit n at quadrant → k ≤ n → (at k).quadrant ≡ turned_by (quadrant k) (at 0).quadrant
+pub quadrant_on : (g limit n : ℕ) (at : ℕ → Spoke) (quadrant : ℕ → ℕ) (k : ℕ) → IsRolling g limit n at quadrant → k ≤ n →
+    (at k).quadrant ≡ turned_by (quadrant k) (at 0).quadrant
 quadrant_on g limit n at quadrant zero way le = sym (ap (λ m. turned_by m (at 0).quadrant) way.starts)
 quadrant_on g limit n at quadrant (suc k) way le =
     let e : k + 1 ≡ suc k = omega arith in
@@ -107,7 +111,8 @@ quadrant_on g limit n at quadrant (suc k) way le =
     subst (λ t. (at t).quadrant ≡ turned_by (quadrant t) (at 0).quadrant) e
     (ap (λ (s : Spoke). s.quadrant) step.2 ∙ there ∙ sym (ap (λ m. turned_by m (at 0).quadrant) step.3))
 
-pub out_on : (g limit n : ℕ) (at : ℕ → Spoke) (quadrant : ℕ → ℕ) (k : ℕ) → IsRolling g limit n at quadrant → 0 < g → g * g ≤ limit → 0 < (at 0).x + (at 0).y → k ≤ n → 0 < (at k).x + (at k).y
+pub out_on : (g limit n : ℕ) (at : ℕ → Spoke) (quadrant : ℕ → ℕ) (k : ℕ) → IsRolling g limit n at quadrant → 0 < g → g * g ≤ limit → 0 < (at 0).x + (at 0).y →
+    k ≤ n → 0 < (at k).x + (at k).y
 out_on g limit n at quadrant zero way some room out le = out
 out_on g limit n at quadrant (suc k) way some room out le =
     let e : k + 1 ≡ suc k = omega arith in
@@ -116,7 +121,8 @@ out_on g limit n at quadrant (suc k) way some room out le =
     subst (λ t. 0 < (at t).x + (at t).y) e
     (subst (λ (s : Spoke). 0 < s.x + s.y) (sym step.2) (stays_out g limit (at k) step.0 some room here step.1))
 
-pub past_on : (g limit n : ℕ) (at : ℕ → Spoke) (quadrant : ℕ → ℕ) (k begun bx by : ℕ) → IsRolling g limit n at quadrant → IsNoLater begun bx by (at 0).x (at 0).y → k ≤ n →
+pub past_on : (g limit n : ℕ) (at : ℕ → Spoke) (quadrant : ℕ → ℕ) (k begun bx by : ℕ) → IsRolling g limit n at quadrant →
+    IsNoLater begun bx by (at 0).x (at 0).y → k ≤ n →
     IsNoLater (begun + quadrant k) bx by (at k).x (at k).y
 past_on g limit n at quadrant zero begun bx by way first le =
     let z : begun ≡ begun + quadrant 0 = omega (arith, way.starts) in
@@ -126,12 +132,14 @@ past_on g limit n at quadrant (suc k) begun bx by way first le =
     let step = way.rolls k (omega (arith, le)) in
     let here = past_on g limit n at quadrant k begun bx by way first (omega (arith, le)) in
     let there = no_later_on g limit (at k) step.0 (begun + quadrant k) bx by step.1 here in
-    let count : quadrants_of (begun + quadrant k) step.0 ≡ begun + quadrant (k + 1) = sym (ap (λ m. begun + m) step.3 ∙ quadrants_sum begun (quadrant k) step.0) in
+    let count : quadrants_of (begun + quadrant k) step.0 ≡ begun + quadrant (k + 1) =
+    sym (ap (λ m. begun + m) step.3 ∙ quadrants_sum begun (quadrant k) step.0) in
     subst (λ t. IsNoLater (begun + quadrant t) bx by (at t).x (at t).y) e
     (subst (λ m. IsNoLater m bx by (at (k + 1)).x (at (k + 1)).y) count
     (subst (λ (s : Spoke). IsNoLater (quadrants_of (begun + quadrant k) step.0) bx by s.x s.y) (sym step.2) there))
 
-pub before_on : (g limit n : ℕ) (at : ℕ → Spoke) (quadrant : ℕ → ℕ) (d k left : ℕ) (e : Spoke) → IsRolling g limit n at quadrant → IsBeforeEnd (quadrant n) left (at n) e → k + d ≡ n →
+pub before_on : (g limit n : ℕ) (at : ℕ → Spoke) (quadrant : ℕ → ℕ) (d k left : ℕ) (e : Spoke) → IsRolling g limit n at quadrant →
+    IsBeforeEnd (quadrant n) left (at n) e → k + d ≡ n →
     IsBeforeEnd (quadrant k) left (at k) e
 before_on g limit n at quadrant zero k left e way last sum =
     let same : n ≡ k = omega (arith, sum) in
@@ -150,20 +158,25 @@ pub no_more : (here last : ℕ) (s e : Spoke) → IsBeforeEnd here last s e → 
 no_more here last s e (inl less) = omega (arith, less)
 no_more here last s e (inr h) = omega (arith, h.0)
 
-pub few_on : (a : ArcShape) (g limit n : ℕ) (at : ℕ → Spoke) (quadrant : ℕ → ℕ) (b e : Spoke) (begun left k : ℕ) → IsWalk a g limit n at quadrant b e begun left → k ≤ n → quadrant k ≤ left
-few_on a g limit n at quadrant b e begun left k w le = no_more (quadrant k) left (at k) e (before_on g limit n at quadrant (n - k) k left e w.rolling w.before_end (omega (arith, le)))
+pub few_on : (a : ArcShape) (g limit n : ℕ) (at : ℕ → Spoke) (quadrant : ℕ → ℕ) (b e : Spoke) (begun left k : ℕ) →
+    IsWalk a g limit n at quadrant b e begun left → k ≤ n → quadrant k ≤ left
+few_on a g limit n at quadrant b e begun left k w le =
+    no_more (quadrant k) left (at k) e (before_on g limit n at quadrant (n - k) k left e w.rolling w.before_end (omega (arith, le)))
 
 -- all points of a walk lie in the arc's sector
-pub walk_in_sector : (a : ArcShape) (g limit n : ℕ) (at : ℕ → Spoke) (quadrant : ℕ → ℕ) (b e : Spoke) (begun left k : ℕ) → IsWalk a g limit n at quadrant b e begun left → k ≤ n →
+pub walk_in_sector : (a : ArcShape) (g limit n : ℕ) (at : ℕ → Spoke) (quadrant : ℕ → ℕ) (b e : Spoke) (begun left k : ℕ) →
+    IsWalk a g limit n at quadrant b e begun left → k ≤ n →
     in_sector a (placed a (at k)) ≡ true
 walk_in_sector a g limit n at quadrant b e begun left k w le =
     let before = before_on g limit n at quadrant (n - k) k left e w.rolling w.before_end (omega (arith, le)) in
     let few = no_more (quadrant k) left (at k) e before in
     let here = quadrant_on g limit n at quadrant k w.rolling le in
-    let hp : (at k).quadrant ≡ turned_by (begun + quadrant k) b.quadrant = here ∙ ap (turned_by (quadrant k)) w.begins ∙ turned_sum begun (quadrant k) b.quadrant in
+    let hp : (at k).quadrant ≡ turned_by (begun + quadrant k) b.quadrant =
+    here ∙ ap (turned_by (quadrant k)) w.begins ∙ turned_sum begun (quadrant k) b.quadrant in
     let rest : quadrant k + (left - quadrant k) ≡ left = omega (arith, few) in
     let he : e.quadrant ≡ turned_by (left - quadrant k) (at k).quadrant =
-    w.to_end ∙ sym (ap (turned_by (left - quadrant k)) here ∙ turned_sum (quadrant k) (left - quadrant k) (at 0).quadrant ∙ ap (λ m. turned_by m (at 0).quadrant) rest) in
+    w.to_end ∙ sym (ap (turned_by (left - quadrant k)) here ∙ turned_sum (quadrant k) (left - quadrant k) (at 0).quadrant
+    ∙ ap (λ m. turned_by m (at 0).quadrant) rest) in
     let whole : begun + left ≡ (begun + quadrant k) + (left - quadrant k) = omega (arith, few) in
     in_round a b (at k) e (begun + quadrant k) (left - quadrant k) w.start w.end hp he w.start_out
     (out_on g limit n at quadrant k w.rolling w.some_step w.room w.some_place le) w.end_out
@@ -178,7 +191,8 @@ walk_goes_on a g limit n at quadrant k way le =
     subst (λ (s : Spoke). pos 0 ≤ℤ turn_from a (placed a (at k)) (placed a s)) (sym step.2) (turns a g limit (at k) step.0 step.1)
 
 -- the last point before the end's ray lies in the end's quadrant, or less than a step before it
-pub ends_there : (g limit : ℕ) (s e : Spoke) (r : Roll) (here last : ℕ) → IsRoll g limit s r → IsBeforeEnd here last s e → (IsBeforeEnd (quadrants_of here r) last (rolled g r s) e → ⊥) →
+pub ends_there : (g limit : ℕ) (s e : Spoke) (r : Roll) (here last : ℕ) → IsRoll g limit s r → IsBeforeEnd here last s e →
+    (IsBeforeEnd (quadrants_of here r) last (rolled g r s) e → ⊥) →
     (here ≡ last) ⊎ ((here + 1 ≡ last) × (s.x < g))
 ends_there g limit s e Outward here last roll (inl less) past = absurd (past (inl less))
 ends_there g limit s e Diagonal here last roll (inl less) past = absurd (past (inl less))

@@ -20,7 +20,8 @@ IsBeforeEnd here last s e = (here < last) ⊎ ((here ≡ last) × (s.y * e.x < s
 -- Moves of a wheel about the centre of an arc from b to e. Point 0 lies in the quadrant that is
 -- begun quadrants on from that of b, and at or past the ray of b; e lies left quadrants on from
 -- there; point n lies before the ray of e.
-pub record IsWalk (a : ArcShape) (g limit n : ℕ) (at : ℕ → Spoke) (quadrant : ℕ → ℕ) (b e : Spoke) (begun left : ℕ) : Type 0 where
+pub record IsWalk (a : ArcShape) (g limit n : ℕ) (at : ℕ → Spoke) (quadrant : ℕ → ℕ) (b e : Spoke)
+    (begun left : ℕ) : Type 0 where
   pub start : start_of a ≡ placed a b
   pub end : end_of a ≡ placed a e
   pub start_out : 0 < b.x
@@ -39,7 +40,8 @@ pub record IsWalk (a : ArcShape) (g limit n : ℕ) (at : ℕ → Spoke) (quadran
 -- two radii. Where the start is on a half axis or the walk begins past the next one, it begins less
 -- than a step behind that. It ends in the quadrant of the arc's end, or less than a step before
 -- that.
-pub record IsArcWalk (a : ArcShape) (g r n : ℕ) (at : ℕ → Spoke) (quadrant : ℕ → ℕ) (b e : Spoke) (begun left : ℕ) : Type 0 where
+pub record IsArcWalk (a : ArcShape) (g r n : ℕ) (at : ℕ → Spoke) (quadrant : ℕ → ℕ) (b e : Spoke)
+    (begun left : ℕ) : Type 0 where
   pub step : 500 ≤ g
   pub large : 8 * g ≤ r
   pub walk : IsWalk a g ((r + 2 * g / 5) * (r + 2 * g / 5)) n at quadrant b e begun left
@@ -61,5 +63,6 @@ pub record Follows (a : ArcShape) (g n : ℕ) (at : ℕ → Spoke) : Type 0 wher
   pub order : Passes (λ k. placed a (at k)) n (spread a + 2 * g) 0 (extremes a)
 
 abbrev pub WalksFollow : Type 0
-WalksFollow = (a : ArcShape) (g r n : ℕ) (at : ℕ → Spoke) (quadrant : ℕ → ℕ) (b e : Spoke) (begun left : ℕ) →
+WalksFollow =
+    (a : ArcShape) (g r n : ℕ) (at : ℕ → Spoke) (quadrant : ℕ → ℕ) (b e : Spoke) (begun left : ℕ) →
     IsArcWalk a g r n at quadrant b e begun left → Follows a g n at

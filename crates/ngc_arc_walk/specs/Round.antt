@@ -20,4 +20,5 @@ pub record IsRound (a : ArcShape) (b e : Spoke) (whole : ℕ) : Type 0 where
 -- or past, four at most
 abbrev pub QuadrantPointsAre : Type 0
 QuadrantPointsAre = (a : ArcShape) (b e : Spoke) (whole : ℕ) → IsRound a b e whole →
-    extremes a ≡ axis_points a b (outer_radius a) (first_axis b.y) (min 4 (whole + 1 - first_axis b.y))
+    extremes a ≡ axis_points a b (outer_radius a) (first_axis b.y)
+    (min 4 (whole + 1 - first_axis b.y))

@@ -60,7 +60,8 @@ near_place machine tool p m safe =
 
 -- ---- an arc whose pieces are valid
 
-arc_if_valid : (machine : MachineFile) (tool : Option Tool) (way : Way) (pieces : List Piece) → IsMachine machine → ArePiecesValid machine tool way pieces → IsEvenIfArc way → IsArcIfCurved way
+arc_if_valid : (machine : MachineFile) (tool : Option Tool) (way : Way) (pieces : List Piece) → IsMachine machine → ArePiecesValid machine tool way pieces →
+    IsEvenIfArc way → IsArcIfCurved way
 arc_if_valid machine tool (Line b e) pieces h v even = tt
 arc_if_valid machine tool (Arc a) pieces h v even =
     let s = one_step machine h in

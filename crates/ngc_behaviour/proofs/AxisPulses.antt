@@ -1,5 +1,6 @@
 -- The pulses of one axis are bound by the rates on the motions that move it.
-use Rattle.std.proofs.Common.{◌≡◌, ℕ, suc, ◌+◌, ◌-◌, ◌*◌, ◌/◌, ◌<◌, ◌≤◌, inl, inr, ap, subst, sym, ◌∙◌, arith, refl, List, [], ◌∷◌, ◌++◌, length, drop, Some, None, true, false, Bool, cond, ℤ}
+use Rattle.std.proofs.Common.{◌≡◌, ℕ, suc, ◌+◌, ◌-◌, ◌*◌, ◌/◌, ◌<◌, ◌≤◌, inl, inr, ap, subst, sym, ◌∙◌, arith, refl, List, [], ◌∷◌, ◌++◌, length, drop, Some}
+use Rattle.std.proofs.Common.{None, true, false, Bool, cond, ℤ}
 use Rattle.std.specs.Prelude.{Option, MatchBool, nat_lt, nat_le, take, count_by, ◌-ℤ◌, ◌||◌, if◌then◌else◌}
 use Rattle.std.proofs.lemmas.Bool.{cases_lt, cases_Bool, or_left, or_right, true≢false}
 use Rattle.std.proofs.lemmas.Bool.Decides.{nat_tests}
@@ -16,7 +17,8 @@ use Rattle.ngc_planner.specs.Pulses.{is_stepping, is_path_step, up_to_whole}
 use Rattle.ngc_events.specs.declared.event.Event.{Event}
 use Rattle.ngc_events.specs.declared.event.Event.TheVariants.{Load, Tick, Hold, Resume, Override, StopSwitch, Start}
 use Rattle.ngc_behaviour.specs.State.{Job, Queued, State, opening, loaded, command_at, path_steps, millionths, RING}
-use Rattle.ngc_behaviour.specs.Step.{Outcome, Step, LoadCommand, MayTake, Rests, Finishes, Dwells, Serves, Travels, HeadTick, TickBy, without_head, after, place_after, ticks_of}
+use Rattle.ngc_behaviour.specs.Step.{Outcome, Step, LoadCommand, MayTake, Rests, Finishes, Dwells, Serves, Travels, HeadTick, TickBy, without_head, after}
+use Rattle.ngc_behaviour.specs.Step.{place_after, ticks_of}
 use Rattle.ngc_behaviour.specs.RateRules.{GoesOnInto}
 use Rattle.ngc_behaviour.specs.Run.{Run, step_to, pulses}
 use Rattle.ngc_behaviour.specs.Progress.{is_tick}
@@ -92,7 +94,8 @@ record Grows (axis : Axis) (moves : Action → Bool) (most : ℕ) (old new : Sta
   pub counts : passes (steps axis (step_to old.position new.position)) + on_axis moves old / MILLION ≤ (whole * MILLION + on_axis moves new) / MILLION
 
 -- where nothing is travelled
-stands : (axis : Axis) (moves : Action → Bool) (most : ℕ) (old new : State) → new.position ≡ old.position → on_axis moves new ≡ on_axis moves old → Grows axis moves most old new
+stands : (axis : Axis) (moves : Action → Bool) (most : ℕ) (old new : State) → new.position ≡ old.position → on_axis moves new ≡ on_axis moves old →
+    Grows axis moves most old new
 stands axis moves most old new p t =
     let c = no_step axis old.position new.position (ap (on axis) (sym p)) in
     record { whole = 0; slow = omega (arith, t); counts = omega (arith, c, t) }
@@ -100,7 +103,8 @@ stands axis moves most old new p t =
 -- ---- a tick
 
 -- from point j of a still path to point k, the same or the next
-same_along : (axis : Axis) (path : List StepPos) (j k : ℕ) → IsStill axis path → j ≤ k → k ≤ j + 1 → k ≤ length path - 1 → on axis (point path j) ≡ on axis (point path k)
+same_along : (axis : Axis) (path : List StepPos) (j k : ℕ) → IsStill axis path → j ≤ k → k ≤ j + 1 → k ≤ length path - 1 →
+    on axis (point path j) ≡ on axis (point path k)
 same_along axis path j k still jk kj kn = elim (cases_lt j k) [
   | inl h ↦ let e : j + 1 ≡ k = omega (arith, h, kj) in still j (omega (arith, h, kn)) ∙ ap (λ i. on axis (point path i)) e
   | inr h ↦ let e : j ≡ k = omega (arith, h, jk) in ap (λ i. on axis (point path i)) e
@@ -125,26 +129,32 @@ head_takes job l ls [] fits = absurd fits
 head_takes job l ls (c ∷ cs) fits = subst (λ (d : Command). MayTake job d.action l.path) (sym fits.0) fits.1
 
 -- a head that moves the axis
-moving_grows : (job : Job) (axis : Axis) (moves : Action → Bool) (most : ℕ) → IsBoundOn job axis moves most → (l : Queued) (ls : List Queued) (old : State) (o : Outcome) (new : State) →
-    old.ring ≡ l ∷ ls → old.travelled + new.rate - millionths l < MILLION → Advances old new → moves l.command.action ≡ true → Travels job l ls old o new → Grows axis moves most old new
+moving_grows : (job : Job) (axis : Axis) (moves : Action → Bool) (most : ℕ) → IsBoundOn job axis moves most →
+    (l : Queued) (ls : List Queued) (old : State) (o : Outcome) (new : State) →
+    old.ring ≡ l ∷ ls → old.travelled + new.rate - millionths l < MILLION → Advances old new → moves l.command.action ≡ true → Travels job l ls old o new →
+    Grows axis moves most old new
 moving_grows job axis moves most b l ls old o new e over advances moving t =
     let m = moved job l ls old o new t in
     let bound = b.bound l.command.action (path_steps l) new.rate t.may.rules.within moving in
     let c = advances.counts in
-    let one = no_more (steps axis (step_to old.position new.position)) (is_path_step (step_to old.position new.position)) (is_step axis (step_to old.position new.position)) in
+    let one = no_more (steps axis (step_to old.position new.position)) (is_path_step (step_to old.position new.position))
+    (is_step axis (step_to old.position new.position)) in
     let before : on_axis moves old ≡ old.travelled = ap (λ r. on_head moves r old.travelled) e ∙ chosen (moves l.command.action) old.travelled moving in
     elim (m.state) [
       | inl s ↦
           let full = s.0 in let rest = s.3 in let next = no_more_than moves new.ring new.travelled in
           record { whole = path_steps l; slow = omega (arith, full, rest, next, before, bound); counts = omega (arith, full, rest, over, before, c, one) }
       | inr s ↦
-          let after : on_axis moves new ≡ old.travelled + new.rate = ap (λ r. on_head moves r new.travelled) (s.1 ∙ e) ∙ chosen (moves l.command.action) new.travelled moving ∙ s.2 in
+          let after : on_axis moves new ≡ old.travelled + new.rate = ap (λ r. on_head moves r new.travelled) (s.1 ∙ e)
+          ∙ chosen (moves l.command.action) new.travelled moving ∙ s.2 in
           record { whole = 0; slow = omega (arith, after, before, bound); counts = omega (arith, after, before, c, one) }
     ]
 
 -- one that doesn't
-still_grows : (job : Job) (axis : Axis) (moves : Action → Bool) (most : ℕ) → IsBoundOn job axis moves most → (l : Queued) (ls : List Queued) (old : State) (o : Outcome) (new : State) →
-    old.ring ≡ l ∷ ls → old.travelled ≤ millionths l - 1 → on axis old.position ≡ on axis new.position → moves l.command.action ≡ false → Travels job l ls old o new →
+still_grows : (job : Job) (axis : Axis) (moves : Action → Bool) (most : ℕ) → IsBoundOn job axis moves most →
+    (l : Queued) (ls : List Queued) (old : State) (o : Outcome) (new : State) →
+    old.ring ≡ l ∷ ls → old.travelled ≤ millionths l - 1 → on axis old.position ≡ on axis new.position → moves l.command.action ≡ false →
+    Travels job l ls old o new →
     Grows axis moves most old new
 still_grows job axis moves most b l ls old o new e f same resting t =
     let m = moved job l ls old o new t in
@@ -154,7 +164,8 @@ still_grows job axis moves most b l ls old o new e f same resting t =
       | inl s ↦
           let full = s.0 in let rest = s.3 in
           let ring : new.ring ≡ ls = s.2 ∙ ap (drop 1) e in
-          let next = over_slow job axis moves most b l ls new.travelled new.rate (λ h. t.may.rules.goes_on (omega (arith, full, rest, h))) (omega (arith, full, rest, f)) in
+          let next = over_slow job axis moves most b l ls new.travelled new.rate (λ h. t.may.rules.goes_on (omega (arith, full, rest, h)))
+          (omega (arith, full, rest, f)) in
           let after : on_axis moves new ≡ on_head moves ls new.travelled = ap (λ r. on_head moves r new.travelled) ring in
           record { whole = 0; slow = omega (arith, after, next); counts = omega (arith, before, c) }
       | inr s ↦
@@ -162,8 +173,10 @@ still_grows job axis moves most b l ls old o new e f same resting t =
           record { whole = 0; slow = omega (arith, after); counts = omega (arith, before, c) }
     ]
 
-travel_grows : (job : Job) (axis : Axis) (moves : Action → Bool) (most : ℕ) → IsBoundOn job axis moves most → (l : Queued) (ls : List Queued) (old : State) (o : Outcome) (new : State) →
-    old.ring ≡ l ∷ ls → old.travelled ≤ millionths l - 1 → new.rate ≤ MILLION → 0 < path_steps l → WalksIn job old → Advances old new → Travels job l ls old o new →
+travel_grows : (job : Job) (axis : Axis) (moves : Action → Bool) (most : ℕ) → IsBoundOn job axis moves most →
+    (l : Queued) (ls : List Queued) (old : State) (o : Outcome) (new : State) →
+    old.ring ≡ l ∷ ls → old.travelled ≤ millionths l - 1 → new.rate ≤ MILLION → 0 < path_steps l → WalksIn job old → Advances old new →
+    Travels job l ls old o new →
     Grows axis moves most old new
 travel_grows job axis moves most b l ls old o new e f small p walks advances t =
     let m = moved job l ls old o new t in
@@ -175,7 +188,8 @@ travel_grows job axis moves most b l ls old o new e f small p walks advances t =
       | inl moving ↦ moving_grows job axis moves most b l ls old o new e over advances moving t
       | inr resting ↦
           let still = b.still l.command.action l.path (head_takes job l ls walks.left fits) resting in
-          let same = same_along axis l.path (old.travelled / MILLION) (place_after l old new.rate) still (omega (arith, p, f)) (omega (arith, small)) (omega arith) in
+          let same = same_along axis l.path (old.travelled / MILLION) (place_after l old new.rate) still (omega (arith, p, f)) (omega (arith, small))
+          (omega arith) in
           still_grows job axis moves most b l ls old o new e f (ap (on axis) at ∙ same ∙ sym (ap (on axis) m.position)) resting t
     ]
 
@@ -191,25 +205,33 @@ finish_grows axis moves most l old new f z n =
     let before = no_more_than moves old.ring old.travelled in let next = no_more_than moves new.ring new.travelled in
     stands axis moves most old new position (omega (arith, before, next, travelled, f, z))
 
-head_grows : (job : Job) (axis : Axis) (moves : Action → Bool) (most : ℕ) → IsBoundOn job axis moves most → (l : Queued) (ls : List Queued) (old : State) (o : Outcome) (new : State) →
-    old.ring ≡ l ∷ ls → old.travelled ≤ millionths l - 1 → new.rate ≤ MILLION → WalksIn job old → Advances old new → HeadTick job l ls old o new → Grows axis moves most old new
+head_grows : (job : Job) (axis : Axis) (moves : Action → Bool) (most : ℕ) → IsBoundOn job axis moves most →
+    (l : Queued) (ls : List Queued) (old : State) (o : Outcome) (new : State) →
+    old.ring ≡ l ∷ ls → old.travelled ≤ millionths l - 1 → new.rate ≤ MILLION → WalksIn job old → Advances old new → HeadTick job l ls old o new →
+    Grows axis moves most old new
 head_grows job axis moves most b l ls old o new e f small walks advances t =
-    elim (match_with (nat_lt 0 (path_steps l)) (Travels job l ls old o new) (MatchBool old.held (Rests job old o new) (Serves job l.command.action old o new)) t) [
+    elim (match_with (nat_lt 0 (path_steps l)) (Travels job l ls old o new)
+    (MatchBool old.held (Rests job old o new) (Serves job l.command.action old o new)) t) [
       | inl u ↦ travel_grows job axis moves most b l ls old o new e f small (let b = u.0 in grind (arith, nat_tests)) walks advances u.1
       | inr u ↦ elim (match_with old.held (Rests job old o new) (Serves job l.command.action old o new) u.1) [
         | inl r ↦ rest_grows axis moves most old new r.1.stands
-        | inr r ↦ elim (match_with (nat_lt (suc old.dwelt) (ticks_of job l.command.action)) (Dwells job old o new) (Finishes job l.command.action old o new) r.1) [
-          | inl d ↦ subst (Grows axis moves most old) (sym d.1.counts) (stands axis moves most old (record old { rate = 0; dwelt = suc old.dwelt }) refl refl)
-          | inr d ↦ finish_grows axis moves most l old new f (let b = u.0 in grind (arith, nat_tests)) d.1.goes_on
-        ]
+        | inr r ↦ elim (match_with (nat_lt (suc old.dwelt) (ticks_of job l.command.action)) (Dwells job old o new)
+            (Finishes job l.command.action old o new) r.1) [
+              | inl d ↦ subst (Grows axis moves most old) (sym d.1.counts)
+                  (stands axis moves most old (record old { rate = 0; dwelt = suc old.dwelt }) refl refl)
+              | inr d ↦ finish_grows axis moves most l old new f (let b = u.0 in grind (arith, nat_tests)) d.1.goes_on
+            ]
       ]
     ]
 
-tick_grows : (job : Job) (axis : Axis) (moves : Action → Bool) (most : ℕ) → IsBoundOn job axis moves most → (stopped : Bool) (ring : List Queued) (old : State) (o : Outcome) (new : State) →
-    old.ring ≡ ring → Fits ring old.travelled → new.rate ≤ MILLION → WalksIn job old → Advances old new → TickBy job stopped ring old o new → Grows axis moves most old new
+tick_grows : (job : Job) (axis : Axis) (moves : Action → Bool) (most : ℕ) → IsBoundOn job axis moves most →
+    (stopped : Bool) (ring : List Queued) (old : State) (o : Outcome) (new : State) →
+    old.ring ≡ ring → Fits ring old.travelled → new.rate ≤ MILLION → WalksIn job old → Advances old new → TickBy job stopped ring old o new →
+    Grows axis moves most old new
 tick_grows job axis moves most b true ring old o new e f small walks advances t = rest_grows axis moves most old new t.stands
 tick_grows job axis moves most b false [] old o new e f small walks advances t = rest_grows axis moves most old new t.stands
-tick_grows job axis moves most b false (l ∷ ls) old o new e f small walks advances t = head_grows job axis moves most b l ls old o new e f small walks advances t
+tick_grows job axis moves most b false (l ∷ ls) old o new e f small walks advances t =
+    head_grows job axis moves most b l ls old o new e f small walks advances t
 
 -- ---- other events
 
@@ -217,7 +239,8 @@ pushed : (moves : Action → Bool) (ring : List Queued) (l : Queued) (t : ℕ) �
 pushed moves [] l t f = let most = no_more_than moves (l ∷ []) t in omega (arith, most, f)
 pushed moves (k ∷ ks) l t f = refl
 
-load_stays : (job : Job) (moves : Action → Bool) (old : State) (next : Option Command) (o : Outcome) (new : State) → Fits old.ring old.travelled → LoadCommand job old next o new →
+load_stays : (job : Job) (moves : Action → Bool) (old : State) (next : Option Command) (o : Outcome) (new : State) → Fits old.ring old.travelled →
+    LoadCommand job old next o new →
     on_axis moves new ≡ on_axis moves old
 load_stays job moves old None o new f t = ap (on_axis moves) t.1
 load_stays job moves old (Some c) o new f t =
@@ -226,7 +249,8 @@ load_stays job moves old (Some c) o new f t =
       | inr u ↦ ap (on_axis moves) u.1.1
     ]
 
-event_stays : (job : Job) (moves : Action → Bool) (old : State) (e : Event) (o : Outcome) (new : State) → is_tick e ≡ false → Fits old.ring old.travelled → Step job old e o new →
+event_stays : (job : Job) (moves : Action → Bool) (old : State) (e : Event) (o : Outcome) (new : State) → is_tick e ≡ false → Fits old.ring old.travelled →
+    Step job old e o new →
     on_axis moves new ≡ on_axis moves old
 event_stays job moves old Tick o new n f t = absurd (true≢false n)
 event_stays job moves old Load o new n f t = load_stays job moves old (command_at job (loaded old)) o new f t
@@ -245,15 +269,18 @@ event_stays job moves old (Override p) o new n f t = elim (match_with (nat_le p 
 abbrev IsSlowFrom : Axis → (Action → Bool) → ℕ → ℕ → State → List StepPos → Type 0
 IsSlowFrom axis moves most q s ticks = AreSlow (steps axis) most (q * MILLION + on_axis moves s) ticks
 
-slow_later : (job : Job) (axis : Axis) (moves : Action → Bool) (most q : ℕ) (old : State) (e : Event) (o : Outcome) (new : State) (ticks : List StepPos) → is_tick e ≡ false →
+slow_later : (job : Job) (axis : Axis) (moves : Action → Bool) (most q : ℕ) (old : State) (e : Event) (o : Outcome) (new : State) (ticks : List StepPos) →
+    is_tick e ≡ false →
     job.machine.max_rate ≤ MILLION → Fits old.ring old.travelled → WalksIn job old → Step job old e o new →
     (Fits new.ring new.travelled → WalksIn job new → IsSlowFrom axis moves most q new ticks) → IsSlowFrom axis moves most q old ticks
 slow_later job axis moves most q old e o new ticks n m f w t later =
     subst (λ s. AreSlow (steps axis) most (q * MILLION + s) ticks) (event_stays job moves old e o new n f t)
     (later (event_keeps job old e o new m f t).1 (waits job old e o new n w t).0)
 
-run_slow : (job : Job) (axis : Axis) (moves : Action → Bool) (most : ℕ) → IsBoundOn job axis moves most → (q : ℕ) (old : State) (es : List Event) (os : List Outcome) (states : List State) →
-    job.machine.max_rate ≤ MILLION → Fits old.ring old.travelled → WalksIn job old → Run job old es os states → IsSlowFrom axis moves most q old (pulses old.position es states)
+run_slow : (job : Job) (axis : Axis) (moves : Action → Bool) (most : ℕ) → IsBoundOn job axis moves most →
+    (q : ℕ) (old : State) (es : List Event) (os : List Outcome) (states : List State) →
+    job.machine.max_rate ≤ MILLION → Fits old.ring old.travelled → WalksIn job old → Run job old es os states →
+    IsSlowFrom axis moves most q old (pulses old.position es states)
 run_slow job axis moves most b q old [] os states m f w r = tt
 run_slow job axis moves most b q old (e ∷ es) os [] m f w r = tt
 run_slow job axis moves most b q old (e ∷ es) [] (new ∷ states) m f w r = absurd r
@@ -270,17 +297,23 @@ run_slow job axis moves most b q old (Tick ∷ es) (o ∷ os) (new ∷ states) m
       run_slow job axis moves most b (q + g.whole) new es os states m k.1 t.1 r.1,
     )
 run_slow job axis moves most b q old (Load ∷ es) (o ∷ os) (new ∷ states) m f w r =
-    slow_later job axis moves most q old Load o new (pulses new.position es states) refl m f w r.0 (λ g v. run_slow job axis moves most b q new es os states m g v r.1)
+    slow_later job axis moves most q old Load o new (pulses new.position es states) refl m f w r.0
+    (λ g v. run_slow job axis moves most b q new es os states m g v r.1)
 run_slow job axis moves most b q old (Hold ∷ es) (o ∷ os) (new ∷ states) m f w r =
-    slow_later job axis moves most q old Hold o new (pulses new.position es states) refl m f w r.0 (λ g v. run_slow job axis moves most b q new es os states m g v r.1)
+    slow_later job axis moves most q old Hold o new (pulses new.position es states) refl m f w r.0
+    (λ g v. run_slow job axis moves most b q new es os states m g v r.1)
 run_slow job axis moves most b q old (Resume ∷ es) (o ∷ os) (new ∷ states) m f w r =
-    slow_later job axis moves most q old Resume o new (pulses new.position es states) refl m f w r.0 (λ g v. run_slow job axis moves most b q new es os states m g v r.1)
+    slow_later job axis moves most q old Resume o new (pulses new.position es states) refl m f w r.0
+    (λ g v. run_slow job axis moves most b q new es os states m g v r.1)
 run_slow job axis moves most b q old (Start ∷ es) (o ∷ os) (new ∷ states) m f w r =
-    slow_later job axis moves most q old Start o new (pulses new.position es states) refl m f w r.0 (λ g v. run_slow job axis moves most b q new es os states m g v r.1)
+    slow_later job axis moves most q old Start o new (pulses new.position es states) refl m f w r.0
+    (λ g v. run_slow job axis moves most b q new es os states m g v r.1)
 run_slow job axis moves most b q old (StopSwitch on ∷ es) (o ∷ os) (new ∷ states) m f w r =
-    slow_later job axis moves most q old (StopSwitch on) o new (pulses new.position es states) refl m f w r.0 (λ g v. run_slow job axis moves most b q new es os states m g v r.1)
+    slow_later job axis moves most q old (StopSwitch on) o new (pulses new.position es states) refl m f w r.0
+    (λ g v. run_slow job axis moves most b q new es os states m g v r.1)
 run_slow job axis moves most b q old (Override p ∷ es) (o ∷ os) (new ∷ states) m f w r =
-    slow_later job axis moves most q old (Override p) o new (pulses new.position es states) refl m f w r.0 (λ g v. run_slow job axis moves most b q new es os states m g v r.1)
+    slow_later job axis moves most q old (Override p) o new (pulses new.position es states) refl m f w r.0
+    (λ g v. run_slow job axis moves most b q new es os states m g v r.1)
 
 -- in n ticks the axis has no more pulses than its bound allows
 pub axis_window : (job : Job) → IsMachine job.machine → AreJoined job.machine.start (ways_of (actions_of job.commands)) →

@@ -36,7 +36,8 @@ within_rate X rates axes v within moves = within.x moves
 within_rate Y rates axes v within moves = within.y moves
 within_rate Z rates axes v within moves = within.z moves
 
-action_rate : (job : Job) (axis : Axis) (a : Action) (v : ℕ) → MayMoveAxes job.machine a v → may_move axis job.machine.step a ≡ true → v ≤ rate_on axis job.machine.axis_rates
+action_rate : (job : Job) (axis : Axis) (a : Action) (v : ℕ) → MayMoveAxes job.machine a v → may_move axis job.machine.step a ≡ true →
+    v ≤ rate_on axis job.machine.axis_rates
 action_rate job axis (Move m) v may moves = within_rate axis job.machine.axis_rates (axes_of job.machine.step m.way) v may moves
 action_rate job axis _ v may moves = absurd (true≢false (sym moves))
 
@@ -46,7 +47,8 @@ keeps_bound job axis = record {
   bound = λ a n v within moves. let most = within.greatest in let rate = action_rate job axis a v within.axes moves in omega (arith, most, rate);
 }
 
-pub pulse_rules : (job : Job) → IsMachine job.machine → AreJoined job.machine.start (ways_of (actions_of job.commands)) → (es : List Event) (os : List Outcome) (states : List State) →
+pub pulse_rules : (job : Job) → IsMachine job.machine → AreJoined job.machine.start (ways_of (actions_of job.commands)) →
+    (es : List Event) (os : List Outcome) (states : List State) →
     Run job (opening job.machine) es os states → KeepsPulseRules job.machine (pulses (grid job.machine.step job.machine.start) es states)
 pulse_rules job machine joined es os states r =
     let ticks : List StepPos = pulses (grid job.machine.step job.machine.start) es states in

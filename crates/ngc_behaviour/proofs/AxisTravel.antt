@@ -23,7 +23,8 @@ slow_from test m s (suc i) [] p = (s, tt)
 slow_from test m s (suc i) (x ∷ xs) p = slow_from test m p.0 i xs p.3
 
 -- in n ticks there are no more than m allows
-pub slow_window : {X : Type 0} (test : X → Bool) (m s : ℕ) (xs : List X) → AreSlow test m s xs → (i n : ℕ) → count_by test (take n (drop i xs)) ≤ up_to_whole (n * m)
+pub slow_window : {X : Type 0} (test : X → Bool) (m s : ℕ) (xs : List X) → AreSlow test m s xs → (i n : ℕ) →
+    count_by test (take n (drop i xs)) ≤ up_to_whole (n * m)
 slow_window test m s xs p i n =
     let d = slow_from test m s i xs p in
     let c = slow_count test m d.0 n (drop i xs) d.1 in

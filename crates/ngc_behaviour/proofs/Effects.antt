@@ -1,5 +1,6 @@
 -- What an event does to the way: five cases.
-use Rattle.std.proofs.Common.{◌≡◌, ℕ, suc, ◌+◌, ◌-◌, ◌/◌, ◌<◌, ◌≤◌, inl, inr, ap, sym, ◌∙◌, arith, refl, List, [], ◌∷◌, ◌++◌, length, drop, Some, None, true, false, Ok, Err}
+use Rattle.std.proofs.Common.{◌≡◌, ℕ, suc, ◌+◌, ◌-◌, ◌/◌, ◌<◌, ◌≤◌, inl, inr, ap, sym, ◌∙◌, arith, refl, List, [], ◌∷◌, ◌++◌, length, drop, Some, None, true}
+use Rattle.std.proofs.Common.{false, Ok, Err}
 use Rattle.std.specs.Prelude.{if◌then◌else◌, Option, Bool, MatchBool, nat_lt, nat_le}
 use Rattle.std.proofs.lemmas.Bool.{true≢false}
 use Rattle.std.proofs.lemmas.Bool.Decides.{nat_tests}
@@ -16,7 +17,8 @@ use Rattle.ngc_events.specs.declared.reply.Ending.{Ending}
 use Rattle.ngc_events.specs.declared.reply.Ending.TheVariants.{Done, Stopped, End}
 use Rattle.ngc_events.specs.declared.reply.Reply.TheVariants.{Loaded, Ticked, Held, Resumed, Overridden, Switched, Started}
 use Rattle.ngc_behaviour.specs.State.{Job, Queued, State, RING, loaded, command_at, path_steps, millionths}
-use Rattle.ngc_behaviour.specs.Step.{Outcome, Step, LoadCommand, MayTake, Rests, Finishes, Dwells, Serves, Travels, HeadTick, TickBy, without_head, after, ending, ends_at, pulse, place_before, place_after, ticks_of}
+use Rattle.ngc_behaviour.specs.Step.{Outcome, Step, LoadCommand, MayTake, Rests, Finishes, Dwells, Serves, Travels, HeadTick, TickBy, without_head, after}
+use Rattle.ngc_behaviour.specs.Step.{ending, ends_at, pulse, place_before, place_after, ticks_of}
 use Rattle.ngc_behaviour.specs.Run.{position_in}
 use Rattle.ngc_behaviour.proofs.Cases.{match_with}
 use Rattle.ngc_behaviour.proofs.RatesOfRun.{Fits, GoesOver, goes_over, travel_small}
@@ -181,7 +183,8 @@ on_way job l ls old o new m e some f t =
       beyond = goes_over job l ls old o new slow some f t;
       near = omega (arith, full, slow);
       emits = says ∙ ap (emitted l.path (t0 / MILLION)) whole;
-      ends = λ h. only_end l.command.action old (sym (ap tells_end t.says ∙ said_end (pulse l old v) (nat_le (millionths l) (t0 + v)) (ending l.command.action old) b) ∙ h);
+      ends = λ h. only_end l.command.action old
+          (sym (ap tells_end t.says ∙ said_end (pulse l old v) (nat_le (millionths l) (t0 + v)) (ending l.command.action old) b) ∙ h);
     }))
     (λ b.
     let short : t0 + v < millionths l = grind (arith, nat_tests) in
@@ -227,14 +230,16 @@ finished job l ls old o new e z f = passes (record {
 on_head : (job : Job) (l : Queued) (ls : List Queued) (old : State) (o : Outcome) (new : State) → IsMachine job.machine → old.ring ≡ l ∷ ls →
     old.travelled ≤ millionths l - 1 → HeadTick job l ls old o new → Effect job (spot old) (spot new) o
 on_head job l ls old o new m e f t =
-    elim (match_with (nat_lt 0 (path_steps l)) (Travels job l ls old o new) (MatchBool old.held (Rests job old o new) (Serves job l.command.action old o new)) t) [
+    elim (match_with (nat_lt 0 (path_steps l)) (Travels job l ls old o new)
+    (MatchBool old.held (Rests job old o new) (Serves job l.command.action old o new)) t) [
       | inl u ↦ on_way job l ls old o new m e (let b = u.0 in grind (arith, nat_tests)) f u.1
       | inr u ↦ elim (match_with old.held (Rests job old o new) (Serves job l.command.action old o new) u.1) [
         | inl r ↦ resting job old o new r.1
-        | inr r ↦ elim (match_with (nat_lt (suc old.dwelt) (ticks_of job l.command.action)) (Dwells job old o new) (Finishes job l.command.action old o new) r.1) [
-          | inl d ↦ stands (record { same = ap spot d.1.counts; silent = ap position_in d.1.quiet; no_end = ap tells_end d.1.quiet })
-          | inr d ↦ finished job l ls old o new e (let b = u.0 in grind (arith, nat_tests)) d.1
-        ]
+        | inr r ↦ elim (match_with (nat_lt (suc old.dwelt) (ticks_of job l.command.action)) (Dwells job old o new)
+            (Finishes job l.command.action old o new) r.1) [
+              | inl d ↦ stands (record { same = ap spot d.1.counts; silent = ap position_in d.1.quiet; no_end = ap tells_end d.1.quiet })
+              | inr d ↦ finished job l ls old o new e (let b = u.0 in grind (arith, nat_tests)) d.1
+            ]
       ]
     ]
 

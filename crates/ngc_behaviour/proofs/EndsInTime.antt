@@ -1,5 +1,6 @@
 -- A motion is done within so many ticks in which the machine is free.
-use Rattle.std.proofs.Common.{◌≡◌, ◌⊎◌, inl, inr, ℕ, zero, suc, ◌+◌, ◌-◌, ◌*◌, ◌<◌, ◌≤◌, ap, subst, sym, ◌∙◌, arith, refl, List, [], ◌∷◌, length, Some, None, true, false, Bool, min}
+use Rattle.std.proofs.Common.{◌≡◌, ◌⊎◌, inl, inr, ℕ, zero, suc, ◌+◌, ◌-◌, ◌*◌, ◌<◌, ◌≤◌, ap, subst, sym, ◌∙◌, arith, refl, List, [], ◌∷◌, length, Some, None}
+use Rattle.std.proofs.Common.{true, false, Bool, min}
 use Rattle.std.specs.Prelude.{Option, MatchBool, nat_lt, nat_le, not, ◌&&◌, if◌then◌else◌, slice_index_or, slice_get}
 use Rattle.std.specs.List.{All}
 use Rattle.std.proofs.lemmas.Bool.{cases_lt, and_parts, not-true, ltb-true, eqb-true, false≢true}
@@ -18,7 +19,8 @@ use Rattle.ngc_events.specs.declared.event.Event.{Event}
 use Rattle.ngc_events.specs.declared.event.Event.TheVariants.{Load, Tick, Hold, Resume, Override, StopSwitch, Start}
 use Rattle.ngc_behaviour.specs.State.{Job, Queued, State, opening, loaded, command_at, path_steps, millionths, effective, RING}
 use Rattle.ngc_behaviour.specs.Reach.{rest}
-use Rattle.ngc_behaviour.specs.Step.{Outcome, Step, LoadCommand, MayTake, Rests, Finishes, Dwells, Serves, Travels, HeadTick, TickBy, without_head, after, ticks_of}
+use Rattle.ngc_behaviour.specs.Step.{Outcome, Step, LoadCommand, MayTake, Rests, Finishes, Dwells, Serves, Travels, HeadTick, TickBy, without_head, after}
+use Rattle.ngc_behaviour.specs.Step.{ticks_of}
 use Rattle.ngc_behaviour.specs.Run.{Run}
 use Rattle.ngc_behaviour.specs.Progress.{IsFree, TravelsAtLeast, GoesOn, KeepGoing, is_tick, is_free, ComesToHead, has_head, free_ticks, ticks_for, least_rate}
 use Rattle.ngc_behaviour.specs.Headline.{EndsInTime, MachinesRunInTime}
@@ -67,14 +69,16 @@ finish_ahead l old new n =
 
 head_ahead : (job : Job) (l : Queued) (ls : List Queued) (old : State) (o : Outcome) (new : State) → HeadTick job l ls old o new → GoesAhead old new
 head_ahead job l ls old o new t =
-    elim (match_with (nat_lt 0 (path_steps l)) (Travels job l ls old o new) (MatchBool old.held (Rests job old o new) (Serves job l.command.action old o new)) t) [
+    elim (match_with (nat_lt 0 (path_steps l)) (Travels job l ls old o new)
+    (MatchBool old.held (Rests job old o new) (Serves job l.command.action old o new)) t) [
       | inl u ↦ travel_ahead job l ls old o new u.1
       | inr u ↦ elim (match_with old.held (Rests job old o new) (Serves job l.command.action old o new) u.1) [
         | inl r ↦ subst (GoesAhead old) (sym r.1.stands) (same_ahead old)
-        | inr r ↦ elim (match_with (nat_lt (suc old.dwelt) (ticks_of job l.command.action)) (Dwells job old o new) (Finishes job l.command.action old o new) r.1) [
-          | inl d ↦ subst (GoesAhead old) (sym d.1.counts) (same_ahead old)
-          | inr d ↦ finish_ahead l old new d.1.goes_on
-        ]
+        | inr r ↦ elim (match_with (nat_lt (suc old.dwelt) (ticks_of job l.command.action)) (Dwells job old o new)
+            (Finishes job l.command.action old o new) r.1) [
+              | inl d ↦ subst (GoesAhead old) (sym d.1.counts) (same_ahead old)
+              | inr d ↦ finish_ahead l old new d.1.goes_on
+            ]
       ]
     ]
 
@@ -139,7 +143,8 @@ head_counts : (job : Job) (k : ℕ) (l : Queued) (ls : List Queued) (old : State
     1 ≤ path_steps l → old.done ≡ k → IsFree old → TravelsAtLeast job (l ∷ ls) old new.rate →
     HeadTick job l ls old o new → Counts k (millionths l) (least_rate job l) old new
 head_counts job k l ls old o new f some head free g t =
-    elim (match_with (nat_lt 0 (path_steps l)) (Travels job l ls old o new) (MatchBool old.held (Rests job old o new) (Serves job l.command.action old o new)) t) [
+    elim (match_with (nat_lt 0 (path_steps l)) (Travels job l ls old o new)
+    (MatchBool old.held (Rests job old o new) (Serves job l.command.action old o new)) t) [
       | inl u ↦ travel_counts job k l ls old o new f some head (g free (omega (arith, some))) u.1
       | inr u ↦ absurd (let z : path_steps l ≡ 0 = let b = u.0 in grind (arith, nat_tests) in omega (arith, z, some))
     ]
@@ -211,7 +216,8 @@ counted_bounded k x m old new ticks p c b =
       later = λ h. absurd (omega (arith, head, h));
     }
 
-next_bounded : (k x m : ℕ) (old new : State) (ticks : ℕ) (b : Bool) → 1 ≤ m → (b ≡ true → Counts k x m old new) → GoesAhead old new → IsBounded k x m new ticks →
+next_bounded : (k x m : ℕ) (old new : State) (ticks : ℕ) (b : Bool) → 1 ≤ m → (b ≡ true → Counts k x m old new) → GoesAhead old new →
+    IsBounded k x m new ticks →
     IsBounded k x m old ((if b then 1 else 0) + ticks)
 next_bounded k x m old new ticks true p c g i = counted_bounded k x m old new ticks p (c refl) i
 next_bounded k x m old new ticks false p c g i =
@@ -239,7 +245,8 @@ shown k l states no_other i d lt = at (slice_index_or states i d).ring refl
   where
     at : (ring : List Queued) → (slice_index_or states i d).ring ≡ ring → Shows k l (slice_index_or states i d) ring
     at [] e = tt
-    at (m ∷ ms) e = λ done. no_other m (i, slice_index_or states i d, lt, get_or_default states i (slice_index_or states i d) d lt, (done, ap (λ ring. slice_get ring 0) e))
+    at (m ∷ ms) e =
+        λ done. no_other m (i, slice_index_or states i d, lt, get_or_default states i (slice_index_or states i d) d lt, (done, ap (λ ring. slice_get ring 0) e))
 
 from_start : (job : Job) (k x m ticks : ℕ) → 1 ≤ m → IsBounded k x m (opening job.machine) ticks → ticks ≤ ticks_for x m
 from_start job zero x m ticks p b =

@@ -17,7 +17,8 @@ use Rattle.ngc_behaviour.proofs.Way.{way_begins, way_ended}
 use Rattle.ngc_behaviour.proofs.Settings.{entries_at, setting_is_valid, setting_is_joined, setting_is_even}
 
 runs_safely : (machine : MachineFile) (commands : List Command) (entries : List Entry) → IsMachine machine → IsValid machine commands entries →
-    AreJoined machine.start (ways_of (actions_of commands)) → HaveEvenRadii (ways_of (actions_of commands)) → EndIsLast commands → RunsSafely (job_of machine commands)
+    AreJoined machine.start (ways_of (actions_of commands)) → HaveEvenRadii (ways_of (actions_of commands)) → EndIsLast commands →
+    RunsSafely (job_of machine commands)
 runs_safely machine commands entries m v j even e events outcomes states r = record {
   safe = positions_safe machine commands entries m v j even events outcomes states r;
   rates = rates_of_run (job_of machine commands) m events outcomes states r;
@@ -27,8 +28,10 @@ runs_safely machine commands entries m v j even e events outcomes states r = rec
 }
 
 pub accepted_runs_safely : AcceptedRunsSafely
-accepted_runs_safely a ok false = runs_safely a.machine a.off ok.certificate.off ok.machine ok.off_valid ok.off_commands.joined ok.off_commands.radii ok.off_commands.ended
-accepted_runs_safely a ok true = runs_safely a.machine a.on ok.certificate.on ok.machine ok.on_valid ok.on_commands.joined ok.on_commands.radii ok.on_commands.ended
+accepted_runs_safely a ok false =
+    runs_safely a.machine a.off ok.certificate.off ok.machine ok.off_valid ok.off_commands.joined ok.off_commands.radii ok.off_commands.ended
+accepted_runs_safely a ok true =
+    runs_safely a.machine a.on ok.certificate.on ok.machine ok.on_valid ok.on_commands.joined ok.on_commands.radii ok.on_commands.ended
 
 pub headline : Headline
 headline program setup c m none block_delete commands means =

@@ -29,5 +29,6 @@ counted_ends job way path n count starts ends moves =
     record { starts = starts; ends = ap (point path) e ∙ ends; unit_moves = λ k h. moves k (omega (arith, h, e)) }
 
 pub has_ends : (job : Job) (way : Way) (path : List StepPos) → IsPathOf job.machine.step way path → HasEnds job way path
-has_ends job (Line b e) path w = counted_ends job (Line b e) path (greatest_distance (grid job.machine.step b) (grid job.machine.step e)) w.count w.starts w.ends w.unit_moves
+has_ends job (Line b e) path w =
+    counted_ends job (Line b e) path (greatest_distance (grid job.machine.step b) (grid job.machine.step e)) w.count w.starts w.ends w.unit_moves
 has_ends job (Arc a) path w = counted_ends job (Arc a) path w.0 w.1.weak.count w.1.weak.starts w.1.weak.ends w.1.weak.unit_moves

@@ -50,7 +50,8 @@ stays_known job old new k l (shrinks e) h = λ le. let d = e.0 in
     let n : suc (k - new.done) ≡ k - old.done = omega (arith, d, le) in
     ap (λ xs. slice_get xs (k - new.done)) e.1 ∙ get_next old.ring (k - new.done) ∙ ap (slice_get old.ring) n ∙ h (omega (arith, d, le))
 
-all_known : (job : Job) (old : State) (es : List Event) (os : List Outcome) (states : List State) (k : ℕ) (l : Queued) → Run job old es os states → IsKnown k l old →
+all_known : (job : Job) (old : State) (es : List Event) (os : List Outcome) (states : List State) (k : ℕ) (l : Queued) → Run job old es os states →
+    IsKnown k l old →
     AllByRecursion (IsKnown k l) states
 all_known job old [] [] [] k l r h = tt
 all_known job old [] [] (new ∷ states) k l r h = absurd r
@@ -103,13 +104,15 @@ stay_commands job old new (grows g) h = λ i l at.
     subst (λ n. IsLoadedAs job (n + i) l) (sym g.done)
     (elim (get_cases old.ring (record { command = g.command; path = g.path }) i l (ap (λ xs. slice_get xs i) (sym g.ring) ∙ at)) [
       | inl was ↦ h i l was
-      | inr is ↦ subst (λ m. IsLoadedAs job (old.done + i) m) is.1 (subst (λ n. IsLoadedAs job (old.done + n) (record { command = g.command; path = g.path })) (sym is.0) (record { command = g.next; path = g.takes }))
+      | inr is ↦ subst (λ m. IsLoadedAs job (old.done + i) m) is.1
+          (subst (λ n. IsLoadedAs job (old.done + n) (record { command = g.command; path = g.path })) (sym is.0) (record { command = g.next; path = g.takes }))
     ])
 stay_commands job old new (shrinks e) h = λ i l at.
     let n : old.done + suc i ≡ new.done + i = let d = e.0 in omega (arith, d) in
     subst (λ n. IsLoadedAs job n l) n (h (suc i) l (sym (get_next old.ring i) ∙ ap (λ xs. slice_get xs i) (sym e.1) ∙ at))
 
-all_commands : (job : Job) (old : State) (es : List Event) (os : List Outcome) (states : List State) → Run job old es os states → AreCommands job old → AllByRecursion (AreCommands job) states
+all_commands : (job : Job) (old : State) (es : List Event) (os : List Outcome) (states : List State) → Run job old es os states → AreCommands job old →
+    AllByRecursion (AreCommands job) states
 all_commands job old [] [] [] r h = tt
 all_commands job old [] [] (new ∷ states) r h = absurd r
 all_commands job old [] (o ∷ os) states r h = absurd r
@@ -121,7 +124,8 @@ all_commands job old (e ∷ es) (o ∷ os) (new ∷ states) r h =
 none_loaded : (job : Job) → AreCommands job (opening job.machine)
 none_loaded job i l e = cc
 
-loaded_as : (job : Job) (es : List Event) (os : List Outcome) (states : List State) (k : ℕ) (l : Queued) → Run job (opening job.machine) es os states → ComesToHead k l states → IsLoadedAs job k l
+loaded_as : (job : Job) (es : List Event) (os : List Outcome) (states : List State) (k : ℕ) (l : Queued) → Run job (opening job.machine) es os states →
+    ComesToHead k l states → IsLoadedAs job k l
 loaded_as job es os states k l r c =
     let x = at_any (AreCommands job) (IsHead k l) states (all_commands job (opening job.machine) es os states r (none_loaded job)) c in
     let d = x.2.0 in

@@ -50,8 +50,10 @@ begins_at path n k p rest e h at = by_case (nat_lt k n) refl
   where
     by_case : (b : Bool) → nat_lt k n ≡ b → BeginsWith p (drop k (take n path) ++ point path n ∷ rest)
     by_case true b =
-        let before = one_before path n k e (grind (arith, nat_tests)) in
-        (drop (suc k) (take n path) ++ point path n ∷ rest, ap (λ xs. xs ++ point path n ∷ rest) before ∙ ap (λ t. t ∷ (drop (suc k) (take n path) ++ point path n ∷ rest)) (sym at))
+        let before = one_before path n k e (grind (arith, nat_tests)) in (
+          drop (suc k) (take n path) ++ point path n ∷ rest,
+          ap (λ xs. xs ++ point path n ∷ rest) before ∙ ap (λ t. t ∷ (drop (suc k) (take n path) ++ point path n ∷ rest)) (sym at),
+        )
     by_case false b =
         let last : k ≡ n = grind (arith, nat_tests) in
         (rest, ap (λ xs. xs ++ point path n ∷ rest) (none_before path n k (omega (arith, last))) ∙ ap (λ t. t ∷ rest) (ap (point path) (sym last) ∙ sym at))
@@ -83,8 +85,10 @@ pub path_length : (job : Job) (way : Way) (path : List StepPos) → IsPathOf job
 path_length job way path w = omega (arith, (path_ends job way path w).1)
 
 -- a path of the first motion, and then one of the others
-pub path_then : (job : Job) (way : Way) (ways : List Way) (p : StepPos) (path rest points : List StepPos) → IsPathOf job.machine.step way path → point path 0 ≡ p →
-    IsPathOfAll job.machine.step (point path (length path - 1)) ways rest → points ≡ take (length path - 1) path ++ rest → IsPathOfAll job.machine.step p (way ∷ ways) points
+pub path_then : (job : Job) (way : Way) (ways : List Way) (p : StepPos) (path rest points : List StepPos) → IsPathOf job.machine.step way path →
+    point path 0 ≡ p →
+    IsPathOfAll job.machine.step (point path (length path - 1)) ways rest → points ≡ take (length path - 1) path ++ rest →
+    IsPathOfAll job.machine.step p (way ∷ ways) points
 path_then job way ways p path rest points w starts others e =
     let n = length path - 1 in
     let split = split_last path n (path_length job way path w) in (
@@ -98,7 +102,8 @@ path_then job way ways p path rest points w starts others e =
     )
 
 -- joined motions have a path from the grid point of their start on
-pub some_path : (job : Job) → IsStep job.machine.step → (ways : List Way) (place : Point3) (p : StepPos) → AreArcs ways → AreJoined place ways → p ≡ grid job.machine.step place →
+pub some_path : (job : Job) → IsStep job.machine.step → (ways : List Way) (place : Point3) (p : StepPos) → AreArcs ways → AreJoined place ways →
+    p ≡ grid job.machine.step place →
     (later : List StepPos) × IsPathOfAll job.machine.step p ways (p ∷ later)
 some_path job h [] place p arcs j at = ([], refl)
 some_path job h (way ∷ ways) place p arcs j at =

@@ -1,5 +1,6 @@
 -- The ticks of a run walk the joined paths of its motions: each path step is a million that the travelled millionths fill.
-use Rattle.std.proofs.Common.{◌≡◌, ℕ, zero, suc, ◌+◌, ◌-◌, ◌*◌, ◌/◌, ◌<◌, ◌≤◌, inl, inr, ap, subst, sym, ◌∙◌, arith, refl, List, [], ◌∷◌, ◌++◌, length, drop, Some, None, true, false, Bool, cond, ℤ}
+use Rattle.std.proofs.Common.{◌≡◌, ℕ, zero, suc, ◌+◌, ◌-◌, ◌*◌, ◌/◌, ◌<◌, ◌≤◌, inl, inr, ap, subst, sym, ◌∙◌, arith, refl, List, [], ◌∷◌, ◌++◌, length, drop}
+use Rattle.std.proofs.Common.{Some, None, true, false, Bool, cond, ℤ}
 use Rattle.std.specs.Prelude.{Option, MatchBool, nat_lt, nat_le, slice_get, take, unsigned_abs, ◌-ℤ◌, ◌||◌}
 use Rattle.std.proofs.lemmas.Bool.{cases_lt, cases_Bool, or_parts, or_from, ltb-false, le-ltb, false≢true}
 use Rattle.std.proofs.lemmas.Bool.Decides.{nat_tests}
@@ -17,7 +18,8 @@ use Rattle.ngc_planner.specs.Pulses.{is_stepping, is_path_step}
 use Rattle.ngc_events.specs.declared.event.Event.{Event}
 use Rattle.ngc_events.specs.declared.event.Event.TheVariants.{Load, Tick, Hold, Resume, Override, StopSwitch, Start}
 use Rattle.ngc_behaviour.specs.State.{Job, Queued, State, opening, loaded, command_at, path_steps, millionths, RING}
-use Rattle.ngc_behaviour.specs.Step.{Outcome, Step, LoadCommand, MayTake, Rests, Finishes, Dwells, Serves, Travels, HeadTick, TickBy, without_head, after, place_after, ticks_of}
+use Rattle.ngc_behaviour.specs.Step.{Outcome, Step, LoadCommand, MayTake, Rests, Finishes, Dwells, Serves, Travels, HeadTick, TickBy, without_head, after}
+use Rattle.ngc_behaviour.specs.Step.{place_after, ticks_of}
 use Rattle.ngc_behaviour.specs.Run.{Run, step_to, pulses}
 use Rattle.ngc_behaviour.specs.Safety.{TickKeeps}
 use Rattle.ngc_behaviour.specs.Progress.{is_tick}
@@ -79,7 +81,8 @@ abbrev pub WalksIn : Job → State → Type 0
 WalksIn job s = Walks job s.done s.ring s.travelled s.position
 
 -- the head is a motion, if it has path steps
-begins_at : (job : Job) (d : Action) (actions : List Action) (path : List StepPos) (place : Point3) → AreJoined place (ways_of (d ∷ actions)) → MayTake job d path →
+begins_at : (job : Job) (d : Action) (actions : List Action) (path : List StepPos) (place : Point3) → AreJoined place (ways_of (d ∷ actions)) →
+    MayTake job d path →
     0 < length path - 1 → point path 0 ≡ grid job.machine.step place
 begins_at job (Move m) actions path place joined take p = (has_ends job m.way path take).starts ∙ ap (grid job.machine.step) joined.0
 begins_at job _ actions path place joined take p = absurd (let e = ap length take in omega (arith, e, p))
@@ -92,12 +95,14 @@ unit_at job _ path k take h = absurd (let e = ap length take in omega (arith, e,
 abbrev Continues : Job → List Action → StepPos → Type 0
 Continues job actions p = (next : Point3) × AreJoined next (ways_of actions) × (p ≡ grid job.machine.step next)
 
-ends_at_next : (job : Job) (d : Action) (actions : List Action) (path : List StepPos) (place : Point3) → AreJoined place (ways_of (d ∷ actions)) → MayTake job d path →
+ends_at_next : (job : Job) (d : Action) (actions : List Action) (path : List StepPos) (place : Point3) → AreJoined place (ways_of (d ∷ actions)) →
+    MayTake job d path →
     0 < length path - 1 → Continues job actions (point path (length path - 1))
 ends_at_next job (Move m) actions path place joined take p = (end_of m.way, joined.1, (has_ends job m.way path take).ends)
 ends_at_next job _ actions path place joined take p = absurd (let e = ap length take in omega (arith, e, p))
 
-stays_at_next : (job : Job) (d : Action) (actions : List Action) (path : List StepPos) (place : Point3) (p : StepPos) → AreJoined place (ways_of (d ∷ actions)) → MayTake job d path →
+stays_at_next : (job : Job) (d : Action) (actions : List Action) (path : List StepPos) (place : Point3) (p : StepPos) →
+    AreJoined place (ways_of (d ∷ actions)) → MayTake job d path →
     length path - 1 ≡ 0 → p ≡ grid job.machine.step place → Continues job actions p
 stays_at_next job (Move m) actions path place p joined take z e =
     let h = has_ends job m.way path take in
@@ -121,14 +126,16 @@ passes b = cond b 1 0
 -- nothing moves
 still_advances : (old new : State) → new.position ≡ old.position → new.rate ≡ 0 → new.travelled ≡ old.travelled → Advances old new
 still_advances old new p r t =
-    let s : is_path_step (step_to old.position new.position) ≡ false = subst (λ q. is_path_step (step_to old.position q) ≡ false) (sym p) (still_step old.position) in
+    let s : is_path_step (step_to old.position new.position) ≡ false =
+    subst (λ q. is_path_step (step_to old.position q) ≡ false) (sym p) (still_step old.position) in
     let c : passes (is_path_step (step_to old.position new.position)) ≡ 0 = ap passes s in
     record { counts = omega (arith, c, r); whole = 0; goes_on = omega (arith, r, t) }
 
 -- from point k of a path to point j, the same or the next
 path_advances : (old new : State) (path : List StepPos) → old.position ≡ point path (old.travelled / MILLION) →
     new.position ≡ point path ((old.travelled + new.rate) / MILLION) → new.rate ≤ MILLION →
-    ((old.travelled / MILLION) < ((old.travelled + new.rate) / MILLION) → IsUnitMove (point path (old.travelled / MILLION)) (point path (old.travelled / MILLION + 1))) →
+    ((old.travelled / MILLION) < ((old.travelled + new.rate) / MILLION) →
+    IsUnitMove (point path (old.travelled / MILLION)) (point path (old.travelled / MILLION + 1))) →
     cond (is_path_step (step_to old.position new.position)) 1 0 + old.travelled / MILLION ≡ (old.travelled + new.rate) / MILLION
 path_advances old new path at there small unit =
     elim (cases_lt (old.travelled / MILLION) ((old.travelled + new.rate) / MILLION)) [
@@ -141,12 +148,14 @@ path_advances old new path at there small unit =
       | inr h ↦
           let k : (old.travelled + new.rate) / MILLION ≡ old.travelled / MILLION = omega (arith, h) in
           let e : new.position ≡ old.position = there ∙ ap (point path) k ∙ sym at in
-          let s : is_path_step (step_to old.position new.position) ≡ false = subst (λ q. is_path_step (step_to old.position q) ≡ false) (sym e) (still_step old.position) in
+          let s : is_path_step (step_to old.position new.position) ≡ false =
+          subst (λ q. is_path_step (step_to old.position q) ≡ false) (sym e) (still_step old.position) in
           let c : passes (is_path_step (step_to old.position new.position)) ≡ 0 = ap passes s in
           omega (arith, c, k)
     ]
 
-at_state : (job : Job) (s : State) (done : ℕ) (ring : List Queued) (travelled : ℕ) (position : StepPos) → s.done ≡ done → s.ring ≡ ring → s.travelled ≡ travelled →
+at_state : (job : Job) (s : State) (done : ℕ) (ring : List Queued) (travelled : ℕ) (position : StepPos) → s.done ≡ done → s.ring ≡ ring →
+    s.travelled ≡ travelled →
     s.position ≡ position → Walks job done ring travelled position → WalksIn job s
 at_state job s done ring travelled position d r t p w =
     subst (λ x. Walks job x s.ring s.travelled s.position) (sym d)
@@ -260,7 +269,8 @@ finish_both job l ls old new e f z walks n =
     let rate : new.rate ≡ 0 = ap (λ (s : State). s.rate) n ∙ a.4 in (
       still_advances old new position rate (travelled ∙ sym t),
       at_state job new (suc old.done) ls 0 old.position done ring travelled position
-          (finish_walks job l ls old.done old.travelled old.position z t walks.left walks.place walks.at walks.joined (subst (RingFits job walks.left) e walks.fits) (walks.begins t)),
+          (finish_walks job l ls old.done old.travelled old.position z t walks.left walks.place walks.at walks.joined
+          (subst (RingFits job walks.left) e walks.fits) (walks.begins t)),
     )
 
 rest_both : (job : Job) (old new : State) → WalksIn job old → new ≡ record old { rate = 0 } → Both job old new
@@ -270,7 +280,8 @@ head_both : (job : Job) (l : Queued) (ls : List Queued) (old : State) (o : Outco
     new.rate ≤ MILLION →
     WalksIn job old → HeadTick job l ls old o new → Both job old new
 head_both job l ls old o new e f small walks t =
-    elim (match_with (nat_lt 0 (path_steps l)) (Travels job l ls old o new) (MatchBool old.held (Rests job old o new) (Serves job l.command.action old o new)) t) [
+    elim (match_with (nat_lt 0 (path_steps l)) (Travels job l ls old o new)
+    (MatchBool old.held (Rests job old o new) (Serves job l.command.action old o new)) t) [
       | inl u ↦
           let p : 0 < path_steps l = let b = u.0 in grind (arith, nat_tests) in (
             travel_advances job l ls old o new e f small p walks u.1,
@@ -278,14 +289,16 @@ head_both job l ls old o new e f small walks t =
           )
       | inr u ↦ elim (match_with old.held (Rests job old o new) (Serves job l.command.action old o new) u.1) [
         | inl r ↦ rest_both job old new walks r.1.stands
-        | inr r ↦ elim (match_with (nat_lt (suc old.dwelt) (ticks_of job l.command.action)) (Dwells job old o new) (Finishes job l.command.action old o new) r.1) [
-          | inl d ↦ subst (Both job old) (sym d.1.counts) (still_advances old (record old { rate = 0; dwelt = suc old.dwelt }) refl refl refl, walks)
-          | inr d ↦ finish_both job l ls old new e f (let b = u.0 in grind (arith, nat_tests)) walks d.1.goes_on
-        ]
+        | inr r ↦ elim (match_with (nat_lt (suc old.dwelt) (ticks_of job l.command.action)) (Dwells job old o new)
+            (Finishes job l.command.action old o new) r.1) [
+              | inl d ↦ subst (Both job old) (sym d.1.counts) (still_advances old (record old { rate = 0; dwelt = suc old.dwelt }) refl refl refl, walks)
+              | inr d ↦ finish_both job l ls old new e f (let b = u.0 in grind (arith, nat_tests)) walks d.1.goes_on
+            ]
       ]
     ]
 
-pub tick_both : (job : Job) (stopped : Bool) (ring : List Queued) (old : State) (o : Outcome) (new : State) → old.ring ≡ ring → Fits ring old.travelled → new.rate ≤ MILLION →
+pub tick_both : (job : Job) (stopped : Bool) (ring : List Queued) (old : State) (o : Outcome) (new : State) → old.ring ≡ ring → Fits ring old.travelled →
+    new.rate ≤ MILLION →
     WalksIn job old → TickBy job stopped ring old o new → Both job old new
 tick_both job true ring old o new e f small walks t = rest_both job old new walks t.stands
 tick_both job false [] old o new e f small walks t = rest_both job old new walks t.stands
@@ -293,7 +306,8 @@ tick_both job false (l ∷ ls) old o new e f small walks t = head_both job l ls 
 
 -- ---- other events
 
-still_on : (ring : List Queued) (l : Queued) (travelled : ℕ) (position : StepPos) → IsOnHead ring travelled position → IsOnHead (ring ++ l ∷ []) travelled position
+still_on : (ring : List Queued) (l : Queued) (travelled : ℕ) (position : StepPos) → IsOnHead ring travelled position →
+    IsOnHead (ring ++ l ∷ []) travelled position
 still_on [] l travelled position h = absurd h
 still_on (k ∷ ks) l travelled position h = h
 
@@ -320,7 +334,8 @@ load_walks job old (Some c) o new e walks t =
 -- ---- runs
 
 -- the bounds on a tick's rate
-pub rate_bounds : (job : Job) (ring : List Queued) (old : State) (v : ℕ) → TickKeeps job ring old v → (v ≤ job.machine.max_rate) × (v ≤ old.rate + job.machine.change) × (old.rate ≤ v + job.machine.change)
+pub rate_bounds : (job : Job) (ring : List Queued) (old : State) (v : ℕ) → TickKeeps job ring old v →
+    (v ≤ job.machine.max_rate) × (v ≤ old.rate + job.machine.change) × (old.rate ≤ v + job.machine.change)
 rate_bounds job [] old v k = let z = k.0 in let s = k.1 in (omega (arith, z), omega (arith, z), omega (arith, s))
 rate_bounds job (l ∷ ls) old v k = (k.within.greatest, k.faster, k.slower)
 
@@ -332,7 +347,8 @@ Goes job q s ticks = (vs : List ℕ) × ArePaced is_path_step job.machine.change
 abbrev pub Waits : Job → State → State → Type 0
 Waits job old new = WalksIn job new × (new.travelled ≡ old.travelled) × (new.rate ≡ old.rate)
 
-load_waits : (job : Job) (old : State) (next : Option Command) (o : Outcome) (new : State) → LoadCommand job old next o new → (new.travelled ≡ old.travelled) × (new.rate ≡ old.rate)
+load_waits : (job : Job) (old : State) (next : Option Command) (o : Outcome) (new : State) → LoadCommand job old next o new →
+    (new.travelled ≡ old.travelled) × (new.rate ≡ old.rate)
 load_waits job old None o new t = (ap (λ (s : State). s.travelled) t.1, ap (λ (s : State). s.rate) t.1)
 load_waits job old (Some c) o new t =
     elim (match_with (nat_lt (length old.ring) RING) _ _ t) [
@@ -361,7 +377,8 @@ waits job old (Override n) o new z walks t = elim (match_with (nat_le n 200) _ _
   | inr u ↦ subst (Waits job old) (sym u.1.1) (walks, refl, refl)
 ]
 
-pub run_goes : (job : Job) (q : ℕ) (old : State) (es : List Event) (os : List Outcome) (states : List State) → job.machine.max_rate ≤ MILLION → Fits old.ring old.travelled →
+pub run_goes : (job : Job) (q : ℕ) (old : State) (es : List Event) (os : List Outcome) (states : List State) → job.machine.max_rate ≤ MILLION →
+    Fits old.ring old.travelled →
     WalksIn job old → Run job old es os states → Goes job q old (pulses old.position es states)
 run_goes job q old [] os states m f w r = ([], tt)
 run_goes job q old (e ∷ es) os [] m f w r = ([], tt)

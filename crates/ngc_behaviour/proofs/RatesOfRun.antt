@@ -18,7 +18,8 @@ use Rattle.ngc_events.specs.declared.event.Event.TheVariants.{Load, Tick, Hold, 
 use Rattle.ngc_behaviour.specs.State.{Job, Queued, State, opening, loaded, command_at, path_steps, millionths, RING}
 use Rattle.ngc_behaviour.specs.Reach.{stops, flows_into}
 use Rattle.ngc_behaviour.specs.RateRules.{GoesOnInto, KeepsRateRules}
-use Rattle.ngc_behaviour.specs.Step.{Outcome, Step, LoadCommand, Rests, Finishes, Dwells, Serves, Travels, HeadTick, TickBy, without_head, after, ticks_of, place_after}
+use Rattle.ngc_behaviour.specs.Step.{Outcome, Step, LoadCommand, Rests, Finishes, Dwells, Serves, Travels, HeadTick, TickBy, without_head, after, ticks_of}
+use Rattle.ngc_behaviour.specs.Step.{place_after}
 use Rattle.ngc_fixed_length.specs.LinePath.{point}
 use Rattle.ngc_behaviour.specs.Run.{Run}
 use Rattle.ngc_behaviour.specs.Safety.{TickKeeps, EventKeeps, KeepRates}
@@ -69,7 +70,8 @@ none_fits (l ∷ ls) t e = omega (arith, e)
 abbrev Kept : Job → List Queued → State → State → Type 0
 Kept job ring old new = TickKeeps job ring old new.rate × Fits new.ring new.travelled
 
-rest_keeps : (job : Job) (ring : List Queued) (old new : State) → old.ring ≡ ring → Fits ring old.travelled → old.rate ≤ job.machine.change → new ≡ record old { rate = 0 } → Kept job ring old new
+rest_keeps : (job : Job) (ring : List Queued) (old new : State) → old.ring ≡ ring → Fits ring old.travelled → old.rate ≤ job.machine.change →
+    new ≡ record old { rate = 0 } → Kept job ring old new
 rest_keeps job [] old new e f slow n = subst (Kept job [] old) (sym n) ((refl, slow), subst (λ r. Fits r old.travelled) (sym e) f)
 rest_keeps job (l ∷ ls) old new e f slow n = subst (Kept job (l ∷ ls) old) (sym n) (resting job l ls old slow f, subst (λ r. Fits r old.travelled) (sym e) f)
 
@@ -81,7 +83,8 @@ finish_keeps job l ls old new f slow n =
     let t : new.travelled ≡ 0 = ap (λ (s : State). s.travelled) n ∙ a.2 in
     (subst (KeepsRateRules job l ls old) (sym r) (resting job l ls old slow f), none_fits new.ring new.travelled t)
 
-travel_fits : (b : Bool) (x y : State) → (b ≡ true → Fits x.ring x.travelled) → (b ≡ false → Fits y.ring y.travelled) → Fits (if b then x else y).ring (if b then x else y).travelled
+travel_fits : (b : Bool) (x y : State) → (b ≡ true → Fits x.ring x.travelled) → (b ≡ false → Fits y.ring y.travelled) →
+    Fits (if b then x else y).ring (if b then x else y).travelled
 travel_fits true x y f g = f refl
 travel_fits false x y f g = g refl
 
@@ -147,14 +150,16 @@ travel_keeps job l ls old o new m e some f t =
 head_keeps : (job : Job) (l : Queued) (ls : List Queued) (old : State) (o : Outcome) (new : State) → job.machine.max_rate ≤ MILLION → old.ring ≡ l ∷ ls →
     old.travelled ≤ millionths l - 1 → HeadTick job l ls old o new → Kept job (l ∷ ls) old new
 head_keeps job l ls old o new m e f t =
-    elim (match_with (nat_lt 0 (path_steps l)) (Travels job l ls old o new) (MatchBool old.held (Rests job old o new) (Serves job l.command.action old o new)) t) [
+    elim (match_with (nat_lt 0 (path_steps l)) (Travels job l ls old o new)
+    (MatchBool old.held (Rests job old o new) (Serves job l.command.action old o new)) t) [
       | inl u ↦ travel_keeps job l ls old o new m e (ltb-true 0 (path_steps l) u.0) f u.1
       | inr u ↦ elim (match_with old.held (Rests job old o new) (Serves job l.command.action old o new) u.1) [
         | inl r ↦ rest_keeps job (l ∷ ls) old new e f r.1.slow r.1.stands
-        | inr r ↦ elim (match_with (nat_lt (suc old.dwelt) (ticks_of job l.command.action)) (Dwells job old o new) (Finishes job l.command.action old o new) r.1) [
-          | inl d ↦ subst (Kept job (l ∷ ls) old) (sym d.1.counts) (resting job l ls old d.1.slow f, subst (λ r. Fits r old.travelled) (sym e) f)
-          | inr d ↦ finish_keeps job l ls old new f d.1.slow d.1.goes_on
-        ]
+        | inr r ↦ elim (match_with (nat_lt (suc old.dwelt) (ticks_of job l.command.action)) (Dwells job old o new)
+            (Finishes job l.command.action old o new) r.1) [
+              | inl d ↦ subst (Kept job (l ∷ ls) old) (sym d.1.counts) (resting job l ls old d.1.slow f, subst (λ r. Fits r old.travelled) (sym e) f)
+              | inr d ↦ finish_keeps job l ls old new f d.1.slow d.1.goes_on
+            ]
       ]
     ]
 
@@ -171,7 +176,8 @@ more_fits (k ∷ ks) l t f = f
 abbrev Same : State → State → Type 0
 Same old new = (new.rate ≡ old.rate) × Fits new.ring new.travelled
 
-load_keeps : (job : Job) (old : State) (next : Option Command) (o : Outcome) (new : State) → Fits old.ring old.travelled → LoadCommand job old next o new → Same old new
+load_keeps : (job : Job) (old : State) (next : Option Command) (o : Outcome) (new : State) → Fits old.ring old.travelled → LoadCommand job old next o new →
+    Same old new
 load_keeps job old None o new f t = subst (Same old) (sym t.1) (refl, f)
 load_keeps job old (Some c) o new f t = elim (match_with (nat_lt (length old.ring) RING) _ _ t) [
   | inl u ↦ subst (Same old) (sym u.1.3) (refl, more_fits old.ring (record { command = c; path = u.1.0 }) old.travelled f)

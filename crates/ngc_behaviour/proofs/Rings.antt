@@ -8,7 +8,8 @@ use Rattle.ngc_canonical.specs.declared.command.Command.{Command}
 use Rattle.ngc_events.specs.declared.event.Event.{Event}
 use Rattle.ngc_events.specs.declared.event.Event.TheVariants.{Load, Tick, Hold, Resume, Override, StopSwitch, Start}
 use Rattle.ngc_behaviour.specs.State.{Job, Queued, State, RING, loaded, command_at, path_steps, millionths}
-use Rattle.ngc_behaviour.specs.Step.{Outcome, Step, LoadCommand, MayTake, Rests, Finishes, Dwells, Serves, Travels, HeadTick, TickBy, without_head, place_after, ticks_of}
+use Rattle.ngc_behaviour.specs.Step.{Outcome, Step, LoadCommand, MayTake, Rests, Finishes, Dwells, Serves, Travels, HeadTick, TickBy, without_head, place_after}
+use Rattle.ngc_behaviour.specs.Step.{ticks_of}
 use Rattle.ngc_behaviour.proofs.Cases.{match_with}
 use Rattle.ngc_behaviour.proofs.RatesOfRun.{after_stays}
 
@@ -47,23 +48,27 @@ finish_ring job a old o new f =
 
 head_ring : (job : Job) (l : Queued) (ls : List Queued) (old : State) (o : Outcome) (new : State) → HeadTick job l ls old o new → RingAfter job old new
 head_ring job l ls old o new t =
-    elim (match_with (nat_lt 0 (path_steps l)) (Travels job l ls old o new) (MatchBool old.held (Rests job old o new) (Serves job l.command.action old o new)) t) [
+    elim (match_with (nat_lt 0 (path_steps l)) (Travels job l ls old o new)
+    (MatchBool old.held (Rests job old o new) (Serves job l.command.action old o new)) t) [
       | inl u ↦ travel_ring job l ls old o new u.1
       | inr u ↦ elim (match_with old.held (Rests job old o new) (Serves job l.command.action old o new) u.1) [
         | inl r ↦ still job old new _ r.1.stands refl refl
-        | inr r ↦ elim (match_with (nat_lt (suc old.dwelt) (ticks_of job l.command.action)) (Dwells job old o new) (Finishes job l.command.action old o new) r.1) [
-          | inl d ↦ still job old new _ d.1.counts refl refl
-          | inr d ↦ finish_ring job l.command.action old o new d.1
-        ]
+        | inr r ↦ elim (match_with (nat_lt (suc old.dwelt) (ticks_of job l.command.action)) (Dwells job old o new)
+            (Finishes job l.command.action old o new) r.1) [
+              | inl d ↦ still job old new _ d.1.counts refl refl
+              | inr d ↦ finish_ring job l.command.action old o new d.1
+            ]
       ]
     ]
 
-tick_ring : (job : Job) (stopped : Bool) (ring : List Queued) (old : State) (o : Outcome) (new : State) → TickBy job stopped ring old o new → RingAfter job old new
+tick_ring : (job : Job) (stopped : Bool) (ring : List Queued) (old : State) (o : Outcome) (new : State) → TickBy job stopped ring old o new →
+    RingAfter job old new
 tick_ring job true ring old o new t = still job old new _ t.stands refl refl
 tick_ring job false [] old o new t = still job old new _ t.stands refl refl
 tick_ring job false (l ∷ ls) old o new t = head_ring job l ls old o new t
 
-load_ring : (job : Job) (old : State) (next : Option Command) (o : Outcome) (new : State) → command_at job (loaded old) ≡ next → LoadCommand job old next o new → RingAfter job old new
+load_ring : (job : Job) (old : State) (next : Option Command) (o : Outcome) (new : State) → command_at job (loaded old) ≡ next →
+    LoadCommand job old next o new → RingAfter job old new
 load_ring job old None o new e t = still job old new _ t.1 refl refl
 load_ring job old (Some c) o new e t = elim (match_with (nat_lt (length old.ring) RING) _ _ t) [
   | inl u ↦ grows (record {

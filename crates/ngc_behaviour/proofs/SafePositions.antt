@@ -33,7 +33,8 @@ nearest_multiple : (q : ℤ) (g : ℕ) → nearest (q *ℤ pos (suc g)) (pos (su
 nearest_multiple (pos m) g = ap pos (whole_nearest m (suc g) (omega arith))
 nearest_multiple (negsuc m) g =
     let e : suc m * suc g ≡ suc (m * suc g + g) = omega arith in
-    let a : nearest (negsuc m *ℤ pos (suc g)) (pos (suc g)) ≡ nearest (negsuc (m * suc g + g)) (pos (suc g)) = ap (λ t. nearest (neg_ℤ (pos t)) (pos (suc g))) e in
+    let a : nearest (negsuc m *ℤ pos (suc g)) (pos (suc g)) ≡ nearest (negsuc (m * suc g + g)) (pos (suc g)) =
+    ap (λ t. nearest (neg_ℤ (pos t)) (pos (suc g))) e in
     let b : nearest_size (suc (m * suc g + g)) (suc g) ≡ suc m = ap (λ t. nearest_size t (suc g)) (sym e) ∙ whole_nearest (suc m) (suc g) (omega arith) in
     a ∙ ap (λ t. neg_ℤ (pos t)) b
 
@@ -71,7 +72,8 @@ start_inside machine m = and _ _
     (subst (λ p. IsTrue (is_below p machine.high)) (sym (start_exact machine m)) (tested machine.start machine.high m.travel.start_below))
 
 pub opening_holds : (machine : MachineFile) (commands : List Command) (entries : List Entry) → IsMachine machine → IsValid machine commands entries →
-    AreJoined machine.start (ways_of (actions_of commands)) → HaveEvenRadii (ways_of (actions_of commands)) → HoldsIn (job_of machine commands) (opening machine)
+    AreJoined machine.start (ways_of (actions_of commands)) → HaveEvenRadii (ways_of (actions_of commands)) →
+    HoldsIn (job_of machine commands) (opening machine)
 opening_holds machine commands entries m v j even = record {
   left = commands;
   entries = entries;

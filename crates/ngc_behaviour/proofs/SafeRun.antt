@@ -1,5 +1,6 @@
 -- Every state of a run is safe, where a certificate is valid for the commands.
-use Rattle.std.proofs.Common.{◌≡◌, ℕ, suc, ◌+◌, ◌-◌, ◌*◌, ◌<◌, ◌≤◌, inl, inr, ap, subst, sym, ◌∙◌, arith, refl, List, [], ◌∷◌, ◌++◌, length, drop, Some, None, true, false, pos, ◌≤ℤ◌}
+use Rattle.std.proofs.Common.{◌≡◌, ℕ, suc, ◌+◌, ◌-◌, ◌*◌, ◌<◌, ◌≤◌, inl, inr, ap, subst, sym, ◌∙◌, arith, refl, List, [], ◌∷◌, ◌++◌, length, drop, Some, None}
+use Rattle.std.proofs.Common.{true, false, pos, ◌≤ℤ◌}
 use Rattle.std.specs.Prelude.{if◌then◌else◌, Option, Bool, MatchBool, nat_lt, nat_le, slice_get}
 use Rattle.std.proofs.lemmas.Bool.Decides.{nat_tests}
 use Rattle.ngc_fixed_length.specs.declared.points.StepPos.{StepPos}
@@ -22,7 +23,8 @@ use Rattle.ngc_certificate.proofs.SafeOnPath.{safe_on_path}
 use Rattle.ngc_events.specs.declared.event.Event.{Event}
 use Rattle.ngc_events.specs.declared.event.Event.TheVariants.{Load, Tick, Hold, Resume, Override, StopSwitch, Start}
 use Rattle.ngc_behaviour.specs.State.{Job, Queued, State, loaded, command_at, path_steps, millionths, RING}
-use Rattle.ngc_behaviour.specs.Step.{Outcome, Step, LoadCommand, MayTake, Rests, Finishes, Dwells, Serves, Travels, HeadTick, TickBy, without_head, after, place_after, ticks_of}
+use Rattle.ngc_behaviour.specs.Step.{Outcome, Step, LoadCommand, MayTake, Rests, Finishes, Dwells, Serves, Travels, HeadTick, TickBy, without_head, after}
+use Rattle.ngc_behaviour.specs.Step.{place_after, ticks_of}
 use Rattle.ngc_behaviour.specs.Run.{Run}
 use Rattle.ngc_behaviour.specs.Safety.{AreSafe}
 use Rattle.ngc_behaviour.proofs.Cases.{match_with}
@@ -78,9 +80,11 @@ tool_after (Mount new) tool = new
 tool_after _ tool = tool
 
 -- a head without path steps
-served : (job : Job) (done : ℕ) (l : Queued) (ls : List Queued) (p : StepPos) (tool : Option Tool) (d : Action) (cs : List Command) (entries : List Entry) (place : Point3) →
+served : (job : Job) (done : ℕ) (l : Queued) (ls : List Queued) (p : StepPos) (tool : Option Tool) (d : Action) (cs : List Command) (entries : List Entry)
+    (place : Point3) →
     ((k : ℕ) → command_at job (suc done + k) ≡ slice_get cs k) →
-    AreClearFrom job.machine tool place (d ∷ actions_of cs) entries → AreJoined place (ways_of (d ∷ actions_of cs)) → HaveEvenRadii (ways_of (d ∷ actions_of cs)) → MayTake job d l.path → RingFits job cs ls →
+    AreClearFrom job.machine tool place (d ∷ actions_of cs) entries → AreJoined place (ways_of (d ∷ actions_of cs)) →
+    HaveEvenRadii (ways_of (d ∷ actions_of cs)) → MayTake job d l.path → RingFits job cs ls →
     IsSafe job.machine tool p → path_steps l ≡ 0 → p ≡ grid job.machine.step place → Holds job (suc done) ls p (tool_after d tool)
 served job done l ls p tool (Mount new) cs entries place at clear joined even take fits safe z stands = record {
   left = cs;
@@ -121,17 +125,21 @@ served job done l ls p tool _ cs entries place at clear joined even take fits sa
 }
 
 -- a head with path steps: each of its points is safe
-on_way : (job : Job) (l : Queued) (tool : Option Tool) (place : Point3) (d : Action) (actions : List Action) (entries : List Entry) (k : ℕ) → pos 1 ≤ℤ job.machine.step →
-    AreClearFrom job.machine tool place (d ∷ actions) entries → HaveEvenRadii (ways_of (d ∷ actions)) → MayTake job d l.path → 0 < path_steps l → k ≤ path_steps l → IsSafe job.machine tool (point l.path k)
+on_way : (job : Job) (l : Queued) (tool : Option Tool) (place : Point3) (d : Action) (actions : List Action) (entries : List Entry) (k : ℕ) →
+    pos 1 ≤ℤ job.machine.step →
+    AreClearFrom job.machine tool place (d ∷ actions) entries → HaveEvenRadii (ways_of (d ∷ actions)) → MayTake job d l.path → 0 < path_steps l →
+    k ≤ path_steps l → IsSafe job.machine tool (point l.path k)
 on_way job l tool place (Move m) actions [] k s clear even take p i = absurd clear
 on_way job l tool place (Move m) actions (entry ∷ entries) k s clear even take p i =
     safe_on_path job.machine tool m.way entry.pieces l.path k s even.0 clear.0 take (omega (arith, p, i))
 on_way job l tool place _ actions entries k s clear even take p i = absurd (let e = ap length take in omega (arith, e, p))
 
 -- and when it is done, the next motion begins where it ends
-arrived : (job : Job) (done : ℕ) (l : Queued) (ls : List Queued) (tool : Option Tool) (d : Action) (cs : List Command) (entries : List Entry) (place : Point3) → pos 1 ≤ℤ job.machine.step →
+arrived : (job : Job) (done : ℕ) (l : Queued) (ls : List Queued) (tool : Option Tool) (d : Action) (cs : List Command) (entries : List Entry) (place : Point3) →
+    pos 1 ≤ℤ job.machine.step →
     ((k : ℕ) → command_at job (suc done + k) ≡ slice_get cs k) →
-    AreClearFrom job.machine tool place (d ∷ actions_of cs) entries → AreJoined place (ways_of (d ∷ actions_of cs)) → HaveEvenRadii (ways_of (d ∷ actions_of cs)) → MayTake job d l.path → RingFits job cs ls →
+    AreClearFrom job.machine tool place (d ∷ actions_of cs) entries → AreJoined place (ways_of (d ∷ actions_of cs)) →
+    HaveEvenRadii (ways_of (d ∷ actions_of cs)) → MayTake job d l.path → RingFits job cs ls →
     0 < path_steps l → Holds job (suc done) ls (point l.path (path_steps l)) tool
 arrived job done l ls tool (Move m) cs [] place s at clear joined even take fits p = absurd clear
 arrived job done l ls tool (Move m) cs (entry ∷ entries) place s at clear joined even take fits p = record {
@@ -164,17 +172,22 @@ whole_way l s v h = let i : path_steps l * 1000000 ≤ s.travelled + v = grind (
 part_way : (l : Queued) (s : State) (v : ℕ) → place_after l s v ≤ path_steps l
 part_way l s v = omega arith
 
-on_head : (job : Job) (l : Queued) (ls : List Queued) (old : State) (o : Outcome) (new : State) → old.ring ≡ l ∷ ls → pos 1 ≤ℤ job.machine.step → HoldsIn job old →
+on_head : (job : Job) (l : Queued) (ls : List Queued) (old : State) (o : Outcome) (new : State) → old.ring ≡ l ∷ ls → pos 1 ≤ℤ job.machine.step →
+    HoldsIn job old →
     (left : List Command) (entries : List Entry) (place : Point3) → ((k : ℕ) → command_at job (old.done + k) ≡ slice_get left k) →
-    AreClearFrom job.machine old.tool place (actions_of left) entries → AreJoined place (ways_of (actions_of left)) → HaveEvenRadii (ways_of (actions_of left)) → RingFits job left (l ∷ ls) →
+    AreClearFrom job.machine old.tool place (actions_of left) entries → AreJoined place (ways_of (actions_of left)) →
+    HaveEvenRadii (ways_of (actions_of left)) → RingFits job left (l ∷ ls) →
     (path_steps l ≡ 0 → old.position ≡ grid job.machine.step place) → HeadTick job l ls old o new → HoldsIn job new
 on_head job l ls old o new e s whole [] entries place at clear joined even fits stands t = absurd fits
 on_head job l ls old o new e s whole (c ∷ cs) entries place at clear joined even fits stands t =
-    elim (match_with (nat_lt 0 (path_steps l)) (Travels job l ls old o new) (MatchBool old.held (Rests job old o new) (Serves job l.command.action old o new)) t) [
+    elim (match_with (nat_lt 0 (path_steps l)) (Travels job l ls old o new)
+    (MatchBool old.held (Rests job old o new) (Serves job l.command.action old o new)) t) [
       | inl u ↦
           let p : 0 < path_steps l = let b = u.0 in grind (arith, nat_tests) in
           subst (HoldsIn job) (sym u.1.goes_on)
-          (if_holds (HoldsIn job) (nat_le (millionths l) (old.travelled + new.rate)) (without_head (old.travelled + new.rate - millionths l) (record old { rate = new.rate; position = point l.path (place_after l old new.rate) })) (record old { rate = new.rate; position = point l.path (place_after l old new.rate); travelled = old.travelled + new.rate })
+          (if_holds (HoldsIn job) (nat_le (millionths l) (old.travelled + new.rate))
+          (without_head (old.travelled + new.rate - millionths l) (record old { rate = new.rate; position = point l.path (place_after l old new.rate) }))
+          (record old { rate = new.rate; position = point l.path (place_after l old new.rate); travelled = old.travelled + new.rate })
           (λ b. subst (λ k. Holds job (suc old.done) (drop 1 old.ring) (point l.path k) old.tool) (sym (whole_way l old new.rate b))
           (subst (λ ring. Holds job (suc old.done) (drop 1 ring) (point l.path (path_steps l)) old.tool) (sym e)
           (arrived job old.done l ls old.tool c.action cs entries place s (next_at job old.done c cs at) clear joined even fits.1 fits.2 p)))
@@ -192,20 +205,23 @@ on_head job l ls old o new e s whole (c ∷ cs) entries place at clear joined ev
           }))
       | inr u ↦ elim (match_with old.held (Rests job old o new) (Serves job l.command.action old o new) u.1) [
         | inl r ↦ subst (HoldsIn job) (sym r.1.stands) whole
-        | inr r ↦ elim (match_with (nat_lt (suc old.dwelt) (ticks_of job l.command.action)) (Dwells job old o new) (Finishes job l.command.action old o new) r.1) [
-          | inl d ↦ subst (HoldsIn job) (sym d.1.counts) whole
-          | inr d ↦
-              let z : path_steps l ≡ 0 = let b = u.0 in grind (arith, nat_tests) in
-              subst (HoldsIn job) (sym d.1.goes_on)
-              (after_keeps job l.command.action (record (without_head 0 old) { rate = 0 })
-              (subst (λ ring. Holds job (suc old.done) (drop 1 ring) old.position (tool_after l.command.action old.tool)) (sym e)
-              (subst (λ (k : Command). Holds job (suc old.done) ls old.position (tool_after k.action old.tool)) (sym fits.0)
-              (served job old.done l ls old.position old.tool c.action cs entries place (next_at job old.done c cs at) clear joined even fits.1 fits.2 whole.safe z (stands z)))))
-        ]
+        | inr r ↦ elim (match_with (nat_lt (suc old.dwelt) (ticks_of job l.command.action)) (Dwells job old o new)
+            (Finishes job l.command.action old o new) r.1) [
+              | inl d ↦ subst (HoldsIn job) (sym d.1.counts) whole
+              | inr d ↦
+                  let z : path_steps l ≡ 0 = let b = u.0 in grind (arith, nat_tests) in
+                  subst (HoldsIn job) (sym d.1.goes_on)
+                  (after_keeps job l.command.action (record (without_head 0 old) { rate = 0 })
+                  (subst (λ ring. Holds job (suc old.done) (drop 1 ring) old.position (tool_after l.command.action old.tool)) (sym e)
+                  (subst (λ (k : Command). Holds job (suc old.done) ls old.position (tool_after k.action old.tool)) (sym fits.0)
+                  (served job old.done l ls old.position old.tool c.action cs entries place
+                  (next_at job old.done c cs at) clear joined even fits.1 fits.2 whole.safe z (stands z)))))
+            ]
       ]
     ]
 
-on_tick : (job : Job) (stopped : Bool) (ring : List Queued) (old : State) (o : Outcome) (new : State) → old.ring ≡ ring → pos 1 ≤ℤ job.machine.step → HoldsIn job old →
+on_tick : (job : Job) (stopped : Bool) (ring : List Queued) (old : State) (o : Outcome) (new : State) → old.ring ≡ ring → pos 1 ≤ℤ job.machine.step →
+    HoldsIn job old →
     TickBy job stopped ring old o new → HoldsIn job new
 on_tick job true ring old o new e s h t = subst (HoldsIn job) (sym t.stands) h
 on_tick job false [] old o new e s h t = subst (HoldsIn job) (sym t.stands) h
@@ -219,7 +235,8 @@ no_steps : (ring : List Queued) (l : Queued) → NoSteps (ring ++ l ∷ []) → 
 no_steps [] l n = tt
 no_steps (k ∷ ks) l n = n
 
-pub one_more : (job : Job) (left : List Command) (ring : List Queued) (c : Command) (path : List StepPos) → RingFits job left ring → slice_get left (length ring) ≡ Some c →
+pub one_more : (job : Job) (left : List Command) (ring : List Queued) (c : Command) (path : List StepPos) → RingFits job left ring →
+    slice_get left (length ring) ≡ Some c →
     MayTake job c.action path → RingFits job left (ring ++ record { command = c; path = path } ∷ [])
 one_more job [] [] c path f e take = absurd (none_some c e)
   where
@@ -255,7 +272,8 @@ on_load job old (Some c) o new e h t =
 
 -- ---- all events, and runs
 
-pub on_event : (job : Job) (old : State) (e : Event) (o : Outcome) (new : State) → pos 1 ≤ℤ job.machine.step → HoldsIn job old → Step job old e o new → HoldsIn job new
+pub on_event : (job : Job) (old : State) (e : Event) (o : Outcome) (new : State) → pos 1 ≤ℤ job.machine.step → HoldsIn job old → Step job old e o new →
+    HoldsIn job new
 on_event job old Load o new s h t = on_load job old (command_at job (loaded old)) o new refl h t
 on_event job old Tick o new s h t = on_tick job old.stopped old.ring old o new refl s h t
 on_event job old Hold o new s h t = subst (HoldsIn job) (sym t.1) h

@@ -32,7 +32,8 @@ meant program setup c v false commands e = subst (λ cs. IsValid setup.machine c
 meant program setup c v true commands e = subst (λ cs. IsValid setup.machine cs c.on) (same_commands v.on commands (sym v.on_means ∙ e)) v.on_valid
 
 -- where nothing is refused the certificate is valid for the commands of each setting
-pub setting_is_valid : (program : Program) (setup : Setup) (c : CertificateData) → first_refusal program setup c ≡ None → (block_delete : Bool) (commands : List Command) →
+pub setting_is_valid : (program : Program) (setup : Setup) (c : CertificateData) → first_refusal program setup c ≡ None →
+    (block_delete : Bool) (commands : List Command) →
     meaning program setup block_delete ≡ Ok commands → IsValid setup.machine commands (entries_at block_delete c)
 setting_is_valid program setup c none block_delete commands e = meant program setup c ((law program setup c).0 none) block_delete commands e
 

@@ -59,7 +59,8 @@ record Follows (axis : Axis) (step : ℤ) (n : ℕ) (b e : ℤ) (p q : StepPos) 
 -- where nothing turns back, and the ends agree, nothing moves
 stays : (step : ℤ) (n : ℕ) (b e : ℤ) (place : ℕ → ℤ) → FollowsLine step n b e place → place 0 ≡ place n → (k : ℕ) → k ≤ n → place k ≡ place 0
 stays step n b e place f agree k h =
-    let s = subst (λ q. distance (place 0) (place k) + distance (place k) q ≡ distance (place 0) q) (sym agree) (f.straight 0 k n (omega arith) h (omega arith)) in
+    let s = subst (λ q. distance (place 0) (place k) + distance (place k) q ≡ distance (place 0) q) (sym agree)
+    (f.straight 0 k n (omega arith) h (omega arith)) in
     omega (arith, ints, s)
 
 agree : (a c : ℤ) → nat_lt 0 (distance a c) ≡ false → a ≡ c
@@ -70,7 +71,8 @@ ends_agree X p q h = agree p.x q.x h
 ends_agree Y p q h = agree p.y q.y h
 ends_agree Z p q h = agree p.z q.z h
 
-still : (axis : Axis) (step : ℤ) (n : ℕ) (b e : ℤ) (p q : StepPos) (path : List StepPos) → Follows axis step n b e p q path → has axis (differing p q) ≡ false → IsStill axis path
+still : (axis : Axis) (step : ℤ) (n : ℕ) (b e : ℤ) (p q : StepPos) (path : List StepPos) → Follows axis step n b e p q path → has axis (differing p q) ≡ false →
+    IsStill axis path
 still axis step n b e p q path f h k less =
     let c = f.count in
     let ends : on axis (point path 0) ≡ on axis (point path n) = ap (on axis) f.starts ∙ ends_agree axis p q h ∙ sym (ap (on axis) f.ends) in
@@ -116,6 +118,7 @@ still_way axis step (Arc a) path w h =
     (record { count = w.1.weak.count; starts = w.1.weak.starts; ends = w.1.weak.ends; rises = w.1.rises }) h
 
 -- a path that an action may take is still on the axes that the action doesn't move
-pub still_action : (axis : Axis) (job : Job) (a : Action) (path : List StepPos) → MayTake job a path → may_move axis job.machine.step a ≡ false → IsStill axis path
+pub still_action : (axis : Axis) (job : Job) (a : Action) (path : List StepPos) → MayTake job a path → may_move axis job.machine.step a ≡ false →
+    IsStill axis path
 still_action axis job (Move m) path take h = still_way axis job.machine.step m.way path take h
 still_action axis job _ path take h = λ k less. absurd (let e = ap length take in omega (arith, e, less))

@@ -1,5 +1,6 @@
 -- The positions of a run begin a path of the program, and when its end is told they are a whole one.
-use Rattle.std.proofs.Common.{◌≡◌, ℕ, zero, suc, ◌+◌, ◌-◌, ◌/◌, ◌<◌, ◌≤◌, ◌⊎◌, inl, inr, ap, subst, sym, ◌∙◌, arith, refl, List, [], ◌∷◌, ◌++◌, length, take, drop, Some, None, true, Ok}
+use Rattle.std.proofs.Common.{◌≡◌, ℕ, zero, suc, ◌+◌, ◌-◌, ◌/◌, ◌<◌, ◌≤◌, ◌⊎◌, inl, inr, ap, subst, sym, ◌∙◌, arith, refl, List, [], ◌∷◌, ◌++◌, length, take}
+use Rattle.std.proofs.Common.{drop, Some, None, true, Ok}
 use Rattle.std.specs.Prelude.{Contains, slice_get}
 use Rattle.std.proofs.lemmas.Bool.{true≢false}
 use Rattle.std.proofs.lemmas.List.{append_assoc}
@@ -67,7 +68,8 @@ WayFrom job (c ∷ cs) (l ∷ ls) travelled p points = HeadWay job l c.action cs
 no_path : (l : Queued) → l.path ≡ [] → path_steps l ≡ 0
 no_path l e = let n = ap length e in omega (arith, n)
 
-first_point : (job : Job) (d : Action) (cs : List Command) (place : Point3) (path : List StepPos) → AreJoined place (ways_of (d ∷ actions_of cs)) → MayTake job d path →
+first_point : (job : Job) (d : Action) (cs : List Command) (place : Point3) (path : List StepPos) → AreJoined place (ways_of (d ∷ actions_of cs)) →
+    MayTake job d path →
     0 < length path - 1 → point path 0 ≡ grid job.machine.step place
 first_point job (Move m) cs place path j may some = (path_ends job m.way path may).2 ∙ ap (grid job.machine.step) j.0
 first_point job _ cs place path j may some = absurd (let e = ap length may in omega (arith, e, some))
@@ -96,11 +98,13 @@ more_walked : (ring : List Queued) (l : Queued) (t : ℕ) → Fits ring t → Fi
 more_walked [] l t f = omega (arith, f)
 more_walked (k ∷ ks) l t f = f
 
-first_loaded : (job : Job) (left : List Command) (l : Queued) (place : Point3) (t : ℕ) (p : StepPos) → AreJoined place (ways_of (actions_of left)) → RingFits job left (l ∷ []) →
+first_loaded : (job : Job) (left : List Command) (l : Queued) (place : Point3) (t : ℕ) (p : StepPos) → AreJoined place (ways_of (actions_of left)) →
+    RingFits job left (l ∷ []) →
     t ≡ 0 → p ≡ grid job.machine.step place → IsHere job place (l ∷ []) t p
 first_loaded job left l place t p j f z e = begins_here job left (l ∷ []) place t p j f (omega (arith, z)) e
 
-still_here : (job : Job) (left : List Command) (ring : List Queued) (l : Queued) (place : Point3) (t : ℕ) (p : StepPos) → AreJoined place (ways_of (actions_of left)) →
+still_here : (job : Job) (left : List Command) (ring : List Queued) (l : Queued) (place : Point3) (t : ℕ) (p : StepPos) →
+    AreJoined place (ways_of (actions_of left)) →
     RingFits job left (ring ++ l ∷ []) → Fits ring t → IsHere job place ring t p → IsHere job place (ring ++ l ∷ []) t p
 still_here job left [] l place t p j f z e = first_loaded job left l place t p j f z e
 still_here job left (k ∷ ks) l place t p j f z e = e
@@ -132,7 +136,8 @@ walks_arrived job (Move m) cs l ls place over j may f some g =
     begins job cs ls (end_of m.way) over (point l.path (path_steps l)) j.1 f (over_fits l ls over g) (over_small l ls over g) (ends_last job m.way l.path may)
 walks_arrived job _ cs l ls place over j may f some g = absurd (let e = ap length may in omega (arith, e, some))
 
-walks_passed : (job : Job) (d : Action) (cs : List Command) (l : Queued) (ls : List Queued) (place : Point3) (p : StepPos) → AreJoined place (ways_of (d ∷ actions_of cs)) →
+walks_passed : (job : Job) (d : Action) (cs : List Command) (l : Queued) (ls : List Queued) (place : Point3) (p : StepPos) →
+    AreJoined place (ways_of (d ∷ actions_of cs)) →
     MayTake job d l.path → RingFits job cs ls → path_steps l ≡ 0 → p ≡ grid job.machine.step place → Walks job cs ls 0 p
 walks_passed job (Move m) cs l ls place p j may f z e =
     begins job cs ls (end_of m.way) 0 p j.1 f (none_walked ls) (omega arith) (e ∙ ap (grid job.machine.step) (sym j.0) ∙ still_ends job m.way l.path may z)
@@ -145,7 +150,8 @@ zero_or_some zero = inl refl
 zero_or_some (suc n) = inr (omega arith)
 
 -- the position on the path of a motion at the head
-on_path : (job : Job) (way : Way) (l : Queued) (ls : List Queued) (place : Point3) (t : ℕ) (p : StepPos) → start_of way ≡ place → IsPathOf job.machine.step way l.path →
+on_path : (job : Job) (way : Way) (l : Queued) (ls : List Queued) (place : Point3) (t : ℕ) (p : StepPos) → start_of way ≡ place →
+    IsPathOf job.machine.step way l.path →
     t ≤ millionths l → IsHere job place (l ∷ ls) t p → p ≡ point l.path (t / MILLION)
 on_path job way l ls place t p j may short here =
     elim (zero_or_some (path_steps l)) [
@@ -172,13 +178,15 @@ all_way job [] (l ∷ ls) t p points small w way = absurd way
 all_way job (c ∷ cs) (l ∷ ls) t p points small w way =
     let short = w.short in all_head job c.action cs l ls w.place t p points small (omega (arith, short)) w.joined w.fits.1 w.here way
 
-back_grown : (job : Job) (left : List Command) (ring : List Queued) (l : Queued) (t : ℕ) (p : StepPos) (points : List StepPos) → Fits ring t → Walks job left (ring ++ l ∷ []) t p →
+back_grown : (job : Job) (left : List Command) (ring : List Queued) (l : Queued) (t : ℕ) (p : StepPos) (points : List StepPos) → Fits ring t →
+    Walks job left (ring ++ l ∷ []) t p →
     WayFrom job left (ring ++ l ∷ []) t p points → WayFrom job left ring t p points
 back_grown job left [] l t p points z w way = all_way job left (l ∷ []) t p points (omega (arith, z)) w way
 back_grown job [] (k ∷ ks) l t p points z w way = absurd way
 back_grown job (c ∷ cs) (k ∷ ks) l t p points z w way = way
 
-back_on : (job : Job) (d : Action) (cs : List Command) (l : Queued) (t v : ℕ) (p : StepPos) (tail : List StepPos) → MayTake job d l.path → 0 < path_steps l → v ≤ MILLION →
+back_on : (job : Job) (d : Action) (cs : List Command) (l : Queued) (t v : ℕ) (p : StepPos) (tail : List StepPos) → MayTake job d l.path → 0 < path_steps l →
+    v ≤ MILLION →
     t + v ≤ millionths l → p ≡ point l.path (t / MILLION) →
     HeadWay job l d cs (t + v) (point l.path ((t + v) / MILLION)) (point l.path ((t + v) / MILLION) ∷ tail) →
     HeadWay job l d cs t p (p ∷ (emitted l.path (t / MILLION) ((t + v) / MILLION) ++ tail))
@@ -217,16 +225,19 @@ back_passed job _ cs l ls place t p tail j may here short z w = w
 
 -- from a place on the head's path there is some way
 way_ahead : (job : Job) → IsStep job.machine.step → (d : Action) (cs : List Command) (l : Queued) (ls : List Queued) (place : Point3) (t : ℕ) (p : StepPos) →
-    AreArcs (ways_of (d ∷ actions_of cs)) → AreJoined place (ways_of (d ∷ actions_of cs)) → MayTake job d l.path → t ≤ millionths l → IsHere job place (l ∷ ls) t p →
+    AreArcs (ways_of (d ∷ actions_of cs)) → AreJoined place (ways_of (d ∷ actions_of cs)) → MayTake job d l.path → t ≤ millionths l →
+    IsHere job place (l ∷ ls) t p →
     (later : List StepPos) × HeadWay job l d cs t p (p ∷ later)
 way_ahead job s (Move m) cs l ls place t p arcs j may short here =
     let n = path_steps l in
     let others = some_path job s (ways_of (actions_of cs)) (end_of m.way) (point l.path n) arcs.1 j.1 (ends_last job m.way l.path may) in
-    let b = begins_at l.path n (t / MILLION) p others.0 (path_length job m.way l.path may) (omega (arith, short)) (on_path job m.way l ls place t p j.0 may short here) in
+    let b = begins_at l.path n (t / MILLION) p others.0 (path_length job m.way l.path may) (omega (arith, short))
+    (on_path job m.way l ls place t p j.0 may short here) in
     (b.0, (point l.path n ∷ others.0, others.1, sym b.1))
 way_ahead job s _ cs l ls place t p arcs j may short here = some_path job s (ways_of (actions_of cs)) place p arcs j (here.0 (no_path l may))
 
-some_way : (job : Job) → IsStep job.machine.step → (left : List Command) (ring : List Queued) (t : ℕ) (p : StepPos) → AreArcs (ways_of (actions_of left)) → Walks job left ring t p →
+some_way : (job : Job) → IsStep job.machine.step → (left : List Command) (ring : List Queued) (t : ℕ) (p : StepPos) → AreArcs (ways_of (actions_of left)) →
+    Walks job left ring t p →
     (later : List StepPos) × WayFrom job left ring t p (p ∷ later)
 some_way job s left [] t p arcs w = some_path job s (ways_of (actions_of left)) w.place p arcs w.joined w.here
 some_way job s [] (l ∷ ls) t p arcs w = absurd w.fits
@@ -293,7 +304,8 @@ before_arrival job (c ∷ cs) next l ls t over p tail e some g near w way =
     (subst (λ n. IsPathOfAll job.machine.step q (ways_of (actions_of n)) (q ∷ tail)) e
     (all_way job next ls over q (q ∷ tail) (over_small l ls over g) (after_arrival job (c ∷ cs) next l ls t over p e some g w) way))
 
-before_pass : (job : Job) (left next : List Command) (l : Queued) (ls : List Queued) (t : ℕ) (p : StepPos) (tail : List StepPos) → next ≡ drop 1 left → path_steps l ≡ 0 →
+before_pass : (job : Job) (left next : List Command) (l : Queued) (ls : List Queued) (t : ℕ) (p : StepPos) (tail : List StepPos) → next ≡ drop 1 left →
+    path_steps l ≡ 0 →
     Walks job left (l ∷ ls) t p → WayFrom job next ls 0 p (p ∷ tail) → WayFrom job left (l ∷ ls) t p (p ∷ tail)
 before_pass job [] next l ls t p tail e z w way = absurd w.fits
 before_pass job (c ∷ cs) next l ls t p tail e z w way =
@@ -317,13 +329,15 @@ kept job old new o (arrives e) w =
     e.some e.beyond (subst (WalksIn job) e.was w))
 kept job old new o (passes e) w =
     subst (WalksIn job) (sym e.is)
-    (after_pass job (left_of job old.done) (left_of job (suc old.done)) e.head e.others old.travelled old.position (next_left old.done job.commands) e.none (subst (WalksIn job) e.was w))
+    (after_pass job (left_of job old.done) (left_of job (suc old.done)) e.head e.others old.travelled old.position (next_left old.done job.commands) e.none
+    (subst (WalksIn job) e.was w))
 
 -- the way of the next state begins with its position
 abbrev WayOn : Job → List StepPos → Spot → Type 0
 WayOn job tail s = WayIn job s (s.position ∷ tail)
 
-back : (job : Job) (old new : Spot) (o : Outcome) (tail : List StepPos) → Effect job old new o → WalksIn job old → WayOn job tail new → WayOn job (position_in o ++ tail) old
+back : (job : Job) (old new : Spot) (o : Outcome) (tail : List StepPos) → Effect job old new o → WalksIn job old → WayOn job tail new →
+    WayOn job (position_in o ++ tail) old
 back job old new o tail (stands e) w way =
     subst (λ out. WayOn job (out ++ tail) old) (sym e.silent) (subst (WayOn job tail) e.same way)
 back job old new o tail (grows e) w way =
@@ -344,7 +358,8 @@ back job old new o tail (arrives e) w way =
 back job old new o tail (passes e) w way =
     subst (WayOn job (position_in o ++ tail)) (sym e.was)
     (subst (λ out. WayOn job (out ++ tail) (spot_of old.done (e.head ∷ e.others) old.travelled old.position)) (sym e.silent)
-    (before_pass job (left_of job old.done) (left_of job (suc old.done)) e.head e.others old.travelled old.position tail (next_left old.done job.commands) e.none
+    (before_pass job (left_of job old.done) (left_of job (suc old.done)) e.head e.others old.travelled old.position tail
+    (next_left old.done job.commands) e.none
     (subst (WalksIn job) e.was w) (subst (WayOn job tail) e.is way)))
 
 -- ---- the end
@@ -373,22 +388,26 @@ stays_over job old new o (goes_on e) h = ap (λ (s : Spot). left_of job s.done) 
 stays_over job old new o (arrives e) h = ap (λ (s : Spot). left_of job s.done) e.is ∙ done_grows old.done job.commands h
 stays_over job old new o (passes e) h = ap (λ (s : Spot). left_of job s.done) e.is ∙ done_grows old.done job.commands h
 
-is_over : (job : Job) (old new : Spot) (o : Outcome) → EndIsLast job.commands → WalksIn job old → Effect job old new o → tells_end o ≡ true → left_of job new.done ≡ []
+is_over : (job : Job) (old new : Spot) (o : Outcome) → EndIsLast job.commands → WalksIn job old → Effect job old new o → tells_end o ≡ true →
+    left_of job new.done ≡ []
 is_over job old new o last w (stands e) h = absurd (true≢false (sym h ∙ e.no_end))
 is_over job old new o last w (grows e) h = absurd (true≢false (sym h ∙ e.no_end))
 is_over job old new o last w (goes_on e) h = absurd (true≢false (sym h ∙ e.no_end))
 is_over job old new o last w (arrives e) h =
     ap (λ (s : Spot). left_of job s.done) e.is
-    ∙ nothing_left job (left_of job old.done) (left_of job (suc old.done)) e.head e.others (next_left old.done job.commands) (end_is_last old.done job.commands last)
+    ∙ nothing_left job (left_of job old.done) (left_of job (suc old.done)) e.head e.others (next_left old.done job.commands)
+    (end_is_last old.done job.commands last)
     (subst (WalksIn job) e.was w).fits (e.ends h)
 is_over job old new o last w (passes e) h =
     ap (λ (s : Spot). left_of job s.done) e.is
-    ∙ nothing_left job (left_of job old.done) (left_of job (suc old.done)) e.head e.others (next_left old.done job.commands) (end_is_last old.done job.commands last)
+    ∙ nothing_left job (left_of job old.done) (left_of job (suc old.done)) e.head e.others (next_left old.done job.commands)
+    (end_is_last old.done job.commands last)
     (subst (WalksIn job) e.was w).fits (e.ends h)
 
 -- ---- runs
 
-begun : (job : Job) (old : State) (es : List Event) (os : List Outcome) (states : List State) → IsMachine job.machine → AreArcs (ways_of (actions_of job.commands)) →
+begun : (job : Job) (old : State) (es : List Event) (os : List Outcome) (states : List State) → IsMachine job.machine →
+    AreArcs (ways_of (actions_of job.commands)) →
     WalksIn job (spot old) → Run job old es os states →
     (later : List StepPos) × WayOn job (positions os ++ later) (spot old)
 begun job old [] [] [] m arcs w r = some_way job m.step (left_of job old.done) old.ring old.travelled old.position (arcs_left old.done job.commands arcs) w
@@ -412,7 +431,8 @@ first_or_later o os (zero, l, e) = inl (ap tells_end e)
 first_or_later o os (suc k, l, e) = inr (k, omega (arith, l), e)
 
 -- a run after which nothing is left
-ended : (job : Job) (old : State) (es : List Event) (os : List Outcome) (states : List State) → IsMachine job.machine → EndIsLast job.commands → WalksIn job (spot old) →
+ended : (job : Job) (old : State) (es : List Event) (os : List Outcome) (states : List State) → IsMachine job.machine → EndIsLast job.commands →
+    WalksIn job (spot old) →
     Run job old es os states → (left_of job old.done ≡ []) ⊎ Contains os the_end → WayOn job (positions os) (spot old)
 ended job old [] [] [] m last w r (inl over) = no_way job (left_of job old.done) old.ring old.travelled old.position over w
 ended job old [] [] [] m last w r (inr c) = absurd (omega (arith, c.1))
@@ -433,18 +453,21 @@ ended job old (e ∷ es) (o ∷ os) (new ∷ states) m last w r end =
 
 -- ---- from the opening state
 
-opens : (machine : MachineFile) (commands : List Command) → AreJoined machine.start (ways_of (actions_of commands)) → WalksIn (job_of machine commands) (spot (opening machine))
+opens : (machine : MachineFile) (commands : List Command) → AreJoined machine.start (ways_of (actions_of commands)) →
+    WalksIn (job_of machine commands) (spot (opening machine))
 opens machine commands j = begins (job_of machine commands) commands [] machine.start 0 (start_of_job (job_of machine commands)) j tt refl (omega arith) refl
 
 -- The positions of a run begin a path of the program.
-pub way_begins : (machine : MachineFile) (commands : List Command) → IsMachine machine → AreArcs (ways_of (actions_of commands)) → AreJoined machine.start (ways_of (actions_of commands)) →
+pub way_begins : (machine : MachineFile) (commands : List Command) → IsMachine machine → AreArcs (ways_of (actions_of commands)) →
+    AreJoined machine.start (ways_of (actions_of commands)) →
     (events : List Event) (outcomes : List Outcome) (states : List State) → Run (job_of machine commands) (opening machine) events outcomes states →
     BeginPath (job_of machine commands) (start_of_job (job_of machine commands) ∷ positions outcomes)
 way_begins machine commands m arcs j events outcomes states r =
     begun (job_of machine commands) (opening machine) events outcomes states m arcs (opens machine commands j) r
 
 -- When the end is told they are a whole path.
-pub way_ended : (machine : MachineFile) (commands : List Command) → IsMachine machine → AreJoined machine.start (ways_of (actions_of commands)) → EndIsLast commands →
+pub way_ended : (machine : MachineFile) (commands : List Command) → IsMachine machine → AreJoined machine.start (ways_of (actions_of commands)) →
+    EndIsLast commands →
     (events : List Event) (outcomes : List Outcome) (states : List State) → Run (job_of machine commands) (opening machine) events outcomes states →
     Contains outcomes (Ok (Ticked None (Some End))) → AreWholePath (job_of machine commands) (start_of_job (job_of machine commands) ∷ positions outcomes)
 way_ended machine commands m j last events outcomes states r end =

@@ -13,7 +13,8 @@ use Rattle.ngc_behaviour.specs.State.{Job, Queued, State, opening, path_steps}
 use Rattle.ngc_behaviour.specs.Step.{Outcome}
 use Rattle.ngc_behaviour.specs.Run.{Run}
 use Rattle.ngc_behaviour.specs.Safety.{IsSafeRun, KeepRates}
-use Rattle.ngc_behaviour.specs.Progress.{KeepGoing, ComesToHead, KeepsPath, free_ticks, least_rate, most_ticks, IsDoneInTime}
+use Rattle.ngc_behaviour.specs.Progress.{KeepGoing, ComesToHead, KeepsPath, free_ticks, least_rate}
+use Rattle.ngc_behaviour.specs.Progress.{most_ticks, IsDoneInTime}
 
 abbrev pub job_of : MachineFile → List Command → Job
 job_of machine commands = record { machine = machine; commands = commands }
@@ -28,18 +29,22 @@ RunsSafely job = (events : List Event) (outcomes : List Outcome) (states : List 
 abbrev pub Headline : Type 0
 Headline = (program : Program) (setup : Setup) (c : CertificateData) → IsMachine setup.machine →
     first_refusal program setup c ≡ None →
-    (block_delete : Bool) (commands : List Command) → meaning program setup block_delete ≡ Ok commands →
+    (block_delete : Bool) (commands : List Command) →
+    meaning program setup block_delete ≡ Ok commands →
     RunsSafely (job_of setup.machine commands)
 
 -- the same of what was accepted
 abbrev pub AcceptedRunsSafely : Type 0
-AcceptedRunsSafely = (a : AcceptedData) → IsAccepted a → (block_delete : Bool) → RunsSafely (job_of a.machine (commands_at block_delete a))
+AcceptedRunsSafely = (a : AcceptedData) → IsAccepted a → (block_delete : Bool) →
+    RunsSafely (job_of a.machine (commands_at block_delete a))
 
 -- On every machine within its ranges every tick of every run keeps the rules of rates, whatever the
 -- commands.
 abbrev pub KeepRatesAlways : Type 0
-KeepRatesAlways = (job : Job) → IsMachine job.machine → (events : List Event) (outcomes : List Outcome) (states : List State) →
-    Run job (opening job.machine) events outcomes states → KeepRates job (opening job.machine) events states
+KeepRatesAlways = (job : Job) → IsMachine job.machine →
+    (events : List Event) (outcomes : List Outcome) (states : List State) →
+    Run job (opening job.machine) events outcomes states →
+    KeepRates job (opening job.machine) events states
 
 -- In every run a loaded command that comes to the head keeps its path.
 abbrev pub KeepPaths : Type 0
@@ -50,15 +55,18 @@ KeepPaths = (job : Job) (events : List Event) (outcomes : List Outcome) (states 
 -- On every machine within its ranges, in every run that keeps going, a motion with path steps and a
 -- least rate is done within so many free ticks.
 abbrev pub EndsInTime : Type 0
-EndsInTime = (job : Job) → IsMachine job.machine → (events : List Event) (outcomes : List Outcome) (states : List State) →
-    Run job (opening job.machine) events outcomes states → KeepGoing job (opening job.machine) events states →
+EndsInTime = (job : Job) → IsMachine job.machine →
+    (events : List Event) (outcomes : List Outcome) (states : List State) →
+    Run job (opening job.machine) events outcomes states →
+    KeepGoing job (opening job.machine) events states →
     (k : ℕ) (l : Queued) → ComesToHead k l states → 1 ≤ path_steps l → 1 ≤ least_rate job l →
     free_ticks k (opening job.machine) events states ≤ most_ticks job l
 
 -- every run of a job that keeps going is done in time
 abbrev pub RunsInTime : Job → Type 0
 RunsInTime job = (events : List Event) (outcomes : List Outcome) (states : List State) →
-    Run job (opening job.machine) events outcomes states → KeepGoing job (opening job.machine) events states →
+    Run job (opening job.machine) events outcomes states →
+    KeepGoing job (opening job.machine) events states →
     IsDoneInTime job events states
 
 -- On every machine within its ranges each motion has a least rate, whatever the commands.

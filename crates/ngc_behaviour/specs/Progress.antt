@@ -1,9 +1,12 @@
 -- How long a motion takes at the most. Our own.
-use Rattle.std.specs.Prelude.{◌≡◌, ℕ, ◌+◌, ◌-◌, ◌/◌, ◌≤◌, ◌<◌, min, ◌==◌, nat_lt, List, [], ◌∷◌, slice_get, Any, Some, Bool, true, false, not, ◌&&◌, if◌then◌else◌}
+use Rattle.std.specs.Prelude.{◌≡◌, ℕ, ◌+◌, ◌-◌, ◌/◌, ◌≤◌, ◌<◌, min, ◌==◌, nat_lt, List, [], ◌∷◌}
+use Rattle.std.specs.Prelude.{slice_get, Any, Some, Bool, true, false, not, ◌&&◌, if◌then◌else◌}
 use Rattle.ngc_planner.specs.Bounds.{least_travel}
 use Rattle.ngc_events.specs.declared.event.Event.{Event}
-use Rattle.ngc_events.specs.declared.event.Event.TheVariants.{Load, Tick, Hold, Resume, Override, StopSwitch, Start}
-use Rattle.ngc_behaviour.specs.State.{Job, Queued, State, opening, command_at, path_steps, millionths, effective}
+use Rattle.ngc_events.specs.declared.event.Event.TheVariants.{Load, Tick, Hold, Resume, Override}
+use Rattle.ngc_events.specs.declared.event.Event.TheVariants.{StopSwitch, Start}
+use Rattle.ngc_behaviour.specs.State.{Job, Queued, State, opening, command_at, path_steps}
+use Rattle.ngc_behaviour.specs.State.{millionths, effective}
 use Rattle.ngc_behaviour.specs.Reach.{rest}
 use Rattle.ngc_behaviour.specs.Step.{MayTake}
 
@@ -18,7 +21,8 @@ pub record IsFree (s : State) : Type 0 where
 abbrev pub TravelsAtLeast : Job → List Queued → State → ℕ → Type 0
 TravelsAtLeast job [] old v = Unit {0}
 TravelsAtLeast job (l ∷ ls) old v =
-    IsFree old → 0 < path_steps l → min (least_travel job.machine l.command.action (path_steps l)) (rest l old) ≤ v
+    IsFree old → 0 < path_steps l →
+    min (least_travel job.machine l.command.action (path_steps l)) (rest l old) ≤ v
 
 abbrev pub GoesOn : Job → State → Event → State → Type 0
 GoesOn job old Tick new = TravelsAtLeast job old.ring old new.rate
@@ -76,7 +80,8 @@ abbrev pub free_ticks : ℕ → State → List Event → List State → ℕ
 free_ticks k old [] states = 0
 free_ticks k old (e ∷ es) [] = 0
 free_ticks k old (e ∷ es) (new ∷ states) =
-    (if is_tick e && (has_head k old old.ring && is_free old) then 1 else 0) + free_ticks k new es states
+    (if is_tick e && (has_head k old old.ring && is_free old) then 1 else 0)
+    + free_ticks k new es states
 
 -- x / m, rounded up
 abbrev pub ticks_for : ℕ → ℕ → ℕ

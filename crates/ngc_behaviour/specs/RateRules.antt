@@ -1,35 +1,42 @@
 -- The rules of rates: millionths of a path step a tick. Our own.
-use Rattle.std.specs.Prelude.{◌≡◌, ℕ, suc, ◌+◌, ◌-◌, ◌≤◌, ◌<◌, min, max, ◌==◌, List, [], ◌∷◌, true, if◌then◌else◌}
+use Rattle.std.specs.Prelude.{◌≡◌, ℕ, suc, ◌+◌, ◌-◌, ◌≤◌, ◌<◌, min, max, ◌==◌, List, [], ◌∷◌, true}
+use Rattle.std.specs.Prelude.{if◌then◌else◌}
 use Rattle.ngc_planner.specs.Braking.{braking}
 use Rattle.ngc_planner.specs.Bounds.{IsWithinBounds, bound_of, target_at}
 use Rattle.ngc_planner.specs.Joints.{joint_before, joint_after}
-use Rattle.ngc_behaviour.specs.State.{Job, Queued, State, command_at, path_steps, millionths, effective}
+use Rattle.ngc_behaviour.specs.State.{Job, Queued, State, command_at, path_steps, millionths}
+use Rattle.ngc_behaviour.specs.State.{effective}
 use Rattle.ngc_behaviour.specs.Reach.{before, flows_into, reach, free}
 
 -- the way goes on into the next motion, which is within its bounds too
 abbrev pub GoesOnInto : Job → ℕ → Queued → List Queued → Type 0
 GoesOnInto job v l [] = ⊥
-GoesOnInto job v l (k ∷ ks) = (flows_into l k ≡ true) × IsWithinBounds job.machine k.command.action (path_steps k) v
+GoesOnInto job v l (k ∷ ks) =
+    (flows_into l k ≡ true) × IsWithinBounds job.machine k.command.action (path_steps k) v
 
 -- the rate v of a tick at whose start l is the head
-pub record KeepsRateRules (job : Job) (l : Queued) (ls : List Queued) (s : State) (v : ℕ) : Type 0 where
+pub record KeepsRateRules (job : Job) (l : Queued) (ls : List Queued) (s : State) (v : ℕ) :
+    Type 0 where
   pub faster : v ≤ s.rate + job.machine.change
   pub slower : s.rate ≤ v + job.machine.change
   pub within : IsWithinBounds job.machine l.command.action (path_steps l) v
   -- the first tick on a motion, and the last
   pub enters : s.travelled ≡ 0 → v ≤ joint_before job.machine (before job s.done) l.command
-  pub leaves : millionths l ≤ s.travelled + v → v ≤ joint_after job.machine l.command (command_at job (suc s.done))
+  pub leaves : millionths l ≤ s.travelled + v →
+      v ≤ joint_after job.machine l.command (command_at job (suc s.done))
   pub goes_on : millionths l < s.travelled + v → GoesOnInto job v l ls
 
 -- nothing is to be travelled while held
 abbrev pub target : Job → Queued → State → ℕ
-target job l s = if s.held then 0 else target_at job.machine l.command.action (path_steps l) (effective s)
+target job l s =
+    if s.held then 0 else target_at job.machine l.command.action (path_steps l) (effective s)
 
 -- in its first tick a motion is bound by the joint too
 abbrev pub head_bound : Job → Queued → State → ℕ
 head_bound job l s =
     if s.travelled == 0
-    then min (bound_of job.machine l.command.action (path_steps l)) (joint_before job.machine (before job s.done) l.command)
+    then min (bound_of job.machine l.command.action (path_steps l))
+    (joint_before job.machine (before job s.done) l.command)
     else bound_of job.machine l.command.action (path_steps l)
 
 -- the rate that a tick has at least, where the way is free for it
@@ -41,4 +48,5 @@ pub record MayTravel (job : Job) (l : Queued) (ls : List Queued) (s : State) (v 
   pub rules : KeepsRateRules job l ls s v
   pub brakes : braking v job.machine.change ≤ reach job l ls s
   pub aims : v ≤ max (target job l s) (s.rate - job.machine.change)
-  pub keeps_pace : braking (pace job l s) job.machine.change < free job (pace job l s) l ls s → pace job l s ≤ v
+  pub keeps_pace : braking (pace job l s) job.machine.change < free job (pace job l s) l ls s →
+      pace job l s ≤ v

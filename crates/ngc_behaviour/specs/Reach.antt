@@ -1,6 +1,7 @@
 -- The ring's motions as the legs of a ramp: how far the way is loaded, and how far a rate may go
 -- on. Our own.
-use Rattle.std.specs.Prelude.{ℕ, zero, suc, ◌-◌, nat_lt, List, [], ◌∷◌, Option, None, Bool, false, not, ◌&&◌, if◌then◌else◌}
+use Rattle.std.specs.Prelude.{ℕ, zero, suc, ◌-◌, nat_lt, List, [], ◌∷◌, Option, None, Bool, false}
+use Rattle.std.specs.Prelude.{not, ◌&&◌, if◌then◌else◌}
 use Rattle.ngc_canonical.specs.declared.command.Action.{Action}
 use Rattle.ngc_canonical.specs.declared.command.Action.TheVariants.{Move}
 use Rattle.ngc_canonical.specs.declared.command.Command.{Command}
@@ -23,7 +24,8 @@ stops _ = false
 -- the way goes on from a loaded command into the next one without a stop, where both are motions
 -- with path steps
 abbrev pub flows_into : Queued → Queued → Bool
-flows_into l k = nat_lt 0 (path_steps l) && (not (stops l.command.action) && nat_lt 0 (path_steps k))
+flows_into l k =
+    nat_lt 0 (path_steps l) && (not (stops l.command.action) && nat_lt 0 (path_steps k))
 
 -- command k as a leg: bound at its ends by its neighbours in the list of commands, loaded or not
 abbrev pub leg_of : Job → ℕ → Bool → Queued → Leg
@@ -39,7 +41,8 @@ leg_of job k joined l = record {
 abbrev pub legs_behind : Job → ℕ → Queued → List Queued → List Leg
 legs_behind job k l [] = []
 legs_behind job k l (m ∷ ms) =
-    if nat_lt 0 (path_steps m) then leg_of job k (flows_into l m) m ∷ legs_behind job (suc k) m ms else legs_behind job (suc k) m ms
+    if nat_lt 0 (path_steps m) then leg_of job k (flows_into l m) m ∷ legs_behind job (suc k) m ms
+    else legs_behind job (suc k) m ms
 
 -- what is left of the head
 abbrev pub rest : Queued → State → ℕ
@@ -51,4 +54,5 @@ reach job l ls s = legs.reach (rest l s) (legs_behind job (suc s.done) l ls)
 
 -- the part of it before the first motion that the rate w may not enter
 abbrev pub free : Job → ℕ → Queued → List Queued → State → ℕ
-free job w l ls s = legs.free w (rest l s) (leg_of job s.done false l) (legs_behind job (suc s.done) l ls)
+free job w l ls s =
+    legs.free w (rest l s) (leg_of job s.done false l) (legs_behind job (suc s.done) l ls)

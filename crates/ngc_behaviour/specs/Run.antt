@@ -2,9 +2,11 @@
 use Rattle.std.specs.Prelude.{◌-ℤ◌, List, [], ◌∷◌, flat_map, replicate, Some, None, Ok, Err}
 use Rattle.ngc_fixed_length.specs.declared.points.StepPos.{StepPos}
 use Rattle.ngc_events.specs.declared.event.Event.{Event}
-use Rattle.ngc_events.specs.declared.event.Event.TheVariants.{Load, Tick, Hold, Resume, Override, StopSwitch, Start}
+use Rattle.ngc_events.specs.declared.event.Event.TheVariants.{Load, Tick, Hold, Resume, Override}
+use Rattle.ngc_events.specs.declared.event.Event.TheVariants.{StopSwitch, Start}
 use Rattle.ngc_events.specs.declared.event.EventLine.{EventLine}
-use Rattle.ngc_events.specs.declared.reply.Reply.TheVariants.{Loaded, Ticked, Held, Resumed, Overridden, Switched, Started}
+use Rattle.ngc_events.specs.declared.reply.Reply.TheVariants.{Loaded, Ticked, Held, Resumed}
+use Rattle.ngc_events.specs.declared.reply.Reply.TheVariants.{Overridden, Switched, Started}
 use Rattle.ngc_behaviour.specs.State.{Job, State}
 use Rattle.ngc_behaviour.specs.Step.{Outcome, Step}
 

@@ -8,7 +8,8 @@ use Rattle.ngc_canonical.specs.ProgramPath.{IsPathOfAll}
 use Rattle.ngc_collision.specs.Body.{IsSafe}
 use Rattle.ngc_planner.specs.Pulses.{KeepsPulseRules}
 use Rattle.ngc_events.specs.declared.event.Event.{Event}
-use Rattle.ngc_events.specs.declared.event.Event.TheVariants.{Load, Tick, Hold, Resume, Override, StopSwitch, Start}
+use Rattle.ngc_events.specs.declared.event.Event.TheVariants.{Load, Tick, Hold, Resume, Override}
+use Rattle.ngc_events.specs.declared.event.Event.TheVariants.{StopSwitch, Start}
 use Rattle.ngc_events.specs.declared.reply.Ending.TheVariants.{End}
 use Rattle.ngc_events.specs.declared.reply.Reply.TheVariants.{Ticked}
 use Rattle.ngc_behaviour.specs.State.{Job, Queued, State, opening}
@@ -47,17 +48,20 @@ start_of_job job = grid job.machine.step job.machine.start
 
 -- these points are a path of all the commands' motions, and these begin one
 abbrev pub AreWholePath : Job → List StepPos → Type 0
-AreWholePath job points = IsPathOfAll job.machine.step (start_of_job job) (ways_of (actions_of job.commands)) points
+AreWholePath job points =
+    IsPathOfAll job.machine.step (start_of_job job) (ways_of (actions_of job.commands)) points
 
 abbrev pub BeginPath : Job → List StepPos → Type 0
 BeginPath job points = (later : List StepPos) × AreWholePath job (points ++ later)
 
 -- What the headline says of a run from the opening state.
-pub record IsSafeRun (job : Job) (events : List Event) (outcomes : List Outcome) (states : List State) : Type 0 where
+pub record IsSafeRun (job : Job) (events : List Event) (outcomes : List Outcome)
+    (states : List State) : Type 0 where
   pub safe : AreSafe job.machine (opening job.machine ∷ states)
   pub rates : KeepRates job (opening job.machine) events states
   pub pulse_rules : KeepsPulseRules job.machine (pulses (start_of_job job) events states)
   -- the positions that are commanded begin a path of the program
   pub way : BeginPath job (start_of_job job ∷ positions outcomes)
   -- and the end is told only when the whole path was commanded
-  pub ended : Contains outcomes (Ok (Ticked None (Some End))) → AreWholePath job (start_of_job job ∷ positions outcomes)
+  pub ended : Contains outcomes (Ok (Ticked None (Some End))) →
+      AreWholePath job (start_of_job job ∷ positions outcomes)

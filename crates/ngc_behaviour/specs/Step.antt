@@ -1,6 +1,8 @@
 -- One event, as a step of the machine: paths and rates are free within the rules (NISTIR 6556,
 -- 3.6.1 for stops, 3.5.4 for dwells). Our own otherwise.
-use Rattle.std.specs.Prelude.{◌≡◌, ℕ, suc, ◌+◌, ◌-◌, ◌*◌, ◌/◌, ◌≤◌, max, min, nat_lt, nat_le, List, [], ◌∷◌, ◌++◌, length, drop, Option, Some, None, Result, Ok, Err, Bool, true, false, MatchBool, if◌then◌else◌}
+use Rattle.std.specs.Prelude.{◌≡◌, ℕ, suc, ◌+◌, ◌-◌, ◌*◌, ◌/◌, ◌≤◌, max, min, nat_lt, nat_le, List}
+use Rattle.std.specs.Prelude.{[], ◌∷◌, ◌++◌, length, drop, Option, Some, None, Result, Ok, Err}
+use Rattle.std.specs.Prelude.{Bool, true, false, MatchBool, if◌then◌else◌}
 use Rattle.ngc_fixed_length.specs.declared.points.StepPos.{StepPos}
 use Rattle.ngc_fixed_length.specs.LinePath.{point}
 use Rattle.ngc_canonical.specs.declared.command.Action.{Action}
@@ -9,14 +11,18 @@ use Rattle.ngc_canonical.specs.declared.command.Command.{Command}
 use Rattle.ngc_canonical.specs.ProgramPath.{IsPathOf}
 use Rattle.ngc_planner.specs.Caps.{MILLION}
 use Rattle.ngc_events.specs.declared.event.Event.{Event}
-use Rattle.ngc_events.specs.declared.event.Event.TheVariants.{Load, Tick, Hold, Resume, Override, StopSwitch, Start}
+use Rattle.ngc_events.specs.declared.event.Event.TheVariants.{Load, Tick, Hold, Resume, Override}
+use Rattle.ngc_events.specs.declared.event.Event.TheVariants.{StopSwitch, Start}
 use Rattle.ngc_events.specs.declared.reply.Ending.{Ending}
 use Rattle.ngc_events.specs.declared.reply.Ending.TheVariants.{Done, Stopped, End}
 use Rattle.ngc_events.specs.declared.reply.Reply.{Reply}
-use Rattle.ngc_events.specs.declared.reply.Reply.TheVariants.{Loaded, Ticked, Held, Resumed, Overridden, Switched, Started}
+use Rattle.ngc_events.specs.declared.reply.Reply.TheVariants.{Loaded, Ticked, Held, Resumed}
+use Rattle.ngc_events.specs.declared.reply.Reply.TheVariants.{Overridden, Switched, Started}
 use Rattle.ngc_events.specs.declared.event_fault.EventFault.{EventFault}
-use Rattle.ngc_events.specs.declared.event_fault.EventFault.TheVariants.{OverrideTooLarge, RingFull, AllLoaded}
-use Rattle.ngc_behaviour.specs.State.{Job, State, Queued, RING, loaded, command_at, path_steps, millionths}
+use Rattle.ngc_events.specs.declared.event_fault.EventFault.TheVariants.{OverrideTooLarge, RingFull}
+use Rattle.ngc_events.specs.declared.event_fault.EventFault.TheVariants.{AllLoaded}
+use Rattle.ngc_behaviour.specs.State.{Job, State, Queued, RING, loaded, command_at, path_steps}
+use Rattle.ngc_behaviour.specs.State.{millionths}
 use Rattle.ngc_behaviour.specs.RateRules.{MayTravel}
 
 -- a reply, or why the event was refused
@@ -48,7 +54,8 @@ pub record Rests (job : Job) (old : State) (outcome : Outcome) (new : State) : T
 
 -- how many ticks an action takes that travels nothing
 abbrev pub ticks_of : Job → Action → ℕ
-ticks_of job (actions.Dwell n) = max 1 ((n * job.machine.ticks_per_second + (MILLION - 1)) / MILLION)
+ticks_of job (actions.Dwell n) =
+    max 1 ((n * job.machine.ticks_per_second + (MILLION - 1)) / MILLION)
 ticks_of job _ = 1
 
 -- what an action changes when it ends; an optional stop reads the switch then
@@ -67,10 +74,12 @@ ending _ s = Done s.done
 
 -- the head leaves the ring, with so many millionths travelled on the next
 abbrev pub without_head : ℕ → State → State
-without_head over s = record s { done = suc s.done; ring = drop 1 s.ring; travelled = over; dwelt = 0 }
+without_head over s =
+    record s { done = suc s.done; ring = drop 1 s.ring; travelled = over; dwelt = 0 }
 
 -- an action that travels nothing is done, or dwells on
-pub record Finishes (job : Job) (action : Action) (old : State) (outcome : Outcome) (new : State) : Type 0 where
+pub record Finishes (job : Job) (action : Action) (old : State) (outcome : Outcome) (new : State) :
+    Type 0 where
   pub slow : old.rate ≤ job.machine.change
   pub says : outcome ≡ Ok (Ticked None (Some (ending action old)))
   pub goes_on : new ≡ after action (record (without_head 0 old) { rate = 0 })
@@ -82,7 +91,8 @@ pub record Dwells (job : Job) (old : State) (outcome : Outcome) (new : State) : 
 
 abbrev pub Serves : Job → Action → State → Outcome → State → Type 0
 Serves job action old outcome new =
-    MatchBool (nat_lt (suc old.dwelt) (ticks_of job action)) (Dwells job old outcome new) (Finishes job action old outcome new)
+    MatchBool (nat_lt (suc old.dwelt) (ticks_of job action)) (Dwells job old outcome new)
+    (Finishes job action old outcome new)
 
 -- the place on the head's path before and after v millionths
 abbrev pub place_before : State → ℕ
@@ -93,10 +103,12 @@ place_after l s v = min (s.travelled + v) (millionths l) / MILLION
 
 -- the position after a pulse, if one is due
 abbrev pub pulse : Queued → State → ℕ → Option StepPos
-pulse l s v = if nat_lt (place_before s) (place_after l s v) then Some (point l.path (place_after l s v)) else None
+pulse l s v = if nat_lt (place_before s) (place_after l s v)
+    then Some (point l.path (place_after l s v)) else None
 
 abbrev pub ends_at : Queued → State → ℕ → Option Ending
-ends_at l s v = if nat_le (millionths l) (s.travelled + v) then Some (ending l.command.action s) else None
+ends_at l s v =
+    if nat_le (millionths l) (s.travelled + v) then Some (ending l.command.action s) else None
 
 abbrev pub moved_by : Queued → State → ℕ → State
 moved_by l s v = let there = record s { rate = v; position = point l.path (place_after l s v) } in
@@ -104,7 +116,8 @@ moved_by l s v = let there = record s { rate = v; position = point l.path (place
     then without_head (s.travelled + v - millionths l) there
     else record there { travelled = s.travelled + v }
 
-pub record Travels (job : Job) (l : Queued) (ls : List Queued) (old : State) (outcome : Outcome) (new : State) : Type 0 where
+pub record Travels (job : Job) (l : Queued) (ls : List Queued) (old : State) (outcome : Outcome)
+    (new : State) : Type 0 where
   pub may : MayTravel job l ls old new.rate
   pub says : outcome ≡ Ok (Ticked (pulse l old new.rate) (ends_at l old new.rate))
   pub goes_on : new ≡ moved_by l old new.rate
@@ -127,7 +140,8 @@ Step job old Tick outcome new = TickBy job old.stopped old.ring old outcome new
 Step job old Hold outcome new = (outcome ≡ Ok Held) × (new ≡ record old { held = true })
 Step job old Resume outcome new = (outcome ≡ Ok Resumed) × (new ≡ record old { held = false })
 Step job old Start outcome new = (outcome ≡ Ok Started) × (new ≡ record old { stopped = false })
-Step job old (StopSwitch on) outcome new = (outcome ≡ Ok (Switched on)) × (new ≡ record old { stop_switch = on })
+Step job old (StopSwitch on) outcome new =
+    (outcome ≡ Ok (Switched on)) × (new ≡ record old { stop_switch = on })
 Step job old (Override n) outcome new =
     MatchBool (nat_le n 200)
     ((outcome ≡ Ok (Overridden n)) × (new ≡ record old { percent = n }))

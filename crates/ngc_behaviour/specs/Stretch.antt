@@ -12,7 +12,8 @@ last_state s [] = s
 last_state s (t ∷ ts) = last_state t ts
 
 -- these events lead from a state to another, and each tick that is free to goes on
-pub record Stretch (job : Job) (old new : State) (events : List Event) (outcomes : List Outcome) : Type 0 where
+pub record Stretch (job : Job) (old new : State) (events : List Event) (outcomes : List Outcome) :
+    Type 0 where
   pub states : List State
   pub runs : Run job old events outcomes states
   pub goes_on : KeepGoing job old events states

@@ -1,5 +1,6 @@
 //! Laws about the definitions alone.
-ghost use Rattle.ngc_behaviour.specs.Headline.{AcceptedRunsSafely, EndsInTime, Headline, KeepPaths, KeepRatesAlways, MachinesRunInTime};
+ghost use Rattle.ngc_behaviour.specs.Headline.{AcceptedRunsSafely, EndsInTime, Headline, KeepPaths};
+ghost use Rattle.ngc_behaviour.specs.Headline.{KeepRatesAlways, MachinesRunInTime};
 
 /// Where the checker refuses nothing, then at either setting of block delete, for every list of
 /// events, every run of the machine is safe: each position is within travel and the tool mounted

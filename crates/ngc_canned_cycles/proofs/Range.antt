@@ -32,7 +32,9 @@ between b (negsuc a) j n least most first last =
     let q : j * suc a ≤ n * suc a = mul-le-mul_right (suc a) most in
     omega (arith, ints)
 
-along : (distance : Distance) (before : ℤ) (given : Option ℤ) (j n : ℕ) → 1 ≤ j → j ≤ n → is_in_range_if_given given (repeat_on_axis distance 1 before given) ≡ true → is_in_range_if_given given (repeat_on_axis distance n before given) ≡ true → IsKeptOrGiven before (repeat_on_axis distance j before given)
+along : (distance : Distance) (before : ℤ) (given : Option ℤ) (j n : ℕ) → 1 ≤ j → j ≤ n →
+    is_in_range_if_given given (repeat_on_axis distance 1 before given) ≡ true → is_in_range_if_given given (repeat_on_axis distance n before given) ≡ true →
+    IsKeptOrGiven before (repeat_on_axis distance j before given)
 along Absolute before None j n least most first last = inl refl
 along Incremental before None j n least most first last = inl refl
 along Absolute before (Some l) j n least most first last = inr (leb-true _ _ first)
@@ -61,7 +63,8 @@ coordinates c s h =
 is_length : (before c : ℤ) → IsLength before → IsKeptOrGiven before c → IsLength c
 is_length before c near kept = elim kept [ inl same ↦ rw same near | inr given ↦ omega (arith, ints) ]
 
-pub lengths : (c : Cycle) (s : Start) → is_in_range c s ≡ true → IsLength (place_before c s).u → IsLength (place_before c s).v → (j : ℕ) → 1 ≤ j → j ≤ repeats_of c.repeats → AreLengths c s j
+pub lengths : (c : Cycle) (s : Start) → is_in_range c s ≡ true → IsLength (place_before c s).u → IsLength (place_before c s).v → (j : ℕ) → 1 ≤ j →
+    j ≤ repeats_of c.repeats → AreLengths c s j
 lengths c s h u v j p q =
     let a = coordinates c s h in
     let r : IsCoordinate (retract_of c s) = a.retract in

@@ -120,27 +120,35 @@ module _ (f : Offsets) (s : Site) (near : IsNearSite f s) where
 
   peck_near : (q : ℤ) (m i : ℕ) → pos 0 <ℤ q → All (IsMoveReachable f) (peck s q m i)
   peck_near q m i positive =
-      let depth : IsCoordinate (peck_depth s q i) = greater_coordinate s.bottom s.retract (s.retract -ℤ (pos i *ℤ q)) near.bottom near.retract (below s.retract q i positive) in
+      let depth : IsCoordinate (peck_depth s q i) = greater_coordinate s.bottom s.retract (s.retract -ℤ (pos i *ℤ q)) near.bottom near.retract
+      (below s.retract q i positive) in
       All-cons (IsMoveReachable f) (feed_to s (peck_depth s q i)) _ (to_coordinate _ depth)
       (all_if (IsMoveReachable f) (nat_lt i m) (traverse_to s s.retract ∷ back_down s (peck_depth s q i))
-      (λ more. All-cons (IsMoveReachable f) (traverse_to s s.retract) (back_down s (peck_depth s q i)) (to_coordinate _ near.retract) (back_near (peck_depth s q i) depth)))
+      (λ more. All-cons (IsMoveReachable f) (traverse_to s s.retract) (back_down s (peck_depth s q i)) (to_coordinate _ near.retract)
+      (back_near (peck_depth s q i) depth)))
 
   pecks_near : (q : ℤ) (m : ℕ) (xs : List ℕ) → pos 0 <ℤ q → All (IsMoveReachable f) (flat_map (peck s q m) xs)
   pecks_near q m [] positive = none (IsMoveReachable f)
-  pecks_near q m (x ∷ xs) positive = All-append (IsMoveReachable f) (peck s q m x) (flat_map (peck s q m) xs) (peck_near q m x positive) (pecks_near q m xs positive)
+  pecks_near q m (x ∷ xs) positive =
+      All-append (IsMoveReachable f) (peck s q m x) (flat_map (peck s q m) xs) (peck_near q m x positive) (pecks_near q m xs positive)
 
   down : All (IsMoveReachable f) (feed_to s s.bottom ∷ [])
   down = one (IsMoveReachable f) (feed_to s s.bottom) (to_coordinate s.bottom near.bottom)
 
   hole_near : (hole : Hole) → bad_peck hole (s.retract -ℤ s.bottom) ≡ false → All (IsMoveReachable f) (hole_moves hole s)
-  hole_near Drill good = All-append (IsMoveReachable f) (feed_to s s.bottom ∷ []) (traverse_to s s.clear ∷ []) down (one (IsMoveReachable f) (traverse_to s s.clear) (to_height s.clear near.clear))
-  hole_near (DrillWithDwell dwell) good = All-append (IsMoveReachable f) (feed_to s s.bottom ∷ []) (Dwell dwell ∷ traverse_to s s.clear ∷ []) down
-      (All-cons (IsMoveReachable f) (Dwell dwell) (traverse_to s s.clear ∷ []) tt (one (IsMoveReachable f) (traverse_to s s.clear) (to_height s.clear near.clear)))
-  hole_near (Peck q) good = All-append (IsMoveReachable f) (pecks s q (peck_count (s.retract -ℤ s.bottom) (unsigned_abs q))) (traverse_to s s.clear ∷ [])
-      (pecks_near q (peck_count (s.retract -ℤ s.bottom) (unsigned_abs q)) (counting 1 (peck_count (s.retract -ℤ s.bottom) (unsigned_abs q))) (positive_peck q (s.retract -ℤ s.bottom) good))
+  hole_near Drill good = All-append (IsMoveReachable f) (feed_to s s.bottom ∷ []) (traverse_to s s.clear ∷ []) down
       (one (IsMoveReachable f) (traverse_to s s.clear) (to_height s.clear near.clear))
-  hole_near Bore good = All-append (IsMoveReachable f) (feed_to s s.bottom ∷ []) (feed_to s s.clear ∷ []) down (one (IsMoveReachable f) (feed_to s s.clear) (to_height s.clear near.clear))
-  hole_near (BoreWithStop dwell) good = All-append (IsMoveReachable f) (feed_to s s.bottom ∷ []) (Dwell dwell ∷ StopSpindle ∷ traverse_to s s.clear ∷ StartSpindle ∷ []) down
+  hole_near (DrillWithDwell dwell) good = All-append (IsMoveReachable f) (feed_to s s.bottom ∷ []) (Dwell dwell ∷ traverse_to s s.clear ∷ []) down
+      (All-cons (IsMoveReachable f) (Dwell dwell) (traverse_to s s.clear ∷ []) tt
+      (one (IsMoveReachable f) (traverse_to s s.clear) (to_height s.clear near.clear)))
+  hole_near (Peck q) good = All-append (IsMoveReachable f) (pecks s q (peck_count (s.retract -ℤ s.bottom) (unsigned_abs q))) (traverse_to s s.clear ∷ [])
+      (pecks_near q (peck_count (s.retract -ℤ s.bottom) (unsigned_abs q)) (counting 1 (peck_count (s.retract -ℤ s.bottom) (unsigned_abs q)))
+      (positive_peck q (s.retract -ℤ s.bottom) good))
+      (one (IsMoveReachable f) (traverse_to s s.clear) (to_height s.clear near.clear))
+  hole_near Bore good = All-append (IsMoveReachable f) (feed_to s s.bottom ∷ []) (feed_to s s.clear ∷ []) down
+      (one (IsMoveReachable f) (feed_to s s.clear) (to_height s.clear near.clear))
+  hole_near (BoreWithStop dwell) good =
+      All-append (IsMoveReachable f) (feed_to s s.bottom ∷ []) (Dwell dwell ∷ StopSpindle ∷ traverse_to s s.clear ∷ StartSpindle ∷ []) down
       (All-cons (IsMoveReachable f) (Dwell dwell) (StopSpindle ∷ traverse_to s s.clear ∷ StartSpindle ∷ []) tt
       (All-cons (IsMoveReachable f) StopSpindle (traverse_to s s.clear ∷ StartSpindle ∷ []) tt
       (All-cons (IsMoveReachable f) (traverse_to s s.clear) (StartSpindle ∷ []) (to_height s.clear near.clear) (one (IsMoveReachable f) StartSpindle tt))))
@@ -149,7 +157,8 @@ module _ (f : Offsets) (s : Site) (near : IsNearSite f s) where
 
   approach_near : (w : ℤ) → IsHeightReachable f s.plane w → All (IsMoveReachable f) (approach s w)
   approach_near w high = All-cons (IsMoveReachable f) (traverse_to s w) _ (to_height w high)
-      (all_unless (IsMoveReachable f) (same w s.retract) (traverse_to s s.retract ∷ []) (one (IsMoveReachable f) (traverse_to s s.retract) (to_coordinate s.retract near.retract)))
+      (all_unless (IsMoveReachable f) (same w s.retract) (traverse_to s s.retract ∷ [])
+      (one (IsMoveReachable f) (traverse_to s s.retract) (to_coordinate s.retract near.retract)))
 
 -- the heights of a cycle
 near_clear : (t : ℤ) (mode : ReturnMode) (series retract : ℤ) → Near t series → Near t retract → Near t (clear_at mode series retract)
@@ -164,7 +173,8 @@ module _ (f : Offsets) (c : Cycle) (s : Start) (begins : BeginsInReach f c s) wh
   clear_near = near_clear (height c.plane (shift_of f)) c.clear s.series (retract_of c s) begins.series retract_near
 
   top_near : IsHeightReachable f c.plane (top_of c s)
-  top_near = near_if (height c.plane (shift_of f)) (retract_of c s) (height_before c s) (int_lt (height_before c s) (retract_of c s)) retract_near (height_near f c.plane s.place begins.place)
+  top_near = near_if (height c.plane (shift_of f)) (retract_of c s) (height_before c s) (int_lt (height_before c s) (retract_of c s)) retract_near
+      (height_near f c.plane s.place begins.place)
 
   arrival_near : (j : ℕ) → IsHeightReachable f c.plane (arrival c s j)
   arrival_near j = near_if (height c.plane (shift_of f)) (top_of c s) (clear_of c s) (j == 1) top_near clear_near
@@ -186,12 +196,15 @@ module _ (f : Offsets) (c : Cycle) (s : Start) (begins : BeginsInReach f c s) wh
       }
 
   rise_near : (j : ℕ) → All (IsMoveReachable f) (first_rise c s j)
-  rise_near j = all_if (IsMoveReachable f) ((j == 1) && int_lt (height_before c s) (retract_of c s)) (Traverse (at_height c.plane (place_before c s) (retract_of c s)) ∷ [])
-      (λ first. one (IsMoveReachable f) (Traverse (at_height c.plane (place_before c s) (retract_of c s))) (above f c.plane (place_before c s) (retract_of c s) (in_plane_near f c.plane s.place begins.place) retract_near))
+  rise_near j = all_if (IsMoveReachable f) ((j == 1) && int_lt (height_before c s) (retract_of c s))
+      (Traverse (at_height c.plane (place_before c s) (retract_of c s)) ∷ [])
+      (λ first. one (IsMoveReachable f) (Traverse (at_height c.plane (place_before c s) (retract_of c s)))
+      (above f c.plane (place_before c s) (retract_of c s) (in_plane_near f c.plane s.place begins.place) retract_near))
 
 pub stays : (c : Cycle) (s : Start) (j : ℕ) → bad_peck c.hole (retract_of c s -ℤ bottom_of c s) ≡ false → StaysInReach c s j (repeat_moves c s j)
 stays c s j good f begins least most =
     let site = site_near f c s begins j least most in
     All-append (IsMoveReachable f) (first_rise c s j ++ approach (site_of c s j) (arrival c s j)) (hole_moves c.hole (site_of c s j))
-    (All-append (IsMoveReachable f) (first_rise c s j) (approach (site_of c s j) (arrival c s j)) (rise_near f c s begins j) (approach_near f (site_of c s j) site (arrival c s j) (arrival_near f c s begins j)))
+    (All-append (IsMoveReachable f) (first_rise c s j) (approach (site_of c s j) (arrival c s j)) (rise_near f c s begins j)
+    (approach_near f (site_of c s j) site (arrival c s j) (arrival_near f c s begins j)))
     (hole_near f (site_of c s j) site c.hole good)

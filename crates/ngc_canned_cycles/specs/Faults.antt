@@ -1,7 +1,11 @@
 -- What may refuse a cycle, and the numbers of the faults. Our own.
 use Rattle.std.specs.Prelude.{ℕ, ◌≡◌, Result, Ok, Err, Bool, if◌then◌else◌}
 use Rattle.ngc_canned_cycles.specs.declared.fault.CycleFault.{CycleFault}
-use Rattle.ngc_canned_cycles.specs.declared.fault.CycleFault.TheVariants.{RetractBelowBottom, BadRepeats, BadPeck, NegativeDwell, SpindleNotTurning, InverseTime, Memory}
+use Rattle.ngc_canned_cycles.specs.declared.fault.CycleFault.TheVariants.{RetractBelowBottom}
+use Rattle.ngc_canned_cycles.specs.declared.fault.CycleFault.TheVariants.{BadRepeats, BadPeck}
+use Rattle.ngc_canned_cycles.specs.declared.fault.CycleFault.TheVariants.{NegativeDwell}
+use Rattle.ngc_canned_cycles.specs.declared.fault.CycleFault.TheVariants.{SpindleNotTurning}
+use Rattle.ngc_canned_cycles.specs.declared.fault.CycleFault.TheVariants.{InverseTime, Memory}
 
 infixl 10 ◌>>◌
 abbrev pub ◌>>◌ : {A B : Type 0} → Result A CycleFault → Result B CycleFault → Result B CycleFault

@@ -1,13 +1,17 @@
 -- The moves of one hole (NISTIR 6556, 3.5.16.2 to 3.5.16.10: G81, G82, G83, G85, G86, G89).
-use Rattle.std.specs.Prelude.{ℕ, zero, suc, ◌+◌, ◌-◌, ◌/◌, nat_lt, max, ℤ, pos, ◌+ℤ◌, ◌-ℤ◌, ◌*ℤ◌, unsigned_abs, int_lt, List, [], ◌∷◌, ◌++◌, if◌then◌else◌}
+use Rattle.std.specs.Prelude.{ℕ, zero, suc, ◌+◌, ◌-◌, ◌/◌, nat_lt, max, ℤ, pos, ◌+ℤ◌, ◌-ℤ◌, ◌*ℤ◌}
+use Rattle.std.specs.Prelude.{unsigned_abs, int_lt, List, [], ◌∷◌, ◌++◌, if◌then◌else◌}
 use Rattle.std.specs.List.{flat_map}
 use Rattle.ngc_fixed_length.specs.Places.{at_height}
 use Rattle.ngc_fixed_length.specs.Signed.{greater}
 use Rattle.ngc_canned_cycles.specs.declared.cycle.Hole.{Hole}
-use Rattle.ngc_canned_cycles.specs.declared.cycle.Hole.TheVariants.{Drill, DrillWithDwell, Peck, Bore, BoreWithStop, BoreWithDwell}
+use Rattle.ngc_canned_cycles.specs.declared.cycle.Hole.TheVariants.{Drill, DrillWithDwell, Peck}
+use Rattle.ngc_canned_cycles.specs.declared.cycle.Hole.TheVariants.{Bore, BoreWithStop}
+use Rattle.ngc_canned_cycles.specs.declared.cycle.Hole.TheVariants.{BoreWithDwell}
 use Rattle.ngc_canned_cycles.specs.declared.cycle.Site.{Site}
 use Rattle.ngc_canned_cycles.specs.declared.cycle.CycleMove.{CycleMove}
-use Rattle.ngc_canned_cycles.specs.declared.cycle.CycleMove.TheVariants.{Traverse, Feed, Dwell, StopSpindle, StartSpindle}
+use Rattle.ngc_canned_cycles.specs.declared.cycle.CycleMove.TheVariants.{Traverse, Feed, Dwell}
+use Rattle.ngc_canned_cycles.specs.declared.cycle.CycleMove.TheVariants.{StopSpindle, StartSpindle}
 
 -- moves at the place of the hole, to a height
 abbrev pub traverse_to : Site → ℤ → CycleMove
@@ -45,7 +49,8 @@ pecks s q m = flat_map (peck s q m) (counting 1 m)
 abbrev pub hole_moves : Hole → Site → List CycleMove
 hole_moves Drill s = feed_to s s.bottom ∷ traverse_to s s.clear ∷ []
 hole_moves (DrillWithDwell dwell) s = feed_to s s.bottom ∷ Dwell dwell ∷ traverse_to s s.clear ∷ []
-hole_moves (Peck q) s = pecks s q (peck_count (s.retract -ℤ s.bottom) (unsigned_abs q)) ++ traverse_to s s.clear ∷ []
+hole_moves (Peck q) s =
+    pecks s q (peck_count (s.retract -ℤ s.bottom) (unsigned_abs q)) ++ traverse_to s s.clear ∷ []
 hole_moves Bore s = feed_to s s.bottom ∷ feed_to s s.clear ∷ []
 hole_moves (BoreWithStop dwell) s =
     feed_to s s.bottom ∷ Dwell dwell ∷ StopSpindle ∷ traverse_to s s.clear ∷ StartSpindle ∷ []

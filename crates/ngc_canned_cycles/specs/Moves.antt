@@ -1,17 +1,21 @@
 -- The moves of a cycle's repeats (NISTIR 6556, 3.5.16 and 3.5.16.1).
-use Rattle.std.specs.Prelude.{ℕ, ◌+◌, ◌*◌, ◌==◌, ℤ, ◌-ℤ◌, unsigned_abs, int_lt, List, [], ◌∷◌, ◌++◌, Result, Ok, ◌&&◌, if◌then◌else◌}
+use Rattle.std.specs.Prelude.{ℕ, ◌+◌, ◌*◌, ◌==◌, ℤ, ◌-ℤ◌, unsigned_abs, int_lt, List, [], ◌∷◌, ◌++◌}
+use Rattle.std.specs.Prelude.{Result, Ok, ◌&&◌, if◌then◌else◌}
 use Rattle.ngc_fixed_length.specs.Places.{at_height}
 use Rattle.ngc_fixed_length.specs.Signed.{same}
 use Rattle.ngc_canned_cycles.specs.declared.cycle.Cycle.{Cycle}
 use Rattle.ngc_canned_cycles.specs.declared.cycle.Hole.{Hole}
-use Rattle.ngc_canned_cycles.specs.declared.cycle.Hole.TheVariants.{Drill, DrillWithDwell, Peck, Bore, BoreWithStop, BoreWithDwell}
+use Rattle.ngc_canned_cycles.specs.declared.cycle.Hole.TheVariants.{Drill, DrillWithDwell, Peck}
+use Rattle.ngc_canned_cycles.specs.declared.cycle.Hole.TheVariants.{Bore, BoreWithStop}
+use Rattle.ngc_canned_cycles.specs.declared.cycle.Hole.TheVariants.{BoreWithDwell}
 use Rattle.ngc_canned_cycles.specs.declared.cycle.Site.{Site}
 use Rattle.ngc_canned_cycles.specs.declared.cycle.Start.{Start}
 use Rattle.ngc_canned_cycles.specs.declared.cycle.CycleMove.{CycleMove}
 use Rattle.ngc_canned_cycles.specs.declared.cycle.CycleMove.TheVariants.{Traverse}
 use Rattle.ngc_canned_cycles.specs.declared.fault.CycleFault.{CycleFault}
 use Rattle.ngc_canned_cycles.specs.Faults.{◌>>◌}
-use Rattle.ngc_canned_cycles.specs.Heights.{height_before, place_before, retract_of, bottom_of, top_of, clear_of, site_of}
+use Rattle.ngc_canned_cycles.specs.Heights.{height_before, place_before, retract_of, bottom_of}
+use Rattle.ngc_canned_cycles.specs.Heights.{top_of, clear_of, site_of}
 use Rattle.ngc_canned_cycles.specs.Holes.{traverse_to, hole_moves, peck_count}
 use Rattle.ngc_canned_cycles.specs.Refusals.{check}
 

@@ -8,7 +8,8 @@ use Rattle.ngc_offsets.specs.Frames.{shift_of, IsReachable}
 use Rattle.ngc_canned_cycles.specs.declared.cycle.Cycle.{Cycle}
 use Rattle.ngc_canned_cycles.specs.declared.cycle.Start.{Start}
 use Rattle.ngc_canned_cycles.specs.declared.cycle.CycleMove.{CycleMove}
-use Rattle.ngc_canned_cycles.specs.declared.cycle.CycleMove.TheVariants.{Traverse, Feed, Dwell, StopSpindle, StartSpindle}
+use Rattle.ngc_canned_cycles.specs.declared.cycle.CycleMove.TheVariants.{Traverse, Feed, Dwell}
+use Rattle.ngc_canned_cycles.specs.declared.cycle.CycleMove.TheVariants.{StopSpindle, StartSpindle}
 use Rattle.ngc_canned_cycles.specs.Heights.{repeats_of}
 use Rattle.ngc_canned_cycles.specs.Refusals.{is_in_range}
 
@@ -34,4 +35,5 @@ pub record BeginsInReach (f : Offsets) (c : Cycle) (s : Start) : Type 0 where
 -- then so is each move of each repeat
 abbrev pub StaysInReach : Cycle → Start → ℕ → List CycleMove → Type 0
 StaysInReach c s j moves =
-    (f : Offsets) → BeginsInReach f c s → 1 ≤ j → j ≤ repeats_of c.repeats → All (IsMoveReachable f) moves
+    (f : Offsets) → BeginsInReach f c s → 1 ≤ j → j ≤ repeats_of c.repeats →
+    All (IsMoveReachable f) moves

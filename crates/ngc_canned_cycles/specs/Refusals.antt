@@ -1,5 +1,7 @@
 -- Which cycles are refused, and whether what their words give is in range. Our own.
-use Rattle.std.specs.Prelude.{ℕ, ◌≤◌, ◌/◌, ◌%◌, ◌==◌, nat_le, nat_lt, ℤ, pos, ◌-ℤ◌, unsigned_abs, int_le, int_lt, Option, Some, None, Result, Bool, true, false, not, ◌&&◌, ◌||◌}
+use Rattle.std.specs.Prelude.{ℕ, ◌≤◌, ◌/◌, ◌%◌, ◌==◌, nat_le, nat_lt, ℤ, pos, ◌-ℤ◌, unsigned_abs}
+use Rattle.std.specs.Prelude.{int_le, int_lt, Option, Some, None, Result, Bool, true, false, not}
+use Rattle.std.specs.Prelude.{◌&&◌, ◌||◌}
 use Rattle.ngc_fixed_length.specs.Limits.{MILLION}
 use Rattle.ngc_fixed_length.specs.Signed.{is_negative, is_within}
 use Rattle.ngc_fixed_length.specs.declared.modes.FeedMode.{FeedMode}
@@ -7,10 +9,16 @@ use Rattle.ngc_fixed_length.specs.declared.modes.FeedMode.TheVariants as feeds
 use Rattle.ngc_offsets.specs.Ranges.{COORDINATE_LIMIT}
 use Rattle.ngc_canned_cycles.specs.declared.cycle.Cycle.{Cycle}
 use Rattle.ngc_canned_cycles.specs.declared.cycle.Hole.{Hole}
-use Rattle.ngc_canned_cycles.specs.declared.cycle.Hole.TheVariants.{Drill, DrillWithDwell, Peck, Bore, BoreWithStop, BoreWithDwell}
+use Rattle.ngc_canned_cycles.specs.declared.cycle.Hole.TheVariants.{Drill, DrillWithDwell, Peck}
+use Rattle.ngc_canned_cycles.specs.declared.cycle.Hole.TheVariants.{Bore, BoreWithStop}
+use Rattle.ngc_canned_cycles.specs.declared.cycle.Hole.TheVariants.{BoreWithDwell}
 use Rattle.ngc_canned_cycles.specs.declared.cycle.Start.{Start}
 use Rattle.ngc_canned_cycles.specs.declared.fault.CycleFault.{CycleFault}
-use Rattle.ngc_canned_cycles.specs.declared.fault.CycleFault.TheVariants.{RetractBelowBottom, BadRepeats, BadPeck, NegativeDwell, SpindleNotTurning, InverseTime}
+use Rattle.ngc_canned_cycles.specs.declared.fault.CycleFault.TheVariants.{RetractBelowBottom}
+use Rattle.ngc_canned_cycles.specs.declared.fault.CycleFault.TheVariants.{BadRepeats, BadPeck}
+use Rattle.ngc_canned_cycles.specs.declared.fault.CycleFault.TheVariants.{NegativeDwell}
+use Rattle.ngc_canned_cycles.specs.declared.fault.CycleFault.TheVariants.{SpindleNotTurning}
+use Rattle.ngc_canned_cycles.specs.declared.fault.CycleFault.TheVariants.{InverseTime}
 use Rattle.ngc_canned_cycles.specs.Faults.{◌>>◌, refuse_if}
 use Rattle.ngc_canned_cycles.specs.Heights.{retract_of, bottom_of, repeat_place, repeats_of}
 use Rattle.ngc_canned_cycles.specs.Holes.{peck_count}
@@ -68,7 +76,8 @@ is_in_range_if_given (Some l) c = is_within COORDINATE_LIMIT c
 
 abbrev pub is_repeat_in_range : Cycle → Start → ℕ → Bool
 is_repeat_in_range c s j =
-    is_in_range_if_given c.u (repeat_place c s j).u && is_in_range_if_given c.v (repeat_place c s j).v
+    is_in_range_if_given c.u (repeat_place c s j).u
+    && is_in_range_if_given c.v (repeat_place c s j).v
 
 -- the coordinates that the words give: R, the bottom, and the places of the first and the last
 -- repeat

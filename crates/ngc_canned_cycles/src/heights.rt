@@ -1,7 +1,10 @@
 ghost use Rattle.std.specs.Prelude.{◌≡◌, ◌≤◌, ◌+◌, int_lt, pos, ◌*ℤ◌, unsigned_abs};
 ghost use Rattle.ngc_fixed_length.specs.Limits.{IsLength};
 ghost use Rattle.ngc_fixed_length.specs.Signed.{greater, same};
-ghost use Rattle.ngc_canned_cycles.specs.Heights.{place_before, relative as relative_to, retract_of, bottom_of, repeat_on_axis as repeat_along, repeat_place, site_of, AreLengths};
+ghost use Rattle.ngc_canned_cycles.specs.Heights.{place_before, relative as relative_to};
+ghost use Rattle.ngc_canned_cycles.specs.Heights.{retract_of, bottom_of};
+ghost use Rattle.ngc_canned_cycles.specs.Heights.{repeat_on_axis as repeat_along, repeat_place};
+ghost use Rattle.ngc_canned_cycles.specs.Heights.{site_of, AreLengths};
 
 use crate::cycle::{Cycle, Site, Start};
 use ngc_fixed_length::{Distance, Nm, Point2, ReturnMode};

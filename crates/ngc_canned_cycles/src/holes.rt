@@ -1,7 +1,10 @@
-ghost use Rattle.std.specs.Prelude.{◌≡◌, ◌≤◌, ◌+◌, ◌*◌, ◌++◌, ◌∷◌, [], false, unsigned_abs, int_lt, pos, ◌+ℤ◌, ◌-ℤ◌, ◌*ℤ◌, ◌<ℤ◌};
+ghost use Rattle.std.specs.Prelude.{◌≡◌, ◌≤◌, ◌+◌, ◌*◌, ◌++◌, ◌∷◌, [], false, unsigned_abs, int_lt};
+ghost use Rattle.std.specs.Prelude.{pos, ◌+ℤ◌, ◌-ℤ◌, ◌*ℤ◌, ◌<ℤ◌};
 ghost use Rattle.smallvec.specs.SmallVec.{HasRoomFor, small_vec_len};
 ghost use Rattle.ngc_fixed_length.specs.Limits.{LENGTH_LIMIT, IsLength};
-ghost use Rattle.ngc_canned_cycles.specs.Holes.{traverse_to, feed_to, peck_count as pecks_over, peck_depth as depth_of, back_down, peck as peck_moves, pecks, hole_moves};
+ghost use Rattle.ngc_canned_cycles.specs.Holes.{traverse_to, feed_to, peck_count as pecks_over};
+ghost use Rattle.ngc_canned_cycles.specs.Holes.{peck_depth as depth_of, back_down};
+ghost use Rattle.ngc_canned_cycles.specs.Holes.{peck as peck_moves, pecks, hole_moves};
 ghost use Rattle.ngc_canned_cycles.specs.Refusals.{bad_peck};
 ghost use Rattle.ngc_canned_cycles.specs.Moves.{approach, hole_limit};
 
@@ -132,7 +135,8 @@ impl Site {
     // How many pecks reach the bottom.
     fn peck_count(&self, peck: Nm) -> u64
         requires { bad_peck (Hole.Peck peck) (self.now.retract -ℤ self.now.bottom) ≡ false }
-        ensures value { result ≡ pecks_over (self.now.retract -ℤ self.now.bottom) (unsigned_abs peck) }
+        ensures value { result ≡ pecks_over (self.now.retract -ℤ self.now.bottom)
+            (unsigned_abs peck) }
         ensures few { result ≤ 10000 }
         ensures positive { pos 0 <ℤ peck }
     {
@@ -153,7 +157,8 @@ impl Site {
     /// The moves of a hole.
     pub(crate) fn add_hole<A: Allocator>(&self, moves: &mut SmallVec<CycleMove, 16, A>, hole: &Hole)
         requires peck { bad_peck hole.now (self.now.retract -ℤ self.now.bottom) ≡ false }
-        requires room { HasRoomFor moves.old (hole_limit hole.now (self.now.retract -ℤ self.now.bottom)) }
+        requires room { HasRoomFor moves.old
+            (hole_limit hole.now (self.now.retract -ℤ self.now.bottom)) }
         ensures { moves.new.items ≡ moves.old.items ++ hole_moves hole.now self.now }
     {
         match hole {

@@ -2,7 +2,8 @@ ghost use Rattle.std.specs.Prelude.{◌≡◌, ◌≢◌, ◌≤◌, ◌+◌, �
 ghost use Rattle.smallvec.specs.SmallVec.{HasRoomFor, small_vec_len};
 ghost use Rattle.ngc_canned_cycles.specs.Faults.{Gives};
 ghost use Rattle.ngc_canned_cycles.specs.Heights.{site_of, retract_of, AreLengths};
-ghost use Rattle.ngc_canned_cycles.specs.Moves.{first_rise, arrival as arrival_of, expand as expanded, move_limit};
+ghost use Rattle.ngc_canned_cycles.specs.Moves.{first_rise, arrival as arrival_of};
+ghost use Rattle.ngc_canned_cycles.specs.Moves.{expand as expanded, move_limit};
 ghost use Rattle.ngc_canned_cycles.specs.Reach.{StaysInReach};
 
 use crate::cycle::{Cycle, CycleMove, Site, Start};

@@ -1,10 +1,14 @@
-ghost use Rattle.std.specs.Prelude.{◌≡◌, ◌≢◌, ◌≤◌, ◌-ℤ◌, ℕ, false, Err, IsTrue, ◌<◌, unsigned_abs, OnOk};
+ghost use Rattle.std.specs.Prelude.{◌≡◌, ◌≢◌, ◌≤◌, ◌-ℤ◌, ℕ, false, Err, IsTrue, ◌<◌, unsigned_abs};
+ghost use Rattle.std.specs.Prelude.{OnOk};
 ghost use Rattle.ngc_fixed_length.specs.Signed.{is_negative as is_below_zero, is_within};
 ghost use Rattle.ngc_fixed_length.specs.Limits.{IsLength};
 ghost use Rattle.ngc_offsets.specs.Ranges.{COORDINATE_LIMIT};
-ghost use Rattle.ngc_canned_cycles.specs.Heights.{place_before, retract_of, bottom_of, repeats_of, AreLengths};
+ghost use Rattle.ngc_canned_cycles.specs.Heights.{place_before, retract_of, bottom_of, repeats_of};
+ghost use Rattle.ngc_canned_cycles.specs.Heights.{AreLengths};
 ghost use Rattle.ngc_canned_cycles.specs.Holes.{peck_count as pecks_over};
-ghost use Rattle.ngc_canned_cycles.specs.Refusals.{bad_repeats, bad_peck, negative_dwell, needs_spindle, check, is_in_range_if_given, is_repeat_in_range, is_in_range, AreRepeats};
+ghost use Rattle.ngc_canned_cycles.specs.Refusals.{bad_repeats, bad_peck, negative_dwell};
+ghost use Rattle.ngc_canned_cycles.specs.Refusals.{needs_spindle, check, is_in_range_if_given};
+ghost use Rattle.ngc_canned_cycles.specs.Refusals.{is_repeat_in_range, is_in_range, AreRepeats};
 
 use crate::cycle::{Cycle, Hole, Start};
 use crate::fault::CycleFault;
@@ -117,7 +121,9 @@ impl Cycle {
     pub fn check(&self, start: &Start) -> Result<(), CycleFault>
         ensures value { result ≡ check self.now start.now }
         ensures repeats { OnOk result (AreRepeats (repeats_of self.now.repeats)) }
-        ensures peck { OnOk result (bad_peck self.now.hole (retract_of self.now start.now -ℤ bottom_of self.now start.now) ≡ false) }
+        ensures peck { OnOk result
+            (bad_peck self.now.hole (retract_of self.now start.now -ℤ bottom_of self.now start.now)
+            ≡ false) }
         ensures no_memory { result ≢ Err CycleFault.Memory }
     {
         let retract = self.retract_height(start);
@@ -169,7 +175,8 @@ impl Cycle {
     /// the places of the first and the last repeat. Then each repeat between them has its moves.
     pub fn is_in_range(&self, start: &Start) -> bool
         ensures value { result ≡ is_in_range self.now start.now }
-        ensures lengths { IsTrue result → (j : ℕ) → 1 ≤ j → j ≤ repeats_of self.now.repeats → AreLengths self.now start.now j }
+        ensures lengths { IsTrue result → (j : ℕ) → 1 ≤ j → j ≤ repeats_of self.now.repeats →
+            AreLengths self.now start.now j }
     {
         self.has_coordinates(start)
     }

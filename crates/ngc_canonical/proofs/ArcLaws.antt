@@ -33,7 +33,8 @@ start_of_equal t s a h = sym (ap (λ (x : ArcShape). x.start) (arc_compared t s 
 
 -- ---- centre format
 
-of_centre : (units : Units) (e : Ends) (o : Offsets) (a : ArcShape) → centre_format units e o ≡ Ok a → with_equal_radii (tolerance units) (arc_about e (offset_centre e o)) ≡ Ok a
+of_centre : (units : Units) (e : Ends) (o : Offsets) (a : ArcShape) → centre_format units e o ≡ Ok a →
+    with_equal_radii (tolerance units) (arc_about e (offset_centre e o)) ≡ Ok a
 of_centre units e o a h =
     let s : ArcShape = arc_about e (offset_centre e o) in
     last_of
@@ -48,7 +49,8 @@ end_of_centre units e o a h = end_of_equal (tolerance units) (arc_about e (offse
 
 -- ---- radius format
 
-start_about : (t : ℕ) (e : Ends) (r : Result Point2 ArcFault) (a : ArcShape) → (r >>= λ centre. with_equal_radii t (arc_about e centre)) ≡ Ok a → a.start ≡ e.start
+start_about : (t : ℕ) (e : Ends) (r : Result Point2 ArcFault) (a : ArcShape) → (r >>= λ centre. with_equal_radii t (arc_about e centre)) ≡ Ok a →
+    a.start ≡ e.start
 start_about t e (Ok centre) a h = start_of_equal t (arc_about e centre) a h
 start_about t e (Err fault) a h = cc
 

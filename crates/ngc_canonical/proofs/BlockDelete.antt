@@ -20,12 +20,14 @@ all_stay_off : (lines : List NumberedLine) → remaining false lines ≡ lines
 all_stay_off [] = refl
 all_stay_off (line ∷ lines) = ap (λ (rest : List NumberedLine). line ∷ rest) (all_stay_off lines)
 
-one_more_stays : (line : NumberedLine) (lines : List NumberedLine) (b : Bool) → line.reading.deleted ≡ b → has_deleted (line ∷ lines) ≡ false → (has_deleted lines ≡ false → remaining true lines ≡ lines)
+one_more_stays : (line : NumberedLine) (lines : List NumberedLine) (b : Bool) → line.reading.deleted ≡ b → has_deleted (line ∷ lines) ≡ false →
+    (has_deleted lines ≡ false → remaining true lines ≡ lines)
     → remaining true (line ∷ lines) ≡ line ∷ lines
 one_more_stays line lines true e none rest = absurd (cc (none, ap (λ (x : Bool). x || has_deleted lines) e))
 one_more_stays line lines false e none rest =
     let behind : List NumberedLine = remaining true lines in
-    ap (λ (x : Bool). if x then behind else line ∷ behind) e ∙ ap (λ (l : List NumberedLine). line ∷ l) (rest (sym (ap (λ (x : Bool). x || has_deleted lines) e) ∙ none))
+    ap (λ (x : Bool). if x then behind else line ∷ behind) e ∙ ap (λ (l : List NumberedLine). line ∷ l)
+    (rest (sym (ap (λ (x : Bool). x || has_deleted lines) e) ∙ none))
 
 all_stay : (lines : List NumberedLine) → has_deleted lines ≡ false → remaining true lines ≡ lines
 all_stay [] none = refl
@@ -33,7 +35,8 @@ all_stay (line ∷ lines) none = one_more_stays line lines line.reading.deleted 
 
 pub same_at_both : SameAtBoth
 same_at_both program setup none =
-    ap (λ (lines : List NumberedLine). commands_of (from_state setup program lines (start_state setup.machine))) (all_stay program.lines none ∙ sym (all_stay_off program.lines))
+    ap (λ (lines : List NumberedLine). commands_of (from_state setup program lines (start_state setup.machine)))
+    (all_stay program.lines none ∙ sym (all_stay_off program.lines))
 
 -- ---- line by line
 
@@ -57,7 +60,8 @@ pub seen_line : (lines : List Line) (i : ℕ) → i < length lines → SeenLine 
 seen_line lines i h = let found = line_within lines i h in record { line = found.0; at = found.1 }
 
 -- whether a line is deleted from here on: this one, or one behind it
-pub deleted_from : (lines : List Line) (rs : List Reading) (i : ℕ) (bytes : List ℕ) (deleted : Bool) (parts : Parts) (number : ℕ) → ShowsReading bytes deleted parts → NextLine lines rs i number bytes
+pub deleted_from : (lines : List Line) (rs : List Reading) (i : ℕ) (bytes : List ℕ) (deleted : Bool) (parts : Parts) (number : ℕ) →
+    ShowsReading bytes deleted parts → NextLine lines rs i number bytes
     → has_deleted (with_readings (drop i lines) (drop i rs)) ≡ (deleted || has_deleted (with_readings (drop (i + 1) lines) (drop (i + 1) rs)))
 deleted_from lines rs i bytes deleted parts number h next =
     let rest : Bool = has_deleted (with_readings (drop (i + 1) lines) (drop (i + 1) rs)) in

@@ -27,7 +27,8 @@ moves_after [] ys s = refl
 moves_after (x ∷ xs) ys s = chained (make_move x s) (make_moves (xs ++ ys)) (make_moves xs) (make_moves ys) (λ t. moves_after xs ys t)
 
 -- repeat i + 1 of n, and those behind it
-next_moves : (c : Cycle) (start : Start) (i n : ℕ) → i < n → moves_from c start (i + 1) (n - i) ≡ repeat_moves c start (i + 1) ++ moves_from c start (i + 1 + 1) (n - (i + 1))
+next_moves : (c : Cycle) (start : Start) (i n : ℕ) → i < n → moves_from c start (i + 1) (n - i)
+    ≡ repeat_moves c start (i + 1) ++ moves_from c start (i + 1 + 1) (n - (i + 1))
 next_moves c start i n h =
     let e : n - i ≡ suc (n - (i + 1)) = omega (arith, h) in
     ap (λ (k : ℕ). moves_from c start (i + 1) k) e
@@ -40,7 +41,8 @@ filled : (c : Cycle) (start : Start) (j : ℕ) (items : List CycleMove) → chec
 filled c start j items checked is = let e : (check c start >> Ok (repeat_moves c start j)) ≡ Ok items = is in same_moves _ _ (rw checked at e)
 
 -- it was made, and the rest goes on from there
-pub went_on : (c : Cycle) (start : Start) (i n : ℕ) (items : List CycleMove) (s t : State) → i < n → check c start ≡ Ok tt → expand c start (i + 1) ≡ Ok items → make_moves items s ≡ Ok t
+pub went_on : (c : Cycle) (start : Start) (i n : ℕ) (items : List CycleMove) (s t : State) → i < n → check c start ≡ Ok tt → expand c start (i + 1) ≡ Ok items →
+    make_moves items s ≡ Ok t
     → make_moves (moves_from c start (i + 1) (n - i)) s ≡ make_moves (moves_from c start (i + 1 + 1) (n - (i + 1))) t
 went_on c start i n items s t h checked is made =
     let rest = moves_from c start (i + 1 + 1) (n - (i + 1)) in
@@ -48,7 +50,8 @@ went_on c start i n items s t h checked is made =
     ∙ moves_after items rest s ∙ ap (λ (r : Result State Fault). r >>= make_moves rest) made
 
 -- it was refused, and so are all
-went_wrong : (c : Cycle) (start : Start) (i n : ℕ) (items : List CycleMove) (s : State) (e : Fault) → i < n → check c start ≡ Ok tt → expand c start (i + 1) ≡ Ok items → make_moves items s ≡ Err e
+went_wrong : (c : Cycle) (start : Start) (i n : ℕ) (items : List CycleMove) (s : State) (e : Fault) → i < n → check c start ≡ Ok tt →
+    expand c start (i + 1) ≡ Ok items → make_moves items s ≡ Err e
     → make_moves (moves_from c start (i + 1) (n - i)) s ≡ Err e
 went_wrong c start i n items s e h checked is made =
     let rest = moves_from c start (i + 1 + 1) (n - (i + 1)) in
@@ -62,7 +65,8 @@ no_more c start i n s h =
     let e : n - i ≡ 0 = omega (arith, h) in
     ap (λ (k : ℕ). make_moves (moves_from c start (i + 1) k) s) e
 
-pub refused : (c : Cycle) (start : Start) (i n : ℕ) (items : List CycleMove) (s new : State) (refusal : Refusal) (whole : Result State Fault) → i < n → check c start ≡ Ok tt → expand c start (i + 1) ≡ Ok items
+pub refused : (c : Cycle) (start : Start) (i n : ℕ) (items : List CycleMove) (s new : State) (refusal : Refusal) (whole : Result State Fault) → i < n →
+    check c start ≡ Ok tt → expand c start (i + 1) ≡ Ok items
     → make_moves (moves_from c start (i + 1) (n - i)) s ≡ whole → Becomes (Err refusal) new (make_moves items s) → Becomes (Err refusal) new whole
 refused c start i n items s new (Breaks e) whole h checked is leads made = sym leads ∙ went_wrong c start i n items s e h checked is made
 refused c start i n items s new Memory whole h checked is leads made = tt

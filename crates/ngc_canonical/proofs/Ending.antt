@@ -18,7 +18,8 @@ use Rattle.ngc_modal_state.specs.declared.effect.Effect.{Effect}
 use Rattle.ngc_modal_state.specs.declared.effect.Effect.TheVariants as acts
 use Rattle.ngc_modal_state.specs.declared.fault.ModalFault.{ModalFault}
 use Rattle.ngc_modal_state.specs.declared.modes.Modes.{Modes}
-use Rattle.ngc_modal_state.specs.Effects.{mark, feed_effect, inverse_feed, dwell_effect, length_effect, system_at, frame_effect, move_effect, standing, first_effects, mode_effects, last_effects, in_order, effects}
+use Rattle.ngc_modal_state.specs.Effects.{mark, feed_effect, inverse_feed, dwell_effect, length_effect, system_at, frame_effect, move_effect, standing}
+use Rattle.ngc_modal_state.specs.Effects.{first_effects, mode_effects, last_effects, in_order, effects}
 use Rattle.ngc_modal_state.specs.Faults.{◌>>◌}
 use Rattle.ngc_modal_state.specs.Use.{check, user, feed_mode_of, whole}
 use Rattle.ngc_canonical.specs.declared.fault.Fault.TheVariants.{Modal}

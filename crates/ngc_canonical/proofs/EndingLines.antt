@@ -11,7 +11,8 @@ use Rattle.ngc_canonical.specs.declared.fault.Fault.{Fault}
 use Rattle.ngc_canonical.specs.declared.fault.Fault.TheVariants.{Value}
 use Rattle.ngc_canonical.specs.declared.fault.ProgramFault.{ProgramFault}
 use Rattle.ngc_canonical.specs.Joined.{EndIsLast, HasEnd, EndsLast, HaveEnd}
-use Rattle.ngc_canonical.specs.Meaning.{NumberedLine, Program, effects_of, with_settings, execute, at_line, remaining, after_line, commands_of, past_last, go_on, then_lines, from_state, meaning, GivesMeaning}
+use Rattle.ngc_canonical.specs.Meaning.{NumberedLine, Program, effects_of, with_settings, execute, at_line, remaining, after_line, commands_of, past_last}
+use Rattle.ngc_canonical.specs.Meaning.{go_on, then_lines, from_state, meaning, GivesMeaning}
 use Rattle.ngc_canonical.specs.Perform.{run}
 use Rattle.ngc_canonical.specs.State.{Setup, State, start_state, emit}
 use Rattle.ngc_canonical.specs.Steps.{faulted}
@@ -39,19 +40,23 @@ at_line_left P line (Err e) h = tt
 -- a line that block delete takes out changes nothing
 after_line_left : (setup : Setup) (block_delete : Bool) (number : ℕ) (r : Reading) (s : State) → Open s → IfOk (after_line setup block_delete number r s) Left
 after_line_left setup block_delete number r s h = by_test (block_delete && r.deleted) where
-  by_test : (out : Bool) → (let same : Result State ProgramFault = Ok s in IfOk (if out then same else at_line number (execute setup r.items (record s { line = number }))) Left)
+  by_test : (out : Bool) →
+      (let same : Result State ProgramFault = Ok s in IfOk (if out then same else at_line number (execute setup r.items (record s { line = number }))) Left)
   by_test true = left_open s h
   by_test false = at_line_left Left number (execute setup r.items (record s { line = number })) (execute_left setup r.items (record s { line = number }) h)
 
 past_last_ends : (mark : Option ℕ) (count : ℕ) (s : State) → HasNoEnd s.commands → IfOk (past_last mark count s) Ends
 past_last_ends None count s none = tt
-past_last_ends (Some line) count s none = at_line_left Ends line (emit End (record s { line = line })) (emitted Ends End (record s { line = line }) (λ room. ended_by s.commands line none))
+past_last_ends (Some line) count s none =
+    at_line_left Ends line (emit End (record s { line = line })) (emitted Ends End (record s { line = line }) (λ room. ended_by s.commands line none))
 
-go_on_ends : (ended : Bool) (s : State) (rest : State → Result State ProgramFault) → s.ended ≡ ended → Left s → ((t : State) → Open t → IfOk (rest t) Ends) → IfOk (go_on ended s rest) Ends
+go_on_ends : (ended : Bool) (s : State) (rest : State → Result State ProgramFault) → s.ended ≡ ended → Left s → ((t : State) → Open t → IfOk (rest t) Ends) →
+    IfOk (go_on ended s rest) Ends
 go_on_ends true s rest e h on = (h.last, h.has_end e)
 go_on_ends false s rest e h on = on s (record { running = e; no_end = h.no_end e })
 
-then_lines_ends : (r : Result State ProgramFault) (rest : State → Result State ProgramFault) → IfOk r Left → ((t : State) → Open t → IfOk (rest t) Ends) → IfOk (then_lines r rest) Ends
+then_lines_ends : (r : Result State ProgramFault) (rest : State → Result State ProgramFault) → IfOk r Left → ((t : State) → Open t → IfOk (rest t) Ends) →
+    IfOk (then_lines r rest) Ends
 then_lines_ends (Ok s) rest h on = go_on_ends s.ended s rest refl h on
 then_lines_ends (Err e) rest h on = tt
 
@@ -72,16 +77,22 @@ commands_end (Err fault) commands h e = absurd (cc e)
 
 -- ---- the commands that are handed out
 
-line_left : (setup : Setup) (block_delete : Bool) (number : ℕ) (r : Reading) (s t : State) → s.ended ≡ false → HasNoEnd s.commands → after_line setup block_delete number r s ≡ Ok t → Left t
-line_left setup block_delete number r s t running none e = IfOk-at_ok Left e (after_line_left setup block_delete number r s (record { running = running; no_end = none }))
+line_left : (setup : Setup) (block_delete : Bool) (number : ℕ) (r : Reading) (s t : State) → s.ended ≡ false → HasNoEnd s.commands →
+    after_line setup block_delete number r s ≡ Ok t → Left t
+line_left setup block_delete number r s t running none e =
+    IfOk-at_ok Left e (after_line_left setup block_delete number r s (record { running = running; no_end = none }))
 
-pub line_ended : (setup : Setup) (block_delete : Bool) (number : ℕ) (r : Reading) (s t : State) (commands : List Command) → s.ended ≡ false → HasNoEnd s.commands
+pub line_ended : (setup : Setup) (block_delete : Bool) (number : ℕ) (r : Reading) (s t : State) (commands : List Command) → s.ended ≡ false →
+    HasNoEnd s.commands
     → after_line setup block_delete number r s ≡ Ok t → commands ≡ t.commands → EndIsLast commands
-line_ended setup block_delete number r s t commands running none e same = subst EndIsLast (sym same) (line_left setup block_delete number r s t running none e).last
+line_ended setup block_delete number r s t commands running none e same =
+    subst EndIsLast (sym same) (line_left setup block_delete number r s t running none e).last
 
-pub line_has_end : (setup : Setup) (block_delete : Bool) (number : ℕ) (r : Reading) (s t : State) (commands : List Command) → s.ended ≡ false → HasNoEnd s.commands
+pub line_has_end : (setup : Setup) (block_delete : Bool) (number : ℕ) (r : Reading) (s t : State) (commands : List Command) → s.ended ≡ false →
+    HasNoEnd s.commands
     → after_line setup block_delete number r s ≡ Ok t → t.ended ≡ true → commands ≡ t.commands → HasEnd commands
-line_has_end setup block_delete number r s t commands running none e over same = subst HasEnd (sym same) ((line_left setup block_delete number r s t running none e).has_end over)
+line_has_end setup block_delete number r s t commands running none e over same =
+    subst HasEnd (sym same) ((line_left setup block_delete number r s t running none e).has_end over)
 
 pub line_on : (setup : Setup) (block_delete : Bool) (number : ℕ) (r : Reading) (s t : State) → s.ended ≡ false → HasNoEnd s.commands
     → after_line setup block_delete number r s ≡ Ok t → t.ended ≡ false → HasNoEnd t.commands
@@ -99,7 +110,8 @@ finished_has_end mark count s view (Err e) none says = tt
 
 -- ---- the laws
 
-end_only : (program : Program) (setup : Setup) (block_delete : Bool) (commands : List Command) → meaning program setup block_delete ≡ Ok commands → IsEndOnly commands
+end_only : (program : Program) (setup : Setup) (block_delete : Bool) (commands : List Command) → meaning program setup block_delete ≡ Ok commands →
+    IsEndOnly commands
 end_only program setup block_delete commands e =
     commands_end (from_state setup program (remaining block_delete program.lines) (start_state setup.machine)) commands
     (from_state_ends setup program (remaining block_delete program.lines) (start_state setup.machine) (start_open setup.machine))

@@ -153,7 +153,8 @@ set_offset_open words s h =
     after Open (axis_lengths s.modes.units words) (λ given. with_frames s (frame.set_axis s.frames s.place given))
     (λ given. with_frames_open s (frame.set_axis s.frames s.place given) h)
 
-through_open : (through : Point3) (b : Bool) (s : State) → Open s → (let stay : Result State Fault = Ok s in IfOk (if b then traverse_to through s else stay) Open)
+through_open : (through : Point3) (b : Bool) (s : State) → Open s →
+    (let stay : Result State Fault = Ok s in IfOk (if b then traverse_to through s else stay) Open)
 through_open through true s h = traverse_to_open through s h
 through_open through false s h = h
 
@@ -215,7 +216,8 @@ perform_open : (setup : Setup) (effect : Effect) (s : State) → IsPassing effec
 perform_open setup (acts.Speed value) s passing h = tell_speed_open s.spindle (record s { speed = unsigned_abs value }) h
 perform_open setup acts.ChangeTool s passing h = change_tool_open setup.tools s.selected s h
 perform_open setup (acts.Spindle code) s passing h = passes (actions.Spindle (spindle_state (turn_of code) s.speed)) (record s { spindle = turn_of code }) h tt
-perform_open setup (acts.Coolant code) s passing h = passes (actions.Coolant (with_coolant code s.coolant)) (record s { coolant = with_coolant code s.coolant }) h tt
+perform_open setup (acts.Coolant code) s passing h =
+    passes (actions.Coolant (with_coolant code s.coolant)) (record s { coolant = with_coolant code s.coolant }) h tt
 perform_open setup (acts.Override on) s passing h = passes (actions.Override on) s h tt
 perform_open setup (acts.Dwell value) s passing h = passes (actions.Dwell (unsigned_abs value)) s h tt
 perform_open setup (acts.ToolLength number) s passing h = with_frames_open s (frame.set_length s.frames (tool_length setup.tools number)) h
@@ -239,7 +241,8 @@ stop_left stops.End s h =
     (λ t only. record { last = only.0; no_end = λ e. absurd (cc e); has_end = λ e. only.1 })
 
 -- a stop is performed last, and another effect leaves the program open
-step_left : (setup : Setup) (effect : Effect) (later : List Effect) (s : State) → IsLastIfStop effect later → Open s → ((t : State) → Open t → IfOk (run setup later t) Left)
+step_left : (setup : Setup) (effect : Effect) (later : List Effect) (s : State) → IsLastIfStop effect later → Open s →
+    ((t : State) → Open t → IfOk (run setup later t) Left)
     → IfOk (run setup (effect ∷ later) s) Left
 step_left setup (acts.Stopping code) [] s last h rest = onward Left Left (stop code s) (run setup []) (stop_left code s h) (λ t h_t. h_t)
 step_left setup (acts.Stopping code) (next ∷ later) s last h rest = absurd (cc last)

@@ -12,7 +12,8 @@ use Rattle.ngc_canonical.specs.declared.fault.Fault.{Fault}
 use Rattle.ngc_canonical.specs.declared.fault.Fault.TheVariants.{Value}
 use Rattle.ngc_canonical.specs.declared.fault.ProgramFault.{ProgramFault}
 use Rattle.ngc_canonical.specs.Joined.{Joined, HaveEvenRadii, ArcsHaveEvenRadii, FewCommands}
-use Rattle.ngc_canonical.specs.Meaning.{NumberedLine, Program, effects_of, with_settings, execute, at_line, remaining, after_line, commands_of, past_last, go_on, then_lines, from_state, meaning, GivesMeaning}
+use Rattle.ngc_canonical.specs.Meaning.{NumberedLine, Program, effects_of, with_settings, execute, at_line, remaining, after_line, commands_of, past_last}
+use Rattle.ngc_canonical.specs.Meaning.{go_on, then_lines, from_state, meaning, GivesMeaning}
 use Rattle.ngc_canonical.specs.Movement.{actions_of, ways_of, AreJoined}
 use Rattle.ngc_canonical.specs.Perform.{run}
 use Rattle.ngc_canonical.specs.State.{Setup, State, COMMAND_LIMIT, start_state, emit}
@@ -34,9 +35,12 @@ at_line_holds p line (Ok s) h = h
 at_line_holds p line (Err e) h = tt
 
 -- a line that block delete takes out changes nothing
-after_line_holds : (p : Point3) (setup : Setup) (block_delete : Bool) (number : ℕ) (r : Reading) (s : State) → Holds p s → IfOk (after_line setup block_delete number r s) (Holds p)
+after_line_holds : (p : Point3) (setup : Setup) (block_delete : Bool) (number : ℕ) (r : Reading) (s : State) → Holds p s →
+    IfOk (after_line setup block_delete number r s) (Holds p)
 after_line_holds p setup block_delete number r s h = by_test (block_delete && r.deleted) where
-  by_test : (out : Bool) → (let same : Result State ProgramFault = Ok s in IfOk (if out then same else at_line number (execute setup r.items (record s { line = number }))) (Holds p))
+  by_test : (out : Bool) →
+      (let same : Result State ProgramFault = Ok s in
+      IfOk (if out then same else at_line number (execute setup r.items (record s { line = number }))) (Holds p))
   by_test true = h
   by_test false = at_line_holds p number (execute setup r.items (record s { line = number })) (execute_holds p setup r.items (record s { line = number }) h)
 
@@ -44,15 +48,18 @@ past_last_holds : (p : Point3) (mark : Option ℕ) (count : ℕ) (s : State) →
 past_last_holds p None count s h = tt
 past_last_holds p (Some line) count s h = at_line_holds p line (emit End (record s { line = line })) (stays p End (record s { line = line }) h tt)
 
-go_on_holds : (p : Point3) (ended : Bool) (s : State) (rest : State → Result State ProgramFault) → Holds p s → ((t : State) → Holds p t → IfOk (rest t) (Holds p)) → IfOk (go_on ended s rest) (Holds p)
+go_on_holds : (p : Point3) (ended : Bool) (s : State) (rest : State → Result State ProgramFault) → Holds p s →
+    ((t : State) → Holds p t → IfOk (rest t) (Holds p)) → IfOk (go_on ended s rest) (Holds p)
 go_on_holds p true s rest h on = h
 go_on_holds p false s rest h on = on s h
 
-then_lines_holds : (p : Point3) (r : Result State ProgramFault) (rest : State → Result State ProgramFault) → IfOk r (Holds p) → ((t : State) → Holds p t → IfOk (rest t) (Holds p)) → IfOk (then_lines r rest) (Holds p)
+then_lines_holds : (p : Point3) (r : Result State ProgramFault) (rest : State → Result State ProgramFault) → IfOk r (Holds p) →
+    ((t : State) → Holds p t → IfOk (rest t) (Holds p)) → IfOk (then_lines r rest) (Holds p)
 then_lines_holds p (Ok s) rest h on = go_on_holds p s.ended s rest h on
 then_lines_holds p (Err e) rest h on = tt
 
-from_state_holds : (p : Point3) (setup : Setup) (program : Program) (lines : List NumberedLine) (s : State) → Holds p s → IfOk (from_state setup program lines s) (Holds p)
+from_state_holds : (p : Point3) (setup : Setup) (program : Program) (lines : List NumberedLine) (s : State) → Holds p s →
+    IfOk (from_state setup program lines s) (Holds p)
 unfolding from_state
 from_state_holds p setup program [] s h = past_last_holds p program.mark program.count s h
 from_state_holds p setup program (line ∷ lines) s h =
@@ -74,7 +81,8 @@ commands_from p (Err fault) commands h e = absurd (cc e)
 
 -- ---- the commands that are handed out
 
-pub went_on : (p : Point3) (setup : Setup) (block_delete : Bool) (number : ℕ) (r : Reading) (s t : State) → Holds p s → after_line setup block_delete number r s ≡ Ok t → Holds p t
+pub went_on : (p : Point3) (setup : Setup) (block_delete : Bool) (number : ℕ) (r : Reading) (s t : State) → Holds p s →
+    after_line setup block_delete number r s ≡ Ok t → Holds p t
 went_on p setup block_delete number r s t h e = IfOk-at_ok (Holds p) e (after_line_holds p setup block_delete number r s h)
 
 pub handed_out : (p : Point3) (s : State) (commands : List Command) → Holds p s → commands ≡ s.commands → AreFrom p commands
@@ -88,12 +96,14 @@ finished p mark count s view (Err e) h says = tt
 pub finished_joined : {X : Type 0} (p : Point3) (mark : Option ℕ) (count : ℕ) (s : State) (view : X → List Command) (result : Result X ProgramFault) → Holds p s
     → GivesMeaning view result (commands_of (past_last mark count s)) → IfOk result (λ v. AreJoined p (ways_of (actions_of (view v))))
 finished_joined p mark count s view result h says =
-    IfOk-weaker result (λ v. AreFrom p (view v)) (λ v. AreJoined p (ways_of (actions_of (view v)))) (λ v from. from.trail.leads.joined) (finished p mark count s view result h says)
+    IfOk-weaker result (λ v. AreFrom p (view v)) (λ v. AreJoined p (ways_of (actions_of (view v)))) (λ v from. from.trail.leads.joined)
+    (finished p mark count s view result h says)
 
 pub finished_radii : {X : Type 0} (p : Point3) (mark : Option ℕ) (count : ℕ) (s : State) (view : X → List Command) (result : Result X ProgramFault) → Holds p s
     → GivesMeaning view result (commands_of (past_last mark count s)) → IfOk result (λ v. HaveEvenRadii (ways_of (actions_of (view v))))
 finished_radii p mark count s view result h says =
-    IfOk-weaker result (λ v. AreFrom p (view v)) (λ v. HaveEvenRadii (ways_of (actions_of (view v)))) (λ v from. from.trail.leads.radii) (finished p mark count s view result h says)
+    IfOk-weaker result (λ v. AreFrom p (view v)) (λ v. HaveEvenRadii (ways_of (actions_of (view v)))) (λ v from. from.trail.leads.radii)
+    (finished p mark count s view result h says)
 
 pub finished_few : {X : Type 0} (p : Point3) (mark : Option ℕ) (count : ℕ) (s : State) (view : X → List Command) (result : Result X ProgramFault) → Holds p s
     → GivesMeaning view result (commands_of (past_last mark count s)) → IfOk result (λ v. length (view v) ≤ COMMAND_LIMIT)
@@ -102,7 +112,8 @@ finished_few p mark count s view result h says =
 
 -- ---- the laws
 
-meant : (program : Program) (setup : Setup) (block_delete : Bool) (commands : List Command) → meaning program setup block_delete ≡ Ok commands → AreFrom setup.machine.start commands
+meant : (program : Program) (setup : Setup) (block_delete : Bool) (commands : List Command) → meaning program setup block_delete ≡ Ok commands →
+    AreFrom setup.machine.start commands
 meant program setup block_delete commands e =
     commands_from setup.machine.start (from_state setup program (remaining block_delete program.lines) (start_state setup.machine)) commands
     (from_state_holds setup.machine.start setup program (remaining block_delete program.lines) (start_state setup.machine) (start_holds setup.machine))

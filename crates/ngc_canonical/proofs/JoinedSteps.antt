@@ -87,7 +87,8 @@ set_offset_holds p words s h =
     after (Holds p) (axis_lengths s.modes.units words) (λ given. with_frames s (frame.set_axis s.frames s.place given))
     (λ given. with_frames_holds p s (frame.set_axis s.frames s.place given) h)
 
-through_holds : (p through : Point3) (b : Bool) (s : State) → Holds p s → (let stay : Result State Fault = Ok s in IfOk (if b then traverse_to through s else stay) (Holds p))
+through_holds : (p through : Point3) (b : Bool) (s : State) → Holds p s →
+    (let stay : Result State Fault = Ok s in IfOk (if b then traverse_to through s else stay) (Holds p))
 through_holds p through true s h = traverse_to_holds p through s h
 through_holds p through false s h = h
 
@@ -105,7 +106,8 @@ traverse_holds p is_machine_place words s h = after (Holds p) (end_of is_machine
 feed_holds : (p end : Point3) (feed : Feed) (s : State) → Holds p s → IfOk (go (ways.Line s.place end) (paces.Feed feed) s) (Holds p)
 feed_holds p end feed s h = moves p (ways.Line s.place end) (paces.Feed feed) s h refl tt
 
-straight_holds : (p : Point3) (is_machine_place : Bool) (words : AxisWords) (f : Option ℤ) (s : State) → Holds p s → IfOk (straight is_machine_place words f s) (Holds p)
+straight_holds : (p : Point3) (is_machine_place : Bool) (words : AxisWords) (f : Option ℤ) (s : State) → Holds p s →
+    IfOk (straight is_machine_place words f s) (Holds p)
 straight_holds p is_machine_place words f s h =
     after (Holds p) (feed_in s.modes.feed_mode s.feed f) _ (λ feed.
     after (Holds p) (end_of is_machine_place s words) (λ end. go (ways.Line s.place end) (paces.Feed feed) s)
@@ -208,4 +210,5 @@ perform_holds p setup _ s h = h
 
 pub run_holds : (p : Point3) (setup : Setup) (effects : List Effect) (s : State) → Holds p s → IfOk (run setup effects s) (Holds p)
 run_holds p setup [] s h = h
-run_holds p setup (effect ∷ effects) s h = onward (Holds p) (Holds p) (perform setup effect s) (run setup effects) (perform_holds p setup effect s h) (run_holds p setup effects)
+run_holds p setup (effect ∷ effects) s h =
+    onward (Holds p) (Holds p) (perform setup effect s) (run setup effects) (perform_holds p setup effect s h) (run_holds p setup effects)

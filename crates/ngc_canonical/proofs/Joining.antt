@@ -1,5 +1,6 @@
 -- Each step of a program leads its motions on from where the axes stand, its arcs have even radii, and its commands stay few.
-use Rattle.std.proofs.Common.{◌≡◌, ℕ, ◌≤◌, ◌<◌, List, [], ◌∷◌, ◌++◌, length, Bool, true, false, Result, Ok, Err, refl, ap, sym, subst, ◌∙◌, arith, length-append}
+use Rattle.std.proofs.Common.{◌≡◌, ℕ, ◌≤◌, ◌<◌, List, [], ◌∷◌, ◌++◌, length, Bool, true, false, Result, Ok, Err, refl, ap, sym, subst, ◌∙◌, arith}
+use Rattle.std.proofs.Common.{length-append}
 use Rattle.std.specs.Prelude.{IfOk, nat_lt, if◌then◌else◌}
 use Rattle.std.proofs.lemmas.Bool.Decides.{nat_tests}
 use Rattle.std.proofs.lemmas.List.{map-append}
@@ -78,7 +79,8 @@ added p q r cs c trail step room = record {
 -- ---- steps that may meet a fault
 
 -- what the first step leaves, the second takes up
-pub onward : {A B : Type 0} (P : A → Type 0) (Q : B → Type 0) (r : Result A Fault) (f : A → Result B Fault) → IfOk r P → ((a : A) → P a → IfOk (f a) Q) → IfOk (r >>= f) Q
+pub onward : {A B : Type 0} (P : A → Type 0) (Q : B → Type 0) (r : Result A Fault) (f : A → Result B Fault) → IfOk r P → ((a : A) → P a → IfOk (f a) Q) →
+    IfOk (r >>= f) Q
 onward P Q (Ok a) f first rest = rest a first
 onward P Q (Err e) f first rest = tt
 
@@ -89,7 +91,8 @@ after Q (Err e) f rest = tt
 
 pub emitted : (Q : State → Type 0) (a : Action) (s : State) → (length s.commands < COMMAND_LIMIT → Q (with_command a s)) → IfOk (emit a s) Q
 emitted Q a s holds = by_test (nat_lt (length s.commands) COMMAND_LIMIT) refl where
-  by_test : (b : Bool) → nat_lt (length s.commands) COMMAND_LIMIT ≡ b → (let more : Result State Fault = Ok (with_command a s) in IfOk (if b then more else Err TooManyCommands) Q)
+  by_test : (b : Bool) → nat_lt (length s.commands) COMMAND_LIMIT ≡ b →
+      (let more : Result State Fault = Ok (with_command a s) in IfOk (if b then more else Err TooManyCommands) Q)
   by_test true e = holds (grind (arith, nat_tests))
   by_test false e = tt
 
@@ -113,5 +116,6 @@ moves p w pace s h begins even =
     let a : Action = Move (motion_in s.modes.path w pace) in
     onward (λ t. IsTrail p t.commands (end_of w)) (Holds p) (emit a s) (λ t. Ok (at_place (end_of w) t))
     (emitted (λ t. IsTrail p t.commands (end_of w)) a s
-    (λ room. added p s.place (end_of w) s.commands (record { line = s.line; action = a }) h (record { joined = (begins, tt); ends = refl; radii = (even, tt) }) room))
+    (λ room. added p s.place (end_of w) s.commands (record { line = s.line; action = a }) h
+    (record { joined = (begins, tt); ends = refl; radii = (even, tt) }) room))
     (λ t trail. trail)

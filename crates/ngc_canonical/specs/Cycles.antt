@@ -1,6 +1,7 @@
 -- A line's canned cycle: its words and those kept, and its moves as commands (NISTIR 6556, 3.5.16
 -- and 3.5.20).
-use Rattle.std.specs.Prelude.{ℕ, ◌==◌, ℤ, unsigned_abs, List, [], ◌∷◌, flat_map, Option, Some, Result, Ok, is_some, unwrap_or, not}
+use Rattle.std.specs.Prelude.{ℕ, ◌==◌, ℤ, unsigned_abs, List, [], ◌∷◌, flat_map, Option, Some}
+use Rattle.std.specs.Prelude.{Result, Ok, is_some, unwrap_or, not}
 use Rattle.ngc_fixed_length.specs.Places.{height, in_plane, at_height}
 use Rattle.ngc_fixed_length.specs.declared.modes.Plane.{Plane}
 use Rattle.ngc_fixed_length.specs.declared.modes.Plane.TheVariants.{XY, ZX, YZ}
@@ -13,7 +14,9 @@ use Rattle.ngc_modal_state.specs.Use.{depth_word}
 use Rattle.ngc_offsets.specs.Frames.{to_machine, to_program}
 use Rattle.ngc_offsets.specs.declared.fault.FrameFault.TheVariants.{BeyondRange}
 use Rattle.ngc_canned_cycles.specs.declared.cycle.Hole.{Hole}
-use Rattle.ngc_canned_cycles.specs.declared.cycle.Hole.TheVariants.{Drill, DrillWithDwell, Peck, Bore, BoreWithStop, BoreWithDwell}
+use Rattle.ngc_canned_cycles.specs.declared.cycle.Hole.TheVariants.{Drill, DrillWithDwell, Peck}
+use Rattle.ngc_canned_cycles.specs.declared.cycle.Hole.TheVariants.{Bore, BoreWithStop}
+use Rattle.ngc_canned_cycles.specs.declared.cycle.Hole.TheVariants.{BoreWithDwell}
 use Rattle.ngc_canned_cycles.specs.declared.cycle.Cycle.{Cycle}
 use Rattle.ngc_canned_cycles.specs.declared.cycle.Start.{Start}
 use Rattle.ngc_canned_cycles.specs.declared.cycle.CycleMove.{CycleMove}

@@ -7,7 +7,9 @@ use Rattle.ngc_arc_geometry.specs.Faults.{number_of as arc_number}
 use Rattle.ngc_canned_cycles.specs.Faults.{number_of as cycle_number}
 use Rattle.ngc_offsets.specs.Faults.{number_of as frame_number}
 use Rattle.ngc_canonical.specs.declared.fault.Fault.{Fault}
-use Rattle.ngc_canonical.specs.declared.fault.Fault.TheVariants.{Value, Modal, Length, Frame, Cycle, Arc, FeedZero, NoEnd, TooManyCommands}
+use Rattle.ngc_canonical.specs.declared.fault.Fault.TheVariants.{Value, Modal, Length, Frame, Cycle}
+use Rattle.ngc_canonical.specs.declared.fault.Fault.TheVariants.{Arc, FeedZero, NoEnd}
+use Rattle.ngc_canonical.specs.declared.fault.Fault.TheVariants.{TooManyCommands}
 use Rattle.ngc_canonical.specs.declared.fault.ProgramFault.{ProgramFault}
 use Rattle.ngc_canonical.specs.declared.fault.ProgramFault.TheVariants as programs
 

@@ -13,7 +13,8 @@ use Rattle.ngc_canonical.specs.State.{Setup, COMMAND_LIMIT}
 -- the first motion begins at the machine's start point, and each further one where the motion
 -- before it ends
 abbrev pub Joined : Type 0
-Joined = (program : Program) (setup : Setup) (block_delete : Bool) (commands : List Command) → meaning program setup block_delete ≡ Ok commands
+Joined = (program : Program) (setup : Setup) (block_delete : Bool) (commands : List Command) →
+    meaning program setup block_delete ≡ Ok commands
     → AreJoined setup.machine.start (ways_of (actions_of commands))
 
 -- an arc has some radius, at most a little over two metres, and the same at both ends but for a few
@@ -28,12 +29,14 @@ HaveEvenRadii (w ∷ ws) = IsEvenIfArc w × HaveEvenRadii ws
 
 -- so has each arc of every program
 abbrev pub ArcsHaveEvenRadii : Type 0
-ArcsHaveEvenRadii = (program : Program) (setup : Setup) (block_delete : Bool) (commands : List Command) → meaning program setup block_delete ≡ Ok commands
+ArcsHaveEvenRadii = (program : Program) (setup : Setup) (block_delete : Bool)
+    (commands : List Command) → meaning program setup block_delete ≡ Ok commands
     → HaveEvenRadii (ways_of (actions_of commands))
 
 -- there are at most a million
 abbrev pub FewCommands : Type 0
-FewCommands = (program : Program) (setup : Setup) (block_delete : Bool) (commands : List Command) → meaning program setup block_delete ≡ Ok commands
+FewCommands = (program : Program) (setup : Setup) (block_delete : Bool) (commands : List Command) →
+    meaning program setup block_delete ≡ Ok commands
     → length commands ≤ COMMAND_LIMIT
 
 -- nothing comes after the end
@@ -54,13 +57,16 @@ pub record HasEnd (commands : List Command) : Type 0 where
 
 -- both of every program
 abbrev pub EndsLast : Type 0
-EndsLast = (program : Program) (setup : Setup) (block_delete : Bool) (commands : List Command) → meaning program setup block_delete ≡ Ok commands
+EndsLast = (program : Program) (setup : Setup) (block_delete : Bool) (commands : List Command) →
+    meaning program setup block_delete ≡ Ok commands
     → EndIsLast commands
 
 abbrev pub HaveEnd : Type 0
-HaveEnd = (program : Program) (setup : Setup) (block_delete : Bool) (commands : List Command) → meaning program setup block_delete ≡ Ok commands
+HaveEnd = (program : Program) (setup : Setup) (block_delete : Bool) (commands : List Command) →
+    meaning program setup block_delete ≡ Ok commands
     → HasEnd commands
 
 -- where no line begins with / a program means the same at both settings of block delete
 abbrev pub SameAtBoth : Type 0
-SameAtBoth = (program : Program) (setup : Setup) → has_deleted program.lines ≡ false → meaning program setup true ≡ meaning program setup false
+SameAtBoth = (program : Program) (setup : Setup) → has_deleted program.lines ≡ false →
+    meaning program setup true ≡ meaning program setup false

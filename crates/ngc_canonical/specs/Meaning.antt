@@ -1,6 +1,7 @@
 -- The meaning of a program: its commands, or its first fault and that fault's line (NISTIR 6556,
 -- 3.8 and 3.6.1).
-use Rattle.std.specs.Prelude.{◌≡◌, ℕ, ◌+◌, ℤ, List, [], ◌∷◌, length, Option, Some, None, Result, Ok, Err, Bool, true, false, ◌&&◌, ◌||◌, if◌then◌else◌}
+use Rattle.std.specs.Prelude.{◌≡◌, ℕ, ◌+◌, ℤ, List, [], ◌∷◌, length, Option, Some, None, Result, Ok}
+use Rattle.std.specs.Prelude.{Err, Bool, true, false, ◌&&◌, ◌||◌, if◌then◌else◌}
 use Rattle.ngc_line_reader.specs.Grammar.{Item, Reading}
 use Rattle.ngc_line_reader.specs.Program.{Line}
 use Rattle.ngc_line_reader.specs.ProgramText.{ProgramText}
@@ -58,7 +59,8 @@ at_line line (Err e) = Err (At line e)
 abbrev pub remaining : Bool → List NumberedLine → List NumberedLine
 remaining block_delete [] = []
 remaining block_delete (line ∷ lines) =
-    let rest = remaining block_delete lines in if block_delete && line.reading.deleted then rest else line ∷ rest
+    let rest = remaining block_delete lines in if block_delete && line.reading.deleted then rest
+    else line ∷ rest
 
 -- a line begins with /
 abbrev pub has_deleted : List NumberedLine → Bool
@@ -68,7 +70,8 @@ has_deleted (line ∷ lines) = line.reading.deleted || has_deleted lines
 -- a line, unless block delete takes it out
 abbrev pub after_line : Setup → Bool → ℕ → Reading → State → Result State ProgramFault
 after_line setup block_delete number reading s =
-    if block_delete && reading.deleted then Ok s else at_line number (execute setup reading.items (record s { line = number }))
+    if block_delete && reading.deleted then Ok s
+    else at_line number (execute setup reading.items (record s { line = number }))
 
 -- the commands of a state
 abbrev pub commands_of : Result State ProgramFault → Result (List Command) ProgramFault
@@ -85,7 +88,8 @@ abbrev pub go_on : Bool → State → (State → Result State ProgramFault) → 
 go_on true s rest = Ok s
 go_on false s rest = rest s
 
-abbrev pub then_lines : Result State ProgramFault → (State → Result State ProgramFault) → Result State ProgramFault
+abbrev pub then_lines : Result State ProgramFault → (State → Result State ProgramFault) →
+    Result State ProgramFault
 then_lines (Ok s) rest = go_on s.ended s rest
 then_lines (Err e) rest = Err e
 
@@ -93,17 +97,20 @@ then_lines (Err e) rest = Err e
 unfoldable pub from_state : Setup → Program → List NumberedLine → State → Result State ProgramFault
 from_state setup program [] s = past_last program.mark program.count s
 from_state setup program (line ∷ lines) s =
-    then_lines (after_line setup false line.number line.reading s) (λ t. from_state setup program lines t)
+    then_lines (after_line setup false line.number line.reading s)
+    (λ t. from_state setup program lines t)
 
 abbrev pub meaning : Program → Setup → Bool → Result (List Command) ProgramFault
-meaning program setup block_delete = commands_of (from_state setup program (remaining block_delete program.lines) (start_state setup.machine))
+meaning program setup block_delete = commands_of
+    (from_state setup program (remaining block_delete program.lines) (start_state setup.machine))
 
 -- ---- the program that a file's text is, by the readings of its lines
 
 abbrev pub with_readings : List Line → List Reading → List NumberedLine
 with_readings [] rs = []
 with_readings (line ∷ lines) [] = []
-with_readings (line ∷ lines) (r ∷ rs) = record { number = line.number; reading = r } ∷ with_readings lines rs
+with_readings (line ∷ lines) (r ∷ rs) =
+    record { number = line.number; reading = r } ∷ with_readings lines rs
 
 -- in a marked file two lines stand beside those that are read: the first % and, behind them, the
 -- second
@@ -112,7 +119,12 @@ mark_of true count = Some (count + 2)
 mark_of false count = None
 
 abbrev pub program_said : ProgramText → List Reading → Program
-program_said text rs = record { lines = with_readings text.lines rs; count = length text.lines; mark = mark_of text.marked (length text.lines) }
+program_said text rs =
+    record {
+      lines = with_readings text.lines rs;
+      count = length text.lines;
+      mark = mark_of text.marked (length text.lines);
+    }
 
 -- ---- what a call may answer
 
@@ -121,11 +133,13 @@ Fails Memory says = Unit {0}
 Fails (At line e) says = says ≡ Err (At line e)
 
 -- what was found is what the definition says
-abbrev pub GivesEffects : Result (Unit {0}) Fault → List Effect → Result (List Effect) Fault → Type 0
+abbrev pub GivesEffects : Result (Unit {0}) Fault → List Effect →
+    Result (List Effect) Fault → Type 0
 GivesEffects (Ok u) found says = says ≡ Ok found
 GivesEffects (Err e) found says = says ≡ Err e
 
 -- what a function answered, seen by view, is what the definition says, unless memory ran out
-abbrev pub GivesMeaning : {X Y : Type 0} → (X → Y) → Result X ProgramFault → Result Y ProgramFault → Type 0
+abbrev pub GivesMeaning : {X Y : Type 0} → (X → Y) → Result X ProgramFault →
+    Result Y ProgramFault → Type 0
 GivesMeaning view (Ok x) says = says ≡ Ok (view x)
 GivesMeaning view (Err e) says = Fails e says

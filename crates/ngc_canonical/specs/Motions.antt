@@ -1,6 +1,7 @@
 -- Straight motions (NISTIR 6556, 3.5.1 G0, 3.5.2 G1), and their feeds (2.1.2.5, 3.5.19 G93 and
 -- G94).
-use Rattle.std.specs.Prelude.{ℕ, ◌==◌, ℤ, unsigned_abs, Option, Some, None, Result, Ok, Err, Bool, if◌then◌else◌}
+use Rattle.std.specs.Prelude.{ℕ, ◌==◌, ℤ, unsigned_abs, Option, Some, None, Result, Ok, Err, Bool}
+use Rattle.std.specs.Prelude.{if◌then◌else◌}
 use Rattle.ngc_fixed_length.specs.declared.modes.FeedMode.{FeedMode}
 use Rattle.ngc_fixed_length.specs.declared.modes.FeedMode.TheVariants.{PerMinute, InverseTime}
 use Rattle.ngc_modal_state.specs.declared.block.AxisWords.{AxisWords}

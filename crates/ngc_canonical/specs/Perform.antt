@@ -36,7 +36,8 @@ stop stops.End s = do
 
 abbrev pub perform : Setup → Effect → State → Result State Fault
 perform setup (acts.FeedMode mode) s = Ok (with_modes (record s.modes { feed_mode = mode }) s)
-perform setup (acts.Feed value units) s = Ok (record s { feed = unsigned_abs (nanometres_of units value) })
+perform setup (acts.Feed value units) s =
+    Ok (record s { feed = unsigned_abs (nanometres_of units value) })
 perform setup (acts.Speed value) s = set_speed value s
 perform setup (acts.SelectTool n) s = Ok (record s { selected = n })
 perform setup acts.ChangeTool s = change_tool setup.tools s.selected s
@@ -48,9 +49,11 @@ perform setup (acts.Plane plane) s = Ok (unseries (with_modes (record s.modes { 
 perform setup (acts.Units units) s = Ok (with_modes (record s.modes { units = units }) s)
 perform setup acts.RadiusOff s = Ok s
 perform setup (acts.ToolLength h) s = set_length setup.tools h s
-perform setup (acts.System system) s = Ok (unseries (record s { frames = frame.select s.frames system }))
+perform setup (acts.System system) s =
+    Ok (unseries (record s { frames = frame.select s.frames system }))
 perform setup (acts.Path path) s = Ok (with_modes (record s.modes { path = path }) s)
-perform setup (acts.Distance distance) s = Ok (with_modes (record s.modes { distance = distance }) s)
+perform setup (acts.Distance distance) s =
+    Ok (with_modes (record s.modes { distance = distance }) s)
 perform setup (acts.Return mode) s = Ok (with_modes (record s.modes { return_mode = mode }) s)
 perform setup (acts.GoHome home words) s = go_home setup.machine home words s
 perform setup (acts.SetOrigin system words) s = set_origin system words s

@@ -1,6 +1,7 @@
 -- Places that words give, and changes of the frames (NISTIR 6556, 3.5.5 G10, 3.5.8 G28 and G30,
 -- 3.5.12 G53, 3.5.18 G92).
-use Rattle.std.specs.Prelude.{ℕ, zero, suc, ℤ, pos, List, Option, Some, None, Result, Ok, Bool, true, false, is_some, option_map, ◌||◌, if◌then◌else◌}
+use Rattle.std.specs.Prelude.{ℕ, zero, suc, ℤ, pos, List, Option, Some, None, Result, Ok, Bool}
+use Rattle.std.specs.Prelude.{true, false, is_some, option_map, ◌||◌, if◌then◌else◌}
 use Rattle.ngc_fixed_length.specs.Limits.{length_of}
 use Rattle.ngc_fixed_length.specs.declared.units.Units.{Units}
 use Rattle.ngc_fixed_length.specs.declared.modes.System.{System}

@@ -1,5 +1,6 @@
 -- Spindle, coolant and tool change (NISTIR 6556, 3.7.1 to 3.7.3, 3.6.2 to 3.6.4).
-use Rattle.std.specs.Prelude.{ℕ, zero, suc, ℤ, unsigned_abs, List, Option, Some, None, Result, Ok, Err}
+use Rattle.std.specs.Prelude.{ℕ, zero, suc, ℤ, unsigned_abs, List, Option, Some, None, Result, Ok}
+use Rattle.std.specs.Prelude.{Err}
 use Rattle.ngc_fixed_length.specs.declared.modes.Turn.{Turn}
 use Rattle.ngc_machine.specs.declared.tools.Tool.{Tool}
 use Rattle.ngc_machine.specs.Tools.{tool_at}
@@ -34,7 +35,8 @@ turn_of (spindle.Start turn) = Some turn
 turn_of spindle.Stop = None
 
 abbrev pub set_spindle : Spindle → State → Result State Fault
-set_spindle code s = emit (actions.Spindle (spindle_state (turn_of code) s.speed)) (record s { spindle = turn_of code })
+set_spindle code s = emit (actions.Spindle (spindle_state (turn_of code) s.speed))
+    (record s { spindle = turn_of code })
 
 -- M6 mounts the selected tool, or none, and leaves the spindle off
 abbrev pub mount : Option Tool → State → Result State Fault
@@ -68,4 +70,5 @@ with_coolant coolant.Flood had = with_flood had
 with_coolant coolant.Off had = Off
 
 abbrev pub set_coolant : Coolant → State → Result State Fault
-set_coolant code s = let now = with_coolant code s.coolant in emit (actions.Coolant now) (record s { coolant = now })
+set_coolant code s = let now = with_coolant code s.coolant in
+    emit (actions.Coolant now) (record s { coolant = now })

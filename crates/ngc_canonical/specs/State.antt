@@ -1,5 +1,6 @@
 -- What holds between two effects of a program.
-use Rattle.std.specs.Prelude.{ℕ, ℤ, pos, nat_lt, List, [], ◌∷◌, ◌++◌, length, Option, None, Result, Ok, Err, Bool, true, false, if◌then◌else◌}
+use Rattle.std.specs.Prelude.{ℕ, ℤ, pos, nat_lt, List, [], ◌∷◌, ◌++◌, length, Option, None, Result}
+use Rattle.std.specs.Prelude.{Ok, Err, Bool, true, false, if◌then◌else◌}
 use Rattle.ngc_fixed_length.specs.declared.modes.Turn.{Turn}
 use Rattle.ngc_fixed_length.specs.declared.points.Point3.{Point3}
 use Rattle.ngc_machine.specs.Machine.{MachineFile}
@@ -82,10 +83,12 @@ COMMAND_LIMIT = 1000000
 
 -- one command more, of the line that is executed
 abbrev pub with_command : Action → State → State
-with_command action s = record s { commands = s.commands ++ record { line = s.line; action = action } ∷ [] }
+with_command action s =
+    record s { commands = s.commands ++ record { line = s.line; action = action } ∷ [] }
 
 abbrev pub emit : Action → State → Result State Fault
-emit action s = if nat_lt (length s.commands) COMMAND_LIMIT then Ok (with_command action s) else Err TooManyCommands
+emit action s = if nat_lt (length s.commands) COMMAND_LIMIT then Ok (with_command action s)
+    else Err TooManyCommands
 
 -- a change of frames, plane or tool length, and a motion code that is no cycle, end the series of
 -- cycles

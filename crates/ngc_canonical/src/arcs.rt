@@ -4,7 +4,9 @@ ghost use Rattle.ngc_offsets.specs.Ranges.{IsMachinePlace};
 ghost use Rattle.ngc_arc_geometry.specs.Centre.{IsEnds, centre_format, radius_format};
 ghost use Rattle.ngc_canonical.specs.Steps.{faulted};
 ghost use Rattle.ngc_canonical.specs.Interpreter.{state_of, Becomes};
-ghost use Rattle.ngc_canonical.specs.Arcs.{has_plane_word as has_word, along_u as on_u, along_v as on_v, arc_by as arc_given, arc_of as arc_said, arc as arc_done};
+ghost use Rattle.ngc_canonical.specs.Arcs.{has_plane_word as has_word, along_u as on_u};
+ghost use Rattle.ngc_canonical.specs.Arcs.{along_v as on_v, arc_by as arc_given};
+ghost use Rattle.ngc_canonical.specs.Arcs.{arc_of as arc_said, arc as arc_done};
 
 use crate::fault::Fault;
 use crate::motions::feed_in;
@@ -51,7 +53,8 @@ fn along_v(plane: Plane, words: &ArcWords) -> Option<Value>
 impl<A: Allocator + Copy> Interpreter<A> {
     fn arc_by_radius(&self, radius: Nm, ends: &Ends) -> Result<Arc, Fault>
         requires { IsEnds ends.now }
-        ensures value { result ≡ faulted Fault.Arc (radius_format (state_of self.now).modes.units ends.now radius) }
+        ensures value { result ≡ faulted Fault.Arc
+            (radius_format (state_of self.now).modes.units ends.now radius) }
         ensures end { IfOk result (λ a. a.end ≡ ends.now.end) }
     {
         match Arc::radius_format(self.modes.units, ends, radius) {
@@ -62,7 +65,8 @@ impl<A: Allocator + Copy> Interpreter<A> {
 
     fn arc_by_centre(&self, offsets: &Offsets, ends: &Ends) -> Result<Arc, Fault>
         requires { IsEnds ends.now }
-        ensures value { result ≡ faulted Fault.Arc (centre_format (state_of self.now).modes.units ends.now offsets.now) }
+        ensures value { result ≡ faulted Fault.Arc
+            (centre_format (state_of self.now).modes.units ends.now offsets.now) }
         ensures end { IfOk result (λ a. a.end ≡ ends.now.end) }
     {
         match Arc::centre_format(self.modes.units, ends, offsets) {
@@ -116,7 +120,8 @@ impl<A: Allocator + Copy> Interpreter<A> {
         words: &ArcWords,
         f: Option<Value>,
     ) -> Result<(), Refusal>
-        ensures { Becomes result (state_of self.new) (arc_done turn axes.now words.now f (state_of self.old)) }
+        ensures { Becomes result (state_of self.new)
+            (arc_done turn axes.now words.now f (state_of self.old)) }
     {
         if !has_plane_word(self.modes.plane, axes) {
             return Err(Refusal::Breaks(Fault::Arc(ArcFault::NoAxisWord)));

@@ -8,7 +8,13 @@ ghost use Rattle.std.specs.Prelude.{Ok};
 ghost use Rattle.ngc_canned_cycles.specs.Refusals.{is_in_range, check, AreRepeats};
 ghost use Rattle.ngc_canned_cycles.specs.Heights.{repeats_of, AreLengths};
 ghost use Rattle.ngc_canonical.specs.Interpreter.{state_of, Becomes};
-ghost use Rattle.ngc_canonical.specs.Cycles.{word_u as word_on_u, word_v as word_on_v, kept_after as kept_then, hole_of as hole_with, cycle_of as cycle_said, start_of as start_said, series_of as series_said, series_place as series_place_said, feed_to as fed_to, make_move as move_made, make_moves as moves_made, all_moves, refusal as refused, cycle as cycle_done};
+ghost use Rattle.ngc_canonical.specs.Cycles.{word_u as word_on_u, word_v as word_on_v};
+ghost use Rattle.ngc_canonical.specs.Cycles.{kept_after as kept_then, hole_of as hole_with};
+ghost use Rattle.ngc_canonical.specs.Cycles.{cycle_of as cycle_said, start_of as start_said};
+ghost use Rattle.ngc_canonical.specs.Cycles.{series_of as series_said};
+ghost use Rattle.ngc_canonical.specs.Cycles.{series_place as series_place_said, feed_to as fed_to};
+ghost use Rattle.ngc_canonical.specs.Cycles.{make_move as move_made, make_moves as moves_made};
+ghost use Rattle.ngc_canonical.specs.Cycles.{all_moves, refusal as refused, cycle as cycle_done};
 ghost use Rattle.ngc_modal_state.specs.Use.{depth_word as word_on_depth};
 
 use crate::command::{Action, SpindleState};
@@ -73,7 +79,8 @@ fn refusal(cycle: &Cycle, start: &Start, feed: u64) -> Result<(), Fault>
     ensures checked { OnOk result (check cycle.now start.now ≡ Ok tt) }
     ensures repeats { OnOk result (AreRepeats (repeats_of cycle.now.repeats)) }
     ensures range { OnOk result (is_in_range cycle.now start.now ≡ true) }
-    ensures lengths { OnOk result ((j : ℕ) → 1 ≤ j → j ≤ repeats_of cycle.now.repeats → AreLengths cycle.now start.now j) }
+    ensures lengths { OnOk result ((j : ℕ) → 1 ≤ j → j ≤ repeats_of cycle.now.repeats →
+        AreLengths cycle.now start.now j) }
 {
     match cycle.check(start) {
         Ok(()) => {}
@@ -145,7 +152,9 @@ impl<A: Allocator + Copy> Interpreter<A> {
         ensures value { result ≡ start_said (state_of self.now) }
         ensures offsets { AreInRange (state_of self.now).frames }
         ensures place { IsReachable (state_of self.now).frames result.place }
-        ensures series { IsReachable (state_of self.now).frames (at_height (state_of self.now).modes.plane (in_plane (state_of self.now).modes.plane result.place) result.series) }
+        ensures series { IsReachable (state_of self.now).frames
+            (at_height (state_of self.now).modes.plane
+            (in_plane (state_of self.now).modes.plane result.place) result.series) }
     {
         let plane = self.modes.plane;
         let series_place = self.place.in_plane(plane).at_height(plane, self.series());
@@ -177,7 +186,8 @@ impl<A: Allocator + Copy> Interpreter<A> {
 
     fn make_move(&mut self, step: &CycleMove) -> Result<(), Refusal>
         requires { IsMoveReachable (state_of self.old).frames step.now }
-        ensures value { Becomes result (state_of self.new) (move_made step.now (state_of self.old)) }
+        ensures value { Becomes result (state_of self.new)
+            (move_made step.now (state_of self.old)) }
         ensures frames { OnOk result ((state_of self.new).frames ≡ (state_of self.old).frames) }
     {
         match step {
@@ -204,7 +214,8 @@ impl<A: Allocator + Copy> Interpreter<A> {
     #[tactic(auto, unfolding(crate::specs::Cycles::make_moves))]
     fn make_moves(&mut self, moves: &[CycleMove]) -> Result<(), Refusal>
         requires { All (IsMoveReachable (state_of self.old).frames) moves.now }
-        ensures value { Becomes result (state_of self.new) (moves_made moves.now (state_of self.old)) }
+        ensures value { Becomes result (state_of self.new)
+            (moves_made moves.now (state_of self.old)) }
         ensures frames { OnOk result ((state_of self.new).frames ≡ (state_of self.old).frames) }
     {
         for step in moves {
@@ -221,9 +232,11 @@ impl<A: Allocator + Copy> Interpreter<A> {
     fn make_repeats(&mut self, cycle: &Cycle, start: &Start) -> Result<(), Refusal>
         requires checked { check cycle.now start.now ≡ Ok tt }
         requires repeats { AreRepeats (repeats_of cycle.now.repeats) }
-        requires lengths { (j : ℕ) → 1 ≤ j → j ≤ repeats_of cycle.now.repeats → AreLengths cycle.now start.now j }
+        requires lengths { (j : ℕ) → 1 ≤ j → j ≤ repeats_of cycle.now.repeats →
+            AreLengths cycle.now start.now j }
         requires reach { BeginsInReach (state_of self.old).frames cycle.now start.now }
-        ensures { Becomes result (state_of self.new) (moves_made (all_moves cycle.now start.now) (state_of self.old)) }
+        ensures { Becomes result (state_of self.new)
+            (moves_made (all_moves cycle.now start.now) (state_of self.old)) }
     {
         // By reference, since nothing is known of the size of an allocator.
         let alloc = self.alloc;
@@ -249,7 +262,8 @@ impl<A: Allocator + Copy> Interpreter<A> {
         axes: &AxisWords,
         words: &CycleWords,
     ) -> Result<(), Refusal>
-        ensures { Becomes result (state_of self.new) (cycle_done hole axes.now words.now (state_of self.old)) }
+        ensures { Becomes result (state_of self.new)
+            (cycle_done hole axes.now words.now (state_of self.old)) }
     {
         let kept = match self.kept_after(axes, words) {
             Ok(kept) => kept,

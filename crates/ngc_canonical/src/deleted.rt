@@ -11,7 +11,8 @@ use std::alloc::Allocator;
 /// Whether a line of a program begins with `/`. Where none does, block delete changes nothing.
 pub fn has_deleted_lines<A: Allocator>(program: &Program<A>) -> bool
     // Whatever the lines' readings are: each line has one, and only one.
-    ensures { (rs : List Reading) → AreReadings (text_in program.now).lines rs → result ≡ has_deleted (program_said (text_in program.now) rs).lines }
+    ensures { (rs : List Reading) → AreReadings (text_in program.now).lines rs →
+        result ≡ has_deleted (program_said (text_in program.now) rs).lines }
 {
     let mut line = Line::empty();
     for index in 0..program.len() {

@@ -2,7 +2,8 @@
 ghost use Rattle.std.specs.Prelude.{◌≡◌, IfOk, OnOk};
 ghost use Rattle.ngc_machine.specs.Machine.{file_of};
 ghost use Rattle.ngc_offsets.specs.Ranges.{IsMachinePlace};
-ghost use Rattle.ngc_canonical.specs.State.{emit as emitted, go as gone, start_state, traverse_to as traversed_to};
+ghost use Rattle.ngc_canonical.specs.State.{emit as emitted, go as gone, start_state};
+ghost use Rattle.ngc_canonical.specs.State.{traverse_to as traversed_to};
 ghost use Rattle.ngc_canonical.specs.Interpreter.{state_of, Becomes};
 ghost use Rattle.ngc_canonical.specs.Movement.{end_of};
 
@@ -98,7 +99,8 @@ impl<A: Allocator> Interpreter<A> {
     /// A traverse to a place of the machine.
     pub(crate) fn traverse_to(&mut self, end: &Point3) -> Result<(), Refusal>
         requires { IsMachinePlace end.now }
-        ensures value { Becomes result (state_of self.new) (traversed_to end.now (state_of self.old)) }
+        ensures value { Becomes result (state_of self.new)
+            (traversed_to end.now (state_of self.old)) }
         ensures frames { OnOk result ((state_of self.new).frames ≡ (state_of self.old).frames) }
     {
         let start = self.place;

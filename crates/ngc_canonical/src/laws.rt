@@ -1,5 +1,6 @@
 //! Laws about the definitions alone.
-ghost use Rattle.ngc_canonical.specs.Joined.{Joined, ArcsHaveEvenRadii, FewCommands, EndsLast, HaveEnd, SameAtBoth};
+ghost use Rattle.ngc_canonical.specs.Joined.{Joined, ArcsHaveEvenRadii, FewCommands, EndsLast};
+ghost use Rattle.ngc_canonical.specs.Joined.{HaveEnd, SameAtBoth};
 
 /// The motions of a program are joined: the first begins at the machine's start point, and each
 /// further one where the motion before it ends.

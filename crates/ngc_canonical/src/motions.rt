@@ -1,7 +1,9 @@
 //! Straight motions and their feeds.
 ghost use Rattle.std.specs.Prelude.{◌≡◌};
 ghost use Rattle.ngc_canonical.specs.Interpreter.{state_of, Becomes};
-ghost use Rattle.ngc_canonical.specs.Motions.{traverse as traversed, nonzero as nonzero_feed, inverse_feed as inverse, feed_in as feed_by, straight as moved_straight};
+ghost use Rattle.ngc_canonical.specs.Motions.{traverse as traversed, nonzero as nonzero_feed};
+ghost use Rattle.ngc_canonical.specs.Motions.{inverse_feed as inverse, feed_in as feed_by};
+ghost use Rattle.ngc_canonical.specs.Motions.{straight as moved_straight};
 ghost use Rattle.ngc_canonical.specs.declared.movement.Feed.TheVariants as feeds;
 
 use crate::fault::Fault;
@@ -31,7 +33,8 @@ impl<A: Allocator> Interpreter<A> {
         is_machine_place: bool,
         words: &AxisWords,
     ) -> Result<(), Refusal>
-        ensures { Becomes result (state_of self.new) (traversed is_machine_place words.now (state_of self.old)) }
+        ensures { Becomes result (state_of self.new)
+            (traversed is_machine_place words.now (state_of self.old)) }
     {
         match self.end_of(is_machine_place, words) {
             Ok(end) => self.traverse_to(&end),
@@ -46,7 +49,8 @@ impl<A: Allocator> Interpreter<A> {
         words: &AxisWords,
         f: Option<Value>,
     ) -> Result<(), Refusal>
-        ensures { Becomes result (state_of self.new) (moved_straight is_machine_place words.now f (state_of self.old)) }
+        ensures { Becomes result (state_of self.new)
+            (moved_straight is_machine_place words.now f (state_of self.old)) }
     {
         let feed = match feed_in(self.modes.feed_mode, self.feed, f) {
             Ok(feed) => feed,

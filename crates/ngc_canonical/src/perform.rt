@@ -1,7 +1,8 @@
 //! What each effect does.
 ghost use Rattle.std.specs.Prelude.{◌≡◌};
 ghost use Rattle.ngc_canonical.specs.Interpreter.{setup_of, state_of, Becomes};
-ghost use Rattle.ngc_canonical.specs.Perform.{with_motion, stop as stopped, perform as performed, run as run_through};
+ghost use Rattle.ngc_canonical.specs.Perform.{with_motion, stop as stopped, perform as performed};
+ghost use Rattle.ngc_canonical.specs.Perform.{run as run_through};
 
 use crate::command::Action;
 use crate::state::{Interpreter, Refusal};
@@ -42,7 +43,8 @@ impl<A: Allocator + Copy> Interpreter<A> {
         tools: &Tools<A>,
         effect: &Effect,
     ) -> Result<(), Refusal>
-        ensures { Becomes result (state_of self.new) (performed (setup_of machine.now tools.now) effect.now (state_of self.old)) }
+        ensures { Becomes result (state_of self.new)
+            (performed (setup_of machine.now tools.now) effect.now (state_of self.old)) }
     {
         match effect {
             Effect::FeedMode(mode) => self.modes.feed_mode = *mode,
@@ -97,7 +99,8 @@ impl<A: Allocator + Copy> Interpreter<A> {
         tools: &Tools<A>,
         effects: &[Effect],
     ) -> Result<(), Refusal>
-        ensures { Becomes result (state_of self.new) (run_through (setup_of machine.now tools.now) effects.now (state_of self.old)) }
+        ensures { Becomes result (state_of self.new)
+            (run_through (setup_of machine.now tools.now) effects.now (state_of self.old)) }
     {
         for effect in effects {
             match self.perform(machine, tools, effect) {

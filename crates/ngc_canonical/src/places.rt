@@ -4,9 +4,14 @@ ghost use Rattle.ngc_offsets.specs.Ranges.{IsMachinePlace};
 ghost use Rattle.ngc_machine.specs.Machine.{file_of};
 ghost use Rattle.ngc_machine.specs.Tools.{tools_of};
 ghost use Rattle.ngc_canonical.specs.State.{unseries};
-ghost use Rattle.ngc_offsets.specs.Frames.{select as selected, clear as cleared, suspend as suspended, restore as restored};
+ghost use Rattle.ngc_offsets.specs.Frames.{select as selected, clear as cleared};
+ghost use Rattle.ngc_offsets.specs.Frames.{suspend as suspended, restore as restored};
 ghost use Rattle.ngc_canonical.specs.Interpreter.{state_of, Becomes};
-ghost use Rattle.ngc_canonical.specs.Places.{word_length as length_in, axis_lengths as lengths_in, end_of as end_in, set_origin as origin_set, set_offset as offset_set, tool_length as length_taken, set_length as length_set, home_of as home_in, go_home as gone_home, stands as are_there};
+ghost use Rattle.ngc_canonical.specs.Places.{word_length as length_in, axis_lengths as lengths_in};
+ghost use Rattle.ngc_canonical.specs.Places.{end_of as end_in, set_origin as origin_set};
+ghost use Rattle.ngc_canonical.specs.Places.{set_offset as offset_set, tool_length as length_taken};
+ghost use Rattle.ngc_canonical.specs.Places.{set_length as length_set, home_of as home_in};
+ghost use Rattle.ngc_canonical.specs.Places.{go_home as gone_home, stands as are_there};
 
 use crate::fault::Fault;
 use crate::state::{Interpreter, Refusal};
@@ -88,7 +93,8 @@ impl<A: Allocator> Interpreter<A> {
 
     /// G10 L2.
     pub(crate) fn set_origin(&mut self, system: System, words: &AxisWords) -> Result<(), Refusal>
-        ensures { Becomes result (state_of self.new) (origin_set system words.now (state_of self.old)) }
+        ensures { Becomes result (state_of self.new)
+            (origin_set system words.now (state_of self.old)) }
     {
         let given = match axis_lengths(self.modes.units, words) {
             Ok(given) => given,
@@ -122,7 +128,8 @@ impl<A: Allocator> Interpreter<A> {
 
     /// G43 with its H, or G49.
     pub(crate) fn set_length(&mut self, tools: &Tools<A>, h: Option<u32>) -> Result<(), Refusal>
-        ensures { Becomes result (state_of self.new) (length_set (tools_of tools.now) h (state_of self.old)) }
+        ensures { Becomes result (state_of self.new)
+            (length_set (tools_of tools.now) h (state_of self.old)) }
     {
         match self.frames.set_length(tool_length(tools, h)) {
             Ok(()) => {
@@ -135,7 +142,11 @@ impl<A: Allocator> Interpreter<A> {
 
     /// G17, G18, G19.
     pub(crate) fn set_plane(&mut self, plane: Plane)
-        ensures { state_of self.new ≡ unseries (record (state_of self.old) { modes = record (state_of self.old).modes { plane = plane } }) }
+        ensures { state_of self.new ≡ unseries
+            (record (state_of self.old) {
+              modes =
+                  record (state_of self.old).modes { plane = plane };
+            }) }
     {
         self.modes.plane = plane;
         self.series = None;
@@ -143,7 +154,8 @@ impl<A: Allocator> Interpreter<A> {
 
     /// G54 to G59.3.
     pub(crate) fn select(&mut self, system: System)
-        ensures { state_of self.new ≡ unseries (record (state_of self.old) { frames = selected (state_of self.old).frames system }) }
+        ensures { state_of self.new ≡ unseries
+            (record (state_of self.old) { frames = selected (state_of self.old).frames system }) }
     {
         self.frames.select(system);
         self.series = None;
@@ -151,7 +163,8 @@ impl<A: Allocator> Interpreter<A> {
 
     /// G92.1.
     pub(crate) fn clear_offset(&mut self)
-        ensures { state_of self.new ≡ unseries (record (state_of self.old) { frames = cleared (state_of self.old).frames }) }
+        ensures { state_of self.new ≡ unseries
+            (record (state_of self.old) { frames = cleared (state_of self.old).frames }) }
     {
         self.frames.clear();
         self.series = None;
@@ -159,7 +172,8 @@ impl<A: Allocator> Interpreter<A> {
 
     /// G92.2.
     pub(crate) fn suspend_offset(&mut self)
-        ensures { state_of self.new ≡ unseries (record (state_of self.old) { frames = suspended (state_of self.old).frames }) }
+        ensures { state_of self.new ≡ unseries
+            (record (state_of self.old) { frames = suspended (state_of self.old).frames }) }
     {
         self.frames.suspend();
         self.series = None;
@@ -167,7 +181,8 @@ impl<A: Allocator> Interpreter<A> {
 
     /// G92.3.
     pub(crate) fn restore_offset(&mut self)
-        ensures { state_of self.new ≡ unseries (record (state_of self.old) { frames = restored (state_of self.old).frames }) }
+        ensures { state_of self.new ≡ unseries
+            (record (state_of self.old) { frames = restored (state_of self.old).frames }) }
     {
         self.frames.restore();
         self.series = None;
@@ -181,7 +196,8 @@ impl<A: Allocator> Interpreter<A> {
         home: Home,
         words: &AxisWords,
     ) -> Result<(), Refusal>
-        ensures { Becomes result (state_of self.new) (gone_home (file_of machine.now) home words.now (state_of self.old)) }
+        ensures { Becomes result (state_of self.new)
+            (gone_home (file_of machine.now) home words.now (state_of self.old)) }
     {
         let through = match self.end_of(false, words) {
             Ok(through) => through,

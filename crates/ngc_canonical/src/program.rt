@@ -7,7 +7,10 @@ ghost use Rattle.ngc_line_reader.specs.ProgramText.{AreReadings};
 ghost use Rattle.ngc_line_reader.specs.ProgramView.{text_in};
 ghost use Rattle.ngc_machine.specs.Machine.{file_of};
 ghost use Rattle.ngc_parameters.specs.Stored.{pairs_of, changes_of};
-ghost use Rattle.ngc_canonical.specs.Meaning.{effects_of as effects_in, execute as executed, with_settings, after_line, past_last, commands_of, GivesMeaning, GivesEffects, meaning, program_said, mark_of as marked_at};
+ghost use Rattle.ngc_canonical.specs.Meaning.{effects_of as effects_in, execute as executed};
+ghost use Rattle.ngc_canonical.specs.Meaning.{with_settings, after_line, past_last, commands_of};
+ghost use Rattle.ngc_canonical.specs.Meaning.{GivesMeaning, GivesEffects, meaning, program_said};
+ghost use Rattle.ngc_canonical.specs.Meaning.{mark_of as marked_at};
 ghost use Rattle.ngc_canonical.specs.Interpreter.{setup_of, state_of, Becomes, BecomesAt};
 ghost use Rattle.ngc_canonical.specs.Movement.{actions_of, ways_of, AreJoined};
 ghost use Rattle.ngc_canonical.specs.Joined.{HaveEvenRadii, EndIsLast, HasEnd};
@@ -32,7 +35,8 @@ pub struct Work {
 impl<A: Allocator + Copy> Interpreter<A> {
     // What a line does.
     fn effects(&self, words: &[Word], effects: &mut ArrayVec<Effect, 24>) -> Result<(), Fault>
-        ensures { GivesEffects result effects.new.items (effects_in (state_of self.now).modes (pairs_of words.now)) }
+        ensures { GivesEffects result effects.new.items
+            (effects_in (state_of self.now).modes (pairs_of words.now)) }
     {
         let block = match Block::new(words) {
             Ok(block) => block,
@@ -59,7 +63,10 @@ impl<A: Allocator + Copy> Interpreter<A> {
         line: LineView<'_>,
         work: &mut Work,
     ) -> Result<(), Refusal>
-        ensures { (bytes : List ℕ) (r : Reading) → items_of (view_parts line.entry) ≡ items_said bytes r → AllWithinLimit r.items → Becomes result (state_of self.new) (executed (setup_of machine.now tools.now) r.items (state_of self.old)) }
+        ensures { (bytes : List ℕ) (r : Reading) →
+            items_of (view_parts line.entry) ≡ items_said bytes r → AllWithinLimit r.items →
+            Becomes result (state_of self.new)
+            (executed (setup_of machine.now tools.now) r.items (state_of self.old)) }
     {
         match self.store.read(line, &mut work.values) {
             Ok(()) => {}
@@ -95,7 +102,11 @@ impl<A: Allocator + Copy> Interpreter<A> {
         work: &mut Work,
         block_delete: bool,
     ) -> Result<(), ProgramFault>
-        ensures { (bytes : List ℕ) → ShowsReading bytes line.entry.deleted (view_parts line.entry) → (r : Reading) → Reads bytes r → BecomesAt result (state_of self.new) (after_line (setup_of machine.now tools.now) block_delete number r (state_of self.old)) }
+        ensures { (bytes : List ℕ) → ShowsReading bytes line.entry.deleted (view_parts line.entry) →
+            (r : Reading) → Reads bytes r →
+            BecomesAt result (state_of self.new)
+            (after_line (setup_of machine.now tools.now) block_delete number r
+            (state_of self.old)) }
     {
         if block_delete && line.deleted {
             return Ok(());
@@ -117,7 +128,8 @@ impl<A: Allocator + Copy> Interpreter<A> {
         mark: Option<u32>,
         count: u32,
     ) -> Result<Vec<Command, A>, ProgramFault>
-        ensures { GivesMeaning (λ v. v.items) result (commands_of (past_last mark count (state_of self))) }
+        ensures { GivesMeaning (λ v. v.items) result
+            (commands_of (past_last mark count (state_of self))) }
     {
         let Some(line) = mark else {
             return Err(ProgramFault::At {
@@ -159,10 +171,14 @@ pub fn interpret<A: Allocator + Copy>(
 ) -> Result<Vec<Command, A>, ProgramFault>
     // Whatever the lines' readings are (each line has one, and only one), the answer is what they
     // mean.
-    ensures commands { (rs : List Reading) → AreReadings (text_in program.now).lines rs → GivesMeaning (λ v. v.items) result (meaning (program_said (text_in program.now) rs) (setup_of machine.now tools.now) block_delete) }
+    ensures commands { (rs : List Reading) → AreReadings (text_in program.now).lines rs →
+        GivesMeaning (λ v. v.items) result
+        (meaning (program_said (text_in program.now) rs)
+        (setup_of machine.now tools.now) block_delete) }
     // The first motion begins at the machine's start point, and each further one where the motion
     // before it ends.
-    ensures joined { IfOk result (λ v. AreJoined (file_of machine.now).start (ways_of (actions_of v.items))) }
+    ensures joined { IfOk result
+        (λ v. AreJoined (file_of machine.now).start (ways_of (actions_of v.items))) }
     // Each arc has some radius, in range, and nearly the same at both ends.
     ensures radii { IfOk result (λ v. HaveEvenRadii (ways_of (actions_of v.items))) }
     ensures count { IfOk result (λ v. length v.items ≤ 1000000) }

@@ -2,7 +2,11 @@
 ghost use Rattle.std.specs.Prelude.{◌≡◌};
 ghost use Rattle.ngc_machine.specs.Tools.{tools_of};
 ghost use Rattle.ngc_canonical.specs.Interpreter.{state_of, Becomes};
-ghost use Rattle.ngc_canonical.specs.Spindle.{spindle_state as state_said, set_speed as speed_set, turn_of as turn_said, set_spindle as spindle_set, mount as mounted, change_tool as tool_changed, with_coolant as coolant_with, set_coolant as coolant_set};
+ghost use Rattle.ngc_canonical.specs.Spindle.{spindle_state as state_said, set_speed as speed_set};
+ghost use Rattle.ngc_canonical.specs.Spindle.{turn_of as turn_said, set_spindle as spindle_set};
+ghost use Rattle.ngc_canonical.specs.Spindle.{mount as mounted, change_tool as tool_changed};
+ghost use Rattle.ngc_canonical.specs.Spindle.{with_coolant as coolant_with};
+ghost use Rattle.ngc_canonical.specs.Spindle.{set_coolant as coolant_set};
 
 use crate::command::{Action, CoolantState, SpindleState};
 use crate::fault::Fault;
@@ -71,7 +75,8 @@ impl<A: Allocator> Interpreter<A> {
 
     /// M6: mounts the selected tool, or none; 222 where the table doesn't have it.
     pub(crate) fn change_tool(&mut self, tools: &Tools<A>) -> Result<(), Refusal>
-        ensures { Becomes result (state_of self.new) (tool_changed (tools_of tools.now) (state_of self.old).selected (state_of self.old)) }
+        ensures { Becomes result (state_of self.new)
+            (tool_changed (tools_of tools.now) (state_of self.old).selected (state_of self.old)) }
     {
         if self.selected == 0 {
             return self.mount(None);

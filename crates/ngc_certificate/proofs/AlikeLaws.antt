@@ -14,7 +14,8 @@ pub record AreFound (off on : List Command) (a b : Entry) (u v : Way) (p q : Lis
   pub off_pieces : p ≡ a.pieces
   pub on_pieces : q ≡ b.pieces
 
-pub found : (off on : List Command) (a b : Entry) (u v : Way) (p q : List Piece) (i j : ℕ) → i ≡ a.index → j ≡ b.index → Some u ≡ way_at off i → Some v ≡ way_at on j → p ≡ a.pieces → q ≡ b.pieces
+pub found : (off on : List Command) (a b : Entry) (u v : Way) (p q : List Piece) (i j : ℕ) → i ≡ a.index → j ≡ b.index → Some u ≡ way_at off i →
+    Some v ≡ way_at on j → p ≡ a.pieces → q ≡ b.pieces
     → AreFound off on a b u v p q
 found off on a b u v p q i j is_i is_j goes_u goes_v is_p is_q = record {
   off_goes = ap (way_at off) (sym is_i) ∙ sym goes_u;

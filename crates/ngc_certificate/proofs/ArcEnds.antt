@@ -30,16 +30,21 @@ in_either : (b : Bool) (x y : GridBox) (p : StepPos) → IsIn x p → IsIn y p �
 in_either true x y p h k = h
 in_either false x y p h k = k
 
-start_in_box : (step : ℤ) (a : ArcShape) (several last : Bool) (q : Point2) → IsStep step → IsIn (arc_box step a (stretch several last (first_cut (Arc a))) q) (grid step a.start)
+start_in_box : (step : ℤ) (a : ArcShape) (several last : Bool) (q : Point2) → IsStep step →
+    IsIn (arc_box step a (stretch several last (first_cut (Arc a))) q) (grid step a.start)
 start_in_box step a several last q s =
-    in_either (several && is_large step a) (cut_box step a (start_of a) q) (swept_box step a) (grid step a.start) (start_in_cut step a q s) (start_inside step a s)
+    in_either (several && is_large step a) (cut_box step a (start_of a) q) (swept_box step a) (grid step a.start) (start_in_cut step a q s)
+    (start_inside step a s)
 
-end_in_box : (step : ℤ) (a : ArcShape) (several last : Bool) (begin : Cut) → IsStep step → IsIn (arc_box step a (stretch several last begin) (end_of a)) (grid step a.end)
+end_in_box : (step : ℤ) (a : ArcShape) (several last : Bool) (begin : Cut) → IsStep step →
+    IsIn (arc_box step a (stretch several last begin) (end_of a)) (grid step a.end)
 end_in_box step a several last begin s =
-    in_either (several && is_large step a) (cut_box step a (place_of a begin) (end_of a)) (swept_box step a) (grid step a.end) (end_in_cut step a (place_of a begin) s) (end_inside step a s)
+    in_either (several && is_large step a) (cut_box step a (place_of a begin) (end_of a)) (swept_box step a) (grid step a.end)
+    (end_in_cut step a (place_of a begin) s) (end_inside step a s)
 
 -- the last cut is the arc's end
-last_at_end : (step : ℤ) (a : ArcShape) (several : Bool) (begin cut : Cut) → IsTrue (follows step (Arc a) (stretch several true begin) cut) → place_of a cut ≡ end_of a
+last_at_end : (step : ℤ) (a : ArcShape) (several : Bool) (begin cut : Cut) → IsTrue (follows step (Arc a) (stretch several true begin) cut) →
+    place_of a cut ≡ end_of a
 last_at_end step a several begin (Part t) h = absurd (no_truth h)
   where
     no_truth : IsTrue false → ⊥
@@ -47,19 +52,24 @@ last_at_end step a several begin (Part t) h = absurd (no_truth h)
 last_at_end step a true begin (Place q) h = at_end a q (both (turns_on a (place_of a begin) q) (is_end a q) h).1
 last_at_end step a false begin (Place q) h = at_end a q h
 
-pub start_is_safe : (machine : MachineFile) (tool : Option Tool) (a : ArcShape) (several : Bool) (pieces : List Piece) → IsStep machine.step → pos 1 ≤ℤ machine.step →
+pub start_is_safe : (machine : MachineFile) (tool : Option Tool) (a : ArcShape) (several : Bool) (pieces : List Piece) → IsStep machine.step →
+    pos 1 ≤ℤ machine.step →
     AreValidFrom machine tool (Arc a) several (first_cut (Arc a)) pieces → IsSafe machine tool (grid machine.step a.start)
 start_is_safe machine tool a several [] step s v = absurd v
 start_is_safe machine tool a several (p ∷ []) step s v =
-    safe_in_piece machine tool (Arc a) (stretch several true (first_cut (Arc a))) p (grid machine.step a.start) s v (start_in_box machine.step a several true (place_of a p.end) step)
+    safe_in_piece machine tool (Arc a) (stretch several true (first_cut (Arc a))) p (grid machine.step a.start) s v
+    (start_in_box machine.step a several true (place_of a p.end) step)
 start_is_safe machine tool a several (p ∷ r ∷ ps) step s v =
-    safe_in_piece machine tool (Arc a) (stretch several false (first_cut (Arc a))) p (grid machine.step a.start) s v.0 (start_in_box machine.step a several false (place_of a p.end) step)
+    safe_in_piece machine tool (Arc a) (stretch several false (first_cut (Arc a))) p (grid machine.step a.start) s v.0
+    (start_in_box machine.step a several false (place_of a p.end) step)
 
-pub end_is_safe : (machine : MachineFile) (tool : Option Tool) (a : ArcShape) (several : Bool) (begin : Cut) (pieces : List Piece) → IsStep machine.step → pos 1 ≤ℤ machine.step →
+pub end_is_safe : (machine : MachineFile) (tool : Option Tool) (a : ArcShape) (several : Bool) (begin : Cut) (pieces : List Piece) → IsStep machine.step →
+    pos 1 ≤ℤ machine.step →
     AreValidFrom machine tool (Arc a) several begin pieces → IsSafe machine tool (grid machine.step a.end)
 end_is_safe machine tool a several begin [] step s v = absurd v
 end_is_safe machine tool a several begin (p ∷ []) step s v =
     let at = last_at_end machine.step a several begin p.end v.chain in
     safe_in_piece machine tool (Arc a) (stretch several true begin) p (grid machine.step a.end) s v
-    (subst (λ q. IsIn (arc_box machine.step a (stretch several true begin) q) (grid machine.step a.end)) (sym at) (end_in_box machine.step a several true begin step))
+    (subst (λ q. IsIn (arc_box machine.step a (stretch several true begin) q) (grid machine.step a.end)) (sym at)
+    (end_in_box machine.step a several true begin step))
 end_is_safe machine tool a several begin (p ∷ r ∷ ps) step s v = end_is_safe machine tool a several p.end (r ∷ ps) step s v.1

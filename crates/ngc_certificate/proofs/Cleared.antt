@@ -50,7 +50,8 @@ found_in f test good (x ∷ xs) pieces g h =
 abbrev is_count : ℕ → Bool
 is_count c = nat_le 1 c && nat_le c 65535
 
-keep : (good few : ℕ → Bool) (x : ℕ) (rest : List ℕ) (b : Bool) → IsTrue (good x) → IsTrue (list_all good rest) → IsTrue (list_all good (cond b (x ∷ rest) rest))
+keep : (good few : ℕ → Bool) (x : ℕ) (rest : List ℕ) (b : Bool) → IsTrue (good x) → IsTrue (list_all good rest) →
+    IsTrue (list_all good (cond b (x ∷ rest) rest))
 keep good few x rest true g r = and _ _ g r
 keep good few x rest false g r = r
 
@@ -100,16 +101,19 @@ cleared_valid machine most tool w pieces least greatest h =
     (pieces_valid machine tool w (pieces_of machine.step w c.count) (none_of (pieces_fault machine tool w (pieces_of machine.step w c.count)) c.passes))
 
 -- which are such as a certificate may hold
-pub cleared_good : (machine : MachineFile) (most : ℕ) (tool : Option Tool) (w : Way) (pieces : List Piece) → IsStep machine.step → IsTravel machine.step machine.low machine.high machine.start →
+pub cleared_good : (machine : MachineFile) (most : ℕ) (tool : Option Tool) (w : Way) (pieces : List Piece) → IsStep machine.step →
+    IsTravel machine.step machine.low machine.high machine.start →
     1 ≤ most → most ≤ 65535 → cleared machine most tool w ≡ Some pieces → IsTrue (list_all good_piece pieces)
 cleared_good machine most tool w pieces step travel least greatest h =
     let c = cleared_is machine most tool w pieces least greatest h in
-    let valid = pieces_valid machine tool w (pieces_of machine.step w c.count) (none_of (pieces_fault machine tool w (pieces_of machine.step w c.count)) c.passes) in
+    let valid = pieces_valid machine tool w (pieces_of machine.step w c.count)
+    (none_of (pieces_fault machine tool w (pieces_of machine.step w c.count)) c.passes) in
     subst (λ (ps : List Piece). IsTrue (list_all good_piece ps)) (sym c.made)
     (pieces_good machine tool w c.count step travel (at_least c.count c.fits) (at_most c.count c.fits) valid)
 
 -- and so is an arc in one piece that clears
-pub whole_good : (machine : MachineFile) (tool : Option Tool) (a : ArcShape) → IsStep machine.step → IsTravel machine.step machine.low machine.high machine.start →
+pub whole_good : (machine : MachineFile) (tool : Option Tool) (a : ArcShape) → IsStep machine.step →
+    IsTravel machine.step machine.low machine.high machine.start →
     is_clear_in machine tool (Arc a) 1 ≡ true → IsTrue (list_all good_piece (pieces_of machine.step (Arc a) 1))
 whole_good machine tool a step travel clear =
     let whole = pieces_of machine.step (Arc a) 1 in
@@ -122,23 +126,30 @@ true≢false : true ≡ false → ⊥
 true≢false h = cc
 
 -- an arc that its one piece clears, and one for which nothing is found
-pub whole_stands : (machine : MachineFile) (most : ℕ) (tool : Option Tool) (a : ArcShape) (pieces : List Piece) → pieces ≡ pieces_of machine.step (Arc a) 1 → is_clear_in machine tool (Arc a) 1 ≡ true →
+pub whole_stands : (machine : MachineFile) (most : ℕ) (tool : Option Tool) (a : ArcShape) (pieces : List Piece) → pieces ≡ pieces_of machine.step (Arc a) 1 →
+    is_clear_in machine tool (Arc a) 1 ≡ true →
     MayStand machine most tool a (Some pieces)
-whole_stands machine most tool a pieces same clear = record { whole = λ h. ap (λ (ps : List Piece). Some ps) same; cut = λ h. absurd (true≢false (sym clear ∙ h)) }
+whole_stands machine most tool a pieces same clear =
+    record { whole = λ h. ap (λ (ps : List Piece). Some ps) same; cut = λ h. absurd (true≢false (sym clear ∙ h)) }
 
-pub none_stands : (machine : MachineFile) (most : ℕ) (tool : Option Tool) (a : ArcShape) → is_clear_in machine tool (Arc a) 1 ≡ false → MayStand machine most tool a None
+pub none_stands : (machine : MachineFile) (most : ℕ) (tool : Option Tool) (a : ArcShape) → is_clear_in machine tool (Arc a) 1 ≡ false →
+    MayStand machine most tool a None
 none_stands machine most tool a refused = record { whole = λ h. absurd (true≢false (sym h ∙ refused)); cut = λ h. tt }
 
 -- one that is cut, or not even so
-pub cut_stands : (machine : MachineFile) (most : ℕ) (tool : Option Tool) (a : ArcShape) (clear : Bool) (pieces : List Piece) → is_clear_in machine tool (Arc a) 1 ≡ false →
+pub cut_stands : (machine : MachineFile) (most : ℕ) (tool : Option Tool) (a : ArcShape) (clear : Bool) (pieces : List Piece) →
+    is_clear_in machine tool (Arc a) 1 ≡ false →
     (clear ≡ true → IsCutClear machine most tool a pieces) → MayStand machine most tool a (pieces_where clear pieces)
 cut_stands machine most tool a true pieces refused h = record { whole = λ whole. absurd (true≢false (sym whole ∙ refused)); cut = λ e. h refl }
 cut_stands machine most tool a false pieces refused h = none_stands machine most tool a refused
 
-pub line_found : (machine : MachineFile) (most : ℕ) (tool : Option Tool) (w : Way) (b e : Point3) (found : Option (List Piece)) → w ≡ Line b e → cleared machine most tool w ≡ found → MayFind machine most tool w found
-line_found machine most tool w b e found is h = subst (λ v. MayFind machine most tool v found) (sym is) (subst (λ v. found ≡ cleared machine most tool v) is (sym h))
+pub line_found : (machine : MachineFile) (most : ℕ) (tool : Option Tool) (w : Way) (b e : Point3) (found : Option (List Piece)) → w ≡ Line b e →
+    cleared machine most tool w ≡ found → MayFind machine most tool w found
+line_found machine most tool w b e found is h =
+    subst (λ v. MayFind machine most tool v found) (sym is) (subst (λ v. found ≡ cleared machine most tool v) is (sym h))
 
-arc_valid : (machine : MachineFile) (most : ℕ) (tool : Option Tool) (a : ArcShape) (found : Option (List Piece)) (pieces : List Piece) (clear : Bool) → is_clear_in machine tool (Arc a) 1 ≡ clear →
+arc_valid : (machine : MachineFile) (most : ℕ) (tool : Option Tool) (a : ArcShape) (found : Option (List Piece)) (pieces : List Piece) (clear : Bool) →
+    is_clear_in machine tool (Arc a) 1 ≡ clear →
     MayStand machine most tool a found → found ≡ Some pieces → ArePiecesValid machine tool (Arc a) pieces
 arc_valid machine most tool a found pieces true e may is =
     let whole = pieces_of machine.step (Arc a) 1 in
@@ -148,18 +159,23 @@ arc_valid machine most tool a found pieces false e may is =
     let cut = subst (MayCut machine most tool a) is (may.cut e) in
     pieces_valid machine tool (Arc a) pieces cut.clear
 
-pub found_valid : (machine : MachineFile) (most : ℕ) (tool : Option Tool) (w : Way) (found : Option (List Piece)) (pieces : List Piece) → 1 ≤ most → most ≤ 65535 →
+pub found_valid : (machine : MachineFile) (most : ℕ) (tool : Option Tool) (w : Way) (found : Option (List Piece)) (pieces : List Piece) → 1 ≤ most →
+    most ≤ 65535 →
     MayFind machine most tool w found → found ≡ Some pieces → ArePiecesValid machine tool w pieces
 found_valid machine most tool (Line b e) found pieces least greatest may is = cleared_valid machine most tool (Line b e) pieces least greatest (sym may ∙ is)
-found_valid machine most tool (Arc a) found pieces least greatest may is = arc_valid machine most tool a found pieces (is_clear_in machine tool (Arc a) 1) refl may is
+found_valid machine most tool (Arc a) found pieces least greatest may is =
+    arc_valid machine most tool a found pieces (is_clear_in machine tool (Arc a) 1) refl may is
 
-arc_few : (machine : MachineFile) (most : ℕ) (tool : Option Tool) (a : ArcShape) (pieces : List Piece) (clear : Bool) → is_clear_in machine tool (Arc a) 1 ≡ clear → most ≤ 65535 →
+arc_few : (machine : MachineFile) (most : ℕ) (tool : Option Tool) (a : ArcShape) (pieces : List Piece) (clear : Bool) →
+    is_clear_in machine tool (Arc a) 1 ≡ clear → most ≤ 65535 →
     MayStand machine most tool a (Some pieces) → length pieces ≤ 65535
 arc_few machine most tool a pieces true e greatest may =
-    subst (λ (ps : List Piece). length ps ≤ 65535) (same_some (pieces_of machine.step (Arc a) 1) pieces (sym (may.whole e))) (few machine.step (Arc a) 1 (omega arith) (omega arith))
+    subst (λ (ps : List Piece). length ps ≤ 65535) (same_some (pieces_of machine.step (Arc a) 1) pieces (sym (may.whole e)))
+    (few machine.step (Arc a) 1 (omega arith) (omega arith))
 arc_few machine most tool a pieces false e greatest may = let cut = may.cut e in omega (arith, cut.few, greatest)
 
-found_few : (machine : MachineFile) (most : ℕ) (tool : Option Tool) (w : Way) (pieces : List Piece) → 1 ≤ most → most ≤ 65535 → MayFind machine most tool w (Some pieces) → length pieces ≤ 65535
+found_few : (machine : MachineFile) (most : ℕ) (tool : Option Tool) (w : Way) (pieces : List Piece) → 1 ≤ most → most ≤ 65535 →
+    MayFind machine most tool w (Some pieces) → length pieces ≤ 65535
 found_few machine most tool (Line b e) pieces least greatest may =
     let c = cleared_is machine most tool (Line b e) pieces least greatest (sym may) in
     subst (λ (ps : List Piece). length ps ≤ 65535) (sym c.made) (few machine.step (Line b e) c.count (at_least c.count c.fits) (at_most c.count c.fits))

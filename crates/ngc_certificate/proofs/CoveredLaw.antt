@@ -28,20 +28,24 @@ use Rattle.ngc_certificate.proofs.CoveredLines.{any_here, covered_line}
 no_truth : IsTrue false → ⊥
 no_truth h = cc
 
-cut_chain : (step : ℤ) (a : ArcShape) (begin : Cut) (cuts : List Cut) → ChainFrom step (Arc a) true begin cuts → IsCutChain step a (place_of a begin) (map (place_of a) cuts)
+cut_chain : (step : ℤ) (a : ArcShape) (begin : Cut) (cuts : List Cut) → ChainFrom step (Arc a) true begin cuts →
+    IsCutChain step a (place_of a begin) (map (place_of a) cuts)
 cut_chain step a begin [] c = absurd c
 cut_chain step a begin (Part t ∷ []) c = absurd (no_truth c)
 cut_chain step a begin (Place q ∷ []) c = c
 cut_chain step a begin (Part t ∷ next ∷ cuts) c = absurd (no_truth c.0)
 cut_chain step a begin (Place q ∷ next ∷ cuts) c = (c.0, cut_chain step a (Place q) (next ∷ cuts) c.1)
 
-cut_box_is : (step : ℤ) (a : ArcShape) (last : Bool) (begin : Cut) (q : Point2) → is_large step a ≡ true → arc_box step a (stretch true last begin) q ≡ cut_box step a (place_of a begin) q
+cut_box_is : (step : ℤ) (a : ArcShape) (last : Bool) (begin : Cut) (q : Point2) → is_large step a ≡ true →
+    arc_box step a (stretch true last begin) q ≡ cut_box step a (place_of a begin) q
 cut_box_is step a last begin q large = ap (λ (b : Bool). if b then cut_box step a (place_of a begin) q else swept_box step a) large
 
-cut_boxes_are : (step : ℤ) (a : ArcShape) (begin : Cut) (cuts : List Cut) → is_large step a ≡ true → boxes_from step (Arc a) true begin cuts ≡ cut_boxes step a (place_of a begin) (map (place_of a) cuts)
+cut_boxes_are : (step : ℤ) (a : ArcShape) (begin : Cut) (cuts : List Cut) → is_large step a ≡ true →
+    boxes_from step (Arc a) true begin cuts ≡ cut_boxes step a (place_of a begin) (map (place_of a) cuts)
 cut_boxes_are step a begin [] large = refl
 cut_boxes_are step a begin (cut ∷ []) large = ap (λ b. b ∷ []) (cut_box_is step a true begin (place_of a cut) large)
-cut_boxes_are step a begin (cut ∷ next ∷ cuts) large = ap₂ (λ (b : GridBox) (bs : List GridBox). b ∷ bs) (cut_box_is step a false begin (place_of a cut) large) (cut_boxes_are step a cut (next ∷ cuts) large)
+cut_boxes_are step a begin (cut ∷ next ∷ cuts) large =
+    ap₂ (λ (b : GridBox) (bs : List GridBox). b ∷ bs) (cut_box_is step a false begin (place_of a cut) large) (cut_boxes_are step a cut (next ∷ cuts) large)
 
 covered_cuts : (step : ℤ) (a : ArcShape) (cuts : List Cut) (path : List StepPos) (k : ℕ) → pos 1 ≤ℤ step → HasEvenRadii a → is_large step a ≡ true →
     ChainFrom step (Arc a) true (first_cut (Arc a)) cuts → IsArcPath step a path → k < length path →
@@ -52,14 +56,17 @@ covered_cuts step a cuts path k some even large chain way i =
 
 -- ---- a smaller one
 
-swept_is : (step : ℤ) (a : ArcShape) (last : Bool) (begin : Cut) (q : Point2) → is_large step a ≡ false → arc_box step a (stretch true last begin) q ≡ swept_box step a
+swept_is : (step : ℤ) (a : ArcShape) (last : Bool) (begin : Cut) (q : Point2) → is_large step a ≡ false →
+    arc_box step a (stretch true last begin) q ≡ swept_box step a
 swept_is step a last begin q small = ap (λ (b : Bool). if b then cut_box step a (place_of a begin) q else swept_box step a) small
 
-covered_small : (step : ℤ) (a : ArcShape) (begin : Cut) (cuts : List Cut) (p : StepPos) → is_large step a ≡ false → ChainFrom step (Arc a) true begin cuts → IsIn (swept_box step a) p →
+covered_small : (step : ℤ) (a : ArcShape) (begin : Cut) (cuts : List Cut) (p : StepPos) → is_large step a ≡ false → ChainFrom step (Arc a) true begin cuts →
+    IsIn (swept_box step a) p →
     Any (λ b. IsIn b p) (boxes_from step (Arc a) true begin cuts)
 covered_small step a begin [] p small chain h = absurd chain
 covered_small step a begin (cut ∷ []) p small chain h =
-    any_here (λ b. IsIn b p) (arc_box step a (stretch true true begin) (place_of a cut)) [] (subst (λ b. IsIn b p) (sym (swept_is step a true begin (place_of a cut) small)) h)
+    any_here (λ b. IsIn b p) (arc_box step a (stretch true true begin) (place_of a cut)) []
+    (subst (λ b. IsIn b p) (sym (swept_is step a true begin (place_of a cut) small)) h)
 covered_small step a begin (cut ∷ next ∷ cuts) p small chain h =
     any_here (λ b. IsIn b p) (arc_box step a (stretch true false begin) (place_of a cut)) (boxes_from step (Arc a) true cut (next ∷ cuts))
     (subst (λ b. IsIn b p) (sym (swept_is step a false begin (place_of a cut) small)) h)
@@ -75,7 +82,8 @@ by_size : (step : ℤ) (a : ArcShape) (cuts : List Cut) (path : List StepPos) (k
 by_size step a cuts path k true large some even chain way i h = covered_cuts step a cuts path k some even large chain way i
 by_size step a cuts path k false small some even chain way i h = covered_small step a (first_cut (Arc a)) cuts (point path k) small chain h
 
-covered_arc : (step : ℤ) (a : ArcShape) (cuts : List Cut) (path : List StepPos) (k : ℕ) → pos 1 ≤ℤ step → HasEvenRadii a → IsChain step (Arc a) cuts → IsArcPath step a path → k < length path →
+covered_arc : (step : ℤ) (a : ArcShape) (cuts : List Cut) (path : List StepPos) (k : ℕ) → pos 1 ≤ℤ step → HasEvenRadii a → IsChain step (Arc a) cuts →
+    IsArcPath step a path → k < length path →
     IsIn (swept_box step a) (point path k) → Any (λ b. IsIn b (point path k)) (derived_boxes step (Arc a) cuts)
 covered_arc step a [] path k some even chain way i h = absurd chain
 covered_arc step a (cut ∷ []) path k some even chain way i h = any_here (λ b. IsIn b (point path k)) (swept_box step a) [] h

@@ -47,26 +47,32 @@ both pieces = record { off = record { index = 0; pieces = pieces } ∷ []; on = 
 
 -- ---- a traverse of 0.03 mm
 
-text : parted_spelling (both (pieces_of (pos 10000) (along_x (pos 30000)) 1)) ≡ codes "ngc-certificate 1\nsetting off 1\nmotion 0 1\nline 65536 0 0 0 3 0 0\nsetting on 1\nmotion 0 1\nline 65536 0 0 0 3 0 0\nend\n"
+text : parted_spelling (both (pieces_of (pos 10000) (along_x (pos 30000)) 1))
+    ≡ codes "ngc-certificate 1\nsetting off 1\nmotion 0 1\nline 65536 0 0 0 3 0 0\nsetting on 1\nmotion 0 1\nline 65536 0 0 0 3 0 0\nend\n"
 unfolding digits
 text = refl
 
 accepted : pieces_fault built_in_machine None (along_x (pos 30000)) (line 65536 (box (pos 0) (pos 0) (pos 0) (pos 3) (pos 0) (pos 0)) ∷ []) ≡ None
 accepted = refl
 
-too_small : pieces_fault built_in_machine None (along_x (pos 30000)) (line 65536 (box (pos 0) (pos 0) (pos 0) (pos 2) (pos 0) (pos 0)) ∷ []) ≡ Some (at_piece 0 NotCovered)
+too_small : pieces_fault built_in_machine None (along_x (pos 30000)) (line 65536 (box (pos 0) (pos 0) (pos 0) (pos 2) (pos 0) (pos 0)) ∷ [])
+    ≡ Some (at_piece 0 NotCovered)
 too_small = refl
 
 larger : pieces_fault built_in_machine None (along_x (pos 30000)) (line 65536 (box (pos 0) (pos 0) (pos 0) (pos 4) (pos 0) (pos 0)) ∷ []) ≡ None
 larger = refl
 
-outside : pieces_fault built_in_machine None (along_x (pos 30000)) (line 65536 (box (negsuc 0) (pos 0) (pos 0) (pos 3) (pos 0) (pos 0)) ∷ []) ≡ Some (at_piece 0 OutsideTravel)
+outside : pieces_fault built_in_machine None (along_x (pos 30000)) (line 65536 (box (negsuc 0) (pos 0) (pos 0) (pos 3) (pos 0) (pos 0)) ∷ [])
+    ≡ Some (at_piece 0 OutsideTravel)
 outside = refl
 
-too_short : pieces_fault built_in_machine None (along_x (pos 30000)) (line 65535 (box (pos 0) (pos 0) (pos 0) (pos 3) (pos 0) (pos 0)) ∷ []) ≡ Some (at_piece 0 Chain)
+too_short : pieces_fault built_in_machine None (along_x (pos 30000)) (line 65535 (box (pos 0) (pos 0) (pos 0) (pos 3) (pos 0) (pos 0)) ∷ [])
+    ≡ Some (at_piece 0 Chain)
 too_short = refl
 
-twice : pieces_fault built_in_machine None (along_x (pos 30000)) (line 65536 (box (pos 0) (pos 0) (pos 0) (pos 3) (pos 0) (pos 0)) ∷ line 65536 (box (pos 0) (pos 0) (pos 0) (pos 3) (pos 0) (pos 0)) ∷ []) ≡ Some (at_piece 1 Chain)
+twice : pieces_fault built_in_machine None (along_x (pos 30000))
+    (line 65536 (box (pos 0) (pos 0) (pos 0) (pos 3) (pos 0) (pos 0)) ∷ line 65536 (box (pos 0) (pos 0) (pos 0) (pos 3) (pos 0) (pos 0)) ∷ [])
+    ≡ Some (at_piece 1 Chain)
 twice = refl
 
 -- ---- the travel's border
@@ -74,7 +80,8 @@ twice = refl
 to_the_border : pieces_fault built_in_machine None (along_x (pos 300000000)) (pieces_of (pos 10000) (along_x (pos 300000000)) 1) ≡ None
 to_the_border = refl
 
-beyond_the_border : pieces_fault built_in_machine None (along_x (pos 300006000)) (pieces_of (pos 10000) (along_x (pos 300006000)) 1) ≡ Some (at_piece 0 OutsideTravel)
+beyond_the_border : pieces_fault built_in_machine None (along_x (pos 300006000)) (pieces_of (pos 10000) (along_x (pos 300006000)) 1)
+    ≡ Some (at_piece 0 OutsideTravel)
 beyond_the_border = refl
 
 -- ---- a fixture beside a slanted line: undivided it is met, in two pieces it isn't
@@ -88,7 +95,8 @@ beside = with_fixture (point (pos 8000000) (pos 0) (negsuc 999999)) (point (pos 
 slanted_whole : pieces_fault beside None slanted (pieces_of (pos 10000) slanted 1) ≡ Some (at_piece 0 (MeetsFixture 0))
 slanted_whole = refl
 
-slanted_pieces : pieces_of (pos 10000) slanted 2 ≡ line 32768 (box (pos 0) (pos 0) (pos 0) (pos 501) (pos 501) (pos 0)) ∷ line 65536 (box (pos 499) (pos 499) (pos 0) (pos 1000) (pos 1000) (pos 0)) ∷ []
+slanted_pieces : pieces_of (pos 10000) slanted 2 ≡ line 32768 (box (pos 0) (pos 0) (pos 0) (pos 501) (pos 501) (pos 0))
+    ∷ line 65536 (box (pos 499) (pos 499) (pos 0) (pos 1000) (pos 1000) (pos 0)) ∷ []
 slanted_pieces = refl
 
 slanted_clear : pieces_fault beside None slanted (pieces_of (pos 10000) slanted 2) ≡ None
@@ -97,7 +105,8 @@ slanted_clear = refl
 abbrev one_line : List Command
 one_line = record { line = 1; action = Move (record { way = slanted; pace = Rapid; stop = false }) } ∷ []
 
-one_motion : (most : ℕ) (says : Result (List Entry) ℕ) → IsSettingMade beside most one_line says → says ≡ with_pieces 0 (cleared beside most None slanted) (Ok [])
+one_motion : (most : ℕ) (says : Result (List Entry) ℕ) → IsSettingMade beside most one_line says →
+    says ≡ with_pieces 0 (cleared beside most None slanted) (Ok [])
 one_motion most says made = made.4 ∙ ap₂ (with_pieces 0) made.2 made.3
 
 in_one_piece : (says : Result CertificateData MakeFault) → IsMade beside 1 one_line one_line says → says ≡ Err (NotCleared Off 0)
@@ -121,17 +130,20 @@ circle = record {
   centre = record { u = pos 40000000; v = pos 50000000 };
 }
 
-circle_pieces : pieces_of (pos 10000) (Arc circle) 8 ≡ record { end = Place (record { u = pos 10000000; v = pos 50000000 }); bounds = box (pos 998) (pos 1998) (pos 0) (pos 7002) (pos 8002) (pos 0) } ∷ []
+circle_pieces : pieces_of (pos 10000) (Arc circle) 8
+    ≡ record { end = Place (record { u = pos 10000000; v = pos 50000000 }); bounds = box (pos 998) (pos 1998) (pos 0) (pos 7002) (pos 8002) (pos 0) } ∷ []
 unfolding whole_root whole_root_above
 circle_pieces = refl
 
-circle_met : pieces_fault (with_fixture (point (pos 38000000) (pos 48000000) (negsuc 49999999)) (point (pos 42000000) (pos 52000000) (pos 10000000))) None (Arc circle) (pieces_of (pos 10000) (Arc circle) 1) ≡ Some (at_piece 0 (MeetsFixture 0))
+circle_met : pieces_fault (with_fixture (point (pos 38000000) (pos 48000000) (negsuc 49999999)) (point (pos 42000000) (pos 52000000) (pos 10000000))) None
+    (Arc circle) (pieces_of (pos 10000) (Arc circle) 1) ≡ Some (at_piece 0 (MeetsFixture 0))
 unfolding whole_root whole_root_above
 circle_met = refl
 
 -- ---- the start, and tool changes there
 
-start_met : (says : Result CertificateData MakeFault) → IsMade (with_fixture (point (negsuc 999999) (negsuc 999999) (negsuc 999999)) (point (pos 1000000) (pos 1000000) (pos 1000000))) 8 [] [] says →
+start_met : (says : Result CertificateData MakeFault) →
+    IsMade (with_fixture (point (negsuc 999999) (negsuc 999999) (negsuc 999999)) (point (pos 1000000) (pos 1000000) (pos 1000000))) 8 [] [] says →
     says ≡ Err (NotCleared Off 0)
 start_met says made = made.4
 
@@ -140,13 +152,18 @@ below = with_fixture (point (negsuc 19999999) (negsuc 9999999) (negsuc 99999999)
 
 abbrev mounted : ℕ → ℤ → ℤ → List Command
 mounted number bottom length =
-    record { line = 1; action = Mount (Some (record { number = number; offset = pos 0; bottom = bottom; parts = record { length = length; radius = pos 3000000 } ∷ [] })) } ∷ []
+    record {
+      line = 1;
+      action =
+          Mount (Some (record { number = number; offset = pos 0; bottom = bottom; parts = record { length = length; radius = pos 3000000 } ∷ [] }));
+    } ∷ []
 
 -- a tool of 60 mm reaches into the fixture, one of 20 mm does not
 long_tool : (says : Result CertificateData MakeFault) → IsMade below 8 (mounted 2 (negsuc 59999999) (pos 60000000)) [] says → says ≡ Err (NotCleared Off 0)
 long_tool says made = made.4 ∙ ap (λ first. join_settings first made.1) made.2.2
 
-short_tool : (says : Result CertificateData MakeFault) → IsMade below 8 (mounted 1 (negsuc 19999999) (pos 20000000)) [] says → says ≡ Ok (record { off = []; on = [] })
+short_tool : (says : Result CertificateData MakeFault) → IsMade below 8 (mounted 1 (negsuc 19999999) (pos 20000000)) [] says →
+    says ≡ Ok (record { off = []; on = [] })
 short_tool says made = made.4 ∙ ap₂ join_settings (made.2.2 ∙ made.2.1) made.3
 
 -- ---- numbers of pieces

@@ -44,7 +44,8 @@ line_piece_good g b e s t zg st some most =
     (and _ _ (le_test _ _ (ordered g s t b.x e.x zg st (omega (arith, st, most))))
     (and _ _ (le_test _ _ (ordered g s t b.y e.y zg st (omega (arith, st, most)))) (le_test _ _ (ordered g s t b.z e.z zg st (omega (arith, st, most))))))
 
-line_pieces_good : (g : ℕ) (b e : Point3) (c k left : ℕ) → 0 < g → 1 ≤ c → c ≤ 65535 → k + left ≤ c → IsTrue (list_all good_piece (line_pieces_from (pos g) b e c k left))
+line_pieces_good : (g : ℕ) (b e : Point3) (c k left : ℕ) → 0 < g → 1 ≤ c → c ≤ 65535 → k + left ≤ c →
+    IsTrue (list_all good_piece (line_pieces_from (pos g) b e c k left))
 line_pieces_good g b e c k zero zg some most fits = refl
 line_pieces_good g b e c k (suc left) zg some most fits =
     let s = 65536 * k / c in
@@ -80,7 +81,8 @@ plane_within YZ p x y z = and _ _ (within_test p.y y) (within_test p.z z)
 
 -- the end of an arc with a valid piece
 end_within : (machine : MachineFile) (tool : Option Tool) (p : Point3) → IsStep machine.step → IsTravel machine.step machine.low machine.high machine.start →
-    IsSafe machine tool (grid machine.step p) → (plane : Plane) → IsTrue (is_within 4000000000 (in_plane plane p).u && is_within 4000000000 (in_plane plane p).v)
+    IsSafe machine tool (grid machine.step p) → (plane : Plane) →
+    IsTrue (is_within 4000000000 (in_plane plane p).u && is_within 4000000000 (in_plane plane p).v)
 end_within machine tool p step travel safe plane =
     let lowhigh = both _ _ safe.inside in
     let low = both _ _ lowhigh.0 in let low_yz = both _ _ low.1 in
@@ -98,15 +100,18 @@ arc_good : (machine : MachineFile) (tool : Option Tool) (a : ArcShape) → IsSte
 arc_good machine tool a step travel valid =
     let k = end_inside machine.step a step in
     let q = grid machine.step a.end in
-    let safe = safe_in_piece machine tool (Arc a) (stretch false true (first_cut (Arc a))) (whole_arc machine.step a) q (step_positive machine.step step) valid k in
+    let safe = safe_in_piece machine tool (Arc a) (stretch false true (first_cut (Arc a))) (whole_arc machine.step a) q
+    (step_positive machine.step step) valid k in
     let b = swept_box machine.step a in
     and _ _ (end_within machine tool a.end step travel safe a.plane)
     (and _ _ (le_test b.low.x b.high.x (le_trans b.low.x q.x b.high.x k.x_low k.x_high))
-    (and _ _ (le_test b.low.y b.high.y (le_trans b.low.y q.y b.high.y k.y_low k.y_high)) (le_test b.low.z b.high.z (le_trans b.low.z q.z b.high.z k.z_low k.z_high))))
+    (and _ _ (le_test b.low.y b.high.y (le_trans b.low.y q.y b.high.y k.y_low k.y_high))
+    (le_test b.low.z b.high.z (le_trans b.low.z q.z b.high.z k.z_low k.z_high))))
 
 -- ---- motions
 
-pub pieces_good : (machine : MachineFile) (tool : Option Tool) (w : Way) (c : ℕ) → IsStep machine.step → IsTravel machine.step machine.low machine.high machine.start →
+pub pieces_good : (machine : MachineFile) (tool : Option Tool) (w : Way) (c : ℕ) → IsStep machine.step →
+    IsTravel machine.step machine.low machine.high machine.start →
     1 ≤ c → c ≤ 65535 → ArePiecesValid machine tool w (pieces_of machine.step w c) → IsTrue (list_all good_piece (pieces_of machine.step w c))
 pieces_good machine tool (Line b e) c step travel some most valid = lines_of machine.step b e c step some most
 pieces_good machine tool (Arc a) c step travel some most valid = and _ _ (arc_good machine tool a step travel valid) refl

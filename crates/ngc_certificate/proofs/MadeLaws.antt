@@ -1,5 +1,6 @@
 -- What the made certificate says: it is valid, and it is there where each motion clears undivided.
-use Rattle.std.proofs.Common.{◌≡◌, inl, inr, ℕ, ◌+◌, ◌<◌, ◌≤◌, refl, ap, ap₂, sym, subst, ◌∙◌, arith, List, [], ◌∷◌, ◌++◌, map, Some, None, Ok, Err, true, false}
+use Rattle.std.proofs.Common.{◌≡◌, inl, inr, ℕ, ◌+◌, ◌<◌, ◌≤◌, refl, ap, ap₂, sym, subst, ◌∙◌, arith, List, [], ◌∷◌, ◌++◌, map, Some, None, Ok, Err, true}
+use Rattle.std.proofs.Common.{false}
 use Rattle.std.specs.Prelude.{Option, Result, option_map, Bool, nat_lt}
 use Rattle.std.specs.List.{find, filter}
 use Rattle.std.specs.Option.{is_none}
@@ -26,7 +27,8 @@ use Rattle.ngc_certificate.specs.declared.maker.Refusal.{Refusal}
 use Rattle.ngc_certificate.specs.declared.maker.Refusal.TheVariants as refusals
 use Rattle.ngc_certificate.specs.PieceFault.{pieces_fault, place_fault, ArePiecesValid}
 use Rattle.ngc_certificate.specs.Valid.{AreClearFrom, IsValid}
-use Rattle.ngc_certificate.specs.Made.{pieces_of, cleared, with_entry, with_pieces, unless_met, MayFind, IsMadeFrom, IsSettingMade, join_settings, from_start, IsMade, GivesMade, clears_from, clears_undivided}
+use Rattle.ngc_certificate.specs.Made.{pieces_of, cleared, with_entry, with_pieces, unless_met, MayFind, IsMadeFrom, IsSettingMade, join_settings, from_start}
+use Rattle.ngc_certificate.specs.Made.{IsMade, GivesMade, clears_from, clears_undivided}
 use Rattle.ngc_certificate.specs.Making.{is_clear_in, GivesSetting, fault_at}
 use Rattle.ngc_certificate.proofs.NoFault.{clear_at}
 use Rattle.ngc_certificate.proofs.Truths.{both}
@@ -51,8 +53,10 @@ record Fronted (k : ℕ) (pieces : List Piece) (rest : Result (List Entry) ℕ) 
   made : rest ≡ Ok later
   all : entries ≡ record { index = k; pieces = pieces } ∷ later
 
-entry_in_front : (k : ℕ) (pieces : List Piece) (rest : Result (List Entry) ℕ) (entries : List Entry) → with_entry k pieces rest ≡ Ok entries → Fronted k pieces rest entries
-entry_in_front k pieces (Ok later) entries h = record { later = later; made = refl; all = same_ok entries (record { index = k; pieces = pieces } ∷ later) (with_entry k pieces (Ok later)) h refl }
+entry_in_front : (k : ℕ) (pieces : List Piece) (rest : Result (List Entry) ℕ) (entries : List Entry) → with_entry k pieces rest ≡ Ok entries →
+    Fronted k pieces rest entries
+entry_in_front k pieces (Ok later) entries h =
+    record { later = later; made = refl; all = same_ok entries (record { index = k; pieces = pieces } ∷ later) (with_entry k pieces (Ok later)) h refl }
 entry_in_front k pieces (Err refused) entries h = absurd (err_ok entries refused h)
 
 record Cleared (k : ℕ) (found : Option (List Piece)) (rest : Result (List Entry) ℕ) (entries : List Entry) : Type 0 where
@@ -60,7 +64,8 @@ record Cleared (k : ℕ) (found : Option (List Piece)) (rest : Result (List Entr
   is : found ≡ Some pieces
   front : Fronted k pieces rest entries
 
-pieces_in_front : (k : ℕ) (found : Option (List Piece)) (rest : Result (List Entry) ℕ) (entries : List Entry) → with_pieces k found rest ≡ Ok entries → Cleared k found rest entries
+pieces_in_front : (k : ℕ) (found : Option (List Piece)) (rest : Result (List Entry) ℕ) (entries : List Entry) → with_pieces k found rest ≡ Ok entries →
+    Cleared k found rest entries
 pieces_in_front k None rest entries h = absurd (err_ok entries k h)
 pieces_in_front k (Some pieces) rest entries h = record { pieces = pieces; is = refl; front = entry_in_front k pieces rest entries h }
 
@@ -73,14 +78,17 @@ unmet None k rest entries h = record { none = refl; same = sym h }
 unmet (Some fixture) k rest entries h = absurd (err_ok entries k h)
 
 -- one entry more
-entry_more : (machine : MachineFile) (k : ℕ) (tool : Option Tool) (place : Point3) (m : Motion) (actions : List Action) (pieces : List Piece) (later entries : List Entry) →
-    ArePiecesValid machine tool m.way pieces → AreMade machine (k + 1) tool (end_of m.way) actions later → entries ≡ record { index = k; pieces = pieces } ∷ later →
+entry_more : (machine : MachineFile) (k : ℕ) (tool : Option Tool) (place : Point3) (m : Motion) (actions : List Action) (pieces : List Piece)
+    (later entries : List Entry) →
+    ArePiecesValid machine tool m.way pieces → AreMade machine (k + 1) tool (end_of m.way) actions later →
+    entries ≡ record { index = k; pieces = pieces } ∷ later →
     AreMade machine k tool place (Move m ∷ actions) entries
 entry_more machine k tool place m actions pieces later entries valid rest all =
     subst (AreMade machine k tool place (Move m ∷ actions)) (sym all)
     (record { indices = ap (λ ks. k ∷ ks) rest.indices; clear = (valid, rest.clear) })
 
-are_made : (machine : MachineFile) (most k : ℕ) (tool : Option Tool) (place : Point3) (actions : List Action) (says : Result (List Entry) ℕ) (entries : List Entry) → 1 ≤ most → most ≤ 65535 →
+are_made : (machine : MachineFile) (most k : ℕ) (tool : Option Tool) (place : Point3) (actions : List Action) (says : Result (List Entry) ℕ)
+    (entries : List Entry) → 1 ≤ most → most ≤ 65535 →
     IsMadeFrom machine most k tool place actions says → says ≡ Ok entries → AreMade machine k tool place actions entries
 are_made machine most k tool place [] says entries least greatest made h =
     record { indices = ap (map (λ (entry : Entry). entry.index)) (same_ok entries [] says h made); clear = tt }
@@ -91,7 +99,8 @@ are_made machine most k tool place (Mount new ∷ actions) says entries least gr
 are_made machine most k tool place (Move m ∷ actions) says entries least greatest made h =
     let c = pieces_in_front k made.0 made.1 entries (sym made.4 ∙ h) in
     let rest = are_made machine most (k + 1) tool (end_of m.way) actions made.1 c.front.later least greatest made.3 c.front.made in
-    entry_more machine k tool place m actions c.pieces c.front.later entries (found_valid machine most tool m.way made.0 c.pieces least greatest made.2 c.is) rest c.front.all
+    entry_more machine k tool place m actions c.pieces c.front.later entries
+    (found_valid machine most tool m.way made.0 c.pieces least greatest made.2 c.is) rest c.front.all
 are_made machine most k tool place (_ ∷ actions) says entries least greatest made h =
     let rest = are_made machine most (k + 1) tool place actions says entries least greatest made h in
     record { indices = rest.indices; clear = rest.clear }
@@ -124,7 +133,8 @@ cleared_undivided machine most tool w least clear = elim (cases_lt 1 most) [
       subst (λ n. cleared machine n tool w ≡ Some (pieces_of machine.step w 1)) e (only_one (pieces_of machine.step w) (is_clear_in machine tool w) 1 clear)
 ]
 
-found_undivided : (machine : MachineFile) (most : ℕ) (tool : Option Tool) (w : Way) (found : Option (List Piece)) → 1 ≤ most → is_clear_in machine tool w 1 ≡ true →
+found_undivided : (machine : MachineFile) (most : ℕ) (tool : Option Tool) (w : Way) (found : Option (List Piece)) → 1 ≤ most →
+    is_clear_in machine tool w 1 ≡ true →
     MayFind machine most tool w found → found ≡ Some (pieces_of machine.step w 1)
 found_undivided machine most tool (Line b e) found least clear may = may ∙ cleared_undivided machine most tool (Line b e) least clear
 found_undivided machine most tool (Arc a) found least clear may = may.whole clear
@@ -133,7 +143,8 @@ found_undivided machine most tool (Arc a) found least clear may = may.whole clea
 abbrev IsList : Result (List Entry) ℕ → Type 0
 IsList r = (entries : List Entry) × (r ≡ Ok entries)
 
-list_more : (k : ℕ) (pieces : List Piece) (found : Option (List Piece)) (rest : Result (List Entry) ℕ) → found ≡ Some pieces → IsList rest → IsList (with_pieces k found rest)
+list_more : (k : ℕ) (pieces : List Piece) (found : Option (List Piece)) (rest : Result (List Entry) ℕ) → found ≡ Some pieces → IsList rest →
+    IsList (with_pieces k found rest)
 list_more k pieces found rest e r = (record { index = k; pieces = pieces } ∷ r.0, ap₂ (with_pieces k) e r.1)
 
 all_made : (machine : MachineFile) (most k : ℕ) (tool : Option Tool) (place : Point3) (actions : List Action) (says : Result (List Entry) ℕ) → 1 ≤ most →
@@ -182,35 +193,46 @@ met_start None rest h = absurd (true≢false h)
     true≢false k = cc
 met_start (Some fixture) rest h = refl
 
-pub start_refused : (machine : MachineFile) (most : ℕ) (off on : List Command) (clear : Bool) → clear ≡ is_none (place_fault machine None (grid machine.step machine.start)) → clear ≡ false →
+pub start_refused : (machine : MachineFile) (most : ℕ) (off on : List Command) (clear : Bool) →
+    clear ≡ is_none (place_fault machine None (grid machine.step machine.start)) → clear ≡ false →
     IsMade machine most off on (Err (NotCleared Off 0))
 start_refused machine most off on clear start here =
     let first = some_made machine most 0 None machine.start (actions_of off) in
-    let second = some_made machine most 0 None machine.start (actions_of on) in
-    (first.0, second.0, first.1, second.1, met_start (place_fault machine None (grid machine.step machine.start)) (join_settings first.0 second.0) (sym start ∙ here))
+    let second = some_made machine most 0 None machine.start (actions_of on) in (
+      first.0,
+      second.0,
+      first.1,
+      second.1,
+      met_start (place_fault machine None (grid machine.step machine.start)) (join_settings first.0 second.0) (sym start ∙ here),
+    )
 
-pub off_refused : {X : Type 0} (view : X → CertificateData) (machine : MachineFile) (most : ℕ) (off on : List Command) (clear : Bool) (refusal : Refusal) (fault : MakeFault) →
+pub off_refused : {X : Type 0} (view : X → CertificateData) (machine : MachineFile) (most : ℕ) (off on : List Command) (clear : Bool) (refusal : Refusal)
+    (fault : MakeFault) →
     clear ≡ is_none (place_fault machine None (grid machine.step machine.start)) → clear ≡ true →
     GivesSetting {X = List Entry} (λ m. m) (Err refusal) (IsSettingMade machine most off) → fault ≡ fault_at Off refusal →
     GivesMade view (Err fault) (IsMade machine most off on)
 off_refused view machine most off on clear refusal fault start here h same =
     subst (λ f. GivesMade view (Err f) (IsMade machine most off on)) (sym same) (at_off refusal h)
   where
-    at_off : (r : Refusal) → GivesSetting {X = List Entry} (λ m. m) (Err r) (IsSettingMade machine most off) → GivesMade view (Err (fault_at Off r)) (IsMade machine most off on)
+    at_off : (r : Refusal) → GivesSetting {X = List Entry} (λ m. m) (Err r) (IsSettingMade machine most off) →
+        GivesMade view (Err (fault_at Off r)) (IsMade machine most off on)
     at_off (refusals.NotCleared k) made =
         let second = some_made machine most 0 None machine.start (actions_of on) in
         (Err k, second.0, made, second.1, ap (λ o. from_start o (join_settings (Err k) second.0)) (sym (no_fixture machine clear start here)))
     at_off refusals.Memory made = tt
 
-pub on_refused : {X : Type 0} (view : X → CertificateData) (machine : MachineFile) (most : ℕ) (off on : List Command) (clear : Bool) (entries : List Entry) (refusal : Refusal) (fault : MakeFault) →
+pub on_refused : {X : Type 0} (view : X → CertificateData) (machine : MachineFile) (most : ℕ) (off on : List Command) (clear : Bool) (entries : List Entry)
+    (refusal : Refusal) (fault : MakeFault) →
     clear ≡ is_none (place_fault machine None (grid machine.step machine.start)) → clear ≡ true → IsSettingMade machine most off (Ok entries) →
     GivesSetting {X = List Entry} (λ m. m) (Err refusal) (IsSettingMade machine most on) → fault ≡ fault_at On refusal →
     GivesMade view (Err fault) (IsMade machine most off on)
 on_refused view machine most off on clear entries refusal fault start here first h same =
     subst (λ f. GivesMade view (Err f) (IsMade machine most off on)) (sym same) (at_on refusal h)
   where
-    at_on : (r : Refusal) → GivesSetting {X = List Entry} (λ m. m) (Err r) (IsSettingMade machine most on) → GivesMade view (Err (fault_at On r)) (IsMade machine most off on)
-    at_on (refusals.NotCleared k) made = (Ok entries, Err k, first, made, ap (λ o. from_start o (join_settings (Ok entries) (Err k))) (sym (no_fixture machine clear start here)))
+    at_on : (r : Refusal) → GivesSetting {X = List Entry} (λ m. m) (Err r) (IsSettingMade machine most on) →
+        GivesMade view (Err (fault_at On r)) (IsMade machine most off on)
+    at_on (refusals.NotCleared k) made =
+        (Ok entries, Err k, first, made, ap (λ o. from_start o (join_settings (Ok entries) (Err k))) (sym (no_fixture machine clear start here)))
     at_on refusals.Memory made = tt
 
 -- what was copied was made too
@@ -220,23 +242,33 @@ copied_made machine most commands entries same is made = subst (λ (l : List Ent
 
 pub both_made : (machine : MachineFile) (most : ℕ) (off on : List Command) (clear : Bool) (off_entries on_entries : List Entry) →
     clear ≡ is_none (place_fault machine None (grid machine.step machine.start)) → clear ≡ true →
-    IsSettingMade machine most off (Ok off_entries) → IsSettingMade machine most on (Ok on_entries) → IsMade machine most off on (Ok (record { off = off_entries; on = on_entries }))
-both_made machine most off on clear off_entries on_entries start here first second =
-    (Ok off_entries, Ok on_entries, first, second, ap (λ o. from_start o (join_settings (Ok off_entries) (Ok on_entries))) (sym (no_fixture machine clear start here)))
+    IsSettingMade machine most off (Ok off_entries) → IsSettingMade machine most on (Ok on_entries) →
+    IsMade machine most off on (Ok (record { off = off_entries; on = on_entries }))
+both_made machine most off on clear off_entries on_entries start here first second = (
+  Ok off_entries,
+  Ok on_entries,
+  first,
+  second,
+  ap (λ o. from_start o (join_settings (Ok off_entries) (Ok on_entries))) (sym (no_fixture machine clear start here)),
+)
 
 pub off_undivided : (machine : MachineFile) (most : ℕ) (off on : List Command) (clear : Bool) (refusal : Refusal) (fault : MakeFault) → 1 ≤ most →
     clear ≡ is_none (place_fault machine None (grid machine.step machine.start)) → clear ≡ true →
     GivesSetting {X = List Entry} (λ m. m) (Err refusal) (IsSettingMade machine most off) → fault ≡ fault_at Off refusal →
     clears_undivided machine off ≡ true → clears_undivided machine on ≡ true → fault ≡ Memory
 off_undivided machine most off on clear refusal fault least start here given same a b =
-    same ∙ refused_undivided machine most off on Off refusal least (off_refused {X = CertificateData} (λ c. c) machine most off on clear refusal (fault_at Off refusal) start here given refl) a b
+    same ∙ refused_undivided machine most off on Off refusal least
+    (off_refused {X = CertificateData} (λ c. c) machine most off on clear refusal (fault_at Off refusal) start here given refl) a b
 
-pub on_undivided : (machine : MachineFile) (most : ℕ) (off on : List Command) (clear : Bool) (entries : List Entry) (refusal : Refusal) (fault : MakeFault) → 1 ≤ most →
+pub on_undivided : (machine : MachineFile) (most : ℕ) (off on : List Command) (clear : Bool) (entries : List Entry) (refusal : Refusal) (fault : MakeFault) →
+    1 ≤ most →
     clear ≡ is_none (place_fault machine None (grid machine.step machine.start)) → clear ≡ true →
-    IsSettingMade machine most off (Ok entries) → GivesSetting {X = List Entry} (λ m. m) (Err refusal) (IsSettingMade machine most on) → fault ≡ fault_at On refusal →
+    IsSettingMade machine most off (Ok entries) → GivesSetting {X = List Entry} (λ m. m) (Err refusal) (IsSettingMade machine most on) →
+    fault ≡ fault_at On refusal →
     clears_undivided machine off ≡ true → clears_undivided machine on ≡ true → fault ≡ Memory
 on_undivided machine most off on clear entries refusal fault least start here first given same a b =
-    same ∙ refused_undivided machine most off on On refusal least (on_refused {X = CertificateData} (λ c. c) machine most off on clear entries refusal (fault_at On refusal) start here first given refl) a b
+    same ∙ refused_undivided machine most off on On refusal least
+    (on_refused {X = CertificateData} (λ c. c) machine most off on clear entries refusal (fault_at On refusal) start here first given refl) a b
 
 pub both_valid : (machine : MachineFile) (most : ℕ) (off on : List Command) (clear : Bool) (off_entries on_entries : List Entry) → 1 ≤ most → most ≤ 65535 →
     clear ≡ is_none (place_fault machine None (grid machine.step machine.start)) → clear ≡ true →

@@ -1,5 +1,6 @@
 -- From one command to the next.
-use Rattle.std.proofs.Common.{◌≡◌, ℕ, ◌+◌, ◌≤◌, ◌<◌, refl, ap, sym, subst, ◌∙◌, drop, get_or, add-one, drop-cons, List, [], ◌∷◌, ◌++◌, length, Some, None, Ok, Err, arith, append_assoc, append-nil, length-append}
+use Rattle.std.proofs.Common.{◌≡◌, ℕ, ◌+◌, ◌≤◌, ◌<◌, refl, ap, sym, subst, ◌∙◌, drop, get_or, add-one, drop-cons, List, [], ◌∷◌, ◌++◌, length, Some, None, Ok}
+use Rattle.std.proofs.Common.{Err, arith, append_assoc, append-nil, length-append}
 use Rattle.std.specs.Prelude.{Option, Result, true, false}
 use Rattle.std.specs.Option.{is_none}
 use Rattle.ngc_fixed_length.specs.Grid.{grid}
@@ -30,24 +31,29 @@ behind_entry motions k pieces (Ok rest) =
 behind_entry motions k pieces (Err refused) = refl
 
 -- a motion for which pieces are found
-pub goes_on : (machine : MachineFile) (most k : ℕ) (tool : Option Tool) (place new_place : Point3) (motions new_motions : List Entry) (m : Motion) (pieces same : List Piece) (actions : List Action) (says rest : Result (List Entry) ℕ) →
-    MayFind machine most tool m.way (Some pieces) → same ≡ pieces → new_motions ≡ motions ++ (record { index = k; pieces = same } ∷ []) → new_place ≡ end_of m.way →
+pub goes_on : (machine : MachineFile) (most k : ℕ) (tool : Option Tool) (place new_place : Point3) (motions new_motions : List Entry) (m : Motion)
+    (pieces same : List Piece) (actions : List Action) (says rest : Result (List Entry) ℕ) →
+    MayFind machine most tool m.way (Some pieces) → same ≡ pieces → new_motions ≡ motions ++ (record { index = k; pieces = same } ∷ []) →
+    new_place ≡ end_of m.way →
     IsMadeFrom machine most (k + 1) tool new_place actions rest → says ≡ behind new_motions rest →
     (all : Result (List Entry) ℕ) × IsMadeFrom machine most k tool place (Move m ∷ actions) all × (says ≡ behind motions all)
 goes_on machine most k tool place new_place motions new_motions m pieces same actions says rest found same_pieces added ends made e = (
   with_entry k pieces rest,
   (Some pieces, rest, found, subst (λ p. IsMadeFrom machine most (k + 1) tool p actions rest) ends made, refl),
-  e ∙ ap (λ ms. behind ms rest) added ∙ ap (λ ps. behind (motions ++ (record { index = k; pieces = ps } ∷ [])) rest) same_pieces ∙ sym (behind_entry motions k pieces rest),
+  e ∙ ap (λ ms. behind ms rest) added ∙ ap (λ ps. behind (motions ++ (record { index = k; pieces = ps } ∷ [])) rest) same_pieces
+      ∙ sym (behind_entry motions k pieces rest),
 )
 
 -- one for which none are found
 pub stops : (machine : MachineFile) (most k : ℕ) (tool : Option Tool) (place : Point3) (motions : List Entry) (m : Motion) (actions : List Action) →
-    MayFind machine most tool m.way None → (all : Result (List Entry) ℕ) × IsMadeFrom machine most k tool place (Move m ∷ actions) all × (Err k ≡ behind motions all)
+    MayFind machine most tool m.way None → (all : Result (List Entry) ℕ) × IsMadeFrom machine most k tool place (Move m ∷ actions) all ×
+    (Err k ≡ behind motions all)
 stops machine most k tool place motions m actions found =
     let rest = some_made machine most (k + 1) tool (end_of m.way) actions in
     (Err k, (None, rest.0, found, rest.1, refl), refl)
 
-met : (found : Option ℕ) (k : ℕ) (motions : List Entry) (rest : Result (List Entry) ℕ) → is_none found ≡ false → Err k ≡ behind motions (unless_met found k rest)
+met : (found : Option ℕ) (k : ℕ) (motions : List Entry) (rest : Result (List Entry) ℕ) → is_none found ≡ false →
+    Err k ≡ behind motions (unless_met found k rest)
 met None k motions rest h = absurd (true≢false h)
   where
     true≢false : true ≡ false → ⊥
@@ -87,8 +93,10 @@ pub none_left : (i : ℕ) (commands : List Command) → length commands ≤ i �
 none_left i commands h = ap actions_of (drop_of_length-le commands {i = i} h)
 
 -- a command that isn't cleared
-pub stopped : {A : Type 0} (machine : MachineFile) (most k : ℕ) (commands : List Command) (action : Action) (left later : List Action) (old new : Progress A) (refusal : Refusal) →
+pub stopped : {A : Type 0} (machine : MachineFile) (most k : ℕ) (commands : List Command) (action : Action) (left later : List Action) (old new : Progress A)
+    (refusal : Refusal) →
     ((says : Result (List Entry) ℕ) → IsGivenFrom machine most k old left says → IsSettingMade machine most commands says) → left ≡ action ∷ later →
     Leads machine most k action old (Err refusal) new → GivesSetting {X = List Entry} (λ m. m) (Err refusal) (IsSettingMade machine most commands)
-stopped machine most k commands action left later old new (NotCleared n) leads split h = leads (Err n) (subst (λ actions. IsGivenFrom machine most k old actions (Err n)) (sym split) (h later))
+stopped machine most k commands action left later old new (NotCleared n) leads split h =
+    leads (Err n) (subst (λ actions. IsGivenFrom machine most k old actions (Err n)) (sym split) (h later))
 stopped machine most k commands action left later old new Memory leads split h = tt

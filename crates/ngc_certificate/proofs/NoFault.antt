@@ -62,20 +62,25 @@ next_unmet : (c : Bool) (i : ℕ) (rest : Option ℕ) (r : Bool) → IsTrue (c &
 next_unmet true i rest r h f = f h
 next_unmet false i rest r h f = absurd (not_true h)
 
-none_met_from : (i : ℕ) (step : ℤ) (tool : Option Tool) (b : GridBox) (fs : List Fixture) → first_met_from i step tool b fs ≡ None → IsTrue (list_all (clears step tool b) fs)
+none_met_from : (i : ℕ) (step : ℤ) (tool : Option Tool) (b : GridBox) (fs : List Fixture) → first_met_from i step tool b fs ≡ None →
+    IsTrue (list_all (clears step tool b) fs)
 none_met_from i step tool b [] h = refl
 none_met_from i step tool b (f ∷ fs) h =
-    next_clear (clears step tool b f) i (first_met_from (i + 1) step tool b fs) (list_all (clears step tool b) fs) h (λ e. none_met_from (i + 1) step tool b fs e)
+    next_clear (clears step tool b f) i (first_met_from (i + 1) step tool b fs) (list_all (clears step tool b) fs) h
+    (λ e. none_met_from (i + 1) step tool b fs e)
 
-clear_from : (i : ℕ) (step : ℤ) (tool : Option Tool) (b : GridBox) (fs : List Fixture) → IsTrue (list_all (clears step tool b) fs) → first_met_from i step tool b fs ≡ None
+clear_from : (i : ℕ) (step : ℤ) (tool : Option Tool) (b : GridBox) (fs : List Fixture) → IsTrue (list_all (clears step tool b) fs) →
+    first_met_from i step tool b fs ≡ None
 clear_from i step tool b [] h = refl
 clear_from i step tool b (f ∷ fs) h =
     next_unmet (clears step tool b f) i (first_met_from (i + 1) step tool b fs) (list_all (clears step tool b) fs) h (λ e. clear_from (i + 1) step tool b fs e)
 
-none_met : (machine : MachineFile) (tool : Option Tool) (b : GridBox) → first_met machine tool b ≡ None → IsTrue (list_all (clears machine.step tool b) machine.fixtures)
+none_met : (machine : MachineFile) (tool : Option Tool) (b : GridBox) → first_met machine tool b ≡ None →
+    IsTrue (list_all (clears machine.step tool b) machine.fixtures)
 none_met machine tool b h = none_met_from 0 machine.step tool b machine.fixtures h
 
-meets_none : (machine : MachineFile) (tool : Option Tool) (b : GridBox) → IsTrue (list_all (clears machine.step tool b) machine.fixtures) → first_met machine tool b ≡ None
+meets_none : (machine : MachineFile) (tool : Option Tool) (b : GridBox) → IsTrue (list_all (clears machine.step tool b) machine.fixtures) →
+    first_met machine tool b ≡ None
 meets_none machine tool b h = clear_from 0 machine.step tool b machine.fixtures h
 
 pub clear_at : (machine : MachineFile) (tool : Option Tool) (p : StepPos) → place_fault machine tool p ≡ None → IsClearAt machine tool p
@@ -86,14 +91,16 @@ unmet_at machine tool p h = meets_none machine tool (only p) h
 
 -- ---- a piece
 
-piece_valid : (machine : MachineFile) (tool : Option Tool) (w : Way) (s : Stretch) (p : Piece) → piece_fault machine tool w s p ≡ None → IsPieceValid machine tool w s p
+piece_valid : (machine : MachineFile) (tool : Option Tool) (w : Way) (s : Stretch) (p : Piece) → piece_fault machine tool w s p ≡ None →
+    IsPieceValid machine tool w s p
 piece_valid machine tool w s p h =
     let a = passed (follows machine.step w s p.end) Chain _ h in
     let b = passed (holds_box p.bounds (derived_box machine.step w s p.end)) NotCovered _ a.1 in
     let c = passed (is_in_travel machine p.bounds) OutsideTravel _ b.1 in
     record { chain = a.0; covers = b.0; travel = c.0; clear = none_met machine tool p.bounds (no_map MeetsFixture (first_met machine tool p.bounds) c.1) }
 
-piece_passes : (machine : MachineFile) (tool : Option Tool) (w : Way) (s : Stretch) (p : Piece) → IsPieceValid machine tool w s p → piece_fault machine tool w s p ≡ None
+piece_passes : (machine : MachineFile) (tool : Option Tool) (w : Way) (s : Stretch) (p : Piece) → IsPieceValid machine tool w s p →
+    piece_fault machine tool w s p ≡ None
 piece_passes machine tool w s p h =
     passes (follows machine.step w s p.end) Chain _ h.chain
     (passes (holds_box p.bounds (derived_box machine.step w s p.end)) NotCovered _ h.covers
@@ -102,17 +109,20 @@ piece_passes machine tool w s p h =
 
 -- ---- the pieces of a motion
 
-valid_from : (machine : MachineFile) (tool : Option Tool) (w : Way) (several : Bool) (j : ℕ) (begin : Cut) (ps : List Piece) → fault_from machine tool w several j begin ps ≡ None → AreValidFrom machine tool w several begin ps
+valid_from : (machine : MachineFile) (tool : Option Tool) (w : Way) (several : Bool) (j : ℕ) (begin : Cut) (ps : List Piece) →
+    fault_from machine tool w several j begin ps ≡ None → AreValidFrom machine tool w several begin ps
 valid_from machine tool w several j begin [] h = absurd (some_none (at_piece j Chain) h)
 valid_from machine tool w several j begin (p ∷ []) h =
     piece_valid machine tool w (stretch several true begin) p (no_map (at_piece j) (piece_fault machine tool w (stretch several true begin) p) h)
 valid_from machine tool w several j begin (p ∷ q ∷ ps) h =
-    let e = neither (option_map (at_piece j) (piece_fault machine tool w (stretch several false begin) p)) (fault_from machine tool w several (j + 1) p.end (q ∷ ps)) h in (
+    let e = neither (option_map (at_piece j) (piece_fault machine tool w (stretch several false begin) p))
+    (fault_from machine tool w several (j + 1) p.end (q ∷ ps)) h in (
       piece_valid machine tool w (stretch several false begin) p (no_map (at_piece j) (piece_fault machine tool w (stretch several false begin) p) e.0),
       valid_from machine tool w several (j + 1) p.end (q ∷ ps) e.1,
     )
 
-passes_from : (machine : MachineFile) (tool : Option Tool) (w : Way) (several : Bool) (j : ℕ) (begin : Cut) (ps : List Piece) → AreValidFrom machine tool w several begin ps → fault_from machine tool w several j begin ps ≡ None
+passes_from : (machine : MachineFile) (tool : Option Tool) (w : Way) (several : Bool) (j : ℕ) (begin : Cut) (ps : List Piece) →
+    AreValidFrom machine tool w several begin ps → fault_from machine tool w several j begin ps ≡ None
 passes_from machine tool w several j begin [] h = absurd h
 passes_from machine tool w several j begin (p ∷ []) h =
     map_none (at_piece j) (piece_fault machine tool w (stretch several true begin) p) (piece_passes machine tool w (stretch several true begin) p h)
@@ -121,10 +131,12 @@ passes_from machine tool w several j begin (p ∷ q ∷ ps) h =
     (map_none (at_piece j) (piece_fault machine tool w (stretch several false begin) p) (piece_passes machine tool w (stretch several false begin) p h.0))
     (passes_from machine tool w several (j + 1) p.end (q ∷ ps) h.1)
 
-pub pieces_valid : (machine : MachineFile) (tool : Option Tool) (w : Way) (ps : List Piece) → pieces_fault machine tool w ps ≡ None → ArePiecesValid machine tool w ps
+pub pieces_valid : (machine : MachineFile) (tool : Option Tool) (w : Way) (ps : List Piece) → pieces_fault machine tool w ps ≡ None →
+    ArePiecesValid machine tool w ps
 pieces_valid machine tool w ps h = valid_from machine tool w (are_several ps) 0 (first_cut w) ps h
 
-pub pieces_pass : (machine : MachineFile) (tool : Option Tool) (w : Way) (ps : List Piece) → ArePiecesValid machine tool w ps → pieces_fault machine tool w ps ≡ None
+pub pieces_pass : (machine : MachineFile) (tool : Option Tool) (w : Way) (ps : List Piece) → ArePiecesValid machine tool w ps →
+    pieces_fault machine tool w ps ≡ None
 pieces_pass machine tool w ps h = passes_from machine tool w (are_several ps) 0 (first_cut w) ps h
 
 -- ---- the law

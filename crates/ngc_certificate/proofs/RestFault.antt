@@ -1,5 +1,6 @@
 -- The refusal of the pieces that are left, a piece at a time.
-use Rattle.std.proofs.Common.{◌≡◌, ℕ, ◌+◌, ◌-◌, ◌<◌, List, [], ◌∷◌, length, drop, get_or, Option, Some, None, Bool, true, false, nat_eq, refl, sym, ◌∙◌, ap, arith, add-one, drop-cons, length-drop}
+use Rattle.std.proofs.Common.{◌≡◌, ℕ, ◌+◌, ◌-◌, ◌<◌, List, [], ◌∷◌, length, drop, get_or, Option, Some, None, Bool, true, false, nat_eq, refl, sym, ◌∙◌, ap}
+use Rattle.std.proofs.Common.{arith, add-one, drop-cons, length-drop}
 use Rattle.std.specs.Option.{option_map}
 use Rattle.std.proofs.lemmas.Bool.Decides.{nat_tests}
 use Rattle.ngc_machine.specs.declared.tools.Tool.{Tool}
@@ -30,7 +31,8 @@ or_none : (x : Option PieceRefusal) → x ≡ (x or None)
 or_none (Some r) = refl
 or_none None = refl
 
-pub one_judged : (file : MachineFile) (tool : Option Tool) (w : Way) (several last : Bool) (i : ℕ) (begin : Cut) (p : Piece) (rest : List Piece) (found : Option PieceFault) →
+pub one_judged : (file : MachineFile) (tool : Option Tool) (w : Way) (several last : Bool) (i : ℕ) (begin : Cut) (p : Piece) (rest : List Piece)
+    (found : Option PieceFault) →
     last ≡ is_empty rest → found ≡ piece_fault file tool w (stretch several last begin) p
     → fault_from file tool w several i begin (p ∷ rest) ≡ (option_map (at_piece i) found or rest_fault file tool w several (i + 1) p.end rest)
 one_judged file tool w several last i begin p [] found e h =

@@ -92,7 +92,8 @@ apart_within f b c w =
     (test_up f.high.z b.low.z c.low.z w.z_low)))))
 
 -- part by part, what is apart from the boxes over a place is apart from those over a place within it
-stacked_within : (f : Fixture) (foot : ℤ) (parts : List Part) (b c : Solid) → Within b c → IsTrue (list_all (are_apart f) (stacked foot parts b)) → IsTrue (list_all (are_apart f) (stacked foot parts c))
+stacked_within : (f : Fixture) (foot : ℤ) (parts : List Part) (b c : Solid) → Within b c → IsTrue (list_all (are_apart f) (stacked foot parts b)) →
+    IsTrue (list_all (are_apart f) (stacked foot parts c))
 stacked_within f foot [] b c w h = refl
 stacked_within f foot (part ∷ parts) b c w h =
     let e = both (are_apart f (filled part foot b)) (list_all (are_apart f) (stacked (foot +ℤ part.length) parts b)) h in
@@ -100,7 +101,8 @@ stacked_within f foot (part ∷ parts) b c w h =
     (apart_within f (filled part foot b) (filled part foot c) (filled_within part foot b c w) e.0)
     (stacked_within f (foot +ℤ part.length) parts b c w e.1)
 
-bodies_within : (f : Fixture) (tool : Option Tool) (b c : Solid) → Within b c → IsTrue (list_all (are_apart f) (bodies tool b)) → IsTrue (list_all (are_apart f) (bodies tool c))
+bodies_within : (f : Fixture) (tool : Option Tool) (b c : Solid) → Within b c → IsTrue (list_all (are_apart f) (bodies tool b)) →
+    IsTrue (list_all (are_apart f) (bodies tool c))
 bodies_within f None b c w h = let e = both (are_apart f b) true h in and (are_apart f c) true (apart_within f b c w e.0) refl
 bodies_within f (Some t) b c w h = stacked_within f t.bottom t.parts b c w h
 

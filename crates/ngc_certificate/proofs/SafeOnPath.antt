@@ -27,7 +27,8 @@ chain_of machine tool w several begin [] v = v
 chain_of machine tool w several begin (p ∷ []) v = v.chain
 chain_of machine tool w several begin (p ∷ q ∷ ps) v = (v.0.chain, chain_of machine tool w several p.end (q ∷ ps) v.1)
 
-split_any : (P : GridBox → Type 0) (b : GridBox) (bs : List GridBox) (k : ℕ) (x : GridBox) → k < length (b ∷ bs) → slice_index_or (b ∷ bs) k x ≡ x → P x → P b ⊎ Any P bs
+split_any : (P : GridBox → Type 0) (b : GridBox) (bs : List GridBox) (k : ℕ) (x : GridBox) → k < length (b ∷ bs) → slice_index_or (b ∷ bs) k x ≡ x → P x →
+    P b ⊎ Any P bs
 split_any P b bs zero x l e h = inl (subst P (sym e) h)
 split_any P b bs (suc k) x l e h = inr (k, x, omega (arith, l), e, h)
 
@@ -41,7 +42,8 @@ safe_in_some machine tool w q s several begin (p ∷ []) v a =
       | inr none ↦ absurd (omega (arith, none.2))
     ]
 safe_in_some machine tool w q s several begin (p ∷ r ∷ ps) v a =
-    elim (split_any (λ b. IsIn b q) (derived_box machine.step w (stretch several false begin) p.end) (boxes_from machine.step w several p.end (map end_of (r ∷ ps))) a.0 a.1 a.2 a.3 a.4) [
+    elim (split_any (λ b. IsIn b q) (derived_box machine.step w (stretch several false begin) p.end)
+    (boxes_from machine.step w several p.end (map end_of (r ∷ ps))) a.0 a.1 a.2 a.3 a.4) [
       | inl k ↦ safe_in_piece machine tool w (stretch several false begin) p q s v.0 k
       | inr later ↦ safe_in_some machine tool w q s several p.end (r ∷ ps) v.1 later
     ]

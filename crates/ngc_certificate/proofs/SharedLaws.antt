@@ -11,7 +11,8 @@ use Rattle.ngc_certificate.specs.Chain.{place_of}
 use Rattle.ngc_certificate.specs.DerivedBox.{arc_box}
 use Rattle.ngc_certificate.specs.Shared.{shared_of}
 
-is_cut : (step : ℤ) (a : ArcShape) (several : Bool) (g : ArcOnGrid) → Cut g ≡ shared_of step (Arc a) several → (several ≡ true) × (g ≡ record { arc = a; step = step })
+is_cut : (step : ℤ) (a : ArcShape) (several : Bool) (g : ArcOnGrid) → Cut g ≡ shared_of step (Arc a) several →
+    (several ≡ true) × (g ≡ record { arc = a; step = step })
 is_cut step a true g e = (refl, cc)
 is_cut step a false g e = absurd cc
 

@@ -57,7 +57,8 @@ pub refused : (machine : MachineFile) (most : ℕ) (tool : Option Tool) (w : Way
 refused machine most tool w i h few failed =
     let x = slice_index_or powers_of_two i 0 in
     ap (cleared_from machine most tool w) (next i h)
-    ∙ fails (pieces_of machine.step w) (is_clear_in machine tool w) (λ c. nat_lt c most) x (drop (i + 1) powers_of_two) (most ∷ []) (few_enough most x few) (sym failed)
+    ∙ fails (pieces_of machine.step w) (is_clear_in machine tool w) (λ c. nat_lt c most) x (drop (i + 1) powers_of_two) (most ∷ []) (few_enough most x few)
+    (sym failed)
 
 pub taken : (machine : MachineFile) (most : ℕ) (tool : Option Tool) (w : Way) (i : ℕ) (pieces : List Piece) → i < 16 → slice_index_or powers_of_two i 0 < most →
     true ≡ is_clear_in machine tool w (slice_index_or powers_of_two i 0) → pieces ≡ pieces_of machine.step w (slice_index_or powers_of_two i 0) →
@@ -65,7 +66,8 @@ pub taken : (machine : MachineFile) (most : ℕ) (tool : Option Tool) (w : Way) 
 taken machine most tool w i pieces h few clear same =
     let x = slice_index_or powers_of_two i 0 in
     ap (cleared_from machine most tool w) (next i h)
-    ∙ found (pieces_of machine.step w) (is_clear_in machine tool w) (λ c. nat_lt c most) x (drop (i + 1) powers_of_two) (most ∷ []) (few_enough most x few) (sym clear)
+    ∙ found (pieces_of machine.step w) (is_clear_in machine tool w) (λ c. nat_lt c most) x (drop (i + 1) powers_of_two) (most ∷ [])
+    (few_enough most x few) (sym clear)
     ∙ ap (λ (ps : List Piece). Some ps) (sym same)
 
 pub last_try : (machine : MachineFile) (most : ℕ) (tool : Option Tool) (w : Way) (i : ℕ) (pieces : List Piece) (clear : Bool) → 16 ≤ i →

@@ -31,7 +31,8 @@ some_uncleared machine most k tool place (Move m ∷ actions) =
     (unless_cleared (is_some found.0) k rest.0, (found.0, rest.0, found.1, rest.1, refl))
 some_uncleared machine most k tool place (_ ∷ actions) = some_uncleared machine most (k + 1) tool place actions
 
-at_mount : (machine : MachineFile) (most k : ℕ) (tool new : Option Tool) (place : Point3) (actions : List Action) (met : Option ℕ) (rest : Result (List Entry) ℕ) →
+at_mount : (machine : MachineFile) (most k : ℕ) (tool new : Option Tool) (place : Point3) (actions : List Action) (met : Option ℕ)
+    (rest : Result (List Entry) ℕ) →
     met ≡ place_fault machine new (grid machine.step place) → BeginsAs rest (AreUnclearedFrom machine most (k + 1) new place actions) →
     BeginsAs (unless_met met k rest) (AreUnclearedFrom machine most k tool place (Mount new ∷ actions))
 at_mount machine most k tool new place actions None (Ok entries) e h = ([], h, ap (λ o. unless_cleared (is_none o) k []) e)
@@ -40,7 +41,8 @@ at_mount machine most k tool new place actions (Some fixture) rest e h =
     let later = some_uncleared machine most (k + 1) new place actions in
     (later.0, (later.0, later.1, ap (λ o. unless_cleared (is_none o) k later.0) e))
 
-at_motion : (machine : MachineFile) (most k : ℕ) (tool : Option Tool) (place : Point3) (m : Motion) (actions : List Action) (found : Option (List Piece)) (rest : Result (List Entry) ℕ) →
+at_motion : (machine : MachineFile) (most k : ℕ) (tool : Option Tool) (place : Point3) (m : Motion) (actions : List Action) (found : Option (List Piece))
+    (rest : Result (List Entry) ℕ) →
     MayFind machine most tool m.way found → BeginsAs rest (AreUnclearedFrom machine most (k + 1) tool (end_of m.way) actions) →
     BeginsAs (with_pieces k found rest) (AreUnclearedFrom machine most k tool place (Move m ∷ actions))
 at_motion machine most k tool place m actions None rest may h =
@@ -92,7 +94,8 @@ none_is_made machine most k tool place (Mount new ∷ actions) h =
 none_is_made machine most k tool place (Move m ∷ actions) h =
     let none = nothing_listed (is_some h.0) k h.1 h.4 in
     let found = pieces_in h.0 none.0 in
-    let later = none_is_made machine most (k + 1) tool (end_of m.way) actions (subst (AreUnclearedFrom machine most (k + 1) tool (end_of m.way) actions) none.1 h.3) in
+    let later = none_is_made machine most (k + 1) tool (end_of m.way) actions
+    (subst (AreUnclearedFrom machine most (k + 1) tool (end_of m.way) actions) none.1 h.3) in
     (record { index = k; pieces = found.0 } ∷ later.0, (h.0, Ok later.0, h.2, later.1, ap (λ o. with_pieces k o (Ok later.0)) (sym found.1)))
 none_is_made machine most k tool place (_ ∷ actions) h = none_is_made machine most (k + 1) tool place actions h
 

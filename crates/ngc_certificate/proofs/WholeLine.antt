@@ -38,7 +38,8 @@ above_product (negsuc a) n h =
 at_most : (a n : ℤ) (k : ℕ) → (a *ℤ pos k) <ℤ ((n *ℤ pos k) +ℤ pos k) → a ≤ℤ n
 at_most a n k h =
     by_lt_z n a
-    (λ (less : n <ℤ a). (let grown : k * (up n + down a + 1) ≤ k * (up a + down n) = mul-le-mul_left k (omega (arith, ints, less)) in absurd (omega (arith, ints, h, grown))))
+    (λ (less : n <ℤ a).
+    (let grown : k * (up n + down a + 1) ≤ k * (up a + down n) = mul-le-mul_left k (omega (arith, ints, less)) in absurd (omega (arith, ints, h, grown))))
     (λ (h : a ≤ℤ n). h)
 
 -- the grid point next to a length is no more than a step away
@@ -94,13 +95,15 @@ no_greater a x y h g = omega (arith, ints, clamps)
 no_less : (a x y : ℤ) → x ≤ℤ a → y ≤ℤ a → int_min a (int_max x y) ≡ int_max x y
 no_less a x y h g = omega (arith, ints, clamps)
 
-low_whole : (k : ℕ) (b e : ℤ) → 0 < k → int_max (low_between (pos k) b e 0 65536) (int_min (nearest b (pos k)) (nearest e (pos k))) ≡ int_min (nearest b (pos k)) (nearest e (pos k))
+low_whole : (k : ℕ) (b e : ℤ) → 0 < k → int_max (low_between (pos k) b e 0 65536) (int_min (nearest b (pos k)) (nearest e (pos k)))
+    ≡ int_min (nearest b (pos k)) (nearest e (pos k))
 low_whole k b e h =
     let least = least_cut b e in
     let m = int_min (cut_at b e 0) (cut_at b e 65536) in
     no_greater _ _ _ (low_under k m b h least.0) (low_under k m e h least.1)
 
-high_whole : (k : ℕ) (b e : ℤ) → 0 < k → int_min (high_between (pos k) b e 0 65536) (int_max (nearest b (pos k)) (nearest e (pos k))) ≡ int_max (nearest b (pos k)) (nearest e (pos k))
+high_whole : (k : ℕ) (b e : ℤ) → 0 < k → int_min (high_between (pos k) b e 0 65536) (int_max (nearest b (pos k)) (nearest e (pos k)))
+    ≡ int_max (nearest b (pos k)) (nearest e (pos k))
 high_whole k b e h =
     let greatest = greatest_cut b e in
     let m = int_max (cut_at b e 0) (cut_at b e 65536) in
@@ -109,7 +112,14 @@ high_whole k b e h =
 pub whole_line : (step : ℤ) (b e : Point3) → IsStep step → line_box step b e 0 65536 ≡ box_of (grid step b) (grid step e)
 whole_line (pos k) b e range =
     let some : 0 < k = omega (arith, ints, range.least) in
-    simp (low_whole k b.x e.x some, low_whole k b.y e.y some, low_whole k b.z e.z some, high_whole k b.x e.x some, high_whole k b.y e.y some, high_whole k b.z e.z some)
+    simp (
+      low_whole k b.x e.x some,
+      low_whole k b.y e.y some,
+      low_whole k b.z e.z some,
+      high_whole k b.x e.x some,
+      high_whole k b.y e.y some,
+      high_whole k b.z e.z some,
+    )
 whole_line (negsuc k) b e range = absurd (omega (arith, ints, range.least))
 
 all_of_line : (s t : ℕ) → (s == 0 && t == 65536) ≡ true → (s ≡ 0) × (t ≡ 65536)

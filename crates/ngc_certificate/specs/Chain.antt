@@ -1,5 +1,6 @@
 -- How the pieces of a motion follow each other. Our own.
-use Rattle.std.specs.Prelude.{ℕ, ◌==◌, nat_lt, ℤ, List, [], ◌∷◌, length, Bool, true, false, not, ◌&&◌, ◌||◌, if◌then◌else◌, IsTrue}
+use Rattle.std.specs.Prelude.{ℕ, ◌==◌, nat_lt, ℤ, List, [], ◌∷◌, length, Bool, true, false, not}
+use Rattle.std.specs.Prelude.{◌&&◌, ◌||◌, if◌then◌else◌, IsTrue}
 use Rattle.ngc_fixed_length.specs.declared.points.Point2.{Point2}
 use Rattle.ngc_arc_geometry.specs.Shape.{ArcShape}
 use Rattle.ngc_arc_geometry.specs.Shape as shapes
@@ -32,7 +33,8 @@ line_follows last s t = nat_lt s t && (not last || t == WHOLE)
 
 -- an arc in one piece ends where the arc does; one in several goes round by its cuts
 abbrev pub arc_follows : ℤ → ArcShape → Stretch → Point2 → Bool
-arc_follows step a s q = if s.several then cut_follows step a s.last (place_of a s.begin) q else is_end a q
+arc_follows step a s q =
+    if s.several then cut_follows step a s.last (place_of a s.begin) q else is_end a q
 
 -- the piece that ends at this cut is of the motion's kind, and follows the one before it
 abbrev pub follows : ℤ → Way → Stretch → Cut → Bool
@@ -50,7 +52,8 @@ abbrev pub ChainFrom : ℤ → Way → Bool → Cut → List Cut → Type 0
 ChainFrom step w several begin [] = ⊥
 ChainFrom step w several begin (cut ∷ []) = IsTrue (follows step w (stretch several true begin) cut)
 ChainFrom step w several begin (cut ∷ next ∷ cuts) =
-    IsTrue (follows step w (stretch several false begin) cut) × ChainFrom step w several cut (next ∷ cuts)
+    IsTrue (follows step w (stretch several false begin) cut) ×
+    ChainFrom step w several cut (next ∷ cuts)
 
 abbrev pub are_several : {A : Type 0} → List A → Bool
 are_several xs = nat_lt 1 (length xs)

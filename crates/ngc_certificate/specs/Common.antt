@@ -1,6 +1,7 @@
 -- What the motions of both settings of a certificate have in common from the first on, and the
 -- certificate that is joined over it. Our own.
-use Rattle.std.specs.Prelude.{◌≡◌, ℕ, ◌<◌, ◌≤◌, List, length, slice_get, Option, Some, None, option_and_then}
+use Rattle.std.specs.Prelude.{◌≡◌, ℕ, ◌<◌, ◌≤◌, List, length, slice_get, Option, Some, None}
+use Rattle.std.specs.Prelude.{option_and_then}
 use Rattle.ngc_canonical.specs.declared.command.Action.{Action}
 use Rattle.ngc_canonical.specs.declared.command.Action.TheVariants.{Move}
 use Rattle.ngc_canonical.specs.declared.command.Command.{Command}
@@ -29,7 +30,8 @@ pub record IsCommonBeginning (off on : List Command) (c : CertificateData) (n : 
   pub off_has : n ≤ length c.off
   pub on_has : n ≤ length c.on
   pub alike : (k : ℕ) → k < n → AreAlike off on (entry_at c.off k) (entry_at c.on k)
-  pub longest : n < length c.off → n < length c.on → ¬ AreAlike off on (entry_at c.off n) (entry_at c.on n)
+  pub longest : n < length c.off → n < length c.on →
+      ¬ AreAlike off on (entry_at c.off n) (entry_at c.on n)
 
 -- a certificate's motions as one of version 2, joined over the longest common beginning
 pub record IsJoinedOf (off on : List Command) (c : CertificateData) (f : Form) : Type 0 where

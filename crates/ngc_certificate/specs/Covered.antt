@@ -22,6 +22,8 @@ Covered = (step : ℤ) (w : Way) (cuts : List Cut) (path : List StepPos) (k : �
 
 -- each point of a path of a motion whose pieces are valid is a safe place for the tool
 abbrev pub SafeOnPath : Type 0
-SafeOnPath = (machine : MachineFile) (tool : Option Tool) (w : Way) (pieces : List Piece) (path : List StepPos) (k : ℕ) →
-    pos 1 ≤ℤ machine.step → IsEvenIfArc w → ArePiecesValid machine tool w pieces → IsPathOf machine.step w path → k < length path →
+SafeOnPath = (machine : MachineFile) (tool : Option Tool) (w : Way) (pieces : List Piece)
+    (path : List StepPos) (k : ℕ) →
+    pos 1 ≤ℤ machine.step → IsEvenIfArc w → ArePiecesValid machine tool w pieces →
+    IsPathOf machine.step w path → k < length path →
     IsSafe machine tool (point path k)

@@ -3,7 +3,8 @@ use Rattle.std.specs.Prelude.{ℕ}
 use Rattle.ngc_certificate.specs.declared.fault.MakeFault.{MakeFault}
 use Rattle.ngc_certificate.specs.declared.fault.MakeFault.TheVariants.{NotCleared, Memory}
 use Rattle.ngc_certificate.specs.declared.fault.PieceFault.{PieceFault}
-use Rattle.ngc_certificate.specs.declared.fault.PieceFault.TheVariants.{Chain, NotCovered, OutsideTravel, MeetsFixture}
+use Rattle.ngc_certificate.specs.declared.fault.PieceFault.TheVariants.{Chain, NotCovered}
+use Rattle.ngc_certificate.specs.declared.fault.PieceFault.TheVariants.{OutsideTravel, MeetsFixture}
 
 abbrev pub piece_number : PieceFault → ℕ
 piece_number Chain = 313

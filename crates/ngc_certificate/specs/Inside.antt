@@ -50,10 +50,13 @@ whole_box step (Line b e) = box_of (grid step b) (grid step e)
 whole_box step (Arc a) = swept_box step a
 
 -- the first refusal of the pieces that are left
-abbrev pub rest_fault : MachineFile → Option Tool → Way → Bool → ℕ → Cut → List Piece → Option PieceRefusal
+abbrev pub rest_fault : MachineFile → Option Tool → Way → Bool → ℕ → Cut → List Piece →
+    Option PieceRefusal
 rest_fault machine tool w several j begin [] = None
-rest_fault machine tool w several j begin (p ∷ ps) = fault_from machine tool w several j begin (p ∷ ps)
+rest_fault machine tool w several j begin (p ∷ ps) =
+    fault_from machine tool w several j begin (p ∷ ps)
 
 -- and of all of them, where there are some
 abbrev pub fault_of_some : MachineFile → Option Tool → Way → List Piece → Option PieceRefusal
-fault_of_some machine tool w pieces = rest_fault machine tool w (are_several pieces) 0 (first_cut w) pieces
+fault_of_some machine tool w pieces =
+    rest_fault machine tool w (are_several pieces) 0 (first_cut w) pieces

@@ -1,6 +1,8 @@
 -- The certificate that is made for the commands of a program at both settings of block delete. Our
 -- own.
-use Rattle.std.specs.Prelude.{◌≡◌, ℕ, zero, suc, ◌+◌, ◌*◌, ◌/◌, ◌≤◌, nat_lt, ℤ, List, [], ◌∷◌, ◌++◌, length, Option, Some, None, option_map, Result, Ok, Err, Bool, true, false, ◌&&◌}
+use Rattle.std.specs.Prelude.{◌≡◌, ℕ, zero, suc, ◌+◌, ◌*◌, ◌/◌, ◌≤◌, nat_lt, ℤ, List, [], ◌∷◌, ◌++◌}
+use Rattle.std.specs.Prelude.{length, Option, Some, None, option_map, Result, Ok, Err, Bool, true}
+use Rattle.std.specs.Prelude.{false, ◌&&◌}
 use Rattle.std.specs.List.{find, filter}
 use Rattle.std.specs.Option.{is_none}
 use Rattle.ngc_fixed_length.specs.Grid.{grid}
@@ -33,7 +35,8 @@ line_piece step b e s t = record { end = Part t; bounds = line_box step b e s t 
 abbrev pub line_pieces_from : ℤ → Point3 → Point3 → ℕ → ℕ → ℕ → List Piece
 line_pieces_from step b e c k zero = []
 line_pieces_from step b e c k (suc left) =
-    line_piece step b e (WHOLE * k / c) (WHOLE * (k + 1) / c) ∷ line_pieces_from step b e c (k + 1) left
+    line_piece step b e (WHOLE * k / c) (WHOLE * (k + 1) / c)
+    ∷ line_pieces_from step b e c (k + 1) left
 
 -- a motion undivided, or a line in c pieces
 abbrev pub pieces_of : ℤ → Way → ℕ → List Piece
@@ -42,7 +45,8 @@ pieces_of step (Arc a) c = record { end = Place (shapes.end_of a); bounds = swep
 
 -- how many pieces are tried: the powers of two below the most, and then the most itself
 abbrev pub powers_of_two : List ℕ
-powers_of_two = 1 ∷ 2 ∷ 4 ∷ 8 ∷ 16 ∷ 32 ∷ 64 ∷ 128 ∷ 256 ∷ 512 ∷ 1024 ∷ 2048 ∷ 4096 ∷ 8192 ∷ 16384 ∷ 32768 ∷ []
+powers_of_two =
+    1 ∷ 2 ∷ 4 ∷ 8 ∷ 16 ∷ 32 ∷ 64 ∷ 128 ∷ 256 ∷ 512 ∷ 1024 ∷ 2048 ∷ 4096 ∷ 8192 ∷ 16384 ∷ 32768 ∷ []
 
 abbrev pub tries : ℕ → List ℕ
 tries most = filter (λ c. nat_lt c most) powers_of_two ++ most ∷ []
@@ -50,7 +54,9 @@ tries most = filter (λ c. nat_lt c most) powers_of_two ++ most ∷ []
 -- the pieces of the first try that no refusal meets
 abbrev pub cleared : MachineFile → ℕ → Option Tool → Way → Option (List Piece)
 cleared machine most tool w =
-    option_map (pieces_of machine.step w) (find (λ c. is_none (pieces_fault machine tool w (pieces_of machine.step w c))) (tries most))
+    option_map (pieces_of machine.step w)
+    (find (λ c. is_none (pieces_fault machine tool w (pieces_of machine.step w c)))
+    (tries most))
 
 -- one motion more, before those that follow
 abbrev pub with_entry : ℕ → List Piece → Result (List Entry) ℕ → Result (List Entry) ℕ
@@ -69,7 +75,8 @@ unless_met (Some fixture) k rest = Err k
 -- ---- what may be found for a motion
 
 -- an arc in several pieces, as many as are allowed, that no refusal meets
-pub record IsCutClear (machine : MachineFile) (most : ℕ) (tool : Option Tool) (a : ArcShape) (pieces : List Piece) : Type 0 where
+pub record IsCutClear (machine : MachineFile) (most : ℕ) (tool : Option Tool) (a : ArcShape)
+    (pieces : List Piece) : Type 0 where
   pub few : length pieces ≤ most
   pub clear : pieces_fault machine tool (Arc a) pieces ≡ None
 
@@ -79,9 +86,12 @@ MayCut machine most tool a None = Unit {0}
 MayCut machine most tool a (Some pieces) = IsCutClear machine most tool a pieces
 
 -- an arc stands in one piece where that clears; else where it is cut is free
-pub record MayStand (machine : MachineFile) (most : ℕ) (tool : Option Tool) (a : ArcShape) (found : Option (List Piece)) : Type 0 where
-  pub whole : is_none (pieces_fault machine tool (Arc a) (pieces_of machine.step (Arc a) 1)) ≡ true → found ≡ Some (pieces_of machine.step (Arc a) 1)
-  pub cut : is_none (pieces_fault machine tool (Arc a) (pieces_of machine.step (Arc a) 1)) ≡ false → MayCut machine most tool a found
+pub record MayStand (machine : MachineFile) (most : ℕ) (tool : Option Tool) (a : ArcShape)
+    (found : Option (List Piece)) : Type 0 where
+  pub whole : is_none (pieces_fault machine tool (Arc a) (pieces_of machine.step (Arc a) 1))
+      ≡ true → found ≡ Some (pieces_of machine.step (Arc a) 1)
+  pub cut : is_none (pieces_fault machine tool (Arc a) (pieces_of machine.step (Arc a) 1)) ≡ false →
+      MayCut machine most tool a found
 
 -- a line stands in the first try that no refusal meets
 abbrev pub MayFind : MachineFile → ℕ → Option Tool → Way → Option (List Piece) → Type 0
@@ -93,37 +103,48 @@ MayFind machine most tool (Arc a) found = MayStand machine most tool a found
 -- From command k on, with the tool mounted and the place reached so far: each motion with pieces
 -- that may be found for it, or the first command that isn't cleared, a motion for which none are
 -- found or a tool change that meets a fixture.
-abbrev pub IsMadeFrom : MachineFile → ℕ → ℕ → Option Tool → Point3 → List Action → Result (List Entry) ℕ → Type 0
+abbrev pub IsMadeFrom : MachineFile → ℕ → ℕ → Option Tool → Point3 → List Action →
+    Result (List Entry) ℕ → Type 0
 IsMadeFrom machine most k tool place [] says = says ≡ Ok []
 IsMadeFrom machine most k tool place (Mount new ∷ actions) says =
     (rest : Result (List Entry) ℕ) × IsMadeFrom machine most (k + 1) new place actions rest
     × (says ≡ unless_met (place_fault machine new (grid machine.step place)) k rest)
 IsMadeFrom machine most k tool place (Move m ∷ actions) says =
-    (found : Option (List Piece)) × (rest : Result (List Entry) ℕ) × MayFind machine most tool m.way found
-    × IsMadeFrom machine most (k + 1) tool (end_of m.way) actions rest × (says ≡ with_pieces k found rest)
-IsMadeFrom machine most k tool place (_ ∷ actions) says = IsMadeFrom machine most (k + 1) tool place actions says
+    (found : Option (List Piece)) × (rest : Result (List Entry) ℕ) ×
+    MayFind machine most tool m.way found
+    × IsMadeFrom machine most (k + 1) tool (end_of m.way) actions rest ×
+    (says ≡ with_pieces k found rest)
+IsMadeFrom machine most k tool place (_ ∷ actions) says =
+    IsMadeFrom machine most (k + 1) tool place actions says
 
 abbrev pub IsSettingMade : MachineFile → ℕ → List Command → Result (List Entry) ℕ → Type 0
-IsSettingMade machine most commands says = IsMadeFrom machine most 0 None machine.start (actions_of commands) says
+IsSettingMade machine most commands says =
+    IsMadeFrom machine most 0 None machine.start (actions_of commands) says
 
 -- both settings, or the first command that isn't cleared; that of a start point which isn't clear
 -- is command 0, block delete off
-abbrev pub join_settings : Result (List Entry) ℕ → Result (List Entry) ℕ → Result CertificateData MakeFault
+abbrev pub join_settings : Result (List Entry) ℕ → Result (List Entry) ℕ →
+    Result CertificateData MakeFault
 join_settings (Err k) on = Err (NotCleared Off k)
 join_settings (Ok off) (Err k) = Err (NotCleared On k)
 join_settings (Ok off) (Ok on) = Ok (record { off = off; on = on })
 
-abbrev pub from_start : Option ℕ → Result CertificateData MakeFault → Result CertificateData MakeFault
+abbrev pub from_start : Option ℕ → Result CertificateData MakeFault →
+    Result CertificateData MakeFault
 from_start None rest = rest
 from_start (Some fixture) rest = Err (NotCleared Off 0)
 
-abbrev pub IsMade : MachineFile → ℕ → List Command → List Command → Result CertificateData MakeFault → Type 0
+abbrev pub IsMade : MachineFile → ℕ → List Command → List Command →
+    Result CertificateData MakeFault → Type 0
 IsMade machine most off on says =
-    (first : Result (List Entry) ℕ) × (second : Result (List Entry) ℕ) × IsSettingMade machine most off first × IsSettingMade machine most on second
-    × (says ≡ from_start (place_fault machine None (grid machine.step machine.start)) (join_settings first second))
+    (first : Result (List Entry) ℕ) × (second : Result (List Entry) ℕ) ×
+    IsSettingMade machine most off first × IsSettingMade machine most on second
+    × (says ≡ from_start (place_fault machine None (grid machine.step machine.start))
+    (join_settings first second))
 
 -- an answer that may be given, unless memory ran out
-abbrev pub GivesMade : {X : Type 0} → (X → CertificateData) → Result X MakeFault → (Result CertificateData MakeFault → Type 0) → Type 0
+abbrev pub GivesMade : {X : Type 0} → (X → CertificateData) → Result X MakeFault →
+    (Result CertificateData MakeFault → Type 0) → Type 0
 GivesMade view (Ok x) May = May (Ok (view x))
 GivesMade view (Err (NotCleared s k)) May = May (Err (NotCleared s k))
 GivesMade view (Err Memory) May = Unit {0}
@@ -132,11 +153,14 @@ GivesMade view (Err Memory) May = Unit {0}
 abbrev pub clears_from : MachineFile → Option Tool → Point3 → List Action → Bool
 clears_from machine tool place [] = true
 clears_from machine tool place (Mount new ∷ actions) =
-    is_none (place_fault machine new (grid machine.step place)) && clears_from machine new place actions
+    is_none (place_fault machine new (grid machine.step place))
+    && clears_from machine new place actions
 clears_from machine tool place (Move m ∷ actions) =
-    is_none (pieces_fault machine tool m.way (pieces_of machine.step m.way 1)) && clears_from machine tool (end_of m.way) actions
+    is_none (pieces_fault machine tool m.way (pieces_of machine.step m.way 1))
+    && clears_from machine tool (end_of m.way) actions
 clears_from machine tool place (_ ∷ actions) = clears_from machine tool place actions
 
 abbrev pub clears_undivided : MachineFile → List Command → Bool
 clears_undivided machine commands =
-    is_none (place_fault machine None (grid machine.step machine.start)) && clears_from machine None machine.start (actions_of commands)
+    is_none (place_fault machine None (grid machine.step machine.start))
+    && clears_from machine None machine.start (actions_of commands)

@@ -1,5 +1,6 @@
 -- How far the maker has come in the commands of a setting. Our own.
-use Rattle.std.specs.Prelude.{◌≡◌, ℕ, ◌+◌, ◌≤◌, ℤ, List, ◌∷◌, ◌++◌, length, Option, Some, None, Result, Ok, Err, Bool, if◌then◌else◌}
+use Rattle.std.specs.Prelude.{◌≡◌, ℕ, ◌+◌, ◌≤◌, ℤ, List, ◌∷◌, ◌++◌, length, Option, Some, None}
+use Rattle.std.specs.Prelude.{Result, Ok, Err, Bool, if◌then◌else◌}
 use Rattle.ngc_arc_geometry.specs.Shape.{ArcShape}
 use Rattle.ngc_arc_geometry.specs.Shape as shapes
 use Rattle.ngc_arc_geometry.specs.Swept.{swept_box}
@@ -28,7 +29,8 @@ whole_arc step a = record { end = Place (shapes.end_of a); bounds = swept_box st
 
 -- no refusal meets a motion in so many pieces
 abbrev pub is_clear_in : MachineFile → Option Tool → Way → ℕ → Bool
-is_clear_in machine tool w count = is_none (pieces_fault machine tool w (pieces_of machine.step w count))
+is_clear_in machine tool w count =
+    is_none (pieces_fault machine tool w (pieces_of machine.step w count))
 
 -- no fixture meets the tool where the axes stand at a place
 abbrev pub is_clear_at : MachineFile → Option Tool → Point3 → Bool
@@ -44,20 +46,27 @@ behind entries (Ok rest) = Ok (entries ++ rest)
 behind entries (Err k) = Err k
 
 -- what a setting may give, from command k on, where the commands that are left do this
-abbrev pub IsGivenFrom : {A : Type 0} → MachineFile → ℕ → ℕ → Progress A → List Action → Result (List Entry) ℕ → Type 0
+abbrev pub IsGivenFrom : {A : Type 0} → MachineFile → ℕ → ℕ → Progress A → List Action →
+    Result (List Entry) ℕ → Type 0
 IsGivenFrom machine most k p actions says =
-    (rest : Result (List Entry) ℕ) × IsMadeFrom machine most k p.tool p.place actions rest × (says ≡ behind p.motions rest)
+    (rest : Result (List Entry) ℕ) × IsMadeFrom machine most k p.tool p.place actions rest ×
+    (says ≡ behind p.motions rest)
 
 -- command k leads on, or it isn't cleared, unless memory ran out
-abbrev pub Leads : {A : Type 0} → MachineFile → ℕ → ℕ → Action → Progress A → Result (Unit {0}) Refusal → Progress A → Type 0
+abbrev pub Leads : {A : Type 0} → MachineFile → ℕ → ℕ → Action → Progress A →
+    Result (Unit {0}) Refusal → Progress A → Type 0
 Leads machine most k action old (Ok done) new =
-    ((actions : List Action) (says : Result (List Entry) ℕ) → IsGivenFrom machine most (k + 1) new actions says → IsGivenFrom machine most k old (action ∷ actions) says)
+    ((actions : List Action) (says : Result (List Entry) ℕ) →
+    IsGivenFrom machine most (k + 1) new actions says →
+    IsGivenFrom machine most k old (action ∷ actions) says)
     × (length new.motions ≤ length old.motions + 1)
-Leads machine most k action old (Err (NotCleared command)) new = (actions : List Action) → IsGivenFrom machine most k old (action ∷ actions) (Err command)
+Leads machine most k action old (Err (NotCleared command)) new =
+    (actions : List Action) → IsGivenFrom machine most k old (action ∷ actions) (Err command)
 Leads machine most k action old (Err Memory) new = Unit {0}
 
 -- an answer that may be given, unless memory ran out
-abbrev pub GivesSetting : {X : Type 0} → (X → List Entry) → Result X Refusal → (Result (List Entry) ℕ → Type 0) → Type 0
+abbrev pub GivesSetting : {X : Type 0} → (X → List Entry) → Result X Refusal →
+    (Result (List Entry) ℕ → Type 0) → Type 0
 GivesSetting view (Ok x) May = May (Ok (view x))
 GivesSetting view (Err (NotCleared command)) May = May (Err command)
 GivesSetting view (Err Memory) May = Unit {0}

@@ -9,7 +9,8 @@ use Rattle.ngc_certificate_text.specs.declared.piece.Piece.{Piece}
 use Rattle.ngc_certificate.specs.PieceFault.{ArePiecesValid, pieces_fault, place_fault}
 
 abbrev pub NoPiecesFaultIsValid : Type 0
-NoPiecesFaultIsValid = (machine : MachineFile) (tool : Option Tool) (w : Way) (pieces : List Piece) →
+NoPiecesFaultIsValid =
+    (machine : MachineFile) (tool : Option Tool) (w : Way) (pieces : List Piece) →
     (pieces_fault machine tool w pieces ≡ None) ↔ ArePiecesValid machine tool w pieces
 
 abbrev pub NoPlaceFaultIsClear : Type 0

@@ -1,5 +1,6 @@
 -- The commands of a setting that aren't cleared. Our own.
-use Rattle.std.specs.Prelude.{◌≡◌, ℕ, ◌+◌, List, [], ◌∷◌, Option, None, Result, Ok, Err, Bool, true, false}
+use Rattle.std.specs.Prelude.{◌≡◌, ℕ, ◌+◌, List, [], ◌∷◌, Option, None, Result, Ok, Err, Bool, true}
+use Rattle.std.specs.Prelude.{false}
 use Rattle.std.specs.Option.{is_some, is_none}
 use Rattle.ngc_fixed_length.specs.Grid.{grid}
 use Rattle.ngc_fixed_length.specs.declared.points.Point3.{Point3}
@@ -23,19 +24,23 @@ unless_cleared false k ks = k ∷ ks
 -- From command k on, with the tool mounted and the place reached so far: each command that isn't
 -- cleared, a motion for which no pieces are found or a tool change that meets a fixture. Behind it
 -- the motion is at its end all the same, and the tool mounted.
-abbrev pub AreUnclearedFrom : MachineFile → ℕ → ℕ → Option Tool → Point3 → List Action → List ℕ → Type 0
+abbrev pub AreUnclearedFrom : MachineFile → ℕ → ℕ → Option Tool → Point3 → List Action →
+    List ℕ → Type 0
 AreUnclearedFrom machine most k tool place [] ks = ks ≡ []
 AreUnclearedFrom machine most k tool place (Mount new ∷ actions) ks =
     (rest : List ℕ) × AreUnclearedFrom machine most (k + 1) new place actions rest
     × (ks ≡ unless_cleared (is_none (place_fault machine new (grid machine.step place))) k rest)
 AreUnclearedFrom machine most k tool place (Move m ∷ actions) ks =
     (found : Option (List Piece)) × (rest : List ℕ) × MayFind machine most tool m.way found
-    × AreUnclearedFrom machine most (k + 1) tool (end_of m.way) actions rest × (ks ≡ unless_cleared (is_some found) k rest)
-AreUnclearedFrom machine most k tool place (_ ∷ actions) ks = AreUnclearedFrom machine most (k + 1) tool place actions ks
+    × AreUnclearedFrom machine most (k + 1) tool (end_of m.way) actions rest ×
+    (ks ≡ unless_cleared (is_some found) k rest)
+AreUnclearedFrom machine most k tool place (_ ∷ actions) ks =
+    AreUnclearedFrom machine most (k + 1) tool place actions ks
 
 -- all of a setting, from the machine's start with no tool mounted
 abbrev pub AreUncleared : MachineFile → ℕ → List Command → List ℕ → Type 0
-AreUncleared machine most commands ks = AreUnclearedFrom machine most 0 None machine.start (actions_of commands) ks
+AreUncleared machine most commands ks =
+    AreUnclearedFrom machine most 0 None machine.start (actions_of commands) ks
 
 -- ---- beside what is made of the setting
 
@@ -46,18 +51,22 @@ BeginsAs (Err k) May = (ks : List ℕ) × May (k ∷ ks)
 
 -- what is made of a setting says which command may be the first
 abbrev pub MadeSaysUncleared : Type 0
-MadeSaysUncleared = (machine : MachineFile) (most : ℕ) (commands : List Command) (says : Result (List Entry) ℕ) →
+MadeSaysUncleared =
+    (machine : MachineFile) (most : ℕ) (commands : List Command) (says : Result (List Entry) ℕ) →
     IsSettingMade machine most commands says → BeginsAs says (AreUncleared machine most commands)
 
 -- and where there may be none, motions may be made
 abbrev pub NoneUnclearedIsMade : Type 0
 NoneUnclearedIsMade = (machine : MachineFile) (most : ℕ) (commands : List Command) →
-    AreUncleared machine most commands [] → (entries : List Entry) × IsSettingMade machine most commands (Ok entries)
+    AreUncleared machine most commands [] →
+    (entries : List Entry) × IsSettingMade machine most commands (Ok entries)
 
 -- ---- from one command to the next
 
 -- command k leads on, cleared or not
 abbrev pub LeadsPast : MachineFile → ℕ → ℕ → Action → Reached → Bool → Reached → Type 0
 LeadsPast machine most k action old clear new =
-    (actions : List Action) (ks : List ℕ) → AreUnclearedFrom machine most (k + 1) new.tool new.place actions ks →
-    AreUnclearedFrom machine most k old.tool old.place (action ∷ actions) (unless_cleared clear k ks)
+    (actions : List Action) (ks : List ℕ) →
+    AreUnclearedFrom machine most (k + 1) new.tool new.place actions ks →
+    AreUnclearedFrom machine most k old.tool old.place (action ∷ actions)
+    (unless_cleared clear k ks)

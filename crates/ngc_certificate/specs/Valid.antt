@@ -19,11 +19,14 @@ AreClearFrom machine tool place [] entries = Unit {0}
 AreClearFrom machine tool place (Mount new ∷ actions) entries =
     IsClearAt machine new (grid machine.step place) × AreClearFrom machine new place actions entries
 AreClearFrom machine tool place (Move m ∷ actions) (entry ∷ entries) =
-    ArePiecesValid machine tool m.way entry.pieces × AreClearFrom machine tool (end_of m.way) actions entries
+    ArePiecesValid machine tool m.way entry.pieces ×
+    AreClearFrom machine tool (end_of m.way) actions entries
 AreClearFrom machine tool place (Move m ∷ actions) [] = ⊥
-AreClearFrom machine tool place (_ ∷ actions) entries = AreClearFrom machine tool place actions entries
+AreClearFrom machine tool place (_ ∷ actions) entries =
+    AreClearFrom machine tool place actions entries
 
-pub record IsValid (machine : MachineFile) (commands : List Command) (entries : List Entry) : Type 0 where
+pub record IsValid (machine : MachineFile) (commands : List Command) (entries : List Entry) :
+    Type 0 where
   -- the motions are those of the commands
   pub motions : map (λ entry. entry.index) entries ≡ motion_indices 0 (actions_of commands)
   pub start : IsClearAt machine None (grid machine.step machine.start)

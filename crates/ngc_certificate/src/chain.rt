@@ -1,6 +1,8 @@
 ghost use Rattle.std.specs.Prelude.{◌≡◌, ℤ};
 ghost use Rattle.ngc_canonical.specs.declared.movement.Way.TheVariants as ways;
-ghost use Rattle.ngc_certificate.specs.Chain.{first_cut as first_cut_of, part_of, place_of, line_follows as line_goes_on, arc_follows as arc_goes_on, follows as goes_on};
+ghost use Rattle.ngc_certificate.specs.Chain.{first_cut as first_cut_of, part_of, place_of};
+ghost use Rattle.ngc_certificate.specs.Chain.{line_follows as line_goes_on};
+ghost use Rattle.ngc_certificate.specs.Chain.{arc_follows as arc_goes_on, follows as goes_on};
 ghost use Rattle.ngc_certificate.specs.Shared.{shared_of};
 
 use crate::shared::Shared;
@@ -52,7 +54,8 @@ fn line_follows(last: bool, from: u32, to: u32) -> bool
 
 /// An arc in one piece ends where the arc does; one in several goes round by its cuts.
 fn arc_follows(arc: &Arc, shared: &Shared, stretch: &Stretch, place: &Point2) -> bool
-    ensures { (step : ℤ) → shared.now ≡ shared_of step (ways.Arc arc.now) stretch.now.several → result ≡ arc_goes_on step arc.now stretch.now place.now }
+    ensures { (step : ℤ) → shared.now ≡ shared_of step (ways.Arc arc.now) stretch.now.several →
+        result ≡ arc_goes_on step arc.now stretch.now place.now }
 {
     match shared {
         Shared::Cut(cut_arc) => {
@@ -64,7 +67,8 @@ fn arc_follows(arc: &Arc, shared: &Shared, stretch: &Stretch, place: &Point2) ->
 
 /// The piece that ends at a cut is of the motion's kind, and follows the one before it.
 pub(crate) fn follows(way: &Way, shared: &Shared, stretch: &Stretch, cut: &Cut) -> bool
-    ensures { (step : ℤ) → shared.now ≡ shared_of step way.now stretch.now.several → result ≡ goes_on step way.now stretch.now cut.now }
+    ensures { (step : ℤ) → shared.now ≡ shared_of step way.now stretch.now.several →
+        result ≡ goes_on step way.now stretch.now cut.now }
 {
     match (way, cut) {
         (Way::Line { .. }, Cut::Part(part)) => line_follows(

@@ -1,4 +1,5 @@
-ghost use Rattle.std.specs.Prelude.{◌≡◌, ◌==◌, ◌&&◌, ◌+◌, ◌*◌, ◌^◌, ◌≤◌, max, pos, ◌≤ℤ◌, ◌*ℤ◌, ◌-ℤ◌, unsigned_abs};
+ghost use Rattle.std.specs.Prelude.{◌≡◌, ◌==◌, ◌&&◌, ◌+◌, ◌*◌, ◌^◌, ◌≤◌, max, pos, ◌≤ℤ◌, ◌*ℤ◌};
+ghost use Rattle.std.specs.Prelude.{◌-ℤ◌, unsigned_abs};
 ghost use Rattle.std.specs.Int.{int_max, int_min};
 ghost use Rattle.ngc_fixed_length.specs.Length.{IsStep};
 ghost use Rattle.ngc_fixed_length.specs.Boxes.{grid_above, grid_below};
@@ -94,8 +95,10 @@ fn first_grid_point(step: i128, parts: i128) -> i64
 
 /// The lesser of two cuts.
 fn lesser_cut(start: Nm, end: Nm, cuts: &Cuts) -> i128
-    ensures value { result ≡ int_min (at_cut start end cuts.now.from) (at_cut start end cuts.now.to) }
-    ensures bound { unsigned_abs result ≤ 6553600000000000 + 200000000000 * max cuts.now.from cuts.now.to }
+    ensures value { result ≡ int_min (at_cut start end cuts.now.from)
+        (at_cut start end cuts.now.to) }
+    ensures bound { unsigned_abs result ≤ 6553600000000000
+        + 200000000000 * max cuts.now.from cuts.now.to }
     ensures reach { unsigned_abs result ≤ 9 * 10 ^ 20 }
 {
     cut_at(start, end, cuts.from).min(cut_at(start, end, cuts.to))
@@ -103,8 +106,10 @@ fn lesser_cut(start: Nm, end: Nm, cuts: &Cuts) -> i128
 
 /// The greater of two cuts.
 fn greater_cut(start: Nm, end: Nm, cuts: &Cuts) -> i128
-    ensures value { result ≡ int_max (at_cut start end cuts.now.from) (at_cut start end cuts.now.to) }
-    ensures bound { unsigned_abs result ≤ 6553600000000000 + 200000000000 * max cuts.now.from cuts.now.to }
+    ensures value { result ≡ int_max (at_cut start end cuts.now.from)
+        (at_cut start end cuts.now.to) }
+    ensures bound { unsigned_abs result ≤ 6553600000000000
+        + 200000000000 * max cuts.now.from cuts.now.to }
     ensures reach { unsigned_abs result ≤ 9 * 10 ^ 20 }
 {
     cut_at(start, end, cuts.from).max(cut_at(start, end, cuts.to))

@@ -3,10 +3,14 @@ ghost use Rattle.ngc_canonical.specs.declared.movement.Way.TheVariants as ways;
 ghost use Rattle.std.specs.Int.{w32, int_max, int_min};
 ghost use Rattle.ngc_fixed_length.specs.Grid.{grid};
 ghost use Rattle.ngc_fixed_length.specs.Length.{IsStep};
-ghost use Rattle.ngc_fixed_length.specs.Boxes.{box_of, common_box, holds_box, lesser_corner, greater_corner};
+ghost use Rattle.ngc_fixed_length.specs.Boxes.{box_of, common_box, holds_box, lesser_corner};
+ghost use Rattle.ngc_fixed_length.specs.Boxes.{greater_corner};
 ghost use Rattle.ngc_certificate.specs.Chain.{place_of as place_of_cut};
-ghost use Rattle.ngc_certificate.specs.DerivedBox.{low_between, high_between, line_box as box_of_line, arc_box as box_of_arc, derived_box as box_derived};
-ghost use Rattle.ngc_certificate.specs.Inside.{IsOnLine, IsNarrow, box_grown, corner_of, bounds_of, whole_box as box_of_whole};
+ghost use Rattle.ngc_certificate.specs.DerivedBox.{low_between, high_between};
+ghost use Rattle.ngc_certificate.specs.DerivedBox.{line_box as box_of_line, arc_box as box_of_arc};
+ghost use Rattle.ngc_certificate.specs.DerivedBox.{derived_box as box_derived};
+ghost use Rattle.ngc_certificate.specs.Inside.{IsOnLine, IsNarrow, box_grown, corner_of, bounds_of};
+ghost use Rattle.ngc_certificate.specs.Inside.{whole_box as box_of_whole};
 ghost use Rattle.ngc_certificate.specs.Shared.{shared_of};
 
 use crate::bounds::{Bounds, Corner};
@@ -31,7 +35,8 @@ fn first_needed(step: Nm, start: Nm, end: Nm, cuts: &Cuts, least: i32) -> i64
 /// The last coordinate that a piece of a line needs, in steps; the line's own is `greatest`.
 fn last_needed(step: Nm, start: Nm, end: Nm, cuts: &Cuts, greatest: i32) -> i64
     requires { IsStep step }
-    ensures value { result ≡ int_min (high_between step start end cuts.now.from cuts.now.to) greatest }
+    ensures value { result ≡ int_min
+        (high_between step start end cuts.now.from cuts.now.to) greatest }
     ensures narrow { IsOnLine cuts.now → FitsSigned w32 result }
 {
     last_between(step, start, end, cuts).min(i64::from(greatest))
@@ -40,7 +45,8 @@ fn last_needed(step: Nm, start: Nm, end: Nm, cuts: &Cuts, greatest: i32) -> i64
 /// The lowest corner that a piece of a line needs; the line's own is `least`.
 fn lowest_needed(step: Nm, start: &Point3, end: &Point3, cuts: &Cuts, least: &StepPos) -> Corner
     requires { IsStep step }
-    ensures value { corner_of result ≡ greater_corner (box_grown step start.now end.now cuts.now).low least.now }
+    ensures value { corner_of result ≡ greater_corner
+        (box_grown step start.now end.now cuts.now).low least.now }
     ensures narrow { IsOnLine cuts.now → IsNarrow result }
 {
     Corner {
@@ -53,7 +59,8 @@ fn lowest_needed(step: Nm, start: &Point3, end: &Point3, cuts: &Cuts, least: &St
 /// The highest corner that a piece of a line needs; the line's own is `greatest`.
 fn highest_needed(step: Nm, start: &Point3, end: &Point3, cuts: &Cuts, greatest: &StepPos) -> Corner
     requires { IsStep step }
-    ensures value { corner_of result ≡ lesser_corner (box_grown step start.now end.now cuts.now).high greatest.now }
+    ensures value { corner_of result ≡ lesser_corner
+        (box_grown step start.now end.now cuts.now).high greatest.now }
     ensures narrow { IsOnLine cuts.now → IsNarrow result }
 {
     Corner {
@@ -66,7 +73,8 @@ fn highest_needed(step: Nm, start: &Point3, end: &Point3, cuts: &Cuts, greatest:
 /// The box that a piece of a line needs at least; `whole` is the box of the line's grid ends.
 fn line_bounds(step: Nm, start: &Point3, end: &Point3, cuts: &Cuts, whole: &GridBox) -> Bounds
     requires { IsStep step }
-    ensures value { bounds_of result ≡ common_box (box_grown step start.now end.now cuts.now) whole.now }
+    ensures value { bounds_of result ≡ common_box
+        (box_grown step start.now end.now cuts.now) whole.now }
     ensures low { IsOnLine cuts.now → IsNarrow result.low }
     ensures high { IsOnLine cuts.now → IsNarrow result.high }
 {
@@ -119,7 +127,8 @@ fn covers_line(
 ) -> bool
     requires step { IsStep step }
     requires whole { whole.now ≡ box_of (grid step start.now) (grid step end.now) }
-    ensures { result ≡ holds_box outer.now (box_of_line step start.now end.now cuts.now.from cuts.now.to) }
+    ensures { result ≡ holds_box outer.now
+        (box_of_line step start.now end.now cuts.now.from cuts.now.to) }
 {
     if cuts.are_all() {
         outer.holds(whole)
@@ -139,7 +148,8 @@ fn covers_arc(
 ) -> bool
     requires step { IsStep step }
     requires shared { shared.now ≡ shared_of step (ways.Arc arc.now) stretch.now.several }
-    ensures { result ≡ holds_box outer.now (box_of_arc step arc.now stretch.now (place_of_cut arc.now end.now)) }
+    ensures { result ≡ holds_box outer.now
+        (box_of_arc step arc.now stretch.now (place_of_cut arc.now end.now)) }
 {
     match shared {
         Shared::Cut(cut_arc) if cut_arc.is_large() => {
@@ -155,7 +165,8 @@ fn covers_arc(
 pub(crate) fn covers(step: Nm, way: &Way, shared: &Shared, stretch: &Stretch, piece: &Piece) -> bool
     requires step { IsStep step }
     requires shared { shared.now ≡ shared_of step way.now stretch.now.several }
-    ensures { result ≡ holds_box piece.now.bounds (box_derived step way.now stretch.now piece.now.end) }
+    ensures { result ≡ holds_box piece.now.bounds
+        (box_derived step way.now stretch.now piece.now.end) }
 {
     match (way, shared) {
         (Way::Line { start, end }, Shared::Whole(whole)) => {

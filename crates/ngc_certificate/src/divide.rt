@@ -78,7 +78,8 @@ fn divide_line<A: Allocator>(
     requires step { IsStep step }
     requires count { count ≤ 65535 }
     requires empty { pieces.old.items ≡ [] }
-    ensures { OnOk result (pieces.new.items ≡ line_pieces_from step start.now end.now count 0 count) }
+    ensures { OnOk result
+        (pieces.new.items ≡ line_pieces_from step start.now end.now count 0 count) }
 {
     let whole = GridBox::between(&start.to_grid(step), &end.to_grid(step));
     for k in 0..count {

@@ -29,8 +29,10 @@ fn clears_in<A: Allocator>(
     pieces: &mut Vec<Piece, A>,
 ) -> Result<bool, AllocError>
     requires { 1 ≤ count }
-    ensures pieces { IfOk result (λ clear. pieces.new.items ≡ pieces_of machine.now.step way.now count) }
-    ensures clear { IfOk result (λ free. free ≡ is_clear_in (file_of machine.now) tool.now way.now count) }
+    ensures pieces { IfOk result
+        (λ clear. pieces.new.items ≡ pieces_of machine.now.step way.now count) }
+    ensures clear { IfOk result
+        (λ free. free ≡ is_clear_in (file_of machine.now) tool.now way.now count) }
 {
     divide(machine.step, way, count, pieces)?;
     Ok(pieces_fault(machine, *tool, way, pieces.as_slice()).is_none())
@@ -46,7 +48,9 @@ fn find_count<A: Allocator>(
     pieces: &mut Vec<Piece, A>,
 ) -> Result<bool, AllocError>
     requires { 1 ≤ most }
-    ensures { IfOk result (λ clear. cleared (file_of machine.now) most tool.now way.now ≡ pieces_where clear pieces.new.items) }
+    ensures { IfOk result
+        (λ clear. cleared (file_of machine.now) most tool.now way.now
+        ≡ pieces_where clear pieces.new.items) }
 {
     for count in POWERS_OF_TWO {
         if count >= most {
@@ -69,8 +73,10 @@ fn clears_cut<A: Allocator>(
     stops: Stops,
     pieces: &mut Vec<Piece, A>,
 ) -> Result<bool, AllocError>
-    ensures clear { IfOk result (λ clear. clear ≡ true → IsCutClear (file_of machine.now) most tool.now arc.now pieces.new.items) }
-    ensures good { IfOk result (λ clear. clear ≡ true → IsTrue (list_all good_piece pieces.new.items)) }
+    ensures clear { IfOk result (λ clear. clear ≡ true →
+        IsCutClear (file_of machine.now) most tool.now arc.now pieces.new.items) }
+    ensures good { IfOk result (λ clear. clear ≡ true →
+        IsTrue (list_all good_piece pieces.new.items)) }
 {
     if !cut_arc(machine, tool, arc, most, stops, pieces)? {
         return Ok(false);
@@ -88,8 +94,11 @@ fn find_arc<A: Allocator>(
     pieces: &mut Vec<Piece, A>,
 ) -> Result<bool, AllocError>
     requires { 1 ≤ most }
-    ensures found { IfOk result (λ clear. MayStand (file_of machine.now) most tool.now arc.now (pieces_where clear pieces.new.items)) }
-    ensures good { IfOk result (λ clear. clear ≡ true → IsTrue (list_all good_piece pieces.new.items)) }
+    ensures found { IfOk result
+        (λ clear. MayStand (file_of machine.now) most tool.now arc.now
+        (pieces_where clear pieces.new.items)) }
+    ensures good { IfOk result (λ clear. clear ≡ true →
+        IsTrue (list_all good_piece pieces.new.items)) }
 {
     if clears_in(machine, tool, &Way::Arc(*arc), 1, pieces)? {
         return Ok(true);
@@ -110,8 +119,11 @@ pub(crate) fn find_clear<A: Allocator>(
     pieces: &mut Vec<Piece, A>,
 ) -> Result<bool, AllocError>
     requires { 1 ≤ most }
-    ensures found { IfOk result (λ clear. MayFind (file_of machine.now) most tool.now way.now (pieces_where clear pieces.new.items)) }
-    ensures good { IfOk result (λ clear. clear ≡ true → IsTrue (list_all good_piece pieces.new.items)) }
+    ensures found { IfOk result
+        (λ clear. MayFind (file_of machine.now) most tool.now way.now
+        (pieces_where clear pieces.new.items)) }
+    ensures good { IfOk result (λ clear. clear ≡ true →
+        IsTrue (list_all good_piece pieces.new.items)) }
 {
     match way {
         Way::Line { .. } => find_count(machine, tool, way, most, pieces),

@@ -46,8 +46,10 @@ fn are_alike<A: Allocator>(
 ) -> bool
     requires off_has { i < length off_motions.now }
     requires on_has { i < length on_motions.now }
-    ensures yes { result ≡ true → AreAlike off.now on.now (entry_at off_motions.now i) (entry_at on_motions.now i) }
-    ensures no { result ≡ false → ¬ AreAlike off.now on.now (entry_at off_motions.now i) (entry_at on_motions.now i) }
+    ensures yes { result ≡ true →
+        AreAlike off.now on.now (entry_at off_motions.now i) (entry_at on_motions.now i) }
+    ensures no { result ≡ false →
+        ¬ AreAlike off.now on.now (entry_at off_motions.now i) (entry_at on_motions.now i) }
 {
     match (
         way_at(off, off_motions.index(i)),

@@ -62,7 +62,8 @@ impl<A: Allocator + Copy> Progress<A> {
 impl<A: Allocator> Progress<A> {
     // A tool, or none, is mounted where the axes stand.
     fn mount(&mut self, machine: &Machine<A>, index: u32, tool: Option<Tool>) -> Result<(), Refusal>
-        ensures { (most : ℕ) → Leads (file_of machine.now) most index (Action.Mount tool) self.old result self.new }
+        ensures { (most : ℕ) →
+            Leads (file_of machine.now) most index (Action.Mount tool) self.old result self.new }
     {
         if !is_clear_at(machine, &tool, &self.place) {
             return Err(Refusal::NotCleared(index));
@@ -83,7 +84,8 @@ impl<A: Allocator> Progress<A> {
         requires index { index ≤ INDEX_LIMIT }
         requires most { 1 ≤ most }
         requires room { length self.old.motions < MOTION_LIMIT }
-        ensures { Leads (file_of machine.now) most index (Action.Move motion.now) self.old result self.new }
+        ensures { Leads (file_of machine.now) most index
+            (Action.Move motion.now) self.old result self.new }
     {
         match find_clear(machine, &self.tool, &motion.way, most, pieces) {
             Ok(true) => {}
@@ -170,10 +172,13 @@ pub fn make<A: Allocator + Copy>(
     requires off { length off.now ≤ COMMAND_LIMIT }
     requires on { length on.now ≤ COMMAND_LIMIT }
     ensures made { GivesMade said_of result (IsMade (file_of machine.now) cuts off.now on.now) }
-    ensures valid { IfOk result (λ c. IsValid (file_of machine.now) off.now (said_of c).off × IsValid (file_of machine.now) on.now (said_of c).on) }
+    ensures valid { IfOk result (λ c. IsValid (file_of machine.now) off.now (said_of c).off ×
+        IsValid (file_of machine.now) on.now (said_of c).on) }
     // It is of version 1.
     ensures form { IfOk result (λ c. form_of c ≡ Parted (said_of c)) }
-    ensures undivided { clears_undivided (file_of machine.now) off.now ≡ true → clears_undivided (file_of machine.now) on.now ≡ true → MatchResult result (λ c. Unit {0}) (λ e. e ≡ MakeFault.Memory) }
+    ensures undivided { clears_undivided (file_of machine.now) off.now ≡ true →
+        clears_undivided (file_of machine.now) on.now ≡ true →
+        MatchResult result (λ c. Unit {0}) (λ e. e ≡ MakeFault.Memory) }
 {
     if !is_clear_at(machine, &None, &machine.start) {
         return Err(MakeFault::NotCleared {
@@ -203,11 +208,14 @@ pub fn make_alike<A: Allocator + Copy>(
 ) -> Result<Certificate<A>, MakeFault>
     requires cuts { 1 ≤ cuts }
     requires count { length commands.now ≤ COMMAND_LIMIT }
-    ensures made { GivesMade said_of result (IsMade (file_of machine.now) cuts commands.now commands.now) }
-    ensures valid { IfOk result (λ c. IsValid (file_of machine.now) commands.now (said_of c).off × IsValid (file_of machine.now) commands.now (said_of c).on) }
+    ensures made { GivesMade said_of result
+        (IsMade (file_of machine.now) cuts commands.now commands.now) }
+    ensures valid { IfOk result (λ c. IsValid (file_of machine.now) commands.now (said_of c).off ×
+        IsValid (file_of machine.now) commands.now (said_of c).on) }
     // It is of version 1.
     ensures form { IfOk result (λ c. form_of c ≡ Parted (said_of c)) }
-    ensures undivided { clears_undivided (file_of machine.now) commands.now ≡ true → MatchResult result (λ c. Unit {0}) (λ e. e ≡ MakeFault.Memory) }
+    ensures undivided { clears_undivided (file_of machine.now) commands.now ≡ true →
+        MatchResult result (λ c. Unit {0}) (λ e. e ≡ MakeFault.Memory) }
 {
     if !is_clear_at(machine, &None, &machine.start) {
         return Err(MakeFault::NotCleared {

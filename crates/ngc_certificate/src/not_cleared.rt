@@ -23,7 +23,8 @@ struct Reached {
 impl Reached {
     // A tool, or none, is mounted where the axes stand. Answers whether it meets no fixture.
     fn mount<A: Allocator>(&mut self, machine: &Machine<A>, tool: Option<Tool>) -> bool
-        ensures { (most k : ℕ) → LeadsPast (file_of machine.now) most k (Action.Mount tool) self.old result self.new }
+        ensures { (most k : ℕ) →
+            LeadsPast (file_of machine.now) most k (Action.Mount tool) self.old result self.new }
     {
         self.tool = tool;
         is_clear_at(machine, &tool, &self.place)
@@ -39,7 +40,9 @@ impl Reached {
         pieces: &mut Vec<Piece, A>,
     ) -> Result<bool, AllocError>
         requires { 1 ≤ most }
-        ensures { IfOk result (λ clear. (k : ℕ) → LeadsPast (file_of machine.now) most k (Action.Move motion.now) self.old clear self.new) }
+        ensures { IfOk result (λ clear. (k : ℕ) →
+            LeadsPast (file_of machine.now) most k
+            (Action.Move motion.now) self.old clear self.new) }
     {
         let clear = find_clear(machine, &self.tool, &motion.way, most, pieces)?;
         self.place = motion.way.end();
@@ -55,7 +58,8 @@ impl Reached {
         pieces: &mut Vec<Piece, A>,
     ) -> Result<bool, AllocError>
         requires { 1 ≤ most }
-        ensures { IfOk result (λ clear. (k : ℕ) → LeadsPast (file_of machine.now) most k action.now self.old clear self.new) }
+        ensures { IfOk result (λ clear. (k : ℕ) →
+            LeadsPast (file_of machine.now) most k action.now self.old clear self.new) }
     {
         match action {
             Action::Move(motion) => self.move_along(machine, motion, most, pieces),

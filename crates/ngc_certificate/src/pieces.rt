@@ -1,7 +1,9 @@
 ghost use Rattle.std.specs.Prelude.{◌≡◌, ◌≤◌, length};
 ghost use Rattle.ngc_machine.specs.Machine.{file_of};
 ghost use Rattle.ngc_certificate_text.specs.Certificate.{PIECE_LIMIT};
-ghost use Rattle.ngc_certificate.specs.PieceFault.{piece_fault as fault_of, pieces_fault as fault_of_all, place_fault as met_at};
+ghost use Rattle.ngc_certificate.specs.PieceFault.{piece_fault as fault_of};
+ghost use Rattle.ngc_certificate.specs.PieceFault.{pieces_fault as fault_of_all};
+ghost use Rattle.ngc_certificate.specs.PieceFault.{place_fault as met_at};
 ghost use Rattle.ngc_certificate.specs.Inside.{fault_of_some};
 ghost use Rattle.ngc_certificate.specs.Shared.{shared_of};
 
@@ -71,7 +73,8 @@ impl PieceJudge {
     ghost use Rattle.ngc_certificate_text.specs.declared.piece.Piece.{Piece};
     ghost use Rattle.ngc_certificate.specs.Chain.{are_several};
     ghost use Rattle.ngc_certificate.specs.PieceFault.{◌or◌};
-    ghost use Rattle.ngc_certificate.specs.PieceJudging.{IsJudging, fault_ahead, is_empty, judged_by};
+    ghost use Rattle.ngc_certificate.specs.PieceJudging.{IsJudging, fault_ahead, is_empty};
+    ghost use Rattle.ngc_certificate.specs.PieceJudging.{judged_by};
 
     /// No piece has come yet of a motion that has several pieces or one.
     pub fn new<A: Allocator>(
@@ -81,7 +84,9 @@ impl PieceJudge {
         several: bool,
     ) -> PieceJudge
         ensures judging { IsJudging (file_of machine.now) result }
-        ensures begins { (p : Piece) (ps : List Piece) → are_several (p ∷ ps) ≡ several → fault_ahead (file_of machine.now) result (p ∷ ps) ≡ fault_of_all (file_of machine.now) tool way.now (p ∷ ps) }
+        ensures begins { (p : Piece) (ps : List Piece) → are_several (p ∷ ps) ≡ several →
+            fault_ahead (file_of machine.now) result (p ∷ ps)
+            ≡ fault_of_all (file_of machine.now) tool way.now (p ∷ ps) }
         ensures none { judged_by result ≡ 0 }
     {
         PieceJudge {
@@ -107,7 +112,9 @@ impl PieceJudge {
         ensures judging { IsJudging (file_of machine.now) self.new }
         ensures one { judged_by self.new ≡ judged_by self.old + 1 }
         // Whatever pieces come behind it.
-        ensures first { (rest : List Piece) → last ≡ is_empty rest → fault_ahead (file_of machine.now) self.old (piece.now ∷ rest) ≡ (result or fault_ahead (file_of machine.now) self.new rest) }
+        ensures first { (rest : List Piece) → last ≡ is_empty rest →
+            fault_ahead (file_of machine.now) self.old (piece.now ∷ rest)
+            ≡ (result or fault_ahead (file_of machine.now) self.new rest) }
     {
         let stretch = Stretch {
             begin: self.begin,

@@ -23,13 +23,17 @@ use Rattle.ngc_certificate_text.specs.declared.piece.Setting.{Setting}
 use Rattle.ngc_certificate_text.specs.declared.piece.Setting.TheVariants.{Off, On}
 use Rattle.ngc_certificate_text.specs.declared.told.Version.{Version}
 use Rattle.ngc_certificate_text.specs.declared.told.Version.TheVariants.{One, Two}
-use Rattle.ngc_certificate_text.specs.Ahead.{Rest, nothing_left, certificate_of, form_of_text, of_version, index_at, item_of, with_items, with_motions, with_pieces, name_of, end_ahead, behind, setting_ahead, motions_ahead, pieces_ahead, counts_ahead, behind_header, ahead, Left, left_from, next_of_entries, next_of_motions, motions_behind, wrong_line, HaveSome, IsSound}
+use Rattle.ngc_certificate_text.specs.Ahead.{Rest, nothing_left, certificate_of, form_of_text, of_version, index_at, item_of, with_items, with_motions}
+use Rattle.ngc_certificate_text.specs.Ahead.{with_pieces, name_of, end_ahead, behind, setting_ahead, motions_ahead, pieces_ahead, counts_ahead, behind_header}
+use Rattle.ngc_certificate_text.specs.Ahead.{ahead, Left, left_from, next_of_entries, next_of_motions, motions_behind, wrong_line, HaveSome, IsSound}
 use Rattle.ngc_certificate_text.specs.Certificate.{Entry, CertificateData}
 use Rattle.ngc_certificate_text.specs.EntryLines.{version_said, counts_said, entry_said, of_setting, all_left, none_left, left_behind}
 use Rattle.ngc_certificate_text.specs.Joined.{Item, expansion, Form, contents, form_by}
 use Rattle.ngc_certificate_text.specs.Joined.{Parted as PartedForm, Joined as JoinedForm}
 use Rattle.ngc_certificate_text.specs.Lines.{setting_said, motion_said, piece_said, end_said}
-use Rattle.ngc_certificate_text.specs.Said.{Place, Said, then_read, next_number, fault_at, line_at, several, entry_at, setting_at, settings_at, item_at, items_at, joined_at, said_with, made_with, version_is, header_in, form_at, nothing_in, ended, lines_of, form_said, certificate_said}
+use Rattle.ngc_certificate_text.specs.Said.{Place, Said, then_read, next_number, fault_at, line_at, several, entry_at, setting_at, settings_at, item_at}
+use Rattle.ngc_certificate_text.specs.Said.{items_at, joined_at, said_with, made_with, version_is, header_in, form_at, nothing_in, ended, lines_of, form_said}
+use Rattle.ngc_certificate_text.specs.Said.{certificate_said}
 use Rattle.ngc_certificate_text.specs.Told.{any_said, behind_version}
 use Rattle.ngc_certificate_text.proofs.EntryLaws.{total, takes_one, items_more, items_none, items_enough}
 use Rattle.ngc_certificate_text.proofs.FieldLaws.{bytes_same}
@@ -61,7 +65,8 @@ HasNoLine [] = Unit {0}
 HasNoLine (last ∷ []) = Unit {0}
 HasNoLine (line ∷ after ∷ left) = 256 < length line
 
-line_missing : {X : Type 0} (said : List ℕ → Result X LineFlaw) (number : ℕ) (lines : List (List ℕ)) → HasNoLine lines → line_at said (at number lines) ≡ Err (faults.BadLine number)
+line_missing : {X : Type 0} (said : List ℕ → Result X LineFlaw) (number : ℕ) (lines : List (List ℕ)) → HasNoLine lines →
+    line_at said (at number lines) ≡ Err (faults.BadLine number)
 unfolding line_at
 line_missing said number [] h = refl
 line_missing said number (last ∷ []) h = refl
@@ -73,7 +78,8 @@ with_both : {X Y Z : Type 0} (f : Y → Z) (g : X → Y) (t : Said X) → said_w
 with_both f g (Ok r) = refl
 with_both f g (Err fault) = refl
 
-first_motion : (s : Setting) (x : Entry) (xs : List Entry) (t : Said Rest) → said_with (with_motions s (x ∷ xs)) t ≡ said_with (with_motions s (x ∷ [])) (said_with (with_motions s xs) t)
+first_motion : (s : Setting) (x : Entry) (xs : List Entry) (t : Said Rest) →
+    said_with (with_motions s (x ∷ xs)) t ≡ said_with (with_motions s (x ∷ [])) (said_with (with_motions s xs) t)
 first_motion s x xs (Ok r) = refl
 first_motion s x xs (Err fault) = refl
 
@@ -83,11 +89,13 @@ pub setting_on : (s : Setting) (number n : ℕ) (line after : List ℕ) (left : 
     → setting_ahead s (at number (line ∷ after ∷ left)) ≡ motions_ahead (Parted s n) (at (next_number number) (after ∷ left))
 unfolding setting_ahead motions_ahead setting_at
 setting_on s number n line after left short e =
-    ap (λ (r : Said ℕ). then_read (then_read r (λ n q. several entry_at n q)) (λ more q. said_with (with_motions s more) (behind s q))) (line_read (setting_said (name_of s)) number line after left n short e)
+    ap (λ (r : Said ℕ). then_read (then_read r (λ n q. several entry_at n q)) (λ more q. said_with (with_motions s more) (behind s q)))
+    (line_read (setting_said (name_of s)) number line after left n short e)
 
 setting_stops : (s : Setting) (p : Place) (fault : CertificateFault) → line_at (setting_said (name_of s)) p ≡ Err fault → setting_ahead s p ≡ Err fault
 unfolding setting_ahead setting_at
-setting_stops s p fault e = ap (λ (r : Said ℕ). then_read (then_read r (λ n q. several entry_at n q)) (λ more q. said_with (with_motions s more) (behind s q))) e
+setting_stops s p fault e =
+    ap (λ (r : Said ℕ). then_read (then_read r (λ n q. several entry_at n q)) (λ more q. said_with (with_motions s more) (behind s q))) e
 
 -- ---- the line of a motion
 
@@ -118,7 +126,8 @@ begun_first i pieces (Ok r) = refl
 begun_first i pieces (Err fault) = refl
 
 motion_begun : (s : Setting) (k : ℕ) (m : MotionLine) (t : Said (List Piece))
-    → then_read (then_read (then_read t (λ pieces r. Ok (record { index = m.index; pieces = pieces }, r))) (λ x q. then_read (several entry_at k q) (λ xs r. Ok (x ∷ xs, r)))) (λ more q. said_with (with_motions s more) (behind s q))
+    → then_read (then_read (then_read t (λ pieces r. Ok (record { index = m.index; pieces = pieces }, r)))
+    (λ x q. then_read (several entry_at k q) (λ xs r. Ok (x ∷ xs, r)))) (λ more q. said_with (with_motions s more) (behind s q))
     ≡ said_with (with_begun (index_at s m.index)) (then_read t (λ pieces q. said_with (with_pieces pieces) (motions_ahead (Parted s k) q)))
 unfolding motions_ahead
 motion_begun s k m (Ok r) =
@@ -128,7 +137,8 @@ motion_begun s k m (Err fault) = refl
 
 abbrev more_of : Setting → ℕ → Said MotionLine → Said Rest
 more_of s k r =
-    then_read (then_read (then_read r (λ m q. then_read (several (line_at piece_said) m.pieces q) (λ pieces r. Ok (record { index = m.index; pieces = pieces }, r))))
+    then_read (then_read
+    (then_read r (λ m q. then_read (several (line_at piece_said) m.pieces q) (λ pieces r. Ok (record { index = m.index; pieces = pieces }, r))))
     (λ x q. then_read (several entry_at k q) (λ xs r. Ok (x ∷ xs, r)))) (λ more q. said_with (with_motions s more) (behind s q))
 
 motions_are : (s : Setting) (k : ℕ) (p : Place) → motions_ahead (Parted s (suc k)) p ≡ more_of s k (line_at motion_said p)
@@ -144,7 +154,8 @@ parted_on : (s : Setting) (k number : ℕ) (m : MotionLine) (line after : List �
     → motions_ahead (Parted s (suc k)) (at number (line ∷ after ∷ left))
     ≡ said_with (with_begun (index_at s m.index)) (pieces_ahead (begun_at s m k) (at (next_number number) (after ∷ left)))
 parted_on s k number m line after left short e =
-    motions_are s k (at number (line ∷ after ∷ left)) ∙ ap (more_of s k) (line_read motion_said number line after left m short e) ∙ begun_is s k m (at (next_number number) (after ∷ left))
+    motions_are s k (at number (line ∷ after ∷ left)) ∙ ap (more_of s k) (line_read motion_said number line after left m short e)
+    ∙ begun_is s k m (at (next_number number) (after ∷ left))
 
 parted_stops : (s : Setting) (k : ℕ) (p : Place) (fault : CertificateFault) → line_at motion_said p ≡ Err fault → motions_ahead (Parted s (suc k)) p ≡ Err fault
 parted_stops s k p fault e = motions_are s k p ∙ ap (more_of s k) e
@@ -156,24 +167,29 @@ entries_then : ℕ → EntriesLeft → Item → Place → Said Rest
 entries_then k left x q = then_read (then_read (items_at k left q) (λ xs r. Ok (x ∷ xs, r))) (λ more q. said_with (with_items more) (end_ahead q))
 
 item_first : (x : Item) (t : Said (List Item))
-    → then_read (then_read t (λ xs r. Ok (x ∷ xs, r))) (λ more q. said_with (with_items more) (end_ahead q)) ≡ said_with (with_items (x ∷ [])) (then_read t (λ more q. said_with (with_items more) (end_ahead q)))
+    → then_read (then_read t (λ xs r. Ok (x ∷ xs, r))) (λ more q. said_with (with_items more) (end_ahead q))
+    ≡ said_with (with_items (x ∷ [])) (then_read t (λ more q. said_with (with_items more) (end_ahead q)))
 item_first x (Ok r) = sym (with_both (with_items (x ∷ [])) (with_items r.0) (end_ahead r.1))
 item_first x (Err fault) = refl
 
-entries_first : (k : ℕ) (left : EntriesLeft) (x : Item) (q : Place) → total left ≤ k → entries_then k left x q ≡ said_with (with_items (x ∷ [])) (motions_ahead (Joined left) q)
+entries_first : (k : ℕ) (left : EntriesLeft) (x : Item) (q : Place) → total left ≤ k →
+    entries_then k left x q ≡ said_with (with_items (x ∷ [])) (motions_ahead (Joined left) q)
 unfolding entries_then motions_ahead
 entries_first k left x q h =
     item_first x (items_at k left q)
-    ∙ ap (λ (t : Said (List Item)). said_with (with_items (x ∷ [])) (then_read t (λ more q. said_with (with_items more) (end_ahead q)))) (items_enough k left q h)
+    ∙ ap (λ (t : Said (List Item)). said_with (with_items (x ∷ [])) (then_read t (λ more q. said_with (with_items more) (end_ahead q))))
+    (items_enough k left q h)
 
 -- the pieces of an entry, and the entries behind it
 pieces_then : ℕ → EntriesLeft → EntryLine → Said (List Piece) → Said Rest
 pieces_then k left e t =
-    then_read (then_read (then_read t (λ pieces r. Ok (record { indices = e.indices; pieces = pieces }, r))) (λ x q. then_read (items_at k (left_behind left x.indices) q) (λ xs r. Ok (x ∷ xs, r))))
+    then_read (then_read (then_read t (λ pieces r. Ok (record { indices = e.indices; pieces = pieces }, r)))
+    (λ x q. then_read (items_at k (left_behind left x.indices) q) (λ xs r. Ok (x ∷ xs, r))))
     (λ more q. said_with (with_items more) (end_ahead q))
 
 entry_begun : (k : ℕ) (left : EntriesLeft) (e : EntryLine) (t : Said (List Piece)) → total (left_behind left e.indices) ≤ k
-    → pieces_then k left e t ≡ said_with (with_begun e.indices) (then_read t (λ pieces q. said_with (with_pieces pieces) (motions_ahead (Joined (left_behind left e.indices)) q)))
+    → pieces_then k left e t ≡ said_with (with_begun e.indices)
+    (then_read t (λ pieces q. said_with (with_pieces pieces) (motions_ahead (Joined (left_behind left e.indices)) q)))
 unfolding pieces_then entries_then
 entry_begun k left e (Ok r) h =
     entries_first k (left_behind left e.indices) (record { indices = e.indices; pieces = r.0 }) r.1 h
@@ -183,7 +199,8 @@ entry_begun k left e (Err fault) h = refl
 -- an entry's line, and what stands behind it
 entry_then : ℕ → EntriesLeft → Said EntryLine → Said Rest
 entry_then k left t =
-    then_read (then_read (then_read t (λ e q. then_read (several (line_at piece_said) e.pieces q) (λ pieces r. Ok (record { indices = e.indices; pieces = pieces }, r))))
+    then_read (then_read
+    (then_read t (λ e q. then_read (several (line_at piece_said) e.pieces q) (λ pieces r. Ok (record { indices = e.indices; pieces = pieces }, r))))
     (λ x q. then_read (items_at k (left_behind left x.indices) q) (λ xs r. Ok (x ∷ xs, r)))) (λ more q. said_with (with_items more) (end_ahead q))
 
 entries_are : (k : ℕ) (left : EntriesLeft) (p : Place) → total left ≡ suc k → motions_ahead (Joined left) p ≡ entry_then k left (line_at (entry_said left) p)
@@ -201,19 +218,23 @@ entry_stop_is : (k : ℕ) (left : EntriesLeft) (fault : CertificateFault) → en
 unfolding entry_then
 entry_stop_is k left fault = refl
 
-joined_on : (left : EntriesLeft) (k number : ℕ) (e : EntryLine) (line after : List ℕ) (lines : List (List ℕ)) → total left ≡ suc k → length line ≤ 256 → entry_said left line ≡ Ok e
-    → motions_ahead (Joined left) (at number (line ∷ after ∷ lines)) ≡ said_with (with_begun e.indices) (pieces_ahead (begun (Joined left) e) (at (next_number number) (after ∷ lines)))
+joined_on : (left : EntriesLeft) (k number : ℕ) (e : EntryLine) (line after : List ℕ) (lines : List (List ℕ)) → total left ≡ suc k → length line ≤ 256 →
+    entry_said left line ≡ Ok e
+    → motions_ahead (Joined left) (at number (line ∷ after ∷ lines))
+    ≡ said_with (with_begun e.indices) (pieces_ahead (begun (Joined left) e) (at (next_number number) (after ∷ lines)))
 joined_on left k number e line after lines some short h =
     let one = takes_one left line e h in
     entries_are k left (at number (line ∷ after ∷ lines)) some ∙ ap (entry_then k left) (line_read (entry_said left) number line after lines e short h)
     ∙ entry_on_is k left e (at (next_number number) (after ∷ lines)) (omega (arith, one, some))
 
-joined_stops : (left : EntriesLeft) (k : ℕ) (p : Place) (fault : CertificateFault) → total left ≡ suc k → line_at (entry_said left) p ≡ Err fault → motions_ahead (Joined left) p ≡ Err fault
+joined_stops : (left : EntriesLeft) (k : ℕ) (p : Place) (fault : CertificateFault) → total left ≡ suc k → line_at (entry_said left) p ≡ Err fault →
+    motions_ahead (Joined left) p ≡ Err fault
 joined_stops left k p fault some e = entries_are k left p some ∙ ap (entry_then k left) e ∙ entry_stop_is k left fault
 
 -- ---- the line of a motion of either version
 
-pub of_parted : (s : Setting) (r : Result MotionLine LineFlaw) (e : EntryLine) → of_setting (index_at s) r ≡ Ok e → (m : MotionLine) × (r ≡ Ok m) × (line_of s m ≡ e)
+pub of_parted : (s : Setting) (r : Result MotionLine LineFlaw) (e : EntryLine) → of_setting (index_at s) r ≡ Ok e →
+    (m : MotionLine) × (r ≡ Ok m) × (line_of s m ≡ e)
 of_parted s (Ok m) e h = (m, refl, cc h)
 of_parted s (Err flaw) e h = absurd (cc h)
 
@@ -223,13 +244,17 @@ of_flaw s (Err other) flaw h = let same : other ≡ flaw = cc h in ap (λ (l : L
   flawed : LineFlaw → Result MotionLine LineFlaw
   flawed l = Err l
 
-motion_on : (left : MotionsLeft) (number : ℕ) (e : EntryLine) (line after : List ℕ) (lines : List (List ℕ)) → HaveSome left → length line ≤ 256 → any_said left line ≡ Ok e
-    → motions_ahead left (at number (line ∷ after ∷ lines)) ≡ said_with (with_begun e.indices) (pieces_ahead (begun left e) (at (next_number number) (after ∷ lines)))
+motion_on : (left : MotionsLeft) (number : ℕ) (e : EntryLine) (line after : List ℕ) (lines : List (List ℕ)) → HaveSome left → length line ≤ 256 →
+    any_said left line ≡ Ok e
+    → motions_ahead left (at number (line ∷ after ∷ lines)) ≡ said_with (with_begun e.indices)
+    (pieces_ahead (begun left e) (at (next_number number) (after ∷ lines)))
 motion_on (Parted s zero) number e line after lines some short h = absurd (omega (arith, some))
 motion_on (Parted s (suc k)) number e line after lines some short h =
     let r = of_parted s (motion_said line) e h in
-    let P : EntryLine → Type 0 = λ x. motions_ahead (Parted s (suc k)) (at number (line ∷ after ∷ lines)) ≡ said_with (with_begun x.indices) (pieces_ahead (begun (Parted s (suc k)) x) (at (next_number number) (after ∷ lines))) in
-    let Q : ℕ → Type 0 = λ n. motions_ahead (Parted s (suc k)) (at number (line ∷ after ∷ lines)) ≡ said_with (with_begun (index_at s r.0.index)) (pieces_ahead (begun_at s r.0 n) (at (next_number number) (after ∷ lines))) in
+    let P : EntryLine → Type 0 = λ x. motions_ahead (Parted s (suc k)) (at number (line ∷ after ∷ lines))
+    ≡ said_with (with_begun x.indices) (pieces_ahead (begun (Parted s (suc k)) x) (at (next_number number) (after ∷ lines))) in
+    let Q : ℕ → Type 0 = λ n. motions_ahead (Parted s (suc k)) (at number (line ∷ after ∷ lines))
+    ≡ said_with (with_begun (index_at s r.0.index)) (pieces_ahead (begun_at s r.0 n) (at (next_number number) (after ∷ lines))) in
     let one : k ≡ suc k - 1 = omega arith in
     subst P r.2 (subst Q one (parted_on s k number r.0 line after lines short r.1))
 motion_on (Joined left) number e line after lines some short h = joined_on left (total left - 1) number e line after lines (omega (arith, some)) short h
@@ -248,9 +273,11 @@ motion_missing : (left : MotionsLeft) (number : ℕ) (lines : List (List ℕ)) �
 motion_missing (Parted s n) number lines h = line_missing motion_said number lines h
 motion_missing (Joined left) number lines h = line_missing (entry_said left) number lines h
 
-motion_wrong : (left : MotionsLeft) (number : ℕ) (line after : List ℕ) (lines : List (List ℕ)) (flaw : LineFlaw) → length line ≤ 256 → any_said left line ≡ Err flaw
+motion_wrong : (left : MotionsLeft) (number : ℕ) (line after : List ℕ) (lines : List (List ℕ)) (flaw : LineFlaw) → length line ≤ 256 →
+    any_said left line ≡ Err flaw
     → MotionMissing left (at number (line ∷ after ∷ lines)) (fault_at number flaw)
-motion_wrong (Parted s n) number line after lines flaw short e = line_flawed motion_said number line after lines flaw short (of_flaw s (motion_said line) flaw e)
+motion_wrong (Parted s n) number line after lines flaw short e =
+    line_flawed motion_said number line after lines flaw short (of_flaw s (motion_said line) flaw e)
 motion_wrong (Joined left) number line after lines flaw short e = line_flawed (entry_said left) number line after lines flaw short e
 
 -- ---- the counts
@@ -273,7 +300,8 @@ counts_stop_is fault = refl
 counts_on : (number : ℕ) (c : CountsLine) (line after : List ℕ) (left : List (List ℕ)) → length line ≤ 256 → counts_said line ≡ Ok c
     → counts_ahead (at number (line ∷ after ∷ left)) ≡ motions_ahead (Joined (all_left c)) (at (next_number number) (after ∷ left))
 counts_on number c line after left short e =
-    counts_are (at number (line ∷ after ∷ left)) ∙ ap counts_then (line_read counts_said number line after left c short e) ∙ counts_on_is c (at (next_number number) (after ∷ left))
+    counts_are (at number (line ∷ after ∷ left)) ∙ ap counts_then (line_read counts_said number line after left c short e)
+    ∙ counts_on_is c (at (next_number number) (after ∷ left))
 
 counts_stop : (p : Place) (fault : CertificateFault) → line_at counts_said p ≡ Err fault → counts_ahead p ≡ Err fault
 counts_stop p fault e = counts_are p ∙ ap counts_then e ∙ counts_stop_is fault
@@ -292,9 +320,11 @@ piece_first b x (Err fault) = refl
 
 abbrev pieces_of : BegunMotion → ℕ → Said Piece → Said Rest
 pieces_of b k r =
-    then_read (then_read r (λ x q. then_read (several (line_at piece_said) k q) (λ xs r. Ok (x ∷ xs, r)))) (λ pieces q. said_with (with_pieces pieces) (motions_ahead b.behind q))
+    then_read (then_read r (λ x q. then_read (several (line_at piece_said) k q) (λ xs r. Ok (x ∷ xs, r))))
+    (λ pieces q. said_with (with_pieces pieces) (motions_ahead b.behind q))
 
-several_more : (k : ℕ) (p : Place) → several (line_at piece_said) (suc k) p ≡ then_read (line_at piece_said p) (λ x q. then_read (several (line_at piece_said) k q) (λ xs r. Ok (x ∷ xs, r)))
+several_more : (k : ℕ) (p : Place) → several (line_at piece_said) (suc k) p
+    ≡ then_read (line_at piece_said p) (λ x q. then_read (several (line_at piece_said) k q) (λ xs r. Ok (x ∷ xs, r)))
 unfolding several
 several_more k p = refl
 
@@ -304,16 +334,21 @@ pieces_are b k p e =
     ap (λ (n : ℕ). then_read (several (line_at piece_said) n p) (λ pieces q. said_with (with_pieces pieces) (motions_ahead b.behind q))) e
     ∙ ap (λ (s : Said (List Piece)). then_read s (λ pieces q. said_with (with_pieces pieces) (motions_ahead b.behind q))) (several_more k p)
 
-more_is : (b : BegunMotion) (k : ℕ) (x : Piece) (q : Place) → pieces_of b k (Ok (x, q)) ≡ said_with (with_piece x) (pieces_ahead (record b { pieces_left = k }) q)
+more_is : (b : BegunMotion) (k : ℕ) (x : Piece) (q : Place) → pieces_of b k (Ok (x, q))
+    ≡ said_with (with_piece x) (pieces_ahead (record b { pieces_left = k }) q)
 unfolding pieces_ahead
 more_is b k x q = piece_first b x (several (line_at piece_said) k q)
 
-piece_on : (b : BegunMotion) (k number : ℕ) (x : Piece) (line after : List ℕ) (left : List (List ℕ)) → b.pieces_left ≡ suc k → length line ≤ 256 → piece_said line ≡ Ok x
-    → pieces_ahead b (at number (line ∷ after ∷ left)) ≡ said_with (with_piece x) (pieces_ahead (record b { pieces_left = k }) (at (next_number number) (after ∷ left)))
+piece_on : (b : BegunMotion) (k number : ℕ) (x : Piece) (line after : List ℕ) (left : List (List ℕ)) → b.pieces_left ≡ suc k → length line ≤ 256 →
+    piece_said line ≡ Ok x
+    → pieces_ahead b (at number (line ∷ after ∷ left)) ≡ said_with (with_piece x)
+    (pieces_ahead (record b { pieces_left = k }) (at (next_number number) (after ∷ left)))
 piece_on b k number x line after left some short e =
-    pieces_are b k (at number (line ∷ after ∷ left)) some ∙ ap (pieces_of b k) (line_read piece_said number line after left x short e) ∙ more_is b k x (at (next_number number) (after ∷ left))
+    pieces_are b k (at number (line ∷ after ∷ left)) some ∙ ap (pieces_of b k) (line_read piece_said number line after left x short e)
+    ∙ more_is b k x (at (next_number number) (after ∷ left))
 
-pieces_stop : (b : BegunMotion) (k : ℕ) (p : Place) (fault : CertificateFault) → b.pieces_left ≡ suc k → line_at piece_said p ≡ Err fault → pieces_ahead b p ≡ Err fault
+pieces_stop : (b : BegunMotion) (k : ℕ) (p : Place) (fault : CertificateFault) → b.pieces_left ≡ suc k → line_at piece_said p ≡ Err fault →
+    pieces_ahead b p ≡ Err fault
 pieces_stop b k p fault some e = pieces_are b k p some ∙ ap (pieces_of b k) e
 
 -- ---- what is read whole
@@ -325,11 +360,13 @@ none_begun more (Err fault) = refl
 no_pieces : (left : MotionsLeft) (p : Place) → said_with (with_pieces []) (motions_ahead left p) ≡ motions_ahead left p
 unfolding motions_ahead
 no_pieces (Parted s n) p = by_several (several entry_at n p) where
-  by_several : (t : Said (List Entry)) → said_with (with_pieces []) (then_read t (λ more q. said_with (with_motions s more) (behind s q))) ≡ then_read t (λ more q. said_with (with_motions s more) (behind s q))
+  by_several : (t : Said (List Entry)) → said_with (with_pieces []) (then_read t (λ more q. said_with (with_motions s more) (behind s q)))
+      ≡ then_read t (λ more q. said_with (with_motions s more) (behind s q))
   by_several (Ok r) = none_begun (map (item_of s) r.0) (behind s r.1)
   by_several (Err fault) = refl
 no_pieces (Joined left) p = by_items (items_at (left.off + left.on) left p) where
-  by_items : (t : Said (List Item)) → said_with (with_pieces []) (then_read t (λ more q. said_with (with_items more) (end_ahead q))) ≡ then_read t (λ more q. said_with (with_items more) (end_ahead q))
+  by_items : (t : Said (List Item)) → said_with (with_pieces []) (then_read t (λ more q. said_with (with_items more) (end_ahead q)))
+      ≡ then_read t (λ more q. said_with (with_items more) (end_ahead q))
   by_items (Ok r) = none_begun r.0 (end_ahead r.1)
   by_items (Err fault) = refl
 
@@ -350,7 +387,8 @@ none_at_end (Err fault) = refl
 parted_done : (s : Setting) (p : Place) → motions_ahead (Parted s 0) p ≡ behind s p
 unfolding motions_ahead several behind end_ahead
 parted_done Off p = by_setting (setting_at (codes "on") p) where
-  by_setting : (t : Said (List Entry)) → said_with (with_motions Off []) (then_read t (λ more q. said_with (with_motions On more) (then_read (line_at end_said q) (λ _ q. Ok (nothing_left, q)))))
+  by_setting : (t : Said (List Entry)) →
+      said_with (with_motions Off []) (then_read t (λ more q. said_with (with_motions On more) (then_read (line_at end_said q) (λ _ q. Ok (nothing_left, q)))))
       ≡ then_read t (λ more q. said_with (with_motions On more) (then_read (line_at end_said q) (λ _ q. Ok (nothing_left, q))))
   by_setting (Ok r) = no_motions (map (item_of On) r.0) (then_read (line_at end_said r.1) (λ _ q. Ok (nothing_left, q)))
   by_setting (Err fault) = refl
@@ -359,7 +397,8 @@ parted_done On p = none_at_end (line_at end_said p)
 joined_done : (left : EntriesLeft) (p : Place) → none_left left ≡ true → motions_ahead (Joined left) p ≡ end_ahead p
 unfolding motions_ahead end_ahead
 joined_done left p none =
-    ap (λ (t : Said (List Item)). then_read t (λ more q. said_with (with_items more) (then_read (line_at end_said q) (λ _ q. Ok (nothing_left, q))))) (items_none (left.off + left.on) left p none)
+    ap (λ (t : Said (List Item)). then_read t (λ more q. said_with (with_items more) (then_read (line_at end_said q) (λ _ q. Ok (nothing_left, q)))))
+    (items_none (left.off + left.on) left p none)
     ∙ none_at_end (line_at end_said p)
 
 entries_ahead : (b : Bool) (left : EntriesLeft) (p : Place) → none_left left ≡ b → ahead (next_of_entries b left) p ≡ motions_ahead (Joined left) p
@@ -377,7 +416,8 @@ next_ahead (Joined left) p = entries_ahead (none_left left) left p refl
 end_on : (number : ℕ) (line after : List ℕ) (left : List (List ℕ)) → length line ≤ 256 → end_said line ≡ Ok tt
     → end_ahead (at number (line ∷ after ∷ left)) ≡ Ok (nothing_left, at (next_number number) (after ∷ left))
 unfolding end_ahead
-end_on number line after left short e = ap (λ (r : Said (Unit {0})). then_read r (λ _ q. Ok (nothing_left, q))) (line_read end_said number line after left tt short e)
+end_on number line after left short e =
+    ap (λ (r : Said (Unit {0})). then_read r (λ _ q. Ok (nothing_left, q))) (line_read end_said number line after left tt short e)
 
 end_stops : (p : Place) (fault : CertificateFault) → line_at end_said p ≡ Err fault → end_ahead p ≡ Err fault
 unfolding end_ahead
@@ -413,10 +453,13 @@ one_left (b ∷ x) h = refl
 pub wrong_said : (e : Expected) (number : ℕ) (lines : List (List ℕ)) → IsSound e number → HasNoLine lines
     → (e ≡ next.Nothing → nothing_in lines ≡ false) → left_from e number lines ≡ Err (wrong_line e number)
 unfolding ahead
-wrong_said next.Header number lines sound h never = ap (λ (r : Said Version). ended (then_read r (λ v q. said_with (of_version v) (behind_header v q)))) (no_header lines h)
-wrong_said (next.Setting s) number lines sound h never = ap ended (setting_stops s (at number lines) (faults.BadLine number) (line_missing (setting_said (name_of s)) number lines h))
+wrong_said next.Header number lines sound h never =
+    ap (λ (r : Said Version). ended (then_read r (λ v q. said_with (of_version v) (behind_header v q)))) (no_header lines h)
+wrong_said (next.Setting s) number lines sound h never =
+    ap ended (setting_stops s (at number lines) (faults.BadLine number) (line_missing (setting_said (name_of s)) number lines h))
 wrong_said next.Counts number lines sound h never = ap ended (counts_stop (at number lines) (faults.BadLine number) (line_missing counts_said number lines h))
-wrong_said (next.Motion m) number lines sound h never = ap ended (motions_stop m (at number lines) (faults.BadLine number) (sound.motion m refl) (motion_missing m number lines h))
+wrong_said (next.Motion m) number lines sound h never =
+    ap ended (motions_stop m (at number lines) (faults.BadLine number) (sound.motion m refl) (motion_missing m number lines h))
 wrong_said (next.Piece b) number lines sound h never =
     let some = sound.piece b refl in
     ap ended (pieces_stop b (b.pieces_left - 1) (at number lines) (faults.BadLine number) (omega (arith, some)) (line_missing piece_said number lines h))
@@ -426,22 +469,30 @@ wrong_said next.Nothing number lines sound h never = rw (never refl) refl
 -- ---- a line that is flawed
 
 module _ (number : ℕ) (line after : List ℕ) (left : List (List ℕ)) (flaw : LineFlaw) (short : length line ≤ 256) where
-  pub setting_flawed : (s : Setting) → setting_said (name_of s) line ≡ Err flaw → left_from (next.Setting s) number (line ∷ after ∷ left) ≡ Err (fault_at number flaw)
+  pub setting_flawed : (s : Setting) → setting_said (name_of s) line ≡ Err flaw →
+      left_from (next.Setting s) number (line ∷ after ∷ left) ≡ Err (fault_at number flaw)
   unfolding ahead
-  setting_flawed s e = ap ended (setting_stops s (at number (line ∷ after ∷ left)) (fault_at number flaw) (line_flawed (setting_said (name_of s)) number line after left flaw short e))
+  setting_flawed s e =
+      ap ended (setting_stops s (at number (line ∷ after ∷ left)) (fault_at number flaw)
+      (line_flawed (setting_said (name_of s)) number line after left flaw short e))
 
   pub counts_flawed : counts_said line ≡ Err flaw → left_from next.Counts number (line ∷ after ∷ left) ≡ Err (fault_at number flaw)
   unfolding ahead
-  counts_flawed e = ap ended (counts_stop (at number (line ∷ after ∷ left)) (fault_at number flaw) (line_flawed counts_said number line after left flaw short e))
+  counts_flawed e =
+      ap ended (counts_stop (at number (line ∷ after ∷ left)) (fault_at number flaw) (line_flawed counts_said number line after left flaw short e))
 
-  pub motion_flawed : (m : MotionsLeft) → HaveSome m → any_said m line ≡ Err flaw → left_from (next.Motion m) number (line ∷ after ∷ left) ≡ Err (fault_at number flaw)
+  pub motion_flawed : (m : MotionsLeft) → HaveSome m → any_said m line ≡ Err flaw →
+      left_from (next.Motion m) number (line ∷ after ∷ left) ≡ Err (fault_at number flaw)
   unfolding ahead
-  motion_flawed m some e = ap ended (motions_stop m (at number (line ∷ after ∷ left)) (fault_at number flaw) some (motion_wrong m number line after left flaw short e))
+  motion_flawed m some e =
+      ap ended (motions_stop m (at number (line ∷ after ∷ left)) (fault_at number flaw) some (motion_wrong m number line after left flaw short e))
 
-  pub piece_flawed : (b : BegunMotion) → 1 ≤ b.pieces_left → piece_said line ≡ Err flaw → left_from (next.Piece b) number (line ∷ after ∷ left) ≡ Err (fault_at number flaw)
+  pub piece_flawed : (b : BegunMotion) → 1 ≤ b.pieces_left → piece_said line ≡ Err flaw →
+      left_from (next.Piece b) number (line ∷ after ∷ left) ≡ Err (fault_at number flaw)
   unfolding ahead
   piece_flawed b some e =
-      ap ended (pieces_stop b (b.pieces_left - 1) (at number (line ∷ after ∷ left)) (fault_at number flaw) (omega (arith, some)) (line_flawed piece_said number line after left flaw short e))
+      ap ended (pieces_stop b (b.pieces_left - 1) (at number (line ∷ after ∷ left)) (fault_at number flaw) (omega (arith, some))
+      (line_flawed piece_said number line after left flaw short e))
 
   pub end_flawed : end_said line ≡ Err flaw → left_from next.End number (line ∷ after ∷ left) ≡ Err (fault_at number flaw)
   unfolding ahead
@@ -449,7 +500,8 @@ module _ (number : ℕ) (line after : List ℕ) (left : List (List ℕ)) (flaw :
 
 -- ---- a line that is right
 
-by_nothing : {X Y : Type 0} (f : X → Y) (x : X) (number : ℕ) (b : Bool) → (if b then Ok (f x) else Err (faults.BadLine number)) ≡ made_with f (if b then Ok x else Err (faults.BadLine number))
+by_nothing : {X Y : Type 0} (f : X → Y) (x : X) (number : ℕ) (b : Bool) →
+    (if b then Ok (f x) else Err (faults.BadLine number)) ≡ made_with f (if b then Ok x else Err (faults.BadLine number))
 by_nothing f x number true = refl
 by_nothing f x number false = refl
 
@@ -467,7 +519,8 @@ module _ (line after : List ℕ) (left : List (List ℕ)) where
 
   pub header_wrong : (number : ℕ) (flaw : LineFlaw) → version_said line ≡ Err flaw → left_from next.Header number (line ∷ after ∷ left) ≡ Err faults.WrongHeader
   unfolding ahead
-  header_wrong number flaw e = ap (λ (r : Result Version LineFlaw). ended (then_read (version_is r (after ∷ left)) (λ v q. said_with (of_version v) (behind_header v q)))) e
+  header_wrong number flaw e =
+      ap (λ (r : Result Version LineFlaw). ended (then_read (version_is r (after ∷ left)) (λ v q. said_with (of_version v) (behind_header v q)))) e
 
   pub setting_read : (number : ℕ) (s : Setting) (n : ℕ) → length line ≤ 256 → setting_said (name_of s) line ≡ Ok n
       → left_from (next.Setting s) number (line ∷ after ∷ left) ≡ left_from (next_of_motions (Parted s n)) (next_number number) (after ∷ left)
@@ -482,14 +535,16 @@ module _ (line after : List ℕ) (left : List (List ℕ)) where
       ap ended (counts_on number c line after left short e) ∙ ap ended (sym (next_ahead (Joined (all_left c)) (at (next_number number) (after ∷ left))))
 
   pub motion_read : (number : ℕ) (m : MotionsLeft) (e : EntryLine) → HaveSome m → length line ≤ 256 → any_said m line ≡ Ok e
-      → left_from (next.Motion m) number (line ∷ after ∷ left) ≡ made_with (with_begun e.indices) (left_from (next.Piece (begun m e)) (next_number number) (after ∷ left))
+      → left_from (next.Motion m) number (line ∷ after ∷ left) ≡ made_with (with_begun e.indices)
+      (left_from (next.Piece (begun m e)) (next_number number) (after ∷ left))
   unfolding ahead
   motion_read number m e some short h =
       ap ended (motion_on m number e line after left some short h)
       ∙ ended_with (with_begun e.indices) (pieces_ahead (begun m e) (at (next_number number) (after ∷ left)))
 
   pub piece_read : (number : ℕ) (b : BegunMotion) (x : Piece) → 1 ≤ b.pieces_left → length line ≤ 256 → piece_said line ≡ Ok x
-      → left_from (next.Piece b) number (line ∷ after ∷ left) ≡ made_with (with_piece x) (left_from (next.Piece (record b { pieces_left = b.pieces_left - 1 })) (next_number number) (after ∷ left))
+      → left_from (next.Piece b) number (line ∷ after ∷ left) ≡ made_with (with_piece x)
+      (left_from (next.Piece (record b { pieces_left = b.pieces_left - 1 })) (next_number number) (after ∷ left))
   unfolding ahead
   piece_read number b x some short e =
       ap ended (piece_on b (b.pieces_left - 1) number x line after left (omega (arith, some)) short e)
@@ -500,7 +555,8 @@ module _ (line after : List ℕ) (left : List (List ℕ)) where
   unfolding ahead
   last_read number b none = ap ended (pieces_done b (at number left) none) ∙ ap ended (sym (next_ahead b.behind (at number left)))
 
-  pub end_read : (number : ℕ) → length line ≤ 256 → end_said line ≡ Ok tt → left_from next.End number (line ∷ after ∷ left) ≡ left_from next.Nothing (next_number number) (after ∷ left)
+  pub end_read : (number : ℕ) → length line ≤ 256 → end_said line ≡ Ok tt →
+      left_from next.End number (line ∷ after ∷ left) ≡ left_from next.Nothing (next_number number) (after ∷ left)
   unfolding ahead
   end_read number short e = ap ended (end_on number line after left short e)
 
@@ -535,7 +591,8 @@ several_length {X} said (suc n) p = by_first (said p) (λ q. several_length said
   by_more x (Ok r) h = ap suc h
   by_more x (Err fault) h = tt
 
-  by_first : (t : Said X) → ((q : Place) → IfOk (several said n q) (λ y. length y.0 ≡ n)) → IfOk (then_read t (λ x q. then_read (several said n q) (λ xs r. Ok (x ∷ xs, r)))) (λ y. length y.0 ≡ suc n)
+  by_first : (t : Said X) → ((q : Place) → IfOk (several said n q) (λ y. length y.0 ≡ n)) →
+      IfOk (then_read t (λ x q. then_read (several said n q) (λ xs r. Ok (x ∷ xs, r)))) (λ y. length y.0 ≡ suc n)
   by_first (Ok r) h = by_more r.0 (several said n r.1) (h r.1)
   by_first (Err fault) h = tt
 
@@ -549,11 +606,13 @@ if_ended P (Ok r) h = by_end (nothing_in r.1.left) where
 pieces_fit : (b : BegunMotion) (p : Place) → IfOk (pieces_ahead b p) (λ y. length y.0.pieces ≡ b.pieces_left)
 unfolding pieces_ahead
 pieces_fit b p = by_several (several (line_at piece_said) b.pieces_left p) (several_length (line_at piece_said) b.pieces_left p) where
-  by_rest : (pieces : List Piece) (t : Said Rest) → length pieces ≡ b.pieces_left → IfOk (said_with (with_pieces pieces) t) (λ y. length y.0.pieces ≡ b.pieces_left)
+  by_rest : (pieces : List Piece) (t : Said Rest) → length pieces ≡ b.pieces_left →
+      IfOk (said_with (with_pieces pieces) t) (λ y. length y.0.pieces ≡ b.pieces_left)
   by_rest pieces (Ok r) h = h
   by_rest pieces (Err fault) h = tt
 
-  by_several : (t : Said (List Piece)) → IfOk t (λ y. length y.0 ≡ b.pieces_left) → IfOk (then_read t (λ pieces q. said_with (with_pieces pieces) (motions_ahead b.behind q))) (λ y. length y.0.pieces ≡ b.pieces_left)
+  by_several : (t : Said (List Piece)) → IfOk t (λ y. length y.0 ≡ b.pieces_left) →
+      IfOk (then_read t (λ pieces q. said_with (with_pieces pieces) (motions_ahead b.behind q))) (λ y. length y.0.pieces ≡ b.pieces_left)
   by_several (Ok r) h = by_rest r.0 (motions_ahead b.behind r.1) h
   by_several (Err fault) h = tt
 
@@ -593,22 +652,28 @@ abbrev first_form : Said Rest → Said Form
 first_form t = said_with form_of_text (said_with (of_version One) t)
 
 end_is : (off on : List Entry) (t : Said (Unit {0}))
-    → said_with PartedForm (then_read t (λ _ s. Ok (data_of off on, s))) ≡ first_form (said_with (with_motions Off off) (said_with (with_motions On on) (then_read t (λ _ q. Ok (nothing_left, q)))))
+    → said_with PartedForm (then_read t (λ _ s. Ok (data_of off on, s)))
+    ≡ first_form (said_with (with_motions Off off) (said_with (with_motions On on) (then_read t (λ _ q. Ok (nothing_left, q)))))
 end_is off on (Ok r) = ap (λ (c : CertificateData). ok_with c r.1) (sym (both_items off on)) where
   ok_with : CertificateData → Place → Said Form
   ok_with c q = Ok (PartedForm c, q)
 end_is off on (Err fault) = refl
 
 on_is : (off : List Entry) (t : Said (List Entry)) → said_with PartedForm (then_read t (λ on r. then_read (line_at end_said r) (λ _ s. Ok (data_of off on, s))))
-    ≡ first_form (said_with (with_motions Off off) (then_read t (λ more q. said_with (with_motions On more) (then_read (line_at end_said q) (λ _ q. Ok (nothing_left, q))))))
+    ≡ first_form (said_with (with_motions Off off)
+    (then_read t (λ more q. said_with (with_motions On more) (then_read (line_at end_said q) (λ _ q. Ok (nothing_left, q))))))
 on_is off (Ok r) = end_is off r.0 (line_at end_said r.1)
 on_is off (Err fault) = refl
 
 settings_are : (p : Place) → said_with PartedForm (settings_at p) ≡ first_form (setting_ahead Off p)
 unfolding settings_at setting_ahead behind end_ahead
 settings_are p = by_off (setting_at (codes "off") p) where
-  by_off : (t : Said (List Entry)) → said_with PartedForm (then_read t (λ off q. then_read (setting_at (codes "on") q) (λ on r. then_read (line_at end_said r) (λ _ s. Ok (data_of off on, s)))))
-      ≡ first_form (then_read t (λ more q. said_with (with_motions Off more) (then_read (setting_at (codes "on") q) (λ more q. said_with (with_motions On more) (then_read (line_at end_said q) (λ _ q. Ok (nothing_left, q)))))))
+  by_off : (t : Said (List Entry)) →
+      said_with PartedForm
+      (then_read t (λ off q. then_read (setting_at (codes "on") q) (λ on r. then_read (line_at end_said r) (λ _ s. Ok (data_of off on, s)))))
+      ≡ first_form (then_read t
+      (λ more q. said_with (with_motions Off more)
+      (then_read (setting_at (codes "on") q) (λ more q. said_with (with_motions On more) (then_read (line_at end_said q) (λ _ q. Ok (nothing_left, q)))))))
   by_off (Ok r) = on_is r.0 (setting_at (codes "on") r.1)
   by_off (Err fault) = refl
 
@@ -630,8 +695,12 @@ joined_items (Err fault) = refl
 joined_is : (p : Place) → said_with JoinedForm (joined_at p) ≡ second_form (counts_ahead p)
 unfolding joined_at counts_ahead motions_ahead end_ahead
 joined_is p = by_counts (line_at counts_said p) where
-  by_counts : (t : Said CountsLine) → said_with JoinedForm (then_read t (λ c q. then_read (items_at (c.off + c.on) (all_left c) q) (λ items r. then_read (line_at end_said r) (λ _ s. Ok (items, s)))))
-      ≡ second_form (then_read t (λ c q. then_read (items_at (c.off + c.on) (all_left c) q) (λ more q. said_with (with_items more) (then_read (line_at end_said q) (λ _ q. Ok (nothing_left, q))))))
+  by_counts : (t : Said CountsLine) →
+      said_with JoinedForm
+      (then_read t (λ c q. then_read (items_at (c.off + c.on) (all_left c) q) (λ items r. then_read (line_at end_said r) (λ _ s. Ok (items, s)))))
+      ≡ second_form (then_read t
+      (λ c q. then_read (items_at (c.off + c.on) (all_left c) q)
+      (λ more q. said_with (with_items more) (then_read (line_at end_said q) (λ _ q. Ok (nothing_left, q))))))
   by_counts (Ok r) = joined_items (items_at (r.0.off + r.0.on) (all_left r.0) r.1)
   by_counts (Err fault) = refl
 
@@ -644,13 +713,15 @@ all_ahead : (t : Said Version) → then_read t form_at ≡ said_with form_of_tex
 all_ahead (Ok r) = version_ahead r.0 r.1
 all_ahead (Err fault) = refl
 
-header_ahead : (number : ℕ) (lines : List (List ℕ)) → ahead next.Header (at number lines) ≡ then_read (header_in lines) (λ v q. said_with (of_version v) (behind_header v q))
+header_ahead : (number : ℕ) (lines : List (List ℕ)) → ahead next.Header (at number lines)
+    ≡ then_read (header_in lines) (λ v q. said_with (of_version v) (behind_header v q))
 unfolding ahead
 header_ahead number lines = refl
 
 pub begun_form : (number : ℕ) (text : List ℕ) → form_said text ≡ made_with form_of_text (left_from next.Header number (lines_of text))
 begun_form number text =
-    form_is text ∙ ap ended (all_ahead (header_in (lines_of text))) ∙ ended_with form_of_text (then_read (header_in (lines_of text)) (λ v q. said_with (of_version v) (behind_header v q)))
+    form_is text ∙ ap ended (all_ahead (header_in (lines_of text)))
+    ∙ ended_with form_of_text (then_read (header_in (lines_of text)) (λ v q. said_with (of_version v) (behind_header v q)))
     ∙ ap (λ (t : Said Rest). made_with form_of_text (ended t)) (sym (header_ahead number (lines_of text)))
 
 form_contents : (v : Option Version) (items : List Item) → contents (form_by v items) ≡ expansion items
@@ -670,4 +741,5 @@ certificate_is text = refl
 
 pub begun_said : (number : ℕ) (text : List ℕ) → certificate_said text ≡ made_with certificate_of (left_from next.Header number (lines_of text))
 begun_said number text =
-    certificate_is text ∙ ap (λ (r : Result Form CertificateFault). made_with contents r) (begun_form number text) ∙ motions_of_form (left_from next.Header number (lines_of text))
+    certificate_is text ∙ ap (λ (r : Result Form CertificateFault). made_with contents r) (begun_form number text)
+    ∙ motions_of_form (left_from next.Header number (lines_of text))

@@ -1,5 +1,6 @@
 -- Numbers out of every range may be taken for one another.
-use Rattle.std.proofs.Common.{◌≡◌, ◌⊎◌, inl, inr, ℕ, suc, ◌<◌, ◌≤◌, min, ap, Bool, true, false, Option, Some, None, Result, Ok, Err, List, [], ◌∷◌, length, refl, sym, ◌∙◌, arith}
+use Rattle.std.proofs.Common.{◌≡◌, ◌⊎◌, inl, inr, ℕ, suc, ◌<◌, ◌≤◌, min, ap, Bool, true, false, Option, Some, None, Result, Ok, Err, List, [], ◌∷◌, length}
+use Rattle.std.proofs.Common.{refl, sym, ◌∙◌, arith}
 use Rattle.std.specs.Prelude.{ℤ, pos, negsuc, unsigned_abs, map, ◌&&◌, nat_le, if◌then◌else◌}
 use Rattle.std.proofs.lemmas.Bool.{and_parts, cases_lt}
 use Rattle.std.proofs.lemmas.Bool.Decides.{nat_tests}
@@ -158,7 +159,8 @@ good_parts b h =
     let p = and_parts (are_steps b.low) _ h in
     (p.0, (and_parts (are_steps b.high) _ p.1).0)
 
-good_kept : (a b c d e f : ℤ) → good_box (box_at a b c d e f) ≡ true → box_at (clamped a) (clamped b) (clamped c) (clamped d) (clamped e) (clamped f) ≡ box_at a b c d e f
+good_kept : (a b c d e f : ℤ) → good_box (box_at a b c d e f) ≡ true →
+    box_at (clamped a) (clamped b) (clamped c) (clamped d) (clamped e) (clamped f) ≡ box_at a b c d e f
 good_kept a b c d e f h = let p = good_parts (box_at a b c d e f) h in box_kept a b c d e f p.0 p.1
 
 good_same : (a b c d e f : ℤ) → good_box (box_at (clamped a) (clamped b) (clamped c) (clamped d) (clamped e) (clamped f)) ≡ good_box (box_at a b c d e f)
@@ -182,7 +184,8 @@ boxed_clamped g h x y (a ∷ b ∷ c ∷ d ∷ e ∷ []) same kept = refl
 boxed_clamped g h x y (a ∷ b ∷ c ∷ d ∷ e ∷ f ∷ []) same kept =
     ranged_same _ _ _ _ (rw (same, good_same a b c d e f) refl)
     (λ t. let p = and_parts h (good_box (box_at a b c d e f)) t in
-    ap (λ (u : Cut). piece_at u (box_at (clamped a) (clamped b) (clamped c) (clamped d) (clamped e) (clamped f))) (kept p.0) ∙ ap (piece_at y) (good_kept a b c d e f p.1))
+    ap (λ (u : Cut). piece_at u (box_at (clamped a) (clamped b) (clamped c) (clamped d) (clamped e) (clamped f))) (kept p.0)
+    ∙ ap (piece_at y) (good_kept a b c d e f p.1))
 boxed_clamped g h x y (a ∷ b ∷ c ∷ d ∷ e ∷ f ∷ z ∷ zs) same kept = refl
 
 too_many : (g : Bool) (x : Cut) (zs : List ℤ) → 6 < length zs → boxed g x zs ≡ Err Spelling
@@ -201,7 +204,8 @@ more_than n m h = grind (arith, nat_tests)
 line_all : (t : ℤ) (zs : List ℤ) → line_piece (Some (map clamped (t ∷ zs))) ≡ line_piece (Some (t ∷ zs))
 line_all t zs = let s = same_count 1 WHOLE t (omega arith) in boxed_clamped _ _ _ _ zs s.same (λ h. ap (λ (k : ℤ). Part (unsigned_abs k)) (s.kept h))
 
-line_if : (t : ℤ) (zs : List ℤ) (b : Bool) → nat_le (length (t ∷ zs)) 8 ≡ b → line_piece (if b then Some (map clamped (t ∷ zs)) else None) ≡ line_piece (Some (t ∷ zs))
+line_if : (t : ℤ) (zs : List ℤ) (b : Bool) → nat_le (length (t ∷ zs)) 8 ≡ b →
+    line_piece (if b then Some (map clamped (t ∷ zs)) else None) ≡ line_piece (Some (t ∷ zs))
 line_if t zs true e = line_all t zs
 line_if t zs false e = sym (too_many (is_count 1 WHOLE t) (Part (unsigned_abs t)) zs (omega (arith, more_than (length (t ∷ zs)) 8 e)))
 
@@ -219,11 +223,14 @@ arc_all u v zs =
     let s = same_within u in
     let t = same_within v in
     boxed_clamped _ _ _ _ zs (rw (s.same, t.same) refl)
-    (λ h. let p = and_parts (is_within CUT_LIMIT u) (is_within CUT_LIMIT v) h in ap (λ (k : ℤ). place_at k (clamped v)) (s.kept p.0) ∙ ap (λ (k : ℤ). place_at u k) (t.kept p.1))
+    (λ h. let p = and_parts (is_within CUT_LIMIT u) (is_within CUT_LIMIT v) h in
+    ap (λ (k : ℤ). place_at k (clamped v)) (s.kept p.0) ∙ ap (λ (k : ℤ). place_at u k) (t.kept p.1))
 
-arc_if : (u v : ℤ) (zs : List ℤ) (b : Bool) → nat_le (length (u ∷ v ∷ zs)) 8 ≡ b → arc_piece (if b then Some (map clamped (u ∷ v ∷ zs)) else None) ≡ arc_piece (Some (u ∷ v ∷ zs))
+arc_if : (u v : ℤ) (zs : List ℤ) (b : Bool) → nat_le (length (u ∷ v ∷ zs)) 8 ≡ b →
+    arc_piece (if b then Some (map clamped (u ∷ v ∷ zs)) else None) ≡ arc_piece (Some (u ∷ v ∷ zs))
 arc_if u v zs true e = arc_all u v zs
-arc_if u v zs false e = sym (too_many (is_within CUT_LIMIT u && is_within CUT_LIMIT v) (Place (record { u = u; v = v })) zs (omega (arith, more_than (length (u ∷ v ∷ zs)) 8 e)))
+arc_if u v zs false e =
+    sym (too_many (is_within CUT_LIMIT u && is_within CUT_LIMIT v) (Place (record { u = u; v = v })) zs (omega (arith, more_than (length (u ∷ v ∷ zs)) 8 e)))
 
 pub arc_clamped : (o : Option (List ℤ)) → arc_piece (at_most_eight o) ≡ arc_piece o
 arc_clamped None = refl
@@ -234,7 +241,8 @@ arc_clamped (Some (u ∷ v ∷ zs)) = arc_if u v zs (nat_le (length (u ∷ v ∷
 -- ---- numbers that were gathered
 
 pub numbers_say : {X : Type 0} (said : Option (List ℤ) → Result X LineFlaw) → ((o : Option (List ℤ)) → said (at_most_eight o) ≡ said o)
-    → (all : Option (List ℤ)) (items slice : List ℤ) (found : Result X LineFlaw) → Some items ≡ at_most_eight all → slice ≡ items → found ≡ said (Some slice) → found ≡ said all
+    → (all : Option (List ℤ)) (items slice : List ℤ) (found : Result X LineFlaw) → Some items ≡ at_most_eight all → slice ≡ items → found ≡ said (Some slice) →
+    found ≡ said all
 numbers_say said law all items slice found h same is = is ∙ ap (λ (l : List ℤ). said (Some l)) same ∙ ap said h ∙ law all
 
 pub no_numbers_say : {X : Type 0} (said : Option (List ℤ) → Result X LineFlaw) → ((o : Option (List ℤ)) → said (at_most_eight o) ≡ said o)

@@ -1,5 +1,6 @@
 -- Numbers that are read up to a bound, and where a field ends.
-use Rattle.std.proofs.Common.{◌≡◌, ℕ, zero, suc, ◌+◌, ◌<◌, ◌≤◌, min, ap, Bool, true, false, Option, Some, None, List, [], ◌∷◌, length, take, drop, get_or, refl, sym, ◌∙◌, arith}
+use Rattle.std.proofs.Common.{◌≡◌, ℕ, zero, suc, ◌+◌, ◌<◌, ◌≤◌, min, ap, Bool, true, false, Option, Some, None, List, [], ◌∷◌, length, take, drop, get_or, refl}
+use Rattle.std.proofs.Common.{sym, ◌∙◌, arith}
 use Rattle.std.specs.Prelude.{◌==◌, pos, negsuc, position, nat_lt, if◌then◌else◌}
 use Rattle.std.specs.List.{position_or_len}
 use Rattle.std.specs.Option.{option_map}
@@ -35,7 +36,8 @@ tail_none : (c : Bool) (rest : List ℕ) → (if c then Some rest else None) ≡
 tail_none true rest h = absurd (cc h)
 tail_none false rest h = refl
 
-pub minus_number : (field digits : List ℕ) → minus_tail field ≡ Some digits → negated (option_map limited (decimal_in digits)) ≡ option_map clamped (number_in field)
+pub minus_number : (field digits : List ℕ) → minus_tail field ≡ Some digits →
+    negated (option_map limited (decimal_in digits)) ≡ option_map clamped (number_in field)
 unfolding number_in
 minus_number [] digits h = absurd (cc h)
 minus_number (b ∷ rest) digits h =

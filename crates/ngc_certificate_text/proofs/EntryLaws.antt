@@ -1,5 +1,6 @@
 -- Entries that are left, one by one.
-use Rattle.std.proofs.Common.{◌≡◌, ℕ, zero, suc, ◌+◌, ◌-◌, ◌≤◌, ap, subst, Bool, true, false, Option, Some, None, Result, Ok, Err, List, [], ◌∷◌, ◌++◌, length, refl, sym, ◌∙◌, append_assoc, arith}
+use Rattle.std.proofs.Common.{◌≡◌, ℕ, zero, suc, ◌+◌, ◌-◌, ◌≤◌, ap, subst, Bool, true, false, Option, Some, None, Result, Ok, Err, List, [], ◌∷◌, ◌++◌, length}
+use Rattle.std.proofs.Common.{refl, sym, ◌∙◌, append_assoc, arith}
 use Rattle.std.specs.Prelude.{ℤ, pos, unsigned_abs, codes, decimal, map, ◌==◌, ◌&&◌, ◌||◌, not, nat_le, nat_lt, if◌then◌else◌}
 use Rattle.std.specs.Fmt.{signed_decimal}
 use Rattle.std.specs.List.{join_with_byte}
@@ -22,7 +23,8 @@ use Rattle.ngc_certificate_text.specs.Lines.{numbers_in, numbers_behind, is_coun
 use Rattle.ngc_certificate_text.specs.Number.{fields}
 use Rattle.ngc_certificate_text.specs.Said.{Place, Said, then_read, line_at, several, item_at, items_at}
 use Rattle.ngc_certificate_text.specs.Spelling.{item_line}
-use Rattle.ngc_certificate_text.proofs.FieldLaws.{AreSmall, line_text, line_fields, line_numbers, line_spelled, numbers_in-signed, numbers_spelled, bytes_same, joined_split}
+use Rattle.ngc_certificate_text.proofs.FieldLaws.{AreSmall, line_text, line_fields, line_numbers, line_spelled, numbers_in-signed, numbers_spelled, bytes_same}
+use Rattle.ngc_certificate_text.proofs.FieldLaws.{joined_split}
 use Rattle.ngc_certificate_text.proofs.LineLaws.{IsLine, AreWords, behind_length, text_is_line, ranged_ok, count_from, counted, two_counts_ok}
 use Rattle.ngc_certificate_text.proofs.Taken.{then_ok, line_taken, ok_same, read_to}
 
@@ -66,34 +68,44 @@ SaysEntry left word fs e = EntryFields left word fs e.indices e.pieces
 pub least : (n m : ℕ) → n ≤ m → nat_le n m ≡ true
 least n m h = grind (arith, nat_tests)
 
-three_ok : (left : EntriesLeft) (word : List ℕ) (fs : List (List ℕ)) (o : Option (List ℤ)) (e : EntryLine) → numbers_in fs ≡ o → word ≡ codes "both" → may_come left (Both 0 0) ≡ true
+three_ok : (left : EntriesLeft) (word : List ℕ) (fs : List (List ℕ)) (o : Option (List ℤ)) (e : EntryLine) → numbers_in fs ≡ o → word ≡ codes "both" →
+    may_come left (Both 0 0) ≡ true
     → three_counts o ≡ Ok e → SaysEntry left word fs e
 three_ok left word fs None e is kind may h = absurd (cc h)
 three_ok left word fs (Some []) e is kind may h = absurd (cc h)
 three_ok left word fs (Some (x ∷ [])) e is kind may h = absurd (cc h)
 three_ok left word fs (Some (x ∷ y ∷ [])) e is kind may h = absurd (cc h)
 three_ok left word fs (Some (x ∷ y ∷ z ∷ [])) e is kind may h =
-    let r = ranged_ok (is_count 0 INDEX_LIMIT x && (is_count 0 INDEX_LIMIT y && is_count 1 PIECE_LIMIT z)) (entry_line (Both (unsigned_abs x) (unsigned_abs y)) (unsigned_abs z)) e h in
+    let r = ranged_ok (is_count 0 INDEX_LIMIT x && (is_count 0 INDEX_LIMIT y && is_count 1 PIECE_LIMIT z))
+    (entry_line (Both (unsigned_abs x) (unsigned_abs y)) (unsigned_abs z)) e h in
     let p = and_parts (is_count 0 INDEX_LIMIT x) (is_count 0 INDEX_LIMIT y && is_count 1 PIECE_LIMIT z) r.0 in
     let q = and_parts (is_count 0 INDEX_LIMIT y) (is_count 1 PIECE_LIMIT z) p.1 in
     let cx = counted 0 INDEX_LIMIT x p.0 in
     let cy = counted 0 INDEX_LIMIT y q.0 in
     let cz = counted 1 PIECE_LIMIT z q.1 in
     let all : Some (x ∷ y ∷ z ∷ []) ≡ Some (pos (unsigned_abs x) ∷ pos (unsigned_abs y) ∷ pos (unsigned_abs z) ∷ []) =
-    ap (λ (k : ℤ). Some (k ∷ y ∷ z ∷ [])) cx.is ∙ ap (λ (k : ℤ). Some (pos (unsigned_abs x) ∷ k ∷ z ∷ [])) cy.is ∙ ap (λ (k : ℤ). Some (pos (unsigned_abs x) ∷ pos (unsigned_abs y) ∷ k ∷ [])) cz.is in
+    ap (λ (k : ℤ). Some (k ∷ y ∷ z ∷ [])) cx.is ∙ ap (λ (k : ℤ). Some (pos (unsigned_abs x) ∷ k ∷ z ∷ [])) cy.is
+    ∙ ap (λ (k : ℤ). Some (pos (unsigned_abs x) ∷ pos (unsigned_abs y) ∷ k ∷ [])) cz.is in
     let says : EntryFields left word fs (Both (unsigned_abs x) (unsigned_abs y)) (unsigned_abs z) = record {
       kind = kind;
       numbers = is ∙ all;
-      taken = record { may = may; indices = and_from _ _ (least (unsigned_abs x) INDEX_LIMIT cx.high) (least (unsigned_abs y) INDEX_LIMIT cy.high); some = cz.low; few = cz.high };
+      taken = record {
+        may = may;
+        indices = and_from _ _ (least (unsigned_abs x) INDEX_LIMIT cx.high) (least (unsigned_abs y) INDEX_LIMIT cy.high);
+        some = cz.low;
+        few = cz.high;
+      };
     } in
     subst (λ (l : EntryLine). SaysEntry left word fs l) r.1 says
 three_ok left word fs (Some (x ∷ y ∷ z ∷ a ∷ zs)) e is kind may h = absurd (cc h)
 
-of_one : (f : ℕ → Indices) (r : Result MotionLine LineFlaw) (e : EntryLine) → of_setting f r ≡ Ok e → (m : MotionLine) × (r ≡ Ok m) × (entry_line (f m.index) m.pieces ≡ e)
+of_one : (f : ℕ → Indices) (r : Result MotionLine LineFlaw) (e : EntryLine) → of_setting f r ≡ Ok e →
+    (m : MotionLine) × (r ≡ Ok m) × (entry_line (f m.index) m.pieces ≡ e)
 of_one f (Ok m) e h = (m, refl, cc h)
 of_one f (Err flaw) e h = absurd (cc h)
 
-off_ok : (left : EntriesLeft) (word : List ℕ) (fs : List (List ℕ)) (e : EntryLine) → word ≡ codes "off" → may_come left (Off 0) ≡ true → of_setting Off (two_counts (numbers_in fs)) ≡ Ok e → SaysEntry left word fs e
+off_ok : (left : EntriesLeft) (word : List ℕ) (fs : List (List ℕ)) (e : EntryLine) → word ≡ codes "off" → may_come left (Off 0) ≡ true →
+    of_setting Off (two_counts (numbers_in fs)) ≡ Ok e → SaysEntry left word fs e
 off_ok left word fs e kind may h =
     let m = of_one Off (two_counts (numbers_in fs)) e h in
     let c = two_counts_ok (numbers_in fs) m.0 m.1 in
@@ -104,7 +116,8 @@ off_ok left word fs e kind may h =
     } in
     subst (λ (l : EntryLine). SaysEntry left word fs l) m.2 says
 
-on_ok : (left : EntriesLeft) (word : List ℕ) (fs : List (List ℕ)) (e : EntryLine) → word ≡ codes "on" → may_come left (On 0) ≡ true → of_setting On (two_counts (numbers_in fs)) ≡ Ok e → SaysEntry left word fs e
+on_ok : (left : EntriesLeft) (word : List ℕ) (fs : List (List ℕ)) (e : EntryLine) → word ≡ codes "on" → may_come left (On 0) ≡ true →
+    of_setting On (two_counts (numbers_in fs)) ≡ Ok e → SaysEntry left word fs e
 on_ok left word fs e kind may h =
     let m = of_one On (two_counts (numbers_in fs)) e h in
     let c = two_counts_ok (numbers_in fs) m.0 m.1 in
@@ -116,8 +129,10 @@ on_ok left word fs e kind may h =
     subst (λ (l : EntryLine). SaysEntry left word fs l) m.2 says
 
 by_entry_word : (left : EntriesLeft) (word : List ℕ) (fs : List (List ℕ)) (e : EntryLine) (b c d : Bool)
-    → (bytes_eq word (codes "both") && may_come left (Both 0 0)) ≡ b → (bytes_eq word (codes "off") && may_come left (Off 0)) ≡ c → (bytes_eq word (codes "on") && may_come left (On 0)) ≡ d
-    → (if b then three_counts (numbers_in fs) else if c then of_setting Off (two_counts (numbers_in fs)) else if d then of_setting On (two_counts (numbers_in fs)) else Err Spelling) ≡ Ok e
+    → (bytes_eq word (codes "both") && may_come left (Both 0 0)) ≡ b → (bytes_eq word (codes "off") && may_come left (Off 0)) ≡ c →
+    (bytes_eq word (codes "on") && may_come left (On 0)) ≡ d
+    → (if b then three_counts (numbers_in fs) else if c then of_setting Off (two_counts (numbers_in fs)) else if d
+    then of_setting On (two_counts (numbers_in fs)) else Err Spelling) ≡ Ok e
     → SaysEntry left word fs e
 by_entry_word left word fs e true c d x y z h =
     let p = and_parts (bytes_eq word (codes "both")) (may_come left (Both 0 0)) x in
@@ -135,18 +150,22 @@ pub record EntrySpelled (left : EntriesLeft) (line : List ℕ) (e : EntryLine) :
   pub taken : IsTaken left e.indices e.pieces
 
 numbers_small : (i : Indices) (n : ℕ) → good_indices i ≡ true → n ≤ PIECE_LIMIT → AreSmall (entry_numbers i n)
-numbers_small (Both i j) n good few = let p = and_parts (nat_le i INDEX_LIMIT) (nat_le j INDEX_LIMIT) good in (grind (arith, nat_tests, p.0), (grind (arith, nat_tests, p.1), (omega (arith, few), tt)))
+numbers_small (Both i j) n good few = let p = and_parts (nat_le i INDEX_LIMIT) (nat_le j INDEX_LIMIT) good in
+    (grind (arith, nat_tests, p.0), (grind (arith, nat_tests, p.1), (omega (arith, few), tt)))
 numbers_small (Off i) n good few = (grind (arith, nat_tests, good), (omega (arith, few), tt))
 numbers_small (On j) n good few = (grind (arith, nat_tests, good), (omega (arith, few), tt))
 
-spelled_entry : (left : EntriesLeft) (line : List ℕ) (all : List (List ℕ)) (e : EntryLine) → fields line ≡ all → entry_in left all ≡ Ok e → EntrySpelled left line e
+spelled_entry : (left : EntriesLeft) (line : List ℕ) (all : List (List ℕ)) (e : EntryLine) → fields line ≡ all → entry_in left all ≡ Ok e →
+    EntrySpelled left line e
 unfolding entry_text
 spelled_entry left line [] e is h = absurd (cc h)
 spelled_entry left line (word ∷ fs) e is h =
-    let f = by_entry_word left word fs e (bytes_eq word (codes "both") && may_come left (Both 0 0)) (bytes_eq word (codes "off") && may_come left (Off 0)) (bytes_eq word (codes "on") && may_come left (On 0)) refl refl refl h in
+    let f = by_entry_word left word fs e (bytes_eq word (codes "both") && may_come left (Both 0 0)) (bytes_eq word (codes "off") && may_come left (Off 0))
+    (bytes_eq word (codes "on") && may_come left (On 0)) refl refl refl h in
     let rest = numbers_spelled fs (entry_numbers e.indices e.pieces) f.numbers (numbers_small e.indices e.pieces f.taken.indices f.taken.few) in
     record {
-      is = sym (joined_split 32 line) ∙ ap (join_with_byte 32) (is ∙ ap (λ (w : List ℕ). w ∷ fs) f.kind ∙ ap (λ (l : List (List ℕ)). entry_word e.indices ∷ l) rest);
+      is = sym (joined_split 32 line) ∙ ap (join_with_byte 32)
+          (is ∙ ap (λ (w : List ℕ). w ∷ fs) f.kind ∙ ap (λ (l : List (List ℕ)). entry_word e.indices ∷ l) rest);
       taken = f.taken;
     }
 
@@ -177,20 +196,24 @@ index_counts i h = count_from 0 INDEX_LIMIT i (omega arith) (grind (arith, nat_t
 pub if_taken : (b : Bool) (x y : Result EntryLine LineFlaw) → b ≡ true → (if b then x else y) ≡ x
 if_taken b x y e = rw e refl
 
-entry_fields : (left : EntriesLeft) (i : Indices) (n : ℕ) → IsTaken left i n → entry_in left (entry_word i ∷ map signed_decimal (entry_numbers i n)) ≡ Ok (entry_line i n)
+entry_fields : (left : EntriesLeft) (i : Indices) (n : ℕ) → IsTaken left i n →
+    entry_in left (entry_word i ∷ map signed_decimal (entry_numbers i n)) ≡ Ok (entry_line i n)
 entry_fields left (Both i j) n t =
     let p = and_parts (nat_le i INDEX_LIMIT) (nat_le j INDEX_LIMIT) t.indices in
     if_taken (may_come left (Both 0 0)) (three_counts (numbers_in (map signed_decimal (entry_numbers (Both i j) n)))) (Err Spelling) t.may
     ∙ ap three_counts (numbers_in-signed (entry_numbers (Both i j) n) (numbers_small (Both i j) n t.indices t.few))
-    ∙ ap (λ (g : Bool). ranged g (entry_line (Both i j) n)) (and_from _ _ (index_counts i p.0) (and_from _ _ (index_counts j p.1) (count_from 1 PIECE_LIMIT n t.some t.few)))
+    ∙ ap (λ (g : Bool). ranged g (entry_line (Both i j) n))
+    (and_from _ _ (index_counts i p.0) (and_from _ _ (index_counts j p.1) (count_from 1 PIECE_LIMIT n t.some t.few)))
 entry_fields left (Off i) n t =
     if_taken (may_come left (Off 0)) (of_setting Off (two_counts (numbers_in (map signed_decimal (entry_numbers (Off i) n))))) (Err Spelling) t.may
     ∙ ap (λ (o : Option (List ℤ)). of_setting Off (two_counts o)) (numbers_in-signed (entry_numbers (Off i) n) (numbers_small (Off i) n t.indices t.few))
-    ∙ ap (λ (g : Bool). of_setting Off (ranged g (record { index = i; pieces = n }))) (and_from _ _ (index_counts i t.indices) (count_from 1 PIECE_LIMIT n t.some t.few))
+    ∙ ap (λ (g : Bool). of_setting Off (ranged g (record { index = i; pieces = n })))
+    (and_from _ _ (index_counts i t.indices) (count_from 1 PIECE_LIMIT n t.some t.few))
 entry_fields left (On j) n t =
     if_taken (may_come left (On 0)) (of_setting On (two_counts (numbers_in (map signed_decimal (entry_numbers (On j) n))))) (Err Spelling) t.may
     ∙ ap (λ (o : Option (List ℤ)). of_setting On (two_counts o)) (numbers_in-signed (entry_numbers (On j) n) (numbers_small (On j) n t.indices t.few))
-    ∙ ap (λ (g : Bool). of_setting On (ranged g (record { index = j; pieces = n }))) (and_from _ _ (index_counts j t.indices) (count_from 1 PIECE_LIMIT n t.some t.few))
+    ∙ ap (λ (g : Bool). of_setting On (ranged g (record { index = j; pieces = n })))
+    (and_from _ _ (index_counts j t.indices) (count_from 1 PIECE_LIMIT n t.some t.few))
 
 pub entry_reads : (left : EntriesLeft) (i : Indices) (n : ℕ) → IsTaken left i n → entry_said left (entry_text i n) ≡ Ok (record { indices = i; pieces = n })
 unfolding entry_text entry_said
@@ -226,7 +249,8 @@ pub counts_reads : (m n : ℕ) → m ≤ MOTION_LIMIT → n ≤ MOTION_LIMIT →
 unfolding counts_text counts_said
 counts_reads m n hm hn =
     ap motion_counts (line_numbers (codes "motions") [] (pos m ∷ pos n ∷ []) refl (omega arith, (omega arith, tt)))
-    ∙ ap (λ (b : Bool). ranged b (record { off = m; on = n })) (and_from _ _ (count_from 0 MOTION_LIMIT m (omega arith) hm) (count_from 0 MOTION_LIMIT n (omega arith) hn))
+    ∙ ap (λ (b : Bool). ranged b (record { off = m; on = n }))
+    (and_from _ _ (count_from 0 MOTION_LIMIT m (omega arith) hm) (count_from 0 MOTION_LIMIT n (omega arith) hn))
 
 record MotionCounts (o : Option (List ℤ)) (c : CountsLine) : Type 0 where
   is : o ≡ Some (pos c.off ∷ pos c.on ∷ [])
@@ -354,13 +378,15 @@ item_takes left p x q h =
 
 fewer_items : (n : ℕ) (left : EntriesLeft) → ((more : EntriesLeft) (q : Place) → total more ≤ n → items_at (suc n) more q ≡ items_at n more q) → (t : Said Item)
     → ((x : Item) (q : Place) → t ≡ Ok (x, q) → total (left_behind left x.indices) ≤ n) → entries_by (suc n) left t ≡ entries_by n left t
-fewer_items n left same (Ok r) h = ap (λ (u : Said (List Item)). then_read u (λ xs s. Ok (r.0 ∷ xs, s))) (same (left_behind left r.0.indices) r.1 (h r.0 r.1 refl))
+fewer_items n left same (Ok r) h =
+    ap (λ (u : Said (List Item)). then_read u (λ xs s. Ok (r.0 ∷ xs, s))) (same (left_behind left r.0.indices) r.1 (h r.0 r.1 refl))
 fewer_items n left same (Err fault) h = refl
 
 none_extra : (n : ℕ) (left : EntriesLeft) (p : Place) → total left ≡ 0 → items_at (suc n) left p ≡ items_at n left p
 none_extra n left p e = let none = no_more left e in items_none (suc n) left p none ∙ sym (items_none n left p none)
 
-some_extra : (n m : ℕ) (left : EntriesLeft) (p : Place) → ((more : EntriesLeft) (q : Place) → total more ≤ n → items_at (suc n) more q ≡ items_at n more q) → total left ≤ suc n → total left ≡ m
+some_extra : (n m : ℕ) (left : EntriesLeft) (p : Place) → ((more : EntriesLeft) (q : Place) → total more ≤ n → items_at (suc n) more q ≡ items_at n more q) →
+    total left ≤ suc n → total left ≡ m
     → items_at (suc (suc n)) left p ≡ items_at (suc n) left p
 some_extra n zero left p same few e = none_extra (suc n) left p e
 some_extra n (suc m) left p same few e =

@@ -24,10 +24,15 @@ box low high = record { low = low; high = high }
 -- a line of one piece, at one setting
 one_line : certificate_said (codes "ngc-certificate 1\nsetting off 1\nmotion 7 1\nline 65536 0 -1 2 0 0 3\nsetting on 0\nend\n")
     ≡ Ok (record {
-      off = record { index = 7; pieces = record { end = Part 65536; bounds = box (record { x = pos 0; y = negsuc 0; z = pos 2 }) (record { x = pos 0; y = pos 0; z = pos 3 }) } ∷ [] } ∷ [];
+      off = record {
+        index = 7;
+        pieces = record { end = Part 65536; bounds = box (record { x = pos 0; y = negsuc 0; z = pos 2 }) (record { x = pos 0; y = pos 0; z = pos 3 }) }
+            ∷ [];
+      } ∷ [];
       on = [];
     })
-unfolding certificate_said form_said version_said settings_at setting_at line_at several entry_at end_said setting_said motion_said piece_said numbers_in number_in box
+unfolding certificate_said form_said version_said settings_at setting_at line_at several entry_at end_said setting_said motion_said piece_said numbers_in
+    number_in box
 one_line = refl
 
 version_three : certificate_said (codes "ngc-certificate 3\nsetting off 0\nsetting on 0\nend\n") ≡ Err WrongHeader
@@ -89,7 +94,8 @@ both_settings = refl
 -- the same motions in version 1's words
 both_expanded : certificate_said (codes "ngc-certificate 2\nmotions 1 1\nboth 0 0 1\nline 65536 0 0 0 3 0 0\nend\n")
     ≡ certificate_said (codes "ngc-certificate 1\nsetting off 1\nmotion 0 1\nline 65536 0 0 0 3 0 0\nsetting on 1\nmotion 0 1\nline 65536 0 0 0 3 0 0\nend\n")
-unfolding certificate_said form_said version_said settings_at setting_at entry_at setting_said motion_said joined_at line_at several items_at item_at counts_said entry_said piece_said end_said numbers_in number_in
+unfolding certificate_said form_said version_said settings_at setting_at entry_at setting_said motion_said joined_at line_at several items_at item_at
+    counts_said entry_said piece_said end_said numbers_in number_in
 both_expanded = refl
 
 -- the second line of the program begins with `/`, so its third line starts elsewhere at `on`
@@ -99,18 +105,22 @@ low_end = record { x = pos 3; y = pos 2; z = negsuc 0 }
 low_start : StepPos
 low_start = record { x = pos 3; y = pos 0; z = negsuc 0 }
 
-parted_paths : form_said (codes "ngc-certificate 2\nmotions 3 2\nboth 0 0 1\nline 65536 0 0 0 3 0 0\noff 1 1\nline 65536 3 0 0 3 2 0\noff 2 1\nline 65536 3 2 -1 3 2 0\non 1 1\nline 65536 3 0 -1 3 0 0\nend\n")
+parted_paths : form_said
+    (codes "ngc-certificate 2\nmotions 3 2\nboth 0 0 1\nline 65536 0 0 0 3 0 0\noff 1 1\nline 65536 3 0 0 3 2 0\noff 2 1\nline 65536 3 2 -1 3 2 0\non 1 1\nline 65536 3 0 -1 3 0 0\nend\n")
     ≡ Ok (Joined (
     record { indices = Both 0 0; pieces = whole (point 0 0 0) (point 3 0 0) ∷ [] }
     ∷ record { indices = Off 1; pieces = whole (point 3 0 0) (point 3 2 0) ∷ [] }
     ∷ record { indices = Off 2; pieces = whole low_end (point 3 2 0) ∷ [] }
     ∷ record { indices = On 1; pieces = whole low_start (point 3 0 0) ∷ [] } ∷ []
     ))
-unfolding form_said version_said joined_at line_at several items_at item_at counts_said entry_said piece_said end_said numbers_in number_in whole point low_end low_start
+unfolding form_said version_said joined_at line_at several items_at item_at counts_said entry_said piece_said end_said numbers_in number_in whole point
+    low_end low_start
 parted_paths = refl
 
 -- a motion of `on` is missing
-one_short : form_said (codes "ngc-certificate 2\nmotions 3 2\nboth 0 0 1\nline 65536 0 0 0 3 0 0\noff 1 1\nline 65536 3 0 0 3 2 0\noff 2 1\nline 65536 3 2 -1 3 2 0\nend\n") ≡ Err (BadLine 9)
+one_short : form_said
+    (codes "ngc-certificate 2\nmotions 3 2\nboth 0 0 1\nline 65536 0 0 0 3 0 0\noff 1 1\nline 65536 3 0 0 3 2 0\noff 2 1\nline 65536 3 2 -1 3 2 0\nend\n")
+    ≡ Err (BadLine 9)
 unfolding form_said version_said joined_at line_at several items_at item_at counts_said entry_said piece_said end_said numbers_in number_in
 one_short = refl
 

@@ -105,7 +105,8 @@ pub line_fields : (w : List ℕ) (ws : List (List ℕ)) (zs : List ℤ) → list
     → fields (line_text w ws zs) ≡ w ∷ (ws ++ map signed_decimal zs)
 line_fields w ws zs words small =
     let parts = and_parts (lacks 32 w) (list_all (lacks 32) ws) words in
-    let behind : list_all (lacks 32) (ws ++ map signed_decimal zs) ≡ true = list_all-append (lacks 32) ws (map signed_decimal zs) ∙ and_from _ _ parts.1 (numbers_lack 32 zs (omega arith) small) in
+    let behind : list_all (lacks 32) (ws ++ map signed_decimal zs) ≡ true =
+    list_all-append (lacks 32) ws (map signed_decimal zs) ∙ and_from _ _ parts.1 (numbers_lack 32 zs (omega arith) small) in
     split_joined 32 w (ws ++ map signed_decimal zs) (and_from _ _ parts.0 behind)
 
 -- the numbers of a line that is spelled so
@@ -115,7 +116,8 @@ line_numbers w ws zs words small =
     ap (numbers_behind (w ∷ ws)) (line_fields w ws zs words small) ∙ behind_words (w ∷ ws) (map signed_decimal zs) ∙ numbers_in-signed zs small
 
 -- a line with these numbers behind the words is spelled so
-pub line_spelled : (w : List ℕ) (ws : List (List ℕ)) (zs : List ℤ) (line : List ℕ) → numbers_behind (w ∷ ws) (fields line) ≡ Some zs → AreSmall zs → line ≡ line_text w ws zs
+pub line_spelled : (w : List ℕ) (ws : List (List ℕ)) (zs : List ℤ) (line : List ℕ) → numbers_behind (w ∷ ws) (fields line) ≡ Some zs → AreSmall zs →
+    line ≡ line_text w ws zs
 line_spelled w ws zs line h small =
     let first = words_first (w ∷ ws) (fields line) zs h in
     let rest = numbers_spelled first.rest zs first.numbers small in

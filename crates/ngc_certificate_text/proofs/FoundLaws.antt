@@ -1,5 +1,6 @@
 -- What a line adds to what was heard.
-use Rattle.std.proofs.Common.{◌≡◌, ℕ, zero, suc, ◌+◌, ◌-◌, ◌≤◌, ap, subst, Bool, true, false, Result, Ok, Err, Option, Some, None, List, [], ◌∷◌, ◌++◌, length, refl, sym, ◌∙◌, append_assoc, length-append, arith}
+use Rattle.std.proofs.Common.{◌≡◌, ℕ, zero, suc, ◌+◌, ◌-◌, ◌≤◌, ap, subst, Bool, true, false, Result, Ok, Err, Option, Some, None, List, [], ◌∷◌, ◌++◌, length}
+use Rattle.std.proofs.Common.{refl, sym, ◌∙◌, append_assoc, length-append, arith}
 use Rattle.std.specs.Prelude.{nat_le, IsTrue}
 use Rattle.std.specs.List.{list_all}
 use Rattle.std.proofs.lemmas.Bool.{and_from}
@@ -24,7 +25,8 @@ use Rattle.ngc_certificate_text.specs.declared.told.Version.TheVariants.{One, Tw
 use Rattle.ngc_certificate_text.specs.Ahead.{Rest, Left, made_with, of_version, with_items, with_pieces, next_of_entries, next_of_motions, IsSound}
 use Rattle.ngc_certificate_text.specs.Certificate.{CertificateData, MOTION_LIMIT, entries_at, good_piece}
 use Rattle.ngc_certificate_text.specs.EntryLines.{none_left}
-use Rattle.ngc_certificate_text.specs.Found.{Heard, add_item, heard_piece, heard, first_of, joined, begun_of, gathered, may_come, IsBegun, HasRoom, HasRoomFor, MayExpect, IsPieceTaken, MayTake}
+use Rattle.ngc_certificate_text.specs.Found.{Heard, add_item, heard_piece, heard, first_of, joined, begun_of, gathered, may_come, IsBegun, HasRoom, HasRoomFor}
+use Rattle.ngc_certificate_text.specs.Found.{MayExpect, IsPieceTaken, MayTake}
 use Rattle.ngc_certificate_text.specs.Joined.{Item, expansion, IsItem, Form, form_by}
 use Rattle.ngc_certificate_text.specs.Told.{onto, Fits, IsFront, behind_version, behind_piece, behind_told, left_at, taken_at, IsNext}
 use Rattle.ngc_certificate_text.proofs.OrderLaws.{item, both_expanded}
@@ -59,7 +61,8 @@ last_gathers b p h r true e fits =
     let ps = h.pieces ++ (p ∷ []) in
     ap (λ (more : List Piece). joined h (with_items (item b.indices (h.pieces ++ (p ∷ more)) ∷ []) r)) (no_piece r.pieces none)
     ∙ ap (form_by (first_of h.version r.version)) (sym (append_assoc h.items (item b.indices ps ∷ []) r.items))
-    ∙ sym (by_begun (begun_of (next_of_motions b.behind)) None (record { version = h.version; pieces = ps; items = add_item b.indices ps h.items }) r (none_next b.behind))
+    ∙ sym (by_begun (begun_of (next_of_motions b.behind)) None (record { version = h.version; pieces = ps; items = add_item b.indices ps h.items }) r
+    (none_next b.behind))
 last_gathers b p h r false e fits =
     ap (λ (ps : List Piece). joined h (with_items (item b.indices ps ∷ []) r)) (sym (append_assoc h.pieces (p ∷ []) r.pieces))
 
@@ -69,20 +72,23 @@ gathers e (tell.Header v) h r is may fits =
     by_begun (begun_of e) None h (of_version v r) (ap begun_of is)
     ∙ ap (λ (o : Option Version). form_by (first_of o (Some v)) (h.items ++ r.items)) (may.version is)
     ∙ sym (by_begun (begun_of (behind_version v)) None (heard (tell.Header v) h) r (none_second v))
-gathers e (tell.Setting s n) h r is may fits = by_begun (begun_of e) None h r (ap begun_of is.0) ∙ sym (by_begun (begun_of (next_of_motions (Parted s n))) None h r (none_next (Parted s n)))
+gathers e (tell.Setting s n) h r is may fits =
+    by_begun (begun_of e) None h r (ap begun_of is.0) ∙ sym (by_begun (begun_of (next_of_motions (Parted s n))) None h r (none_next (Parted s n)))
 gathers e (tell.Counts off on) h r is may fits =
     let left : MotionsLeft = Joined (record { off = off; on = on; behind_on = false }) in
     by_begun (begun_of e) None h r (ap begun_of is.0) ∙ sym (by_begun (begun_of (next_of_motions left)) None h r (none_next left))
 gathers e (tell.Motion b) h r is may fits = by_begun (begun_of e) None h (onto (tell.Motion b) r) (ap begun_of is.expected)
-gathers e (tell.Piece b p) h r is may fits = by_begun (begun_of e) (Some b) h (with_pieces (p ∷ r.pieces) r) (ap begun_of is.0) ∙ last_gathers b p h r (nat_le b.pieces_left 1) refl fits
+gathers e (tell.Piece b p) h r is may fits =
+    by_begun (begun_of e) (Some b) h (with_pieces (p ∷ r.pieces) r) (ap begun_of is.0) ∙ last_gathers b p h r (nat_le b.pieces_left 1) refl fits
 gathers e tell.End h r is may fits = by_begun (begun_of e) None h r (ap begun_of is)
 
 -- a line's text in front of what is left behind it
 pub front_gathers : (e : Expected) (told : Told) (h : Heard) (before after : Left) → IsNext e told → MayExpect e h → IsFront told before after
     → made_with (gathered (begun_of e) h) before ≡ made_with (gathered (begun_of (behind_told told)) (heard told h)) after
-front_gathers e told h before (Ok r) is may f = ap (made_with (gathered (begun_of e) h)) f.0 ∙ ap (λ (c : Form). all_said c) (gathers e told h r is may f.1) where
-  all_said : Form → Result Form CertificateFault
-  all_said c = Ok c
+front_gathers e told h before (Ok r) is may f =
+    ap (made_with (gathered (begun_of e) h)) f.0 ∙ ap (λ (c : Form). all_said c) (gathers e told h r is may f.1) where
+      all_said : Form → Result Form CertificateFault
+      all_said c = Ok c
 front_gathers e told h before (Err fault) is may f = ap (made_with (gathered (begun_of e) h)) f
 
 -- ---- there is room for what comes
@@ -123,12 +129,14 @@ setting_may On n On few = omega (arith, few)
 setting_room : (t : Setting) (n : ℕ) (items : List Item) → HasRoom (next.Setting t) items → n ≤ MOTION_LIMIT → HasRoom (next.Motion (Parted t n)) items
 setting_room t n items h few = λ s. omega (arith, h s, setting_may t n s few)
 
-counts_may : (off on : ℕ) (s : Setting) → off ≤ MOTION_LIMIT → on ≤ MOTION_LIMIT → left_at (Joined (record { off = off; on = on; behind_on = false })) s ≤ MOTION_LIMIT
+counts_may : (off on : ℕ) (s : Setting) → off ≤ MOTION_LIMIT → on ≤ MOTION_LIMIT →
+    left_at (Joined (record { off = off; on = on; behind_on = false })) s ≤ MOTION_LIMIT
 counts_may off on Off few fewer = few
 counts_may off on On few fewer = fewer
 
 begun_expects : (b : BegunMotion) (h : Heard) → HasRoom (next.Piece b) h.items → IsBegun b h.pieces → MayExpect (next.Piece b) h
-begun_expects b h room is = record { version = λ e. absurd (cc e); room = room; piece = λ d e. let same : b ≡ d = cc e in subst (λ (x : BegunMotion). IsBegun x h.pieces) same is }
+begun_expects b h room is =
+    record { version = λ e. absurd (cc e); room = room; piece = λ d e. let same : b ≡ d = cc e in subst (λ (x : BegunMotion). IsBegun x h.pieces) same is }
 
 one_more : (i : Indices) (ps : List Piece) (s : Setting) → length (entries_at s (expansion (item i ps ∷ []))) ≡ taken_at i s
 one_more (of.Both i j) ps Off = refl
@@ -138,17 +146,20 @@ one_more (of.Off i) ps On = refl
 one_more (of.On j) ps Off = refl
 one_more (of.On j) ps On = refl
 
-both_lengths : (xs ys : List Item) (s : Setting) → length (entries_at s (expansion (xs ++ ys))) ≡ length (entries_at s (expansion xs)) + length (entries_at s (expansion ys))
+both_lengths : (xs ys : List Item) (s : Setting) → length (entries_at s (expansion (xs ++ ys)))
+    ≡ length (entries_at s (expansion xs)) + length (entries_at s (expansion ys))
 both_lengths xs ys Off = ap (λ (c : CertificateData). length c.off) (both_expanded xs ys) ∙ length-append ((expansion xs).off) ((expansion ys).off)
 both_lengths xs ys On = ap (λ (c : CertificateData). length c.on) (both_expanded xs ys) ∙ length-append ((expansion xs).on) ((expansion ys).on)
 
-added_room : (b : BegunMotion) (ps : List Piece) (items : List Item) → HasRoom (next.Piece b) items → HasRoom (next.Motion b.behind) (add_item b.indices ps items)
+added_room : (b : BegunMotion) (ps : List Piece) (items : List Item) → HasRoom (next.Piece b) items →
+    HasRoom (next.Motion b.behind) (add_item b.indices ps items)
 added_room b ps items h = λ s. omega (arith, h s, both_lengths items (item b.indices ps ∷ []) s, one_more b.indices ps s)
 
 good_more : (ps : List Piece) (p : Piece) → IsTrue (list_all good_piece ps) → IsTrue (good_piece p) → IsTrue (list_all good_piece (ps ++ (p ∷ [])))
 good_more ps p h k = list_all-append good_piece ps (p ∷ []) ∙ and_from _ _ h (and_from _ _ k refl)
 
-behind_expects : (b : BegunMotion) (p : Piece) (h : Heard) (last : Bool) → nat_le b.pieces_left 1 ≡ last → IsBegun b h.pieces → HasRoom (next.Piece b) h.items → IsTrue (good_piece p)
+behind_expects : (b : BegunMotion) (p : Piece) (h : Heard) (last : Bool) → nat_le b.pieces_left 1 ≡ last → IsBegun b h.pieces → HasRoom (next.Piece b) h.items →
+    IsTrue (good_piece p)
     → MayExpect (behind_piece last b) (heard_piece last b (h.pieces ++ (p ∷ [])) h)
 behind_expects b p h true e is room good =
     let ps = h.pieces ++ (p ∷ []) in
@@ -209,13 +220,15 @@ taken_item b p h is = record {
 }
 
 -- a line that is told leads on
-pub told_leads : (a b : Expected) (told : Told) (h more : Heard) (before after : Left) → IsNext a told → MayExpect a h → b ≡ behind_told told → more ≡ heard told h → IsFront told before after
+pub told_leads : (a b : Expected) (told : Told) (h more : Heard) (before after : Left) → IsNext a told → MayExpect a h → b ≡ behind_told told →
+    more ≡ heard told h → IsFront told before after
     → made_with (gathered (begun_of a) h) before ≡ made_with (gathered (begun_of b) more) after
 told_leads a b told h more before after is may to hears f =
     front_gathers a told h before after is may f
     ∙ ap (λ (x : Expected). made_with (gathered (begun_of x) (heard told h)) after) (sym to)
     ∙ ap (λ (x : Heard). made_with (gathered (begun_of b) x) after) (sym hears)
 
-pub told_expects : (a b : Expected) (told : Told) (h more : Heard) → IsNext a told → b ≡ behind_told told → more ≡ heard told h → MayExpect a h → MayExpect b more
+pub told_expects : (a b : Expected) (told : Told) (h more : Heard) → IsNext a told → b ≡ behind_told told → more ≡ heard told h → MayExpect a h →
+    MayExpect b more
 told_expects a b told h more is to hears may =
     subst (λ (x : Expected). MayExpect x more) (sym to) (subst (λ (x : Heard). MayExpect (behind_told told) x) (sym hears) (expects a told h is may))

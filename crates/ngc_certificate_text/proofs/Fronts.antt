@@ -43,7 +43,8 @@ longer old new text more k = (k.0, k.1 ++ more, ap (λ l. l ++ more) k.2 ∙ app
 pub all_written : (old mid new : Option (List ℕ)) (text after : List ℕ) → WritesFront old mid text after → Appends mid new after → Appends old new text
 all_written old mid new text after h k = subst (λ (l : List ℕ). Appends old new l) (sym h.2) (appends_both old mid new h.0 after h.1 k)
 
-pub beginning_written : (old mid new : Option (List ℕ)) (text after : List ℕ) → WritesFront old mid text after → AppendsBeginning mid new after → AppendsBeginning old new text
+pub beginning_written : (old mid new : Option (List ℕ)) (text after : List ℕ) → WritesFront old mid text after → AppendsBeginning mid new after →
+    AppendsBeginning old new text
 beginning_written old mid new text after h k =
     subst (λ (l : List ℕ). AppendsBeginning old new l) (append-nil text)
     (front_stopped old mid new text after [] h (subst (λ (l : List ℕ). AppendsBeginning mid new l) (sym (append-nil after)) k))
@@ -63,7 +64,8 @@ stopped_in_rest : (old mid new : Option (List ℕ)) (before made lined line rest
 stopped_in_rest old mid new before made lined line rest h is k =
     front_stopped old mid new before made (line ++ rest) h (subst (λ (l : List ℕ). AppendsBeginning mid new l) (behind_line line rest made lined is) k)
 
-pub rest_collected : (r : Result (Unit {0}) WriteFault) (old mid new : Option (List ℕ)) (before made lined after line rest : List ℕ) → WritesFront old mid before made → lined ≡ made ++ line
+pub rest_collected : (r : Result (Unit {0}) WriteFault) (old mid new : Option (List ℕ)) (before made lined after line rest : List ℕ) →
+    WritesFront old mid before made → lined ≡ made ++ line
     → Collects mid new lined after r rest → Collects old new before after r (line ++ rest)
 rest_collected (Ok u) old mid new before made lined after line rest h is k = line_and_rest old mid new before made lined after line rest h is k
 rest_collected (Err e) old mid new before made lined after line rest h is k = stopped_in_rest old mid new before made lined line rest h is k
@@ -75,19 +77,24 @@ text_to : {X : Type 0} (f : X → List ℕ) (xs : List X) (i : ℕ) (x : X) (bef
 text_to f xs i x before inside found =
     flat_map_more f before (take i xs) x ∙ ap (λ l. before ++ flat_map f l) (ap (λ y. take i xs ++ y ∷ []) found ∙ sym (take_more xs i x inside))
 
-text_all : {X : Type 0} (f : X → List ℕ) (xs : List X) (i : ℕ) (before : List ℕ) → (before ++ flat_map f (take i xs)) ++ flat_map f (drop i xs) ≡ before ++ flat_map f xs
+text_all : {X : Type 0} (f : X → List ℕ) (xs : List X) (i : ℕ) (before : List ℕ) →
+    (before ++ flat_map f (take i xs)) ++ flat_map f (drop i xs) ≡ before ++ flat_map f xs
 text_all f xs i before =
     append_assoc before (flat_map f (take i xs)) (flat_map f (drop i xs))
     ∙ ap (λ l. before ++ l) (sym (flat_map-append f (take i xs) (drop i xs)) ∙ ap (flat_map f) (take-append-drop i xs))
 
-pub one_more : {X : Type 0} (f : X → List ℕ) (xs : List X) (i : ℕ) (x : X) (old mid new : Option (List ℕ)) (before between after : List ℕ) → i < length xs → x ≡ get_or xs i x
-    → WritesFront old mid (before ++ flat_map f (take i xs)) between → WritesFront mid new (between ++ f x) after → WritesFront old new (before ++ flat_map f (take (i + 1) xs)) after
+pub one_more : {X : Type 0} (f : X → List ℕ) (xs : List X) (i : ℕ) (x : X) (old mid new : Option (List ℕ)) (before between after : List ℕ) → i < length xs →
+    x ≡ get_or xs i x
+    → WritesFront old mid (before ++ flat_map f (take i xs)) between → WritesFront mid new (between ++ f x) after →
+    WritesFront old new (before ++ flat_map f (take (i + 1) xs)) after
 one_more f xs i x old mid new before between after inside found h k =
     subst (λ (l : List ℕ). WritesFront old new l after) (text_to f xs i x before inside found)
     (front_more old mid new (before ++ flat_map f (take i xs)) between after (f x) h k)
 
-pub stopped_at : {X : Type 0} (f : X → List ℕ) (xs : List X) (i : ℕ) (x : X) (old mid new : Option (List ℕ)) (before between : List ℕ) → i < length xs → x ≡ get_or xs i x
-    → WritesFront old mid (before ++ flat_map f (take i xs)) between → AppendsBeginning mid new (between ++ f x) → AppendsBeginning old new (before ++ flat_map f xs)
+pub stopped_at : {X : Type 0} (f : X → List ℕ) (xs : List X) (i : ℕ) (x : X) (old mid new : Option (List ℕ)) (before between : List ℕ) → i < length xs →
+    x ≡ get_or xs i x
+    → WritesFront old mid (before ++ flat_map f (take i xs)) between → AppendsBeginning mid new (between ++ f x) →
+    AppendsBeginning old new (before ++ flat_map f xs)
 stopped_at f xs i x old mid new before between inside found h k =
     let so_far : AppendsBeginning old new (before ++ flat_map f (take (i + 1) xs)) =
     subst (λ (l : List ℕ). AppendsBeginning old new l) (text_to f xs i x before inside found)

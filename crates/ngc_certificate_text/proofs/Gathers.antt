@@ -1,5 +1,6 @@
 -- The numbers of fields, gathered one by one.
-use Rattle.std.proofs.Common.{◌≡◌, ℕ, suc, ◌+◌, ◌≤◌, ap, Bool, true, false, Option, Some, None, List, [], ◌∷◌, ◌++◌, length, refl, sym, ◌∙◌, append_assoc, length-append, arith}
+use Rattle.std.proofs.Common.{◌≡◌, ℕ, suc, ◌+◌, ◌≤◌, ap, Bool, true, false, Option, Some, None, List, [], ◌∷◌, ◌++◌, length, refl, sym, ◌∙◌, append_assoc}
+use Rattle.std.proofs.Common.{length-append, arith}
 use Rattle.std.specs.Prelude.{ℤ, map, nat_le, if◌then◌else◌}
 use Rattle.std.specs.Borrow.{Bor}
 use Rattle.std.specs.Option.{option_map, option_and_then}
@@ -61,7 +62,8 @@ one_more : (items : List ℤ) (z : ℤ) (o : Option (List ℤ)) → gathered ite
 one_more items z None = refl
 one_more items z (Some zs) =
     ap (λ (l : List ℤ). if nat_le (length items + suc (length zs)) 8 then Some l else None) (sym (append_assoc items (clamped z ∷ []) (map clamped zs)))
-    ∙ by_count (nat_le (length items + suc (length zs)) 8) (nat_le (length (items ++ (clamped z ∷ [])) + length zs) 8) _ (ap (λ (n : ℕ). nat_le n 8) (omega (arith, length-append items (clamped z ∷ []))))
+    ∙ by_count (nat_le (length items + suc (length zs)) 8) (nat_le (length (items ++ (clamped z ∷ [])) + length zs) 8) _
+    (ap (λ (n : ℕ). nat_le n 8) (omega (arith, length-append items (clamped z ∷ []))))
 
 pub gather_more : (items : List ℤ) (all fs : List (List ℕ)) (f : List ℕ) (x : ℤ) → all ≡ f ∷ fs → Some x ≡ option_map clamped (number_in f)
     → gathered items (numbers_in all) ≡ gathered (items ++ (x ∷ [])) (numbers_in fs)
@@ -71,7 +73,8 @@ gather_more items all fs f x e h =
     ∙ ap (λ (o : Option ℤ). gathered items (option_and_then (λ z. option_map (λ zs. z ∷ zs) (numbers_in fs)) o)) s.1
     ∙ one_more items s.0 (numbers_in fs) ∙ ap (λ (y : ℤ). gathered (items ++ (y ∷ [])) (numbers_in fs)) (sym s.2)
 
-pub gather_fails : (items : List ℤ) (all fs : List (List ℕ)) (f : List ℕ) → all ≡ f ∷ fs → None ≡ option_map clamped (number_in f) → gathered items (numbers_in all) ≡ None
+pub gather_fails : (items : List ℤ) (all fs : List (List ℕ)) (f : List ℕ) → all ≡ f ∷ fs → None ≡ option_map clamped (number_in f) →
+    gathered items (numbers_in all) ≡ None
 gather_fails items all fs f e h =
     ap (λ (l : List (List ℕ)). gathered items (numbers_in l)) e ∙ ap (gathered items) (numbers_cons f fs)
     ∙ ap (λ (o : Option ℤ). gathered items (option_and_then (λ z. option_map (λ zs. z ∷ zs) (numbers_in fs)) o)) (none_clamped (number_in f) h)

@@ -14,7 +14,8 @@ use Rattle.ngc_certificate_text.proofs.AheadLaws.{certificate_is}
 abbrev ok_data : CertificateData → Result CertificateData CertificateFault
 ok_data c = Ok c
 
-given : {A : Type 0} (r : Result (Certificate A) CertificateFault) (says : Result Form CertificateFault) → GivesCertificate form_of r says → IfOk r (λ c. said_of c ≡ contents (form_of c))
+given : {A : Type 0} (r : Result (Certificate A) CertificateFault) (says : Result Form CertificateFault) → GivesCertificate form_of r says →
+    IfOk r (λ c. said_of c ≡ contents (form_of c))
     → GivesCertificate said_of r (made_with contents says)
 given (Ok c) says h same = ap (made_with contents) h ∙ ap ok_data (sym same)
 given (Err WrongHeader) says h same = ap (made_with contents) h
@@ -23,7 +24,8 @@ given (Err (OutOfRange n)) says h same = ap (made_with contents) h
 given (Err Memory) says h same = tt
 given (Err ReadFailed) says h same = tt
 
-pub motions_given : {A : Type 0} (left : Option (List ℕ)) (r : Result (Certificate A) CertificateFault) → IfSome left (λ bytes. GivesCertificate form_of r (form_said bytes))
+pub motions_given : {A : Type 0} (left : Option (List ℕ)) (r : Result (Certificate A) CertificateFault) →
+    IfSome left (λ bytes. GivesCertificate form_of r (form_said bytes))
     → IfOk r (λ c. said_of c ≡ contents (form_of c)) → IfSome left (λ bytes. GivesCertificate said_of r (certificate_said bytes))
 motions_given None r h same = tt
 motions_given (Some bytes) r h same =

@@ -9,7 +9,8 @@ use Rattle.ngc_certificate_text.specs.declared.motions.Held.{Held}
 use Rattle.ngc_certificate_text.specs.declared.piece.Piece.{Piece}
 
 -- each of them is a motion with pieces in range
-pub is_entry : (pieces : List Piece) (held : List Held) (i : ℕ) (d : Held) → AreHeld pieces held → i < length held → IsEntry (held_entry pieces (get_or held i d))
+pub is_entry : (pieces : List Piece) (held : List Held) (i : ℕ) (d : Held) → AreHeld pieces held → i < length held →
+    IsEntry (held_entry pieces (get_or held i d))
 is_entry pieces held i d are h =
     let inside : i < length (held_entries pieces held) = omega (arith, length-map held (held_entry pieces)) in
     subst IsEntry (get_or-map (held_entry pieces) held i d (held_entry pieces d) h) (are.entries.each i (held_entry pieces d) inside)
@@ -41,7 +42,8 @@ new_entry more index = record { index = index; pieces = more }
 
 added_entry : (pieces more : List Piece) (index : ℕ) → held_entry (pieces ++ more) (added pieces more index) ≡ new_entry more index
 added_entry pieces more index =
-    ap (λ (ps : List Piece). new_entry ps index) (ap (take (length more)) (drop_at pieces more (length pieces) refl) ∙ take_all (length more) more (omega arith))
+    ap (λ (ps : List Piece). new_entry ps index)
+    (ap (take (length more)) (drop_at pieces more (length pieces) refl) ∙ take_all (length more) more (omega arith))
 
 entries_added : (pieces more : List Piece) (held : List Held) (index : ℕ) → AreHeld pieces held
     → held_entries (pieces ++ more) (held ++ added pieces more index ∷ []) ≡ held_entries pieces held ++ new_entry more index ∷ []
@@ -50,13 +52,15 @@ entries_added pieces more held index are =
     ∙ ap (λ es. es ++ held_entry (pieces ++ more) (added pieces more index) ∷ []) (kept pieces more held are.within)
     ∙ ap (λ e. held_entries pieces held ++ e ∷ []) (added_entry pieces more index)
 
-still_within : (pieces more : List Piece) (held : List Held) (index : ℕ) → AreHeld pieces held → All (IsWithin (pieces ++ more)) (held ++ added pieces more index ∷ [])
+still_within : (pieces more : List Piece) (held : List Held) (index : ℕ) → AreHeld pieces held →
+    All (IsWithin (pieces ++ more)) (held ++ added pieces more index ∷ [])
 still_within pieces more held index are =
     All-push (IsWithin (pieces ++ more)) held (added pieces more index)
     (All-weaker (IsWithin pieces) (IsWithin (pieces ++ more)) (λ h within. omega (arith, length-append pieces more)) held are.within)
     (omega (arith, length-append pieces more))
 
-held_with : (pieces more : List Piece) (held : List Held) (index : ℕ) → AreHeld pieces held → length (held_entries pieces held) < MOTION_LIMIT → IsEntry (new_entry more index)
+held_with : (pieces more : List Piece) (held : List Held) (index : ℕ) → AreHeld pieces held → length (held_entries pieces held) < MOTION_LIMIT →
+    IsEntry (new_entry more index)
     → AreHeld (pieces ++ more) (held ++ added pieces more index ∷ [])
 held_with pieces more held index are room entry = record {
   within = still_within pieces more held index are;

@@ -52,7 +52,8 @@ kinds_joined (suc n) (a ∷ off) (b ∷ on) h k =
     let less_on : length on - n ≡ length (b ∷ on) - suc n = omega arith in
     ap (λ (ks : List EntryKind). kinds.Both ∷ ks) (kinds_joined n off on (omega (arith, h)) (omega (arith, k)))
     ∙ ap (λ (ks : List EntryKind). kinds.Both ∷ (replicate n kinds.Both ++ ks ++ replicate (length on - n) kinds.On)) (same_kinds _ _ kinds.Off less_off)
-    ∙ ap (λ (ks : List EntryKind). kinds.Both ∷ (replicate n kinds.Both ++ replicate (length (a ∷ off) - suc n) kinds.Off ++ ks)) (same_kinds _ _ kinds.On less_on)
+    ∙ ap (λ (ks : List EntryKind). kinds.Both ∷ (replicate n kinds.Both ++ replicate (length (a ∷ off) - suc n) kinds.Off ++ ks))
+    (same_kinds _ _ kinds.On less_on)
 
 -- ---- their motions
 
@@ -91,7 +92,8 @@ pub joined_whole : (n m k : ℕ) (off on : List Entry) (ks : List EntryKind) →
     → Pushed ks off on (joined_first n off on)
 joined_whole n m k off on ks have off_count on_count e =
     from_items ks off on (joined_first n off on)
-    (e ∙ ap (λ (i : ℕ). kinds_first n i k) off_count ∙ ap (λ (i : ℕ). kinds_first n (length off) i) on_count ∙ sym (kinds_joined n off on have.off_has have.on_has))
+    (e ∙ ap (λ (i : ℕ). kinds_first n i k) off_count ∙ ap (λ (i : ℕ). kinds_first n (length off) i) on_count
+    ∙ sym (kinds_joined n off on have.off_has have.on_has))
     (sym (expanded_joined n off on have))
 
 -- ---- ranges and order
@@ -106,7 +108,8 @@ item_on : (b : Entry) → IsEntry b → IsItem (item_of settings.On b)
 item_on b is = record { indices = index_small b.index is.index; some = is.some; count = is.count; pieces = is.pieces }
 
 item_both : (a b : Entry) → IsEntry a → IsEntry b → IsItem (both_item a b)
-item_both a b is too = record { indices = and_from _ _ (index_small a.index is.index) (index_small b.index too.index); some = is.some; count = is.count; pieces = is.pieces }
+item_both a b is too =
+    record { indices = and_from _ _ (index_small a.index is.index) (index_small b.index too.index); some = is.some; count = is.count; pieces = is.pieces }
 
 alone_are : (off on : List Entry) → All IsEntry off → All IsEntry on → All IsItem (alone_items off on)
 alone_are off on h k =

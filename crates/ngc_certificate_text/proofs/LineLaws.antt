@@ -1,5 +1,6 @@
 -- A line's spelling says what it spells, and what says it is its spelling.
-use Rattle.std.proofs.Common.{◌≡◌, ℕ, ◌+◌, ◌*◌, ◌<◌, ◌≤◌, ◌^◌, ap, subst, Bool, true, false, Option, Some, None, Ok, Err, List, [], ◌∷◌, ◌++◌, length, refl, sym, ◌∙◌, append_assoc, length-append, arith}
+use Rattle.std.proofs.Common.{◌≡◌, ℕ, ◌+◌, ◌*◌, ◌<◌, ◌≤◌, ◌^◌, ap, subst, Bool, true, false, Option, Some, None, Ok, Err, List, [], ◌∷◌, ◌++◌, length, refl}
+use Rattle.std.proofs.Common.{sym, ◌∙◌, append_assoc, length-append, arith}
 use Rattle.std.specs.Prelude.{ℤ, pos, negsuc, unsigned_abs, codes, decimal, map, ◌==◌, ◌&&◌, not, nat_le, if◌then◌else◌}
 use Rattle.std.specs.Fmt.{signed_decimal}
 use Rattle.std.specs.Int.Signed.{mag}
@@ -20,9 +21,11 @@ use Rattle.ngc_certificate_text.specs.declared.lines.MotionLine.{MotionLine}
 use Rattle.ngc_certificate_text.specs.Certificate.{WHOLE, INDEX_LIMIT, PIECE_LIMIT, MOTION_LIMIT, CUT_LIMIT, good_cut, good_piece}
 use Rattle.ngc_certificate_text.specs.Spelling.{piece_line, motion_line}
 use Rattle.ngc_certificate_text.specs.Number.{fields}
-use Rattle.ngc_certificate_text.specs.Lines.{numbers_in, numbers_behind, is_count, ranged, one_count, setting_said, two_counts, motion_said, is_step, are_steps, good_box, boxed, line_piece, arc_piece, piece_in, piece_said, end_said}
+use Rattle.ngc_certificate_text.specs.Lines.{numbers_in, numbers_behind, is_count, ranged, one_count, setting_said, two_counts, motion_said, is_step, are_steps}
+use Rattle.ngc_certificate_text.specs.Lines.{good_box, boxed, line_piece, arc_piece, piece_in, piece_said, end_said}
 use Rattle.ngc_text.proofs.Splits.{lacks}
-use Rattle.ngc_certificate_text.proofs.FieldLaws.{AreSmall, line_text, line_fields, line_numbers, line_spelled, numbers_lack, numbers_in-signed, numbers_spelled, bytes_same, joined_split}
+use Rattle.ngc_certificate_text.proofs.FieldLaws.{AreSmall, line_text, line_fields, line_numbers, line_spelled, numbers_lack, numbers_in-signed}
+use Rattle.ngc_certificate_text.proofs.FieldLaws.{numbers_spelled, bytes_same, joined_split}
 
 -- ---- a line is short, and has no line feed
 
@@ -69,7 +72,8 @@ pub text_is_line : (w : List ℕ) (ws : List (List ℕ)) (zs : List ℤ) → Are
 text_is_line w ws zs words small few =
     let parts = and_parts (lacks 10 w) (list_all (lacks 10) ws) words.feedless in
     record {
-      feedless = joined_lacks w (ws ++ map signed_decimal zs) (and_from _ _ parts.0 (list_all-append (lacks 10) ws (map signed_decimal zs) ∙ and_from _ _ parts.1 (numbers_lack 10 zs (omega arith) small)));
+      feedless = joined_lacks w (ws ++ map signed_decimal zs)
+          (and_from _ _ parts.0 (list_all-append (lacks 10) ws (map signed_decimal zs) ∙ and_from _ _ parts.1 (numbers_lack 10 zs (omega arith) small)));
       short = omega (arith, joined_length w (ws ++ map signed_decimal zs), behind_both ws (map signed_decimal zs), behind_numbers zs small, words.short, few);
     }
 
@@ -88,7 +92,8 @@ pub record Counted (least greatest : ℕ) (z : ℤ) : Type 0 where
   pub high : unsigned_abs z ≤ greatest
 
 pub counted : (least greatest : ℕ) (z : ℤ) → is_count least greatest z ≡ true → Counted least greatest z
-counted least greatest (pos n) h = let p = and_parts (nat_le least n) (nat_le n greatest) h in record { is = refl; low = grind (arith, nat_tests, p.0); high = grind (arith, nat_tests, p.1) }
+counted least greatest (pos n) h = let p = and_parts (nat_le least n) (nat_le n greatest) h in
+    record { is = refl; low = grind (arith, nat_tests, p.0); high = grind (arith, nat_tests, p.1) }
 counted least greatest (negsuc n) h = absurd (cc h)
 
 count_small : (least greatest : ℕ) (z : ℤ) → greatest < 2 ^ 63 → is_count least greatest z ≡ true → mag z < 2 ^ 63
@@ -171,7 +176,8 @@ pub motion_reads : (i n : ℕ) → i ≤ INDEX_LIMIT → 1 ≤ n → n ≤ PIECE
 unfolding motion_text motion_said
 motion_reads i n hi some hn =
     ap two_counts (line_numbers (codes "motion") [] (pos i ∷ pos n ∷ []) refl (omega arith, (omega arith, tt)))
-    ∙ ap (λ (b : Bool). ranged b (record { index = i; pieces = n })) (and_from _ _ (count_from 0 INDEX_LIMIT i (omega arith) hi) (count_from 1 PIECE_LIMIT n some hn))
+    ∙ ap (λ (b : Bool). ranged b (record { index = i; pieces = n }))
+    (and_from _ _ (count_from 0 INDEX_LIMIT i (omega arith) hi) (count_from 1 PIECE_LIMIT n some hn))
 
 pub record TwoCounts (o : Option (List ℤ)) (m : MotionLine) : Type 0 where
   pub is : o ≡ Some (pos m.index ∷ pos m.pieces ∷ [])
@@ -254,8 +260,10 @@ box_small b h =
     let l = and_parts (is_step b.low.x) (is_step b.low.y && is_step b.low.z) p.0 in
     let m = and_parts (is_step b.low.y) (is_step b.low.z) l.1 in
     let g = and_parts (is_step b.high.x) (is_step b.high.y && is_step b.high.z) p.1 in
-    let k = and_parts (is_step b.high.y) (is_step b.high.z) g.1 in
-    (step_small b.low.x l.0, (step_small b.low.y m.0, (step_small b.low.z m.1, (step_small b.high.x g.0, (step_small b.high.y k.0, (step_small b.high.z k.1, tt))))))
+    let k = and_parts (is_step b.high.y) (is_step b.high.z) g.1 in (
+      step_small b.low.x l.0,
+      (step_small b.low.y m.0, (step_small b.low.z m.1, (step_small b.high.x g.0, (step_small b.high.y k.0, (step_small b.high.z k.1, tt))))),
+    )
 
 cut_small : (e : Cut) (b : GridBox) → good_cut e ≡ true → BoxSmall b → AreSmall (cut_numbers e (six b))
 cut_small (Part t) b h small = let p = and_parts (nat_le 1 t) (nat_le t WHOLE) h in (grind (arith, nat_tests, p.1), small)
@@ -340,7 +348,8 @@ line_fields_ok fs (Some (t ∷ zs)) p e h =
     let good : good_cut (Part (unsigned_abs t)) ≡ true = count_from 1 WHOLE (unsigned_abs t) c.low c.high in
     record {
       kind = ap cut_word b.end;
-      numbers = e ∙ ap (λ (z : ℤ). Some (z ∷ zs)) c.is ∙ ap (λ (l : List ℤ). Some (pos (unsigned_abs t) ∷ l)) b.numbers ∙ ap (λ (x : Cut). Some (cut_numbers x (six p.bounds))) b.end;
+      numbers = e ∙ ap (λ (z : ℤ). Some (z ∷ zs)) c.is ∙ ap (λ (l : List ℤ). Some (pos (unsigned_abs t) ∷ l)) b.numbers
+          ∙ ap (λ (x : Cut). Some (cut_numbers x (six p.bounds))) b.end;
       cut = subst (λ (x : Cut). good_cut x ≡ true) b.end good;
       box = b.box;
     }
@@ -360,8 +369,10 @@ arc_fields_ok fs (Some (u ∷ v ∷ zs)) p e h =
 
 by_word : (word : List ℕ) (fs : List (List ℕ)) (p : Piece) (c d : Bool) → bytes_eq word (codes "line") ≡ c → bytes_eq word (codes "arc") ≡ d
     → (if c then line_piece (numbers_in fs) else if d then arc_piece (numbers_in fs) else Err Spelling) ≡ Ok p → PieceFields word fs p
-by_word word fs p true d e f h = subst (λ (w : List ℕ). PieceFields w fs p) (sym (bytes_same word (codes "line") e)) (line_fields_ok fs (numbers_in fs) p refl h)
-by_word word fs p false true e f h = subst (λ (w : List ℕ). PieceFields w fs p) (sym (bytes_same word (codes "arc") f)) (arc_fields_ok fs (numbers_in fs) p refl h)
+by_word word fs p true d e f h =
+    subst (λ (w : List ℕ). PieceFields w fs p) (sym (bytes_same word (codes "line") e)) (line_fields_ok fs (numbers_in fs) p refl h)
+by_word word fs p false true e f h =
+    subst (λ (w : List ℕ). PieceFields w fs p) (sym (bytes_same word (codes "arc") f)) (arc_fields_ok fs (numbers_in fs) p refl h)
 by_word word fs p false false e f h = absurd (cc h)
 
 pub record PieceSpelled (line : List ℕ) (p : Piece) : Type 0 where
@@ -400,9 +411,11 @@ flat_arc w s t u a b c d e f n = simp append_assoc
 
 cut_line_is : (e : Cut) (b : GridBox) → piece_line (record { end = e; bounds = b }) ≡ line_text (cut_word e) [] (cut_numbers e (six b)) ++ (10 ∷ [])
 cut_line_is (Part t) b =
-    flat_line (codes "line") (32 ∷ []) (decimal t) (signed_decimal b.low.x) (signed_decimal b.low.y) (signed_decimal b.low.z) (signed_decimal b.high.x) (signed_decimal b.high.y) (signed_decimal b.high.z) (10 ∷ [])
+    flat_line (codes "line") (32 ∷ []) (decimal t) (signed_decimal b.low.x) (signed_decimal b.low.y) (signed_decimal b.low.z) (signed_decimal b.high.x)
+    (signed_decimal b.high.y) (signed_decimal b.high.z) (10 ∷ [])
 cut_line_is (Place q) b =
-    flat_arc (codes "arc") (32 ∷ []) (signed_decimal q.u) (signed_decimal q.v) (signed_decimal b.low.x) (signed_decimal b.low.y) (signed_decimal b.low.z) (signed_decimal b.high.x) (signed_decimal b.high.y) (signed_decimal b.high.z) (10 ∷ [])
+    flat_arc (codes "arc") (32 ∷ []) (signed_decimal q.u) (signed_decimal q.v) (signed_decimal b.low.x) (signed_decimal b.low.y) (signed_decimal b.low.z)
+    (signed_decimal b.high.x) (signed_decimal b.high.y) (signed_decimal b.high.z) (10 ∷ [])
 
 pub piece_line_is : (p : Piece) → piece_line p ≡ piece_text p ++ (10 ∷ [])
 unfolding piece_text

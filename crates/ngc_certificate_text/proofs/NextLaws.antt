@@ -1,5 +1,6 @@
 -- What a line tells is what comes of the text.
-use Rattle.std.proofs.Common.{◌≡◌, ℕ, zero, suc, ◌+◌, ◌-◌, ◌*◌, ◌≤◌, ap, subst, Bool, true, false, Result, Ok, Err, List, [], ◌∷◌, length, refl, sym, ◌∙◌, arith}
+use Rattle.std.proofs.Common.{◌≡◌, ℕ, zero, suc, ◌+◌, ◌-◌, ◌*◌, ◌≤◌, ap, subst, Bool, true, false, Result, Ok, Err, List, [], ◌∷◌, length, refl, sym, ◌∙◌}
+use Rattle.std.proofs.Common.{arith}
 use Rattle.std.specs.Prelude.{nat_le, nat_lt, not, ◌&&◌, ◌==◌, IfOk}
 use Rattle.std.proofs.lemmas.Bool.{and_parts}
 use Rattle.std.proofs.lemmas.Bool.Decides.{nat_tests}
@@ -23,14 +24,18 @@ use Rattle.ngc_certificate_text.specs.declared.told.Told.{Told}
 use Rattle.ngc_certificate_text.specs.declared.told.Told.TheVariants as tell
 use Rattle.ngc_certificate_text.specs.declared.told.Version.{Version}
 use Rattle.ngc_certificate_text.specs.declared.told.Version.TheVariants.{One, Two}
-use Rattle.ngc_certificate_text.specs.Ahead.{Rest, Left, left_from, made_with, name_of, index_at, of_version, next_of_entries, next_of_motions, motions_behind, HaveSome, AreOpen, IsSound, lines_ahead, lines_of_motions}
+use Rattle.ngc_certificate_text.specs.Ahead.{Rest, Left, left_from, made_with, name_of, index_at, of_version, next_of_entries, next_of_motions, motions_behind}
+use Rattle.ngc_certificate_text.specs.Ahead.{HaveSome, AreOpen, IsSound, lines_ahead, lines_of_motions}
 use Rattle.ngc_certificate_text.specs.Certificate.{INDEX_LIMIT}
 use Rattle.ngc_certificate_text.specs.EntryLines.{version_said, counts_said, none_left, may_come, left_behind, all_left}
 use Rattle.ngc_certificate_text.specs.Joined.{good_indices}
 use Rattle.ngc_certificate_text.specs.Lines.{setting_said, motion_said, piece_said, end_said}
 use Rattle.ngc_certificate_text.specs.Said.{next_number, fault_at}
-use Rattle.ngc_certificate_text.specs.Told.{onto, Fits, IsFront, behind_version, behind_piece, behind_told, left_at, taken_at, IsNext, told_with, counts_told, any_said, motion_told, told_by, fault_of}
-use Rattle.ngc_certificate_text.proofs.AheadLaws.{begun, of_parted, header_ended, two_left, nothing_said, setting_flawed, counts_flawed, motion_flawed, piece_flawed, end_flawed, header_read, header_wrong, setting_read, counts_read, motion_read, piece_read, last_read, end_read, left_fits, left_none}
+use Rattle.ngc_certificate_text.specs.Told.{onto, Fits, IsFront, behind_version, behind_piece, behind_told, left_at, taken_at, IsNext, told_with, counts_told}
+use Rattle.ngc_certificate_text.specs.Told.{any_said, motion_told, told_by, fault_of}
+use Rattle.ngc_certificate_text.proofs.AheadLaws.{begun, of_parted, header_ended, two_left, nothing_said, setting_flawed, counts_flawed, motion_flawed}
+use Rattle.ngc_certificate_text.proofs.AheadLaws.{piece_flawed, end_flawed, header_read, header_wrong, setting_read, counts_read, motion_read, piece_read}
+use Rattle.ngc_certificate_text.proofs.AheadLaws.{last_read, end_read, left_fits, left_none}
 use Rattle.ngc_certificate_text.proofs.EntryLaws.{total, entry_spelled, counts_spelled, least, some_on, more_on}
 use Rattle.ngc_certificate_text.proofs.LineLaws.{setting_spelled, motion_spelled, piece_spelled}
 
@@ -75,7 +80,8 @@ piece_ahead b false number lines some e = refl
 
 module _ (number : ℕ) (line after : List ℕ) (left : List (List ℕ)) (short : length line ≤ 256) where
   piece_front : (b : BegunMotion) (p : Piece) → 1 ≤ b.pieces_left → piece_said line ≡ Ok p
-      → IsFront (tell.Piece b p) (left_from (next.Piece b) number (line ∷ after ∷ left)) (left_from (behind_told (tell.Piece b p)) (next_number number) (after ∷ left))
+      → IsFront (tell.Piece b p) (left_from (next.Piece b) number (line ∷ after ∷ left))
+      (left_from (behind_told (tell.Piece b p)) (next_number number) (after ∷ left))
   piece_front b p some e =
       let one = record b { pieces_left = b.pieces_left - 1 } in
       let same = piece_ahead b (nat_le b.pieces_left 1) (next_number number) (after ∷ left) some refl in
@@ -83,27 +89,36 @@ module _ (number : ℕ) (line after : List ℕ) (left : List (List ℕ)) (short 
       subst P same
       (front (tell.Piece b p) (left_from (next.Piece b) number (line ∷ after ∷ left)) (left_from (next.Piece one) (next_number number) (after ∷ left))
       (piece_read line after left number b p some short e)
-      (mapped (left_from (next.Piece one) (next_number number) (after ∷ left)) (λ r h. omega (arith, h, some)) (left_fits one (next_number number) (after ∷ left))))
+      (mapped (left_from (next.Piece one) (next_number number) (after ∷ left)) (λ r h. omega (arith, h, some))
+      (left_fits one (next_number number) (after ∷ left))))
 
   motion_front : (m : MotionsLeft) (e : EntryLine) → HaveSome m → any_said m line ≡ Ok e
-      → IsFront (motion_told m e) (left_from (next.Motion m) number (line ∷ after ∷ left)) (left_from (behind_told (motion_told m e)) (next_number number) (after ∷ left))
+      → IsFront (motion_told m e) (left_from (next.Motion m) number (line ∷ after ∷ left))
+      (left_from (behind_told (motion_told m e)) (next_number number) (after ∷ left))
   motion_front m e some h =
       front (motion_told m e) (left_from (next.Motion m) number (line ∷ after ∷ left)) (left_from (next.Piece (begun m e)) (next_number number) (after ∷ left))
       (motion_read line after left number m e some short h) (left_fits (begun m e) (next_number number) (after ∷ left))
 
   setting_front : (s : Setting) (n : ℕ) → setting_said (name_of s) line ≡ Ok n
-      → IsFront (tell.Setting s n) (left_from (next.Setting s) number (line ∷ after ∷ left)) (left_from (behind_told (tell.Setting s n)) (next_number number) (after ∷ left))
+      → IsFront (tell.Setting s n) (left_from (next.Setting s) number (line ∷ after ∷ left))
+      (left_from (behind_told (tell.Setting s n)) (next_number number) (after ∷ left))
   setting_front s n e =
-      front_same (tell.Setting s n) (left_from (next.Setting s) number (line ∷ after ∷ left)) (left_from (next_of_motions (Parted s n)) (next_number number) (after ∷ left))
-      (setting_read line after left number s n short e) (λ r. refl) (always (left_from (next_of_motions (Parted s n)) (next_number number) (after ∷ left)) (λ r. tt))
+      front_same (tell.Setting s n) (left_from (next.Setting s) number (line ∷ after ∷ left))
+      (left_from (next_of_motions (Parted s n)) (next_number number) (after ∷ left))
+      (setting_read line after left number s n short e) (λ r. refl)
+      (always (left_from (next_of_motions (Parted s n)) (next_number number) (after ∷ left)) (λ r. tt))
 
   counts_front : (c : CountsLine) → counts_said line ≡ Ok c
-      → IsFront (counts_told c) (left_from next.Counts number (line ∷ after ∷ left)) (left_from (behind_told (counts_told c)) (next_number number) (after ∷ left))
+      → IsFront (counts_told c) (left_from next.Counts number (line ∷ after ∷ left))
+      (left_from (behind_told (counts_told c)) (next_number number) (after ∷ left))
   counts_front c e =
-      front_same (counts_told c) (left_from next.Counts number (line ∷ after ∷ left)) (left_from (next_of_motions (Joined (all_left c))) (next_number number) (after ∷ left))
-      (counts_read line after left number c short e) (λ r. refl) (always (left_from (next_of_motions (Joined (all_left c))) (next_number number) (after ∷ left)) (λ r. tt))
+      front_same (counts_told c) (left_from next.Counts number (line ∷ after ∷ left))
+      (left_from (next_of_motions (Joined (all_left c))) (next_number number) (after ∷ left))
+      (counts_read line after left number c short e) (λ r. refl)
+      (always (left_from (next_of_motions (Joined (all_left c))) (next_number number) (after ∷ left)) (λ r. tt))
 
-  end_front : end_said line ≡ Ok tt → IsFront tell.End (left_from next.End number (line ∷ after ∷ left)) (left_from next.Nothing (next_number number) (after ∷ left))
+  end_front : end_said line ≡ Ok tt →
+      IsFront tell.End (left_from next.End number (line ∷ after ∷ left)) (left_from next.Nothing (next_number number) (after ∷ left))
   end_front e =
       front_same tell.End (left_from next.End number (line ∷ after ∷ left)) (left_from next.Nothing (next_number number) (after ∷ left))
       (end_read line after left number short e) (λ r. refl) (left_none (next_number number) (after ∷ left))
@@ -113,7 +128,8 @@ module _ (number : ℕ) (line after : List ℕ) (left : List (List ℕ)) (short 
   header_front first v h =
       let two : 2 ≡ next_number number = ap next_number (sym first) in
       front (tell.Header v) (left_from next.Header number (line ∷ after ∷ left)) (left_from (behind_version v) (next_number number) (after ∷ left))
-      (header_read line after left number v h ∙ ap (made_with (of_version v)) (header_ended v 2 (after ∷ left) ∙ ap (λ (n : ℕ). left_from (behind_version v) n (after ∷ left)) two))
+      (header_read line after left number v h ∙ ap (made_with (of_version v))
+      (header_ended v 2 (after ∷ left) ∙ ap (λ (n : ℕ). left_from (behind_version v) n (after ∷ left)) two))
       (always (left_from (behind_version v) (next_number number) (after ∷ left)) (λ r. tt))
 
   -- a line that is read
@@ -121,37 +137,47 @@ module _ (number : ℕ) (line after : List ℕ) (left : List (List ℕ)) (short 
       → IsFront told (left_from e number (line ∷ after ∷ left)) (left_from (behind_told told) (next_number number) (after ∷ left))
   told_front next.Header told sound h =
       let r = told_ok tell.Header (version_said line) told h in
-      let P : Told → Type 0 = λ t. IsFront t (left_from next.Header number (line ∷ after ∷ left)) (left_from (behind_told t) (next_number number) (after ∷ left)) in
+      let P : Told → Type 0 = λ t. IsFront t (left_from next.Header number (line ∷ after ∷ left))
+      (left_from (behind_told t) (next_number number) (after ∷ left)) in
       subst P (sym r.2) (header_front (sound.first refl) r.0 r.1)
   told_front (next.Setting s) told sound h =
       let r = told_ok (tell.Setting s) (setting_said (name_of s) line) told h in
-      let P : Told → Type 0 = λ t. IsFront t (left_from (next.Setting s) number (line ∷ after ∷ left)) (left_from (behind_told t) (next_number number) (after ∷ left)) in
+      let P : Told → Type 0 = λ t. IsFront t (left_from (next.Setting s) number (line ∷ after ∷ left))
+      (left_from (behind_told t) (next_number number) (after ∷ left)) in
       subst P (sym r.2) (setting_front s r.0 r.1)
   told_front next.Counts told sound h =
       let r = told_ok counts_told (counts_said line) told h in
-      let P : Told → Type 0 = λ t. IsFront t (left_from next.Counts number (line ∷ after ∷ left)) (left_from (behind_told t) (next_number number) (after ∷ left)) in
+      let P : Told → Type 0 = λ t. IsFront t (left_from next.Counts number (line ∷ after ∷ left))
+      (left_from (behind_told t) (next_number number) (after ∷ left)) in
       subst P (sym r.2) (counts_front r.0 r.1)
   told_front (next.Motion m) told sound h =
       let r = told_ok (motion_told m) (any_said m line) told h in
-      let P : Told → Type 0 = λ t. IsFront t (left_from (next.Motion m) number (line ∷ after ∷ left)) (left_from (behind_told t) (next_number number) (after ∷ left)) in
+      let P : Told → Type 0 = λ t. IsFront t (left_from (next.Motion m) number (line ∷ after ∷ left))
+      (left_from (behind_told t) (next_number number) (after ∷ left)) in
       subst P (sym r.2) (motion_front m r.0 (sound.motion m refl) r.1)
   told_front (next.Piece b) told sound h =
       let r = told_ok (tell.Piece b) (piece_said line) told h in
-      let P : Told → Type 0 = λ t. IsFront t (left_from (next.Piece b) number (line ∷ after ∷ left)) (left_from (behind_told t) (next_number number) (after ∷ left)) in
+      let P : Told → Type 0 = λ t. IsFront t (left_from (next.Piece b) number (line ∷ after ∷ left))
+      (left_from (behind_told t) (next_number number) (after ∷ left)) in
       subst P (sym r.2) (piece_front b r.0 (sound.piece b refl) r.1)
   told_front next.End told sound h =
       let r = told_ok (λ (x : Unit {0}). tell.End) (end_said line) told h in
-      let P : Told → Type 0 = λ t. IsFront t (left_from next.End number (line ∷ after ∷ left)) (left_from (behind_told t) (next_number number) (after ∷ left)) in
+      let P : Told → Type 0 = λ t. IsFront t (left_from next.End number (line ∷ after ∷ left))
+      (left_from (behind_told t) (next_number number) (after ∷ left)) in
       subst P (sym r.2) (end_front r.1)
   told_front next.Nothing told sound h = absurd (cc h)
 
   -- a line that is refused
-  pub told_refused : (e : Expected) (flaw : LineFlaw) → IsSound e number → told_by e line ≡ Err flaw → left_from e number (line ∷ after ∷ left) ≡ Err (fault_of e number flaw)
+  pub told_refused : (e : Expected) (flaw : LineFlaw) → IsSound e number → told_by e line ≡ Err flaw →
+      left_from e number (line ∷ after ∷ left) ≡ Err (fault_of e number flaw)
   told_refused next.Header flaw sound h = header_wrong line after left number flaw (told_err tell.Header (version_said line) flaw h)
-  told_refused (next.Setting s) flaw sound h = setting_flawed number line after left flaw short s (told_err (tell.Setting s) (setting_said (name_of s) line) flaw h)
+  told_refused (next.Setting s) flaw sound h =
+      setting_flawed number line after left flaw short s (told_err (tell.Setting s) (setting_said (name_of s) line) flaw h)
   told_refused next.Counts flaw sound h = counts_flawed number line after left flaw short (told_err counts_told (counts_said line) flaw h)
-  told_refused (next.Motion m) flaw sound h = motion_flawed number line after left flaw short m (sound.motion m refl) (told_err (motion_told m) (any_said m line) flaw h)
-  told_refused (next.Piece b) flaw sound h = piece_flawed number line after left flaw short b (sound.piece b refl) (told_err (tell.Piece b) (piece_said line) flaw h)
+  told_refused (next.Motion m) flaw sound h =
+      motion_flawed number line after left flaw short m (sound.motion m refl) (told_err (motion_told m) (any_said m line) flaw h)
+  told_refused (next.Piece b) flaw sound h =
+      piece_flawed number line after left flaw short b (sound.piece b refl) (told_err (tell.Piece b) (piece_said line) flaw h)
   told_refused next.End flaw sound h = end_flawed number line after left flaw short (told_err (λ (x : Unit {0}). tell.End) (end_said line) flaw h)
   told_refused next.Nothing flaw sound h =
       let is : Spelling ≡ flaw = cc h in
@@ -168,7 +194,8 @@ counted_parted Off n index On some = omega arith
 counted_parted On n index Off some = omega arith
 counted_parted On n index On some = omega (arith, some)
 
-counted_joined : (left : EntriesLeft) (i : Indices) (t : Setting) → may_come left i ≡ true → left_at (Joined left) t ≡ left_at (Joined (left_behind left i)) t + taken_at i t
+counted_joined : (left : EntriesLeft) (i : Indices) (t : Setting) → may_come left i ≡ true →
+    left_at (Joined left) t ≡ left_at (Joined (left_behind left i)) t + taken_at i t
 counted_joined left (of.Both i j) Off h = let p = and_parts (nat_lt 0 left.off) (nat_lt 0 left.on) h in grind (arith, nat_tests, p.0)
 counted_joined left (of.Both i j) On h = let p = and_parts (nat_lt 0 left.off) (nat_lt 0 left.on) h in grind (arith, nat_tests, p.1)
 counted_joined left (of.Off i) Off h = let p = and_parts (nat_lt 0 left.off) (not left.behind_on) h in grind (arith, nat_tests, p.0)
@@ -260,18 +287,53 @@ motion_sound m number some going = record {
 }
 
 entries_sound : (b : Bool) (left : EntriesLeft) (number : ℕ) → none_left left ≡ b → AreOpen (Joined left) → IsSound (next_of_entries b left) number
-entries_sound true left number e going = record { first = λ e. absurd (cc e); motion = λ k e. absurd (cc e); piece = λ b e. absurd (cc e); going = λ k e. absurd (cc e); going_behind = λ b e. absurd (cc e) }
+entries_sound true left number e going =
+    record {
+      first = λ e. absurd (cc e);
+      motion = λ k e. absurd (cc e);
+      piece = λ b e. absurd (cc e);
+      going = λ k e. absurd (cc e);
+      going_behind = λ b e. absurd (cc e);
+    }
 entries_sound false left number e going = motion_sound (Joined left) number (entries_some left e) going
 
 motions_sound : (m : MotionsLeft) (number : ℕ) → AreOpen m → IsSound (next_of_motions m) number
-motions_sound (Parted Off zero) number going = record { first = λ e. absurd (cc e); motion = λ k e. absurd (cc e); piece = λ b e. absurd (cc e); going = λ k e. absurd (cc e); going_behind = λ b e. absurd (cc e) }
-motions_sound (Parted On zero) number going = record { first = λ e. absurd (cc e); motion = λ k e. absurd (cc e); piece = λ b e. absurd (cc e); going = λ k e. absurd (cc e); going_behind = λ b e. absurd (cc e) }
+motions_sound (Parted Off zero) number going =
+    record {
+      first = λ e. absurd (cc e);
+      motion = λ k e. absurd (cc e);
+      piece = λ b e. absurd (cc e);
+      going = λ k e. absurd (cc e);
+      going_behind = λ b e. absurd (cc e);
+    }
+motions_sound (Parted On zero) number going =
+    record {
+      first = λ e. absurd (cc e);
+      motion = λ k e. absurd (cc e);
+      piece = λ b e. absurd (cc e);
+      going = λ k e. absurd (cc e);
+      going_behind = λ b e. absurd (cc e);
+    }
 motions_sound (Parted s (suc n)) number going = motion_sound (Parted s (suc n)) number (omega arith) refl
 motions_sound (Joined left) number going = entries_sound (none_left left) left number refl going
 
 version_sound : (v : Version) (number : ℕ) → IsSound (behind_version v) number
-version_sound One number = record { first = λ e. absurd (cc e); motion = λ k e. absurd (cc e); piece = λ b e. absurd (cc e); going = λ k e. absurd (cc e); going_behind = λ b e. absurd (cc e) }
-version_sound Two number = record { first = λ e. absurd (cc e); motion = λ k e. absurd (cc e); piece = λ b e. absurd (cc e); going = λ k e. absurd (cc e); going_behind = λ b e. absurd (cc e) }
+version_sound One number =
+    record {
+      first = λ e. absurd (cc e);
+      motion = λ k e. absurd (cc e);
+      piece = λ b e. absurd (cc e);
+      going = λ k e. absurd (cc e);
+      going_behind = λ b e. absurd (cc e);
+    }
+version_sound Two number =
+    record {
+      first = λ e. absurd (cc e);
+      motion = λ k e. absurd (cc e);
+      piece = λ b e. absurd (cc e);
+      going = λ k e. absurd (cc e);
+      going_behind = λ b e. absurd (cc e);
+    }
 
 piece_sound : (b : BegunMotion) (number : ℕ) → 1 ≤ b.pieces_left → AreOpen b.behind → IsSound (next.Piece b) number
 piece_sound b number some going = record {
@@ -284,7 +346,8 @@ piece_sound b number some going = record {
 
 behind_sound : (b : BegunMotion) (last : Bool) (number : ℕ) → nat_le b.pieces_left 1 ≡ last → AreOpen b.behind → IsSound (behind_piece last b) number
 behind_sound b true number e going = motions_sound b.behind number going
-behind_sound b false number e going = let more : 1 ≤ b.pieces_left - 1 = grind (arith, nat_tests) in piece_sound (record b { pieces_left = b.pieces_left - 1 }) number more going
+behind_sound b false number e going = let more : 1 ≤ b.pieces_left - 1 = grind (arith, nat_tests) in
+    piece_sound (record b { pieces_left = b.pieces_left - 1 }) number more going
 
 pub told_sound : (e : Expected) (told : Told) (old number : ℕ) → IsSound e old → IsNext e told → IsSound (behind_told told) number
 told_sound e (tell.Header v) old number sound h = version_sound v number
@@ -293,7 +356,13 @@ told_sound e (tell.Counts off on) old number sound h = motions_sound (Joined (re
 told_sound e (tell.Motion b) old number sound h = piece_sound b number h.some h.going
 told_sound e (tell.Piece b p) old number sound h = behind_sound b (nat_le b.pieces_left 1) number refl (sound.going_behind b h.0)
 told_sound e tell.End old number sound h =
-    record { first = λ x. absurd (cc x); motion = λ k x. absurd (cc x); piece = λ b x. absurd (cc x); going = λ k x. absurd (cc x); going_behind = λ b x. absurd (cc x) }
+    record {
+      first = λ x. absurd (cc x);
+      motion = λ k x. absurd (cc x);
+      piece = λ b x. absurd (cc x);
+      going = λ k x. absurd (cc x);
+      going_behind = λ b x. absurd (cc x);
+    }
 
 -- ---- fewer lines may come
 
@@ -307,7 +376,8 @@ motions_lines (Parted On zero) = omega arith
 motions_lines (Parted s (suc n)) = omega arith
 motions_lines (Joined left) = entries_lines (none_left left) left
 
-piece_lines : (b : BegunMotion) (last : Bool) → nat_le b.pieces_left 1 ≡ last → 1 ≤ b.pieces_left → lines_ahead (behind_piece last b) + 1 ≤ lines_ahead (next.Piece b)
+piece_lines : (b : BegunMotion) (last : Bool) → nat_le b.pieces_left 1 ≡ last → 1 ≤ b.pieces_left →
+    lines_ahead (behind_piece last b) + 1 ≤ lines_ahead (next.Piece b)
 piece_lines b true e some = omega (arith, motions_lines b.behind, some)
 piece_lines b false e some = omega (arith, some)
 
@@ -342,7 +412,13 @@ told_lines e (tell.Motion b) number sound h =
     let old = ap lines_ahead h.expected in
     let same = ap lines_of_motions h.behind in
     let some = sound.motion h.left h.expected in
-    omega (arith, old, h.few, same, fewer_lines h.left b.indices some (λ s. h.counted s ∙ ap (λ (m : MotionsLeft). left_at m s + taken_at b.indices s) h.behind))
+    omega (
+      arith,
+      old,
+      h.few,
+      same,
+      fewer_lines h.left b.indices some (λ s. h.counted s ∙ ap (λ (m : MotionsLeft). left_at m s + taken_at b.indices s) h.behind),
+    )
 told_lines e (tell.Piece b p) number sound h =
     let old = ap lines_ahead h.0 in
     omega (arith, old, piece_lines b (nat_le b.pieces_left 1) refl (sound.piece b h.0))

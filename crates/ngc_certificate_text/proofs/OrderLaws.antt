@@ -43,7 +43,8 @@ onto_both (Both i j) ps c d = refl
 onto_both (Off i) ps c d = refl
 onto_both (On j) ps c d = refl
 
-pub both_expanded : (xs ys : List Item) → expansion (xs ++ ys) ≡ record { off = (expansion xs).off ++ (expansion ys).off; on = (expansion xs).on ++ (expansion ys).on }
+pub both_expanded : (xs ys : List Item) →
+    expansion (xs ++ ys) ≡ record { off = (expansion xs).off ++ (expansion ys).off; on = (expansion xs).on ++ (expansion ys).on }
 both_expanded [] ys = refl
 both_expanded (x ∷ xs) ys = ap (onto_motions x.indices x.pieces) (both_expanded xs ys) ∙ onto_both x.indices x.pieces (expansion xs) (expansion ys)
 
@@ -53,18 +54,21 @@ behind_motions i ps c = both_motions c (expansion (item i ps ∷ []))
 
 whole_of : (ks : List EntryKind) (off on : List Entry) (items : List Item) → ks ≡ kinds_of items → data_of off on ≡ expansion items → items_in ks off on ≡ items
 whole_of ks off on items e f =
-    ap (λ (c : CertificateData). items_in ks c.off c.on) f ∙ ap (λ (k : List EntryKind). items_in k ((expansion items).off) ((expansion items).on)) e ∙ items_back items
+    ap (λ (c : CertificateData). items_in ks c.off c.on) f ∙ ap (λ (k : List EntryKind). items_in k ((expansion items).off) ((expansion items).on)) e
+    ∙ items_back items
 
 pub record Pushed (ks : List EntryKind) (off on : List Entry) (items : List Item) : Type 0 where
   pub is : items_in ks off on ≡ items
   pub whole : IsWhole ks off on
 
-pub from_items : (ks : List EntryKind) (off on : List Entry) (items : List Item) → ks ≡ kinds_of items → data_of off on ≡ expansion items → Pushed ks off on items
+pub from_items : (ks : List EntryKind) (off on : List Entry) (items : List Item) → ks ≡ kinds_of items → data_of off on ≡ expansion items →
+    Pushed ks off on items
 from_items ks off on items e f =
     let is = whole_of ks off on items e f in
     record { is = is; whole = record { all = ap kinds_of is ∙ sym e; motions = ap expansion is ∙ sym f } }
 
-pub pushed : (ks more : List EntryKind) (off on late_off late_on : List Entry) (i : Indices) (ps : List Piece) → IsWhole ks off on → more ≡ ks ++ (kind_of i ∷ [])
+pub pushed : (ks more : List EntryKind) (off on late_off late_on : List Entry) (i : Indices) (ps : List Piece) → IsWhole ks off on →
+    more ≡ ks ++ (kind_of i ∷ [])
     → data_of late_off late_on ≡ behind_motions i ps (data_of off on) → Pushed more late_off late_on (add_item i ps (items_in ks off on))
 pushed ks more off on late_off late_on i ps whole e f =
     let items = items_in ks off on in
@@ -75,29 +79,36 @@ pushed ks more off on late_off late_on i ps whole e f =
     from_items more late_off late_on (items ++ (item i ps ∷ [])) same motions
 
 -- a motion of each setting, or of one
-pub pushed_both : (ks more : List EntryKind) (off on late_off late_on : List Entry) (x : Indices) (i j : ℕ) (ps slice : List Piece) → IsWhole ks off on → x ≡ Both i j → slice ≡ ps
-    → more ≡ ks ++ (kinds.Both ∷ []) → late_off ≡ off ++ (entry_with i slice ∷ []) → late_on ≡ on ++ (entry_with j slice ∷ []) → Pushed more late_off late_on (add_item x ps (items_in ks off on))
+pub pushed_both : (ks more : List EntryKind) (off on late_off late_on : List Entry) (x : Indices) (i j : ℕ) (ps slice : List Piece) → IsWhole ks off on →
+    x ≡ Both i j → slice ≡ ps
+    → more ≡ ks ++ (kinds.Both ∷ []) → late_off ≡ off ++ (entry_with i slice ∷ []) → late_on ≡ on ++ (entry_with j slice ∷ []) →
+    Pushed more late_off late_on (add_item x ps (items_in ks off on))
 pushed_both ks more off on late_off late_on x i j ps slice whole is same e f g =
     subst (λ (y : Indices). Pushed more late_off late_on (add_item y ps (items_in ks off on))) (sym is)
     (subst (λ (l : List Piece). Pushed more late_off late_on (add_item (Both i j) l (items_in ks off on))) same
-    (pushed ks more off on late_off late_on (Both i j) slice whole e (ap (λ (l : List Entry). data_of l late_on) f ∙ ap (data_of (off ++ (entry_with i slice ∷ []))) g)))
+    (pushed ks more off on late_off late_on (Both i j) slice whole e
+    (ap (λ (l : List Entry). data_of l late_on) f ∙ ap (data_of (off ++ (entry_with i slice ∷ []))) g)))
 
-pub pushed_off : (ks more : List EntryKind) (off on late : List Entry) (x : Indices) (i : ℕ) (ps slice : List Piece) → IsWhole ks off on → x ≡ Off i → slice ≡ ps
+pub pushed_off : (ks more : List EntryKind) (off on late : List Entry) (x : Indices) (i : ℕ) (ps slice : List Piece) → IsWhole ks off on →
+    x ≡ Off i → slice ≡ ps
     → more ≡ ks ++ (kinds.Off ∷ []) → late ≡ off ++ (entry_with i slice ∷ []) → Pushed more late on (add_item x ps (items_in ks off on))
 pushed_off ks more off on late x i ps slice whole is same e f =
     subst (λ (y : Indices). Pushed more late on (add_item y ps (items_in ks off on))) (sym is)
     (subst (λ (l : List Piece). Pushed more late on (add_item (Off i) l (items_in ks off on))) same
-    (pushed ks more off on late on (Off i) slice whole e (ap (λ (l : List Entry). data_of l on) f ∙ ap (data_of (off ++ (entry_with i slice ∷ []))) (sym (append-nil on)))))
+    (pushed ks more off on late on (Off i) slice whole e
+    (ap (λ (l : List Entry). data_of l on) f ∙ ap (data_of (off ++ (entry_with i slice ∷ []))) (sym (append-nil on)))))
 
 pub pushed_on : (ks more : List EntryKind) (off on late : List Entry) (x : Indices) (j : ℕ) (ps slice : List Piece) → IsWhole ks off on → x ≡ On j → slice ≡ ps
     → more ≡ ks ++ (kinds.On ∷ []) → late ≡ on ++ (entry_with j slice ∷ []) → Pushed more off late (add_item x ps (items_in ks off on))
 pushed_on ks more off on late x j ps slice whole is same e f =
     subst (λ (y : Indices). Pushed more off late (add_item y ps (items_in ks off on))) (sym is)
     (subst (λ (l : List Piece). Pushed more off late (add_item (On j) l (items_in ks off on))) same
-    (pushed ks more off on off late (On j) slice whole e (ap (data_of off) f ∙ ap (λ (l : List Entry). data_of l (on ++ (entry_with j slice ∷ []))) (sym (append-nil off)))))
+    (pushed ks more off on off late (On j) slice whole e
+    (ap (data_of off) f ∙ ap (λ (l : List Entry). data_of l (on ++ (entry_with j slice ∷ []))) (sym (append-nil off)))))
 
 -- there is room for an entry's motion
-pub room_for : (ks : List EntryKind) (off on : List Entry) (x y : Indices) (s : Setting) → IsWhole ks off on → x ≡ y → taken_at y s ≡ 1 → HasRoomFor x (items_in ks off on)
+pub room_for : (ks : List EntryKind) (off on : List Entry) (x y : Indices) (s : Setting) → IsWhole ks off on → x ≡ y → taken_at y s ≡ 1 →
+    HasRoomFor x (items_in ks off on)
     → length (entries_at s (data_of off on)) < MOTION_LIMIT
 room_for ks off on x y s whole is one room =
     let here = room s in

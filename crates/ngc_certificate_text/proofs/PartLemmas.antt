@@ -43,19 +43,24 @@ by_parts : (good : Bool) (e : Cut) (zs rest : List ℤ) (end : Result Cut LineFl
 by_parts good e zs rest end bounds found is_end is_box same is =
     is ∙ ap (λ (x : Result Cut LineFlaw). piece_with x bounds) is_end ∙ ap (piece_with (ranged good e)) (is_box ∙ ap box_said same) ∙ boxed_is good e zs
 
-pub line_is_said : (xs : List ℤ) (t : ℤ) (end : Result Cut LineFlaw) (bounds : Result GridBox LineFlaw) (found : Result Piece LineFlaw) → 1 ≤ length xs → t ≡ get_or xs 0 (pos 0)
-    → end ≡ ranged (is_count 1 WHOLE t) (Part (unsigned_abs t)) → bounds ≡ box_said (take (length xs - 1) (drop 1 xs)) → found ≡ piece_with end bounds → found ≡ line_piece (Some xs)
+pub line_is_said : (xs : List ℤ) (t : ℤ) (end : Result Cut LineFlaw) (bounds : Result GridBox LineFlaw) (found : Result Piece LineFlaw) → 1 ≤ length xs →
+    t ≡ get_or xs 0 (pos 0)
+    → end ≡ ranged (is_count 1 WHOLE t) (Part (unsigned_abs t)) → bounds ≡ box_said (take (length xs - 1) (drop 1 xs)) → found ≡ piece_with end bounds →
+    found ≡ line_piece (Some xs)
 line_is_said [] t end bounds found some et is_end is_box is = absurd (omega (arith, some))
 line_is_said (x ∷ xs) t end bounds found some et is_end is_box is =
-    by_parts (is_count 1 WHOLE x) (Part (unsigned_abs x)) xs _ end bounds found (is_end ∙ ap (λ (z : ℤ). ranged (is_count 1 WHOLE z) (Part (unsigned_abs z))) et) is_box (take_rest (x ∷ xs) 1) is
+    by_parts (is_count 1 WHOLE x) (Part (unsigned_abs x)) xs _ end bounds found
+    (is_end ∙ ap (λ (z : ℤ). ranged (is_count 1 WHOLE z) (Part (unsigned_abs z))) et) is_box (take_rest (x ∷ xs) 1) is
 
 places : (b c : Bool) (u v : ℤ) → place_between (ranged b u) (ranged c v) ≡ ranged (b && c) (Place (record { u = u; v = v }))
 places true true u v = refl
 places true false u v = refl
 places false c u v = refl
 
-pub arc_is_said : (xs : List ℤ) (u v : ℤ) (ru rv : Result ℤ LineFlaw) (end : Result Cut LineFlaw) (bounds : Result GridBox LineFlaw) (found : Result Piece LineFlaw) → 2 ≤ length xs
-    → u ≡ get_or xs 0 (pos 0) → v ≡ get_or xs 1 (pos 0) → ru ≡ ranged (is_within CUT_LIMIT u) u → rv ≡ ranged (is_within CUT_LIMIT v) v → end ≡ place_between ru rv
+pub arc_is_said : (xs : List ℤ) (u v : ℤ) (ru rv : Result ℤ LineFlaw) (end : Result Cut LineFlaw) (bounds : Result GridBox LineFlaw)
+    (found : Result Piece LineFlaw) → 2 ≤ length xs
+    → u ≡ get_or xs 0 (pos 0) → v ≡ get_or xs 1 (pos 0) → ru ≡ ranged (is_within CUT_LIMIT u) u → rv ≡ ranged (is_within CUT_LIMIT v) v →
+    end ≡ place_between ru rv
     → bounds ≡ box_said (take (length xs - 2) (drop 2 xs)) → found ≡ piece_with end bounds → found ≡ arc_piece (Some xs)
 arc_is_said [] u v ru rv end bounds found some eu ev is_u is_v is_end is_box is = absurd (omega (arith, some))
 arc_is_said (x ∷ []) u v ru rv end bounds found some eu ev is_u is_v is_end is_box is = absurd (omega (arith, some))
@@ -63,10 +68,12 @@ arc_is_said (x ∷ y ∷ xs) u v ru rv end bounds found some eu ev is_u is_v is_
     let pu : ru ≡ ranged (is_within CUT_LIMIT x) x = is_u ∙ ap (λ (z : ℤ). ranged (is_within CUT_LIMIT z) z) eu in
     let pv : rv ≡ ranged (is_within CUT_LIMIT y) y = is_v ∙ ap (λ (z : ℤ). ranged (is_within CUT_LIMIT z) z) ev in
     by_parts (is_within CUT_LIMIT x && is_within CUT_LIMIT y) (Place (record { u = x; v = y })) xs _ end bounds found
-    (is_end ∙ ap (λ (r : Result ℤ LineFlaw). place_between r rv) pu ∙ ap (place_between (ranged (is_within CUT_LIMIT x) x)) pv ∙ places (is_within CUT_LIMIT x) (is_within CUT_LIMIT y) x y)
+    (is_end ∙ ap (λ (r : Result ℤ LineFlaw). place_between r rv) pu ∙ ap (place_between (ranged (is_within CUT_LIMIT x) x)) pv
+    ∙ places (is_within CUT_LIMIT x) (is_within CUT_LIMIT y) x y)
     is_box (take_rest (x ∷ y ∷ xs) 2) is
 
-pub one_is_said : (xs : List ℤ) (n : ℤ) (found : Result ℕ LineFlaw) → 1 ≤ length xs → length xs < 2 → n ≡ get_or xs 0 (pos 0) → found ≡ ranged (is_count 0 MOTION_LIMIT n) (unsigned_abs n)
+pub one_is_said : (xs : List ℤ) (n : ℤ) (found : Result ℕ LineFlaw) → 1 ≤ length xs → length xs < 2 → n ≡ get_or xs 0 (pos 0) →
+    found ≡ ranged (is_count 0 MOTION_LIMIT n) (unsigned_abs n)
     → found ≡ one_count (Some xs)
 one_is_said [] n found some few e is = absurd (omega (arith, some))
 one_is_said (x ∷ []) n found some few e is = is ∙ ap (λ (z : ℤ). ranged (is_count 0 MOTION_LIMIT z) (unsigned_abs z)) e
@@ -77,8 +84,10 @@ motions true true i n = refl
 motions true false i n = refl
 motions false c i n = refl
 
-pub two_are_said : (xs : List ℤ) (i n : ℤ) (ri rn : Result ℕ LineFlaw) (found : Result MotionLine LineFlaw) → 2 ≤ length xs → length xs < 3 → i ≡ get_or xs 0 (pos 0) → n ≡ get_or xs 1 (pos 0)
-    → ri ≡ ranged (is_count 0 INDEX_LIMIT i) (unsigned_abs i) → rn ≡ ranged (is_count 1 PIECE_LIMIT n) (unsigned_abs n) → found ≡ motion_of ri rn → found ≡ two_counts (Some xs)
+pub two_are_said : (xs : List ℤ) (i n : ℤ) (ri rn : Result ℕ LineFlaw) (found : Result MotionLine LineFlaw) → 2 ≤ length xs → length xs < 3 →
+    i ≡ get_or xs 0 (pos 0) → n ≡ get_or xs 1 (pos 0)
+    → ri ≡ ranged (is_count 0 INDEX_LIMIT i) (unsigned_abs i) → rn ≡ ranged (is_count 1 PIECE_LIMIT n) (unsigned_abs n) → found ≡ motion_of ri rn →
+    found ≡ two_counts (Some xs)
 two_are_said [] i n ri rn found some few ei en is_i is_n is = absurd (omega (arith, some))
 two_are_said (x ∷ []) i n ri rn found some few ei en is_i is_n is = absurd (omega (arith, some))
 two_are_said (x ∷ y ∷ []) i n ri rn found some few ei en is_i is_n is =

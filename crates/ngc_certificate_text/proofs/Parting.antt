@@ -48,7 +48,8 @@ firm_here line more h = firm_on [] line (10 ∷ more) h
 
 firm_ends : (rest line more : List ℕ) → is_feedless line ≡ true → firm_lines rest (line ++ (10 ∷ more)) ≡ line ∷ firm_lines rest more
 firm_ends rest line more h =
-    ap (λ (bytes : List ℕ). lines_of (bytes ++ rest)) (firm_here line more h) ∙ ap lines_of (append_assoc line (10 ∷ firm more) rest) ∙ split_here 10 line (firm more ++ rest) h
+    ap (λ (bytes : List ℕ). lines_of (bytes ++ rest)) (firm_here line more h) ∙ ap lines_of (append_assoc line (10 ∷ firm more) rest)
+    ∙ split_here 10 line (firm more ++ rest) h
 
 -- a line that is too long stands
 record Stands (line rest : List ℕ) : Type 0 where

@@ -24,7 +24,8 @@ use Rattle.ngc_certificate_text.specs.Number.{number_in}
 use Rattle.ngc_certificate_text.specs.Parted.{firm, firm_lines, PartsLines}
 use Rattle.ngc_certificate_text.specs.Reader.{Saying, outcome_by, firm_by, FaultIs, StepGives, Stands, AnswerIs}
 use Rattle.ngc_certificate_text.specs.Said.{lines_of}
-use Rattle.ngc_certificate_text.proofs.AheadLaws.{wrong_said, ended_said, header_read, header_ended, setting_flawed, counts_flawed, motion_flawed, piece_flawed, end_read}
+use Rattle.ngc_certificate_text.proofs.AheadLaws.{wrong_said, ended_said, header_read, header_ended, setting_flawed, counts_flawed, motion_flawed, piece_flawed}
+use Rattle.ngc_certificate_text.proofs.AheadLaws.{end_read}
 use Rattle.ngc_certificate_text.proofs.EntryLaws.{if_taken}
 use Rattle.ngc_certificate_text.proofs.LineLaws.{end_reads}
 use Rattle.ngc_certificate_text.proofs.Parting.{lines_parts, firm_parts, firm_begun}
@@ -79,13 +80,24 @@ some_huge left false false e f some going =
 some_huge left false true e f some going =
     let off : nat_lt 0 left.off ≡ true = grind (arith, nat_tests) in
     let none : nat_lt 0 left.on ≡ false = grind (arith, nat_tests) in
-    record { line = codes "off 9999999 1"; short = omega arith; out = huge_off left (and_from _ _ off (by_behind left.behind_on (left.off == 0) (nat_lt 0 left.on) e none going)); alone = refl } where
+    record {
+      line = codes "off 9999999 1";
+      short = omega arith;
+      out =
+          huge_off left (and_from _ _ off (by_behind left.behind_on (left.off == 0) (nat_lt 0 left.on) e none going));
+      alone = refl;
+    } where
       by_behind : (b c d : Bool) → c ≡ false → d ≡ false → (not b || (c || d)) ≡ true → not b ≡ true
       by_behind false c d g k h = refl
       by_behind true c d g k h = let no : (c || d) ≡ false = rw (g, k) refl in absurd (cc (no, h))
 some_huge left true false e f some going =
     let on : nat_lt 0 left.on ≡ true = grind (arith, nat_tests) in
-    record { line = codes "on 9999999 1"; short = omega arith; out = huge_on left (by_last (nat_lt 1 left.on) (left.off == 0) (nat_lt 0 left.on) e on); alone = refl } where
+    record {
+      line = codes "on 9999999 1";
+      short = omega arith;
+      out = huge_on left (by_last (nat_lt 1 left.on) (left.off == 0) (nat_lt 0 left.on) e on);
+      alone = refl;
+    } where
       by_last : (a b c : Bool) → b ≡ true → c ≡ true → (a || (b && c)) ≡ true
       by_last true b c g h = refl
       by_last false b c g h = and_from _ _ g h
@@ -107,7 +119,8 @@ bad : (e : Expected) (number : ℕ) (fault : CertificateFault) (line : List ℕ)
 bad e number fault line is sound never out lines all =
     let missing : left_from e number (lines_of []) ≡ Err (faults.BadLine number) =
     wrong_said e number ([] ∷ []) sound tt (λ x. absurd (never x)) ∙ ap (λ (f : CertificateFault). wrong f) is in
-    let huge : left_from e number (lines_of (line ++ codes "\n")) ≡ Err (faults.OutOfRange number) = ap (λ (ls : List (List ℕ)). left_from e number ls) lines ∙ out in
+    let huge : left_from e number (lines_of (line ++ codes "\n")) ≡ Err (faults.OutOfRange number) =
+    ap (λ (ls : List (List ℕ)). left_from e number ls) lines ∙ out in
     differ number (two_faults _ _ fault (faults.BadLine number) (faults.OutOfRange number) missing huge (all []) (all (line ++ codes "\n"))) where
       wrong : CertificateFault → Left
       wrong f = Err f
@@ -120,22 +133,34 @@ none_stands next.Header number fault sound all =
     ∙ ap (made_with (of_version One)) (header_ended One 2 ([] ∷ []) ∙ wrong_said (next.Setting Off) 2 ([] ∷ []) setting_sound tt (λ x. absurd (cc x))) in
     let same = two_faults _ _ fault faults.WrongHeader (faults.BadLine 2) missing behind (all []) (all (codes "ngc-certificate 1\n")) in absurd (cc same) where
       setting_sound : IsSound (next.Setting Off) 2
-      setting_sound = record { first = λ x. absurd (cc x); motion = λ k x. absurd (cc x); piece = λ b x. absurd (cc x); going = λ k x. absurd (cc x); going_behind = λ b x. absurd (cc x) }
+      setting_sound = record {
+        first = λ x. absurd (cc x);
+        motion = λ k x. absurd (cc x);
+        piece = λ b x. absurd (cc x);
+        going = λ k x. absurd (cc x);
+        going_behind = λ b x. absurd (cc x);
+      }
 none_stands (next.Setting Off) number fault sound all =
-    bad (next.Setting Off) number fault (codes "setting off 9999999") refl sound (λ x. cc x) (setting_flawed number (codes "setting off 9999999") [] [] Range (omega arith) Off (huge_setting Off)) refl all
+    bad (next.Setting Off) number fault (codes "setting off 9999999") refl sound (λ x. cc x)
+    (setting_flawed number (codes "setting off 9999999") [] [] Range (omega arith) Off (huge_setting Off)) refl all
 none_stands (next.Setting On) number fault sound all =
-    bad (next.Setting On) number fault (codes "setting on 9999999") refl sound (λ x. cc x) (setting_flawed number (codes "setting on 9999999") [] [] Range (omega arith) On (huge_setting On)) refl all
+    bad (next.Setting On) number fault (codes "setting on 9999999") refl sound (λ x. cc x)
+    (setting_flawed number (codes "setting on 9999999") [] [] Range (omega arith) On (huge_setting On)) refl all
 none_stands next.Counts number fault sound all =
-    bad next.Counts number fault (codes "motions 9999999 0") refl sound (λ x. cc x) (counts_flawed number (codes "motions 9999999 0") [] [] Range (omega arith) huge_counts) refl all
+    bad next.Counts number fault (codes "motions 9999999 0") refl sound (λ x. cc x)
+    (counts_flawed number (codes "motions 9999999 0") [] [] Range (omega arith) huge_counts) refl all
 none_stands (next.Motion (Parted s n)) number fault sound all =
     bad (next.Motion (Parted s n)) number fault (codes "motion 9999999 1") refl sound (λ x. cc x)
-    (motion_flawed number (codes "motion 9999999 1") [] [] Range (omega arith) (Parted s n) (sound.motion (Parted s n) refl) (ap (of_setting (index_at s)) huge_motion)) refl all
+    (motion_flawed number (codes "motion 9999999 1") [] [] Range (omega arith) (Parted s n) (sound.motion (Parted s n) refl)
+    (ap (of_setting (index_at s)) huge_motion)) refl all
 none_stands (next.Motion (Joined left)) number fault sound all =
     let some = sound.motion (Joined left) refl in
     let huge = some_huge left (left.off == 0) (left.on == 0) refl refl some (sound.going (Joined left) refl) in
-    bad (next.Motion (Joined left)) number fault huge.line refl sound (λ x. cc x) (motion_flawed number huge.line [] [] Range huge.short (Joined left) some huge.out) huge.alone all
+    bad (next.Motion (Joined left)) number fault huge.line refl sound (λ x. cc x)
+    (motion_flawed number huge.line [] [] Range huge.short (Joined left) some huge.out) huge.alone all
 none_stands (next.Piece b) number fault sound all =
-    bad (next.Piece b) number fault (codes "line 0 0 0 0 0 0 0") refl sound (λ x. cc x) (piece_flawed number (codes "line 0 0 0 0 0 0 0") [] [] Range (omega arith) b (sound.piece b refl) no_part) refl all
+    bad (next.Piece b) number fault (codes "line 0 0 0 0 0 0 0") refl sound (λ x. cc x)
+    (piece_flawed number (codes "line 0 0 0 0 0 0 0") [] [] Range (omega arith) b (sound.piece b refl) no_part) refl all
 none_stands next.End number fault sound all =
     let good = end_read (codes "end") [] [] number (omega arith) end_reads ∙ ended_said next.Nothing _ refl in
     absurd (cc (sym good ∙ all (codes "end\n")))
@@ -163,7 +188,8 @@ abbrev failed_as : CertificateFault → Result (Unit {0}) CertificateFault
 failed_as fault = Err fault
 
 -- a fault that is the text's whatever follows
-stands_as : {X : Type 0} (fault : CertificateFault) (says : List ℕ → Result X CertificateFault) → (fault ≡ faults.ReadFailed → ⊥) → ((rest : List ℕ) → FaultIs fault (says rest)) → AnswerIs (Err fault) says
+stands_as : {X : Type 0} (fault : CertificateFault) (says : List ℕ → Result X CertificateFault) → (fault ≡ faults.ReadFailed → ⊥) →
+    ((rest : List ℕ) → FaultIs fault (says rest)) → AnswerIs (Err fault) says
 stands_as faults.WrongHeader says h is = is
 stands_as (faults.BadLine n) says h is = is
 stands_as (faults.OutOfRange n) says h is = is
@@ -173,12 +199,16 @@ stands_as faults.ReadFailed says h is = absurd (h refl)
 module _ {X : Type 0} where
   -- a piece leads from a text to another
   abbrev pub Leads : Saying X → Saying X → List ℕ → Result (Unit {0}) CertificateFault → Type 0
-  Leads old new piece result = (lines : List ℕ → List (List ℕ)) → PartsLines lines → (rest : List ℕ) → StepGives result (old lines (piece ++ rest)) (new lines rest)
+  Leads old new piece result =
+      (lines : List ℕ → List (List ℕ)) → PartsLines lines → (rest : List ℕ) → StepGives result (old lines (piece ++ rest)) (new lines rest)
 
-  at_step : (old new : Saying X) (piece : List ℕ) (result other : Result (Unit {0}) CertificateFault) → Leads old new piece result → result ≡ other → Leads old new piece other
-  at_step old new piece result other leads e = λ lines parts rest. subst (λ (r : Result (Unit {0}) CertificateFault). StepGives r (old lines (piece ++ rest)) (new lines rest)) e (leads lines parts rest)
+  at_step : (old new : Saying X) (piece : List ℕ) (result other : Result (Unit {0}) CertificateFault) → Leads old new piece result → result ≡ other →
+      Leads old new piece other
+  at_step old new piece result other leads e = λ lines parts rest.
+      subst (λ (r : Result (Unit {0}) CertificateFault). StepGives r (old lines (piece ++ rest)) (new lines rest)) e (leads lines parts rest)
 
-  module _ (refusal : Option CertificateFault) (old new : Saying X) (piece : List ℕ) (result : Result (Unit {0}) CertificateFault) (going : refusal ≡ None) (leads : Leads old new piece result) where
+  module _ (refusal : Option CertificateFault) (old new : Saying X) (piece : List ℕ) (result : Result (Unit {0}) CertificateFault) (going : refusal ≡ None)
+      (leads : Leads old new piece result) where
     pub more_answer : result ≡ Ok tt → IsQuiet new → (fault : CertificateFault) → Stands fault (firm_by refusal old piece) → ⊥
     more_answer is quiet fault all = quiet fault (λ rest.
         sym (at_step old new piece result (Ok tt) leads is (firm_lines rest) (firm_parts rest) [])
@@ -187,7 +217,8 @@ module _ {X : Type 0} where
 
     pub more_firm : result ≡ Ok tt → (more rest : List ℕ) → firm_by refusal old (piece ++ more) rest ≡ firm_by refusal new more rest
     more_firm is more rest =
-        ap (λ (r : Option CertificateFault). firm_by r old (piece ++ more) rest) going ∙ at_step old new piece result (Ok tt) leads is (firm_lines rest) (firm_parts rest) more
+        ap (λ (r : Option CertificateFault). firm_by r old (piece ++ more) rest) going
+        ∙ at_step old new piece result (Ok tt) leads is (firm_lines rest) (firm_parts rest) more
         ∙ ap (λ (r : Option CertificateFault). firm_by r new more rest) (sym going)
 
     pub more_text : result ≡ Ok tt → (rest : List ℕ) → outcome_by refusal old (piece ++ rest) ≡ outcome_by refusal new rest

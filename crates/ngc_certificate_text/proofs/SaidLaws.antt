@@ -1,5 +1,6 @@
 -- The text of a certificate says it, and what says a certificate is its text.
-use Rattle.std.proofs.Common.{◌≡◌, ◌⊎◌, inl, inr, ℕ, zero, suc, ◌+◌, ◌-◌, ◌<◌, ◌≤◌, ap, subst, Bool, true, false, Result, Ok, Err, List, [], ◌∷◌, ◌++◌, length, refl, sym, ◌∙◌, append_assoc, arith}
+use Rattle.std.proofs.Common.{◌≡◌, ◌⊎◌, inl, inr, ℕ, zero, suc, ◌+◌, ◌-◌, ◌<◌, ◌≤◌, ap, subst, Bool, true, false, Result, Ok, Err, List, [], ◌∷◌, ◌++◌, length}
+use Rattle.std.proofs.Common.{refl, sym, ◌∙◌, append_assoc, arith}
 use Rattle.std.specs.Prelude.{codes, decimal, ◌==◌, ◌&&◌, ◌||◌, not, nat_le, nat_lt, if◌then◌else◌, flat_map}
 use Rattle.std.specs.List.{All, AllByRecursion, list_all, onto_first, join_with_byte}
 use Rattle.std.specs.Str.{bytes_eq}
@@ -12,8 +13,10 @@ use Rattle.ngc_certificate_text.specs.declared.piece.Piece.{Piece}
 use Rattle.ngc_certificate_text.specs.declared.lines.LineFlaw.{LineFlaw}
 use Rattle.ngc_certificate_text.specs.declared.lines.LineFlaw.TheVariants.{Spelling}
 use Rattle.ngc_certificate_text.specs.declared.lines.MotionLine.{MotionLine}
-use Rattle.ngc_certificate_text.specs.Certificate.{Entry, CertificateData, IsEntry, AreEntries, IsCertificate, INDEX_LIMIT, PIECE_LIMIT, MOTION_LIMIT, good_piece}
-use Rattle.ngc_certificate_text.specs.Spelling.{piece_line, motion_line, entry_lines, setting_lines, parted_spelling, item_line, item_lines, counts_line, joined_spelling, spelling}
+use Rattle.ngc_certificate_text.specs.Certificate.{Entry, CertificateData, IsEntry, AreEntries, IsCertificate, INDEX_LIMIT, PIECE_LIMIT, MOTION_LIMIT}
+use Rattle.ngc_certificate_text.specs.Certificate.{good_piece}
+use Rattle.ngc_certificate_text.specs.Spelling.{piece_line, motion_line, entry_lines, setting_lines, parted_spelling, item_line, item_lines, counts_line}
+use Rattle.ngc_certificate_text.specs.Spelling.{joined_spelling, spelling}
 use Rattle.ngc_certificate_text.specs.declared.expected.EntriesLeft.{EntriesLeft}
 use Rattle.ngc_certificate_text.specs.declared.expected.Indices.{Indices}
 use Rattle.ngc_certificate_text.specs.declared.expected.Indices.TheVariants as of
@@ -24,11 +27,17 @@ use Rattle.ngc_certificate_text.specs.declared.told.Version.TheVariants.{One, Tw
 use Rattle.ngc_certificate_text.specs.EntryLines.{version_said, counts_said, entry_said, may_come, left_behind, all_left}
 use Rattle.ngc_certificate_text.specs.Joined.{Item, onto_motions, expansion, IsItem, is_on, may_follow, in_order, IsJoined, Form, Parted, Joined}
 use Rattle.ngc_certificate_text.specs.Lines.{setting_said, motion_said, piece_said, end_said, are_steps}
-use Rattle.ngc_certificate_text.specs.Said.{lines_of, Place, Said, then_read, next_number, line_is, line_in, line_at, several, entry_at, setting_at, settings_at, item_at, items_at, joined_at, said_with, version_is, nothing_in, ended, header_in, form_at, form_said, has_steps, HasSteps, item_steps, IsForm, OneSpelling}
+use Rattle.ngc_certificate_text.specs.Said.{lines_of, Place, Said, then_read, next_number, line_is, line_in, line_at, several, entry_at, setting_at}
+use Rattle.ngc_certificate_text.specs.Said.{settings_at, item_at, items_at, joined_at, said_with, version_is, nothing_in, ended, header_in, form_at, form_said}
+use Rattle.ngc_certificate_text.specs.Said.{has_steps, HasSteps, item_steps, IsForm, OneSpelling}
 use Rattle.ngc_text.proofs.Splits.{lacks, split_here}
 use Rattle.ngc_certificate_text.proofs.FieldLaws.{joined_split, bytes_same}
-use Rattle.ngc_certificate_text.proofs.LineLaws.{IsLine, IsName, setting_text, setting_line_is, setting_is_line, setting_reads, setting_spelled, motion_text, motion_is_line, motion_reads, motion_spelled, motion_line_is, IsHeld, piece_text, piece_is_line, piece_reads, piece_spelled, piece_line_is, end_is_line, end_reads, end_spelled}
-use Rattle.ngc_certificate_text.proofs.EntryLaws.{total, IsTaken, entry_text, entry_is_line, entry_reads, entry_spelled, item_line_is, counts_text, counts_is_line, counts_reads, counts_spelled, one_fewer, some_on, no_more, items_none, more_items, item_is, pieces_behind as entry_pieces}
+use Rattle.ngc_certificate_text.proofs.LineLaws.{IsLine, IsName, setting_text, setting_line_is, setting_is_line, setting_reads, setting_spelled, motion_text}
+use Rattle.ngc_certificate_text.proofs.LineLaws.{motion_is_line, motion_reads, motion_spelled, motion_line_is, IsHeld, piece_text, piece_is_line, piece_reads}
+use Rattle.ngc_certificate_text.proofs.LineLaws.{piece_spelled, piece_line_is, end_is_line, end_reads, end_spelled}
+use Rattle.ngc_certificate_text.proofs.EntryLaws.{total, IsTaken, entry_text, entry_is_line, entry_reads, entry_spelled, item_line_is, counts_text}
+use Rattle.ngc_certificate_text.proofs.EntryLaws.{counts_is_line, counts_reads, counts_spelled, one_fewer, some_on, no_more, items_none, more_items, item_is}
+use Rattle.ngc_certificate_text.proofs.EntryLaws.{pieces_behind as entry_pieces}
 use Rattle.ngc_certificate_text.proofs.Taken.{text_left, then_ok, line_taken, ok_same, read_to, said_ok}
 
 -- ---- places
@@ -68,12 +77,17 @@ line_here {X} said line rest number x is h =
     taken : {Y : Type 0} → Y → ℕ → List (List ℕ) → Said Y
     taken y number l = Ok (y, record { number = next_number number; left = l })
 
-pub line_reads : {X : Type 0} (said : List ℕ → Result X LineFlaw) (line : List ℕ) (x : X) → IsLine line → said line ≡ Ok x → ReadsOn (line_at said) (line ++ (10 ∷ [])) x
-line_reads said line x is h number rest =
-    (next_number number, subst (λ (t : List ℕ). line_at said (at number t) ≡ Ok (x, at (next_number number) rest)) (sym (append_assoc line (10 ∷ []) rest)) (line_here said line rest number x is h))
+pub line_reads : {X : Type 0} (said : List ℕ → Result X LineFlaw) (line : List ℕ) (x : X) → IsLine line → said line ≡ Ok x →
+    ReadsOn (line_at said) (line ++ (10 ∷ [])) x
+line_reads said line x is h number rest = (
+  next_number number,
+  subst (λ (t : List ℕ). line_at said (at number t) ≡ Ok (x, at (next_number number) rest)) (sym (append_assoc line (10 ∷ []) rest))
+      (line_here said line rest number x is h),
+)
 
 -- one part, and then another
-pub then_reads : {X Y : Type 0} (said : Place → Said X) (more : X → Place → Said Y) (text next : List ℕ) (x : X) (y : Y) → ReadsOn said text x → ReadsOn (more x) next y
+pub then_reads : {X Y : Type 0} (said : Place → Said X) (more : X → Place → Said Y) (text next : List ℕ) (x : X) (y : Y) → ReadsOn said text x →
+    ReadsOn (more x) next y
     → ReadsOn (λ p. then_read (said p) more) (text ++ next) y
 then_reads {X} {Y} said more text next x y first second number rest =
     let a = first number (next ++ rest) in
@@ -84,7 +98,8 @@ several_none : {X : Type 0} (said : Place → Said X) (p : Place) → several sa
 unfolding several
 several_none said p = refl
 
-several_more : {X : Type 0} (said : Place → Said X) (n : ℕ) (p : Place) → several said (suc n) p ≡ then_read (said p) (λ x q. then_read (several said n q) (λ xs r. Ok (x ∷ xs, r)))
+several_more : {X : Type 0} (said : Place → Said X) (n : ℕ) (p : Place) →
+    several said (suc n) p ≡ then_read (said p) (λ x q. then_read (several said n q) (λ xs r. Ok (x ∷ xs, r)))
 unfolding several
 several_more said n p = refl
 
@@ -110,7 +125,8 @@ pub record IsSpelledEntry (e : Entry) : Type 0 where
   pub entry : IsEntry e
   pub steps : has_steps e ≡ true
 
-held_pieces : (ps : List Piece) → list_all good_piece ps ≡ true → list_all (λ (p : Piece). are_steps p.bounds.low && are_steps p.bounds.high) ps ≡ true → AllByRecursion IsHeld ps
+held_pieces : (ps : List Piece) → list_all good_piece ps ≡ true → list_all (λ (p : Piece). are_steps p.bounds.low && are_steps p.bounds.high) ps ≡ true →
+    AllByRecursion IsHeld ps
 held_pieces [] good steps = tt
 held_pieces (p ∷ ps) good steps =
     let g = and_parts (good_piece p) (list_all good_piece ps) good in
@@ -118,7 +134,8 @@ held_pieces (p ∷ ps) good steps =
     (record { good = g.0; steps = s.0 }, held_pieces ps g.1 s.1)
 
 piece_reads_on : (p : Piece) → IsHeld p → ReadsOn (line_at piece_said) (piece_line p) p
-piece_reads_on p h = subst (λ (t : List ℕ). ReadsOn (line_at piece_said) t p) (sym (piece_line_is p)) (line_reads piece_said (piece_text p) p (piece_is_line p h) (piece_reads p h))
+piece_reads_on p h = subst (λ (t : List ℕ). ReadsOn (line_at piece_said) t p) (sym (piece_line_is p))
+    (line_reads piece_said (piece_text p) p (piece_is_line p h) (piece_reads p h))
 
 motion_reads_on : (i n : ℕ) → i ≤ INDEX_LIMIT → 1 ≤ n → n ≤ PIECE_LIMIT → ReadsOn (line_at motion_said) (motion_line i n) (record { index = i; pieces = n })
 motion_reads_on i n hi some hn =
@@ -142,7 +159,8 @@ pieces_read_on i ps h number rest =
 
 pub entry_reads_on : (e : Entry) → IsSpelledEntry e → ReadsOn entry_at (entry_lines e) e
 entry_reads_on e h number rest =
-    let a = then_reads (line_at motion_said) pieces_behind (motion_line e.index (length e.pieces)) (flat_map piece_line e.pieces) (record { index = e.index; pieces = length e.pieces }) e
+    let a = then_reads (line_at motion_said) pieces_behind (motion_line e.index (length e.pieces)) (flat_map piece_line e.pieces)
+    (record { index = e.index; pieces = length e.pieces }) e
     (motion_reads_on e.index (length e.pieces) h.entry.index h.entry.some h.entry.count)
     (pieces_read_on e.index e.pieces (held_pieces e.pieces h.entry.pieces h.steps)) number rest in
     (a.0, entry_is (at number (entry_lines e ++ rest)) ∙ a.1)
@@ -166,12 +184,18 @@ motions_read_on : (es : List Entry) → AllByRecursion IsSpelledEntry es → Rea
 unfolding motions_behind
 motions_read_on es h = several_read entry_at entry_lines IsSpelledEntry entry_reads_on es h
 
-pub setting_reads_on : (name : List ℕ) (es : List Entry) → IsName name → AreEntries es → list_all has_steps es ≡ true → ReadsOn (setting_at name) (setting_lines name es) es
+pub setting_reads_on : (name : List ℕ) (es : List Entry) → IsName name → AreEntries es → list_all has_steps es ≡ true →
+    ReadsOn (setting_at name) (setting_lines name es) es
 setting_reads_on name es is are steps number rest =
     let a = then_reads (line_at (setting_said name)) motions_behind (setting_text name (length es) ++ (10 ∷ [])) (flat_map entry_lines es) (length es) es
-    (line_reads (setting_said name) (setting_text name (length es)) (length es) (setting_is_line name (length es) is are.count) (setting_reads name (length es) is are.count))
-    (motions_read_on es (spelled_entries es are.each steps)) number rest in
-    (a.0, setting_is name (at number (setting_lines name es ++ rest)) ∙ ap (λ (t : List ℕ). then_read (line_at (setting_said name) (at number (t ++ flat_map entry_lines es ++ rest))) motions_behind) (setting_line_is name (length es)) ∙ a.1)
+    (line_reads (setting_said name) (setting_text name (length es)) (length es) (setting_is_line name (length es) is are.count)
+    (setting_reads name (length es) is are.count))
+    (motions_read_on es (spelled_entries es are.each steps)) number rest in (
+      a.0,
+      setting_is name (at number (setting_lines name es ++ rest))
+          ∙ ap (λ (t : List ℕ). then_read (line_at (setting_said name) (at number (t ++ flat_map entry_lines es ++ rest))) motions_behind)
+          (setting_line_is name (length es)) ∙ a.1,
+    )
 
 -- ---- the whole text
 
@@ -220,10 +244,12 @@ end_read_on off on number rest =
     let a = line_reads end_said (codes "end") tt end_is_line end_reads number rest in
     (a.0, ap (λ (r : Said (Unit {0})). then_read r (λ _ s. Ok (record { off = off; on = on }, s))) a.1)
 
-on_read_on : (off on : List Entry) → AreEntries on → list_all has_steps on ≡ true → ReadsOn (on_behind off) (setting_lines (codes "on") on ++ codes "end\n") (record { off = off; on = on })
+on_read_on : (off on : List Entry) → AreEntries on → list_all has_steps on ≡ true →
+    ReadsOn (on_behind off) (setting_lines (codes "on") on ++ codes "end\n") (record { off = off; on = on })
 unfolding on_behind
 on_read_on off on are steps =
-    then_reads (setting_at (codes "on")) (end_behind off) (setting_lines (codes "on") on) (codes "end\n") on (record { off = off; on = on }) (setting_reads_on (codes "on") on on_name are steps) (end_read_on off on)
+    then_reads (setting_at (codes "on")) (end_behind off) (setting_lines (codes "on") on) (codes "end\n") on (record { off = off; on = on })
+    (setting_reads_on (codes "on") on on_name are steps) (end_read_on off on)
 
 -- the text behind the first line
 abbrev body : CertificateData → List ℕ
@@ -268,8 +294,10 @@ item_taken left x is may = record { may = may; indices = is.indices; some = is.s
 entry_reads_at : (left : EntriesLeft) (x : Item) → IsItem x → may_come left x.indices ≡ true
     → ReadsOn (line_at (entry_said left)) (item_line x.indices (length x.pieces)) (record { indices = x.indices; pieces = length x.pieces })
 entry_reads_at left x is may =
-    subst (λ (t : List ℕ). ReadsOn (line_at (entry_said left)) t (record { indices = x.indices; pieces = length x.pieces })) (sym (item_line_is x.indices (length x.pieces)))
-    (line_reads (entry_said left) (entry_text x.indices (length x.pieces)) (record { indices = x.indices; pieces = length x.pieces }) (entry_is_line x.indices (length x.pieces) is.indices is.count)
+    subst (λ (t : List ℕ). ReadsOn (line_at (entry_said left)) t (record { indices = x.indices; pieces = length x.pieces }))
+    (sym (item_line_is x.indices (length x.pieces)))
+    (line_reads (entry_said left) (entry_text x.indices (length x.pieces)) (record { indices = x.indices; pieces = length x.pieces })
+    (entry_is_line x.indices (length x.pieces) is.indices is.count)
     (entry_reads left x.indices (length x.pieces) (item_taken left x is may)))
 
 item_pieces_read : (i : Indices) (ps : List Piece) → AllByRecursion IsHeld ps
@@ -281,7 +309,8 @@ item_pieces_read i ps h number rest =
 
 item_reads_on : (left : EntriesLeft) (x : Item) → IsSpelledItem x → may_come left x.indices ≡ true → ReadsOn (item_at left) (item_lines x) x
 item_reads_on left x h may number rest =
-    let a = then_reads (line_at (entry_said left)) entry_pieces (item_line x.indices (length x.pieces)) (flat_map piece_line x.pieces) (record { indices = x.indices; pieces = length x.pieces }) x
+    let a = then_reads (line_at (entry_said left)) entry_pieces (item_line x.indices (length x.pieces)) (flat_map piece_line x.pieces)
+    (record { indices = x.indices; pieces = length x.pieces }) x
     (entry_reads_at left x h.item may) (item_pieces_read x.indices x.pieces (held_pieces x.pieces h.item.pieces h.steps)) number rest in
     (a.0, item_is left (at number (item_lines x ++ rest)) ∙ a.1)
 
@@ -299,22 +328,27 @@ above_zero : (m n : ℕ) → m ≡ suc n → nat_lt 0 m ≡ true
 above_zero m n e = grind (arith, nat_tests)
 
 -- behind a motion of `on` alone more of `on` come, or nothing
-more_on : (xs : List Item) (off on : ℕ) → off ≡ length ((expansion xs).off) → on ≡ suc (length ((expansion xs).on)) → in_order true xs ≡ true → (off ≡ 0) ⊎ (1 < on)
+more_on : (xs : List Item) (off on : ℕ) → off ≡ length ((expansion xs).off) → on ≡ suc (length ((expansion xs).on)) → in_order true xs ≡ true →
+    (off ≡ 0) ⊎ (1 < on)
 more_on [] off on e f order = inl e
 more_on (x ∷ xs) off on e f order = inr (by_indices x.indices x.pieces (expansion xs) order f) where
-  by_indices : (i : Indices) (ps : List Piece) (c : CertificateData) → (may_follow true i && in_order (is_on i) xs) ≡ true → on ≡ suc (length ((onto_motions i ps c).on)) → 1 < on
+  by_indices : (i : Indices) (ps : List Piece) (c : CertificateData) → (may_follow true i && in_order (is_on i) xs) ≡ true →
+      on ≡ suc (length ((onto_motions i ps c).on)) → 1 < on
   by_indices (of.Both i j) ps c h e = omega (arith, e)
   by_indices (of.Off i) ps c h e = absurd (cc h)
   by_indices (of.On j) ps c h e = omega (arith, e)
 
-last_on : (off on : ℕ) (xs : List Item) → off ≡ length ((expansion xs).off) → on ≡ suc (length ((expansion xs).on)) → in_order true xs ≡ true → (nat_lt 1 on || ((off == 0) && nat_lt 0 on)) ≡ true
+last_on : (off on : ℕ) (xs : List Item) → off ≡ length ((expansion xs).off) → on ≡ suc (length ((expansion xs).on)) → in_order true xs ≡ true →
+    (nat_lt 1 on || ((off == 0) && nat_lt 0 on)) ≡ true
 last_on off on xs e f order = by_more (nat_lt 1 on) refl (more_on xs off on e f order) where
   by_more : (b : Bool) → nat_lt 1 on ≡ b → (off ≡ 0) ⊎ (1 < on) → (b || ((off == 0) && nat_lt 0 on)) ≡ true
   by_more true g h = refl
-  by_more false g (inl none) = let zero_off : (off == 0) ≡ true = grind (arith, nat_tests) in and_from _ _ zero_off (above_zero on (length ((expansion xs).on)) f)
+  by_more false g (inl none) = let zero_off : (off == 0) ≡ true = grind (arith, nat_tests) in
+      and_from _ _ zero_off (above_zero on (length ((expansion xs).on)) f)
   by_more false g (inr more) = absurd (grind (arith, nat_tests))
 
-first_of_left : (left : EntriesLeft) (i : Indices) (ps : List Piece) (xs : List Item) → AreLeft left (record { indices = i; pieces = ps } ∷ xs) → IsFirst left i xs
+first_of_left : (left : EntriesLeft) (i : Indices) (ps : List Piece) (xs : List Item) → AreLeft left (record { indices = i; pieces = ps } ∷ xs) →
+    IsFirst left i xs
 first_of_left left (of.Both i j) ps xs are = record {
   may = and_from _ _ (above_zero left.off (length ((expansion xs).off)) are.off) (above_zero left.on (length ((expansion xs).on)) are.on);
   behind = record { off = omega (arith, are.off); on = omega (arith, are.on); order = are.order };
@@ -337,11 +371,13 @@ more_are : (n : ℕ) (left : EntriesLeft) (p : Place) → 1 ≤ total left → i
 unfolding entries_behind
 more_are n left p h = more_items n left p h
 
-behind_reads : (n : ℕ) (left : EntriesLeft) (x : Item) (xs : List Item) → ReadsOn (items_at n (left_behind left x.indices)) (flat_map item_lines xs) xs → ReadsOn (entries_behind n left x) (flat_map item_lines xs) (x ∷ xs)
+behind_reads : (n : ℕ) (left : EntriesLeft) (x : Item) (xs : List Item) → ReadsOn (items_at n (left_behind left x.indices)) (flat_map item_lines xs) xs →
+    ReadsOn (entries_behind n left x) (flat_map item_lines xs) (x ∷ xs)
 unfolding entries_behind
 behind_reads n left x xs h number rest = let a = h number rest in (a.0, ap (λ (r : Said (List Item)). then_read r (λ ys q. Ok (x ∷ ys, q))) a.1)
 
-items_read_on : (n : ℕ) (left : EntriesLeft) (xs : List Item) → AllByRecursion IsSpelledItem xs → AreLeft left xs → total left ≤ n → ReadsOn (items_at n left) (flat_map item_lines xs) xs
+items_read_on : (n : ℕ) (left : EntriesLeft) (xs : List Item) → AllByRecursion IsSpelledItem xs → AreLeft left xs → total left ≤ n →
+    ReadsOn (items_at n left) (flat_map item_lines xs) xs
 items_read_on n left [] h are few number rest = (number, items_none n left (at number rest) (no_more left (omega (arith, are.off, are.on))))
 items_read_on zero left (x ∷ xs) h are few number rest =
     let first = first_of_left left x.indices x.pieces xs are in
@@ -379,7 +415,8 @@ end_items_read items number rest =
 abbrev counts_of : List Item → CountsLine
 counts_of items = record { off = length ((expansion items).off); on = length ((expansion items).on) }
 
-items_reads_end : (items : List Item) → IsJoined items → list_all item_steps items ≡ true → ReadsOn (items_behind (counts_of items)) (flat_map item_lines items ++ codes "end\n") items
+items_reads_end : (items : List Item) → IsJoined items → list_all item_steps items ≡ true →
+    ReadsOn (items_behind (counts_of items)) (flat_map item_lines items ++ codes "end\n") items
 unfolding items_behind
 items_reads_end items is steps =
     let c = counts_of items in
@@ -393,7 +430,8 @@ counts_line_is m n = flat (codes "motions") (32 ∷ []) (decimal m) (decimal n) 
   flat : (w s a b n : List ℕ) → w ++ s ++ a ++ s ++ b ++ n ≡ (w ++ (s ++ (a ++ (s ++ b)))) ++ n
   flat w s a b n = simp append_assoc
 
-counts_reads_on : (m n : ℕ) → m ≤ MOTION_LIMIT → n ≤ MOTION_LIMIT → ReadsOn (line_at counts_said) (codes "motions " ++ decimal m ++ codes " " ++ decimal n ++ codes "\n") (record { off = m; on = n })
+counts_reads_on : (m n : ℕ) → m ≤ MOTION_LIMIT → n ≤ MOTION_LIMIT →
+    ReadsOn (line_at counts_said) (codes "motions " ++ decimal m ++ codes " " ++ decimal n ++ codes "\n") (record { off = m; on = n })
 counts_reads_on m n hm hn =
     subst (λ (t : List ℕ). ReadsOn (line_at counts_said) t (record { off = m; on = n })) (sym (counts_line_is m n))
     (line_reads counts_said (counts_text m n) (record { off = m; on = n }) (counts_is_line m n hm hn) (counts_reads m n hm hn))
@@ -458,7 +496,8 @@ several_spells {X} said text good spells (suc n) p xs q h =
     subst (λ (r : List X × Place). SeveralSpells text good (suc n) p r.0 r.1) e all
 
 piece_spells : Spells (line_at piece_said) piece_line IsHeld
-piece_spells = line_spells piece_said piece_line IsHeld (λ line x h. let s = piece_spelled line x h in (ap (λ (l : List ℕ). l ++ (10 ∷ [])) s.is ∙ sym (piece_line_is x), s.held))
+piece_spells = line_spells piece_said piece_line IsHeld
+    (λ line x h. let s = piece_spelled line x h in (ap (λ (l : List ℕ). l ++ (10 ∷ [])) s.is ∙ sym (piece_line_is x), s.held))
 
 record GoodMotion (m : MotionLine) : Type 0 where
   index : m.index ≤ INDEX_LIMIT
@@ -467,7 +506,8 @@ record GoodMotion (m : MotionLine) : Type 0 where
 
 motion_spells : Spells (line_at motion_said) (λ m. motion_line m.index m.pieces) GoodMotion
 motion_spells = line_spells motion_said (λ m. motion_line m.index m.pieces) GoodMotion
-    (λ line x h. let s = motion_spelled line x h in (ap (λ (l : List ℕ). l ++ (10 ∷ [])) s.is ∙ sym (motion_line_is x.index x.pieces), record { index = s.index; some = s.some; few = s.few }))
+    (λ line x h. let s = motion_spelled line x h in
+    (ap (λ (l : List ℕ). l ++ (10 ∷ [])) s.is ∙ sym (motion_line_is x.index x.pieces), record { index = s.index; some = s.some; few = s.few }))
 
 held_good : (ps : List Piece) → AllByRecursion IsHeld ps → list_all good_piece ps ≡ true
 held_good [] h = refl
@@ -486,10 +526,16 @@ entry_spells p e q h =
     let first = motion_spells p a.0 a.1 a.2 in
     let more = several_spells (line_at piece_said) piece_line IsHeld piece_spells a.0.pieces a.1 b.0 b.1 b.2 in
     let text : text_left p ≡ entry_lines (with_pieces a.0.index b.0) ++ text_left b.1 =
-    first.0 ∙ ap (λ (l : List ℕ). motion_line a.0.index a.0.pieces ++ l) more.0 ∙ sym (append_assoc (motion_line a.0.index a.0.pieces) (flat_map piece_line b.0) (text_left b.1))
+    first.0 ∙ ap (λ (l : List ℕ). motion_line a.0.index a.0.pieces ++ l) more.0
+    ∙ sym (append_assoc (motion_line a.0.index a.0.pieces) (flat_map piece_line b.0) (text_left b.1))
     ∙ ap (λ (n : ℕ). motion_line a.0.index n ++ flat_map piece_line b.0 ++ text_left b.1) (sym more.2) in
     let good : IsSpelledEntry (with_pieces a.0.index b.0) = record {
-      entry = record { index = first.1.index; some = omega (arith, first.1.some, more.2); count = omega (arith, first.1.few, more.2); pieces = held_good b.0 more.1 };
+      entry = record {
+        index = first.1.index;
+        some = omega (arith, first.1.some, more.2);
+        count = omega (arith, first.1.few, more.2);
+        pieces = held_good b.0 more.1;
+      };
       steps = held_steps b.0 more.1;
     } in
     subst (λ (r : Entry × Place). (text_left p ≡ entry_lines r.0 ++ text_left r.1) × IsSpelledEntry r.0) same (text, good) where
@@ -516,7 +562,8 @@ setting_spells name p es q h =
     let s = setting_spelled name t.line a.0 t.says in
     let more = several_spells entry_at entry_lines IsSpelledEntry entry_spells a.0 a.1 es q a.3 in
     let line : text_left p ≡ (codes "setting " ++ name ++ codes " " ++ decimal a.0 ++ codes "\n") ++ text_left a.1 =
-    t.joined ∙ sym (append_assoc t.line (10 ∷ []) (text_left a.1)) ∙ ap (λ (l : List ℕ). l ++ (10 ∷ []) ++ text_left a.1) s.0 ∙ ap (λ (l : List ℕ). l ++ text_left a.1) (sym (setting_line_is name a.0)) in (
+    t.joined ∙ sym (append_assoc t.line (10 ∷ []) (text_left a.1)) ∙ ap (λ (l : List ℕ). l ++ (10 ∷ []) ++ text_left a.1) s.0
+    ∙ ap (λ (l : List ℕ). l ++ text_left a.1) (sym (setting_line_is name a.0)) in (
       line ∙ ap (λ (l : List ℕ). (codes "setting " ++ name ++ codes " " ++ decimal a.0 ++ codes "\n") ++ l) more.0
           ∙ sym (append_assoc (codes "setting " ++ name ++ codes " " ++ decimal a.0 ++ codes "\n") (flat_map entry_lines es) (text_left q))
           ∙ ap (λ (n : ℕ). codes "setting " ++ name ++ codes " " ++ decimal n ++ codes "\n" ++ flat_map entry_lines es ++ text_left q) (sym more.2),
@@ -559,8 +606,11 @@ entry_line_spells : (left : EntriesLeft) (p : Place) (e : EntryLine) (q : Place)
     → (text_left p ≡ item_line e.indices e.pieces ++ text_left q) × IsTaken left e.indices e.pieces
 entry_line_spells left p e q h =
     let t = line_taken (entry_said left) p e q h in
-    let s = entry_spelled left t.line e t.says in
-    (t.joined ∙ sym (append_assoc t.line (10 ∷ []) (text_left q)) ∙ ap (λ (l : List ℕ). l ++ (10 ∷ []) ++ text_left q) s.is ∙ ap (λ (l : List ℕ). l ++ text_left q) (sym (item_line_is e.indices e.pieces)), s.taken)
+    let s = entry_spelled left t.line e t.says in (
+      t.joined ∙ sym (append_assoc t.line (10 ∷ []) (text_left q)) ∙ ap (λ (l : List ℕ). l ++ (10 ∷ []) ++ text_left q) s.is
+          ∙ ap (λ (l : List ℕ). l ++ text_left q) (sym (item_line_is e.indices e.pieces)),
+      s.taken,
+    )
 
 abbrev ItemSpells : EntriesLeft → Place → Item → Place → Type 0
 ItemSpells left p x q = (text_left p ≡ item_lines x ++ text_left q) × IsSpelledItem x × (may_come left x.indices ≡ true)
@@ -574,10 +624,16 @@ item_spells left p x q h =
     let first = entry_line_spells left p a.0 a.1 a.2 in
     let more = several_spells (line_at piece_said) piece_line IsHeld piece_spells a.0.pieces a.1 b.0 b.1 b.2 in
     let text : text_left p ≡ item_lines (item_with a.0.indices b.0) ++ text_left b.1 =
-    first.0 ∙ ap (λ (l : List ℕ). item_line a.0.indices a.0.pieces ++ l) more.0 ∙ sym (append_assoc (item_line a.0.indices a.0.pieces) (flat_map piece_line b.0) (text_left b.1))
+    first.0 ∙ ap (λ (l : List ℕ). item_line a.0.indices a.0.pieces ++ l) more.0
+    ∙ sym (append_assoc (item_line a.0.indices a.0.pieces) (flat_map piece_line b.0) (text_left b.1))
     ∙ ap (λ (n : ℕ). item_line a.0.indices n ++ flat_map piece_line b.0 ++ text_left b.1) (sym more.2) in
     let good : IsSpelledItem (item_with a.0.indices b.0) = record {
-      item = record { indices = first.1.indices; some = omega (arith, first.1.some, more.2); count = omega (arith, first.1.few, more.2); pieces = held_good b.0 more.1 };
+      item = record {
+        indices = first.1.indices;
+        some = omega (arith, first.1.some, more.2);
+        count = omega (arith, first.1.few, more.2);
+        pieces = held_good b.0 more.1;
+      };
       steps = held_steps b.0 more.1;
     } in
     subst (λ (r : Item × Place). ItemSpells left p r.0 r.1) same (text, good, first.1.may) where
@@ -587,10 +643,15 @@ item_spells left p x q h =
 one_more : (m n : ℕ) → nat_lt 0 m ≡ true → m - 1 ≡ n → m ≡ suc n
 one_more m n h e = grind (arith, nat_tests)
 
-left_with : (left : EntriesLeft) (i : Indices) (ps : List Piece) (xs : List Item) → may_come left i ≡ true → AreLeft (left_behind left i) xs → AreLeft left (record { indices = i; pieces = ps } ∷ xs)
+left_with : (left : EntriesLeft) (i : Indices) (ps : List Piece) (xs : List Item) → may_come left i ≡ true → AreLeft (left_behind left i) xs →
+    AreLeft left (record { indices = i; pieces = ps } ∷ xs)
 left_with left (of.Both i j) ps xs may are =
     let p = and_parts (nat_lt 0 left.off) (nat_lt 0 left.on) may in
-    record { off = one_more left.off (length ((expansion xs).off)) p.0 are.off; on = one_more left.on (length ((expansion xs).on)) p.1 are.on; order = are.order }
+    record {
+      off = one_more left.off (length ((expansion xs).off)) p.0 are.off;
+      on = one_more left.on (length ((expansion xs).on)) p.1 are.on;
+      order = are.order;
+    }
 left_with left (of.Off i) ps xs may are =
     let p = and_parts (nat_lt 0 left.off) (not left.behind_on) may in
     record { off = one_more left.off (length ((expansion xs).off)) p.0 are.off; on = are.on; order = and_from _ _ p.1 are.order }
@@ -611,7 +672,8 @@ some_spell : (n m : ℕ) (left : EntriesLeft) (p : Place) (xs : List Item) (q : 
     → total left ≤ suc n → total left ≡ m → items_at (suc n) left p ≡ Ok (xs, q) → ItemsSpell left p xs q
 some_spell n zero left p xs q spells few e h = none_spell (suc n) left p xs q e h
 some_spell n (suc m) left p xs q spells few e h =
-    let a = then_ok (item_at left p) (λ x r. then_read (items_at n (left_behind left x.indices) r) (λ ys s. Ok (x ∷ ys, s))) xs q (sym (more_items n left p (omega (arith, e))) ∙ h) in
+    let a = then_ok (item_at left p) (λ x r. then_read (items_at n (left_behind left x.indices) r) (λ ys s. Ok (x ∷ ys, s))) xs q
+    (sym (more_items n left p (omega (arith, e))) ∙ h) in
     let b = then_ok (items_at n (left_behind left a.0.indices) a.1) (λ ys s. Ok (a.0 ∷ ys, s)) xs q a.3 in
     let same : read_to (a.0 ∷ b.0) b.1 ≡ read_to xs q = ok_same (read_to (a.0 ∷ b.0) b.1) (read_to xs q) b.3 in
     let first = item_spells left p a.0 a.1 a.2 in
@@ -636,7 +698,8 @@ items_steps : (xs : List Item) → AllByRecursion IsSpelledItem xs → list_all 
 items_steps [] h = refl
 items_steps (x ∷ xs) h = rw (h.0.steps, items_steps xs h.1) refl
 
-joined_spell : (p : Place) (items : List Item) (q : Place) → joined_at p ≡ Ok (items, q) → (text_left p ≡ joined_body items ++ text_left q) × IsForm (Joined items)
+joined_spell : (p : Place) (items : List Item) (q : Place) → joined_at p ≡ Ok (items, q) →
+    (text_left p ≡ joined_body items ++ text_left q) × IsForm (Joined items)
 unfolding items_behind end_of_items
 joined_spell p items q h =
     let a = then_ok (line_at counts_said p) items_behind items q (sym (joined_is p) ∙ h) in
@@ -648,12 +711,15 @@ joined_spell p items q h =
     let more = items_spell (a.0.off + a.0.on) (all_left a.0) a.1 b.0 b.1 (omega arith) b.2 in
     let end = end_text b.1 d.0 d.1 d.2 in
     let line : text_left p ≡ counts_at a.0.off a.0.on ++ text_left a.1 =
-    t.joined ∙ sym (append_assoc t.line (10 ∷ []) (text_left a.1)) ∙ ap (λ (l : List ℕ). l ++ (10 ∷ []) ++ text_left a.1) c.is ∙ ap (λ (l : List ℕ). l ++ text_left a.1) (sym (counts_line_is a.0.off a.0.on)) in
+    t.joined ∙ sym (append_assoc t.line (10 ∷ []) (text_left a.1)) ∙ ap (λ (l : List ℕ). l ++ (10 ∷ []) ++ text_left a.1) c.is
+    ∙ ap (λ (l : List ℕ). l ++ text_left a.1) (sym (counts_line_is a.0.off a.0.on)) in
     let text : text_left p ≡ joined_body b.0 ++ text_left d.1 =
-    line ∙ ap (λ (n : ℕ). counts_at n a.0.on ++ text_left a.1) more.2.off ∙ ap (λ (n : ℕ). counts_at (length ((expansion b.0).off)) n ++ text_left a.1) more.2.on
+    line ∙ ap (λ (n : ℕ). counts_at n a.0.on ++ text_left a.1) more.2.off
+    ∙ ap (λ (n : ℕ). counts_at (length ((expansion b.0).off)) n ++ text_left a.1) more.2.on
     ∙ ap (λ (l : List ℕ). counts_line (expansion b.0) ++ l) (more.0 ∙ ap (λ (l : List ℕ). flat_map item_lines b.0 ++ l) end)
     ∙ flat (counts_line (expansion b.0)) (flat_map item_lines b.0) (codes "end\n") (text_left d.1) in
-    let is : IsJoined b.0 = record { off = omega (arith, more.2.off, c.off); on = omega (arith, more.2.on, c.on); each = items_are b.0 more.1; order = more.2.order } in
+    let is : IsJoined b.0 =
+    record { off = omega (arith, more.2.off, c.off); on = omega (arith, more.2.on, c.on); each = items_are b.0 more.1; order = more.2.order } in
     subst (λ (r : List Item × Place). (text_left p ≡ joined_body r.0 ++ text_left r.1) × IsForm (Joined r.0)) same (text, (is, items_steps b.0 more.1)) where
       counts_at : ℕ → ℕ → List ℕ
       counts_at m n = codes "motions " ++ decimal m ++ codes " " ++ decimal n ++ codes "\n"
@@ -673,10 +739,12 @@ version_spelled : (line : List ℕ) (v : Version) → version_said line ≡ Ok v
 unfolding version_said
 version_spelled line v h = version_if line v (bytes_eq line (codes "ngc-certificate 1")) (bytes_eq line (codes "ngc-certificate 2")) refl refl h
 
-header_by : (line next : List ℕ) (left : List (List ℕ)) (v : Version) (p : Place) (r : Result Version LineFlaw) → version_said line ≡ r → version_is r (next ∷ left) ≡ said_ok (v, p)
+header_by : (line next : List ℕ) (left : List (List ℕ)) (v : Version) (p : Place) (r : Result Version LineFlaw) → version_said line ≡ r →
+    version_is r (next ∷ left) ≡ said_ok (v, p)
     → join_with_byte 10 (line ∷ next ∷ left) ≡ version_text v ++ (10 ∷ text_left p)
 header_by line next left v p (Ok w) e h =
-    let same : read_to w (record { number = 2; left = next ∷ left }) ≡ read_to v p = ok_same (read_to w (record { number = 2; left = next ∷ left })) (read_to v p) h in
+    let same : read_to w (record { number = 2; left = next ∷ left }) ≡ read_to v p =
+    ok_same (read_to w (record { number = 2; left = next ∷ left })) (read_to v p) h in
     ap (λ (l : List ℕ). l ++ (10 ∷ join_with_byte 10 (next ∷ left))) (version_spelled line w e)
     ∙ ap (λ (r : Version × Place). version_text r.0 ++ (10 ∷ text_left r.1)) same
 header_by line next left v p (Err flaw) e h = absurd (cc h)

@@ -8,7 +8,8 @@ use Rattle.ngc_certificate_text.specs.declared.piece.Piece.{Piece}
 use Rattle.ngc_certificate_text.proofs.Fronts.{front_more, front_moved, front_stopped, longer, beginning_written}
 
 -- the motion at a place, by its index and its pieces
-pub entry_found : (entries : List Entry) (i index : ℕ) (pieces : List Piece) → i < length entries → index ≡ (entry_at entries i).index → pieces ≡ (entry_at entries i).pieces
+pub entry_found : (entries : List Entry) (i index : ℕ) (pieces : List Piece) → i < length entries → index ≡ (entry_at entries i).index →
+    pieces ≡ (entry_at entries i).pieces
     → record { index = index; pieces = pieces } ≡ get_or entries i (record { index = index; pieces = pieces })
 entry_found entries i index pieces inside is_index are_pieces =
     ap (λ (n : ℕ). the_entry n pieces) is_index ∙ ap (λ (ps : List Piece). the_entry (entry_at entries i).index ps) are_pieces
@@ -37,7 +38,8 @@ stopped_in_first old new before headed head off on foot is k =
     (longer old new (((before ++ head) ++ off) ++ on) foot (longer old new ((before ++ head) ++ off) on so_far))
 
 pub stopped_in_second : (old mid new : Option (List ℕ)) (before headed between head off on foot : List ℕ) → headed ≡ before ++ head
-    → WritesFront old mid (headed ++ off) between → AppendsBeginning mid new (between ++ on) → AppendsBeginning old new (before ++ (((head ++ off) ++ on) ++ foot))
+    → WritesFront old mid (headed ++ off) between → AppendsBeginning mid new (between ++ on) →
+    AppendsBeginning old new (before ++ (((head ++ off) ++ on) ++ foot))
 stopped_in_second old mid new before headed between head off on foot is h k =
     let so_far : AppendsBeginning old new (((before ++ head) ++ off) ++ on) =
     subst (λ (l : List ℕ). AppendsBeginning old new ((l ++ off) ++ on)) is (front_stopped old mid new (headed ++ off) between on h k) in
@@ -62,4 +64,5 @@ pub made_whole : (old mid late new : Option (List ℕ)) (before headed between a
 made_whole old mid late new before headed between after made footed head off on foot is h k room last =
     subst (λ (l : List ℕ). WritesFront old new l footed) (joined before head off on foot)
     (subst (λ (l : List ℕ). WritesFront old new ((((before ++ head) ++ off) ++ on) ++ foot) l) (sym last)
-    (front_moved old late new (((before ++ head) ++ off) ++ on) after made foot (both_written old mid late before headed between after head off on is h k) room))
+    (front_moved old late new (((before ++ head) ++ off) ++ on) after made foot
+    (both_written old mid late before headed between after head off on is h k) room))

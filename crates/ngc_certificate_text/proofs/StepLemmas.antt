@@ -1,5 +1,6 @@
 -- Steps that are held in 32 bits, and boxes of six of them.
-use Rattle.std.proofs.Common.{◌≡◌, ◌<◌, ◌≤◌, ap, Bool, true, false, Result, Ok, List, [], ◌∷◌, length, get_or, refl, sym, ◌∙◌, w32, w64, to_z, of_z, SFits, arith}
+use Rattle.std.proofs.Common.{◌≡◌, ◌<◌, ◌≤◌, ap, Bool, true, false, Result, Ok, List, [], ◌∷◌, length, get_or, refl, sym, ◌∙◌, w32, w64, to_z, of_z, SFits}
+use Rattle.std.proofs.Common.{arith}
 use Rattle.std.specs.Prelude.{ℤ, pos, negsuc, ◌&&◌, nat_le}
 use Rattle.std.proofs.lemmas.Bool.{and_from, and_parts}
 use Rattle.std.proofs.lemmas.Bool.Decides.{nat_tests}
@@ -27,7 +28,8 @@ is_step_held z b fits e h = ap is_step (sym (to_z-of_z w64 z fits)) ∙ sym e �
 ranged_in : (b : Bool) (p : StepPos) → b ≡ true → Ok p ≡ ranged b p
 ranged_in b p e = rw e refl
 
-pub held_corner : (x y z a b c : ℤ) → a ≡ x → b ≡ y → c ≡ z → is_step x ≡ true → is_step y ≡ true → is_step z ≡ true → Ok (point a b c) ≡ ranged (are_steps (point x y z)) (point x y z)
+pub held_corner : (x y z a b c : ℤ) → a ≡ x → b ≡ y → c ≡ z → is_step x ≡ true → is_step y ≡ true → is_step z ≡ true →
+    Ok (point a b c) ≡ ranged (are_steps (point x y z)) (point x y z)
 held_corner x y z a b c ea eb ec hx hy hz =
     let p : point a b c ≡ point x y z = rw (ea, eb, ec) refl in
     ap (λ (q : StepPos). ok_point q) p ∙ ranged_in (are_steps (point x y z)) (point x y z) (and_from _ _ hx (and_from _ _ hy hz)) where
@@ -61,7 +63,8 @@ six_said (x0 ∷ x1 ∷ x2 ∷ x3 ∷ x4 ∷ x5 ∷ x6 ∷ xs) a b c d e f low h
 
 pub box_is_said : (xs : List ℤ) (a b c d e f : ℤ) (low high : Result StepPos LineFlaw) (found : Result GridBox LineFlaw) → 6 ≤ length xs → length xs < 7
     → a ≡ get_or xs 0 (pos 0) → b ≡ get_or xs 1 (pos 0) → c ≡ get_or xs 2 (pos 0) → d ≡ get_or xs 3 (pos 0) → e ≡ get_or xs 4 (pos 0) → f ≡ get_or xs 5 (pos 0)
-    → low ≡ ranged (are_steps (point a b c)) (point a b c) → high ≡ ranged (are_steps (point d e f)) (point d e f) → found ≡ box_between low high → found ≡ box_said xs
+    → low ≡ ranged (are_steps (point a b c)) (point a b c) → high ≡ ranged (are_steps (point d e f)) (point d e f) → found ≡ box_between low high →
+    found ≡ box_said xs
 box_is_said xs a b c d e f low high found some few ea eb ec ed ee ef is_low is_high is =
     is ∙ ap (λ (l : Result StepPos LineFlaw). box_between l high) is_low
     ∙ ap (λ (h : Result StepPos LineFlaw). box_between (ranged (are_steps (point a b c)) (point a b c)) h) is_high

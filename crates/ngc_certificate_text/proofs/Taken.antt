@@ -10,7 +10,8 @@ use Rattle.ngc_certificate_text.specs.Said.{Place, Said, then_read, next_number,
 abbrev pub text_left : Place → List ℕ
 text_left p = join_with_byte 10 p.left
 
-pub then_ok : {X Y : Type 0} (s : Said X) (more : X → Place → Said Y) (y : Y) (q : Place) → then_read s more ≡ Ok (y, q) → (x : X) × (p : Place) × (s ≡ Ok (x, p)) × (more x p ≡ Ok (y, q))
+pub then_ok : {X Y : Type 0} (s : Said X) (more : X → Place → Said Y) (y : Y) (q : Place) → then_read s more ≡ Ok (y, q) →
+    (x : X) × (p : Place) × (s ≡ Ok (x, p)) × (more x p ≡ Ok (y, q))
 then_ok (Ok r) more y q h = (r.0, r.1, refl, h)
 then_ok (Err fault) more y q h = absurd (cc h)
 
@@ -29,9 +30,11 @@ said_ok r = Ok r
 pub ok_same : {X : Type 0} (x y : X × Place) → said_ok x ≡ said_ok y → x ≡ y
 ok_same x y e = cc e
 
-pub same_line : {X : Type 0} (number : ℕ) (r : Result X LineFlaw) (left : List (List ℕ)) (x : X) (q : Place) → line_is number r left ≡ Ok (x, q) → (r ≡ Ok x) × (left ≡ q.left)
+pub same_line : {X : Type 0} (number : ℕ) (r : Result X LineFlaw) (left : List (List ℕ)) (x : X) (q : Place) → line_is number r left ≡ Ok (x, q) →
+    (r ≡ Ok x) × (left ≡ q.left)
 same_line {X} number (Ok y) left x q h =
-    let e : read_to y (record { number = next_number number; left = left }) ≡ read_to x q = ok_same (read_to y (record { number = next_number number; left = left })) (read_to x q) h in
+    let e : read_to y (record { number = next_number number; left = left }) ≡ read_to x q =
+    ok_same (read_to y (record { number = next_number number; left = left })) (read_to x q) h in
     (ap (λ (r : X × Place). Ok r.0) e, ap (λ (r : X × Place). r.1.left) e)
 same_line number (Err flaw) left x q h = absurd (cc h)
 
@@ -42,7 +45,8 @@ taken_if said number line next left x q true h =
     record { line = line; says = s.0; joined = ap (λ (l : List (List ℕ)). line ++ (10 ∷ join_with_byte 10 l)) s.1 }
 taken_if said number line next left x q false h = absurd (cc h)
 
-pub taken_line : {X : Type 0} (said : List ℕ → Result X LineFlaw) (number : ℕ) (lines : List (List ℕ)) (x : X) (q : Place) → line_in said number lines ≡ Ok (x, q) → Taken said lines x q
+pub taken_line : {X : Type 0} (said : List ℕ → Result X LineFlaw) (number : ℕ) (lines : List (List ℕ)) (x : X) (q : Place) →
+    line_in said number lines ≡ Ok (x, q) → Taken said lines x q
 taken_line said number [] x q h = absurd (cc h)
 taken_line said number (last ∷ []) x q h = absurd (cc h)
 taken_line said number (line ∷ next ∷ left) x q h = taken_if said number line next left x q (nat_le (length line) 256) h

@@ -1,5 +1,6 @@
 -- What more bytes do to the lines so far.
-use Rattle.std.proofs.Common.{◌≡◌, ℕ, ◌+◌, ◌<◌, ◌≤◌, ap, subst, Bool, true, false, Result, Ok, Err, List, [], ◌∷◌, ◌++◌, length, refl, sym, ◌∙◌, append_assoc, length-append, arith}
+use Rattle.std.proofs.Common.{◌≡◌, ℕ, ◌+◌, ◌<◌, ◌≤◌, ap, subst, Bool, true, false, Result, Ok, Err, List, [], ◌∷◌, ◌++◌, length, refl, sym, ◌∙◌, append_assoc}
+use Rattle.std.proofs.Common.{length-append, arith}
 use Rattle.std.specs.Prelude.{OnOk, ◌==◌}
 use Rattle.std.proofs.lemmas.Bool.Decides.{nat_tests}
 use Rattle.ngc_certificate_text.specs.declared.expected.Expected.TheVariants as next
@@ -52,7 +53,8 @@ abbrev refused : CertificateFault → Left
 refused fault = Err fault
 
 -- a line that is too long whatever follows
-pub long_cut : (lines : List ℕ → List (List ℕ)) (r : CertificateLines) (bytes rest : List ℕ) (fault : CertificateFault) → PartsLines lines → IsReading r → is_feedless bytes ≡ true
+pub long_cut : (lines : List ℕ → List (List ℕ)) (r : CertificateLines) (bytes rest : List ℕ) (fault : CertificateFault) → PartsLines lines → IsReading r →
+    is_feedless bytes ≡ true
     → 256 < length r.cut.items + length bytes → fault ≡ wrong_line r.next.expected r.next.number → left_by lines r (bytes ++ rest) ≡ Err fault
 long_cut lines r bytes rest fault parts reading feedless long is =
     let line = r.cut.items ++ bytes in
@@ -60,8 +62,10 @@ long_cut lines r bytes rest fault parts reading feedless long is =
     let g = parts.long line rest (feedless_both r.cut.items bytes reading.feedless feedless) size in
     let more : 256 < length (line ++ g.more) = omega (arith, length-append line g.more, size) in
     let some : 0 < length (line ++ g.more) = omega (arith, more) in
-    let said = wrong_said r.next.expected r.next.number ((line ++ g.more) ∷ g.behind) reading.sound (long_first (line ++ g.more) g.behind more) (λ _. some_first (line ++ g.more) g.behind some) in
-    ap (λ (b : List ℕ). from r (lines b)) (sym (append_assoc r.cut.items bytes rest)) ∙ ap (from r) g.split ∙ said ∙ ap (λ (f : CertificateFault). refused f) (sym is)
+    let said = wrong_said r.next.expected r.next.number ((line ++ g.more) ∷ g.behind) reading.sound (long_first (line ++ g.more) g.behind more)
+    (λ _. some_first (line ++ g.more) g.behind some) in
+    ap (λ (b : List ℕ). from r (lines b)) (sym (append_assoc r.cut.items bytes rest)) ∙ ap (from r) g.split ∙ said
+    ∙ ap (λ (f : CertificateFault). refused f) (sym is)
 
 -- a line that is taken, in front of others
 taken : (lines : List ℕ → List (List ℕ)) (old new : CertificateLines) (line rest : List ℕ) (result : Result Told CertificateFault) → PartsLines lines
@@ -72,7 +76,8 @@ taken lines old new line rest result parts step =
     subst (λ (ls : List (List ℕ)). Tells result (from old (line ∷ ls)) (from new ls)) (sym g.split) (step g.more g.behind)
 
 -- a line that lies whole in a piece
-pub whole_line : (lines : List ℕ → List (List ℕ)) (old new : CertificateLines) (result : Result Told CertificateFault) (bytes rest : List ℕ) → PartsLines lines → old.cut.items ≡ [] → new.cut.items ≡ []
+pub whole_line : (lines : List ℕ → List (List ℕ)) (old new : CertificateLines) (result : Result Told CertificateFault) (bytes rest : List ℕ) →
+    PartsLines lines → old.cut.items ≡ [] → new.cut.items ≡ []
     → is_feedless bytes ≡ true → ((next : List ℕ) (left : List (List ℕ)) → Tells result (from old (bytes ∷ next ∷ left)) (from new (next ∷ left)))
     → Tells result (left_by lines old (bytes ++ (10 ∷ rest))) (left_by lines new rest)
 whole_line lines old new result bytes rest parts e f feedless step =
@@ -90,7 +95,8 @@ emptied lines (Ok done) r rest h = ap (λ (c : List ℕ). from r (lines (c ++ re
 emptied lines (Err fault) r rest h = tt
 
 -- a line that an earlier piece began
-pub cut_line : (lines : List ℕ → List (List ℕ)) (old mid new : CertificateLines) (result : Result Told CertificateFault) (bytes rest : List ℕ) → PartsLines lines → is_feedless mid.cut.items ≡ true
+pub cut_line : (lines : List ℕ → List (List ℕ)) (old mid new : CertificateLines) (result : Result Told CertificateFault) (bytes rest : List ℕ) →
+    PartsLines lines → is_feedless mid.cut.items ≡ true
     → left_by lines old (bytes ++ (10 ∷ rest)) ≡ left_by lines mid (10 ∷ rest) → OnOk result (new.cut.items ≡ [])
     → ((next : List ℕ) (left : List (List ℕ)) → Tells result (from mid (mid.cut.items ∷ next ∷ left)) (from new (next ∷ left)))
     → Tells result (left_by lines old (bytes ++ (10 ∷ rest))) (left_by lines new rest)
@@ -101,7 +107,8 @@ cut_line lines old mid new result bytes rest parts feedless same empty step =
     (taken lines mid new mid.cut.items rest result parts step)
 
 -- a line that bytes begin with
-pub split_first : (lines : List ℕ → List (List ℕ)) (old new : CertificateLines) (result : Result Told CertificateFault) (bytes line behind rest : List ℕ) → bytes ≡ line ++ (10 ∷ behind)
+pub split_first : (lines : List ℕ → List (List ℕ)) (old new : CertificateLines) (result : Result Told CertificateFault) (bytes line behind rest : List ℕ) →
+    bytes ≡ line ++ (10 ∷ behind)
     → Tells result (left_by lines old (line ++ (10 ∷ (behind ++ rest)))) (left_by lines new (behind ++ rest))
     → Tells result (left_by lines old (bytes ++ rest)) (left_by lines new (behind ++ rest))
 split_first lines old new result bytes line behind rest parts h =
@@ -116,26 +123,30 @@ pub all_read : (r : CertificateLines) → r.next.expected ≡ next.Nothing → r
 all_read r e none = ap (λ (c : List ℕ). from r (lines_of (c ++ []))) none ∙ ended_said r.next.expected r.next.number e
 
 -- a line is missing, or the last one lacks its line feed
-pub last_line : (r : CertificateLines) (fault : CertificateFault) → IsReading r → (r.next.expected ≡ next.Nothing → 0 < length r.cut.items) → fault ≡ wrong_line r.next.expected r.next.number
+pub last_line : (r : CertificateLines) (fault : CertificateFault) → IsReading r → (r.next.expected ≡ next.Nothing → 0 < length r.cut.items) →
+    fault ≡ wrong_line r.next.expected r.next.number
     → left_by lines_of r [] ≡ Err fault
 last_line r fault reading some is =
     let said = wrong_said r.next.expected r.next.number (r.cut.items ∷ []) reading.sound tt (λ e. one_left r.cut.items (some e)) in
     ap (from r) (only_line r.cut.items reading.feedless) ∙ said ∙ ap (λ (f : CertificateFault). refused f) (sym is)
 
 -- bytes behind the end are a fault, whatever follows
-too_far : (r : CertificateLines) (rest : List ℕ) → r.next.expected ≡ next.Nothing → 0 < length r.cut.items → IsReading r → left_by lines_of r rest ≡ Err (wrong_line r.next.expected r.next.number)
+too_far : (r : CertificateLines) (rest : List ℕ) → r.next.expected ≡ next.Nothing → 0 < length r.cut.items → IsReading r →
+    left_by lines_of r rest ≡ Err (wrong_line r.next.expected r.next.number)
 too_far r rest e some reading =
     let s = some_lines rest in
     let more : 0 < length (r.cut.items ++ s.0) = omega (arith, length-append r.cut.items s.0, some) in
     ap (from r) (split_onto r.cut.items rest s.0 s.1 reading.feedless s.2)
     ∙ nothing_said r.next.expected r.next.number ((r.cut.items ++ s.0) ∷ s.1) e (some_first (r.cut.items ++ s.0) s.1 more)
 
-pub goes_too_far : (r : CertificateLines) (rest : List ℕ) → r.next.expected ≡ next.Nothing → 0 < length r.cut.items → IsReading r → left_by lines_of r rest ≡ left_by lines_of r []
+pub goes_too_far : (r : CertificateLines) (rest : List ℕ) → r.next.expected ≡ next.Nothing → 0 < length r.cut.items → IsReading r →
+    left_by lines_of r rest ≡ left_by lines_of r []
 goes_too_far r rest e some reading = too_far r rest e some reading ∙ sym (too_far r [] e some reading)
 
 -- ---- the beginning
 
-module _ {X : Type 0} (said : List ℕ → Result X CertificateFault) (of : Rest → X) (begins : (number : ℕ) (text : List ℕ) → said text ≡ made_with of (left_from next.Header number (lines_of text))) where
+module _ {X : Type 0} (said : List ℕ → Result X CertificateFault) (of : Rest → X)
+    (begins : (number : ℕ) (text : List ℕ) → said text ≡ made_with of (left_from next.Header number (lines_of text))) where
   begun : (r : CertificateLines) (lines : List ℕ → List (List ℕ)) (bytes text : List ℕ) → r.next.expected ≡ next.Header → r.cut.items ≡ []
       → lines bytes ≡ lines_of text → said text ≡ made_with of (left_by lines r bytes)
   begun r lines bytes text e f h =
@@ -147,17 +158,22 @@ module _ {X : Type 0} (said : List ℕ → Result X CertificateFault) (of : Rest
   begun_text : (r : CertificateLines) (bytes : List ℕ) → r.next.expected ≡ next.Header → r.cut.items ≡ [] → said bytes ≡ made_with of (left_by lines_of r bytes)
   begun_text r bytes e f = begun r lines_of bytes bytes e f refl
 
-  begun_firm : (r : CertificateLines) (bytes rest : List ℕ) → r.next.expected ≡ next.Header → r.cut.items ≡ [] → said (firm bytes ++ rest) ≡ made_with of (left_by (firm_lines rest) r bytes)
+  begun_firm : (r : CertificateLines) (bytes rest : List ℕ) → r.next.expected ≡ next.Header → r.cut.items ≡ [] →
+      said (firm bytes ++ rest) ≡ made_with of (left_by (firm_lines rest) r bytes)
   begun_firm r bytes rest e f = begun r (firm_lines rest) bytes (firm bytes ++ rest) e f refl
 
-pub motions_text : (r : CertificateLines) (bytes : List ℕ) → r.next.expected ≡ next.Header → r.cut.items ≡ [] → certificate_said bytes ≡ made_with certificate_of (left_by lines_of r bytes)
+pub motions_text : (r : CertificateLines) (bytes : List ℕ) → r.next.expected ≡ next.Header → r.cut.items ≡ [] →
+    certificate_said bytes ≡ made_with certificate_of (left_by lines_of r bytes)
 motions_text r bytes e f = begun_text certificate_said certificate_of begun_said r bytes e f
 
-pub motions_firm : (r : CertificateLines) (bytes rest : List ℕ) → r.next.expected ≡ next.Header → r.cut.items ≡ [] → certificate_said (firm bytes ++ rest) ≡ made_with certificate_of (left_by (firm_lines rest) r bytes)
+pub motions_firm : (r : CertificateLines) (bytes rest : List ℕ) → r.next.expected ≡ next.Header → r.cut.items ≡ [] →
+    certificate_said (firm bytes ++ rest) ≡ made_with certificate_of (left_by (firm_lines rest) r bytes)
 motions_firm r bytes rest e f = begun_firm certificate_said certificate_of begun_said r bytes rest e f
 
-pub form_text : (r : CertificateLines) (bytes : List ℕ) → r.next.expected ≡ next.Header → r.cut.items ≡ [] → form_said bytes ≡ made_with form_of_text (left_by lines_of r bytes)
+pub form_text : (r : CertificateLines) (bytes : List ℕ) → r.next.expected ≡ next.Header → r.cut.items ≡ [] →
+    form_said bytes ≡ made_with form_of_text (left_by lines_of r bytes)
 form_text r bytes e f = begun_text form_said form_of_text begun_form r bytes e f
 
-pub form_firm : (r : CertificateLines) (bytes rest : List ℕ) → r.next.expected ≡ next.Header → r.cut.items ≡ [] → form_said (firm bytes ++ rest) ≡ made_with form_of_text (left_by (firm_lines rest) r bytes)
+pub form_firm : (r : CertificateLines) (bytes rest : List ℕ) → r.next.expected ≡ next.Header → r.cut.items ≡ [] →
+    form_said (firm bytes ++ rest) ≡ made_with form_of_text (left_by (firm_lines rest) r bytes)
 form_firm r bytes rest e f = begun_firm form_said form_of_text begun_form r bytes rest e f

@@ -1,6 +1,8 @@
 -- What is left of a certificate behind the lines that were read, by the line that comes next. Our
 -- own.
-use Rattle.std.specs.Prelude.{◌≡◌, ℕ, ◌+◌, ◌-◌, ◌*◌, ◌≤◌, zero, suc, List, [], ◌++◌, map, codes, Option, Some, None, Result, Ok, Bool, true, false, IsTrue, not, ◌||◌, ◌==◌, nat_lt}
+use Rattle.std.specs.Prelude.{◌≡◌, ℕ, ◌+◌, ◌-◌, ◌*◌, ◌≤◌, zero, suc, List, [], ◌++◌, map, codes}
+use Rattle.std.specs.Prelude.{Option, Some, None, Result, Ok, Bool, true, false, IsTrue, not, ◌||◌}
+use Rattle.std.specs.Prelude.{◌==◌, nat_lt}
 use Rattle.ngc_certificate_text.specs.declared.expected.Expected.{Expected}
 use Rattle.ngc_certificate_text.specs.declared.expected.Expected.TheVariants as next
 use Rattle.ngc_certificate_text.specs.declared.expected.BegunMotion.{BegunMotion}
@@ -21,7 +23,8 @@ use Rattle.ngc_certificate_text.specs.EntryLines.{counts_said, all_left, none_le
 use Rattle.ngc_certificate_text.specs.Joined.{Item, expansion, Form, form_by}
 use Rattle.ngc_certificate_text.specs.Lines.{piece_said, end_said}
 pub use Rattle.ngc_certificate_text.specs.Said.{said_with, made_with}
-use Rattle.ngc_certificate_text.specs.Said.{Place, Said, then_read, line_at, several, entry_at, setting_at, items_at, header_in, ended}
+use Rattle.ngc_certificate_text.specs.Said.{Place, Said, then_read, line_at, several, entry_at}
+use Rattle.ngc_certificate_text.specs.Said.{setting_at, items_at, header_in, ended}
 
 -- the version where its line comes yet, the pieces that come yet of a motion that has begun, and
 -- the entries behind it
@@ -71,17 +74,21 @@ end_ahead p = then_read (line_at end_said p) (λ _ q. Ok (nothing_left, q))
 
 -- what stands behind a setting: the other one, or the last line
 unfoldable pub behind : Setting → Place → Said Rest
-behind Off p = then_read (setting_at (codes "on") p) (λ more q. said_with (with_motions On more) (end_ahead q))
+behind Off p =
+    then_read (setting_at (codes "on") p) (λ more q. said_with (with_motions On more) (end_ahead q))
 behind On p = end_ahead p
 
 -- a setting, and what stands behind it
 unfoldable pub setting_ahead : Setting → Place → Said Rest
-setting_ahead s p = then_read (setting_at (name_of s) p) (λ more q. said_with (with_motions s more) (behind s q))
+setting_ahead s p =
+    then_read (setting_at (name_of s) p) (λ more q. said_with (with_motions s more) (behind s q))
 
 -- the motions that come yet of a setting, or the entries of both
 unfoldable pub motions_ahead : MotionsLeft → Place → Said Rest
-motions_ahead (Parted s left) p = then_read (several entry_at left p) (λ more q. said_with (with_motions s more) (behind s q))
-motions_ahead (Joined left) p = then_read (items_at (left.off + left.on) left p) (λ more q. said_with (with_items more) (end_ahead q))
+motions_ahead (Parted s left) p =
+    then_read (several entry_at left p) (λ more q. said_with (with_motions s more) (behind s q))
+motions_ahead (Joined left) p = then_read (items_at (left.off + left.on) left p)
+    (λ more q. said_with (with_items more) (end_ahead q))
 
 -- the pieces that are left of a motion, and the motions behind it
 unfoldable pub pieces_ahead : BegunMotion → Place → Said Rest
@@ -99,7 +106,8 @@ behind_header Two p = counts_ahead p
 
 -- what comes of the text from this line on
 unfoldable pub ahead : Expected → Place → Said Rest
-ahead next.Header p = then_read (header_in p.left) (λ v q. said_with (of_version v) (behind_header v q))
+ahead next.Header p =
+    then_read (header_in p.left) (λ v q. said_with (of_version v) (behind_header v q))
 ahead (next.Setting s) p = setting_ahead s p
 ahead next.Counts p = counts_ahead p
 ahead (next.Motion left) p = motions_ahead left p

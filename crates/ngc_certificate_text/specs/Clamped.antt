@@ -1,5 +1,6 @@
 -- Numbers as they are held in 64 bits: those out of every range are taken for one another. Our own.
-use Rattle.std.specs.Prelude.{ℕ, min, ℤ, pos, negsuc, List, [], ◌∷◌, length, map, Option, Some, None, ◌==◌, nat_le, if◌then◌else◌}
+use Rattle.std.specs.Prelude.{ℕ, min, ℤ, pos, negsuc, List, [], ◌∷◌, length, map, Option, Some}
+use Rattle.std.specs.Prelude.{None, ◌==◌, nat_le, if◌then◌else◌}
 use Rattle.std.specs.Borrow.{Bor}
 use Rattle.ngc_certificate_text.specs.Number.{fields}
 use Rattle.ngc_certificate_text.specs.Lines.{numbers_in}

@@ -6,6 +6,8 @@ use Rattle.ngc_text.specs.Collected.{WritesFront}
 
 -- a text comes behind what was collected: the front of both is written and the rest is still
 -- collected, or a beginning is written
-abbrev pub Collects : Option (List ℕ) → Option (List ℕ) → List ℕ → List ℕ → Result (Unit {0}) WriteFault → List ℕ → Type 0
+abbrev pub Collects : Option (List ℕ) → Option (List ℕ) → List ℕ → List ℕ →
+    Result (Unit {0}) WriteFault → List ℕ → Type 0
 Collects old new before after result text =
-    MatchResult result (λ _. WritesFront old new (before ++ text) after) (λ _. AppendsBeginning old new (before ++ text))
+    MatchResult result (λ _. WritesFront old new (before ++ text) after)
+    (λ _. AppendsBeginning old new (before ++ text))

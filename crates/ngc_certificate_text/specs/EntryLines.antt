@@ -1,5 +1,7 @@
 -- What the lines of version 2 say: the counts, and the entries that may come. Our own.
-use Rattle.std.specs.Prelude.{ℕ, ◌-◌, nat_lt, ◌==◌, ℤ, unsigned_abs, List, [], ◌∷◌, codes, Option, Some, Result, Ok, Err, Bool, true, false, not, ◌&&◌, ◌||◌, if◌then◌else◌}
+use Rattle.std.specs.Prelude.{ℕ, ◌-◌, nat_lt, ◌==◌, ℤ, unsigned_abs, List, [], ◌∷◌, codes, Option}
+use Rattle.std.specs.Prelude.{Some, Result, Ok, Err, Bool, true, false, not, ◌&&◌, ◌||◌}
+use Rattle.std.specs.Prelude.{if◌then◌else◌}
 use Rattle.std.specs.Str.{bytes_eq}
 use Rattle.ngc_certificate_text.specs.declared.expected.EntriesLeft.{EntriesLeft}
 use Rattle.ngc_certificate_text.specs.declared.expected.Indices.{Indices}
@@ -12,7 +14,8 @@ use Rattle.ngc_certificate_text.specs.declared.lines.MotionLine.{MotionLine}
 use Rattle.ngc_certificate_text.specs.declared.told.Version.{Version}
 use Rattle.ngc_certificate_text.specs.declared.told.Version.TheVariants.{One, Two}
 use Rattle.ngc_certificate_text.specs.Certificate.{INDEX_LIMIT, PIECE_LIMIT, MOTION_LIMIT}
-use Rattle.ngc_certificate_text.specs.Lines.{numbers_in, numbers_behind, is_count, ranged, two_counts}
+use Rattle.ngc_certificate_text.specs.Lines.{numbers_in, numbers_behind, is_count, ranged}
+use Rattle.ngc_certificate_text.specs.Lines.{two_counts}
 use Rattle.ngc_certificate_text.specs.Number.{fields}
 
 -- ---- the first line
@@ -71,9 +74,12 @@ of_setting of (Err flaw) = Err flaw
 abbrev pub entry_in : EntriesLeft → List (List ℕ) → Result EntryLine LineFlaw
 entry_in left [] = Err Spelling
 entry_in left (word ∷ fs) =
-    if bytes_eq word (codes "both") && may_come left (Both 0 0) then three_counts (numbers_in fs) else
-    if bytes_eq word (codes "off") && may_come left (Off 0) then of_setting Off (two_counts (numbers_in fs)) else
-    if bytes_eq word (codes "on") && may_come left (On 0) then of_setting On (two_counts (numbers_in fs)) else Err Spelling
+    if bytes_eq word (codes "both") && may_come left (Both 0 0)
+    then three_counts (numbers_in fs) else
+    if bytes_eq word (codes "off") && may_come left (Off 0)
+    then of_setting Off (two_counts (numbers_in fs)) else
+    if bytes_eq word (codes "on") && may_come left (On 0)
+    then of_setting On (two_counts (numbers_in fs)) else Err Spelling
 
 -- one of the entries that may come, and how many pieces it has
 unfoldable pub entry_said : EntriesLeft → List ℕ → Result EntryLine LineFlaw

@@ -1,8 +1,11 @@
 -- The numbers and lines of faults. Our own.
 use Rattle.std.specs.Prelude.{ℕ, Option, Some, None}
 use Rattle.ngc_certificate_text.specs.declared.fault.CertificateFault.{CertificateFault}
-use Rattle.ngc_certificate_text.specs.declared.fault.CertificateFault.TheVariants.{WrongHeader, BadLine, OutOfRange}
-use Rattle.ngc_certificate_text.specs.declared.fault.CertificateFault.TheVariants.{Memory, ReadFailed}
+use Rattle.ngc_certificate_text.specs.declared.fault.CertificateFault.TheVariants.{WrongHeader}
+use Rattle.ngc_certificate_text.specs.declared.fault.CertificateFault.TheVariants.{BadLine}
+use Rattle.ngc_certificate_text.specs.declared.fault.CertificateFault.TheVariants.{OutOfRange}
+use Rattle.ngc_certificate_text.specs.declared.fault.CertificateFault.TheVariants.{Memory}
+use Rattle.ngc_certificate_text.specs.declared.fault.CertificateFault.TheVariants.{ReadFailed}
 
 abbrev pub number_of : CertificateFault → ℕ
 number_of WrongHeader = 302

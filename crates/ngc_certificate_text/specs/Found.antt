@@ -1,5 +1,6 @@
 -- What a reader keeps of a certificate, and what the whole one is. Our own.
-use Rattle.std.specs.Prelude.{◌≡◌, ℕ, ◌+◌, ◌≤◌, nat_le, List, [], ◌∷◌, ◌++◌, length, Option, Some, None, Bool, true, false, IsTrue}
+use Rattle.std.specs.Prelude.{◌≡◌, ℕ, ◌+◌, ◌≤◌, nat_le, List, [], ◌∷◌, ◌++◌, length, Option, Some}
+use Rattle.std.specs.Prelude.{None, Bool, true, false, IsTrue}
 use Rattle.std.specs.List.{list_all}
 use Rattle.ngc_certificate_text.specs.declared.expected.Expected.{Expected}
 use Rattle.ngc_certificate_text.specs.declared.expected.Expected.TheVariants as next
@@ -13,7 +14,8 @@ use Rattle.ngc_certificate_text.specs.declared.told.Told.{Told}
 use Rattle.ngc_certificate_text.specs.declared.told.Told.TheVariants as tell
 use Rattle.ngc_certificate_text.specs.declared.told.Version.{Version}
 use Rattle.ngc_certificate_text.specs.Ahead.{Rest, with_items}
-use Rattle.ngc_certificate_text.specs.Certificate.{entries_at, PIECE_LIMIT, MOTION_LIMIT, good_piece}
+use Rattle.ngc_certificate_text.specs.Certificate.{entries_at, PIECE_LIMIT, MOTION_LIMIT}
+use Rattle.ngc_certificate_text.specs.Certificate.{good_piece}
 use Rattle.ngc_certificate_text.specs.Joined.{Item, expansion, good_indices, Form, form_by}
 use Rattle.ngc_certificate_text.specs.Order.{items_in, IsWhole}
 use Rattle.ngc_certificate_text.specs.Told.{left_at, taken_at}
@@ -25,7 +27,11 @@ pub record Heard : Type 0 where
   pub items : List Item
 
 abbrev pub heard_in : {A : Type 0} → Found A → Heard
-heard_in f = record { version = f.version; pieces = f.pieces.items; items = items_in f.order.items f.off f.on }
+heard_in f = record {
+  version = f.version;
+  pieces = f.pieces.items;
+  items = items_in f.order.items f.off f.on;
+}
 
 -- all motions of both settings are entries
 abbrev pub IsKept : {A : Type 0} → Found A → Type 0
@@ -36,7 +42,8 @@ abbrev pub add_item : Indices → List Piece → List Item → List Item
 add_item indices pieces items = items ++ (record { indices = indices; pieces = pieces } ∷ [])
 
 abbrev pub heard_piece : Bool → BegunMotion → List Piece → Heard → Heard
-heard_piece true b pieces h = record { version = h.version; pieces = pieces; items = add_item b.indices pieces h.items }
+heard_piece true b pieces h =
+    record { version = h.version; pieces = pieces; items = add_item b.indices pieces h.items }
 heard_piece false b pieces h = record { version = h.version; pieces = pieces; items = h.items }
 
 -- what a line adds
@@ -68,7 +75,8 @@ begun_of next.Nothing = None
 
 abbrev pub gathered : Option BegunMotion → Heard → Rest → Form
 gathered None h r = joined h r
-gathered (Some b) h r = joined h (with_items (record { indices = b.indices; pieces = h.pieces ++ r.pieces } ∷ []) r)
+gathered (Some b) h r =
+    joined h (with_items (record { indices = b.indices; pieces = h.pieces ++ r.pieces } ∷ []) r)
 
 -- ---- there is room for what comes
 
@@ -93,11 +101,13 @@ pub record IsBegun (b : BegunMotion) (pieces : List Piece) : Type 0 where
 
 -- a certificate has room for what may come
 abbrev pub HasRoom : Expected → List Item → Type 0
-HasRoom e items = (s : Setting) → length (entries_at s (expansion items)) + may_come e s ≤ MOTION_LIMIT
+HasRoom e items =
+    (s : Setting) → length (entries_at s (expansion items)) + may_come e s ≤ MOTION_LIMIT
 
 -- and for one entry more
 abbrev pub HasRoomFor : Indices → List Item → Type 0
-HasRoomFor indices items = (s : Setting) → length (entries_at s (expansion items)) + taken_at indices s ≤ MOTION_LIMIT
+HasRoomFor indices items =
+    (s : Setting) → length (entries_at s (expansion items)) + taken_at indices s ≤ MOTION_LIMIT
 
 -- what is expected may come behind what was heard
 pub record MayExpect (e : Expected) (h : Heard) : Type 0 where

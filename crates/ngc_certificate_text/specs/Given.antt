@@ -2,11 +2,15 @@
 use Rattle.std.specs.Prelude.{◌≡◌, Result, Ok, Err}
 use Rattle.ngc_certificate_text.specs.declared.certificate.Certificate.{Certificate}
 use Rattle.ngc_certificate_text.specs.declared.fault.CertificateFault.{CertificateFault}
-use Rattle.ngc_certificate_text.specs.declared.fault.CertificateFault.TheVariants.{WrongHeader, BadLine, OutOfRange}
-use Rattle.ngc_certificate_text.specs.declared.fault.CertificateFault.TheVariants.{Memory, ReadFailed}
+use Rattle.ngc_certificate_text.specs.declared.fault.CertificateFault.TheVariants.{WrongHeader}
+use Rattle.ngc_certificate_text.specs.declared.fault.CertificateFault.TheVariants.{BadLine}
+use Rattle.ngc_certificate_text.specs.declared.fault.CertificateFault.TheVariants.{OutOfRange}
+use Rattle.ngc_certificate_text.specs.declared.fault.CertificateFault.TheVariants.{Memory}
+use Rattle.ngc_certificate_text.specs.declared.fault.CertificateFault.TheVariants.{ReadFailed}
 
 -- the answer is what the text says, but for want of memory and the source's failure
-abbrev pub GivesCertificate : {A X : Type 0} → (Certificate A → X) → Result (Certificate A) CertificateFault
+abbrev pub GivesCertificate : {A X : Type 0} → (Certificate A → X) →
+    Result (Certificate A) CertificateFault
     → Result X CertificateFault → Type 0
 GivesCertificate view (Ok c) says = says ≡ Ok (view c)
 GivesCertificate view (Err WrongHeader) says = says ≡ Err WrongHeader

@@ -1,13 +1,15 @@
 -- A certificate of version 2: entries in the order of its lines, some of them for both settings.
 -- Our own.
-use Rattle.std.specs.Prelude.{ℕ, ◌≤◌, nat_le, List, [], ◌∷◌, length, Option, Some, None, Bool, true, false, not, ◌&&◌, IsTrue}
+use Rattle.std.specs.Prelude.{ℕ, ◌≤◌, nat_le, List, [], ◌∷◌, length, Option, Some, None, Bool, true}
+use Rattle.std.specs.Prelude.{false, not, ◌&&◌, IsTrue}
 use Rattle.std.specs.List.{All, list_all}
 use Rattle.ngc_certificate_text.specs.declared.expected.Indices.{Indices}
 use Rattle.ngc_certificate_text.specs.declared.expected.Indices.TheVariants.{Both, Off, On}
 use Rattle.ngc_certificate_text.specs.declared.piece.Piece.{Piece}
 use Rattle.ngc_certificate_text.specs.declared.told.Version.{Version}
 use Rattle.ngc_certificate_text.specs.declared.told.Version.TheVariants.{One, Two}
-use Rattle.ngc_certificate_text.specs.Certificate.{Entry, CertificateData, INDEX_LIMIT, PIECE_LIMIT, MOTION_LIMIT, good_piece}
+use Rattle.ngc_certificate_text.specs.Certificate.{Entry, CertificateData, INDEX_LIMIT, PIECE_LIMIT}
+use Rattle.ngc_certificate_text.specs.Certificate.{MOTION_LIMIT, good_piece}
 
 -- a motion of one setting, or one of each with the same pieces
 pub record Item : Type 0 where
@@ -19,7 +21,8 @@ entry_with index pieces = record { index = index; pieces = pieces }
 
 -- its motions come in front of those of their settings
 abbrev pub onto_motions : Indices → List Piece → CertificateData → CertificateData
-onto_motions (Both i j) pieces c = record { off = entry_with i pieces ∷ c.off; on = entry_with j pieces ∷ c.on }
+onto_motions (Both i j) pieces c =
+    record { off = entry_with i pieces ∷ c.off; on = entry_with j pieces ∷ c.on }
 onto_motions (Off i) pieces c = record { off = entry_with i pieces ∷ c.off; on = c.on }
 onto_motions (On j) pieces c = record { off = c.off; on = entry_with j pieces ∷ c.on }
 

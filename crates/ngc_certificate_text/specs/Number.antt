@@ -1,5 +1,6 @@
 -- The fields of a line, and numbers as a certificate spells them. Our own.
-use Rattle.std.specs.Prelude.{ℕ, zero, suc, ℤ, pos, negsuc, List, [], ◌∷◌, Option, Some, None, ◌==◌, if◌then◌else◌}
+use Rattle.std.specs.Prelude.{ℕ, zero, suc, ℤ, pos, negsuc, List, [], ◌∷◌, Option, Some, None, ◌==◌}
+use Rattle.std.specs.Prelude.{if◌then◌else◌}
 use Rattle.std.specs.List.{slice_split}
 use Rattle.std.specs.Option.{option_map}
 use Rattle.ngc_text.specs.Decimals.{decimal_in}
@@ -17,4 +18,5 @@ negated (Some (suc n)) = Some (negsuc n)
 -- a minus sign may stand in front, and no plus sign
 unfoldable pub number_in : List ℕ → Option ℤ
 number_in [] = None
-number_in (b ∷ rest) = if b == 45 then negated (decimal_in rest) else option_map pos (decimal_in (b ∷ rest))
+number_in (b ∷ rest) =
+    if b == 45 then negated (decimal_in rest) else option_map pos (decimal_in (b ∷ rest))

@@ -21,11 +21,14 @@ abbrev pub items_in : List EntryKind → List Entry → List Entry → List Item
 items_in [] off on = []
 items_in (Both ∷ kinds) [] on = []
 items_in (Both ∷ kinds) (a ∷ off) [] = []
-items_in (Both ∷ kinds) (a ∷ off) (b ∷ on) = record { indices = of.Both a.index b.index; pieces = a.pieces } ∷ items_in kinds off on
+items_in (Both ∷ kinds) (a ∷ off) (b ∷ on) =
+    record { indices = of.Both a.index b.index; pieces = a.pieces } ∷ items_in kinds off on
 items_in (Off ∷ kinds) [] on = []
-items_in (Off ∷ kinds) (a ∷ off) on = record { indices = of.Off a.index; pieces = a.pieces } ∷ items_in kinds off on
+items_in (Off ∷ kinds) (a ∷ off) on =
+    record { indices = of.Off a.index; pieces = a.pieces } ∷ items_in kinds off on
 items_in (On ∷ kinds) off [] = []
-items_in (On ∷ kinds) off (b ∷ on) = record { indices = of.On b.index; pieces = b.pieces } ∷ items_in kinds off on
+items_in (On ∷ kinds) off (b ∷ on) =
+    record { indices = of.On b.index; pieces = b.pieces } ∷ items_in kinds off on
 
 -- each motion is one of an entry, and the motions of an entry of both settings have the same pieces
 pub record IsWhole (kinds : List EntryKind) (off on : List Entry) : Type 0 where

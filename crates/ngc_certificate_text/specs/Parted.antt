@@ -1,6 +1,7 @@
 -- A certificate's text that comes in pieces of any size: what stands of it already. It is our own
 -- that a fault is answered as soon as it stands.
-use Rattle.std.specs.Prelude.{◌≡◌, ℕ, ◌<◌, ◌==◌, nat_le, List, [], ◌∷◌, ◌++◌, length, IsTrue, Bool, not, if◌then◌else◌}
+use Rattle.std.specs.Prelude.{◌≡◌, ℕ, ◌<◌, ◌==◌, nat_le, List, [], ◌∷◌, ◌++◌, length, IsTrue, Bool}
+use Rattle.std.specs.Prelude.{not, if◌then◌else◌}
 use Rattle.std.specs.List.{list_all}
 use Rattle.ngc_certificate_text.specs.Said.{lines_of}
 
@@ -38,6 +39,8 @@ pub record GoesOn (lines : List (List ℕ)) (line : List ℕ) : Type 0 where
 -- A way to part bytes into lines: a line feed ends one, and one that is too long already goes on
 -- whatever follows.
 pub record PartsLines (lines : List ℕ → List (List ℕ)) : Type 0 where
-  pub ends : (line rest : List ℕ) → IsTrue (is_feedless line) → lines (line ++ (10 ∷ rest)) ≡ line ∷ lines rest
-  pub long : (line rest : List ℕ) → IsTrue (is_feedless line) → 256 < length line → GoesOn (lines (line ++ rest)) line
+  pub ends : (line rest : List ℕ) → IsTrue (is_feedless line) →
+      lines (line ++ (10 ∷ rest)) ≡ line ∷ lines rest
+  pub long : (line rest : List ℕ) → IsTrue (is_feedless line) → 256 < length line →
+      GoesOn (lines (line ++ rest)) line
   pub some : (bytes : List ℕ) → GoesOn (lines bytes) []

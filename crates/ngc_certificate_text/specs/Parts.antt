@@ -52,6 +52,7 @@ counts_of (Ok off) (Err flaw) = Err Range
 counts_of (Err flaw) on = Err Range
 
 abbrev pub both_of : Result ℕ LineFlaw → Result MotionLine LineFlaw → Result EntryLine LineFlaw
-both_of (Ok off) (Ok motion) = Ok (record { indices = Both off motion.index; pieces = motion.pieces })
+both_of (Ok off) (Ok motion) =
+    Ok (record { indices = Both off motion.index; pieces = motion.pieces })
 both_of (Ok off) (Err flaw) = Err Range
 both_of (Err flaw) motion = Err Range

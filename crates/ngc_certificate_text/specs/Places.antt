@@ -15,9 +15,15 @@ MayPass On p off on = p.on < on
 
 -- the entry that they make
 abbrev pub entry_there : EntryKind → List Entry → List Entry → Passed → Item
-entry_there Both off on p = record { indices = of.Both (entry_at off p.off).index (entry_at on p.on).index; pieces = (entry_at off p.off).pieces }
-entry_there Off off on p = record { indices = of.Off (entry_at off p.off).index; pieces = (entry_at off p.off).pieces }
-entry_there On off on p = record { indices = of.On (entry_at on p.on).index; pieces = (entry_at on p.on).pieces }
+entry_there Both off on p =
+    record {
+      indices = of.Both (entry_at off p.off).index (entry_at on p.on).index;
+      pieces = (entry_at off p.off).pieces;
+    }
+entry_there Off off on p =
+    record { indices = of.Off (entry_at off p.off).index; pieces = (entry_at off p.off).pieces }
+entry_there On off on p =
+    record { indices = of.On (entry_at on p.on).index; pieces = (entry_at on p.on).pieces }
 
 abbrev pub behind_entry : EntryKind → Passed → Passed
 behind_entry Both p = record { off = p.off + 1; on = p.on + 1 }

@@ -11,12 +11,14 @@ abbrev pub Saying : Type 0 → Type 0
 Saying X = (List ℕ → List (List ℕ)) → List ℕ → Result X CertificateFault
 
 -- what the text comes to if these bytes follow and no more
-abbrev pub outcome_by : {X : Type 0} → Option CertificateFault → Saying X → List ℕ → Result X CertificateFault
+abbrev pub outcome_by : {X : Type 0} → Option CertificateFault → Saying X → List ℕ →
+    Result X CertificateFault
 outcome_by None says rest = says lines_of rest
 outcome_by (Some fault) says rest = Err fault
 
 -- what it comes to if those bytes follow what stands once these have come
-abbrev pub firm_by : {X : Type 0} → Option CertificateFault → Saying X → List ℕ → List ℕ → Result X CertificateFault
+abbrev pub firm_by : {X : Type 0} → Option CertificateFault → Saying X → List ℕ → List ℕ →
+    Result X CertificateFault
 firm_by None says bytes rest = says (firm_lines rest) bytes
 firm_by (Some fault) says bytes rest = Err fault
 
@@ -31,7 +33,8 @@ FaultIs faults.Memory says = Unit {0}
 FaultIs faults.ReadFailed says = Unit {0}
 
 -- what came of the text is still to come, or the answer is its fault
-abbrev pub StepGives : {X : Type 0} → Result (Unit {0}) CertificateFault → Result X CertificateFault → Result X CertificateFault → Type 0
+abbrev pub StepGives : {X : Type 0} → Result (Unit {0}) CertificateFault →
+    Result X CertificateFault → Result X CertificateFault → Type 0
 StepGives (Ok done) before after = before ≡ after
 StepGives (Err fault) before after = FaultIs fault before
 
@@ -40,7 +43,8 @@ abbrev pub Stands : {X : Type 0} → CertificateFault → (List ℕ → Result X
 Stands fault says = (rest : List ℕ) → says rest ≡ Err fault
 
 -- The answer is the fault that stands whatever follows, or that none does, but for want of memory.
-abbrev pub AnswerIs : {X : Type 0} → Result (Unit {0}) CertificateFault → (List ℕ → Result X CertificateFault) → Type 0
+abbrev pub AnswerIs : {X : Type 0} → Result (Unit {0}) CertificateFault →
+    (List ℕ → Result X CertificateFault) → Type 0
 AnswerIs (Ok done) says = (fault : CertificateFault) → ¬ Stands fault says
 AnswerIs (Err faults.WrongHeader) says = Stands faults.WrongHeader says
 AnswerIs (Err (faults.BadLine n)) says = Stands (faults.BadLine n) says

@@ -8,7 +8,8 @@ use Rattle.ngc_certificate_text.specs.Reader.{Saying}
 
 -- what these bytes come to behind the lines so far
 abbrev pub resumed : {A : Type 0} → TextSoFar A → Saying Form
-resumed t lines bytes = made_with (gathered (begun_of (expected_in t.lines)) (heard_in t.found)) (left_by lines t.lines bytes)
+resumed t lines bytes = made_with (gathered (begun_of (expected_in t.lines)) (heard_in t.found))
+    (left_by lines t.lines bytes)
 
 pub record IsResuming {A : Type 0} (t : TextSoFar A) : Type 0 where
   pub reading : IsReading t.lines

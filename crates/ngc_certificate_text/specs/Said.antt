@@ -1,18 +1,23 @@
 -- What the text of a certificate says, line by line, or the first line at fault. Our own.
-use Rattle.std.specs.Prelude.{◌≡◌, ◌↔◌, ℕ, zero, suc, ◌+◌, min, nat_le, ◌==◌, List, [], ◌∷◌, length, codes, Result, Ok}
+use Rattle.std.specs.Prelude.{◌≡◌, ◌↔◌, ℕ, zero, suc, ◌+◌, min, nat_le, ◌==◌, List, [], ◌∷◌, length}
+use Rattle.std.specs.Prelude.{codes, Result, Ok}
 use Rattle.std.specs.Prelude.{Err, IsTrue, Bool, true, false, ◌&&◌, if◌then◌else◌}
 use Rattle.std.specs.List.{slice_split, list_all}
 use Rattle.ngc_certificate_text.specs.declared.fault.CertificateFault.{CertificateFault}
-use Rattle.ngc_certificate_text.specs.declared.fault.CertificateFault.TheVariants.{WrongHeader, BadLine, OutOfRange}
+use Rattle.ngc_certificate_text.specs.declared.fault.CertificateFault.TheVariants.{WrongHeader}
+use Rattle.ngc_certificate_text.specs.declared.fault.CertificateFault.TheVariants.{BadLine}
+use Rattle.ngc_certificate_text.specs.declared.fault.CertificateFault.TheVariants.{OutOfRange}
 use Rattle.ngc_certificate_text.specs.declared.lines.LineFlaw.{LineFlaw}
 use Rattle.ngc_certificate_text.specs.declared.lines.LineFlaw.TheVariants.{Spelling, Range}
 use Rattle.ngc_certificate_text.specs.declared.piece.Piece.{Piece}
 use Rattle.ngc_certificate_text.specs.Certificate.{Entry, CertificateData, IsCertificate}
-use Rattle.ngc_certificate_text.specs.Lines.{setting_said, motion_said, piece_said, end_said, are_steps}
+use Rattle.ngc_certificate_text.specs.Lines.{setting_said, motion_said, piece_said, end_said}
+use Rattle.ngc_certificate_text.specs.Lines.{are_steps}
 use Rattle.ngc_certificate_text.specs.declared.expected.EntriesLeft.{EntriesLeft}
 use Rattle.ngc_certificate_text.specs.declared.told.Version.{Version}
 use Rattle.ngc_certificate_text.specs.declared.told.Version.TheVariants.{One, Two}
-use Rattle.ngc_certificate_text.specs.EntryLines.{version_said, counts_said, entry_said, all_left, none_left, left_behind}
+use Rattle.ngc_certificate_text.specs.EntryLines.{version_said, counts_said, entry_said, all_left}
+use Rattle.ngc_certificate_text.specs.EntryLines.{none_left, left_behind}
 use Rattle.ngc_certificate_text.specs.Joined.{Item, IsJoined, Form, Parted, Joined, contents}
 use Rattle.ngc_certificate_text.specs.Spelling.{spelling}
 
@@ -51,7 +56,8 @@ abbrev pub line_in : {X : Type 0} → (List ℕ → Result X LineFlaw) → ℕ �
 line_in said number [] = Err (BadLine number)
 line_in said number (last ∷ []) = Err (BadLine number)
 line_in said number (line ∷ next ∷ left) =
-    if nat_le (length line) 256 then line_is number (said line) (next ∷ left) else Err (BadLine number)
+    if nat_le (length line) 256 then line_is number (said line) (next ∷ left)
+    else Err (BadLine number)
 
 unfoldable pub line_at : {X : Type 0} → (List ℕ → Result X LineFlaw) → Place → Said X
 line_at said p = line_in said p.number p.left
@@ -59,7 +65,8 @@ line_at said p = line_in said p.number p.left
 -- so many parts of one kind
 unfoldable pub several : {X : Type 0} → (Place → Said X) → ℕ → Place → Said (List X)
 several said zero p = Ok ([], p)
-several said (suc n) p = then_read (said p) (λ x q. then_read (several said n q) (λ xs r. Ok (x ∷ xs, r)))
+several said (suc n) p =
+    then_read (said p) (λ x q. then_read (several said n q) (λ xs r. Ok (x ∷ xs, r)))
 
 -- a motion: its line, and a line for each piece
 unfoldable pub entry_at : Place → Said Entry
@@ -98,7 +105,8 @@ unfoldable pub items_at : ℕ → EntriesLeft → Place → Said (List Item)
 items_at zero left p = Ok ([], p)
 items_at (suc n) left p =
     if none_left left then Ok ([], p) else
-    then_read (item_at left p) (λ x q. then_read (items_at n (left_behind left x.indices) q) (λ xs r. Ok (x ∷ xs, r)))
+    then_read (item_at left p)
+    (λ x q. then_read (items_at n (left_behind left x.indices) q) (λ xs r. Ok (x ∷ xs, r)))
 
 -- the counts, the entries, and the line `end`
 unfoldable pub joined_at : Place → Said (List Item)
@@ -115,7 +123,8 @@ ended (Ok r) = if nothing_in r.1.left then Ok r.0 else Err (BadLine r.1.number)
 ended (Err fault) = Err fault
 
 -- what is made of what a text says
-abbrev pub made_with : {X Y : Type 0} → (X → Y) → Result X CertificateFault → Result Y CertificateFault
+abbrev pub made_with : {X Y : Type 0} → (X → Y) → Result X CertificateFault →
+    Result Y CertificateFault
 made_with f (Ok x) = Ok (f x)
 made_with f (Err fault) = Err fault
 
@@ -165,4 +174,5 @@ IsForm (Joined items) = IsJoined items × IsTrue (list_all item_steps items)
 
 -- a text says a form just where it is the form's spelling
 abbrev pub OneSpelling : Type 0
-OneSpelling = (text : List ℕ) (f : Form) → (form_said text ≡ Ok f) ↔ (IsForm f × (text ≡ spelling f))
+OneSpelling =
+    (text : List ℕ) (f : Form) → (form_said text ≡ Ok f) ↔ (IsForm f × (text ≡ spelling f))

@@ -12,7 +12,8 @@ use Rattle.ngc_certificate_text.specs.Joined.{Item, expansion, Form, Parted, Joi
 
 -- numbers, each behind one space
 abbrev pub steps_text : StepPos → List ℕ
-steps_text p = codes " " ++ signed_decimal p.x ++ codes " " ++ signed_decimal p.y ++ codes " " ++ signed_decimal p.z
+steps_text p = codes " " ++ signed_decimal p.x ++ codes " " ++ signed_decimal p.y ++ codes " "
+    ++ signed_decimal p.z
 
 abbrev pub cut_text : Cut → List ℕ
 cut_text (Part t) = codes "line " ++ decimal t
@@ -22,18 +23,21 @@ abbrev pub piece_line : Piece → List ℕ
 piece_line p = cut_text p.end ++ steps_text p.bounds.low ++ steps_text p.bounds.high ++ codes "\n"
 
 abbrev pub motion_line : ℕ → ℕ → List ℕ
-motion_line index pieces = codes "motion " ++ decimal index ++ codes " " ++ decimal pieces ++ codes "\n"
+motion_line index pieces =
+    codes "motion " ++ decimal index ++ codes " " ++ decimal pieces ++ codes "\n"
 
 abbrev pub entry_lines : Entry → List ℕ
 entry_lines e = motion_line e.index (length e.pieces) ++ flat_map piece_line e.pieces
 
 abbrev pub setting_lines : List ℕ → List Entry → List ℕ
 setting_lines name entries =
-    codes "setting " ++ name ++ codes " " ++ decimal (length entries) ++ codes "\n" ++ flat_map entry_lines entries
+    codes "setting " ++ name ++ codes " " ++ decimal (length entries) ++ codes "\n"
+    ++ flat_map entry_lines entries
 
 abbrev pub parted_spelling : CertificateData → List ℕ
 parted_spelling c =
-    codes "ngc-certificate 1\n" ++ setting_lines (codes "off") c.off ++ setting_lines (codes "on") c.on ++ codes "end\n"
+    codes "ngc-certificate 1\n" ++ setting_lines (codes "off") c.off
+    ++ setting_lines (codes "on") c.on ++ codes "end\n"
 
 -- ---- version 2
 
@@ -49,11 +53,13 @@ abbrev pub item_lines : Item → List ℕ
 item_lines x = item_line x.indices (length x.pieces) ++ flat_map piece_line x.pieces
 
 abbrev pub counts_line : CertificateData → List ℕ
-counts_line c = codes "motions " ++ decimal (length c.off) ++ codes " " ++ decimal (length c.on) ++ codes "\n"
+counts_line c =
+    codes "motions " ++ decimal (length c.off) ++ codes " " ++ decimal (length c.on) ++ codes "\n"
 
 abbrev pub joined_spelling : List Item → List ℕ
 joined_spelling items =
-    codes "ngc-certificate 2\n" ++ counts_line (expansion items) ++ flat_map item_lines items ++ codes "end\n"
+    codes "ngc-certificate 2\n" ++ counts_line (expansion items) ++ flat_map item_lines items
+    ++ codes "end\n"
 
 abbrev pub spelling : Form → List ℕ
 spelling (Parted c) = parted_spelling c

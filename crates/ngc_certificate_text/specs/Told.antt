@@ -1,5 +1,6 @@
 -- What the lines of a certificate's text tell, one by one. Our own.
-use Rattle.std.specs.Prelude.{◌≡◌, ℕ, ◌+◌, ◌-◌, ◌≤◌, nat_le, List, [], ◌∷◌, length, Result, Ok, Err, Bool, true, false, IsTrue}
+use Rattle.std.specs.Prelude.{◌≡◌, ℕ, ◌+◌, ◌-◌, ◌≤◌, nat_le, List, [], ◌∷◌, length, Result, Ok, Err}
+use Rattle.std.specs.Prelude.{Bool, true, false, IsTrue}
 use Rattle.ngc_certificate_text.specs.declared.expected.Expected.{Expected}
 use Rattle.ngc_certificate_text.specs.declared.expected.Expected.TheVariants as next
 use Rattle.ngc_certificate_text.specs.declared.expected.BegunMotion.{BegunMotion}
@@ -19,7 +20,8 @@ use Rattle.ngc_certificate_text.specs.declared.told.Told.{Told}
 use Rattle.ngc_certificate_text.specs.declared.told.Told.TheVariants as tell
 use Rattle.ngc_certificate_text.specs.declared.told.Version.{Version}
 use Rattle.ngc_certificate_text.specs.declared.told.Version.TheVariants.{One, Two}
-use Rattle.ngc_certificate_text.specs.Ahead.{Rest, Left, name_of, index_at, of_version, with_items, with_pieces, next_of_motions, motions_behind, AreOpen}
+use Rattle.ngc_certificate_text.specs.Ahead.{Rest, Left, name_of, index_at, of_version, with_items}
+use Rattle.ngc_certificate_text.specs.Ahead.{with_pieces, next_of_motions, motions_behind, AreOpen}
 use Rattle.ngc_certificate_text.specs.Certificate.{PIECE_LIMIT, MOTION_LIMIT, good_piece}
 use Rattle.ngc_certificate_text.specs.EntryLines.{version_said, counts_said, entry_said, of_setting}
 use Rattle.ngc_certificate_text.specs.Joined.{good_indices}
@@ -62,7 +64,8 @@ behind_piece false b = next.Piece (record b { pieces_left = b.pieces_left - 1 })
 abbrev pub behind_told : Told → Expected
 behind_told (tell.Header v) = behind_version v
 behind_told (tell.Setting s n) = next_of_motions (Parted s n)
-behind_told (tell.Counts off on) = next_of_motions (Joined (record { off = off; on = on; behind_on = false }))
+behind_told (tell.Counts off on) =
+    next_of_motions (Joined (record { off = off; on = on; behind_on = false }))
 behind_told (tell.Motion b) = next.Piece b
 behind_told (tell.Piece b p) = behind_piece (nat_le b.pieces_left 1) b
 behind_told tell.End = next.Nothing
@@ -119,7 +122,8 @@ any_said (Parted s left) line = of_setting (index_at s) (motion_said line)
 any_said (Joined left) line = entry_said left line
 
 abbrev pub motion_told : MotionsLeft → EntryLine → Told
-motion_told left e = tell.Motion (record { indices = e.indices; pieces_left = e.pieces; behind = motions_behind left e.indices })
+motion_told left e = tell.Motion
+    (record { indices = e.indices; pieces_left = e.pieces; behind = motions_behind left e.indices })
 
 abbrev pub told_by : Expected → List ℕ → Result Told LineFlaw
 told_by next.Header line = told_with tell.Header (version_said line)

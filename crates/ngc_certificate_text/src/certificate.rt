@@ -25,7 +25,8 @@ pub struct Certificate<A: Allocator> {
     // The kinds of its entries in order, if it is of version 2.
     pub(crate) order: Option<Vec<EntryKind, A>>,
     // Its entries are all those motions.
-    ghost whole: { (kinds : List EntryKind) → option_map (λ k. k.items) order ≡ Some kinds → IsWhole kinds off on } by { Prim.hlevel props },
+    ghost whole: { (kinds : List EntryKind) → option_map (λ k. k.items) order ≡ Some kinds →
+        IsWhole kinds off on } by { Prim.hlevel props },
 }
 
 // The kinds of the entries where the first `both` motions of each setting are joined: so many
@@ -40,7 +41,9 @@ fn kinds_of<A: Allocator>(
     requires on { both ≤ on }
     requires off_limit { off ≤ MOTION_LIMIT }
     requires on_limit { on ≤ MOTION_LIMIT }
-    ensures { IfOk result (λ kinds. kinds.items ≡ replicate both EntryKind.Both ++ replicate (off - both) EntryKind.Off ++ replicate (on - both) EntryKind.On) }
+    ensures { IfOk result
+        (λ kinds. kinds.items ≡ replicate both EntryKind.Both
+        ++ replicate (off - both) EntryKind.Off ++ replicate (on - both) EntryKind.On) }
 {
     let count = off + (on - both);
     let mut kinds = Vec::with_capacity(alloc, count)?;
@@ -74,7 +77,8 @@ impl<A: Allocator> Certificate<A> {
     pub fn joined(self, alloc: A, both: usize) -> Result<Certificate<A>, AllocError>
         requires { HaveSamePieces both (said_of self).off (said_of self).on }
         ensures said { IfOk result (λ c. said_of c ≡ said_of self) }
-        ensures form { IfOk result (λ c. form_of c ≡ Joined (joined_first both (said_of self).off (said_of self).on)) }
+        ensures form { IfOk result
+            (λ c. form_of c ≡ Joined (joined_first both (said_of self).off (said_of self).on)) }
         // Its entries are in range, and none of `off` alone stands directly behind one of `on`
         // alone.
         ensures entries { IsJoined (joined_first both (said_of self).off (said_of self).on) }

@@ -1,8 +1,11 @@
-ghost use Rattle.std.specs.Prelude.{◌≡◌, ◌≢◌, ℕ, ◌+◌, ◌<◌, ◌≤◌, List, [], ◌∷◌, ◌++◌, length, IsTrue, IfOk, IfSome, OnOk, MatchOption, MatchResult, Ok, Err};
-ghost use Rattle.ngc_certificate_text.specs.Ahead.{certificate_of, form_of_text, left_from, made_with, nothing_left};
+ghost use Rattle.std.specs.Prelude.{◌≡◌, ◌≢◌, ℕ, ◌+◌, ◌<◌, ◌≤◌, List, [], ◌∷◌, ◌++◌, length};
+ghost use Rattle.std.specs.Prelude.{IsTrue, IfOk, IfSome, OnOk, MatchOption, MatchResult, Ok, Err};
+ghost use Rattle.ngc_certificate_text.specs.Ahead.{certificate_of, form_of_text, left_from};
+ghost use Rattle.ngc_certificate_text.specs.Ahead.{made_with, nothing_left};
 ghost use Rattle.ngc_certificate_text.specs.declared.expected.Expected.TheVariants as expect;
 ghost use Rattle.ngc_certificate_text.specs.LinesView.{left_by, expected_in, IsReading, room_of};
-ghost use Rattle.ngc_certificate_text.specs.Parted.{firm, firm_lines, is_feedless, IsSplit, PartsLines};
+ghost use Rattle.ngc_certificate_text.specs.Parted.{firm, firm_lines, is_feedless, IsSplit};
+ghost use Rattle.ngc_certificate_text.specs.Parted.{PartsLines};
 ghost use Rattle.ngc_certificate_text.specs.Said.{lines_of, certificate_said, form_said};
 ghost use Rattle.ngc_certificate_text.specs.Told.{IsFront, IsNext, Tells, behind_told};
 
@@ -23,7 +26,8 @@ pub struct CertificateLines {
 
 // The first line of some bytes, and what stands behind its line feed.
 fn split_line(bytes: &[u8]) -> Option<(&[u8], &[u8])>
-    ensures { MatchOption result (IsTrue (is_feedless bytes.now)) (λ p. IsSplit bytes.now p.0.now p.1.now) }
+    ensures { MatchOption result (IsTrue (is_feedless bytes.now))
+        (λ p. IsSplit bytes.now p.0.now p.1.now) }
 {
     let end = memchr(b'\n', bytes)?;
     let (line, rest) = bytes.split_at(end);
@@ -35,10 +39,16 @@ impl CertificateLines {
     pub fn new() -> CertificateLines
         ensures reading { IsReading result }
         ensures expected { expected_in result ≡ expect.Header }
-        ensures text { (bytes : List ℕ) → certificate_said bytes ≡ made_with certificate_of (left_by lines_of result bytes) }
-        ensures firm { (bytes rest : List ℕ) → certificate_said (firm bytes ++ rest) ≡ made_with certificate_of (left_by (firm_lines rest) result bytes) }
-        ensures form { (bytes : List ℕ) → form_said bytes ≡ made_with form_of_text (left_by lines_of result bytes) }
-        ensures firm_form { (bytes rest : List ℕ) → form_said (firm bytes ++ rest) ≡ made_with form_of_text (left_by (firm_lines rest) result bytes) }
+        ensures text { (bytes : List ℕ) → certificate_said bytes
+            ≡ made_with certificate_of (left_by lines_of result bytes) }
+        ensures firm { (bytes rest : List ℕ) →
+            certificate_said (firm bytes ++ rest)
+            ≡ made_with certificate_of (left_by (firm_lines rest) result bytes) }
+        ensures form { (bytes : List ℕ) → form_said bytes
+            ≡ made_with form_of_text (left_by lines_of result bytes) }
+        ensures firm_form { (bytes rest : List ℕ) →
+            form_said (firm bytes ++ rest) ≡ made_with form_of_text
+            (left_by (firm_lines rest) result bytes) }
     {
         CertificateLines {
             next: NextLine::first(),
@@ -50,7 +60,10 @@ impl CertificateLines {
     fn keep(&mut self, bytes: &[u8]) -> Result<(), CertificateFault>
         requires reading { IsReading self.old }
         requires feedless { IsTrue (is_feedless bytes.now) }
-        ensures step { (lines : List ℕ → List (List ℕ)) → PartsLines lines → (rest : List ℕ) → MatchResult result (λ _. left_by lines self.old (bytes.now ++ rest) ≡ left_by lines self.new rest) (λ fault. left_by lines self.old (bytes.now ++ rest) ≡ Err fault) }
+        ensures step { (lines : List ℕ → List (List ℕ)) → PartsLines lines → (rest : List ℕ) →
+            MatchResult result
+            (λ _. left_by lines self.old (bytes.now ++ rest) ≡ left_by lines self.new rest)
+            (λ fault. left_by lines self.old (bytes.now ++ rest) ≡ Err fault) }
         ensures expected { OnOk result (expected_in self.new ≡ expected_in self.old) }
         ensures reading { OnOk result (IsReading self.new) }
         ensures room { OnOk result (room_of self.new + length bytes.now ≤ room_of self.old) }
@@ -66,8 +79,13 @@ impl CertificateLines {
     // The line that is cut ends here.
     fn end_cut(&mut self) -> Result<Told, CertificateFault>
         requires { IsReading self.old }
-        ensures step { (next : List ℕ) (left : List (List ℕ)) → Tells result (left_from self.old.next.expected self.old.next.number (self.old.cut.items ∷ next ∷ left)) (left_from self.new.next.expected self.new.next.number (next ∷ left)) }
-        ensures expected { IfOk result (λ told. IsNext (expected_in self.old) told × (expected_in self.new ≡ behind_told told)) }
+        ensures step { (next : List ℕ) (left : List (List ℕ)) →
+            Tells result
+            (left_from self.old.next.expected self.old.next.number
+            (self.old.cut.items ∷ next ∷ left))
+            (left_from self.new.next.expected self.new.next.number (next ∷ left)) }
+        ensures expected { IfOk result (λ told. IsNext (expected_in self.old) told ×
+            (expected_in self.new ≡ behind_told told)) }
         ensures empty { OnOk result (self.new.cut.items ≡ []) }
         ensures reading { OnOk result (IsReading self.new) }
         ensures room { OnOk result (room_of self.new + 1 ≤ room_of self.old) }
@@ -87,8 +105,11 @@ impl CertificateLines {
     fn end_line(&mut self, bytes: &[u8]) -> Result<Told, CertificateFault>
         requires reading { IsReading self.old }
         requires feedless { IsTrue (is_feedless bytes.now) }
-        ensures step { (lines : List ℕ → List (List ℕ)) → PartsLines lines → (rest : List ℕ) → Tells result (left_by lines self.old (bytes.now ++ (10 ∷ rest))) (left_by lines self.new rest) }
-        ensures expected { IfOk result (λ told. IsNext (expected_in self.old) told × (expected_in self.new ≡ behind_told told)) }
+        ensures step { (lines : List ℕ → List (List ℕ)) → PartsLines lines → (rest : List ℕ) →
+            Tells result (left_by lines self.old (bytes.now ++ (10 ∷ rest)))
+            (left_by lines self.new rest) }
+        ensures expected { IfOk result (λ told. IsNext (expected_in self.old) told ×
+            (expected_in self.new ≡ behind_told told)) }
         ensures reading { OnOk result (IsReading self.new) }
         ensures room { OnOk result (room_of self.new + length bytes.now + 1 ≤ room_of self.old) }
         ensures memory { result ≢ Err CertificateFault.Memory }
@@ -113,11 +134,21 @@ impl CertificateLines {
     ) -> Result<Option<(Told, &'a [u8])>, CertificateFault>
         requires { IsReading self.old }
         // However the bytes that follow are parted into lines.
-        ensures step { (lines : List ℕ → List (List ℕ)) → PartsLines lines → (rest : List ℕ) → MatchResult result (λ o. MatchOption o (left_by lines self.old (bytes.now ++ rest) ≡ left_by lines self.new rest) (λ p. IsFront p.0 (left_by lines self.old (bytes.now ++ rest)) (left_by lines self.new (p.1.now ++ rest)))) (λ fault. left_by lines self.old (bytes.now ++ rest) ≡ Err fault) }
-        ensures expected { IfOk result (λ o. MatchOption o (expected_in self.new ≡ expected_in self.old) (λ p. IsNext (expected_in self.old) p.0 × (expected_in self.new ≡ behind_told p.0))) }
+        ensures step { (lines : List ℕ → List (List ℕ)) → PartsLines lines → (rest : List ℕ) →
+            MatchResult result
+            (λ o. MatchOption o
+            (left_by lines self.old (bytes.now ++ rest) ≡ left_by lines self.new rest)
+            (λ p. IsFront p.0 (left_by lines self.old (bytes.now ++ rest))
+            (left_by lines self.new (p.1.now ++ rest))))
+            (λ fault. left_by lines self.old (bytes.now ++ rest) ≡ Err fault) }
+        ensures expected { IfOk result
+            (λ o. MatchOption o (expected_in self.new ≡ expected_in self.old)
+            (λ p. IsNext (expected_in self.old) p.0 × (expected_in self.new ≡ behind_told p.0))) }
         ensures reading { OnOk result (IsReading self.new) }
         // A text is no longer than its lines may be.
-        ensures room { IfOk result (λ o. MatchOption o (room_of self.new + length bytes.now ≤ room_of self.old) (λ p. room_of self.new + length bytes.now ≤ room_of self.old + length p.1.now)) }
+        ensures room { IfOk result
+            (λ o. MatchOption o (room_of self.new + length bytes.now ≤ room_of self.old)
+            (λ p. room_of self.new + length bytes.now ≤ room_of self.old + length p.1.now)) }
         ensures shorter { IfOk result (λ o. IfSome o (λ p. length p.1.now < length bytes.now)) }
         ensures memory { result ≢ Err CertificateFault.Memory }
         ensures device { result ≢ Err CertificateFault.ReadFailed }
@@ -136,7 +167,8 @@ impl CertificateLines {
 
     /// Whether bytes stand behind the end of the text, so that what follows changes nothing.
     pub fn goes_too_far(&self) -> bool
-        ensures { IsTrue result → IsReading self.now → (rest : List ℕ) → left_by lines_of self.now rest ≡ left_by lines_of self.now [] }
+        ensures { IsTrue result → IsReading self.now → (rest : List ℕ) →
+            left_by lines_of self.now rest ≡ left_by lines_of self.now [] }
     {
         self.next.has_ended() && !self.cut.is_empty()
     }
@@ -145,7 +177,8 @@ impl CertificateLines {
     /// missing or lacks its line feed.
     pub fn finish(&self) -> Result<(), CertificateFault>
         requires { IsReading self.now }
-        ensures said { MatchResult result (λ _. left_by lines_of self.now [] ≡ Ok nothing_left) (λ fault. left_by lines_of self.now [] ≡ Err fault) }
+        ensures said { MatchResult result (λ _. left_by lines_of self.now [] ≡ Ok nothing_left)
+            (λ fault. left_by lines_of self.now [] ≡ Err fault) }
         ensures ended { OnOk result (expected_in self.now ≡ expect.Nothing) }
         ensures memory { result ≢ Err CertificateFault.Memory }
         ensures device { result ≢ Err CertificateFault.ReadFailed }

@@ -1,5 +1,6 @@
 ghost use Rattle.std.specs.Prelude.{◌≡◌, nat_le, IsTrue};
-ghost use Rattle.ngc_certificate_text.specs.Ahead.{next_setting, next_of_entries, next_of_motions, motions_behind};
+ghost use Rattle.ngc_certificate_text.specs.Ahead.{next_setting, next_of_entries, next_of_motions};
+ghost use Rattle.ngc_certificate_text.specs.Ahead.{motions_behind};
 ghost use Rattle.ngc_certificate_text.specs.EntryLines.{none_left, may_come, left_behind};
 ghost use Rattle.ngc_certificate_text.specs.Told.{behind_piece, behind_told, behind_version};
 

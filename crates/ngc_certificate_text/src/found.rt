@@ -1,6 +1,7 @@
 ghost use Rattle.std.specs.Prelude.{◌≡◌, [], ◌∷◌, ◌++◌, OnOk, None};
 ghost use Rattle.ngc_certificate_text.specs.Contents.{said_of, form_of};
-ghost use Rattle.ngc_certificate_text.specs.Found.{HasRoomFor, IsKept, add_item, heard, heard_in, MayTake};
+ghost use Rattle.ngc_certificate_text.specs.Found.{HasRoomFor, IsKept, add_item, heard, heard_in};
+ghost use Rattle.ngc_certificate_text.specs.Found.{MayTake};
 ghost use Rattle.ngc_certificate_text.specs.Joined.{IsItem, contents, form_by};
 
 use crate::certificate::{Certificate, EntryKind};
@@ -54,7 +55,9 @@ impl<A: Allocator> Found<A> {
         requires kept { IsKept self.old }
         requires room { HasRoomFor indices (heard_in self.old).items }
         requires item { IsItem (record { indices = indices; pieces = self.old.pieces.items }) }
-        ensures pushed { OnOk result ((heard_in self.new).items ≡ add_item indices self.old.pieces.items (heard_in self.old).items) }
+        ensures pushed { OnOk result
+            ((heard_in self.new).items ≡ add_item indices self.old.pieces.items
+            (heard_in self.old).items) }
         ensures kept { OnOk result (IsKept self.new) }
         ensures version { self.new.version ≡ self.old.version }
         ensures pieces { self.new.pieces ≡ self.old.pieces }
@@ -81,7 +84,8 @@ impl<A: Allocator> Found<A> {
     fn add_piece(&mut self, begun: &BegunMotion, piece: Piece) -> Result<(), AllocError>
         requires may { MayTake (Told.Piece begun.now piece) (heard_in self.old) }
         requires kept { IsKept self.old }
-        ensures heard { OnOk result (heard_in self.new ≡ heard (Told.Piece begun.now piece) (heard_in self.old)) }
+        ensures heard { OnOk result
+            (heard_in self.new ≡ heard (Told.Piece begun.now piece) (heard_in self.old)) }
         ensures kept { OnOk result (IsKept self.new) }
     {
         match self.pieces.push(piece) {

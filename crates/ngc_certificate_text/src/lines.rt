@@ -4,15 +4,20 @@ ghost use Rattle.ngc_fixed_length.specs.Signed.{is_within};
 ghost use Rattle.ngc_fixed_length.specs.Boxes.{is_below};
 ghost use Rattle.ngc_certificate_text.specs.Certificate.{WHOLE, CUT_LIMIT};
 ghost use Rattle.ngc_certificate_text.specs.Clamped.{all_fields};
-ghost use Rattle.ngc_certificate_text.specs.Lines.{numbers_in as numbers_said, one_count as one_said};
+ghost use Rattle.ngc_certificate_text.specs.Lines.{numbers_in as numbers_said};
+ghost use Rattle.ngc_certificate_text.specs.Lines.{one_count as one_said};
 ghost use Rattle.ngc_certificate_text.specs.Lines.{two_counts as two_said};
-ghost use Rattle.ngc_certificate_text.specs.Lines.{line_piece as line_said, arc_piece as arc_said, setting_said};
+ghost use Rattle.ngc_certificate_text.specs.Lines.{line_piece as line_said, arc_piece as arc_said};
+ghost use Rattle.ngc_certificate_text.specs.Lines.{setting_said};
 ghost use Rattle.ngc_certificate_text.specs.Lines.{motion_said, piece_said, end_said};
 ghost use Rattle.ngc_certificate_text.specs.Lines.{is_count, is_step, are_steps, ranged};
 ghost use Rattle.ngc_certificate_text.specs.Ahead.{index_at};
-ghost use Rattle.ngc_certificate_text.specs.EntryLines.{version_said, counts_said, motion_counts as counts_in};
-ghost use Rattle.ngc_certificate_text.specs.EntryLines.{entry_said, three_counts as three_said, of_setting};
-ghost use Rattle.ngc_certificate_text.specs.Parts.{box_said, box_between, place_between, piece_with, motion_of, counts_of, both_of};
+ghost use Rattle.ngc_certificate_text.specs.EntryLines.{version_said, counts_said};
+ghost use Rattle.ngc_certificate_text.specs.EntryLines.{motion_counts as counts_in};
+ghost use Rattle.ngc_certificate_text.specs.EntryLines.{entry_said, three_counts as three_said};
+ghost use Rattle.ngc_certificate_text.specs.EntryLines.{of_setting};
+ghost use Rattle.ngc_certificate_text.specs.Parts.{box_said, box_between, place_between};
+ghost use Rattle.ngc_certificate_text.specs.Parts.{piece_with, motion_of, counts_of, both_of};
 
 use crate::expected::{EntriesLeft, Indices};
 use crate::number::{numbers_in, split_field};
@@ -80,7 +85,8 @@ fn cut_length(number: i64) -> Result<Nm, LineFlaw>
 }
 
 fn corner(x: i64, y: i64, z: i64) -> Result<StepPos, LineFlaw>
-    ensures { result ≡ ranged (are_steps (record { x = x; y = y; z = z })) (record { x = x; y = y; z = z }) }
+    ensures { result ≡ ranged (are_steps (record { x = x; y = y; z = z }))
+        (record { x = x; y = y; z = z }) }
 {
     if is_step(x) && is_step(y) && is_step(z) {
         let (x, y, z) = (x as i32, y as i32, z as i32);

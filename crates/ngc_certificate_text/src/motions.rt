@@ -1,6 +1,8 @@
-ghost use Rattle.std.specs.Prelude.{◌≡◌, ◌<◌, ◌≤◌, ◌++◌, ◌∷◌, ◌↔◌, [], length, IsTrue, IfOk, OnOk, OnErr};
+ghost use Rattle.std.specs.Prelude.{◌≡◌, ◌<◌, ◌≤◌, ◌++◌, ◌∷◌, ◌↔◌, [], length, IsTrue, IfOk, OnOk};
+ghost use Rattle.std.specs.Prelude.{OnErr};
 ghost use Rattle.std.specs.List.{list_all};
-ghost use Rattle.ngc_certificate_text.specs.Certificate.{IsEntry, entry_at, good_piece, MOTION_LIMIT, PIECE_LIMIT};
+ghost use Rattle.ngc_certificate_text.specs.Certificate.{IsEntry, entry_at, good_piece};
+ghost use Rattle.ngc_certificate_text.specs.Certificate.{MOTION_LIMIT, PIECE_LIMIT};
 
 use crate::piece::Piece;
 use std::alloc::{AllocError, Allocator};
@@ -95,7 +97,8 @@ impl<A: Allocator> Motions<A> {
     pub fn push(&mut self, index: u32, pieces: &[Piece]) -> Result<(), AllocError>
         requires entry { IsEntry (record { index = index; pieces = pieces.now }) }
         requires room { length self.old < MOTION_LIMIT }
-        ensures ok { OnOk result (self.new ≡ self.old ++ (record { index = index; pieces = pieces.now } ∷ [])) }
+        ensures ok { OnOk result
+            (self.new ≡ self.old ++ (record { index = index; pieces = pieces.now } ∷ [])) }
         ensures err { OnErr result (self.new ≡ self.old) }
     {
         let start = self.pieces.len();

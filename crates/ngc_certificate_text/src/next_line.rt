@@ -1,8 +1,11 @@
-ghost use Rattle.std.specs.Prelude.{◌≡◌, ◌≢◌, ◌+◌, ◌-◌, ◌≤◌, ◌∷◌, ℕ, List, length, MatchResult, OnOk, IfOk, Err, IsTrue, ◌↔◌};
-ghost use Rattle.ngc_certificate_text.specs.Ahead.{name_of, wrong_line, IsSound, left_from, lines_ahead};
+ghost use Rattle.std.specs.Prelude.{◌≡◌, ◌≢◌, ◌+◌, ◌-◌, ◌≤◌, ◌∷◌, ℕ, List, length, MatchResult};
+ghost use Rattle.std.specs.Prelude.{OnOk, IfOk, Err, IsTrue, ◌↔◌};
+ghost use Rattle.ngc_certificate_text.specs.Ahead.{name_of, wrong_line, IsSound, left_from};
+ghost use Rattle.ngc_certificate_text.specs.Ahead.{lines_ahead};
 ghost use Rattle.ngc_certificate_text.specs.Lines.{setting_said, piece_said, end_said};
 ghost use Rattle.ngc_certificate_text.specs.Said.{next_number};
-ghost use Rattle.ngc_certificate_text.specs.Told.{IsNext, Tells, behind_told, fault_of, any_said, told_by, told_with, motion_told};
+ghost use Rattle.ngc_certificate_text.specs.Told.{IsNext, Tells, behind_told, fault_of, any_said};
+ghost use Rattle.ngc_certificate_text.specs.Told.{told_by, told_with, motion_told};
 
 use crate::expected::{BegunMotion, Expected, MotionsLeft};
 use crate::fault::CertificateFault;
@@ -149,10 +152,14 @@ impl NextLine {
     /// What the next line tells. A refused one leaves all as it was.
     pub(crate) fn read(&mut self, line: &[u8]) -> Result<Told, CertificateFault>
         requires { IsSound self.old.expected self.old.number }
-        ensures tells { (next : List ℕ) (left : List (List ℕ)) → Tells result (left_from self.old.expected self.old.number (line.now ∷ next ∷ left)) (left_from self.new.expected self.new.number (next ∷ left)) }
-        ensures expected { IfOk result (λ told. IsNext self.old.expected told × (self.new.expected ≡ behind_told told)) }
+        ensures tells { (next : List ℕ) (left : List (List ℕ)) →
+            Tells result (left_from self.old.expected self.old.number (line.now ∷ next ∷ left))
+            (left_from self.new.expected self.new.number (next ∷ left)) }
+        ensures expected { IfOk result (λ told. IsNext self.old.expected told ×
+            (self.new.expected ≡ behind_told told)) }
         ensures sound { IsSound self.new.expected self.new.number }
-        ensures progress { OnOk result (lines_ahead self.new.expected + 1 ≤ lines_ahead self.old.expected) }
+        ensures progress { OnOk result
+            (lines_ahead self.new.expected + 1 ≤ lines_ahead self.old.expected) }
         ensures short { OnOk result (length line.now ≤ 256) }
         ensures memory { result ≢ Err CertificateFault.Memory }
         ensures device { result ≢ Err CertificateFault.ReadFailed }

@@ -1,4 +1,5 @@
-ghost use Rattle.std.specs.Prelude.{◌≡◌, ◌<◌, ◌≤◌, min, [], ◌∷◌, length, IfSome, position, ◌==◌, pos};
+ghost use Rattle.std.specs.Prelude.{◌≡◌, ◌<◌, ◌≤◌, min, [], ◌∷◌, length, IfSome, position, ◌==◌};
+ghost use Rattle.std.specs.Prelude.{pos};
 ghost use Rattle.std.specs.Option.{option_map};
 ghost use Rattle.ngc_certificate_text.specs.Number.{fields, number_in as number_said, negated};
 ghost use Rattle.ngc_certificate_text.specs.Clamped.{clamped, minus_tail, all_fields, numbers_left};

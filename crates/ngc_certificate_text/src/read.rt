@@ -18,9 +18,11 @@ fn read_form<A: Allocator + Copy, R: Source>(
     alloc: A,
     source: &mut R,
 ) -> Result<Certificate<A>, CertificateFault>
-    ensures form { IfSome (R.remaining source.old) (λ bytes. GivesCertificate form_of result (form_said bytes)) }
+    ensures form { IfSome (R.remaining source.old)
+        (λ bytes. GivesCertificate form_of result (form_said bytes)) }
     ensures said { IfOk result (λ c. said_of c ≡ contents (form_of c)) }
-    ensures device { result ≡ Err ReadFailed → Rises (R.failures source.old) (R.failures source.new) }
+    ensures device { result ≡ Err ReadFailed →
+        Rises (R.failures source.old) (R.failures source.new) }
     ensures counted { FailsByReading result (R.failures source.old) (R.failures source.new) }
 {
     let mut reader = CertificateReader::new(alloc);
@@ -62,7 +64,8 @@ impl<A: Allocator + Copy> Certificate<A> {
         ensures form { IfSome (R.remaining source.old)
             (λ bytes. GivesCertificate form_of result (form_said bytes)) }
         // Only a source that failed is said to have failed.
-        ensures device { result ≡ Err ReadFailed → Rises (R.failures source.old) (R.failures source.new) }
+        ensures device { result ≡ Err ReadFailed →
+            Rises (R.failures source.old) (R.failures source.new) }
         ensures counted { FailsByReading result (R.failures source.old) (R.failures source.new) }
     {
         read_form(alloc, source)

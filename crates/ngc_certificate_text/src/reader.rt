@@ -29,14 +29,16 @@ pub struct CertificateReader<A: Allocator> {
 }
 
 impl<A: Allocator> CertificateReader<A> {
-    ghost use Rattle.std.specs.Prelude.{ℕ, List, [], ◌+◌, ◌≤◌, ◌++◌, length, IsTrue, MatchResult, OnOk, IfOk, IfSome, Err};
+    ghost use Rattle.std.specs.Prelude.{ℕ, List, [], ◌+◌, ◌≤◌, ◌++◌, length, IsTrue, MatchResult};
+    ghost use Rattle.std.specs.Prelude.{OnOk, IfOk, IfSome, Err};
     ghost use Rattle.std.specs.Result.{result_err};
     ghost use Rattle.ngc_certificate_text.specs.Reader.{AnswerIs, FaultIs};
     ghost use Rattle.ngc_certificate_text.specs.Contents.{said_of, form_of};
     ghost use Rattle.ngc_certificate_text.specs.Given.{GivesCertificate};
     ghost use Rattle.ngc_certificate_text.specs.Joined.{contents};
     ghost use Rattle.ngc_certificate_text.specs.Parted.{firm};
-    ghost use Rattle.ngc_certificate_text.specs.ReaderView.{outcome_in, firm_in, refusal_in, room_in};
+    ghost use Rattle.ngc_certificate_text.specs.ReaderView.{outcome_in, firm_in, refusal_in};
+    ghost use Rattle.ngc_certificate_text.specs.ReaderView.{room_in};
     ghost use Rattle.ngc_certificate_text.specs.Said.{form_said};
 
     /// A reader that was fed nothing yet.
@@ -44,7 +46,8 @@ impl<A: Allocator> CertificateReader<A> {
     where
         A: Copy,
         ensures text { (bytes : List ℕ) → form_said bytes ≡ outcome_in result bytes }
-        ensures firm { (bytes rest : List ℕ) → form_said (firm bytes ++ rest) ≡ firm_in result bytes rest }
+        ensures firm { (bytes rest : List ℕ) →
+            form_said (firm bytes ++ rest) ≡ firm_in result bytes rest }
         ensures going { refusal_in result ≡ None }
     {
         CertificateReader {
@@ -60,10 +63,14 @@ impl<A: Allocator> CertificateReader<A> {
         // The fault is the one that the lines so far have whatever follows, and where they have
         // none, none is answered.
         ensures answer { AnswerIs result (firm_in self.old piece.now) }
-        ensures firm { OnOk result ((more rest : List ℕ) → firm_in self.old (piece.now ++ more) rest ≡ firm_in self.new more rest) }
+        ensures firm { OnOk result ((more rest : List ℕ) →
+            firm_in self.old (piece.now ++ more) rest ≡ firm_in self.new more rest) }
         // Whatever follows, the text comes to the same as if this piece stood in front of it: a
         // fault stays.
-        ensures text { (rest : List ℕ) → MatchResult result (λ _. outcome_in self.old (piece.now ++ rest) ≡ outcome_in self.new rest) (λ fault. FaultIs fault (outcome_in self.old (piece.now ++ rest))) }
+        ensures text { (rest : List ℕ) →
+            MatchResult result
+            (λ _. outcome_in self.old (piece.now ++ rest) ≡ outcome_in self.new rest)
+            (λ fault. FaultIs fault (outcome_in self.old (piece.now ++ rest))) }
         // A fault is kept, also want of memory, and answered again.
         ensures refusal { refusal_in self.new ≡ result_err result }
         ensures again { IfSome (refusal_in self.old) (λ fault. result ≡ Err fault) }
@@ -85,7 +92,8 @@ impl<A: Allocator> CertificateReader<A> {
 
     // Whether bytes stand behind the end, so that what follows changes nothing.
     pub(crate) fn goes_too_far(&self) -> bool
-        ensures { IsTrue result → (rest : List ℕ) → outcome_in self.now rest ≡ outcome_in self.now [] }
+        ensures { IsTrue result → (rest : List ℕ) →
+            outcome_in self.now rest ≡ outcome_in self.now [] }
     {
         match self.refusal {
             None => self.text.goes_too_far(),

@@ -1,4 +1,5 @@
-ghost use Rattle.std.specs.Prelude.{◌≡◌, ◌≢◌, ℕ, ◌+◌, ◌≤◌, List, [], ◌++◌, length, IsTrue, IfOk, OnOk, Err};
+ghost use Rattle.std.specs.Prelude.{◌≡◌, ◌≢◌, ℕ, ◌+◌, ◌≤◌, List, [], ◌++◌, length, IsTrue, IfOk};
+ghost use Rattle.std.specs.Prelude.{OnOk, Err};
 ghost use Rattle.ngc_certificate_text.specs.Contents.{said_of, form_of};
 ghost use Rattle.ngc_certificate_text.specs.Given.{GivesCertificate};
 ghost use Rattle.ngc_certificate_text.specs.Joined.{contents};
@@ -27,7 +28,8 @@ impl<A: Allocator> TextSoFar<A> {
         A: Copy,
         ensures reading { IsResuming result }
         ensures begins { (bytes : List ℕ) → form_said bytes ≡ resumed result lines_of bytes }
-        ensures firm { (bytes rest : List ℕ) → form_said (firm bytes ++ rest) ≡ resumed result (firm_lines rest) bytes }
+        ensures firm { (bytes rest : List ℕ) →
+            form_said (firm bytes ++ rest) ≡ resumed result (firm_lines rest) bytes }
     {
         TextSoFar {
             lines: CertificateLines::new(),
@@ -38,9 +40,12 @@ impl<A: Allocator> TextSoFar<A> {
     /// More bytes of the text.
     pub(crate) fn feed(&mut self, bytes: &[u8]) -> Result<(), CertificateFault>
         requires { IsResuming self.old }
-        ensures step { (lines : List ℕ → List (List ℕ)) → PartsLines lines → (rest : List ℕ) → StepGives result (resumed self.old lines (bytes.now ++ rest)) (resumed self.new lines rest) }
+        ensures step { (lines : List ℕ → List (List ℕ)) → PartsLines lines → (rest : List ℕ) →
+            StepGives result (resumed self.old lines (bytes.now ++ rest))
+            (resumed self.new lines rest) }
         ensures reading { OnOk result (IsResuming self.new) }
-        ensures room { OnOk result (room_of self.new.lines + length bytes.now ≤ room_of self.old.lines) }
+        ensures room { OnOk result
+            (room_of self.new.lines + length bytes.now ≤ room_of self.old.lines) }
         ensures device { result ≢ Err CertificateFault.ReadFailed }
     {
         let mut rest = bytes;
@@ -58,7 +63,8 @@ impl<A: Allocator> TextSoFar<A> {
 
     /// Whether bytes stand behind the end of the text.
     pub(crate) fn goes_too_far(&self) -> bool
-        ensures { IsTrue result → IsResuming self.now → (rest : List ℕ) → resumed self.now lines_of rest ≡ resumed self.now lines_of [] }
+        ensures { IsTrue result → IsResuming self.now → (rest : List ℕ) →
+            resumed self.now lines_of rest ≡ resumed self.now lines_of [] }
     {
         self.lines.goes_too_far()
     }

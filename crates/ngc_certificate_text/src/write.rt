@@ -1,12 +1,16 @@
-ghost use Rattle.std.specs.Prelude.{◌≡◌, ◌+◌, ◌<◌, ◌≤◌, ◌++◌, codes, decimal, flat_map, length, OnOk, OnErr};
+ghost use Rattle.std.specs.Prelude.{◌≡◌, ◌+◌, ◌<◌, ◌≤◌, ◌++◌, codes, decimal, flat_map, length};
+ghost use Rattle.std.specs.Prelude.{OnOk, OnErr};
 ghost use Rattle.std.specs.Io.KnownBytes.{Appends};
 ghost use Rattle.ngc_text.specs.Failures.{CountsFailure};
 ghost use Rattle.ngc_text.specs.Written.{AppendsBeginning};
 ghost use Rattle.ngc_text.specs.Collected.{CHUNK_SIZE, HasLineRoom};
 ghost use Rattle.ngc_certificate_text.specs.Collects.{Collects};
 ghost use Rattle.ngc_certificate_text.specs.Contents.{form_of};
-ghost use Rattle.ngc_certificate_text.specs.Spelling.{steps_text, cut_text, piece_line, motion_line, entry_lines, setting_lines, parted_spelling};
-ghost use Rattle.ngc_certificate_text.specs.Spelling.{indices_text, item_line, item_lines, joined_spelling, spelling};
+ghost use Rattle.ngc_certificate_text.specs.Spelling.{steps_text, cut_text, piece_line};
+ghost use Rattle.ngc_certificate_text.specs.Spelling.{motion_line, entry_lines, setting_lines};
+ghost use Rattle.ngc_certificate_text.specs.Spelling.{parted_spelling};
+ghost use Rattle.ngc_certificate_text.specs.Spelling.{indices_text, item_line, item_lines};
+ghost use Rattle.ngc_certificate_text.specs.Spelling.{joined_spelling, spelling};
 ghost use Rattle.ngc_certificate_text.specs.Order.{items_in, IsWhole};
 ghost use Rattle.ngc_certificate_text.specs.Places.{MayPass, entry_there, behind_entry};
 
@@ -70,7 +74,8 @@ fn add_motion(chunk: &mut Chunk, index: u32, pieces: usize)
 fn add_setting(chunk: &mut Chunk, name: &[u8], motions: usize)
     requires room { HasLineRoom chunk.old }
     requires name { length name.now ≤ 3 }
-    ensures { chunk.new ≡ chunk.old ++ (codes "setting " ++ name.now ++ codes " " ++ decimal motions ++ codes "\n") }
+    ensures { chunk.new ≡ chunk.old
+        ++ (codes "setting " ++ name.now ++ codes " " ++ decimal motions ++ codes "\n") }
 {
     chunk.add_text(b"setting ");
     chunk.add_text(name);
@@ -80,7 +85,8 @@ fn add_setting(chunk: &mut Chunk, name: &[u8], motions: usize)
 }
 
 fn write_piece<W: Sink>(chunk: &mut Chunk, piece: &Piece, sink: &mut W) -> Result<(), WriteFault>
-    ensures text { Collects (W.written sink.old) (W.written sink.new) chunk.old chunk.new result (piece_line piece.now) }
+    ensures text { Collects (W.written sink.old) (W.written sink.new) chunk.old chunk.new result
+        (piece_line piece.now) }
     ensures counts { CountsFailure (W.failures sink.old) (W.failures sink.new) result }
 {
     match chunk.make_room(sink) {
@@ -96,7 +102,8 @@ fn write_pieces<W: Sink>(
     pieces: &[Piece],
     sink: &mut W,
 ) -> Result<(), WriteFault>
-    ensures text { Collects (W.written sink.old) (W.written sink.new) chunk.old chunk.new result (flat_map piece_line pieces.now) }
+    ensures text { Collects (W.written sink.old) (W.written sink.new) chunk.old chunk.new result
+        (flat_map piece_line pieces.now) }
     ensures counts { CountsFailure (W.failures sink.old) (W.failures sink.new) result }
 {
     for piece in pieces {
@@ -114,7 +121,8 @@ fn write_motion<W: Sink>(
     pieces: &[Piece],
     sink: &mut W,
 ) -> Result<(), WriteFault>
-    ensures text { Collects (W.written sink.old) (W.written sink.new) chunk.old chunk.new result (entry_lines (record { index = index; pieces = pieces.now })) }
+    ensures text { Collects (W.written sink.old) (W.written sink.new) chunk.old chunk.new result
+        (entry_lines (record { index = index; pieces = pieces.now })) }
     ensures counts { CountsFailure (W.failures sink.old) (W.failures sink.new) result }
 {
     match chunk.make_room(sink) {
@@ -130,7 +138,8 @@ fn write_motions<A: Allocator, W: Sink>(
     motions: &Motions<A>,
     sink: &mut W,
 ) -> Result<(), WriteFault>
-    ensures text { Collects (W.written sink.old) (W.written sink.new) chunk.old chunk.new result (flat_map entry_lines motions.now) }
+    ensures text { Collects (W.written sink.old) (W.written sink.new) chunk.old chunk.new result
+        (flat_map entry_lines motions.now) }
     ensures counts { CountsFailure (W.failures sink.old) (W.failures sink.new) result }
 {
     for i in 0..motions.len() {
@@ -149,7 +158,8 @@ fn write_setting<A: Allocator, W: Sink>(
     sink: &mut W,
 ) -> Result<(), WriteFault>
     requires { length name.now ≤ 3 }
-    ensures text { Collects (W.written sink.old) (W.written sink.new) chunk.old chunk.new result (setting_lines name.now motions.now) }
+    ensures text { Collects (W.written sink.old) (W.written sink.new) chunk.old chunk.new result
+        (setting_lines name.now motions.now) }
     ensures counts { CountsFailure (W.failures sink.old) (W.failures sink.new) result }
 {
     match chunk.make_room(sink) {
@@ -167,7 +177,8 @@ fn write_settings<A: Allocator, W: Sink>(
     sink: &mut W,
 ) -> Result<(), WriteFault>
     requires { HasLineRoom chunk.old }
-    ensures text { Collects (W.written sink.old) (W.written sink.new) chunk.old chunk.new result (parted_spelling (record { off = off.now; on = on.now })) }
+    ensures text { Collects (W.written sink.old) (W.written sink.new) chunk.old chunk.new result
+        (parted_spelling (record { off = off.now; on = on.now })) }
     ensures counts { CountsFailure (W.failures sink.old) (W.failures sink.new) result }
 {
     chunk.add_text(b"ngc-certificate 1\n");
@@ -222,7 +233,8 @@ fn add_entry(chunk: &mut Chunk, indices: &Indices, pieces: usize)
 
 fn add_counts(chunk: &mut Chunk, off: usize, on: usize)
     requires { HasLineRoom chunk.old }
-    ensures { chunk.new ≡ chunk.old ++ (codes "motions " ++ decimal off ++ codes " " ++ decimal on ++ codes "\n") }
+    ensures { chunk.new ≡ chunk.old
+        ++ (codes "motions " ++ decimal off ++ codes " " ++ decimal on ++ codes "\n") }
 {
     chunk.add_text(b"motions ");
     chunk.add_number(off);
@@ -237,7 +249,8 @@ fn write_entry<W: Sink>(
     pieces: &[Piece],
     sink: &mut W,
 ) -> Result<(), WriteFault>
-    ensures text { Collects (W.written sink.old) (W.written sink.new) chunk.old chunk.new result (item_lines (record { indices = indices; pieces = pieces.now })) }
+    ensures text { Collects (W.written sink.old) (W.written sink.new) chunk.old chunk.new result
+        (item_lines (record { indices = indices; pieces = pieces.now })) }
     ensures counts { CountsFailure (W.failures sink.old) (W.failures sink.new) result }
 {
     match chunk.make_room(sink) {
@@ -263,7 +276,8 @@ fn entry_there<'a, A: Allocator>(
     passed: &Passed,
 ) -> (Indices, &'a [Piece])
     requires { MayPass kind passed.now (length off.now) (length on.now) }
-    ensures { record { indices = result.0; pieces = result.1.now } ≡ entry_there kind off.now on.now passed.now }
+    ensures { record { indices = result.0; pieces = result.1.now }
+        ≡ entry_there kind off.now on.now passed.now }
 {
     match kind {
         EntryKind::Both => (
@@ -300,7 +314,8 @@ fn write_entries<A: Allocator, W: Sink>(
     sink: &mut W,
 ) -> Result<(), WriteFault>
     requires { IsWhole order.now off.now on.now }
-    ensures text { Collects (W.written sink.old) (W.written sink.new) chunk.old chunk.new result (flat_map item_lines (items_in order.now off.now on.now)) }
+    ensures text { Collects (W.written sink.old) (W.written sink.new) chunk.old chunk.new result
+        (flat_map item_lines (items_in order.now off.now on.now)) }
     ensures counts { CountsFailure (W.failures sink.old) (W.failures sink.new) result }
 {
     let mut passed = Passed { off: 0, on: 0 };
@@ -321,7 +336,8 @@ fn write_counts<W: Sink>(
     on: usize,
     sink: &mut W,
 ) -> Result<(), WriteFault>
-    ensures text { Collects (W.written sink.old) (W.written sink.new) chunk.old chunk.new result (codes "motions " ++ decimal off ++ codes " " ++ decimal on ++ codes "\n") }
+    ensures text { Collects (W.written sink.old) (W.written sink.new) chunk.old chunk.new result
+        (codes "motions " ++ decimal off ++ codes " " ++ decimal on ++ codes "\n") }
     ensures counts { CountsFailure (W.failures sink.old) (W.failures sink.new) result }
 {
     match chunk.make_room(sink) {
@@ -341,7 +357,8 @@ fn write_joined<A: Allocator, W: Sink>(
 ) -> Result<(), WriteFault>
     requires room { HasLineRoom chunk.old }
     requires whole { IsWhole order.now off.now on.now }
-    ensures text { Collects (W.written sink.old) (W.written sink.new) chunk.old chunk.new result (joined_spelling (items_in order.now off.now on.now)) }
+    ensures text { Collects (W.written sink.old) (W.written sink.new) chunk.old chunk.new result
+        (joined_spelling (items_in order.now off.now on.now)) }
     ensures counts { CountsFailure (W.failures sink.old) (W.failures sink.new) result }
 {
     chunk.add_text(b"ngc-certificate 2\n");
@@ -369,7 +386,8 @@ fn write_form<A: Allocator, W: Sink>(
     sink: &mut W,
 ) -> Result<(), WriteFault>
     requires { HasLineRoom chunk.old }
-    ensures text { Collects (W.written sink.old) (W.written sink.new) chunk.old chunk.new result (spelling (form_of certificate.now)) }
+    ensures text { Collects (W.written sink.old) (W.written sink.new) chunk.old chunk.new result
+        (spelling (form_of certificate.now)) }
     ensures counts { CountsFailure (W.failures sink.old) (W.failures sink.new) result }
 {
     match &certificate.order {
@@ -390,8 +408,11 @@ impl<A: Allocator> Certificate<A> {
     ///
     /// After a fault (902, and only where the sink failed) a beginning of the text is written.
     pub fn write<W: Sink>(&self, sink: &mut W) -> Result<(), WriteFault>
-        ensures ok { OnOk result (Appends (W.written sink.old) (W.written sink.new) (spelling (form_of self.now))) }
-        ensures fault { OnErr result (AppendsBeginning (W.written sink.old) (W.written sink.new) (spelling (form_of self.now))) }
+        ensures ok { OnOk result
+            (Appends (W.written sink.old) (W.written sink.new) (spelling (form_of self.now))) }
+        ensures fault { OnErr result
+            (AppendsBeginning (W.written sink.old) (W.written sink.new)
+            (spelling (form_of self.now))) }
         ensures counts { CountsFailure (W.failures sink.old) (W.failures sink.new) result }
     {
         let mut chunk = Chunk::new();

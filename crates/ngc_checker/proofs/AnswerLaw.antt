@@ -31,7 +31,8 @@ first_is (faults.Start i) o h = h
 first_is (faults.Piece s k j e) o h = h
 first_is (faults.ToolChange s k i) o h = h
 
-answered : (program : Program) (setup : Setup) (text : List ℕ) (kept : Option AcceptedData) (answer : Result AcceptedData CheckReadFault) → ((a : AcceptedData) → kept ≡ Some a → Keeps program setup a)
+answered : (program : Program) (setup : Setup) (text : List ℕ) (kept : Option AcceptedData) (answer : Result AcceptedData CheckReadFault) →
+    ((a : AcceptedData) → kept ≡ Some a → Keeps program setup a)
     → GivesVerdict (λ a. a) kept answer (text_verdict program setup text) → AnswersSaid (λ a. a) program setup text answer
 answered program setup text kept (Ok a) keeps h =
     let m = made_ok (first_refusal program setup) (certificate_said text) None h.0 in

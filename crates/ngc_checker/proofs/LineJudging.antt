@@ -35,10 +35,12 @@ piece_at : (b : BegunMotion) (last : Bool) → nat_le b.pieces_left 1 ≡ last �
 piece_at b true e = let none : b.pieces_left - 1 ≡ 0 = grind (arith, nat_tests) in none ∙ sym (next_left_of b.behind)
 piece_at b false e = refl
 
-pub judged_at : (e : Expected) (told : Told) (old new : JudgeData) → IsNext e told → IsAt e old → new.left ≡ left_behind told old.left → IsAt (behind_told told) new
+pub judged_at : (e : Expected) (told : Told) (old new : JudgeData) → IsNext e told → IsAt e old → new.left ≡ left_behind told old.left →
+    IsAt (behind_told told) new
 judged_at e (tell.Header v) old new is at done = done ∙ at ∙ ap left_of is ∙ sym (version_left_of v)
 judged_at e (tell.Setting s n) old new is at done = done ∙ at ∙ ap left_of is.0 ∙ sym (next_left_of (Parted s n))
-judged_at e (tell.Counts off on) old new is at done = done ∙ at ∙ ap left_of is.0 ∙ sym (next_left_of (Joined (record { off = off; on = on; behind_on = false })))
+judged_at e (tell.Counts off on) old new is at done =
+    done ∙ at ∙ ap left_of is.0 ∙ sym (next_left_of (Joined (record { off = off; on = on; behind_on = false })))
 judged_at e (tell.Motion b) old new is at done = done
 judged_at e (tell.Piece b p) old new is at done = done ∙ piece_at b (nat_le b.pieces_left 1) refl
 judged_at e tell.End old new is at done = done ∙ at ∙ ap left_of is
@@ -53,13 +55,15 @@ may_judge e number tell.End v sound is at = tt
 
 -- ---- what is made of a text
 
-pub front_judged : {X : Type 0} (told : Told) (f g : Rest → X) (before after : Left) → ((r : Rest) → Fits told r → f (onto told r) ≡ g r) → IsFront told before after → made_with f before ≡ made_with g after
+pub front_judged : {X : Type 0} (told : Told) (f g : Rest → X) (before after : Left) → ((r : Rest) → Fits told r → f (onto told r) ≡ g r) →
+    IsFront told before after → made_with f before ≡ made_with g after
 front_judged {X} told f g before (Ok r) h front = ap (made_with f) front.0 ∙ ap (λ (x : X). all_made x) (h r front.1) where
   all_made : {Y : Type 0} → Y → Result Y CertificateFault
   all_made y = Ok y
 front_judged told f g before (Err fault) h front = ap (made_with f) front
 
-pub made_twice : {X Y Z : Type 0} (f : Y → Z) (g : X → Y) (k : X → Z) (o : Result X CertificateFault) → ((x : X) → f (g x) ≡ k x) → made_with f (made_with g o) ≡ made_with k o
+pub made_twice : {X Y Z : Type 0} (f : Y → Z) (g : X → Y) (k : X → Z) (o : Result X CertificateFault) → ((x : X) → f (g x) ≡ k x) →
+    made_with f (made_with g o) ≡ made_with k o
 made_twice {Z = Z} f g k (Ok x) h = ap (λ (z : Z). all_made z) (h x) where
   all_made : {W : Type 0} → W → Result W CertificateFault
   all_made w = Ok w

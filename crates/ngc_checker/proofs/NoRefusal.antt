@@ -19,7 +19,8 @@ use Rattle.ngc_certificate.specs.Valid.{AreClearFrom, IsValid}
 use Rattle.ngc_certificate.specs.PieceFault.{pieces_fault, place_fault, ◌or◌}
 use Rattle.ngc_certificate.proofs.NoFault.{some_none, no_map, map_none, neither, both_none, clear_at, unmet_at, pieces_valid, pieces_pass}
 use Rattle.ngc_checker.specs.declared.fault.CheckFault.TheVariants as faults
-use Rattle.ngc_checker.specs.FirstRefusal.{first_difference, motions_fault, start_fault, at_command, commands_fault, setting_fault, settings_fault, first_refusal}
+use Rattle.ngc_checker.specs.FirstRefusal.{first_difference, motions_fault, start_fault, at_command, commands_fault, setting_fault, settings_fault}
+use Rattle.ngc_checker.specs.FirstRefusal.{first_refusal}
 use Rattle.ngc_checker.specs.Validity.{IsValidFor, NoneRefusedIsValid}
 
 -- ---- motions
@@ -51,12 +52,14 @@ clear_from : (machine : MachineFile) (s : Setting) (k : ℕ) (tool : Option Tool
     commands_fault machine s k tool place actions entries ≡ None → AreClearFrom machine tool place actions entries
 clear_from machine s k tool place [] entries h = tt
 clear_from machine s k tool place (Mount new ∷ actions) entries h =
-    let e = neither (option_map (faults.ToolChange s k) (place_fault machine new (grid machine.step place))) (commands_fault machine s (k + 1) new place actions entries) h in (
+    let e = neither (option_map (faults.ToolChange s k) (place_fault machine new (grid machine.step place)))
+    (commands_fault machine s (k + 1) new place actions entries) h in (
       clear_at machine new (grid machine.step place) (no_map (faults.ToolChange s k) (place_fault machine new (grid machine.step place)) e.0),
       clear_from machine s (k + 1) new place actions entries e.1,
     )
 clear_from machine s k tool place (Move m ∷ actions) (entry ∷ entries) h =
-    let e = neither (option_map (at_command s k) (pieces_fault machine tool m.way entry.pieces)) (commands_fault machine s (k + 1) tool (end_of m.way) actions entries) h in (
+    let e = neither (option_map (at_command s k) (pieces_fault machine tool m.way entry.pieces))
+    (commands_fault machine s (k + 1) tool (end_of m.way) actions entries) h in (
       pieces_valid machine tool m.way entry.pieces (no_map (at_command s k) (pieces_fault machine tool m.way entry.pieces) e.0),
       clear_from machine s (k + 1) tool (end_of m.way) actions entries e.1,
     )
@@ -67,11 +70,13 @@ passes_from : (machine : MachineFile) (s : Setting) (k : ℕ) (tool : Option Too
     AreClearFrom machine tool place actions entries → commands_fault machine s k tool place actions entries ≡ None
 passes_from machine s k tool place [] entries h = refl
 passes_from machine s k tool place (Mount new ∷ actions) entries h =
-    both_none (option_map (faults.ToolChange s k) (place_fault machine new (grid machine.step place))) (commands_fault machine s (k + 1) new place actions entries)
+    both_none (option_map (faults.ToolChange s k) (place_fault machine new (grid machine.step place)))
+    (commands_fault machine s (k + 1) new place actions entries)
     (map_none (faults.ToolChange s k) (place_fault machine new (grid machine.step place)) (unmet_at machine new (grid machine.step place) h.0))
     (passes_from machine s (k + 1) new place actions entries h.1)
 passes_from machine s k tool place (Move m ∷ actions) (entry ∷ entries) h =
-    both_none (option_map (at_command s k) (pieces_fault machine tool m.way entry.pieces)) (commands_fault machine s (k + 1) tool (end_of m.way) actions entries)
+    both_none (option_map (at_command s k) (pieces_fault machine tool m.way entry.pieces))
+    (commands_fault machine s (k + 1) tool (end_of m.way) actions entries)
     (map_none (at_command s k) (pieces_fault machine tool m.way entry.pieces) (pieces_pass machine tool m.way entry.pieces h.0))
     (passes_from machine s (k + 1) tool (end_of m.way) actions entries h.1)
 passes_from machine s k tool place (Move m ∷ actions) [] h = absurd h
@@ -82,10 +87,12 @@ passes_from machine s k tool place (_ ∷ actions) entries h = passes_from machi
 pub setting_valid : (machine : MachineFile) (s : Setting) (commands : List Command) (entries : List Entry) →
     setting_fault machine s commands entries ≡ None → IsValid machine commands entries
 setting_valid machine s commands entries h =
-    let a = neither (motions_fault s (actions_of commands) entries or start_fault machine) (commands_fault machine s 0 None machine.start (actions_of commands) entries) h in
+    let a = neither (motions_fault s (actions_of commands) entries or start_fault machine)
+    (commands_fault machine s 0 None machine.start (actions_of commands) entries) h in
     let b = neither (motions_fault s (actions_of commands) entries) (start_fault machine) a.0 in
     record {
-      motions = no_difference (motion_indices 0 (actions_of commands)) (map (λ entry. entry.index) entries) (no_map (faults.MotionsDiffer s) (first_difference (motion_indices 0 (actions_of commands)) (map (λ entry. entry.index) entries)) b.0);
+      motions = no_difference (motion_indices 0 (actions_of commands)) (map (λ entry. entry.index) entries)
+          (no_map (faults.MotionsDiffer s) (first_difference (motion_indices 0 (actions_of commands)) (map (λ entry. entry.index) entries)) b.0);
       start = clear_at machine None (grid machine.step machine.start) (no_map faults.Start (place_fault machine None (grid machine.step machine.start)) b.1);
       clear = clear_from machine s 0 None machine.start (actions_of commands) entries a.1;
     }
@@ -93,7 +100,8 @@ setting_valid machine s commands entries h =
 setting_passes : (machine : MachineFile) (s : Setting) (commands : List Command) (entries : List Entry) →
     IsValid machine commands entries → setting_fault machine s commands entries ≡ None
 setting_passes machine s commands entries h =
-    both_none (motions_fault s (actions_of commands) entries or start_fault machine) (commands_fault machine s 0 None machine.start (actions_of commands) entries)
+    both_none (motions_fault s (actions_of commands) entries or start_fault machine)
+    (commands_fault machine s 0 None machine.start (actions_of commands) entries)
     (both_none (motions_fault s (actions_of commands) entries) (start_fault machine)
     (map_none (faults.MotionsDiffer s) _ (alike (motion_indices 0 (actions_of commands)) (map (λ entry. entry.index) entries) h.motions))
     (map_none faults.Start _ (unmet_at machine None (grid machine.step machine.start) h.start)))

@@ -1,5 +1,6 @@
 -- What the motions and pieces of a certificate do to the check of a setting.
-use Rattle.std.proofs.Common.{◌≡◌, ℕ, zero, suc, ◌+◌, ◌-◌, ◌<◌, ◌≤◌, ap, ap₂, Option, Some, None, List, [], ◌∷◌, length, drop, take, get_or, refl, sym, ◌∙◌, arith, add-one, drop-cons}
+use Rattle.std.proofs.Common.{◌≡◌, ℕ, zero, suc, ◌+◌, ◌-◌, ◌<◌, ◌≤◌, ap, ap₂, Option, Some, None, List, [], ◌∷◌, length, drop, take, get_or, refl, sym, ◌∙◌}
+use Rattle.std.proofs.Common.{arith, add-one, drop-cons}
 use Rattle.std.specs.Prelude.{map, min, nat_le, nat_lt, ◌==◌, if◌then◌else◌}
 use Rattle.std.specs.Option.{option_map}
 use Rattle.std.proofs.lemmas.Bool.Decides.{nat_tests}
@@ -63,12 +64,15 @@ map_or f None b = refl
 
 abbrev after_move : MachineFile → Setting → CommandWalk → Motion → List Command → Entry → List Entry → Point3 → ℕ → Option CheckFault
 after_move machine s w m cs entry entries p k =
-    w.refusal or (option_map (at_command s w.index) (pieces_fault machine w.tool m.way entry.pieces) or commands_fault machine s (w.index + 1) w.tool p (actions_of (drop k cs)) entries)
+    w.refusal or (option_map (at_command s w.index) (pieces_fault machine w.tool m.way entry.pieces) or commands_fault machine s (w.index + 1) w.tool p
+    (actions_of (drop k cs)) entries)
 
-pub move_step : (machine : MachineFile) (s : Setting) (w : CommandWalk) (start : ℕ) (cs : List Command) (i : ℕ) (c : Command) (m : Motion) (place : Point3) (entry : Entry) (entries : List Entry)
+pub move_step : (machine : MachineFile) (s : Setting) (w : CommandWalk) (start : ℕ) (cs : List Command) (i : ℕ) (c : Command) (m : Motion) (place : Point3)
+    (entry : Entry) (entries : List Entry)
     → i < length cs → c ≡ get_or cs i c → c.action ≡ Move m → place ≡ end_of m.way → w.index ≡ start + i
     → walk_from machine s w.index w (actions_of (drop i cs)) (entry ∷ entries)
-    ≡ with_motion machine s (record { index = w.index + 1; tool = w.tool; place = place; refusal = w.refusal }) (record { index = w.index; way = m.way }) (actions_of (drop (w.index + 1 - start) cs)) entry entries
+    ≡ with_motion machine s (record { index = w.index + 1; tool = w.tool; place = place; refusal = w.refusal }) (record { index = w.index; way = m.way })
+    (actions_of (drop (w.index + 1 - start) cs)) entry entries
 move_step machine s w start cs i c m place entry entries h e is stands at =
     let split = left_at i cs c h e in
     let same : i + 1 ≡ w.index + 1 - start = omega (arith, at) in
@@ -92,24 +96,31 @@ abbrev by_parts : MachineFile → Setting → Option ℕ → Option ℕ → Opti
 by_parts machine s differs d x = option_map (faults.MotionsDiffer s) (differs or d) or start_fault machine or x
 
 abbrev judging : MachineFile → Setting → List Command → CommandWalk → List Entry → ℕ → Option PieceRefusal → Option CheckFault
-judging machine s commands w entries k f = w.refusal or (option_map (at_command s k) f or commands_fault machine s w.index w.tool w.place (commands_ahead commands w) entries)
+judging machine s commands w entries k f =
+    w.refusal or (option_map (at_command s k) f or commands_fault machine s w.index w.tool w.place (commands_ahead commands w) entries)
 
-pub compared : (machine : MachineFile) (s : Setting) (commands ahead : List Command) (old : SettingJudge) (w : CommandWalk) (m : NextMotion) (j : PieceJudge) (index : ℕ) (pieces : List Piece) (entries : List Entry)
+pub compared : (machine : MachineFile) (s : Setting) (commands ahead : List Command) (old : SettingJudge) (w : CommandWalk) (m : NextMotion) (j : PieceJudge)
+    (index : ℕ) (pieces : List Piece) (entries : List Entry)
     → ahead ≡ drop old.walk.index commands → old.walk.index ≤ w.index → w.index ≡ m.index + 1 → old.following ≡ None
     → motion_indices old.walk.index (actions_of ahead) ≡ m.index ∷ motion_indices w.index (actions_of (drop (w.index - old.walk.index) ahead))
-    → ((entry : Entry) (es : List Entry) → walk_from machine s old.walk.index old.walk (actions_of ahead) (entry ∷ es) ≡ with_motion machine s w m (actions_of (drop (w.index - old.walk.index) ahead)) entry es)
+    → ((entry : Entry) (es : List Entry) → walk_from machine s old.walk.index old.walk (actions_of ahead) (entry ∷ es)
+    ≡ with_motion machine s w m (actions_of (drop (w.index - old.walk.index) ahead)) entry es)
     → m.index ≡ index → pieces_fault machine w.tool m.way pieces ≡ fault_ahead machine j pieces
-    → fault_left machine s commands old [] (record { index = index; pieces = pieces } ∷ entries) ≡ fault_left machine s commands (record { walk = w; differs = old.differs; following = Some j }) pieces entries
+    → fault_left machine s commands old [] (record { index = index; pieces = pieces } ∷ entries)
+    ≡ fault_left machine s commands (record { walk = w; differs = old.differs; following = Some j }) pieces entries
 compared machine s commands ahead old w m j index pieces entries at on behind none indices walk same judged =
     let entry : Entry = record { index = index; pieces = pieces } in
-    let rest : drop (w.index - old.walk.index) ahead ≡ drop w.index commands = ap (drop (w.index - old.walk.index)) at ∙ drop_on old.walk.index w.index commands on in
+    let rest : drop (w.index - old.walk.index) ahead ≡ drop w.index commands =
+    ap (drop (w.index - old.walk.index)) at ∙ drop_on old.walk.index w.index commands on in
     let last : m.index ≡ w.index - 1 = omega (arith, behind) in
     ap₂ (by_parts machine s old.differs)
     (ap (λ (l : List Command). first_difference (motion_indices old.walk.index (actions_of l)) (index ∷ map (λ (e : Entry). e.index) entries)) (sym at)
     ∙ ap (λ (is : List ℕ). first_difference is (index ∷ map (λ (e : Entry). e.index) entries)) indices
     ∙ alike_heads m.index index (motion_indices w.index (actions_of (drop (w.index - old.walk.index) ahead))) (map (λ (e : Entry). e.index) entries) same
     ∙ ap (λ (l : List Command). first_difference (motion_indices w.index (actions_of l)) (map (λ (e : Entry). e.index) entries)) rest)
-    (ap (λ (x : Option CheckFault). (old.walk.refusal or x)) (none_left machine s (old.walk.index - 1) old.following (commands_fault machine s old.walk.index old.walk.tool old.walk.place (commands_ahead commands old.walk) (entry ∷ entries)) none)
+    (ap (λ (x : Option CheckFault). (old.walk.refusal or x))
+    (none_left machine s (old.walk.index - 1) old.following
+    (commands_fault machine s old.walk.index old.walk.tool old.walk.place (commands_ahead commands old.walk) (entry ∷ entries)) none)
     ∙ ap (λ (l : List Command). walk_from machine s old.walk.index old.walk (actions_of l) (entry ∷ entries)) (sym at)
     ∙ walk entry entries
     ∙ ap (λ (l : List Command). with_motion machine s w m (actions_of l) entry entries) rest
@@ -117,10 +128,16 @@ compared machine s commands ahead old w m j index pieces entries at on behind no
 
 -- ---- a piece of a motion that is followed
 
-pub followed : (machine : MachineFile) (s : Setting) (commands : List Command) (old : SettingJudge) (j more : PieceJudge) (found : Option PieceRefusal) (p : Piece) (ps : List Piece) (entries : List Entry)
+pub followed : (machine : MachineFile) (s : Setting) (commands : List Command) (old : SettingJudge) (j more : PieceJudge) (found : Option PieceRefusal)
+    (p : Piece) (ps : List Piece) (entries : List Entry)
     → old.following ≡ Some j → fault_ahead machine j (p ∷ ps) ≡ (found or fault_ahead machine more ps)
     → fault_left machine s commands old (p ∷ ps) entries
-    ≡ fault_left machine s commands (record { walk = record old.walk { refusal = old.walk.refusal or option_map (at_command s (old.walk.index - 1)) found }; differs = old.differs; following = Some more }) ps entries
+    ≡ fault_left machine s commands
+    (record {
+      walk = record old.walk { refusal = old.walk.refusal or option_map (at_command s (old.walk.index - 1)) found };
+      differs = old.differs;
+      following = Some more;
+    }) ps entries
 followed machine s commands old j more found p ps entries is first =
     let rest = commands_fault machine s old.walk.index old.walk.tool old.walk.place (commands_ahead commands old.walk) entries in
     let here = option_map (at_command s (old.walk.index - 1)) found in
@@ -130,7 +147,8 @@ followed machine s commands old j more found p ps entries is first =
     (ap (λ (f : Option PieceJudge). pieces_left machine s (old.walk.index - 1) f (p ∷ ps)) is
     ∙ ap (option_map (at_command s (old.walk.index - 1))) first
     ∙ map_or (at_command s (old.walk.index - 1)) found (fault_ahead machine more ps))
-    ∙ ap (by_parts machine s old.differs d) (ap (λ (x : Option CheckFault). (old.walk.refusal or x)) (sym (or_both here ahead rest)) ∙ or_both old.walk.refusal here (ahead or rest))
+    ∙ ap (by_parts machine s old.differs d)
+    (ap (λ (x : Option CheckFault). (old.walk.refusal or x)) (sym (or_both here ahead rest)) ∙ or_both old.walk.refusal here (ahead or rest))
 
 pub not_last : (n : ℕ) (ps : List Piece) → 1 < n → length ps + 1 ≡ n → nat_le n 1 ≡ is_empty ps
 not_last n [] h e = absurd (omega (arith, h, e))
@@ -147,7 +165,8 @@ judged_all machine tool w n j [] some e h = absurd (omega (arith, some, e))
 judged_all machine tool w n j (p ∷ ps) some e h = sym (h p ps (several_are n (p ∷ ps) e))
 
 -- pieces that nobody follows change nothing
-pub idle : (machine : MachineFile) (s : Setting) (commands : List Command) (old : SettingJudge) (p : Piece) (ps : List Piece) (entries : List Entry) → old.following ≡ None
+pub idle : (machine : MachineFile) (s : Setting) (commands : List Command) (old : SettingJudge) (p : Piece) (ps : List Piece) (entries : List Entry) →
+    old.following ≡ None
     → fault_left machine s commands old (p ∷ ps) entries ≡ fault_left machine s commands old ps entries
 idle machine s commands old p ps entries e =
     let rest = commands_fault machine s old.walk.index old.walk.tool old.walk.place (commands_ahead commands old.walk) entries in

@@ -1,6 +1,7 @@
 -- What was accepted: a program's commands at both settings of block delete, its machine and its
 -- tools. Our own.
-use Rattle.std.specs.Prelude.{◌≡◌, ◌≤◌, List, length, Option, Some, None, Result, Ok, Err, Bool, true, false}
+use Rattle.std.specs.Prelude.{◌≡◌, ◌≤◌, List, length, Option, Some, None, Result, Ok, Err, Bool}
+use Rattle.std.specs.Prelude.{true, false}
 use Rattle.ngc_fixed_length.specs.declared.points.Point3.{Point3}
 use Rattle.ngc_machine.specs.Machine.{MachineFile}
 use Rattle.ngc_machine.specs.MachineRanges.{IsMachine}
@@ -64,6 +65,8 @@ IsFirst (faults.Piece s k j e) first = first ≡ Some (faults.Piece s k j e)
 IsFirst (faults.ToolChange s k i) first = first ≡ Some (faults.ToolChange s k i)
 
 -- exactly: yes where nothing is refused, else the first refusal
-abbrev pub Answers : {X : Type 0} → (X → AcceptedData) → Program → Setup → CertificateData → Result X CheckFault → Type 0
-Answers view program setup c (Ok x) = (first_refusal program setup c ≡ None) × Keeps program setup (view x)
+abbrev pub Answers : {X : Type 0} → (X → AcceptedData) → Program → Setup → CertificateData →
+    Result X CheckFault → Type 0
+Answers view program setup c (Ok x) =
+    (first_refusal program setup c ≡ None) × Keeps program setup (view x)
 Answers view program setup c (Err e) = IsFirst e (first_refusal program setup c)

@@ -12,10 +12,14 @@ use Rattle.ngc_checker.specs.CheckView.{text_verdict}
 -- exactly: yes where the text has no fault and nothing is refused, with what the checker keeps
 -- then; else the text's fault, but for want of memory and the source's failure, or the first
 -- refusal
-abbrev pub AnswersText : {X : Type 0} → (X → AcceptedData) → Program → Setup → List ℕ → Result X CheckReadFault → Type 0
-AnswersText view program setup text (Ok x) = (text_verdict program setup text ≡ Ok None) × Keeps program setup (view x)
-AnswersText view program setup text (Err (reads.Certificate fault)) = FaultIs fault (text_verdict program setup text)
-AnswersText view program setup text (Err (reads.Check fault)) = text_verdict program setup text ≡ Ok (Some fault)
+abbrev pub AnswersText : {X : Type 0} → (X → AcceptedData) → Program → Setup → List ℕ →
+    Result X CheckReadFault → Type 0
+AnswersText view program setup text (Ok x) =
+    (text_verdict program setup text ≡ Ok None) × Keeps program setup (view x)
+AnswersText view program setup text (Err (reads.Certificate fault)) =
+    FaultIs fault (text_verdict program setup text)
+AnswersText view program setup text (Err (reads.Check fault)) =
+    text_verdict program setup text ≡ Ok (Some fault)
 
 -- the count of failures rises at the answer that the source failed, and stays at every other
 abbrev pub FailsByReading : {X : Type 0} → Result X CheckReadFault → ℕ → ℕ → Type 0

@@ -47,7 +47,8 @@ room_in r = room_of r.text.lines
 
 -- exactly: yes with what was kept where nothing is refused, else the text's fault or the first
 -- refusal
-abbrev pub GivesVerdict : {X : Type 0} → (X → AcceptedData) → Option AcceptedData → Result X CheckReadFault → Verdict → Type 0
+abbrev pub GivesVerdict : {X : Type 0} → (X → AcceptedData) → Option AcceptedData →
+    Result X CheckReadFault → Verdict → Type 0
 GivesVerdict view kept (Ok x) says = (says ≡ Ok None) × (kept ≡ Some (view x))
 GivesVerdict view kept (Err (reads.Certificate fault)) says = says ≡ Err fault
 GivesVerdict view kept (Err (reads.Check fault)) says = says ≡ Ok (Some fault)
@@ -56,15 +57,21 @@ GivesVerdict view kept (Err (reads.Check fault)) says = says ≡ Ok (Some fault)
 
 -- what a reader of a certificate's text answers: the text's fault, or else what the checker answers
 -- for what it says
-abbrev pub AnswersSaid : {X : Type 0} → (X → AcceptedData) → Program → Setup → List ℕ → Result X CheckReadFault → Type 0
-AnswersSaid view program setup text (Ok x) = (c : CertificateData) × (certificate_said text ≡ Ok c) × Answers view program setup c (Ok x)
-AnswersSaid view program setup text (Err (reads.Certificate fault)) = certificate_said text ≡ Err fault
-AnswersSaid {X} view program setup text (Err (reads.Check fault)) = (c : CertificateData) × (certificate_said text ≡ Ok c) × Answers {X = X} view program setup c (Err fault)
+abbrev pub AnswersSaid : {X : Type 0} → (X → AcceptedData) → Program → Setup → List ℕ →
+    Result X CheckReadFault → Type 0
+AnswersSaid view program setup text (Ok x) =
+    (c : CertificateData) × (certificate_said text ≡ Ok c) × Answers view program setup c (Ok x)
+AnswersSaid view program setup text (Err (reads.Certificate fault)) =
+    certificate_said text ≡ Err fault
+AnswersSaid {X} view program setup text (Err (reads.Check fault)) = (c : CertificateData) ×
+    (certificate_said text ≡ Ok c) × Answers {X = X} view program setup c (Err fault)
 
 -- What a reader makes of the joined pieces is exactly what the checker answers for the certificate
 -- that they say, or the text's fault.
 abbrev pub VerdictIsAnswer : Type 0
 VerdictIsAnswer =
-    (program : Program) (setup : Setup) (text : List ℕ) (kept : Option AcceptedData) (answer : Result AcceptedData CheckReadFault)
+    (program : Program) (setup : Setup) (text : List ℕ) (kept : Option AcceptedData)
+    (answer : Result AcceptedData CheckReadFault)
     → ((a : AcceptedData) → kept ≡ Some a → Keeps program setup a)
-    → GivesVerdict (λ a. a) kept answer (text_verdict program setup text) → AnswersSaid (λ a. a) program setup text answer
+    → GivesVerdict (λ a. a) kept answer (text_verdict program setup text) →
+    AnswersSaid (λ a. a) program setup text answer

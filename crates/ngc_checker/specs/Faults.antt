@@ -5,7 +5,8 @@ use Rattle.ngc_certificate_text.specs.Faults.{number_of as text_number}
 use Rattle.ngc_checker.specs.declared.check_fault.CheckReadFault.{CheckReadFault}
 use Rattle.ngc_checker.specs.declared.check_fault.CheckReadFault.TheVariants.{Certificate, Check}
 use Rattle.ngc_checker.specs.declared.fault.CheckFault.{CheckFault}
-use Rattle.ngc_checker.specs.declared.fault.CheckFault.TheVariants.{Program, MotionsDiffer, Start, Piece, ToolChange, Memory}
+use Rattle.ngc_checker.specs.declared.fault.CheckFault.TheVariants.{Program, MotionsDiffer, Start}
+use Rattle.ngc_checker.specs.declared.fault.CheckFault.TheVariants.{Piece, ToolChange, Memory}
 
 abbrev pub number_of : CheckFault → ℕ
 number_of (Program setting fault) = 311

@@ -1,5 +1,6 @@
 -- The first refusal of a certificate, in the checker's order. Our own.
-use Rattle.std.specs.Prelude.{ℕ, ◌+◌, ◌==◌, min, List, [], ◌∷◌, map, Option, Some, None, option_map, Result, Ok, Err, true, false, if◌then◌else◌}
+use Rattle.std.specs.Prelude.{ℕ, ◌+◌, ◌==◌, min, List, [], ◌∷◌, map, Option, Some, None, option_map}
+use Rattle.std.specs.Prelude.{Result, Ok, Err, true, false, if◌then◌else◌}
 use Rattle.ngc_fixed_length.specs.Grid.{grid}
 use Rattle.ngc_fixed_length.specs.declared.points.Point3.{Point3}
 use Rattle.ngc_canonical.specs.declared.command.Command.{Command}
@@ -27,16 +28,19 @@ first_difference [] (j ∷ js) = Some j
 first_difference (i ∷ is) (j ∷ js) = if i == j then first_difference is js else Some (min i j)
 
 abbrev pub motions_fault : Setting → List Action → List Entry → Option CheckFault
-motions_fault s actions entries = option_map (faults.MotionsDiffer s) (first_difference (motion_indices 0 actions) (map (λ entry. entry.index) entries))
+motions_fault s actions entries = option_map (faults.MotionsDiffer s)
+    (first_difference (motion_indices 0 actions) (map (λ entry. entry.index) entries))
 
 abbrev pub start_fault : MachineFile → Option CheckFault
-start_fault machine = option_map faults.Start (place_fault machine None (grid machine.step machine.start))
+start_fault machine =
+    option_map faults.Start (place_fault machine None (grid machine.step machine.start))
 
 abbrev pub at_command : Setting → ℕ → PieceRefusal → CheckFault
 at_command s k refusal = faults.Piece s k refusal.piece refusal.fault
 
 -- from command k on, with the tool mounted and the place reached so far
-abbrev pub commands_fault : MachineFile → Setting → ℕ → Option Tool → Point3 → List Action → List Entry → Option CheckFault
+abbrev pub commands_fault : MachineFile → Setting → ℕ → Option Tool → Point3 → List Action →
+    List Entry → Option CheckFault
 commands_fault machine s k tool place [] entries = None
 commands_fault machine s k tool place (Mount new ∷ actions) entries =
     option_map (faults.ToolChange s k) (place_fault machine new (grid machine.step place))
@@ -45,7 +49,8 @@ commands_fault machine s k tool place (Move m ∷ actions) (entry ∷ entries) =
     option_map (at_command s k) (pieces_fault machine tool m.way entry.pieces)
     or commands_fault machine s (k + 1) tool (end_of m.way) actions entries
 commands_fault machine s k tool place (Move m ∷ actions) [] = Some (faults.MotionsDiffer s k)
-commands_fault machine s k tool place (_ ∷ actions) entries = commands_fault machine s (k + 1) tool place actions entries
+commands_fault machine s k tool place (_ ∷ actions) entries =
+    commands_fault machine s (k + 1) tool place actions entries
 
 abbrev pub setting_fault : MachineFile → Setting → List Command → List Entry → Option CheckFault
 setting_fault machine s commands entries =
@@ -53,10 +58,13 @@ setting_fault machine s commands entries =
     commands_fault machine s 0 None machine.start (actions_of commands) entries
 
 -- the commands at both settings, or why the program is refused
-abbrev pub settings_fault : MachineFile → Result (List Command) ProgramFault → Result (List Command) ProgramFault → CertificateData → Option CheckFault
+abbrev pub settings_fault : MachineFile → Result (List Command) ProgramFault →
+    Result (List Command) ProgramFault → CertificateData → Option CheckFault
 settings_fault machine (Err e) on c = Some (faults.Program Off e)
 settings_fault machine (Ok off) (Err e) c = Some (faults.Program On e)
-settings_fault machine (Ok off) (Ok on) c = setting_fault machine Off off c.off or setting_fault machine On on c.on
+settings_fault machine (Ok off) (Ok on) c =
+    setting_fault machine Off off c.off or setting_fault machine On on c.on
 
 abbrev pub first_refusal : Program → Setup → CertificateData → Option CheckFault
-first_refusal program setup c = settings_fault setup.machine (meaning program setup false) (meaning program setup true) c
+first_refusal program setup c =
+    settings_fault setup.machine (meaning program setup false) (meaning program setup true) c

@@ -33,27 +33,33 @@ pub record JudgeData : Type 0 where
 
 -- the first refusal, where this is left of a certificate: pieces matter to a setting where its
 -- motion has begun
-abbrev pub verdict_left : MachineFile → List Command → List Command → SettingJudge → SettingJudge → Rest → Option CheckFault
+abbrev pub verdict_left : MachineFile → List Command → List Command → SettingJudge → SettingJudge →
+    Rest → Option CheckFault
 verdict_left machine off on off_walk on_walk r =
-    fault_left machine Off off off_walk r.pieces (certificate_of r).off or fault_left machine On on on_walk r.pieces (certificate_of r).on
+    fault_left machine Off off off_walk r.pieces
+    (certificate_of r).off or fault_left machine On on on_walk r.pieces (certificate_of r).on
 
 -- a setting's walk stands among its commands, and so many pieces may come yet of its motion that
 -- has begun
-pub record IsWalking (machine : MachineFile) (commands : List Command) (walk : SettingJudge) (left : ℕ) : Type 0 where
+pub record IsWalking (machine : MachineFile) (commands : List Command) (walk : SettingJudge)
+    (left : ℕ) : Type 0 where
   pub index : walk.walk.index ≤ length commands
   pub following : IsFollowing machine walk.following left
   pub none : left ≡ 0 → walk.following ≡ None
 
 -- The lines so far and those that come say some certificate, and the verdict is that of both
 -- together.
-pub record IsJudge (machine : MachineFile) (off on : List Command) (off_walk on_walk : SettingJudge) (left : ℕ) : Type 0 where
+pub record IsJudge (machine : MachineFile) (off on : List Command) (off_walk on_walk : SettingJudge)
+    (left : ℕ) : Type 0 where
   pub good_machine : IsMachine machine
   pub off_commands : AreCommands machine.start off
   pub on_commands : AreCommands machine.start on
   pub off_walking : IsWalking machine off off_walk left
   pub on_walking : IsWalking machine on on_walk left
   pub certificate : Rest → CertificateData
-  pub says : (r : Rest) → length r.pieces ≡ left → settings_fault machine (Ok off) (Ok on) (certificate r) ≡ verdict_left machine off on off_walk on_walk r
+  pub says : (r : Rest) → length r.pieces ≡ left →
+      settings_fault machine (Ok off) (Ok on) (certificate r)
+      ≡ verdict_left machine off on off_walk on_walk r
 
 -- the first refusal, where this comes yet
 abbrev pub verdict_of : JudgeData → Rest → Option CheckFault

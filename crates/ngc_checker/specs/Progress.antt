@@ -13,5 +13,7 @@ abbrev pub indices_from : ℕ → List Entry → List ℕ
 indices_from next entries = map (λ entry. entry.index) (drop next entries)
 
 -- the first fault of the commands from k on
-abbrev pub fault_from : MachineFile → Setting → ℕ → Walk → List Action → List Entry → Option CheckFault
-fault_from machine s k walk actions entries = commands_fault machine s k walk.tool walk.place actions (drop walk.next entries)
+abbrev pub fault_from : MachineFile → Setting → ℕ → Walk → List Action → List Entry →
+    Option CheckFault
+fault_from machine s k walk actions entries =
+    commands_fault machine s k walk.tool walk.place actions (drop walk.next entries)

@@ -16,20 +16,25 @@ use Rattle.ngc_checker.specs.declared.command_walk.NextMotion.{NextMotion}
 use Rattle.ngc_checker.specs.declared.fault.CheckFault.{CheckFault}
 use Rattle.ngc_checker.specs.declared.fault.CheckFault.TheVariants as faults
 use Rattle.ngc_checker.specs.declared.setting_judge.SettingJudge.{SettingJudge}
-use Rattle.ngc_checker.specs.FirstRefusal.{first_difference, start_fault, at_command, commands_fault}
+use Rattle.ngc_checker.specs.FirstRefusal.{first_difference, start_fault, at_command}
+use Rattle.ngc_checker.specs.FirstRefusal.{commands_fault}
 
 -- the first refusal of the commands so far and of those from k on
-abbrev pub walk_from : MachineFile → Setting → ℕ → CommandWalk → List Action → List Entry → Option CheckFault
-walk_from machine s k w actions entries = w.refusal or commands_fault machine s k w.tool w.place actions entries
+abbrev pub walk_from : MachineFile → Setting → ℕ → CommandWalk → List Action → List Entry →
+    Option CheckFault
+walk_from machine s k w actions entries =
+    w.refusal or commands_fault machine s k w.tool w.place actions entries
 
 -- of those so far, of a motion's pieces, and of those behind it
-abbrev pub with_motion : MachineFile → Setting → CommandWalk → NextMotion → List Action → Entry → List Entry → Option CheckFault
+abbrev pub with_motion : MachineFile → Setting → CommandWalk → NextMotion → List Action → Entry →
+    List Entry → Option CheckFault
 with_motion machine s w m actions entry entries =
     w.refusal or (option_map (at_command s m.index) (pieces_fault machine w.tool m.way entry.pieces)
     or commands_fault machine s w.index w.tool w.place actions entries)
 
 -- of the pieces that come of the motion that has begun, where they are judged
-abbrev pub pieces_left : MachineFile → Setting → ℕ → Option PieceJudge → List Piece → Option CheckFault
+abbrev pub pieces_left : MachineFile → Setting → ℕ → Option PieceJudge → List Piece →
+    Option CheckFault
 pieces_left machine s k None pieces = None
 pieces_left machine s k (Some j) pieces = option_map (at_command s k) (fault_ahead machine j pieces)
 
@@ -37,9 +42,14 @@ abbrev pub commands_ahead : List Command → CommandWalk → List Action
 commands_ahead commands w = actions_of (drop w.index commands)
 
 -- the first refusal of a setting, where these pieces and motions come yet
-abbrev pub fault_left : MachineFile → Setting → List Command → SettingJudge → List Piece → List Entry → Option CheckFault
+abbrev pub fault_left : MachineFile → Setting → List Command → SettingJudge → List Piece →
+    List Entry → Option CheckFault
 fault_left machine s commands j pieces entries =
-    option_map (faults.MotionsDiffer s) (j.differs or first_difference (motion_indices j.walk.index (commands_ahead commands j.walk)) (map (λ entry. entry.index) entries))
+    option_map (faults.MotionsDiffer s)
+    (j.differs or first_difference
+    (motion_indices j.walk.index (commands_ahead commands j.walk))
+    (map (λ entry. entry.index) entries))
     or start_fault machine or
     (j.walk.refusal or (pieces_left machine s (j.walk.index - 1) j.following pieces
-    or commands_fault machine s j.walk.index j.walk.tool j.walk.place (commands_ahead commands j.walk) entries))
+    or commands_fault machine s j.walk.index j.walk.tool j.walk.place
+    (commands_ahead commands j.walk) entries))

@@ -1,4 +1,5 @@
-ghost use Rattle.std.specs.Prelude.{◌≡◌, ◌≢◌, ℕ, List, [], ◌+◌, ◌≤◌, ◌++◌, length, IsTrue, MatchResult, OnOk, IfOk, IfSome, Some, None, Ok, Err};
+ghost use Rattle.std.specs.Prelude.{◌≡◌, ◌≢◌, ℕ, List, [], ◌+◌, ◌≤◌, ◌++◌, length, IsTrue};
+ghost use Rattle.std.specs.Prelude.{MatchResult, OnOk, IfOk, IfSome, Some, None, Ok, Err};
 ghost use Rattle.std.specs.Result.{result_err};
 ghost use Rattle.ngc_line_reader.specs.Grammar.{Reading};
 ghost use Rattle.ngc_line_reader.specs.ProgramText.{AreReadings};
@@ -55,8 +56,13 @@ fn judge_of<A: Allocator + Copy>(
     machine: &Machine<A>,
     tools: &Tools<A>,
 ) -> Result<Result<Judge<A>, CheckFault>, MemoryFault>
-    ensures verdict { (rs : List Reading) → AreReadings (text_in program.now).lines rs → IfOk result (λ j. (r : Rest) → first_refusal (program_said (text_in program.now) rs) (setup_of machine.now tools.now) (certificate_of r) ≡ judged_by j r) }
-    ensures kept { (rs : List Reading) → AreReadings (text_in program.now).lines rs → IfOk result (λ j. (a : AcceptedData) → kept_by j ≡ Some a → Keeps (program_said (text_in program.now) rs) (setup_of machine.now tools.now) a) }
+    ensures verdict { (rs : List Reading) → AreReadings (text_in program.now).lines rs →
+        IfOk result (λ j. (r : Rest) →
+        first_refusal (program_said (text_in program.now) rs) (setup_of machine.now tools.now)
+        (certificate_of r) ≡ judged_by j r) }
+    ensures kept { (rs : List Reading) → AreReadings (text_in program.now).lines rs →
+        IfOk result (λ j. (a : AcceptedData) → kept_by j ≡ Some a →
+        Keeps (program_said (text_in program.now) rs) (setup_of machine.now tools.now) a) }
     ensures at { IfOk result (λ j. (v : JudgeData) → j ≡ Ok v → IsAt expect.Header v) }
 {
     let off = match interpret(alloc, program, machine, tools, false) {
@@ -83,7 +89,8 @@ fn judge_of<A: Allocator + Copy>(
 impl<A: Allocator> CheckReader<A> {
     ghost use Rattle.ngc_certificate_text.specs.Parted.{firm};
     ghost use Rattle.ngc_certificate_text.specs.Reader.{AnswerIs, FaultIs};
-    ghost use Rattle.ngc_checker.specs.CheckView.{text_verdict, outcome_in, firm_in, refusal_in, kept_in, room_in, GivesVerdict};
+    ghost use Rattle.ngc_checker.specs.CheckView.{text_verdict, outcome_in, firm_in, refusal_in};
+    ghost use Rattle.ngc_checker.specs.CheckView.{kept_in, room_in, GivesVerdict};
 
     /// A reader that was fed nothing yet. The program is executed at both settings of block delete;
     /// why it is refused is answered by `finish`. It fails where memory is refused.
@@ -96,9 +103,17 @@ impl<A: Allocator> CheckReader<A> {
     where
         A: Copy,
         // Whatever the lines' readings are: each line has one, and only one.
-        ensures text { (rs : List Reading) → AreReadings (text_in program.now).lines rs → IfOk result (λ r. (bytes : List ℕ) → text_verdict (program_said (text_in program.now) rs) (setup_of machine.now tools.now) bytes ≡ outcome_in r bytes) }
-        ensures firm { (rs : List Reading) → AreReadings (text_in program.now).lines rs → IfOk result (λ r. (bytes rest : List ℕ) → text_verdict (program_said (text_in program.now) rs) (setup_of machine.now tools.now) (firm bytes ++ rest) ≡ firm_in r bytes rest) }
-        ensures keeps { (rs : List Reading) → AreReadings (text_in program.now).lines rs → IfOk result (λ r. (a : AcceptedData) → kept_in r ≡ Some a → Keeps (program_said (text_in program.now) rs) (setup_of machine.now tools.now) a) }
+        ensures text { (rs : List Reading) → AreReadings (text_in program.now).lines rs →
+            IfOk result (λ r. (bytes : List ℕ) →
+            text_verdict (program_said (text_in program.now) rs)
+            (setup_of machine.now tools.now) bytes ≡ outcome_in r bytes) }
+        ensures firm { (rs : List Reading) → AreReadings (text_in program.now).lines rs →
+            IfOk result (λ r. (bytes rest : List ℕ) →
+            text_verdict (program_said (text_in program.now) rs) (setup_of machine.now tools.now)
+            (firm bytes ++ rest) ≡ firm_in r bytes rest) }
+        ensures keeps { (rs : List Reading) → AreReadings (text_in program.now).lines rs →
+            IfOk result (λ r. (a : AcceptedData) → kept_in r ≡ Some a →
+            Keeps (program_said (text_in program.now) rs) (setup_of machine.now tools.now) a) }
         ensures going { IfOk result (λ r. refusal_in r ≡ None) }
     {
         match judge_of(alloc, program, machine, tools) {
@@ -120,10 +135,14 @@ impl<A: Allocator> CheckReader<A> {
         // The fault is the one that the lines so far have whatever follows, and where they have
         // none, none is answered.
         ensures answer { AnswerIs result (firm_in self.old piece.now) }
-        ensures firm { OnOk result ((more rest : List ℕ) → firm_in self.old (piece.now ++ more) rest ≡ firm_in self.new more rest) }
+        ensures firm { OnOk result ((more rest : List ℕ) →
+            firm_in self.old (piece.now ++ more) rest ≡ firm_in self.new more rest) }
         // Whatever follows, the text comes to the same as if this piece stood in front of it: a
         // fault stays.
-        ensures text { (rest : List ℕ) → MatchResult result (λ _. outcome_in self.old (piece.now ++ rest) ≡ outcome_in self.new rest) (λ fault. FaultIs fault (outcome_in self.old (piece.now ++ rest))) }
+        ensures text { (rest : List ℕ) →
+            MatchResult result
+            (λ _. outcome_in self.old (piece.now ++ rest) ≡ outcome_in self.new rest)
+            (λ fault. FaultIs fault (outcome_in self.old (piece.now ++ rest))) }
         ensures keeps { kept_in self.new ≡ kept_in self.old }
         // A fault is kept, and answered again.
         ensures refusal { refusal_in self.new ≡ result_err result }
@@ -147,7 +166,8 @@ impl<A: Allocator> CheckReader<A> {
 
     // Whether bytes stand behind the end, so that what follows changes nothing.
     pub(crate) fn goes_too_far(&self) -> bool
-        ensures { IsTrue result → (rest : List ℕ) → outcome_in self.now rest ≡ outcome_in self.now [] }
+        ensures { IsTrue result → (rest : List ℕ) →
+            outcome_in self.now rest ≡ outcome_in self.now [] }
     {
         match self.refusal {
             None => self.text.goes_too_far(),
@@ -160,7 +180,8 @@ impl<A: Allocator> CheckReader<A> {
     /// as `check` has it.
     pub fn finish(self) -> Result<Accepted<A>, CheckReadFault>
         ensures said { GivesVerdict (λ a. a) (kept_in self) result (outcome_in self []) }
-        ensures again { IfSome (refusal_in self) (λ fault. result ≡ Err (CheckReadFault.Certificate fault)) }
+        ensures again { IfSome (refusal_in self)
+            (λ fault. result ≡ Err (CheckReadFault.Certificate fault)) }
         ensures memory { result ≢ Err (CheckReadFault.Certificate CertificateFault.Memory) }
         ensures device { result ≢ Err (CheckReadFault.Certificate CertificateFault.ReadFailed) }
     {

@@ -39,7 +39,8 @@ fn settings_fault<A: Allocator>(
 ) -> Option<CheckFault>
     requires off { length off.now ≤ COMMAND_LIMIT }
     requires on { length on.now ≤ COMMAND_LIMIT }
-    ensures { result ≡ settings_fault (file_of machine.now) (Ok off.now) (Ok on.now) (said_of certificate.now) }
+    ensures { result ≡ settings_fault (file_of machine.now) (Ok off.now) (Ok on.now)
+        (said_of certificate.now) }
 {
     let motions = certificate.motions(Setting::Off);
     if let Some(fault) = setting_fault(machine, Setting::Off, off, motions) {
@@ -64,7 +65,9 @@ pub fn check<A: Allocator + Copy>(
     certificate: &Certificate<A>,
 ) -> Result<Accepted<A>, CheckFault>
     // Whatever the lines' readings are: each line has one, and only one.
-    ensures { (rs : List Reading) → AreReadings (text_in program.now).lines rs → Answers (λ a. a) (program_said (text_in program.now) rs) (setup_of machine.now tools.now) (said_of certificate.now) result }
+    ensures { (rs : List Reading) → AreReadings (text_in program.now).lines rs →
+        Answers (λ a. a) (program_said (text_in program.now) rs) (setup_of machine.now tools.now)
+        (said_of certificate.now) result }
 {
     let off = match interpret(alloc, program, machine, tools, false) {
         Ok(commands) => commands,

@@ -1,5 +1,6 @@
 //! The way through the commands of a setting, from one motion to the next.
-ghost use Rattle.std.specs.Prelude.{◌≡◌, ◌+◌, ◌-◌, ◌<◌, ◌≤◌, ◌∷◌, [], length, drop, List, MatchOption, IfSome, Some, None};
+ghost use Rattle.std.specs.Prelude.{◌≡◌, ◌+◌, ◌-◌, ◌<◌, ◌≤◌, ◌∷◌, [], length, drop, List};
+ghost use Rattle.std.specs.Prelude.{MatchOption, IfSome, Some, None};
 ghost use Rattle.ngc_machine.specs.Machine.{file_of};
 ghost use Rattle.ngc_canonical.specs.Movement.{actions_of, motion_indices};
 ghost use Rattle.ngc_canonical.specs.State.{COMMAND_LIMIT};
@@ -64,7 +65,9 @@ impl CommandWalk {
         index: u32,
         tool: &Option<Tool>,
     )
-        ensures walk { (rest : List Action) (entries : List Entry) → walk_from (file_of machine.now) setting index self.old (Mount tool.now ∷ rest) entries ≡ walk_from (file_of machine.now) setting (index + 1) self.new rest entries }
+        ensures walk { (rest : List Action) (entries : List Entry) →
+            walk_from (file_of machine.now) setting index self.old (Mount tool.now ∷ rest) entries
+            ≡ walk_from (file_of machine.now) setting (index + 1) self.new rest entries }
         ensures index { self.new.index ≡ self.old.index }
     {
         let place = self.place.to_grid(machine.step);
@@ -86,8 +89,18 @@ impl CommandWalk {
         ahead: &[Command],
     ) -> Option<NextMotion>
         requires { self.old.index + length ahead.now ≤ COMMAND_LIMIT }
-        ensures indices { MatchOption result (motion_indices self.old.index (actions_of ahead.now) ≡ []) (λ m. motion_indices self.old.index (actions_of ahead.now) ≡ m.index ∷ motion_indices self.new.index (actions_of (drop (self.new.index - self.old.index) ahead.now))) }
-        ensures walk { MatchOption result ((entries : List Entry) → walk_from (file_of machine.now) setting self.old.index self.old (actions_of ahead.now) entries ≡ self.new.refusal) (λ m. (entry : Entry) (entries : List Entry) → walk_from (file_of machine.now) setting self.old.index self.old (actions_of ahead.now) (entry ∷ entries) ≡ with_motion (file_of machine.now) setting self.new m (actions_of (drop (self.new.index - self.old.index) ahead.now)) entry entries) }
+        ensures indices { MatchOption result
+            (motion_indices self.old.index (actions_of ahead.now) ≡ [])
+            (λ m. motion_indices self.old.index (actions_of ahead.now)
+            ≡ m.index ∷ motion_indices self.new.index
+            (actions_of (drop (self.new.index - self.old.index) ahead.now))) }
+        ensures walk { MatchOption result ((entries : List Entry) →
+            walk_from (file_of machine.now) setting self.old.index self.old
+            (actions_of ahead.now) entries ≡ self.new.refusal)
+            (λ m. (entry : Entry) (entries : List Entry) →
+            walk_from (file_of machine.now) setting self.old.index self.old (actions_of ahead.now)
+            (entry ∷ entries) ≡ with_motion (file_of machine.now) setting self.new m
+            (actions_of (drop (self.new.index - self.old.index) ahead.now)) entry entries) }
         ensures on { IfSome result (λ m. self.old.index < self.new.index) }
         ensures behind { IfSome result (λ m. self.new.index ≡ m.index + 1) }
         ensures within { self.new.index ≤ self.old.index + length ahead.now }

@@ -1,9 +1,11 @@
 //! The check of a certificate whose lines come one by one.
-ghost use Rattle.std.specs.Prelude.{◌≡◌, ◌+◌, ◌-◌, ◌≤◌, ◌∷◌, [], length, List, Option, None, Some, Ok, IfOk, MatchResult};
+ghost use Rattle.std.specs.Prelude.{◌≡◌, ◌+◌, ◌-◌, ◌≤◌, ◌∷◌, [], length, List, Option, None, Some};
+ghost use Rattle.std.specs.Prelude.{Ok, IfOk, MatchResult};
 ghost use Rattle.ngc_machine.specs.Machine.{file_of};
 ghost use Rattle.ngc_machine.specs.MachineRanges.{IsMachine};
 ghost use Rattle.ngc_machine.specs.Tools.{tools_of};
-ghost use Rattle.ngc_certificate_text.specs.Ahead.{Rest, certificate_of, nothing_left, with_items, with_pieces};
+ghost use Rattle.ngc_certificate_text.specs.Ahead.{Rest, certificate_of, nothing_left, with_items};
+ghost use Rattle.ngc_certificate_text.specs.Ahead.{with_pieces};
 ghost use Rattle.ngc_certificate_text.specs.Certificate.{PIECE_LIMIT};
 ghost use Rattle.ngc_certificate_text.specs.Told.{onto, Fits};
 ghost use Rattle.ngc_certificate.specs.PieceFault.{◌or◌};
@@ -44,7 +46,15 @@ impl<A: Allocator> Model for Judge<A> {
 
     ghost Value = { JudgeData };
 
-    ghost view = { λ j. record { machine = file_of j.machine; tools = tools_of j.tools; off = j.off.items; on = j.on.items; off_walk = j.off_walk; on_walk = j.on_walk; left = j.left } };
+    ghost view = { λ j. record {
+      machine = file_of j.machine;
+      tools = tools_of j.tools;
+      off = j.off.items;
+      on = j.on.items;
+      off_walk = j.off_walk;
+      on_walk = j.on_walk;
+      left = j.left;
+    } };
 
     ghost coded = { Prim.hlevel (codes, walked.the_row.coded) };
 
@@ -71,7 +81,9 @@ impl<A: Allocator> Judge<A> {
         requires machine { IsMachine (file_of machine) }
         requires off { AreCommands (file_of machine).start off.items }
         requires on { AreCommands (file_of machine).start on.items }
-        ensures verdict { (r : Rest) → settings_fault (file_of machine) (Ok off.items) (Ok on.items) (certificate_of r) ≡ verdict_of result r }
+        ensures verdict { (r : Rest) →
+            settings_fault (file_of machine) (Ok off.items) (Ok on.items) (certificate_of r)
+            ≡ verdict_of result r }
         ensures kept { kept_of result ≡ held (file_of machine) (tools_of tools) off.items on.items }
         ensures left { result.left ≡ 0 }
     {
@@ -92,7 +104,10 @@ impl<A: Allocator> Judge<A> {
         requires left { self.old.left ≡ 0 }
         requires some { 1 ≤ begun.now.pieces_left }
         requires few { begun.now.pieces_left ≤ PIECE_LIMIT }
-        ensures verdict { (r : Rest) → length r.pieces ≡ begun.now.pieces_left → verdict_of self.old (with_items (record { indices = begun.now.indices; pieces = r.pieces } ∷ []) r) ≡ verdict_of self.new r }
+        ensures verdict { (r : Rest) → length r.pieces ≡ begun.now.pieces_left →
+            verdict_of self.old
+            (with_items (record { indices = begun.now.indices; pieces = r.pieces } ∷ []) r)
+            ≡ verdict_of self.new r }
         ensures kept { kept_of self.new ≡ kept_of self.old }
         ensures left { self.new.left ≡ begun.now.pieces_left }
     {
@@ -121,7 +136,8 @@ impl<A: Allocator> Judge<A> {
     fn piece(&mut self, begun: &BegunMotion, piece: &Piece)
         requires left { self.old.left ≡ begun.now.pieces_left }
         requires some { 1 ≤ begun.now.pieces_left }
-        ensures verdict { (r : Rest) → length r.pieces + 1 ≡ begun.now.pieces_left → verdict_of self.old (with_pieces (piece.now ∷ r.pieces) r) ≡ verdict_of self.new r }
+        ensures verdict { (r : Rest) → length r.pieces + 1 ≡ begun.now.pieces_left →
+            verdict_of self.old (with_pieces (piece.now ∷ r.pieces) r) ≡ verdict_of self.new r }
         ensures kept { kept_of self.new ≡ kept_of self.old }
         ensures left { self.new.left ≡ begun.now.pieces_left - 1 }
     {
@@ -135,7 +151,8 @@ impl<A: Allocator> Judge<A> {
     /// One line more.
     pub(crate) fn take(&mut self, told: &Told)
         requires { MayJudge told.now self.old }
-        ensures verdict { (r : Rest) → Fits told.now r → verdict_of self.old (onto told.now r) ≡ verdict_of self.new r }
+        ensures verdict { (r : Rest) → Fits told.now r →
+            verdict_of self.old (onto told.now r) ≡ verdict_of self.new r }
         ensures kept { kept_of self.new ≡ kept_of self.old }
         ensures left { self.new.left ≡ left_behind told.now self.old.left }
     {
@@ -149,7 +166,8 @@ impl<A: Allocator> Judge<A> {
     /// What is answered where no line comes any more.
     pub(crate) fn finish(self) -> Result<Accepted<A>, CheckFault>
         requires { self.left ≡ 0 }
-        ensures { MatchResult result (λ a. (verdict_of self nothing_left ≡ None) × (a ≡ kept_of self)) (λ fault. verdict_of self nothing_left ≡ Some fault) }
+        ensures { MatchResult result (λ a. (verdict_of self nothing_left ≡ None) ×
+            (a ≡ kept_of self)) (λ fault. verdict_of self nothing_left ≡ Some fault) }
     {
         let Judge {
             machine,

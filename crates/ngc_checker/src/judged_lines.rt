@@ -1,4 +1,5 @@
-ghost use Rattle.std.specs.Prelude.{◌≡◌, ◌≢◌, ◌+◌, ◌≤◌, ◌++◌, [], ℕ, List, length, IsTrue, Option, Ok, Err, IfOk, OnOk, MatchResult};
+ghost use Rattle.std.specs.Prelude.{◌≡◌, ◌≢◌, ◌+◌, ◌≤◌, ◌++◌, [], ℕ, List, length, IsTrue, Option};
+ghost use Rattle.std.specs.Prelude.{Ok, Err, IfOk, OnOk, MatchResult};
 ghost use Rattle.ngc_certificate_text.specs.Ahead.{Rest};
 ghost use Rattle.ngc_certificate_text.specs.LinesView.{room_of};
 ghost use Rattle.ngc_certificate_text.specs.Parted.{PartsLines};
@@ -27,9 +28,12 @@ pub struct JudgedLines<A: Allocator> {
 
 fn take_line<A: Allocator>(judge: &mut Result<Judge<A>, CheckFault>, told: &Told)
     requires { IfOk judge.old (λ v. MayJudge told.now v) }
-    ensures verdict { (r : Rest) → Fits told.now r → judged_by judge.old (onto told.now r) ≡ judged_by judge.new r }
+    ensures verdict { (r : Rest) → Fits told.now r →
+        judged_by judge.old (onto told.now r) ≡ judged_by judge.new r }
     ensures kept { kept_by judge.new ≡ kept_by judge.old }
-    ensures at { (e : Expected) → IsNext e told.now → ((v : JudgeData) → judge.old ≡ Ok v → IsAt e v) → (v : JudgeData) → judge.new ≡ Ok v → IsAt (behind_told told.now) v }
+    ensures at { (e : Expected) → IsNext e told.now →
+        ((v : JudgeData) → judge.old ≡ Ok v → IsAt e v) → (v : JudgeData) → judge.new ≡ Ok v →
+        IsAt (behind_told told.now) v }
 {
     if let Ok(judge) = judge {
         judge.take(told);
@@ -40,10 +44,13 @@ impl<A: Allocator> JudgedLines<A> {
     /// More bytes of the text.
     pub(crate) fn feed(&mut self, bytes: &[u8]) -> Result<(), CertificateFault>
         requires { IsJudged self.old }
-        ensures step { (lines : List ℕ → List (List ℕ)) → PartsLines lines → (rest : List ℕ) → StepGives result (judged self.old lines (bytes.now ++ rest)) (judged self.new lines rest) }
+        ensures step { (lines : List ℕ → List (List ℕ)) → PartsLines lines → (rest : List ℕ) →
+            StepGives result (judged self.old lines (bytes.now ++ rest))
+            (judged self.new lines rest) }
         ensures reading { OnOk result (IsJudged self.new) }
         ensures kept { kept_by self.new.judge ≡ kept_by self.old.judge }
-        ensures room { OnOk result (room_of self.new.lines + length bytes.now ≤ room_of self.old.lines) }
+        ensures room { OnOk result
+            (room_of self.new.lines + length bytes.now ≤ room_of self.old.lines) }
         ensures memory { result ≢ Err CertificateFault.Memory }
         ensures device { result ≢ Err CertificateFault.ReadFailed }
     {
@@ -62,7 +69,8 @@ impl<A: Allocator> JudgedLines<A> {
 
     /// Whether bytes stand behind the end of the text.
     pub(crate) fn goes_too_far(&self) -> bool
-        ensures { IsTrue result → IsJudged self.now → (rest : List ℕ) → judged self.now lines_of rest ≡ judged self.now lines_of [] }
+        ensures { IsTrue result → IsJudged self.now → (rest : List ℕ) →
+            judged self.now lines_of rest ≡ judged self.now lines_of [] }
     {
         self.lines.goes_too_far()
     }

@@ -12,7 +12,8 @@ use std::alloc::Allocator;
 
 // Command `index` is a motion, and motion `next` of the certificate is to be that one.
 fn difference_at<A: Allocator>(motions: &Motions<A>, next: usize, index: u32) -> Option<u32>
-    ensures { (is : List ℕ) → first_difference (index ∷ is) (indices_from next motions.now) ≡ (result or first_difference is (indices_from (next + 1) motions.now)) }
+    ensures { (is : List ℕ) → first_difference (index ∷ is) (indices_from next motions.now)
+        ≡ (result or first_difference is (indices_from (next + 1) motions.now)) }
 {
     if next >= motions.len() {
         return Some(index);
@@ -40,7 +41,8 @@ fn difference_behind<A: Allocator>(motions: &Motions<A>, next: usize) -> Option<
 /// certificate differ: the lesser of the two where both have one there.
 pub fn first_difference<A: Allocator>(commands: &[Command], motions: &Motions<A>) -> Option<u32>
     requires { length commands.now ≤ COMMAND_LIMIT }
-    ensures { result ≡ first_difference (motion_indices 0 (actions_of commands.now)) (indices_from 0 motions.now) }
+    ensures { result ≡ first_difference (motion_indices 0 (actions_of commands.now))
+        (indices_from 0 motions.now) }
 {
     let mut next = 0;
     for (index, command) in commands.iter().enumerate() {

@@ -33,10 +33,13 @@ pub fn check_source<A: Allocator + Copy, S: Source>(
 ) -> Result<Accepted<A>, CheckReadFault>
     // Where the source's bytes are known, and whatever the lines' readings are: each line has one,
     // and only one.
-    ensures said { (rs : List Reading) → AreReadings (text_in program.now).lines rs → IfSome (S.remaining source.old)
-        (λ text. AnswersText (λ a. a) (program_said (text_in program.now) rs) (setup_of machine.now tools.now) text result) }
+    ensures said { (rs : List Reading) → AreReadings (text_in program.now).lines rs →
+        IfSome (S.remaining source.old)
+        (λ text. AnswersText (λ a. a) (program_said (text_in program.now) rs)
+        (setup_of machine.now tools.now) text result) }
     // Only a source that failed is said to have failed.
-    ensures device { result ≡ Err (CheckReadFault.Certificate ReadFailed) → Rises (S.failures source.old) (S.failures source.new) }
+    ensures device { result ≡ Err (CheckReadFault.Certificate ReadFailed) →
+        Rises (S.failures source.old) (S.failures source.new) }
     ensures counted { FailsByReading result (S.failures source.old) (S.failures source.new) }
 {
     let mut reader = match CheckReader::new(alloc, program, machine, tools) {

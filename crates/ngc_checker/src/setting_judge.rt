@@ -1,5 +1,6 @@
 //! The check of a setting of block delete, as the motions of a certificate come.
-ghost use Rattle.std.specs.Prelude.{◌≡◌, ◌+◌, ◌-◌, ◌<◌, ◌≤◌, ◌∷◌, [], length, drop, List, MatchOption, Option, Some, None, IfSome};
+ghost use Rattle.std.specs.Prelude.{◌≡◌, ◌+◌, ◌-◌, ◌<◌, ◌≤◌, ◌∷◌, [], length, drop, List};
+ghost use Rattle.std.specs.Prelude.{MatchOption, Option, Some, None, IfSome};
 ghost use Rattle.ngc_machine.specs.Machine.{MachineFile, file_of};
 ghost use Rattle.ngc_canonical.specs.State.{COMMAND_LIMIT};
 ghost use Rattle.ngc_certificate_text.specs.Certificate.{PIECE_LIMIT};
@@ -34,7 +35,9 @@ impl SettingJudge {
 
     /// No motion of the setting has come yet.
     pub(crate) fn new<A: Allocator>(machine: &Machine<A>) -> SettingJudge
-        ensures begins { (setting : Setting) (commands : List Command) (entries : List Entry) → setting_fault (file_of machine.now) setting commands entries ≡ fault_left (file_of machine.now) setting commands result [] entries }
+        ensures begins { (setting : Setting) (commands : List Command) (entries : List Entry) →
+            setting_fault (file_of machine.now) setting commands entries
+            ≡ fault_left (file_of machine.now) setting commands result [] entries }
         ensures none { result.following ≡ None }
         ensures index { result.walk.index ≡ 0 }
     {
@@ -62,7 +65,10 @@ impl SettingJudge {
         requires few { pieces ≤ PIECE_LIMIT }
         ensures index { self.new.walk.index ≤ length commands.now }
         ensures following { IsFollowing (file_of machine.now) self.new.following pieces }
-        ensures left { (ps : List Piece) (entries : List Entry) → length ps ≡ pieces → fault_left (file_of machine.now) setting commands.now self.old [] (record { index = index; pieces = ps } ∷ entries) ≡ fault_left (file_of machine.now) setting commands.now self.new ps entries }
+        ensures left { (ps : List Piece) (entries : List Entry) → length ps ≡ pieces →
+            fault_left (file_of machine.now) setting commands.now self.old []
+            (record { index = index; pieces = ps } ∷ entries)
+            ≡ fault_left (file_of machine.now) setting commands.now self.new ps entries }
     {
         let ahead = &commands[self.walk.index as usize..];
         match self.walk.next_motion(machine, setting, ahead) {
@@ -95,7 +101,10 @@ impl SettingJudge {
         requires few { pieces ≤ PIECE_LIMIT }
         ensures index { self.new.walk.index ≤ length commands.now }
         ensures following { IsFollowing (file_of machine.now) self.new.following pieces }
-        ensures left { (ps : List Piece) (entries : List Entry) → length ps ≡ pieces → fault_left (file_of machine.now) setting commands.now self.old [] (record { index = index; pieces = ps } ∷ entries) ≡ fault_left (file_of machine.now) setting commands.now self.new ps entries }
+        ensures left { (ps : List Piece) (entries : List Entry) → length ps ≡ pieces →
+            fault_left (file_of machine.now) setting commands.now self.old []
+            (record { index = index; pieces = ps } ∷ entries)
+            ≡ fault_left (file_of machine.now) setting commands.now self.new ps entries }
     {
         if self.differs.is_none() {
             self.compare(machine, setting, commands, index, pieces);
@@ -115,7 +124,10 @@ impl SettingJudge {
         ensures index { self.new.walk.index ≡ self.old.walk.index }
         ensures following { IsFollowing (file_of machine.now) self.new.following (left - 1) }
         ensures last { left ≡ 1 → self.new.following ≡ None }
-        ensures left { (commands : List Command) (pieces : List Piece) (entries : List Entry) → length pieces + 1 ≡ left → fault_left (file_of machine.now) setting commands self.old (piece.now ∷ pieces) entries ≡ fault_left (file_of machine.now) setting commands self.new pieces entries }
+        ensures left { (commands : List Command) (pieces : List Piece) (entries : List Entry) →
+            length pieces + 1 ≡ left →
+            fault_left (file_of machine.now) setting commands self.old (piece.now ∷ pieces) entries
+            ≡ fault_left (file_of machine.now) setting commands self.new pieces entries }
     {
         let last = left <= 1;
         let command = self.walk.index.saturating_sub(1);

@@ -38,7 +38,11 @@ impl Walk {
         motion: &Motion,
         motions: &Motions<A>,
     ) -> Option<CheckFault>
-        ensures { (rest : List Action) → fault_from (file_of machine.now) setting index self.old (Move motion.now ∷ rest) motions.now ≡ (result or fault_from (file_of machine.now) setting (index + 1) self.new rest motions.now) }
+        ensures { (rest : List Action) →
+            fault_from (file_of machine.now) setting index self.old
+            (Move motion.now ∷ rest) motions.now
+            ≡ (result or fault_from (file_of machine.now) setting
+            (index + 1) self.new rest motions.now) }
     {
         if self.next >= motions.len() {
             return Some(CheckFault::MotionsDiffer {
@@ -70,7 +74,10 @@ impl Walk {
         action: &Action,
         motions: &Motions<A>,
     ) -> Option<CheckFault>
-        ensures { (rest : List Action) → fault_from (file_of machine.now) setting index self.old (action.now ∷ rest) motions.now ≡ (result or fault_from (file_of machine.now) setting (index + 1) self.new rest motions.now) }
+        ensures { (rest : List Action) →
+            fault_from (file_of machine.now) setting index self.old (action.now ∷ rest) motions.now
+            ≡ (result or fault_from (file_of machine.now) setting
+            (index + 1) self.new rest motions.now) }
     {
         match action {
             Action::Move(motion) => self.follow(machine, setting, index, motion, motions),
@@ -100,7 +107,8 @@ pub fn commands_fault<A: Allocator>(
     motions: &Motions<A>,
 ) -> Option<CheckFault>
     requires { length commands.now ≤ COMMAND_LIMIT }
-    ensures { result ≡ commands_fault (file_of machine.now) setting 0 None (file_of machine.now).start (actions_of commands.now) motions.now }
+    ensures { result ≡ commands_fault (file_of machine.now) setting 0 None
+        (file_of machine.now).start (actions_of commands.now) motions.now }
 {
     let mut walk = Walk {
         tool: None,

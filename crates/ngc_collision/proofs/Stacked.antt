@@ -12,7 +12,8 @@ one_more [] s rest = refl
 one_more (t ∷ ts) s rest = ap (λ l. solid_of t ∷ l) (one_more ts s rest)
 
 -- one more part is stacked
-pub stacked-more : (whole : List bodies.Solid) (parts : List Part) (i : ℕ) (part : Part) (foot top : ℤ) (b : bodies.Solid) (solids more : List Solid) (s : Solid) →
+pub stacked-more : (whole : List bodies.Solid) (parts : List Part) (i : ℕ) (part : Part) (foot top : ℤ) (b : bodies.Solid) (solids more : List Solid)
+    (s : Solid) →
     i < length parts → part ≡ get_or parts i part → top ≡ foot +ℤ part.length → solid_of s ≡ filled part foot b → more ≡ solids ++ s ∷ [] →
     whole ≡ map solid_of solids ++ stacked foot (drop i parts) b → whole ≡ map solid_of more ++ stacked top (drop (i + 1) parts) b
 stacked-more whole parts i part foot top b solids more s lt at top_is solid_is more_is h =

@@ -1,5 +1,6 @@
 -- Bodies of tools, fixtures, and safe places. Our own.
-use Rattle.std.specs.Prelude.{ℕ, ◌+◌, ℤ, ◌+ℤ◌, ◌-ℤ◌, ◌*ℤ◌, int_le, List, [], ◌∷◌, Option, Some, None, Bool, IsTrue, ◌&&◌, ◌||◌, if◌then◌else◌}
+use Rattle.std.specs.Prelude.{ℕ, ◌+◌, ℤ, ◌+ℤ◌, ◌-ℤ◌, ◌*ℤ◌, int_le, List, [], ◌∷◌, Option, Some}
+use Rattle.std.specs.Prelude.{None, Bool, IsTrue, ◌&&◌, ◌||◌, if◌then◌else◌}
 use Rattle.std.specs.List.{list_all}
 use Rattle.ngc_fixed_length.specs.Boxes.{only}
 use Rattle.ngc_fixed_length.specs.declared.points.GridBox.{GridBox}
@@ -27,7 +28,11 @@ span step b = record { low = nanometres_of step b.low; high = nanometres_of step
 abbrev pub filled : Part → ℤ → Solid → Solid
 filled part foot b = record {
   low = record { x = b.low.x -ℤ part.radius; y = b.low.y -ℤ part.radius; z = b.low.z +ℤ foot };
-  high = record { x = b.high.x +ℤ part.radius; y = b.high.y +ℤ part.radius; z = b.high.z +ℤ foot +ℤ part.length };
+  high = record {
+    x = b.high.x +ℤ part.radius;
+    y = b.high.y +ℤ part.radius;
+    z = b.high.z +ℤ foot +ℤ part.length;
+  };
 }
 
 -- each part stands on the one before
@@ -54,7 +59,8 @@ clears step tool b f = list_all (are_apart f) (bodies tool (span step b))
 -- the lowest number of a fixture, counted from i, that the bodies meet
 abbrev pub first_met_from : ℕ → ℤ → Option Tool → GridBox → List Fixture → Option ℕ
 first_met_from i step tool b [] = None
-first_met_from i step tool b (f ∷ fs) = if clears step tool b f then first_met_from (i + 1) step tool b fs else Some i
+first_met_from i step tool b (f ∷ fs) =
+    if clears step tool b f then first_met_from (i + 1) step tool b fs else Some i
 
 abbrev pub first_met : MachineFile → Option Tool → GridBox → Option ℕ
 first_met machine tool b = first_met_from 0 machine.step tool b machine.fixtures
@@ -66,7 +72,8 @@ is_below p q = int_le p.x q.x && (int_le p.y q.y && int_le p.z q.z)
 -- a box of places within the travel limits
 abbrev pub is_in_travel : MachineFile → GridBox → Bool
 is_in_travel machine b =
-    is_below machine.low (nanometres_of machine.step b.low) && is_below (nanometres_of machine.step b.high) machine.high
+    is_below machine.low (nanometres_of machine.step b.low)
+    && is_below (nanometres_of machine.step b.high) machine.high
 
 -- the tool's body at p stays out of every fixture
 abbrev pub IsClearAt : MachineFile → Option Tool → StepPos → Type 0

@@ -1,7 +1,9 @@
-ghost use Rattle.std.specs.Prelude.{◌≡◌, ◌≤◌, ◌+◌, ◌*◌, ◌*ℤ◌, ◌+ℤ◌, ◌-ℤ◌, map, unsigned_abs, int_le, ◌||◌};
+ghost use Rattle.std.specs.Prelude.{◌≡◌, ◌≤◌, ◌+◌, ◌*◌, ◌*ℤ◌, ◌+ℤ◌, ◌-ℤ◌, map, unsigned_abs};
+ghost use Rattle.std.specs.Prelude.{int_le, ◌||◌};
 ghost use Rattle.std.specs.List.{list_all};
 ghost use Rattle.ngc_fixed_length.specs.Length.{IsStep};
-ghost use Rattle.ngc_collision.specs.Body.{nanometres_of, bodies, span, filled, stacked, are_apart, is_below};
+ghost use Rattle.ngc_collision.specs.Body.{nanometres_of, bodies, span, filled, stacked, are_apart};
+ghost use Rattle.ngc_collision.specs.Body.{is_below};
 ghost use Rattle.ngc_collision.specs.Inside.{place_of, solid_of, REACH, FOOT_REACH, IsReached};
 
 use arrayvec::ArrayVec;
@@ -97,7 +99,9 @@ impl Place {
     fn lowest_filled(&self, part: &Part, foot: i64) -> Place
         requires here { IsReached self.now }
         requires foot { unsigned_abs foot ≤ FOOT_REACH }
-        ensures { place_of result ≡ (filled part.now foot (record { low = place_of self.now; high = place_of self.now })).low }
+        ensures { place_of result
+            ≡ (filled part.now foot
+            (record { low = place_of self.now; high = place_of self.now })).low }
     {
         Place {
             x: lowered(self.x, part.radius),
@@ -111,7 +115,9 @@ impl Place {
     fn highest_filled(&self, part: &Part, foot: i64) -> Place
         requires here { IsReached self.now }
         requires foot { unsigned_abs foot ≤ FOOT_REACH }
-        ensures { place_of result ≡ (filled part.now foot (record { low = place_of self.now; high = place_of self.now })).high }
+        ensures { place_of result
+            ≡ (filled part.now foot
+            (record { low = place_of self.now; high = place_of self.now })).high }
     {
         Place {
             x: raised(self.x, part.radius),
@@ -161,7 +167,8 @@ impl Solid {
     fn stacked(&self, tool: &Tool) -> ArrayVec<Solid, 4>
         requires low { IsReached self.now.low }
         requires high { IsReached self.now.high }
-        ensures { stacked tool.now.bottom tool.now.parts (solid_of self.now) ≡ map solid_of result.items }
+        ensures { stacked tool.now.bottom tool.now.parts (solid_of self.now)
+            ≡ map solid_of result.items }
     {
         let mut foot = tool.bottom.nanometres();
         let mut solids = ArrayVec::new();
@@ -202,21 +209,24 @@ impl Solid {
 
     /// On the X axis one lies beyond the other; they may touch.
     fn is_left_or_right(&self, other: &Solid) -> bool
-        ensures { result ≡ (int_le self.now.high.x other.now.low.x || int_le other.now.high.x self.now.low.x) }
+        ensures { result
+            ≡ (int_le self.now.high.x other.now.low.x || int_le other.now.high.x self.now.low.x) }
     {
         self.high.x <= other.low.x || other.high.x <= self.low.x
     }
 
     /// On the Y axis one lies beyond the other; they may touch.
     fn is_before_or_behind(&self, other: &Solid) -> bool
-        ensures { result ≡ (int_le self.now.high.y other.now.low.y || int_le other.now.high.y self.now.low.y) }
+        ensures { result
+            ≡ (int_le self.now.high.y other.now.low.y || int_le other.now.high.y self.now.low.y) }
     {
         self.high.y <= other.low.y || other.high.y <= self.low.y
     }
 
     /// On the Z axis one lies beyond the other; they may touch.
     fn is_above_or_below(&self, other: &Solid) -> bool
-        ensures { result ≡ (int_le self.now.high.z other.now.low.z || int_le other.now.high.z self.now.low.z) }
+        ensures { result
+            ≡ (int_le self.now.high.z other.now.low.z || int_le other.now.high.z self.now.low.z) }
     {
         self.high.z <= other.low.z || other.high.z <= self.low.z
     }

@@ -1,13 +1,20 @@
 -- Where `clap` finds no fault, each row that it found begins with a value that its argument takes.
-use Rattle.std.proofs.Common.{◌≡◌, ℕ, zero, suc, Bool, true, false, not, ◌&&◌, List, [], ◌∷◌, ◌++◌, Option, Some, None, is_some, refl, length, drop, if◌then◌else◌}
+use Rattle.std.proofs.Common.{◌≡◌, ℕ, zero, suc, Bool, true, false, not, ◌&&◌, List, [], ◌∷◌, ◌++◌, Option, Some, None, is_some, refl, length, drop}
+use Rattle.std.proofs.Common.{if◌then◌else◌}
 use Rattle.std.specs.Prelude.{⊤, find, fold, encode_utf8, slice_get}
 use Rattle.std.specs.Str.{bytes_eq, chars}
 use Rattle.std.specs.Option.{option_map_or}
 use Rattle.clap.specs.Lexer.{long_of, short_of}
 use Rattle.clap.specs.Kinds.{Kinds, or_else}
-use Rattle.clap.specs.Faults.{bundle_fault, bundle_step_fault, flag_word_fault, flags_fault, long_fault, option_fault, other_fault, positional_fault, react_fault, settle_fault, short_fault, step_fault, stray_fault, use_fault, walk_fault, word_fault}
+use Rattle.clap.specs.Faults.{bundle_fault, bundle_step_fault, flag_word_fault, flags_fault, long_fault, option_fault, other_fault, positional_fault}
+use Rattle.clap.specs.Faults.{react_fault, settle_fault, short_fault, step_fault, stray_fault, use_fault, walk_fault, word_fault}
 use Rattle.clap.specs.Simple.{Shape}
-use Rattle.clap.specs.Walk.{Held, Names, Outcome, Row, Rule, Step, Text, Waiting, Walk, after_flag, after_step, arg_by_id, arg_by_index, arg_by_long, arg_by_short, at_row, attached_value, bundle, bundle_met, bundle_step, default_rows, done, finished, has_row, is_pending, long_met, long_or_other, long_word, more_values, next, option, option_met, option_word, plain, plain_word, positional_held, reacted, refused, settled, settled_rows, short_met, short_or_plain, short_word, subcommand, subcommand_met, subcommand_or_other, takes_several, takes_values, to_positional, trailing, used, used_by_id, value, waits, walked, walked_from, with_default, with_values, without, word_met}
+use Rattle.clap.specs.Walk.{Held, Names, Outcome, Row, Rule, Step, Text, Waiting, Walk, after_flag, after_step, arg_by_id, arg_by_index, arg_by_long}
+use Rattle.clap.specs.Walk.{arg_by_short, at_row, attached_value, bundle, bundle_met, bundle_step, default_rows, done, finished, has_row, is_pending, long_met}
+use Rattle.clap.specs.Walk.{long_or_other, long_word, more_values, next, option, option_met, option_word, plain, plain_word, positional_held, reacted, refused}
+use Rattle.clap.specs.Walk.{settled, settled_rows, short_met, short_or_plain, short_word, subcommand, subcommand_met, subcommand_or_other, takes_several}
+use Rattle.clap.specs.Walk.{takes_values, to_positional, trailing, used, used_by_id, value, waits, walked, walked_from, with_default, with_values, without}
+use Rattle.clap.specs.Walk.{word_met}
 use Rattle.clap.specs.Walk as walk_words
 use Rattle.clap.specs.declared.builder.value_parser.Reading.{Reading}
 use Rattle.clap.specs.declared.error.kind.ErrorKind.TheVariants.{TooManyValues}
@@ -81,19 +88,22 @@ module _ (P : Text → Text → Type 0) where
     used_filled (Some a) is values rows none filled = is.uses again values rows none filled
 
     settled_filled : (p : Option (Text × List Text)) (rows : List Row)
-        → option_map_or (λ p. option_map_or (λ a. use_fault again a p.1 rows) (arg_by_id c p.0) []) p [] ≡ [] → AreFilled rows → AreFilled (settled_rows c p rows)
+        → option_map_or (λ p. option_map_or (λ a. use_fault again a p.1 rows) (arg_by_id c p.0) []) p [] ≡ [] → AreFilled rows →
+        AreFilled (settled_rows c p rows)
     settled_filled None rows none filled = filled
     settled_filled (Some p) rows none filled = used_filled (arg_by_id c p.0) (found_sound (λ a. bytes_eq a.id p.0) c sound) p.1 rows none filled
 
     pub settle_filled : (h : Held) → settle_fault c again h ≡ [] → AreFilled h.rows → AreFilled (settled c h).rows
     settle_filled h none filled = settled_filled h.pending h.rows none filled
 
-    react_filled : (a : Rule) → IsSound a → (values : List Text) (h : Held) → react_fault c again a values h ≡ [] → AreFilled h.rows → AreFilled (reacted c a values h).rows
+    react_filled : (a : Rule) → IsSound a → (values : List Text) (h : Held) → react_fault c again a values h ≡ [] → AreFilled h.rows →
+        AreFilled (reacted c a values h).rows
     react_filled a is values h none filled =
         let (settles, uses) = neither _ _ none in
         is.uses again values (settled c h).rows uses (settle_filled h settles filled)
 
-    option_filled : (a : Rule) → IsSound a → (v : Option Text) (h : Held) → option_fault c again a v h ≡ [] → AreFilled h.rows → AreFilled (option_met c a v h).0.rows
+    option_filled : (a : Rule) → IsSound a → (v : Option Text) (h : Held) → option_fault c again a v h ≡ [] → AreFilled h.rows →
+        AreFilled (option_met c a v h).0.rows
     option_filled a is (Some v) h none filled = react_filled a is (v ∷ []) h none filled
     option_filled a is None h none filled = settle_filled h none filled
 
@@ -103,7 +113,8 @@ module _ (P : Text → Text → Type 0) where
     flag_filled a is (Some v) h none filled = filled
     flag_filled a is None h none filled = react_filled a is [] h none filled
 
-    long_filled : (a : Option Rule) → IsSoundIfAny a → (v : Option Text) (h : Held) → long_fault c again a v h ≡ [] → AreFilled h.rows → AreFilled (long_met c a v h).0.rows
+    long_filled : (a : Option Rule) → IsSoundIfAny a → (v : Option Text) (h : Held) → long_fault c again a v h ≡ [] → AreFilled h.rows →
+        AreFilled (long_met c a v h).0.rows
     long_filled None is v h none filled = filled
     long_filled (Some a) is v h none filled = pick (takes_values a) none
       where
@@ -119,7 +130,8 @@ module _ (P : Text → Text → Type 0) where
     short_filled None is rest h fault_after after later none filled = filled
     short_filled (Some a) is rest h fault_after after later none filled = pick (takes_values a) none
       where
-        pick : (b : Bool) → (if b then option_fault c again a (attached_value rest) h else or_else (react_fault c again a [] h) (fault_after (reacted c a [] h))) ≡ []
+        pick : (b : Bool) →
+            (if b then option_fault c again a (attached_value rest) h else or_else (react_fault c again a [] h) (fault_after (reacted c a [] h))) ≡ []
             → AreFilled (if b then option_met c a (attached_value rest) h else after (reacted c a [] h)).0.rows
         pick true none = option_filled a is (attached_value rest) h none filled
         pick false none =
@@ -133,7 +145,8 @@ module _ (P : Text → Text → Type 0) where
     step_filled None flags skip so_far h fault_after after later none filled = filled
     step_filled (Some x) flags zero so_far h fault_after after later none filled =
         let rest = drop (length (encode_utf8 x)) flags in
-        short_filled (arg_by_short c x) (found_sound (λ a. not (is_some a.index) && walk_words.has_short a x) c sound) rest h (fault_after rest 0) (after rest 0 done)
+        short_filled (arg_by_short c x) (found_sound (λ a. not (is_some a.index) && walk_words.has_short a x) c sound) rest h (fault_after rest 0)
+        (after rest 0 done)
         (λ k. later rest 0 done k) none filled
     step_filled (Some x) flags (suc skip) so_far h fault_after after later none filled = later (drop (length (encode_utf8 x)) flags) skip so_far h none filled
 
@@ -162,10 +175,12 @@ module _ (P : Text → Text → Type 0) where
     short_word_filled : (waiting : Waiting) (word : Text) (flags : Option Text) (h : Held) → option_map_or (λ flags. bundle_fault c again flags h) flags [] ≡ []
         → AreFilled h.rows → AreFilled (short_or_plain c waiting word flags h).0.rows
     short_word_filled waiting word (Some flags) h none filled =
-        after_flag_filled waiting word (bundle c flags h).0 (bundle c flags h).1 (bundle_filled (length flags) flags h.skip plain (record h { skip = 0 }) none filled)
+        after_flag_filled waiting word (bundle c flags h).0 (bundle c flags h).1
+        (bundle_filled (length flags) flags h.skip plain (record h { skip = 0 }) none filled)
     short_word_filled waiting word None h none filled = plain_filled waiting word h filled
 
-    flag_word_filled : (waiting : Waiting) (word : Text) (long : Option (Text × Option Text)) (h : Held) → flag_word_fault c again long word h ≡ [] → AreFilled h.rows
+    flag_word_filled : (waiting : Waiting) (word : Text) (long : Option (Text × Option Text)) (h : Held) → flag_word_fault c again long word h ≡ [] →
+        AreFilled h.rows
         → AreFilled (long_or_other c waiting word long h).0.rows
     flag_word_filled waiting word (Some p) h none filled =
         let a = arg_by_long c p.0 in
@@ -184,7 +199,8 @@ module _ (P : Text → Text → Type 0) where
         pick true none = filled
         pick false none = flag_word_filled s.rules s.args_override_self sound waiting word (long_of word) h none filled
 
-    word_filled : (is_trailing : Bool) (waiting : Waiting) (position : ℕ) (word : Text) (h : Held) → word_fault s names is_trailing waiting word h ≡ [] → AreFilled h.rows
+    word_filled : (is_trailing : Bool) (waiting : Waiting) (position : ℕ) (word : Text) (h : Held) → word_fault s names is_trailing waiting word h ≡ [] →
+        AreFilled h.rows
         → AreFilled (word_met s.rules names is_trailing waiting position word h).0.rows
     word_filled true waiting position word h none filled = filled
     word_filled false waiting position word h none filled = other_filled (subcommand_met names waiting word) waiting position word h none filled
@@ -199,7 +215,8 @@ module _ (P : Text → Text → Type 0) where
         pick true none = filled
         pick false none = settle_filled s.rules s.args_override_self sound h none filled
 
-    after_step_filled : (word : Text) (w : Walk) (h : Held) (step : Step) → step_fault s w.position h step ≡ [] → AreFilled h.rows → AreFilled (after_step s.rules word w h step).held.rows
+    after_step_filled : (word : Text) (w : Walk) (h : Held) (step : Step) → step_fault s w.position h step ≡ [] → AreFilled h.rows →
+        AreFilled (after_step s.rules word w h step).held.rows
     after_step_filled word w h (next waiting) none filled = filled
     after_step_filled word w h (trailing position) none filled = filled
     after_step_filled word w h (subcommand name) none filled = filled
@@ -215,7 +232,8 @@ module _ (P : Text → Text → Type 0) where
         let (words, steps) = neither _ _ none in
         after_step_filled word w met.0 met.1 steps (word_filled w.is_trailing w.waiting w.position word w.held words filled)
 
-    pub walk_filled : (w : Walk) (words : List Text) → walk_fault s names w words ≡ [] → AreFilled w.held.rows → AreFilled (fold (walked s.rules names) w words).held.rows
+    pub walk_filled : (w : Walk) (words : List Text) → walk_fault s names w words ≡ [] → AreFilled w.held.rows →
+        AreFilled (fold (walked s.rules names) w words).held.rows
     unfolding walk_fault walked
     walk_filled w [] none filled = filled
     walk_filled w (word ∷ rest) none filled =

@@ -10,18 +10,21 @@ use Rattle.clap.specs.Kinds.{Kinds, check_kinds, range_kinds, value_kinds, value
 use Rattle.clap.specs.Simple.{Shape}
 use Rattle.clap.specs.Takes.{is_given}
 use Rattle.clap.specs.Values.{IsUnsignedIn}
-use Rattle.clap.specs.Walk.{Names, Row, Rule, Text, action_of, default_rows, first_of, has_row, most_values, nothing_held, reading_by, rows_after, settled, used, used_as, values_or_missing, walk, walk_from, with_default, without}
+use Rattle.clap.specs.Walk.{Names, Row, Rule, Text, action_of, default_rows, first_of, has_row, most_values, nothing_held, reading_by, rows_after, settled}
+use Rattle.clap.specs.Walk.{used, used_as, values_or_missing, walk, walk_from, with_default, without}
 use Rattle.clap.specs.declared.builder.action.ArgAction.{ArgAction}
 use Rattle.clap.specs.declared.builder.action.ArgAction.TheVariants.{Help, Set, SetTrue}
 use Rattle.clap.specs.declared.builder.value_parser.ValueParser.TheVariants.{Unsigned}
 use Rattle.clap.specs.declared.error.kind.ErrorKind.{ErrorKind}
 use Rattle.clap.specs.declared.parser.matches.ValueSource.TheVariants.{CommandLine, DefaultValue}
 use Rattle.clap.proofs.ValueTestLemmas.{accepts-Accepts}
-use Rattle.ngc_command_line.proofs.Filled.{AreFilled, AreSound, Begins, IsSound, defaults_filled, neither, settle_filled, walk_filled, with_values_filled, without_filled}
+use Rattle.ngc_command_line.proofs.Filled.{AreFilled, AreSound, Begins, IsSound, defaults_filled, neither, settle_filled, walk_filled, with_values_filled}
+use Rattle.ngc_command_line.proofs.Filled.{without_filled}
 
 no_default : (P : Text → Text → Type 0) (a : Rule) → a.defaults ≡ [] → (rows : List Row) → AreFilled P rows
     → AreFilled P (if has_row a.id rows then rows else default_rows a.id (reading_by a) a.defaults rows)
-no_default P a none rows filled = subst (λ (ds : List Text). AreFilled P (if has_row a.id rows then rows else default_rows a.id (reading_by a) ds rows)) (sym none) (pick (has_row a.id rows))
+no_default P a none rows filled =
+    subst (λ (ds : List Text). AreFilled P (if has_row a.id rows then rows else default_rows a.id (reading_by a) ds rows)) (sym none) (pick (has_row a.id rows))
   where
     pick : (b : Bool) → AreFilled P (if b then rows else rows)
     pick true = filled
@@ -60,10 +63,12 @@ flag_is_sound P a met unmet action missing defaults takes = record { uses = uses
         → AreFilled P (used a values rows)
     uses again values rows fault filled =
         subst (λ (x : ArgAction). AreFilled P (used_as x a.id (reading_by a) (values_or_missing a values) rows)) (sym action)
-        (with_values_filled P a.id (reading_by a) CommandLine (values_or_missing a values) (without a.id rows) (begins values) (without_filled P a.id rows filled))
+        (with_values_filled P a.id (reading_by a) CommandLine (values_or_missing a values) (without a.id rows) (begins values)
+        (without_filled P a.id rows filled))
 
     default : (rows : List Row) → AreFilled P rows → AreFilled P (with_default rows a)
-    default rows filled = subst (λ (ds : List Text). AreFilled P (if has_row a.id rows then rows else default_rows a.id (reading_by a) ds rows)) (sym defaults) (pick (has_row a.id rows))
+    default rows filled = subst (λ (ds : List Text). AreFilled P (if has_row a.id rows then rows else default_rows a.id (reading_by a) ds rows)) (sym defaults)
+        (pick (has_row a.id rows))
       where
         pick : (b : Bool) → AreFilled P (if b then rows else default_rows a.id (reading_by a) (unmet ∷ []) rows)
         pick true = filled

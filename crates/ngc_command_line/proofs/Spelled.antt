@@ -1,5 +1,6 @@
 -- The options are read back from the words that spell them.
-use Rattle.std.proofs.Common.{◌≡◌, ◌==◌, ◌∙◌, [], ◌∷◌, cond, drop, if◌then◌else◌, ℕ, Bool, true, false, List, Option, Some, None, refl, inl, inr, subst, sym, codes, ◌≤◌, ◌<◌, ◌^◌, ap, option_map, arith}
+use Rattle.std.proofs.Common.{◌≡◌, ◌==◌, ◌∙◌, [], ◌∷◌, cond, drop, if◌then◌else◌, ℕ, Bool, true, false, List, Option, Some, None, refl, inl, inr, subst, sym}
+use Rattle.std.proofs.Common.{codes, ◌≤◌, ◌<◌, ◌^◌, ap, option_map, arith}
 use Rattle.std.specs.Prelude.{unwrap_or}
 use Rattle.std.specs.Fmt.{decimal}
 use Rattle.std.specs.Str.Parse.{IsNumeral, digits_value, without_leading_plus}
@@ -15,12 +16,16 @@ use Rattle.std.proofs.lemmas.Bool.{ne_eqb}
 use Rattle.std.proofs.lemmas.Str.Parse.{digit_from_value}
 use Rattle.clap.specs.declared.builder.value_parser.ValueParser.TheVariants.{Unsigned}
 use Rattle.clap.proofs.ValueTestLemmas.{Accepts-accepts}
-use Rattle.ngc_command_line.specs.CommandLine.{certify_words, check_words, draw_words, format_text, help_words, list_words, ngc_app, report_words, run_name, run_words, show_words}
-use Rattle.ngc_command_line.specs.Meant.{AreCommands, AreCuts, AreCutsInRange, AreOptions, AsksForCertify, AsksForCheck, AsksForDraw, AsksForHelp, AsksForList, AsksForReport, AsksForRun, AsksForShow, IsFormat, IsTaken, is_set}
+use Rattle.ngc_command_line.specs.CommandLine.{certify_words, check_words, draw_words, format_text, help_words, list_words, ngc_app, report_words, run_name}
+use Rattle.ngc_command_line.specs.CommandLine.{run_words, show_words}
+use Rattle.ngc_command_line.specs.Meant.{AreCommands, AreCuts, AreCutsInRange, AreOptions, AsksForCertify, AsksForCheck, AsksForDraw, AsksForHelp, AsksForList}
+use Rattle.ngc_command_line.specs.Meant.{AsksForReport, AsksForRun, AsksForShow, IsFormat, IsTaken, is_set}
 use Rattle.ngc_command_line.specs.declared.options.Format.{Format}
 use Rattle.ngc_command_line.specs.declared.options.Format.TheVariants.{One, Two}
 use Rattle.ngc_command_line.specs.declared.options.Options.{Options}
-use Rattle.ngc_command_line.specs.declared.options.Options.TheVariants.{Certify as ToCertify, Check as ToCheck, Draw as ToDraw, Explain as ToExplain, Help as ToHelp, List as ToList, Report as ToReport, Run as ToRun, RunThrough as ToRunThrough, Show as ToShow, Version as ToVersion}
+use Rattle.ngc_command_line.specs.declared.options.Options.TheVariants.{Certify as ToCertify, Check as ToCheck, Draw as ToDraw, Explain as ToExplain}
+use Rattle.ngc_command_line.specs.declared.options.Options.TheVariants.{Help as ToHelp, List as ToList, Report as ToReport, Run as ToRun}
+use Rattle.ngc_command_line.specs.declared.options.Options.TheVariants.{RunThrough as ToRunThrough, Show as ToShow, Version as ToVersion}
 use Rattle.ngc_command_line.specs.declared.options.Recording.{Recording}
 use Rattle.ngc_command_line.specs.declared.options.Recording.TheVariants.{Log, Pulses}
 use Rattle.ngc_command_line.proofs.Whole.{no_run, other_letter, other_name, report_is_no_run}
@@ -54,21 +59,32 @@ list_spells (Some program) (Some machine) None true = (refl, (refl, refl, refl, 
 list_spells (Some program) (Some machine) (Some tools) false = (refl, (refl, refl, refl, refl, refl))
 list_spells (Some program) (Some machine) (Some tools) true = (refl, (refl, refl, refl, refl, refl))
 
-list_asked : (program machine tools : Option Text) (delete : Bool) (found : Option (Text × List Row)) (options : Options) → FindsList program machine tools delete found
+list_asked : (program machine tools : Option Text) (delete : Bool) (found : Option (Text × List Row)) (options : Options) →
+    FindsList program machine tools delete found
     → AreOptions found options → AsksForList program machine tools delete options
 list_asked program machine tools delete None options finds are = absurd finds
 list_asked program machine tools delete (Some found) (ToList list) finds are =
     (are.1.program ∙ finds.1, are.1.machine ∙ finds.2, are.1.tools ∙ finds.3, are.1.delete ∙ finds.4)
-list_asked program machine tools delete (Some found) (ToCertify certify) finds are = other_name (codes "list") (codes "certify") (sym finds.0 ∙ are.0) (λ lengths. omega (arith, lengths))
-list_asked program machine tools delete (Some found) (ToCheck check) finds are = other_name (codes "list") (codes "check") (sym finds.0 ∙ are.0) (λ lengths. omega (arith, lengths))
-list_asked program machine tools delete (Some found) (ToRun run) finds are = no_run (codes "list") run.recording (sym finds.0 ∙ are.0) (λ three. omega (arith, three)) (λ six. omega (arith, six))
-list_asked program machine tools delete (Some found) (ToRunThrough run) finds are = no_run (codes "list") run.recording (sym finds.0 ∙ are.0) (λ three. omega (arith, three)) (λ six. omega (arith, six))
-list_asked program machine tools delete (Some found) (ToDraw draw) finds are = other_letter (codes "list") (codes "draw") (sym finds.0 ∙ are.0) (λ letters. omega (arith, letters))
-list_asked program machine tools delete (Some found) (ToShow show) finds are = other_letter (codes "list") (codes "show") (sym finds.0 ∙ are.0) (λ letters. omega (arith, letters))
-list_asked program machine tools delete (Some found) (ToReport report) finds are = other_name (codes "list") (codes "report") (sym finds.0 ∙ are.0) (λ lengths. omega (arith, lengths))
-list_asked program machine tools delete (Some found) (ToExplain number) finds are = other_name (codes "list") (codes "explain") (sym finds.0 ∙ are.0) (λ differ. omega (arith, differ))
-list_asked program machine tools delete (Some found) (ToHelp command) finds are = other_letter (codes "list") (codes "help") (sym finds.0 ∙ are.0) (λ differ. omega (arith, differ))
-list_asked program machine tools delete (Some found) ToVersion finds are = other_name (codes "list") (codes "version") (sym finds.0 ∙ are) (λ differ. omega (arith, differ))
+list_asked program machine tools delete (Some found) (ToCertify certify) finds are =
+    other_name (codes "list") (codes "certify") (sym finds.0 ∙ are.0) (λ lengths. omega (arith, lengths))
+list_asked program machine tools delete (Some found) (ToCheck check) finds are =
+    other_name (codes "list") (codes "check") (sym finds.0 ∙ are.0) (λ lengths. omega (arith, lengths))
+list_asked program machine tools delete (Some found) (ToRun run) finds are =
+    no_run (codes "list") run.recording (sym finds.0 ∙ are.0) (λ three. omega (arith, three)) (λ six. omega (arith, six))
+list_asked program machine tools delete (Some found) (ToRunThrough run) finds are =
+    no_run (codes "list") run.recording (sym finds.0 ∙ are.0) (λ three. omega (arith, three)) (λ six. omega (arith, six))
+list_asked program machine tools delete (Some found) (ToDraw draw) finds are =
+    other_letter (codes "list") (codes "draw") (sym finds.0 ∙ are.0) (λ letters. omega (arith, letters))
+list_asked program machine tools delete (Some found) (ToShow show) finds are =
+    other_letter (codes "list") (codes "show") (sym finds.0 ∙ are.0) (λ letters. omega (arith, letters))
+list_asked program machine tools delete (Some found) (ToReport report) finds are =
+    other_name (codes "list") (codes "report") (sym finds.0 ∙ are.0) (λ lengths. omega (arith, lengths))
+list_asked program machine tools delete (Some found) (ToExplain number) finds are =
+    other_name (codes "list") (codes "explain") (sym finds.0 ∙ are.0) (λ differ. omega (arith, differ))
+list_asked program machine tools delete (Some found) (ToHelp command) finds are =
+    other_letter (codes "list") (codes "help") (sym finds.0 ∙ are.0) (λ differ. omega (arith, differ))
+list_asked program machine tools delete (Some found) ToVersion finds are =
+    other_name (codes "list") (codes "version") (sym finds.0 ∙ are) (λ differ. omega (arith, differ))
 
 pub list_taken : (words : List Text) (program machine tools : Option Text) (delete : Bool) → words ≡ list_words program machine tools delete → IsTaken words
 list_taken words program machine tools delete spelled = subst IsTaken (sym spelled) (list_spells program machine tools delete).0
@@ -83,9 +99,11 @@ list_read words program machine tools delete options spelled are =
 abbrev FindsCheck : Text → Text → Text → Option Text → Option (Text × List Row) → Type 0
 FindsCheck machine tools certificate program None = ⊥
 FindsCheck machine tools certificate program (Some found) = (found.0 ≡ codes "check") × (first_of (codes "machine") found.1 ≡ Some machine)
-    × (first_of (codes "tools") found.1 ≡ Some tools) × (first_of (codes "certificate") found.1 ≡ Some certificate) × (first_of (codes "program") found.1 ≡ program)
+    × (first_of (codes "tools") found.1 ≡ Some tools) × (first_of (codes "certificate") found.1 ≡ Some certificate) ×
+    (first_of (codes "program") found.1 ≡ program)
 
-check_spells : (machine tools certificate : Text) (program : Option Text) → Spells (check_words machine tools certificate program) (FindsCheck machine tools certificate program)
+check_spells : (machine tools certificate : Text) (program : Option Text) →
+    Spells (check_words machine tools certificate program) (FindsCheck machine tools certificate program)
 unfolding clap_on_literals
 check_spells machine tools certificate None = (refl, (refl, refl, refl, refl, refl))
 check_spells machine tools certificate (Some program) = (refl, (refl, refl, refl, refl, refl))
@@ -98,21 +116,33 @@ check_asked : (machine tools certificate : Text) (program : Option Text) (found 
 check_asked machine tools certificate program None options finds are = absurd finds
 check_asked machine tools certificate program (Some found) (ToCheck check) finds are =
     (same_text _ _ _ are.1.machine finds.1, same_text _ _ _ are.1.tools finds.2, same_text _ _ _ are.1.certificate finds.3, are.1.program ∙ finds.4)
-check_asked machine tools certificate program (Some found) (ToCertify certify) finds are = other_name (codes "check") (codes "certify") (sym finds.0 ∙ are.0) (λ lengths. omega (arith, lengths))
-check_asked machine tools certificate program (Some found) (ToList list) finds are = other_name (codes "check") (codes "list") (sym finds.0 ∙ are.0) (λ lengths. omega (arith, lengths))
-check_asked machine tools certificate program (Some found) (ToRun run) finds are = no_run (codes "check") run.recording (sym finds.0 ∙ are.0) (λ three. omega (arith, three)) (λ six. omega (arith, six))
-check_asked machine tools certificate program (Some found) (ToRunThrough run) finds are = no_run (codes "check") run.recording (sym finds.0 ∙ are.0) (λ three. omega (arith, three)) (λ six. omega (arith, six))
-check_asked machine tools certificate program (Some found) (ToDraw draw) finds are = other_name (codes "check") (codes "draw") (sym finds.0 ∙ are.0) (λ lengths. omega (arith, lengths))
-check_asked machine tools certificate program (Some found) (ToShow show) finds are = other_letter (codes "check") (codes "show") (sym finds.0 ∙ are.0) (λ letters. omega (arith, letters))
-check_asked machine tools certificate program (Some found) (ToReport report) finds are = other_name (codes "check") (codes "report") (sym finds.0 ∙ are.0) (λ lengths. omega (arith, lengths))
-check_asked machine tools certificate program (Some found) (ToExplain number) finds are = other_name (codes "check") (codes "explain") (sym finds.0 ∙ are.0) (λ differ. omega (arith, differ))
-check_asked machine tools certificate program (Some found) (ToHelp command) finds are = other_name (codes "check") (codes "help") (sym finds.0 ∙ are.0) (λ differ. omega (arith, differ))
-check_asked machine tools certificate program (Some found) ToVersion finds are = other_name (codes "check") (codes "version") (sym finds.0 ∙ are) (λ differ. omega (arith, differ))
+check_asked machine tools certificate program (Some found) (ToCertify certify) finds are =
+    other_name (codes "check") (codes "certify") (sym finds.0 ∙ are.0) (λ lengths. omega (arith, lengths))
+check_asked machine tools certificate program (Some found) (ToList list) finds are =
+    other_name (codes "check") (codes "list") (sym finds.0 ∙ are.0) (λ lengths. omega (arith, lengths))
+check_asked machine tools certificate program (Some found) (ToRun run) finds are =
+    no_run (codes "check") run.recording (sym finds.0 ∙ are.0) (λ three. omega (arith, three)) (λ six. omega (arith, six))
+check_asked machine tools certificate program (Some found) (ToRunThrough run) finds are =
+    no_run (codes "check") run.recording (sym finds.0 ∙ are.0) (λ three. omega (arith, three)) (λ six. omega (arith, six))
+check_asked machine tools certificate program (Some found) (ToDraw draw) finds are =
+    other_name (codes "check") (codes "draw") (sym finds.0 ∙ are.0) (λ lengths. omega (arith, lengths))
+check_asked machine tools certificate program (Some found) (ToShow show) finds are =
+    other_letter (codes "check") (codes "show") (sym finds.0 ∙ are.0) (λ letters. omega (arith, letters))
+check_asked machine tools certificate program (Some found) (ToReport report) finds are =
+    other_name (codes "check") (codes "report") (sym finds.0 ∙ are.0) (λ lengths. omega (arith, lengths))
+check_asked machine tools certificate program (Some found) (ToExplain number) finds are =
+    other_name (codes "check") (codes "explain") (sym finds.0 ∙ are.0) (λ differ. omega (arith, differ))
+check_asked machine tools certificate program (Some found) (ToHelp command) finds are =
+    other_name (codes "check") (codes "help") (sym finds.0 ∙ are.0) (λ differ. omega (arith, differ))
+check_asked machine tools certificate program (Some found) ToVersion finds are =
+    other_name (codes "check") (codes "version") (sym finds.0 ∙ are) (λ differ. omega (arith, differ))
 
-pub check_taken : (words : List Text) (machine tools certificate : Text) (program : Option Text) → words ≡ check_words machine tools certificate program → IsTaken words
+pub check_taken : (words : List Text) (machine tools certificate : Text) (program : Option Text) → words ≡ check_words machine tools certificate program →
+    IsTaken words
 check_taken words machine tools certificate program spelled = subst IsTaken (sym spelled) (check_spells machine tools certificate program).0
 
-pub check_read : (words : List Text) (machine tools certificate : Text) (program : Option Text) (options : Options) → words ≡ check_words machine tools certificate program
+pub check_read : (words : List Text) (machine tools certificate : Text) (program : Option Text) (options : Options) →
+    words ≡ check_words machine tools certificate program
     → AreOptions (subcommand_of ngc_app words) options → AsksForCheck machine tools certificate program options
 check_read words machine tools certificate program options spelled are =
     let Are : List Text → Type 0 = λ ws. AreOptions (subcommand_of ngc_app ws) options in
@@ -153,7 +183,8 @@ same_recording Log Pulses same = other_name (codes "run") (codes "pulses") same 
 same_recording Pulses Log same = other_name (codes "pulses") (codes "run") same (λ lengths. omega (arith, lengths))
 same_recording Pulses Pulses same = refl
 
-run_asked : (recording : Recording) (machine tools certificate : Text) (events program : Option Text) (delete : Bool) (found : Option (Text × List Row)) (options : Options)
+run_asked : (recording : Recording) (machine tools certificate : Text) (events program : Option Text) (delete : Bool) (found : Option (Text × List Row))
+    (options : Options)
     → FindsRun recording machine tools certificate events program delete found → AreOptions found options
     → AsksForRun recording machine tools certificate events program delete options
 run_asked recording machine tools certificate events program delete None options finds are = absurd finds
@@ -166,8 +197,10 @@ run_asked recording machine tools certificate (Some events) program delete (Some
   are.1.program ∙ finds.5,
   are.1.delete ∙ finds.6,
 )
-run_asked recording machine tools certificate None program delete (Some found) (ToRun run) finds are = let h : Some run.events.now ≡ None = are.1.events ∙ finds.4 in cc
-run_asked recording machine tools certificate (Some events) program delete (Some found) (ToRunThrough run) finds are = let h : None ≡ Some events = are.1.events ∙ finds.4 in cc
+run_asked recording machine tools certificate None program delete (Some found) (ToRun run) finds are = let h : Some run.events.now ≡ None =
+    are.1.events ∙ finds.4 in cc
+run_asked recording machine tools certificate (Some events) program delete (Some found) (ToRunThrough run) finds are = let h : None ≡ Some events =
+    are.1.events ∙ finds.4 in cc
 run_asked recording machine tools certificate None program delete (Some found) (ToRunThrough run) finds are = (
   same_recording _ _ (sym are.0 ∙ finds.0),
   same_text _ _ _ are.1.machine finds.1,
@@ -204,7 +237,8 @@ pub run_read : (words : List Text) (recording : Recording) (machine tools certif
     → AsksForRun recording machine tools certificate events program delete options
 run_read words recording machine tools certificate events program delete options spelled are =
     let Are : List Text → Type 0 = λ ws. AreOptions (subcommand_of ngc_app ws) options in
-    run_asked recording machine tools certificate events program delete _ options (run_spells recording machine tools certificate events program delete).1 (subst Are spelled are)
+    run_asked recording machine tools certificate events program delete _ options (run_spells recording machine tools certificate events program delete).1
+    (subst Are spelled are)
 
 -- the values of `draw` that were found are these
 abbrev FindsDraw : Text → Text → Option Text → Option Text → Option Text → Bool → Option (Text × List Row) → Type 0
@@ -235,7 +269,8 @@ draw_spells machine tools (Some certificate) (Some program) (Some view) false = 
 draw_spells machine tools (Some certificate) (Some program) (Some view) true = (refl, (refl, refl, refl, refl, refl, refl, refl))
 
 draw_asked : (machine tools : Text) (certificate program view : Option Text) (delete : Bool) (found : Option (Text × List Row)) (options : Options)
-    → FindsDraw machine tools certificate program view delete found → AreOptions found options → AsksForDraw machine tools certificate program view delete options
+    → FindsDraw machine tools certificate program view delete found → AreOptions found options →
+    AsksForDraw machine tools certificate program view delete options
 draw_asked machine tools certificate program view delete None options finds are = absurd finds
 draw_asked machine tools certificate program view delete (Some found) (ToDraw draw) finds are = (
   same_text _ _ _ are.1.machine finds.1,
@@ -255,8 +290,10 @@ draw_asked machine tools certificate program view delete (Some found) (ToRun run
     no_run (codes "draw") run.recording (sym finds.0 ∙ are.0) (λ three. omega (arith, three)) (λ six. omega (arith, six))
 draw_asked machine tools certificate program view delete (Some found) (ToRunThrough run) finds are =
     no_run (codes "draw") run.recording (sym finds.0 ∙ are.0) (λ three. omega (arith, three)) (λ six. omega (arith, six))
-draw_asked machine tools certificate program view delete (Some found) (ToShow show) finds are = other_letter (codes "draw") (codes "show") (sym finds.0 ∙ are.0) (λ letters. omega (arith, letters))
-draw_asked machine tools certificate program view delete (Some found) (ToReport report) finds are = other_name (codes "draw") (codes "report") (sym finds.0 ∙ are.0) (λ lengths. omega (arith, lengths))
+draw_asked machine tools certificate program view delete (Some found) (ToShow show) finds are =
+    other_letter (codes "draw") (codes "show") (sym finds.0 ∙ are.0) (λ letters. omega (arith, letters))
+draw_asked machine tools certificate program view delete (Some found) (ToReport report) finds are =
+    other_name (codes "draw") (codes "report") (sym finds.0 ∙ are.0) (λ lengths. omega (arith, lengths))
 draw_asked machine tools certificate program view delete (Some found) (ToExplain number) finds are =
     other_name (codes "draw") (codes "explain") (sym finds.0 ∙ are.0) (λ lengths. omega (arith, lengths))
 draw_asked machine tools certificate program view delete (Some found) (ToHelp command) finds are =
@@ -266,7 +303,8 @@ draw_asked machine tools certificate program view delete (Some found) ToVersion 
 
 pub draw_taken : (words : List Text) (machine tools : Text) (certificate program view : Option Text) (delete : Bool)
     → words ≡ draw_words machine tools certificate program view delete → IsTaken words
-draw_taken words machine tools certificate program view delete spelled = subst IsTaken (sym spelled) (draw_spells machine tools certificate program view delete).0
+draw_taken words machine tools certificate program view delete spelled =
+    subst IsTaken (sym spelled) (draw_spells machine tools certificate program view delete).0
 
 pub draw_read : (words : List Text) (machine tools : Text) (certificate program view : Option Text) (delete : Bool) (options : Options)
     → words ≡ draw_words machine tools certificate program view delete → AreOptions (subcommand_of ngc_app words) options
@@ -290,18 +328,26 @@ show_asked : (machine : Text) (tools : Option Text) (found : Option (Text × Lis
     → FindsShow machine tools found → AreOptions found options → AsksForShow machine tools options
 show_asked machine tools None options finds are = absurd finds
 show_asked machine tools (Some found) (ToShow show) finds are = (same_text _ _ _ are.1.machine finds.1, are.1.tools ∙ finds.2)
-show_asked machine tools (Some found) (ToList list) finds are = other_letter (codes "show") (codes "list") (sym finds.0 ∙ are.0) (λ letters. omega (arith, letters))
-show_asked machine tools (Some found) (ToCertify certify) finds are = other_letter (codes "show") (codes "certify") (sym finds.0 ∙ are.0) (λ letters. omega (arith, letters))
-show_asked machine tools (Some found) (ToCheck check) finds are = other_letter (codes "show") (codes "check") (sym finds.0 ∙ are.0) (λ letters. omega (arith, letters))
-show_asked machine tools (Some found) (ToDraw draw) finds are = other_letter (codes "show") (codes "draw") (sym finds.0 ∙ are.0) (λ letters. omega (arith, letters))
-show_asked machine tools (Some found) (ToReport report) finds are = other_name (codes "show") (codes "report") (sym finds.0 ∙ are.0) (λ lengths. omega (arith, lengths))
-show_asked machine tools (Some found) (ToExplain number) finds are = other_letter (codes "show") (codes "explain") (sym finds.0 ∙ are.0) (λ letters. omega (arith, letters))
-show_asked machine tools (Some found) (ToHelp command) finds are = other_letter (codes "show") (codes "help") (sym finds.0 ∙ are.0) (λ letters. omega (arith, letters))
+show_asked machine tools (Some found) (ToList list) finds are =
+    other_letter (codes "show") (codes "list") (sym finds.0 ∙ are.0) (λ letters. omega (arith, letters))
+show_asked machine tools (Some found) (ToCertify certify) finds are =
+    other_letter (codes "show") (codes "certify") (sym finds.0 ∙ are.0) (λ letters. omega (arith, letters))
+show_asked machine tools (Some found) (ToCheck check) finds are =
+    other_letter (codes "show") (codes "check") (sym finds.0 ∙ are.0) (λ letters. omega (arith, letters))
+show_asked machine tools (Some found) (ToDraw draw) finds are =
+    other_letter (codes "show") (codes "draw") (sym finds.0 ∙ are.0) (λ letters. omega (arith, letters))
+show_asked machine tools (Some found) (ToReport report) finds are =
+    other_name (codes "show") (codes "report") (sym finds.0 ∙ are.0) (λ lengths. omega (arith, lengths))
+show_asked machine tools (Some found) (ToExplain number) finds are =
+    other_letter (codes "show") (codes "explain") (sym finds.0 ∙ are.0) (λ letters. omega (arith, letters))
+show_asked machine tools (Some found) (ToHelp command) finds are =
+    other_letter (codes "show") (codes "help") (sym finds.0 ∙ are.0) (λ letters. omega (arith, letters))
 show_asked machine tools (Some found) (ToRun run) finds are =
     no_run (codes "show") run.recording (sym finds.0 ∙ are.0) (λ three. omega (arith, three)) (λ six. omega (arith, six))
 show_asked machine tools (Some found) (ToRunThrough run) finds are =
     no_run (codes "show") run.recording (sym finds.0 ∙ are.0) (λ three. omega (arith, three)) (λ six. omega (arith, six))
-show_asked machine tools (Some found) ToVersion finds are = other_letter (codes "show") (codes "version") (sym finds.0 ∙ are) (λ letters. omega (arith, letters))
+show_asked machine tools (Some found) ToVersion finds are =
+    other_letter (codes "show") (codes "version") (sym finds.0 ∙ are) (λ letters. omega (arith, letters))
 
 pub show_taken : (words : List Text) (machine : Text) (tools : Option Text) → words ≡ show_words machine tools → IsTaken words
 show_taken words machine tools spelled = subst IsTaken (sym spelled) (show_spells machine tools).0
@@ -370,7 +416,8 @@ both {first} {second} none none_after = subst (λ (k : Kinds). or_else k second 
 passes : (takes : Bool) (kind : ErrorKind) → takes ≡ true → (if takes then [] else kind ∷ []) ≡ []
 passes takes kind is = subst (λ (b : Bool). (if b then [] else kind ∷ []) ≡ []) (sym is) refl
 
-certify_cuts_taken : (machine tools : Text) (program : Option Text) (cuts : ℕ) (format : Option Format) → value_kinds false (Unsigned 1 65535) (decimal cuts) ≡ []
+certify_cuts_taken : (machine tools : Text) (program : Option Text) (cuts : ℕ) (format : Option Format) →
+    value_kinds false (Unsigned 1 65535) (decimal cuts) ≡ []
     → IsTaken (certify_words machine tools program (Some cuts) format)
 unfolding clap_on_literals
 certify_cuts_taken machine tools None cuts None takes = both (both (both (both (both takes refl) refl) refl) refl) refl
@@ -380,7 +427,8 @@ certify_cuts_taken machine tools (Some program) cuts None takes = both (both (bo
 certify_cuts_taken machine tools (Some program) cuts (Some One) takes = both (both (both (both (both takes refl) refl) refl) refl) refl
 certify_cuts_taken machine tools (Some program) cuts (Some Two) takes = both (both (both (both (both takes refl) refl) refl) refl) refl
 
-certify_spells : (machine tools : Text) (program : Option Text) (cuts : Option ℕ) (format : Option Format) → AreCutsInRange cuts → IsTaken (certify_words machine tools program cuts format)
+certify_spells : (machine tools : Text) (program : Option Text) (cuts : Option ℕ) (format : Option Format) → AreCutsInRange cuts →
+    IsTaken (certify_words machine tools program cuts format)
 unfolding clap_on_literals
 certify_spells machine tools None None None range = refl
 certify_spells machine tools None None (Some One) range = refl
@@ -405,32 +453,49 @@ format_read (Some One) Two is = let bad : 2 ≡ 1 = is.1 in absurd (omega (arith
 format_read (Some Two) One is = let bad : 1 ≡ 2 = is.1 in absurd (omega (arith, bad))
 format_read (Some Two) Two is = refl
 
-certify_asked : (machine tools : Text) (program : Option Text) (cuts : Option ℕ) (format : Option Format) (found : Option (Text × List Row)) (options : Options) → AreCutsInRange cuts
-    → FindsCertify machine tools program (text_of cuts) (text_of_format format) found → AreOptions found options → AsksForCertify machine tools program cuts format options
+certify_asked : (machine tools : Text) (program : Option Text) (cuts : Option ℕ) (format : Option Format) (found : Option (Text × List Row))
+    (options : Options) → AreCutsInRange cuts
+    → FindsCertify machine tools program (text_of cuts) (text_of_format format) found → AreOptions found options →
+    AsksForCertify machine tools program cuts format options
 certify_asked machine tools program cuts format None options range finds are = absurd finds
 certify_asked machine tools program cuts format (Some found) (ToCertify certify) range finds are =
     let read = subst (λ (text : Option Text). AreCuts text certify.cuts) finds.4 are.1.cuts in
-    let version = subst (λ (text : Option Text). IsFormat text certify.format) finds.5 are.1.format in
-    (same_text _ _ _ are.1.machine finds.1, same_text _ _ _ are.1.tools finds.2, are.1.program ∙ finds.3, cuts_read cuts certify.cuts range read, format_read format certify.format version)
+    let version = subst (λ (text : Option Text). IsFormat text certify.format) finds.5 are.1.format in (
+      same_text _ _ _ are.1.machine finds.1,
+      same_text _ _ _ are.1.tools finds.2,
+      are.1.program ∙ finds.3,
+      cuts_read cuts certify.cuts range read,
+      format_read format certify.format version,
+    )
 certify_asked machine tools program cuts format (Some found) (ToList list) range finds are =
     other_name (codes "certify") (codes "list") (sym finds.0 ∙ are.0) (λ lengths. omega (arith, lengths))
 certify_asked machine tools program cuts format (Some found) (ToCheck check) range finds are =
     other_name (codes "certify") (codes "check") (sym finds.0 ∙ are.0) (λ lengths. omega (arith, lengths))
-certify_asked machine tools program cuts format (Some found) (ToRun run) range finds are = no_run (codes "certify") run.recording (sym finds.0 ∙ are.0) (λ three. omega (arith, three)) (λ six. omega (arith, six))
-certify_asked machine tools program cuts format (Some found) (ToRunThrough run) range finds are = no_run (codes "certify") run.recording (sym finds.0 ∙ are.0) (λ three. omega (arith, three)) (λ six. omega (arith, six))
-certify_asked machine tools program cuts format (Some found) (ToDraw draw) range finds are = other_name (codes "certify") (codes "draw") (sym finds.0 ∙ are.0) (λ lengths. omega (arith, lengths))
-certify_asked machine tools program cuts format (Some found) (ToShow show) range finds are = other_letter (codes "certify") (codes "show") (sym finds.0 ∙ are.0) (λ letters. omega (arith, letters))
-certify_asked machine tools program cuts format (Some found) (ToReport report) range finds are = other_name (codes "certify") (codes "report") (sym finds.0 ∙ are.0) (λ lengths. omega (arith, lengths))
-certify_asked machine tools program cuts format (Some found) (ToExplain number) range finds are = other_letter (codes "certify") (codes "explain") (sym finds.0 ∙ are.0) (λ differ. omega (arith, differ))
-certify_asked machine tools program cuts format (Some found) (ToHelp command) range finds are = other_name (codes "certify") (codes "help") (sym finds.0 ∙ are.0) (λ differ. omega (arith, differ))
-certify_asked machine tools program cuts format (Some found) ToVersion range finds are = other_letter (codes "certify") (codes "version") (sym finds.0 ∙ are) (λ differ. omega (arith, differ))
+certify_asked machine tools program cuts format (Some found) (ToRun run) range finds are =
+    no_run (codes "certify") run.recording (sym finds.0 ∙ are.0) (λ three. omega (arith, three)) (λ six. omega (arith, six))
+certify_asked machine tools program cuts format (Some found) (ToRunThrough run) range finds are =
+    no_run (codes "certify") run.recording (sym finds.0 ∙ are.0) (λ three. omega (arith, three)) (λ six. omega (arith, six))
+certify_asked machine tools program cuts format (Some found) (ToDraw draw) range finds are =
+    other_name (codes "certify") (codes "draw") (sym finds.0 ∙ are.0) (λ lengths. omega (arith, lengths))
+certify_asked machine tools program cuts format (Some found) (ToShow show) range finds are =
+    other_letter (codes "certify") (codes "show") (sym finds.0 ∙ are.0) (λ letters. omega (arith, letters))
+certify_asked machine tools program cuts format (Some found) (ToReport report) range finds are =
+    other_name (codes "certify") (codes "report") (sym finds.0 ∙ are.0) (λ lengths. omega (arith, lengths))
+certify_asked machine tools program cuts format (Some found) (ToExplain number) range finds are =
+    other_letter (codes "certify") (codes "explain") (sym finds.0 ∙ are.0) (λ differ. omega (arith, differ))
+certify_asked machine tools program cuts format (Some found) (ToHelp command) range finds are =
+    other_name (codes "certify") (codes "help") (sym finds.0 ∙ are.0) (λ differ. omega (arith, differ))
+certify_asked machine tools program cuts format (Some found) ToVersion range finds are =
+    other_letter (codes "certify") (codes "version") (sym finds.0 ∙ are) (λ differ. omega (arith, differ))
 
 pub certify_taken : (words : List Text) (machine tools : Text) (program : Option Text) (cuts : Option ℕ) (format : Option Format) → AreCutsInRange cuts
     → words ≡ certify_words machine tools program cuts format → IsTaken words
 certify_taken words machine tools program cuts format range spelled = subst IsTaken (sym spelled) (certify_spells machine tools program cuts format range)
 
-pub certify_read : (words : List Text) (machine tools : Text) (program : Option Text) (cuts : Option ℕ) (format : Option Format) (options : Options) → AreCutsInRange cuts
-    → words ≡ certify_words machine tools program cuts format → AreOptions (subcommand_of ngc_app words) options → AsksForCertify machine tools program cuts format options
+pub certify_read : (words : List Text) (machine tools : Text) (program : Option Text) (cuts : Option ℕ) (format : Option Format) (options : Options) →
+    AreCutsInRange cuts
+    → words ≡ certify_words machine tools program cuts format → AreOptions (subcommand_of ngc_app words) options →
+    AsksForCertify machine tools program cuts format options
 certify_read words machine tools program cuts format options range spelled are =
     let Are : List Text → Type 0 = λ ws. AreOptions (subcommand_of ngc_app ws) options in
     certify_asked machine tools program cuts format _ options range (certify_finds machine tools program cuts format) (subst Are spelled are)
@@ -474,7 +539,8 @@ report_cuts_taken machine tools (Some program) cuts false true takes = both (bot
 report_cuts_taken machine tools (Some program) cuts true false takes = both (both (both (both (both takes refl) refl) refl) refl) refl
 report_cuts_taken machine tools (Some program) cuts true true takes = both (both (both (both (both takes refl) refl) refl) refl) refl
 
-report_spells : (machine tools : Text) (program : Option Text) (cuts : Option ℕ) (all json : Bool) → AreCutsInRange cuts → IsTaken (report_words machine tools program cuts all json)
+report_spells : (machine tools : Text) (program : Option Text) (cuts : Option ℕ) (all json : Bool) → AreCutsInRange cuts →
+    IsTaken (report_words machine tools program cuts all json)
 unfolding clap_on_literals
 report_spells machine tools None None false false range = refl
 report_spells machine tools None None false true range = refl
@@ -488,7 +554,8 @@ report_spells machine tools program (Some cuts) all json range =
     let text = Accepts-accepts false (Unsigned 1 65535) (decimal cuts) (decimal_in_range cuts range.0 range.1) in
     report_cuts_taken machine tools program cuts all json (passes (accepts false (Unsigned 1 65535) (decimal cuts)) _ text)
 
-report_asked : (machine tools : Text) (program : Option Text) (cuts : Option ℕ) (all json : Bool) (found : Option (Text × List Row)) (options : Options) → AreCutsInRange cuts
+report_asked : (machine tools : Text) (program : Option Text) (cuts : Option ℕ) (all json : Bool) (found : Option (Text × List Row)) (options : Options) →
+    AreCutsInRange cuts
     → FindsReport machine tools program (text_of cuts) all json found → AreOptions found options → AsksForReport machine tools program cuts all json options
 report_asked machine tools program cuts all json None options range finds are = absurd finds
 report_asked machine tools program cuts all json (Some found) (ToReport report) range finds are =
@@ -500,22 +567,31 @@ report_asked machine tools program cuts all json (Some found) (ToReport report) 
       are.1.all ∙ finds.5,
       are.1.json ∙ finds.6,
     )
-report_asked machine tools program cuts all json (Some found) (ToList list) range finds are = other_name (codes "report") (codes "list") (sym finds.0 ∙ are.0) (λ lengths. omega (arith, lengths))
-report_asked machine tools program cuts all json (Some found) (ToCertify certify) range finds are = other_name (codes "report") (codes "certify") (sym finds.0 ∙ are.0) (λ lengths. omega (arith, lengths))
-report_asked machine tools program cuts all json (Some found) (ToCheck check) range finds are = other_name (codes "report") (codes "check") (sym finds.0 ∙ are.0) (λ lengths. omega (arith, lengths))
+report_asked machine tools program cuts all json (Some found) (ToList list) range finds are =
+    other_name (codes "report") (codes "list") (sym finds.0 ∙ are.0) (λ lengths. omega (arith, lengths))
+report_asked machine tools program cuts all json (Some found) (ToCertify certify) range finds are =
+    other_name (codes "report") (codes "certify") (sym finds.0 ∙ are.0) (λ lengths. omega (arith, lengths))
+report_asked machine tools program cuts all json (Some found) (ToCheck check) range finds are =
+    other_name (codes "report") (codes "check") (sym finds.0 ∙ are.0) (λ lengths. omega (arith, lengths))
 report_asked machine tools program cuts all json (Some found) (ToRun run) range finds are = report_is_no_run run.recording (sym finds.0 ∙ are.0)
 report_asked machine tools program cuts all json (Some found) (ToRunThrough run) range finds are = report_is_no_run run.recording (sym finds.0 ∙ are.0)
-report_asked machine tools program cuts all json (Some found) (ToDraw draw) range finds are = other_name (codes "report") (codes "draw") (sym finds.0 ∙ are.0) (λ lengths. omega (arith, lengths))
-report_asked machine tools program cuts all json (Some found) (ToShow show) range finds are = other_name (codes "report") (codes "show") (sym finds.0 ∙ are.0) (λ lengths. omega (arith, lengths))
-report_asked machine tools program cuts all json (Some found) (ToExplain number) range finds are = other_name (codes "report") (codes "explain") (sym finds.0 ∙ are.0) (λ lengths. omega (arith, lengths))
-report_asked machine tools program cuts all json (Some found) (ToHelp command) range finds are = other_name (codes "report") (codes "help") (sym finds.0 ∙ are.0) (λ lengths. omega (arith, lengths))
-report_asked machine tools program cuts all json (Some found) ToVersion range finds are = other_name (codes "report") (codes "version") (sym finds.0 ∙ are) (λ lengths. omega (arith, lengths))
+report_asked machine tools program cuts all json (Some found) (ToDraw draw) range finds are =
+    other_name (codes "report") (codes "draw") (sym finds.0 ∙ are.0) (λ lengths. omega (arith, lengths))
+report_asked machine tools program cuts all json (Some found) (ToShow show) range finds are =
+    other_name (codes "report") (codes "show") (sym finds.0 ∙ are.0) (λ lengths. omega (arith, lengths))
+report_asked machine tools program cuts all json (Some found) (ToExplain number) range finds are =
+    other_name (codes "report") (codes "explain") (sym finds.0 ∙ are.0) (λ lengths. omega (arith, lengths))
+report_asked machine tools program cuts all json (Some found) (ToHelp command) range finds are =
+    other_name (codes "report") (codes "help") (sym finds.0 ∙ are.0) (λ lengths. omega (arith, lengths))
+report_asked machine tools program cuts all json (Some found) ToVersion range finds are =
+    other_name (codes "report") (codes "version") (sym finds.0 ∙ are) (λ lengths. omega (arith, lengths))
 
 pub report_taken : (words : List Text) (machine tools : Text) (program : Option Text) (cuts : Option ℕ) (all json : Bool) → AreCutsInRange cuts
     → words ≡ report_words machine tools program cuts all json → IsTaken words
 report_taken words machine tools program cuts all json range spelled = subst IsTaken (sym spelled) (report_spells machine tools program cuts all json range)
 
-pub report_read : (words : List Text) (machine tools : Text) (program : Option Text) (cuts : Option ℕ) (all json : Bool) (options : Options) → AreCutsInRange cuts
+pub report_read : (words : List Text) (machine tools : Text) (program : Option Text) (cuts : Option ℕ) (all json : Bool) (options : Options) →
+    AreCutsInRange cuts
     → words ≡ report_words machine tools program cuts all json → AreOptions (subcommand_of ngc_app words) options
     → AsksForReport machine tools program cuts all json options
 report_read words machine tools program cuts all json options range spelled are =
@@ -527,7 +603,8 @@ abbrev FindsHelp : Option Text → Option (Text × List Row) → Type 0
 FindsHelp command None = ⊥
 FindsHelp command (Some found) = (found.0 ≡ codes "help") × (first_of (codes "command") found.1 ≡ command)
 
-help_on : (command name : Text) → command ≡ name → Spells (help_words (Some name)) (FindsHelp (Some name)) → Spells (help_words (Some command)) (FindsHelp (Some command))
+help_on : (command name : Text) → command ≡ name → Spells (help_words (Some name)) (FindsHelp (Some name)) →
+    Spells (help_words (Some command)) (FindsHelp (Some command))
 help_on command name same spells = subst (λ (c : Text). Spells (help_words (Some c)) (FindsHelp (Some c))) (sym same) spells
 
 help_spells : (command : Option Text) → AreCommands command → Spells (help_words command) (FindsHelp command)
@@ -548,18 +625,24 @@ help_spells (Some command) among = elim among [
   | inr (inr (inr (inr (inr (inr (inr (inr (inr (inr (inr none)))))))))) ↦ absurd none
 ]
 
-help_asked : (command : Option Text) (found : Option (Text × List Row)) (options : Options) → FindsHelp command found → AreOptions found options → AsksForHelp command options
+help_asked : (command : Option Text) (found : Option (Text × List Row)) (options : Options) → FindsHelp command found → AreOptions found options →
+    AsksForHelp command options
 help_asked command None options finds are = absurd finds
 help_asked command (Some found) (ToHelp asked) finds are = are.1 ∙ finds.1
 help_asked command (Some found) (ToList list) finds are = other_letter (codes "help") (codes "list") (sym finds.0 ∙ are.0) (λ differ. omega (arith, differ))
-help_asked command (Some found) (ToCertify certify) finds are = other_name (codes "help") (codes "certify") (sym finds.0 ∙ are.0) (λ differ. omega (arith, differ))
+help_asked command (Some found) (ToCertify certify) finds are =
+    other_name (codes "help") (codes "certify") (sym finds.0 ∙ are.0) (λ differ. omega (arith, differ))
 help_asked command (Some found) (ToCheck check) finds are = other_name (codes "help") (codes "check") (sym finds.0 ∙ are.0) (λ differ. omega (arith, differ))
-help_asked command (Some found) (ToRun run) finds are = no_run (codes "help") run.recording (sym finds.0 ∙ are.0) (λ three. omega (arith, three)) (λ six. omega (arith, six))
-help_asked command (Some found) (ToRunThrough run) finds are = no_run (codes "help") run.recording (sym finds.0 ∙ are.0) (λ three. omega (arith, three)) (λ six. omega (arith, six))
+help_asked command (Some found) (ToRun run) finds are =
+    no_run (codes "help") run.recording (sym finds.0 ∙ are.0) (λ three. omega (arith, three)) (λ six. omega (arith, six))
+help_asked command (Some found) (ToRunThrough run) finds are =
+    no_run (codes "help") run.recording (sym finds.0 ∙ are.0) (λ three. omega (arith, three)) (λ six. omega (arith, six))
 help_asked command (Some found) (ToDraw draw) finds are = other_letter (codes "help") (codes "draw") (sym finds.0 ∙ are.0) (λ letters. omega (arith, letters))
 help_asked command (Some found) (ToShow show) finds are = other_letter (codes "help") (codes "show") (sym finds.0 ∙ are.0) (λ letters. omega (arith, letters))
-help_asked command (Some found) (ToReport report) finds are = other_name (codes "help") (codes "report") (sym finds.0 ∙ are.0) (λ lengths. omega (arith, lengths))
-help_asked command (Some found) (ToExplain number) finds are = other_name (codes "help") (codes "explain") (sym finds.0 ∙ are.0) (λ differ. omega (arith, differ))
+help_asked command (Some found) (ToReport report) finds are =
+    other_name (codes "help") (codes "report") (sym finds.0 ∙ are.0) (λ lengths. omega (arith, lengths))
+help_asked command (Some found) (ToExplain number) finds are =
+    other_name (codes "help") (codes "explain") (sym finds.0 ∙ are.0) (λ differ. omega (arith, differ))
 help_asked command (Some found) ToVersion finds are = other_name (codes "help") (codes "version") (sym finds.0 ∙ are) (λ differ. omega (arith, differ))
 
 pub help_taken : (words : List Text) (command : Option Text) → AreCommands command → words ≡ help_words command → IsTaken words
@@ -584,10 +667,13 @@ version_asked : (found : Option (Text × List Row)) (options : Options) → Find
 version_asked None options finds are = absurd finds
 version_asked (Some found) ToVersion finds are = refl
 version_asked (Some found) (ToList list) finds are = other_name (codes "version") (codes "list") (sym finds ∙ are.0) (λ differ. omega (arith, differ))
-version_asked (Some found) (ToCertify certify) finds are = other_letter (codes "version") (codes "certify") (sym finds ∙ are.0) (λ differ. omega (arith, differ))
+version_asked (Some found) (ToCertify certify) finds are =
+    other_letter (codes "version") (codes "certify") (sym finds ∙ are.0) (λ differ. omega (arith, differ))
 version_asked (Some found) (ToCheck check) finds are = other_name (codes "version") (codes "check") (sym finds ∙ are.0) (λ differ. omega (arith, differ))
-version_asked (Some found) (ToRun run) finds are = no_run (codes "version") run.recording (sym finds ∙ are.0) (λ three. omega (arith, three)) (λ six. omega (arith, six))
-version_asked (Some found) (ToRunThrough run) finds are = no_run (codes "version") run.recording (sym finds ∙ are.0) (λ three. omega (arith, three)) (λ six. omega (arith, six))
+version_asked (Some found) (ToRun run) finds are =
+    no_run (codes "version") run.recording (sym finds ∙ are.0) (λ three. omega (arith, three)) (λ six. omega (arith, six))
+version_asked (Some found) (ToRunThrough run) finds are =
+    no_run (codes "version") run.recording (sym finds ∙ are.0) (λ three. omega (arith, three)) (λ six. omega (arith, six))
 version_asked (Some found) (ToDraw draw) finds are = other_name (codes "version") (codes "draw") (sym finds ∙ are.0) (λ lengths. omega (arith, lengths))
 version_asked (Some found) (ToShow show) finds are = other_letter (codes "version") (codes "show") (sym finds ∙ are.0) (λ letters. omega (arith, letters))
 version_asked (Some found) (ToReport report) finds are = other_name (codes "version") (codes "report") (sym finds ∙ are.0) (λ lengths. omega (arith, lengths))
@@ -597,7 +683,8 @@ version_asked (Some found) (ToHelp command) finds are = other_name (codes "versi
 pub version_taken : (words : List Text) → words ≡ codes "version" ∷ [] → IsTaken words
 version_taken words spelled = subst IsTaken (sym spelled) version_spells.0
 
-pub version_read : (words : List Text) (options : Options) → words ≡ codes "version" ∷ [] → AreOptions (subcommand_of ngc_app words) options → options ≡ ToVersion
+pub version_read : (words : List Text) (options : Options) → words ≡ codes "version" ∷ [] → AreOptions (subcommand_of ngc_app words) options →
+    options ≡ ToVersion
 version_read words options spelled are =
     let Are : List Text → Type 0 = λ ws. AreOptions (subcommand_of ngc_app ws) options in
     version_asked _ options version_spells.1 (subst Are spelled are)

@@ -1,5 +1,6 @@
 -- What a step of building a command adds to what `clap` reads of it.
-use Rattle.std.proofs.Common.{◌≡◌, ℕ, ◌+◌, ◌<◌, Bool, true, false, not, ◌&&◌, List, [], ◌∷◌, ◌++◌, ap, ap₂, ◌∙◌, fold, get_or, is_some, length, map, refl, sym, take}
+use Rattle.std.proofs.Common.{◌≡◌, ℕ, ◌+◌, ◌<◌, Bool, true, false, not, ◌&&◌, List, [], ◌∷◌, ◌++◌, ap, ap₂, ◌∙◌, fold, get_or, is_some, length, map, refl, sym}
+use Rattle.std.proofs.Common.{take}
 use Rattle.std.proofs.lemmas.List.{take_more}
 use Rattle.std.proofs.lemmas.List.{map-append}
 use Rattle.std.proofs.lemmas.List.Sums.{fold-append}
@@ -40,7 +41,14 @@ simple_is_local a R is simple =
     let from_groups : Bool = is_empty a.groups.items && from_delimiter in
     let from_default_ifs : Bool = is_empty a.default_vals_ifs.items && from_groups in
     let all : (is_empty a.overrides.items && from_default_ifs) ≡ true = ap (λ (r : Rule). r.is_simple) is ∙ simple in
-    is_false a.global (and_right (not a.last) local (and_right (not a.require_equals) from_last (and_right (not a.allow_negative_numbers) from_equals (and_right (not a.allow_hyphen_values) from_negatives (and_right (not (is_some a.terminator)) from_hyphens (and_right (not (is_some a.val_delim)) from_terminator (and_right (is_empty a.groups.items) from_delimiter (and_right (is_empty a.default_vals_ifs.items) from_groups (and_right (is_empty a.overrides.items) from_default_ifs all)))))))))
+    is_false a.global (and_right (not a.last) local
+    (and_right (not a.require_equals) from_last
+    (and_right (not a.allow_negative_numbers) from_equals
+    (and_right (not a.allow_hyphen_values) from_negatives
+    (and_right (not (is_some a.terminator)) from_hyphens
+    (and_right (not (is_some a.val_delim)) from_terminator
+    (and_right (is_empty a.groups.items) from_delimiter
+    (and_right (is_empty a.default_vals_ifs.items) from_groups (and_right (is_empty a.overrides.items) from_default_ifs all)))))))))
 
 -- a plain command has no global argument
 pub plain_is_local : (c : Command) (A : App) → app_of c ≡ A → A.top.is_plain ≡ true → (out-Command c).has_globals ≡ false
@@ -58,11 +66,13 @@ plain_is_local c A is plain =
     (and_right (not f.allow_external_subcommands) from_globals (and_right (is_empty f.groups.items) from_external all)))
 
 -- one more argument
-pub adds_rule : {old new : Command} {a : Arg} {A : App} {R : Rule} → app_of old ≡ A → rule_of a ≡ R → R.is_simple ≡ true → AddsArg old a new → app_of new ≡ with_rule A R
+pub adds_rule : {old new : Command} {a : Arg} {A : App} {R : Rule} → app_of old ≡ A → rule_of a ≡ R → R.is_simple ≡ true → AddsArg old a new →
+    app_of new ≡ with_rule A R
 adds_rule {old} {new} {a} {A} {R} is rule simple adds = adds.shape (simple_is_local a R rule simple) ∙ ap₂ with_rule is rule
 
 -- one more subcommand
-pub adds_subcommand : {old new sub : Command} {A S : App} → app_of old ≡ A → app_of sub ≡ S → S.top.is_plain ≡ true → AddsSubcommand old sub new → app_of new ≡ with_subcommand A S.top
+pub adds_subcommand : {old new sub : Command} {A S : App} → app_of old ≡ A → app_of sub ≡ S → S.top.is_plain ≡ true → AddsSubcommand old sub new →
+    app_of new ≡ with_subcommand A S.top
 adds_subcommand {old} {new} {sub} {A} {S} is shape plain adds =
     adds.shape (plain_is_local sub S shape plain) ∙ ap₂ with_subcommand is (ap (λ (a : App). a.top) shape)
 

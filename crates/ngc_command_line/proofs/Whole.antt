@@ -1,5 +1,6 @@
 -- A subcommand of words that are taken has the values that it requires.
-use Rattle.std.proofs.Common.{◌≡◌, ◌⊎◌, Bool, true, false, List, [], ◌∷◌, Option, Some, None, is_some, refl, inl, inr, subst, ap, length, sym, ◌∙◌, get_or, if◌then◌else◌, codes, option_map, arith}
+use Rattle.std.proofs.Common.{◌≡◌, ◌⊎◌, Bool, true, false, List, [], ◌∷◌, Option, Some, None, is_some, refl, inl, inr, subst, ap, length, sym, ◌∙◌, get_or}
+use Rattle.std.proofs.Common.{if◌then◌else◌, codes, option_map, arith}
 use Rattle.std.specs.Prelude.{find}
 use Rattle.std.specs.List.{slice_index_or}
 use Rattle.std.specs.Str.{bytes_eq}
@@ -11,11 +12,13 @@ use Rattle.clap.specs.Simple.{built, entered, label_of, names_of, new_shape, row
 use Rattle.clap.specs.Walk.{answers_to, nothing_held, rows_after, stop_after}
 use Rattle.ngc_command_line.specs.CommandLine.{ngc_app}
 use Rattle.ngc_command_line.specs.CommandLine.{run_name}
-use Rattle.ngc_command_line.specs.Meant.{HasCertifyValues, HasCheckValues, HasDrawValues, HasExplainValues, HasReportValues, HasRunValues, HasShowValues, IsTaken, IsWhole}
+use Rattle.ngc_command_line.specs.Meant.{HasCertifyValues, HasCheckValues, HasDrawValues, HasExplainValues, HasReportValues, HasRunValues, HasShowValues}
+use Rattle.ngc_command_line.specs.Meant.{IsTaken, IsWhole}
 use Rattle.ngc_command_line.specs.declared.options.Recording.{Recording}
 use Rattle.ngc_command_line.specs.declared.options.Recording.TheVariants.{Log, Pulses}
 use Rattle.ngc_command_line.proofs.Filled.{AreSound}
-use Rattle.ngc_command_line.proofs.Rules.{Fits, FitsCuts, FitsFormat, FitsNumber, below_passes, cuts_fit, flag_is_sound, format_fits, found_fits, given_has_value, help_is_sound, is_true, level_is_filled, neither_true, number_fits, set_is_sound}
+use Rattle.ngc_command_line.proofs.Rules.{Fits, FitsCuts, FitsFormat, FitsNumber, below_passes, cuts_fit, flag_is_sound, format_fits, found_fits}
+use Rattle.ngc_command_line.proofs.Rules.{given_has_value, help_is_sound, is_true, level_is_filled, neither_true, number_fits, set_is_sound}
 
 -- what was found are the rows of one of these, at words in which it finds no fault
 abbrev IsOneOf : List Shape → Text × List Row → Type 0
@@ -28,7 +31,8 @@ one_found P [] words found is none = let bad : None ≡ Some found = is in cc
 one_found P (x ∷ xs) words found is none = pick (P x) (one_found P xs words found) is none
   where
     pick : (b : Bool)
-        → (option_map (λ s. rows_at s words) (find P xs) ≡ Some found → option_map_or (λ s. level_fault s [] nothing_held words false []) (find P xs) [] ≡ [] → IsOneOf xs found)
+        → (option_map (λ s. rows_at s words) (find P xs) ≡ Some found → option_map_or (λ s. level_fault s [] nothing_held words false []) (find P xs) [] ≡ [] →
+        IsOneOf xs found)
         → option_map (λ s. rows_at s words) (if b then Some x else find P xs) ≡ Some found
         → option_map_or (λ s. level_fault s [] nothing_held words false []) (if b then Some x else find P xs) [] ≡ [] → IsOneOf (x ∷ xs) found
     pick true after here passes = inl (words, same_Some _ _ here, passes)
@@ -114,7 +118,8 @@ run_sound =
     let delete = flag_is_sound FitsCuts _ (codes "true") (codes "false") refl refl refl (λ v. no_cuts (codes "delete") v refl) in
     (machine, (tools, (certificate, (events, (program, (delete, (help_is_sound FitsCuts _ refl refl, tt)))))))
 
-certify_values : (words : List Text) → level_fault certify_shape [] nothing_held words false [] ≡ [] → HasCertifyValues (rows_after certify_shape.rules [] words)
+certify_values : (words : List Text) → level_fault certify_shape [] nothing_held words false [] ≡ [] →
+    HasCertifyValues (rows_after certify_shape.rules [] words)
 certify_values words none =
     let rows = rows_after certify_shape.rules [] words in
     let (filled, required) = level_is_filled FitsCuts certify_shape certify_sound words none in
@@ -210,10 +215,14 @@ report_values words none =
     let rows = rows_after report_shape.rules [] words in
     let (filled, required) = level_is_filled FitsCuts report_shape report_sound words none in
     let (machine, others) = neither_true _ _ required in
-    let (tools, rest) = neither_true _ _ others in
-    (given_has_value FitsCuts (codes "machine") rows filled (is_true _ machine), given_has_value FitsCuts (codes "tools") rows filled (is_true _ tools), found_fits (codes "cuts") (IsUnsignedIn 1 65535) rows filled)
+    let (tools, rest) = neither_true _ _ others in (
+      given_has_value FitsCuts (codes "machine") rows filled (is_true _ machine),
+      given_has_value FitsCuts (codes "tools") rows filled (is_true _ tools),
+      found_fits (codes "cuts") (IsUnsignedIn 1 65535) rows filled,
+    )
 
-explain_values : (words : List Text) → level_fault explain_shape [] nothing_held words false [] ≡ [] → HasExplainValues (rows_after explain_shape.rules [] words)
+explain_values : (words : List Text) → level_fault explain_shape [] nothing_held words false [] ≡ [] →
+    HasExplainValues (rows_after explain_shape.rules [] words)
 explain_values words none =
     let rows = rows_after explain_shape.rules [] words in
     let (filled, required) = level_is_filled FitsNumber explain_shape explain_sound words none in

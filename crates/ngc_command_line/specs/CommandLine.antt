@@ -187,7 +187,8 @@ draw_words machine tools certificate program view delete = codes "draw"
 
 -- the words of `ngc show` with these options, in one spelling
 abbrev pub show_words : Text → Option Text → List Text
-show_words machine tools = codes "show" ∷ (codes "--machine=" ++ machine) ∷ file_words (codes "--tools=") tools
+show_words machine tools =
+    codes "show" ∷ (codes "--machine=" ++ machine) ∷ file_words (codes "--tools=") tools
 
 -- the words of `ngc report` with these options, in one spelling
 abbrev pub report_words : Text → Text → Option Text → Option ℕ → Bool → Bool → List Text

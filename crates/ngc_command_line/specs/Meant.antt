@@ -17,11 +17,17 @@ use Rattle.ngc_command_line.specs.declared.options.ReportOptions.{ReportOptions}
 use Rattle.ngc_command_line.specs.declared.options.RunOptions.{RunOptions}
 use Rattle.ngc_command_line.specs.declared.options.ShowOptions.{ShowOptions}
 use Rattle.ngc_command_line.specs.declared.options.Options.{Options}
-use Rattle.ngc_command_line.specs.declared.options.Options.TheVariants.{List as ToList, Certify as ToCertify}
+use Rattle.ngc_command_line.specs.declared.options.Options.TheVariants.{List as ToList}
+use Rattle.ngc_command_line.specs.declared.options.Options.TheVariants.{Certify as ToCertify}
 use Rattle.ngc_command_line.specs.declared.options.RunThroughOptions.{RunThroughOptions}
-use Rattle.ngc_command_line.specs.declared.options.Options.TheVariants.{Check as ToCheck, Run as ToRun}
-use Rattle.ngc_command_line.specs.declared.options.Options.TheVariants.{RunThrough as ToRunThrough, Draw as ToDraw, Show as ToShow}
-use Rattle.ngc_command_line.specs.declared.options.Options.TheVariants.{Explain as ToExplain, Help as ToHelp, Report as ToReport}
+use Rattle.ngc_command_line.specs.declared.options.Options.TheVariants.{Check as ToCheck}
+use Rattle.ngc_command_line.specs.declared.options.Options.TheVariants.{Run as ToRun}
+use Rattle.ngc_command_line.specs.declared.options.Options.TheVariants.{RunThrough as ToRunThrough}
+use Rattle.ngc_command_line.specs.declared.options.Options.TheVariants.{Draw as ToDraw}
+use Rattle.ngc_command_line.specs.declared.options.Options.TheVariants.{Show as ToShow}
+use Rattle.ngc_command_line.specs.declared.options.Options.TheVariants.{Explain as ToExplain}
+use Rattle.ngc_command_line.specs.declared.options.Options.TheVariants.{Help as ToHelp}
+use Rattle.ngc_command_line.specs.declared.options.Options.TheVariants.{Report as ToReport}
 use Rattle.ngc_command_line.specs.declared.options.Options.TheVariants.{Version as ToVersion}
 use Rattle.ngc_command_line.specs.declared.HelpFault.{HelpFault}
 use Rattle.ngc_command_line.specs.declared.HelpFault.TheVariants as help_faults
@@ -104,14 +110,16 @@ pub record AreRunThroughOptions (rows : List Row) (options : RunThroughOptions) 
 -- the options are those of a run that writes this, with events or without
 abbrev pub AreRunsOptions : Recording → List Row → Options → Type 0
 AreRunsOptions recording rows (ToRun run) = (run.recording ≡ recording) × AreRunOptions rows run
-AreRunsOptions recording rows (ToRunThrough run) = (run.recording ≡ recording) × AreRunThroughOptions rows run
+AreRunsOptions recording rows (ToRunThrough run) =
+    (run.recording ≡ recording) × AreRunThroughOptions rows run
 AreRunsOptions recording rows other = ⊥
 
 -- each option of `draw` by the first value that was found under its own name
 pub record AreDrawOptions (rows : List Row) (options : DrawOptions) : Type 0 where
   pub machine : Some options.machine.now ≡ first_of (codes "machine") rows
   pub tools : Some options.tools.now ≡ first_of (codes "tools") rows
-  pub certificate : option_map (λ name. name.now) options.certificate ≡ first_of (codes "certificate") rows
+  pub certificate : option_map (λ name. name.now) options.certificate
+      ≡ first_of (codes "certificate") rows
   pub program : option_map (λ name. name.now) options.program ≡ first_of (codes "program") rows
   pub view : option_map (λ name. name.now) options.view ≡ first_of (codes "view") rows
   pub delete : options.delete ≡ is_set (codes "delete") rows
@@ -137,7 +145,8 @@ HasValue name rows = is_some (first_of name rows) ≡ true
 -- what is found for `certify` where the words are taken
 abbrev pub HasCertifyValues : List Row → Type 0
 HasCertifyValues rows = HasValue (codes "machine") rows × HasValue (codes "tools") rows
-    × IfSome (first_of (codes "cuts") rows) (IsUnsignedIn 1 65535) × IfSome (first_of (codes "format") rows) (IsUnsignedIn 1 2)
+    × IfSome (first_of (codes "cuts") rows) (IsUnsignedIn 1 65535) ×
+    IfSome (first_of (codes "format") rows) (IsUnsignedIn 1 2)
 
 -- what is found for `check` where the words are taken
 abbrev pub HasCheckValues : List Row → Type 0
@@ -195,7 +204,8 @@ AreOptions (Some found) (ToRunThrough run) =
     (found.0 ≡ run_name run.recording) × AreRunThroughOptions found.1 run
 AreOptions (Some found) (ToDraw draw) = (found.0 ≡ codes "draw") × AreDrawOptions found.1 draw
 AreOptions (Some found) (ToShow show) = (found.0 ≡ codes "show") × AreShowOptions found.1 show
-AreOptions (Some found) (ToReport report) = (found.0 ≡ codes "report") × AreReportOptions found.1 report
+AreOptions (Some found) (ToReport report) =
+    (found.0 ≡ codes "report") × AreReportOptions found.1 report
 AreOptions (Some found) (ToExplain number) =
     (found.0 ≡ codes "explain") × IsNumber (first_of (codes "number") found.1) number
 AreOptions (Some found) (ToHelp command) = (found.0 ≡ codes "help")
@@ -228,7 +238,8 @@ AsksForCheck machine tools certificate program (ToCheck check) =
 AsksForCheck machine tools certificate program other = ⊥
 
 -- a run that writes this is asked for, with these options
-abbrev pub AsksForRun : Recording → Text → Text → Text → Option Text → Option Text → Bool → Options → Type 0
+abbrev pub AsksForRun : Recording → Text → Text → Text → Option Text → Option Text → Bool →
+    Options → Type 0
 AsksForRun recording machine tools certificate (Some events) program delete (ToRun run) =
     (run.recording ≡ recording) × (run.machine.now ≡ machine) × (run.tools.now ≡ tools)
     × (run.certificate.now ≡ certificate) × (run.events.now ≡ events)
@@ -240,7 +251,8 @@ AsksForRun recording machine tools certificate None program delete (ToRunThrough
 AsksForRun recording machine tools certificate events program delete other = ⊥
 
 -- `draw` is asked for, with these options
-abbrev pub AsksForDraw : Text → Text → Option Text → Option Text → Option Text → Bool → Options → Type 0
+abbrev pub AsksForDraw : Text → Text → Option Text → Option Text → Option Text → Bool →
+    Options → Type 0
 AsksForDraw machine tools certificate program view delete (ToDraw draw) =
     (draw.machine.now ≡ machine) × (draw.tools.now ≡ tools)
     × (option_map (λ name. name.now) draw.certificate ≡ certificate)

@@ -3,7 +3,8 @@ use Rattle.std.specs.Prelude.{Some, None, codes, fold, map, if◌then◌else◌}
 use Rattle.clap.specs.Words.{App, Rule, Shape, new_app, new_rule, with_rule}
 use Rattle.clap.specs.declared.builder.action.ArgAction.TheVariants.{Set, SetTrue}
 use Rattle.clap.specs.declared.builder.value_parser.ValueParser.TheVariants.{Unsigned}
-use Rattle.ngc_command_line.specs.CommandLine.{certify_app, check_app, draw_app, explain_app, help_app, list_app}
+use Rattle.ngc_command_line.specs.CommandLine.{certify_app, check_app, draw_app, explain_app}
+use Rattle.ngc_command_line.specs.CommandLine.{help_app, list_app}
 use Rattle.ngc_command_line.specs.CommandLine.{pulses_app, report_app, run_app, show_app}
 use Rattle.ngc_command_line.specs.declared.commands.Subcommand.{Subcommand}
 use Rattle.ngc_command_line.specs.declared.commands.Subcommand.TheVariants as named

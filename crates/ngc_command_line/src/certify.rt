@@ -2,7 +2,8 @@
 
 ghost use Rattle.std.specs.Prelude.{◌≡◌, IfSome, Some, codes};
 ghost use Rattle.clap.specs.Words.{IsUnsignedIn, first_of, found_of, rows_of};
-ghost use Rattle.ngc_command_line.specs.Meant.{AreCertifyOptions, AreCuts, HasCertifyValues, IsFormat};
+ghost use Rattle.ngc_command_line.specs.Meant.{AreCertifyOptions, AreCuts, HasCertifyValues};
+ghost use Rattle.ngc_command_line.specs.Meant.{IsFormat};
 
 use crate::arguments::{CUTS, PROGRAM, REQUIRED_MACHINE, REQUIRED_TOOLS, help_end, required};
 use crate::options::{CertifyOptions, Format};
@@ -38,7 +39,8 @@ fn cuts_in(text: &str) -> u16
 }
 
 pub(crate) fn cuts_of(found: &ArgMatches<'_>) -> u16
-    requires { IfSome (first_of (codes "cuts") (rows_of (found_of found.now))) (IsUnsignedIn 1 65535) }
+    requires { IfSome (first_of (codes "cuts") (rows_of (found_of found.now)))
+        (IsUnsignedIn 1 65535) }
     ensures { AreCuts (first_of (codes "cuts") (rows_of (found_of found.now))) result }
 {
     match found.get_str("cuts") {
@@ -59,7 +61,8 @@ fn format_in(text: &str) -> Format
 }
 
 fn format_of(found: &ArgMatches<'_>) -> Format
-    requires { IfSome (first_of (codes "format") (rows_of (found_of found.now))) (IsUnsignedIn 1 2) }
+    requires { IfSome (first_of (codes "format") (rows_of (found_of found.now)))
+        (IsUnsignedIn 1 2) }
     ensures { IsFormat (first_of (codes "format") (rows_of (found_of found.now))) result }
 {
     match found.get_str("format") {

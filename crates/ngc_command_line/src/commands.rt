@@ -88,7 +88,9 @@ fn with_subcommands<'a>(
     command: Command<'a>,
     subcommands: &[Subcommand],
 ) -> Result<Command<'a>, AllocError>
-    ensures { IfOk result (λ c. app_of c ≡ fold with_subcommand (app_of command.entry) (map shape_named subcommands.now)) }
+    ensures { IfOk result
+        (λ c. app_of c ≡ fold with_subcommand (app_of command.entry)
+        (map shape_named subcommands.now)) }
 {
     let mut command = command;
     for subcommand in subcommands {

@@ -31,7 +31,8 @@ pub(crate) static VERSION: SubcommandRow<'static> = SubcommandRow {
 
 // The command whose help is asked for.
 pub(crate) fn topic<'a>(found: &ArgMatches<'a>) -> Option<&'a str>
-    ensures { option_map (λ name. name.now) result ≡ first_of (codes "command") (rows_of (found_of found.now)) }
+    ensures { option_map (λ name. name.now) result
+        ≡ first_of (codes "command") (rows_of (found_of found.now)) }
 {
     found.get_str("command")
 }

@@ -4,14 +4,17 @@
 //! text that `clap` gives.
 #![tactic(auto)]
 
-ghost use Rattle.std.specs.Prelude.{◌≡◌, Bool, IfOk, IsOkUnless, MatchResult, OnOk, Option, Some, ℕ, codes, ◌∷◌, []};
+ghost use Rattle.std.specs.Prelude.{◌≡◌, Bool, IfOk, IsOkUnless, MatchResult, OnOk, Option, Some};
+ghost use Rattle.std.specs.Prelude.{ℕ, codes, ◌∷◌, []};
 ghost use Rattle.clap.specs.Words.{Text, found_of, kind_of, rows_of, subcommand_of};
 ghost use Rattle.clap.specs.Walk.{texts};
-ghost use Rattle.ngc_command_line.specs.CommandLine.{certify_words, check_words, draw_words, help_words, list_words, show_words};
+ghost use Rattle.ngc_command_line.specs.CommandLine.{certify_words, check_words, draw_words};
+ghost use Rattle.ngc_command_line.specs.CommandLine.{help_words, list_words, show_words};
 ghost use Rattle.ngc_command_line.specs.CommandLine.{ngc_app, run_words};
 ghost use Rattle.ngc_command_line.specs.CommandLine.{report_words};
 ghost use Rattle.ngc_command_line.specs.Meant.{AreCutsInRange, AreOptions, AsksForCertify};
-ghost use Rattle.ngc_command_line.specs.Meant.{AsksForCheck, AsksForDraw, AsksForList, AsksForRun, AsksForShow, AsksForHelp};
+ghost use Rattle.ngc_command_line.specs.Meant.{AsksForCheck, AsksForDraw, AsksForList, AsksForRun};
+ghost use Rattle.ngc_command_line.specs.Meant.{AsksForShow, AsksForHelp};
 ghost use Rattle.ngc_command_line.specs.Meant.{AreCommands, AsksForReport, help_fault_number};
 ghost use Rattle.ngc_command_line.specs.Meant.{IsTaken, IsWhole, usage_fault_number};
 

@@ -65,7 +65,8 @@ fn with_arguments<'a>(
     command: Command<'a>,
     arguments: &[Argument<'a>],
 ) -> Result<Command<'a>, AllocError>
-    ensures { IfOk result (λ c. app_of c ≡ fold with_rule (app_of command.entry) (map rule_for arguments.now)) }
+    ensures { IfOk result
+        (λ c. app_of c ≡ fold with_rule (app_of command.entry) (map rule_for arguments.now)) }
 {
     let mut command = command;
     for argument in arguments {

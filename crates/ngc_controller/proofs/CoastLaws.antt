@@ -1,5 +1,6 @@
 -- Ticks in which nothing is told: many at once are as many one after another.
-use Rattle.std.proofs.Common.{◌≡◌, ℕ, zero, suc, ◌+◌, ◌-◌, ◌*◌, ◌/◌, ◌≤◌, ◌<◌, min, List, [], ◌∷◌, Option, None, Bool, false, cond, refl, ap, ap₂, sym, subst, ◌∙◌, MatchBool, arith}
+use Rattle.std.proofs.Common.{◌≡◌, ℕ, zero, suc, ◌+◌, ◌-◌, ◌*◌, ◌/◌, ◌≤◌, ◌<◌, min, List, [], ◌∷◌, Option, None, Bool, false, cond, refl, ap, ap₂, sym, subst}
+use Rattle.std.proofs.Common.{◌∙◌, MatchBool, arith}
 use Rattle.std.specs.Prelude.{Ok, replicate, if◌then◌else◌}
 use Rattle.std.proofs.lemmas.Bool.{lt-ltb, le-ltb}
 use Rattle.ngc_fixed_length.specs.LinePath.{point}
@@ -34,7 +35,8 @@ use Rattle.ngc_controller.proofs.TravelLaws.{IsTravel, has_travelled, goes_on}
 pub no_ticks : (job : Job) (s : State) → Stretch job s s [] []
 no_ticks job s = record { states = []; runs = tt; goes_on = tt; last = refl }
 
-pub tick_more : (job : Job) (old mid new : State) (e : Event) (o : Outcome) (es : List Event) (os : List Outcome) → Step job old e o mid → GoesOn job old e mid → Stretch job mid new es os → Stretch job old new (e ∷ es) (o ∷ os)
+pub tick_more : (job : Job) (old mid new : State) (e : Event) (o : Outcome) (es : List Event) (os : List Outcome) → Step job old e o mid →
+    GoesOn job old e mid → Stretch job mid new es os → Stretch job old new (e ∷ es) (o ∷ os)
 tick_more job old mid new e o es os step goes more = record {
   states = mid ∷ more.states;
   runs = (step, more.runs);
@@ -102,13 +104,17 @@ even_tick job l ls s r joined wish n h = record {
   point_at = refl;
 }
 
-travels_step : (job : Job) (l : Queued) (ls : List Queued) (s new : State) → Travels job l ls s quiet new → 1 ≤ path_steps l → s.stopped ≡ false → s.ring ≡ l ∷ ls → Step job s Tick quiet new
+travels_step : (job : Job) (l : Queued) (ls : List Queued) (s new : State) → Travels job l ls s quiet new → 1 ≤ path_steps l → s.stopped ≡ false →
+    s.ring ≡ l ∷ ls → Step job s Tick quiet new
 travels_step job l ls s new travels moves runs ring =
-    let head : HeadTick job l ls s quiet new = subst (λ b. MatchBool b (Travels job l ls s quiet new) (MatchBool s.held (Rests job s quiet new) (Serves job l.command.action s quiet new))) (sym (lt-ltb 0 (path_steps l) moves)) travels in
+    let head : HeadTick job l ls s quiet new =
+    subst (λ b. MatchBool b (Travels job l ls s quiet new) (MatchBool s.held (Rests job s quiet new) (Serves job l.command.action s quiet new)))
+    (sym (lt-ltb 0 (path_steps l) moves)) travels in
     subst (λ b. TickBy job b s.ring s quiet new) (sym runs) (subst (λ xs. TickBy job false xs s quiet new) (sym ring) head)
 
 -- the others follow
-even_on : (job : Job) (l : Queued) (ls : List Queued) (s : State) (r : RampState) (joined : Bool) (wish n : ℕ) → IsEven job l ls s r joined wish (suc n) → r.rate < r.rest → IsEven job l ls (travelled_one l s) (one_less r) joined wish n
+even_on : (job : Job) (l : Queued) (ls : List Queued) (s : State) (r : RampState) (joined : Bool) (wish n : ℕ) → IsEven job l ls s r joined wish (suc n) →
+    r.rate < r.rest → IsEven job l ls (travelled_one l s) (one_less r) joined wish n
 even_on job l ls s r joined wish n h less = record {
   machine = h.machine;
   motion = h.motion;
@@ -125,7 +131,8 @@ even_on job l ls s r joined wish n h less = record {
 }
 
 -- and lead to the same state
-same_travelled : (n : ℕ) (l : Queued) (ls : List Queued) (s : State) → s.ring ≡ l ∷ ls → 1 ≤ path_steps l → (s.travelled + s.rate) / MILLION ≡ s.travelled / MILLION → coasted n (travelled_one l s) ≡ travelled_on (suc n) l s
+same_travelled : (n : ℕ) (l : Queued) (ls : List Queued) (s : State) → s.ring ≡ l ∷ ls → 1 ≤ path_steps l →
+    (s.travelled + s.rate) / MILLION ≡ s.travelled / MILLION → coasted n (travelled_one l s) ≡ travelled_on (suc n) l s
 same_travelled zero l ls s ring moves place =
     let one : s.travelled + s.rate ≡ s.travelled + 1 * s.rate = omega arith in
     ap (λ t. record s { travelled = t; position = point l.path (place_before s) }) one
@@ -134,21 +141,26 @@ same_travelled (suc n) l ls s ring moves place =
     coasted_travelled (suc n) l ls (travelled_one l s) (omega arith) ring moves
     ∙ ap₂ (λ t k. record s { travelled = t; position = point l.path k }) all place
 
-pub coasts_even : (n : ℕ) (job : Job) (l : Queued) (ls : List Queued) (s : State) (r : RampState) (joined : Bool) (wish : ℕ) → IsEven job l ls s r joined wish n → CoastsFor job s n
+pub coasts_even : (n : ℕ) (job : Job) (l : Queued) (ls : List Queued) (s : State) (r : RampState) (joined : Bool) (wish : ℕ) →
+    IsEven job l ls s r joined wish n → CoastsFor job s n
 coasts_even zero job l ls s r joined wish h = no_ticks job s
 coasts_even (suc n) job l ls s r joined wish h =
     let mid = travelled_one l s in
     let k = even_tick job l ls s r joined wish n h in
     let has = has_travelled job l ls s r (one_less r) joined wish r.rate (place_before s) false false (place_before s) (point l.path (place_before s)) k in
     let less : r.rate < r.rest = omega (arith, h.may.brakes) in
-    let travels : Travels job l ls s quiet mid = goes_on job l ls s mid r r.rate (place_before s) false (point l.path (place_before s)) (s.travelled + s.rate) s.ring s.rate has h.at h.within less (omega (arith, h.rate)) refl (sym h.rate) refl in
-    let least : TravelsAtLeast job s.ring s s.rate = subst (λ v. TravelsAtLeast job s.ring s v) h.rate (subst (λ xs. TravelsAtLeast job xs s r.rate) (sym h.ring) has.least) in
+    let travels : Travels job l ls s quiet mid = goes_on job l ls s mid r r.rate (place_before s) false (point l.path (place_before s))
+    (s.travelled + s.rate) s.ring s.rate has h.at h.within less (omega (arith, h.rate)) refl (sym h.rate) refl in
+    let least : TravelsAtLeast job s.ring s s.rate = subst (λ v. TravelsAtLeast job s.ring s v) h.rate
+    (subst (λ xs. TravelsAtLeast job xs s r.rate) (sym h.ring) has.least) in
     let place : (s.travelled + s.rate) / MILLION ≡ s.travelled / MILLION = (
     let whole : min (s.travelled + r.rate) (millionths l) ≡ s.travelled + s.rate = omega (arith, h.at, h.within, h.rate, less) in
     ap (λ t. t / MILLION) (sym whole) ∙ sym has.place) in
-    let last : coasted n mid ≡ coasted (suc n) s = same_travelled n l ls s h.ring h.moves place ∙ sym (coasted_travelled (suc n) l ls s (omega arith) h.ring h.moves) in
+    let last : coasted n mid ≡ coasted (suc n) s = same_travelled n l ls s h.ring h.moves place
+    ∙ sym (coasted_travelled (suc n) l ls s (omega arith) h.ring h.moves) in
     subst (λ t. Stretch job s t (replicate (suc n) Tick) (replicate (suc n) quiet)) last
-    (tick_more job s mid (coasted n mid) Tick quiet (replicate n Tick) (replicate n quiet) (travels_step job l ls s mid travels h.moves h.runs h.ring) least (coasts_even n job l ls mid (one_less r) joined wish (even_on job l ls s r joined wish n h less)))
+    (tick_more job s mid (coasted n mid) Tick quiet (replicate n Tick) (replicate n quiet) (travels_step job l ls s mid travels h.moves h.runs h.ring) least
+    (coasts_even n job l ls mid (one_less r) joined wish (even_on job l ls s r joined wish n h less)))
 
 -- ---- by what the fields keep
 
@@ -170,7 +182,8 @@ pub record IsEvenOn (job : Job) (queue : List Queued) (s : State) (r : RampState
   pub some : 1 ≤ n
   pub point_at : IsPointOn queue place p
 
-even_head : (job : Job) (l : Queued) (ls : List Queued) (s : State) (r : RampState) (wish aimed n place : ℕ) (p : StepPos) (h : IsEvenOn job (l ∷ ls) s r wish aimed n place p) → IsEven job l ls s r h.legs.0 wish n
+even_head : (job : Job) (l : Queued) (ls : List Queued) (s : State) (r : RampState) (wish aimed n place : ℕ) (p : StepPos)
+    (h : IsEvenOn job (l ∷ ls) s r wish aimed n place p) → IsEven job l ls s r h.legs.0 wish n
 even_head job l ls s r wish aimed n place p h =
     let legs : r.legs ≡ leg_of job s.done h.legs.0 l ∷ legs_behind job (suc s.done) l ls = h.legs.1 ∙ moving_legs job s.done h.legs.0 l ls h.moves in
     let left : IsRest r.rest (leg_of job s.done h.legs.0 l ∷ legs_behind job (suc s.done) l ls) = subst (λ ks. IsRest r.rest ks) legs h.left in
@@ -190,12 +203,14 @@ even_head job l ls s r wish aimed n place p h =
       may = may h.some;
     }
 
-pub coasts_on : (job : Job) (queue : List Queued) (s : State) (r : RampState) (wish aimed n place : ℕ) (p : StepPos) → IsEvenOn job queue s r wish aimed n place p → CoastsFor job s n
+pub coasts_on : (job : Job) (queue : List Queued) (s : State) (r : RampState) (wish aimed n place : ℕ) (p : StepPos) →
+    IsEvenOn job queue s r wish aimed n place p → CoastsFor job s n
 coasts_on job [] s r wish aimed n place p h = elim h.moves [ ]
 coasts_on job (l ∷ ls) s r wish aimed n place p h = coasts_even n job l ls s r h.legs.0 wish (even_head job l ls s r wish aimed n place p h)
 
 -- from the fields
-pub even_by : (job : Job) (done : ℕ) (ring after : RingData) (drive : Drive) (dwelt : ℕ) (position : StepPos) (tool : Option Tool) (panel : Panel) (s : RampState) (wish n : ℕ) (p : StepPos) →
+pub even_by : (job : Job) (done : ℕ) (ring after : RingData) (drive : Drive) (dwelt : ℕ) (position : StepPos) (tool : Option Tool) (panel : Panel)
+    (s : RampState) (wish n : ℕ) (p : StepPos) →
     IsInOrder job done ring drive dwelt panel → IsMoving ring.loaded → panel.stopped ≡ false → wish ≡ (if panel.held then 0 else drive.target) →
     Coasts drive.ramp wish n s → 1 ≤ n → after.loaded ≡ ring.loaded → after.place ≡ ring.place → IsPointOn after.loaded after.place p →
     IsEvenOn job ring.loaded (state_of done ring drive dwelt position tool panel) drive.ramp wish drive.target n ring.place p
@@ -230,11 +245,14 @@ pub record IsDwell (job : Job) (l : Queued) (ls : List Queued) (s : State) (n : 
 abbrev dwelt_one : State → State
 dwelt_one s = record s { rate = 0; dwelt = suc s.dwelt }
 
-dwells_step : (job : Job) (l : Queued) (ls : List Queued) (s new : State) → Dwells job s quiet new → suc s.dwelt < ticks_of job l.command.action → path_steps l ≤ 0 → s.stopped ≡ false → s.held ≡ false → s.ring ≡ l ∷ ls → Step job s Tick quiet new
+dwells_step : (job : Job) (l : Queued) (ls : List Queued) (s new : State) → Dwells job s quiet new → suc s.dwelt < ticks_of job l.command.action →
+    path_steps l ≤ 0 → s.stopped ≡ false → s.held ≡ false → s.ring ≡ l ∷ ls → Step job s Tick quiet new
 dwells_step job l ls s new dwells short still runs free ring =
-    let serves : Serves job l.command.action s quiet new = subst (λ b. MatchBool b (Dwells job s quiet new) (Finishes job l.command.action s quiet new)) (sym (lt-ltb (suc s.dwelt) (ticks_of job l.command.action) short)) dwells in
+    let serves : Serves job l.command.action s quiet new = subst (λ b. MatchBool b (Dwells job s quiet new) (Finishes job l.command.action s quiet new))
+    (sym (lt-ltb (suc s.dwelt) (ticks_of job l.command.action) short)) dwells in
     let head : HeadTick job l ls s quiet new =
-    subst (λ b. MatchBool b (Travels job l ls s quiet new) (MatchBool s.held (Rests job s quiet new) (Serves job l.command.action s quiet new))) (sym (le-ltb 0 (path_steps l) still))
+    subst (λ b. MatchBool b (Travels job l ls s quiet new) (MatchBool s.held (Rests job s quiet new) (Serves job l.command.action s quiet new)))
+    (sym (le-ltb 0 (path_steps l) still))
     (subst (λ b. MatchBool b (Rests job s quiet new) (Serves job l.command.action s quiet new)) (sym free) serves) in
     subst (λ b. TickBy job b s.ring s quiet new) (sym runs) (subst (λ xs. TickBy job false xs s quiet new) (sym ring) head)
 
@@ -265,9 +283,11 @@ coasts_dwell (suc n) job l ls s h =
     } in
     let last : coasted n mid ≡ coasted (suc n) s = same_dwelt n l ls s h.ring h.still ∙ sym (coasted_dwelt (suc n) l ls s (omega arith) h.ring h.still) in
     subst (λ t. Stretch job s t (replicate (suc n) Tick) (replicate (suc n) quiet)) last
-    (tick_more job s mid (coasted n mid) Tick quiet (replicate n Tick) (replicate n quiet) (dwells_step job l ls s mid dwells (omega (arith, long)) h.still h.runs h.free h.ring) least (coasts_dwell n job l ls mid next))
+    (tick_more job s mid (coasted n mid) Tick quiet (replicate n Tick) (replicate n quiet)
+    (dwells_step job l ls s mid dwells (omega (arith, long)) h.still h.runs h.free h.ring) least (coasts_dwell n job l ls mid next))
 
-pub coasts_served : (job : Job) (queue : List Queued) (s : State) (a : Action) (left n : ℕ) → IsServed queue a → s.ring ≡ queue → s.stopped ≡ false → s.held ≡ false → s.rate ≤ job.machine.change →
+pub coasts_served : (job : Job) (queue : List Queued) (s : State) (a : Action) (left n : ℕ) → IsServed queue a → s.ring ≡ queue → s.stopped ≡ false →
+    s.held ≡ false → s.rate ≤ job.machine.change →
     left ≡ ticks_of job a - suc s.dwelt → n ≤ left → CoastsFor job s n
 coasts_served job [] s a left n served ring runs free slow is few = elim served [ ]
 coasts_served job (l ∷ ls) s a left n served ring runs free slow is few =
@@ -285,8 +305,10 @@ served_dwelt : (queue : List Queued) (s : State) (a : Action) (n : ℕ) → IsSe
 served_dwelt [] s a n served ring some = elim served [ ]
 served_dwelt (l ∷ ls) s a n served ring some = coasted_dwelt n l ls s some ring (omega (arith, served.1))
 
-pub state_served : (done : ℕ) (ring : RingData) (drive new : Drive) (dwelt n : ℕ) (position : StepPos) (tool : Option Tool) (panel : Panel) (a : Action) → IsServed ring.loaded a → 1 ≤ n →
-    new ≡ record drive { ramp = record drive.ramp { rate = 0 } } → state_of done ring new (dwelt + n) position tool panel ≡ coasted n (state_of done ring drive dwelt position tool panel)
+pub state_served : (done : ℕ) (ring : RingData) (drive new : Drive) (dwelt n : ℕ) (position : StepPos) (tool : Option Tool) (panel : Panel) (a : Action) →
+    IsServed ring.loaded a → 1 ≤ n →
+    new ≡ record drive { ramp = record drive.ramp { rate = 0 } } → state_of done ring new (dwelt + n) position tool panel
+    ≡ coasted n (state_of done ring drive dwelt position tool panel)
 state_served done ring drive new dwelt n position tool panel a served some is =
     let old = state_of done ring drive dwelt position tool panel in
     ap (λ (d : Drive). state_of done ring d (dwelt + n) position tool panel) is ∙ sym (served_dwelt ring.loaded old a n served refl some)

@@ -1,5 +1,6 @@
 -- A tick on the motion at the head, by what the fields of a controller keep.
-use Rattle.std.proofs.Common.{◌≡◌, ℕ, suc, ◌+◌, ◌-◌, ◌/◌, ◌≤◌, ◌<◌, min, nat_le, List, [], ◌∷◌, length, drop, Option, Some, None, Bool, true, false, cond, refl, ap, sym, subst, ◌∙◌, arith}
+use Rattle.std.proofs.Common.{◌≡◌, ℕ, suc, ◌+◌, ◌-◌, ◌/◌, ◌≤◌, ◌<◌, min, nat_le, List, [], ◌∷◌, length, drop, Option, Some, None, Bool, true, false, cond, refl}
+use Rattle.std.proofs.Common.{ap, sym, subst, ◌∙◌, arith}
 use Rattle.std.specs.Prelude.{Ok, not, if◌then◌else◌}
 use Rattle.std.specs.Bool.{then_some}
 use Rattle.std.proofs.lemmas.Bool.{lt-ltb, le-ltb}
@@ -26,7 +27,8 @@ use Rattle.ngc_controller.proofs.OrderLaws.{IsLeft, same_ring}
 use Rattle.ngc_controller.proofs.TravelLaws.{IsTravel, has_travelled, goes_on, ends_there}
 
 -- what is known of a tick of the ramp r to s, with this ring
-pub record IsTravelOn (job : Job) (ring : List Queued) (old : State) (r s : RampState) (wish aimed v place : ℕ) (due ended : Bool) (next : ℕ) (p : StepPos) : Type 0 where
+pub record IsTravelOn (job : Job) (ring : List Queued) (old : State) (r s : RampState) (wish aimed v place : ℕ) (due ended : Bool) (next : ℕ) (p : StepPos) :
+    Type 0 where
   pub machine : IsMachine job.machine
   pub moves : IsMoving ring
   pub legs : (joined : Bool) × (r.legs ≡ legs_of job old.done joined ring)
@@ -41,11 +43,13 @@ pub record IsTravelOn (job : Job) (ring : List Queued) (old : State) (r s : Ramp
   pub place_next : next ≡ next_place place due
   pub point_at : IsPointOn ring next p
 
-first_leg : (job : Job) (l : Queued) (ls : List Queued) (old : State) (r s : RampState) (wish aimed v place : ℕ) (due ended : Bool) (next : ℕ) (p : StepPos) (h : IsTravelOn job (l ∷ ls) old r s wish aimed v place due ended next p) →
+first_leg : (job : Job) (l : Queued) (ls : List Queued) (old : State) (r s : RampState) (wish aimed v place : ℕ) (due ended : Bool) (next : ℕ) (p : StepPos)
+    (h : IsTravelOn job (l ∷ ls) old r s wish aimed v place due ended next p) →
     r.legs ≡ leg_of job old.done h.legs.0 l ∷ legs_behind job (suc old.done) l ls
 first_leg job l ls old r s wish aimed v place due ended next p h = h.legs.1 ∙ moving_legs job old.done h.legs.0 l ls h.moves
 
-travel : (job : Job) (l : Queued) (ls : List Queued) (old : State) (r s : RampState) (wish aimed v place : ℕ) (due ended : Bool) (next : ℕ) (p : StepPos) (h : IsTravelOn job (l ∷ ls) old r s wish aimed v place due ended next p) →
+travel : (job : Job) (l : Queued) (ls : List Queued) (old : State) (r s : RampState) (wish aimed v place : ℕ) (due ended : Bool) (next : ℕ) (p : StepPos)
+    (h : IsTravelOn job (l ∷ ls) old r s wish aimed v place due ended next p) →
     IsTravel job l ls old r s h.legs.0 wish v place due ended next p
 travel job l ls old r s wish aimed v place due ended next p h =
     let legs = first_leg job l ls old r s wish aimed v place due ended next p h in
@@ -120,7 +124,8 @@ ends_if false h = sym h
 
 -- ---- where the motion goes on
 
-pub travel_goes_on : (job : Job) (ring : List Queued) (old new : State) (r s : RampState) (wish aimed v place : ℕ) (due ended : Bool) (next : ℕ) (p : StepPos) (t : ℕ) (xs : List Queued) → IsTravelOn job ring old r s wish aimed v place due ended next p →
+pub travel_goes_on : (job : Job) (ring : List Queued) (old new : State) (r s : RampState) (wish aimed v place : ℕ) (due ended : Bool) (next : ℕ) (p : StepPos)
+    (t : ℕ) (xs : List Queued) → IsTravelOn job ring old r s wish aimed v place due ended next p →
     ended ≡ false → t ≡ travelled_of xs s.rest → xs ≡ ring → ring ≡ old.ring → new ≡ record old { ring = xs; rate = s.rate; position = p; travelled = t } →
     TravelsOn job ring old (Ok (Ticked (then_some due p) None)) new
 travel_goes_on job [] old new r s wish aimed v place due ended next p t xs h on far queue same is = elim h.moves [ ]
@@ -129,11 +134,15 @@ travel_goes_on job (l ∷ ls) old new r s wish aimed v place due ended next p t 
     let has = has_travelled job l ls old r s h.legs.0 wish v place due ended next p k in
     let g = goes r s (legs_behind job (suc old.done) l ls) v ended k.tick.ends on k.tick.next in
     let there : t ≡ millionths l - s.rest = far ∙ ap (λ ys. travelled_of ys s.rest) queue ∙ moving_travelled l ls s.rest h.moves in
-    let rate : new.rate ≡ v = ap (λ (x : State). x.rate) is ∙ g.rate in
-    (goes_on job l ls old new r v next due p t xs s.rate has k.at k.within g.less (omega (arith, there, g.rest, g.less, k.at, k.within)) (queue ∙ same) g.rate is, rw rate has.least)
+    let rate : new.rate ≡ v = ap (λ (x : State). x.rate) is ∙ g.rate in (
+      goes_on job l ls old new r v next due p t xs s.rate has k.at k.within g.less (omega (arith, there, g.rest, g.less, k.at, k.within))
+          (queue ∙ same) g.rate is,
+      rw rate has.least,
+    )
 
 -- what the ramp and the ring keep
-place_on : (job : Job) (ring : List Queued) (old : State) (r s : RampState) (wish aimed v place : ℕ) (due ended : Bool) (next : ℕ) (p : StepPos) → IsTravelOn job ring old r s wish aimed v place due ended next p → ended ≡ false →
+place_on : (job : Job) (ring : List Queued) (old : State) (r s : RampState) (wish aimed v place : ℕ) (due ended : Bool) (next : ℕ) (p : StepPos) →
+    IsTravelOn job ring old r s wish aimed v place due ended next p → ended ≡ false →
     (next ≡ travelled_of ring s.rest / MILLION) × (s.legs ≡ r.legs) × (s.change ≡ r.change) × IsRest s.rest s.legs
 place_on job [] old r s wish aimed v place due ended next p h on = elim h.moves [ ]
 place_on job (l ∷ ls) old r s wish aimed v place due ended next p h on =
@@ -141,15 +150,22 @@ place_on job (l ∷ ls) old r s wish aimed v place due ended next p h on =
     let has = has_travelled job l ls old r s h.legs.0 wish v place due ended next p k in
     let g = goes r s (legs_behind job (suc old.done) l ls) v ended k.tick.ends on k.tick.next in
     let there = moving_travelled l ls s.rest h.moves in
-    let far : min (old.travelled + v) (millionths l) ≡ travelled_of (l ∷ ls) s.rest = omega (arith, there, g.rest, g.less, k.at, k.within) in
-    (has.place ∙ ap (λ x. x / MILLION) far, g.legs, g.change, subst (λ ks. IsRest s.rest ks) (sym (g.legs ∙ k.legs)) (omega (arith, g.rest, g.less), omega (arith, g.rest, k.within)))
+    let far : min (old.travelled + v) (millionths l) ≡ travelled_of (l ∷ ls) s.rest = omega (arith, there, g.rest, g.less, k.at, k.within) in (
+      has.place ∙ ap (λ x. x / MILLION) far,
+      g.legs,
+      g.change,
+      subst (λ ks. IsRest s.rest ks) (sym (g.legs ∙ k.legs)) (omega (arith, g.rest, g.less), omega (arith, g.rest, k.within)),
+    )
 
-pub order_goes_on : (job : Job) (done : ℕ) (ring after : RingData) (drive : Drive) (dwelt : ℕ) (panel : Panel) (old : State) (s : RampState) (wish v : ℕ) (due ended : Bool) (p : StepPos) → IsInOrder job done ring drive dwelt panel →
-    IsTravelOn job ring.loaded old drive.ramp s wish drive.target v ring.place due ended after.place p → ended ≡ false → after.loaded ≡ ring.loaded → panel.stopped ≡ false →
+pub order_goes_on : (job : Job) (done : ℕ) (ring after : RingData) (drive : Drive) (dwelt : ℕ) (panel : Panel) (old : State) (s : RampState) (wish v : ℕ)
+    (due ended : Bool) (p : StepPos) → IsInOrder job done ring drive dwelt panel →
+    IsTravelOn job ring.loaded old drive.ramp s wish drive.target v ring.place due ended after.place p → ended ≡ false → after.loaded ≡ ring.loaded →
+    panel.stopped ≡ false →
     IsInOrder job done after (record { ramp = s; target = drive.target; flows_on = drive.flows_on }) dwelt panel
 order_goes_on job done ring after drive dwelt panel old s wish v due ended p o h go queue runs =
     let on = place_on job ring.loaded old drive.ramp s wish drive.target v ring.place due ended after.place p h go in
-    let here : IsInOrder job done (record { loaded = ring.loaded; place = after.place }) (record { ramp = s; target = drive.target; flows_on = drive.flows_on }) dwelt panel = record {
+    let here : IsInOrder job done (record { loaded = ring.loaded; place = after.place })
+    (record { ramp = s; target = drive.target; flows_on = drive.flows_on }) dwelt panel = record {
       machine = o.machine;
       change = on.2 ∙ o.change;
       legs = (o.legs.0, on.1 ∙ o.legs.1);
@@ -175,7 +191,8 @@ pub record EndsOn (job : Job) (done : ℕ) (ring : List Queued) (r s : RampState
   pub place : travelled_of (drop 1 ring) s.rest / MILLION ≡ 0
   pub some : 1 ≤ length ring
 
-pub ends_on : (job : Job) (ring : List Queued) (old : State) (r s : RampState) (wish aimed v place : ℕ) (due ended : Bool) (next : ℕ) (p : StepPos) → IsTravelOn job ring old r s wish aimed v place due ended next p → ended ≡ true → EndsOn job old.done ring r s v
+pub ends_on : (job : Job) (ring : List Queued) (old : State) (r s : RampState) (wish aimed v place : ℕ) (due ended : Bool) (next : ℕ) (p : StepPos) →
+    IsTravelOn job ring old r s wish aimed v place due ended next p → ended ≡ true → EndsOn job old.done ring r s v
 ends_on job [] old r s wish aimed v place due ended next p h done = elim h.moves [ ]
 ends_on job (l ∷ ls) old r s wish aimed v place due ended next p h done =
     let k = travel job l ls old r s wish aimed v place due ended next p h in
@@ -186,7 +203,8 @@ ends_on job (l ∷ ls) old r s wish aimed v place due ended next p h done =
     let some : 1 ≤ r.change = omega (arith, k.change, h.machine.change.least) in
     let b = behind_is job (suc old.done) l ls in
     let rest : s.rest ≡ next_rest (v - r.rest) s.legs = e.rest ∙ ap (λ ks. next_rest (v - r.rest) ks) (sym e.legs) in
-    let slows : (IsMoving ls → ⊥) → (v ≡ r.rest) × (v ≤ r.change) = λ still. ends_slowly r wish (leg_of job old.done h.legs.0 l) behind v some k.tick.may (none_ahead job (suc old.done) l ls still) e.all in
+    let slows : (IsMoving ls → ⊥) → (v ≡ r.rest) × (v ≤ r.change) =
+    λ still. ends_slowly r wish (leg_of job old.done h.legs.0 l) behind v some k.tick.may (none_ahead job (suc old.done) l ls still) e.all in
     let none : (IsMoving ls → ⊥) → v - r.rest ≡ 0 = λ still. (let slow = slows still in omega (arith, slow.0)) in
     let far = travelled_over job (suc old.done) b.0 ls s (v - r.rest) (e.legs ∙ b.1) rest few none in
     record {
@@ -204,19 +222,25 @@ ends_on job (l ∷ ls) old r s wish aimed v place due ended next p h done =
       some = omega arith;
     }
 
-pub travel_ends : (job : Job) (ring : List Queued) (old new : State) (r s : RampState) (wish aimed v place : ℕ) (due ended : Bool) (next : ℕ) (p : StepPos) (t : ℕ) (xs : List Queued) (w k d : ℕ) → IsTravelOn job ring old r s wish aimed v place due ended next p →
-    EndsOn job old.done ring r s v → t ≡ v - r.rest → xs ≡ drop 1 ring → ring ≡ old.ring → w ≡ s.rate → k ≡ suc old.done → d ≡ 0 → new ≡ record old { done = k; ring = xs; rate = w; position = p; travelled = t; dwelt = d } →
+pub travel_ends : (job : Job) (ring : List Queued) (old new : State) (r s : RampState) (wish aimed v place : ℕ) (due ended : Bool) (next : ℕ) (p : StepPos)
+    (t : ℕ) (xs : List Queued) (w k d : ℕ) → IsTravelOn job ring old r s wish aimed v place due ended next p →
+    EndsOn job old.done ring r s v → t ≡ v - r.rest → xs ≡ drop 1 ring → ring ≡ old.ring → w ≡ s.rate → k ≡ suc old.done → d ≡ 0 →
+    new ≡ record old { done = k; ring = xs; rate = w; position = p; travelled = t; dwelt = d } →
     TravelsOn job ring old (Ok (Ticked (then_some due p) (Some (Done old.done)))) new
 travel_ends job [] old new r s wish aimed v place due ended next p t xs w k d h e beyond queue same rate more brief is = elim h.moves [ ]
 travel_ends job (l ∷ ls) old new r s wish aimed v place due ended next p t xs w k d h e beyond queue same rate more brief is =
     let i = travel job l ls old r s wish aimed v place due ended next p h in
     let has = has_travelled job l ls old r s h.legs.0 wish v place due ended next p i in
-    let there : new.rate ≡ v = ap (λ (x : State). x.rate) is ∙ rate ∙ e.rate in
-    (ends_there job l ls old new r v next due p t xs w k d has i.motion i.at i.within e.all beyond (queue ∙ ap (λ ys. drop 1 ys) same) (rate ∙ e.rate) more brief is, rw there has.least)
+    let there : new.rate ≡ v = ap (λ (x : State). x.rate) is ∙ rate ∙ e.rate in (
+      ends_there job l ls old new r v next due p t xs w k d has i.motion i.at i.within e.all beyond (queue ∙ ap (λ ys. drop 1 ys) same)
+          (rate ∙ e.rate) more brief is,
+      rw there has.least,
+    )
 
 -- ---- from the fields
 
-pub travels_by : (job : Job) (done : ℕ) (ring after : RingData) (drive : Drive) (dwelt : ℕ) (position : StepPos) (tool : Option Tool) (panel : Panel) (s : RampState) (wish v : ℕ) (due ended : Bool) (p : StepPos) →
+pub travels_by : (job : Job) (done : ℕ) (ring after : RingData) (drive : Drive) (dwelt : ℕ) (position : StepPos) (tool : Option Tool) (panel : Panel)
+    (s : RampState) (wish v : ℕ) (due ended : Bool) (p : StepPos) →
     IsInOrder job done ring drive dwelt panel → IsMoving ring.loaded → wish ≡ (if panel.held then 0 else drive.target) →
     ((head : Leg) (legs : List Leg) → drive.ramp.legs ≡ head ∷ legs → TicksTo drive.ramp wish head legs v due ended s) →
     after.loaded ≡ ring.loaded → after.place ≡ next_place ring.place due → IsPointOn after.loaded after.place p →

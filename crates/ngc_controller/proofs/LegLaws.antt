@@ -16,11 +16,15 @@ use Rattle.ngc_controller.specs.Ring.{IsMoving}
 
 -- ---- by whether the head is a motion with path steps
 
-pub moving_legs : (job : Job) (k : ℕ) (joined : Bool) (l : Queued) (ls : List Queued) → 1 ≤ path_steps l → legs_of job k joined (l ∷ ls) ≡ leg_of job k joined l ∷ legs_behind job (suc k) l ls
-moving_legs job k joined l ls some = ap (λ b. cond b (leg_of job k joined l ∷ legs_behind job (suc k) l ls) (legs_behind job (suc k) l ls)) (lt-ltb 0 (path_steps l) some)
+pub moving_legs : (job : Job) (k : ℕ) (joined : Bool) (l : Queued) (ls : List Queued) → 1 ≤ path_steps l →
+    legs_of job k joined (l ∷ ls) ≡ leg_of job k joined l ∷ legs_behind job (suc k) l ls
+moving_legs job k joined l ls some =
+    ap (λ b. cond b (leg_of job k joined l ∷ legs_behind job (suc k) l ls) (legs_behind job (suc k) l ls)) (lt-ltb 0 (path_steps l) some)
 
-pub still_legs : (job : Job) (k : ℕ) (joined : Bool) (l : Queued) (ls : List Queued) → path_steps l ≤ 0 → legs_of job k joined (l ∷ ls) ≡ legs_behind job (suc k) l ls
-still_legs job k joined l ls none = ap (λ b. cond b (leg_of job k joined l ∷ legs_behind job (suc k) l ls) (legs_behind job (suc k) l ls)) (le-ltb 0 (path_steps l) none)
+pub still_legs : (job : Job) (k : ℕ) (joined : Bool) (l : Queued) (ls : List Queued) → path_steps l ≤ 0 →
+    legs_of job k joined (l ∷ ls) ≡ legs_behind job (suc k) l ls
+still_legs job k joined l ls none =
+    ap (λ b. cond b (leg_of job k joined l ∷ legs_behind job (suc k) l ls) (legs_behind job (suc k) l ls)) (le-ltb 0 (path_steps l) none)
 
 pub moving_travelled : (l : Queued) (ls : List Queued) (rest : ℕ) → 1 ≤ path_steps l → travelled_of (l ∷ ls) rest ≡ millionths l - rest
 moving_travelled l ls rest some = ap (λ b. cond b (millionths l - rest) 0) (lt-ltb 0 (path_steps l) some)
@@ -40,28 +44,34 @@ few_by false x xs n h = omega arith
 
 pub few_legs : (job : Job) (k : ℕ) (joined : Bool) (ring : List Queued) → length (legs_of job k joined ring) ≤ length ring
 few_legs job k joined [] = omega arith
-few_legs job k joined (l ∷ ls) = few_by (nat_lt 0 (path_steps l)) (leg_of job k joined l) (legs_behind job (suc k) l ls) (length ls) (no_more_legs job (suc k) l ls)
+few_legs job k joined (l ∷ ls) =
+    few_by (nat_lt 0 (path_steps l)) (leg_of job k joined l) (legs_behind job (suc k) l ls) (length ls) (no_more_legs job (suc k) l ls)
 
-rest_by : (b : Bool) (m : Queued) (x : Leg) (xs : List Leg) (over : ℕ) → b ≡ nat_lt 0 (path_steps m) → x.millionths ≡ millionths m → over < MILLION → IsRest (next_rest over xs) xs →
+rest_by : (b : Bool) (m : Queued) (x : Leg) (xs : List Leg) (over : ℕ) → b ≡ nat_lt 0 (path_steps m) → x.millionths ≡ millionths m → over < MILLION →
+    IsRest (next_rest over xs) xs →
     IsRest (next_rest over (cond b (x ∷ xs) xs)) (cond b (x ∷ xs) xs)
 rest_by true m x xs over test same few h = let some : 0 < path_steps m = grind (arith, nat_tests) in (omega arith, omega arith)
 rest_by false m x xs over test same few h = h
 
 -- something is left of the first leg behind the head, whatever a tick has beyond its end
-pub behind_left : (job : Job) (k : ℕ) (l : Queued) (ls : List Queued) (over : ℕ) → over < MILLION → IsRest (next_rest over (legs_behind job k l ls)) (legs_behind job k l ls)
+pub behind_left : (job : Job) (k : ℕ) (l : Queued) (ls : List Queued) (over : ℕ) → over < MILLION →
+    IsRest (next_rest over (legs_behind job k l ls)) (legs_behind job k l ls)
 behind_left job k l [] over few = refl
-behind_left job k l (m ∷ ms) over few = rest_by (nat_lt 0 (path_steps m)) m (leg_of job k (flows_into l m) m) (legs_behind job (suc k) m ms) over refl refl few (behind_left job (suc k) m ms over few)
+behind_left job k l (m ∷ ms) over few = rest_by (nat_lt 0 (path_steps m)) m (leg_of job k (flows_into l m) m) (legs_behind job (suc k) m ms) over refl refl few
+    (behind_left job (suc k) m ms over few)
 
 -- no leg is joined to the head where the next command is no motion with path steps
 pub none_ahead : (job : Job) (k : ℕ) (l : Queued) (ls : List Queued) → (IsMoving ls → ⊥) → ahead (legs_behind job k l ls) ≡ 0
 none_ahead job k l [] still = refl
 none_ahead job k l (m ∷ ms) still =
     let none : path_steps m ≤ 0 = elim (cases_lt 0 (path_steps m)) [ inl more ↦ absurd (still more) | inr zero ↦ zero ] in
-    ap (λ b. ahead (cond b (leg_of job k (flows_into l m) m ∷ legs_behind job (suc k) m ms) (legs_behind job (suc k) m ms))) (le-ltb 0 (path_steps m) none) ∙ unjoined job (suc k) m ms (inl (omega (arith, none)))
+    ap (λ b. ahead (cond b (leg_of job k (flows_into l m) m ∷ legs_behind job (suc k) m ms) (legs_behind job (suc k) m ms))) (le-ltb 0 (path_steps m) none)
+    ∙ unjoined job (suc k) m ms (inl (omega (arith, none)))
 
 -- ---- what is travelled of a head, where so much is travelled of the first leg
 
-pub travelled_over : (job : Job) (k : ℕ) (joined : Bool) (ring : List Queued) (r : RampState) (over : ℕ) → r.legs ≡ legs_of job k joined ring → r.rest ≡ next_rest over r.legs → over < MILLION → ((IsMoving ring → ⊥) → over ≡ 0) → travelled_of ring r.rest ≡ over
+pub travelled_over : (job : Job) (k : ℕ) (joined : Bool) (ring : List Queued) (r : RampState) (over : ℕ) → r.legs ≡ legs_of job k joined ring →
+    r.rest ≡ next_rest over r.legs → over < MILLION → ((IsMoving ring → ⊥) → over ≡ 0) → travelled_of ring r.rest ≡ over
 travelled_over job k joined [] r over legs rest few slow = sym (slow (λ h. h))
 travelled_over job k joined (l ∷ ls) r over legs rest few slow = elim (cases_lt 0 (path_steps l)) [
   | inl more ↦ (
@@ -73,7 +83,8 @@ travelled_over job k joined (l ∷ ls) r over legs rest few slow = elim (cases_l
 
 -- ---- one command more
 
-moving_more : (job : Job) (k : ℕ) (joined : Bool) (q : Queued) (r : RampState) → 1 ≤ path_steps q → with_one_more job k joined q r ≡ loaded r (leg_of job k joined q)
+moving_more : (job : Job) (k : ℕ) (joined : Bool) (q : Queued) (r : RampState) → 1 ≤ path_steps q →
+    with_one_more job k joined q r ≡ loaded r (leg_of job k joined q)
 moving_more job k joined q r some = ap (λ b. cond b (loaded r (leg_of job k joined q)) r) (lt-ltb 0 (path_steps q) some)
 
 still_more : (job : Job) (k : ℕ) (joined : Bool) (q : Queued) (r : RampState) → path_steps q ≤ 0 → with_one_more job k joined q r ≡ r
@@ -108,20 +119,37 @@ joined_legs : (job : Job) (k : ℕ) (joined on : Bool) (l : Queued) (ls : List Q
     legs_of job k joined (l ∷ ls ++ q ∷ []) ≡ legs_of job k joined (l ∷ ls) ++ leg_of job (k + length (l ∷ ls)) on q ∷ []
 joined_legs job k joined on l ls q last some =
     let x = last_behind l ls in
-    let into : flows_into x q ≡ on = into_is (nat_lt 0 (path_steps x)) (not (stops x.command.action)) (nat_lt 0 (path_steps q)) (lt-ltb 0 (path_steps q) some) ∙ sym (last ∙ last_is l ls) in
+    let into : flows_into x q ≡ on = into_is (nat_lt 0 (path_steps x)) (not (stops x.command.action)) (nat_lt 0 (path_steps q)) (lt-ltb 0 (path_steps q) some)
+    ∙ sym (last ∙ last_is l ls) in
     let at : suc k + length ls ≡ k + length (l ∷ ls) = omega arith in
-    more_by (nat_lt 0 (path_steps l)) (leg_of job k joined l) (legs_behind job (suc k) l (ls ++ q ∷ [])) (legs_behind job (suc k) l ls) (leg_of job (k + length (l ∷ ls)) on q ∷ [])
-    (one_more job (suc k) l ls q some ∙ ap (λ b. legs_behind job (suc k) l ls ++ leg_of job (suc k + length ls) b q ∷ []) into ∙ ap (λ n. legs_behind job (suc k) l ls ++ leg_of job n on q ∷ []) at)
+    more_by (nat_lt 0 (path_steps l)) (leg_of job k joined l) (legs_behind job (suc k) l (ls ++ q ∷ [])) (legs_behind job (suc k) l ls)
+    (leg_of job (k + length (l ∷ ls)) on q ∷ [])
+    (one_more job (suc k) l ls q some ∙ ap (λ b. legs_behind job (suc k) l ls ++ leg_of job (suc k + length ls) b q ∷ []) into
+    ∙ ap (λ n. legs_behind job (suc k) l ls ++ leg_of job n on q ∷ []) at)
 
-pub legs_of_more : (job : Job) (k : ℕ) (joined on : Bool) (ring : List Queued) (q : Queued) (r : RampState) → r.legs ≡ legs_of job k joined ring → on ≡ last_flows_on on ring →
+pub legs_of_more : (job : Job) (k : ℕ) (joined on : Bool) (ring : List Queued) (q : Queued) (r : RampState) → r.legs ≡ legs_of job k joined ring →
+    on ≡ last_flows_on on ring →
     (b : Bool) × ((with_one_more job (k + length ring) on q r).legs ≡ legs_of job k b (ring ++ q ∷ []))
 legs_of_more job k joined on [] q r legs last = elim (cases_lt 0 (path_steps q)) [
-  | inl more ↦ (on, ap (λ (x : RampState). x.legs) (moving_more job (k + 0) on q r more) ∙ ap (λ ks. ks ++ leg_of job (k + 0) on q ∷ []) legs ∙ ap (λ n. leg_of job n on q ∷ []) (omega arith) ∙ sym (moving_legs job k on q [] more))
+  | inl more ↦ (
+    on,
+    ap (λ (x : RampState). x.legs) (moving_more job (k + 0) on q r more) ∙ ap (λ ks. ks ++ leg_of job (k + 0) on q ∷ []) legs
+        ∙ ap (λ n. leg_of job n on q ∷ []) (omega arith) ∙ sym (moving_legs job k on q [] more),
+  )
   | inr none ↦ (on, ap (λ (x : RampState). x.legs) (still_more job (k + 0) on q r none) ∙ legs ∙ sym (still_legs job k on q [] none))
 ]
 legs_of_more job k joined on (l ∷ ls) q r legs last = elim (cases_lt 0 (path_steps q)) [
-  | inl more ↦ (joined, ap (λ (x : RampState). x.legs) (moving_more job (k + length (l ∷ ls)) on q r more) ∙ ap (λ ks. ks ++ leg_of job (k + length (l ∷ ls)) on q ∷ []) legs ∙ sym (joined_legs job k joined on l ls q last more))
-  | inr none ↦ (joined, ap (λ (x : RampState). x.legs) (still_more job (k + length (l ∷ ls)) on q r none) ∙ legs ∙ sym (same_by (nat_lt 0 (path_steps l)) (leg_of job k joined l) (legs_behind job (suc k) l (ls ++ q ∷ [])) (legs_behind job (suc k) l ls) (none_more job (suc k) l ls q (omega (arith, none)))))
+  | inl more ↦ (
+    joined,
+    ap (λ (x : RampState). x.legs) (moving_more job (k + length (l ∷ ls)) on q r more) ∙ ap (λ ks. ks ++ leg_of job (k + length (l ∷ ls)) on q ∷ []) legs
+        ∙ sym (joined_legs job k joined on l ls q last more),
+  )
+  | inr none ↦ (
+    joined,
+    ap (λ (x : RampState). x.legs) (still_more job (k + length (l ∷ ls)) on q r none) ∙ legs
+        ∙ sym (same_by (nat_lt 0 (path_steps l)) (leg_of job k joined l) (legs_behind job (suc k) l (ls ++ q ∷ [])) (legs_behind job (suc k) l ls)
+        (none_more job (suc k) l ls q (omega (arith, none)))),
+  )
 ]
 
 left_with : (rest : ℕ) (legs : List Leg) (leg : Leg) → 1 ≤ leg.millionths → IsRest rest legs → IsRest (rest_with rest legs leg) (legs ++ leg ∷ [])
@@ -160,18 +188,21 @@ rest_behind : (rest : ℕ) (legs : List Leg) (x leg : Leg) (xs : List Leg) → l
 rest_behind rest [] x leg xs e = cc
 rest_behind rest (y ∷ ys) x leg xs e = refl
 
-same_rest : (job : Job) (k : ℕ) (on : Bool) (q : Queued) (r s : RampState) (x : Leg) (xs : List Leg) → s ≡ with_one_more job k on q r → r.legs ≡ x ∷ xs → s.rest ≡ r.rest
+same_rest : (job : Job) (k : ℕ) (on : Bool) (q : Queued) (r s : RampState) (x : Leg) (xs : List Leg) → s ≡ with_one_more job k on q r → r.legs ≡ x ∷ xs →
+    s.rest ≡ r.rest
 same_rest job k on q r s x xs is e = elim (cases_lt 0 (path_steps q)) [
   | inl more ↦ ap (λ (y : RampState). y.rest) (is ∙ moving_more job k on q r more) ∙ rest_behind r.rest r.legs x (leg_of job k on q) xs e
   | inr none ↦ ap (λ (y : RampState). y.rest) (is ∙ still_more job k on q r none)
 ]
 
-whole_rest : (job : Job) (k : ℕ) (on : Bool) (q : Queued) (r s : RampState) → s ≡ with_one_more job k on q r → r.legs ≡ [] → 1 ≤ path_steps q → s.rest ≡ millionths q
+whole_rest : (job : Job) (k : ℕ) (on : Bool) (q : Queued) (r s : RampState) → s ≡ with_one_more job k on q r → r.legs ≡ [] → 1 ≤ path_steps q →
+    s.rest ≡ millionths q
 whole_rest job k on q r s is e more =
     ap (λ (y : RampState). y.rest) (is ∙ moving_more job k on q r more) ∙ ap (λ ks. rest_with r.rest ks (leg_of job k on q)) e
 
 -- nothing more is travelled
-pub travelled_more : (job : Job) (k n : ℕ) (joined on : Bool) (ring : List Queued) (q : Queued) (r s : RampState) → r.legs ≡ legs_of job k joined ring → s ≡ with_one_more job n on q r → travelled_of (ring ++ q ∷ []) s.rest ≡ travelled_of ring r.rest
+pub travelled_more : (job : Job) (k n : ℕ) (joined on : Bool) (ring : List Queued) (q : Queued) (r s : RampState) → r.legs ≡ legs_of job k joined ring →
+    s ≡ with_one_more job n on q r → travelled_of (ring ++ q ∷ []) s.rest ≡ travelled_of ring r.rest
 travelled_more job k n joined on [] q r s legs is = elim (cases_lt 0 (path_steps q)) [
   | inl more ↦ (let all = whole_rest job n on q r s is legs more in let at = moving_travelled q [] s.rest more in omega (arith, all, at))
   | inr none ↦ still_travelled q [] s.rest none

@@ -1,5 +1,6 @@
 -- What the fields of a controller keep.
-use Rattle.std.proofs.Common.{◌≡◌, ℕ, suc, ◌+◌, ◌/◌, ◌≤◌, ◌<◌, nat_lt, List, [], ◌∷◌, ◌++◌, length, drop, Option, Some, Bool, true, false, refl, ap, ap₂, sym, subst, ◌∙◌, length-drop, length-append, MatchBool, arith}
+use Rattle.std.proofs.Common.{◌≡◌, ℕ, suc, ◌+◌, ◌/◌, ◌≤◌, ◌<◌, nat_lt, List, [], ◌∷◌, ◌++◌, length, drop, Option, Some, Bool, true, false, refl, ap, ap₂, sym}
+use Rattle.std.proofs.Common.{subst, ◌∙◌, length-drop, length-append, MatchBool, arith}
 use Rattle.std.proofs.lemmas.Bool.{lt-ltb, le-ltb}
 use Rattle.std.specs.Prelude.{Ok, Err}
 use Rattle.ngc_fixed_length.specs.declared.points.StepPos.{StepPos}
@@ -22,7 +23,8 @@ use Rattle.ngc_controller.specs.Drive.{flows_on, last_flows_on, legs_of, with_on
 use Rattle.ngc_controller.specs.Fields.{travelled_of, state_of, DWELL_LIMIT, IsInOrder, IsServed, panel_after, tool_after}
 use Rattle.ngc_controller.specs.Panel.{effective_at}
 use Rattle.ngc_controller.specs.Ring.{RingData, IsMoving}
-use Rattle.ngc_controller.proofs.LegLaws.{still_legs, behind_is, travelled_over, few_legs, last_of_rest, last_of_more, legs_of_more, has_one_more, travelled_more}
+use Rattle.ngc_controller.proofs.LegLaws.{still_legs, behind_is, travelled_over, few_legs, last_of_rest, last_of_more, legs_of_more, has_one_more}
+use Rattle.ngc_controller.proofs.LegLaws.{travelled_more}
 
 -- what the ramp keeps
 pub record IsLeft (job : Job) (done : ℕ) (ring : List Queued) (ramp : RampState) : Type 0 where
@@ -44,15 +46,19 @@ last_of_drop : (b : Bool) (ring : List Queued) → b ≡ last_flows_on b ring �
 last_of_drop b [] h = refl
 last_of_drop b (l ∷ ls) h = last_of_rest b l ls h
 
-pub left_order : (job : Job) (done : ℕ) (ring : List Queued) (ramp : RampState) (on : Bool) (panel : Panel) (next : ℕ) (after : RingData) (new : Drive) (dwelt : ℕ) →
-    IsMachine job.machine → IsLeft job (suc done) (drop 1 ring) ramp → travelled_of (drop 1 ring) ramp.rest / MILLION ≡ 0 → on ≡ last_flows_on on ring → (panel.stopped ≡ true → ramp.rate ≡ 0) →
+pub left_order : (job : Job) (done : ℕ) (ring : List Queued) (ramp : RampState) (on : Bool) (panel : Panel) (next : ℕ) (after : RingData) (new : Drive)
+    (dwelt : ℕ) →
+    IsMachine job.machine → IsLeft job (suc done) (drop 1 ring) ramp → travelled_of (drop 1 ring) ramp.rest / MILLION ≡ 0 → on ≡ last_flows_on on ring →
+    (panel.stopped ≡ true → ramp.rate ≡ 0) →
     done + length ring ≤ length job.commands → 1 ≤ length ring →
-    after.loaded ≡ drop 1 ring → after.place ≡ 0 → next ≡ done + 1 → dwelt ≡ 0 → new.ramp ≡ ramp → new.flows_on ≡ on → IsTarget job.machine (effective_at panel) after.loaded new.target →
+    after.loaded ≡ drop 1 ring → after.place ≡ 0 → next ≡ done + 1 → dwelt ≡ 0 → new.ramp ≡ ramp → new.flows_on ≡ on →
+    IsTarget job.machine (effective_at panel) after.loaded new.target →
     IsInOrder job next after new dwelt panel
 left_order job done ring ramp on panel next after new dwelt machine o zero last still few some queue place more brief same flows target =
     let shorter = length-drop 1 ring in
     let then : next ≡ suc done = omega arith in
-    let order : IsInOrder job (suc done) (record { loaded = drop 1 ring; place = 0 }) (record { ramp = ramp; target = new.target; flows_on = on }) 0 panel = record {
+    let order : IsInOrder job (suc done) (record { loaded = drop 1 ring; place = 0 }) (record { ramp = ramp; target = new.target; flows_on = on }) 0 panel =
+    record {
       machine = machine;
       change = o.change;
       legs = o.legs;
@@ -68,7 +74,8 @@ left_order job done ring ramp on panel next after new dwelt machine o zero last 
     } in
     rw (then, brief, same_ring after (drop 1 ring) 0 queue place, same_drive new ramp on same flows) order
 
-pub target_as : (machine asked : MachineFile) (percent counted : ℕ) (ring : List Queued) (target : ℕ) → IsTarget asked counted ring target → asked ≡ machine → counted ≡ percent → IsTarget machine percent ring target
+pub target_as : (machine asked : MachineFile) (percent counted : ℕ) (ring : List Queued) (target : ℕ) → IsTarget asked counted ring target → asked ≡ machine →
+    counted ≡ percent → IsTarget machine percent ring target
 target_as machine asked percent counted ring target h e f = rw (sym e, sym f) h
 
 -- ---- a command that travels nothing
@@ -77,7 +84,8 @@ pub served_still : (ring : List Queued) (a : Action) → IsServed ring a → IsM
 served_still [] a served moves = moves
 served_still (l ∷ ls) a served moves = omega (arith, served.1, moves)
 
-left_behind : (job : Job) (done : ℕ) (ring : List Queued) (ramp : RampState) (a : Action) → IsServed ring a → ramp.change ≡ job.machine.change → (joined : Bool) → ramp.legs ≡ legs_of job done joined ring → IsRest ramp.rest ramp.legs → ramp.rest ≡ next_rest 0 ramp.legs →
+left_behind : (job : Job) (done : ℕ) (ring : List Queued) (ramp : RampState) (a : Action) → IsServed ring a → ramp.change ≡ job.machine.change →
+    (joined : Bool) → ramp.legs ≡ legs_of job done joined ring → IsRest ramp.rest ramp.legs → ramp.rest ≡ next_rest 0 ramp.legs →
     IsLeft job (suc done) (drop 1 ring) (record ramp { rate = 0 }) × (travelled_of (drop 1 ring) ramp.rest ≡ 0)
 left_behind job done [] ramp a served change joined legs left whole = elim served [ ]
 left_behind job done (l ∷ ls) ramp a served change joined legs left whole =
@@ -87,7 +95,8 @@ left_behind job done (l ∷ ls) ramp a served change joined legs left whole =
       travelled_over job (suc done) b.0 ls (record ramp { rate = 0 }) 0 are whole (omega arith) (λ still. refl),
     )
 
-pub rests_still : (job : Job) (done : ℕ) (ring : RingData) (drive new : Drive) (dwelt n : ℕ) (panel : Panel) → IsInOrder job done ring drive dwelt panel → new ≡ record drive { ramp = record drive.ramp { rate = 0 } } → n ≤ DWELL_LIMIT → IsInOrder job done ring new n panel
+pub rests_still : (job : Job) (done : ℕ) (ring : RingData) (drive new : Drive) (dwelt n : ℕ) (panel : Panel) → IsInOrder job done ring drive dwelt panel →
+    new ≡ record drive { ramp = record drive.ramp { rate = 0 } } → n ≤ DWELL_LIMIT → IsInOrder job done ring new n panel
 rests_still job done ring drive new dwelt n panel o is brief =
     let here : IsInOrder job done ring (record drive { ramp = record drive.ramp { rate = 0 } }) n panel = record {
       machine = o.machine;
@@ -105,7 +114,8 @@ rests_still job done ring drive new dwelt n panel o is brief =
     } in
     rw is here
 
-pub served_left : (job : Job) (done : ℕ) (ring : RingData) (drive : Drive) (dwelt : ℕ) (panel : Panel) (a : Action) → IsInOrder job done ring drive dwelt panel → IsServed ring.loaded a →
+pub served_left : (job : Job) (done : ℕ) (ring : RingData) (drive : Drive) (dwelt : ℕ) (panel : Panel) (a : Action) →
+    IsInOrder job done ring drive dwelt panel → IsServed ring.loaded a →
     IsLeft job (suc done) (drop 1 ring.loaded) (record drive.ramp { rate = 0 }) × (travelled_of (drop 1 ring.loaded) drive.ramp.rest ≡ 0)
 served_left job done ring drive dwelt panel a o served =
     left_behind job done ring.loaded drive.ramp a served o.change o.legs.0 o.legs.1 o.left (o.whole (served_still ring.loaded a served))
@@ -124,23 +134,29 @@ with_panel s tool panel = record s {
   stop_switch = panel.stop_switch;
 }
 
-after_by : (a : Action) (s : State) (tool : Option Tool) (panel : Panel) → with_panel s (tool_after a tool) (panel_after a panel) ≡ after a (with_panel s tool panel)
+after_by : (a : Action) (s : State) (tool : Option Tool) (panel : Panel) →
+    with_panel s (tool_after a tool) (panel_after a panel) ≡ after a (with_panel s tool panel)
 after_by (Move m) s tool panel = refl
 after_by _ s tool panel = refl
 
 pub finished : (a : Action) (s : State) (tool mounted : Option Tool) (panel set : Panel) (k : ℕ) (xs : List Queued) (w t d : ℕ) →
     k ≡ suc s.done → xs ≡ drop 1 s.ring → w ≡ 0 → t ≡ 0 → d ≡ 0 → mounted ≡ tool_after a tool → set ≡ panel_after a panel →
-    with_panel (record s { done = k; ring = xs; rate = w; travelled = t; dwelt = d }) mounted set ≡ after a (record (without_head 0 (with_panel s tool panel)) { rate = 0 })
+    with_panel (record s { done = k; ring = xs; rate = w; travelled = t; dwelt = d }) mounted set
+    ≡ after a (record (without_head 0 (with_panel s tool panel)) { rate = 0 })
 finished a s tool mounted panel set k xs w t d e1 e2 e3 e4 e5 e6 e7 =
-    let whole : with_panel (record s { done = k; ring = xs; rate = w; travelled = t; dwelt = d }) mounted set ≡ with_panel (record s { done = suc s.done; ring = drop 1 s.ring; rate = 0; travelled = 0; dwelt = 0 }) (tool_after a tool) (panel_after a panel) = cc in
+    let whole : with_panel (record s { done = k; ring = xs; rate = w; travelled = t; dwelt = d }) mounted set
+    ≡ with_panel (record s { done = suc s.done; ring = drop 1 s.ring; rate = 0; travelled = 0; dwelt = 0 }) (tool_after a tool) (panel_after a panel) =
+    cc in
     whole ∙ after_by a (record s { done = suc s.done; ring = drop 1 s.ring; rate = 0; travelled = 0; dwelt = 0 }) tool panel
 
-pub serves_done : (job : Job) (a : Action) (old new : State) (outcome : Outcome) → nat_lt (suc old.dwelt) (ticks_of job a) ≡ false → Finishes job a old outcome new → Serves job a old outcome new
+pub serves_done : (job : Job) (a : Action) (old new : State) (outcome : Outcome) → nat_lt (suc old.dwelt) (ticks_of job a) ≡ false →
+    Finishes job a old outcome new → Serves job a old outcome new
 serves_done job a old new outcome over h = subst (λ t. MatchBool t (Dwells job old outcome new) (Finishes job a old outcome new)) (sym over) h
 
 -- ---- a command more
 
-pub few_on : (job : Job) (done : ℕ) (ring : RingData) (drive : Drive) (dwelt : ℕ) (panel : Panel) → IsInOrder job done ring drive dwelt panel → length drive.ramp.legs ≤ length ring.loaded
+pub few_on : (job : Job) (done : ℕ) (ring : RingData) (drive : Drive) (dwelt : ℕ) (panel : Panel) → IsInOrder job done ring drive dwelt panel →
+    length drive.ramp.legs ≤ length ring.loaded
 few_on job done ring drive dwelt panel o = let few = few_legs job done o.legs.0 ring.loaded in omega (arith, few, ap length o.legs.1)
 
 pub more_as : (machine asked : MachineFile) (commands given : List Command) (k : ℕ) (on : Bool) (q : Queued) (old new : RampState) →
@@ -151,8 +167,10 @@ still_before : (ring : List Queued) (q : Queued) → (IsMoving (ring ++ q ∷ []
 still_before [] q still moves = moves
 still_before (l ∷ ls) q still moves = still moves
 
-pub loaded_order : (job : Job) (done : ℕ) (ring : RingData) (drive : Drive) (dwelt : ℕ) (panel : Panel) (q : Queued) (k : ℕ) (after : RingData) (d : Drive) (n : ℕ) → IsInOrder job done ring drive dwelt panel →
-    d.ramp ≡ with_one_more job (done + length ring.loaded) drive.flows_on q drive.ramp → d.flows_on ≡ flows_on q → IsTarget job.machine (effective_at panel) after.loaded d.target →
+pub loaded_order : (job : Job) (done : ℕ) (ring : RingData) (drive : Drive) (dwelt : ℕ) (panel : Panel) (q : Queued) (k : ℕ) (after : RingData) (d : Drive)
+    (n : ℕ) → IsInOrder job done ring drive dwelt panel →
+    d.ramp ≡ with_one_more job (done + length ring.loaded) drive.flows_on q drive.ramp → d.flows_on ≡ flows_on q →
+    IsTarget job.machine (effective_at panel) after.loaded d.target →
     done + length ring.loaded < length job.commands → k ≡ done → n ≡ dwelt → after.loaded ≡ ring.loaded ++ q ∷ [] → after.place ≡ ring.place →
     IsInOrder job k after d n panel
 loaded_order job done ring drive dwelt panel q k after d n o is flows target less same brief queue place =
@@ -178,27 +196,38 @@ loaded_order job done ring drive dwelt panel q k after d n o is flows target les
     rw (same, brief, same_ring after all ring.place queue place) here
 
 -- the state after a load
-pub loads : (job : Job) (done : ℕ) (ring : RingData) (drive : Drive) (dwelt : ℕ) (position : StepPos) (tool : Option Tool) (panel : Panel) (c : Command) (q : Queued) (k : ℕ) (after : RingData) (d : Drive) (n : ℕ) →
-    IsInOrder job done ring drive dwelt panel → command_at job (done + length ring.loaded) ≡ Some c → length ring.loaded < RING → q.command ≡ c → MayTake job c.action q.path →
+pub loads : (job : Job) (done : ℕ) (ring : RingData) (drive : Drive) (dwelt : ℕ) (position : StepPos) (tool : Option Tool) (panel : Panel) (c : Command)
+    (q : Queued) (k : ℕ) (after : RingData) (d : Drive) (n : ℕ) →
+    IsInOrder job done ring drive dwelt panel → command_at job (done + length ring.loaded) ≡ Some c → length ring.loaded < RING → q.command ≡ c →
+    MayTake job c.action q.path →
     d.ramp ≡ with_one_more job (done + length ring.loaded) drive.flows_on q drive.ramp → k ≡ done → n ≡ dwelt → after.loaded ≡ ring.loaded ++ q ∷ [] →
-    LoadCommand job (state_of done ring drive dwelt position tool panel) (command_at job (done + length ring.loaded)) (Ok (Loaded (done + length ring.loaded))) (state_of k after d n position tool panel)
+    LoadCommand job (state_of done ring drive dwelt position tool panel) (command_at job (done + length ring.loaded)) (Ok (Loaded (done + length ring.loaded)))
+    (state_of k after d n position tool panel)
 loads job done ring drive dwelt position tool panel c q k after d n o found room same takes is more brief queue =
     let old = state_of done ring drive dwelt position tool panel in
     let new = state_of k after d n position tool panel in
     let out : Outcome = Ok (Loaded (done + length ring.loaded)) in
     let has = has_one_more job (done + length ring.loaded) drive.flows_on q drive.ramp d.ramp is in
-    let far : travelled_of after.loaded d.ramp.rest ≡ travelled_of ring.loaded drive.ramp.rest = ap (λ xs. travelled_of xs d.ramp.rest) queue ∙ travelled_more job done (done + length ring.loaded) o.legs.0 drive.flows_on ring.loaded q drive.ramp d.ramp o.legs.1 is in
+    let far : travelled_of after.loaded d.ramp.rest ≡ travelled_of ring.loaded drive.ramp.rest =
+    ap (λ xs. travelled_of xs d.ramp.rest) queue ∙ travelled_more job done
+    (done + length ring.loaded) o.legs.0 drive.flows_on ring.loaded q drive.ramp d.ramp o.legs.1 is in
     let rate = has.rate in
-    let own : after.loaded ≡ ring.loaded ++ record { command = c; path = q.path } ∷ [] = queue ∙ ap (λ x. ring.loaded ++ record { command = x; path = q.path } ∷ []) same in
+    let own : after.loaded ≡ ring.loaded ++ record { command = c; path = q.path } ∷ [] =
+    queue ∙ ap (λ x. ring.loaded ++ record { command = x; path = q.path } ∷ []) same in
     let whole : new ≡ record old { ring = ring.loaded ++ record { command = c; path = q.path } ∷ [] } = cc in
     subst (λ found. LoadCommand job old found out new) (sym found)
-    (subst (λ b. MatchBool b ((path : List StepPos) × MayTake job c.action path × (out ≡ Ok (Loaded (done + length ring.loaded))) × (new ≡ record old { ring = ring.loaded ++ record { command = c; path = path } ∷ [] })) ((out ≡ Err RingFull) × (new ≡ old))) (sym (lt-ltb (length ring.loaded) RING room))
+    (subst (λ b. MatchBool b ((path : List StepPos) × MayTake job c.action path × (out ≡ Ok (Loaded (done + length ring.loaded))) ×
+    (new ≡ record old { ring = ring.loaded ++ record { command = c; path = path } ∷ [] })) ((out ≡ Err RingFull) × (new ≡ old)))
+    (sym (lt-ltb (length ring.loaded) RING room))
     (q.path, takes, refl, whole))
 
 -- where there is no room
-pub loads_not : (job : Job) (old new : State) (c : Command) (found : Option Command) → found ≡ Some c → RING ≤ length old.ring → new ≡ old → LoadCommand job old found (Err RingFull) new
+pub loads_not : (job : Job) (old new : State) (c : Command) (found : Option Command) → found ≡ Some c → RING ≤ length old.ring → new ≡ old →
+    LoadCommand job old found (Err RingFull) new
 loads_not job old new c found is full same =
     let out : Outcome = Err RingFull in
     subst (λ f. LoadCommand job old f out new) (sym is)
-    (subst (λ b. MatchBool b ((path : List StepPos) × MayTake job c.action path × (out ≡ Ok (Loaded (old.done + length old.ring))) × (new ≡ record old { ring = old.ring ++ record { command = c; path = path } ∷ [] })) ((out ≡ Err RingFull) × (new ≡ old))) (sym (le-ltb (length old.ring) RING full))
+    (subst (λ b. MatchBool b ((path : List StepPos) × MayTake job c.action path × (out ≡ Ok (Loaded (old.done + length old.ring))) ×
+    (new ≡ record old { ring = old.ring ++ record { command = c; path = path } ∷ [] })) ((out ≡ Err RingFull) × (new ≡ old)))
+    (sym (le-ltb (length old.ring) RING full))
     (refl, same))

@@ -1,5 +1,6 @@
 -- The latest replies, and the one at a place before the last.
-use Rattle.std.proofs.Common.{◌≡◌, ℕ, suc, ◌+◌, ◌-◌, ◌≤◌, ◌<◌, min, cond, List, [], ◌∷◌, ◌++◌, length, get_or, nat_lt, take, drop, Some, None, ap, sym, ◌∙◌, inl, inr, arith, append_assoc, length-append, length-drop}
+use Rattle.std.proofs.Common.{◌≡◌, ℕ, suc, ◌+◌, ◌-◌, ◌≤◌, ◌<◌, min, cond, List, [], ◌∷◌, ◌++◌, length, get_or, nat_lt, take, drop, Some, None, ap, sym, ◌∙◌}
+use Rattle.std.proofs.Common.{inl, inr, arith, append_assoc, length-append, length-drop}
 use Rattle.std.specs.Prelude.{replicate, slice_get}
 use Rattle.std.proofs.lemmas.Bool.{cases_lt, lt-ltb, le-ltb}
 use Rattle.std.proofs.lemmas.Grind.{flat_map-append}
@@ -26,7 +27,8 @@ past_all i xs past = ap (λ b. cond b (slice_get xs (length xs - i - 1)) None) (
 in_last : (i : ℕ) (xs ys : List Reply) → i < length ys → from_the_last i (xs ++ ys) ≡ from_the_last i ys
 in_last i xs ys within =
     let long = length-append xs ys in
-    at_place i (xs ++ ys) (omega arith) ∙ slice_get-append_right xs ys (length (xs ++ ys) - i - 1) (length ys - i - 1) (omega arith) ∙ sym (at_place i ys within)
+    at_place i (xs ++ ys) (omega arith) ∙ slice_get-append_right xs ys (length (xs ++ ys) - i - 1) (length ys - i - 1) (omega arith)
+    ∙ sym (at_place i ys within)
 
 in_first : (i j : ℕ) (xs ys : List Reply) → i ≡ length ys + j → from_the_last i (xs ++ ys) ≡ from_the_last j xs
 in_first i j xs ys is =
@@ -34,7 +36,8 @@ in_first i j xs ys is =
     elim (cases_lt j (length xs)) [
       | inl within ↦ (
           let same : length (xs ++ ys) - i - 1 ≡ length xs - j - 1 = omega arith in
-          at_place i (xs ++ ys) (omega arith) ∙ ap (λ n. slice_get (xs ++ ys) n) same ∙ slice_get-append_left xs ys (length xs - j - 1) (omega arith) ∙ sym (at_place j xs within))
+          at_place i (xs ++ ys) (omega arith) ∙ ap (λ n. slice_get (xs ++ ys) n) same ∙ slice_get-append_left xs ys (length xs - j - 1) (omega arith)
+          ∙ sym (at_place j xs within))
       | inr past ↦ (past_all i (xs ++ ys) (omega arith) ∙ sym (past_all j xs past))
     ]
 
@@ -64,7 +67,8 @@ not_kept i q told past =
 pub quiet_last : (i q : ℕ) (told : List Told) → i < KEPT → i < q → from_the_last i (latest told q) ≡ Some (Ticked None None)
 quiet_last i q told kept within =
     let quiet : List Reply = replicate q (Ticked None None) in
-    in_kept i KEPT (replies told ++ quiet) kept ∙ in_last i (replies told) quiet (omega (arith, length-replicate q (Ticked None None))) ∙ in_equal i q (Ticked None None) within
+    in_kept i KEPT (replies told ++ quiet) kept ∙ in_last i (replies told) quiet (omega (arith, length-replicate q (Ticked None None)))
+    ∙ in_equal i q (Ticked None None) within
 
 pub behind_quiet : (i q : ℕ) (told : List Told) → i < KEPT → q ≤ i → from_the_last i (latest told q) ≡ from_the_last (i - q) (replies told)
 behind_quiet i q told kept past =
@@ -78,7 +82,8 @@ one_more told t =
     ∙ ap (λ xs. replies told ++ xs) (append-nil (with_quiet t))
     ∙ sym (append_assoc (replies told) (replicate t.before (Ticked None None)) (t.reply ∷ []))
 
-last_of : (j : ℕ) (told : List Told) (t : Told) → from_the_last (suc j) (replies (told ++ t ∷ [])) ≡ from_the_last j (replies told ++ replicate t.before (Ticked None None))
+last_of : (j : ℕ) (told : List Told) (t : Told) → from_the_last (suc j) (replies (told ++ t ∷ []))
+    ≡ from_the_last j (replies told ++ replicate t.before (Ticked None None))
 last_of j told t =
     let before : List Reply = replies told ++ replicate t.before (Ticked None None) in
     ap (λ xs. from_the_last (suc j) xs) (one_more told t) ∙ in_first (suc j) j before (t.reply ∷ []) (omega arith)
@@ -91,9 +96,11 @@ told_last told t =
 quiet_before : (j : ℕ) (told : List Told) (t : Told) → j < t.before → from_the_last (suc j) (replies (told ++ t ∷ [])) ≡ Some (Ticked None None)
 quiet_before j told t within =
     let quiet : List Reply = replicate t.before (Ticked None None) in
-    last_of j told t ∙ in_last j (replies told) quiet (omega (arith, length-replicate t.before (Ticked None None))) ∙ in_equal j t.before (Ticked None None) within
+    last_of j told t ∙ in_last j (replies told) quiet (omega (arith, length-replicate t.before (Ticked None None)))
+    ∙ in_equal j t.before (Ticked None None) within
 
-told_before_it : (j : ℕ) (told : List Told) (t : Told) → t.before ≤ j → from_the_last (suc j) (replies (told ++ t ∷ [])) ≡ from_the_last (j - t.before) (replies told)
+told_before_it : (j : ℕ) (told : List Told) (t : Told) → t.before ≤ j →
+    from_the_last (suc j) (replies (told ++ t ∷ [])) ≡ from_the_last (j - t.before) (replies told)
 told_before_it j told t past =
     let quiet : List Reply = replicate t.before (Ticked None None) in
     last_of j told t ∙ in_first j (j - t.before) (replies told) quiet (omega (arith, length-replicate t.before (Ticked None None)))
@@ -114,19 +121,24 @@ cut place k told t h =
     let item : get_or told k t ≡ t = ap (λ i. get_or told i t) first ∙ get_or_from_slice_get told (length told - place - 1) t t there in
     ap (λ n. take n told) next ∙ take-suc told k t (omega arith) ∙ ap (λ x. take k told ++ x ∷ []) item
 
-pub at_told : (i place k : ℕ) (told : List Told) (t : Told) → IsTold place k told t → i ≡ 0 → from_the_last i (replies (take (length told - place) told)) ≡ Some t.reply
-at_told i place k told t h none = ap (λ n. from_the_last n (replies (take (length told - place) told))) none ∙ ap (λ ts. from_the_last 0 (replies ts)) (cut place k told t h) ∙ told_last (take k told) t
+pub at_told : (i place k : ℕ) (told : List Told) (t : Told) → IsTold place k told t → i ≡ 0 →
+    from_the_last i (replies (take (length told - place) told)) ≡ Some t.reply
+at_told i place k told t h none = ap (λ n. from_the_last n (replies (take (length told - place) told))) none
+    ∙ ap (λ ts. from_the_last 0 (replies ts)) (cut place k told t h) ∙ told_last (take k told) t
 
-pub at_quiet : (i place k : ℕ) (told : List Told) (t : Told) → IsTold place k told t → 1 ≤ i → i - 1 < t.before → from_the_last i (replies (take (length told - place) told)) ≡ Some (Ticked None None)
+pub at_quiet : (i place k : ℕ) (told : List Told) (t : Told) → IsTold place k told t → 1 ≤ i → i - 1 < t.before →
+    from_the_last i (replies (take (length told - place) told)) ≡ Some (Ticked None None)
 at_quiet i place k told t h some within =
     let next : i ≡ suc (i - 1) = omega arith in
-    ap (λ n. from_the_last n (replies (take (length told - place) told))) next ∙ ap (λ ts. from_the_last (suc (i - 1)) (replies ts)) (cut place k told t h) ∙ quiet_before (i - 1) (take k told) t within
+    ap (λ n. from_the_last n (replies (take (length told - place) told))) next ∙ ap (λ ts. from_the_last (suc (i - 1)) (replies ts)) (cut place k told t h)
+    ∙ quiet_before (i - 1) (take k told) t within
 
 pub further : (i place k : ℕ) (told : List Told) (t : Told) → IsTold place k told t → 1 ≤ i → t.before ≤ i - 1 →
     from_the_last i (replies (take (length told - place) told)) ≡ from_the_last (i - 1 - t.before) (replies (take k told))
 further i place k told t h some past =
     let next : i ≡ suc (i - 1) = omega arith in
-    ap (λ n. from_the_last n (replies (take (length told - place) told))) next ∙ ap (λ ts. from_the_last (suc (i - 1)) (replies ts)) (cut place k told t h) ∙ told_before_it (i - 1) (take k told) t past
+    ap (λ n. from_the_last n (replies (take (length told - place) told))) next ∙ ap (λ ts. from_the_last (suc (i - 1)) (replies ts)) (cut place k told t h)
+    ∙ told_before_it (i - 1) (take k told) t past
 
 -- ---- more of them
 

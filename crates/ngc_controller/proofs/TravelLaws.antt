@@ -1,5 +1,6 @@
 -- A tick on a motion: the ramp's rules give the machine's.
-use Rattle.std.proofs.Common.{◌≡◌, ℕ, suc, ◌+◌, ◌-◌, ◌/◌, ◌≤◌, ◌<◌, min, nat_lt, nat_le, List, ◌∷◌, Option, Some, None, Bool, true, false, cond, refl, ap, ap₂, sym, ◌∙◌, drop, arith}
+use Rattle.std.proofs.Common.{◌≡◌, ℕ, suc, ◌+◌, ◌-◌, ◌/◌, ◌≤◌, ◌<◌, min, nat_lt, nat_le, List, ◌∷◌, Option, Some, None, Bool, true, false, cond, refl, ap, ap₂}
+use Rattle.std.proofs.Common.{sym, ◌∙◌, drop, arith}
 use Rattle.std.proofs.lemmas.Bool.Decides.{nat_tests}
 use Rattle.std.specs.Prelude.{Ok, if◌then◌else◌}
 use Rattle.std.specs.Bool.{then_some}
@@ -24,7 +25,8 @@ use Rattle.ngc_controller.specs.Loaded.{next_place}
 
 -- ---- the place on the path
 
-pub place_is : (t v m place : ℕ) (due : Bool) → place ≡ t / MILLION → t ≤ m → v ≤ MILLION → due ≡ nat_lt (t / MILLION) (min (t + v) m / MILLION) → next_place place due ≡ min (t + v) m / MILLION
+pub place_is : (t v m place : ℕ) (due : Bool) → place ≡ t / MILLION → t ≤ m → v ≤ MILLION → due ≡ nat_lt (t / MILLION) (min (t + v) m / MILLION) →
+    next_place place due ≡ min (t + v) m / MILLION
 place_is t v m place true at within small test =
     let less : t / MILLION < min (t + v) m / MILLION = grind (arith, nat_tests) in
     omega arith
@@ -47,7 +49,8 @@ rate_by false s t v e f = f
 rate_moved : (l : Queued) (old : State) (v : ℕ) → (moved_by l old v).rate ≡ v
 rate_moved l old v = rate_by (nat_le (millionths l) (old.travelled + v)) _ _ v refl refl
 
-pub travels_to : (job : Job) (l : Queued) (ls : List Queued) (old new : State) (outcome : Outcome) (v : ℕ) → MayTravel job l ls old v → new ≡ moved_by l old v → outcome ≡ Ok (Ticked (pulse l old v) (ends_at l old v)) → Travels job l ls old outcome new
+pub travels_to : (job : Job) (l : Queued) (ls : List Queued) (old new : State) (outcome : Outcome) (v : ℕ) → MayTravel job l ls old v → new ≡ moved_by l old v →
+    outcome ≡ Ok (Ticked (pulse l old v) (ends_at l old v)) → Travels job l ls old outcome new
 travels_to job l ls old new outcome v may e says =
     let rate : new.rate ≡ v = ap (λ (s : State). s.rate) e ∙ rate_moved l old v in
     record {
@@ -72,7 +75,8 @@ done_with false s t e h = (cc, cc)
 -- ---- the whole tick
 
 -- what is known of a tick of the ramp r to s, with the head l and the others behind it
-pub record IsTravel (job : Job) (l : Queued) (ls : List Queued) (old : State) (r s : RampState) (joined : Bool) (wish v place : ℕ) (due ended : Bool) (next : ℕ) (p : StepPos) : Type 0 where
+pub record IsTravel (job : Job) (l : Queued) (ls : List Queued) (old : State) (r s : RampState) (joined : Bool) (wish v place : ℕ) (due ended : Bool) (next : ℕ)
+    (p : StepPos) : Type 0 where
   pub machine : IsMachine job.machine
   pub motion : IsMotion l.command.action
   pub moves : 1 ≤ path_steps l
@@ -97,10 +101,12 @@ pub record HasTravelled (job : Job) (l : Queued) (ls : List Queued) (old : State
   pub point_at : p ≡ point l.path (place_after l old v)
   pub says : then_some due p ≡ pulse l old v
 
-same_due : (leg_whole rest t v : ℕ) (due : Bool) → t ≡ leg_whole - rest → due ≡ nat_lt ((leg_whole - rest) / MILLION) (min (leg_whole - rest + v) leg_whole / MILLION) → due ≡ nat_lt (t / MILLION) (min (t + v) leg_whole / MILLION)
+same_due : (leg_whole rest t v : ℕ) (due : Bool) → t ≡ leg_whole - rest →
+    due ≡ nat_lt ((leg_whole - rest) / MILLION) (min (leg_whole - rest + v) leg_whole / MILLION) → due ≡ nat_lt (t / MILLION) (min (t + v) leg_whole / MILLION)
 same_due w rest t v due e h = rw e h
 
-pub has_travelled : (job : Job) (l : Queued) (ls : List Queued) (old : State) (r s : RampState) (joined : Bool) (wish v place : ℕ) (due ended : Bool) (next : ℕ) (p : StepPos) → IsTravel job l ls old r s joined wish v place due ended next p → HasTravelled job l ls old v next due p
+pub has_travelled : (job : Job) (l : Queued) (ls : List Queued) (old : State) (r s : RampState) (joined : Bool) (wish v place : ℕ) (due ended : Bool) (next : ℕ)
+    (p : StepPos) → IsTravel job l ls old r s joined wish v place due ended next p → HasTravelled job l ls old v next due p
 has_travelled job l ls old r s joined wish v place due ended next p h =
     let left : r.rest ≡ millionths l - old.travelled = omega (arith, h.at, h.within) in
     let within : old.travelled ≤ millionths l = omega (arith, h.at) in
@@ -119,7 +125,8 @@ has_travelled job l ls old r s joined wish v place due ended next p h =
     }
 
 -- the motion goes on
-pub goes_on : (job : Job) (l : Queued) (ls : List Queued) (old new : State) (r : RampState) (v next : ℕ) (due : Bool) (p : StepPos) (t : ℕ) (xs : List Queued) (w : ℕ) → HasTravelled job l ls old v next due p →
+pub goes_on : (job : Job) (l : Queued) (ls : List Queued) (old new : State) (r : RampState) (v next : ℕ) (due : Bool) (p : StepPos) (t : ℕ) (xs : List Queued)
+    (w : ℕ) → HasTravelled job l ls old v next due p →
     old.travelled ≡ millionths l - r.rest → r.rest ≤ millionths l → v < r.rest → t ≡ old.travelled + v → xs ≡ old.ring → w ≡ v →
     new ≡ record old { ring = xs; rate = w; position = p; travelled = t } →
     Travels job l ls old (Ok (Ticked (then_some due p) None)) new
@@ -127,7 +134,8 @@ goes_on job l ls old new r v next due p t xs w h at within less far same rate is
     let on : nat_le (millionths l) (old.travelled + v) ≡ false = grind (arith, nat_tests) in
     let place = point l.path (place_after l old v) in
     let there : State = record old { rate = v; position = place } in
-    let by = going (nat_le (millionths l) (old.travelled + v)) (without_head (old.travelled + v - millionths l) there) (record there { travelled = old.travelled + v }) (Some (ending l.command.action old)) on in
+    let by = going (nat_le (millionths l) (old.travelled + v)) (without_head (old.travelled + v - millionths l) there)
+    (record there { travelled = old.travelled + v }) (Some (ending l.command.action old)) on in
     let state : new ≡ record there { travelled = old.travelled + v } =
     is ∙ ap (λ (ys : List Queued). record old { ring = ys; rate = w; position = p; travelled = t }) same
     ∙ ap (λ (x : ℕ). record old { rate = x; position = p; travelled = t }) rate
@@ -136,8 +144,10 @@ goes_on job l ls old new r v next due p t xs w h at within less far same rate is
     travels_to job l ls old new (Ok (Ticked (then_some due p) None)) v h.may (state ∙ sym by.0) (ap₂ (λ a b. Ok (Ticked a b)) h.says (sym by.1))
 
 -- the motion ends
-pub ends_there : (job : Job) (l : Queued) (ls : List Queued) (old new : State) (r : RampState) (v next : ℕ) (due : Bool) (p : StepPos) (t : ℕ) (xs : List Queued) (w k d : ℕ) → HasTravelled job l ls old v next due p →
-    IsMotion l.command.action → old.travelled ≡ millionths l - r.rest → r.rest ≤ millionths l → r.rest ≤ v → t ≡ v - r.rest → xs ≡ drop 1 old.ring → w ≡ v → k ≡ suc old.done → d ≡ 0 →
+pub ends_there : (job : Job) (l : Queued) (ls : List Queued) (old new : State) (r : RampState) (v next : ℕ) (due : Bool) (p : StepPos) (t : ℕ)
+    (xs : List Queued) (w k d : ℕ) → HasTravelled job l ls old v next due p →
+    IsMotion l.command.action → old.travelled ≡ millionths l - r.rest → r.rest ≤ millionths l → r.rest ≤ v → t ≡ v - r.rest → xs ≡ drop 1 old.ring → w ≡ v →
+    k ≡ suc old.done → d ≡ 0 →
     new ≡ record old { done = k; ring = xs; rate = w; position = p; travelled = t; dwelt = d } →
     Travels job l ls old (Ok (Ticked (then_some due p) (Some (Done old.done)))) new
 ends_there job l ls old new r v next due p t xs w k d h motion at within ends beyond same rate more brief is =
@@ -145,12 +155,21 @@ ends_there job l ls old new r v next due p t xs w k d h motion at within ends be
     let place = point l.path (place_after l old v) in
     let there : State = record old { rate = v; position = place } in
     let left : t ≡ old.travelled + v - millionths l = omega arith in
-    let by = done_with (nat_le (millionths l) (old.travelled + v)) (without_head (old.travelled + v - millionths l) there) (record there { travelled = old.travelled + v }) (Some (ending l.command.action old)) over in
+    let by = done_with (nat_le (millionths l) (old.travelled + v)) (without_head (old.travelled + v - millionths l) there)
+    (record there { travelled = old.travelled + v }) (Some (ending l.command.action old)) over in
     let state : new ≡ without_head (old.travelled + v - millionths l) there =
     is ∙ ap (λ (ys : List Queued). record old { done = k; ring = ys; rate = w; position = p; travelled = t; dwelt = d }) same
     ∙ ap (λ (x : ℕ). record old { done = k; ring = drop 1 old.ring; rate = x; position = p; travelled = t; dwelt = d }) rate
     ∙ ap (λ (q : StepPos). record old { done = k; ring = drop 1 old.ring; rate = v; position = q; travelled = t; dwelt = d }) h.point_at
     ∙ ap (λ (x : ℕ). record old { done = k; ring = drop 1 old.ring; rate = v; position = place; travelled = x; dwelt = d }) left
     ∙ ap (λ (x : ℕ). record old { done = x; ring = drop 1 old.ring; rate = v; position = place; travelled = old.travelled + v - millionths l; dwelt = d }) more
-    ∙ ap (λ (x : ℕ). record old { done = suc old.done; ring = drop 1 old.ring; rate = v; position = place; travelled = old.travelled + v - millionths l; dwelt = x }) brief in
-    travels_to job l ls old new (Ok (Ticked (then_some due p) (Some (Done old.done)))) v h.may (state ∙ sym by.0) (ap₂ (λ a b. Ok (Ticked a b)) h.says (sym (by.1 ∙ ap (λ e. Some e) (motion_done l.command.action old motion))))
+    ∙ ap (λ (x : ℕ). record old {
+      done = suc old.done;
+      ring = drop 1 old.ring;
+      rate = v;
+      position = place;
+      travelled = old.travelled + v - millionths l;
+      dwelt = x;
+    }) brief in
+    travels_to job l ls old new (Ok (Ticked (then_some due p) (Some (Done old.done)))) v h.may (state ∙ sym by.0)
+    (ap₂ (λ a b. Ok (Ticked a b)) h.says (sym (by.1 ∙ ap (λ e. Some e) (motion_done l.command.action old motion))))

@@ -1,5 +1,6 @@
 -- Ticks in which nothing is told, many at once. Our own.
-use Rattle.std.specs.Prelude.{ℕ, zero, suc, ◌+◌, ◌*◌, nat_lt, List, [], ◌∷◌, replicate, None, Ok, if◌then◌else◌}
+use Rattle.std.specs.Prelude.{ℕ, zero, suc, ◌+◌, ◌*◌, nat_lt, List, [], ◌∷◌, replicate, None, Ok}
+use Rattle.std.specs.Prelude.{if◌then◌else◌}
 use Rattle.ngc_fixed_length.specs.LinePath.{point}
 use Rattle.ngc_events.specs.declared.event.Event.TheVariants.{Tick}
 use Rattle.ngc_events.specs.declared.reply.Reply.TheVariants.{Ticked}
@@ -10,7 +11,8 @@ use Rattle.ngc_behaviour.specs.Stretch.{Stretch}
 -- n ticks at the rate of the last one, in which no pulse is due: the position is at the place on
 -- the head's path
 abbrev pub travelled_on : ℕ → Queued → State → State
-travelled_on n l s = record s { travelled = s.travelled + n * s.rate; position = point l.path (place_before s) }
+travelled_on n l s =
+    record s { travelled = s.travelled + n * s.rate; position = point l.path (place_before s) }
 
 -- n ticks of a dwell
 abbrev pub dwelt_on : ℕ → State → State
@@ -28,4 +30,5 @@ coasted (suc n) s = coasted_on (suc n) s.ring s
 
 -- it is the one that n ticks of the machine may lead to, each with this outcome
 abbrev pub CoastsFor : Job → State → ℕ → Type 0
-CoastsFor job s n = Stretch job s (coasted n s) (replicate n Tick) (replicate n (Ok (Ticked None None)))
+CoastsFor job s n =
+    Stretch job s (coasted n s) (replicate n Tick) (replicate n (Ok (Ticked None None)))

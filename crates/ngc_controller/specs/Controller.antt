@@ -16,4 +16,5 @@ KEPT = 256
 
 -- the reply i places before the last
 abbrev pub from_the_last : ℕ → List Reply → Option Reply
-from_the_last i replies = if nat_lt i (length replies) then slice_get replies (length replies - i - 1) else None
+from_the_last i replies =
+    if nat_lt i (length replies) then slice_get replies (length replies - i - 1) else None

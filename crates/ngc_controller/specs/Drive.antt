@@ -1,5 +1,6 @@
 -- The ramp of the motions in the ring, and the rate that the head is to reach. Our own.
-use Rattle.std.specs.Prelude.{◌≡◌, ℕ, suc, ◌≤◌, nat_lt, List, [], ◌∷◌, Bool, not, ◌&&◌, if◌then◌else◌}
+use Rattle.std.specs.Prelude.{◌≡◌, ℕ, suc, ◌≤◌, nat_lt, List, [], ◌∷◌, Bool, not, ◌&&◌}
+use Rattle.std.specs.Prelude.{if◌then◌else◌}
 use Rattle.ngc_machine.specs.Machine.{MachineFile}
 use Rattle.ngc_planner.specs.declared.leg.Leg.{Leg}
 use Rattle.ngc_planner.specs.Bounds.{target_at}
@@ -20,13 +21,16 @@ last_flows_on before (l ∷ ls) = last_flows_on (flows_on l) ls
 -- past
 abbrev pub legs_of : Job → ℕ → Bool → List Queued → List Leg
 legs_of job k joined [] = []
-legs_of job k joined (l ∷ ls) = if nat_lt 0 (path_steps l) then leg_of job k joined l ∷ legs_behind job (suc k) l ls else legs_behind job (suc k) l ls
+legs_of job k joined (l ∷ ls) = if nat_lt 0 (path_steps l)
+    then leg_of job k joined l ∷ legs_behind job (suc k) l ls else legs_behind job (suc k) l ls
 
 -- command k is loaded: a motion with path steps comes onto the ramp
 abbrev pub with_one_more : Job → ℕ → Bool → Queued → RampState → RampState
-with_one_more job k joined l ramp = if nat_lt 0 (path_steps l) then loaded ramp (leg_of job k joined l) else ramp
+with_one_more job k joined l ramp =
+    if nat_lt 0 (path_steps l) then loaded ramp (leg_of job k joined l) else ramp
 
 -- the target is that of the head
 abbrev pub IsTarget : MachineFile → ℕ → List Queued → ℕ → Type 0
 IsTarget machine percent [] target = Unit {0}
-IsTarget machine percent (l ∷ ls) target = 1 ≤ path_steps l → target ≡ target_at machine l.command.action (path_steps l) percent
+IsTarget machine percent (l ∷ ls) target =
+    1 ≤ path_steps l → target ≡ target_at machine l.command.action (path_steps l) percent

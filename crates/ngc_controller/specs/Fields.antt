@@ -1,5 +1,6 @@
 -- What the fields of a controller stand for, and what they keep. Our own.
-use Rattle.std.specs.Prelude.{◌≡◌, ℕ, ◌+◌, ◌-◌, ◌/◌, ◌^◌, ◌≤◌, List, [], ◌∷◌, length, Option, nat_lt, Bool, true, if◌then◌else◌}
+use Rattle.std.specs.Prelude.{◌≡◌, ℕ, ◌+◌, ◌-◌, ◌/◌, ◌^◌, ◌≤◌, List, [], ◌∷◌, length, Option}
+use Rattle.std.specs.Prelude.{nat_lt, Bool, true, if◌then◌else◌}
 use Rattle.ngc_fixed_length.specs.declared.points.StepPos.{StepPos}
 use Rattle.ngc_canonical.specs.declared.command.Action.{Action}
 use Rattle.ngc_canonical.specs.declared.command.Action.TheVariants as actions
@@ -44,7 +45,8 @@ DWELL_LIMIT = 2 ^ 100
 
 -- what the fields keep: the ramp is on the head, where that is a motion with path steps; otherwise
 -- nothing travels, and the motions behind the head are still whole
-pub record IsInOrder (job : Job) (done : ℕ) (ring : RingData) (drive : Drive) (dwelt : ℕ) (panel : Panel) : Type 0 where
+pub record IsInOrder (job : Job) (done : ℕ) (ring : RingData) (drive : Drive) (dwelt : ℕ)
+    (panel : Panel) : Type 0 where
   pub machine : IsMachine job.machine
   pub change : drive.ramp.change ≡ job.machine.change
   pub legs : (joined : Bool) × (drive.ramp.legs ≡ legs_of job done joined ring.loaded)
@@ -63,7 +65,8 @@ pub record IsInOrder (job : Job) (done : ℕ) (ring : RingData) (drive : Drive) 
 -- the head is a motion with path steps, and travels
 abbrev pub TravelsOn : Job → List Queued → State → Outcome → State → Type 0
 TravelsOn job [] old outcome new = ⊥
-TravelsOn job (l ∷ ls) old outcome new = Travels job l ls old outcome new × TravelsAtLeast job (l ∷ ls) old new.rate
+TravelsOn job (l ∷ ls) old outcome new =
+    Travels job l ls old outcome new × TravelsAtLeast job (l ∷ ls) old new.rate
 
 -- the head does this, with no path step
 abbrev pub IsServed : List Queued → Action → Type 0

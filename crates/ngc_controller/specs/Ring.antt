@@ -32,7 +32,8 @@ IsLed None behind = behind ≡ []
 IsLed (Some head) behind = Unit {0}
 
 -- what a ring keeps
-pub record IsRing (head : Option LoadedData) (behind : List LoadedData) (capacity : ℕ) : Type 0 where
+pub record IsRing (head : Option LoadedData) (behind : List LoadedData) (capacity : ℕ) :
+    Type 0 where
   pub room : capacity ≡ BEHIND
   pub led : IsLed head behind
   pub waits : AllByRecursion (λ (l : LoadedData). l.place ≡ 0) behind

@@ -1,4 +1,5 @@
-ghost use Rattle.std.specs.Prelude.{◌≡◌, ◌≤◌, ◌++◌, ◌∷◌, [], replicate, true, false, None, Ok, IfOk, IfErr, OnErr};
+ghost use Rattle.std.specs.Prelude.{◌≡◌, ◌≤◌, ◌++◌, ◌∷◌, [], replicate, true, false, None, Ok};
+ghost use Rattle.std.specs.Prelude.{IfOk, IfErr, OnErr};
 ghost use Rattle.circular_buffer.specs.Buffer.{keep_last};
 ghost use Rattle.ngc_behaviour.specs.Headline.{job_of};
 ghost use Rattle.ngc_behaviour.specs.Progress.{GoesOn, TravelsAtLeast};
@@ -59,7 +60,9 @@ impl<K: ArcKernel + Drop, A: Allocator> Model for Controller<K, A> {
       recent = c.recent;
     } };
 
-    ghost invariant = { λ c. IsInOrder (job_of c.accepted.machine (commands_at c.block_delete c.accepted)) c.progress.done c.progress.ring c.progress.drive c.progress.dwelt c.panel };
+    ghost invariant = { λ c. IsInOrder
+        (job_of c.accepted.machine (commands_at c.block_delete c.accepted)) c.progress.done
+        c.progress.ring c.progress.drive c.progress.dwelt c.panel };
 }
 
 impl<K: ArcKernel + Drop, A: Allocator + Copy> Controller<K, A> {
@@ -71,7 +74,9 @@ impl<K: ArcKernel + Drop, A: Allocator + Copy> Controller<K, A> {
         accepted: Accepted<A>,
         block_delete: bool,
     ) -> Result<Controller<K, A>, (Accepted<A>, MemoryFault)>
-        ensures made { IfOk result (λ c. (c.job ≡ job_of accepted.machine (commands_at block_delete accepted)) × (c.state ≡ opening accepted.machine) × (c.recent ≡ [])) }
+        ensures made { IfOk result
+            (λ c. (c.job ≡ job_of accepted.machine (commands_at block_delete accepted)) ×
+            (c.state ≡ opening accepted.machine) × (c.recent ≡ [])) }
         ensures back { IfErr result (λ e. e.0 ≡ accepted) }
     {
         let machine = accepted.machine();
@@ -104,7 +109,8 @@ impl<K: ArcKernel + Drop, A: Allocator + Copy> Controller<K, A> {
         ensures step { Step self.old.job self.old.state event result self.new.state }
         ensures goes_on { GoesOn self.old.job self.old.state event self.new.state }
         ensures short { LoadsShort event self.old.state self.new.state }
-        ensures recent { IfOk result (λ reply. self.new.recent ≡ keep_last KEPT (self.old.recent ++ reply ∷ [])) }
+        ensures recent { IfOk result
+            (λ reply. self.new.recent ≡ keep_last KEPT (self.old.recent ++ reply ∷ [])) }
         ensures refused { OnErr result (self.new ≡ self.old) }
     {
         let outcome = self.take(event);
@@ -121,8 +127,10 @@ impl<K: ArcKernel + Drop, A: Allocator + Copy> Controller<K, A> {
         ensures job { self.new.job ≡ self.old.job }
         ensures few { result ≤ most }
         ensures state { self.new.state ≡ coasted result self.old.state }
-        ensures coasts { Stretch self.old.job self.old.state self.new.state (replicate result Tick) (replicate result (Ok (Ticked None None))) }
-        ensures recent { self.new.recent ≡ keep_last KEPT (self.old.recent ++ replicate result (Ticked None None)) }
+        ensures coasts { Stretch self.old.job self.old.state self.new.state (replicate result Tick)
+            (replicate result (Ok (Ticked None None))) }
+        ensures recent { self.new.recent ≡ keep_last KEPT
+            (self.old.recent ++ replicate result (Ticked None None)) }
     {
         let ticks = self.go_on(most);
         self.recent.rest(ticks);
@@ -229,7 +237,8 @@ impl<K: ArcKernel + Drop, A: Allocator + Copy> Controller<K, A> {
     fn load(&mut self) -> Result<Reply, EventFault>
         ensures job { self.new.job ≡ self.old.job }
         ensures recent { self.new.recent ≡ self.old.recent }
-        ensures loads { LoadCommand self.old.job self.old.state (command_at self.old.job (loaded self.old.state)) result self.new.state }
+        ensures loads { LoadCommand self.old.job self.old.state
+            (command_at self.old.job (loaded self.old.state)) result self.new.state }
         ensures short { AreShort self.old.state.ring → AreShort self.new.state.ring }
         ensures refused { OnErr result (self.new ≡ self.old) }
     {
@@ -252,8 +261,10 @@ impl<K: ArcKernel + Drop, A: Allocator + Copy> Controller<K, A> {
     fn tick(&mut self) -> Reply
         ensures job { self.new.job ≡ self.old.job }
         ensures recent { self.new.recent ≡ self.old.recent }
-        ensures ticks { TickBy self.old.job self.old.state.stopped self.old.state.ring self.old.state (Ok result) self.new.state }
-        ensures goes_on { TravelsAtLeast self.old.job self.old.state.ring self.old.state self.new.state.rate }
+        ensures ticks { TickBy self.old.job self.old.state.stopped self.old.state.ring
+            self.old.state (Ok result) self.new.state }
+        ensures goes_on { TravelsAtLeast self.old.job self.old.state.ring self.old.state
+            self.new.state.rate }
     {
         if self.panel.stopped {
             return self.rest();
@@ -287,7 +298,8 @@ impl<K: ArcKernel + Drop, A: Allocator + Copy> Controller<K, A> {
         requires runs { self.old.state.stopped ≡ false }
         ensures job { self.new.job ≡ self.old.job }
         ensures recent { self.new.recent ≡ self.old.recent }
-        ensures travels { TravelsOn self.old.job self.old.state.ring self.old.state (Ok result) self.new.state }
+        ensures travels { TravelsOn self.old.job self.old.state.ring self.old.state
+            (Ok result) self.new.state }
     {
         let wish = self.panel.wish(self.progress.drive.target);
         let travel = self.progress.drive.ramp.tick(wish);
@@ -333,7 +345,8 @@ impl<K: ArcKernel + Drop, A: Allocator + Copy> Controller<K, A> {
     fn override_by(&mut self, percent: u8) -> Result<Reply, EventFault>
         ensures job { self.new.job ≡ self.old.job }
         ensures recent { self.new.recent ≡ self.old.recent }
-        ensures step { Step self.old.job self.old.state (Event.Override percent) result self.new.state }
+        ensures step { Step self.old.job self.old.state
+            (Event.Override percent) result self.new.state }
         ensures refused { OnErr result (self.new ≡ self.old) }
     {
         if percent > 200 {

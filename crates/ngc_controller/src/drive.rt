@@ -44,7 +44,8 @@ fn entry_of<A: Allocator>(
     command: &Command,
     machine: &Machine<A>,
 ) -> u64
-    ensures value { result ≡ joint_before (file_of machine.now) (before (job_of (file_of machine.now) commands.now) index) command.now }
+    ensures value { result ≡ joint_before (file_of machine.now)
+        (before (job_of (file_of machine.now) commands.now) index) command.now }
     ensures least { 1 ≤ result }
 {
     if index == 0 {
@@ -63,7 +64,8 @@ fn exit_of<A: Allocator>(
     command: &Command,
     machine: &Machine<A>,
 ) -> u64
-    ensures value { result ≡ joint_after (file_of machine.now) command.now (command_at (job_of (file_of machine.now) commands.now) (index + 1)) }
+    ensures value { result ≡ joint_after (file_of machine.now) command.now
+        (command_at (job_of (file_of machine.now) commands.now) (index + 1)) }
     ensures least { 1 ≤ result }
 {
     match commands.get(index as usize + 1) {
@@ -82,7 +84,8 @@ fn leg_of<K: ArcKernel + Drop, A: Allocator>(
     machine: &Machine<A>,
 ) -> Leg
     requires { 1 ≤ path_steps loaded.now.queued }
-    ensures value { result ≡ leg_of (job_of (file_of machine.now) commands.now) index joined loaded.now.queued }
+    ensures value { result ≡ leg_of (job_of (file_of machine.now) commands.now) index joined
+        loaded.now.queued }
     ensures leg { IsLeg result }
 {
     let command = loaded.command();
@@ -107,7 +110,9 @@ impl Drive {
         machine: &Machine<A>,
     )
         requires { length self.old.ramp.legs < LEGS }
-        ensures ramp { self.new.ramp ≡ with_one_more (job_of (file_of machine.now) commands.now) index self.old.flows_on loaded.now.queued self.old.ramp }
+        ensures ramp { self.new.ramp ≡ with_one_more
+            (job_of (file_of machine.now) commands.now) index self.old.flows_on loaded.now.queued
+            self.old.ramp }
         ensures target { self.new.target ≡ self.old.target }
         ensures flows_on { self.new.flows_on ≡ flows_on loaded.now.queued }
     {

@@ -12,7 +12,8 @@ use ngc_machine::Tool;
 /// Whether an action takes more ticks than one more than it has dwelt.
 pub fn dwells_on(action: &Action, dwelt: u128, ticks_per_second: u32) -> bool
     requires { dwelt ≤ DWELL_LIMIT }
-    ensures value { (job : Job) → job.machine.ticks_per_second ≡ ticks_per_second → result ≡ nat_lt (suc dwelt) (ticks_of job action.now) }
+    ensures value { (job : Job) → job.machine.ticks_per_second ≡ ticks_per_second →
+        result ≡ nat_lt (suc dwelt) (ticks_of job action.now) }
     ensures brief { result ≡ true → dwelt + 1 ≤ DWELL_LIMIT }
 {
     match action {
@@ -27,7 +28,8 @@ pub fn dwells_on(action: &Action, dwelt: u128, ticks_per_second: u32) -> bool
 /// How many ticks an action that has dwelt so many dwells on, before the one in which it ends.
 pub fn dwell_left(action: &Action, dwelt: u128, ticks_per_second: u32) -> u128
     requires { dwelt ≤ DWELL_LIMIT }
-    ensures value { (job : Job) → job.machine.ticks_per_second ≡ ticks_per_second → result ≡ ticks_of job action.now - suc dwelt }
+    ensures value { (job : Job) → job.machine.ticks_per_second ≡ ticks_per_second →
+        result ≡ ticks_of job action.now - suc dwelt }
     ensures brief { dwelt + result ≤ DWELL_LIMIT }
 {
     match action {
@@ -42,7 +44,8 @@ pub fn dwell_left(action: &Action, dwelt: u128, ticks_per_second: u32) -> u128
 
 /// How a command with an action ends: its index, and the panel's stop switch.
 pub fn ending_of(action: &Action, index: u32, stop_switch: bool) -> Ending
-    ensures { (s : State) → s.done ≡ index → s.stop_switch ≡ stop_switch → result ≡ ending action.now s }
+    ensures { (s : State) → s.done ≡ index → s.stop_switch ≡ stop_switch →
+        result ≡ ending action.now s }
 {
     match action {
         Action::Stop => Ending::Stopped(index),

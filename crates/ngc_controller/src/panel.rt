@@ -20,7 +20,13 @@ pub struct Panel {
 impl Panel {
     /// The panel when the machine is started.
     pub fn new() -> Panel
-        ensures { result ≡ record { percent = 100; overrides = true; held = false; stopped = false; stop_switch = false } }
+        ensures { result ≡ record {
+          percent = 100;
+          overrides = true;
+          held = false;
+          stopped = false;
+          stop_switch = false;
+        } }
     {
         Panel {
             percent: 100,

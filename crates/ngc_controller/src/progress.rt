@@ -71,14 +71,19 @@ impl<K: ArcKernel + Drop, A: Allocator> Progress<K, A> {
         requires legs { length self.old.drive.ramp.legs ≤ length self.old.ring.loaded }
         requires few { self.old.done + length self.old.ring.loaded < 2 ^ 32 }
         requires beginning { loaded.place ≡ 0 }
-        requires aimed { IsTarget (file_of machine.now) percent self.old.ring.loaded self.old.drive.target }
+        requires aimed { IsTarget (file_of machine.now) percent self.old.ring.loaded
+            self.old.drive.target }
         ensures loaded { self.new.ring.loaded ≡ self.old.ring.loaded ++ loaded.queued ∷ [] }
         ensures place { self.new.ring.place ≡ self.old.ring.place }
         ensures done { self.new.done ≡ self.old.done }
         ensures dwelt { self.new.dwelt ≡ self.old.dwelt }
-        ensures ramp { self.new.drive.ramp ≡ with_one_more (job_of (file_of machine.now) commands.now) (self.old.done + length self.old.ring.loaded) self.old.drive.flows_on loaded.queued self.old.drive.ramp }
+        ensures ramp { self.new.drive.ramp ≡ with_one_more
+            (job_of (file_of machine.now) commands.now)
+            (self.old.done + length self.old.ring.loaded) self.old.drive.flows_on loaded.queued
+            self.old.drive.ramp }
         ensures flows_on { self.new.drive.flows_on ≡ flows_on loaded.queued }
-        ensures target { IsTarget (file_of machine.now) percent self.new.ring.loaded self.new.drive.target }
+        ensures target { IsTarget (file_of machine.now) percent self.new.ring.loaded
+            self.new.drive.target }
     {
         let ahead = self.ring.len();
         self.drive
@@ -99,7 +104,8 @@ impl<K: ArcKernel + Drop, A: Allocator> Progress<K, A> {
         ensures dwelt { self.new.dwelt ≡ 0 }
         ensures ramp { self.new.drive.ramp ≡ self.old.drive.ramp }
         ensures flows_on { self.new.drive.flows_on ≡ self.old.drive.flows_on }
-        ensures target { IsTarget (file_of machine.now) percent self.new.ring.loaded self.new.drive.target }
+        ensures target { IsTarget (file_of machine.now) percent self.new.ring.loaded
+            self.new.drive.target }
     {
         self.ring.leave();
         self.done += 1;
@@ -114,7 +120,8 @@ impl<K: ArcKernel + Drop, A: Allocator> Progress<K, A> {
         ensures dwelt { self.new.dwelt ≡ self.old.dwelt }
         ensures ramp { self.new.drive.ramp ≡ self.old.drive.ramp }
         ensures flows_on { self.new.drive.flows_on ≡ self.old.drive.flows_on }
-        ensures target { IsTarget (file_of machine.now) percent self.old.ring.loaded self.new.drive.target }
+        ensures target { IsTarget (file_of machine.now) percent self.old.ring.loaded
+            self.new.drive.target }
     {
         if let Some(head) = self.ring.head() {
             self.drive.target = target_at(

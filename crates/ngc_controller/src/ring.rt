@@ -1,5 +1,6 @@
 //! The commands that are loaded and not done.
-ghost use Rattle.std.specs.Prelude.{◌≡◌, ◌≤◌, ◌<◌, ◌++◌, ◌∷◌, [], length, drop, true, IsTrue, ◌↔◌, IfOk, option_copied};
+ghost use Rattle.std.specs.Prelude.{◌≡◌, ◌≤◌, ◌<◌, ◌++◌, ◌∷◌, [], length, drop, true, IsTrue, ◌↔◌};
+ghost use Rattle.std.specs.Prelude.{IfOk, option_copied};
 ghost use Rattle.ngc_behaviour.specs.State.{RING};
 ghost use Rattle.ngc_controller.specs.Loaded.{next_place};
 ghost use Rattle.ngc_controller.specs.Ring.{RingData, IsMoving, IsPointOn, HasNext, head_of};

@@ -25,7 +25,8 @@ impl<K: ArcKernel + Drop> Route<K> {
     /// A path of the action on a grid of this step, at its beginning.
     fn of(action: &Action, step: Nm) -> Route<K>
         requires { IsStep step }
-        ensures takes { (job : Job) → job.machine.step ≡ step → MayTake job action.now (points_of K.points result) }
+        ensures takes { (job : Job) → job.machine.step ≡ step →
+            MayTake job action.now (points_of K.points result) }
         ensures place { place_of K.place result ≡ 0 }
         ensures moves { 1 ≤ length (points_of K.points result) - 1 → IsMotion action.now }
     {
@@ -54,7 +55,8 @@ impl<K: ArcKernel + Drop> Route<K> {
     /// Goes one place on, if it is due, and answers the point there.
     fn follow(&mut self, due: bool) -> StepPos
         requires moves { 1 < length (points_of K.points self.old) }
-        requires room { due ≡ true → place_of K.place self.old + 1 < length (points_of K.points self.old) }
+        requires room { due ≡ true → place_of K.place self.old + 1
+            < length (points_of K.points self.old) }
         ensures points { points_of K.points self.new ≡ points_of K.points self.old }
         ensures place { place_of K.place self.new ≡ next_place (place_of K.place self.old) due }
         ensures point { result ≡ point (points_of K.points self.new) (place_of K.place self.new) }
@@ -90,9 +92,14 @@ impl<K: ArcKernel + Drop> Model for Loaded<K> {
 
     ghost Value = { LoadedData };
 
-    ghost view = { λ l. record { queued = record { command = l.command; path = points_of K.points l.route }; place = place_of K.place l.route } };
+    ghost view = { λ l.
+        record {
+          queued = record { command = l.command; path = points_of K.points l.route };
+          place = place_of K.place l.route;
+        } };
 
-    ghost invariant = { λ l. IsLoaded (record { command = l.command; path = points_of K.points l.route }) l.steps };
+    ghost invariant = { λ l. IsLoaded
+        (record { command = l.command; path = points_of K.points l.route }) l.steps };
 }
 
 impl<K: ArcKernel + Drop> Loaded<K> {
@@ -100,7 +107,8 @@ impl<K: ArcKernel + Drop> Loaded<K> {
     pub fn new(command: &Command, step: Nm) -> Loaded<K>
         requires { IsStep step }
         ensures command { result.queued.command ≡ command.now }
-        ensures takes { (job : Job) → job.machine.step ≡ step → MayTake job command.now.action result.queued.path }
+        ensures takes { (job : Job) → job.machine.step ≡ step →
+            MayTake job command.now.action result.queued.path }
         ensures place { result.place ≡ 0 }
         ensures few { path_steps result.queued ≤ STEPS_LIMIT }
     {

@@ -42,7 +42,8 @@ went unit old mid new before between after more rest left whole is h k = record 
 
 -- a write fails while they are drawn
 pub stopped : (unit : ℤ) (old mid new : Option (List ℕ)) (before between : List ℕ) (more rest left whole : List Shape) → left ≡ more ++ rest
-    → Ahead unit old mid before between left whole → AppendsBeginning mid new (between ++ shapes_text unit more) → AppendsBeginning old new (before ++ shapes_text unit whole)
+    → Ahead unit old mid before between left whole → AppendsBeginning mid new (between ++ shapes_text unit more) →
+    AppendsBeginning old new (before ++ shapes_text unit whole)
 stopped unit old mid new before between more rest left whole is h k =
     let so_far : AppendsBeginning old new (before ++ shapes_text unit (h.done ++ more)) =
     subst (λ (l : List ℕ). AppendsBeginning old new l) (joined unit before h.done more)
@@ -68,7 +69,8 @@ finished unit old now before chunk rest whole none h =
     (ap (λ l. before ++ shapes_text unit l) (sym (h.splits ∙ ap (λ l. h.done ++ l) none ∙ append-nil h.done))) h.front
 
 -- some are drawn, and then the others, or not
-pub both : (r : Result (Unit {0}) WriteFault) (unit : ℤ) (old mid new : Option (List ℕ)) (before between after : List ℕ) (a b whole : List Shape) → a ++ b ≡ whole
+pub both : (r : Result (Unit {0}) WriteFault) (unit : ℤ) (old mid new : Option (List ℕ)) (before between after : List ℕ) (a b whole : List Shape) →
+    a ++ b ≡ whole
     → WritesFront old mid (before ++ shapes_text unit a) between → Draws unit mid new between after r b → Draws unit old new before after r whole
 both r unit old mid new before between after a b whole is h k =
     last r unit old mid new before between after b whole (record { done = a; splits = sym is; front = h }) k

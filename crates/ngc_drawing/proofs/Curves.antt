@@ -26,4 +26,5 @@ pub both_halves : (view : View) (arc : ArcShape) (n : ℕ) (p m q : Point3) → 
     → lines view n arc p m ++ lines view n arc m q ≡ map (line_to view) (helix_points arc)
 both_halves view arc n p m q is_n is_p is_m is_q =
     rw (is_n, is_p, is_m, is_q)
-    (sym (map-append (line_to view) (curve (halvings (outer_radius arc)) arc arc.start (middle arc)) (curve (halvings (outer_radius arc)) arc (middle arc) arc.end)))
+    (sym (map-append (line_to view) (curve (halvings (outer_radius arc)) arc arc.start (middle arc))
+    (curve (halvings (outer_radius arc)) arc (middle arc) arc.end)))

@@ -1,5 +1,6 @@
 -- The boxes of a certificate, one step further.
-use Rattle.std.proofs.Common.{◌≡◌, ℕ, ℤ, pos, ◌+◌, ◌<◌, ◌≤◌, List, [], ◌∷◌, ◌++◌, length, get_or, drop, take, map, Option, Some, Result, Ok, Err, IfOk, ap, refl, sym, ◌∙◌}
+use Rattle.std.proofs.Common.{◌≡◌, ℕ, ℤ, pos, ◌+◌, ◌<◌, ◌≤◌, List, [], ◌∷◌, ◌++◌, length, get_or, drop, take, map, Option, Some, Result, Ok, Err, IfOk, ap}
+use Rattle.std.proofs.Common.{refl, sym, ◌∙◌}
 use Rattle.std.proofs.lemmas.List.{append_assoc, drop_more, take_all}
 use Rattle.std.specs.declared.alloc.AllocError.{AllocError}
 use Rattle.ngc_machine.specs.declared.tools.Tool.{Tool}
@@ -34,8 +35,10 @@ next_piece view most rank held old new ps i p rest inside found grows =
     ∙ ap (λ (l : List Sweep). l ++ after) (sym grows)
 
 -- a motion is an action
-pub moved : (view : View) (most : ℕ) (used : List (Option Tool)) (s : Sweeping) (old new : List Sweep) (a : Action) (m : Motion) (es : List Entry) (r : Result Sweeping AllocError) → a ≡ Move m
-    → IfOk r (λ t. (tools : List (Option Tool)) (n : Motion) (rest : List Action) → old ++ sweeps_ahead view most tools s (Move n ∷ rest) es ≡ new ++ sweeps_ahead view most tools t rest es)
+pub moved : (view : View) (most : ℕ) (used : List (Option Tool)) (s : Sweeping) (old new : List Sweep) (a : Action) (m : Motion) (es : List Entry)
+    (r : Result Sweeping AllocError) → a ≡ Move m
+    → IfOk r (λ t. (tools : List (Option Tool)) (n : Motion) (rest : List Action) →
+    old ++ sweeps_ahead view most tools s (Move n ∷ rest) es ≡ new ++ sweeps_ahead view most tools t rest es)
     → IfOk r (λ t. (rest : List Action) → old ++ sweeps_ahead view most used s (a ∷ rest) es ≡ new ++ sweeps_ahead view most used t rest es)
 moved view most used s old new a m es (Ok t) is goes = λ rest. ap (λ (x : Action). old ++ sweeps_ahead view most used s (x ∷ rest) es) is ∙ goes used m rest
 moved view most used s old new a m es (Err e) is goes = tt
@@ -56,7 +59,8 @@ abbrev pub body : View → Solid → Shape
 body view b = shapes.Body (rectangle view b.low b.high)
 
 -- all parts of the tool are drawn
-pub all_filled : (view : View) (step : ℤ) (used : List (Option Tool)) (s : Sweep) (tool : Option Tool) (solids given : List solid.Solid) (before now : List Shape) (i : ℕ)
+pub all_filled : (view : View) (step : ℤ) (used : List (Option Tool)) (s : Sweep) (tool : Option Tool) (solids given : List solid.Solid)
+    (before now : List Shape) (i : ℕ)
     → now ≡ before ++ map (λ (b : solid.Solid). body view (solid_of b)) (take i given) → length given ≤ i → given ≡ solids → tool ≡ tool_at used s.rank
     → bodies tool (span step s.bounds) ≡ map solid_of solids → now ≡ before ++ filled view step used s
 all_filled view step used s tool solids given before now i is all same at filling =
@@ -68,4 +72,5 @@ all_filled view step used s tool solids given before now i is all same at fillin
 
 -- what stands at no place of a list
 abbrev pub no_sweep : Sweep
-no_sweep = record { rank = 0; count = 0; bounds = record { low = record { x = pos 0; y = pos 0; z = pos 0 }; high = record { x = pos 0; y = pos 0; z = pos 0 } } }
+no_sweep =
+    record { rank = 0; count = 0; bounds = record { low = record { x = pos 0; y = pos 0; z = pos 0 }; high = record { x = pos 0; y = pos 0; z = pos 0 } } }

@@ -14,15 +14,19 @@ use Rattle.ngc_drawing.specs.declared.spot.Rectangle.{Rectangle}
 use Rattle.ngc_drawing.specs.declared.sweep.Sweep.{Sweep}
 use Rattle.ngc_drawing.specs.declared.view.View.{View}
 
-pub from_start : (view : View) (m : MachineFile) (cs : List Command) (refusal : Option Refusal) (area : Rectangle) (tools : List (Option Tool)) (swept : List Sweep) (chunk : List ℕ)
-    → area ≡ frame view m cs → chunk ≡ [] → chunk ++ shapes_text (unit_of area) (picture_of view m cs refusal area tools swept) ≡ text_of view m cs refusal tools swept
+pub from_start : (view : View) (m : MachineFile) (cs : List Command) (refusal : Option Refusal) (area : Rectangle) (tools : List (Option Tool))
+    (swept : List Sweep) (chunk : List ℕ)
+    → area ≡ frame view m cs → chunk ≡ [] → chunk ++ shapes_text (unit_of area) (picture_of view m cs refusal area tools swept)
+    ≡ text_of view m cs refusal tools swept
 from_start view m cs refusal area tools swept chunk a k =
     ap (λ (l : List ℕ). l ++ shapes_text (unit_of area) (picture_of view m cs refusal area tools swept)) k
     ∙ ap (λ (r : Rectangle). shapes_text (unit_of r) (picture_of view m cs refusal r tools swept)) a
 
 -- the tools and the boxes are those of the commands
-pub of_commands : (view : View) (m : MachineFile) (cs : List Command) (es : List Entry) (refusal : Option Refusal) (tools given shown : List (Option Tool)) (swept drawn : List Sweep)
-    → tools ≡ used cs → given ≡ tools → shown ≡ tools → swept ≡ sweeps view given cs es → drawn ≡ swept → text_of view m cs refusal shown drawn ≡ picture_text view m cs es refusal
+pub of_commands : (view : View) (m : MachineFile) (cs : List Command) (es : List Entry) (refusal : Option Refusal) (tools given shown : List (Option Tool))
+    (swept drawn : List Sweep)
+    → tools ≡ used cs → given ≡ tools → shown ≡ tools → swept ≡ sweeps view given cs es → drawn ≡ swept →
+    text_of view m cs refusal shown drawn ≡ picture_text view m cs es refusal
 of_commands view m cs es refusal tools given shown swept drawn is is_given is_shown is_swept is_drawn =
     ap (λ (ss : List Sweep). text_of view m cs refusal shown ss) (is_drawn ∙ is_swept)
     ∙ ap (λ (ts : List (Option Tool)). text_of view m cs refusal shown (sweeps view ts cs es)) (is_given ∙ is)

@@ -16,4 +16,5 @@ extreme_point arc p = at_height arc.plane p (height arc.plane arc.start)
 
 -- those, and the arc's end
 abbrev pub corner_spots : View → ArcShape → List Spot
-corner_spots view arc = map (λ p. spot view (extreme_point arc p)) (extremes arc) ++ spot view arc.end ∷ []
+corner_spots view arc =
+    map (λ p. spot view (extreme_point arc p)) (extremes arc) ++ spot view arc.end ∷ []

@@ -1,5 +1,7 @@
 -- What the bodies of tools fill over the boxes of a certificate. Our own.
-use Rattle.std.specs.Prelude.{ℕ, ◌+◌, ◌/◌, ◌==◌, nat_lt, ℤ, List, [], ◌∷◌, ◌++◌, length, map, sum_by, slice_index_or, Option, Some, None, Bool, ◌&&◌, ◌||◌, if◌then◌else◌}
+use Rattle.std.specs.Prelude.{ℕ, ◌+◌, ◌/◌, ◌==◌, nat_lt, ℤ, List, [], ◌∷◌, ◌++◌, length, map}
+use Rattle.std.specs.Prelude.{sum_by, slice_index_or, Option, Some, None, Bool, ◌&&◌, ◌||◌}
+use Rattle.std.specs.Prelude.{if◌then◌else◌}
 use Rattle.std.specs.Ordering.{int_eq}
 use Rattle.ngc_fixed_length.specs.Boxes.{lesser_corner, greater_corner}
 use Rattle.ngc_fixed_length.specs.declared.points.GridBox.{GridBox}
@@ -29,9 +31,11 @@ sweep_of rank piece = record { rank = rank; count = 1; bounds = piece.bounds }
 -- and certificate both go
 abbrev pub boxes_from : List (Option Tool) → ℕ → List Action → List Entry → List Sweep
 boxes_from used rank [] entries = []
-boxes_from used rank (Mount tool ∷ actions) entries = boxes_from used (rank_of used (number_of tool)) actions entries
+boxes_from used rank (Mount tool ∷ actions) entries =
+    boxes_from used (rank_of used (number_of tool)) actions entries
 boxes_from used rank (Move m ∷ actions) [] = boxes_from used rank actions []
-boxes_from used rank (Move m ∷ actions) (entry ∷ entries) = map (sweep_of rank) entry.pieces ++ boxes_from used rank actions entries
+boxes_from used rank (Move m ∷ actions) (entry ∷ entries) =
+    map (sweep_of rank) entry.pieces ++ boxes_from used rank actions entries
 boxes_from used rank (_ ∷ actions) entries = boxes_from used rank actions entries
 
 -- boxes that a view doesn't tell apart
@@ -52,7 +56,8 @@ are_seen_alike Side a b = is_same_y a b && is_same_z a b
 -- a box is drawn with those before it that have its tool, where they are fewer than so many, or
 -- seen at its place
 abbrev pub takes : View → ℕ → Sweep → Sweep → Bool
-takes view most s next = s.rank == next.rank && (nat_lt s.count most || are_seen_alike view s.bounds next.bounds)
+takes view most s next =
+    s.rank == next.rank && (nat_lt s.count most || are_seen_alike view s.bounds next.bounds)
 
 -- the least box that holds both
 abbrev pub joint : GridBox → GridBox → GridBox
@@ -81,7 +86,8 @@ held_last (Some s) = s ∷ []
 -- from the boxes that are held on
 abbrev pub joined : View → ℕ → Option Sweep → List Sweep → List Sweep
 joined view most held [] = held_last held
-joined view most held (next ∷ boxes) = finished view most held next ++ joined view most (Some (held_with view most held next)) boxes
+joined view most held (next ∷ boxes) =
+    finished view most held next ++ joined view most (Some (held_with view most held next)) boxes
 
 -- so many boxes are drawn as one: one up to 19,999 boxes, two up to 39,999, and so on
 abbrev pub box_count : List Entry → ℕ
@@ -92,7 +98,8 @@ together entries = box_count entries / 20000 + 1
 
 -- all that is drawn of a certificate's motions, without a tool at first
 abbrev pub sweeps : View → List (Option Tool) → List Command → List Entry → List Sweep
-sweeps view used commands entries = joined view (together entries) None (boxes_from used (rank_of used 0) (actions_of commands) entries)
+sweeps view used commands entries = joined view (together entries) None
+    (boxes_from used (rank_of used 0) (actions_of commands) entries)
 
 -- ---- what is drawn of them
 
@@ -102,12 +109,14 @@ tool_at used rank = slice_index_or used rank None
 
 -- the rectangles that the parts of the tool fill, and without a tool the box itself
 abbrev pub filled : View → ℤ → List (Option Tool) → Sweep → List Shape
-filled view step used s = map (λ b. shapes.Body (rectangle view b.low b.high)) (bodies (tool_at used s.rank) (span step s.bounds))
+filled view step used s = map (λ b. shapes.Body (rectangle view b.low b.high))
+    (bodies (tool_at used s.rank) (span step s.bounds))
 
 -- a path for as long as a tool is mounted
 abbrev pub bodies_lead : Option ℕ → ℕ → List Shape
 bodies_lead None rank = shapes.Bodies ∷ shapes.BodiesOf rank ∷ []
-bodies_lead (Some other) rank = if other == rank then [] else shapes.PathEnd ∷ shapes.BodiesOf rank ∷ []
+bodies_lead (Some other) rank =
+    if other == rank then [] else shapes.PathEnd ∷ shapes.BodiesOf rank ∷ []
 
 abbrev pub bodies_end : Option ℕ → List Shape
 bodies_end None = []
@@ -118,4 +127,5 @@ swept view step used run s = bodies_lead run s.rank ++ filled view step used s
 
 abbrev pub swept_from : View → ℤ → List (Option Tool) → Option ℕ → List Sweep → List Shape
 swept_from view step used run [] = bodies_end run
-swept_from view step used run (s ∷ ss) = swept view step used run s ++ swept_from view step used (Some s.rank) ss
+swept_from view step used run (s ∷ ss) =
+    swept view step used run s ++ swept_from view step used (Some s.rank) ss

@@ -7,5 +7,7 @@ use Rattle.ngc_drawing.specs.declared.shape.Shape.{Shape}
 
 -- the text of shapes comes behind what was collected; where a write fails, a beginning of both is
 -- written
-abbrev pub Draws : ℤ → Option (List ℕ) → Option (List ℕ) → List ℕ → List ℕ → Result (Unit {0}) WriteFault → List Shape → Type 0
-Draws unit old new before after result drawn = Collects old new before after result (shapes_text unit drawn)
+abbrev pub Draws : ℤ → Option (List ℕ) → Option (List ℕ) → List ℕ → List ℕ →
+    Result (Unit {0}) WriteFault → List Shape → Type 0
+Draws unit old new before after result drawn =
+    Collects old new before after result (shapes_text unit drawn)

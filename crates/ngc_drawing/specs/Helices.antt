@@ -1,5 +1,6 @@
 -- The points by which a helix is drawn that is seen from its side. Our own.
-use Rattle.std.specs.Prelude.{ℕ, zero, suc, max, nat_lt, pos, ◌+ℤ◌, ◌-ℤ◌, ◌*ℤ◌, neg_ℤ, unsigned_abs, List, [], ◌∷◌, ◌++◌, Bool, not, ◌||◌, if◌then◌else◌}
+use Rattle.std.specs.Prelude.{ℕ, zero, suc, max, nat_lt, pos, ◌+ℤ◌, ◌-ℤ◌, ◌*ℤ◌, neg_ℤ, unsigned_abs}
+use Rattle.std.specs.Prelude.{List, [], ◌∷◌, ◌++◌, Bool, not, ◌||◌, if◌then◌else◌}
 use Rattle.ngc_fixed_length.specs.Places.{in_plane, height, at_height, shifted, from, dot}
 use Rattle.ngc_fixed_length.specs.Roots.{whole_root}
 use Rattle.ngc_fixed_length.specs.Rounding.{nearest}
@@ -34,7 +35,8 @@ is_long arc = is_full arc || not (is_ahead arc (start_of arc) (end_of arc))
 -- half way along an arc: of a long one opposite to what is half way along the rest of its circle
 abbrev pub middle_direction : ArcShape → Point2
 middle_direction arc =
-    if is_long arc then opposite (half_turned arc.turn (from arc.centre (end_of arc)) (from arc.centre (start_of arc)))
+    if is_long arc then opposite
+    (half_turned arc.turn (from arc.centre (end_of arc)) (from arc.centre (start_of arc)))
     else half_turned arc.turn (from arc.centre (start_of arc)) (from arc.centre (end_of arc))
 
 -- ---- points
@@ -45,18 +47,25 @@ size d = max (whole_root (unsigned_abs (dot d d))) 1
 
 -- so far along a direction, to the nearest nanometre
 abbrev pub along : ℕ → Point2 → Point2
-along radius d = record { u = nearest (d.u *ℤ pos radius) (pos (size d)); v = nearest (d.v *ℤ pos radius) (pos (size d)) }
+along radius d =
+    record {
+      u = nearest (d.u *ℤ pos radius) (pos (size d));
+      v = nearest (d.v *ℤ pos radius) (pos (size d));
+    }
 
 -- the point that lies in a direction from the centre, at the outer radius, half way up from one
 -- point to another
 abbrev pub point_between : ArcShape → Point3 → Point3 → Point2 → Point3
 point_between arc p q d =
-    at_height arc.plane (shifted arc.centre (along (outer_radius arc) d)) (chord.halfway (height arc.plane p) (height arc.plane q))
+    at_height arc.plane (shifted arc.centre (along (outer_radius arc) d))
+    (chord.halfway (height arc.plane p) (height arc.plane q))
 
 -- half way round and half way up: of points that are at most half a turn apart, and of the arc
 abbrev pub halfway : ArcShape → Point3 → Point3 → Point3
 halfway arc p q =
-    point_between arc p q (half_turned arc.turn (from arc.centre (in_plane arc.plane p)) (from arc.centre (in_plane arc.plane q)))
+    point_between arc p q
+    (half_turned arc.turn (from arc.centre (in_plane arc.plane p))
+    (from arc.centre (in_plane arc.plane q)))
 
 abbrev pub middle : ArcShape → Point3
 middle arc = point_between arc arc.start arc.end (middle_direction arc)
@@ -73,4 +82,5 @@ halvings radius = if nat_lt radius 1000000 then 3 else (if nat_lt radius 1000000
 -- both halves of an arc: 16, 32 or 64 points, the last of them its end
 abbrev pub helix_points : ArcShape → List Point3
 helix_points arc =
-    curve (halvings (outer_radius arc)) arc arc.start (middle arc) ++ curve (halvings (outer_radius arc)) arc (middle arc) arc.end
+    curve (halvings (outer_radius arc)) arc arc.start (middle arc)
+    ++ curve (halvings (outer_radius arc)) arc (middle arc) arc.end

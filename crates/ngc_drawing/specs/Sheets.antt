@@ -33,20 +33,24 @@ with_commands view r (c ∷ cs) = with_commands view (with_action view r c.actio
 
 abbrev pub with_fixtures : View → Rectangle → List Fixture → Rectangle
 with_fixtures view r [] = r
-with_fixtures view r (f ∷ fs) = with_fixtures view (holding (holding r (spot view f.low)) (spot view f.high)) fs
+with_fixtures view r (f ∷ fs) =
+    with_fixtures view (holding (holding r (spot view f.low)) (spot view f.high)) fs
 
 -- the travel and the home positions
 abbrev pub bench : View → MachineFile → Rectangle
 bench view machine =
-    holding (holding (rectangle view machine.low machine.high) (spot view machine.home28)) (spot view machine.home30)
+    holding (holding (rectangle view machine.low machine.high) (spot view machine.home28))
+    (spot view machine.home30)
 
 -- what is drawn: these, the fixtures and the path
 abbrev pub frame : View → MachineFile → List Command → Rectangle
-frame view machine commands = with_commands view (with_fixtures view (bench view machine) machine.fixtures) commands
+frame view machine commands =
+    with_commands view (with_fixtures view (bench view machine) machine.fixtures) commands
 
 -- a hundredth of what is drawn, and at least a tenth of a millimetre
 abbrev pub unit_of : Rectangle → ℤ
-unit_of r = int_max (pos 100) (int_div (int_max (r.high.across -ℤ r.low.across) (r.high.up -ℤ r.low.up)) (pos 100))
+unit_of r = int_max (pos 100)
+    (int_div (int_max (r.high.across -ℤ r.low.across) (r.high.up -ℤ r.low.up)) (pos 100))
 
 -- with room for the names of the axes at the left, and for the scale and so many rows of the legend
 -- below

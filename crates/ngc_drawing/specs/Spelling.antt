@@ -1,5 +1,6 @@
 -- The text of what is drawn: SVG 1.1, in millimetres. Our own use of it.
-use Rattle.std.specs.Prelude.{ℕ, ◌+◌, ◌/◌, ◌%◌, ◌==◌, ℤ, pos, ◌-ℤ◌, ◌*ℤ◌, unsigned_abs, List, [], ◌∷◌, ◌++◌, flat_map, codes, decimal, Bool, true, false, if◌then◌else◌}
+use Rattle.std.specs.Prelude.{ℕ, ◌+◌, ◌/◌, ◌%◌, ◌==◌, ℤ, pos, ◌-ℤ◌, ◌*ℤ◌, unsigned_abs, List, []}
+use Rattle.std.specs.Prelude.{◌∷◌, ◌++◌, flat_map, codes, decimal, Bool, true, false, if◌then◌else◌}
 use Rattle.ngc_text.specs.Millimetres.{sign_text}
 use Rattle.ngc_drawing.specs.declared.view.View.{View}
 use Rattle.ngc_drawing.specs.declared.view.View.TheVariants.{Top, Front, Side}
@@ -35,14 +36,17 @@ spot_text p = length_text p.across ++ codes " " ++ down_text p.up
 
 abbrev pub area_text : Rectangle → List ℕ
 area_text r =
-    codes "M" ++ spot_text r.low ++ codes "H" ++ length_text r.high.across ++ codes "V" ++ down_text r.high.up ++
+    codes "M" ++ spot_text r.low ++ codes "H" ++ length_text r.high.across ++ codes "V"
+    ++ down_text r.high.up ++
     codes "H" ++ length_text r.low.across ++ codes "Z"
 
 -- eight colours that most who see few colours can tell apart, on white and on black
 abbrev pub colour_at : ℕ → List ℕ
 colour_at rank =
-    if rank == 0 then codes "#0072B2" else (if rank == 1 then codes "#E69F00" else (if rank == 2 then codes "#009E73"
-    else (if rank == 3 then codes "#CC79A7" else (if rank == 4 then codes "#56B4E9" else (if rank == 5 then codes "#9030F0"
+    if rank == 0 then codes "#0072B2"
+    else (if rank == 1 then codes "#E69F00" else (if rank == 2 then codes "#009E73"
+    else (if rank == 3 then codes "#CC79A7"
+    else (if rank == 4 then codes "#56B4E9" else (if rank == 5 then codes "#9030F0"
     else (if rank == 6 then codes "#604860" else codes "#C0A860"))))))
 
 unfoldable pub colour_text : ℕ → List ℕ
@@ -56,7 +60,8 @@ ink_text inks.Fault = codes "#E60000\" stroke-width=\".4%"
 -- signs in units, about a spot
 abbrev pub sign_at : ℤ → Spot → List ℕ → List ℕ
 sign_at unit at sign =
-    codes "<g stroke-width=\".1\" transform=\"translate(" ++ spot_text at ++ codes ") scale(" ++ length_text unit ++ codes ")\">" ++ sign ++ codes "</g>\n"
+    codes "<g stroke-width=\".1\" transform=\"translate(" ++ spot_text at ++ codes ") scale("
+    ++ length_text unit ++ codes ")\">" ++ sign ++ codes "</g>\n"
 
 unfoldable pub axes_text : View → List ℕ
 axes_text Top = codes "X</text><text x=\"-7.2\" y=\"-3.7\" fill=\"#808080\" stroke=\"none\">Y"
@@ -64,9 +69,12 @@ axes_text Front = codes "X</text><text x=\"-7.2\" y=\"-3.7\" fill=\"#808080\" st
 axes_text Side = codes "Y</text><text x=\"-7.2\" y=\"-3.7\" fill=\"#808080\" stroke=\"none\">Z"
 
 unfoldable pub mark_text : Mark → List ℕ
-mark_text marks.Start = codes "<circle r=\".8\"/><text x=\"1\" y=\"-1\" fill=\"#808080\" stroke=\"none\">start</text>"
-mark_text marks.Home = codes "<path d=\"M-1 -1L1 1M-1 1L1 -1\"/><text x=\"1\" y=\"2.4\" fill=\"#808080\" stroke=\"none\">G28</text>"
-mark_text marks.SecondHome = codes "<path d=\"M-1 0L0 -1L1 0L0 1Z\"/><text x=\"-1\" y=\"2.4\" text-anchor=\"end\" fill=\"#808080\" stroke=\"none\">G30</text>"
+mark_text marks.Start =
+    codes "<circle r=\".8\"/><text x=\"1\" y=\"-1\" fill=\"#808080\" stroke=\"none\">start</text>"
+mark_text marks.Home =
+    codes "<path d=\"M-1 -1L1 1M-1 1L1 -1\"/><text x=\"1\" y=\"2.4\" fill=\"#808080\" stroke=\"none\">G28</text>"
+mark_text marks.SecondHome =
+    codes "<path d=\"M-1 0L0 -1L1 0L0 1Z\"/><text x=\"-1\" y=\"2.4\" text-anchor=\"end\" fill=\"#808080\" stroke=\"none\">G30</text>"
 mark_text (marks.Axes view) =
     codes "<path d=\"M-6.5 -3V3H-1M-7.1 -1.6L-6.5 -3L-5.9 -1.6M-2.4 2.4L-1 3L-2.4 3.6\"/><text x=\"-.5\" y=\"3.7\" fill=\"#808080\" stroke=\"none\">" ++
     axes_text view ++ codes "</text>"
@@ -78,13 +86,17 @@ turn_text false = codes " 0 0 0 "
 abbrev pub begin_text : Sheet → List ℕ
 begin_text s =
     codes "<?xml version=\"1.0\" encoding=\"UTF-8\"?>\n<svg xmlns=\"http://www.w3.org/2000/svg\" version=\"1.1\" width=\"" ++
-    length_text s.width ++ codes "mm\" height=\"" ++ length_text s.height ++ codes "mm\" viewBox=\"" ++ length_text s.left ++ codes " " ++
-    length_text s.top ++ codes " " ++ length_text s.width ++ codes " " ++ length_text s.height ++ codes "\">\n"
+    length_text s.width ++ codes "mm\" height=\"" ++ length_text s.height ++ codes "mm\" viewBox=\""
+    ++ length_text s.left ++ codes " " ++
+    length_text s.top ++ codes " " ++ length_text s.width ++ codes " " ++ length_text s.height
+    ++ codes "\">\n"
 
 abbrev pub scale_text : ℤ → Spot → ℕ → List ℕ
 scale_text unit at length =
-    codes "<path transform=\"translate(0 " ++ length_text (pos 6 *ℤ unit) ++ codes ")\" d=\"M" ++ spot_text at ++ codes "v-" ++ length_text unit ++
-    codes "v" ++ length_text unit ++ codes "h" ++ size_text length ++ codes "v-" ++ length_text unit ++ codes "\"/>\n"
+    codes "<path transform=\"translate(0 " ++ length_text (pos 6 *ℤ unit) ++ codes ")\" d=\"M"
+    ++ spot_text at ++ codes "v-" ++ length_text unit ++
+    codes "v" ++ length_text unit ++ codes "h" ++ size_text length ++ codes "v-" ++ length_text unit
+    ++ codes "\"/>\n"
 
 -- a number of a tool; no tool is 0
 unfoldable pub tool_text : ℕ → List ℕ
@@ -95,34 +107,49 @@ shape_text unit (shapes.Begin sheet) = begin_text sheet
 shape_text unit shapes.Lines =
     codes "<g fill=\"none\" stroke=\"#808080\" stroke-width=\".15%\" stroke-linecap=\"round\" stroke-linejoin=\"round\" font-family=\"sans-serif\" font-size=\"2\">\n"
 shape_text unit (shapes.Travel r) = codes "<path d=\"" ++ area_text r ++ codes "\"/>\n"
-shape_text unit (shapes.Fixture r) = codes "<path fill=\"#808080\" fill-opacity=\".3\" d=\"" ++ area_text r ++ codes "\"/>\n"
+shape_text unit (shapes.Fixture r) =
+    codes "<path fill=\"#808080\" fill-opacity=\".3\" d=\"" ++ area_text r ++ codes "\"/>\n"
 shape_text unit (shapes.FixtureNumber at number) =
-    sign_at unit at (codes "<text x=\".5\" y=\"-.5\" fill=\"#808080\" stroke=\"none\">" ++ decimal number ++ codes "</text>")
-shape_text unit (shapes.FaultFixture r) = codes "<path stroke=\"#E60000\" fill=\"#E60000\" fill-opacity=\".3\" d=\"" ++ area_text r ++ codes "\"/>\n"
+    sign_at unit at
+    (codes "<text x=\".5\" y=\"-.5\" fill=\"#808080\" stroke=\"none\">" ++ decimal number
+    ++ codes "</text>")
+shape_text unit (shapes.FaultFixture r) =
+    codes "<path stroke=\"#E60000\" fill=\"#E60000\" fill-opacity=\".3\" d=\"" ++ area_text r
+    ++ codes "\"/>\n"
 shape_text unit shapes.Bodies = codes "<g stroke=\"none\" opacity=\".2\">\n"
-shape_text unit (shapes.BodiesOf rank) = codes "<path fill=\"" ++ colour_text rank ++ codes "\" d=\""
+shape_text unit (shapes.BodiesOf rank) =
+    codes "<path fill=\"" ++ colour_text rank ++ codes "\" d=\""
 shape_text unit (shapes.Body r) = codes "\n" ++ area_text r
-shape_text unit (shapes.Path ink at) = codes "<path stroke=\"" ++ ink_text ink ++ codes "\" d=\"M" ++ spot_text at
+shape_text unit (shapes.Path ink at) =
+    codes "<path stroke=\"" ++ ink_text ink ++ codes "\" d=\"M" ++ spot_text at
 shape_text unit (shapes.Line to) = codes "\nL" ++ spot_text to
 shape_text unit (shapes.Round radius clockwise to) =
-    codes "\nA" ++ length_text radius ++ codes " " ++ length_text radius ++ turn_text clockwise ++ spot_text to
+    codes "\nA" ++ length_text radius ++ codes " " ++ length_text radius ++ turn_text clockwise
+    ++ spot_text to
 shape_text unit shapes.PathEnd = codes "\"/>\n"
 shape_text unit shapes.BodiesEnd = codes "</g>\n"
 shape_text unit (shapes.Mark mark at) = sign_at unit at (mark_text mark)
 shape_text unit (shapes.FaultNumber at fault) =
-    sign_at unit at (codes "<text x=\"1\" y=\"1\" fill=\"#E60000\" stroke=\"none\">" ++ decimal fault ++ codes "</text>")
+    sign_at unit at
+    (codes "<text x=\"1\" y=\"1\" fill=\"#E60000\" stroke=\"none\">" ++ decimal fault
+    ++ codes "</text>")
 shape_text unit (shapes.Scale at length) = scale_text unit at length
 shape_text unit (shapes.ScaleLength at length) =
-    sign_at unit at (codes "<text x=\"0\" y=\"8.4\" fill=\"#808080\" stroke=\"none\">" ++ decimal (length / 1000) ++ codes " mm</text>")
+    sign_at unit at
+    (codes "<text x=\"0\" y=\"8.4\" fill=\"#808080\" stroke=\"none\">"
+    ++ decimal (length / 1000) ++ codes " mm</text>")
 shape_text unit (shapes.Legend at) =
     codes "<g transform=\"translate(" ++ spot_text at ++ codes ") scale(" ++ length_text unit ++
     codes ")\"><text y=\"8.4\" fill=\"#808080\" stroke=\"none\">\n<tspan x=\"0\" dy=\"3\">solid: feeds, dashed: traverses; of a tool each part's diameter x length</tspan>\n"
-shape_text unit (shapes.Tool rank number) = codes "<tspan x=\"0\" dy=\"3\" fill=\"" ++ colour_text rank ++ codes "\">&#9632; " ++ tool_text number
+shape_text unit (shapes.Tool rank number) =
+    codes "<tspan x=\"0\" dy=\"3\" fill=\"" ++ colour_text rank ++ codes "\">&#9632; "
+    ++ tool_text number
 shape_text unit (shapes.Part diameter length) =
     codes ", " ++ length_text diameter ++ codes " x " ++ length_text length
 shape_text unit shapes.ToolEnd = codes "</tspan>\n"
 shape_text unit (shapes.FaultLine fault command) =
-    codes "<tspan x=\"0\" dy=\"3\" fill=\"#E60000\">fault " ++ decimal fault ++ codes " at command " ++ decimal command ++ codes "</tspan>\n"
+    codes "<tspan x=\"0\" dy=\"3\" fill=\"#E60000\">fault " ++ decimal fault ++ codes " at command "
+    ++ decimal command ++ codes "</tspan>\n"
 shape_text unit shapes.End = codes "</text></g>\n</g>\n</svg>\n"
 
 -- the text of shapes, one after another

@@ -1,5 +1,6 @@
 -- What is drawn of the path. Our own.
-use Rattle.std.specs.Prelude.{ℕ, ◌==◌, pos, List, [], ◌∷◌, ◌++◌, map, Option, Some, None, Bool, true, false, ◌&&◌, if◌then◌else◌}
+use Rattle.std.specs.Prelude.{ℕ, ◌==◌, pos, List, [], ◌∷◌, ◌++◌, map, Option, Some, None, Bool}
+use Rattle.std.specs.Prelude.{true, false, ◌&&◌, if◌then◌else◌}
 use Rattle.std.specs.Ordering.{int_eq}
 use Rattle.ngc_fixed_length.specs.Places.{height}
 use Rattle.ngc_fixed_length.specs.declared.modes.Turn.{Turn}
@@ -45,7 +46,8 @@ is_same_ink _ _ = false
 abbrev pub lead : Option Run → Ink → Spot → List Shape
 lead None ink from = shapes.Path ink from ∷ []
 lead (Some run) ink from =
-    if is_same_ink run.ink ink && is_same run.at from then [] else shapes.PathEnd ∷ shapes.Path ink from ∷ []
+    if is_same_ink run.ink ink && is_same run.at from then []
+    else shapes.PathEnd ∷ shapes.Path ink from ∷ []
 
 -- an arc's sense, seen in a view that faces its plane: X and Z of the front turn the other way than
 -- Z and X
@@ -58,7 +60,8 @@ is_seen_clockwise _ Counterclockwise = false
 -- an arc in quarters, from one extreme point to the next; seen from its side, a line to and fro,
 -- and a helix point by point
 abbrev pub round : View → ArcShape → Spot → Shape
-round view arc to = shapes.Round (micrometres (pos (outer_radius arc))) (is_seen_clockwise view arc.turn) to
+round view arc to =
+    shapes.Round (micrometres (pos (outer_radius arc))) (is_seen_clockwise view arc.turn) to
 
 abbrev pub is_flat : ArcShape → Bool
 is_flat arc = int_eq (height arc.plane arc.start) (height arc.plane arc.end)
@@ -70,11 +73,13 @@ line_to view p = shapes.Line (spot view p)
 abbrev pub arc_course : View → ArcShape → List Shape
 arc_course view arc =
     if faces view arc.plane then map (round view arc) (corner_spots view arc)
-    else (if is_flat arc then map shapes.Line (corner_spots view arc) else map (line_to view) (helix_points arc))
+    else (if is_flat arc then map shapes.Line (corner_spots view arc)
+    else map (line_to view) (helix_points arc))
 
 -- the way to a motion's end; what falls on one spot is left out
 abbrev pub course : View → Way → List Shape
-course view (Line start end) = if is_same (spot view start) (spot view end) then [] else shapes.Line (spot view end) ∷ []
+course view (Line start end) =
+    if is_same (spot view start) (spot view end) then [] else shapes.Line (spot view end) ∷ []
 course view (Arc arc) = arc_course view arc
 
 abbrev pub stroke : View → Option Run → Ink → Way → List Shape
@@ -86,7 +91,11 @@ strokes_of view pen _ = []
 
 -- how the pen goes on
 abbrev pub after : View → List (Option Tool) → Pen → Action → Pen
-after view used pen (Move m) = record { rank = pen.rank; run = Some (record { ink = ink_of pen.rank m.pace; at = spot view (end_of m.way) }) }
+after view used pen (Move m) =
+    record {
+      rank = pen.rank;
+      run = Some (record { ink = ink_of pen.rank m.pace; at = spot view (end_of m.way) });
+    }
 after view used pen (Mount tool) = record { rank = rank_of used (number_of tool); run = pen.run }
 after view used pen _ = pen
 
@@ -97,8 +106,10 @@ last_end (Some run) = shapes.PathEnd ∷ []
 -- all motions, in order
 abbrev pub strokes_from : View → List (Option Tool) → Pen → List Command → List Shape
 strokes_from view used pen [] = last_end pen.run
-strokes_from view used pen (c ∷ cs) = strokes_of view pen c.action ++ strokes_from view used (after view used pen c.action) cs
+strokes_from view used pen (c ∷ cs) =
+    strokes_of view pen c.action ++ strokes_from view used (after view used pen c.action) cs
 
 -- without a tool at first
 abbrev pub strokes : View → List (Option Tool) → List Command → List Shape
-strokes view used commands = strokes_from view used (record { rank = rank_of used 0; run = None }) commands
+strokes view used commands =
+    strokes_from view used (record { rank = rank_of used 0; run = None }) commands

@@ -9,5 +9,7 @@ use Rattle.ngc_drawing.specs.declared.sweep.Sweeping.{Sweeping}
 use Rattle.ngc_drawing.specs.declared.view.View.{View}
 
 -- what is still to be drawn
-abbrev pub sweeps_ahead : View → ℕ → List (Option Tool) → Sweeping → List Action → List Entry → List Sweep
-sweeps_ahead view most used s actions entries = joined view most s.held (boxes_from used s.rank actions (drop s.next entries))
+abbrev pub sweeps_ahead : View → ℕ → List (Option Tool) → Sweeping → List Action →
+    List Entry → List Sweep
+sweeps_ahead view most used s actions entries =
+    joined view most s.held (boxes_from used s.rank actions (drop s.next entries))

@@ -1,5 +1,6 @@
 -- The tools that a program's motions use, and their colours. Our own.
-use Rattle.std.specs.Prelude.{ℕ, ◌+◌, ◌==◌, nat_lt, length, List, [], ◌∷◌, ◌++◌, Option, Some, None, if◌then◌else◌}
+use Rattle.std.specs.Prelude.{ℕ, ◌+◌, ◌==◌, nat_lt, length, List, [], ◌∷◌, ◌++◌, Option, Some, None}
+use Rattle.std.specs.Prelude.{if◌then◌else◌}
 use Rattle.ngc_machine.specs.declared.tools.Tool.{Tool}
 use Rattle.ngc_canonical.specs.declared.command.Action.{Action}
 use Rattle.ngc_canonical.specs.declared.command.Action.TheVariants.{Move, Mount}
@@ -17,7 +18,8 @@ rank_of (tool ∷ tools) n = if number_of tool == n then 0 else rank_of tools n 
 
 -- a list with one more tool, unless it has it
 abbrev pub with_tool : List (Option Tool) → Option Tool → List (Option Tool)
-with_tool tools tool = if nat_lt (rank_of tools (number_of tool)) (length tools) then tools else tools ++ tool ∷ []
+with_tool tools tool =
+    if nat_lt (rank_of tools (number_of tool)) (length tools) then tools else tools ++ tool ∷ []
 
 -- the tool that is mounted behind an action, and the tools that are used by then
 abbrev pub mounted : Option Tool → Action → Option Tool

@@ -2,7 +2,8 @@
 ghost use Rattle.std.specs.Prelude.{◌≡◌, ◌≤◌, ◌++◌, length};
 ghost use Rattle.ngc_text.specs.Failures.{CountsFailure};
 ghost use Rattle.ngc_machine.specs.Machine.{file_of};
-ghost use Rattle.ngc_drawing.specs.Bodies.{tool_at, filled, bodies_lead, bodies_end, swept, swept_from};
+ghost use Rattle.ngc_drawing.specs.Bodies.{tool_at, filled, bodies_lead, bodies_end, swept};
+ghost use Rattle.ngc_drawing.specs.Bodies.{swept_from};
 ghost use Rattle.ngc_drawing.specs.Draws.{Draws};
 
 use crate::drawer::draw_all;
@@ -49,7 +50,8 @@ fn add_filled<A: Allocator>(
     sweep: &Sweep,
 )
     requires { length shapes.old.items ≤ 2 }
-    ensures { shapes.new.items ≡ shapes.old.items ++ filled view (file_of machine.now).step tools.now sweep.now }
+    ensures { shapes.new.items ≡ shapes.old.items
+        ++ filled view (file_of machine.now).step tools.now sweep.now }
 {
     let tool = tool_at(tools, sweep.rank);
     for solid in Solid::swept(machine.step, tool, &sweep.bounds).as_slice() {
@@ -95,7 +97,9 @@ pub(crate) fn draw_swept<A: Allocator, W: Sink>(
     sweeps: &[Sweep],
     sink: &mut W,
 ) -> Result<(), WriteFault>
-    ensures drawn { Draws unit.now.micrometres (W.written sink.old) (W.written sink.new) chunk.old chunk.new result (swept_from view (file_of machine.now).step tools.now None sweeps.now) }
+    ensures drawn { Draws unit.now.micrometres (W.written sink.old)
+        (W.written sink.new) chunk.old chunk.new result
+        (swept_from view (file_of machine.now).step tools.now None sweeps.now) }
     ensures counts { CountsFailure (W.failures sink.old) (W.failures sink.new) result }
 {
     let mut run = None;

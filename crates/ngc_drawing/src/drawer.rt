@@ -17,7 +17,8 @@ fn draw<W: Sink>(
     shape: &Shape,
     sink: &mut W,
 ) -> Result<(), WriteFault>
-    ensures text { Collects (W.written sink.old) (W.written sink.new) chunk.old chunk.new result (shape_text unit.now.micrometres shape.now) }
+    ensures text { Collects (W.written sink.old) (W.written sink.new) chunk.old chunk.new result
+        (shape_text unit.now.micrometres shape.now) }
     ensures counts { CountsFailure (W.failures sink.old) (W.failures sink.new) result }
 {
     match chunk.make_room(sink) {
@@ -35,7 +36,8 @@ pub(crate) fn draw_all<W: Sink>(
     shapes: &[Shape],
     sink: &mut W,
 ) -> Result<(), WriteFault>
-    ensures drawn { Draws unit.now.micrometres (W.written sink.old) (W.written sink.new) chunk.old chunk.new result shapes.now }
+    ensures drawn { Draws unit.now.micrometres (W.written sink.old)
+        (W.written sink.new) chunk.old chunk.new result shapes.now }
     ensures counts { CountsFailure (W.failures sink.old) (W.failures sink.new) result }
 {
     for shape in shapes {

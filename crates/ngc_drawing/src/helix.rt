@@ -1,12 +1,15 @@
 //! The points of helices.
-ghost use Rattle.std.specs.Prelude.{◌≡◌, ◌≤◌, ◌<◌, ◌+◌, ◌*◌, ◌^◌, ◌+ℤ◌, ◌-ℤ◌, ◌*ℤ◌, pos, unsigned_abs};
+ghost use Rattle.std.specs.Prelude.{◌≡◌, ◌≤◌, ◌<◌, ◌+◌, ◌*◌, ◌^◌, ◌+ℤ◌, ◌-ℤ◌, ◌*ℤ◌, pos};
+ghost use Rattle.std.specs.Prelude.{unsigned_abs};
 ghost use Rattle.ngc_fixed_length.specs.Limits.{IsLength};
 ghost use Rattle.ngc_fixed_length.specs.Places.{in_plane, from, shifted, dot, cross};
 ghost use Rattle.ngc_fixed_length.specs.Rounding.{nearest};
 ghost use Rattle.ngc_arc_geometry.specs.Chord as chord;
 ghost use Rattle.ngc_arc_geometry.specs.Radii.{outer_radius};
 ghost use Rattle.ngc_arc_geometry.specs.Sector.{turning};
-ghost use Rattle.ngc_drawing.specs.Helices.{between, half_turned, opposite, is_long, middle_direction, size, along, point_between, halfway, middle, halvings};
+ghost use Rattle.ngc_drawing.specs.Helices.{between, half_turned, opposite, is_long};
+ghost use Rattle.ngc_drawing.specs.Helices.{middle_direction, size, along, point_between, halfway};
+ghost use Rattle.ngc_drawing.specs.Helices.{middle, halvings};
 ghost use Rattle.ngc_drawing.specs.Ways.{way_of, IsShort, IsReached};
 
 use ngc_arc_geometry::Arc;

@@ -1,5 +1,6 @@
 //! The whole picture.
-ghost use Rattle.std.specs.Prelude.{◌≡◌, ◌<◌, ◌≤◌, ◌*◌, unsigned_abs, ◌++◌, ◌∷◌, [], length, drop, map, OnOk, OnErr, Err};
+ghost use Rattle.std.specs.Prelude.{◌≡◌, ◌<◌, ◌≤◌, ◌*◌, unsigned_abs, ◌++◌, ◌∷◌, [], length, drop};
+ghost use Rattle.std.specs.Prelude.{map, OnOk, OnErr, Err};
 ghost use Rattle.std.specs.Io.KnownBytes.{Appends, Keeps};
 ghost use Rattle.ngc_text.specs.Failures.{CountsFailure};
 ghost use Rattle.ngc_text.specs.Written.{AppendsBeginning};
@@ -9,7 +10,11 @@ ghost use Rattle.ngc_drawing.specs.Draws.{Draws};
 ghost use Rattle.ngc_drawing.specs.Faults.{CountsUnlessMemory};
 ghost use Rattle.ngc_drawing.specs.Sheets.{unit_of};
 ghost use Rattle.ngc_drawing.specs.Tools.{used};
-ghost use Rattle.ngc_drawing.specs.Pictures.{fixture, fixtures_from, marked, SCALES, scale_in, part, parts, tool_row, tool_rows, first_red, refused_fixture, refused_way, refused_action, first_refused, refused, refusal_row, rows, opening, scaled, ground, picture_of, text_of, picture_text};
+ghost use Rattle.ngc_drawing.specs.Pictures.{fixture, fixtures_from, marked, SCALES, scale_in};
+ghost use Rattle.ngc_drawing.specs.Pictures.{part, parts, tool_row, tool_rows, first_red};
+ghost use Rattle.ngc_drawing.specs.Pictures.{refused_fixture, refused_way, refused_action};
+ghost use Rattle.ngc_drawing.specs.Pictures.{first_refused, refused, refusal_row, rows, opening};
+ghost use Rattle.ngc_drawing.specs.Pictures.{scaled, ground, picture_of, text_of, picture_text};
 ghost use Rattle.ngc_drawing.specs.Strokes.{strokes_from, strokes, last_end};
 
 use crate::bodies::draw_swept;
@@ -62,7 +67,8 @@ fn draw_fixtures<W: Sink>(
     fixtures: &[Fixture],
     sink: &mut W,
 ) -> Result<(), WriteFault>
-    ensures drawn { Draws unit.now.micrometres (W.written sink.old) (W.written sink.new) chunk.old chunk.new result (fixtures_from view 0 fixtures.now) }
+    ensures drawn { Draws unit.now.micrometres (W.written sink.old)
+        (W.written sink.new) chunk.old chunk.new result (fixtures_from view 0 fixtures.now) }
     ensures counts { CountsFailure (W.failures sink.old) (W.failures sink.new) result }
 {
     for (i, fixture) in fixtures.iter().enumerate() {
@@ -84,7 +90,8 @@ fn draw_last_end<W: Sink>(
     run: &Option<Run>,
     sink: &mut W,
 ) -> Result<(), WriteFault>
-    ensures drawn { Draws unit.now.micrometres (W.written sink.old) (W.written sink.new) chunk.old chunk.new result (last_end run.now) }
+    ensures drawn { Draws unit.now.micrometres (W.written sink.old)
+        (W.written sink.new) chunk.old chunk.new result (last_end run.now) }
     ensures counts { CountsFailure (W.failures sink.old) (W.failures sink.new) result }
 {
     match run {
@@ -101,7 +108,8 @@ fn draw_strokes<W: Sink>(
     commands: &[Command],
     sink: &mut W,
 ) -> Result<(), WriteFault>
-    ensures drawn { Draws unit.now.micrometres (W.written sink.old) (W.written sink.new) chunk.old chunk.new result (strokes view tools.now commands.now) }
+    ensures drawn { Draws unit.now.micrometres (W.written sink.old)
+        (W.written sink.new) chunk.old chunk.new result (strokes view tools.now commands.now) }
     ensures counts { CountsFailure (W.failures sink.old) (W.failures sink.new) result }
 {
     let mut pen = Pen {
@@ -147,7 +155,8 @@ fn draw_tool<W: Sink>(
     tool: &Option<Tool>,
     sink: &mut W,
 ) -> Result<(), WriteFault>
-    ensures drawn { Draws unit.now.micrometres (W.written sink.old) (W.written sink.new) chunk.old chunk.new result (tool_row rank tool.now) }
+    ensures drawn { Draws unit.now.micrometres (W.written sink.old)
+        (W.written sink.new) chunk.old chunk.new result (tool_row rank tool.now) }
     ensures counts { CountsFailure (W.failures sink.old) (W.failures sink.new) result }
 {
     match draw_all(chunk, unit, &[Shape::Tool(rank, number_of(tool))], sink) {
@@ -165,7 +174,8 @@ fn draw_tools<W: Sink>(
     tools: &[Option<Tool>],
     sink: &mut W,
 ) -> Result<(), WriteFault>
-    ensures drawn { Draws unit.now.micrometres (W.written sink.old) (W.written sink.new) chunk.old chunk.new result (tool_rows 0 tools.now) }
+    ensures drawn { Draws unit.now.micrometres (W.written sink.old)
+        (W.written sink.new) chunk.old chunk.new result (tool_rows 0 tools.now) }
     ensures counts { CountsFailure (W.failures sink.old) (W.failures sink.new) result }
 {
     for (rank, tool) in tools.iter().enumerate() {
@@ -185,7 +195,8 @@ fn draw_refused_way<W: Sink>(
     way: &Way,
     sink: &mut W,
 ) -> Result<(), WriteFault>
-    ensures drawn { Draws unit.now.micrometres (W.written sink.old) (W.written sink.new) chunk.old chunk.new result (refused_way view fault way.now) }
+    ensures drawn { Draws unit.now.micrometres (W.written sink.old)
+        (W.written sink.new) chunk.old chunk.new result (refused_way view fault way.now) }
     ensures counts { CountsFailure (W.failures sink.old) (W.failures sink.new) result }
 {
     match draw_stroke(chunk, unit, view, &None, Ink::Fault, way, sink) {
@@ -207,7 +218,8 @@ fn draw_refused_action<W: Sink>(
     action: &Action,
     sink: &mut W,
 ) -> Result<(), WriteFault>
-    ensures drawn { Draws unit.now.micrometres (W.written sink.old) (W.written sink.new) chunk.old chunk.new result (refused_action view fault action.now) }
+    ensures drawn { Draws unit.now.micrometres (W.written sink.old)
+        (W.written sink.new) chunk.old chunk.new result (refused_action view fault action.now) }
     ensures counts { CountsFailure (W.failures sink.old) (W.failures sink.new) result }
 {
     match action {
@@ -224,7 +236,8 @@ fn draw_first_refused<W: Sink>(
     commands: &[Command],
     sink: &mut W,
 ) -> Result<(), WriteFault>
-    ensures drawn { Draws unit.now.micrometres (W.written sink.old) (W.written sink.new) chunk.old chunk.new result (first_refused view fault commands.now) }
+    ensures drawn { Draws unit.now.micrometres (W.written sink.old)
+        (W.written sink.new) chunk.old chunk.new result (first_refused view fault commands.now) }
     ensures counts { CountsFailure (W.failures sink.old) (W.failures sink.new) result }
 {
     match commands {
@@ -241,7 +254,9 @@ fn draw_refused_motion<W: Sink>(
     refusal: &Refusal,
     sink: &mut W,
 ) -> Result<(), WriteFault>
-    ensures drawn { Draws unit.now.micrometres (W.written sink.old) (W.written sink.new) chunk.old chunk.new result (first_refused view refusal.now.fault (drop refusal.now.command commands.now)) }
+    ensures drawn { Draws unit.now.micrometres (W.written sink.old)
+        (W.written sink.new) chunk.old chunk.new result
+        (first_refused view refusal.now.fault (drop refusal.now.command commands.now)) }
     ensures counts { CountsFailure (W.failures sink.old) (W.failures sink.new) result }
 {
     let rest = &commands[refusal.command.min(commands.len())..];
@@ -276,7 +291,10 @@ fn draw_refusal<A: Allocator, W: Sink>(
     refusal: &Refusal,
     sink: &mut W,
 ) -> Result<(), WriteFault>
-    ensures drawn { Draws unit.now.micrometres (W.written sink.old) (W.written sink.new) chunk.old chunk.new result (refused_fixture view (file_of machine.now).fixtures refusal.now.fixture ++ first_refused view refusal.now.fault (drop refusal.now.command commands.now)) }
+    ensures drawn { Draws unit.now.micrometres (W.written sink.old)
+        (W.written sink.new) chunk.old chunk.new result
+        (refused_fixture view (file_of machine.now).fixtures refusal.now.fixture
+        ++ first_refused view refusal.now.fault (drop refusal.now.command commands.now)) }
     ensures counts { CountsFailure (W.failures sink.old) (W.failures sink.new) result }
 {
     let fixture = refused_fixture(view, machine.fixtures.as_slice(), refusal.fixture);
@@ -296,7 +314,9 @@ fn draw_refused<A: Allocator, W: Sink>(
     refusal: &Option<Refusal>,
     sink: &mut W,
 ) -> Result<(), WriteFault>
-    ensures drawn { Draws unit.now.micrometres (W.written sink.old) (W.written sink.new) chunk.old chunk.new result (refused view (file_of machine.now) commands.now refusal.now) }
+    ensures drawn { Draws unit.now.micrometres (W.written sink.old)
+        (W.written sink.new) chunk.old chunk.new result
+        (refused view (file_of machine.now) commands.now refusal.now) }
     ensures counts { CountsFailure (W.failures sink.old) (W.failures sink.new) result }
 {
     match refusal {
@@ -333,7 +353,9 @@ fn draw_opening<A: Allocator, W: Sink>(
     tools: &[Option<Tool>],
     sink: &mut W,
 ) -> Result<(), WriteFault>
-    ensures drawn { Draws unit.now.micrometres (W.written sink.old) (W.written sink.new) chunk.old chunk.new result (opening view (file_of machine.now) area.now tools.now) }
+    ensures drawn { Draws unit.now.micrometres (W.written sink.old)
+        (W.written sink.new) chunk.old chunk.new result
+        (opening view (file_of machine.now) area.now tools.now) }
     ensures counts { CountsFailure (W.failures sink.old) (W.failures sink.new) result }
 {
     let shapes = [
@@ -352,7 +374,9 @@ fn draw_marks<A: Allocator, W: Sink>(
     area: &Rectangle,
     sink: &mut W,
 ) -> Result<(), WriteFault>
-    ensures drawn { Draws unit.now.micrometres (W.written sink.old) (W.written sink.new) chunk.old chunk.new result (marked view (file_of machine.now) area.now) }
+    ensures drawn { Draws unit.now.micrometres (W.written sink.old)
+        (W.written sink.new) chunk.old chunk.new result
+        (marked view (file_of machine.now) area.now) }
     ensures counts { CountsFailure (W.failures sink.old) (W.failures sink.new) result }
 {
     let shapes = [
@@ -365,7 +389,8 @@ fn draw_marks<A: Allocator, W: Sink>(
 }
 
 fn draw_scale<W: Sink>(chunk: &mut Chunk, area: &Rectangle, sink: &mut W) -> Result<(), WriteFault>
-    ensures drawn { Draws (unit_of area.now) (W.written sink.old) (W.written sink.new) chunk.old chunk.new result (scaled area.now) }
+    ensures drawn { Draws (unit_of area.now) (W.written sink.old)
+        (W.written sink.new) chunk.old chunk.new result (scaled area.now) }
     ensures counts { CountsFailure (W.failures sink.old) (W.failures sink.new) result }
 {
     let unit = unit_of(area);
@@ -386,7 +411,10 @@ fn draw_legend<W: Sink>(
     refusal: &Option<Refusal>,
     sink: &mut W,
 ) -> Result<(), WriteFault>
-    ensures drawn { Draws (unit_of area.now) (W.written sink.old) (W.written sink.new) chunk.old chunk.new result (scaled area.now ++ (tool_rows 0 tools.now ++ (refusal_row refusal.now ++ drawn.End ∷ []))) }
+    ensures drawn { Draws (unit_of area.now) (W.written sink.old)
+        (W.written sink.new) chunk.old chunk.new result
+        (scaled area.now
+        ++ (tool_rows 0 tools.now ++ (refusal_row refusal.now ++ drawn.End ∷ []))) }
     ensures counts { CountsFailure (W.failures sink.old) (W.failures sink.new) result }
 {
     match draw_scale(chunk, area, sink) {
@@ -412,7 +440,9 @@ fn draw_ground<A: Allocator, W: Sink>(
     swept: &[Sweep],
     sink: &mut W,
 ) -> Result<(), WriteFault>
-    ensures drawn { Draws (unit_of area.now) (W.written sink.old) (W.written sink.new) chunk.old chunk.new result (ground view (file_of machine.now) area.now tools.now swept.now) }
+    ensures drawn { Draws (unit_of area.now) (W.written sink.old)
+        (W.written sink.new) chunk.old chunk.new result
+        (ground view (file_of machine.now) area.now tools.now swept.now) }
     ensures counts { CountsFailure (W.failures sink.old) (W.failures sink.new) result }
 {
     let unit = unit_of(area);
@@ -438,7 +468,10 @@ fn draw_picture<A: Allocator, W: Sink>(
     swept: &[Sweep],
     sink: &mut W,
 ) -> Result<(), WriteFault>
-    ensures drawn { Draws (unit_of area.now) (W.written sink.old) (W.written sink.new) chunk.old chunk.new result (picture_of view (file_of machine.now) commands.now refusal.now area.now tools.now swept.now) }
+    ensures drawn { Draws (unit_of area.now) (W.written sink.old)
+        (W.written sink.new) chunk.old chunk.new result
+        (picture_of view (file_of machine.now) commands.now refusal.now area.now tools.now
+        swept.now) }
     ensures counts { CountsFailure (W.failures sink.old) (W.failures sink.new) result }
 {
     match draw_ground(chunk, view, machine, area, tools, swept, sink) {
@@ -470,8 +503,12 @@ fn write_picture<A: Allocator, W: Sink>(
     swept: &[Sweep],
     sink: &mut W,
 ) -> Result<(), WriteFault>
-    ensures ok { OnOk result (Appends (W.written sink.old) (W.written sink.new) (text_of view (file_of machine.now) commands.now refusal.now tools.now swept.now)) }
-    ensures fault { OnErr result (AppendsBeginning (W.written sink.old) (W.written sink.new) (text_of view (file_of machine.now) commands.now refusal.now tools.now swept.now)) }
+    ensures ok { OnOk result
+        (Appends (W.written sink.old) (W.written sink.new)
+        (text_of view (file_of machine.now) commands.now refusal.now tools.now swept.now)) }
+    ensures fault { OnErr result
+        (AppendsBeginning (W.written sink.old) (W.written sink.new)
+        (text_of view (file_of machine.now) commands.now refusal.now tools.now swept.now)) }
     ensures counts { CountsFailure (W.failures sink.old) (W.failures sink.new) result }
 {
     let area = frame(view, machine, commands);
@@ -500,9 +537,14 @@ pub fn write_svg<A: Allocator + Copy, B: Allocator, W: Sink>(
     refusal: &Option<Refusal>,
     sink: &mut W,
 ) -> Result<(), DrawFault>
-    ensures ok { OnOk result (Appends (W.written sink.old) (W.written sink.new) (picture_text view (file_of machine.now) commands.now motions.now refusal.now)) }
-    ensures fault { OnErr result (AppendsBeginning (W.written sink.old) (W.written sink.new) (picture_text view (file_of machine.now) commands.now motions.now refusal.now)) }
-    ensures memory { result ≡ Err DrawFault.Memory → Keeps (W.written sink.old) (W.written sink.new) }
+    ensures ok { OnOk result
+        (Appends (W.written sink.old) (W.written sink.new)
+        (picture_text view (file_of machine.now) commands.now motions.now refusal.now)) }
+    ensures fault { OnErr result
+        (AppendsBeginning (W.written sink.old) (W.written sink.new)
+        (picture_text view (file_of machine.now) commands.now motions.now refusal.now)) }
+    ensures memory { result ≡ Err DrawFault.Memory →
+        Keeps (W.written sink.old) (W.written sink.new) }
     ensures counts { CountsUnlessMemory (W.failures sink.old) (W.failures sink.new) result }
 {
     let Ok(tools) = used(alloc, commands) else {

@@ -1,8 +1,10 @@
 //! The sheet that a picture needs.
-ghost use Rattle.std.specs.Prelude.{◌≡◌, ◌<◌, ◌+◌, ◌*◌, ◌⊎◌, ◌^◌, ◌+ℤ◌, ◌-ℤ◌, ◌*ℤ◌, pos, neg_ℤ, int_div, unsigned_abs};
+ghost use Rattle.std.specs.Prelude.{◌≡◌, ◌<◌, ◌+◌, ◌*◌, ◌⊎◌, ◌^◌, ◌+ℤ◌, ◌-ℤ◌, ◌*ℤ◌, pos, neg_ℤ};
+ghost use Rattle.std.specs.Prelude.{int_div, unsigned_abs};
 ghost use Rattle.std.specs.Int.{int_max};
 ghost use Rattle.ngc_machine.specs.Machine.{file_of};
-ghost use Rattle.ngc_drawing.specs.Sheets.{holding_all, with_way, with_action, with_commands, with_fixtures, bench, frame, unit_of, sheet};
+ghost use Rattle.ngc_drawing.specs.Sheets.{holding_all, with_way, with_action, with_commands};
+ghost use Rattle.ngc_drawing.specs.Sheets.{with_fixtures, bench, frame, unit_of, sheet};
 ghost use Rattle.ngc_drawing.specs.Units.{IsUnit};
 
 use crate::shape::Sheet;
@@ -157,14 +159,16 @@ fn top(area: &Rectangle, unit: &Unit) -> i128
 }
 
 fn width(area: &Rectangle, unit: &Unit) -> i128
-    ensures { result ≡ int_max (area.now.high.across -ℤ area.now.low.across) (pos 60 *ℤ unit.now.micrometres) +ℤ (pos 16 *ℤ unit.now.micrometres) }
+    ensures { result ≡ int_max (area.now.high.across -ℤ area.now.low.across)
+        (pos 60 *ℤ unit.now.micrometres) +ℤ (pos 16 *ℤ unit.now.micrometres) }
 {
     greater(across(area), units(unit, 60)) + units(unit, 16)
 }
 
 fn height(area: &Rectangle, unit: &Unit, rows: u32) -> i128
     requires { rows < 2000 }
-    ensures { result ≡ (area.now.high.up -ℤ area.now.low.up) +ℤ (pos (20 + 3 * rows) *ℤ unit.now.micrometres) }
+    ensures { result ≡ (area.now.high.up -ℤ area.now.low.up)
+        +ℤ (pos (20 + 3 * rows) *ℤ unit.now.micrometres) }
 {
     up(area) + units(unit, 20 + 3 * rows)
 }

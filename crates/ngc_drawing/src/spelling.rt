@@ -2,7 +2,10 @@ ghost use Rattle.std.specs.Prelude.{◌≡◌, ◌+◌, ◌*◌, ◌<◌, ◌≤
 ghost use Rattle.ngc_text.specs.Collected.{CHUNK_SIZE, HasLineRoom};
 ghost use Rattle.ngc_drawing.specs.Units.{IsUnit};
 ghost use Rattle.ngc_drawing.specs.declared.shape.Shape.TheVariants as shapes;
-ghost use Rattle.ngc_drawing.specs.Spelling.{decimals, size_text, length_text, down_text, spot_text, area_text, colour_text, ink_text, sign_at, axes_text, mark_text, turn_text, begin_text, scale_text, tool_text, shape_text};
+ghost use Rattle.ngc_drawing.specs.Spelling.{decimals, size_text, length_text, down_text};
+ghost use Rattle.ngc_drawing.specs.Spelling.{spot_text, area_text, colour_text, ink_text, sign_at};
+ghost use Rattle.ngc_drawing.specs.Spelling.{axes_text, mark_text, turn_text, begin_text};
+ghost use Rattle.ngc_drawing.specs.Spelling.{scale_text, tool_text, shape_text};
 
 use crate::shape::{Ink, Mark, Shape, Sheet};
 use crate::spot::{Rectangle, Spot};
@@ -136,7 +139,9 @@ fn add_ink(chunk: &mut Chunk, ink: &Ink)
 /// Where signs in units begin: they stand about a spot.
 fn begin_sign(chunk: &mut Chunk, unit: i64, at: &Spot)
     requires { length chunk.old + 190 ≤ CHUNK_SIZE }
-    ensures text { chunk.new ≡ chunk.old ++ (codes "<g stroke-width=\".1\" transform=\"translate(" ++ spot_text at.now ++ codes ") scale(" ++ length_text unit ++ codes ")\">") }
+    ensures text { chunk.new ≡ chunk.old
+        ++ (codes "<g stroke-width=\".1\" transform=\"translate(" ++ spot_text at.now
+        ++ codes ") scale(" ++ length_text unit ++ codes ")\">") }
     ensures short { length chunk.new ≤ length chunk.old + 190 }
 {
     chunk.add_text(b"<g stroke-width=\".1\" transform=\"translate(");
@@ -301,7 +306,9 @@ fn add_legend(chunk: &mut Chunk, unit: i64, at: &Spot)
 
 fn add_tool(chunk: &mut Chunk, rank: usize, number: u32)
     requires { HasLineRoom chunk.old }
-    ensures { chunk.new ≡ chunk.old ++ (codes "<tspan x=\"0\" dy=\"3\" fill=\"" ++ colour_text rank ++ codes "\">&#9632; " ++ tool_text number) }
+    ensures { chunk.new ≡ chunk.old
+        ++ (codes "<tspan x=\"0\" dy=\"3\" fill=\"" ++ colour_text rank ++ codes "\">&#9632; "
+        ++ tool_text number) }
 {
     chunk.add_text(b"<tspan x=\"0\" dy=\"3\" fill=\"");
     chunk.add_text(colour(rank));
@@ -316,7 +323,8 @@ fn add_tool(chunk: &mut Chunk, rank: usize, number: u32)
 
 fn add_path(chunk: &mut Chunk, ink: &Ink, at: &Spot)
     requires { HasLineRoom chunk.old }
-    ensures { chunk.new ≡ chunk.old ++ (codes "<path stroke=\"" ++ ink_text ink.now ++ codes "\" d=\"M" ++ spot_text at.now) }
+    ensures { chunk.new ≡ chunk.old
+        ++ (codes "<path stroke=\"" ++ ink_text ink.now ++ codes "\" d=\"M" ++ spot_text at.now) }
 {
     chunk.add_text(b"<path stroke=\"");
     add_ink(chunk, ink);
@@ -326,7 +334,9 @@ fn add_path(chunk: &mut Chunk, ink: &Ink, at: &Spot)
 
 fn add_round(chunk: &mut Chunk, radius: i64, clockwise: bool, to: &Spot)
     requires { HasLineRoom chunk.old }
-    ensures { chunk.new ≡ chunk.old ++ (codes "\nA" ++ length_text radius ++ codes " " ++ length_text radius ++ turn_text clockwise ++ spot_text to.now) }
+    ensures { chunk.new ≡ chunk.old
+        ++ (codes "\nA" ++ length_text radius ++ codes " " ++ length_text radius
+        ++ turn_text clockwise ++ spot_text to.now) }
 {
     chunk.add_text(b"\nA");
     add_length(chunk, radius);
@@ -354,7 +364,8 @@ fn add_body(chunk: &mut Chunk, area: &Rectangle)
 
 fn add_bodies_of(chunk: &mut Chunk, rank: usize)
     requires { HasLineRoom chunk.old }
-    ensures { chunk.new ≡ chunk.old ++ (codes "<path fill=\"" ++ colour_text rank ++ codes "\" d=\"") }
+    ensures { chunk.new ≡ chunk.old
+        ++ (codes "<path fill=\"" ++ colour_text rank ++ codes "\" d=\"") }
 {
     chunk.add_text(b"<path fill=\"");
     chunk.add_text(colour(rank));
@@ -363,7 +374,8 @@ fn add_bodies_of(chunk: &mut Chunk, rank: usize)
 
 fn add_part(chunk: &mut Chunk, diameter: i64, long: i64)
     requires { HasLineRoom chunk.old }
-    ensures { chunk.new ≡ chunk.old ++ (codes ", " ++ length_text diameter ++ codes " x " ++ length_text long) }
+    ensures { chunk.new ≡ chunk.old
+        ++ (codes ", " ++ length_text diameter ++ codes " x " ++ length_text long) }
 {
     chunk.add_text(b", ");
     add_length(chunk, diameter);
@@ -373,7 +385,9 @@ fn add_part(chunk: &mut Chunk, diameter: i64, long: i64)
 
 fn add_fault_line(chunk: &mut Chunk, fault: u16, command: usize)
     requires { HasLineRoom chunk.old }
-    ensures { chunk.new ≡ chunk.old ++ (codes "<tspan x=\"0\" dy=\"3\" fill=\"#E60000\">fault " ++ decimal fault ++ codes " at command " ++ decimal command ++ codes "</tspan>\n") }
+    ensures { chunk.new ≡ chunk.old
+        ++ (codes "<tspan x=\"0\" dy=\"3\" fill=\"#E60000\">fault " ++ decimal fault
+        ++ codes " at command " ++ decimal command ++ codes "</tspan>\n") }
 {
     chunk.add_text(b"<tspan x=\"0\" dy=\"3\" fill=\"#E60000\">fault ");
     chunk.add_number(fault);

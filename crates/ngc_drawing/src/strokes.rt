@@ -6,7 +6,8 @@ ghost use Rattle.ngc_drawing.specs.declared.shape.Shape.TheVariants as drawn;
 ghost use Rattle.ngc_drawing.specs.Arcs.{corner_spots};
 ghost use Rattle.ngc_drawing.specs.Draws.{Draws};
 ghost use Rattle.ngc_drawing.specs.Helices.{curve, helix_points};
-ghost use Rattle.ngc_drawing.specs.Strokes.{lead, is_seen_clockwise, round, is_flat, line_to, arc_course, course, stroke, strokes_of};
+ghost use Rattle.ngc_drawing.specs.Strokes.{lead, is_seen_clockwise, round, is_flat, line_to};
+ghost use Rattle.ngc_drawing.specs.Strokes.{arc_course, course, stroke, strokes_of};
 
 use crate::drawer::draw_all;
 use crate::helix::{halfway, halvings, middle};
@@ -104,7 +105,9 @@ fn draw_curve<W: Sink>(
     to: &Point3,
     sink: &mut W,
 ) -> Result<(), WriteFault>
-    ensures drawn { Draws unit.now.micrometres (W.written sink.old) (W.written sink.new) chunk.old chunk.new result (map (line_to view) (curve halvings arc.now from.now to.now)) }
+    ensures drawn { Draws unit.now.micrometres (W.written sink.old)
+        (W.written sink.new) chunk.old chunk.new result
+        (map (line_to view) (curve halvings arc.now from.now to.now)) }
     ensures counts { CountsFailure (W.failures sink.old) (W.failures sink.new) result }
 {
     if halvings == 0 {
@@ -125,7 +128,9 @@ fn draw_helix<W: Sink>(
     arc: &Arc,
     sink: &mut W,
 ) -> Result<(), WriteFault>
-    ensures drawn { Draws unit.now.micrometres (W.written sink.old) (W.written sink.new) chunk.old chunk.new result (map (line_to view) (helix_points arc.now)) }
+    ensures drawn { Draws unit.now.micrometres (W.written sink.old)
+        (W.written sink.new) chunk.old chunk.new result
+        (map (line_to view) (helix_points arc.now)) }
     ensures counts { CountsFailure (W.failures sink.old) (W.failures sink.new) result }
 {
     let halvings = halvings(arc.outer_radius());
@@ -153,7 +158,8 @@ fn draw_arc<W: Sink>(
     arc: &Arc,
     sink: &mut W,
 ) -> Result<(), WriteFault>
-    ensures drawn { Draws unit.now.micrometres (W.written sink.old) (W.written sink.new) chunk.old chunk.new result (arc_course view arc.now) }
+    ensures drawn { Draws unit.now.micrometres (W.written sink.old)
+        (W.written sink.new) chunk.old chunk.new result (arc_course view arc.now) }
     ensures counts { CountsFailure (W.failures sink.old) (W.failures sink.new) result }
 {
     if view.faces(arc.plane()) {
@@ -172,7 +178,8 @@ fn draw_course<W: Sink>(
     way: &Way,
     sink: &mut W,
 ) -> Result<(), WriteFault>
-    ensures drawn { Draws unit.now.micrometres (W.written sink.old) (W.written sink.new) chunk.old chunk.new result (course view way.now) }
+    ensures drawn { Draws unit.now.micrometres (W.written sink.old)
+        (W.written sink.new) chunk.old chunk.new result (course view way.now) }
     ensures counts { CountsFailure (W.failures sink.old) (W.failures sink.new) result }
 {
     match way {
@@ -207,7 +214,8 @@ pub(crate) fn draw_stroke<W: Sink>(
     way: &Way,
     sink: &mut W,
 ) -> Result<(), WriteFault>
-    ensures drawn { Draws unit.now.micrometres (W.written sink.old) (W.written sink.new) chunk.old chunk.new result (stroke view run.now ink way.now) }
+    ensures drawn { Draws unit.now.micrometres (W.written sink.old)
+        (W.written sink.new) chunk.old chunk.new result (stroke view run.now ink way.now) }
     ensures counts { CountsFailure (W.failures sink.old) (W.failures sink.new) result }
 {
     let lead = lead(run, ink, view.spot(&start_of(way)));
@@ -227,7 +235,8 @@ pub(crate) fn draw_action<W: Sink>(
     action: &Action,
     sink: &mut W,
 ) -> Result<(), WriteFault>
-    ensures drawn { Draws unit.now.micrometres (W.written sink.old) (W.written sink.new) chunk.old chunk.new result (strokes_of view pen.now action.now) }
+    ensures drawn { Draws unit.now.micrometres (W.written sink.old)
+        (W.written sink.new) chunk.old chunk.new result (strokes_of view pen.now action.now) }
     ensures counts { CountsFailure (W.failures sink.old) (W.failures sink.new) result }
 {
     match action {

@@ -5,7 +5,10 @@ ghost use Rattle.ngc_canonical.specs.declared.command.Action.TheVariants.{Move};
 ghost use Rattle.ngc_canonical.specs.declared.movement.Motion.{Motion};
 ghost use Rattle.ngc_canonical.specs.declared.command.Action.{Action};
 ghost use Rattle.ngc_certificate_text.specs.Certificate.{MOTION_LIMIT, PIECE_LIMIT};
-ghost use Rattle.ngc_drawing.specs.Bodies.{sweep_of, is_same_x, is_same_y, is_same_z, are_seen_alike, takes, joint, joined_with, finished, held_with, held_last, joined, box_count, together, sweeps};
+ghost use Rattle.ngc_drawing.specs.Bodies.{sweep_of, is_same_x, is_same_y, is_same_z};
+ghost use Rattle.ngc_drawing.specs.Bodies.{are_seen_alike, takes, joint, joined_with, finished};
+ghost use Rattle.ngc_drawing.specs.Bodies.{held_with, held_last, joined, box_count, together};
+ghost use Rattle.ngc_drawing.specs.Bodies.{sweeps};
 ghost use Rattle.ngc_drawing.specs.Sweeping.{sweeps_ahead};
 ghost use Rattle.ngc_drawing.specs.declared.sweep.Sweep.{Sweep};
 
@@ -121,7 +124,8 @@ fn finish<A: Allocator>(
     held: &Option<Sweep>,
     next: &Sweep,
 ) -> Result<(), AllocError>
-    ensures { IfOk result (λ _. list.new.items ≡ list.old.items ++ finished view most held.now next.now) }
+    ensures { IfOk result
+        (λ _. list.new.items ≡ list.old.items ++ finished view most held.now next.now) }
 {
     match held {
         Some(sweep) if !sweep.takes(view, most, next) => match list.push(*sweep) {
@@ -157,7 +161,9 @@ fn sweep_pieces<A: Allocator>(
     before: &Option<Sweep>,
 ) -> Result<Option<Sweep>, AllocError>
     // Whatever boxes come behind them.
-    ensures { IfOk result (λ held. (rest : List Sweep) → list.old.items ++ joined view most before.now (map (sweep_of rank) pieces.now ++ rest) ≡ list.new.items ++ joined view most held rest) }
+    ensures { IfOk result (λ held. (rest : List Sweep) →
+        list.old.items ++ joined view most before.now (map (sweep_of rank) pieces.now ++ rest)
+        ≡ list.new.items ++ joined view most held rest) }
 {
     let mut held = *before;
     for piece in pieces {
@@ -180,7 +186,10 @@ impl Sweeping {
         most: usize,
         motions: &Motions<B>,
     ) -> Result<Sweeping, AllocError>
-        ensures { IfOk result (λ new. (used : List (Option Tool)) (m : Motion) (rest : List Action) → list.old.items ++ sweeps_ahead view most used self.now (Move m ∷ rest) motions.now ≡ list.new.items ++ sweeps_ahead view most used new rest motions.now) }
+        ensures { IfOk result
+            (λ new. (used : List (Option Tool)) (m : Motion) (rest : List Action) →
+            list.old.items ++ sweeps_ahead view most used self.now (Move m ∷ rest) motions.now
+            ≡ list.new.items ++ sweeps_ahead view most used new rest motions.now) }
     {
         if self.next >= motions.len() {
             return Ok(*self);
@@ -213,7 +222,10 @@ impl Sweeping {
         action: &Action,
     ) -> Result<Sweeping, AllocError>
         // Whatever is done behind it.
-        ensures { IfOk result (λ new. (rest : List Action) → list.old.items ++ sweeps_ahead view most tools.now self.now (action.now ∷ rest) motions.now ≡ list.new.items ++ sweeps_ahead view most tools.now new rest motions.now) }
+        ensures { IfOk result (λ new. (rest : List Action) →
+            list.old.items ++ sweeps_ahead view most tools.now self.now
+            (action.now ∷ rest) motions.now ≡ list.new.items
+            ++ sweeps_ahead view most tools.now new rest motions.now) }
     {
         match action {
             Action::Move(_) => self.motion(list, view, most, motions),

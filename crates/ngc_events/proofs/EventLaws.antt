@@ -1,5 +1,6 @@
 -- The spelling of an event says it, and what says an event is its spelling.
-use Rattle.std.proofs.Common.{◌≡◌, ◌⊎◌, inl, inr, ℕ, zero, suc, ◌<◌, ◌≤◌, ◌^◌, ap, subst, Bool, true, false, Option, Some, None, List, ◌++◌, length, take, drop, refl, sym, ◌∙◌, arith}
+use Rattle.std.proofs.Common.{◌≡◌, ◌⊎◌, inl, inr, ℕ, zero, suc, ◌<◌, ◌≤◌, ◌^◌, ap, subst, Bool, true, false, Option, Some, None, List, ◌++◌, length, take, drop}
+use Rattle.std.proofs.Common.{refl, sym, ◌∙◌, arith}
 use Rattle.std.specs.Prelude.{codes, decimal, ◌==◌, nat_le, if◌then◌else◌}
 use Rattle.std.specs.Option.{option_map}
 use Rattle.std.specs.Str.{bytes_eq}
@@ -71,7 +72,8 @@ event_reads Hold times h = is_once Hold times h
 event_reads Resume times h = is_once Resume times h
 event_reads (Override percent) times h =
     let range = and_parts (nat_le percent 255) (times == 1) h in
-    override_said (decimal percent) ∙ ap (option_map (λ n. once (Override n))) (number_reads 255 percent (at_most percent 255 range.0) (omega arith)) ∙ is_once (Override percent) times range.1
+    override_said (decimal percent) ∙ ap (option_map (λ n. once (Override n))) (number_reads 255 percent (at_most percent 255 range.0) (omega arith))
+    ∙ is_once (Override percent) times range.1
 event_reads (StopSwitch true) times h = is_once (StopSwitch true) times h
 event_reads (StopSwitch false) times h = is_once (StopSwitch false) times h
 event_reads Start times h = is_once Start times h
@@ -148,7 +150,8 @@ tick_spelled line said front h =
       given = and_from (nat_le 1 (suc t.0)) (nat_le (suc t.0) 1000000) (within 1 (suc t.0) (omega arith)) (within (suc t.0) 1000000 number.1);
     })
 
-override_spelled : (line : List ℕ) (said : EventLine) → begins (codes "override ") line ≡ true → option_map (λ n. once (Override n)) (number_to 255 (drop 9 line)) ≡ Some said → Spells line said
+override_spelled : (line : List ℕ) (said : EventLine) → begins (codes "override ") line ≡ true →
+    option_map (λ n. once (Override n)) (number_to 255 (drop 9 line)) ≡ Some said → Spells line said
 override_spelled line said front h =
     let m = mapped (λ n. once (Override n)) (number_to 255 (drop 9 line)) said h in
     let number = number_spelled 255 (drop 9 line) m.0 m.1 (omega arith) in

@@ -1,5 +1,6 @@
 -- Lines as they are read, one by one.
-use Rattle.std.proofs.Common.{◌≡◌, ℕ, ◌+◌, ◌<◌, ◌≤◌, ap, true, false, Option, Some, None, Result, Ok, Err, List, [], ◌∷◌, ◌++◌, length, take, drop, append_assoc, refl, sym, ◌∙◌, arith}
+use Rattle.std.proofs.Common.{◌≡◌, ℕ, ◌+◌, ◌<◌, ◌≤◌, ap, true, false, Option, Some, None, Result, Ok, Err, List, [], ◌∷◌, ◌++◌, length, take, drop}
+use Rattle.std.proofs.Common.{append_assoc, refl, sym, ◌∙◌, arith}
 use Rattle.std.specs.Prelude.{◌==◌, nat_le}
 use Rattle.std.specs.List.{join_with_byte}
 use Rattle.std.specs.Option.{ok_or}
@@ -63,7 +64,8 @@ line_refused number text line k small h is_line said =
     ∙ ap (λ (r : Result EventLine EventsFault). in_front r (said_from (number + 1) (drop (k + 1) text)))
     (line_few number (event_said (take k text)) small ∙ ap (λ (o : Option EventLine). ok_or o (BadLine number)) (ap event_said (sym is_line) ∙ sym said))
 
-pub line_unended : (number : ℕ) (text : List ℕ) → number ≤ 1000000 → 0 < length text → IsFirstByte (is_byte 10) text None → said_from number text ≡ Err (BadLine number)
+pub line_unended : (number : ℕ) (text : List ℕ) → number ≤ 1000000 → 0 < length text → IsFirstByte (is_byte 10) text None →
+    said_from number text ≡ Err (BadLine number)
 line_unended number text small some h =
     ap (lines_said number) (no_feed_found text h) ∙ last_said number text some
     ∙ ap (λ (r : Result EventLine EventsFault). in_front r (Ok [])) (line_few number None small)
@@ -79,9 +81,11 @@ lines_many number text great some = let s = some_lines text in by_lines number t
       → said_from number text ≡ Err TooManyLines
   by_lines number text great some x [] e =
       let whole : length x ≡ length text = ap length (only_part text x e) in
-      ap (lines_said number) e ∙ last_said number x (omega (arith, whole, some)) ∙ ap (λ (r : Result EventLine EventsFault). in_front r (Ok [])) (line_many number None great)
+      ap (lines_said number) e ∙ last_said number x (omega (arith, whole, some))
+      ∙ ap (λ (r : Result EventLine EventsFault). in_front r (Ok [])) (line_many number None great)
   by_lines number text great some x (y ∷ ys) e =
-      ap (lines_said number) e ∙ ap (λ (r : Result EventLine EventsFault). in_front r (lines_said (number + 1) (y ∷ ys))) (line_many number (event_said x) great)
+      ap (lines_said number) e ∙ ap (λ (r : Result EventLine EventsFault). in_front r (lines_said (number + 1) (y ∷ ys)))
+      (line_many number (event_said x) great)
 
 -- ---- all lines
 
@@ -89,22 +93,27 @@ none_in_front : (r : Result (List EventLine) EventsFault) → r ≡ all_in_front
 none_in_front (Ok others) = refl
 none_in_front (Err fault) = refl
 
-pub read_begins : (text : List ℕ) (items : List EventLine) (number : ℕ) → items ≡ [] → number ≡ 1 → events_said text ≡ all_in_front items (said_from number text)
+pub read_begins : (text : List ℕ) (items : List EventLine) (number : ℕ) → items ≡ [] → number ≡ 1 →
+    events_said text ≡ all_in_front items (said_from number text)
 unfolding events_said
 read_begins text items number e one = none_in_front (said_from 1 text) ∙ rw (e, one) refl
 
-one_more : (items : List EventLine) (e : EventLine) (r : Result (List EventLine) EventsFault) → all_in_front items (in_front (Ok e) r) ≡ all_in_front (items ++ (e ∷ [])) r
+one_more : (items : List EventLine) (e : EventLine) (r : Result (List EventLine) EventsFault) →
+    all_in_front items (in_front (Ok e) r) ≡ all_in_front (items ++ (e ∷ [])) r
 one_more items e (Ok others) = ap (λ (l : List EventLine). ok l) (sym (append_assoc items (e ∷ []) others)) where
   ok : List EventLine → Result (List EventLine) EventsFault
   ok l = Ok l
 one_more items e (Err fault) = refl
 
-pub read_more : (says : Result (List EventLine) EventsFault) (items more : List EventLine) (e : EventLine) (number next : ℕ) (text behind : List ℕ) → says ≡ all_in_front items (said_from number text)
-    → said_from number text ≡ in_front (Ok e) (said_from (number + 1) behind) → more ≡ items ++ (e ∷ []) → next ≡ number + 1 → says ≡ all_in_front more (said_from next behind)
+pub read_more : (says : Result (List EventLine) EventsFault) (items more : List EventLine) (e : EventLine) (number next : ℕ) (text behind : List ℕ) →
+    says ≡ all_in_front items (said_from number text)
+    → said_from number text ≡ in_front (Ok e) (said_from (number + 1) behind) → more ≡ items ++ (e ∷ []) → next ≡ number + 1 →
+    says ≡ all_in_front more (said_from next behind)
 read_more says items more e number next text behind h step is_more is_next =
     h ∙ ap (all_in_front items) step ∙ one_more items e (said_from (number + 1) behind) ∙ rw (is_more, is_next) refl
 
-pub read_fails : (says : Result (List EventLine) EventsFault) (items : List EventLine) (number : ℕ) (text : List ℕ) (fault : EventsFault) → says ≡ all_in_front items (said_from number text)
+pub read_fails : (says : Result (List EventLine) EventsFault) (items : List EventLine) (number : ℕ) (text : List ℕ) (fault : EventsFault) →
+    says ≡ all_in_front items (said_from number text)
     → said_from number text ≡ Err fault → says ≡ Err fault
 read_fails says items number text fault h e = h ∙ ap (all_in_front items) e
 
@@ -112,7 +121,8 @@ pub nothing_said : (number : ℕ) → said_from number [] ≡ Ok []
 unfolding lines_said
 nothing_said number = refl
 
-pub read_ends : (says : Result (List EventLine) EventsFault) (items : List EventLine) (number : ℕ) (text : List ℕ) → says ≡ all_in_front items (said_from number text) → text ≡ [] → says ≡ Ok items
+pub read_ends : (says : Result (List EventLine) EventsFault) (items : List EventLine) (number : ℕ) (text : List ℕ) →
+    says ≡ all_in_front items (said_from number text) → text ≡ [] → says ≡ Ok items
 read_ends says items number text h e =
     h ∙ ap (λ (l : List ℕ). all_in_front items (said_from number l)) e ∙ ap (all_in_front items) (nothing_said number)
     ∙ ap (λ (l : List EventLine). ok l) (append-nil items) where

@@ -1,5 +1,6 @@
 -- The text of events says them, and what says events is their text.
-use Rattle.std.proofs.Common.{◌≡◌, ℕ, ◌+◌, ◌≤◌, ap, subst, Bool, true, false, Option, Some, None, Result, Ok, Err, List, [], ◌∷◌, ◌++◌, length, append_assoc, refl, sym, ◌∙◌, arith}
+use Rattle.std.proofs.Common.{◌≡◌, ℕ, ◌+◌, ◌≤◌, ap, subst, Bool, true, false, Option, Some, None, Result, Ok, Err, List, [], ◌∷◌, ◌++◌, length, append_assoc}
+use Rattle.std.proofs.Common.{refl, sym, ◌∙◌, arith}
 use Rattle.std.specs.Prelude.{◌==◌, nat_le, if◌then◌else◌}
 use Rattle.std.specs.List.{list_all, join_with_byte}
 use Rattle.std.specs.Option.{ok_or}
@@ -35,7 +36,8 @@ reads number (line ∷ lines) given few =
     ∙ ap (lines_said number) (split_here 10 words (events_text lines) (words_feedless line.event line.times parts.0))
     ∙ more_said number words (events_text lines)
     ∙ ap (λ (r : Result EventLine EventsFault). in_front r (said_from (number + 1) (events_text lines)))
-    (line_few number (event_said words) (omega (arith, few)) ∙ ap (λ (o : Option EventLine). ok_or o (BadLine number)) (event_reads line.event line.times parts.0))
+    (line_few number (event_said words) (omega (arith, few)) ∙ ap (λ (o : Option EventLine). ok_or o (BadLine number))
+    (event_reads line.event line.times parts.0))
     ∙ ap (in_front (Ok line)) (reads (number + 1) lines parts.1 (omega (arith, few)))
 
 -- ---- what says events is their spelling
@@ -48,7 +50,8 @@ record Spelled (number : ℕ) (parts : List (List ℕ)) (lines : List EventLine)
 ok_same : (x y : List EventLine) → (let a : Said = Ok x in let b : Said = Ok y in a ≡ b) → x ≡ y
 ok_same x y e = cc e
 
-spelled_none : (number : ℕ) (parts : List (List ℕ)) (lines : List EventLine) → number ≤ 1000001 → join_with_byte 10 parts ≡ [] → [] ≡ lines → Spelled number parts lines
+spelled_none : (number : ℕ) (parts : List (List ℕ)) (lines : List EventLine) → number ≤ 1000001 → join_with_byte 10 parts ≡ [] → [] ≡ lines →
+    Spelled number parts lines
 spelled_none number parts lines few text e = subst (Spelled number parts) e (record { text = text; given = refl; few = omega (arith, few) })
 
 none_said : (number : ℕ) (b : Bool) (lines : List EventLine) → in_front (if b then Err (BadLine number) else Err TooManyLines) (Ok []) ≡ Ok lines → ⊥
@@ -57,9 +60,10 @@ none_said number false lines h = cc h
 
 last_spelled : (number : ℕ) (last : List ℕ) (lines : List EventLine) (b : Bool) → (length last == 0) ≡ b → number ≤ 1000001
     → (if b then Ok [] else in_front (line_said number None) (Ok [])) ≡ Ok lines → Spelled number (last ∷ []) lines
-last_spelled number last lines true e few h = spelled_none number (last ∷ []) lines few (nil_from_length last (is_zero (length last) e)) (ok_same [] lines h) where
-  is_zero : (n : ℕ) → (n == 0) ≡ true → n ≡ 0
-  is_zero n h = grind (arith, nat_tests)
+last_spelled number last lines true e few h =
+    spelled_none number (last ∷ []) lines few (nil_from_length last (is_zero (length last) e)) (ok_same [] lines h) where
+      is_zero : (n : ℕ) → (n == 0) ≡ true → n ≡ 0
+      is_zero n h = grind (arith, nat_tests)
 last_spelled number last lines false e few h = absurd (none_said number (nat_le number 1000000) lines h)
 
 -- a line and those behind it
@@ -75,7 +79,8 @@ parted (Ok line) (Ok behind) lines h = record { line = line; behind = behind; fi
 parted (Ok line) (Err fault) lines h = absurd (cc h)
 parted (Err fault) others lines h = absurd (cc h)
 
-said_by : (number : ℕ) (b : Bool) (o : Option EventLine) (line : EventLine) → (if b then ok_or o (BadLine number) else Err TooManyLines) ≡ Ok line → (b ≡ true) × (o ≡ Some line)
+said_by : (number : ℕ) (b : Bool) (o : Option EventLine) (line : EventLine) → (if b then ok_or o (BadLine number) else Err TooManyLines) ≡ Ok line →
+    (b ≡ true) × (o ≡ Some line)
 said_by number true None line h = absurd (cc h)
 said_by number true (Some x) line h = (refl, cc h)
 said_by number false o line h = absurd (cc h)

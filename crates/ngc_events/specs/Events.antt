@@ -1,12 +1,14 @@
 -- What the bytes of an events file say: an event for each line, or the first fault. Our own.
-use Rattle.std.specs.Prelude.{ℕ, zero, suc, ◌+◌, nat_le, ◌==◌, List, [], ◌∷◌, length, take, drop, codes, Option, Some, None}
+use Rattle.std.specs.Prelude.{ℕ, zero, suc, ◌+◌, nat_le, ◌==◌, List, [], ◌∷◌, length, take, drop}
+use Rattle.std.specs.Prelude.{codes, Option, Some, None}
 use Rattle.std.specs.Prelude.{Result, Ok, Err, Bool, true, false, if◌then◌else◌}
 use Rattle.std.specs.List.{slice_split}
 use Rattle.std.specs.Option.{option_map, ok_or}
 use Rattle.std.specs.Str.{bytes_eq}
 use Rattle.ngc_text.specs.Decimals.{decimal_in}
 use Rattle.ngc_events.specs.declared.event.Event.{Event}
-use Rattle.ngc_events.specs.declared.event.Event.TheVariants.{Load, Tick, Hold, Resume, Override, StopSwitch, Start}
+use Rattle.ngc_events.specs.declared.event.Event.TheVariants.{Load, Tick, Hold, Resume, Override}
+use Rattle.ngc_events.specs.declared.event.Event.TheVariants.{StopSwitch, Start}
 use Rattle.ngc_events.specs.declared.event.EventLine.{EventLine}
 use Rattle.ngc_events.specs.declared.fault.EventsFault.{EventsFault}
 use Rattle.ngc_events.specs.declared.fault.EventsFault.TheVariants.{BadLine, TooManyLines}
@@ -56,17 +58,20 @@ word_said word =
 unfoldable pub event_said : List ℕ → Option EventLine
 event_said line =
     if begins (codes "tick ") line then ticks (number_to 1000000 (behind (codes "tick ") line)) else
-    if begins (codes "override ") line then override (number_to 255 (behind (codes "override ") line)) else
+    if begins (codes "override ") line then override
+    (number_to 255 (behind (codes "override ") line)) else
     option_map once (word_said line)
 
 -- ---- the lines of a text
 
 -- what the line of this number says; one past the 1,000,000th is too many, whatever it says
 abbrev pub line_said : ℕ → Option EventLine → Result EventLine EventsFault
-line_said number said = if nat_le number 1000000 then ok_or said (BadLine number) else Err TooManyLines
+line_said number said =
+    if nat_le number 1000000 then ok_or said (BadLine number) else Err TooManyLines
 
 -- the first line's event in front of those of the others
-abbrev pub in_front : Result EventLine EventsFault → Result (List EventLine) EventsFault → Result (List EventLine) EventsFault
+abbrev pub in_front : Result EventLine EventsFault → Result (List EventLine) EventsFault →
+    Result (List EventLine) EventsFault
 in_front (Ok line) (Ok others) = Ok (line ∷ others)
 in_front (Ok line) (Err fault) = Err fault
 in_front (Err fault) others = Err fault
@@ -75,7 +80,8 @@ in_front (Err fault) others = Err fault
 -- line feed, and must be empty
 unfoldable pub lines_said : ℕ → List (List ℕ) → Result (List EventLine) EventsFault
 lines_said number [] = Ok []
-lines_said number (last ∷ []) = if length last == 0 then Ok [] else in_front (line_said number None) (Ok [])
+lines_said number (last ∷ []) =
+    if length last == 0 then Ok [] else in_front (line_said number None) (Ok [])
 lines_said number (line ∷ next ∷ lines) =
     in_front (line_said number (event_said line)) (lines_said (number + 1) (next ∷ lines))
 

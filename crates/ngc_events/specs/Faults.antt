@@ -1,7 +1,8 @@
 -- The numbers of refused events and of the faults of an events file. Our own.
 use Rattle.std.specs.Prelude.{ℕ}
 use Rattle.ngc_events.specs.declared.event_fault.EventFault.{EventFault}
-use Rattle.ngc_events.specs.declared.event_fault.EventFault.TheVariants.{OverrideTooLarge, RingFull, AllLoaded}
+use Rattle.ngc_events.specs.declared.event_fault.EventFault.TheVariants.{OverrideTooLarge, RingFull}
+use Rattle.ngc_events.specs.declared.event_fault.EventFault.TheVariants.{AllLoaded}
 use Rattle.ngc_events.specs.declared.fault.EventsFault.{EventsFault}
 use Rattle.ngc_events.specs.declared.fault.EventsFault.TheVariants.{BadLine, TooManyLines, Memory}
 

@@ -5,7 +5,8 @@ use Rattle.ngc_events.specs.declared.fault.EventsFault.{EventsFault}
 use Rattle.ngc_events.specs.declared.fault.EventsFault.TheVariants.{BadLine, TooManyLines, Memory}
 
 -- the answer is what the text says, but for want of memory
-abbrev pub GivesEvents : {A : Type 0} → Result (Vec EventLine A) EventsFault → Result (List EventLine) EventsFault → Type 0
+abbrev pub GivesEvents : {A : Type 0} → Result (Vec EventLine A) EventsFault →
+    Result (List EventLine) EventsFault → Type 0
 GivesEvents (Ok events) says = says ≡ Ok events.items
 GivesEvents (Err (BadLine number)) says = says ≡ Err (BadLine number)
 GivesEvents (Err TooManyLines) says = says ≡ Err TooManyLines

@@ -11,12 +11,14 @@ abbrev pub said_from : ℕ → List ℕ → Result (List EventLine) EventsFault
 said_from number text = lines_said number (slice_split (λ b. b == 10) text)
 
 -- these lines in front of what the others say
-abbrev pub all_in_front : List EventLine → Result (List EventLine) EventsFault → Result (List EventLine) EventsFault
+abbrev pub all_in_front : List EventLine → Result (List EventLine) EventsFault →
+    Result (List EventLine) EventsFault
 all_in_front lines (Ok others) = Ok (lines ++ others)
 all_in_front lines (Err fault) = Err fault
 
 -- the first line of a text that isn't empty, and the text behind it, or the fault of that line
 abbrev pub TakesLine : Result (EventLine × Bor (List ℕ)) EventsFault → ℕ → List ℕ → Type 0
 TakesLine (Ok r) number text =
-    (said_from number text ≡ in_front (Ok r.0) (said_from (number + 1) r.1.now)) × (length r.1.now < length text)
+    (said_from number text ≡ in_front (Ok r.0) (said_from (number + 1) r.1.now)) ×
+    (length r.1.now < length text)
 TakesLine (Err fault) number text = said_from number text ≡ Err fault

@@ -1,9 +1,11 @@
 -- The text of a list of events, and the law that it is the only one that says them. Our own.
-use Rattle.std.specs.Prelude.{◌≡◌, ◌↔◌, ◌≤◌, ℕ, nat_le, ◌==◌, List, ◌++◌, length, flat_map, decimal, codes, Ok}
+use Rattle.std.specs.Prelude.{◌≡◌, ◌↔◌, ◌≤◌, ℕ, nat_le, ◌==◌, List, ◌++◌, length, flat_map, decimal}
+use Rattle.std.specs.Prelude.{codes, Ok}
 use Rattle.std.specs.Prelude.{IsTrue, Bool, true, false, ◌&&◌}
 use Rattle.std.specs.List.{list_all}
 use Rattle.ngc_events.specs.declared.event.Event.{Event}
-use Rattle.ngc_events.specs.declared.event.Event.TheVariants.{Load, Tick, Hold, Resume, Override, StopSwitch, Start}
+use Rattle.ngc_events.specs.declared.event.Event.TheVariants.{Load, Tick, Hold, Resume, Override}
+use Rattle.ngc_events.specs.declared.event.Event.TheVariants.{StopSwitch, Start}
 use Rattle.ngc_events.specs.declared.event.EventLine.{EventLine}
 use Rattle.ngc_events.specs.Events.{events_said}
 

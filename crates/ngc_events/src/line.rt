@@ -1,6 +1,7 @@
 ghost use Rattle.std.specs.Prelude.{◌≡◌, ◌≤◌, IfSome};
 ghost use Rattle.std.specs.Str.{bytes_eq};
-ghost use Rattle.ngc_events.specs.Events.{number_to as number_said, once, ticks as ticks_said, override as override_said};
+ghost use Rattle.ngc_events.specs.Events.{number_to as number_said, once, ticks as ticks_said};
+ghost use Rattle.ngc_events.specs.Events.{override as override_said};
 ghost use Rattle.ngc_events.specs.Events.{word_said, event_said};
 
 use crate::event::{Event, EventLine};

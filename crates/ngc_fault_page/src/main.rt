@@ -1,4 +1,5 @@
-//! Prints the page docs/FAULTS.md: what stands on standard input, with the rows of each part put into its table.
+//! Prints the page docs/FAULTS.md: what stands on standard input, with the rows of each part put
+//! into its table.
 #![tactic(auto)]
 
 use ngc_fault_texts::{Part, Row, page};

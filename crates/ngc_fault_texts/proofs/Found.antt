@@ -1,5 +1,6 @@
 -- A number is on a page exactly where it is among the page's numbers.
-use Rattle.std.proofs.Common.{◌≡◌, ◌≢◌, eq-eqb, ◌==◌, ◌<◌, ◌+◌, ◌++◌, ◌||◌, ℕ, Bool, true, false, List, [], ◌∷◌, ap, drop, get_or, length, map, refl, ◌∙◌, if◌then◌else◌}
+use Rattle.std.proofs.Common.{◌≡◌, ◌≢◌, eq-eqb, ◌==◌, ◌<◌, ◌+◌, ◌++◌, ◌||◌, ℕ, Bool, true, false, List, [], ◌∷◌, ap, drop, get_or, length, map, refl, ◌∙◌}
+use Rattle.std.proofs.Common.{if◌then◌else◌}
 use Rattle.std.specs.List.{list_any}
 use Rattle.std.proofs.lemmas.Bool.{ne_eqb}
 use Rattle.std.proofs.lemmas.List.{at_drop_more}
@@ -12,7 +13,8 @@ pick true x y z same = refl
 pick false x y z same = same
 
 any_of_row : (number : ℕ) (rows : List Row) (more : List ℕ)
-    → (list_any (λ (row : Row). row.number == number) rows || list_any (λ n. n == number) more) ≡ list_any (λ n. n == number) (map (λ (row : Row). row.number) rows ++ more)
+    → (list_any (λ (row : Row). row.number == number) rows || list_any (λ n. n == number) more)
+    ≡ list_any (λ n. n == number) (map (λ (row : Row). row.number) rows ++ more)
 any_of_row number [] more = refl
 any_of_row number (row ∷ rows) more = pick (row.number == number) _ _ _ (any_of_row number rows more)
 

@@ -17,14 +17,16 @@ nothing_written (Some xs) = sym (append-nil xs)
 pub begun : (old : Option (List ℕ)) (whole : List ℕ) → Reached old old whole whole
 begun old whole = ([], nothing_written old, refl)
 
-pub went_on : (old mid new : Option (List ℕ)) (a rest left whole : List ℕ) → left ≡ a ++ rest → Reached old mid left whole → Appends mid new a → Reached old new rest whole
+pub went_on : (old mid new : Option (List ℕ)) (a rest left whole : List ℕ) → left ≡ a ++ rest → Reached old mid left whole → Appends mid new a →
+    Reached old new rest whole
 went_on old mid new a rest left whole is done more =
     (done.0 ++ a, appends_both old mid new done.0 a done.1 more, done.2 ∙ ap (λ l. done.0 ++ l) is ∙ sym (append_assoc done.0 a rest))
 
 pub left : (old now : Option (List ℕ)) (rest before whole : List ℕ) → before ≡ rest → Reached old now before whole → Reached old now rest whole
 left old now rest before whole is done = (done.0, done.1, done.2 ∙ ap (λ l. done.0 ++ l) is)
 
-pub stopped : (old mid new : Option (List ℕ)) (a rest left whole : List ℕ) → left ≡ a ++ rest → Reached old mid left whole → AppendsBeginning mid new a → AppendsBeginning old new whole
+pub stopped : (old mid new : Option (List ℕ)) (a rest left whole : List ℕ) → left ≡ a ++ rest → Reached old mid left whole → AppendsBeginning mid new a →
+    AppendsBeginning old new whole
 stopped old mid new a rest left whole is done part =
     let P : List ℕ → Type 0 = λ text. AppendsBeginning old new text in
     subst P (sym (done.2 ∙ ap (λ l. done.0 ++ l) is)) (begins_after old mid new done.0 a rest done.1 part)
@@ -48,7 +50,8 @@ broken_behind old mid new x text done part =
 pub second_broken : (old a new : Option (List ℕ)) (x y z : List ℕ) → Appends old a x → AppendsBeginning a new y → AppendsBeginning old new (x ++ (y ++ z))
 second_broken old a new x y z first part = begins_after old a new x y z first part
 
-pub third_broken : (old a b new : Option (List ℕ)) (x y z : List ℕ) → Appends old a x → Appends a b y → AppendsBeginning b new z → AppendsBeginning old new (x ++ (y ++ z))
+pub third_broken : (old a b new : Option (List ℕ)) (x y z : List ℕ) → Appends old a x → Appends a b y → AppendsBeginning b new z →
+    AppendsBeginning old new (x ++ (y ++ z))
 third_broken old a b new x y z first second part = broken_behind old a new x (y ++ z) first (broken_behind a b new y z second part)
 
 -- the texts of a row's beginning, by what they are

@@ -53,7 +53,8 @@ shell_numbers = 720 ∷ 721 ∷ 722 ∷ 723 ∷ 900 ∷ 901 ∷ 902 ∷ []
 
 -- all of them
 abbrev pub fault_numbers : List ℕ
-fault_numbers = line_numbers ++ file_numbers ++ value_numbers ++ word_numbers ++ place_numbers ++ cycle_numbers ++ arc_numbers
+fault_numbers = line_numbers ++ file_numbers ++ value_numbers ++ word_numbers ++ place_numbers
+    ++ cycle_numbers ++ arc_numbers
     ++ setup_numbers ++ certificate_numbers ++ event_numbers ++ log_numbers ++ shell_numbers
 
 -- whether a fault has the number

@@ -1,5 +1,6 @@
 -- What is told of a fault.
-use Rattle.std.specs.Prelude.{◌≡◌, ◌==◌, ℕ, List, [], ◌∷◌, ◌++◌, Option, Some, Result, Ok, Err, map, codes, decimal, if◌then◌else◌}
+use Rattle.std.specs.Prelude.{◌≡◌, ◌==◌, ℕ, List, [], ◌∷◌, ◌++◌, Option, Some, Result, Ok, Err, map}
+use Rattle.std.specs.Prelude.{codes, decimal, if◌then◌else◌}
 use Rattle.std.specs.Borrow.{Bor}
 use Rattle.std.specs.Io.KnownBytes.{Appends}
 use Rattle.ngc_text.specs.Failures.{Rises}
@@ -26,13 +27,16 @@ all_of (text ∷ texts) = text.now ++ all_of texts
 
 -- a line with the part's column, where it has one
 abbrev pub column_line : Option (Bor (List ℕ)) → Option (Bor (List ℕ)) → List ℕ
-column_line (Some column) (Some place) = joined (column.now ∷ codes ": " ∷ place.now ∷ codes "\n" ∷ [])
+column_line (Some column) (Some place) =
+    joined (column.now ∷ codes ": " ∷ place.now ∷ codes "\n" ∷ [])
 column_line column place = []
 
 -- what stands before it in a row, in the part of the page that the row stands in
 abbrev pub beginning_of : Part → Row → List ℕ
-beginning_of part row = joined (codes "Fault " ∷ decimal row.number ∷ codes " (" ∷ part.title.now ∷ codes ")\n\n"
-    ∷ row.rule.now ∷ codes "\n\nExample: " ∷ row.example.now ∷ codes "\nAnswer: " ∷ row.answer.now ∷ codes "\n" ∷ [])
+beginning_of part row =
+    joined (codes "Fault " ∷ decimal row.number ∷ codes " (" ∷ part.title.now ∷ codes ")\n\n"
+    ∷ row.rule.now ∷ codes "\n\nExample: " ∷ row.example.now ∷ codes "\nAnswer: " ∷ row.answer.now
+    ∷ codes "\n" ∷ [])
 
 -- and behind it
 abbrev pub mend_of : Row → List ℕ
@@ -45,7 +49,8 @@ row_text part row = beginning_of part row ++ (column_line part.column row.place 
 -- the rows of a part that have the number
 abbrev pub told_in : ℕ → Part → List Row → List ℕ
 told_in number part [] = []
-told_in number part (row ∷ rows) = (if row.number == number then row_text part row else []) ++ told_in number part rows
+told_in number part (row ∷ rows) =
+    (if row.number == number then row_text part row else []) ++ told_in number part rows
 
 -- and those of all parts
 abbrev pub told : ℕ → List Part → List ℕ
@@ -54,7 +59,8 @@ told number (part ∷ parts) = told_in number part part.rows.now ++ told number 
 
 -- the text is what a page with all faults tells of the number
 abbrev pub IsExplanation : ℕ → List ℕ → Type 0
-IsExplanation number text = (parts : List Part) × (numbers_of parts ≡ fault_numbers) × (text ≡ told number parts)
+IsExplanation number text =
+    (parts : List Part) × (numbers_of parts ≡ fault_numbers) × (text ≡ told number parts)
 
 -- this holds of an explanation of the number
 abbrev pub Explains : (List ℕ → Type 0) → ℕ → Type 0

@@ -5,7 +5,8 @@ ghost use Rattle.ngc_text.specs.Failures.{CountsFailure};
 ghost use Rattle.ngc_text.specs.Written.{AppendsBeginning};
 ghost use Rattle.ngc_fault_texts.specs.Numbers.{is_fault};
 ghost use Rattle.ngc_fault_texts.specs.Told.{FailsByWriting, Tells, all_of, column_line};
-ghost use Rattle.ngc_fault_texts.specs.Told.{beginning_of, explain_fault_number, mend_of, row_text, told, told_in};
+ghost use Rattle.ngc_fault_texts.specs.Told.{beginning_of, explain_fault_number, mend_of, row_text};
+ghost use Rattle.ngc_fault_texts.specs.Told.{told, told_in};
 
 use crate::parts::{Part, Row, page};
 use itoa::Buffer;
@@ -37,8 +38,10 @@ impl ExplainFault {
 
 // Writes texts one behind the other.
 fn write_texts<W: Sink>(texts: &[&[u8]], output: &mut W) -> Result<(), WriteFault>
-    ensures ok { OnOk result (Appends (W.written output.old) (W.written output.new) (all_of texts.now)) }
-    ensures fault { OnErr result (AppendsBeginning (W.written output.old) (W.written output.new) (all_of texts.now)) }
+    ensures ok { OnOk result
+        (Appends (W.written output.old) (W.written output.new) (all_of texts.now)) }
+    ensures fault { OnErr result
+        (AppendsBeginning (W.written output.old) (W.written output.new) (all_of texts.now)) }
     ensures counts { CountsFailure (W.failures output.old) (W.failures output.new) result }
 {
     for text in texts {
@@ -52,8 +55,12 @@ fn write_texts<W: Sink>(texts: &[&[u8]], output: &mut W) -> Result<(), WriteFaul
 
 // The line of the part's column, where there is one.
 fn write_column<W: Sink>(part: &Part, row: &Row, output: &mut W) -> Result<(), WriteFault>
-    ensures ok { OnOk result (Appends (W.written output.old) (W.written output.new) (column_line part.now.column row.now.place)) }
-    ensures fault { OnErr result (AppendsBeginning (W.written output.old) (W.written output.new) (column_line part.now.column row.now.place)) }
+    ensures ok { OnOk result
+        (Appends (W.written output.old) (W.written output.new)
+        (column_line part.now.column row.now.place)) }
+    ensures fault { OnErr result
+        (AppendsBeginning (W.written output.old) (W.written output.new)
+        (column_line part.now.column row.now.place)) }
     ensures counts { CountsFailure (W.failures output.old) (W.failures output.new) result }
 {
     match (part.column, row.place) {
@@ -65,8 +72,11 @@ fn write_column<W: Sink>(part: &Part, row: &Row, output: &mut W) -> Result<(), W
 }
 
 fn write_beginning<W: Sink>(part: &Part, row: &Row, output: &mut W) -> Result<(), WriteFault>
-    ensures ok { OnOk result (Appends (W.written output.old) (W.written output.new) (beginning_of part.now row.now)) }
-    ensures fault { OnErr result (AppendsBeginning (W.written output.old) (W.written output.new) (beginning_of part.now row.now)) }
+    ensures ok { OnOk result
+        (Appends (W.written output.old) (W.written output.new) (beginning_of part.now row.now)) }
+    ensures fault { OnErr result
+        (AppendsBeginning (W.written output.old) (W.written output.new)
+        (beginning_of part.now row.now)) }
     ensures counts { CountsFailure (W.failures output.old) (W.failures output.new) result }
 {
     let mut buffer = Buffer::new();
@@ -87,16 +97,21 @@ fn write_beginning<W: Sink>(part: &Part, row: &Row, output: &mut W) -> Result<()
 }
 
 fn write_mend<W: Sink>(row: &Row, output: &mut W) -> Result<(), WriteFault>
-    ensures ok { OnOk result (Appends (W.written output.old) (W.written output.new) (mend_of row.now)) }
-    ensures fault { OnErr result (AppendsBeginning (W.written output.old) (W.written output.new) (mend_of row.now)) }
+    ensures ok { OnOk result
+        (Appends (W.written output.old) (W.written output.new) (mend_of row.now)) }
+    ensures fault { OnErr result
+        (AppendsBeginning (W.written output.old) (W.written output.new) (mend_of row.now)) }
     ensures counts { CountsFailure (W.failures output.old) (W.failures output.new) result }
 {
     write_texts(&[b"\n", row.mend.as_bytes(), b"\n\n"], output)
 }
 
 fn write_row<W: Sink>(part: &Part, row: &Row, output: &mut W) -> Result<(), WriteFault>
-    ensures ok { OnOk result (Appends (W.written output.old) (W.written output.new) (row_text part.now row.now)) }
-    ensures fault { OnErr result (AppendsBeginning (W.written output.old) (W.written output.new) (row_text part.now row.now)) }
+    ensures ok { OnOk result
+        (Appends (W.written output.old) (W.written output.new) (row_text part.now row.now)) }
+    ensures fault { OnErr result
+        (AppendsBeginning (W.written output.old) (W.written output.new)
+        (row_text part.now row.now)) }
     ensures counts { CountsFailure (W.failures output.old) (W.failures output.new) result }
 {
     match write_beginning(part, row, output) {
@@ -112,8 +127,12 @@ fn write_row<W: Sink>(part: &Part, row: &Row, output: &mut W) -> Result<(), Writ
 
 // Writes the rows of a part that have the number.
 fn write_part<W: Sink>(part: &Part, number: u16, output: &mut W) -> Result<(), WriteFault>
-    ensures ok { OnOk result (Appends (W.written output.old) (W.written output.new) (told_in number part.now part.now.rows.now)) }
-    ensures fault { OnErr result (AppendsBeginning (W.written output.old) (W.written output.new) (told_in number part.now part.now.rows.now)) }
+    ensures ok { OnOk result
+        (Appends (W.written output.old) (W.written output.new)
+        (told_in number part.now part.now.rows.now)) }
+    ensures fault { OnErr result
+        (AppendsBeginning (W.written output.old) (W.written output.new)
+        (told_in number part.now part.now.rows.now)) }
     ensures counts { CountsFailure (W.failures output.old) (W.failures output.new) result }
 {
     for row in part.rows {
@@ -128,8 +147,10 @@ fn write_part<W: Sink>(part: &Part, number: u16, output: &mut W) -> Result<(), W
 }
 
 fn write_parts<W: Sink>(parts: &[Part], number: u16, output: &mut W) -> Result<(), WriteFault>
-    ensures ok { OnOk result (Appends (W.written output.old) (W.written output.new) (told number parts.now)) }
-    ensures fault { OnErr result (AppendsBeginning (W.written output.old) (W.written output.new) (told number parts.now)) }
+    ensures ok { OnOk result
+        (Appends (W.written output.old) (W.written output.new) (told number parts.now)) }
+    ensures fault { OnErr result
+        (AppendsBeginning (W.written output.old) (W.written output.new) (told number parts.now)) }
     ensures counts { CountsFailure (W.failures output.old) (W.failures output.new) result }
 {
     for part in parts {
@@ -148,7 +169,8 @@ fn is_in(rows: &[Row], number: u16) -> bool
 }
 
 fn is_on(parts: &[Part], number: u16) -> bool
-    ensures { result ≡ list_any (λ part. list_any (λ row. row.number == number) part.rows.now) parts.now }
+    ensures { result ≡ list_any
+        (λ part. list_any (λ row. row.number == number) part.rows.now) parts.now }
 {
     parts.iter().any(|part| is_in(part.rows, number))
 }

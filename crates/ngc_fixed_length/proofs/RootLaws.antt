@@ -6,7 +6,8 @@ use Rattle.std.proofs.lemmas.Nat.{mul-le}
 use Rattle.ngc_fixed_length.specs.Roots.{IsRootFloor, IsRootCeil, next_root, root_of_digits, whole_root, whole_root_above}
 
 -- the same by how the test went
-chosen : (b : Bool) (x q r : ℕ) → b ≡ nat_le ((2 * r + 1) * (2 * r + 1)) x → 4 * q ≤ x → x < 4 * q + 4 → r * r ≤ q → q < (r + 1) * (r + 1) → IsRootFloor x (cond b (2 * r + 1) (2 * r))
+chosen : (b : Bool) (x q r : ℕ) → b ≡ nat_le ((2 * r + 1) * (2 * r + 1)) x → 4 * q ≤ x → x < 4 * q + 4 → r * r ≤ q → q < (r + 1) * (r + 1) →
+    IsRootFloor x (cond b (2 * r + 1) (2 * r))
 chosen true x q r went low high below above =
     let fits : (2 * r + 1) * (2 * r + 1) ≤ x = grind (arith, nat_tests) in
     record { square = fits; greatest = omega arith }
@@ -62,7 +63,8 @@ least false x r went below above =
 
 pub whole_root_above-least : (x : ℕ) → x < 4 ^ 64 → IsRootCeil x (whole_root_above x)
 unfolding whole_root_above
-whole_root_above-least x small = let root = whole_root-greatest x small in least (whole_root x * whole_root x == x) x (whole_root x) refl root.square root.greatest
+whole_root_above-least x small = let root = whole_root-greatest x small in
+    least (whole_root x * whole_root x == x) x (whole_root x) refl root.square root.greatest
 
 pub whole_root_above_is : (x r : ℕ) → x < 4 ^ 64 → x ≤ r * r → ((s : ℕ) → x ≤ s * s → r ≤ s) → r ≡ whole_root_above x
 whole_root_above_is x r small square least_one =

@@ -1,6 +1,7 @@
 -- How large numbers may be, and what arithmetic on values gives. Our own rule: the manual leaves
 -- precision open.
-use Rattle.std.specs.Prelude.{ℕ, ℤ, pos, ◌+ℤ◌, ◌-ℤ◌, ◌*ℤ◌, ◌==◌, unsigned_abs, ◌≤◌, Result, Err, if◌then◌else◌}
+use Rattle.std.specs.Prelude.{ℕ, ℤ, pos, ◌+ℤ◌, ◌-ℤ◌, ◌*ℤ◌, ◌==◌, unsigned_abs, ◌≤◌, Result, Err}
+use Rattle.std.specs.Prelude.{if◌then◌else◌}
 use Rattle.ngc_fixed_length.specs.declared.fault.NumberFault.{NumberFault}
 use Rattle.ngc_fixed_length.specs.declared.fault.NumberFault.TheVariants.{DivisionByZero}
 use Rattle.ngc_fixed_length.specs.declared.units.Units.{Units}
@@ -41,7 +42,8 @@ abbrev pub product : ℤ → ℤ → Result ℤ NumberFault
 product x y = limited (nearest (x *ℤ y) (pos MILLION))
 
 abbrev pub quotient : ℤ → ℤ → Result ℤ NumberFault
-quotient x y = if unsigned_abs y == 0 then Err DivisionByZero else limited (nearest (x *ℤ pos MILLION) y)
+quotient x y =
+    if unsigned_abs y == 0 then Err DivisionByZero else limited (nearest (x *ℤ pos MILLION) y)
 
 -- so many millionths of a unit, to the nearest nanometre
 abbrev pub nanometres_of : Units → ℤ → ℤ

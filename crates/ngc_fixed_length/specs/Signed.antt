@@ -1,5 +1,6 @@
 -- Tests on signed numbers.
-use Rattle.std.specs.Prelude.{ℕ, ◌==◌, nat_le, ℤ, pos, negsuc, ◌-ℤ◌, unsigned_abs, int_lt, Bool, true, false, if◌then◌else◌}
+use Rattle.std.specs.Prelude.{ℕ, ◌==◌, nat_le, ℤ, pos, negsuc, ◌-ℤ◌, unsigned_abs, int_lt, Bool}
+use Rattle.std.specs.Prelude.{true, false, if◌then◌else◌}
 
 abbrev pub is_zero : ℤ → Bool
 is_zero z = unsigned_abs z == 0

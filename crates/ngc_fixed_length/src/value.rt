@@ -1,5 +1,6 @@
 ghost use Rattle.std.specs.Prelude.{◌≡◌, ◌≤◌, ℤ, pos, unsigned_abs};
-ghost use Rattle.ngc_fixed_length.specs.Limits.{IsValue, limited, sum, difference, product, quotient, nanometres_of, length_of};
+ghost use Rattle.ngc_fixed_length.specs.Limits.{IsValue, limited, sum, difference, product};
+ghost use Rattle.ngc_fixed_length.specs.Limits.{quotient, nanometres_of, length_of};
 
 use crate::fault::NumberFault;
 use crate::length::Nm;

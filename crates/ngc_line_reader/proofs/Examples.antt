@@ -2,7 +2,8 @@
 use Rattle.std.proofs.Common.{◌≡◌, ℕ, List, [], ◌∷◌, ◌++◌, Some, None, true, false, Err, refl, lit<}
 use Rattle.std.specs.Prelude.{codes}
 use Rattle.ngc_line_reader.specs.declared.token.Operator.TheVariants.{Add, Subtract, Multiply, Divide}
-use Rattle.ngc_line_reader.specs.declared.fault.FaultKind.TheVariants.{TooLarge, UnknownCharacter, BadNumber, BadWord, BadLineNumber, CommentNotClosed, CommentNested, Bracket}
+use Rattle.ngc_line_reader.specs.declared.fault.FaultKind.TheVariants.{TooLarge, UnknownCharacter, BadNumber, BadWord, BadLineNumber, CommentNotClosed}
+use Rattle.ngc_line_reader.specs.declared.fault.FaultKind.TheVariants.{CommentNested, Bracket}
 use Rattle.ngc_line_reader.specs.declared.letter.Letter.TheVariants as letters
 use Rattle.ngc_line_reader.specs.Letter.{letter_of}
 use Rattle.ngc_line_reader.specs.Text.{text, columns}
@@ -34,16 +35,29 @@ columns_of_what_stays : columns (codes " g 0") ≡ 2 ∷ (4 ∷ [])
 columns_of_what_stays = refl
 
 -- readings
-first_row : Reads (codes "g0x +0. 12 34y 7") (plain (word letters.G (whole (codes "0")) ∷ (word letters.X (number (record { sign = plus; whole = codes "0"; decimals = Some (codes "1234") })) ∷ (word letters.Y (whole (codes "7")) ∷ []))))
+first_row : Reads (codes "g0x +0. 12 34y 7")
+    (plain (word letters.G (whole (codes "0"))
+    ∷ (word letters.X (number (record { sign = plus; whole = codes "0"; decimals = Some (codes "1234") })) ∷ (word letters.Y (whole (codes "7")) ∷ []))))
 first_row = ((tt, (((refl, tt), tt, lit< tt), (((refl, tt), (refl, (refl, (refl, (refl, tt)))), lit< tt), (((refl, tt), tt, lit< tt), tt)))), refl)
 
-setting_row : Reads (codes "#3=6 G0 X#3") (plain (setting (whole (codes "3")) (whole (codes "6")) ∷ (word letters.G (whole (codes "0")) ∷ (word letters.X (parameter (whole (codes "3"))) ∷ []))))
+setting_row : Reads (codes "#3=6 G0 X#3")
+    (plain (setting (whole (codes "3")) (whole (codes "6")) ∷ (word letters.G (whole (codes "0")) ∷ (word letters.X (parameter (whole (codes "3"))) ∷ []))))
 setting_row = ((tt, ((((refl, tt), tt, lit< tt), ((refl, tt), tt, lit< tt)), (((refl, tt), tt, lit< tt), (((refl, tt), tt, lit< tt), tt)))), refl)
 
-deleted_row : spelling (record { deleted = true; number = Some (codes "12"); items = word letters.M (whole (codes "2")) ∷ (comment (codes "a b") ∷ []); remark = Some (codes " end") }) ≡ text (codes "/ n 1 2 m2 (a b); end")
+deleted_row : spelling
+    (record {
+      deleted = true;
+      number = Some (codes "12");
+      items = word letters.M (whole (codes "2")) ∷ (comment (codes "a b") ∷ []);
+      remark = Some (codes " end");
+    }) ≡ text (codes "/ n 1 2 m2 (a b); end")
 deleted_row = refl
 
-bracket_row : spelling (plain (word letters.X (bracket (whole (codes "2")) (next Add (whole (codes "3")) (next Multiply (whole (codes "4")) (next Subtract (whole (codes "10")) (next Divide (whole (codes "4")) close))))) ∷ [])) ≡ text (codes "X[2+3*4-10/4]")
+bracket_row : spelling
+    (plain (word letters.X
+    (bracket (whole (codes "2"))
+    (next Add (whole (codes "3")) (next Multiply (whole (codes "4")) (next Subtract (whole (codes "10")) (next Divide (whole (codes "4")) close))))) ∷ []))
+    ≡ text (codes "X[2+3*4-10/4]")
 bracket_row = refl
 
 -- the first fault from the left, and its column

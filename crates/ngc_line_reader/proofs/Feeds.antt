@@ -1,5 +1,6 @@
 -- Lines that bytes make, and the first line feed among them.
-use Rattle.std.proofs.Common.{◌≡◌, ◌≢◌, ℕ, zero, suc, ◌<◌, ◌≤◌, ap, Bool, true, false, Some, None, List, [], ◌∷◌, ◌++◌, length, take, drop, refl, sym, ◌∙◌, append_assoc, length-append, arith}
+use Rattle.std.proofs.Common.{◌≡◌, ◌≢◌, ℕ, zero, suc, ◌<◌, ◌≤◌, ap, Bool, true, false, Some, None, List, [], ◌∷◌, ◌++◌, length, take, drop, refl, sym, ◌∙◌}
+use Rattle.std.proofs.Common.{append_assoc, length-append, arith}
 use Rattle.std.specs.Prelude.{◌==◌, nat_le, slice_index}
 use Rattle.std.proofs.lemmas.Bool.Decides.{nat_tests}
 use Rattle.std.proofs.lemmas.List.{append-nil}
@@ -91,7 +92,8 @@ record Stands (line rest : List ℕ) : Type 0 where
   split : firm_behind line rest ≡ (line ++ more) ∷ behind
 
 stands_more : (b : ℕ) (line rest : List ℕ) (x : Bool) → (b == 10) ≡ x → Stands (line ++ (b ∷ [])) rest → Stands line (b ∷ rest)
-stands_more b line rest true e s = record { more = []; behind = firm_lines rest; split = rw e (ap (λ (l : List ℕ). l ∷ firm_lines rest) (sym (append-nil line))) }
+stands_more b line rest true e s =
+    record { more = []; behind = firm_lines rest; split = rw e (ap (λ (l : List ℕ). l ∷ firm_lines rest) (sym (append-nil line))) }
 stands_more b line rest false e s =
     record { more = b ∷ s.more; behind = s.behind; split = rw e (s.split ∙ ap (λ (l : List ℕ). l ∷ s.behind) (append_assoc line (b ∷ []) s.more)) }
 

@@ -1,5 +1,6 @@
 -- What is kept of lines: what a push does to it, and what it says.
-use Rattle.std.proofs.Common.{◌≡◌, ℕ, zero, suc, ◌<◌, ap, subst, Bool, true, false, Option, Some, None, List, [], ◌∷◌, ◌++◌, length, map, get_or, slice_get, Result, Ok, Err, refl, sym, ◌∙◌}
+use Rattle.std.proofs.Common.{◌≡◌, ℕ, zero, suc, ◌<◌, ap, subst, Bool, true, false, Option, Some, None, List, [], ◌∷◌, ◌++◌, length, map, get_or, slice_get}
+use Rattle.std.proofs.Common.{Result, Ok, Err, refl, sym, ◌∙◌}
 use Rattle.std.specs.Option.{option_map}
 use Rattle.std.specs.Prelude.{nat_le, IsOk}
 use Rattle.std.proofs.lemmas.Option.{slice_get-map, slice_get_read, same_Some}
@@ -32,7 +33,8 @@ within_more all [] e w h = (h, tt)
 within_more all (x ∷ ends) e w h = (w.0, within_more all ends e w.1 h)
 
 -- and one more
-pub within_after : (all : KeptParts) (ends behind : List LineEnd) (e : LineEnd) → behind ≡ ends ++ (e ∷ []) → AreWithin all ends → IsWithin all e.parts → AreWithin all behind
+pub within_after : (all : KeptParts) (ends behind : List LineEnd) (e : LineEnd) → behind ≡ ends ++ (e ∷ []) → AreWithin all ends → IsWithin all e.parts →
+    AreWithin all behind
 within_after all ends behind e is w h = subst (λ (l : List LineEnd). AreWithin all l) (sym is) (within_more all ends e w h)
 
 same_kept : (old new : KeptParts) (ends : List LineEnd) → Keeps old new → AreWithin old ends → map (line_kept new) ends ≡ map (line_kept old) ends
@@ -42,11 +44,13 @@ same_kept old new (e ∷ ends) keeps w =
     ∙ ap (λ l. line_kept old e ∷ l) (same_kept old new ends keeps w.1)
 
 -- what is kept of the lines stays
-pub kept_stays : (old new : KeptParts) (lines : List Line) (ends : List LineEnd) → Keeps old new → AreWithin old ends → AreKept old lines ends → AreKept new lines ends
+pub kept_stays : (old new : KeptParts) (lines : List Line) (ends : List LineEnd) → Keeps old new → AreWithin old ends → AreKept old lines ends →
+    AreKept new lines ends
 kept_stays old new lines ends keeps w h = h ∙ sym (same_kept old new ends keeps w)
 
 -- and one more is kept
-pub kept_after : (all : KeptParts) (lines after : List Line) (ends behind : List LineEnd) (line : Line) (e : LineEnd) → after ≡ lines ++ (line ∷ []) → behind ≡ ends ++ (e ∷ []) → AreKept all lines ends
+pub kept_after : (all : KeptParts) (lines after : List Line) (ends behind : List LineEnd) (line : Line) (e : LineEnd) → after ≡ lines ++ (line ∷ []) →
+    behind ≡ ends ++ (e ∷ []) → AreKept all lines ends
     → line_said line ≡ line_kept all e → AreKept all after behind
 kept_after all lines after ends behind line e a b h same =
     ap (map line_said) a
@@ -57,7 +61,8 @@ kept_after all lines after ends behind line e a b h same =
     ∙ sym (ap (map (line_kept all)) b)
 
 -- a line that was read is kept
-pub reading_kept : (all : KeptParts) (number : ℕ) (bytes : List ℕ) (reading : HeldLine) (e : LineEnd) → line_read bytes ≡ Ok (said_of reading) → parts_at all e.parts ≡ kept_of (parts_of reading) → e.parts.deleted ≡ reading.deleted
+pub reading_kept : (all : KeptParts) (number : ℕ) (bytes : List ℕ) (reading : HeldLine) (e : LineEnd) → line_read bytes ≡ Ok (said_of reading) →
+    parts_at all e.parts ≡ kept_of (parts_of reading) → e.parts.deleted ≡ reading.deleted
     → line_said (line_of number bytes) ≡ line_kept all e
 reading_kept all number bytes reading e read parts deleted =
     ap said_in read ∙ ap (λ (p : KeptParts). Some (reading.deleted, p)) (sym parts) ∙ ap (λ (d : Bool). Some (d, parts_at all e.parts)) (sym deleted)
@@ -68,11 +73,13 @@ within_at all (x ∷ ends) zero e w is = subst (λ (y : LineEnd). IsWithin all y
 within_at all (x ∷ ends) (suc i) e w is = within_at all ends i e w.1 is
 
 -- what is kept of the line of an index lies within
-pub kept_within : (all : KeptParts) (ends : List LineEnd) (i : ℕ) (e : LineEnd) → AreWithin all ends → i < length ends → e ≡ get_or ends i e → IsWithin all e.parts
+pub kept_within : (all : KeptParts) (ends : List LineEnd) (i : ℕ) (e : LineEnd) → AreWithin all ends → i < length ends → e ≡ get_or ends i e →
+    IsWithin all e.parts
 kept_within all ends i e w h is = within_at all ends i e w (slice_get_read ends (length ends) i e refl h is)
 
 -- the line of an index says what is kept of it
-said_at : (all : KeptParts) (lines : List Line) (ends : List LineEnd) (i : ℕ) (l : Line) (e : LineEnd) → AreKept all lines ends → slice_get lines i ≡ Some l → slice_get ends i ≡ Some e
+said_at : (all : KeptParts) (lines : List Line) (ends : List LineEnd) (i : ℕ) (l : Line) (e : LineEnd) → AreKept all lines ends → slice_get lines i ≡ Some l →
+    slice_get ends i ≡ Some e
     → line_said l ≡ line_kept all e
 said_at all lines ends i l e kept at end =
     same_Some _ _ (
@@ -82,15 +89,19 @@ said_at all lines ends i l e kept at end =
     ∙ ap (option_map (line_kept all)) end)
 
 -- what is loaded is what a reading says
-items_are : (said : Parts) (kept : KeptParts) (parts : Parts) → kept_of said ≡ kept → parts.words ≡ kept.words → parts.settings ≡ kept.settings → symbols parts.tokens ≡ symbols_from kept.kinds kept.numbers → items_of parts ≡ items_of said
+items_are : (said : Parts) (kept : KeptParts) (parts : Parts) → kept_of said ≡ kept → parts.words ≡ kept.words → parts.settings ≡ kept.settings →
+    symbols parts.tokens ≡ symbols_from kept.kinds kept.numbers → items_of parts ≡ items_of said
 items_are said kept parts same words settings marks =
     let w : parts.words ≡ said.words = words ∙ sym (ap (λ (k : KeptParts). k.words) same) in
     let s : parts.settings ≡ said.settings = settings ∙ sym (ap (λ (k : KeptParts). k.settings) same) in
-    let m : symbols parts.tokens ≡ symbols said.tokens = marks ∙ sym (ap (λ (k : KeptParts). symbols_from k.kinds k.numbers) same) ∙ loads_back (symbols said.tokens) in
+    let m : symbols parts.tokens ≡ symbols said.tokens = marks ∙ sym (ap (λ (k : KeptParts). symbols_from k.kinds k.numbers) same)
+    ∙ loads_back (symbols said.tokens) in
     λ i. record { words = w i; settings = s i; symbols = m i }
 
-shown_as : (bytes : List ℕ) (found : Result Said LineFault) (kept : KeptParts) (d deleted : Bool) (parts : Parts) → text_at (place_in (columns bytes)) (text bytes) ≡ found → said_in found ≡ Some (d, kept)
-    → deleted ≡ d → parts.words ≡ kept.words → parts.settings ≡ kept.settings → symbols parts.tokens ≡ symbols_from kept.kinds kept.numbers → ShowsReading bytes deleted parts
+shown_as : (bytes : List ℕ) (found : Result Said LineFault) (kept : KeptParts) (d deleted : Bool) (parts : Parts) →
+    text_at (place_in (columns bytes)) (text bytes) ≡ found → said_in found ≡ Some (d, kept)
+    → deleted ≡ d → parts.words ≡ kept.words → parts.settings ≡ kept.settings → symbols parts.tokens ≡ symbols_from kept.kinds kept.numbers →
+    ShowsReading bytes deleted parts
 shown_as bytes (Err fault) kept d deleted parts is same out words settings marks = absurd (cc same)
 shown_as bytes (Ok s) kept d deleted parts is same out words settings marks =
     let w = text_takes (place_in (columns bytes)) (text bytes) s is in
@@ -105,13 +116,16 @@ shown_as bytes (Ok s) kept d deleted parts is same out words settings marks =
       };
     }
 
-pub shown_line : (bytes : List ℕ) (long : Bool) (kept : KeptParts) (d deleted : Bool) (parts : Parts) → nat_le 257 (length bytes) ≡ long → said_in (line_read bytes) ≡ Some (d, kept)
-    → deleted ≡ d → parts.words ≡ kept.words → parts.settings ≡ kept.settings → symbols parts.tokens ≡ symbols_from kept.kinds kept.numbers → ShowsReading bytes deleted parts
+pub shown_line : (bytes : List ℕ) (long : Bool) (kept : KeptParts) (d deleted : Bool) (parts : Parts) → nat_le 257 (length bytes) ≡ long →
+    said_in (line_read bytes) ≡ Some (d, kept)
+    → deleted ≡ d → parts.words ≡ kept.words → parts.settings ≡ kept.settings → symbols parts.tokens ≡ symbols_from kept.kinds kept.numbers →
+    ShowsReading bytes deleted parts
 shown_line bytes true kept d deleted parts is same out words settings marks = absurd (cc (is, same))
 shown_line bytes false kept d deleted parts is same out words settings marks =
     shown_as bytes (text_at (place_in (columns bytes)) (text bytes)) kept d deleted parts refl (rw is at same) out words settings marks
 
-pub line_kept_is : (all : KeptParts) (lines : List Line) (ends : List LineEnd) (i : ℕ) (e : LineEnd) (bytes : List ℕ) → AreKept all lines ends → i < length ends → e ≡ get_or ends i e
+pub line_kept_is : (all : KeptParts) (lines : List Line) (ends : List LineEnd) (i : ℕ) (e : LineEnd) (bytes : List ℕ) → AreKept all lines ends →
+    i < length ends → e ≡ get_or ends i e
     → option_map (λ (l : Line). l.bytes) (slice_get lines i) ≡ Some bytes → (line_kept all e ≡ said_in (line_read bytes))
 line_kept_is all lines ends i e bytes kept h is b = by_line (slice_get lines i) refl b where
   by_line : (x : Option Line) → slice_get lines i ≡ x → option_map (λ (l : Line). l.bytes) x ≡ Some bytes → line_kept all e ≡ said_in (line_read bytes)

@@ -37,7 +37,8 @@ some_is x y e = cc
 found_is : (b : ℕ) (ls : List Letter) (l : Letter) → find (λ x. letter_byte x == b) ls ≡ Some l → letter_byte l ≡ b
 found_is b [] l e = absurd cc
 found_is b (x ∷ ls) l e = by_test (letter_byte x == b) refl (found_is b ls l) e where
-  by_test : (t : Bool) → (letter_byte x == b) ≡ t → (find (λ x. letter_byte x == b) ls ≡ Some l → letter_byte l ≡ b) → cond t (Some x) (find (λ x. letter_byte x == b) ls) ≡ Some l → letter_byte l ≡ b
+  by_test : (t : Bool) → (letter_byte x == b) ≡ t → (find (λ x. letter_byte x == b) ls ≡ Some l → letter_byte l ≡ b) →
+      cond t (Some x) (find (λ x. letter_byte x == b) ls) ≡ Some l → letter_byte l ≡ b
   by_test true t later e = ap letter_byte (sym (some_is x l e)) ∙ eqb-true (letter_byte x) b t
   by_test false t later e = later e
 

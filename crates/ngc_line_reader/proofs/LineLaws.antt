@@ -1,5 +1,6 @@
 -- Reading lines, in both directions.
-use Rattle.std.proofs.Common.{◌≡◌, ◌≢◌, ℕ, zero, suc, ◌+◌, ◌-◌, ◌<◌, ◌≤◌, ap, subst, Bool, true, false, Option, None, Some, List, [], ◌∷◌, ◌++◌, length, take, drop, Result, Ok, Err, refl, sym, ◌∙◌, append_assoc, length-append, arith, inl, inr}
+use Rattle.std.proofs.Common.{◌≡◌, ◌≢◌, ℕ, zero, suc, ◌+◌, ◌-◌, ◌<◌, ◌≤◌, ap, subst, Bool, true, false, Option, None, Some, List, [], ◌∷◌, ◌++◌, length, take}
+use Rattle.std.proofs.Common.{drop, Result, Ok, Err, refl, sym, ◌∙◌, append_assoc, length-append, arith, inl, inr}
 use Rattle.std.specs.Prelude.{OnOk, IsOk, ◌==◌, nat_le, slice_index}
 use Rattle.std.specs.List.{AllByRecursion, prefix_len}
 use Rattle.std.specs.Option.{option_map}
@@ -15,12 +16,16 @@ use Rattle.ngc_line_reader.specs.declared.line.RawWord.{RawWord}
 use Rattle.ngc_line_reader.specs.declared.line.RawSetting.{RawSetting}
 use Rattle.ngc_line_reader.specs.declared.line.Line.{Line}
 use Rattle.ngc_line_reader.specs.Text.{text, columns, place_in}
-use Rattle.ngc_line_reader.specs.Grammar.{Real, Item, word, setting, comment, Reading, IsReal, IsItem, IsLineNumber, IsReading, behind, real_text, item_text, items_text, spelling, Reads, Stops}
+use Rattle.ngc_line_reader.specs.Grammar.{Real, Item, word, setting, comment, Reading, IsReal, IsItem, IsLineNumber, IsReading, behind, real_text, item_text}
+use Rattle.ngc_line_reader.specs.Grammar.{items_text, spelling, Reads, Stops}
 use Rattle.ngc_line_reader.specs.Numbers.{digits_value}
 use Rattle.ngc_line_reader.specs.Tokens.{symbols_of, tokens_of, IsWithinLimit}
-use Rattle.ngc_line_reader.specs.Held.{all_tokens, token_count, words_from, settings_from, HoldsReading, IsItemWithinLimit, AllWithinLimit, item_words, word_count, WithinLimits}
+use Rattle.ngc_line_reader.specs.Held.{all_tokens, token_count, words_from, settings_from, HoldsReading, IsItemWithinLimit, AllWithinLimit, item_words}
+use Rattle.ngc_line_reader.specs.Held.{word_count, WithinLimits}
 use Rattle.ngc_line_reader.specs.Scan.{◌>>=◌, Gives, begins, refusal, digits_at, after_digits, real_at}
-use Rattle.ngc_line_reader.specs.ScanLine.{Parts, no_parts, with_word, with_setting, word_at, value_behind, setting_at, is_comment_byte, after_comment, comment_at, start_fault, by_letter, other_item_at, item_at, located, items_at, numbered, line_number_at, Said, said_of, after_slash, text_at}
+use Rattle.ngc_line_reader.specs.ScanLine.{Parts, no_parts, with_word, with_setting, word_at, value_behind, setting_at, is_comment_byte, after_comment}
+use Rattle.ngc_line_reader.specs.ScanLine.{comment_at, start_fault, by_letter, other_item_at, item_at, located, items_at, numbered, line_number_at, Said}
+use Rattle.ngc_line_reader.specs.ScanLine.{said_of, after_slash, text_at}
 use Rattle.ngc_line_reader.specs.declared.letter.Letter.{Letter}
 use Rattle.ngc_line_reader.specs.Letter.{letter_byte, letter_of}
 use Rattle.ngc_line_reader.proofs.LetterLemmas.{letter_again, letter_is, low_no_letter, N_no_letter}
@@ -43,7 +48,8 @@ added place found items end = record {
 abbrev pub step : (ℕ → ℕ) → Parts → Item → List ℕ → Parts
 step place found (word letter value) end = with_word place found letter (item_text (word letter value) ++ end) (found.tokens ++ tokens_of place value end)
 step place found (setting index value) end =
-    with_setting place found (item_text (setting index value) ++ end) (found.tokens ++ tokens_of place index (61 ∷ (real_text value ++ end))) ((found.tokens ++ tokens_of place index (61 ∷ (real_text value ++ end))) ++ tokens_of place value end)
+    with_setting place found (item_text (setting index value) ++ end) (found.tokens ++ tokens_of place index (61 ∷ (real_text value ++ end)))
+    ((found.tokens ++ tokens_of place index (61 ∷ (real_text value ++ end))) ++ tokens_of place value end)
 step place found (comment bytes) end = found
 
 abbrev joined : List RawWord → List RawSetting → List Token → Parts
@@ -53,38 +59,51 @@ same_parts : (a b : List RawWord) (c d : List RawSetting) (x y : List Token) →
 same_parts a b c d x y p q r = cc
 
 added-none : (place : ℕ → ℕ) (found : Parts) (end : List ℕ) → found ≡ added place found [] end
-added-none place found end = same_parts found.words (found.words ++ []) found.settings (found.settings ++ []) found.tokens (found.tokens ++ []) (sym (append-nil found.words)) (sym (append-nil found.settings)) (sym (append-nil found.tokens))
+added-none place found end = same_parts found.words (found.words ++ []) found.settings (found.settings ++ []) found.tokens (found.tokens ++ [])
+    (sym (append-nil found.words)) (sym (append-nil found.settings)) (sym (append-nil found.tokens))
 
 -- how many tokens there are with a value's
 longer_by : (place : ℕ → ℕ) (ts : List Token) (v : Real) (end : List ℕ) → length (ts ++ tokens_of place v end) ≡ length ts + length (symbols_of v)
 longer_by place ts v end = length-append ts (tokens_of place v end) ∙ ap (λ (n : ℕ). length ts + n) (length-tokens_of place v end)
 
-added-step : (place : ℕ → ℕ) (found : Parts) (i : Item) (items : List Item) (end : List ℕ) → added place (step place found i (items_text items ++ end)) items end ≡ added place found (i ∷ items) end
+added-step : (place : ℕ → ℕ) (found : Parts) (i : Item) (items : List Item) (end : List ℕ) →
+    added place (step place found i (items_text items ++ end)) items end ≡ added place found (i ∷ items) end
 added-step place found (word letter value) items end =
     let behind_it = items_text items ++ end in
     let all = letter_byte letter ∷ (real_text value ++ behind_it) in
-    let regrouped : (letter_byte letter ∷ (real_text value ++ items_text items)) ++ end ≡ all = ap (λ (t : List ℕ). letter_byte letter ∷ t) (append_assoc (real_text value) (items_text items) end) in
+    let regrouped : (letter_byte letter ∷ (real_text value ++ items_text items)) ++ end ≡ all =
+    ap (λ (t : List ℕ). letter_byte letter ∷ t) (append_assoc (real_text value) (items_text items) end) in
     let longer = longer_by place found.tokens value behind_it in
     same_parts _ _ _ _ _ _
     (append_assoc found.words (record { letter = letter; column = place (length all); first = length found.tokens } ∷ []) _
-    ∙ ap (λ (n : ℕ). found.words ++ (record { letter = letter; column = place (length all); first = length found.tokens } ∷ words_from place n items end)) longer
-    ∙ ap (λ (t : List ℕ). found.words ++ (record { letter = letter; column = place (length t); first = length found.tokens } ∷ words_from place (length found.tokens + token_count (word letter value)) items end)) (sym regrouped))
+    ∙ ap (λ (n : ℕ). found.words ++ (record { letter = letter; column = place (length all); first = length found.tokens } ∷ words_from place n items end))
+    longer
+    ∙ ap (λ (t : List ℕ). found.words
+    ++ (record { letter = letter; column = place (length t); first = length found.tokens }
+    ∷ words_from place (length found.tokens + token_count (word letter value)) items end)) (sym regrouped))
     (ap (λ (n : ℕ). found.settings ++ settings_from place n items end) longer)
     (append_assoc found.tokens (tokens_of place value behind_it) (all_tokens place items end))
 added-step place found (setting index value) items end =
     let behind_it = items_text items ++ end in
     let all = 35 ∷ ((real_text index ++ (61 ∷ real_text value)) ++ behind_it) in
-    let regrouped : (35 ∷ ((real_text index ++ (61 ∷ real_text value)) ++ items_text items)) ++ end ≡ all = ap (λ (t : List ℕ). 35 ∷ t) (append_assoc (real_text index ++ (61 ∷ real_text value)) (items_text items) end) in
+    let regrouped : (35 ∷ ((real_text index ++ (61 ∷ real_text value)) ++ items_text items)) ++ end ≡ all =
+    ap (λ (t : List ℕ). 35 ∷ t) (append_assoc (real_text index ++ (61 ∷ real_text value)) (items_text items) end) in
     let ts = tokens_of place index (61 ∷ (real_text value ++ behind_it)) in
     let us = tokens_of place value behind_it in
     let first = longer_by place found.tokens index (61 ∷ (real_text value ++ behind_it)) in
-    let longer : length ((found.tokens ++ ts) ++ us) ≡ length found.tokens + token_count (setting index value) = omega (arith, first, longer_by place (found.tokens ++ ts) value behind_it) in
+    let longer : length ((found.tokens ++ ts) ++ us) ≡ length found.tokens + token_count (setting index value) =
+    omega (arith, first, longer_by place (found.tokens ++ ts) value behind_it) in
     same_parts _ _ _ _ _ _
     (ap (λ (n : ℕ). found.words ++ words_from place n items end) longer)
     (append_assoc found.settings (record { column = place (length all); index = length found.tokens; value = length (found.tokens ++ ts) } ∷ []) _
-    ∙ ap (λ (n : ℕ). found.settings ++ (record { column = place (length all); index = length found.tokens; value = length (found.tokens ++ ts) } ∷ settings_from place n items end)) longer
-    ∙ ap (λ (n : ℕ). found.settings ++ (record { column = place (length all); index = length found.tokens; value = n } ∷ settings_from place (length found.tokens + token_count (setting index value)) items end)) first
-    ∙ ap (λ (t : List ℕ). found.settings ++ (record { column = place (length t); index = length found.tokens; value = length found.tokens + length (symbols_of index) } ∷ settings_from place (length found.tokens + token_count (setting index value)) items end)) (sym regrouped))
+    ∙ ap (λ (n : ℕ). found.settings
+    ++ (record { column = place (length all); index = length found.tokens; value = length (found.tokens ++ ts) } ∷ settings_from place n items end)) longer
+    ∙ ap (λ (n : ℕ). found.settings
+    ++ (record { column = place (length all); index = length found.tokens; value = n }
+    ∷ settings_from place (length found.tokens + token_count (setting index value)) items end)) first
+    ∙ ap (λ (t : List ℕ). found.settings
+    ++ (record { column = place (length t); index = length found.tokens; value = length found.tokens + length (symbols_of index) }
+    ∷ settings_from place (length found.tokens + token_count (setting index value)) items end)) (sym regrouped))
     (append_assoc (found.tokens ++ ts) us (all_tokens place items end)
     ∙ append_assoc found.tokens ts (us ++ all_tokens place items end)
     ∙ ap (λ (w : List Token). found.tokens ++ w) (sym (append_assoc ts us (all_tokens place items end))))
@@ -98,26 +117,30 @@ below_64 n h = grind (arith, nat_tests)
 not_zero : (n : ℕ) → (suc n == 0) ≡ false
 not_zero n = grind (arith, nat_tests)
 
-word_again : (place : ℕ → ℕ) (room : ℕ) (found : Parts) (letter : Letter) (v : Real) (r : List ℕ) → IsReal v → IsWithinLimit v → Stops r → length found.words + 1 ≤ 64
+word_again : (place : ℕ → ℕ) (room : ℕ) (found : Parts) (letter : Letter) (v : Real) (r : List ℕ) → IsReal v → IsWithinLimit v → Stops r →
+    length found.words + 1 ≤ 64
     → length (real_text v ++ r) < room → word_at place room found letter (letter_byte letter ∷ (real_text v ++ r)) ≡ Ok (step place found (word letter v) r, r)
 unfolding word_at
 word_again place room found letter v r h limit stops few fits =
     rw (below_64 (length found.words) few, real_again place v r room found.tokens h limit stops fits) refl
 
 value_again : (place : ℕ → ℕ) (room : ℕ) (found : Parts) (s : List ℕ) (index : List Token) (v : Real) (r : List ℕ) → IsReal v → IsWithinLimit v → Stops r
-    → length (real_text v ++ r) < room → value_behind place room found s index (61 ∷ (real_text v ++ r)) ≡ Ok (with_setting place found s index (index ++ tokens_of place v r), r)
+    → length (real_text v ++ r) < room → value_behind place room found s index (61 ∷ (real_text v ++ r))
+    ≡ Ok (with_setting place found s index (index ++ tokens_of place v r), r)
 unfolding value_behind
 value_again place room found s index v r h limit stops fits = rw (real_again place v r room index h limit stops fits) refl
 
 setting_again : (place : ℕ → ℕ) (room : ℕ) (found : Parts) (i v : Real) (r : List ℕ) → IsReal i → IsReal v → IsWithinLimit i → IsWithinLimit v → Stops r
-    → length (real_text i ++ (61 ∷ (real_text v ++ r))) < room → setting_at place room found (item_text (setting i v) ++ r) ≡ Ok (step place found (setting i v) r, r)
+    → length (real_text i ++ (61 ∷ (real_text v ++ r))) < room → setting_at place room found (item_text (setting i v) ++ r)
+    ≡ Ok (step place found (setting i v) r, r)
 unfolding setting_at
 setting_again place room found i v r p q j k stops fits =
     let s = item_text (setting i v) ++ r in
     let parts : drop 1 s ≡ real_text i ++ (61 ∷ (real_text v ++ r)) = append_assoc (real_text i) (61 ∷ real_text v) r in
     let more = length-append (real_text i) (61 ∷ (real_text v ++ r)) in
     let first : real_at place room found.tokens (drop 1 s) ≡ Ok (found.tokens ++ tokens_of place i (61 ∷ (real_text v ++ r)), 61 ∷ (real_text v ++ r)) =
-    ap (λ (t : List ℕ). real_at place room found.tokens t) parts ∙ real_again place i (61 ∷ (real_text v ++ r)) room found.tokens p j (refl, λ e. omega arith) fits in
+    ap (λ (t : List ℕ). real_at place room found.tokens t) parts ∙ real_again place i (61 ∷ (real_text v ++ r)) room found.tokens p j
+    (refl, λ e. omega arith) fits in
     rw first (value_again place room found s (found.tokens ++ tokens_of place i (61 ∷ (real_text v ++ r))) v r q k stops (omega (arith, fits, more)))
 
 plain_byte : (b : ℕ) → b ≢ 40 → b ≢ 41 → is_comment_byte b ≡ true
@@ -135,7 +158,8 @@ comment_again bs r h =
 abbrev Read : Type 0
 Read = Result (Parts × List ℕ) Refusal
 
-item_again : (place : ℕ → ℕ) (room : ℕ) (found : Parts) (i : Item) (r : List ℕ) → IsItem i → IsItemWithinLimit i → Stops r → length found.words + item_words i ≤ 64
+item_again : (place : ℕ → ℕ) (room : ℕ) (found : Parts) (i : Item) (r : List ℕ) → IsItem i → IsItemWithinLimit i → Stops r →
+    length found.words + item_words i ≤ 64
     → length (item_text i ++ r) ≤ room → item_at place room found (item_text i ++ r) ≡ Ok (step place found i r, r)
 unfolding item_at other_item_at letter_of
 item_again place room found (word letter v) r h limit stops few fits =
@@ -161,7 +185,8 @@ no_remark : (i : Item) (r : List ℕ) → IsItem i → begins 59 (item_text i ++
 no_remark i r h = begins_not 59 (item_text i ++ r) (λ t e. item_not 59 i r t (low_no_letter 59 (omega arith)) (λ q. omega arith) (λ q. omega arith) h e)
 
 pub step_words : (place : ℕ → ℕ) (found : Parts) (i : Item) (r : List ℕ) → length (step place found i r).words ≡ length found.words + item_words i
-step_words place found (word letter v) r = length-append found.words (record { letter = letter; column = place (length (item_text (word letter v) ++ r)); first = length found.tokens } ∷ [])
+step_words place found (word letter v) r =
+    length-append found.words (record { letter = letter; column = place (length (item_text (word letter v) ++ r)); first = length found.tokens } ∷ [])
 step_words place found (setting i v) r = omega arith
 step_words place found (comment bs) r = omega arith
 
@@ -171,7 +196,8 @@ told x = Ok x
 told_is : {A : Type 0} (x y : A) → told x ≡ told y → x ≡ y
 told_is x y e = cc
 
-items_again : (items : List Item) (m : Option (List ℕ)) (place : ℕ → ℕ) (room : ℕ) (found : Parts) → AllByRecursion IsItem items → AllWithinLimit items → length found.words + word_count items ≤ 64
+items_again : (items : List Item) (m : Option (List ℕ)) (place : ℕ → ℕ) (room : ℕ) (found : Parts) → AllByRecursion IsItem items → AllWithinLimit items →
+    length found.words + word_count items ≤ 64
     → length (end_text items m) < room → items_at place room found (end_text items m) ≡ told (added place found items (behind 59 m))
 items_again [] None place room found h limit few fits =
     let some : 0 < room = omega (arith, fits) in
@@ -190,14 +216,16 @@ items_again (i ∷ items) m place room found h limit few fits =
     let words = step_words place found i r in
     let first = item_again place (room - 1) found i r h.0 limit.0 (end_stops items m h.1) (omega (arith, few)) (omega (arith, fits, longer)) in
     let rest = items_again items m place (room - 1) next h.1 limit.1 (omega (arith, few, words)) (omega (arith, fits, longer, more, size.1)) in
-    let one : items_at place room found (item_text i ++ r) ≡ items_at place (room - 1) next r = rw (items_step place room found (item_text i ++ r) some, size.0, no_remark i r h.0, first) refl in
+    let one : items_at place room found (item_text i ++ r) ≡ items_at place (room - 1) next r =
+    rw (items_step place room found (item_text i ++ r) some, size.0, no_remark i r h.0, first) refl in
     ap (λ (s : List ℕ). items_at place room found s) regrouped ∙ one ∙ rest
     ∙ ap told (added-step place found i items (behind 59 m))
 
 few_digits : (n : ℕ) → 0 < n → n ≤ 5 → ((n == 0) ≡ false) × (nat_le 6 n ≡ false)
 few_digits n h k = (grind (arith, nat_tests), grind (arith, nat_tests))
 
-number_again : (a : Option (List ℕ)) (r : List ℕ) → IsLineNumber a → Stops r → begins 78 r ≡ false → line_number_at (behind 78 a ++ r) ≡ Ok (option_map digits_value a, r)
+number_again : (a : Option (List ℕ)) (r : List ℕ) → IsLineNumber a → Stops r → begins 78 r ≡ false →
+    line_number_at (behind 78 a ++ r) ≡ Ok (option_map digits_value a, r)
 unfolding line_number_at
 number_again None r h stops no_n = rw no_n refl
 number_again (Some ds) r h stops no_n =
@@ -219,7 +247,8 @@ text_again place r h limits =
     let t = behind 78 r.number ++ end in
     let no_slash : begins 47 t ≡ false = begins_not 47 t (λ s e. number_not_slash r.number r.items r.remark s h.1 e) in
     let slashes = slash_again r.deleted t no_slash in
-    let no_n : begins 78 end ≡ false = begins_not 78 end (λ s e. end_not 78 r.items r.remark s N_no_letter (λ q. omega arith) (λ q. omega arith) (λ q. omega arith) h.1 e) in
+    let no_n : begins 78 end ≡ false = begins_not 78 end
+    (λ s e. end_not 78 r.items r.remark s N_no_letter (λ q. omega arith) (λ q. omega arith) (λ q. omega arith) h.1 e) in
     let first = number_again r.number end h.0 (end_stops r.items r.remark h.1) no_n in
     let longer = length-append (slash r.deleted) t in
     let more = length-append (behind 78 r.number) end in
@@ -240,7 +269,8 @@ unfolding letter_of
 letter_first [] l e = absurd cc
 letter_first (b ∷ s) l e = ap (λ (c : ℕ). c ∷ s) (letter_is b l e)
 
-word_takes : (place : ℕ → ℕ) (room : ℕ) (found : Parts) (letter : Letter) (s : List ℕ) (x : Parts × List ℕ) → s ≡ letter_byte letter ∷ drop 1 s → word_at place room found letter s ≡ Ok x → TakesItem place found s x
+word_takes : (place : ℕ → ℕ) (room : ℕ) (found : Parts) (letter : Letter) (s : List ℕ) (x : Parts × List ℕ) → s ≡ letter_byte letter ∷ drop 1 s →
+    word_at place room found letter s ≡ Ok x → TakesItem place found s x
 unfolding word_at
 word_takes place room found letter s x first e =
     elim (chosen (length found.words == 64) (Err (OfItem TooManyWords)) _ (done x) e) [
@@ -268,7 +298,8 @@ record TakesValue (place : ℕ → ℕ) (found : Parts) (s : List ℕ) (index : 
   parts_are : x.0 ≡ with_setting place found s index (index ++ tokens_of place v x.1)
   spelled : r ≡ 61 ∷ (real_text v ++ x.1)
 
-value_takes : (place : ℕ → ℕ) (room : ℕ) (found : Parts) (s : List ℕ) (index : List Token) (r : List ℕ) (x : Parts × List ℕ) → value_behind place room found s index r ≡ Ok x → TakesValue place found s index r x
+value_takes : (place : ℕ → ℕ) (room : ℕ) (found : Parts) (s : List ℕ) (index : List Token) (r : List ℕ) (x : Parts × List ℕ) →
+    value_behind place room found s index r ≡ Ok x → TakesValue place found s index r x
 unfolding value_behind
 value_takes place room found s index r x e =
     elim (chosen (begins 61 r) _ (Err (refusal BadNumber r)) (done x) e) [
@@ -287,21 +318,25 @@ value_takes place room found s index r x e =
       | inr k ↦ absurd (cc k.1)
     ]
 
-setting_takes : (place : ℕ → ℕ) (room : ℕ) (found : Parts) (s : List ℕ) (x : Parts × List ℕ) → begins 35 s ≡ true → setting_at place room found s ≡ Ok x → TakesItem place found s x
+setting_takes : (place : ℕ → ℕ) (room : ℕ) (found : Parts) (s : List ℕ) (x : Parts × List ℕ) → begins 35 s ≡ true → setting_at place room found s ≡ Ok x →
+    TakesItem place found s x
 unfolding setting_at
 setting_takes place room found s x hash e =
     let b = bind_ok (real_at place room found.tokens (drop 1 s)) (λ y. value_behind place room found s y.0 y.1) x e in
     let t = real_takes place room found.tokens (drop 1 s) b.0 b.1 in
     let u = value_takes place room found s b.0.0 b.0.1 x b.2 in
     let spelled : s ≡ item_text (setting t.v u.v) ++ x.1 =
-    begins_is 35 s hash ∙ ap (λ (z : List ℕ). 35 ∷ z) (t.parts ∙ ap (λ (z : List ℕ). real_text t.v ++ z) u.spelled ∙ sym (append_assoc (real_text t.v) (61 ∷ real_text u.v) x.1)) in
-    let index : b.0.0 ≡ found.tokens ++ tokens_of place t.v (61 ∷ (real_text u.v ++ x.1)) = t.tokens ∙ ap (λ (z : List ℕ). found.tokens ++ tokens_of place t.v z) u.spelled in
+    begins_is 35 s hash ∙ ap (λ (z : List ℕ). 35 ∷ z)
+    (t.parts ∙ ap (λ (z : List ℕ). real_text t.v ++ z) u.spelled ∙ sym (append_assoc (real_text t.v) (61 ∷ real_text u.v) x.1)) in
+    let index : b.0.0 ≡ found.tokens ++ tokens_of place t.v (61 ∷ (real_text u.v ++ x.1)) =
+    t.tokens ∙ ap (λ (z : List ℕ). found.tokens ++ tokens_of place t.v z) u.spelled in
     record {
       i = setting t.v u.v;
       is = (t.is, u.is);
       limit = (t.limit, u.limit);
       parts_are = u.parts_are ∙ ap (λ (ts : List Token). with_setting place found s ts (ts ++ tokens_of place u.v x.1)) index
-          ∙ ap (λ (z : List ℕ). with_setting place found z (found.tokens ++ tokens_of place t.v (61 ∷ (real_text u.v ++ x.1))) ((found.tokens ++ tokens_of place t.v (61 ∷ (real_text u.v ++ x.1))) ++ tokens_of place u.v x.1)) spelled;
+          ∙ ap (λ (z : List ℕ). with_setting place found z (found.tokens ++ tokens_of place t.v (61 ∷ (real_text u.v ++ x.1)))
+          ((found.tokens ++ tokens_of place t.v (61 ∷ (real_text u.v ++ x.1))) ++ tokens_of place u.v x.1)) spelled;
       spelled = spelled;
     }
 
@@ -311,7 +346,8 @@ IsPlain bs = AllByRecursion (λ b. (b ≢ 40) × (b ≢ 41)) bs
 plain_is : (b : ℕ) → is_comment_byte b ≡ true → (b ≢ 40) × (b ≢ 41)
 plain_is b h = (λ e. grind (arith, nat_tests), λ e. grind (arith, nat_tests))
 
-IsPlain-cons : (b : ℕ) (s : List ℕ) (x : Bool) → is_comment_byte b ≡ x → IsPlain (take (prefix_len is_comment_byte s) s) → IsPlain (take (prefix_len is_comment_byte (b ∷ s)) (b ∷ s))
+IsPlain-cons : (b : ℕ) (s : List ℕ) (x : Bool) → is_comment_byte b ≡ x → IsPlain (take (prefix_len is_comment_byte s) s) →
+    IsPlain (take (prefix_len is_comment_byte (b ∷ s)) (b ∷ s))
 IsPlain-cons b s true e h = rw (take_while-cons is_comment_byte b s, e) (plain_is b e, h)
 IsPlain-cons b s false e h = rw (take_while-cons is_comment_byte b s, e) tt
 
@@ -319,7 +355,8 @@ IsPlain-at : (s : List ℕ) → IsPlain (take (prefix_len is_comment_byte s) s)
 IsPlain-at [] = tt
 IsPlain-at (b ∷ s) = IsPlain-cons b s (is_comment_byte b) refl (IsPlain-at s)
 
-comment_takes : (place : ℕ → ℕ) (found : Parts) (s : List ℕ) (x : Parts × List ℕ) → begins 40 s ≡ true → (comment_at s >>= λ r. Ok (found, r)) ≡ done x → TakesItem place found s x
+comment_takes : (place : ℕ → ℕ) (found : Parts) (s : List ℕ) (x : Parts × List ℕ) → begins 40 s ≡ true → (comment_at s >>= λ r. Ok (found, r)) ≡ done x →
+    TakesItem place found s x
 comment_takes place found s x paren e =
     let b = bind_ok (comment_at s) (λ r. Ok (found, r)) x e in
     let u = drop 1 s in
@@ -329,7 +366,8 @@ comment_takes place found s x paren e =
       | inl k ↦
           let pair : Parts × List ℕ = (found, b.0) in
           let rest : drop 1 end ≡ b.0 = ok_is (drop 1 end) b.0 k.1 in
-          let parts : u ≡ bs ++ (41 ∷ b.0) = sym (take-append-drop (prefix_len is_comment_byte u) u) ∙ ap (λ (z : List ℕ). bs ++ z) (begins_is 41 end k.0 ∙ ap (λ (z : List ℕ). 41 ∷ z) rest) in
+          let parts : u ≡ bs ++ (41 ∷ b.0) = sym (take-append-drop (prefix_len is_comment_byte u) u)
+          ∙ ap (λ (z : List ℕ). bs ++ z) (begins_is 41 end k.0 ∙ ap (λ (z : List ℕ). 41 ∷ z) rest) in
           let made : TakesItem place found s (found, b.0) = record {
             i = comment bs;
             is = IsPlain-at u;
@@ -344,7 +382,8 @@ comment_takes place found s x paren e =
       ]
     ]
 
-other_item_takes : (place : ℕ → ℕ) (room : ℕ) (found : Parts) (s : List ℕ) (x : Parts × List ℕ) → other_item_at place room found s ≡ Ok x → TakesItem place found s x
+other_item_takes : (place : ℕ → ℕ) (room : ℕ) (found : Parts) (s : List ℕ) (x : Parts × List ℕ) → other_item_at place room found s ≡ Ok x →
+    TakesItem place found s x
 unfolding other_item_at
 other_item_takes place room found s x e =
     elim (chosen (begins 35 s) (setting_at place room found s) _ (done x) e) [
@@ -405,7 +444,8 @@ items_take place (suc room) found parts s e =
             let b = bind_ok (located place s (item_at place room found s)) (λ x. items_at place room x.0 x.1) parts k.1 in
             let t = item_takes place room found s b.0 (located_ok place s (item_at place room found s) b.0 b.1) in
             let u = items_take place room b.0.0 parts b.0.1 b.2 in
-            let all : s ≡ end_text (t.i ∷ u.items) u.remark = t.spelled ∙ ap (λ (z : List ℕ). item_text t.i ++ z) u.spelled ∙ sym (append_assoc (item_text t.i) (items_text u.items) (behind 59 u.remark)) in
+            let all : s ≡ end_text (t.i ∷ u.items) u.remark = t.spelled ∙ ap (λ (z : List ℕ). item_text t.i ++ z) u.spelled
+            ∙ sym (append_assoc (item_text t.i) (items_text u.items) (behind 59 u.remark)) in
             record {
               items = t.i ∷ u.items;
               remark = u.remark;
@@ -484,7 +524,8 @@ pub text_takes : (place : ℕ → ℕ) (s : List ℕ) (x : Said) → text_at pla
 unfolding text_at
 text_takes place s x e =
     let t = after_slash s in
-    let a = bind_ok (located place t (line_number_at t)) (λ y. items_at place (length s + 1) no_parts y.1 >>= λ parts. Ok (saying (begins 47 s) y.0 parts)) x e in
+    let a = bind_ok (located place t (line_number_at t))
+    (λ y. items_at place (length s + 1) no_parts y.1 >>= λ parts. Ok (saying (begins 47 s) y.0 parts)) x e in
     let n = number_takes t a.0 (located_ok place t (line_number_at t) a.0 a.1) in
     let b = bind_ok (items_at place (length s + 1) no_parts a.0.1) (λ parts. Ok (saying (begins 47 s) a.0.0 parts)) x a.2 in
     let u = items_take place (length s + 1) no_parts b.0 a.0.1 b.1 in
@@ -498,7 +539,8 @@ text_takes place s x e =
     }
 
 -- what was read is a reading
-pub gives_reading : (bytes t cs : List ℕ) (line : Line) (result : Result Unit LineFault) → t ≡ text bytes → cs ≡ columns bytes → Gives (λ _. said_of line) result (text_at (place_in cs) t) → OnOk result (HoldsReading bytes line)
+pub gives_reading : (bytes t cs : List ℕ) (line : Line) (result : Result Unit LineFault) → t ≡ text bytes → cs ≡ columns bytes →
+    Gives (λ _. said_of line) result (text_at (place_in cs) t) → OnOk result (HoldsReading bytes line)
 gives_reading bytes t cs line (Err e) is at g = tt
 gives_reading bytes t cs line (Ok u) is at g =
     let w = text_takes (place_in cs) t (said_of line) g in
@@ -517,7 +559,8 @@ gives_reading bytes t cs line (Ok u) is at g =
     }
 
 -- and where there is a reading within the limits, it is found
-pub finds_reading : (bytes t cs : List ℕ) (line : Line) (result : Result Unit LineFault) → t ≡ text bytes → Gives (λ _. said_of line) result (text_at (place_in cs) t)
+pub finds_reading : (bytes t cs : List ℕ) (line : Line) (result : Result Unit LineFault) → t ≡ text bytes →
+    Gives (λ _. said_of line) result (text_at (place_in cs) t)
     → (r : Reading) → Reads bytes r → WithinLimits r → IsOk result
 finds_reading bytes t cs line (Ok u) is g r reads limits = refl
 finds_reading bytes t cs line (Err e) is g r reads limits =
@@ -526,7 +569,8 @@ finds_reading bytes t cs line (Err e) is g r reads limits =
     absurd (cc (found, other))
 
 -- an empty line holds what no bytes say
-pub holds_nothing : (line : Line) → line.deleted ≡ false → line.number ≡ None → line.words.items ≡ [] → line.settings.items ≡ [] → line.tokens.items ≡ [] → HoldsReading [] line
+pub holds_nothing : (line : Line) → line.deleted ≡ false → line.number ≡ None → line.words.items ≡ [] → line.settings.items ≡ [] → line.tokens.items ≡ [] →
+    HoldsReading [] line
 holds_nothing line deleted number words settings tokens = record {
   reading = record { deleted = false; number = None; items = []; remark = None };
   reads = ((tt, tt), refl);

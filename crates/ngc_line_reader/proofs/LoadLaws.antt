@@ -1,5 +1,6 @@
 -- What taking a line or a piece of one comes to.
-use Rattle.std.proofs.Common.{◌≡◌, ◌≢◌, ◌⊎◌, inl, inr, ℕ, ◌+◌, ◌<◌, ◌≤◌, ap, subst, Bool, true, false, List, [], ◌∷◌, ◌++◌, length, Result, Ok, Err, refl, sym, ◌∙◌, append_assoc, length-append, arith}
+use Rattle.std.proofs.Common.{◌≡◌, ◌≢◌, ◌⊎◌, inl, inr, ℕ, ◌+◌, ◌<◌, ◌≤◌, ap, subst, Bool, true, false, List, [], ◌∷◌, ◌++◌, length, Result, Ok, Err, refl, sym}
+use Rattle.std.proofs.Common.{◌∙◌, append_assoc, length-append, arith}
 use Rattle.std.specs.Prelude.{◌==◌, nat_le, ◌&&◌, OnOk}
 use Rattle.std.proofs.lemmas.Bool.Decides.{nat_tests}
 use Rattle.std.proofs.lemmas.List.{append-nil}
@@ -20,7 +21,8 @@ use Rattle.ngc_line_reader.specs.ReadLine.{line_read}
 use Rattle.ngc_line_reader.specs.ProgramText.{ProgramText, Outcome, fault_of, program_of}
 use Rattle.ngc_line_reader.specs.ProgramView.{lines_in, FaultIs, OutcomeIs}
 use Rattle.ngc_line_reader.specs.Pieces.{firm_lines, fault_so_far}
-use Rattle.ngc_line_reader.specs.Load.{phase_after, is_percent, is_blank, next_line, TakesLine, RefusedBy, at_percent, ended_in, walk, ended, walked, resumed, standing, PartsLines, NoFeed, IsLoading, StepGives, phase_room, room_behind}
+use Rattle.ngc_line_reader.specs.Load.{phase_after, is_percent, is_blank, next_line, TakesLine, RefusedBy, at_percent, ended_in, walk, ended, walked, resumed}
+use Rattle.ngc_line_reader.specs.Load.{standing, PartsLines, NoFeed, IsLoading, StepGives, phase_room, room_behind}
 use Rattle.ngc_line_reader.proofs.StoredLaws.{length-lines_from}
 use Rattle.ngc_line_reader.proofs.Walk.{walk_line, walk_refused, walk_percent, walk_program, walk_firm}
 use Rattle.ngc_line_reader.proofs.Feeds.{split_last, feedless_both}
@@ -39,16 +41,19 @@ long_percent : (n : ℕ) (t : Bool) → 256 < n → (nat_le n 256 && t) ≡ fals
 long_percent n true h = grind (arith, nat_tests)
 long_percent n false h = grind (arith, nat_tests)
 
-marks : (phase : Phase) (done : ℕ) (found : List Line) (b : List ℕ) (ls : List (List ℕ)) → phase ≡ Start → is_percent b ≡ true → walk phase done found (b ∷ ls) ≡ walk Marked done found ls
+marks : (phase : Phase) (done : ℕ) (found : List Line) (b : List ℕ) (ls : List (List ℕ)) → phase ≡ Start → is_percent b ≡ true →
+    walk phase done found (b ∷ ls) ≡ walk Marked done found ls
 marks phase done found b ls e p = walk_percent phase done found b ls p ∙ ap (λ (f : Phase). at_percent f found (walk Marked done found ls)) e
 
-ends_at : (phase : Phase) (done : ℕ) (found : List Line) (b : List ℕ) (ls : List (List ℕ)) → phase ≢ Start → is_percent b ≡ true → walk phase done found (b ∷ ls) ≡ Ok (ended_in phase found)
+ends_at : (phase : Phase) (done : ℕ) (found : List Line) (b : List ℕ) (ls : List (List ℕ)) → phase ≢ Start → is_percent b ≡ true →
+    walk phase done found (b ∷ ls) ≡ Ok (ended_in phase found)
 ends_at Start done found b ls e p = absurd (e refl)
 ends_at Marked done found b ls e p = walk_percent Marked done found b ls p
 ends_at Unmarked done found b ls e p = walk_percent Unmarked done found b ls p
 
 -- a step from and to equal outcomes
-step_is : (result : Result Step ReadFault) (a b c d : Outcome) (t : ProgramText) → a ≡ b → (result ≡ Ok More → c ≡ d) → StepGives result b d t → StepGives result a c t
+step_is : (result : Result Step ReadFault) (a b c d : Outcome) (t : ProgramText) → a ≡ b → (result ≡ Ok More → c ≡ d) → StepGives result b d t →
+    StepGives result a c t
 step_is (Ok More) a b c d t e f h = e ∙ h ∙ sym (f refl)
 step_is (Ok End) a b c d t e f h = e ∙ h
 step_is (Err fault) a b c d t e f h = subst (λ (o : Outcome). FaultIs fault o) (sym e) h
@@ -76,9 +81,11 @@ no_room n h = omega arith
 
 module _ {A : Type 0} where
   -- the lines go on behind a line that was taken
-  pub took_line : (old new : LinesSoFar A) (bytes : List ℕ) (ls : List (List ℕ)) → is_percent bytes ≡ false → TakesLine old new bytes → walked old (bytes ∷ ls) ≡ walked new ls
+  pub took_line : (old new : LinesSoFar A) (bytes : List ℕ) (ls : List (List ℕ)) → is_percent bytes ≡ false → TakesLine old new bytes →
+      walked old (bytes ∷ ls) ≡ walked new ls
   took_line old new bytes ls p t =
-      let count : length (lines_in new.lines) ≡ length (lines_in old.lines) + 1 = ap length t.lines ∙ length-append (lines_in old.lines) (next_line old bytes ∷ []) in
+      let count : length (lines_in new.lines) ≡ length (lines_in old.lines) + 1 =
+      ap length t.lines ∙ length-append (lines_in old.lines) (next_line old bytes ∷ []) in
       walk_line old.phase (length (lines_in old.lines)) (lines_in old.lines) bytes ls p t.sound ∙ cc (t.phase, t.lines, count)
 
   pub refused_line : (old : LinesSoFar A) (bytes : List ℕ) (ls : List (List ℕ)) (fault : ReadFault) → is_percent bytes ≡ false
@@ -91,7 +98,8 @@ module _ {A : Type 0} where
 
   pub took_room : (old new : LinesSoFar A) (bytes : List ℕ) → TakesLine old new bytes → room_behind new + length bytes + 1 ≤ room_behind old
   took_room old new bytes t =
-      let count : length (lines_in new.lines) ≡ length (lines_in old.lines) + 1 = ap length t.lines ∙ length-append (lines_in old.lines) (next_line old bytes ∷ []) in
+      let count : length (lines_in new.lines) ≡ length (lines_in old.lines) + 1 =
+      ap length t.lines ∙ length-append (lines_in old.lines) (next_line old bytes ∷ []) in
       let phase : phase_room new.phase ≡ phase_room (phase_after old.phase bytes) = ap phase_room t.phase in
       omega (arith, count, phase, phase_room_falls old.phase bytes (is_blank bytes) refl, t.few, t.short)
 
@@ -105,12 +113,15 @@ module _ {A : Type 0} where
   marking_line old bytes ls p e = marks old.phase (length (lines_in old.lines)) (lines_in old.lines) bytes ls e p
 
   -- a later one
-  pub ending_line : (old : LinesSoFar A) (bytes : List ℕ) (ls : List (List ℕ)) → is_percent bytes ≡ true → old.phase ≢ Start → walked old (bytes ∷ ls) ≡ Ok (ended old)
+  pub ending_line : (old : LinesSoFar A) (bytes : List ℕ) (ls : List (List ℕ)) → is_percent bytes ≡ true → old.phase ≢ Start →
+      walked old (bytes ∷ ls) ≡ Ok (ended old)
   ending_line old bytes ls p e = ends_at old.phase (length (lines_in old.lines)) (lines_in old.lines) bytes ls e p
 
   -- a line that is too long whatever follows
-  pub long_cut : (lines : List ℕ → List (List ℕ)) (l : Loader A) (piece rest : List ℕ) (fault : ReadFault) → PartsLines lines → IsLoading l → NoFeed piece → 256 < length l.cut.items + length piece
-      → ((bytes : List ℕ) → 256 < length bytes → RefusedBy (fault_of (length (lines_in l.found.lines)) (next_line l.found bytes)) fault) → FaultIs fault (resumed lines l (piece ++ rest))
+  pub long_cut : (lines : List ℕ → List (List ℕ)) (l : Loader A) (piece rest : List ℕ) (fault : ReadFault) → PartsLines lines → IsLoading l → NoFeed piece →
+      256 < length l.cut.items + length piece
+      → ((bytes : List ℕ) → 256 < length bytes → RefusedBy (fault_of (length (lines_in l.found.lines)) (next_line l.found bytes)) fault) →
+      FaultIs fault (resumed lines l (piece ++ rest))
   long_cut lines l piece rest fault parts loading feedless long refused =
       let line = l.cut.items ++ piece in
       let size : 256 < length line = omega (arith, length-append l.cut.items piece, long) in
@@ -118,7 +129,8 @@ module _ {A : Type 0} where
       let more : 256 < length (line ++ g.more) = omega (arith, length-append line g.more, size) in
       let no_percent = long_percent (length (line ++ g.more)) (is_percent_text (text (line ++ g.more))) more in
       subst (λ (bytes : List ℕ). FaultIs fault (walked l.found (lines bytes))) (append_assoc l.cut.items piece rest)
-      (subst (λ (ls : List (List ℕ)). FaultIs fault (walked l.found ls)) (sym g.split) (refused_line l.found (line ++ g.more) g.behind fault no_percent (refused (line ++ g.more) more)))
+      (subst (λ (ls : List (List ℕ)). FaultIs fault (walked l.found ls)) (sym g.split)
+      (refused_line l.found (line ++ g.more) g.behind fault no_percent (refused (line ++ g.more) more)))
 
   emptied : (lines : List ℕ → List (List ℕ)) (result : Result Step ReadFault) (l : Loader A) (rest : List ℕ) → OnOk result (l.cut.items ≡ []) → result ≡ Ok More
       → resumed lines l rest ≡ walked l.found (lines rest)
@@ -126,17 +138,20 @@ module _ {A : Type 0} where
   emptied lines (Err fault) l rest h e = absurd (cc e)
 
   -- a line that lies whole in a chunk
-  pub whole_line : (lines : List ℕ → List (List ℕ)) (old new : Loader A) (result : Result Step ReadFault) (piece rest : List ℕ) → PartsLines lines → old.cut.items ≡ [] → new.cut.items ≡ [] → NoFeed piece
+  pub whole_line : (lines : List ℕ → List (List ℕ)) (old new : Loader A) (result : Result Step ReadFault) (piece rest : List ℕ) → PartsLines lines →
+      old.cut.items ≡ [] → new.cut.items ≡ [] → NoFeed piece
       → ((ls : List (List ℕ)) → StepGives result (walked old.found (piece ∷ ls)) (walked new.found ls) (ended new.found))
       → StepGives result (resumed lines old (piece ++ (10 ∷ rest))) (resumed lines new rest) (ended new.found)
   whole_line lines old new result piece rest parts e f feedless step =
       step_is result _ (walked old.found (piece ∷ lines rest)) _ (walked new.found (lines rest)) (ended new.found)
-      (ap (λ (c : List ℕ). walked old.found (lines (c ++ (piece ++ (10 ∷ rest))))) e ∙ ap (λ (ls : List (List ℕ)). walked old.found ls) (parts.ends piece rest feedless))
+      (ap (λ (c : List ℕ). walked old.found (lines (c ++ (piece ++ (10 ∷ rest))))) e
+      ∙ ap (λ (ls : List (List ℕ)). walked old.found ls) (parts.ends piece rest feedless))
       (λ (_ : result ≡ Ok More). ap (λ (c : List ℕ). walked new.found (lines (c ++ rest))) f)
       (step (lines rest))
 
   -- a line that an earlier chunk began
-  pub cut_line : (lines : List ℕ → List (List ℕ)) (old mid new : Loader A) (result : Result Step ReadFault) (piece rest : List ℕ) → PartsLines lines → NoFeed mid.cut.items
+  pub cut_line : (lines : List ℕ → List (List ℕ)) (old mid new : Loader A) (result : Result Step ReadFault) (piece rest : List ℕ) → PartsLines lines →
+      NoFeed mid.cut.items
       → resumed lines old (piece ++ (10 ∷ rest)) ≡ resumed lines mid (10 ∷ rest) → OnOk result (new.cut.items ≡ [])
       → ((ls : List (List ℕ)) → StepGives result (walked mid.found (mid.cut.items ∷ ls)) (walked new.found ls) (ended new.found))
       → StepGives result (resumed lines old (piece ++ (10 ∷ rest))) (resumed lines new rest) (ended new.found)
@@ -159,10 +174,12 @@ module _ {A : Type 0} where
       → walk Start 0 [] (lines bytes) ≡ resumed lines l bytes
   begun lines l bytes e f g = cc (e, f, g)
 
-  pub begun_program : (l : Loader A) (bytes : List ℕ) → lines_in l.found.lines ≡ [] → l.found.phase ≡ Start → l.cut.items ≡ [] → program_of bytes ≡ resumed split_lines l bytes
+  pub begun_program : (l : Loader A) (bytes : List ℕ) → lines_in l.found.lines ≡ [] → l.found.phase ≡ Start → l.cut.items ≡ [] →
+      program_of bytes ≡ resumed split_lines l bytes
   begun_program l bytes e f g = sym (walk_program bytes) ∙ begun split_lines l bytes e f g
 
-  pub begun_firm : (l : Loader A) (bytes : List ℕ) → lines_in l.found.lines ≡ [] → l.found.phase ≡ Start → l.cut.items ≡ [] → fault_so_far bytes ≡ standing (resumed firm_lines l bytes)
+  pub begun_firm : (l : Loader A) (bytes : List ℕ) → lines_in l.found.lines ≡ [] → l.found.phase ≡ Start → l.cut.items ≡ [] →
+      fault_so_far bytes ≡ standing (resumed firm_lines l bytes)
   begun_firm l bytes e f g = walk_firm bytes ∙ ap standing (begun firm_lines l bytes e f g)
 
   -- the step that the last line makes
@@ -171,9 +188,11 @@ module _ {A : Type 0} where
 
   step_at : (old new : Loader A) (result other : Result Step ReadFault) → LastStep old new result → result ≡ other
       → StepGives other (walked old.found (old.cut.items ∷ [])) (walked new.found []) (ended new.found)
-  step_at old new result other step e = subst (λ (r : Result Step ReadFault). StepGives r (walked old.found (old.cut.items ∷ [])) (walked new.found []) (ended new.found)) e (step [])
+  step_at old new result other step e =
+      subst (λ (r : Result Step ReadFault). StepGives r (walked old.found (old.cut.items ∷ [])) (walked new.found []) (ended new.found)) e (step [])
 
-  pub last_more : (old new : Loader A) (result : Result Step ReadFault) (out : Result (Program A) ReadFault) (x : Step) → NoFeed old.cut.items → 0 < length old.cut.items
+  pub last_more : (old new : Loader A) (result : Result Step ReadFault) (out : Result (Program A) ReadFault) (x : Step) → NoFeed old.cut.items →
+      0 < length old.cut.items
       → LastStep old new result → result ≡ Ok x → x ≡ More → OutcomeIs out (walked new.found []) → OutcomeIs out (resumed split_lines old [])
   last_more old new result out x feedless some step e f h =
       outcome_after out _ _ (last_line old feedless some ∙ step_at old new result (Ok More) step (e ∙ ap Ok f)) h

@@ -53,16 +53,20 @@ module _ {A : Type 0} where
   nothing_stands : (l : Loader A) → IsLoading l → standing (resumed firm_lines l []) ≡ None
   nothing_stands l loading =
       let none : firm_lines (l.cut.items ++ []) ≡ [] = ap firm_lines (append-nil l.cut.items) ∙ firm_begun l.cut.items loading.feedless loading.short in
-      ap (λ (ls : List (List ℕ)). standing (walked l.found ls)) none ∙ ap standing (walk_end l.found.phase _ (lines_in l.found.lines)) ∙ none_at_end l.found.phase (lines_in l.found.lines)
+      ap (λ (ls : List (List ℕ)). standing (walked l.found ls)) none ∙ ap standing (walk_end l.found.phase _ (lines_in l.found.lines))
+      ∙ none_at_end l.found.phase (lines_in l.found.lines)
 
   -- a piece leads from a loader to another
   abbrev pub Leads : Loader A → Loader A → List ℕ → Result Step ReadFault → Type 0
   Leads old new piece result =
-      (lines : List ℕ → List (List ℕ)) → PartsLines lines → (rest : List ℕ) → StepGives result (resumed lines old (piece ++ rest)) (resumed lines new rest) (ended new.found)
+      (lines : List ℕ → List (List ℕ)) → PartsLines lines → (rest : List ℕ) →
+      StepGives result (resumed lines old (piece ++ rest)) (resumed lines new rest) (ended new.found)
 
-  at_step : (old new : Loader A) (piece : List ℕ) (result other : Result Step ReadFault) → Leads old new piece result → result ≡ other → Leads old new piece other
+  at_step : (old new : Loader A) (piece : List ℕ) (result other : Result Step ReadFault) → Leads old new piece result → result ≡ other →
+      Leads old new piece other
   at_step old new piece result other leads e = λ lines parts rest.
-      subst (λ (r : Result Step ReadFault). StepGives r (resumed lines old (piece ++ rest)) (resumed lines new rest) (ended new.found)) e (leads lines parts rest)
+      subst (λ (r : Result Step ReadFault). StepGives r (resumed lines old (piece ++ rest)) (resumed lines new rest) (ended new.found)) e
+      (leads lines parts rest)
 
   -- the piece's bytes, and no more
   alone : (l : Loader A) (piece : List ℕ) → resumed firm_lines l (piece ++ []) ≡ resumed firm_lines l piece
@@ -108,7 +112,8 @@ module _ {A : Type 0} where
     pub fault_answer : IsOfLines fault → AnswerIs (Err fault) (fault_by state old piece)
     fault_answer lines =
         let step = at_step old new piece result (Err fault) leads is firm_lines firm_parts [] in
-        let here : AnswerIs (Err fault) (standing (resumed firm_lines old piece)) = subst (λ (o : Outcome). AnswerIs (Err fault) (standing o)) (alone old piece) (stands_as fault _ lines step) in
+        let here : AnswerIs (Err fault) (standing (resumed firm_lines old piece)) =
+        subst (λ (o : Outcome). AnswerIs (Err fault) (standing o)) (alone old piece) (stands_as fault _ lines step) in
         subst (λ (s : State). AnswerIs (Err fault) (fault_by s old piece)) (sym going) here
 
     pub fault_text : (rest : List ℕ) → FaultIs fault (outcome_by state old (piece ++ rest))

@@ -1,5 +1,6 @@
 -- A line that is read has a reading within the limits, and so have the lines that are stored.
-use Rattle.std.proofs.Common.{◌≡◌, ℕ, zero, suc, ◌+◌, ◌≤◌, ap, subst, Bool, true, false, Option, None, Some, List, [], ◌∷◌, length, drop, Result, Ok, Err, refl, sym, ◌∙◌, length-append, arith, inl, inr}
+use Rattle.std.proofs.Common.{◌≡◌, ℕ, zero, suc, ◌+◌, ◌≤◌, ap, subst, Bool, true, false, Option, None, Some, List, [], ◌∷◌, length, drop, Result, Ok, Err, refl}
+use Rattle.std.proofs.Common.{sym, ◌∙◌, length-append, arith, inl, inr}
 use Rattle.std.specs.Prelude.{◌==◌, ◌&&◌, nat_le, is_ok, slice_index}
 use Rattle.std.specs.List.{list_all}
 use Rattle.std.proofs.lemmas.Bool.Decides.{nat_tests}
@@ -13,7 +14,8 @@ use Rattle.ngc_line_reader.specs.Grammar.{Item, word, setting, comment, behind}
 use Rattle.ngc_line_reader.specs.Held.{token_count, words_from, word_count}
 use Rattle.ngc_line_reader.specs.Program.{Line}
 use Rattle.ngc_line_reader.specs.Scan.{◌>>=◌, begins, refusal, real_at}
-use Rattle.ngc_line_reader.specs.ScanLine.{Parts, no_parts, with_word, with_setting, word_at, value_behind, setting_at, comment_at, start_fault, by_letter, other_item_at, item_at, fault_at, located, items_at, line_number_at, Said, after_slash, text_at}
+use Rattle.ngc_line_reader.specs.ScanLine.{Parts, no_parts, with_word, with_setting, word_at, value_behind, setting_at, comment_at, start_fault, by_letter}
+use Rattle.ngc_line_reader.specs.ScanLine.{other_item_at, item_at, fault_at, located, items_at, line_number_at, Said, after_slash, text_at}
 use Rattle.ngc_line_reader.specs.ReadLine.{line_read}
 use Rattle.ngc_line_reader.specs.ProgramText.{HasReading, HaveReadings}
 use Rattle.ngc_line_reader.specs.Stored.{is_read}
@@ -25,7 +27,8 @@ use Rattle.ngc_line_reader.proofs.LineLaws.{located_ok, text_takes}
 one_more : (n : ℕ) → (n == 64) ≡ false → n ≤ 64 → n + 1 ≤ 64
 one_more n e few = grind (arith, nat_tests)
 
-word_few : (place : ℕ → ℕ) (room : ℕ) (found : Parts) (letter : Letter) (s : List ℕ) (x : Parts × List ℕ) → word_at place room found letter s ≡ Ok x → length found.words ≤ 64 → length x.0.words ≤ 64
+word_few : (place : ℕ → ℕ) (room : ℕ) (found : Parts) (letter : Letter) (s : List ℕ) (x : Parts × List ℕ) → word_at place room found letter s ≡ Ok x →
+    length found.words ≤ 64 → length x.0.words ≤ 64
 unfolding word_at
 word_few place room found letter s x e few =
     elim (chosen (length found.words == 64) (Err (OfItem TooManyWords)) _ (done x) e) [
@@ -34,11 +37,13 @@ word_few place room found letter s x e few =
           let b = bind_ok (real_at place room found.tokens (drop 1 s)) (λ y. Ok (with_word place found letter s y.0, y.1)) x k.1 in
           let pair : Parts × List ℕ = (with_word place found letter s b.0.0, b.0.1) in
           let count : length x.0.words ≡ length found.words + 1 =
-          ap (λ (p : Parts × List ℕ). length p.0.words) (sym (ok_is pair x b.2)) ∙ length-append found.words (record { letter = letter; column = place (length s); first = length found.tokens } ∷ []) in
+          ap (λ (p : Parts × List ℕ). length p.0.words) (sym (ok_is pair x b.2))
+          ∙ length-append found.words (record { letter = letter; column = place (length s); first = length found.tokens } ∷ []) in
           omega (arith, count, one_more (length found.words) k.0 few)
     ]
 
-setting_few : (place : ℕ → ℕ) (room : ℕ) (found : Parts) (s : List ℕ) (x : Parts × List ℕ) → setting_at place room found s ≡ Ok x → length found.words ≡ length x.0.words
+setting_few : (place : ℕ → ℕ) (room : ℕ) (found : Parts) (s : List ℕ) (x : Parts × List ℕ) → setting_at place room found s ≡ Ok x →
+    length found.words ≡ length x.0.words
 unfolding setting_at value_behind
 setting_few place room found s x e =
     let b = bind_ok (real_at place room found.tokens (drop 1 s)) (λ y. value_behind place room found s y.0 y.1) x e in
@@ -56,7 +61,8 @@ comment_few found s x e =
     let pair : Parts × List ℕ = (found, b.0) in
     ap (λ (p : Parts × List ℕ). length p.0.words) (ok_is pair x b.2)
 
-other_few : (place : ℕ → ℕ) (room : ℕ) (found : Parts) (s : List ℕ) (x : Parts × List ℕ) → other_item_at place room found s ≡ Ok x → length found.words ≡ length x.0.words
+other_few : (place : ℕ → ℕ) (room : ℕ) (found : Parts) (s : List ℕ) (x : Parts × List ℕ) → other_item_at place room found s ≡ Ok x →
+    length found.words ≡ length x.0.words
 unfolding other_item_at
 other_few place room found s x e =
     elim (chosen (begins 35 s) (setting_at place room found s) _ (done x) e) [
@@ -67,7 +73,8 @@ other_few place room found s x e =
       ]
     ]
 
-item_few : (place : ℕ → ℕ) (room : ℕ) (found : Parts) (s : List ℕ) (x : Parts × List ℕ) → item_at place room found s ≡ Ok x → length found.words ≤ 64 → length x.0.words ≤ 64
+item_few : (place : ℕ → ℕ) (room : ℕ) (found : Parts) (s : List ℕ) (x : Parts × List ℕ) → item_at place room found s ≡ Ok x → length found.words ≤ 64 →
+    length x.0.words ≤ 64
 unfolding item_at
 item_few place room found s x e few = by_first (letter_of (slice_index s 0)) e where
   by_first : (l : Option Letter) → by_letter l (λ letter. word_at place room found letter s) (other_item_at place room found s) ≡ Ok x → length x.0.words ≤ 64
@@ -80,7 +87,8 @@ told x = Ok x
 told_is : {A : Type 0} (x y : A) → told x ≡ told y → x ≡ y
 told_is x y e = cc
 
-items_few : (place : ℕ → ℕ) (room : ℕ) (found parts : Parts) (s : List ℕ) → items_at place room found s ≡ Ok parts → length found.words ≤ 64 → length parts.words ≤ 64
+items_few : (place : ℕ → ℕ) (room : ℕ) (found parts : Parts) (s : List ℕ) → items_at place room found s ≡ Ok parts → length found.words ≤ 64 →
+    length parts.words ≤ 64
 unfolding items_at
 items_few place zero found parts s e few = absurd cc
 items_few place (suc room) found parts s e few =
@@ -101,7 +109,8 @@ text_few : (place : ℕ → ℕ) (s : List ℕ) (x : Said) → text_at place s �
 unfolding text_at
 text_few place s x e =
     let t = after_slash s in
-    let a = bind_ok (located place t (line_number_at t)) (λ y. items_at place (length s + 1) no_parts y.1 >>= λ parts. Ok (saying (begins 47 s) y.0 parts)) x e in
+    let a = bind_ok (located place t (line_number_at t))
+    (λ y. items_at place (length s + 1) no_parts y.1 >>= λ parts. Ok (saying (begins 47 s) y.0 parts)) x e in
     let b = bind_ok (items_at place (length s + 1) no_parts a.0.1) (λ parts. Ok (saying (begins 47 s) a.0.0 parts)) x a.2 in
     let few = items_few place (length s + 1) no_parts b.0 a.0.1 b.1 (omega arith) in
     subst (λ (said : Said). length said.parts.words ≤ 64) (told_is (saying (begins 47 s) a.0.0 b.0) x b.2) few
@@ -109,7 +118,8 @@ text_few place s x e =
 words_counted : (place : ℕ → ℕ) (first : ℕ) (items : List Item) (end : List ℕ) → length (words_from place first items end) ≡ word_count items
 words_counted place first [] end = refl
 words_counted place first (word letter value ∷ items) end = let e = words_counted place (first + token_count (word letter value)) items end in omega (arith, e)
-words_counted place first (setting index value ∷ items) end = let e = words_counted place (first + token_count (setting index value)) items end in omega (arith, e)
+words_counted place first (setting index value ∷ items) end = let e = words_counted place (first + token_count (setting index value)) items end in
+    omega (arith, e)
 words_counted place first (comment bytes ∷ items) end = let e = words_counted place first items end in omega (arith, e)
 
 -- a line that is read has a reading within the limits
@@ -120,7 +130,8 @@ has_reading line x e =
       | inr h ↦
           let place = place_in (columns line.bytes) in
           let w = text_takes place (text line.bytes) x h.1 in
-          let counted : length x.parts.words ≡ word_count w.r.items = ap (λ (said : Said). length said.parts.words) w.says ∙ words_counted place 0 w.r.items (behind 59 w.r.remark) in
+          let counted : length x.parts.words ≡ word_count w.r.items = ap (λ (said : Said). length said.parts.words) w.says
+          ∙ words_counted place 0 w.r.items (behind 59 w.r.remark) in
           record { reading = w.r; reads = (w.is, w.spelled); limits = (w.limit, omega (arith, counted, text_few place (text line.bytes) x h.1)) }
     ]
 

@@ -1,5 +1,6 @@
 -- What is spelled so is read.
-use Rattle.std.proofs.Common.{◌≡◌, ◌≢◌, ℕ, ◌+◌, ◌-◌, ◌<◌, ℤ, ap, Bool, true, false, Option, Some, None, List, [], ◌∷◌, ◌++◌, length, Result, Ok, refl, ◌∙◌, append_assoc, length-append, arith}
+use Rattle.std.proofs.Common.{◌≡◌, ◌≢◌, ℕ, ◌+◌, ◌-◌, ◌<◌, ℤ, ap, Bool, true, false, Option, Some, None, List, [], ◌∷◌, ◌++◌, length, Result, Ok, refl, ◌∙◌}
+use Rattle.std.proofs.Common.{append_assoc, length-append, arith}
 use Rattle.std.specs.Prelude.{◌==◌, ◌&&◌, unsigned_abs, nat_le}
 use Rattle.std.specs.Char.{is_ascii_digit}
 use Rattle.std.specs.List.{prefix_len}
@@ -12,10 +13,12 @@ use Rattle.ngc_line_reader.specs.declared.token.Operator.TheVariants.{Add, Subtr
 use Rattle.ngc_line_reader.specs.declared.token.Token.{Token}
 use Rattle.ngc_line_reader.specs.declared.token.Symbol.TheVariants as mark
 use Rattle.ngc_line_reader.specs.declared.fault.Refusal.{Refusal}
-use Rattle.ngc_line_reader.specs.Grammar.{Sign, bare, plus, minus, Numeral, Real, number, parameter, bracket, Rest, close, next, sign_text, behind, numeral_text, operator_byte, real_text, rest_text, IsDigits, digits_of, IsNumeral, IsReal, IsRest, Stops}
+use Rattle.ngc_line_reader.specs.Grammar.{Sign, bare, plus, minus, Numeral, Real, number, parameter, bracket, Rest, close, next, sign_text, behind}
+use Rattle.ngc_line_reader.specs.Grammar.{numeral_text, operator_byte, real_text, rest_text, IsDigits, digits_of, IsNumeral, IsReal, IsRest, Stops}
 use Rattle.ngc_line_reader.specs.Numbers.{written_value, numeral_value, is_negative}
 use Rattle.ngc_line_reader.specs.Tokens.{token_at, tokens_of, rest_tokens, IsWithinLimit, IsRestWithinLimit}
-use Rattle.ngc_line_reader.specs.Scan.{begins, after_sign, digits_at, after_digits, decimals_at, after_decimals, whole_at, fraction_at, after_number, value_fits, number_at, operator_at, real_at, rest_at}
+use Rattle.ngc_line_reader.specs.Scan.{begins, after_sign, digits_at, after_digits, decimals_at, after_decimals, whole_at, fraction_at, after_number}
+use Rattle.ngc_line_reader.specs.Scan.{value_fits, number_at, operator_at, real_at, rest_at}
 use Rattle.ngc_line_reader.proofs.Unique.{NoDigit, NoDigit-Stops, NoDigit-behind, body, body_not, numeral_not, heads, rest_stops}
 use Rattle.ngc_line_reader.proofs.ScanSteps.{real_step, rest_step}
 
@@ -39,7 +42,8 @@ begins_stops r h = begins_not 46 r (λ t e. stops r t h e) where
   stops (b ∷ r) t h e = h.1 (heads b 46 _ _ e)
 
 -- the sign is taken off
-sign_again : (sign : Sign) (n : Numeral) (r : List ℕ) → IsNumeral n → (after_sign ((sign_text sign ++ body n) ++ r) ≡ body n ++ r) × (begins 45 ((sign_text sign ++ body n) ++ r) ≡ is_negative sign)
+sign_again : (sign : Sign) (n : Numeral) (r : List ℕ) → IsNumeral n →
+    (after_sign ((sign_text sign ++ body n) ++ r) ≡ body n ++ r) × (begins 45 ((sign_text sign ++ body n) ++ r) ≡ is_negative sign)
 sign_again bare n r h =
     let no_plus : begins 43 (body n ++ r) ≡ false = begins_not 43 (body n ++ r) (λ t e. body_not 43 n r t refl (λ q. omega arith) h e) in
     let no_minus : begins 45 (body n ++ r) ≡ false = begins_not 45 (body n ++ r) (λ t e. body_not 45 n r t refl (λ q. omega arith) h e) in
@@ -47,7 +51,8 @@ sign_again bare n r h =
 sign_again plus n r h = (refl, refl)
 sign_again minus n r h = (refl, refl)
 
-decimals_again : (ds : Option (List ℕ)) (r : List ℕ) → IsDigits (digits_of ds) → Stops r → (digits_of (decimals_at (behind 46 ds ++ r)) ≡ digits_of ds) × (after_decimals (behind 46 ds ++ r) ≡ r)
+decimals_again : (ds : Option (List ℕ)) (r : List ℕ) → IsDigits (digits_of ds) → Stops r →
+    (digits_of (decimals_at (behind 46 ds ++ r)) ≡ digits_of ds) × (after_decimals (behind 46 ds ++ r) ≡ r)
 decimals_again None r h s = let e = begins_stops r s in (rw e refl, rw e refl)
 decimals_again (Some ds) r h s = digits_again ds r h (NoDigit-Stops r s)
 
@@ -59,7 +64,8 @@ some_digits m n h = grind (arith, nat_tests)
 
 -- a number is read by what its parts are
 by_parts : (s ds es r : List ℕ) (negative : Bool) → whole_at s ≡ ds → fraction_at s ≡ es → after_number s ≡ r → begins 45 s ≡ negative
-    → (length ds == 0) && (length es == 0) ≡ false → begins 46 r ≡ false → value_fits (limited (written_value negative ds es)) ≡ Ok (written_value negative ds es)
+    → (length ds == 0) && (length es == 0) ≡ false → begins 46 r ≡ false →
+    value_fits (limited (written_value negative ds es)) ≡ Ok (written_value negative ds es)
     → number_at s ≡ Ok (written_value negative ds es, r)
 unfolding number_at
 by_parts s ds es r negative whole fraction after sign some point fits = rw (whole, fraction, after, sign, some, point, fits) refl
@@ -82,7 +88,8 @@ number_again n r h limit stops =
 number_begins : (c : ℕ) (n : Numeral) (r : List ℕ) → is_ascii_digit c ≡ false → c ≢ 46 → c ≢ 43 → c ≢ 45 → IsNumeral n → begins c (numeral_text n ++ r) ≡ false
 number_begins c n r digit point positive negative h = begins_not c (numeral_text n ++ r) (λ t e. numeral_not c n r t digit point positive negative h e)
 
-operator_again : (operator : Operator) (r : List ℕ) → (operator_at (operator_byte operator ∷ r) ≡ Ok operator) × (begins 93 (operator_byte operator ∷ r) ≡ false)
+operator_again : (operator : Operator) (r : List ℕ) → (operator_at (operator_byte operator ∷ r) ≡ Ok operator) ×
+    (begins 93 (operator_byte operator ∷ r) ≡ false)
 unfolding operator_at
 operator_again Add r = (refl, refl)
 operator_again Subtract r = (refl, refl)
@@ -97,7 +104,8 @@ read ts r = Ok (ts, r)
 
 -- what a real value is spelled as is read as its tokens
 mutual
-  pub real_again : (place : ℕ → ℕ) (v : Real) (r : List ℕ) (room : ℕ) (found : List Token) → IsReal v → IsWithinLimit v → Stops r → length (real_text v ++ r) < room
+  pub real_again : (place : ℕ → ℕ) (v : Real) (r : List ℕ) (room : ℕ) (found : List Token) → IsReal v → IsWithinLimit v → Stops r →
+      length (real_text v ++ r) < room
       → real_at place room found (real_text v ++ r) ≡ read (found ++ tokens_of place v r) r
   real_again place (number n) r room found h limit stops fits =
       let some : 0 < room = omega (arith, fits) in
@@ -111,21 +119,26 @@ mutual
       let some : 0 < room = omega (arith, fits) in
       let first = token_at place mark.Parameter (35 ∷ (real_text v ++ r)) in
       let inner = real_again place v r (room - 1) (found ++ (first ∷ [])) h limit stops (omega (arith, fits)) in
-      rw (real_step place room found (35 ∷ (real_text v ++ r)) some) (inner ∙ ap (λ (ts : List Token). read ts r) (append_assoc found (first ∷ []) (tokens_of place v r)))
+      rw (real_step place room found (35 ∷ (real_text v ++ r)) some)
+      (inner ∙ ap (λ (ts : List Token). read ts r) (append_assoc found (first ∷ []) (tokens_of place v r)))
   real_again place (bracket v rest) r room found h limit stops fits =
       let some : 0 < room = omega (arith, fits) in
       let all = 91 ∷ ((real_text v ++ rest_text rest) ++ r) in
       let open_token = token_at place mark.Open all in
       let regrouped : (real_text v ++ rest_text rest) ++ r ≡ real_text v ++ (rest_text rest ++ r) = append_assoc (real_text v) (rest_text rest) r in
       let longer = ap length regrouped in
-      let first = real_again place v (rest_text rest ++ r) (room - 1) (found ++ (open_token ∷ [])) h.0 limit.0 (rest_stops rest r) (omega (arith, fits, longer)) in
-      let second = rest_again place rest r (room - 1) ((found ++ (open_token ∷ [])) ++ tokens_of place v (rest_text rest ++ r)) h.1 limit.1 stops (omega (arith, fits, longer, length-append (real_text v) (rest_text rest ++ r))) in
-      let inner : real_at place (room - 1) (found ++ (open_token ∷ [])) ((real_text v ++ rest_text rest) ++ r) ≡ read ((found ++ (open_token ∷ [])) ++ tokens_of place v (rest_text rest ++ r)) (rest_text rest ++ r) =
+      let first = real_again place v (rest_text rest ++ r) (room - 1) (found ++ (open_token ∷ [])) h.0 limit.0 (rest_stops rest r)
+      (omega (arith, fits, longer)) in
+      let second = rest_again place rest r (room - 1) ((found ++ (open_token ∷ [])) ++ tokens_of place v (rest_text rest ++ r)) h.1 limit.1 stops
+      (omega (arith, fits, longer, length-append (real_text v) (rest_text rest ++ r))) in
+      let inner : real_at place (room - 1) (found ++ (open_token ∷ [])) ((real_text v ++ rest_text rest) ++ r)
+      ≡ read ((found ++ (open_token ∷ [])) ++ tokens_of place v (rest_text rest ++ r)) (rest_text rest ++ r) =
       ap (λ (t : List ℕ). real_at place (room - 1) (found ++ (open_token ∷ [])) t) regrouped ∙ first in
       rw (real_step place room found all some, inner)
       (second ∙ ap (λ (ts : List Token). read ts r) (simp append_assoc))
 
-  pub rest_again : (place : ℕ → ℕ) (rest : Rest) (r : List ℕ) (room : ℕ) (found : List Token) → IsRest rest → IsRestWithinLimit rest → Stops r → length (rest_text rest ++ r) < room
+  pub rest_again : (place : ℕ → ℕ) (rest : Rest) (r : List ℕ) (room : ℕ) (found : List Token) → IsRest rest → IsRestWithinLimit rest → Stops r →
+      length (rest_text rest ++ r) < room
       → rest_at place room found (rest_text rest ++ r) ≡ read (found ++ rest_tokens place rest r) r
   rest_again place close r room found h limit stops fits =
       let some : 0 < room = omega (arith, fits) in
@@ -137,8 +150,10 @@ mutual
       let regrouped : (real_text v ++ rest_text rest) ++ r ≡ real_text v ++ (rest_text rest ++ r) = append_assoc (real_text v) (rest_text rest) r in
       let longer = ap length regrouped in
       let first = real_again place v (rest_text rest ++ r) (room - 1) (found ++ (sign ∷ [])) h.0 limit.0 (rest_stops rest r) (omega (arith, fits, longer)) in
-      let second = rest_again place rest r (room - 1) ((found ++ (sign ∷ [])) ++ tokens_of place v (rest_text rest ++ r)) h.1 limit.1 stops (omega (arith, fits, longer, length-append (real_text v) (rest_text rest ++ r))) in
-      let inner : real_at place (room - 1) (found ++ (sign ∷ [])) ((real_text v ++ rest_text rest) ++ r) ≡ read ((found ++ (sign ∷ [])) ++ tokens_of place v (rest_text rest ++ r)) (rest_text rest ++ r) =
+      let second = rest_again place rest r (room - 1) ((found ++ (sign ∷ [])) ++ tokens_of place v (rest_text rest ++ r)) h.1 limit.1 stops
+      (omega (arith, fits, longer, length-append (real_text v) (rest_text rest ++ r))) in
+      let inner : real_at place (room - 1) (found ++ (sign ∷ [])) ((real_text v ++ rest_text rest) ++ r)
+      ≡ read ((found ++ (sign ∷ [])) ++ tokens_of place v (rest_text rest ++ r)) (rest_text rest ++ r) =
       ap (λ (t : List ℕ). real_at place (room - 1) (found ++ (sign ∷ [])) t) regrouped ∙ first in
       let begins_with = operator_again operator ((real_text v ++ rest_text rest) ++ r) in
       rw (rest_step place room found all some, begins_with.1, begins_with.0, inner)

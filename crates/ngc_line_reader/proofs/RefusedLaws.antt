@@ -1,5 +1,6 @@
 -- Why a line is refused for one of its limits.
-use Rattle.std.proofs.Common.{◌≡◌, ℕ, zero, suc, ◌+◌, ap, subst, Bool, true, false, cond, Option, None, Some, List, [], ◌∷◌, ◌++◌, length, drop, Result, Ok, Err, refl, sym, ◌∙◌, append_assoc, arith, ◌⊎◌, inl, inr, ℤ}
+use Rattle.std.proofs.Common.{◌≡◌, ℕ, zero, suc, ◌+◌, ap, subst, Bool, true, false, cond, Option, None, Some, List, [], ◌∷◌, ◌++◌, length, drop, Result, Ok}
+use Rattle.std.proofs.Common.{Err, refl, sym, ◌∙◌, append_assoc, arith, ◌⊎◌, inl, inr, ℤ}
 use Rattle.std.specs.Prelude.{IfErr, ◌==◌, ◌&&◌, ◌||◌, nat_le, slice_index, unsigned_abs}
 use Rattle.std.specs.Char.{is_ascii_digit}
 use Rattle.std.specs.List.{AllByRecursion, prefix_len}
@@ -12,7 +13,8 @@ use Rattle.ngc_line_reader.specs.declared.token.Operator.TheVariants.{Add, Subtr
 use Rattle.ngc_line_reader.specs.declared.token.Symbol.TheVariants as mark
 use Rattle.ngc_line_reader.specs.declared.token.Token.{Token}
 use Rattle.ngc_line_reader.specs.declared.fault.FaultKind.{FaultKind}
-use Rattle.ngc_line_reader.specs.declared.fault.FaultKind.TheVariants.{TooLarge, LineTooLong, UnknownCharacter, BadNumber, BadWord, BadLineNumber, CommentNotClosed, CommentNested, Bracket, TooManyWords}
+use Rattle.ngc_line_reader.specs.declared.fault.FaultKind.TheVariants.{TooLarge, LineTooLong, UnknownCharacter, BadNumber, BadWord, BadLineNumber}
+use Rattle.ngc_line_reader.specs.declared.fault.FaultKind.TheVariants.{CommentNotClosed, CommentNested, Bracket, TooManyWords}
 use Rattle.ngc_line_reader.specs.declared.fault.LineFault.{LineFault}
 use Rattle.ngc_line_reader.specs.declared.fault.Refusal.{Refusal}
 use Rattle.ngc_line_reader.specs.declared.fault.Refusal.TheVariants.{OfItem, AtByte}
@@ -24,8 +26,11 @@ use Rattle.ngc_line_reader.specs.Tokens.{token_at}
 use Rattle.ngc_line_reader.specs.Grammar.{Item, IsItem, items_text, item_text, behind, Real, real_text, operator_byte, numeral_text, Stops}
 use Rattle.ngc_line_reader.specs.Numbers.{written_value}
 use Rattle.ngc_line_reader.specs.Held.{word_count, item_words}
-use Rattle.ngc_line_reader.specs.Scan.{◌>>=◌, Gives, begins, begins_unknown, refusal, after_sign, digits_at, after_digits, whole_at, fraction_at, after_number, value_fits, number_at, number_token, operator_at, real_at, rest_at}
-use Rattle.ngc_line_reader.specs.ScanLine.{Parts, no_parts, with_word, with_setting, word_at, value_behind, setting_at, after_comment, comment_at, start_fault, by_letter, other_item_at, item_at, fault_at, located, items_at, numbered, line_number_at, Said, said_of, after_slash, text_at}
+use Rattle.ngc_line_reader.specs.Scan.{◌>>=◌, Gives, begins, begins_unknown, refusal, after_sign, digits_at, after_digits, whole_at, fraction_at, after_number}
+use Rattle.ngc_line_reader.specs.Scan.{value_fits, number_at, number_token, operator_at, real_at, rest_at}
+use Rattle.ngc_line_reader.specs.ScanLine.{Parts, no_parts, with_word, with_setting, word_at, value_behind, setting_at, after_comment, comment_at, start_fault}
+use Rattle.ngc_line_reader.specs.ScanLine.{by_letter, other_item_at, item_at, fault_at, located, items_at, numbered, line_number_at, Said, said_of, after_slash}
+use Rattle.ngc_line_reader.specs.ScanLine.{text_at}
 use Rattle.ngc_line_reader.specs.Refused.{HasTooLarge, HasWords, WritesTooLarge, WritesManyWords}
 use Rattle.ngc_line_reader.proofs.LetterLemmas.{letter_bounds, letter_no_digit}
 use Rattle.ngc_line_reader.proofs.Unique.{NoDigit}
@@ -129,7 +134,8 @@ number_ends s point = stops (after_number s) (by_test (begins 46 u) (no_digit_af
 -- a value that does not fit is over the limit
 not_value : (z : ℤ) (k : FaultKind) → value_fits (limited z) ≡ failed k → (¬ IsValue z) × (TooLarge ≡ k)
 not_value z k h = by_test (nat_le (unsigned_abs z) VALUE_LIMIT) refl h where
-  by_test : (x : Bool) → nat_le (unsigned_abs z) VALUE_LIMIT ≡ x → value_fits (cond x (Ok z) (Err number_faults.TooLarge)) ≡ failed k → (¬ IsValue z) × (TooLarge ≡ k)
+  by_test : (x : Bool) → nat_le (unsigned_abs z) VALUE_LIMIT ≡ x → value_fits (cond x (Ok z) (Err number_faults.TooLarge)) ≡ failed k →
+      (¬ IsValue z) × (TooLarge ≡ k)
   by_test true le h = absurd cc
   by_test false gt h = (λ is. differ (nat_le (unsigned_abs z) VALUE_LIMIT) gt (le-leb _ _ is), kind_is TooLarge k h) where
     differ : (b : Bool) → b ≡ false → b ≡ true → ⊥
@@ -172,7 +178,8 @@ Pair = List Token × List ℕ
 abbrev pair_of : List Token → List ℕ → Result Pair Refusal
 pair_of ts r = Ok (ts, r)
 
-token_why : (place : ℕ → ℕ) (c : ℕ) (found : List Token) (s : List ℕ) (k : FaultKind) → Stops (c ∷ []) → number_token place found s ≡ failed k → RealWhy k (c ∷ s)
+token_why : (place : ℕ → ℕ) (c : ℕ) (found : List Token) (s : List ℕ) (k : FaultKind) → Stops (c ∷ []) → number_token place found s ≡ failed k →
+    RealWhy k (c ∷ s)
 token_why place c found s k parted e =
     elim (bind_err (number_at s) (λ x. pair_of (found ++ (token_at place (mark.Number x.0) s ∷ [])) x.1) (OfItem k) e) [
       | inl h ↦ number_why c s k parted h
@@ -213,22 +220,26 @@ mutual
   unfolding real_at rest_at
 
   -- a real value behind a byte c
-  real_why : (place : ℕ → ℕ) (room c : ℕ) (found : List Token) (s : List ℕ) (k : FaultKind) → Stops (c ∷ []) → real_at place room found s ≡ failed k → RealWhy k (c ∷ s)
+  real_why : (place : ℕ → ℕ) (room c : ℕ) (found : List Token) (s : List ℕ) (k : FaultKind) → Stops (c ∷ []) → real_at place room found s ≡ failed k →
+      RealWhy k (c ∷ s)
   real_why place zero c found s k parted e = of_kind Bracket k (c ∷ s) (kind_is Bracket k e) tt
   real_why place (suc room) c found s k parted e =
       let with_hash = found ++ (token_at place mark.Parameter s ∷ []) in
       let with_open = found ++ (token_at place mark.Open s ∷ []) in
       elim (chosen (begins 35 s) (real_at place room with_hash (drop 1 s)) _ (failed k) e) [
-        | inl h ↦ real_further k (c ∷ []) s (real_same k s (35 ∷ drop 1 s) (begins_is 35 s h.0) (real_why place room 35 with_hash (drop 1 s) k (refl, λ q. omega arith) h.1))
-        | inr h ↦ elim (chosen (begins 91 s) (real_at place room with_open (drop 1 s) >>= λ y. rest_at place room y.0 y.1) (number_token place found s) (failed k) h.1) [
-          | inl j ↦ elim (bind_err (real_at place room with_open (drop 1 s)) (λ y. rest_at place room y.0 y.1) (OfItem k) j.1) [
-            | inl i ↦ real_further k (c ∷ []) s (real_same k s (91 ∷ drop 1 s) (begins_is 91 s j.0) (real_why place room 91 with_open (drop 1 s) k (refl, λ q. omega arith) i))
-            | inr i ↦
-                let t = real_takes place room with_open (drop 1 s) i.0 i.1 in
-                real_further k (c ∷ []) s (behind_value k 91 t.v s i.0.1 (begins_is 91 s j.0) t.parts (rest_why place room i.0.0 i.0.1 k i.2))
-          ]
-          | inr j ↦ token_why place c found s k parted j.1
-        ]
+        | inl h ↦ real_further k (c ∷ []) s
+            (real_same k s (35 ∷ drop 1 s) (begins_is 35 s h.0) (real_why place room 35 with_hash (drop 1 s) k (refl, λ q. omega arith) h.1))
+        | inr h ↦ elim (chosen (begins 91 s) (real_at place room with_open (drop 1 s) >>= λ y. rest_at place room y.0 y.1) (number_token place found s)
+            (failed k) h.1) [
+              | inl j ↦ elim (bind_err (real_at place room with_open (drop 1 s)) (λ y. rest_at place room y.0 y.1) (OfItem k) j.1) [
+                | inl i ↦ real_further k (c ∷ []) s
+                    (real_same k s (91 ∷ drop 1 s) (begins_is 91 s j.0) (real_why place room 91 with_open (drop 1 s) k (refl, λ q. omega arith) i))
+                | inr i ↦
+                    let t = real_takes place room with_open (drop 1 s) i.0 i.1 in
+                    real_further k (c ∷ []) s (behind_value k 91 t.v s i.0.1 (begins_is 91 s j.0) t.parts (rest_why place room i.0.0 i.0.1 k i.2))
+              ]
+              | inr j ↦ token_why place c found s k parted j.1
+            ]
       ]
 
   rest_why : (place : ℕ → ℕ) (room : ℕ) (found : List Token) (s : List ℕ) (k : FaultKind) → rest_at place room found s ≡ failed k → RealWhy k s
@@ -236,18 +247,20 @@ mutual
   rest_why place (suc room) found s k e =
       elim (chosen (begins 93 s) (pair_of (found ++ (token_at place mark.Close s ∷ [])) (drop 1 s)) _ (failed k) e) [
         | inl h ↦ absurd (cc h.1)
-        | inr h ↦ elim (bind_err (operator_at s) (λ o. real_at place room (found ++ (token_at place (mark.Operator o) s ∷ [])) (drop 1 s) >>= λ y. rest_at place room y.0 y.1) (OfItem k) h.1) [
-          | inl j ↦ of_kind Bracket k s (operator_why s k j) tt
-          | inr j ↦
-              let with_sign = found ++ (token_at place (mark.Operator j.0) s ∷ []) in
-              let sign = operator_takes s j.0 j.1 in
-              elim (bind_err (real_at place room with_sign (drop 1 s)) (λ y. rest_at place room y.0 y.1) (OfItem k) j.2) [
-                | inl i ↦ real_same k s (operator_byte j.0 ∷ drop 1 s) sign (real_why place room (operator_byte j.0) with_sign (drop 1 s) k (operator_stops j.0) i)
-                | inr i ↦
-                    let t = real_takes place room with_sign (drop 1 s) i.0 i.1 in
-                    behind_value k (operator_byte j.0) t.v s i.0.1 sign t.parts (rest_why place room i.0.0 i.0.1 k i.2)
-              ]
-        ]
+        | inr h ↦ elim (bind_err (operator_at s)
+            (λ o. real_at place room (found ++ (token_at place (mark.Operator o) s ∷ [])) (drop 1 s) >>= λ y. rest_at place room y.0 y.1) (OfItem k) h.1) [
+              | inl j ↦ of_kind Bracket k s (operator_why s k j) tt
+              | inr j ↦
+                  let with_sign = found ++ (token_at place (mark.Operator j.0) s ∷ []) in
+                  let sign = operator_takes s j.0 j.1 in
+                  elim (bind_err (real_at place room with_sign (drop 1 s)) (λ y. rest_at place room y.0 y.1) (OfItem k) j.2) [
+                    | inl i ↦ real_same k s (operator_byte j.0 ∷ drop 1 s) sign
+                        (real_why place room (operator_byte j.0) with_sign (drop 1 s) k (operator_stops j.0) i)
+                    | inr i ↦
+                        let t = real_takes place room with_sign (drop 1 s) i.0 i.1 in
+                        behind_value k (operator_byte j.0) t.v s i.0.1 sign t.parts (rest_why place room i.0.0 i.0.1 k i.2)
+                  ]
+            ]
       ]
 
 letter_parted : (l : Letter) → Stops (letter_byte l ∷ [])
@@ -284,18 +297,21 @@ item_kind j k found s e h = subst (λ (i : FaultKind). ItemWhy i found s) e h
 abbrev parts_and : Parts → List ℕ → Result (Parts × List ℕ) Refusal
 parts_and p r = Ok (p, r)
 
-word_why : (place : ℕ → ℕ) (room : ℕ) (found : Parts) (l : Letter) (s : List ℕ) (k : FaultKind) → s ≡ letter_byte l ∷ drop 1 s → word_at place room found l s ≡ failed k → ItemWhy k found s
+word_why : (place : ℕ → ℕ) (room : ℕ) (found : Parts) (l : Letter) (s : List ℕ) (k : FaultKind) → s ≡ letter_byte l ∷ drop 1 s →
+    word_at place room found l s ≡ failed k → ItemWhy k found s
 unfolding word_at
 word_why place room found l s k first e =
     elim (chosen (length found.words == 64) (failed TooManyWords) _ (failed k) e) [
       | inl h ↦ item_kind TooManyWords k found s (kind_is TooManyWords k h.1) (eqb-true (length found.words) 64 h.0, (l, first))
       | inr h ↦ elim (bind_err (real_at place room found.tokens (drop 1 s)) (λ x. parts_and (with_word place found l s x.0) x.1) (OfItem k) h.1) [
-        | inl i ↦ item_of_real k found s (real_same k s (letter_byte l ∷ drop 1 s) first (real_why place room (letter_byte l) found.tokens (drop 1 s) k (letter_parted l) i))
+        | inl i ↦ item_of_real k found s
+            (real_same k s (letter_byte l ∷ drop 1 s) first (real_why place room (letter_byte l) found.tokens (drop 1 s) k (letter_parted l) i))
         | inr i ↦ absurd (cc i.2)
       ]
     ]
 
-value_why : (place : ℕ → ℕ) (room : ℕ) (found : Parts) (s : List ℕ) (index : List Token) (r : List ℕ) (k : FaultKind) → value_behind place room found s index r ≡ failed k → RealWhy k r
+value_why : (place : ℕ → ℕ) (room : ℕ) (found : Parts) (s : List ℕ) (index : List Token) (r : List ℕ) (k : FaultKind) →
+    value_behind place room found s index r ≡ failed k → RealWhy k r
 unfolding value_behind
 value_why place room found s index r k e =
     elim (chosen (begins 61 r) _ (err (refusal BadNumber r)) (failed k) e) [
@@ -306,7 +322,8 @@ value_why place room found s index r k e =
       | inr h ↦ of_kind BadNumber k r (refusal_is BadNumber k r h.1) tt
     ]
 
-setting_why : (place : ℕ → ℕ) (room : ℕ) (found : Parts) (s : List ℕ) (k : FaultKind) → begins 35 s ≡ true → setting_at place room found s ≡ failed k → RealWhy k s
+setting_why : (place : ℕ → ℕ) (room : ℕ) (found : Parts) (s : List ℕ) (k : FaultKind) → begins 35 s ≡ true →
+    setting_at place room found s ≡ failed k → RealWhy k s
 unfolding setting_at
 setting_why place room found s k hash e =
     elim (bind_err (real_at place room found.tokens (drop 1 s)) (λ x. value_behind place room found s x.0 x.1) (OfItem k) e) [
@@ -392,7 +409,8 @@ items_of_item Bracket found s h = tt
 items_of_item TooManyWords found s h = record { items = []; letter = h.1.0; end = drop 1 s; are = tt; count = omega (arith, h.0); written = h.1.1 }
 
 -- behind one item more
-items_further : (k : FaultKind) (found next : Parts) (i : Item) (s r : List ℕ) → IsItem i → length next.words ≡ length found.words + item_words i → s ≡ item_text i ++ r → ItemsWhy k next r → ItemsWhy k found s
+items_further : (k : FaultKind) (found next : Parts) (i : Item) (s r : List ℕ) → IsItem i → length next.words ≡ length found.words + item_words i →
+    s ≡ item_text i ++ r → ItemsWhy k next r → ItemsWhy k found s
 items_further TooLarge found next i s r is count e h = same_text s (item_text i ++ r) e (further (item_text i) r h)
 items_further LineTooLong found next i s r is count e h = tt
 items_further UnknownCharacter found next i s r is count e h = tt
@@ -418,10 +436,13 @@ fault_is : {A : Type 0} (f g : LineFault) → refused {A = A} f ≡ refused {A =
 fault_is f g e = cc
 
 -- a refusal, with its column
-located_why : {A : Type 0} (place : ℕ → ℕ) (s : List ℕ) (r : Result A Refusal) (f : LineFault) (P : FaultKind → Type 0) → ((k : FaultKind) → r ≡ failed k → P k) → P UnknownCharacter → located place s r ≡ refused f → P f.kind
+located_why : {A : Type 0} (place : ℕ → ℕ) (s : List ℕ) (r : Result A Refusal) (f : LineFault) (P : FaultKind → Type 0) →
+    ((k : FaultKind) → r ≡ failed k → P k) → P UnknownCharacter → located place s r ≡ refused f → P f.kind
 located_why place s (Ok x) f P item byte e = absurd cc
-located_why {A = A} place s (Err (OfItem k)) f P item byte e = subst (λ (g : LineFault). P g.kind) (fault_is {A = A} (fault_at k (place (length s))) f e) (item k refl)
-located_why {A = A} place s (Err (AtByte left)) f P item byte e = subst (λ (g : LineFault). P g.kind) (fault_is {A = A} (fault_at UnknownCharacter (place left)) f e) byte
+located_why {A = A} place s (Err (OfItem k)) f P item byte e =
+    subst (λ (g : LineFault). P g.kind) (fault_is {A = A} (fault_at k (place (length s))) f e) (item k refl)
+located_why {A = A} place s (Err (AtByte left)) f P item byte e =
+    subst (λ (g : LineFault). P g.kind) (fault_is {A = A} (fault_at UnknownCharacter (place left)) f e) byte
 
 items_why : (place : ℕ → ℕ) (room : ℕ) (found : Parts) (s : List ℕ) (f : LineFault) → items_at place room found s ≡ refused f → ItemsWhy f.kind found s
 unfolding items_at
@@ -432,10 +453,12 @@ items_why place (suc room) found s f e =
       | inr h ↦ elim (chosen (begins 59 s) (Ok found) _ (refused f) h.1) [
         | inl j ↦ absurd (cc j.1)
         | inr j ↦ elim (bind_err (located place s (item_at place room found s)) (λ x. items_at place room x.0 x.1) f j.1) [
-          | inl i ↦ located_why place s (item_at place room found s) f (λ k. ItemsWhy k found s) (λ k q. items_of_item k found s (item_why place room found s k q)) tt i
+          | inl i ↦ located_why place s (item_at place room found s) f (λ k. ItemsWhy k found s)
+              (λ k q. items_of_item k found s (item_why place room found s k q)) tt i
           | inr i ↦
               let t = item_takes place room found s i.0 (located_ok place s (item_at place room found s) i.0 i.1) in
-              items_further f.kind found i.0.0 t.i s i.0.1 t.is (ap (λ (p : Parts). length p.words) t.parts_are ∙ step_words place found t.i i.0.1) t.spelled (items_why place room i.0.0 i.0.1 f i.2)
+              items_further f.kind found i.0.0 t.i s i.0.1 t.is (ap (λ (p : Parts). length p.words) t.parts_are ∙ step_words place found t.i i.0.1) t.spelled
+              (items_why place room i.0.0 i.0.1 f i.2)
         ]
       ]
     ]
@@ -525,13 +548,15 @@ of_many : (f : LineFault) (s : List ℕ) → TextWhy f.kind s → f.kind ≡ Too
 of_many f s h e = subst (λ (k : FaultKind). TextWhy k s) e h
 
 -- a number is refused as too large where one stands in the line
-pub large_is_written : (bytes t cs : List ℕ) (line : Line) (result : Result Unit LineFault) → t ≡ text bytes → Gives (λ _. said_of line) result (text_at (place_in cs) t)
+pub large_is_written : (bytes t cs : List ℕ) (line : Line) (result : Result Unit LineFault) → t ≡ text bytes →
+    Gives (λ _. said_of line) result (text_at (place_in cs) t)
     → IfErr result (λ f. f.kind ≡ TooLarge → WritesTooLarge bytes)
 large_is_written bytes t cs line (Ok u) is g = tt
 large_is_written bytes t cs line (Err f) is g = λ e. of_large f (text bytes) (in_line bytes t f is (text_why (place_in cs) t f g)) e
 
 -- and a word as one too many behind 64 of them
-pub many_are_written : (bytes t cs : List ℕ) (line : Line) (result : Result Unit LineFault) → t ≡ text bytes → Gives (λ _. said_of line) result (text_at (place_in cs) t)
+pub many_are_written : (bytes t cs : List ℕ) (line : Line) (result : Result Unit LineFault) → t ≡ text bytes →
+    Gives (λ _. said_of line) result (text_at (place_in cs) t)
     → IfErr result (λ f. f.kind ≡ TooManyWords → WritesManyWords bytes)
 many_are_written bytes t cs line (Ok u) is g = tt
 many_are_written bytes t cs line (Err f) is g = λ e. of_many f (text bytes) (in_line bytes t f is (text_why (place_in cs) t f g)) e

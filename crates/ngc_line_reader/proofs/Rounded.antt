@@ -1,5 +1,6 @@
 -- A number's digits, rounded to millionths.
-use Rattle.std.proofs.Common.{◌≡◌, ℕ, zero, suc, ◌+◌, ◌-◌, ◌*◌, ◌/◌, ◌%◌, ◌^◌, ◌<◌, ◌≤◌, min, ap, Bool, true, false, List, [], ◌∷◌, ◌++◌, length, take, drop, Ok, Err, refl, sym, ◌∙◌, arith, lit<}
+use Rattle.std.proofs.Common.{◌≡◌, ℕ, zero, suc, ◌+◌, ◌-◌, ◌*◌, ◌/◌, ◌%◌, ◌^◌, ◌<◌, ◌≤◌, min, ap, Bool, true, false, List, [], ◌∷◌, ◌++◌, length, take, drop}
+use Rattle.std.proofs.Common.{Ok, Err, refl, sym, ◌∙◌, arith, lit<}
 use Rattle.std.proofs.Math.Nat.{pow-le-pow_right}
 use Rattle.std.specs.Prelude.{nat_le, if◌then◌else◌}
 use Rattle.std.specs.Char.{is_ascii_digit}
@@ -129,10 +130,12 @@ long_millionths ds u h lt e =
     let whole : take 7 ds ++ drop 7 ds ≡ ds = take-append-drop 7 ds in
     let digits : IsDigits (take 7 ds) × IsDigits (drop 7 ds) = IsDigits-parts (take 7 ds) (drop 7 ds) (rw whole h) in
     let front : length (take 7 ds) ≡ 7 = omega (arith, length-take 7 ds) in
-    let below : digits_value (take 7 ds) < 10000000 = let b = digits_value-below (take 7 ds) digits.0 in let c = ap (λ (n : ℕ). 10 ^ n) front in omega (arith, b, c) in
+    let below : digits_value (take 7 ds) < 10000000 = let b = digits_value-below (take 7 ds) digits.0 in let c = ap (λ (n : ℕ). 10 ^ n) front in
+    omega (arith, b, c) in
     let same : u ≡ digits_value (take 7 ds) = omega (arith, e, below) in
     let rest = digits_value-below (drop 7 ds) digits.1 in
-    let value : digits_value ds ≡ digits_value (take 7 ds) * 10 ^ length (drop 7 ds) + digits_value (drop 7 ds) = ap digits_value (sym whole) ∙ digits_value-append (take 7 ds) (drop 7 ds) in
+    let value : digits_value ds ≡ digits_value (take 7 ds) * 10 ^ length (drop 7 ds) + digits_value (drop 7 ds) =
+    ap digits_value (sym whole) ∙ digits_value-append (take 7 ds) (drop 7 ds) in
     let size : length ds ≡ 7 + length (drop 7 ds) = omega (arith, length-drop 7 ds) in
     let unit : 10 ^ length ds ≡ 10000000 * 10 ^ length (drop 7 ds) = ap (λ (n : ℕ). 10 ^ n) size ∙ seven (length (drop 7 ds)) in
     record {
@@ -144,7 +147,8 @@ long_millionths ds u h lt e =
     }
 
 -- the same of what was counted
-pub long_counted : (ds : List ℕ) (u : ℕ) → IsDigits ds → 6 < length ds → u ≡ min (digits_value (digits_at (take 7 ds))) 10000000000 → IsMillionths ds ((u + 5) / 10)
+pub long_counted : (ds : List ℕ) (u : ℕ) → IsDigits ds → 6 < length ds → u ≡ min (digits_value (digits_at (take 7 ds))) 10000000000 →
+    IsMillionths ds ((u + 5) / 10)
 long_counted ds u h lt e =
     let digits : IsDigits (take 7 ds) × IsDigits (drop 7 ds) = IsDigits-parts (take 7 ds) (drop 7 ds) (rw (take-append-drop 7 ds) h) in
     long_millionths ds u h lt (e ∙ ap (λ (t : List ℕ). min (digits_value t) 10000000000) (digits_at-all (take 7 ds) digits.0))
@@ -160,10 +164,13 @@ few_units ds u h short e =
 pub sized : (negative : Bool) (ws ds : List ℕ) (u m n : ℕ) → u ≡ min (digits_value ws) 10000000000 → IsMillionths ds m → n ≡ u * 1000000 + m
     → limited (signed negative n) ≡ limited (written_value negative ws ds)
 sized negative ws ds u m n e f g =
-    let total : nearest_size (digits_value (ws ++ ds) * MILLION) (10 ^ length ds) ≡ digits_value ws * MILLION + nearest_size (digits_value ds * MILLION) (10 ^ length ds) =
-    ap (λ (k : ℕ). nearest_size (k * MILLION) (10 ^ length ds)) (digits_value-append ws ds) ∙ nearest-whole (digits_value ws) (10 ^ length ds) (digits_value ds) (positive (length ds)) in
+    let total : nearest_size (digits_value (ws ++ ds) * MILLION) (10 ^ length ds)
+    ≡ digits_value ws * MILLION + nearest_size (digits_value ds * MILLION) (10 ^ length ds) =
+    ap (λ (k : ℕ). nearest_size (k * MILLION) (10 ^ length ds)) (digits_value-append ws ds)
+    ∙ nearest-whole (digits_value ws) (10 ^ length ds) (digits_value ds) (positive (length ds)) in
     compared negative (digits_value ws) m n _ (omega (arith, e, g)) (total ∙ ap (λ (k : ℕ). digits_value ws * MILLION + k) (sym f.value)) where
-      compared : (negative : Bool) (w m n t : ℕ) → n ≡ min w 10000000000 * 1000000 + m → t ≡ w * 1000000 + m → limited (signed negative n) ≡ limited (signed negative t)
+      compared : (negative : Bool) (w m n t : ℕ) → n ≡ min w 10000000000 * 1000000 + m → t ≡ w * 1000000 + m →
+          limited (signed negative n) ≡ limited (signed negative t)
       compared negative w m n t p q = by_size (nat_le w 10000000000) refl where
         by_size : (b : Bool) → nat_le w 10000000000 ≡ b → limited (signed negative n) ≡ limited (signed negative t)
         by_size true le = let small = leb-true _ _ le in let same : n ≡ t = omega (arith, small, p, q) in ap (λ (k : ℕ). limited (signed negative k)) same

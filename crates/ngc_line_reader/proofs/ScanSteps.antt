@@ -1,5 +1,6 @@
 -- One step of the readers, where there is room.
-use Rattle.std.proofs.Common.{◌≡◌, ℕ, zero, suc, ◌+◌, ◌-◌, ◌<◌, ◌≤◌, ap, Bool, true, false, cond, Some, None, List, [], ◌∷◌, ◌++◌, length, ℤ, drop, Result, Ok, Err, refl, sym, arith}
+use Rattle.std.proofs.Common.{◌≡◌, ℕ, zero, suc, ◌+◌, ◌-◌, ◌<◌, ◌≤◌, ap, Bool, true, false, cond, Some, None, List, [], ◌∷◌, ◌++◌, length, ℤ, drop, Result, Ok}
+use Rattle.std.proofs.Common.{Err, refl, sym, arith}
 use Rattle.std.specs.Prelude.{if◌then◌else◌, ◌==◌, ◌&&◌}
 use Rattle.std.specs.Char.{is_ascii_digit}
 use Rattle.std.specs.List.{prefix_len}
@@ -14,7 +15,8 @@ use Rattle.ngc_line_reader.specs.declared.token.Symbol.TheVariants as mark
 use Rattle.ngc_line_reader.specs.Tokens.{token_at}
 use Rattle.ngc_line_reader.specs.declared.fault.Refusal.{Refusal}
 use Rattle.ngc_line_reader.specs.declared.fault.Refusal.TheVariants.{OfItem}
-use Rattle.ngc_line_reader.specs.Scan.{◌>>=◌, begins, refusal, after_sign, digits_at, after_digits, decimals_at, after_decimals, whole_at, fraction_at, after_number, value_fits, number_at, number_token, operator_at, real_at, rest_at}
+use Rattle.ngc_line_reader.specs.Scan.{◌>>=◌, begins, refusal, after_sign, digits_at, after_digits, decimals_at, after_decimals, whole_at, fraction_at}
+use Rattle.ngc_line_reader.specs.Scan.{after_number, value_fits, number_at, number_token, operator_at, real_at, rest_at}
 
 pub real_step : (place : ℕ → ℕ) (room : ℕ) (found : List Token) (s : List ℕ) → 0 < room → real_at place room found s ≡
     (if begins 35 s then real_at place (room - 1) (found ++ (token_at place mark.Parameter s ∷ [])) (drop 1 s) else (
@@ -74,14 +76,15 @@ behind_of y z q r e = let pair : made y q ≡ made z r = inner (made y q) (made 
 -- what was read, by the tests that passed
 pub number_was : (s : List ℕ) (z : ℤ) (r : List ℕ) → number_at s ≡ Ok (z, r) → (0 < length (whole_at s) + length (fraction_at s)) × (r ≡ after_number s)
 unfolding number_at
-number_was s z r e = by_tests ((length (whole_at s) == 0) && (length (fraction_at s) == 0)) (begins 46 (after_number s)) (value_fits (limited (written_value (begins 45 s) (whole_at s) (fraction_at s)))) (nonempty (length (whole_at s)) (length (fraction_at s))) e where
-  by_tests : (a b : Bool) (v : Result ℤ Refusal) → (a ≡ false → 0 < length (whole_at s) + length (fraction_at s))
-      → cond a (Err (refusal BadNumber (after_number s))) (cond b (Err (OfItem BadNumber)) (v >>= λ z. Ok (z, after_number s))) ≡ read z r
-      → (0 < length (whole_at s) + length (fraction_at s)) × (r ≡ after_number s)
-  by_tests true b v some e = absurd cc
-  by_tests false true v some e = absurd cc
-  by_tests false false (Err f) some e = absurd cc
-  by_tests false false (Ok y) some e = (some refl, sym (behind_of y z (after_number s) r e))
+number_was s z r e = by_tests ((length (whole_at s) == 0) && (length (fraction_at s) == 0)) (begins 46 (after_number s))
+    (value_fits (limited (written_value (begins 45 s) (whole_at s) (fraction_at s)))) (nonempty (length (whole_at s)) (length (fraction_at s))) e where
+      by_tests : (a b : Bool) (v : Result ℤ Refusal) → (a ≡ false → 0 < length (whole_at s) + length (fraction_at s))
+          → cond a (Err (refusal BadNumber (after_number s))) (cond b (Err (OfItem BadNumber)) (v >>= λ z. Ok (z, after_number s))) ≡ read z r
+          → (0 < length (whole_at s) + length (fraction_at s)) × (r ≡ after_number s)
+      by_tests true b v some e = absurd cc
+      by_tests false true v some e = absurd cc
+      by_tests false false (Err f) some e = absurd cc
+      by_tests false false (Ok y) some e = (some refl, sym (behind_of y z (after_number s) r e))
 
 pub number_shorter : (s : List ℕ) (z : ℤ) (r : List ℕ) → number_at s ≡ Ok (z, r) → length r < length s
 number_shorter s z r e = let w = number_was s z r e in omega (arith, w.0, ap length w.1, number_split s)

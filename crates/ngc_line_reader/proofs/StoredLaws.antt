@@ -1,5 +1,6 @@
 -- Stored lines: what a push does to them, and where one lies.
-use Rattle.std.proofs.Common.{◌≡◌, ℕ, zero, suc, ◌+◌, ◌-◌, ◌*◌, ◌<◌, ◌≤◌, ap, subst, Bool, true, false, Some, List, [], ◌∷◌, ◌++◌, length, take, drop, get_or, slice_get, slice_range, refl, sym, ◌∙◌, length-append, arith}
+use Rattle.std.proofs.Common.{◌≡◌, ℕ, zero, suc, ◌+◌, ◌-◌, ◌*◌, ◌<◌, ◌≤◌, ap, subst, Bool, true, false, Some, List, [], ◌∷◌, ◌++◌, length, take, drop, get_or}
+use Rattle.std.proofs.Common.{slice_get, slice_range, refl, sym, ◌∙◌, length-append, arith}
 use Rattle.std.specs.Prelude.{◌==◌, ◌&&◌, nat_le, IsOk}
 use Rattle.std.specs.List.{list_all}
 use Rattle.std.proofs.lemmas.Bool.Decides.{nat_tests}
@@ -89,7 +90,8 @@ record Parts (bytes : List ℕ) (ends : List LineEnd) : Type 0 where
 
 parts_of : (bytes : List ℕ) (ends : List LineEnd) → is_stored bytes ends ≡ true → Parts bytes ends
 parts_of bytes ends h =
-    let w : (are_ends 0 (length bytes) ends ≡ true) × ((nat_le (length bytes) (256 * length ends) && list_all is_read (lines_from bytes 0 ends)) ≡ true) = both _ _ h in
+    let w : (are_ends 0 (length bytes) ends ≡ true) × ((nat_le (length bytes) (256 * length ends) && list_all is_read (lines_from bytes 0 ends)) ≡ true) =
+    both _ _ h in
     let v : (length bytes ≤ 256 * length ends) × (list_all is_read (lines_from bytes 0 ends) ≡ true) = at_most (length bytes) (256 * length ends) _ w.1 in
     record { ordered = w.0; few = v.0; read = v.1 }
 
@@ -108,14 +110,16 @@ read_more (x ∷ lines) line h read =
     let w : (is_read x ≡ true) × (list_all is_read lines ≡ true) = both _ _ h in
     joined (is_read x) _ w.0 (read_more lines line w.1 read)
 
-pub stored_pushed : (number : ℕ) (parts : LineParts) (bytes new : List ℕ) (ends : List LineEnd) → is_stored bytes ends ≡ true → length new ≤ 256 → IsOk (line_read new)
+pub stored_pushed : (number : ℕ) (parts : LineParts) (bytes new : List ℕ) (ends : List LineEnd) → is_stored bytes ends ≡ true → length new ≤ 256 →
+    IsOk (line_read new)
     → is_stored (bytes ++ new) (ends ++ (end_of number parts bytes new ∷ [])) ≡ true
 stored_pushed number parts bytes new ends h short read =
     let w = parts_of bytes ends h in
     let all : list_all is_read (lines_from (bytes ++ new) 0 (ends ++ (end_of number parts bytes new ∷ []))) ≡ true =
     ap (list_all is_read) (push_from number parts bytes new 0 ends w.ordered) ∙ read_more (lines_from bytes 0 ends) (line_of number new) w.read read in
     joined (are_ends 0 (length (bytes ++ new)) (ends ++ (end_of number parts bytes new ∷ []))) _ (ends_more number parts bytes new 0 ends w.ordered)
-    (joined (nat_le (length (bytes ++ new)) (256 * length (ends ++ (end_of number parts bytes new ∷ [])))) _ (true_le _ _ (more_room number parts bytes new ends w.few short)) all)
+    (joined (nat_le (length (bytes ++ new)) (256 * length (ends ++ (end_of number parts bytes new ∷ [])))) _
+    (true_le _ _ (more_room number parts bytes new ends w.few short)) all)
 
 pub stored_size : (bytes : List ℕ) (ends : List LineEnd) → is_stored bytes ends ≡ true → length bytes ≤ 256 * length ends
 stored_size bytes ends h = (parts_of bytes ends h).few
@@ -188,19 +192,24 @@ pub record Pushes (number end : ℕ) (parts : LineParts) (bytes new after : List
   pub end_is : end ≡ length after
   pub ends_are : behind ≡ ends ++ (record { number = number; end = end; parts = parts } ∷ [])
 
-pushed_ends : (number end : ℕ) (parts : LineParts) (bytes new after : List ℕ) (ends behind : List LineEnd) → Pushes number end parts bytes new after ends behind → behind ≡ ends ++ (end_of number parts bytes new ∷ [])
+pushed_ends : (number end : ℕ) (parts : LineParts) (bytes new after : List ℕ) (ends behind : List LineEnd) →
+    Pushes number end parts bytes new after ends behind → behind ≡ ends ++ (end_of number parts bytes new ∷ [])
 pushed_ends number end parts bytes new after ends behind p =
     let same : end ≡ length bytes + length new = p.end_is ∙ ap length p.bytes_are ∙ length-append bytes new in
     p.ends_are ∙ ap (λ (n : ℕ). ends ++ (record { number = number; end = n; parts = parts } ∷ [])) same
 
-pub push_lines : (number end : ℕ) (parts : LineParts) (bytes new after : List ℕ) (ends behind : List LineEnd) → Pushes number end parts bytes new after ends behind → is_stored bytes ends ≡ true
+pub push_lines : (number end : ℕ) (parts : LineParts) (bytes new after : List ℕ) (ends behind : List LineEnd) →
+    Pushes number end parts bytes new after ends behind → is_stored bytes ends ≡ true
     → lines_from after 0 behind ≡ lines_from bytes 0 ends ++ (line_of number new ∷ [])
 push_lines number end parts bytes new after ends behind p h =
-    ap (λ (b : List ℕ). lines_from b 0 behind) p.bytes_are ∙ ap (λ (e : List LineEnd). lines_from (bytes ++ new) 0 e) (pushed_ends number end parts bytes new after ends behind p)
+    ap (λ (b : List ℕ). lines_from b 0 behind) p.bytes_are ∙ ap (λ (e : List LineEnd). lines_from (bytes ++ new) 0 e)
+    (pushed_ends number end parts bytes new after ends behind p)
     ∙ lines_pushed number parts bytes new ends h
 
-pub push_stored : (number end : ℕ) (parts : LineParts) (bytes new after : List ℕ) (ends behind : List LineEnd) → Pushes number end parts bytes new after ends behind → is_stored bytes ends ≡ true
+pub push_stored : (number end : ℕ) (parts : LineParts) (bytes new after : List ℕ) (ends behind : List LineEnd) →
+    Pushes number end parts bytes new after ends behind → is_stored bytes ends ≡ true
     → length new ≤ 256 → IsOk (line_read new) → is_stored after behind ≡ true
 push_stored number end parts bytes new after ends behind p h short read =
-    ap (λ (b : List ℕ). is_stored b behind) p.bytes_are ∙ ap (λ (e : List LineEnd). is_stored (bytes ++ new) e) (pushed_ends number end parts bytes new after ends behind p)
+    ap (λ (b : List ℕ). is_stored b behind) p.bytes_are ∙ ap (λ (e : List LineEnd). is_stored (bytes ++ new) e)
+    (pushed_ends number end parts bytes new after ends behind p)
     ∙ stored_pushed number parts bytes new ends h short read

@@ -1,5 +1,6 @@
 -- What is read is spelled so.
-use Rattle.std.proofs.Common.{◌≡◌, ℕ, zero, suc, ◌+◌, ◌<◌, ℤ, ap, subst, Bool, true, false, cond, List, [], ◌∷◌, ◌++◌, length, drop, Result, Ok, Err, refl, sym, ◌∙◌, append_assoc, arith, ◌⊎◌, inl, inr}
+use Rattle.std.proofs.Common.{◌≡◌, ℕ, zero, suc, ◌+◌, ◌<◌, ℤ, ap, subst, Bool, true, false, cond, List, [], ◌∷◌, ◌++◌, length, drop, Result, Ok, Err, refl, sym}
+use Rattle.std.proofs.Common.{◌∙◌, append_assoc, arith, ◌⊎◌, inl, inr}
 use Rattle.std.specs.Prelude.{◌==◌, ◌&&◌, unsigned_abs, nat_le}
 use Rattle.std.specs.Char.{is_ascii_digit}
 use Rattle.std.specs.List.{prefix_len}
@@ -16,10 +17,12 @@ use Rattle.ngc_line_reader.specs.declared.token.Symbol.TheVariants as mark
 use Rattle.ngc_line_reader.specs.declared.fault.Refusal.{Refusal}
 use Rattle.ngc_line_reader.specs.declared.fault.Refusal.TheVariants.{OfItem}
 use Rattle.ngc_line_reader.specs.declared.fault.FaultKind.TheVariants.{BadNumber}
-use Rattle.ngc_line_reader.specs.Grammar.{Numeral, Real, number, parameter, bracket, Rest, close, next, sign_text, behind, numeral_text, operator_byte, real_text, rest_text, IsDigits, digits_of, IsNumeral, IsReal, IsRest}
+use Rattle.ngc_line_reader.specs.Grammar.{Numeral, Real, number, parameter, bracket, Rest, close, next, sign_text, behind, numeral_text, operator_byte}
+use Rattle.ngc_line_reader.specs.Grammar.{real_text, rest_text, IsDigits, digits_of, IsNumeral, IsReal, IsRest}
 use Rattle.ngc_line_reader.specs.Numbers.{written_value, numeral_value, is_negative}
 use Rattle.ngc_line_reader.specs.Tokens.{token_at, tokens_of, rest_tokens, IsWithinLimit, IsRestWithinLimit}
-use Rattle.ngc_line_reader.specs.Scan.{◌>>=◌, begins, refusal, sign_at, after_sign, digits_at, after_digits, decimals_at, after_decimals, whole_at, fraction_at, after_number, value_fits, number_at, number_token, operator_at, real_at, rest_at}
+use Rattle.ngc_line_reader.specs.Scan.{◌>>=◌, begins, refusal, sign_at, after_sign, digits_at, after_digits, decimals_at, after_decimals, whole_at, fraction_at}
+use Rattle.ngc_line_reader.specs.Scan.{after_number, value_fits, number_at, number_token, operator_at, real_at, rest_at}
 use Rattle.ngc_line_reader.proofs.ScanSteps.{nonempty}
 
 pub bind_ok : {A B E : Type 0} (r : Result A E) (f : A → Result B E) (y : B) → (r >>= f) ≡ Ok y → (x : A) × (r ≡ Ok x) × (f x ≡ Ok y)
@@ -66,7 +69,8 @@ sign_parts s = by_test (begins 43 s) (begins 45 s) refl refl where
 decimals_parts : (s : List ℕ) → (s ≡ behind 46 (decimals_at s) ++ after_decimals s) × IsDigits (digits_of (decimals_at s))
 decimals_parts s = by_test (begins 46 s) refl where
   by_test : (x : Bool) → begins 46 s ≡ x → (s ≡ behind 46 (decimals_at s) ++ after_decimals s) × IsDigits (digits_of (decimals_at s))
-  by_test true e = rw e (begins_is 46 s e ∙ ap (λ (t : List ℕ). 46 ∷ t) (sym (take-append-drop (prefix_len is_ascii_digit (drop 1 s)) (drop 1 s))), IsDigits-at (drop 1 s))
+  by_test true e =
+      rw e (begins_is 46 s e ∙ ap (λ (t : List ℕ). 46 ∷ t) (sym (take-append-drop (prefix_len is_ascii_digit (drop 1 s)) (drop 1 s))), IsDigits-at (drop 1 s))
   by_test false e = rw e (refl, tt)
 
 fits_is : (z y : ℤ) → value_fits (limited z) ≡ Ok y → (y ≡ z) × IsValue z
@@ -92,16 +96,20 @@ numeral_parts s =
     let u = after_digits t in
     let first : t ≡ digits_at t ++ u = sym (take-append-drop (prefix_len is_ascii_digit t) t) in
     let second : u ≡ behind 46 (decimals_at u) ++ after_decimals u = (decimals_parts u).0 in
-    let joined : t ≡ (digits_at t ++ behind 46 (decimals_at u)) ++ after_decimals u = first ∙ ap (λ (x : List ℕ). digits_at t ++ x) second ∙ sym (append_assoc (digits_at t) (behind 46 (decimals_at u)) (after_decimals u)) in
-    (sign_parts s).0 ∙ ap (λ (x : List ℕ). sign_text (sign_at s) ++ x) joined ∙ sym (append_assoc (sign_text (sign_at s)) (digits_at t ++ behind 46 (decimals_at u)) (after_decimals u))
+    let joined : t ≡ (digits_at t ++ behind 46 (decimals_at u)) ++ after_decimals u =
+    first ∙ ap (λ (x : List ℕ). digits_at t ++ x) second ∙ sym (append_assoc (digits_at t) (behind 46 (decimals_at u)) (after_decimals u)) in
+    (sign_parts s).0 ∙ ap (λ (x : List ℕ). sign_text (sign_at s) ++ x) joined
+    ∙ sym (append_assoc (sign_text (sign_at s)) (digits_at t ++ behind 46 (decimals_at u)) (after_decimals u))
 
-pub numeral_is : (s : List ℕ) → 0 < length (whole_at s) + length (fraction_at s) → IsNumeral (numeral_of s) × (written_value (begins 45 s) (whole_at s) (fraction_at s) ≡ numeral_value (numeral_of s))
+pub numeral_is : (s : List ℕ) → 0 < length (whole_at s) + length (fraction_at s) →
+    IsNumeral (numeral_of s) × (written_value (begins 45 s) (whole_at s) (fraction_at s) ≡ numeral_value (numeral_of s))
 numeral_is s some = (
   (IsDigits-at (after_sign s), (decimals_parts (after_digits (after_sign s))).1, some),
   ap (λ (negative : Bool). written_value negative (whole_at s) (fraction_at s)) (sym (sign_parts s).1),
 )
 
-number_was_fit : (s : List ℕ) (x : ℤ × List ℕ) → (value_fits (limited (written_value (begins 45 s) (whole_at s) (fraction_at s))) >>= λ z. Ok (z, after_number s)) ≡ done x
+number_was_fit : (s : List ℕ) (x : ℤ × List ℕ) →
+    (value_fits (limited (written_value (begins 45 s) (whole_at s) (fraction_at s))) >>= λ z. Ok (z, after_number s)) ≡ done x
     → 0 < length (whole_at s) + length (fraction_at s) → TakesNumber s x.0 x.1
 number_was_fit s x e some =
     let w = written_value (begins 45 s) (whole_at s) (fraction_at s) in
@@ -185,7 +193,8 @@ first_token : (place : ℕ → ℕ) (symbol : Symbol) (found ts more : List Toke
 first_token place symbol found ts more s t e f =
     e ∙ append_assoc found (token_at place symbol s ∷ []) more ∙ ap (λ (w : List ℕ). found ++ (token_at place symbol w ∷ more)) f
 
-parameter_takes : (place : ℕ → ℕ) (found : List Token) (s : List ℕ) (x : Pair) → begins 35 s ≡ true → TakesReal place (found ++ (token_at place mark.Parameter s ∷ [])) x.0 (drop 1 s) x.1 → TakesReal place found x.0 s x.1
+parameter_takes : (place : ℕ → ℕ) (found : List Token) (s : List ℕ) (x : Pair) → begins 35 s ≡ true →
+    TakesReal place (found ++ (token_at place mark.Parameter s ∷ [])) x.0 (drop 1 s) x.1 → TakesReal place found x.0 s x.1
 parameter_takes place found s x test t =
     let parts : s ≡ 35 ∷ (real_text t.v ++ x.1) = begins_is 35 s test ∙ ap (λ (u : List ℕ). 35 ∷ u) t.parts in
     record {
@@ -197,7 +206,8 @@ parameter_takes place found s x test t =
     }
 
 -- a mark, a value and what follows it in brackets
-joined_text : (c : ℕ) (v : Real) (rest : Rest) (s t r end : List ℕ) → s ≡ c ∷ t → t ≡ real_text v ++ r → r ≡ rest_text rest ++ end → s ≡ c ∷ ((real_text v ++ rest_text rest) ++ end)
+joined_text : (c : ℕ) (v : Real) (rest : Rest) (s t r end : List ℕ) → s ≡ c ∷ t → t ≡ real_text v ++ r → r ≡ rest_text rest ++ end →
+    s ≡ c ∷ ((real_text v ++ rest_text rest) ++ end)
 joined_text c v rest s t r end e f g =
     e ∙ ap (λ (w : List ℕ). c ∷ w) (f ∙ ap (λ (w : List ℕ). real_text v ++ w) g ∙ sym (append_assoc (real_text v) (rest_text rest) end))
 
@@ -209,18 +219,21 @@ joined_tokens place v rest symbol found ts us s t r end e f g h =
     ∙ append_assoc found (token_at place symbol t ∷ tokens_of place v r) (rest_tokens place rest end)
     ∙ ap (λ (w : List ℕ). found ++ (token_at place symbol t ∷ (tokens_of place v w ++ rest_tokens place rest end))) g
 
-bracket_takes : (place : ℕ → ℕ) (found ts : List Token) (s r : List ℕ) (x : Pair) → begins 91 s ≡ true → TakesReal place (found ++ (token_at place mark.Open s ∷ [])) ts (drop 1 s) r → TakesRest place ts x.0 r x.1 → TakesReal place found x.0 s x.1
+bracket_takes : (place : ℕ → ℕ) (found ts : List Token) (s r : List ℕ) (x : Pair) → begins 91 s ≡ true →
+    TakesReal place (found ++ (token_at place mark.Open s ∷ [])) ts (drop 1 s) r → TakesRest place ts x.0 r x.1 → TakesReal place found x.0 s x.1
 bracket_takes place found ts s r x test t u =
     let parts = joined_text 91 t.v u.rest s (drop 1 s) r x.1 (begins_is 91 s test) t.parts u.parts in
     record {
       v = bracket t.v u.rest;
       is = (t.is, u.is);
       limit = (t.limit, u.limit);
-      tokens = joined_tokens place t.v u.rest mark.Open found ts x.0 s (91 ∷ ((real_text t.v ++ rest_text u.rest) ++ x.1)) r x.1 u.tokens t.tokens u.parts parts;
+      tokens =
+          joined_tokens place t.v u.rest mark.Open found ts x.0 s (91 ∷ ((real_text t.v ++ rest_text u.rest) ++ x.1)) r x.1 u.tokens t.tokens u.parts parts;
       parts = parts;
     }
 
-next_takes : (place : ℕ → ℕ) (o : Operator) (found ts : List Token) (s r : List ℕ) (x : Pair) → s ≡ operator_byte o ∷ drop 1 s → TakesReal place (found ++ (token_at place (mark.Operator o) s ∷ [])) ts (drop 1 s) r → TakesRest place ts x.0 r x.1
+next_takes : (place : ℕ → ℕ) (o : Operator) (found ts : List Token) (s r : List ℕ) (x : Pair) → s ≡ operator_byte o ∷ drop 1 s →
+    TakesReal place (found ++ (token_at place (mark.Operator o) s ∷ [])) ts (drop 1 s) r → TakesRest place ts x.0 r x.1
     → TakesRest place found x.0 s x.1
 next_takes place o found ts s r x test t u =
     let parts = joined_text (operator_byte o) t.v u.rest s (drop 1 s) r x.1 test t.parts u.parts in
@@ -228,11 +241,13 @@ next_takes place o found ts s r x test t u =
       rest = next o t.v u.rest;
       is = (t.is, u.is);
       limit = (t.limit, u.limit);
-      tokens = joined_tokens place t.v u.rest (mark.Operator o) found ts x.0 s (operator_byte o ∷ ((real_text t.v ++ rest_text u.rest) ++ x.1)) r x.1 u.tokens t.tokens u.parts parts;
+      tokens = joined_tokens place t.v u.rest (mark.Operator o) found ts x.0 s
+          (operator_byte o ∷ ((real_text t.v ++ rest_text u.rest) ++ x.1)) r x.1 u.tokens t.tokens u.parts parts;
       parts = parts;
     }
 
-close_takes : (place : ℕ → ℕ) (found : List Token) (s : List ℕ) (x : Pair) → begins 93 s ≡ true → done (found ++ (token_at place mark.Close s ∷ []), drop 1 s) ≡ done x → TakesRest place found x.0 s x.1
+close_takes : (place : ℕ → ℕ) (found : List Token) (s : List ℕ) (x : Pair) → begins 93 s ≡ true →
+    done (found ++ (token_at place mark.Close s ∷ []), drop 1 s) ≡ done x → TakesRest place found x.0 s x.1
 close_takes place found s x test e =
     let pair : Pair = (found ++ (token_at place mark.Close s ∷ []), drop 1 s) in
     let parts : s ≡ 93 ∷ drop 1 s = begins_is 93 s test in
@@ -255,11 +270,12 @@ mutual
       let with_open = found ++ (token_at place mark.Open s ∷ []) in
       elim (chosen (begins 35 s) (real_at place room with_hash (drop 1 s)) _ (done x) e) [
         | inl h ↦ parameter_takes place found s x h.0 (real_takes place room with_hash (drop 1 s) x h.1)
-        | inr h ↦ elim (chosen (begins 91 s) (real_at place room with_open (drop 1 s) >>= λ y. rest_at place room y.0 y.1) (number_token place found s) (done x) h.1) [
-          | inl h ↦ let b = bind_ok (real_at place room with_open (drop 1 s)) (λ y. rest_at place room y.0 y.1) x h.1 in
-              bracket_takes place found b.0.0 s b.0.1 x h.0 (real_takes place room with_open (drop 1 s) b.0 b.1) (rest_takes place room b.0.0 b.0.1 x b.2)
-          | inr h ↦ number_token_takes place found s x h.1
-        ]
+        | inr h ↦ elim (chosen (begins 91 s) (real_at place room with_open (drop 1 s) >>= λ y. rest_at place room y.0 y.1) (number_token place found s)
+            (done x) h.1) [
+              | inl h ↦ let b = bind_ok (real_at place room with_open (drop 1 s)) (λ y. rest_at place room y.0 y.1) x h.1 in
+                  bracket_takes place found b.0.0 s b.0.1 x h.0 (real_takes place room with_open (drop 1 s) b.0 b.1) (rest_takes place room b.0.0 b.0.1 x b.2)
+              | inr h ↦ number_token_takes place found s x h.1
+            ]
       ]
 
   pub rest_takes : (place : ℕ → ℕ) (room : ℕ) (found : List Token) (s : List ℕ) (x : Pair) → rest_at place room found s ≡ Ok x → TakesRest place found x.0 s x.1
@@ -268,8 +284,10 @@ mutual
       elim (chosen (begins 93 s) (done (found ++ (token_at place mark.Close s ∷ []), drop 1 s)) _ (done x) e) [
         | inl h ↦ close_takes place found s x h.0 h.1
         | inr h ↦
-            let o = bind_ok (operator_at s) (λ o. real_at place room (found ++ (token_at place (mark.Operator o) s ∷ [])) (drop 1 s) >>= λ y. rest_at place room y.0 y.1) x h.1 in
+            let o = bind_ok (operator_at s)
+            (λ o. real_at place room (found ++ (token_at place (mark.Operator o) s ∷ [])) (drop 1 s) >>= λ y. rest_at place room y.0 y.1) x h.1 in
             let with_sign = found ++ (token_at place (mark.Operator o.0) s ∷ []) in
             let b = bind_ok (real_at place room with_sign (drop 1 s)) (λ y. rest_at place room y.0 y.1) x o.2 in
-            next_takes place o.0 found b.0.0 s b.0.1 x (operator_takes s o.0 o.1) (real_takes place room with_sign (drop 1 s) b.0 b.1) (rest_takes place room b.0.0 b.0.1 x b.2)
+            next_takes place o.0 found b.0.0 s b.0.1 x (operator_takes s o.0 o.1) (real_takes place room with_sign (drop 1 s) b.0 b.1)
+            (rest_takes place room b.0.0 b.0.1 x b.2)
       ]

@@ -26,7 +26,8 @@ abbrev column_part : ℕ → Option ℕ → List ℕ
 column_part column byte = option_to_list (option_map (λ (_ : ℕ). column) byte)
 
 pub columns_step : (place : Place) (line : List ℕ) (i : ℕ) → i < length line → columns_from place (i + 1) (drop i line) ≡
-    option_to_list (option_map (λ (_ : ℕ). i + 1) (kept place (get_or line i 0) (i + 1 == length line))) ++ columns_from (place_after place (get_or line i 0)) ((i + 1) + 1) (drop (i + 1) line)
+    option_to_list (option_map (λ (_ : ℕ). i + 1) (kept place (get_or line i 0) (i + 1 == length line)))
+    ++ columns_from (place_after place (get_or line i 0)) ((i + 1) + 1) (drop (i + 1) line)
 columns_step place line i h =
     let b = get_or line i 0 in
     let rest = drop (suc i) line in

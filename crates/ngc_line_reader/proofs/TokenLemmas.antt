@@ -22,12 +22,16 @@ mutual
   symbols-tokens_of place (number n) end = refl
   symbols-tokens_of place (parameter v) end = ap (λ (ss : List Symbol). mark.Parameter ∷ ss) (symbols-tokens_of place v end)
   symbols-tokens_of place (bracket v rest) end =
-      ap (λ (ss : List Symbol). mark.Open ∷ ss) (both (tokens_of place v (rest_text rest ++ end)) (rest_tokens place rest end) (symbols_of v) (rest_symbols rest) (symbols-tokens_of place v (rest_text rest ++ end)) (symbols-rest_tokens place rest end))
+      ap (λ (ss : List Symbol). mark.Open ∷ ss)
+      (both (tokens_of place v (rest_text rest ++ end)) (rest_tokens place rest end) (symbols_of v) (rest_symbols rest)
+      (symbols-tokens_of place v (rest_text rest ++ end)) (symbols-rest_tokens place rest end))
 
   pub symbols-rest_tokens : (place : ℕ → ℕ) (rest : Rest) (end : List ℕ) → symbols (rest_tokens place rest end) ≡ rest_symbols rest
   symbols-rest_tokens place close end = refl
   symbols-rest_tokens place (next o v rest) end =
-      ap (λ (ss : List Symbol). mark.Operator o ∷ ss) (both (tokens_of place v (rest_text rest ++ end)) (rest_tokens place rest end) (symbols_of v) (rest_symbols rest) (symbols-tokens_of place v (rest_text rest ++ end)) (symbols-rest_tokens place rest end))
+      ap (λ (ss : List Symbol). mark.Operator o ∷ ss)
+      (both (tokens_of place v (rest_text rest ++ end)) (rest_tokens place rest end) (symbols_of v) (rest_symbols rest)
+      (symbols-tokens_of place v (rest_text rest ++ end)) (symbols-rest_tokens place rest end))
 
 pub length-tokens_of : (place : ℕ → ℕ) (v : Real) (end : List ℕ) → length (tokens_of place v end) ≡ length (symbols_of v)
 length-tokens_of place v end = sym (length-symbols (tokens_of place v end)) ∙ ap length (symbols-tokens_of place v end)

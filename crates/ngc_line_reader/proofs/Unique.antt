@@ -3,7 +3,8 @@ use Rattle.std.proofs.Common.{◌≡◌, ◌≢◌, ℕ, ◌+◌, ◌<◌, List,
 use Rattle.std.specs.Char.{is_ascii_digit}
 use Rattle.ngc_line_reader.specs.declared.token.Operator.{Operator}
 use Rattle.ngc_line_reader.specs.declared.token.Operator.TheVariants.{Add, Subtract, Multiply, Divide}
-use Rattle.ngc_line_reader.specs.Grammar.{Sign, bare, plus, minus, Numeral, Real, number, parameter, bracket, Rest, close, next, sign_text, behind, numeral_text, operator_byte, real_text, rest_text, IsDigits, digits_of, IsNumeral, IsReal, IsRest, Stops}
+use Rattle.ngc_line_reader.specs.Grammar.{Sign, bare, plus, minus, Numeral, Real, number, parameter, bracket, Rest, close, next, sign_text, behind}
+use Rattle.ngc_line_reader.specs.Grammar.{numeral_text, operator_byte, real_text, rest_text, IsDigits, digits_of, IsNumeral, IsReal, IsRest, Stops}
 
 -- what stands after a number doesn't go on with it
 abbrev pub NoDigit : List ℕ → Type 0
@@ -39,7 +40,8 @@ pub NoDigit-behind : (ds : Option (List ℕ)) (r : List ℕ) → Stops r → NoD
 NoDigit-behind None r h = NoDigit-Stops r h
 NoDigit-behind (Some ds) r h = refl
 
-decimals_unique : (ds es : Option (List ℕ)) (r s : List ℕ) → IsDigits (digits_of ds) → IsDigits (digits_of es) → Stops r → Stops s → behind 46 ds ++ r ≡ behind 46 es ++ s → (ds ≡ es) × (r ≡ s)
+decimals_unique : (ds es : Option (List ℕ)) (r s : List ℕ) → IsDigits (digits_of ds) → IsDigits (digits_of es) → Stops r → Stops s →
+    behind 46 ds ++ r ≡ behind 46 es ++ s → (ds ≡ es) × (r ≡ s)
 decimals_unique None None r s p q m n e = (refl, e)
 decimals_unique None (Some es) [] s p q m n e = absurd cc
 decimals_unique None (Some es) (b ∷ r) s p q m n e = absurd (m.1 cc)
@@ -53,19 +55,23 @@ decimals_unique (Some ds) (Some es) r s p q m n e =
 -- a number begins with none of the other bytes
 pub body_not : (c : ℕ) (n : Numeral) (r s : List ℕ) → is_ascii_digit c ≡ false → c ≢ 46 → IsNumeral n → body n ++ r ≡ c ∷ s → ⊥
 body_not c n r s digit point h e = starts n.whole n.decimals h e where
-  starts : (ds : List ℕ) (es : Option (List ℕ)) → IsDigits ds × IsDigits (digits_of es) × (0 < length ds + length (digits_of es)) → (ds ++ behind 46 es) ++ r ≡ c ∷ s → ⊥
+  starts : (ds : List ℕ) (es : Option (List ℕ)) → IsDigits ds × IsDigits (digits_of es) × (0 < length ds + length (digits_of es)) →
+      (ds ++ behind 46 es) ++ r ≡ c ∷ s → ⊥
   starts [] None h e = omega (arith, h.2)
   starts [] (Some es) h e = point (sym (heads 46 c _ _ e))
   starts (d ∷ ds) es h e = let same : d ≡ c = cc in cc (h.0.0, digit, ap is_ascii_digit same)
 
-body_unique : (m n : Numeral) (r s : List ℕ) → IsNumeral m → IsNumeral n → Stops r → Stops s → body m ++ r ≡ body n ++ s → (m.whole ≡ n.whole) × (m.decimals ≡ n.decimals) × (r ≡ s)
+body_unique : (m n : Numeral) (r s : List ℕ) → IsNumeral m → IsNumeral n → Stops r → Stops s → body m ++ r ≡ body n ++ s →
+    (m.whole ≡ n.whole) × (m.decimals ≡ n.decimals) × (r ≡ s)
 body_unique m n r s p q j k e =
-    let first = digits_unique m.whole n.whole (behind 46 m.decimals ++ r) (behind 46 n.decimals ++ s) p.0 q.0 (NoDigit-behind m.decimals r j) (NoDigit-behind n.decimals s k)
+    let first = digits_unique m.whole n.whole (behind 46 m.decimals ++ r) (behind 46 n.decimals ++ s) p.0 q.0 (NoDigit-behind m.decimals r j)
+    (NoDigit-behind n.decimals s k)
     (sym (append_assoc m.whole (behind 46 m.decimals) r) ∙ e ∙ append_assoc n.whole (behind 46 n.decimals) s) in
     let second = decimals_unique m.decimals n.decimals r s p.1 q.1 j k first.1 in
     (first.0, second.0, second.1)
 
-signs_unique : (a b : Sign) (m n : Numeral) (r s : List ℕ) → IsNumeral m → IsNumeral n → (sign_text a ++ body m) ++ r ≡ (sign_text b ++ body n) ++ s → (a ≡ b) × (body m ++ r ≡ body n ++ s)
+signs_unique : (a b : Sign) (m n : Numeral) (r s : List ℕ) → IsNumeral m → IsNumeral n → (sign_text a ++ body m) ++ r ≡ (sign_text b ++ body n) ++ s →
+    (a ≡ b) × (body m ++ r ≡ body n ++ s)
 signs_unique bare bare m n r s p q e = (refl, e)
 signs_unique bare plus m n r s p q e = absurd (body_not 43 m r (body n ++ s) refl (λ h. omega arith) p e)
 signs_unique bare minus m n r s p q e = absurd (body_not 45 m r (body n ++ s) refl (λ h. omega arith) p e)
@@ -135,12 +141,16 @@ rest_stops (next operator value rest) r = operator_stops operator
 mutual
   pub real_unique : (v w : Real) (r s : List ℕ) → IsReal v → IsReal w → Stops r → Stops s → real_text v ++ r ≡ real_text w ++ s → (v ≡ w) × (r ≡ s)
   real_unique (number m) (number n) r s p q j k e = let same = numeral_unique m n r s p q j k e in (ap number same.0, same.1)
-  real_unique (number m) (parameter w) r s p q j k e = absurd (numeral_not 35 m r (real_text w ++ s) refl (λ h. omega arith) (λ h. omega arith) (λ h. omega arith) p e)
-  real_unique (number m) (bracket w rest) r s p q j k e = absurd (numeral_not 91 m r ((real_text w ++ rest_text rest) ++ s) refl (λ h. omega arith) (λ h. omega arith) (λ h. omega arith) p e)
-  real_unique (parameter v) (number n) r s p q j k e = absurd (numeral_not 35 n s (real_text v ++ r) refl (λ h. omega arith) (λ h. omega arith) (λ h. omega arith) q (sym e))
+  real_unique (number m) (parameter w) r s p q j k e =
+      absurd (numeral_not 35 m r (real_text w ++ s) refl (λ h. omega arith) (λ h. omega arith) (λ h. omega arith) p e)
+  real_unique (number m) (bracket w rest) r s p q j k e =
+      absurd (numeral_not 91 m r ((real_text w ++ rest_text rest) ++ s) refl (λ h. omega arith) (λ h. omega arith) (λ h. omega arith) p e)
+  real_unique (parameter v) (number n) r s p q j k e =
+      absurd (numeral_not 35 n s (real_text v ++ r) refl (λ h. omega arith) (λ h. omega arith) (λ h. omega arith) q (sym e))
   real_unique (parameter v) (parameter w) r s p q j k e = let same = real_unique v w r s p q j k (tails 35 35 _ _ e) in (ap parameter same.0, same.1)
   real_unique (parameter v) (bracket w rest) r s p q j k e = absurd (omega (arith, heads 35 91 _ _ e))
-  real_unique (bracket v rest) (number n) r s p q j k e = absurd (numeral_not 91 n s ((real_text v ++ rest_text rest) ++ r) refl (λ h. omega arith) (λ h. omega arith) (λ h. omega arith) q (sym e))
+  real_unique (bracket v rest) (number n) r s p q j k e =
+      absurd (numeral_not 91 n s ((real_text v ++ rest_text rest) ++ r) refl (λ h. omega arith) (λ h. omega arith) (λ h. omega arith) q (sym e))
   real_unique (bracket v rest) (parameter w) r s p q j k e = absurd (omega (arith, heads 91 35 _ _ e))
   real_unique (bracket v g) (bracket w h) r s p q j k e =
       let inner : (real_text v ++ rest_text g) ++ r ≡ (real_text w ++ rest_text h) ++ s = tails 91 91 _ _ e in

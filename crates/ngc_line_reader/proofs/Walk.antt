@@ -1,5 +1,6 @@
 -- The lines of a file, one by one, and what the whole file says.
-use Rattle.std.proofs.Common.{◌≡◌, ℕ, suc, ◌+◌, ap, subst, Bool, true, false, Option, Some, None, List, [], ◌∷◌, ◌++◌, length, take, Result, Ok, Err, refl, sym, ◌∙◌, append_assoc, arith}
+use Rattle.std.proofs.Common.{◌≡◌, ℕ, suc, ◌+◌, ap, subst, Bool, true, false, Option, Some, None, List, [], ◌∷◌, ◌++◌, length, take, Result, Ok, Err, refl, sym}
+use Rattle.std.proofs.Common.{◌∙◌, append_assoc, arith}
 use Rattle.std.specs.Prelude.{if◌then◌else◌, ◌&&◌, nat_le, not, take_while}
 use Rattle.std.specs.List.{list_any, prefix_len}
 use Rattle.std.specs.Option.{option_or}
@@ -10,7 +11,8 @@ use Rattle.ngc_line_reader.specs.declared.program.fault.ReadFault.TheVariants as
 use Rattle.ngc_line_reader.specs.declared.program.phase.Phase.{Phase}
 use Rattle.ngc_line_reader.specs.declared.program.phase.Phase.TheVariants.{Start, Marked, Unmarked}
 use Rattle.ngc_line_reader.specs.Text.{text}
-use Rattle.ngc_line_reader.specs.Program.{Line, split_lines, numbered, is_percent_line, is_marked, without_mark, read_lines, lacks_end, is_percent_text, is_blank_text}
+use Rattle.ngc_line_reader.specs.Program.{Line, split_lines, numbered, is_percent_line, is_marked, without_mark, read_lines, lacks_end, is_percent_text}
+use Rattle.ngc_line_reader.specs.Program.{is_blank_text}
 use Rattle.ngc_line_reader.specs.ScanLine.{Said}
 use Rattle.ngc_line_reader.specs.ReadLine.{line_read}
 use Rattle.ngc_line_reader.specs.ProgramText.{Outcome, refusal_in, fault_of, first_fault, fault_or, text_of_lines, program_of}
@@ -22,16 +24,19 @@ pub walk_end : (phase : Phase) (done : ℕ) (found : List Line) → walk phase d
 unfolding walk
 walk_end phase done found = refl
 
-pub walk_percent : (phase : Phase) (done : ℕ) (found : List Line) (b : List ℕ) (ls : List (List ℕ)) → is_percent b ≡ true → walk phase done found (b ∷ ls) ≡ at_percent phase found (walk Marked done found ls)
+pub walk_percent : (phase : Phase) (done : ℕ) (found : List Line) (b : List ℕ) (ls : List (List ℕ)) → is_percent b ≡ true →
+    walk phase done found (b ∷ ls) ≡ at_percent phase found (walk Marked done found ls)
 unfolding walk
 walk_percent phase done found b ls e = rw e refl
 
-pub walk_line : (phase : Phase) (done : ℕ) (found : List Line) (b : List ℕ) (ls : List (List ℕ)) → is_percent b ≡ false → fault_of done (line_of (number_in phase done) b) ≡ None
+pub walk_line : (phase : Phase) (done : ℕ) (found : List Line) (b : List ℕ) (ls : List (List ℕ)) → is_percent b ≡ false →
+    fault_of done (line_of (number_in phase done) b) ≡ None
     → walk phase done found (b ∷ ls) ≡ walk (phase_after phase b) (done + 1) (with_line found (line_of (number_in phase done) b)) ls
 unfolding walk
 walk_line phase done found b ls e f = rw (e, f) refl
 
-pub walk_refused : (phase : Phase) (done : ℕ) (found : List Line) (b : List ℕ) (ls : List (List ℕ)) (fault : ReadFault) → is_percent b ≡ false → fault_of done (line_of (number_in phase done) b) ≡ Some fault
+pub walk_refused : (phase : Phase) (done : ℕ) (found : List Line) (b : List ℕ) (ls : List (List ℕ)) (fault : ReadFault) → is_percent b ≡ false →
+    fault_of done (line_of (number_in phase done) b) ≡ Some fault
     → walk phase done found (b ∷ ls) ≡ Err fault
 unfolding walk
 walk_refused phase done found b ls fault e f = rw (e, f) refl
@@ -63,7 +68,8 @@ to_percent_line line lines e = rw e (take_one (prefix_len (λ x. not (is_percent
 at_percent_line : (line : Line) (lines : List Line) → is_percent_line line ≡ true → to_percent (line ∷ lines) ≡ []
 at_percent_line line lines e = rw e refl
 
-any_line : (line : Line) (lines : List Line) (x : Bool) → is_percent_line line ≡ x → list_any is_percent_line (line ∷ lines) ≡ (if x then true else list_any is_percent_line lines)
+any_line : (line : Line) (lines : List Line) (x : Bool) → is_percent_line line ≡ x →
+    list_any is_percent_line (line ∷ lines) ≡ (if x then true else list_any is_percent_line lines)
 any_line line lines true e = rw e refl
 any_line line lines false e = rw e refl
 
@@ -71,7 +77,8 @@ any_line line lines false e = rw e refl
 abbrev pub Unmarks : ℕ → List Line → List (List ℕ) → Type 0
 Unmarks done found ls = walk Unmarked done found ls ≡ concluded done found (to_percent (numbered (done + 1) ls)) false false
 
-unmarked_step : (b : List ℕ) (ls : List (List ℕ)) (done : ℕ) (found : List Line) (x : Bool) (f : Option ReadFault) → is_percent b ≡ x → fault_of done (line_of (done + 1) b) ≡ f
+unmarked_step : (b : List ℕ) (ls : List (List ℕ)) (done : ℕ) (found : List Line) (x : Bool) (f : Option ReadFault) → is_percent b ≡ x →
+    fault_of done (line_of (done + 1) b) ≡ f
     → Unmarks (done + 1) (with_line found (line_of (done + 1) b)) ls → Unmarks done found (b ∷ ls)
 unmarked_step b ls done found true f p q next =
     walk_percent Unmarked done found b ls p ∙ rw (at_percent_line (line_of (done + 1) b) (numbered (done + 1 + 1) ls) p, append-nil found) refl
@@ -85,24 +92,31 @@ unmarked_step b ls done found false None p q next =
 unmarked_walk : (ls : List (List ℕ)) (done : ℕ) (found : List Line) → Unmarks done found ls
 unmarked_walk [] done found = walk_end Unmarked done found ∙ ap (λ (l : List Line). Ok (record { lines = l; marked = false })) (sym (append-nil found))
 unmarked_walk (b ∷ ls) done found =
-    unmarked_step b ls done found (is_percent b) (fault_of done (line_of (done + 1) b)) refl refl (unmarked_walk ls (done + 1) (with_line found (line_of (done + 1) b)))
+    unmarked_step b ls done found (is_percent b) (fault_of done (line_of (done + 1) b)) refl refl
+    (unmarked_walk ls (done + 1) (with_line found (line_of (done + 1) b)))
 
 -- in a marked file those up to the second one, which must stand
 abbrev pub Marks : ℕ → ℕ → List Line → List (List ℕ) → Type 0
 Marks n done found ls =
     walk Marked done found ls ≡ concluded done found (to_percent (numbered n ls)) (not (list_any is_percent_line (numbered n ls))) true
 
-marked_step : (b : List ℕ) (ls : List (List ℕ)) (done : ℕ) (found : List Line) (x : Bool) (f : Option ReadFault) → is_percent b ≡ x → fault_of done (line_of (done + 2) b) ≡ f
+marked_step : (b : List ℕ) (ls : List (List ℕ)) (done : ℕ) (found : List Line) (x : Bool) (f : Option ReadFault) → is_percent b ≡ x →
+    fault_of done (line_of (done + 2) b) ≡ f
     → Marks (done + 2 + 1) (done + 1) (with_line found (line_of (done + 2) b)) ls → Marks (done + 2) done found (b ∷ ls)
 marked_step b ls done found true f p q next =
     walk_percent Marked done found b ls p
-    ∙ rw (at_percent_line (line_of (done + 2) b) (numbered (done + 2 + 1) ls) p, any_line (line_of (done + 2) b) (numbered (done + 2 + 1) ls) true p, append-nil found) refl
+    ∙ rw (
+      at_percent_line (line_of (done + 2) b) (numbered (done + 2 + 1) ls) p,
+      any_line (line_of (done + 2) b) (numbered (done + 2 + 1) ls) true p,
+      append-nil found,
+    ) refl
 marked_step b ls done found false (Some fault) p q next =
     walk_refused Marked done found b ls fault p q
     ∙ rw (to_percent_line (line_of (done + 2) b) (numbered (done + 2 + 1) ls) p, q) refl
 marked_step b ls done found false None p q next =
     walk_line Marked done found b ls p q ∙ next
-    ∙ rw (to_percent_line (line_of (done + 2) b) (numbered (done + 2 + 1) ls) p, any_line (line_of (done + 2) b) (numbered (done + 2 + 1) ls) false p) (conclude_line done found _ _ (not (list_any is_percent_line (numbered (done + 2 + 1) ls))) true q)
+    ∙ rw (to_percent_line (line_of (done + 2) b) (numbered (done + 2 + 1) ls) p, any_line (line_of (done + 2) b) (numbered (done + 2 + 1) ls) false p)
+    (conclude_line done found _ _ (not (list_any is_percent_line (numbered (done + 2 + 1) ls))) true q)
 
 marked_walk : (ls : List (List ℕ)) (n done : ℕ) (found : List Line) → n ≡ done + 2 → Marks n done found ls
 marked_walk [] n done found e = walk_end Marked done found
@@ -115,7 +129,8 @@ marked_walk (b ∷ ls) n done found e =
 -- what the lines come to as long as those in front are blank
 abbrev pub Starts : ℕ → List Line → List (List ℕ) → Type 0
 Starts done found ls =
-    walk Start done found ls ≡ concluded done found (read_lines (numbered (done + 1) ls)) (lacks_end (numbered (done + 1) ls)) (is_marked (numbered (done + 1) ls))
+    walk Start done found ls ≡ concluded done found (read_lines (numbered (done + 1) ls)) (lacks_end (numbered (done + 1) ls))
+    (is_marked (numbered (done + 1) ls))
 
 blank_percent : (b : List ℕ) → is_percent b ≡ true → is_blank b ≡ false
 blank_percent b p = by_text (text b) (nat_le (length b) 256) p where
@@ -139,21 +154,25 @@ start_step b ls done found false true None p k q next =
     let line = line_of (done + 1) b in
     let rest = numbered (done + 1 + 1) ls in
     walk_line Start done found b ls p q ∙ phase_is Start k ∙ next
-    ∙ rw (k, to_percent_line line (without_mark rest) p, any_line line (without_mark rest) false p) (conclude_line done found (read_lines rest) line (lacks_end rest) (is_marked rest) q) where
-      phase_is : (phase : Phase) → is_blank b ≡ true → walk (phase_after Start b) (done + 1) (with_line found (line_of (done + 1) b)) ls ≡ walk Start (done + 1) (with_line found (line_of (done + 1) b)) ls
+    ∙ rw (k, to_percent_line line (without_mark rest) p, any_line line (without_mark rest) false p)
+    (conclude_line done found (read_lines rest) line (lacks_end rest) (is_marked rest) q) where
+      phase_is : (phase : Phase) → is_blank b ≡ true → walk (phase_after Start b) (done + 1) (with_line found (line_of (done + 1) b)) ls
+          ≡ walk Start (done + 1) (with_line found (line_of (done + 1) b)) ls
       phase_is phase k = rw k refl
 start_step b ls done found false false None p k q next =
     let line = line_of (done + 1) b in
     let rest = numbered (done + 1 + 1) ls in
     walk_line Start done found b ls p q ∙ phase_is Unmarked k ∙ unmarked_walk ls (done + 1) (with_line found line)
     ∙ rw (k, p, to_percent_line line rest p) (conclude_line done found (to_percent rest) line false false q) where
-      phase_is : (phase : Phase) → is_blank b ≡ false → walk (phase_after Start b) (done + 1) (with_line found (line_of (done + 1) b)) ls ≡ walk Unmarked (done + 1) (with_line found (line_of (done + 1) b)) ls
+      phase_is : (phase : Phase) → is_blank b ≡ false → walk (phase_after Start b) (done + 1) (with_line found (line_of (done + 1) b)) ls
+          ≡ walk Unmarked (done + 1) (with_line found (line_of (done + 1) b)) ls
       phase_is phase k = rw k refl
 
 start_walk : (ls : List (List ℕ)) (done : ℕ) (found : List Line) → Starts done found ls
 start_walk [] done found = walk_end Start done found ∙ ap (λ (l : List Line). Ok (record { lines = l; marked = false })) (sym (append-nil found))
 start_walk (b ∷ ls) done found =
-    start_step b ls done found (is_percent b) (is_blank b) (fault_of done (line_of (done + 1) b)) refl refl refl (start_walk ls (done + 1) (with_line found (line_of (done + 1) b)))
+    start_step b ls done found (is_percent b) (is_blank b) (fault_of done (line_of (done + 1) b)) refl refl refl
+    (start_walk ls (done + 1) (with_line found (line_of (done + 1) b)))
 
 -- the walk over lines gives the first fault of those that are read, or what they say
 pub walk_lines : (ls : List (List ℕ)) → walk Start 0 [] ls ≡ fault_or (first_fault 0 (read_lines (numbered 1 ls))) (text_of_lines (numbered 1 ls))

@@ -1,7 +1,12 @@
 -- The numbers of the faults of a line (our own).
 use Rattle.std.specs.Prelude.{ℕ}
 use Rattle.ngc_line_reader.specs.declared.fault.FaultKind.{FaultKind}
-use Rattle.ngc_line_reader.specs.declared.fault.FaultKind.TheVariants.{TooLarge, LineTooLong, UnknownCharacter, BadNumber, BadWord, BadLineNumber, CommentNotClosed, CommentNested, Bracket, TooManyWords}
+use Rattle.ngc_line_reader.specs.declared.fault.FaultKind.TheVariants.{TooLarge, LineTooLong}
+use Rattle.ngc_line_reader.specs.declared.fault.FaultKind.TheVariants.{UnknownCharacter, BadNumber}
+use Rattle.ngc_line_reader.specs.declared.fault.FaultKind.TheVariants.{BadWord, BadLineNumber}
+use Rattle.ngc_line_reader.specs.declared.fault.FaultKind.TheVariants.{CommentNotClosed}
+use Rattle.ngc_line_reader.specs.declared.fault.FaultKind.TheVariants.{CommentNested, Bracket}
+use Rattle.ngc_line_reader.specs.declared.fault.FaultKind.TheVariants.{TooManyWords}
 
 abbrev pub number_of : FaultKind → ℕ
 number_of TooLarge = 101

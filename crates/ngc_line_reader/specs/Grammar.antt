@@ -3,11 +3,13 @@
 -- comments in any number and order; here each is a tree, and its spelling a text without white
 -- space, letters in upper case. Our own: the remark behind ';', and that a sign stands before
 -- digits alone, so that -#1 and -[..] have no spelling.
-use Rattle.std.specs.Prelude.{ℕ, ◌≡◌, ◌≢◌, ◌≤◌, ◌<◌, List, [], ◌∷◌, ◌++◌, length, Option, Some, None, Bool, false, IsTrue, if◌then◌else◌, ◌+◌}
+use Rattle.std.specs.Prelude.{ℕ, ◌≡◌, ◌≢◌, ◌≤◌, ◌<◌, List, [], ◌∷◌, ◌++◌, length, Option, Some}
+use Rattle.std.specs.Prelude.{None, Bool, false, IsTrue, if◌then◌else◌, ◌+◌}
 use Rattle.std.specs.Char.{is_ascii_digit}
 use Rattle.std.specs.List.{AllByRecursion}
 use Rattle.ngc_line_reader.specs.declared.token.Operator.{Operator}
-use Rattle.ngc_line_reader.specs.declared.token.Operator.TheVariants.{Add, Subtract, Multiply, Divide}
+use Rattle.ngc_line_reader.specs.declared.token.Operator.TheVariants.{Add, Subtract, Multiply}
+use Rattle.ngc_line_reader.specs.declared.token.Operator.TheVariants.{Divide}
 use Rattle.ngc_line_reader.specs.declared.letter.Letter.{Letter}
 use Rattle.ngc_line_reader.specs.Letter.{letter_byte}
 use Rattle.ngc_line_reader.specs.Text.{text}
@@ -81,7 +83,8 @@ abbrev mutual
 
   pub rest_text : Rest → List ℕ
   rest_text close = 93 ∷ []
-  rest_text (next operator value rest) = operator_byte operator ∷ (real_text value ++ rest_text rest)
+  rest_text (next operator value rest) =
+      operator_byte operator ∷ (real_text value ++ rest_text rest)
 
 abbrev pub item_text : Item → List ℕ
 item_text (word letter value) = letter_byte letter ∷ real_text value
@@ -93,7 +96,8 @@ items_text [] = []
 items_text (item ∷ items) = item_text item ++ items_text items
 
 abbrev pub spelling : Reading → List ℕ
-spelling r = (if r.deleted then 47 ∷ [] else []) ++ (behind 78 r.number ++ (items_text r.items ++ behind 59 r.remark))
+spelling r = (if r.deleted then 47 ∷ [] else [])
+    ++ (behind 78 r.number ++ (items_text r.items ++ behind 59 r.remark))
 
 -- what is allowed
 
@@ -106,7 +110,8 @@ digits_of (Some ds) = ds
 
 -- digits, and at least one
 abbrev pub IsNumeral : Numeral → Type 0
-IsNumeral n = IsDigits n.whole × IsDigits (digits_of n.decimals) × (0 < length n.whole + length (digits_of n.decimals))
+IsNumeral n = IsDigits n.whole × IsDigits (digits_of n.decimals) ×
+    (0 < length n.whole + length (digits_of n.decimals))
 
 abbrev mutual
   pub IsReal : Real → Type 0

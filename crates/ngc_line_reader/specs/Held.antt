@@ -8,19 +8,22 @@ use Rattle.ngc_line_reader.specs.declared.line.RawWord.{RawWord}
 use Rattle.ngc_line_reader.specs.declared.line.RawSetting.{RawSetting}
 use Rattle.ngc_line_reader.specs.declared.line.Line.{Line}
 use Rattle.ngc_line_reader.specs.Text.{columns, place_in}
-use Rattle.ngc_line_reader.specs.Grammar.{Item, word, setting, comment, Reading, Reads, behind, real_text, items_text}
+use Rattle.ngc_line_reader.specs.Grammar.{Item, word, setting, comment, Reading, Reads, behind}
+use Rattle.ngc_line_reader.specs.Grammar.{real_text, items_text}
 use Rattle.ngc_line_reader.specs.Numbers.{digits_value}
 use Rattle.ngc_line_reader.specs.Tokens.{symbols_of, tokens_of, IsWithinLimit}
 
 -- the tokens of an item's values, and of all items' values; end is the text behind
 abbrev pub item_tokens : (ℕ → ℕ) → Item → List ℕ → List Token
 item_tokens place (word letter value) end = tokens_of place value end
-item_tokens place (setting index value) end = tokens_of place index (61 ∷ (real_text value ++ end)) ++ tokens_of place value end
+item_tokens place (setting index value) end =
+    tokens_of place index (61 ∷ (real_text value ++ end)) ++ tokens_of place value end
 item_tokens place (comment bytes) end = []
 
 abbrev pub all_tokens : (ℕ → ℕ) → List Item → List ℕ → List Token
 all_tokens place [] end = []
-all_tokens place (item ∷ items) end = item_tokens place item (items_text items ++ end) ++ all_tokens place items end
+all_tokens place (item ∷ items) end =
+    item_tokens place item (items_text items ++ end) ++ all_tokens place items end
 
 -- how many tokens an item has
 abbrev pub token_count : Item → ℕ
@@ -34,24 +37,38 @@ token_count (comment bytes) = 0
 abbrev pub words_from : (ℕ → ℕ) → ℕ → List Item → List ℕ → List RawWord
 words_from place first [] end = []
 words_from place first (word letter value ∷ items) end =
-    record { letter = letter; column = place (length (items_text (word letter value ∷ items) ++ end)); first = first } ∷ words_from place (first + token_count (word letter value)) items end
-words_from place first (setting index value ∷ items) end = words_from place (first + token_count (setting index value)) items end
+    record {
+      letter = letter;
+      column = place (length (items_text (word letter value ∷ items) ++ end));
+      first = first;
+    } ∷ words_from place (first + token_count (word letter value)) items end
+words_from place first (setting index value ∷ items) end =
+    words_from place (first + token_count (setting index value)) items end
 words_from place first (comment bytes ∷ items) end = words_from place first items end
 
 -- the settings likewise
 abbrev pub settings_from : (ℕ → ℕ) → ℕ → List Item → List ℕ → List RawSetting
 settings_from place first [] end = []
-settings_from place first (word letter value ∷ items) end = settings_from place (first + token_count (word letter value)) items end
+settings_from place first (word letter value ∷ items) end =
+    settings_from place (first + token_count (word letter value)) items end
 settings_from place first (setting index value ∷ items) end =
-    record { column = place (length (items_text (setting index value ∷ items) ++ end)); index = first; value = first + length (symbols_of index) } ∷ settings_from place (first + token_count (setting index value)) items end
+    record {
+      column = place (length (items_text (setting index value ∷ items) ++ end));
+      index = first;
+      value = first + length (symbols_of index);
+    }
+    ∷ settings_from place (first + token_count (setting index value)) items end
 settings_from place first (comment bytes ∷ items) end = settings_from place first items end
 
 pub record Holds (bytes : List ℕ) (line : Line) (r : Reading) : Type 0 where
   pub deleted : line.deleted ≡ r.deleted
   pub number : line.number ≡ option_map digits_value r.number
-  pub words : line.words.items ≡ words_from (place_in (columns bytes)) 0 r.items (behind 59 r.remark)
-  pub settings : line.settings.items ≡ settings_from (place_in (columns bytes)) 0 r.items (behind 59 r.remark)
-  pub tokens : line.tokens.items ≡ all_tokens (place_in (columns bytes)) r.items (behind 59 r.remark)
+  pub words : line.words.items ≡ words_from (place_in (columns bytes)) 0 r.items
+      (behind 59 r.remark)
+  pub settings : line.settings.items ≡ settings_from (place_in (columns bytes)) 0 r.items
+      (behind 59 r.remark)
+  pub tokens : line.tokens.items ≡ all_tokens (place_in (columns bytes)) r.items
+      (behind 59 r.remark)
 
 -- each number written in the items is a value
 abbrev pub IsItemWithinLimit : Item → Type 0

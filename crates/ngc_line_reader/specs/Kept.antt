@@ -1,6 +1,7 @@
 -- How the words, settings and tokens of lines are kept: one line's behind the other's, and for each
 -- line where its own lie.
-use Rattle.std.specs.Prelude.{ℤ, ◌+◌, ◌≤◌, ◌≡◌, List, [], length, slice_range, map, Bool, Option, Some, None, Result, Ok, Err}
+use Rattle.std.specs.Prelude.{ℤ, ◌+◌, ◌≤◌, ◌≡◌, List, [], length, slice_range, map, Bool, Option}
+use Rattle.std.specs.Prelude.{Some, None, Result, Ok, Err}
 use Rattle.std.specs.List.{AllByRecursion}
 use Rattle.ngc_line_reader.specs.declared.fault.LineFault.{LineFault}
 use Rattle.ngc_line_reader.specs.declared.line.RawWord.{RawWord}
@@ -27,10 +28,20 @@ no_kept = record { words = []; settings = []; kinds = []; numbers = [] }
 
 -- what is kept of words, settings and tokens
 abbrev pub kept_of : Parts → KeptParts
-kept_of p = record { words = p.words; settings = p.settings; kinds = map kind_of (symbols p.tokens); numbers = numbers_of (symbols p.tokens) }
+kept_of p = record {
+  words = p.words;
+  settings = p.settings;
+  kinds = map kind_of (symbols p.tokens);
+  numbers = numbers_of (symbols p.tokens);
+}
 
 abbrev pub parts_in : {A : Type 0} → PartLists A → KeptParts
-parts_in l = record { words = l.words.items; settings = l.settings.items; kinds = l.kinds.items; numbers = l.numbers.items }
+parts_in l = record {
+  words = l.words.items;
+  settings = l.settings.items;
+  kinds = l.kinds.items;
+  numbers = l.numbers.items;
+}
 
 -- what lies there
 abbrev pub parts_at : KeptParts → LineParts → KeptParts
@@ -53,7 +64,8 @@ pub record IsWithin (all : KeptParts) (p : LineParts) : Type 0 where
 
 -- what was kept stays
 abbrev pub Keeps : KeptParts → KeptParts → Type 0
-Keeps old new = (p : LineParts) → IsWithin old p → IsWithin new p × (parts_at new p ≡ parts_at old p)
+Keeps old new =
+    (p : LineParts) → IsWithin old p → IsWithin new p × (parts_at new p ≡ parts_at old p)
 
 abbrev pub AreWithin : KeptParts → List LineEnd → Type 0
 AreWithin all ends = AllByRecursion (λ e. IsWithin all e.parts) ends

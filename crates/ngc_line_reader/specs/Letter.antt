@@ -29,8 +29,10 @@ letter_byte letters.Z = 90
 
 abbrev pub all_letters : List Letter
 all_letters =
-    letters.A ∷ letters.B ∷ letters.C ∷ letters.D ∷ letters.F ∷ letters.G ∷ letters.H ∷ letters.I ∷ letters.J ∷ letters.K ∷ letters.L
-    ∷ letters.M ∷ letters.P ∷ letters.Q ∷ letters.R ∷ letters.S ∷ letters.T ∷ letters.X ∷ letters.Y ∷ letters.Z ∷ []
+    letters.A ∷ letters.B ∷ letters.C ∷ letters.D ∷ letters.F ∷ letters.G ∷ letters.H ∷ letters.I
+    ∷ letters.J ∷ letters.K ∷ letters.L
+    ∷ letters.M ∷ letters.P ∷ letters.Q ∷ letters.R ∷ letters.S ∷ letters.T ∷ letters.X ∷ letters.Y
+    ∷ letters.Z ∷ []
 
 -- the letter that a byte spells
 unfoldable pub letter_of : ℕ → Option Letter

@@ -1,5 +1,7 @@
 -- How a program is read piece by piece: a state, and what is still to come.
-use Rattle.std.specs.Prelude.{◌≡◌, ◌≢◌, ℕ, ◌+◌, ◌-◌, ◌*◌, ◌≤◌, ◌<◌, nat_le, ◌==◌, ◌&&◌, ◌||◌, List, [], ◌∷◌, ◌++◌, length, Bool, true, false, Option, Some, None, Result, Ok, Err, if◌then◌else◌}
+use Rattle.std.specs.Prelude.{◌≡◌, ◌≢◌, ℕ, ◌+◌, ◌-◌, ◌*◌, ◌≤◌, ◌<◌, nat_le, ◌==◌, ◌&&◌, ◌||◌, List}
+use Rattle.std.specs.Prelude.{[], ◌∷◌, ◌++◌, length, Bool, true, false, Option, Some, None, Result}
+use Rattle.std.specs.Prelude.{Ok, Err, if◌then◌else◌}
 use Rattle.std.specs.List.{AllByRecursion}
 use Rattle.ngc_line_reader.specs.declared.program.fault.ReadFault.{ReadFault}
 use Rattle.ngc_line_reader.specs.declared.program.fault.ReadFault.TheVariants as faults
@@ -66,7 +68,9 @@ unfoldable pub walk : Phase → ℕ → List Line → List (List ℕ) → Outcom
 walk phase done found [] = at_end phase found
 walk phase done found (bytes ∷ lines) =
     if is_percent bytes then at_percent phase found (walk Marked done found lines) else
-    fault_or (fault_of done (line_of (number_in phase done) bytes)) (walk (phase_after phase bytes) (done + 1) (with_line found (line_of (number_in phase done) bytes)) lines)
+    fault_or (fault_of done (line_of (number_in phase done) bytes))
+    (walk (phase_after phase bytes) (done + 1)
+    (with_line found (line_of (number_in phase done) bytes)) lines)
 
 -- what the lines so far are, if the text ends here
 abbrev pub ended : {A : Type 0} → LinesSoFar A → ProgramText

@@ -1,6 +1,7 @@
 -- What a number is worth (NISTIR 6556, 3.3.2.1), in millionths. Our own: decimals from the seventh
 -- on are rounded to the nearest millionth, ties away from zero.
-use Rattle.std.specs.Prelude.{ℕ, ◌+◌, ◌-◌, ◌*◌, ◌^◌, ℤ, pos, neg_ℤ, List, ◌++◌, length, Bool, true, false}
+use Rattle.std.specs.Prelude.{ℕ, ◌+◌, ◌-◌, ◌*◌, ◌^◌, ℤ, pos, neg_ℤ, List, ◌++◌, length, Bool, true}
+use Rattle.std.specs.Prelude.{false}
 use Rattle.std.specs.List.{fold}
 use Rattle.ngc_fixed_length.specs.Rounding.{nearest_size}
 use Rattle.ngc_fixed_length.specs.Limits.{MILLION}
@@ -21,7 +22,8 @@ is_negative minus = true
 
 -- millionths: all digits together, over ten for each decimal, rounded
 abbrev pub written_value : Bool → List ℕ → List ℕ → ℤ
-written_value negative whole decimals = signed negative (nearest_size (digits_value (whole ++ decimals) * MILLION) (10 ^ length decimals))
+written_value negative whole decimals = signed negative
+    (nearest_size (digits_value (whole ++ decimals) * MILLION) (10 ^ length decimals))
 
 abbrev pub numeral_value : Numeral → ℤ
 numeral_value n = written_value (is_negative n.sign) n.whole (digits_of n.decimals)

@@ -9,7 +9,8 @@ use Rattle.ngc_line_reader.specs.ProgramText.{first_fault}
 -- and one of more than 256 bytes is too long already.
 abbrev pub firm_behind : List ℕ → List ℕ → List (List ℕ)
 firm_behind line [] = if nat_le (length line) 256 then [] else line ∷ []
-firm_behind line (b ∷ bytes) = if b == 10 then line ∷ firm_behind [] bytes else firm_behind (line ++ (b ∷ [])) bytes
+firm_behind line (b ∷ bytes) =
+    if b == 10 then line ∷ firm_behind [] bytes else firm_behind (line ++ (b ∷ [])) bytes
 
 abbrev pub firm_lines : List ℕ → List (List ℕ)
 firm_lines bytes = firm_behind [] bytes

@@ -7,7 +7,8 @@
 -- Our own are: a line ends at a line feed, and the last may lack it; a line of more than 256 bytes
 -- is no percent line; in a file that isn't marked a percent line ends the text too; and the blank
 -- lines in front of the first percent line are read.
-use Rattle.std.specs.Prelude.{ℕ, ◌+◌, ◌==◌, ◌&&◌, nat_le, List, [], ◌∷◌, length, take_while, Bool, true, false, not, if◌then◌else◌}
+use Rattle.std.specs.Prelude.{ℕ, ◌+◌, ◌==◌, ◌&&◌, nat_le, List, [], ◌∷◌, length, take_while, Bool}
+use Rattle.std.specs.Prelude.{true, false, not, if◌then◌else◌}
 use Rattle.std.specs.List.{list_any}
 use Rattle.ngc_line_reader.specs.Text.{text}
 
@@ -24,7 +25,8 @@ with_first b (line ∷ lines) = (b ∷ line) ∷ lines
 -- the lines of a file: a line feed ends one, and the last may lack it
 abbrev pub split_lines : List ℕ → List (List ℕ)
 split_lines [] = []
-split_lines (b ∷ bytes) = let lines = split_lines bytes in (if b == 10 then [] ∷ lines else with_first b lines)
+split_lines (b ∷ bytes) = let lines = split_lines bytes in
+    (if b == 10 then [] ∷ lines else with_first b lines)
 
 -- the lines with their numbers, from this one on
 abbrev pub numbered : ℕ → List (List ℕ) → List Line
@@ -60,7 +62,8 @@ is_marked (line ∷ lines) = if is_blank_line line then is_marked lines else is_
 abbrev pub without_mark : List Line → List Line
 without_mark [] = []
 without_mark (line ∷ lines) =
-    if is_blank_line line then line ∷ without_mark lines else (if is_percent_line line then lines else line ∷ lines)
+    if is_blank_line line then line ∷ without_mark lines
+    else (if is_percent_line line then lines else line ∷ lines)
 
 -- the lines that are read: those before the percent line that ends the text
 abbrev pub read_lines : List Line → List Line

@@ -3,7 +3,8 @@
 -- The lines and their readings follow NISTIR 6556, section 3.3, "Format of a line". Our own are the
 -- limit of 100,000 lines, and which fault is answered: that of the first line at fault, and a
 -- missing second percent line only where no line is at fault.
-use Rattle.std.specs.Prelude.{ℕ, ◌+◌, nat_le, List, [], ◌∷◌, Bool, Option, Some, None, Result, Ok, Err, if◌then◌else◌}
+use Rattle.std.specs.Prelude.{ℕ, ◌+◌, nat_le, List, [], ◌∷◌, Bool, Option, Some, None, Result, Ok}
+use Rattle.std.specs.Prelude.{Err, if◌then◌else◌}
 use Rattle.std.specs.Option.{option_or}
 use Rattle.ngc_line_reader.specs.declared.fault.LineFault.{LineFault}
 use Rattle.ngc_line_reader.specs.declared.program.fault.ReadFault.{ReadFault}
@@ -30,12 +31,14 @@ refusal_in number (Err fault) = Some (faults.Line number fault)
 -- why a line is refused that stands behind so many others that are read: it is one too many, or has
 -- no reading
 abbrev pub fault_of : ℕ → Line → Option ReadFault
-fault_of before line = if nat_le 100000 before then Some faults.TooManyLines else refusal_in line.number (line_read line.bytes)
+fault_of before line = if nat_le 100000 before then Some faults.TooManyLines
+    else refusal_in line.number (line_read line.bytes)
 
 -- the first fault of these lines, that stand behind so many others that are read
 abbrev pub first_fault : ℕ → List Line → Option ReadFault
 first_fault before [] = None
-first_fault before (line ∷ lines) = option_or (fault_of before line) (first_fault (before + 1) lines)
+first_fault before (line ∷ lines) =
+    option_or (fault_of before line) (first_fault (before + 1) lines)
 
 -- the fault, or else what comes with none
 abbrev pub fault_or : Option ReadFault → Outcome → Outcome
@@ -44,12 +47,14 @@ fault_or (Some fault) outcome = Err fault
 
 -- what lines say that have no fault
 abbrev pub text_of_lines : List Line → Outcome
-text_of_lines lines = if lacks_end lines then Err faults.NoEnd else Ok (record { lines = read_lines lines; marked = is_marked lines })
+text_of_lines lines = if lacks_end lines then Err faults.NoEnd
+    else Ok (record { lines = read_lines lines; marked = is_marked lines })
 
 -- What a file's bytes say: the first fault of the lines that are read; or else that the second
 -- percent line is missing; or else these lines, in order, and the mark.
 abbrev pub program_of : List ℕ → Outcome
-program_of bytes = fault_or (first_fault 0 (read_lines (lines_of bytes))) (text_of_lines (lines_of bytes))
+program_of bytes =
+    fault_or (first_fault 0 (read_lines (lines_of bytes))) (text_of_lines (lines_of bytes))
 
 -- a line has a reading within the limits
 pub record HasReading (line : Line) : Type 0 where

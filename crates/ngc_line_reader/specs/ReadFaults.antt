@@ -1,7 +1,9 @@
 -- The numbers of the faults of reading a program.
 use Rattle.std.specs.Prelude.{ℕ}
 use Rattle.ngc_line_reader.specs.declared.program.fault.ReadFault.{ReadFault}
-use Rattle.ngc_line_reader.specs.declared.program.fault.ReadFault.TheVariants.{Line, NoEnd, TooManyLines, Memory, Device}
+use Rattle.ngc_line_reader.specs.declared.program.fault.ReadFault.TheVariants.{Line, NoEnd}
+use Rattle.ngc_line_reader.specs.declared.program.fault.ReadFault.TheVariants.{TooManyLines, Memory}
+use Rattle.ngc_line_reader.specs.declared.program.fault.ReadFault.TheVariants.{Device}
 use Rattle.ngc_line_reader.specs.Fault.{number_of as line_fault_number}
 
 -- the number of a fault: a line's has that of its kind

@@ -7,4 +7,5 @@ use Rattle.ngc_line_reader.specs.Text.{text, columns, place_in}
 use Rattle.ngc_line_reader.specs.ScanLine.{Said, fault_at, text_at}
 
 abbrev pub line_read : List ℕ → Result Said LineFault
-line_read line = if nat_le 257 (length line) then Err (fault_at LineTooLong 257) else text_at (place_in (columns line)) (text line)
+line_read line = if nat_le 257 (length line) then Err (fault_at LineTooLong 257)
+    else text_at (place_in (columns line)) (text line)

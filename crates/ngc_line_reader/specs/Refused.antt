@@ -5,7 +5,8 @@ use Rattle.ngc_fixed_length.specs.Limits.{IsValue}
 use Rattle.ngc_line_reader.specs.declared.letter.Letter.{Letter}
 use Rattle.ngc_line_reader.specs.Letter.{letter_byte}
 use Rattle.ngc_line_reader.specs.Text.{text}
-use Rattle.ngc_line_reader.specs.Grammar.{Numeral, IsNumeral, numeral_text, Item, IsItem, items_text, Stops}
+use Rattle.ngc_line_reader.specs.Grammar.{Numeral, IsNumeral, numeral_text, Item, IsItem}
+use Rattle.ngc_line_reader.specs.Grammar.{items_text, Stops}
 use Rattle.ngc_line_reader.specs.Numbers.{numeral_value}
 use Rattle.ngc_line_reader.specs.Held.{word_count}
 

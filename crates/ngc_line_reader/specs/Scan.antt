@@ -1,7 +1,9 @@
 -- Reading a real value from left to right, with the first fault that is met (our own: the manual
 -- names no faults). The definitions on lines stand on Grammar; these say only which fault is
 -- answered, and what was read up to it.
-use Rattle.std.specs.Prelude.{ℕ, zero, suc, ◌≡◌, ◌==◌, ◌&&◌, ◌||◌, nat_le, not, ℤ, List, [], ◌∷◌, ◌++◌, length, drop, Option, Some, None, Bool, false, Result, Ok, Err, if◌then◌else◌}
+use Rattle.std.specs.Prelude.{ℕ, zero, suc, ◌≡◌, ◌==◌, ◌&&◌, ◌||◌, nat_le, not, ℤ, List, [], ◌∷◌}
+use Rattle.std.specs.Prelude.{◌++◌, length, drop, Option, Some, None, Bool, false, Result, Ok, Err}
+use Rattle.std.specs.Prelude.{if◌then◌else◌}
 use Rattle.std.specs.Char.{is_ascii_digit}
 use Rattle.std.specs.List.{take_while, prefix_len}
 use Rattle.ngc_fixed_length.specs.declared.fault.NumberFault.{NumberFault}
@@ -35,7 +37,8 @@ begins b (c ∷ s) = c == b
 -- the characters that stand somewhere outside comments: digits, letters and # % ( ) * + - . / ; = [
 -- ]
 abbrev pub is_known : ℕ → Bool
-is_known c = (nat_le 65 c && nat_le c 91) || (nat_le 45 c && nat_le c 57) || (nat_le 40 c && nat_le c 43) || (c == 35) || (c == 37) || (c == 59) || (c == 61) || (c == 93)
+is_known c = (nat_le 65 c && nat_le c 91) || (nat_le 45 c && nat_le c 57)
+    || (nat_le 40 c && nat_le c 43) || (c == 35) || (c == 37) || (c == 59) || (c == 61) || (c == 93)
 
 abbrev pub begins_unknown : List ℕ → Bool
 begins_unknown [] = false
@@ -81,27 +84,37 @@ after_number s = after_decimals (after_digits (after_sign s))
 -- a number's value, and what follows it
 unfoldable pub number_at : List ℕ → Result (ℤ × List ℕ) Refusal
 number_at s =
-    if (length (whole_at s) == 0) && (length (fraction_at s) == 0) then Err (refusal BadNumber (after_number s)) else (
+    if (length (whole_at s) == 0) && (length (fraction_at s) == 0)
+    then Err (refusal BadNumber (after_number s)) else (
     if begins 46 (after_number s) then Err (OfItem BadNumber) else
-    (value_fits (limited (written_value (begins 45 s) (whole_at s) (fraction_at s))) >>= λ z. Ok (z, after_number s)))
+    (value_fits (limited (written_value (begins 45 s) (whole_at s) (fraction_at s))) >>= λ z.
+    Ok (z, after_number s)))
 
 abbrev pub number_token : (ℕ → ℕ) → List Token → List ℕ → Result (List Token × List ℕ) Refusal
-number_token place found s = number_at s >>= λ x. Ok (found ++ (token_at place (mark.Number x.0) s ∷ []), x.1)
+number_token place found s =
+    number_at s >>= λ x. Ok (found ++ (token_at place (mark.Number x.0) s ∷ []), x.1)
 
 unfoldable pub operator_at : List ℕ → Result Operator Refusal
-operator_at s = if begins 43 s then Ok operators.Add else (if begins 45 s then Ok operators.Subtract else (if begins 42 s then Ok operators.Multiply else (if begins 47 s then Ok operators.Divide else Err (refusal Bracket s))))
+operator_at s = if begins 43 s then Ok operators.Add
+    else (if begins 45 s then Ok operators.Subtract
+    else (if begins 42 s then Ok operators.Multiply
+    else (if begins 47 s then Ok operators.Divide else Err (refusal Bracket s))))
 
 -- a real value's tokens behind those so far, and what follows it; room is above the number of bytes
 unfoldable mutual
   pub real_at : (ℕ → ℕ) → ℕ → List Token → List ℕ → Result (List Token × List ℕ) Refusal
   real_at place zero found s = Err (OfItem Bracket)
   real_at place (suc room) found s =
-      if begins 35 s then real_at place room (found ++ (token_at place mark.Parameter s ∷ [])) (drop 1 s) else (
-      if begins 91 s then (real_at place room (found ++ (token_at place mark.Open s ∷ [])) (drop 1 s) >>= λ x. rest_at place room x.0 x.1) else
+      if begins 35 s then real_at place room (found ++ (token_at place mark.Parameter s ∷ []))
+      (drop 1 s) else (
+      if begins 91 s
+      then (real_at place room (found ++ (token_at place mark.Open s ∷ [])) (drop 1 s) >>= λ x.
+      rest_at place room x.0 x.1) else
       number_token place found s)
 
   pub rest_at : (ℕ → ℕ) → ℕ → List Token → List ℕ → Result (List Token × List ℕ) Refusal
   rest_at place zero found s = Err (OfItem Bracket)
   rest_at place (suc room) found s =
       if begins 93 s then Ok (found ++ (token_at place mark.Close s ∷ []), drop 1 s) else (
-      operator_at s >>= λ o. real_at place room (found ++ (token_at place (mark.Operator o) s ∷ [])) (drop 1 s) >>= λ x. rest_at place room x.0 x.1)
+      operator_at s >>= λ o. real_at place room (found ++ (token_at place (mark.Operator o) s ∷ []))
+      (drop 1 s) >>= λ x. rest_at place room x.0 x.1)

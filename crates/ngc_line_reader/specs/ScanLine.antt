@@ -1,11 +1,17 @@
 -- Reading the items of a line from left to right, with the first fault that is met (our own: the
 -- manual names no faults).
-use Rattle.std.specs.Prelude.{ℕ, zero, suc, ◌+◌, ◌==◌, ◌&&◌, ◌||◌, nat_le, not, List, [], ◌∷◌, ◌++◌, length, drop, slice_index, Option, Some, None, Bool, Result, Ok, Err, if◌then◌else◌}
+use Rattle.std.specs.Prelude.{ℕ, zero, suc, ◌+◌, ◌==◌, ◌&&◌, ◌||◌, nat_le, not, List, [], ◌∷◌, ◌++◌}
+use Rattle.std.specs.Prelude.{length, drop, slice_index, Option, Some, None, Bool, Result, Ok, Err}
+use Rattle.std.specs.Prelude.{if◌then◌else◌}
 use Rattle.std.specs.Char.{is_ascii_digit}
 use Rattle.std.specs.List.{prefix_len}
 use Rattle.ngc_line_reader.specs.declared.token.Token.{Token}
 use Rattle.ngc_line_reader.specs.declared.fault.FaultKind.{FaultKind}
-use Rattle.ngc_line_reader.specs.declared.fault.FaultKind.TheVariants.{UnknownCharacter, BadNumber, BadWord, BadLineNumber, CommentNotClosed, CommentNested, Bracket, TooManyWords}
+use Rattle.ngc_line_reader.specs.declared.fault.FaultKind.TheVariants.{UnknownCharacter, BadNumber}
+use Rattle.ngc_line_reader.specs.declared.fault.FaultKind.TheVariants.{BadWord, BadLineNumber}
+use Rattle.ngc_line_reader.specs.declared.fault.FaultKind.TheVariants.{CommentNotClosed}
+use Rattle.ngc_line_reader.specs.declared.fault.FaultKind.TheVariants.{CommentNested, Bracket}
+use Rattle.ngc_line_reader.specs.declared.fault.FaultKind.TheVariants.{TooManyWords}
 use Rattle.ngc_line_reader.specs.declared.fault.LineFault.{LineFault}
 use Rattle.ngc_line_reader.specs.declared.fault.Refusal.{Refusal}
 use Rattle.ngc_line_reader.specs.declared.fault.Refusal.TheVariants.{OfItem, AtByte}
@@ -24,30 +30,55 @@ pub record Parts : Type 0 where
   pub tokens : List Token
 
 abbrev pub parts_of : Line → Parts
-parts_of line = record { words = line.words.items; settings = line.settings.items; tokens = line.tokens.items }
+parts_of line =
+    record { words = line.words.items; settings = line.settings.items; tokens = line.tokens.items }
 
 abbrev pub no_parts : Parts
 no_parts = record { words = []; settings = []; tokens = [] }
 
 abbrev pub with_word : (ℕ → ℕ) → Parts → Letter → List ℕ → List Token → Parts
-with_word place found letter s tokens = record { words = found.words ++ (record { letter = letter; column = place (length s); first = length found.tokens } ∷ []); settings = found.settings; tokens = tokens }
+with_word place found letter s tokens =
+    record {
+      words = found.words
+          ++ (record { letter = letter; column = place (length s); first = length found.tokens }
+          ∷ []);
+      settings = found.settings;
+      tokens = tokens;
+    }
 
 abbrev pub with_setting : (ℕ → ℕ) → Parts → List ℕ → List Token → List Token → Parts
-with_setting place found s index value = record { words = found.words; settings = found.settings ++ (record { column = place (length s); index = length found.tokens; value = length index } ∷ []); tokens = value }
+with_setting place found s index value =
+    record {
+      words = found.words;
+      settings =
+          found.settings
+          ++ (record {
+            column = place (length s);
+            index = length found.tokens;
+            value = length index;
+          }
+          ∷ []);
+      tokens = value;
+    }
 
 -- a word, whose letter is the first byte of s
 unfoldable pub word_at : (ℕ → ℕ) → ℕ → Parts → Letter → List ℕ → Result (Parts × List ℕ) Refusal
 word_at place room found letter s =
     if length found.words == 64 then Err (OfItem TooManyWords) else (
-    real_at place room found.tokens (drop 1 s) >>= λ x. Ok (with_word place found letter s x.0, x.1))
+    real_at place room found.tokens (drop 1 s) >>= λ x.
+    Ok (with_word place found letter s x.0, x.1))
 
 -- a setting's value, behind its index
-unfoldable pub value_behind : (ℕ → ℕ) → ℕ → Parts → List ℕ → List Token → List ℕ → Result (Parts × List ℕ) Refusal
+unfoldable pub value_behind : (ℕ → ℕ) → ℕ → Parts → List ℕ → List Token → List ℕ →
+    Result (Parts × List ℕ) Refusal
 value_behind place room found s index r =
-    if begins 61 r then (real_at place room index (drop 1 r) >>= λ x. Ok (with_setting place found s index x.0, x.1)) else Err (refusal BadNumber r)
+    if begins 61 r
+    then (real_at place room index (drop 1 r) >>= λ x.
+    Ok (with_setting place found s index x.0, x.1)) else Err (refusal BadNumber r)
 
 unfoldable pub setting_at : (ℕ → ℕ) → ℕ → Parts → List ℕ → Result (Parts × List ℕ) Refusal
-setting_at place room found s = real_at place room found.tokens (drop 1 s) >>= λ x. value_behind place room found s x.0 x.1
+setting_at place room found s =
+    real_at place room found.tokens (drop 1 s) >>= λ x. value_behind place room found s x.0 x.1
 
 abbrev pub is_comment_byte : ℕ → Bool
 is_comment_byte b = not (b == 40) && not (b == 41)
@@ -59,7 +90,8 @@ after_comment s = drop (prefix_len is_comment_byte s) s
 abbrev pub comment_at : List ℕ → Result (List ℕ) Refusal
 comment_at s =
     if begins 41 (after_comment (drop 1 s)) then Ok (drop 1 (after_comment (drop 1 s))) else (
-    if begins 40 (after_comment (drop 1 s)) then Err (OfItem CommentNested) else Err (OfItem CommentNotClosed))
+    if begins 40 (after_comment (drop 1 s)) then Err (OfItem CommentNested)
+    else Err (OfItem CommentNotClosed))
 
 -- why no item begins with this byte: a letter; a number; a bracket; another character
 abbrev pub start_fault : ℕ → FaultKind
@@ -81,7 +113,8 @@ other_item_at place room found s =
     Err (OfItem (start_fault (slice_index s 0))))
 
 unfoldable pub item_at : (ℕ → ℕ) → ℕ → Parts → List ℕ → Result (Parts × List ℕ) Refusal
-item_at place room found s = by_letter (letter_of (slice_index s 0)) (λ letter. word_at place room found letter s) (other_item_at place room found s)
+item_at place room found s = by_letter (letter_of (slice_index s 0))
+    (λ letter. word_at place room found letter s) (other_item_at place room found s)
 
 abbrev pub fault_at : FaultKind → ℕ → LineFault
 fault_at kind column = record { kind = kind; column = column }
@@ -110,7 +143,8 @@ numbered ds r =
     if begins 46 r then Err (OfItem BadLineNumber) else Ok (Some (digits_value ds), r)))
 
 unfoldable pub line_number_at : List ℕ → Result (Option ℕ × List ℕ) Refusal
-line_number_at s = if begins 78 s then numbered (digits_at (drop 1 s)) (after_digits (drop 1 s)) else Ok (None, s)
+line_number_at s =
+    if begins 78 s then numbered (digits_at (drop 1 s)) (after_digits (drop 1 s)) else Ok (None, s)
 
 -- what a line says
 pub record Said : Type 0 where

@@ -12,7 +12,8 @@ use Rattle.ngc_line_reader.specs.Held.{words_from, settings_from, all_tokens, Al
 use Rattle.ngc_line_reader.specs.ScanLine.{Parts}
 
 abbrev pub view_parts : LineView → Parts
-view_parts line = record { words = line.words.now; settings = line.settings.now; tokens = line.tokens.now }
+view_parts line =
+    record { words = line.words.now; settings = line.settings.now; tokens = line.tokens.now }
 
 -- words, settings and the symbols of values
 pub record Items : Type 0 where

@@ -1,6 +1,7 @@
 -- How lines are stored: their bytes one behind the other, and for each line its number and where it
 -- ends.
-use Rattle.std.specs.Prelude.{ℕ, zero, suc, ◌*◌, ◌==◌, ◌&&◌, nat_le, is_ok, List, [], ◌∷◌, length, slice_range, Bool}
+use Rattle.std.specs.Prelude.{ℕ, zero, suc, ◌*◌, ◌==◌, ◌&&◌, nat_le, is_ok, List, [], ◌∷◌, length}
+use Rattle.std.specs.Prelude.{slice_range, Bool}
 use Rattle.std.specs.List.{list_all}
 use Rattle.ngc_line_reader.specs.declared.program.stored.LineEnd.{LineEnd}
 use Rattle.ngc_line_reader.specs.Program.{Line}
@@ -12,7 +13,8 @@ line_of number bytes = record { number = number; bytes = bytes }
 -- the lines that end so, the first of which begins at start
 abbrev pub lines_from : List ℕ → ℕ → List LineEnd → List Line
 lines_from bytes start [] = []
-lines_from bytes start (e ∷ ends) = line_of e.number (slice_range bytes start e.end) ∷ lines_from bytes e.end ends
+lines_from bytes start (e ∷ ends) =
+    line_of e.number (slice_range bytes start e.end) ∷ lines_from bytes e.end ends
 
 -- where the line of this index begins
 abbrev pub start_from : ℕ → List LineEnd → ℕ → ℕ
@@ -30,4 +32,5 @@ abbrev pub is_read : Line → Bool
 is_read line = is_ok (line_read line.bytes)
 
 abbrev pub is_stored : List ℕ → List LineEnd → Bool
-is_stored bytes ends = are_ends 0 (length bytes) ends && (nat_le (length bytes) (256 * length ends) && list_all is_read (lines_from bytes 0 ends))
+is_stored bytes ends = are_ends 0 (length bytes) ends
+    && (nat_le (length bytes) (256 * length ends) && list_all is_read (lines_from bytes 0 ends))

@@ -2,7 +2,8 @@
 -- spaces and tabs stand anywhere but in comments, inside numbers too, and letters are read without
 -- regard to case there). Our own: a carriage return is white space where it is the line's last
 -- byte, and ';' outside parentheses begins a comment up to the line's end.
-use Rattle.std.specs.Prelude.{ℕ, ◌-◌, ◌+◌, List, [], ◌∷◌, ◌++◌, length, Option, Some, None, Bool, ◌==◌, ◌&&◌, ◌||◌, nat_le, slice_index, if◌then◌else◌}
+use Rattle.std.specs.Prelude.{ℕ, ◌-◌, ◌+◌, List, [], ◌∷◌, ◌++◌, length, Option, Some, None, Bool}
+use Rattle.std.specs.Prelude.{◌==◌, ◌&&◌, ◌||◌, nat_le, slice_index, if◌then◌else◌}
 use Rattle.std.specs.Option.{option_to_list, option_map}
 use Rattle.ngc_line_reader.specs.declared.text.Place.{Place}
 use Rattle.ngc_line_reader.specs.declared.text.Place.TheVariants.{Outside, InComment, InRemark}
@@ -30,7 +31,8 @@ kept InRemark b last = Some b
 
 abbrev pub text_from : Place → List ℕ → List ℕ
 text_from place [] = []
-text_from place (b ∷ rest) = option_to_list (kept place b (length rest == 0)) ++ text_from (place_after place b) rest
+text_from place (b ∷ rest) =
+    option_to_list (kept place b (length rest == 0)) ++ text_from (place_after place b) rest
 
 -- the text of a line, whose bytes have no line feed behind them
 abbrev pub text : List ℕ → List ℕ
@@ -39,7 +41,9 @@ text line = text_from Outside line
 -- the column of each byte of the text, from this column on
 abbrev pub columns_from : Place → ℕ → List ℕ → List ℕ
 columns_from place column [] = []
-columns_from place column (b ∷ rest) = option_to_list (option_map (λ (_ : ℕ). column) (kept place b (length rest == 0))) ++ columns_from (place_after place b) (column + 1) rest
+columns_from place column (b ∷ rest) = option_to_list
+    (option_map (λ (_ : ℕ). column) (kept place b (length rest == 0)))
+    ++ columns_from (place_after place b) (column + 1) rest
 
 -- the column, from 1, that each byte of a line's text has in the line
 abbrev pub columns : List ℕ → List ℕ

@@ -5,7 +5,8 @@ use Rattle.ngc_fixed_length.specs.Limits.{IsValue}
 use Rattle.ngc_line_reader.specs.declared.token.Symbol.{Symbol}
 use Rattle.ngc_line_reader.specs.declared.token.Symbol.TheVariants as mark
 use Rattle.ngc_line_reader.specs.declared.token.Token.{Token}
-use Rattle.ngc_line_reader.specs.Grammar.{Real, number, parameter, bracket, Rest, close, next, real_text, rest_text}
+use Rattle.ngc_line_reader.specs.Grammar.{Real, number, parameter, bracket, Rest, close, next}
+use Rattle.ngc_line_reader.specs.Grammar.{real_text, rest_text}
 use Rattle.ngc_line_reader.specs.Numbers.{numeral_value}
 
 abbrev mutual
@@ -16,7 +17,8 @@ abbrev mutual
 
   pub rest_symbols : Rest → List Symbol
   rest_symbols close = mark.Close ∷ []
-  rest_symbols (next operator value rest) = mark.Operator operator ∷ (symbols_of value ++ rest_symbols rest)
+  rest_symbols (next operator value rest) =
+      mark.Operator operator ∷ (symbols_of value ++ rest_symbols rest)
 
 -- tokens without their columns
 abbrev pub symbols : List Token → List Symbol
@@ -30,15 +32,19 @@ token_at place symbol text = record { symbol = symbol; column = place (length te
 -- the tokens of a real value with the text end behind it
 abbrev mutual
   pub tokens_of : (ℕ → ℕ) → Real → List ℕ → List Token
-  tokens_of place (number n) end = token_at place (mark.Number (numeral_value n)) (real_text (number n) ++ end) ∷ []
-  tokens_of place (parameter index) end = token_at place mark.Parameter (real_text (parameter index) ++ end) ∷ tokens_of place index end
+  tokens_of place (number n) end =
+      token_at place (mark.Number (numeral_value n)) (real_text (number n) ++ end) ∷ []
+  tokens_of place (parameter index) end =
+      token_at place mark.Parameter (real_text (parameter index) ++ end) ∷ tokens_of place index end
   tokens_of place (bracket first rest) end =
-      token_at place mark.Open (real_text (bracket first rest) ++ end) ∷ (tokens_of place first (rest_text rest ++ end) ++ rest_tokens place rest end)
+      token_at place mark.Open (real_text (bracket first rest) ++ end)
+      ∷ (tokens_of place first (rest_text rest ++ end) ++ rest_tokens place rest end)
 
   pub rest_tokens : (ℕ → ℕ) → Rest → List ℕ → List Token
   rest_tokens place close end = token_at place mark.Close (rest_text close ++ end) ∷ []
   rest_tokens place (next operator value rest) end =
-      token_at place (mark.Operator operator) (rest_text (next operator value rest) ++ end) ∷ (tokens_of place value (rest_text rest ++ end) ++ rest_tokens place rest end)
+      token_at place (mark.Operator operator) (rest_text (next operator value rest) ++ end)
+      ∷ (tokens_of place value (rest_text rest ++ end) ++ rest_tokens place rest end)
 
 -- each number written in it is a value: at most 10^9 in size (our own)
 abbrev mutual

@@ -1,11 +1,16 @@
-ghost use Rattle.std.specs.Prelude.{◌≡◌, ℕ, ◌*◌, ◌+◌, ◌^◌, ◌≤◌, ◌<◌, List, ◌++◌, length, drop, min, IfOk, IfErr, ◌≢◌, ◌-◌, pos, neg_ℤ, IsTrue, if◌then◌else◌};
+ghost use Rattle.std.specs.Prelude.{◌≡◌, ℕ, ◌*◌, ◌+◌, ◌^◌, ◌≤◌, ◌<◌, List, ◌++◌, length, drop, min};
+ghost use Rattle.std.specs.Prelude.{IfOk, IfErr, ◌≢◌, ◌-◌, pos, neg_ℤ, IsTrue, if◌then◌else◌};
 ghost use Rattle.std.specs.List.{prefix_len};
 ghost use Rattle.std.specs.Char.{is_ascii_digit};
 ghost use Rattle.ngc_fixed_length.specs.Rounding.{nearest_size};
 ghost use Rattle.ngc_fixed_length.specs.Limits.{MILLION, limited};
 ghost use Rattle.ngc_line_reader.specs.Grammar.{IsDigits, digits_of};
 ghost use Rattle.ngc_line_reader.specs.Numbers.{digits_value, signed, written_value};
-ghost use Rattle.ngc_line_reader.specs.Scan.{Gives, digits_at, after_digits, begins as has_first, is_known as is_known_byte, begins_unknown as has_unknown_first, refusal as refused, after_sign, decimals_at, after_decimals, number_at as number_found};
+ghost use Rattle.ngc_line_reader.specs.Scan.{Gives, digits_at, after_digits, begins as has_first};
+ghost use Rattle.ngc_line_reader.specs.Scan.{is_known as is_known_byte};
+ghost use Rattle.ngc_line_reader.specs.Scan.{begins_unknown as has_unknown_first};
+ghost use Rattle.ngc_line_reader.specs.Scan.{refusal as refused, after_sign, decimals_at};
+ghost use Rattle.ngc_line_reader.specs.Scan.{after_decimals, number_at as number_found};
 
 use crate::fault::{FaultKind, Refusal};
 use ngc_fixed_length::{NumberFault, Value};
@@ -67,7 +72,8 @@ fn begins_unknown(s: &[u8]) -> bool
 // Why an item can't go on at `s`.
 pub(crate) fn refusal(kind: FaultKind, s: &[u8]) -> Refusal
     ensures value { result ≡ refused kind s.now }
-    ensures not_long { kind ≢ FaultKind.LineTooLong → result ≢ Refusal.OfItem FaultKind.LineTooLong }
+    ensures not_long { kind ≢ FaultKind.LineTooLong →
+        result ≢ Refusal.OfItem FaultKind.LineTooLong }
 {
     if begins_unknown(s) {
         Refusal::AtByte(s.len())
@@ -146,7 +152,8 @@ pub(crate) fn number_at(s: &[u8]) -> Result<(Value, &[u8]), Refusal>
 fn millionths_of(decimals: Digits<'_>) -> u64
     requires digits { IsDigits decimals.bytes.now }
     requires units { decimals.units ≡ min (digits_value decimals.bytes.now) 10000000000 }
-    ensures value { result ≡ nearest_size (digits_value decimals.entry.bytes.now * MILLION) (10 ^ length decimals.entry.bytes.now) }
+    ensures value { result ≡ nearest_size (digits_value decimals.entry.bytes.now * MILLION)
+        (10 ^ length decimals.entry.bytes.now) }
     ensures bound { result ≤ 1000000 }
 {
     if decimals.bytes.len() > 6 {
@@ -172,7 +179,8 @@ fn value_of(negative: bool, whole: Digits<'_>, decimals: Digits<'_>) -> Result<V
     requires units { whole.units ≡ min (digits_value whole.bytes.now) 10000000000 }
     requires digits { IsDigits decimals.bytes.now }
     requires decimal_units { decimals.units ≡ min (digits_value decimals.bytes.now) 10000000000 }
-    ensures { result ≡ limited (written_value negative whole.entry.bytes.now decimals.entry.bytes.now) }
+    ensures { result ≡ limited
+        (written_value negative whole.entry.bytes.now decimals.entry.bytes.now) }
 {
     let size = whole.units * 1_000_000 + millionths_of(decimals);
     signed_value(negative, size)

@@ -1,4 +1,5 @@
-ghost use Rattle.std.specs.Prelude.{ℕ, List, ◌≡◌, ◌<◌, ◌≤◌, IsOk, length, IfOk, IfSome, Some, slice_get, IsTrue, ◌==◌};
+ghost use Rattle.std.specs.Prelude.{ℕ, List, ◌≡◌, ◌<◌, ◌≤◌, IsOk, length, IfOk, IfSome, Some};
+ghost use Rattle.std.specs.Prelude.{slice_get, IsTrue, ◌==◌};
 ghost use Rattle.std.specs.Option.{option_map};
 ghost use Rattle.ngc_text.specs.Failures.{Rises};
 ghost use Rattle.ngc_line_reader.specs.ReadLine.{line_read};
@@ -56,7 +57,8 @@ impl<A: Allocator> Program<A> {
     /// The number in the file, from 1, of a line that is read.
     pub fn number(&self, index: usize) -> u32
         requires { index < length (text_in self.now).lines }
-        ensures { option_map (λ l. l.number) (slice_get (text_in self.now).lines index) ≡ Some result }
+        ensures { option_map (λ l. l.number) (slice_get (text_in self.now).lines index)
+            ≡ Some result }
     {
         self.lines.number(index)
     }
@@ -65,7 +67,8 @@ impl<A: Allocator> Program<A> {
     /// fault.
     pub fn bytes(&self, index: usize) -> &[u8]
         requires { index < length (text_in self.now).lines }
-        ensures value { option_map (λ l. l.bytes) (slice_get (text_in self.now).lines index) ≡ Some result.now }
+        ensures value { option_map (λ l. l.bytes) (slice_get (text_in self.now).lines index)
+            ≡ Some result.now }
         ensures read { IsOk (line_read result.now) }
     {
         self.lines.bytes(index)
@@ -77,7 +80,9 @@ impl<A: Allocator> Program<A> {
     /// which are 0 then, and without the number behind `N`, so `line.number` stays as it is.
     pub fn load(&self, index: usize, line: &mut Line)
         requires { index < length (text_in self.now).lines }
-        ensures { (bytes : List ℕ) → option_map (λ l. l.bytes) (slice_get (text_in self.now).lines index) ≡ Some bytes → ShowsReading bytes line.new.deleted (parts_of line.new) }
+        ensures { (bytes : List ℕ) →
+            option_map (λ l. l.bytes) (slice_get (text_in self.now).lines index) ≡ Some bytes →
+            ShowsReading bytes line.new.deleted (parts_of line.new) }
     {
         self.lines.load(index, line)
     }
@@ -97,11 +102,13 @@ impl<A: Allocator> Program<A> {
         A: Copy,
         // Where the source's bytes are known, the answer is what they say, but for want of memory
         // and the source's failure.
-        ensures text { IfSome (R.remaining source.old) (λ bytes. OutcomeIs result (program_of bytes)) }
+        ensures text { IfSome (R.remaining source.old)
+            (λ bytes. OutcomeIs result (program_of bytes)) }
         // Each line has a reading.
         ensures readings { IfOk result (λ p. HaveReadings (text_in p).lines) }
         // Only a source that failed is said to have failed.
-        ensures device { result ≡ Err Device → Rises (R.failures source.old) (R.failures source.new) }
+        ensures device { result ≡ Err Device →
+            Rises (R.failures source.old) (R.failures source.new) }
     {
         let mut reader = ProgramReader::new(alloc);
         let mut chunk = [0u8; 65_536];

@@ -1,8 +1,11 @@
-ghost use Rattle.std.specs.Prelude.{◌≡◌, ◌+◌, ◌≤◌, ◌<◌, ◌++◌, ◌∷◌, [], length, IfOk, IfErr, IsOk, ◌≢◌};
+ghost use Rattle.std.specs.Prelude.{◌≡◌, ◌+◌, ◌≤◌, ◌<◌, ◌++◌, ◌∷◌, [], length, IfOk, IfErr, IsOk};
+ghost use Rattle.std.specs.Prelude.{◌≢◌};
 ghost use Rattle.arrayvec.specs.ArrayVec.{array_vec_len};
 ghost use Rattle.ngc_line_reader.specs.Text.{place_in};
 ghost use Rattle.ngc_line_reader.specs.Tokens.{token_at};
-ghost use Rattle.ngc_line_reader.specs.Scan.{Gives, real_at as real_found, rest_at as rest_found, number_token as token_found, operator_at as operator_found};
+ghost use Rattle.ngc_line_reader.specs.Scan.{Gives, real_at as real_found, rest_at as rest_found};
+ghost use Rattle.ngc_line_reader.specs.Scan.{number_token as token_found};
+ghost use Rattle.ngc_line_reader.specs.Scan.{operator_at as operator_found};
 
 use crate::fault::{FaultKind, Refusal};
 use crate::number::{begins, number_at, refusal, tail};
@@ -13,7 +16,8 @@ use arrayvec::ArrayVec;
 // A symbol that begins `s` is read.
 fn push_symbol(columns: &[u16], symbol: Symbol, s: &[u8], tokens: &mut ArrayVec<Token, 256>)
     requires { array_vec_len tokens.old < 256 }
-    ensures items { tokens.new.items ≡ tokens.old.items ++ token_at (place_in columns.now) symbol s.now ∷ [] }
+    ensures items { tokens.new.items ≡ tokens.old.items
+        ++ token_at (place_in columns.now) symbol s.now ∷ [] }
     ensures len { array_vec_len tokens.new ≡ array_vec_len tokens.old + 1 }
 {
     let column = column_of(columns, s.len());
@@ -28,9 +32,12 @@ fn number_token<'a>(
     tokens: &mut ArrayVec<Token, 256>,
 ) -> Result<&'a [u8], Refusal>
     requires space { array_vec_len tokens.old + length s.now ≤ 256 }
-    ensures reads { Gives (λ rest. (tokens.new.items, rest.now)) result (token_found (place_in columns.now) tokens.old.items s.now) }
+    ensures reads { Gives (λ rest. (tokens.new.items, rest.now)) result
+        (token_found (place_in columns.now) tokens.old.items s.now) }
     ensures shorter { IfOk result (λ rest. length rest.now < length s.now) }
-    ensures space { IfOk result (λ rest. array_vec_len tokens.new + length rest.now ≤ array_vec_len tokens.old + length s.now) }
+    ensures space { IfOk result
+        (λ rest. array_vec_len tokens.new + length rest.now
+        ≤ array_vec_len tokens.old + length s.now) }
     ensures not_long { IfErr result (λ e. e ≢ Refusal.OfItem FaultKind.LineTooLong) }
 {
     match number_at(s) {
@@ -53,9 +60,12 @@ pub(crate) fn real_at<'a>(
 ) -> Result<&'a [u8], Refusal>
     requires room { length s.now < room }
     requires space { array_vec_len tokens.old + length s.now ≤ 256 }
-    ensures reads { Gives (λ rest. (tokens.new.items, rest.now)) result (real_found (place_in columns.now) room tokens.old.items s.now) }
+    ensures reads { Gives (λ rest. (tokens.new.items, rest.now)) result
+        (real_found (place_in columns.now) room tokens.old.items s.now) }
     ensures shorter { IfOk result (λ rest. length rest.now < length s.now) }
-    ensures space { IfOk result (λ rest. array_vec_len tokens.new + length rest.now ≤ array_vec_len tokens.old + length s.now) }
+    ensures space { IfOk result
+        (λ rest. array_vec_len tokens.new + length rest.now
+        ≤ array_vec_len tokens.old + length s.now) }
     ensures not_long { IfErr result (λ e. e ≢ Refusal.OfItem FaultKind.LineTooLong) }
 {
     if begins(b'#', s) {
@@ -81,9 +91,12 @@ fn rest_at<'a>(
 ) -> Result<&'a [u8], Refusal>
     requires room { length s.now < room }
     requires space { array_vec_len tokens.old + length s.now ≤ 256 }
-    ensures reads { Gives (λ rest. (tokens.new.items, rest.now)) result (rest_found (place_in columns.now) room tokens.old.items s.now) }
+    ensures reads { Gives (λ rest. (tokens.new.items, rest.now)) result
+        (rest_found (place_in columns.now) room tokens.old.items s.now) }
     ensures shorter { IfOk result (λ rest. length rest.now < length s.now) }
-    ensures space { IfOk result (λ rest. array_vec_len tokens.new + length rest.now ≤ array_vec_len tokens.old + length s.now) }
+    ensures space { IfOk result
+        (λ rest. array_vec_len tokens.new + length rest.now
+        ≤ array_vec_len tokens.old + length s.now) }
     ensures not_long { IfErr result (λ e. e ≢ Refusal.OfItem FaultKind.LineTooLong) }
 {
     if begins(b']', s) {

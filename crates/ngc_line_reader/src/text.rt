@@ -1,5 +1,6 @@
 ghost use Rattle.std.specs.Prelude.{◌≡◌, ◌≤◌, length, take};
-ghost use Rattle.ngc_line_reader.specs.Text.{place_after as next_place, is_blank as blank, upper, kept, text, columns as columns_in, place_in};
+ghost use Rattle.ngc_line_reader.specs.Text.{place_after as next_place, is_blank as blank, upper};
+ghost use Rattle.ngc_line_reader.specs.Text.{kept, text, columns as columns_in, place_in};
 
 /// Where a byte of a line stands.
 #[derive(Clone, Copy)]

@@ -14,7 +14,8 @@ unfolding parse_document lines
 parse_document-blank bytes blank = rw blank
 
 -- which has no keys
-keyless : (b : Bool) (members : Option Members) (tree : Data) (key : List ℕ) → members ≡ Some no_members → Some tree ≡ (cond b members None >>= (λ ms. Some (table ms))) → get key tree ≡ None
+keyless : (b : Bool) (members : Option Members) (tree : Data) (key : List ℕ) → members ≡ Some no_members →
+    Some tree ≡ (cond b members None >>= (λ ms. Some (table ms))) → get key tree ≡ None
 keyless true None tree key e same = cc
 keyless true (Some ms) tree key e same = let t : tree ≡ table no_members = cc in rw t
 keyless false members tree key e same = cc
@@ -23,13 +24,15 @@ keyed-blank : (bytes : List ℕ) (tree : Data) (key : List ℕ) → Some tree �
 keyed-blank bytes tree key same blank = keyless (is_utf8 bytes) (parse_document bytes) tree key (parse_document-blank bytes blank) same
 
 -- what takes memory for a key alone takes none for a blank document
-pub read-blank : {T E : Type 0} (r : Result T E) (bytes : List ℕ) (tree : Data) (key : List ℕ) → Some tree ≡ tree_of bytes → IfErr r (λ _. IsSome (get key tree)) → IsBlank bytes → IsOk r
+pub read-blank : {T E : Type 0} (r : Result T E) (bytes : List ℕ) (tree : Data) (key : List ℕ) → Some tree ≡ tree_of bytes →
+    IfErr r (λ _. IsSome (get key tree)) → IsBlank bytes → IsOk r
 read-blank (Ok x) bytes tree key same h blank = refl
 read-blank (Err e) bytes tree key same h blank =
     let none : get key tree ≡ None = keyed-blank bytes tree key same blank in
     rw none at h
 
-no_machine : (b : Bool) (members : Option Members) → members ≡ Some no_members → (cond b members None >>= (λ ms. Some (table ms)) >>= machine.machine_values) ≡ None
+no_machine : (b : Bool) (members : Option Members) → members ≡ Some no_members →
+    (cond b members None >>= (λ ms. Some (table ms)) >>= machine.machine_values) ≡ None
 no_machine true members e = rw e
 no_machine false members e = refl
 

@@ -2,7 +2,8 @@
 use Rattle.std.proofs.Common.{◌≡◌, ◌∙◌, ℤ, List, ◌∷◌, true, false, cond, codes, Option, Some, None, ap, sym}
 use Rattle.toml.specs.Data.{Data}
 use Rattle.ngc_machine.specs.Tree.{◌>>=◌, known, has_only}
-use Rattle.ngc_machine.specs.MachineText.{common_keys, has_axis_rates, machine_keys, machine_numbers, machine_axis_rates, machine_points, machine_origins, machine_fixtures, machine_values}
+use Rattle.ngc_machine.specs.MachineText.{common_keys, has_axis_rates, machine_keys, machine_numbers, machine_axis_rates, machine_points, machine_origins}
+use Rattle.ngc_machine.specs.MachineText.{machine_fixtures, machine_values}
 use Rattle.ngc_machine.specs.declared.machine_contents.Coordinates.{Coordinates}
 use Rattle.ngc_machine.specs.declared.machine_contents.Corners.{Corners}
 use Rattle.ngc_machine.specs.declared.machine_contents.MachineNumbers.{MachineNumbers}

@@ -10,8 +10,10 @@ use Rattle.ngc_fixed_length.specs.Signed.{is_within, is_zero}
 use Rattle.ngc_machine.specs.Ranges.{PLACE_LIMIT, CORNER_LIMIT, IsFrom, IsSized, IsAtMost, IsBelow, IsOnGrid, IsTravel, IsFixture}
 use Rattle.ngc_machine.specs.Numbers.{from_to}
 use Rattle.ngc_machine.specs.Refusals.{◌>>◌, refuse_unless}
-use Rattle.ngc_machine.specs.MachineText.{MachineValues, is_sized, is_at_most, is_below, is_multiple, is_on_grid, is_rate, good_axis_rates, good_travel, good_fixture, good_fixtures, machine_ranges, place_of, fixture_of, AreFrom, IsGood}
-use Rattle.ngc_machine.specs.ToolText.{ToolNumbers, TableValues, good_part, good_parts, good_tool, good_tools, table_ranges, IsPartEntry, ArePartEntries, IsEntry, AreEntries}
+use Rattle.ngc_machine.specs.MachineText.{MachineValues, is_sized, is_at_most, is_below, is_multiple, is_on_grid, is_rate, good_axis_rates, good_travel}
+use Rattle.ngc_machine.specs.MachineText.{good_fixture, good_fixtures, machine_ranges, place_of, fixture_of, AreFrom, IsGood}
+use Rattle.ngc_machine.specs.ToolText.{ToolNumbers, TableValues, good_part, good_parts, good_tool, good_tools, table_ranges, IsPartEntry, ArePartEntries}
+use Rattle.ngc_machine.specs.ToolText.{IsEntry, AreEntries}
 use Rattle.ngc_machine.specs.declared.fault.FileFault.{FileFault}
 use Rattle.ngc_machine.specs.declared.tool_contents.PartEntry.{PartEntry}
 use Rattle.ngc_machine.specs.declared.machine_contents.Coordinates.{Coordinates}
@@ -113,7 +115,8 @@ IsGood-from_ranges m h =
     let (rates4, axes) = and_parts _ (good_axis_rates m.axis_rates) rates in
     let (rates3, turn) = and_parts _ (from_to (pos 1) (pos 1000000000000) m.numbers.turn) rates4 in
     let (max_rate, change, corner) = three (is_rate m.numbers.max_rate) (is_rate m.numbers.change) (is_rate m.numbers.corner) rates3 in
-    let (home28, home30, origins) = three (is_sized PLACE_LIMIT m.points.home28) (is_sized PLACE_LIMIT m.points.home30) (list_all (is_sized PLACE_LIMIT) m.origins) places in
+    let (home28, home30, origins) = three (is_sized PLACE_LIMIT m.points.home28) (is_sized PLACE_LIMIT m.points.home30)
+    (list_all (is_sized PLACE_LIMIT) m.origins) places in
     let (count, each) = and_parts _ (list_all good_fixture m.fixtures) fixtures in
     record {
       step = record { least = in_step.least; greatest = in_step.greatest };

@@ -1,5 +1,6 @@
 -- The first of a list, and the others after it.
-use Rattle.std.proofs.Common.{◌≡◌, ◌≤◌, ◌<◌, ◌-◌, ◌==◌, ℕ, List, [], ◌∷◌, length, take, drop, true, false, Some, slice_index_or, get_or, map, arith, refl, ◌∙◌, ap}
+use Rattle.std.proofs.Common.{◌≡◌, ◌≤◌, ◌<◌, ◌-◌, ◌==◌, ℕ, List, [], ◌∷◌, length, take, drop, true, false, Some, slice_index_or, get_or, map, arith, refl, ◌∙◌}
+use Rattle.std.proofs.Common.{ap}
 use Rattle.std.proofs.Math.Seq.{take-length}
 use Rattle.std.proofs.lemmas.List.{length-take, length-take-le, take_all}
 use Rattle.std.proofs.lemmas.Bool.Decides.{nat_tests}
@@ -11,7 +12,8 @@ nonempty [] h = cc
 nonempty (x ∷ xs) h = omega arith
 
 -- fewer than four, with others still to come
-pub room : {A B : Type 0} (xs : List A) (made : List B) (x : B) (i : ℕ) (rest : List B) → made ≡ x ∷ rest → length rest ≤ i → i < length (take (length xs - 1) (drop 1 xs)) → length xs ≤ 4 → length made < 4
+pub room : {A B : Type 0} (xs : List A) (made : List B) (x : B) (i : ℕ) (rest : List B) → made ≡ x ∷ rest → length rest ≤ i →
+    i < length (take (length xs - 1) (drop 1 xs)) → length xs ≤ 4 → length made < 4
 room xs made x i rest e r h few =
     let n = length-take (length xs - 1) (drop 1 xs) in
     rw e (omega (arith, n, r, h, few))
@@ -19,7 +21,8 @@ room xs made x i rest e r h few =
 pub take-bound : {A : Type 0} (i : ℕ) (xs : List A) → length (take i xs) ≤ i
 take-bound i xs = let n = length-take i xs in omega (arith, n)
 
-pub first-rest : {A : Type 0} (xs : List A) (x : A) (n : ℕ) → 1 ≤ length xs → x ≡ slice_index_or xs 0 x → length (take (length xs - 1) (drop 1 xs)) ≤ n → x ∷ take n (take (length xs - 1) (drop 1 xs)) ≡ xs
+pub first-rest : {A : Type 0} (xs : List A) (x : A) (n : ℕ) → 1 ≤ length xs → x ≡ slice_index_or xs 0 x → length (take (length xs - 1) (drop 1 xs)) ≤ n →
+    x ∷ take n (take (length xs - 1) (drop 1 xs)) ≡ xs
 first-rest [] x n h at all = absurd (omega (arith, h))
 first-rest (y ∷ ys) x n h at all =
     let k : length (y ∷ ys) - 1 ≡ length ys = omega arith in
@@ -27,7 +30,8 @@ first-rest (y ∷ ys) x n h at all =
     let first : x ≡ y = at in
     rw (take_all n (take (length (y ∷ ys) - 1) ys) all, whole, first)
 
-pub mapped-rest : {A B : Type 0} (f : A → B) (xs : List A) (d : A) (n : ℕ) → 1 ≤ length xs → length (take (length xs - 1) (drop 1 xs)) ≤ n → f (get_or xs 0 d) ∷ map f (take n (take (length xs - 1) (drop 1 xs))) ≡ map f xs
+pub mapped-rest : {A B : Type 0} (f : A → B) (xs : List A) (d : A) (n : ℕ) → 1 ≤ length xs → length (take (length xs - 1) (drop 1 xs)) ≤ n →
+    f (get_or xs 0 d) ∷ map f (take n (take (length xs - 1) (drop 1 xs))) ≡ map f xs
 mapped-rest f [] d n h all = absurd (omega (arith, h))
 mapped-rest f (y ∷ ys) d n h all =
     let k : length (y ∷ ys) - 1 ≡ length ys = omega arith in

@@ -16,10 +16,12 @@ use Rattle.ngc_machine.specs.declared.machine_contents.Corners.{Corners}
 use Rattle.ngc_machine.specs.declared.tool_contents.PartEntry.{PartEntry}
 use Rattle.ngc_machine.specs.declared.tool_contents.ToolEntry.{ToolEntry}
 
-pub origins_in_range : (points : List Coordinates) (places : List Point3) → places ≡ map place_of points → All (λ p. IsSized PLACE_LIMIT (place_of p)) points → All (IsSized PLACE_LIMIT) places
+pub origins_in_range : (points : List Coordinates) (places : List Point3) → places ≡ map place_of points → All (λ p. IsSized PLACE_LIMIT (place_of p)) points →
+    All (IsSized PLACE_LIMIT) places
 origins_in_range points places same h = All-same (IsSized PLACE_LIMIT) places _ same (All-map (IsSized PLACE_LIMIT) place_of points h)
 
-pub fixtures_in_range : (corners : List Corners) (fixtures : List Fixture) → fixtures ≡ map fixture_of corners → length corners ≤ 256 → All (λ f. IsFixture (fixture_of f)) corners → AreFixtures fixtures
+pub fixtures_in_range : (corners : List Corners) (fixtures : List Fixture) → fixtures ≡ map fixture_of corners → length corners ≤ 256 →
+    All (λ f. IsFixture (fixture_of f)) corners → AreFixtures fixtures
 fixtures_in_range corners fixtures same n h = record {
   count = rw (same, length-map corners fixture_of) n;
   each = All-same IsFixture fixtures _ same (All-map IsFixture fixture_of corners h);
@@ -48,7 +50,8 @@ tool_numbers_of : (ts : List ToolNumbers) → map (λ t. t.number) (map tool_of 
 tool_numbers_of [] = refl
 tool_numbers_of (t ∷ ts) = ap (λ ns. tool_number t ∷ ns) (tool_numbers_of ts)
 
-pub tools_in_range : (entries : List ToolEntry) (n : ℕ) (tools : List Tool) → length entries ≤ n → tools ≡ map tool_of (map numbers_of (take n entries)) → AreEntries (map numbers_of entries) → AreTools tools
+pub tools_in_range : (entries : List ToolEntry) (n : ℕ) (tools : List Tool) → length entries ≤ n → tools ≡ map tool_of (map numbers_of (take n entries)) →
+    AreEntries (map numbers_of entries) → AreTools tools
 tools_in_range entries n tools all same h =
     let numbers : List ToolNumbers = map numbers_of entries in
     let whole : tools ≡ map tool_of numbers = same ∙ ap (λ es. map tool_of (map numbers_of es)) (take_all n entries all) in
@@ -58,8 +61,10 @@ tools_in_range entries n tools all same h =
       different = rw (whole, tool_numbers_of numbers) h.different;
     }
 
-pub entry_at : (entries items : List ToolEntry) (i : ℕ) (t : ToolEntry) → items ≡ entries → i < length items → t ≡ get_or items i t → AreEntries (map numbers_of entries) → IsEntry (numbers_of t)
+pub entry_at : (entries items : List ToolEntry) (i : ℕ) (t : ToolEntry) → items ≡ entries → i < length items → t ≡ get_or items i t →
+    AreEntries (map numbers_of entries) → IsEntry (numbers_of t)
 entry_at entries items i t same in_list at h =
     let each : All IsEntry (map numbers_of items) = rw same h.each in
-    let found : IsEntry (get_or (map numbers_of items) i (numbers_of t)) = All-get_or IsEntry (map numbers_of items) i (numbers_of t) (rw (length-map items numbers_of) in_list) each in
+    let found : IsEntry (get_or (map numbers_of items) i (numbers_of t)) =
+    All-get_or IsEntry (map numbers_of items) i (numbers_of t) (rw (length-map items numbers_of) in_list) each in
     subst (λ t. IsEntry (numbers_of t)) (sym at) (subst IsEntry (get_or-map numbers_of items i t (numbers_of t) in_list) found)

@@ -1,5 +1,6 @@
 -- Values and tables, and the trees that they stand for.
-use Rattle.std.proofs.Common.{◌≡◌, ℕ, ◌+◌, ◌<◌, ◌≤◌, List, [], ◌∷◌, ◌++◌, length, take, drop, get_or, Bool, true, false, cond, ◌&&◌, string_bytes, Option, Some, None, option_map, IfSome, suc, refl, ◌∙◌, ap, sym, arith, rules, append_assoc}
+use Rattle.std.proofs.Common.{◌≡◌, ℕ, ◌+◌, ◌<◌, ◌≤◌, List, [], ◌∷◌, ◌++◌, length, take, drop, get_or, Bool, true, false, cond, ◌&&◌, string_bytes, Option, Some}
+use Rattle.std.proofs.Common.{None, option_map, IfSome, suc, refl, ◌∙◌, ap, sym, arith, rules, append_assoc}
 use Rattle.std.specs.List.{list_all}
 use Rattle.std.proofs.Math.ListN.{set}
 use Rattle.std.proofs.lemmas.List.{append-nil, drop_all, drop_more, take_all, take_more_set}
@@ -21,7 +22,8 @@ only-members keys [] = refl
 only-members keys (e ∷ es) = ap (λ b. is_one_of keys (string_bytes e.0) && b) (only-members keys es)
 
 -- the keys of a table's map are those of its members
-pub has_only-keys : (keys : List (List ℕ)) (d : Data) (es : List Entry) → Some (members_view es) ≡ as_table d → list_all (λ k. is_one_of keys (string_bytes k)) (keys_of es) ≡ has_only keys d
+pub has_only-keys : (keys : List (List ℕ)) (d : Data) (es : List Entry) → Some (members_view es) ≡ as_table d →
+    list_all (λ k. is_one_of keys (string_bytes k)) (keys_of es) ≡ has_only keys d
 has_only-keys keys (table members) es h = let e : members ≡ members_view es = cc in rw e (only-members keys es)
 has_only-keys keys (string _) es h = cc
 has_only-keys keys (integer _) es h = cc
@@ -48,7 +50,8 @@ coordinates-length (datetime _) vs h n = refl
 coordinates-length (table _) vs h n = refl
 
 -- one more entry before the others
-pub added_before : {A : Type 0} (done : List A) (x : A) (rest : Option (List A)) → option_map (λ xs. done ++ xs) (rest >>= (λ xs. Some (x ∷ xs))) ≡ option_map (λ xs. (done ++ x ∷ []) ++ xs) rest
+pub added_before : {A : Type 0} (done : List A) (x : A) (rest : Option (List A)) →
+    option_map (λ xs. done ++ xs) (rest >>= (λ xs. Some (x ∷ xs))) ≡ option_map (λ xs. (done ++ x ∷ []) ++ xs) rest
 added_before done x None = refl
 added_before done x (Some xs) = ap Some (search (rules, append_assoc))
 
@@ -64,7 +67,8 @@ unread false tree h = refl
 pub tree_of-refused : (bytes : List ℕ) → (IsUtf8 bytes → parse_document bytes ≡ None) → tree_of bytes ≡ None
 tree_of-refused bytes h = unread (is_utf8 bytes) (parse_document bytes) (λ e. h (IsUtf8-from_is_utf8 bytes e))
 
-longer : {A : Type 0} (n : ℕ) (r : Option A) (rest : Option (List A)) → IfSome rest (λ xs. length xs ≡ n) → IfSome (r >>= (λ x. rest >>= (λ xs. Some (x ∷ xs)))) (λ xs. length xs ≡ suc n)
+longer : {A : Type 0} (n : ℕ) (r : Option A) (rest : Option (List A)) → IfSome rest (λ xs. length xs ≡ n) →
+    IfSome (r >>= (λ x. rest >>= (λ xs. Some (x ∷ xs)))) (λ xs. length xs ≡ suc n)
 longer n None rest h = tt
 longer n (Some x) None h = tt
 longer n (Some x) (Some xs) h = ap suc h
@@ -83,14 +87,17 @@ pub nine_coordinates-length : (vs : List Value) → (length vs ≡ 9 → ⊥) �
 nine_coordinates-length vs e = sym (wrong_length (length vs) (each coordinates (items_view vs)) (each-length coordinates vs) e)
 
 -- one more entry is read
-pub each-more : {A : Type 0} (read : Data → Option A) (vs : List Value) (i : ℕ) (v : Value) (x : A) → i < length vs → v ≡ get_or vs i v → Some x ≡ read (view v) → each read (items_view (drop i vs)) ≡ (each read (items_view (drop (i + 1) vs)) >>= (λ xs. Some (x ∷ xs)))
+pub each-more : {A : Type 0} (read : Data → Option A) (vs : List Value) (i : ℕ) (v : Value) (x : A) → i < length vs → v ≡ get_or vs i v →
+    Some x ≡ read (view v) → each read (items_view (drop i vs)) ≡ (each read (items_view (drop (i + 1) vs)) >>= (λ xs. Some (x ∷ xs)))
 each-more read vs i v x h at e = rw (drop_more vs i v h, ← at, ← e)
 
-pub nine-more : (vs : List Value) (done : List Coordinates) (i : ℕ) (v : Value) (x : Coordinates) → i < length vs → i < length done → v ≡ get_or vs i v → Some x ≡ coordinates (view v)
+pub nine-more : (vs : List Value) (done : List Coordinates) (i : ℕ) (v : Value) (x : Coordinates) → i < length vs → i < length done → v ≡ get_or vs i v →
+    Some x ≡ coordinates (view v)
     → each coordinates (items_view vs) ≡ option_map (λ ps. take i done ++ ps) (each coordinates (items_view (drop i vs)))
     → each coordinates (items_view vs) ≡ option_map (λ ps. take (i + 1) (set done i x) ++ ps) (each coordinates (items_view (drop (i + 1) vs)))
 nine-more vs done i v x h k at e inv =
-    rw take_more_set (inv ∙ ap (option_map (λ ps. take i done ++ ps)) (each-more coordinates vs i v x h at e) ∙ added_before (take i done) x (each coordinates (items_view (drop (i + 1) vs))))
+    rw take_more_set (inv ∙ ap (option_map (λ ps. take i done ++ ps)) (each-more coordinates vs i v x h at e)
+    ∙ added_before (take i done) x (each coordinates (items_view (drop (i + 1) vs))))
 
 pub nine-all : (vs : List Value) (done : List Coordinates) (i : ℕ) → length vs ≤ i → length vs ≡ 9 → length done ≡ 9
     → each coordinates (items_view vs) ≡ option_map (λ ps. take i done ++ ps) (each coordinates (items_view (drop i vs)))
@@ -102,14 +109,16 @@ nine-all vs done i h e d inv =
     rw (all, d)
 
 -- the loops that read entries: one more
-pub entries-more : {A : Type 0} (read : Data → Option A) (vs : List Value) (done : List A) (i : ℕ) (v : Value) (x : A) → i < length vs → v ≡ get_or vs i v → Some x ≡ read (view v)
+pub entries-more : {A : Type 0} (read : Data → Option A) (vs : List Value) (done : List A) (i : ℕ) (v : Value) (x : A) → i < length vs → v ≡ get_or vs i v →
+    Some x ≡ read (view v)
     → each read (items_view vs) ≡ option_map (λ xs. done ++ xs) (each read (items_view (drop i vs)))
     → each read (items_view vs) ≡ option_map (λ xs. (done ++ x ∷ []) ++ xs) (each read (items_view (drop (i + 1) vs)))
 entries-more read vs done i v x h at e inv =
     inv ∙ ap (option_map (λ xs. done ++ xs)) (each-more read vs i v x h at e) ∙ added_before done x (each read (items_view (drop (i + 1) vs)))
 
 -- one that isn't right
-pub entries-none : {A : Type 0} (read : Data → Option A) (vs : List Value) (done : List A) (i : ℕ) (v : Value) → i < length vs → v ≡ get_or vs i v → None ≡ read (view v)
+pub entries-none : {A : Type 0} (read : Data → Option A) (vs : List Value) (done : List A) (i : ℕ) (v : Value) → i < length vs → v ≡ get_or vs i v →
+    None ≡ read (view v)
     → each read (items_view vs) ≡ option_map (λ xs. done ++ xs) (each read (items_view (drop i vs)))
     → None ≡ each read (items_view vs)
 entries-none read vs done i v h at e inv =

@@ -1,7 +1,9 @@
 -- The numbers of the faults. Our own.
 use Rattle.std.specs.Prelude.{ℕ}
 use Rattle.ngc_machine.specs.declared.fault.FileFault.{FileFault}
-use Rattle.ngc_machine.specs.declared.fault.FileFault.TheVariants.{Version, Step, TicksPerSecond, Rates, Travel, Places, Fixtures, Tools, Document, Memory}
+use Rattle.ngc_machine.specs.declared.fault.FileFault.TheVariants.{Version, Step, TicksPerSecond}
+use Rattle.ngc_machine.specs.declared.fault.FileFault.TheVariants.{Rates, Travel, Places, Fixtures}
+use Rattle.ngc_machine.specs.declared.fault.FileFault.TheVariants.{Tools, Document, Memory}
 
 abbrev pub number_of : FileFault → ℕ
 number_of Version = 261

@@ -1,5 +1,7 @@
 -- What a machine file of version 1 or 2 says. Our own.
-use Rattle.std.specs.Prelude.{ℕ, ◌==◌, ◌≤◌, nat_le, ℤ, pos, unsigned_abs, int_le, int_lt, int_rem, List, [], ◌∷◌, length, map, replicate, Option, Some, None, Result, Ok, Err, Bool, ◌&&◌, ◌||◌, codes, if◌then◌else◌}
+use Rattle.std.specs.Prelude.{ℕ, ◌==◌, ◌≤◌, nat_le, ℤ, pos, unsigned_abs, int_le, int_lt, int_rem}
+use Rattle.std.specs.Prelude.{List, [], ◌∷◌, length, map, replicate, Option, Some, None, Result, Ok}
+use Rattle.std.specs.Prelude.{Err, Bool, ◌&&◌, ◌||◌, codes, if◌then◌else◌}
 use Rattle.std.specs.List.{All, list_all}
 use Rattle.std.specs.Ordering.{int_eq}
 use Rattle.toml.specs.Data.{Data, array, Items, get}
@@ -13,13 +15,17 @@ use Rattle.ngc_machine.specs.declared.machine_contents.MachineNumbers.{MachineNu
 use Rattle.ngc_machine.specs.declared.machine_contents.MachinePoints.{MachinePoints}
 use Rattle.ngc_machine.specs.declared.machine_contents.MachineContents.{MachineContents}
 use Rattle.ngc_machine.specs.declared.fault.FileFault.{FileFault}
-use Rattle.ngc_machine.specs.declared.fault.FileFault.TheVariants.{Version, Step, TicksPerSecond, Rates, Travel, Places, Fixtures, Document}
+use Rattle.ngc_machine.specs.declared.fault.FileFault.TheVariants.{Version, Step, TicksPerSecond}
+use Rattle.ngc_machine.specs.declared.fault.FileFault.TheVariants.{Rates, Travel, Places, Fixtures}
+use Rattle.ngc_machine.specs.declared.fault.FileFault.TheVariants.{Document}
 use Rattle.ngc_machine.specs.Machine.{MachineFile}
-use Rattle.ngc_machine.specs.Ranges.{PLACE_LIMIT, CORNER_LIMIT, IsSized, IsTravel, IsFixture, IsFrom}
+use Rattle.ngc_machine.specs.Ranges.{PLACE_LIMIT, CORNER_LIMIT, IsSized, IsTravel, IsFixture}
+use Rattle.ngc_machine.specs.Ranges.{IsFrom}
 use Rattle.ngc_fixed_length.specs.Length.{IsStep}
 use Rattle.ngc_machine.specs.Numbers.{from_to}
 use Rattle.ngc_machine.specs.Refusals.{◌>>◌, refuse_unless}
-use Rattle.ngc_machine.specs.Tree.{◌>>=◌, tree_of, known, whole_at, coordinates, coordinates_at, each, list_at, or_missing}
+use Rattle.ngc_machine.specs.Tree.{◌>>=◌, tree_of, known, whole_at, coordinates, coordinates_at}
+use Rattle.ngc_machine.specs.Tree.{each, list_at, or_missing}
 
 -- ---- the values that the keys name
 
@@ -31,13 +37,22 @@ pub record MachineValues : Type 0 where
   pub fixtures : List Corners
 
 abbrev pub values_of : MachineContents → MachineValues
-values_of c = record { numbers = c.numbers; axis_rates = c.axis_rates; points = c.points; origins = c.origins; fixtures = c.fixtures.items }
+values_of c =
+    record {
+      numbers = c.numbers;
+      axis_rates = c.axis_rates;
+      points = c.points;
+      origins = c.origins;
+      fixtures = c.fixtures.items;
+    }
 
 -- the keys of version 1
 abbrev pub common_keys : List (List ℕ)
 common_keys =
-    codes "version" ∷ codes "step" ∷ codes "ticks_per_second" ∷ codes "max_rate" ∷ codes "change" ∷ codes "corner" ∷
-    codes "turn" ∷ codes "low" ∷ codes "high" ∷ codes "start" ∷ codes "home28" ∷ codes "home30" ∷ codes "origins" ∷
+    codes "version" ∷ codes "step" ∷ codes "ticks_per_second" ∷ codes "max_rate" ∷ codes "change"
+    ∷ codes "corner" ∷
+    codes "turn" ∷ codes "low" ∷ codes "high" ∷ codes "start" ∷ codes "home28" ∷ codes "home30"
+    ∷ codes "origins" ∷
     codes "fixture" ∷ []
 
 -- version 2 has rates of the axes, and no other version does
@@ -45,7 +60,8 @@ abbrev pub has_axis_rates : ℤ → Bool
 has_axis_rates version = int_eq version (pos 2)
 
 unfoldable pub machine_keys : ℤ → List (List ℕ)
-machine_keys version = if has_axis_rates version then codes "axis_rate" ∷ common_keys else common_keys
+machine_keys version =
+    if has_axis_rates version then codes "axis_rate" ∷ common_keys else common_keys
 
 -- three numbers, which bound no rate where the version has none
 unfoldable pub machine_axis_rates : ℤ → Data → Option Coordinates
@@ -94,7 +110,9 @@ origins_of _ = None
 
 -- nine points, all zero where they are missing
 abbrev pub machine_origins : Data → Option (List Coordinates)
-machine_origins tree = or_missing (replicate 9 (record { x = pos 0; y = pos 0; z = pos 0 })) origins_of (get (codes "origins") tree)
+machine_origins tree =
+    or_missing (replicate 9 (record { x = pos 0; y = pos 0; z = pos 0 })) origins_of
+    (get (codes "origins") tree)
 
 abbrev pub corners : Data → Option Corners
 corners value = do
@@ -115,7 +133,13 @@ machine_values root = do
   points ← machine_points tree
   origins ← machine_origins tree
   fixtures ← machine_fixtures tree
-  Some (record { numbers = numbers; axis_rates = axis_rates; points = points; origins = origins; fixtures = fixtures })
+  Some (record {
+    numbers = numbers;
+    axis_rates = axis_rates;
+    points = points;
+    origins = origins;
+    fixtures = fixtures;
+  })
 
 -- ---- ranges
 
@@ -159,7 +183,8 @@ good_places m =
     list_all (is_sized PLACE_LIMIT) m.origins
 
 abbrev pub good_fixture : Corners → Bool
-good_fixture f = is_sized CORNER_LIMIT f.low && is_sized CORNER_LIMIT f.high && is_below f.low f.high
+good_fixture f =
+    is_sized CORNER_LIMIT f.low && is_sized CORNER_LIMIT f.high && is_below f.low f.high
 
 abbrev pub good_fixtures : List Corners → Bool
 good_fixtures fixtures = nat_le (length fixtures) 256 && list_all good_fixture fixtures
@@ -219,7 +244,8 @@ pub record IsGood (m : MachineValues) : Type 0 where
   pub change : IsFrom (pos 1) (pos 1000000) m.numbers.change
   pub corner : IsFrom (pos 1) (pos 1000000) m.numbers.corner
   pub turn : IsFrom (pos 1) (pos 1000000000000) m.numbers.turn
-  pub travel : IsTravel m.numbers.step (place_of m.points.low) (place_of m.points.high) (place_of m.points.start)
+  pub travel : IsTravel m.numbers.step (place_of m.points.low) (place_of m.points.high)
+      (place_of m.points.start)
   pub home28 : IsSized PLACE_LIMIT (place_of m.points.home28)
   pub home30 : IsSized PLACE_LIMIT (place_of m.points.home30)
   pub origins : All (λ p. IsSized PLACE_LIMIT (place_of p)) m.origins

@@ -1,5 +1,6 @@
 -- Numbers and lists of them. Our own.
-use Rattle.std.specs.Prelude.{ℕ, ℤ, int_le, ◌==◌, List, [], ◌∷◌, Bool, true, false, not, ◌&&◌, ◌||◌, IsTrue}
+use Rattle.std.specs.Prelude.{ℕ, ℤ, int_le, ◌==◌, List, [], ◌∷◌, Bool, true, false, not, ◌&&◌, ◌||◌}
+use Rattle.std.specs.Prelude.{IsTrue}
 
 abbrev pub from_to : ℤ → ℤ → ℤ → Bool
 from_to low high z = int_le low z && int_le z high

@@ -1,5 +1,6 @@
 -- The parts of a tool. Our own.
-use Rattle.std.specs.Prelude.{ℕ, ◌≤◌, ◌-◌, ◌++◌, nat_le, pos, ◌≡◌, List, length, take, drop, replicate, Option, Some, None, ◌&&◌, if◌then◌else◌}
+use Rattle.std.specs.Prelude.{ℕ, ◌≤◌, ◌-◌, ◌++◌, nat_le, pos, ◌≡◌, List, length, take, drop}
+use Rattle.std.specs.Prelude.{replicate, Option, Some, None, ◌&&◌, if◌then◌else◌}
 use Rattle.std.proofs.Math.Path.{◌∙◌, ap, sym, subst}
 use Rattle.std.proofs.lemmas.List.{length-take-le, take-append-drop}
 use Rattle.ngc_machine.specs.declared.parts.Part.{Part}
@@ -29,7 +30,8 @@ kept parts = record { places = parts ++ replicate (4 - length parts) unused; cou
 -- nothing of them is lost
 pub kept-used : (p : Inside) → AreKept p → kept (used p) ≡ p
 kept-used p h =
-    let n : length (take p.count p.places) ≡ p.count = length-take-le p.count p.places (subst (λ n. p.count ≤ n) (sym h.places) h.greatest) in
+    let n : length (take p.count p.places) ≡ p.count =
+    length-take-le p.count p.places (subst (λ n. p.count ≤ n) (sym h.places) h.greatest) in
     ap (λ n. record { places = take p.count p.places ++ replicate (4 - n) unused; count = n }) n
     ∙ ap (λ rest. record { places = take p.count p.places ++ rest; count = p.count }) (sym h.rest)
     ∙ ap (λ places. record { places = places; count = p.count }) (take-append-drop p.count p.places)

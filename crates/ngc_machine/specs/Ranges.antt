@@ -1,5 +1,6 @@
 -- How large the numbers of a machine and of its tools may be. Our own.
-use Rattle.std.specs.Prelude.{ℕ, ◌≤◌, ℤ, pos, negsuc, ◌≤ℤ◌, ◌<ℤ◌, unsigned_abs, int_rem, ◌≡◌, List, length, map}
+use Rattle.std.specs.Prelude.{ℕ, ◌≤◌, ℤ, pos, negsuc, ◌≤ℤ◌, ◌<ℤ◌, unsigned_abs, int_rem, ◌≡◌, List}
+use Rattle.std.specs.Prelude.{length, map}
 use Rattle.std.specs.List.{All}
 use Rattle.ngc_fixed_length.specs.declared.points.Point3.{Point3}
 use Rattle.ngc_machine.specs.declared.machine.AxisRates.{AxisRates}

@@ -5,7 +5,8 @@ use Rattle.ngc_machine.specs.declared.fault.FileFault.TheVariants.{Memory}
 
 -- the first, and where it refuses nothing the second
 infixl 10 ◌>>◌
-abbrev pub ◌>>◌ : {A : Type 0} → Result (Unit {0}) FileFault → Result A FileFault → Result A FileFault
+abbrev pub ◌>>◌ : {A : Type 0} → Result (Unit {0}) FileFault → Result A FileFault →
+    Result A FileFault
 (Ok x) >> r = r
 (Err e) >> r = Err e
 

@@ -1,5 +1,7 @@
 -- What a tool table says. Our own.
-use Rattle.std.specs.Prelude.{ℕ, ◌≤◌, nat_le, ℤ, pos, negsuc, ◌-ℤ◌, unsigned_abs, List, [], ◌∷◌, length, map, Option, Some, None, Result, Ok, Err, Bool, ◌&&◌, ◌||◌, codes, if◌then◌else◌}
+use Rattle.std.specs.Prelude.{ℕ, ◌≤◌, nat_le, ℤ, pos, negsuc, ◌-ℤ◌, unsigned_abs, List, [], ◌∷◌}
+use Rattle.std.specs.Prelude.{length, map, Option, Some, None, Result, Ok, Err, Bool, ◌&&◌, ◌||◌}
+use Rattle.std.specs.Prelude.{codes, if◌then◌else◌}
 use Rattle.std.specs.List.{All, list_all}
 use Rattle.std.specs.Ordering.{int_eq}
 use Rattle.toml.specs.Data.{Data, get}
@@ -29,7 +31,8 @@ pub record TableValues : Type 0 where
   pub tools : List ToolNumbers
 
 abbrev pub numbers_of : ToolEntry → ToolNumbers
-numbers_of t = record { number = t.number; offset = t.offset; bottom = t.bottom; parts = t.parts.items }
+numbers_of t =
+    record { number = t.number; offset = t.offset; bottom = t.bottom; parts = t.parts.items }
 
 abbrev pub values_of : ToolContents → TableValues
 values_of c = record { version = c.version; tools = map numbers_of c.tools.items }
@@ -42,7 +45,12 @@ tool_of_length value = do
   l ← whole_at (codes "length") tree
   radius ← whole_at (codes "radius") tree
   offset ← whole_at (codes "offset") tree
-  Some (record { number = number; offset = offset; bottom = pos 0 -ℤ l; parts = record { length = l; radius = radius } ∷ [] })
+  Some (record {
+    number = number;
+    offset = offset;
+    bottom = pos 0 -ℤ l;
+    parts = record { length = l; radius = radius } ∷ [];
+  })
 
 abbrev pub part_entry : Data → Option PartEntry
 part_entry value = do
@@ -63,7 +71,8 @@ tool_of_parts value = do
 
 -- a version that isn't known has the keys of version 1
 abbrev pub tool_numbers : ℤ → Data → Option ToolNumbers
-tool_numbers version value = if int_eq version (pos 2) then tool_of_parts value else tool_of_length value
+tool_numbers version value =
+    if int_eq version (pos 2) then tool_of_parts value else tool_of_length value
 
 abbrev pub table_values : Data → Option TableValues
 table_values root = do
@@ -89,7 +98,8 @@ abbrev pub tool_number : ToolNumbers → ℕ
 tool_number t = unsigned_abs t.number
 
 abbrev pub good_tools : List ToolNumbers → Bool
-good_tools tools = nat_le (length tools) 1000 && list_all good_tool tools && all_different (map tool_number tools)
+good_tools tools =
+    nat_le (length tools) 1000 && list_all good_tool tools && all_different (map tool_number tools)
 
 -- the first refusal
 abbrev pub table_ranges : TableValues → Result (Unit {0}) FileFault
@@ -103,7 +113,12 @@ abbrev pub part_of : PartEntry → Part
 part_of p = record { length = p.length; radius = p.radius }
 
 abbrev pub tool_of : ToolNumbers → Tool
-tool_of t = record { number = unsigned_abs t.number; offset = t.offset; bottom = t.bottom; parts = map part_of t.parts }
+tool_of t = record {
+  number = unsigned_abs t.number;
+  offset = t.offset;
+  bottom = t.bottom;
+  parts = map part_of t.parts;
+}
 
 -- the same as facts
 pub record IsPartEntry (p : PartEntry) : Type 0 where

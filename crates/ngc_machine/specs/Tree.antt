@@ -1,9 +1,11 @@
 -- What stands in a TOML tree, where it is of the right kind and length. Our own.
-use Rattle.std.specs.Prelude.{ℕ, List, [], ◌∷◌, ℤ, Option, Some, None, Bool, true, false, ◌&&◌, if◌then◌else◌}
+use Rattle.std.specs.Prelude.{ℕ, List, [], ◌∷◌, ℤ, Option, Some, None, Bool, true, false, ◌&&◌}
+use Rattle.std.specs.Prelude.{if◌then◌else◌}
 use Rattle.std.specs.List.{list_any}
 use Rattle.std.specs.Str.{is_utf8, bytes_eq}
 use Rattle.toml.specs.Parse.{parse_document}
-use Rattle.toml.specs.Data.{Data, array, table, Items, no_items, item, Members, no_members, member, get, as_integer}
+use Rattle.toml.specs.Data.{Data, array, table, Items, no_items, item, Members, no_members, member}
+use Rattle.toml.specs.Data.{get, as_integer}
 use Rattle.ngc_machine.specs.declared.machine_contents.Coordinates.{Coordinates}
 
 infixl 10 ◌>>=◌
@@ -13,7 +15,8 @@ None >>= f = None
 
 -- the tree of a document, where the bytes are one
 abbrev pub tree_of : List ℕ → Option Data
-tree_of bytes = (if is_utf8 bytes then parse_document bytes else None) >>= (λ members. Some (table members))
+tree_of bytes =
+    (if is_utf8 bytes then parse_document bytes else None) >>= (λ members. Some (table members))
 
 -- the key is one of these
 abbrev pub is_one_of : List (List ℕ) → List ℕ → Bool

@@ -1,7 +1,8 @@
 ghost use Rattle.std.specs.Prelude.{◌≡◌};
 ghost use Rattle.std.specs.List.{All};
 ghost use Rattle.ngc_fixed_length.specs.Length.{IsStep};
-ghost use Rattle.ngc_machine.specs.Ranges.{PLACE_LIMIT, IsRate, AreRates, IsArcBound, IsTravel, IsSized, AreFixtures};
+ghost use Rattle.ngc_machine.specs.Ranges.{PLACE_LIMIT, IsRate, AreRates, IsArcBound, IsTravel};
+ghost use Rattle.ngc_machine.specs.Ranges.{IsSized, AreFixtures};
 
 use ngc_fixed_length::{Nm, Point3};
 use std::alloc::{AllocError, Allocator};

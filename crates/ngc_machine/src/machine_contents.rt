@@ -1,8 +1,12 @@
-ghost use Rattle.std.specs.Prelude.{◌≡◌, IfOk, IfErr, IsSome, codes, Some, replicate, pos, option_map};
+ghost use Rattle.std.specs.Prelude.{◌≡◌, IfOk, IfErr, IsSome, codes, Some, replicate, pos};
+ghost use Rattle.std.specs.Prelude.{option_map};
 ghost use Rattle.toml.specs.Data.{get};
 ghost use Rattle.toml.specs.View.{view, items_view};
 ghost use Rattle.ngc_machine.specs.Tree.{has_only};
-ghost use Rattle.ngc_machine.specs.MachineText.{values_of, machine_numbers, machine_points, machine_origins, has_axis_rates, machine_axis_rates, corners, machine_keys, machine_values, nine_coordinates};
+ghost use Rattle.ngc_machine.specs.MachineText.{values_of, machine_numbers, machine_points};
+ghost use Rattle.ngc_machine.specs.MachineText.{machine_origins, has_axis_rates};
+ghost use Rattle.ngc_machine.specs.MachineText.{machine_axis_rates, corners, machine_keys};
+ghost use Rattle.ngc_machine.specs.MachineText.{machine_values, nine_coordinates};
 
 use crate::tree::{Entry, coordinates, coordinates_at, entries_at, has_only, whole_at};
 use std::alloc::{AllocError, Global};
@@ -180,7 +184,8 @@ impl MachineContents {
     /// What the keys of a machine file name, where each is known, there, and of the right kind and
     /// length.
     pub(crate) fn read(alloc: Global, tree: &Value) -> Result<Option<MachineContents>, AllocError>
-        ensures contents { IfOk result (λ o. option_map values_of o ≡ machine_values (view tree.now)) }
+        ensures contents { IfOk result
+            (λ o. option_map values_of o ≡ machine_values (view tree.now)) }
         ensures memory { IfErr result (λ _. IsSome (get (codes "fixture") (view tree.now))) }
     {
         let Some(numbers) = machine_numbers(tree) else {

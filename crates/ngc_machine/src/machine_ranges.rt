@@ -4,8 +4,14 @@ ghost use Rattle.std.specs.Ordering.{int_eq};
 ghost use Rattle.ngc_fixed_length.specs.Length.{IsStep};
 ghost use Rattle.ngc_machine.specs.Machine.{file_of};
 ghost use Rattle.ngc_machine.specs.Numbers.{from_to};
-ghost use Rattle.ngc_machine.specs.Ranges.{CORNER_LIMIT, IsFrom, IsRate, AreRates, IsArcBound, IsSized, IsFixture, PLACE_LIMIT};
-ghost use Rattle.ngc_machine.specs.MachineText.{values_of, is_sized, is_at_most, is_below, is_multiple, is_on_grid, good_version, is_rate, good_axis_rates, good_rates, good_travel, good_places, good_fixture, good_fixtures, machine_ranges, machine_from, place_of, axis_rates_of, fixture_of, AreFrom, IsGood};
+ghost use Rattle.ngc_machine.specs.Ranges.{CORNER_LIMIT, IsFrom, IsRate, AreRates, IsArcBound};
+ghost use Rattle.ngc_machine.specs.Ranges.{IsSized, IsFixture, PLACE_LIMIT};
+ghost use Rattle.ngc_machine.specs.MachineText.{values_of, is_sized, is_at_most, is_below};
+ghost use Rattle.ngc_machine.specs.MachineText.{is_multiple, is_on_grid, good_version, is_rate};
+ghost use Rattle.ngc_machine.specs.MachineText.{good_axis_rates, good_rates, good_travel};
+ghost use Rattle.ngc_machine.specs.MachineText.{good_places, good_fixture, good_fixtures};
+ghost use Rattle.ngc_machine.specs.MachineText.{machine_ranges, machine_from, place_of};
+ghost use Rattle.ngc_machine.specs.MachineText.{axis_rates_of, fixture_of, AreFrom, IsGood};
 
 use crate::fault::FileFault;
 use crate::machine::{AxisRates, Fixture, Machine};

@@ -1,8 +1,10 @@
-ghost use Rattle.std.specs.Prelude.{◌≡◌, IfOk, IfErr, IsSome, codes, map, pos, ◌-ℤ◌, ◌∷◌, [], option_map};
+ghost use Rattle.std.specs.Prelude.{◌≡◌, IfOk, IfErr, IsSome, codes, map, pos, ◌-ℤ◌, ◌∷◌, []};
+ghost use Rattle.std.specs.Prelude.{option_map};
 ghost use Rattle.toml.specs.Data.{get};
 ghost use Rattle.toml.specs.View.{view, items_view};
 ghost use Rattle.ngc_machine.specs.Tree.{each, list_at};
-ghost use Rattle.ngc_machine.specs.ToolText.{values_of, numbers_of, part_entry, tool_of_length, tool_of_parts, tool_numbers, table_values};
+ghost use Rattle.ngc_machine.specs.ToolText.{values_of, numbers_of, part_entry, tool_of_length};
+ghost use Rattle.ngc_machine.specs.ToolText.{tool_of_parts, tool_numbers, table_values};
 
 use crate::tree::{Entry, entries_at, has_only, whole_at};
 use std::alloc::{AllocError, Global};
@@ -60,7 +62,14 @@ impl ToolEntry {
         part: PartEntry,
         offset: i64,
     ) -> Result<ToolEntry, AllocError>
-        ensures { IfOk result (λ t. numbers_of t ≡ record { number = number; offset = offset; bottom = pos 0 -ℤ part.length; parts = part ∷ [] }) }
+        ensures { IfOk result
+            (λ t. numbers_of t
+            ≡ record {
+              number = number;
+              offset = offset;
+              bottom = pos 0 -ℤ part.length;
+              parts = part ∷ [];
+            }) }
     {
         let parts = Vec::from_slice(alloc, &[part])?;
         Ok(ToolEntry {
@@ -120,7 +129,8 @@ fn tool_of_parts(alloc: Global, value: &Value) -> Result<Option<ToolEntry>, Allo
 impl ToolEntry {
     /// A tool of a table of this version, where each key is known, there, and of the right kind.
     fn read(alloc: Global, version: i64, value: &Value) -> Result<Option<ToolEntry>, AllocError>
-        ensures { IfOk result (λ o. option_map numbers_of o ≡ tool_numbers version (view value.now)) }
+        ensures { IfOk result
+            (λ o. option_map numbers_of o ≡ tool_numbers version (view value.now)) }
     {
         if version == 2 {
             tool_of_parts(alloc, value)
@@ -135,7 +145,9 @@ fn tool_entries(
     version: i64,
     values: &[Value],
 ) -> Result<Option<Vec<ToolEntry>>, AllocError>
-    ensures { IfOk result (λ o. option_map (λ v. map numbers_of v.items) o ≡ each (tool_numbers version) (items_view values.now)) }
+    ensures { IfOk result
+        (λ o. option_map (λ v. map numbers_of v.items) o
+        ≡ each (tool_numbers version) (items_view values.now)) }
 {
     let mut entries = Vec::with_capacity(alloc, values.len())?;
     for value in values {
@@ -149,7 +161,9 @@ fn tool_entries(
 
 /// The tools of a table of this version; none where the key is missing, which takes no memory.
 fn tools_at(alloc: Global, version: i64, tree: &Value) -> Result<Option<Vec<ToolEntry>>, AllocError>
-    ensures tools { IfOk result (λ o. option_map (λ v. map numbers_of v.items) o ≡ list_at (tool_numbers version) (codes "tool") (view tree.now)) }
+    ensures tools { IfOk result
+        (λ o. option_map (λ v. map numbers_of v.items) o
+        ≡ list_at (tool_numbers version) (codes "tool") (view tree.now)) }
     ensures memory { IfErr result (λ _. IsSome (get (codes "tool") (view tree.now))) }
 {
     let Some(value) = tree.get("tool") else {
@@ -165,7 +179,8 @@ impl ToolContents {
     /// What the keys of a tool table name, where each is known, there, and of the right kind and
     /// length.
     pub(crate) fn read(alloc: Global, tree: &Value) -> Result<Option<ToolContents>, AllocError>
-        ensures contents { IfOk result (λ o. option_map values_of o ≡ table_values (view tree.now)) }
+        ensures contents { IfOk result
+            (λ o. option_map values_of o ≡ table_values (view tree.now)) }
         ensures memory { IfErr result (λ _. IsSome (get (codes "tool") (view tree.now))) }
     {
         if !has_only(tree, &["version", "tool"]) {

@@ -2,7 +2,10 @@ ghost use Rattle.std.specs.Prelude.{◌≡◌, ◌≤◌, map, IfOk};
 ghost use Rattle.std.specs.List.{list_all};
 ghost use Rattle.ngc_machine.specs.Numbers.{has_number, all_different};
 ghost use Rattle.ngc_machine.specs.Tools.{tools_of};
-ghost use Rattle.ngc_machine.specs.ToolText.{values_of, numbers_of, good_part, good_parts, good_tool, good_tools, tool_number, table_ranges, part_of, tool_of, IsPartEntry, ArePartEntries, IsEntry, AreEntries};
+ghost use Rattle.ngc_machine.specs.ToolText.{values_of, numbers_of, good_part, good_parts};
+ghost use Rattle.ngc_machine.specs.ToolText.{good_tool, good_tools, tool_number, table_ranges};
+ghost use Rattle.ngc_machine.specs.ToolText.{part_of, tool_of, IsPartEntry, ArePartEntries};
+ghost use Rattle.ngc_machine.specs.ToolText.{IsEntry, AreEntries};
 
 use crate::fault::FileFault;
 use crate::numbers::{is_from_to, length};
@@ -128,7 +131,8 @@ impl ToolContents {
     /// The tools of these values.
     pub(crate) fn tools(&self, alloc: Global) -> Result<Tools<Global>, AllocError>
         requires { AreEntries (map numbers_of self.now.tools.items) }
-        ensures { IfOk result (λ t. tools_of t ≡ map tool_of (map numbers_of self.now.tools.items)) }
+        ensures { IfOk result
+            (λ t. tools_of t ≡ map tool_of (map numbers_of self.now.tools.items)) }
     {
         let mut tools = Vec::with_capacity(alloc, self.tools.len())?;
         for entry in &self.tools {

@@ -1,11 +1,13 @@
-ghost use Rattle.std.specs.Prelude.{◌≡◌, IfOk, IfErr, IsOk, IsSome, map, Option, List, option_map, string_bytes};
+ghost use Rattle.std.specs.Prelude.{◌≡◌, IfOk, IfErr, IsOk, IsSome, map, Option, List, option_map};
+ghost use Rattle.std.specs.Prelude.{string_bytes};
 ghost use Rattle.std.specs.List.{list_all, list_any};
 ghost use Rattle.std.specs.Map.{keys_of};
 ghost use Rattle.std.specs.Str.{bytes_eq};
 ghost use Rattle.toml.specs.Data.{Data, get};
 ghost use Rattle.toml.specs.Errors.{IsBlank};
 ghost use Rattle.toml.specs.View.{view, items_view};
-ghost use Rattle.ngc_machine.specs.Tree.{tree_of, is_one_of, has_only, whole_at, coordinates, coordinates_at, each, list_at};
+ghost use Rattle.ngc_machine.specs.Tree.{tree_of, is_one_of, has_only, whole_at, coordinates};
+ghost use Rattle.ngc_machine.specs.Tree.{coordinates_at, each, list_at};
 
 use crate::machine_contents::Coordinates;
 use std::alloc::{AllocError, Global};
@@ -37,7 +39,8 @@ pub fn is_one_of(key: &str, keys: &[&str]) -> bool
 }
 
 fn are_known(table: &Table, keys: &[&str]) -> bool
-    ensures { result ≡ list_all (λ k. is_one_of (map (λ k. k.now) keys.entry.now) (string_bytes k)) (keys_of table.now.entries) }
+    ensures { result ≡ list_all (λ k. is_one_of (map (λ k. k.now) keys.entry.now) (string_bytes k))
+        (keys_of table.now.entries) }
 {
     table.keys().all(|key| is_one_of(key.as_str(), keys))
 }
@@ -90,7 +93,8 @@ pub(crate) trait Entry: Drop {
 }
 
 fn entries<E: Entry>(alloc: Global, values: &[Value]) -> Result<Option<Vec<E>>, AllocError>
-    ensures { IfOk result (λ o. option_map (λ v. v.items) o ≡ each E.reading (items_view values.now)) }
+    ensures { IfOk result
+        (λ o. option_map (λ v. v.items) o ≡ each E.reading (items_view values.now)) }
 {
     let mut entries = Vec::with_capacity(alloc, values.len())?;
     for value in values {
@@ -108,7 +112,8 @@ pub(crate) fn entries_at<E: Entry>(
     tree: &Value,
     key: &str,
 ) -> Result<Option<Vec<E>>, AllocError>
-    ensures entries { IfOk result (λ o. option_map (λ v. v.items) o ≡ list_at E.reading key.now (view tree.now)) }
+    ensures entries { IfOk result
+        (λ o. option_map (λ v. v.items) o ≡ list_at E.reading key.now (view tree.now)) }
     ensures memory { IfErr result (λ _. IsSome (get key.now (view tree.now))) }
 {
     let Some(value) = tree.get(key) else {

@@ -15,7 +15,8 @@ use Rattle.ngc_modal_state.specs.declared.block.Block.{Block}
 use Rattle.ngc_modal_state.specs.declared.effect.Effect.{Effect}
 use Rattle.ngc_modal_state.specs.declared.effect.Effect.TheVariants as acts
 use Rattle.ngc_modal_state.specs.Use.{user, feed_mode_of, whole}
-use Rattle.ngc_modal_state.specs.Effects.{rank, mark, feed_effect, inverse_feed, dwell_effect, length_effect, system_at, frame_effect, move_effect, standing, first_effects, mode_effects, last_effects, in_order, RanksFrom, IsOrdered, IsShort}
+use Rattle.ngc_modal_state.specs.Effects.{rank, mark, feed_effect, inverse_feed, dwell_effect, length_effect, system_at, frame_effect, move_effect, standing}
+use Rattle.ngc_modal_state.specs.Effects.{first_effects, mode_effects, last_effects, in_order, RanksFrom, IsOrdered, IsShort}
 
 -- an effect of rank r, where it stands
 pub record HasRank (r : ℕ) (effect : Option Effect) : Type 0 where
@@ -81,7 +82,8 @@ move (motions.Cycle hole) f b = one _
 
 -- in the table's order
 module _ (m : Modes) (b : Block) where
-  ahead : (r low : ℕ) (effect : Option Effect) (rest : List Effect) → HasRank r effect → low ≤ r → RanksFrom r rest → RanksFrom low (option_to_list effect ++ rest)
+  ahead : (r low : ℕ) (effect : Option Effect) (rest : List Effect) → HasRank r effect → low ≤ r → RanksFrom r rest →
+      RanksFrom low (option_to_list effect ++ rest)
   ahead r low effect rest has le ranks = has.ahead low rest le ranks
 
   ordered : RanksFrom 0 (in_order m b)
@@ -122,7 +124,8 @@ length-option_to_list (Some effect) = lit≤ tt
 length-standing : (places : List (Option Effect)) → length (standing places) ≤ length places
 unfolding standing
 length-standing [] = lit≤ tt
-length-standing (place ∷ places) = let few = length-option_to_list place in omega (arith, length-append (option_to_list place) (standing places), length-standing places)
+length-standing (place ∷ places) = let few = length-option_to_list place in
+    omega (arith, length-append (option_to_list place) (standing places), length-standing places)
 
 places : (m : Modes) (b : Block) → length (first_effects m b ++ (mode_effects b ++ last_effects m b)) ≤ 24
 unfolding first_effects mode_effects last_effects

@@ -1,6 +1,7 @@
 -- A line's block: of each modal group the one code, of each letter the one value (NISTIR 6556, 3.4
 -- and 3.3.5).
-use Rattle.std.specs.Prelude.{ℤ, nat_lt, List, [], ◌∷◌, Option, Some, None, Result, Ok, Err, Bool, true, false, count_by, is_some, if◌then◌else◌, ◌||◌}
+use Rattle.std.specs.Prelude.{ℤ, nat_lt, List, [], ◌∷◌, Option, Some, None, Result, Ok, Err, Bool}
+use Rattle.std.specs.Prelude.{true, false, count_by, is_some, if◌then◌else◌, ◌||◌}
 use Rattle.ngc_line_reader.specs.declared.letter.Letter.{Letter}
 use Rattle.ngc_line_reader.specs.declared.letter.Letter.TheVariants as letters
 use Rattle.ngc_modal_state.specs.declared.code.Code.{Code}
@@ -9,7 +10,8 @@ use Rattle.ngc_modal_state.specs.declared.code.Coolant.TheVariants.{Mist, Flood,
 use Rattle.ngc_modal_state.specs.declared.block.AxisWords.{AxisWords}
 use Rattle.ngc_modal_state.specs.declared.block.Block.{Block}
 use Rattle.ngc_modal_state.specs.declared.fault.ModalFault.{ModalFault}
-use Rattle.ngc_modal_state.specs.declared.fault.ModalFault.TheVariants.{GroupTwice, TooManyMWords, LetterRepeated, LeftOut}
+use Rattle.ngc_modal_state.specs.declared.fault.ModalFault.TheVariants.{GroupTwice, TooManyMWords}
+use Rattle.ngc_modal_state.specs.declared.fault.ModalFault.TheVariants.{LetterRepeated, LeftOut}
 use Rattle.ngc_modal_state.specs.Faults.{◌>>=◌}
 use Rattle.ngc_modal_state.specs.Codes.{g_code, m_code}
 
@@ -134,4 +136,5 @@ is_m_word _ = false
 
 -- at most four M words; else the first word that doesn't fit is refused
 abbrev pub block_of : List (Letter × ℤ) → Result Block ModalFault
-block_of words = if nat_lt 4 (count_by (λ word. is_m_word word.0) words) then Err TooManyMWords else with_words words no_words
+block_of words = if nat_lt 4 (count_by (λ word. is_m_word word.0) words) then Err TooManyMWords
+    else with_words words no_words

@@ -1,26 +1,36 @@
 -- Which code a G or M word's value is (NISTIR 6556, 3.5 and 3.6). A code is written in tenths: 592
 -- is G59.2. A value must be a code exactly: our own rule, as the manual allows a small difference.
-use Rattle.std.specs.Prelude.{ℕ, ◌/◌, ◌%◌, ◌==◌, ℤ, pos, negsuc, List, [], ◌∷◌, ◌++◌, Option, Some, None, Result, Ok, Err, Bool, true, false, if◌then◌else◌}
+use Rattle.std.specs.Prelude.{ℕ, ◌/◌, ◌%◌, ◌==◌, ℤ, pos, negsuc, List, [], ◌∷◌, ◌++◌, Option, Some}
+use Rattle.std.specs.Prelude.{None, Result, Ok, Err, Bool, true, false, if◌then◌else◌}
 use Rattle.ngc_fixed_length.specs.declared.units.Units.TheVariants.{Millimetres, Inches}
 use Rattle.ngc_fixed_length.specs.declared.modes.Plane.TheVariants.{XY, ZX, YZ}
 use Rattle.ngc_fixed_length.specs.declared.modes.Distance.TheVariants.{Absolute, Incremental}
 use Rattle.ngc_fixed_length.specs.declared.modes.FeedMode.TheVariants.{PerMinute, InverseTime}
 use Rattle.ngc_fixed_length.specs.declared.modes.ReturnMode.TheVariants.{Series, Retract}
 use Rattle.ngc_fixed_length.specs.declared.modes.Turn.TheVariants.{Clockwise, Counterclockwise}
-use Rattle.ngc_fixed_length.specs.declared.modes.System.TheVariants.{First, Second, Third, Fourth, Fifth, Sixth, Seventh, Eighth, Ninth}
+use Rattle.ngc_fixed_length.specs.declared.modes.System.TheVariants.{First, Second, Third, Fourth}
+use Rattle.ngc_fixed_length.specs.declared.modes.System.TheVariants.{Fifth, Sixth, Seventh, Eighth}
+use Rattle.ngc_fixed_length.specs.declared.modes.System.TheVariants.{Ninth}
 use Rattle.ngc_line_reader.specs.declared.letter.Letter.{Letter}
 use Rattle.ngc_line_reader.specs.declared.letter.Letter.TheVariants.{G, M}
 use Rattle.ngc_modal_state.specs.Tables.{at_number, has_number}
-use Rattle.ngc_modal_state.specs.declared.code.CycleCode.TheVariants.{Drill, DrillWithDwell, Peck, Bore, BoreWithStop, BoreWithDwell}
+use Rattle.ngc_modal_state.specs.declared.code.CycleCode.TheVariants.{Drill, DrillWithDwell, Peck}
+use Rattle.ngc_modal_state.specs.declared.code.CycleCode.TheVariants.{Bore, BoreWithStop}
+use Rattle.ngc_modal_state.specs.declared.code.CycleCode.TheVariants.{BoreWithDwell}
 use Rattle.ngc_modal_state.specs.declared.code.MotionMode.TheVariants as motions
 use Rattle.ngc_modal_state.specs.declared.code.LengthCode.TheVariants as lengths
-use Rattle.ngc_modal_state.specs.declared.code.PathControl.TheVariants.{ExactPath, ExactStop, Continuous}
+use Rattle.ngc_modal_state.specs.declared.code.PathControl.TheVariants.{ExactPath, ExactStop}
+use Rattle.ngc_modal_state.specs.declared.code.PathControl.TheVariants.{Continuous}
 use Rattle.ngc_modal_state.specs.declared.code.Once.TheVariants as once
 use Rattle.ngc_modal_state.specs.declared.code.Stopping.TheVariants as stops
 use Rattle.ngc_modal_state.specs.declared.code.Spindle.TheVariants as spindle
 use Rattle.ngc_modal_state.specs.declared.code.Coolant.TheVariants.{Mist, Flood, Off}
 use Rattle.ngc_modal_state.specs.declared.code.Code.{Code}
-use Rattle.ngc_modal_state.specs.declared.code.Code.TheVariants.{Motion, Plane, Distance, FeedMode, Units, RadiusOff, ToolLength, Return, System, Path, Once, Stopping, ChangeTool, Spindle, Coolant, Override}
+use Rattle.ngc_modal_state.specs.declared.code.Code.TheVariants.{Motion, Plane, Distance, FeedMode}
+use Rattle.ngc_modal_state.specs.declared.code.Code.TheVariants.{Units, RadiusOff, ToolLength}
+use Rattle.ngc_modal_state.specs.declared.code.Code.TheVariants.{Return, System, Path, Once}
+use Rattle.ngc_modal_state.specs.declared.code.Code.TheVariants.{Stopping, ChangeTool, Spindle}
+use Rattle.ngc_modal_state.specs.declared.code.Code.TheVariants.{Coolant, Override}
 use Rattle.ngc_modal_state.specs.declared.fault.ModalFault.{ModalFault}
 use Rattle.ngc_modal_state.specs.declared.fault.ModalFault.TheVariants.{UnknownCode, LeftOut}
 
@@ -92,7 +102,8 @@ known letter value (Some code) = Ok code
 known letter value None = Err (UnknownCode letter value)
 
 unfoldable pub g_code : ℤ → Result Code ModalFault
-g_code value = if is_left_out (tenths value) then Err LeftOut else known G value (code_at g_codes (tenths value))
+g_code value = if is_left_out (tenths value) then Err LeftOut
+    else known G value (code_at g_codes (tenths value))
 
 unfoldable pub m_code : ℤ → Result Code ModalFault
 m_code value = known M value (code_at m_codes (tenths value))

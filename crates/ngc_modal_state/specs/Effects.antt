@@ -1,7 +1,11 @@
 -- What a line does, in order of execution (NISTIR 6556, 3.8).
-use Rattle.std.specs.Prelude.{ℕ, ◌≤◌, ℤ, List, [], ◌∷◌, ◌++◌, Option, Some, None, Result, Ok, option_map, option_to_list, flat_map, length, unwrap_or, Bool, ◌||◌, if◌then◌else◌}
+use Rattle.std.specs.Prelude.{ℕ, ◌≤◌, ℤ, List, [], ◌∷◌, ◌++◌, Option, Some, None, Result, Ok}
+use Rattle.std.specs.Prelude.{option_map, option_to_list, flat_map, length, unwrap_or, Bool, ◌||◌}
+use Rattle.std.specs.Prelude.{if◌then◌else◌}
 use Rattle.ngc_fixed_length.specs.declared.modes.System.{System}
-use Rattle.ngc_fixed_length.specs.declared.modes.System.TheVariants.{First, Second, Third, Fourth, Fifth, Sixth, Seventh, Eighth, Ninth}
+use Rattle.ngc_fixed_length.specs.declared.modes.System.TheVariants.{First, Second, Third, Fourth}
+use Rattle.ngc_fixed_length.specs.declared.modes.System.TheVariants.{Fifth, Sixth, Seventh, Eighth}
+use Rattle.ngc_fixed_length.specs.declared.modes.System.TheVariants.{Ninth}
 use Rattle.ngc_fixed_length.specs.declared.modes.FeedMode.{FeedMode}
 use Rattle.ngc_fixed_length.specs.declared.modes.FeedMode.TheVariants.{PerMinute, InverseTime}
 use Rattle.ngc_modal_state.specs.Tables.{at_number}
@@ -76,14 +80,16 @@ length_effect (Some lengths.Cancel) b = Some (acts.ToolLength None)
 length_effect None b = None
 
 abbrev pub systems : List (ℕ × System)
-systems = (1, First) ∷ (2, Second) ∷ (3, Third) ∷ (4, Fourth) ∷ (5, Fifth) ∷ (6, Sixth) ∷ (7, Seventh) ∷ (8, Eighth) ∷ (9, Ninth) ∷ []
+systems = (1, First) ∷ (2, Second) ∷ (3, Third) ∷ (4, Fourth) ∷ (5, Fifth) ∷ (6, Sixth)
+    ∷ (7, Seventh) ∷ (8, Eighth) ∷ (9, Ninth) ∷ []
 
 abbrev pub system_at : Option ℤ → Option System
 system_at None = None
 system_at (Some v) = at_number (whole v) systems
 
 abbrev pub frame_effect : Option Once → Block → Option Effect
-frame_effect (Some once.SetOrigin) b = option_map (λ system. acts.SetOrigin system b.axes) (system_at b.p)
+frame_effect (Some once.SetOrigin) b =
+    option_map (λ system. acts.SetOrigin system b.axes) (system_at b.p)
 frame_effect (Some once.Home28) b = Some (acts.GoHome homes.First b.axes)
 frame_effect (Some once.Home30) b = Some (acts.GoHome homes.Second b.axes)
 frame_effect (Some once.SetOffset) b = Some (acts.SetOffset b.axes)
@@ -106,9 +112,12 @@ mark effect stands = if stands then Some effect else None
 
 -- the line's motion, where it moves; an arc without axis words is refused when it is made
 abbrev pub move_effect : MotionMode → Option ℤ → Block → Option Effect
-move_effect motions.Traverse f b = mark (acts.Traverse (is_machine_place b.once) b.axes) (has_axes b)
-move_effect motions.Straight f b = mark (acts.Straight (is_machine_place b.once) b.axes f) (has_axes b)
-move_effect (motions.Arc turn) f b = mark (acts.Arc turn b.axes (arc_words b) f) (has_axes b || has_arc_words b)
+move_effect motions.Traverse f b =
+    mark (acts.Traverse (is_machine_place b.once) b.axes) (has_axes b)
+move_effect motions.Straight f b =
+    mark (acts.Straight (is_machine_place b.once) b.axes f) (has_axes b)
+move_effect (motions.Arc turn) f b =
+    mark (acts.Arc turn b.axes (arc_words b) f) (has_axes b || has_arc_words b)
 move_effect motions.Cancel f b = None
 move_effect (motions.Cycle hole) f b = Some (acts.Cycle hole b.axes (cycle_words b))
 

@@ -1,10 +1,16 @@
 -- Steps that may refuse a line's words, and the numbers of faults. Our own.
 use Rattle.std.specs.Prelude.{ℕ, ◌≡◌, Option, Some, None, Result, Ok, Err, Bool, if◌then◌else◌}
 use Rattle.ngc_modal_state.specs.declared.fault.ModalFault.{ModalFault}
-use Rattle.ngc_modal_state.specs.declared.fault.ModalFault.TheVariants.{GroupTwice, TooManyMWords, LetterRepeated, UnknownCode, LeftOut, ClaimedTwice, WithoutUse, WordMissing, OutOfRange, WithoutStraightMotion}
+use Rattle.ngc_modal_state.specs.declared.fault.ModalFault.TheVariants.{GroupTwice, TooManyMWords}
+use Rattle.ngc_modal_state.specs.declared.fault.ModalFault.TheVariants.{LetterRepeated, UnknownCode}
+use Rattle.ngc_modal_state.specs.declared.fault.ModalFault.TheVariants.{LeftOut, ClaimedTwice}
+use Rattle.ngc_modal_state.specs.declared.fault.ModalFault.TheVariants.{WithoutUse, WordMissing}
+use Rattle.ngc_modal_state.specs.declared.fault.ModalFault.TheVariants.{OutOfRange}
+use Rattle.ngc_modal_state.specs.declared.fault.ModalFault.TheVariants.{WithoutStraightMotion}
 
 infixl 10 ◌>>=◌
-abbrev pub ◌>>=◌ : {A B : Type 0} → Result A ModalFault → (A → Result B ModalFault) → Result B ModalFault
+abbrev pub ◌>>=◌ : {A B : Type 0} → Result A ModalFault → (A → Result B ModalFault) →
+    Result B ModalFault
 (Ok x) >>= f = f x
 (Err e) >>= f = Err e
 

@@ -3,9 +3,12 @@ use Rattle.std.specs.Prelude.{ℕ, ◌==◌, Option, Some, Bool, true, false, no
 use Rattle.ngc_fixed_length.specs.declared.modes.FeedMode.{FeedMode}
 use Rattle.ngc_fixed_length.specs.declared.modes.FeedMode.TheVariants.{PerMinute, InverseTime}
 use Rattle.ngc_modal_state.specs.declared.code.CycleCode.{CycleCode}
-use Rattle.ngc_modal_state.specs.declared.code.CycleCode.TheVariants.{Drill, DrillWithDwell, Peck, Bore, BoreWithStop, BoreWithDwell}
+use Rattle.ngc_modal_state.specs.declared.code.CycleCode.TheVariants.{Drill, DrillWithDwell, Peck}
+use Rattle.ngc_modal_state.specs.declared.code.CycleCode.TheVariants.{Bore, BoreWithStop}
+use Rattle.ngc_modal_state.specs.declared.code.CycleCode.TheVariants.{BoreWithDwell}
 use Rattle.ngc_modal_state.specs.declared.code.MotionMode.{MotionMode}
-use Rattle.ngc_modal_state.specs.declared.code.MotionMode.TheVariants.{Traverse, Straight, Arc, Cancel, Cycle}
+use Rattle.ngc_modal_state.specs.declared.code.MotionMode.TheVariants.{Traverse, Straight, Arc}
+use Rattle.ngc_modal_state.specs.declared.code.MotionMode.TheVariants.{Cancel, Cycle}
 use Rattle.ngc_modal_state.specs.declared.code.LengthCode.{LengthCode}
 use Rattle.ngc_modal_state.specs.declared.code.LengthCode.TheVariants as lengths
 use Rattle.ngc_modal_state.specs.declared.code.Once.{Once}

@@ -1,5 +1,6 @@
 -- Look-up by number. Our own.
-use Rattle.std.specs.Prelude.{ℕ, ◌==◌, List, [], ◌∷◌, Option, Some, None, Bool, false, ◌||◌, if◌then◌else◌}
+use Rattle.std.specs.Prelude.{ℕ, ◌==◌, List, [], ◌∷◌, Option, Some, None, Bool, false, ◌||◌}
+use Rattle.std.specs.Prelude.{if◌then◌else◌}
 
 -- the entry at a number
 abbrev pub at_number : {A : Type 0} → ℕ → List (ℕ × A) → Option A

@@ -1,13 +1,16 @@
 -- Which code uses which letter, and what is missing (NISTIR 6556, 3.5 and 3.7; which words are
 -- refused is our own rule).
-use Rattle.std.specs.Prelude.{ℕ, ◌/◌, ◌%◌, ◌==◌, nat_le, ℤ, [], ◌∷◌, unsigned_abs, Option, Some, None, Result, Bool, false, not, is_some, is_none, unwrap_or, ◌&&◌, ◌||◌, if◌then◌else◌}
+use Rattle.std.specs.Prelude.{ℕ, ◌/◌, ◌%◌, ◌==◌, nat_le, ℤ, [], ◌∷◌, unsigned_abs, Option, Some}
+use Rattle.std.specs.Prelude.{None, Result, Bool, false, not, is_some, is_none, unwrap_or, ◌&&◌}
+use Rattle.std.specs.Prelude.{◌||◌, if◌then◌else◌}
 use Rattle.ngc_fixed_length.specs.Signed.{is_negative}
 use Rattle.ngc_fixed_length.specs.Limits.{MILLION}
 use Rattle.ngc_fixed_length.specs.declared.modes.Plane.{Plane}
 use Rattle.ngc_fixed_length.specs.declared.modes.Plane.TheVariants.{XY, ZX, YZ}
 use Rattle.ngc_fixed_length.specs.declared.modes.FeedMode.{FeedMode}
 use Rattle.ngc_line_reader.specs.declared.letter.Letter.{Letter}
-use Rattle.ngc_line_reader.specs.declared.letter.Letter.TheVariants.{F, H, I, J, K, L, P, Q, R, X, Y, Z}
+use Rattle.ngc_line_reader.specs.declared.letter.Letter.TheVariants.{F, H, I, J, K, L, P, Q, R, X}
+use Rattle.ngc_line_reader.specs.declared.letter.Letter.TheVariants.{Y, Z}
 use Rattle.ngc_modal_state.specs.declared.code.MotionMode.{MotionMode}
 use Rattle.ngc_modal_state.specs.declared.code.MotionMode.TheVariants.{Cancel}
 use Rattle.ngc_modal_state.specs.declared.code.Once.{Once}
@@ -15,8 +18,12 @@ use Rattle.ngc_modal_state.specs.declared.modes.Modes.{Modes}
 use Rattle.ngc_modal_state.specs.declared.block.AxisWords.{AxisWords}
 use Rattle.ngc_modal_state.specs.declared.block.Block.{Block}
 use Rattle.ngc_modal_state.specs.declared.fault.ModalFault.{ModalFault}
-use Rattle.ngc_modal_state.specs.declared.fault.ModalFault.TheVariants.{ClaimedTwice, WithoutUse, WordMissing, OutOfRange, WithoutStraightMotion}
-use Rattle.ngc_modal_state.specs.Kinds.{is_straight, is_arc, is_cycle, is_cancel, feeds, dwells, pecks, begins_cycle, is_inverse, is_dwell, sets_origin, sets_offset, is_machine_place, takes_axes, applies_length}
+use Rattle.ngc_modal_state.specs.declared.fault.ModalFault.TheVariants.{ClaimedTwice, WithoutUse}
+use Rattle.ngc_modal_state.specs.declared.fault.ModalFault.TheVariants.{WordMissing, OutOfRange}
+use Rattle.ngc_modal_state.specs.declared.fault.ModalFault.TheVariants.{WithoutStraightMotion}
+use Rattle.ngc_modal_state.specs.Kinds.{is_straight, is_arc, is_cycle, is_cancel, feeds, dwells}
+use Rattle.ngc_modal_state.specs.Kinds.{pecks, begins_cycle, is_inverse, is_dwell, sets_origin}
+use Rattle.ngc_modal_state.specs.Kinds.{sets_offset, is_machine_place, takes_axes, applies_length}
 use Rattle.ngc_modal_state.specs.declared.fault.MissingWord.{MissingWord}
 use Rattle.ngc_modal_state.specs.declared.fault.MissingWord.TheVariants as missing
 use Rattle.ngc_modal_state.specs.Faults.{◌>>◌, refuse_if, refuse_of}
@@ -129,7 +136,9 @@ lacks needed word = needed && is_none word
 
 -- G92, G53 and a cycle code on the line need an axis word
 abbrev pub lacks_axes : Block → Bool
-lacks_axes b = (sets_offset b.once || is_machine_place b.once || is_cycle (unwrap_or b.motion Cancel)) && not (has_axes b)
+lacks_axes b =
+    (sets_offset b.once || is_machine_place b.once || is_cycle (unwrap_or b.motion Cancel))
+    && not (has_axes b)
 
 -- a motion in inverse time needs F
 abbrev pub needs_feed : Modes → Block → Bool
@@ -148,8 +157,10 @@ missing_word m b = first_where (
     (lacks (applies_length b.tool_length) b.h, missing.Letter H) ∷
     (lacks_axes b, missing.Axis) ∷
     (lacks (needs_feed m b) b.f, missing.Letter F) ∷
-    (lacks (begins m b) b.r, missing.Letter R) ∷
-    (lacks (begins m b) (depth_word (plane_of m b) b.axes), missing.Letter (depth_letter (plane_of m b))) ∷
+    (lacks (begins m b) b.r, missing.Letter R) ∷ (
+      lacks (begins m b) (depth_word (plane_of m b) b.axes),
+      missing.Letter (depth_letter (plane_of m b)),
+    ) ∷
     (lacks (begins m b && dwells (user m b)) b.p, missing.Letter P) ∷
     (lacks (begins m b && pecks (user m b)) b.q, missing.Letter Q) ∷ [])
 
@@ -168,7 +179,8 @@ negative (Some v) = is_negative v
 -- there, and not a whole number from low to high
 abbrev pub not_whole_from : ℕ → ℕ → Option ℤ → Bool
 not_whole_from low high None = false
-not_whole_from low high (Some v) = is_negative v || not (is_whole v) || not (nat_le low (whole v) && nat_le (whole v) high)
+not_whole_from low high (Some v) =
+    is_negative v || not (is_whole v) || not (nat_le low (whole v) && nat_le (whole v) high)
 
 -- a value has at most 10^9 units
 unfoldable pub out_of_range : Block → Bool

@@ -61,7 +61,8 @@ pub struct Block {
 }
 
 impl Block {
-    ghost use Rattle.ngc_modal_state.specs.Block.{no_words, has_group, put_code, with_code, with_word, block_of};
+    ghost use Rattle.ngc_modal_state.specs.Block.{no_words, has_group, put_code, with_code};
+    ghost use Rattle.ngc_modal_state.specs.Block.{with_word, block_of};
     ghost use Rattle.ngc_modal_state.specs.Faults.{Becomes};
 
     // No words.

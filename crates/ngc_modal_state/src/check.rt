@@ -64,7 +64,9 @@ impl AxisWords {
 }
 
 impl Block {
-    ghost use Rattle.ngc_modal_state.specs.Use.{claimed_twice, idle_letter, lacks_axes, needs_feed, missing_word, out_of_range, lacks_straight, check as check_of};
+    ghost use Rattle.ngc_modal_state.specs.Use.{claimed_twice, idle_letter, lacks_axes, needs_feed};
+    ghost use Rattle.ngc_modal_state.specs.Use.{missing_word, out_of_range, lacks_straight};
+    ghost use Rattle.ngc_modal_state.specs.Use.{check as check_of};
 
     // Whether two codes use the axis words, or P, or R stands together with I, J or K.
     #[tactic(auto, unfolding(crate::specs::Use::claimed_twice))]

@@ -39,7 +39,8 @@ impl CycleCode {
 }
 
 impl MotionMode {
-    ghost use Rattle.ngc_modal_state.specs.Kinds.{is_straight, is_arc, is_cycle, is_cancel, feeds, dwells, pecks, begins_cycle};
+    ghost use Rattle.ngc_modal_state.specs.Kinds.{is_straight, is_arc, is_cycle, is_cancel, feeds};
+    ghost use Rattle.ngc_modal_state.specs.Kinds.{dwells, pecks, begins_cycle};
 
     // G0, G1
     pub(crate) fn is_straight(self) -> bool
@@ -110,7 +111,8 @@ impl MotionMode {
 }
 
 impl Block {
-    ghost use Rattle.ngc_modal_state.specs.Kinds.{is_dwell, sets_origin, sets_offset, is_machine_place, takes_axes, applies_length};
+    ghost use Rattle.ngc_modal_state.specs.Kinds.{is_dwell, sets_origin, sets_offset};
+    ghost use Rattle.ngc_modal_state.specs.Kinds.{is_machine_place, takes_axes, applies_length};
 
     // G4
     pub(crate) fn is_dwell(&self) -> bool

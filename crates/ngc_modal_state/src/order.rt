@@ -49,7 +49,11 @@ fn system_at(word: Option<Value>) -> Option<System>
 
 impl Block {
     ghost use Rattle.ngc_modal_state.specs.Faults.{Gives};
-    ghost use Rattle.ngc_modal_state.specs.Effects.{feed_effect, inverse_feed, dwell_effect, length_effect, frame_effect, arc_words, cycle_words, move_effect, first_effects, mode_effects, last_effects, in_order, effects as effects_of};
+    ghost use Rattle.ngc_modal_state.specs.Effects.{feed_effect, inverse_feed, dwell_effect};
+    ghost use Rattle.ngc_modal_state.specs.Effects.{length_effect, frame_effect, arc_words};
+    ghost use Rattle.ngc_modal_state.specs.Effects.{cycle_words, move_effect, first_effects};
+    ghost use Rattle.ngc_modal_state.specs.Effects.{mode_effects, last_effects, in_order};
+    ghost use Rattle.ngc_modal_state.specs.Effects.{effects as effects_of};
     ghost use Rattle.ngc_modal_state.specs.Use.{feed_mode_of, whole as whole_part};
     ghost use Rattle.ngc_modal_state.specs.declared.effect.Effect.TheVariants as acts;
 
@@ -190,7 +194,8 @@ impl Block {
     #[tactic(auto, unfolding(crate::specs::Effects::first_effects))]
     fn add_first(&self, modes: &Modes, effects: &mut ArrayVec<Effect, 24>)
         requires { array_vec_len effects.old ≤ 13 }
-        ensures items { effects.new.items ≡ effects.old.items ++ standing (first_effects modes.now self.now) }
+        ensures items { effects.new.items ≡ effects.old.items
+            ++ standing (first_effects modes.now self.now) }
         ensures room { array_vec_len effects.new ≤ array_vec_len effects.old + 11 }
     {
         add(effects, self.feed_mode.map(Effect::FeedMode));
@@ -231,7 +236,8 @@ impl Block {
     #[tactic(auto, unfolding(crate::specs::Effects::last_effects))]
     fn add_last(&self, modes: &Modes, effects: &mut ArrayVec<Effect, 24>)
         requires { array_vec_len effects.old ≤ 20 }
-        ensures items { effects.new.items ≡ effects.old.items ++ standing (last_effects modes.now self.now) }
+        ensures items { effects.new.items ≡ effects.old.items
+            ++ standing (last_effects modes.now self.now) }
         ensures room { array_vec_len effects.new ≤ array_vec_len effects.old + 4 }
     {
         add(effects, self.frame_effect());

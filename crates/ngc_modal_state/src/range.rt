@@ -1,5 +1,6 @@
 ghost use Rattle.std.specs.Prelude.{◌≡◌};
-ghost use Rattle.ngc_modal_state.specs.Use.{is_whole as whole_number, whole as whole_part, negative, not_whole_from};
+ghost use Rattle.ngc_modal_state.specs.Use.{is_whole as whole_number, whole as whole_part};
+ghost use Rattle.ngc_modal_state.specs.Use.{negative, not_whole_from};
 
 use ngc_fixed_length::Value;
 

@@ -1,5 +1,7 @@
 ghost use Rattle.std.specs.Prelude.{◌≡◌};
-ghost use Rattle.ngc_modal_state.specs.Codes.{tenths as tenths_of, g_code as g_code_of, m_code as m_code_of, motion_codes, once_codes, mode_codes, g_codes, m_codes};
+ghost use Rattle.ngc_modal_state.specs.Codes.{tenths as tenths_of, g_code as g_code_of};
+ghost use Rattle.ngc_modal_state.specs.Codes.{m_code as m_code_of, motion_codes, once_codes};
+ghost use Rattle.ngc_modal_state.specs.Codes.{mode_codes, g_codes, m_codes};
 ghost use Rattle.ngc_modal_state.specs.Tables.{at_number};
 
 use crate::code::{

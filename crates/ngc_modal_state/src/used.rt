@@ -1,5 +1,6 @@
 ghost use Rattle.std.specs.Prelude.{◌≡◌};
-ghost use Rattle.ngc_modal_state.specs.Use.{uses_i as i_used, uses_j as j_used, uses_k as k_used, uses_r as r_used};
+ghost use Rattle.ngc_modal_state.specs.Use.{uses_i as i_used, uses_j as j_used, uses_k as k_used};
+ghost use Rattle.ngc_modal_state.specs.Use.{uses_r as r_used};
 
 use crate::block::Block;
 use crate::code::MotionMode;
@@ -32,7 +33,9 @@ pub(crate) fn uses_r(motion: MotionMode) -> bool
 }
 
 impl Block {
-    ghost use Rattle.ngc_modal_state.specs.Use.{has_axes, has_offsets, has_arc_words, plane_of, feed_mode_of, in_force, user, uses_axes, uses_p, uses_l};
+    ghost use Rattle.ngc_modal_state.specs.Use.{has_axes, has_offsets, has_arc_words, plane_of};
+    ghost use Rattle.ngc_modal_state.specs.Use.{feed_mode_of, in_force, user, uses_axes, uses_p};
+    ghost use Rattle.ngc_modal_state.specs.Use.{uses_l};
 
     // X, Y or Z.
     pub(crate) fn has_axes(&self) -> bool

@@ -14,7 +14,8 @@ use Rattle.ngc_offsets.specs.Frames.{index, origin_of, shift_of}
 pub reach : (m s p : ℤ) → unsigned_abs s ≤ SHIFT_LIMIT → unsigned_abs m ≤ MACHINE_LIMIT → IsKeptOrGiven (m -ℤ s) p → unsigned_abs (p +ℤ s) ≤ MACHINE_LIMIT
 reach m s p small near kept = elim kept [ inl same ↦ omega (arith, ints) | inr given ↦ omega (arith, ints) ]
 
-pub IsWithin-plus : (place shift p : Point3) → IsWithin SHIFT_LIMIT shift → IsWithin MACHINE_LIMIT place → IsReachedFrom (minus place shift) p → IsWithin MACHINE_LIMIT (plus p shift)
+pub IsWithin-plus : (place shift p : Point3) → IsWithin SHIFT_LIMIT shift → IsWithin MACHINE_LIMIT place → IsReachedFrom (minus place shift) p →
+    IsWithin MACHINE_LIMIT (plus p shift)
 IsWithin-plus place shift p small near from = record {
   x = reach place.x shift.x p.x small.x near.x from.x;
   y = reach place.y shift.y p.y small.y near.y from.y;
@@ -22,7 +23,8 @@ IsWithin-plus place shift p small near from = record {
 }
 
 -- the same, of places that are equal to these
-pub reaches : (place shift current p q : Point3) → q ≡ plus p shift → IsReachedFrom current p → current ≡ minus place shift → IsWithin SHIFT_LIMIT shift → IsWithin MACHINE_LIMIT place → IsWithin MACHINE_LIMIT q
+pub reaches : (place shift current p q : Point3) → q ≡ plus p shift → IsReachedFrom current p → current ≡ minus place shift → IsWithin SHIFT_LIMIT shift →
+    IsWithin MACHINE_LIMIT place → IsWithin MACHINE_LIMIT q
 reaches place shift current p q e from f small near =
     let P : Point3 → Type 0 = λ c. IsReachedFrom c p in
     let Q : Point3 → Type 0 = λ r. IsWithin MACHINE_LIMIT r in
@@ -46,4 +48,8 @@ origin_within f system h = h.origins (index system) zero_point (rw h.nine (index
 pub IsWithin-shift_of : (f : Offsets) → AreInRange f → IsWithin SHIFT_LIMIT (shift_of f)
 IsWithin-shift_of f h =
     let o : IsWithin OFFSET_LIMIT (origin_of f f.active) = origin_within f f.active h in
-    record { x = omega (arith, ints, o.x, h.axis_offset.x); y = omega (arith, ints, o.y, h.axis_offset.y); z = omega (arith, ints, o.z, h.axis_offset.z, h.length) }
+    record {
+      x = omega (arith, ints, o.x, h.axis_offset.x);
+      y = omega (arith, ints, o.y, h.axis_offset.y);
+      z = omega (arith, ints, o.z, h.axis_offset.z, h.length);
+    }

@@ -6,7 +6,8 @@ use Rattle.ngc_offsets.specs.declared.fault.FrameFault.TheVariants.{BeyondRange,
 use Rattle.ngc_offsets.specs.Ranges.{COORDINATE_LIMIT, OFFSET_LIMIT}
 
 infixl 10 ◌>>=◌
-abbrev pub ◌>>=◌ : {A B : Type 0} → Result A FrameFault → (A → Result B FrameFault) → Result B FrameFault
+abbrev pub ◌>>=◌ : {A B : Type 0} → Result A FrameFault → (A → Result B FrameFault) →
+    Result B FrameFault
 (Ok x) >>= f = f x
 (Err e) >>= f = Err e
 
@@ -25,6 +26,7 @@ number_of BeyondRange = 221
 number_of NoSuchTool = 222
 
 -- a change was made as the definition says, or refused, and then nothing changed
-abbrev pub Becomes : {A : Type 0} → Result (Unit {0}) FrameFault → A → A → Result A FrameFault → Type 0
+abbrev pub Becomes : {A : Type 0} → Result (Unit {0}) FrameFault → A → A →
+    Result A FrameFault → Type 0
 Becomes (Ok u) old new says = says ≡ Ok new
 Becomes (Err e) old new says = (says ≡ Err e) × (new ≡ old)

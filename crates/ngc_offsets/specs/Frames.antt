@@ -1,8 +1,11 @@
 -- Where a programmed place lies in the machine, and how the offsets change (NISTIR 6556, 3.2.2,
 -- 3.5.5, 3.5.11, 3.5.13, 3.5.18).
-use Rattle.std.specs.Prelude.{ℕ, ℤ, pos, ◌-ℤ◌, List, Option, Some, None, Result, Ok, Err, slice_index_or, slice_set}
+use Rattle.std.specs.Prelude.{ℕ, ℤ, pos, ◌-ℤ◌, List, Option, Some, None, Result, Ok, Err}
+use Rattle.std.specs.Prelude.{slice_index_or, slice_set}
 use Rattle.ngc_fixed_length.specs.declared.modes.System.{System}
-use Rattle.ngc_fixed_length.specs.declared.modes.System.TheVariants.{First, Second, Third, Fourth, Fifth, Sixth, Seventh, Eighth, Ninth}
+use Rattle.ngc_fixed_length.specs.declared.modes.System.TheVariants.{First, Second, Third, Fourth}
+use Rattle.ngc_fixed_length.specs.declared.modes.System.TheVariants.{Fifth, Sixth, Seventh, Eighth}
+use Rattle.ngc_fixed_length.specs.declared.modes.System.TheVariants.{Ninth}
 use Rattle.ngc_fixed_length.specs.declared.points.Point3.{Point3}
 use Rattle.ngc_fixed_length.specs.Places.{plus, minus, zero_point}
 use Rattle.ngc_offsets.specs.declared.fault.FrameFault.{FrameFault}
@@ -29,7 +32,14 @@ origin_of f system = slice_index_or f.origins (index system) zero_point
 
 -- at the start the first system is active, and nothing is offset
 abbrev pub start_frames : List Point3 → Offsets
-start_frames origins = record { origins = origins; active = First; axis_offset = zero_point; saved = zero_point; length = pos 0 }
+start_frames origins =
+    record {
+      origins = origins;
+      active = First;
+      axis_offset = zero_point;
+      saved = zero_point;
+      length = pos 0;
+    }
 
 -- the tool length offset is on Z
 abbrev pub on_z : ℤ → Point3

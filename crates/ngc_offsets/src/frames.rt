@@ -1,8 +1,10 @@
 ghost use Rattle.std.specs.Prelude.{◌≡◌, ◌<◌, ◌-ℤ◌, All, IfOk};
 ghost use Rattle.ngc_fixed_length.specs.Places.{zero_point};
-ghost use Rattle.ngc_offsets.specs.Ranges.{OFFSET_LIMIT, SHIFT_LIMIT, AreInRange, IsOffset, IsWithin, IsMachinePlace, IsProgrammedPlace};
+ghost use Rattle.ngc_offsets.specs.Ranges.{OFFSET_LIMIT, SHIFT_LIMIT, AreInRange, IsOffset};
+ghost use Rattle.ngc_offsets.specs.Ranges.{IsWithin, IsMachinePlace, IsProgrammedPlace};
 ghost use Rattle.ngc_offsets.specs.Faults.{Becomes, offset as offset_in};
-ghost use Rattle.ngc_offsets.specs.Frames.{index, on_axis, new_origin as origin_after, new_axis as axis_after, left_over as left_over_of};
+ghost use Rattle.ngc_offsets.specs.Frames.{index, on_axis, new_origin as origin_after};
+ghost use Rattle.ngc_offsets.specs.Frames.{new_axis as axis_after, left_over as left_over_of};
 
 use crate::fault::FrameFault;
 use crate::given::{AxisLengths, given_place};
@@ -28,11 +30,30 @@ impl Model for Frames {
 
     ghost Value = { Offsets };
 
-    ghost view = { λ f. record { origins = f.origins; active = f.active; axis_offset = f.axis_offset; saved = f.saved; length = f.length } };
+    ghost view = { λ f. record {
+      origins = f.origins;
+      active = f.active;
+      axis_offset = f.axis_offset;
+      saved = f.saved;
+      length = f.length;
+    } };
 
-    ghost invariant = { λ f. AreInRange (record { origins = f.origins; active = f.active; axis_offset = f.axis_offset; saved = f.saved; length = f.length }) };
+    ghost invariant = { λ f. AreInRange
+        (record {
+          origins = f.origins;
+          active = f.active;
+          axis_offset = f.axis_offset;
+          saved = f.saved;
+          length = f.length;
+        }) };
 
-    ghost inverse = { λ f. record { origins = f.origins; active = f.active; axis_offset = f.axis_offset; saved = f.saved; length = f.length } };
+    ghost inverse = { λ f. record {
+      origins = f.origins;
+      active = f.active;
+      axis_offset = f.axis_offset;
+      saved = f.saved;
+      length = f.length;
+    } };
 }
 
 fn index_of(system: System) -> usize
@@ -132,7 +153,9 @@ fn left_over(place: Nm, base: Nm, length: Nm) -> Result<Nm, FrameFault>
 }
 
 impl Frames {
-    ghost use Rattle.ngc_offsets.specs.Frames.{start_frames, base_of, shift_of, to_machine, to_program, IsReachable, set_origin, set_axis, clear, suspend, restore, set_length, select};
+    ghost use Rattle.ngc_offsets.specs.Frames.{start_frames, base_of, shift_of, to_machine};
+    ghost use Rattle.ngc_offsets.specs.Frames.{to_program, IsReachable, set_origin, set_axis};
+    ghost use Rattle.ngc_offsets.specs.Frames.{clear, suspend, restore, set_length, select};
     ghost use Rattle.ngc_offsets.specs.Given.{target};
 
     /// The frames at a program's start: the first system is active, and there is no offset.

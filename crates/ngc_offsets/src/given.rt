@@ -1,6 +1,7 @@
 ghost use Rattle.std.specs.Prelude.{◌≡◌, IfOk};
 ghost use Rattle.ngc_offsets.specs.Ranges.{IsMachinePlace, IsKeptOrGiven, IsReachedFrom};
-ghost use Rattle.ngc_offsets.specs.Given.{given_on_axis as on_axis, given_place as place_given, machine_target as target_in_machine};
+ghost use Rattle.ngc_offsets.specs.Given.{given_on_axis as on_axis, given_place as place_given};
+ghost use Rattle.ngc_offsets.specs.Given.{machine_target as target_in_machine};
 
 use crate::fault::FrameFault;
 use crate::range::coordinate;

@@ -2,7 +2,8 @@ ghost use Rattle.std.specs.Prelude.{◌≡◌, ◌≤◌, ◌+ℤ◌, ◌-ℤ◌
 ghost use Rattle.ngc_fixed_length.specs.Limits.{IsLength, LENGTH_LIMIT};
 ghost use Rattle.ngc_fixed_length.specs.Places.{IsPlace, plus as sum_of, minus as difference_of};
 ghost use Rattle.ngc_offsets.specs.Ranges.{IsCoordinate, IsOffset};
-ghost use Rattle.ngc_offsets.specs.Faults.{limited as limited_to, coordinate as coordinate_in, offset as offset_in};
+ghost use Rattle.ngc_offsets.specs.Faults.{limited as limited_to, coordinate as coordinate_in};
+ghost use Rattle.ngc_offsets.specs.Faults.{offset as offset_in};
 
 use crate::fault::FrameFault;
 use ngc_fixed_length::{Nm, Point3};

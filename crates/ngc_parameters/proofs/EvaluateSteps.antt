@@ -16,13 +16,15 @@ abbrev pub by_first : ℕ → ℕ → Parameters → List Symbol → Found
 by_first steps room p [] = Err TooDeep
 by_first steps room p (mark.Number z ∷ s) = Ok (z, s)
 by_first steps room p (mark.Parameter ∷ s) = if room == 0 then Err TooDeep else parameter_value p (symbol_value steps (room - 1) p s)
-by_first steps room p (mark.Open ∷ s) = if room == 0 then Err TooDeep else (symbol_value steps (room - 1) p s >>= λ x. symbols_with steps (room - 1) p nothing x.0 x.1)
+by_first steps room p (mark.Open ∷ s) =
+    if room == 0 then Err TooDeep else (symbol_value steps (room - 1) p s >>= λ x. symbols_with steps (room - 1) p nothing x.0 x.1)
 by_first steps room p (mark.Close ∷ s) = Err TooDeep
 by_first steps room p (mark.Operator o ∷ s) = Err TooDeep
 
 abbrev pub by_operator : ℕ → ℕ → Parameters → Before → ℤ → Operator → List Symbol → Found
 by_operator steps room p before term Add s = joined before term >>= λ t. symbol_value steps room p s >>= λ x. symbols_with steps room p (left t Add) x.0 x.1
-by_operator steps room p before term Subtract s = joined before term >>= λ t. symbol_value steps room p s >>= λ x. symbols_with steps room p (left t Subtract) x.0 x.1
+by_operator steps room p before term Subtract s =
+    joined before term >>= λ t. symbol_value steps room p s >>= λ x. symbols_with steps room p (left t Subtract) x.0 x.1
 by_operator steps room p before term Multiply s = symbol_value steps room p s >>= λ x. apply Multiply term x.0 >>= λ t. symbols_with steps room p before t x.1
 by_operator steps room p before term Divide s = symbol_value steps room p s >>= λ x. apply Divide term x.0 >>= λ t. symbols_with steps room p before t x.1
 
@@ -47,7 +49,8 @@ pub value_step : (steps room : ℕ) (p : Parameters) (s : List Symbol) → 0 < s
 value_step zero room p s h = absurd (omega arith)
 value_step (suc steps) room p s h = let e : suc steps - 1 ≡ steps = omega arith in rw e (opened steps room p s)
 
-with_opened : (steps room : ℕ) (p : Parameters) (before : Before) (term : ℤ) (s : List Symbol) → symbols_with (suc steps) room p before term s ≡ by_next steps room p before term s
+with_opened : (steps room : ℕ) (p : Parameters) (before : Before) (term : ℤ) (s : List Symbol) →
+    symbols_with (suc steps) room p before term s ≡ by_next steps room p before term s
 unfolding symbols_with
 with_opened steps room p before term [] = refl
 with_opened steps room p before term (mark.Number z ∷ s) = refl
@@ -59,12 +62,14 @@ with_opened steps room p before term (mark.Operator Subtract ∷ s) = refl
 with_opened steps room p before term (mark.Operator Multiply ∷ s) = refl
 with_opened steps room p before term (mark.Operator Divide ∷ s) = refl
 
-pub with_step : (steps room : ℕ) (p : Parameters) (before : Before) (term : ℤ) (s : List Symbol) → 0 < steps → symbols_with steps room p before term s ≡ by_next (steps - 1) room p before term s
+pub with_step : (steps room : ℕ) (p : Parameters) (before : Before) (term : ℤ) (s : List Symbol) → 0 < steps →
+    symbols_with steps room p before term s ≡ by_next (steps - 1) room p before term s
 with_step zero room p before term s h = absurd (omega arith)
 with_step (suc steps) room p before term s h = let e : suc steps - 1 ≡ steps = omega arith in rw e (with_opened steps room p before term s)
 
 -- a fault inside is the fault
-pub inner_err : (steps room : ℕ) (p : Parameters) (rest : List Symbol) (e : EvalFault) → 0 < steps → 0 < room → symbol_value (steps - 1) (room - 1) p rest ≡ Err e
+pub inner_err : (steps room : ℕ) (p : Parameters) (rest : List Symbol) (e : EvalFault) → 0 < steps → 0 < room →
+    symbol_value (steps - 1) (room - 1) p rest ≡ Err e
     → (symbol_value steps room p (mark.Parameter ∷ rest) ≡ Err e) × (symbol_value steps room p (mark.Open ∷ rest) ≡ Err e)
 inner_err steps zero p rest e h k f = absurd (omega arith)
 inner_err steps (suc room) p rest e h k f =

@@ -17,7 +17,8 @@ use Rattle.std.proofs.lemmas.Bool.Decides.{nat_tests}
 within : (z : ℤ) → IsValue z → from_number (limited z) ≡ Ok z
 within z h = let e = le-leb _ _ h in rw e refl
 
-indexed : (p : Parameters) (r : List Symbol) (value : Result ℤ EvalFault) → parameter_value p (with_rest r value) ≡ with_rest r (value >>= λ i. index_of i >>= λ k. Ok (p k))
+indexed : (p : Parameters) (r : List Symbol) (value : Result ℤ EvalFault) →
+    parameter_value p (with_rest r value) ≡ with_rest r (value >>= λ i. index_of i >>= λ k. Ok (p k))
 indexed p r (Err e) = refl
 indexed p r (Ok i) = found (index_of i) where
   found : (k : Result ℕ EvalFault) → (k >>= λ n. Ok (p n, r)) ≡ with_rest r (k >>= λ n. Ok (p n))
@@ -31,7 +32,8 @@ on r s (Ok z) go all h = h z
 on r s (Err e) go all h = refl
 
 -- the same, behind another value
-behind : (r : List Symbol) (value : Result ℤ EvalFault) (go : ℤ → Found) (all : ℤ → Result ℤ EvalFault) → ((z : ℤ) → go z ≡ with_rest r (all z)) → (value >>= go) ≡ with_rest r (value >>= all)
+behind : (r : List Symbol) (value : Result ℤ EvalFault) (go : ℤ → Found) (all : ℤ → Result ℤ EvalFault) → ((z : ℤ) → go z ≡ with_rest r (all z)) →
+    (value >>= go) ≡ with_rest r (value >>= all)
 behind r (Ok z) go all h = h z
 behind r (Err e) go all h = refl
 
@@ -41,7 +43,8 @@ not_zero n = grind (arith, nat_tests)
 mutual
   unfolding symbol_value value_within
 
-  pub evaluates : (v : Real) (r : List Symbol) (steps room : ℕ) (p : Parameters) → IsWithinLimit v → length (symbols_of v ++ r) < steps → symbol_value steps room p (symbols_of v ++ r) ≡ with_rest r (value_within room p v)
+  pub evaluates : (v : Real) (r : List Symbol) (steps room : ℕ) (p : Parameters) → IsWithinLimit v → length (symbols_of v ++ r) < steps →
+      symbol_value steps room p (symbols_of v ++ r) ≡ with_rest r (value_within room p v)
   evaluates (number n) r (suc steps) room p limit fits = rw (within (numeral_value n) limit) refl
   evaluates (parameter v) r (suc steps) zero p limit fits = refl
   evaluates (parameter v) r (suc steps) (suc room) p limit fits =
@@ -58,7 +61,8 @@ mutual
       (λ z. evaluates_with rest r steps room p nothing z limit.1 (omega (arith, fits, longer, more))))
   evaluates v r zero room p limit fits = absurd (omega (arith, fits))
 
-  pub evaluates_with : (rest : Rest) (r : List Symbol) (steps room : ℕ) (p : Parameters) (before : Before) (term : ℤ) → IsRestWithinLimit rest → length (rest_symbols rest ++ r) < steps
+  pub evaluates_with : (rest : Rest) (r : List Symbol) (steps room : ℕ) (p : Parameters) (before : Before) (term : ℤ) → IsRestWithinLimit rest →
+      length (rest_symbols rest ++ r) < steps
       → symbols_with steps room p before term (rest_symbols rest ++ r) ≡ with_rest r (value_with room p before term rest)
   evaluates_with close r (suc steps) room p before term limit fits = refl
   evaluates_with (next Add v rest) r (suc steps) room p before term limit fits =
@@ -68,23 +72,27 @@ mutual
       rw (regrouped, evaluates v (rest_symbols rest ++ r) steps room p limit.0 (omega (arith, fits, longer)))
       (behind r (joined before term) (λ t. with_rest (rest_symbols rest ++ r) (value_within room p v) >>= λ x. symbols_with steps room p (left t Add) x.0 x.1)
       (λ t. value_within room p v >>= λ z. value_with room p (left t Add) z rest)
-      (λ t. on r (rest_symbols rest ++ r) (value_within room p v) (λ z s. symbols_with steps room p (left t Add) z s) (λ z. value_with room p (left t Add) z rest)
+      (λ t. on r (rest_symbols rest ++ r) (value_within room p v) (λ z s. symbols_with steps room p (left t Add) z s)
+      (λ z. value_with room p (left t Add) z rest)
       (λ z. evaluates_with rest r steps room p (left t Add) z limit.1 (omega (arith, fits, longer, more)))))
   evaluates_with (next Subtract v rest) r (suc steps) room p before term limit fits =
       let regrouped : (symbols_of v ++ rest_symbols rest) ++ r ≡ symbols_of v ++ (rest_symbols rest ++ r) = append_assoc (symbols_of v) (rest_symbols rest) r in
       let longer = ap length regrouped in
       let more = length-append (symbols_of v) (rest_symbols rest ++ r) in
       rw (regrouped, evaluates v (rest_symbols rest ++ r) steps room p limit.0 (omega (arith, fits, longer)))
-      (behind r (joined before term) (λ t. with_rest (rest_symbols rest ++ r) (value_within room p v) >>= λ x. symbols_with steps room p (left t Subtract) x.0 x.1)
+      (behind r (joined before term)
+      (λ t. with_rest (rest_symbols rest ++ r) (value_within room p v) >>= λ x. symbols_with steps room p (left t Subtract) x.0 x.1)
       (λ t. value_within room p v >>= λ z. value_with room p (left t Subtract) z rest)
-      (λ t. on r (rest_symbols rest ++ r) (value_within room p v) (λ z s. symbols_with steps room p (left t Subtract) z s) (λ z. value_with room p (left t Subtract) z rest)
+      (λ t. on r (rest_symbols rest ++ r) (value_within room p v) (λ z s. symbols_with steps room p (left t Subtract) z s)
+      (λ z. value_with room p (left t Subtract) z rest)
       (λ z. evaluates_with rest r steps room p (left t Subtract) z limit.1 (omega (arith, fits, longer, more)))))
   evaluates_with (next Multiply v rest) r (suc steps) room p before term limit fits =
       let regrouped : (symbols_of v ++ rest_symbols rest) ++ r ≡ symbols_of v ++ (rest_symbols rest ++ r) = append_assoc (symbols_of v) (rest_symbols rest) r in
       let longer = ap length regrouped in
       let more = length-append (symbols_of v) (rest_symbols rest ++ r) in
       rw (regrouped, evaluates v (rest_symbols rest ++ r) steps room p limit.0 (omega (arith, fits, longer)))
-      (on r (rest_symbols rest ++ r) (value_within room p v) (λ z s. apply Multiply term z >>= λ t. symbols_with steps room p before t s) (λ z. apply Multiply term z >>= λ t. value_with room p before t rest)
+      (on r (rest_symbols rest ++ r) (value_within room p v) (λ z s. apply Multiply term z >>= λ t. symbols_with steps room p before t s)
+      (λ z. apply Multiply term z >>= λ t. value_with room p before t rest)
       (λ z. behind r (apply Multiply term z) (λ t. symbols_with steps room p before t (rest_symbols rest ++ r)) (λ t. value_with room p before t rest)
       (λ t. evaluates_with rest r steps room p before t limit.1 (omega (arith, fits, longer, more)))))
   evaluates_with (next Divide v rest) r (suc steps) room p before term limit fits =
@@ -92,7 +100,8 @@ mutual
       let longer = ap length regrouped in
       let more = length-append (symbols_of v) (rest_symbols rest ++ r) in
       rw (regrouped, evaluates v (rest_symbols rest ++ r) steps room p limit.0 (omega (arith, fits, longer)))
-      (on r (rest_symbols rest ++ r) (value_within room p v) (λ z s. apply Divide term z >>= λ t. symbols_with steps room p before t s) (λ z. apply Divide term z >>= λ t. value_with room p before t rest)
+      (on r (rest_symbols rest ++ r) (value_within room p v) (λ z s. apply Divide term z >>= λ t. symbols_with steps room p before t s)
+      (λ z. apply Divide term z >>= λ t. value_with room p before t rest)
       (λ z. behind r (apply Divide term z) (λ t. symbols_with steps room p before t (rest_symbols rest ++ r)) (λ t. value_with room p before t rest)
       (λ t. evaluates_with rest r steps room p before t limit.1 (omega (arith, fits, longer, more)))))
   evaluates_with rest r zero room p before term limit fits = absurd (omega (arith, fits))

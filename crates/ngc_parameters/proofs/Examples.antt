@@ -26,7 +26,8 @@ holds p v = value_of p v
 
 -- [2+3*4-10/4]
 abbrev sum_of_products : Real
-sum_of_products = bracket (whole (codes "2")) (next Add (whole (codes "3")) (next Multiply (whole (codes "4")) (next Subtract (whole (codes "10")) (next Divide (whole (codes "4")) close))))
+sum_of_products = bracket (whole (codes "2"))
+    (next Add (whole (codes "3")) (next Multiply (whole (codes "4")) (next Subtract (whole (codes "10")) (next Divide (whole (codes "4")) close))))
 
 -- values
 bracket_value : value_of zeros sum_of_products ≡ Ok (pos 11500000)

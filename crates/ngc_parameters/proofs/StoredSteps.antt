@@ -24,11 +24,13 @@ after_at [] p q k e = e
 after_at ((i, x) ∷ cs) p q k e = after_at cs _ _ k (ap (λ (y : ℤ). if k == i then x else y) e)
 
 -- the change at a place of the list is made
-pub change_made : (cs : List Change) (i : ℕ) (x : Change) (p q : Parameters) (k : ℕ) → i < length cs → x ≡ get_or cs i x → q k ≡ (if k == x.index then x.value else p k)
+pub change_made : (cs : List Change) (i : ℕ) (x : Change) (p q : Parameters) (k : ℕ) → i < length cs → x ≡ get_or cs i x →
+    q k ≡ (if k == x.index then x.value else p k)
     → after_settings (change_pairs (drop (i + 1) cs)) q k ≡ after_settings (change_pairs (drop i cs)) p k
 change_made cs i x p q k h e f =
     let one : i + 1 ≡ suc i = omega arith in
-    let parts : drop i cs ≡ x ∷ drop (i + 1) cs = drop-cons cs i x h ∙ ap (λ (y : Change). y ∷ drop (suc i) cs) (sym e) ∙ ap (λ (n : ℕ). x ∷ drop n cs) (sym one) in
+    let parts : drop i cs ≡ x ∷ drop (i + 1) cs = drop-cons cs i x h ∙ ap (λ (y : Change). y ∷ drop (suc i) cs) (sym e)
+    ∙ ap (λ (n : ℕ). x ∷ drop n cs) (sym one) in
     after_at (change_pairs (drop (i + 1) cs)) q (λ j. if j == x.index then x.value else p j) k f
     ∙ ap (λ (l : List Change). after_settings (change_pairs l) p k) (sym parts)
 

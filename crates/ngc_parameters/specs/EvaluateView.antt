@@ -1,5 +1,6 @@
 -- What the functions on tokens have, as the definitions on symbols see it.
-use Rattle.std.specs.Prelude.{◌≡◌, ℤ, pos, List, Option, Some, None, Result, Ok, Err, slice_index_or}
+use Rattle.std.specs.Prelude.{◌≡◌, ℤ, pos, List, Option, Some, None, Result, Ok, Err}
+use Rattle.std.specs.Prelude.{slice_index_or}
 use Rattle.std.specs.Borrow.{Bor}
 use Rattle.ngc_line_reader.specs.declared.token.Operator.{Operator}
 use Rattle.ngc_line_reader.specs.declared.token.Symbol.{Symbol}

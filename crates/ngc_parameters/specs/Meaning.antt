@@ -3,19 +3,24 @@
 -- values of a line are found before its settings are made. Our own: values are whole millionths,
 -- rounded to the nearest; an index is exactly whole; at most 16 brackets and # stand in one
 -- another; of several faults the first from left to right counts.
-use Rattle.std.specs.Prelude.{ℕ, zero, suc, ◌/◌, ◌%◌, ◌==◌, nat_le, ◌&&◌, ℤ, pos, negsuc, unsigned_abs, List, [], ◌∷◌, Result, Ok, Err, if◌then◌else◌}
+use Rattle.std.specs.Prelude.{ℕ, zero, suc, ◌/◌, ◌%◌, ◌==◌, nat_le, ◌&&◌, ℤ, pos, negsuc}
+use Rattle.std.specs.Prelude.{unsigned_abs, List, [], ◌∷◌, Result, Ok, Err, if◌then◌else◌}
 use Rattle.ngc_fixed_length.specs.declared.fault.NumberFault.{NumberFault}
 use Rattle.ngc_fixed_length.specs.Limits.{MILLION, limited, sum, difference, product, quotient}
 use Rattle.ngc_line_reader.specs.declared.token.Operator.{Operator}
-use Rattle.ngc_line_reader.specs.declared.token.Operator.TheVariants.{Add, Subtract, Multiply, Divide}
+use Rattle.ngc_line_reader.specs.declared.token.Operator.TheVariants.{Add, Subtract, Multiply}
+use Rattle.ngc_line_reader.specs.declared.token.Operator.TheVariants.{Divide}
 use Rattle.ngc_line_reader.specs.declared.letter.Letter.{Letter}
 use Rattle.ngc_parameters.specs.declared.fault.EvalFault.{EvalFault}
-use Rattle.ngc_parameters.specs.declared.fault.EvalFault.TheVariants.{Number, IndexNotWhole, IndexOutOfRange, TooDeep}
-use Rattle.ngc_line_reader.specs.Grammar.{Real, number, parameter, bracket, Rest, close, next, Item, word, setting, comment}
+use Rattle.ngc_parameters.specs.declared.fault.EvalFault.TheVariants.{Number, IndexNotWhole}
+use Rattle.ngc_parameters.specs.declared.fault.EvalFault.TheVariants.{IndexOutOfRange, TooDeep}
+use Rattle.ngc_line_reader.specs.Grammar.{Real, number, parameter, bracket, Rest, close, next, Item}
+use Rattle.ngc_line_reader.specs.Grammar.{word, setting, comment}
 use Rattle.ngc_line_reader.specs.Numbers.{numeral_value}
 
 infixl 10 ◌>>=◌
-abbrev pub ◌>>=◌ : {A B : Type 0} → Result A EvalFault → (A → Result B EvalFault) → Result B EvalFault
+abbrev pub ◌>>=◌ : {A B : Type 0} → Result A EvalFault → (A → Result B EvalFault) →
+    Result B EvalFault
 (Ok x) >>= f = f x
 (Err e) >>= f = Err e
 
@@ -29,7 +34,8 @@ Parameters = ℕ → ℤ
 
 -- an index: a value that is a whole number from 1 to 5160
 abbrev pub index_in_range : ℤ → Result ℕ EvalFault
-index_in_range (pos n) = if nat_le 1 (n / MILLION) && nat_le (n / MILLION) 5160 then Ok (n / MILLION) else Err IndexOutOfRange
+index_in_range (pos n) = if nat_le 1 (n / MILLION) && nat_le (n / MILLION) 5160
+    then Ok (n / MILLION) else Err IndexOutOfRange
 index_in_range (negsuc n) = Err IndexOutOfRange
 
 abbrev pub index_of : ℤ → Result ℕ EvalFault
@@ -115,4 +121,5 @@ settings_of parameters (comment bytes ∷ items) = settings_of parameters items
 -- the parameters after settings, made from left to right, so that the last of one parameter counts
 abbrev pub after_settings : List (ℕ × ℤ) → Parameters → Parameters
 after_settings [] parameters k = parameters k
-after_settings ((i, x) ∷ settings) parameters k = after_settings settings (λ j. if j == i then x else parameters j) k
+after_settings ((i, x) ∷ settings) parameters k =
+    after_settings settings (λ j. if j == i then x else parameters j) k

@@ -1,5 +1,6 @@
 -- What a line's words and settings come to, from its tokens.
-use Rattle.std.specs.Prelude.{ℕ, ◌≡◌, ◌+◌, ℤ, List, [], ◌∷◌, ◌++◌, length, drop, map, min, Result, Ok, Err}
+use Rattle.std.specs.Prelude.{ℕ, ◌≡◌, ◌+◌, ℤ, List, [], ◌∷◌, ◌++◌, length, drop, map, min, Result}
+use Rattle.std.specs.Prelude.{Ok, Err}
 use Rattle.ngc_line_reader.specs.declared.token.Token.{Token}
 use Rattle.ngc_line_reader.specs.declared.line.RawWord.{RawWord}
 use Rattle.ngc_line_reader.specs.declared.line.RawSetting.{RawSetting}
@@ -43,32 +44,40 @@ tokens_from tokens first = drop (min first (length tokens)) tokens
 
 -- the value whose tokens begin at a place
 abbrev pub value_from : Parameters → List Token → ℕ → Result ℤ EvalFault
-value_from p tokens first = symbol_value (length (tokens_from tokens first) + 1) 16 p (symbols (tokens_from tokens first)) >>= λ x. Ok x.0
+value_from p tokens first = symbol_value (length (tokens_from tokens first) + 1) 16 p
+    (symbols (tokens_from tokens first)) >>= λ x. Ok x.0
 
-abbrev pub words_after : Parameters → List Token → List (Letter × ℤ) → List RawWord → Result (List (Letter × ℤ)) EvalFault
+abbrev pub words_after : Parameters → List Token → List (Letter × ℤ) → List RawWord →
+    Result (List (Letter × ℤ)) EvalFault
 words_after p tokens found [] = Ok found
-words_after p tokens found (w ∷ ws) = value_from p tokens w.first >>= λ x. words_after p tokens (found ++ ((w.letter, x) ∷ [])) ws
+words_after p tokens found (w ∷ ws) =
+    value_from p tokens w.first >>= λ x. words_after p tokens (found ++ ((w.letter, x) ∷ [])) ws
 
 abbrev pub words_on : Parameters → List Token → List RawWord → Result (List (Letter × ℤ)) EvalFault
 words_on p tokens ws = words_after p tokens [] ws
 
 abbrev pub change_from : Parameters → List Token → ℕ → ℕ → Result (ℕ × ℤ) EvalFault
-change_from p tokens index value = value_from p tokens index >>= λ i. index_of i >>= λ k. value_from p tokens value >>= λ x. Ok (k, x)
+change_from p tokens index value = value_from p tokens index >>= λ i. index_of i >>= λ k.
+    value_from p tokens value >>= λ x. Ok (k, x)
 
-abbrev pub settings_after : Parameters → List Token → List (ℕ × ℤ) → List RawSetting → Result (List (ℕ × ℤ)) EvalFault
+abbrev pub settings_after : Parameters → List Token → List (ℕ × ℤ) → List RawSetting →
+    Result (List (ℕ × ℤ)) EvalFault
 settings_after p tokens found [] = Ok found
-settings_after p tokens found (s ∷ ss) = change_from p tokens s.index s.value >>= λ c. settings_after p tokens (found ++ (c ∷ [])) ss
+settings_after p tokens found (s ∷ ss) =
+    change_from p tokens s.index s.value >>= λ c. settings_after p tokens (found ++ (c ∷ [])) ss
 
 abbrev pub settings_on : Parameters → List Token → List RawSetting → Result (List (ℕ × ℤ)) EvalFault
 settings_on p tokens ss = settings_after p tokens [] ss
 
 -- what a line's tokens come to
 abbrev pub values_on : Parameters → Parts → Result (List (Letter × ℤ) × List (ℕ × ℤ)) EvalFault
-values_on p line = words_on p line.tokens line.words >>= λ ws. settings_on p line.tokens line.settings >>= λ ss. Ok (ws, ss)
+values_on p line = words_on p line.tokens line.words >>= λ ws.
+    settings_on p line.tokens line.settings >>= λ ss. Ok (ws, ss)
 
 -- words' letters and values, and settings' indices and values; all values are found from the same
 -- parameters
-abbrev pub line_values : Parameters → List Item → Result (List (Letter × ℤ) × List (ℕ × ℤ)) EvalFault
+abbrev pub line_values : Parameters → List Item →
+    Result (List (Letter × ℤ) × List (ℕ × ℤ)) EvalFault
 line_values p items = words_of p items >>= λ ws. settings_of p items >>= λ ss. Ok (ws, ss)
 
 abbrev pub IsSame : Result Change EvalFault → Result (ℕ × ℤ) EvalFault → Type 0

@@ -1,11 +1,14 @@
-ghost use Rattle.std.specs.Prelude.{◌≡◌, ℕ, ◌+◌, ◌≤◌, List, [], length, pos, IfOk, IfErr, ◌≢◌, ◌==◌, if◌then◌else◌};
+ghost use Rattle.std.specs.Prelude.{◌≡◌, ℕ, ◌+◌, ◌≤◌, List, [], length, pos, IfOk, IfErr, ◌≢◌};
+ghost use Rattle.std.specs.Prelude.{◌==◌, if◌then◌else◌};
 ghost use Rattle.ngc_line_reader.specs.Grammar.{Reading};
 ghost use Rattle.ngc_line_reader.specs.Scan.{Gives};
 ghost use Rattle.ngc_line_reader.specs.Held.{Holds, AllWithinLimit};
 ghost use Rattle.ngc_line_reader.specs.Shown.{view_parts, items_of, items_said};
 ghost use Rattle.ngc_parameters.specs.EvaluateView.{held};
 ghost use Rattle.ngc_parameters.specs.Meaning.{after_settings};
-ghost use Rattle.ngc_parameters.specs.Stored.{parameters_of, changes_of, line_values, value_from, words_on, settings_on, pairs_of, values_in, IsSame, change_from, values_on};
+ghost use Rattle.ngc_parameters.specs.Stored.{parameters_of, changes_of, line_values, value_from};
+ghost use Rattle.ngc_parameters.specs.Stored.{words_on, settings_on, pairs_of, values_in, IsSame};
+ghost use Rattle.ngc_parameters.specs.Stored.{change_from, values_on};
 
 use crate::change::Change;
 use crate::evaluation::{evaluate, index_of};
@@ -73,7 +76,8 @@ fn words_of(
     words: &mut ArrayVec<Word, 64>,
 ) -> Result<(), EvalFault>
     requires { length parameters.now ≡ 5161 }
-    ensures value { Gives (λ _. pairs_of words.new.items) result (words_on (held parameters.now) line.entry.tokens.now line.entry.words.now) }
+    ensures value { Gives (λ _. pairs_of words.new.items) result
+        (words_on (held parameters.now) line.entry.tokens.now line.entry.words.now) }
     ensures not_memory { IfErr result (λ e. e ≢ EvalFault.Memory) }
 {
     words.clear();
@@ -122,7 +126,8 @@ fn changes_of_line(
     changes: &mut Changes,
 ) -> Result<(), EvalFault>
     requires { length parameters.now ≡ 5161 }
-    ensures value { Gives (λ _. changes_of changes.new) result (settings_on (held parameters.now) line.entry.tokens.now line.entry.settings.now) }
+    ensures value { Gives (λ _. changes_of changes.new) result
+        (settings_on (held parameters.now) line.entry.tokens.now line.entry.settings.now) }
     ensures not_memory { IfErr result (λ e. e ≢ EvalFault.Memory) }
 {
     changes.settings.clear();
@@ -142,7 +147,8 @@ fn line_of(
     values: &mut LineValues,
 ) -> Result<(), EvalFault>
     requires { length parameters.now ≡ 5161 }
-    ensures value { Gives (λ _. values_in values.new) result (values_on (held parameters.now) (view_parts line.entry)) }
+    ensures value { Gives (λ _. values_in values.new) result
+        (values_on (held parameters.now) (view_parts line.entry)) }
     ensures not_memory { IfErr result (λ e. e ≢ EvalFault.Memory) }
 {
     match words_of(parameters, line, &mut values.words) {
@@ -187,7 +193,10 @@ impl<A: Allocator> Store<A> {
     /// are found from what the parameters hold now. After a fault what `values` holds is
     /// unspecified.
     pub fn read(&self, line: LineView<'_>, values: &mut LineValues) -> Result<(), EvalFault>
-        ensures value { (bytes : List ℕ) (r : Reading) → items_of (view_parts line.entry) ≡ items_said bytes r → AllWithinLimit r.items → Gives (λ _. values_in values.new) result (line_values (parameters_of self.now) r.items) }
+        ensures value { (bytes : List ℕ) (r : Reading) →
+            items_of (view_parts line.entry) ≡ items_said bytes r → AllWithinLimit r.items →
+            Gives (λ _. values_in values.new) result
+            (line_values (parameters_of self.now) r.items) }
         ensures not_memory { IfErr result (λ e. e ≢ EvalFault.Memory) }
     {
         line_of(self.values.as_slice(), line, values)
@@ -196,7 +205,10 @@ impl<A: Allocator> Store<A> {
     /// The values of a line's words, and what its settings do. All are found from what the
     /// parameters hold now.
     pub fn words(&self, line: &Line) -> Result<(ArrayVec<Word, 64>, Changes), EvalFault>
-        ensures value { (bytes : List ℕ) (r : Reading) → Holds bytes line.now r → AllWithinLimit r.items → Gives (λ x. (pairs_of x.0.items, changes_of x.1)) result (line_values (parameters_of self.now) r.items) }
+        ensures value { (bytes : List ℕ) (r : Reading) → Holds bytes line.now r →
+            AllWithinLimit r.items →
+            Gives (λ x. (pairs_of x.0.items, changes_of x.1)) result
+            (line_values (parameters_of self.now) r.items) }
         ensures not_memory { IfErr result (λ e. e ≢ EvalFault.Memory) }
     {
         let mut values = LineValues::empty();
@@ -211,14 +223,16 @@ impl<A: Allocator> Store<A> {
 
     #[tactic(auto, using(crate::proofs::StoredSteps::changed))]
     fn change(&mut self, change: Change)
-        ensures { (k : ℕ) → parameters_of self.new k ≡ (if k == change.index then change.value else parameters_of self.old k) }
+        ensures { (k : ℕ) → parameters_of self.new k
+            ≡ (if k == change.index then change.value else parameters_of self.old k) }
     {
         self.values[change.index] = change.value;
     }
 
     /// Makes the changes, from left to right, so that the last of one parameter counts.
     pub fn make(&mut self, changes: &Changes)
-        ensures { (k : ℕ) → parameters_of self.new k ≡ after_settings (changes_of changes.now) (parameters_of self.old) k }
+        ensures { (k : ℕ) → parameters_of self.new k
+            ≡ after_settings (changes_of changes.now) (parameters_of self.old) k }
     {
         for change in changes.settings.as_slice() {
             self.change(*change);
@@ -227,7 +241,8 @@ impl<A: Allocator> Store<A> {
 
     /// Makes the changes, from left to right, so that the last of one parameter counts.
     pub fn apply(&mut self, changes: Changes)
-        ensures { (k : ℕ) → parameters_of self.new k ≡ after_settings (changes_of changes) (parameters_of self.old) k }
+        ensures { (k : ℕ) → parameters_of self.new k
+            ≡ after_settings (changes_of changes) (parameters_of self.old) k }
     {
         self.make(&changes);
     }

@@ -1,5 +1,6 @@
 -- The greatest rate of a motion, and the least that it travels.
-use Rattle.std.proofs.Common.{◌≡◌, ℕ, zero, suc, ◌+◌, ◌*◌, ◌/◌, ◌^◌, ◌≤◌, ◌<◌, ◌↔◌, ◌==◌, nat_le, min, max, unsigned_abs, IsTrue, Bool, true, false, cond, arith, refl}
+use Rattle.std.proofs.Common.{◌≡◌, ℕ, zero, suc, ◌+◌, ◌*◌, ◌/◌, ◌^◌, ◌≤◌, ◌<◌, ◌↔◌, ◌==◌, nat_le, min, max, unsigned_abs, IsTrue, Bool, true, false, cond}
+use Rattle.std.proofs.Common.{arith, refl}
 use Rattle.std.proofs.lemmas.Bool.Decides.{nat_tests}
 use Rattle.std.proofs.lemmas.Int.{ints}
 use Rattle.std.proofs.lemmas.Nat.{mul-le}
@@ -68,7 +69,8 @@ turns_on : (m : MachineFile) (w : Way) (v : ℕ) → IsMachine m → v ≤ MILLI
 turns_on m (Line b e) v ranges small = (λ h. tt, λ h. small)
 turns_on m (Arc a) v ranges small =
     let step = step_within m ranges in
-    root_law (m.turn * max (inner_radius a) (unsigned_abs m.step)) (unsigned_abs m.step) v step.0 (turn_within m.turn (inner_radius a) (unsigned_abs m.step) ranges.turn.greatest (root_small _) step.1)
+    root_law (m.turn * max (inner_radius a) (unsigned_abs m.step)) (unsigned_abs m.step) v step.0
+    (turn_within m.turn (inner_radius a) (unsigned_abs m.step) ranges.turn.greatest (root_small _) step.1)
 
 turns : (m : MachineFile) (a : Action) (v : ℕ) → IsMachine m → v ≤ MILLION → (v ≤ turn_bound m a) ↔ MayTurn m a v
 turns m (Move motion) v ranges small = turns_on m motion.way v ranges small

@@ -1,5 +1,6 @@
 -- Ticks in which nothing is told.
-use Rattle.std.proofs.Common.{◌≡◌, ℕ, zero, suc, ◌+◌, ◌-◌, ◌*◌, ◌/◌, ◌%◌, ◌≤◌, ◌<◌, min, nat_le, false, cond, List, [], ◌∷◌, inl, inr, length, arith, ap, sym, ◌∙◌}
+use Rattle.std.proofs.Common.{◌≡◌, ℕ, zero, suc, ◌+◌, ◌-◌, ◌*◌, ◌/◌, ◌%◌, ◌≤◌, ◌<◌, min, nat_le, false, cond, List, [], ◌∷◌, inl, inr, length, arith, ap, sym}
+use Rattle.std.proofs.Common.{◌∙◌}
 use Rattle.std.proofs.lemmas.Bool.{cases_lt, lt-ltb, le-ltb}
 use Rattle.std.proofs.lemmas.Bool.Decides.{nat_tests}
 use Rattle.std.proofs.lemmas.Nat.{div-mul-add, div-add-mod'}
@@ -21,7 +22,8 @@ same_step m rest x within less short =
     ap (λ t. t / MILLION) there ∙ div-mul-add ((m - rest) / MILLION) MILLION ((m - rest) % MILLION + x) (omega arith)
 
 -- nor before
-pub step_before : (m rest x y : ℕ) → rest ≤ m → x ≤ y → y ≤ rest → (m - (rest - y)) / MILLION ≡ (m - rest) / MILLION → (m - (rest - x)) / MILLION ≡ (m - rest) / MILLION
+pub step_before : (m rest x y : ℕ) → rest ≤ m → x ≤ y → y ≤ rest → (m - (rest - y)) / MILLION ≡ (m - rest) / MILLION →
+    (m - (rest - x)) / MILLION ≡ (m - rest) / MILLION
 step_before m rest x y within less short same = omega arith
 
 -- ---- one of these ticks
@@ -36,7 +38,8 @@ bound_after l rest x within less =
     ]
 
 -- the rules of ticks allow it
-pub coast_tick : (r : RampState) (wish n : ℕ) (head : Leg) (legs : List Leg) → 1 ≤ r.change → r.rest ≤ head.millionths → MayCoast r wish head (suc n) → MayTick r wish head legs r.rate
+pub coast_tick : (r : RampState) (wish n : ℕ) (head : Leg) (legs : List Leg) → 1 ≤ r.change → r.rest ≤ head.millionths → MayCoast r wish head (suc n) →
+    MayTick r wish head legs r.rate
 coast_tick r wish n head legs some within may =
     let least = braking_least r.rate r.change some in
     let wished = may.wished in
@@ -53,7 +56,8 @@ coast_tick r wish n head legs some within may =
       at_least = omega arith;
     }
 
-pub coast_ticks : (r : RampState) (wish n : ℕ) (head : Leg) (legs : List Leg) → 1 ≤ r.change → r.rest ≤ head.millionths → MayCoast r wish head (suc n) → TicksTo r wish head legs r.rate false false (record r { rest = r.rest - r.rate })
+pub coast_ticks : (r : RampState) (wish n : ℕ) (head : Leg) (legs : List Leg) → 1 ≤ r.change → r.rest ≤ head.millionths → MayCoast r wish head (suc n) →
+    TicksTo r wish head legs r.rate false false (record r { rest = r.rest - r.rate })
 coast_ticks r wish n head legs some within may =
     let least = braking_least r.rate r.change some in
     let brakes = may.brakes in
@@ -62,16 +66,19 @@ coast_ticks r wish n head legs some within may =
     let on : false ≡ nat_le r.rest r.rate = grind (arith, nat_tests) in
     let place = step_before head.millionths r.rest r.rate (suc n * r.rate) within (omega arith) far may.between in
     let at : min (travelled head r.rest + r.rate) head.millionths ≡ head.millionths - (r.rest - r.rate) = omega arith in
-    let none : min (travelled head r.rest + r.rate) head.millionths / MILLION ≤ travelled head r.rest / MILLION = omega (arith, ap (λ t. t / MILLION) at, place) in
+    let none : min (travelled head r.rest + r.rate) head.millionths / MILLION ≤ travelled head r.rest / MILLION =
+    omega (arith, ap (λ t. t / MILLION) at, place) in
     record {
       may = coast_tick r wish n head legs some within may;
       tells = sym (le-ltb (travelled head r.rest / MILLION) (min (travelled head r.rest + r.rate) head.millionths / MILLION) none);
       ends = on;
-      next = sym (ap (λ b. cond b (record r { rest = r.rest - r.rate }) (record r { rest = next_rest (r.rate - r.rest) legs; legs = legs })) (lt-ltb r.rate r.rest less));
+      next = sym (ap (λ b. cond b (record r { rest = r.rest - r.rate }) (record r { rest = next_rest (r.rate - r.rest) legs; legs = legs }))
+          (lt-ltb r.rate r.rest less));
     }
 
 -- and the others may follow
-pub coast_on : (r : RampState) (wish n : ℕ) (head : Leg) → r.rest ≤ head.millionths → MayCoast r wish head (suc n) → MayCoast (record r { rest = r.rest - r.rate }) wish head n
+pub coast_on : (r : RampState) (wish n : ℕ) (head : Leg) → r.rest ≤ head.millionths → MayCoast r wish head (suc n) →
+    MayCoast (record r { rest = r.rest - r.rate }) wish head n
 coast_on r wish n head within may =
     let brakes = may.brakes in
     let far : suc n * r.rate ≤ r.rest = omega arith in
@@ -86,7 +93,8 @@ coast_on r wish n head within may =
 
 -- ---- the ramp after all of them
 
-on_head : (r : RampState) (wish n : ℕ) (head : Leg) (legs : List Leg) → 1 ≤ r.change → r.rest ≤ head.millionths → MayCoast r wish head n → IsKept (record r { rest = r.rest - n * r.rate }) head legs
+on_head : (r : RampState) (wish n : ℕ) (head : Leg) (legs : List Leg) → 1 ≤ r.change → r.rest ≤ head.millionths → MayCoast r wish head n →
+    IsKept (record r { rest = r.rest - n * r.rate }) head legs
 on_head r wish n head legs some within may =
     let brakes = may.brakes in
     record {
@@ -94,7 +102,8 @@ on_head r wish n head legs some within may =
       braked = λ left. (let step = braking_step r.rate r.change (omega arith) some in omega arith);
     }
 
-on_legs_kept : (n a v rest wish : ℕ) (legs : List Leg) → IsRamp (record { change = a; rate = v; rest = rest; legs = legs }) → MayCoastOn legs (record { change = a; rate = v; rest = rest; legs = legs }) wish n →
+on_legs_kept : (n a v rest wish : ℕ) (legs : List Leg) → IsRamp (record { change = a; rate = v; rest = rest; legs = legs }) →
+    MayCoastOn legs (record { change = a; rate = v; rest = rest; legs = legs }) wish n →
     IsRamp (record { change = a; rate = v; rest = rest - n * v; legs = legs })
 on_legs_kept zero a v rest wish legs ramp may = let same : rest - 0 * v ≡ rest = omega arith in rw same ramp
 on_legs_kept (suc n) a v rest wish [] ramp may = absurd (omega (arith, may))
@@ -115,7 +124,8 @@ pub coasted : (r : RampState) (wish n : ℕ) → IsRamp r → MayCoastOn r.legs 
 coasted r wish n ramp may = on_legs_kept n r.change r.rate r.rest wish r.legs ramp may
 
 -- at rate 0 nothing changes
-stand_on : (a v rest wish n : ℕ) (legs : List Leg) → 0 < length legs → IsRest rest legs → v ≡ wish → v ≡ 0 → MayCoastOn legs (record { change = a; rate = v; rest = rest; legs = legs }) wish n
+stand_on : (a v rest wish n : ℕ) (legs : List Leg) → 0 < length legs → IsRest rest legs → v ≡ wish → v ≡ 0 →
+    MayCoastOn legs (record { change = a; rate = v; rest = rest; legs = legs }) wish n
 stand_on a v rest wish n [] some left wished still = absurd (omega arith)
 stand_on a v rest wish n (head ∷ legs) some left wished still =
     let none : n * v ≡ 0 = rw still (omega arith) in

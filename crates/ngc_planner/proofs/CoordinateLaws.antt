@@ -9,7 +9,8 @@ pub kept : (z : ℤ) → unsigned_abs z ≤ 200000000000 → to_z w64 (of_z w64 
 kept z small = omega (arith, ints)
 
 -- what 128 bits make of a sum of three products
-pub kept_sum : (a b c : ℤ) → unsigned_abs a ≤ 4 * 10 ^ 22 → unsigned_abs b ≤ 4 * 10 ^ 22 → unsigned_abs c ≤ 4 * 10 ^ 22 → to_z w128 (of_z w128 (to_z w128 (of_z w128 (to_z w128 (of_z w128 a) +ℤ to_z w128 (of_z w128 b))) +ℤ to_z w128 (of_z w128 c))) ≡ a +ℤ b +ℤ c
+pub kept_sum : (a b c : ℤ) → unsigned_abs a ≤ 4 * 10 ^ 22 → unsigned_abs b ≤ 4 * 10 ^ 22 → unsigned_abs c ≤ 4 * 10 ^ 22 →
+    to_z w128 (of_z w128 (to_z w128 (of_z w128 (to_z w128 (of_z w128 a) +ℤ to_z w128 (of_z w128 b))) +ℤ to_z w128 (of_z w128 c))) ≡ a +ℤ b +ℤ c
 kept_sum a b c p q r = omega (arith, ints)
 
 -- two products of 128 bits are equal where their bits are

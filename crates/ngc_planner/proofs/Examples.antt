@@ -93,13 +93,16 @@ target_none = refl
 least_traverse : least_travel built_in_machine (traverse (at (pos 0) (pos 0) (pos 0)) (at (pos 1000000) (pos 0) (pos 0))) 100 ≡ 1000
 least_traverse = refl
 
-joint_corner : joint_of built_in_machine (traverse (at (pos 0) (pos 0) (pos 0)) (at (pos 1000000) (pos 0) (pos 0))) (traverse (at (pos 1000000) (pos 0) (pos 0)) (at (pos 1000000) (pos 1000000) (pos 0))) ≡ 50000
+joint_corner : joint_of built_in_machine (traverse (at (pos 0) (pos 0) (pos 0)) (at (pos 1000000) (pos 0) (pos 0)))
+    (traverse (at (pos 1000000) (pos 0) (pos 0)) (at (pos 1000000) (pos 1000000) (pos 0))) ≡ 50000
 joint_corner = refl
 
-joint_back : joint_of built_in_machine (traverse (at (pos 0) (pos 0) (pos 0)) (at (pos 1000000) (pos 0) (pos 0))) (traverse (at (pos 1000000) (pos 0) (pos 0)) (at (pos 0) (pos 0) (pos 0))) ≡ 50000
+joint_back : joint_of built_in_machine (traverse (at (pos 0) (pos 0) (pos 0)) (at (pos 1000000) (pos 0) (pos 0)))
+    (traverse (at (pos 1000000) (pos 0) (pos 0)) (at (pos 0) (pos 0) (pos 0))) ≡ 50000
 joint_back = refl
 
-joint_straight : joint_of built_in_machine (traverse (at (pos 0) (pos 0) (pos 0)) (at (pos 1000000) (pos 0) (pos 0))) (traverse (at (pos 1000000) (pos 0) (pos 0)) (at (pos 3000000) (pos 0) (pos 0))) ≡ 1000000
+joint_straight : joint_of built_in_machine (traverse (at (pos 0) (pos 0) (pos 0)) (at (pos 1000000) (pos 0) (pos 0)))
+    (traverse (at (pos 1000000) (pos 0) (pos 0)) (at (pos 3000000) (pos 0) (pos 0))) ≡ 1000000
 joint_straight = refl
 
 -- a leg of so many path steps, with a bound, and with this joint at both of its ends

@@ -15,7 +15,12 @@ use Rattle.ngc_planner.specs.Caps.{MILLION}
 
 -- the axes on which two grid points differ
 abbrev pub differing : StepPos → StepPos → Axes
-differing p q = record { x = nat_lt 0 (distance p.x q.x); y = nat_lt 0 (distance p.y q.y); z = nat_lt 0 (distance p.z q.z) }
+differing p q =
+    record {
+      x = nat_lt 0 (distance p.x q.x);
+      y = nat_lt 0 (distance p.y q.y);
+      z = nat_lt 0 (distance p.z q.z);
+    }
 
 -- and the two of a plane
 abbrev pub with_plane : Plane → Axes → Axes
@@ -43,7 +48,8 @@ abbrev pub rate_where : Bool → ℕ → ℕ
 rate_where moves rate = if moves then rate else MILLION
 
 abbrev pub least_rate : AxisRates → Axes → ℕ
-least_rate rates axes = min (rate_where axes.x rates.x) (min (rate_where axes.y rates.y) (rate_where axes.z rates.z))
+least_rate rates axes =
+    min (rate_where axes.x rates.x) (min (rate_where axes.y rates.y) (rate_where axes.z rates.z))
 
 abbrev pub axes_rate : MachineFile → Way → ℕ
 axes_rate machine way = least_rate machine.axis_rates (axes_of machine.step way)

@@ -1,5 +1,6 @@
 -- Which rates a tick may have on a motion, and which one it is to reach. Our own.
-use Rattle.std.specs.Prelude.{◌≡◌, ℕ, ◌*◌, ◌/◌, ◌≤◌, ◌↔◌, min, max, ◌==◌, unsigned_abs, if◌then◌else◌}
+use Rattle.std.specs.Prelude.{◌≡◌, ℕ, ◌*◌, ◌/◌, ◌≤◌, ◌↔◌, min, max, ◌==◌, unsigned_abs}
+use Rattle.std.specs.Prelude.{if◌then◌else◌}
 use Rattle.ngc_fixed_length.specs.Roots.{whole_root}
 use Rattle.ngc_arc_geometry.specs.Radii.{inner_radius}
 use Rattle.ngc_arc_geometry.specs.Shape.{ArcShape}
@@ -17,7 +18,8 @@ use Rattle.ngc_planner.specs.Joints.{joint_of}
 -- on an arc v*v*step is at most the machine's turn times the radius
 abbrev pub MayTurnOn : MachineFile → Way → ℕ → Type 0
 MayTurnOn machine (Line b e) v = Unit {0}
-MayTurnOn machine (Arc a) v = v * v * unsigned_abs machine.step ≤ machine.turn * max (inner_radius a) (unsigned_abs machine.step)
+MayTurnOn machine (Arc a) v = v * v * unsigned_abs machine.step
+    ≤ machine.turn * max (inner_radius a) (unsigned_abs machine.step)
 
 abbrev pub MayTurn : MachineFile → Action → ℕ → Type 0
 MayTurn machine (Move m) v = MayTurnOn machine m.way v
@@ -47,7 +49,8 @@ abbrev pub greatest_rate : MachineFile → Action → ℕ
 greatest_rate machine action = min machine.max_rate (axes_bound machine action)
 
 abbrev pub bound_of : MachineFile → Action → ℕ → ℕ
-bound_of machine action n = min (min (greatest_rate machine action) (2 * cap_of action n machine)) (turn_bound machine action)
+bound_of machine action n = min (min (greatest_rate machine action) (2 * cap_of action n machine))
+    (turn_bound machine action)
 
 -- a cap under an override in percent, at least 1 unless the override is 0
 abbrev pub overridden : ℕ → ℕ → ℕ
@@ -56,11 +59,13 @@ overridden cap percent = if percent == 0 then 0 else max 1 (cap * percent / 100)
 -- the rate that a tick of a motion of n path steps is to reach
 abbrev pub target_at : MachineFile → Action → ℕ → ℕ → ℕ
 target_at machine action n percent =
-    min (min (overridden (cap_of action n machine) percent) (greatest_rate machine action)) (turn_bound machine action)
+    min (min (overridden (cap_of action n machine) percent) (greatest_rate machine action))
+    (turn_bound machine action)
 
 -- the rate that a motion of n path steps has in each of its ticks at least, if its end allows it
 abbrev pub least_travel : MachineFile → Action → ℕ → ℕ
-least_travel machine action n = min (min machine.change machine.corner) (target_at machine action n 1)
+least_travel machine action n =
+    min (min machine.change machine.corner) (target_at machine action n 1)
 
 -- ---- what holds of every machine and action
 
@@ -74,7 +79,8 @@ IsGreatestBound =
     (v ≤ bound_of machine action n) ↔ IsWithinBounds machine action n v
 
 -- at least that much is aimed at under every override, and allowed by every bound
-pub record IsLeastTravel (machine : MachineFile) (action next : Action) (n percent : ℕ) : Type 0 where
+pub record IsLeastTravel (machine : MachineFile) (action next : Action) (n percent : ℕ) :
+    Type 0 where
   pub some : 1 ≤ least_travel machine action n
   pub change : least_travel machine action n ≤ machine.change
   pub target : 1 ≤ percent → least_travel machine action n ≤ target_at machine action n percent
@@ -84,5 +90,6 @@ pub record IsLeastTravel (machine : MachineFile) (action next : Action) (n perce
 
 abbrev pub MayTravelLeast : Type 0
 MayTravelLeast =
-    (machine : MachineFile) (action next : Action) (n percent : ℕ) → IsMachine machine → IsMotion action →
+    (machine : MachineFile) (action next : Action) (n percent : ℕ) → IsMachine machine →
+    IsMotion action →
     IsLeastTravel machine action next n percent

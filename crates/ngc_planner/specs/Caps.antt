@@ -30,7 +30,8 @@ square n = n * n
 
 -- the length from b to e, rounded up to whole nanometres
 abbrev pub length_between : Point3 → Point3 → ℕ
-length_between b e = whole_root_above (square (distance b.x e.x) + square (distance b.y e.y) + square (distance b.z e.z))
+length_between b e = whole_root_above
+    (square (distance b.x e.x) + square (distance b.y e.y) + square (distance b.z e.z))
 
 -- thousandths of a step, a little more than a path step's length; an arc is a helix where its ends
 -- differ in height
@@ -71,11 +72,13 @@ KeepsMinuteFeed hz n length f cap = (v : ℕ) → v ≤ cap → v * length * 60 
 
 -- the same of a line's feed, unless its cap was raised to 1
 abbrev pub KeepsLineFeed : ℕ → ℕ → ℕ → Feed → ℕ → Type 0
-KeepsLineFeed hz n length (PerMinute f) cap = 1 ≤ line_cap hz n length (PerMinute f) → KeepsMinuteFeed hz n length f cap
+KeepsLineFeed hz n length (PerMinute f) cap =
+    1 ≤ line_cap hz n length (PerMinute f) → KeepsMinuteFeed hz n length f cap
 KeepsLineFeed hz n length (Inverse f) cap = Unit {0}
 
 abbrev pub KeepsMotionFeed : MachineFile → Way → Pace → ℕ → ℕ → Type 0
-KeepsMotionFeed m (Line b e) (paces.Feed f) n cap = KeepsLineFeed m.ticks_per_second n (length_between b e) f cap
+KeepsMotionFeed m (Line b e) (paces.Feed f) n cap =
+    KeepsLineFeed m.ticks_per_second n (length_between b e) f cap
 KeepsMotionFeed m _ _ n cap = Unit {0}
 
 abbrev pub KeepsFeed : MachineFile → Action → ℕ → ℕ → Type 0

@@ -1,5 +1,6 @@
 -- Motions as a ramp sees them. Our own.
-use Rattle.std.specs.Prelude.{◌≡◌, ℕ, ◌+◌, ◌-◌, ◌*◌, ◌/◌, ◌≤◌, min, ◌==◌, nat_lt, Bool, if◌then◌else◌}
+use Rattle.std.specs.Prelude.{◌≡◌, ℕ, ◌+◌, ◌-◌, ◌*◌, ◌/◌, ◌≤◌, min, ◌==◌, nat_lt, Bool}
+use Rattle.std.specs.Prelude.{if◌then◌else◌}
 use Rattle.ngc_planner.specs.declared.leg.Leg.{Leg}
 use Rattle.ngc_planner.specs.Caps.{MILLION}
 
@@ -21,4 +22,5 @@ travelled l rest = l.millionths - rest
 
 -- whether v millionths more, with so much left before, reach the end of a path step
 abbrev pub is_due : Leg → ℕ → ℕ → Bool
-is_due l rest v = nat_lt (travelled l rest / MILLION) (min (travelled l rest + v) l.millionths / MILLION)
+is_due l rest v =
+    nat_lt (travelled l rest / MILLION) (min (travelled l rest + v) l.millionths / MILLION)

@@ -1,5 +1,6 @@
 -- The rules of pulses: how many there are in a window of ticks. Our own.
-use Rattle.std.specs.Prelude.{ℕ, ◌+◌, ◌-◌, ◌*◌, ◌/◌, ◌≤◌, min, ℤ, unsigned_abs, List, length, take, drop, count_by, Bool, nat_lt, ◌||◌}
+use Rattle.std.specs.Prelude.{ℕ, ◌+◌, ◌-◌, ◌*◌, ◌/◌, ◌≤◌, min, ℤ, unsigned_abs, List, length, take}
+use Rattle.std.specs.Prelude.{drop, count_by, Bool, nat_lt, ◌||◌}
 use Rattle.ngc_fixed_length.specs.declared.points.StepPos.{StepPos}
 use Rattle.ngc_machine.specs.Machine.{MachineFile}
 use Rattle.ngc_planner.specs.Caps.{MILLION}
@@ -23,11 +24,19 @@ abbrev pub up_to_whole : ℕ → ℕ
 up_to_whole x = (x + (MILLION - 1)) / MILLION
 
 pub record KeepsPulseRules (machine : MachineFile) (ticks : List Pulse) : Type 0 where
-  pub x : (i n : ℕ) → i + n ≤ length ticks → count_in (λ p. is_stepping p.x) i n ticks ≤ up_to_whole (n * min machine.max_rate machine.axis_rates.x)
-  pub y : (i n : ℕ) → i + n ≤ length ticks → count_in (λ p. is_stepping p.y) i n ticks ≤ up_to_whole (n * min machine.max_rate machine.axis_rates.y)
-  pub z : (i n : ℕ) → i + n ≤ length ticks → count_in (λ p. is_stepping p.z) i n ticks ≤ up_to_whole (n * min machine.max_rate machine.axis_rates.z)
+  pub x : (i n : ℕ) → i + n ≤ length ticks →
+      count_in (λ p. is_stepping p.x) i n ticks
+      ≤ up_to_whole (n * min machine.max_rate machine.axis_rates.x)
+  pub y : (i n : ℕ) → i + n ≤ length ticks →
+      count_in (λ p. is_stepping p.y) i n ticks
+      ≤ up_to_whole (n * min machine.max_rate machine.axis_rates.y)
+  pub z : (i n : ℕ) → i + n ≤ length ticks →
+      count_in (λ p. is_stepping p.z) i n ticks
+      ≤ up_to_whole (n * min machine.max_rate machine.axis_rates.z)
   -- two windows of n ticks, one after the other
   pub faster : (i n : ℕ) → i + n + n ≤ length ticks →
-      count_in is_path_step (i + n) n ticks ≤ count_in is_path_step i n ticks + up_to_whole (n * n * machine.change) + 1
+      count_in is_path_step (i + n) n ticks ≤ count_in is_path_step i n ticks
+      + up_to_whole (n * n * machine.change) + 1
   pub slower : (i n : ℕ) → i + n + n ≤ length ticks →
-      count_in is_path_step i n ticks ≤ count_in is_path_step (i + n) n ticks + up_to_whole (n * n * machine.change) + 1
+      count_in is_path_step i n ticks ≤ count_in is_path_step (i + n) n ticks
+      + up_to_whole (n * n * machine.change) + 1

@@ -2,7 +2,8 @@ ghost use Rattle.std.specs.Prelude.{◌≡◌, ◌≤◌, ◌<◌, ◌^◌};
 ghost use Rattle.ngc_machine.specs.Machine.{file_of};
 ghost use Rattle.ngc_planner.specs.Axes.{axes_bound};
 ghost use Rattle.ngc_planner.specs.Caps.{MILLION, STEPS_LIMIT};
-ghost use Rattle.ngc_planner.specs.Bounds.{IsMotion, arc_rate, turn_rate, turn_bound, greatest_rate, bound_of, overridden, target_at};
+ghost use Rattle.ngc_planner.specs.Bounds.{IsMotion, arc_rate, turn_rate, turn_bound};
+ghost use Rattle.ngc_planner.specs.Bounds.{greatest_rate, bound_of, overridden, target_at};
 
 use crate::axes::axes_rate;
 use crate::caps::cap_of;

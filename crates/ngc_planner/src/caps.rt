@@ -1,7 +1,9 @@
 ghost use Rattle.std.specs.Prelude.{◌≡◌, ◌+◌, ◌*◌, ◌/◌, ◌^◌, ◌≤◌, ◌<◌, unsigned_abs};
 ghost use Rattle.ngc_fixed_length.specs.Grid.{distance};
 ghost use Rattle.ngc_machine.specs.Machine.{file_of};
-ghost use Rattle.ngc_planner.specs.Caps.{MILLION, STEPS_LIMIT, length_between, crosswise, inverse_cap, line_cap, arc_cap, feed_cap, cap_of, KeepsFeed};
+ghost use Rattle.ngc_planner.specs.Caps.{MILLION, STEPS_LIMIT, length_between, crosswise};
+ghost use Rattle.ngc_planner.specs.Caps.{inverse_cap, line_cap, arc_cap, feed_cap, cap_of};
+ghost use Rattle.ngc_planner.specs.Caps.{KeepsFeed};
 
 use ngc_arc_geometry::Arc;
 use ngc_canonical::{Action, Feed, Pace, Way};

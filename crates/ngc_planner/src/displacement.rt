@@ -21,7 +21,8 @@ impl Model for Displacement {
 
     ghost view = { λ w. record { x = w.x; y = w.y; z = w.z } };
 
-    ghost invariant = { λ w. (unsigned_abs w.x ≤ 200000000000) × (unsigned_abs w.y ≤ 200000000000) × (unsigned_abs w.z ≤ 200000000000) };
+    ghost invariant = { λ w. (unsigned_abs w.x ≤ 200000000000) × (unsigned_abs w.y ≤ 200000000000) ×
+        (unsigned_abs w.z ≤ 200000000000) };
 
     ghost inverse = { λ p. record { x = p.x; y = p.y; z = p.z } };
 }

@@ -24,5 +24,6 @@ both r cs ds x y z a b c p q = record {
 }
 
 -- where the second are added at the rate that is left by the first
-pub adds_both : (r s : ℕ) (cs ds : List Change) (x y z : ℕ) (a b c : List ℕ) → s ≡ r → AddsChanges r cs x y a b → AddsChanges s ds y z b c → AddsChanges r (cs ++ ds) x z a c
+pub adds_both : (r s : ℕ) (cs ds : List Change) (x y z : ℕ) (a b c : List ℕ) → s ≡ r → AddsChanges r cs x y a b → AddsChanges s ds y z b c →
+    AddsChanges r (cs ++ ds) x z a c
 adds_both r s cs ds x y z a b c same p q = both r cs ds x y z a b c p (subst (λ n. AddsChanges n ds y z b c) same q)

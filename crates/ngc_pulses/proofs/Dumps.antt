@@ -17,7 +17,11 @@ still_axis : (up : Bool) (a : ℤ) → axis_step up (a -ℤ a) ≡ record { step
 still_axis up a = let none : a -ℤ a ≡ pos 0 = omega (arith, ints) in ap (axis_step up) none
 
 abbrev resting : Directions → Steps
-resting d = record { x = record { steps = false; turns = false; up = d.x }; y = record { steps = false; turns = false; up = d.y }; z = record { steps = false; turns = false; up = d.z } }
+resting d = record {
+  x = record { steps = false; turns = false; up = d.x };
+  y = record { steps = false; turns = false; up = d.y };
+  z = record { steps = false; turns = false; up = d.z };
+}
 
 abbrev made : AxisStep → AxisStep → AxisStep → Steps
 made x y z = record { x = x; y = y; z = z }
@@ -30,7 +34,8 @@ still_steps d p =
 
 -- ---- all ticks
 
-pub ticks_text_is : (d : DumpState) (ticks : List (Option StepPos)) → ticks_text d ticks ≡ dumped d.ticks_per_second d.stamped (changes d.ticks d.directions (pulses_over d.position ticks))
+pub ticks_text_is : (d : DumpState) (ticks : List (Option StepPos)) →
+    ticks_text d ticks ≡ dumped d.ticks_per_second d.stamped (changes d.ticks d.directions (pulses_over d.position ticks))
 ticks_text_is d [] = refl
 ticks_text_is d (None ∷ ticks) =
     let next : DumpState = after_tick d None in
@@ -38,7 +43,8 @@ ticks_text_is d (None ∷ ticks) =
     let more : d.ticks + 1 ≡ suc d.ticks = omega arith in
     ticks_text_is next ticks
     ∙ ap (λ n. dumped d.ticks_per_second d.stamped (changes n d.directions rest)) more
-    ∙ sym (ap (λ s. dumped d.ticks_per_second d.stamped (tick_changes d.ticks s ++ changes (suc d.ticks) (directions_after s) rest)) (still_steps d.directions d.position))
+    ∙ sym (ap (λ s. dumped d.ticks_per_second d.stamped (tick_changes d.ticks s ++ changes (suc d.ticks) (directions_after s) rest))
+    (still_steps d.directions d.position))
 ticks_text_is d (Some q ∷ ticks) =
     let next : DumpState = after_tick d (Some q) in
     let rest : List StepPos = pulses_over q ticks in
@@ -52,7 +58,8 @@ ticks_text_is d (Some q ∷ ticks) =
 pub ticks_text-append : (d : DumpState) (ts us : List (Option StepPos)) → ticks_text d (ts ++ us) ≡ ticks_text d ts ++ ticks_text (after_ticks d ts) us
 ticks_text-append d [] us = refl
 ticks_text-append d (t ∷ ts) us =
-    ap (λ l. tick_text d t ++ l) (ticks_text-append (after_tick d t) ts us) ∙ sym (append_assoc (tick_text d t) (ticks_text (after_tick d t) ts) (ticks_text (after_ticks (after_tick d t) ts) us))
+    ap (λ l. tick_text d t ++ l) (ticks_text-append (after_tick d t) ts us)
+    ∙ sym (append_assoc (tick_text d t) (ticks_text (after_tick d t) ts) (ticks_text (after_ticks (after_tick d t) ts) us))
 
 pub after_ticks-append : (d : DumpState) (ts us : List (Option StepPos)) → after_ticks d (ts ++ us) ≡ after_ticks (after_ticks d ts) us
 after_ticks-append d [] us = refl
@@ -84,10 +91,12 @@ as_many p (Some q ∷ ticks) = ap suc (as_many q ticks)
 -- ---- the whole
 
 pub whole_dump : (rate : ℕ) (position : StepPos) (ticks : List (Option StepPos)) →
-    header ++ (ticks_text (first_state rate position) ticks ++ closing_text (after_ticks (first_state rate position) ticks)) ≡ vcd rate (pulses_over position ticks)
+    header ++ (ticks_text (first_state rate position) ticks ++ closing_text (after_ticks (first_state rate position) ticks))
+    ≡ vcd rate (pulses_over position ticks)
 whole_dump rate position ticks =
     let d : DumpState = first_state rate position in
     let n : (after_ticks d ticks).ticks ≡ length (pulses_over position ticks) = omega (arith, ticks_after d ticks, as_many position ticks) in
     ap (λ l. header ++ (l ++ closing_text (after_ticks d ticks))) (ticks_text_is d ticks)
-    ∙ ap (λ r. header ++ (dumped rate 0 (changes 0 all_down (pulses_over position ticks)) ++ stamp r (2 * (after_ticks d ticks).ticks + 2))) (rate_after d ticks)
+    ∙ ap (λ r. header ++ (dumped rate 0 (changes 0 all_down (pulses_over position ticks)) ++ stamp r (2 * (after_ticks d ticks).ticks + 2)))
+    (rate_after d ticks)
     ∙ ap (λ k. header ++ (dumped rate 0 (changes 0 all_down (pulses_over position ticks)) ++ stamp rate (2 * k + 2))) n

@@ -1,9 +1,11 @@
 -- A dump that goes on from tick to tick, as positions are commanded. Our own.
-use Rattle.std.specs.Prelude.{◌≡◌, ℕ, ◌+◌, ◌*◌, ◌≤◌, ◌-ℤ◌, List, [], ◌∷◌, ◌++◌, length, Option, Some, None}
+use Rattle.std.specs.Prelude.{◌≡◌, ℕ, ◌+◌, ◌*◌, ◌≤◌, ◌-ℤ◌, List, [], ◌∷◌, ◌++◌, length, Option}
+use Rattle.std.specs.Prelude.{Some, None}
 use Rattle.ngc_fixed_length.specs.declared.points.StepPos.{StepPos}
 use Rattle.ngc_pulses.specs.declared.axis_step.Directions.{Directions}
 use Rattle.ngc_pulses.specs.declared.axis_step.Steps.{Steps}
-use Rattle.ngc_pulses.specs.Vcd.{Change, steps_of, directions_after, tick_changes, dumped, all_down, stamp}
+use Rattle.ngc_pulses.specs.Vcd.{Change, steps_of, directions_after, tick_changes, dumped, all_down}
+use Rattle.ngc_pulses.specs.Vcd.{stamp}
 
 -- by how much each axis goes from p to q
 abbrev pub step_between : StepPos → StepPos → StepPos
@@ -29,7 +31,14 @@ pub record DumpState : Type 0 where
   pub stamped : ℕ
 
 abbrev pub first_state : ℕ → StepPos → DumpState
-first_state ticks_per_second position = record { ticks_per_second = ticks_per_second; ticks = 0; position = position; directions = all_down; stamped = 0 }
+first_state ticks_per_second position =
+    record {
+      ticks_per_second = ticks_per_second;
+      ticks = 0;
+      position = position;
+      directions = all_down;
+      stamped = 0;
+    }
 
 -- ---- a tick
 
@@ -65,7 +74,8 @@ closing_text d = stamp d.ticks_per_second (2 * d.ticks + 2)
 
 -- ---- changes that are added to a text
 
-pub record AddsChanges (ticks_per_second : ℕ) (cs : List Change) (last now : ℕ) (before after : List ℕ) : Type 0 where
+pub record AddsChanges (ticks_per_second : ℕ) (cs : List Change) (last now : ℕ)
+    (before after : List ℕ) : Type 0 where
   pub text : after ≡ before ++ dumped ticks_per_second last cs
   pub stamped : now ≡ last_half last cs
   pub short : length after ≤ length before + 50 * length cs

@@ -1,12 +1,15 @@
 -- The pulses of a run as a value change dump (IEEE 1364-2005, clause 18): what the motor drivers
 -- see.
-use Rattle.std.specs.Prelude.{ℕ, zero, suc, ◌+◌, ◌-◌, ◌*◌, ◌/◌, ◌^◌, min, nat_eq, ℤ, pos, negsuc, List, [], ◌∷◌, ◌++◌, length, decimal, codes, Bool, true, false, not, if◌then◌else◌}
+use Rattle.std.specs.Prelude.{ℕ, zero, suc, ◌+◌, ◌-◌, ◌*◌, ◌/◌, ◌^◌, min, nat_eq, ℤ, pos, negsuc}
+use Rattle.std.specs.Prelude.{List, [], ◌∷◌, ◌++◌, length, decimal, codes, Bool, true, false, not}
+use Rattle.std.specs.Prelude.{if◌then◌else◌}
 use Rattle.ngc_fixed_length.specs.declared.points.StepPos.{StepPos}
 use Rattle.ngc_pulses.specs.declared.axis_step.AxisStep.{AxisStep}
 use Rattle.ngc_pulses.specs.declared.axis_step.Directions.{Directions}
 use Rattle.ngc_pulses.specs.declared.axis_step.Steps.{Steps}
 use Rattle.ngc_pulses.specs.declared.wire.Wire.{Wire}
-use Rattle.ngc_pulses.specs.declared.wire.Wire.TheVariants.{XStep, XDirection, YStep, YDirection, ZStep, ZDirection}
+use Rattle.ngc_pulses.specs.declared.wire.Wire.TheVariants.{XStep, XDirection, YStep, YDirection}
+use Rattle.ngc_pulses.specs.declared.wire.Wire.TheVariants.{ZStep, ZDirection}
 
 -- ---- times
 
@@ -30,7 +33,8 @@ axis_step up (pos (suc n)) = record { steps = true; turns = not up; up = true }
 axis_step up (negsuc n) = record { steps = true; turns = up; up = false }
 
 abbrev pub steps_of : Directions → StepPos → Steps
-steps_of d pulse = record { x = axis_step d.x pulse.x; y = axis_step d.y pulse.y; z = axis_step d.z pulse.z }
+steps_of d pulse =
+    record { x = axis_step d.x pulse.x; y = axis_step d.y pulse.y; z = axis_step d.z pulse.z }
 
 abbrev pub directions_after : Steps → Directions
 directions_after s = record { x = s.x.up; y = s.y.up; z = s.z.up }
@@ -44,20 +48,24 @@ turns half s = turn half XDirection s.x ++ (turn half YDirection s.y ++ turn hal
 
 -- the step, where the axis steps
 abbrev pub level : ℕ → Bool → Wire → AxisStep → List Change
-level half high wire s = if s.steps then record { half = half; wire = wire; high = high } ∷ [] else []
+level half high wire s =
+    if s.steps then record { half = half; wire = wire; high = high } ∷ [] else []
 
 abbrev pub levels : ℕ → Bool → Steps → List Change
-levels half high s = level half high XStep s.x ++ (level half high YStep s.y ++ level half high ZStep s.z)
+levels half high s =
+    level half high XStep s.x ++ (level half high YStep s.y ++ level half high ZStep s.z)
 
 -- Tick n, the first being tick 1, sets the directions at half tick 2n - 1, the steps at 2n, and
 -- takes them back at 2n + 1. Here `before` is n - 1.
 abbrev pub tick_changes : ℕ → Steps → List Change
-tick_changes before s = turns (2 * before + 1) s ++ (levels (2 * before + 2) true s ++ levels (2 * before + 3) false s)
+tick_changes before s =
+    turns (2 * before + 1) s ++ (levels (2 * before + 2) true s ++ levels (2 * before + 3) false s)
 
 -- the changes of ticks, from the pulse of each: by how much each axis goes
 abbrev pub changes : ℕ → Directions → List StepPos → List Change
 changes before d [] = []
-changes before d (pulse ∷ pulses) = tick_changes before (steps_of d pulse) ++ changes (suc before) (directions_after (steps_of d pulse)) pulses
+changes before d (pulse ∷ pulses) = tick_changes before (steps_of d pulse)
+    ++ changes (suc before) (directions_after (steps_of d pulse)) pulses
 
 -- ---- their text
 
@@ -80,12 +88,15 @@ stamp ticks_per_second half = codes "#" ++ (decimal (time_of ticks_per_second ha
 
 -- a half tick is stamped once, before its changes
 abbrev pub stamp_after : ℕ → ℕ → ℕ → List ℕ
-stamp_after ticks_per_second last half = if nat_eq half last then [] else stamp ticks_per_second half
+stamp_after ticks_per_second last half =
+    if nat_eq half last then [] else stamp ticks_per_second half
 
 -- changes behind a half tick that was stamped last
 abbrev pub dumped : ℕ → ℕ → List Change → List ℕ
 dumped ticks_per_second last [] = []
-dumped ticks_per_second last (c ∷ cs) = (stamp_after ticks_per_second last c.half ++ change_text c.wire c.high) ++ dumped ticks_per_second c.half cs
+dumped ticks_per_second last (c ∷ cs) =
+    (stamp_after ticks_per_second last c.half ++ change_text c.wire c.high)
+    ++ dumped ticks_per_second c.half cs
 
 abbrev pub header : List ℕ
 header =
@@ -103,4 +114,5 @@ all_down = record { x = false; y = false; z = false }
 -- steps, so that viewers show the whole run.
 abbrev pub vcd : ℕ → List StepPos → List ℕ
 vcd ticks_per_second pulses =
-    header ++ (dumped ticks_per_second 0 (changes 0 all_down pulses) ++ stamp ticks_per_second (2 * length pulses + 2))
+    header ++ (dumped ticks_per_second 0 (changes 0 all_down pulses)
+    ++ stamp ticks_per_second (2 * length pulses + 2))

@@ -47,7 +47,9 @@ impl Stamps {
 
     fn change(&mut self, half: u128, wire: Wire, high: bool, chunk: &mut Chunk)
         requires { length chunk.old + 50 ≤ CHUNK_SIZE }
-        ensures adds { AddsChanges self.old.ticks_per_second (record { half = half; wire = wire; high = high } ∷ []) self.old.last self.new.last chunk.old chunk.new }
+        ensures adds { AddsChanges self.old.ticks_per_second
+            (record { half = half; wire = wire; high = high } ∷ []) self.old.last self.new.last
+            chunk.old chunk.new }
         ensures rate { self.new.ticks_per_second ≡ self.old.ticks_per_second }
     {
         if half != self.last {
@@ -59,7 +61,8 @@ impl Stamps {
 
     fn turn(&mut self, half: u128, wire: Wire, step: &AxisStep, chunk: &mut Chunk)
         requires { length chunk.old + 50 ≤ CHUNK_SIZE }
-        ensures adds { AddsChanges self.old.ticks_per_second (turn half wire step.now) self.old.last self.new.last chunk.old chunk.new }
+        ensures adds { AddsChanges self.old.ticks_per_second
+            (turn half wire step.now) self.old.last self.new.last chunk.old chunk.new }
         ensures short { length chunk.new ≤ length chunk.old + 50 }
         ensures rate { self.new.ticks_per_second ≡ self.old.ticks_per_second }
     {
@@ -70,7 +73,8 @@ impl Stamps {
 
     fn turns(&mut self, half: u128, steps: &Steps, chunk: &mut Chunk)
         requires { length chunk.old + 150 ≤ CHUNK_SIZE }
-        ensures adds { AddsChanges self.old.ticks_per_second (turns half steps.now) self.old.last self.new.last chunk.old chunk.new }
+        ensures adds { AddsChanges self.old.ticks_per_second
+            (turns half steps.now) self.old.last self.new.last chunk.old chunk.new }
         ensures short { length chunk.new ≤ length chunk.old + 150 }
         ensures rate { self.new.ticks_per_second ≡ self.old.ticks_per_second }
     {
@@ -81,7 +85,8 @@ impl Stamps {
 
     fn level(&mut self, half: u128, high: bool, wire: Wire, step: &AxisStep, chunk: &mut Chunk)
         requires { length chunk.old + 50 ≤ CHUNK_SIZE }
-        ensures adds { AddsChanges self.old.ticks_per_second (level half high wire step.now) self.old.last self.new.last chunk.old chunk.new }
+        ensures adds { AddsChanges self.old.ticks_per_second
+            (level half high wire step.now) self.old.last self.new.last chunk.old chunk.new }
         ensures short { length chunk.new ≤ length chunk.old + 50 }
         ensures rate { self.new.ticks_per_second ≡ self.old.ticks_per_second }
     {
@@ -92,7 +97,8 @@ impl Stamps {
 
     fn levels(&mut self, half: u128, high: bool, steps: &Steps, chunk: &mut Chunk)
         requires { length chunk.old + 150 ≤ CHUNK_SIZE }
-        ensures adds { AddsChanges self.old.ticks_per_second (levels half high steps.now) self.old.last self.new.last chunk.old chunk.new }
+        ensures adds { AddsChanges self.old.ticks_per_second
+            (levels half high steps.now) self.old.last self.new.last chunk.old chunk.new }
         ensures short { length chunk.new ≤ length chunk.old + 150 }
         ensures rate { self.new.ticks_per_second ≡ self.old.ticks_per_second }
     {
@@ -105,7 +111,8 @@ impl Stamps {
     pub(crate) fn tick(&mut self, before: u128, steps: &Steps, chunk: &mut Chunk)
         requires few { before ≤ 2 ^ 126 }
         requires room { length chunk.old + 450 ≤ CHUNK_SIZE }
-        ensures adds { AddsChanges self.old.ticks_per_second (tick_changes before steps.now) self.old.last self.new.last chunk.old chunk.new }
+        ensures adds { AddsChanges self.old.ticks_per_second
+            (tick_changes before steps.now) self.old.last self.new.last chunk.old chunk.new }
         ensures short { length chunk.new ≤ length chunk.old + 450 }
         ensures rate { self.new.ticks_per_second ≡ self.old.ticks_per_second }
     {

@@ -44,7 +44,8 @@ went f old mid new before between after more rest left whole is h k = record {
 
 -- a write fails while they are told
 pub stopped : (f : Form) (old mid new : Option (List ℕ)) (before between : List ℕ) (more rest left whole : List Line) → left ≡ more ++ rest
-    → Ahead f old mid before between left whole → AppendsBeginning mid new (between ++ report_text f more) → AppendsBeginning old new (before ++ report_text f whole)
+    → Ahead f old mid before between left whole → AppendsBeginning mid new (between ++ report_text f more) →
+    AppendsBeginning old new (before ++ report_text f whole)
 stopped f old mid new before between more rest left whole is h k =
     let so_far : AppendsBeginning old new (before ++ report_text f (h.done ++ more)) =
     subst (λ (l : List ℕ). AppendsBeginning old new l) (joined f before h.done more)
@@ -64,10 +65,12 @@ last f (Err e) old mid new before between after left whole h k =
 
 -- ---- three parts, and a whole that is written out
 
-pub first_stopped : (f : Form) (old new : Option (List ℕ)) (before : List ℕ) (a rest : List Line) → AppendsBeginning old new (before ++ report_text f a) → AppendsBeginning old new (before ++ report_text f (a ++ rest))
+pub first_stopped : (f : Form) (old new : Option (List ℕ)) (before : List ℕ) (a rest : List Line) → AppendsBeginning old new (before ++ report_text f a) →
+    AppendsBeginning old new (before ++ report_text f (a ++ rest))
 first_stopped f old new before a rest k = stopped f old old new before before a rest (a ++ rest) (a ++ rest) refl (begun f old before (a ++ rest)) k
 
-first_went : (f : Form) (old new : Option (List ℕ)) (before after : List ℕ) (a rest : List Line) → WritesFront old new (before ++ report_text f a) after → Ahead f old new before after rest (a ++ rest)
+first_went : (f : Form) (old new : Option (List ℕ)) (before after : List ℕ) (a rest : List Line) → WritesFront old new (before ++ report_text f a) after →
+    Ahead f old new before after rest (a ++ rest)
 first_went f old new before after a rest k = went f old old new before before after a rest (a ++ rest) (a ++ rest) refl (begun f old before (a ++ rest)) k
 
 -- two parts
@@ -76,7 +79,8 @@ pub both : (f : Form) (r : Result (Unit {0}) WriteFault) (old mid new : Option (
 both f r old mid new before between after a rest h t =
     last f r old mid new before between after rest (a ++ rest) (first_went f old mid before between a rest h) t
 
-pub second_stopped : (f : Form) (old mid new : Option (List ℕ)) (before between : List ℕ) (a b rest : List Line) → WritesFront old mid (before ++ report_text f a) between
+pub second_stopped : (f : Form) (old mid new : Option (List ℕ)) (before between : List ℕ) (a b rest : List Line) →
+    WritesFront old mid (before ++ report_text f a) between
     → AppendsBeginning mid new (between ++ report_text f b) → AppendsBeginning old new (before ++ report_text f (a ++ (b ++ rest)))
 second_stopped f old mid new before between a b rest h k =
     stopped f old mid new before between b rest (b ++ rest) (a ++ (b ++ rest)) refl (first_went f old mid before between a (b ++ rest) h) k
@@ -91,12 +95,14 @@ all_three f r old mid next new before between made after a b rest h k t =
 from_empty : (old mid : Option (List ℕ)) (chunk text after : List ℕ) → chunk ≡ [] → WritesFront old mid (chunk ++ text) after → WritesFront old mid text after
 from_empty old mid chunk text after is h = subst (λ (l : List ℕ). WritesFront old mid (l ++ text) after) is h
 
-pub whole_out : (r : Result (Unit {0}) WriteFault) (old mid new : Option (List ℕ)) (chunk text after : List ℕ) → chunk ≡ [] → WritesFront old mid (chunk ++ text) after
+pub whole_out : (r : Result (Unit {0}) WriteFault) (old mid new : Option (List ℕ)) (chunk text after : List ℕ) → chunk ≡ [] →
+    WritesFront old mid (chunk ++ text) after
     → OnOk r (Appends mid new after) → OnOk r (Appends old new text)
 whole_out (Ok u) old mid new chunk text after is h k = all_written old mid new text after (from_empty old mid chunk text after is h) k
 whole_out (Err e) old mid new chunk text after is h k = tt
 
-pub part_out : (r : Result (Unit {0}) WriteFault) (old mid new : Option (List ℕ)) (chunk text after : List ℕ) → chunk ≡ [] → WritesFront old mid (chunk ++ text) after
+pub part_out : (r : Result (Unit {0}) WriteFault) (old mid new : Option (List ℕ)) (chunk text after : List ℕ) → chunk ≡ [] →
+    WritesFront old mid (chunk ++ text) after
     → OnErr r (AppendsBeginning mid new after) → OnErr r (AppendsBeginning old new text)
 part_out (Ok u) old mid new chunk text after is h k = tt
 part_out (Err e) old mid new chunk text after is h k = beginning_written old mid new text after (from_empty old mid chunk text after is h) k

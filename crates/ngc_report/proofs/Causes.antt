@@ -46,5 +46,6 @@ gone_further start s commands a b ahead is =
     let some : List Command = take a commands in
     let more : List Command = take (b - a) (drop a commands) in
     let sum : a + (b - a) ≡ b = omega (arith, ahead) in
-    ap (λ (x : Reached). gone_on x more) is ∙ sym (fold-append after start (actions_of some) (actions_of more)) ∙ ap (fold after start) (sym (actions_of-append some more))
+    ap (λ (x : Reached). gone_on x more) is ∙ sym (fold-append after start (actions_of some) (actions_of more))
+    ∙ ap (fold after start) (sym (actions_of-append some more))
     ∙ ap (λ (l : List Command). gone_on start l) (sym (take-add a (b - a) commands)) ∙ ap (λ n. gone_on start (take n commands)) sum

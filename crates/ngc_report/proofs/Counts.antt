@@ -12,7 +12,8 @@ use Rattle.ngc_report.specs.declared.warnings.Concern.{Concern}
 use Rattle.ngc_report.specs.declared.warnings.Warning.{Warning}
 
 -- one command further
-pub next_command : (machine : MachineFile) (concern : Concern) (found : Option Warning) (s : Reached) (cs : List Command) (i : ℕ) (c : Command) → i < length cs → c ≡ get_or cs i c
+pub next_command : (machine : MachineFile) (concern : Concern) (found : Option Warning) (s : Reached) (cs : List Command) (i : ℕ) (c : Command) →
+    i < length cs → c ≡ get_or cs i c
     → fold (counted concern) (fold (counted concern) found (line_of machine concern s c)) (lines_of machine concern (after s c.action) (drop (i + 1) cs))
     ≡ fold (counted concern) found (lines_of machine concern s (drop i cs))
 next_command machine concern found s cs i c inside is =

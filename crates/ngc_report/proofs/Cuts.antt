@@ -24,7 +24,8 @@ gone n k xs is = elim (enough n (length xs)) [
 -- the next use, of the motions from `first` on
 pub next_use : (machine : MachineFile) (left : List ToolUse) (u : ToolUse) (us : List ToolUse) (motions : List Entry) (first k end : ℕ) → left ≡ u ∷ us
     → first ≤ length motions → k ≡ min (motions_in u) (length motions - first) → end ≡ first + k
-    → use_lines machine left (drop first motions) ≡ (lines.Use u (nearest machine u.tool (drop first (take end motions))) ∷ []) ++ use_lines machine us (drop end motions)
+    → use_lines machine left (drop first motions) ≡ (lines.Use u (nearest machine u.tool (drop first (take end motions))) ∷ [])
+    ++ use_lines machine us (drop end motions)
 next_use machine left u us motions first k end is inside short ends =
     let rest : List Entry = drop first motions in
     let some : k ≡ min (motions_in u) (length rest) = short ∙ ap (λ n. min (motions_in u) n) (sym (length-drop first motions)) in

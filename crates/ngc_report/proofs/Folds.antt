@@ -19,13 +19,15 @@ next_of f best xs i x inside found =
     ∙ ap (λ l. fold nearer best (flat_map f l)) (sym (drop_more xs i x inside))
 
 pub next_fixture : (best : Option Nearest) (fs : List Fixture) (b : Solid) (i : ℕ) (f : Fixture) → i < length fs → f ≡ get_or fs i f
-    → fold nearer (nearer best (record { fixture = i; distance = gap f b })) (distances (i + 1) (drop (i + 1) fs) b) ≡ fold nearer best (distances i (drop i fs) b)
+    → fold nearer (nearer best (record { fixture = i; distance = gap f b })) (distances (i + 1) (drop (i + 1) fs) b)
+    ≡ fold nearer best (distances i (drop i fs) b)
 next_fixture best fs b i f inside found =
     ap (λ (x : Fixture). fold nearer (nearer best (record { fixture = i; distance = gap x b })) (distances (i + 1) (drop (i + 1) fs) b)) found
     ∙ ap (λ l. fold nearer best (distances i l b)) (sym (drop_more fs i f inside))
 
 -- none is left
-pub none_left : {X : Type 0} (f : X → List Nearest) (best : Option Nearest) (xs : List X) (i : ℕ) → length xs ≤ i → fold nearer best (flat_map f (drop i xs)) ≡ best
+pub none_left : {X : Type 0} (f : X → List Nearest) (best : Option Nearest) (xs : List X) (i : ℕ) → length xs ≤ i →
+    fold nearer best (flat_map f (drop i xs)) ≡ best
 none_left f best xs i behind = at_drop_all (λ l. fold nearer best (flat_map f l)) xs i behind
 
 pub flat_mapped : {X Y : Type 0} (f : Y → List Nearest) (h : X → Y) (xs : List X) → flat_map f (map h xs) ≡ flat_map (λ x. f (h x)) xs

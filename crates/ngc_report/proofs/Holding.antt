@@ -25,17 +25,22 @@ record IsWithin (a b p : ℤ) : Type 0 where
 between : (a b p : ℤ) → distance a p + distance p b ≡ distance a b → IsWithin a b p
 between a b p h = record { low = omega (arith, ints, clamps, h); high = omega (arith, ints, clamps, h) }
 
-on_axis : (step : ℤ) (n k : ℕ) (b e first last : ℤ) (place : ℕ → ℤ) → k ≤ n → place 0 ≡ first → place n ≡ last → FollowsLine step n b e place → IsWithin first last (place k)
+on_axis : (step : ℤ) (n k : ℕ) (b e first last : ℤ) (place : ℕ → ℤ) → k ≤ n → place 0 ≡ first → place n ≡ last → FollowsLine step n b e place →
+    IsWithin first last (place k)
 on_axis step n k b e first last place kn f l h =
     between first last (place k)
     (subst (λ q. distance q (place k) + distance (place k) last ≡ distance q last) f
     (subst (λ q. distance (place 0) (place k) + distance (place k) q ≡ distance (place 0) q) l (h.straight 0 k n (omega arith) kn (omega arith))))
 
-on_line : (step : ℤ) (b e : Point3) (n : ℕ) (path : List StepPos) (k : ℕ) → k ≤ n → IsLineOf step b e n path → IsIn (box_of (grid step b) (grid step e)) (point path k)
+on_line : (step : ℤ) (b e : Point3) (n : ℕ) (path : List StepPos) (k : ℕ) → k ≤ n → IsLineOf step b e n path →
+    IsIn (box_of (grid step b) (grid step e)) (point path k)
 on_line step b e n path k kn l =
-    let x = on_axis step n k b.x e.x (grid step b).x (grid step e).x (λ i. (point path i).x) kn (ap (λ (q : StepPos). q.x) l.starts) (ap (λ (q : StepPos). q.x) l.ends) l.x in
-    let y = on_axis step n k b.y e.y (grid step b).y (grid step e).y (λ i. (point path i).y) kn (ap (λ (q : StepPos). q.y) l.starts) (ap (λ (q : StepPos). q.y) l.ends) l.y in
-    let z = on_axis step n k b.z e.z (grid step b).z (grid step e).z (λ i. (point path i).z) kn (ap (λ (q : StepPos). q.z) l.starts) (ap (λ (q : StepPos). q.z) l.ends) l.z in
+    let x = on_axis step n k b.x e.x (grid step b).x (grid step e).x (λ i. (point path i).x) kn (ap (λ (q : StepPos). q.x) l.starts)
+    (ap (λ (q : StepPos). q.x) l.ends) l.x in
+    let y = on_axis step n k b.y e.y (grid step b).y (grid step e).y (λ i. (point path i).y) kn (ap (λ (q : StepPos). q.y) l.starts)
+    (ap (λ (q : StepPos). q.y) l.ends) l.y in
+    let z = on_axis step n k b.z e.z (grid step b).z (grid step e).z (λ i. (point path i).z) kn (ap (λ (q : StepPos). q.z) l.starts)
+    (ap (λ (q : StepPos). q.z) l.ends) l.z in
     record { x_low = x.low; x_high = x.high; y_low = y.low; y_high = y.high; z_low = z.low; z_high = z.high }
 
 in_reach : (step : ℤ) (w : Way) (path : List StepPos) (k : ℕ) → IsPathOf step w path → k < length path → IsIn (reach step w) (point path k)
@@ -88,4 +93,5 @@ at_itself p = record {
 }
 
 pub start_law : ExtentHoldsStart
-start_law machine commands = in_first _ (map (reach machine.step) (ways_of (actions_of commands))) (grid machine.step machine.start) (at_itself (grid machine.step machine.start))
+start_law machine commands =
+    in_first _ (map (reach machine.step) (ways_of (actions_of commands))) (grid machine.step machine.start) (at_itself (grid machine.step machine.start))

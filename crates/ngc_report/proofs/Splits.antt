@@ -74,4 +74,5 @@ pub behind_it : (n : ℕ) (text line rest : List ℕ) → split_lines text ≡ l
 behind_it n text line rest is some other =
     let no : (1 == n) ≡ false = grind (arith, nat_tests) in
     let one : n ≡ (n - 1) + 1 = omega arith in
-    ap (λ (ls : List (List ℕ)). bytes_with n (numbered 1 ls)) is ∙ rw no refl ∙ ap (λ k. bytes_with k (numbered 2 (split_lines rest))) one ∙ shifted (n - 1) 1 (split_lines rest)
+    ap (λ (ls : List (List ℕ)). bytes_with n (numbered 1 ls)) is ∙ rw no refl ∙ ap (λ k. bytes_with k (numbered 2 (split_lines rest))) one
+    ∙ shifted (n - 1) 1 (split_lines rest)

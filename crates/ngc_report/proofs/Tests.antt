@@ -44,13 +44,15 @@ flat false false false false t u = refl
 pub room_law : RoomTells
 room_law m b =
     simp le_sub
-    (pairs (int_le m.low.x (b.low.x *ℤ m.step)) (int_le (b.high.x *ℤ m.step) m.high.x) (int_le m.low.y (b.low.y *ℤ m.step)) (int_le (b.high.y *ℤ m.step) m.high.y)
+    (pairs (int_le m.low.x (b.low.x *ℤ m.step)) (int_le (b.high.x *ℤ m.step) m.high.x) (int_le m.low.y (b.low.y *ℤ m.step))
+    (int_le (b.high.y *ℤ m.step) m.high.y)
     (int_le m.low.z (b.low.z *ℤ m.step)) (int_le (b.high.z *ℤ m.step) m.high.z))
 
 pub gap_law : GapTells
 gap_law f b =
     simp (le_max, le_sub)
-    (flat (int_le b.high.x f.low.x) (int_le f.high.x b.low.x) (int_le b.high.y f.low.y) (int_le f.high.y b.low.y) (int_le b.high.z f.low.z) (int_le f.high.z b.low.z))
+    (flat (int_le b.high.x f.low.x) (int_le f.high.x b.low.x) (int_le b.high.y f.low.y) (int_le f.high.y b.low.y) (int_le b.high.z f.low.z)
+    (int_le f.high.z b.low.z))
 
 -- the lesser of two isn't below 0 exactly where both aren't
 least_left : (m n : Margin) → int_le (pos 0) (narrower m n).left ≡ (int_le (pos 0) m.left && int_le (pos 0) n.left)
@@ -64,4 +66,5 @@ triples true true r s t u = refl
 pub tightest_law : TightestTells
 tightest_law r =
     simp least_left
-    (triples (int_le (pos 0) r.x.below) (int_le (pos 0) r.x.above) (int_le (pos 0) r.y.below) (int_le (pos 0) r.y.above) (int_le (pos 0) r.z.below) (int_le (pos 0) r.z.above))
+    (triples (int_le (pos 0) r.x.below) (int_le (pos 0) r.x.above) (int_le (pos 0) r.y.below) (int_le (pos 0) r.y.above) (int_le (pos 0) r.z.below)
+    (int_le (pos 0) r.z.above))

@@ -25,13 +25,17 @@ reach step (Arc arc) = swept_box step arc
 
 -- the least box that holds the start point and the box of each motion
 abbrev pub extent : MachineFile → List Command → GridBox
-extent machine commands = fold joint_box (only (grid machine.step machine.start)) (map (reach machine.step) (ways_of (actions_of commands)))
+extent machine commands = fold joint_box (only (grid machine.step machine.start))
+    (map (reach machine.step) (ways_of (actions_of commands)))
 
 -- it holds each point of each path that a motion may take
 abbrev pub ExtentHoldsPaths : Type 0
-ExtentHoldsPaths = (machine : MachineFile) (commands : List Command) → All (λ w. (path : List StepPos) (k : ℕ) →
-    IsPathOf machine.step w path → k < length path → IsIn (extent machine commands) (point path k)) (ways_of (actions_of commands))
+ExtentHoldsPaths =
+    (machine : MachineFile) (commands : List Command) → All (λ w. (path : List StepPos) (k : ℕ) →
+    IsPathOf machine.step w path → k < length path →
+    IsIn (extent machine commands) (point path k)) (ways_of (actions_of commands))
 
 -- and the start point
 abbrev pub ExtentHoldsStart : Type 0
-ExtentHoldsStart = (machine : MachineFile) (commands : List Command) → IsIn (extent machine commands) (grid machine.step machine.start)
+ExtentHoldsStart = (machine : MachineFile) (commands : List Command) →
+    IsIn (extent machine commands) (grid machine.step machine.start)

@@ -27,11 +27,13 @@ tool_fact None = codes "null"
 tool_fact (Some tool) = decimal tool.number
 
 unfoldable pub triple : Point3 → List ℕ
-triple p = codes "[" ++ signed_decimal p.x ++ codes "," ++ signed_decimal p.y ++ codes "," ++ signed_decimal p.z ++ codes "]"
+triple p = codes "[" ++ signed_decimal p.x ++ codes "," ++ signed_decimal p.y ++ codes ","
+    ++ signed_decimal p.z ++ codes "]"
 
 unfoldable pub nearest_fact : Option Nearest → List ℕ
 nearest_fact None = codes "null,\"distance\":null}"
-nearest_fact (Some n) = decimal n.fixture ++ codes ",\"distance\":" ++ signed_decimal n.distance ++ codes "}"
+nearest_fact (Some n) =
+    decimal n.fixture ++ codes ",\"distance\":" ++ signed_decimal n.distance ++ codes "}"
 
 abbrev pub side_fact : Side → List ℕ
 side_fact Below = codes "below"
@@ -45,32 +47,40 @@ over_fact (Some height) = signed_decimal height ++ codes "}"
 
 abbrev pub along_fact : Along → List ℕ
 along_fact a =
-    codes ",\n{\"fact\":\"extent\",\"axis\":\"" ++ axis_text a.axis ++ codes "\",\"low\":" ++ signed_decimal a.low ++ codes ",\"high\":" ++
-    signed_decimal a.high ++ codes ",\"left_below\":" ++ signed_decimal a.room.below ++ codes ",\"left_above\":" ++
+    codes ",\n{\"fact\":\"extent\",\"axis\":\"" ++ axis_text a.axis ++ codes "\",\"low\":"
+    ++ signed_decimal a.low ++ codes ",\"high\":" ++
+    signed_decimal a.high ++ codes ",\"left_below\":" ++ signed_decimal a.room.below
+    ++ codes ",\"left_above\":" ++
     signed_decimal a.room.above ++ codes "}"
 
 abbrev pub use_fact : ToolUse → Option Nearest → List ℕ
 use_fact u n =
-    codes ",\n{\"fact\":\"use\",\"tool\":" ++ tool_fact u.tool ++ codes ",\"traverses\":" ++ decimal u.traverses ++ codes ",\"traverse_way\":" ++
-    decimal u.traverse_way ++ codes ",\"feeds\":" ++ decimal u.feeds ++ codes ",\"feed_way\":" ++ decimal u.feed_way ++ codes ",\"arcs\":" ++
-    decimal u.arcs ++ codes ",\"dwells\":" ++ decimal u.dwells ++ codes ",\"stops\":" ++ decimal u.stops ++ codes ",\"nearest_fixture\":" ++ nearest_fact n
+    codes ",\n{\"fact\":\"use\",\"tool\":" ++ tool_fact u.tool ++ codes ",\"traverses\":"
+    ++ decimal u.traverses ++ codes ",\"traverse_way\":" ++
+    decimal u.traverse_way ++ codes ",\"feeds\":" ++ decimal u.feeds ++ codes ",\"feed_way\":"
+    ++ decimal u.feed_way ++ codes ",\"arcs\":" ++
+    decimal u.arcs ++ codes ",\"dwells\":" ++ decimal u.dwells ++ codes ",\"stops\":"
+    ++ decimal u.stops ++ codes ",\"nearest_fixture\":" ++ nearest_fact n
 
 abbrev pub start_fact : Scene → List ℕ
 start_fact s = codes ",\n{\"fact\":\"start\",\"at\":" ++ triple s.from ++ codes "}"
 
 abbrev pub command_fact : ℕ → Scene → List ℕ
 command_fact k s =
-    codes ",\n{\"fact\":\"command\",\"index\":" ++ decimal k ++ codes ",\"line\":" ++ decimal s.line ++ codes ",\"tool\":" ++ tool_fact s.tool ++
+    codes ",\n{\"fact\":\"command\",\"index\":" ++ decimal k ++ codes ",\"line\":" ++ decimal s.line
+    ++ codes ",\"tool\":" ++ tool_fact s.tool ++
     codes ",\"from\":" ++ triple s.from ++ codes ",\"to\":" ++ triple s.to ++ codes "}"
 
 abbrev pub travel_fact : Margin → List ℕ
 travel_fact m =
-    codes ",\n{\"fact\":\"obstacle\",\"kind\":\"travel\",\"axis\":\"" ++ axis_text m.axis ++ codes "\",\"side\":\"" ++ side_fact m.side ++
+    codes ",\n{\"fact\":\"obstacle\",\"kind\":\"travel\",\"axis\":\"" ++ axis_text m.axis
+    ++ codes "\",\"side\":\"" ++ side_fact m.side ++
     codes "\",\"left\":" ++ signed_decimal m.left ++ codes "}"
 
 abbrev pub fixture_fact : Met → List ℕ
 fixture_fact m =
-    codes ",\n{\"fact\":\"obstacle\",\"kind\":\"fixture\",\"fixture\":" ++ decimal m.number ++ codes ",\"low\":" ++ triple m.fixture.low ++
+    codes ",\n{\"fact\":\"obstacle\",\"kind\":\"fixture\",\"fixture\":" ++ decimal m.number
+    ++ codes ",\"low\":" ++ triple m.fixture.low ++
     codes ",\"high\":" ++ triple m.fixture.high ++ codes ",\"over_from_z\":" ++ over_fact m.over
 
 unfoldable pub obstacle_fact : Option Obstacle → List ℕ
@@ -80,7 +90,8 @@ obstacle_fact (Some (Fixture m)) = fixture_fact m
 
 abbrev pub warning_fact : Warning → List ℕ
 warning_fact w =
-    codes ",\n{\"fact\":\"warning\",\"text\":\"" ++ concern_text w.concern ++ codes "\",\"count\":" ++ decimal w.count ++ codes ",\"line\":" ++
+    codes ",\n{\"fact\":\"warning\",\"text\":\"" ++ concern_text w.concern ++ codes "\",\"count\":"
+    ++ decimal w.count ++ codes ",\"line\":" ++
     decimal w.line ++ codes "}"
 
 unfoldable pub line_fact : Line → List ℕ

@@ -12,7 +12,8 @@ axis_gap low high least greatest = int_max (least -ℤ high) (low -ℤ greatest)
 abbrev pub gap : Fixture → Solid → ℤ
 gap f b =
     int_max (axis_gap b.low.x b.high.x f.low.x f.high.x)
-    (int_max (axis_gap b.low.y b.high.y f.low.y f.high.y) (axis_gap b.low.z b.high.z f.low.z f.high.z))
+    (int_max (axis_gap b.low.y b.high.y f.low.y f.high.y)
+    (axis_gap b.low.z b.high.z f.low.z f.high.z))
 
 -- it isn't below 0 exactly where they are apart
 abbrev pub GapTells : Type 0

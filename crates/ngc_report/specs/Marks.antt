@@ -1,5 +1,6 @@
 -- Which word of a line a fault names, and how it is marked below the quoted line. Our own.
-use Rattle.std.specs.Prelude.{ℕ, ◌==◌, ℤ, List, [], ◌∷◌, ◌++◌, codes, find, Option, Some, None, is_none, Result, Ok, Err, Bool, true, false, ◌&&◌, if◌then◌else◌}
+use Rattle.std.specs.Prelude.{ℕ, ◌==◌, ℤ, List, [], ◌∷◌, ◌++◌, codes, find, Option, Some, None}
+use Rattle.std.specs.Prelude.{is_none, Result, Ok, Err, Bool, true, false, ◌&&◌, if◌then◌else◌}
 use Rattle.std.specs.List.{slice_get}
 use Rattle.std.specs.Option.{option_map, option_and_then, option_or}
 use Rattle.std.specs.Ordering.{int_eq}
@@ -16,7 +17,8 @@ use Rattle.ngc_line_reader.specs.declared.token.Symbol.TheVariants as symbols
 use Rattle.ngc_line_reader.specs.declared.token.Token.{Token}
 use Rattle.ngc_modal_state.specs.declared.fault.MissingWord.{MissingWord}
 use Rattle.ngc_modal_state.specs.declared.fault.MissingWord.TheVariants as missing
-use Rattle.ngc_modal_state.specs.declared.fault.ModalFault.TheVariants.{UnknownCode, WithoutUse, WordMissing}
+use Rattle.ngc_modal_state.specs.declared.fault.ModalFault.TheVariants.{UnknownCode, WithoutUse}
+use Rattle.ngc_modal_state.specs.declared.fault.ModalFault.TheVariants.{WordMissing}
 use Rattle.ngc_canonical.specs.declared.fault.Fault.{Fault}
 use Rattle.ngc_canonical.specs.declared.fault.Fault.TheVariants.{Modal}
 use Rattle.ngc_report.specs.declared.marks.Wanted.{Wanted}
@@ -45,7 +47,8 @@ is_wanted (Number millionths) None = false
 is_wanted Reckoned written = is_none written
 
 abbrev pub fits : Letter → Wanted → List Token → RawWord → Bool
-fits letter wanted tokens word = (letter_byte word.letter == letter_byte letter) && is_wanted wanted (written_number tokens word)
+fits letter wanted tokens word =
+    (letter_byte word.letter == letter_byte letter) && is_wanted wanted (written_number tokens word)
 
 abbrev pub first_word : Letter → Wanted → Parts → Option RawWord
 first_word letter wanted said = find (λ w. fits letter wanted said.tokens w) said.words
@@ -53,7 +56,8 @@ first_word letter wanted said = find (λ w. fits letter wanted said.tokens w) sa
 -- The word of a line that a fault names. An unknown code is the first that is written as its
 -- number, or else the first that isn't written as a number.
 abbrev pub named_word : Fault → Parts → Option RawWord
-named_word (Modal (UnknownCode letter millionths)) said = option_or (first_word letter (Number millionths) said) (first_word letter Reckoned said)
+named_word (Modal (UnknownCode letter millionths)) said =
+    option_or (first_word letter (Number millionths) said) (first_word letter Reckoned said)
 named_word (Modal (WithoutUse letter)) said = first_word letter Any said
 named_word _ said = None
 
@@ -76,14 +80,16 @@ letter_text letter = letter_byte letter ∷ []
 
 -- the number is in millionths, as a length is in millionths of a millimetre
 abbrev pub unknown_text : Letter → ℤ → List ℕ
-unknown_text letter millionths = codes "The code " ++ letter_text letter ++ length_text millionths ++ codes " is unknown."
+unknown_text letter millionths =
+    codes "The code " ++ letter_text letter ++ length_text millionths ++ codes " is unknown."
 
 abbrev pub idle_text : Letter → List ℕ
 idle_text letter = codes "Nothing uses the word " ++ letter_text letter ++ codes "."
 
 unfoldable pub missing_text : MissingWord → List ℕ
 missing_text missing.Axis = codes "An axis word is missing."
-missing_text (missing.Letter letter) = codes "The word " ++ letter_text letter ++ codes " is missing."
+missing_text (missing.Letter letter) =
+    codes "The word " ++ letter_text letter ++ codes " is missing."
 
 -- what is said of the word that a fault names
 abbrev pub phrase : Fault → List ℕ
@@ -114,7 +120,8 @@ sentence form fault = if has_phrase fault then told_by form fault else []
 -- both below the line with this number, or nothing where there is none
 abbrev pub named_below : Form → ℕ → Fault → Option (List ℕ) → List ℕ
 named_below form number fault None = []
-named_below form number fault (Some bytes) = mark_if form number (mark_of bytes fault) ++ sentence form fault
+named_below form number fault (Some bytes) =
+    mark_if form number (mark_of bytes fault) ++ sentence form fault
 
 abbrev pub named_line : Form → ℕ → Fault → List Line → List ℕ
 named_line form number fault lines = named_below form number fault (bytes_with number lines)

@@ -1,5 +1,6 @@
 -- How near the bodies of tools come to fixtures. Our own.
-use Rattle.std.specs.Prelude.{ℕ, ◌+◌, nat_lt, int_lt, List, [], ◌∷◌, fold, flat_map, Option, Some, None, Bool, ◌&&◌, ◌||◌, if◌then◌else◌}
+use Rattle.std.specs.Prelude.{ℕ, ◌+◌, nat_lt, int_lt, List, [], ◌∷◌, fold, flat_map, Option, Some}
+use Rattle.std.specs.Prelude.{None, Bool, ◌&&◌, ◌||◌, if◌then◌else◌}
 use Rattle.std.specs.Ordering.{int_eq}
 use Rattle.ngc_fixed_length.specs.declared.points.GridBox.{GridBox}
 use Rattle.ngc_machine.specs.Machine.{MachineFile}
@@ -13,7 +14,8 @@ use Rattle.ngc_report.specs.declared.nearest.Nearest.{Nearest}
 
 -- of two as near the one with the lower number counts as nearer
 abbrev pub is_nearer : Nearest → Nearest → Bool
-is_nearer m n = int_lt m.distance n.distance || (int_eq m.distance n.distance && nat_lt m.fixture n.fixture)
+is_nearer m n =
+    int_lt m.distance n.distance || (int_eq m.distance n.distance && nat_lt m.fixture n.fixture)
 
 abbrev pub nearer : Option Nearest → Nearest → Option Nearest
 nearer None n = Some n

@@ -1,5 +1,6 @@
 -- A line of a program as a report shows it. Our own.
-use Rattle.std.specs.Prelude.{ℕ, ◌+◌, ◌==◌, min, List, [], ◌∷◌, ◌++◌, flat_map, replicate, length, codes, decimal, Option, Some, None, option_map, ◌||◌, if◌then◌else◌}
+use Rattle.std.specs.Prelude.{ℕ, ◌+◌, ◌==◌, min, List, [], ◌∷◌, ◌++◌, flat_map, replicate, length}
+use Rattle.std.specs.Prelude.{codes, decimal, Option, Some, None, option_map, ◌||◌, if◌then◌else◌}
 use Rattle.std.specs.List.{find}
 use Rattle.ngc_text.specs.Shown.{shown_text, shown_line}
 use Rattle.ngc_line_reader.specs.Program.{Line}
@@ -15,7 +16,8 @@ abbrev pub escaped : ℕ → List ℕ
 escaped b = if b == 34 || b == 92 then 92 ∷ b ∷ [] else b ∷ []
 
 abbrev pub fact_quote : ℕ → List ℕ → List ℕ
-fact_quote number bytes = codes ",\n{\"fact\":\"line\",\"number\":" ++ decimal number ++ codes ",\"text\":\"" ++ flat_map escaped (shown_text bytes) ++ codes "\"}"
+fact_quote number bytes = codes ",\n{\"fact\":\"line\",\"number\":" ++ decimal number
+    ++ codes ",\"text\":\"" ++ flat_map escaped (shown_text bytes) ++ codes "\"}"
 
 unfoldable pub quote : Form → ℕ → Option (List ℕ) → List ℕ
 quote form number None = []
@@ -40,7 +42,8 @@ unfoldable pub words_mark : ℕ → ℕ → List ℕ
 words_mark number column = replicate (indent number column) 32 ++ codes "^\n"
 
 abbrev pub fact_mark : ℕ → ℕ → List ℕ
-fact_mark number column = codes ",\n{\"fact\":\"mark\",\"line\":" ++ decimal number ++ codes ",\"column\":" ++ decimal column ++ codes "}"
+fact_mark number column = codes ",\n{\"fact\":\"mark\",\"line\":" ++ decimal number
+    ++ codes ",\"column\":" ++ decimal column ++ codes "}"
 
 -- a mark below a column, from 1, of the line that is shown above it
 unfoldable pub mark : Form → ℕ → ℕ → List ℕ

@@ -1,5 +1,6 @@
 -- The lines of reports. Our own.
-use Rattle.std.specs.Prelude.{ℕ, ◌+◌, ℤ, ◌*ℤ◌, List, [], ◌∷◌, ◌++◌, take, drop, flat_map, Bool, true, false, Option, Some, None, Result}
+use Rattle.std.specs.Prelude.{ℕ, ◌+◌, ℤ, ◌*ℤ◌, List, [], ◌∷◌, ◌++◌, take, drop, flat_map, Bool}
+use Rattle.std.specs.Prelude.{true, false, Option, Some, None, Result}
 use Rattle.ngc_fixed_length.specs.declared.points.GridBox.{GridBox}
 use Rattle.ngc_text.specs.declared.writing.WriteFault.{WriteFault}
 use Rattle.ngc_machine.specs.Machine.{MachineFile}
@@ -23,16 +24,20 @@ use Rattle.ngc_report.specs.declared.uses.ToolUse.{ToolUse}
 
 -- the text of lines comes behind what was collected; where a write fails, a beginning of both is
 -- written
-abbrev pub Tells : Form → Option (List ℕ) → Option (List ℕ) → List ℕ → List ℕ → Result (Unit {0}) WriteFault → List Line → Type 0
-Tells form old new before after result told = Collects old new before after result (report_text form told)
+abbrev pub Tells : Form → Option (List ℕ) → Option (List ℕ) → List ℕ → List ℕ →
+    Result (Unit {0}) WriteFault → List Line → Type 0
+Tells form old new before after result told =
+    Collects old new before after result (report_text form told)
 
 -- how far a program goes along each axis
 abbrev pub along : Axis → ℤ → ℤ → ℤ → AxisRoom → Line
-along axis step low high r = lines.Along (record { axis = axis; low = low *ℤ step; high = high *ℤ step; room = r })
+along axis step low high r =
+    lines.Along (record { axis = axis; low = low *ℤ step; high = high *ℤ step; room = r })
 
 abbrev pub alongs : MachineFile → GridBox → List Line
 alongs machine b =
-    along X machine.step b.low.x b.high.x (room machine b).x ∷ along Y machine.step b.low.y b.high.y (room machine b).y ∷
+    along X machine.step b.low.x b.high.x (room machine b).x
+    ∷ along Y machine.step b.low.y b.high.y (room machine b).y ∷
     along Z machine.step b.low.z b.high.z (room machine b).z ∷ []
 
 abbrev pub motions_in : ToolUse → ℕ
@@ -43,38 +48,45 @@ motions_in u = u.traverses + u.feeds + u.arcs
 abbrev pub use_lines : MachineFile → List ToolUse → List Entry → List Line
 use_lines machine [] motions = []
 use_lines machine (u ∷ us) motions =
-    lines.Use u (nearest machine u.tool (take (motions_in u) motions)) ∷ use_lines machine us (drop (motions_in u) motions)
+    lines.Use u (nearest machine u.tool (take (motions_in u) motions))
+    ∷ use_lines machine us (drop (motions_in u) motions)
 
 -- ---- reports
 
 -- of a program that fits
 abbrev pub fit_lines : MachineFile → List Command → List Entry → List Line
 fit_lines machine commands motions =
-    lines.Fits ∷ (alongs machine (extent machine commands) ++ use_lines machine (tool_uses commands) motions)
+    lines.Fits ∷ (alongs machine (extent machine commands)
+    ++ use_lines machine (tool_uses commands) motions)
 
 abbrev pub start_lines : MachineFile → Option ℕ → List Line
 start_lines machine fixture =
-    lines.Start (start_scene machine) ∷ lines.InTheWay (obstacle machine (start_scene machine) fixture) ∷ []
+    lines.Start (start_scene machine) ∷ lines.InTheWay
+    (obstacle machine (start_scene machine) fixture) ∷ []
 
 abbrev pub scene_lines : MachineFile → ℕ → Option ℕ → Option Scene → List Line
 scene_lines machine k fixture None = []
-scene_lines machine k fixture (Some s) = lines.Command k s ∷ lines.InTheWay (obstacle machine s fixture) ∷ []
+scene_lines machine k fixture (Some s) =
+    lines.Command k s ∷ lines.InTheWay (obstacle machine s fixture) ∷ []
 
 abbrev pub cause_lines : MachineFile → List Command → Option ℕ → Option ℕ → List Line
 cause_lines machine commands None fixture = start_lines machine fixture
-cause_lines machine commands (Some k) fixture = scene_lines machine k fixture (scene_at machine commands k)
+cause_lines machine commands (Some k) fixture =
+    scene_lines machine k fixture (scene_at machine commands k)
 
 -- of one that doesn't: at a command, or at the start
 abbrev pub refusal_lines : MachineFile → List Command → Option ℕ → Option ℕ → List Line
 refusal_lines machine commands command fixture =
-    lines.Refused ∷ (alongs machine (extent machine commands) ++ cause_lines machine commands command fixture)
+    lines.Refused
+    ∷ (alongs machine (extent machine commands) ++ cause_lines machine commands command fixture)
 
 -- ---- all that is refused
 
 -- each command with one of these indices that is a motion or a change of the tool, with what is in
 -- its way
 abbrev pub causes_lines : MachineFile → List Command → List ℕ → List Line
-causes_lines machine commands ks = flat_map (λ k. scene_lines machine k None (scene_at machine commands k)) ks
+causes_lines machine commands ks =
+    flat_map (λ k. scene_lines machine k None (scene_at machine commands k)) ks
 
 abbrev pub verdict_line : Bool → List ℕ → Line
 verdict_line false [] = lines.Fits
@@ -87,4 +99,6 @@ start_lines_if machine true = start_lines machine None
 -- of a setting at which these commands are refused, and the start or not
 abbrev pub all_lines : MachineFile → List Command → Bool → List ℕ → List Line
 all_lines machine commands start ks =
-    verdict_line start ks ∷ (alongs machine (extent machine commands) ++ (start_lines_if machine start ++ causes_lines machine commands ks))
+    verdict_line start ks
+    ∷ (alongs machine (extent machine commands)
+    ++ (start_lines_if machine start ++ causes_lines machine commands ks))

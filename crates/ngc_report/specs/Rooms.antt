@@ -9,7 +9,8 @@ use Rattle.ngc_report.specs.declared.travel.Room.{Room}
 -- along an axis, in nanometres: how far the lowest point lies above the least coordinate of the
 -- travel, and the highest below the greatest
 abbrev pub axis_room : ℤ → ℤ → ℤ → ℤ → ℤ → AxisRoom
-axis_room step low high least greatest = record { below = (low *ℤ step) -ℤ least; above = greatest -ℤ (high *ℤ step) }
+axis_room step low high least greatest =
+    record { below = (low *ℤ step) -ℤ least; above = greatest -ℤ (high *ℤ step) }
 
 abbrev pub room : MachineFile → GridBox → Room
 room m b = record {
@@ -27,4 +28,5 @@ is_inside r = is_inside_on r.x && (is_inside_on r.y && is_inside_on r.z)
 
 -- a box lies within the travel exactly where nothing is missing
 abbrev pub RoomTells : Type 0
-RoomTells = (machine : MachineFile) (b : GridBox) → is_inside (room machine b) ≡ is_in_travel machine b
+RoomTells =
+    (machine : MachineFile) (b : GridBox) → is_inside (room machine b) ≡ is_in_travel machine b

@@ -1,5 +1,7 @@
 -- What is in the way of a command. Our own.
-use Rattle.std.specs.Prelude.{◌≡◌, ◌≤◌, length, ℕ, ℤ, pos, ◌-ℤ◌, int_le, List, fold, take, slice_get, Option, Some, None, option_map, option_and_then, if◌then◌else◌}
+use Rattle.std.specs.Prelude.{◌≡◌, ◌≤◌, length, ℕ, ℤ, pos, ◌-ℤ◌, int_le, List, fold, take}
+use Rattle.std.specs.Prelude.{slice_get, Option, Some, None, option_map, option_and_then}
+use Rattle.std.specs.Prelude.{if◌then◌else◌}
 use Rattle.ngc_fixed_length.specs.Boxes.{only}
 use Rattle.ngc_fixed_length.specs.Grid.{grid}
 use Rattle.ngc_fixed_length.specs.declared.points.Point3.{Point3}
@@ -36,10 +38,24 @@ standing machine commands = gone_on (record { tool = None; place = machine.start
 
 -- the axes stand still
 abbrev pub still : MachineFile → ℕ → Option Tool → Point3 → Scene
-still machine line tool place = record { line = line; from = place; to = place; tool = tool; bounds = only (grid machine.step place) }
+still machine line tool place =
+    record {
+      line = line;
+      from = place;
+      to = place;
+      tool = tool;
+      bounds = only (grid machine.step place);
+    }
 
 abbrev pub moving : MachineFile → ℕ → Option Tool → Motion → Scene
-moving machine line tool m = record { line = line; from = start_of m.way; to = end_of m.way; tool = tool; bounds = reach machine.step m.way }
+moving machine line tool m =
+    record {
+      line = line;
+      from = start_of m.way;
+      to = end_of m.way;
+      tool = tool;
+      bounds = reach machine.step m.way;
+    }
 
 abbrev pub start_scene : MachineFile → Scene
 start_scene machine = still machine 0 None machine.start
@@ -55,7 +71,8 @@ scene_of machine s c = scene_by machine s c.line c.action
 
 -- that of command k
 abbrev pub scene_at : MachineFile → List Command → ℕ → Option Scene
-scene_at machine commands k = option_and_then (scene_of machine (standing machine (take k commands))) (slice_get commands k)
+scene_at machine commands k =
+    option_and_then (scene_of machine (standing machine (take k commands))) (slice_get commands k)
 
 -- how far the lowest end of a tool lies above the controlled point
 abbrev pub foot : Option Tool → ℤ
@@ -68,22 +85,27 @@ over_height tool f = f.high.z -ℤ foot tool
 
 -- where that is in the travel
 abbrev pub over : MachineFile → Option Tool → Fixture → Option ℤ
-over machine tool f = if int_le (over_height tool f) machine.high.z then Some (over_height tool f) else None
+over machine tool f =
+    if int_le (over_height tool f) machine.high.z then Some (over_height tool f) else None
 
 -- a fixture by its number
 abbrev pub named : MachineFile → Option Tool → ℕ → Option Obstacle
 named machine tool i =
-    option_map (λ f. obstacles.Fixture (record { number = i; fixture = f; over = over machine tool f })) (slice_get machine.fixtures i)
+    option_map (λ f. obstacles.Fixture
+    (record { number = i; fixture = f; over = over machine tool f }))
+    (slice_get machine.fixtures i)
 
 -- the fixture that is named; else the side of the travel that is left, or the first fixture that is
 -- met
 abbrev pub obstacle : MachineFile → Scene → Option ℕ → Option Obstacle
 obstacle machine scene (Some i) = named machine scene.tool i
 obstacle machine scene None =
-    if is_inside (room machine scene.bounds) then option_and_then (named machine scene.tool) (first_met machine scene.tool scene.bounds)
+    if is_inside (room machine scene.bounds)
+    then option_and_then (named machine scene.tool) (first_met machine scene.tool scene.bounds)
     else Some (obstacles.Travel (tightest (room machine scene.bounds)))
 
 -- the machine stands so behind the first of these commands
-pub record StandsBehind (machine : MachineFile) (commands : List Command) (s : Standing) : Type 0 where
+pub record StandsBehind (machine : MachineFile) (commands : List Command) (s : Standing) :
+    Type 0 where
   pub within : s.count ≤ length commands
   pub stands : s.reached ≡ standing machine (take s.count commands)

@@ -1,8 +1,10 @@
 -- The uses of tools in a program. Our own.
-use Rattle.std.specs.Prelude.{ℕ, nat_lt, List, [], ◌∷◌, ◌++◌, count_by, sum_by, take_while, Option, Some, None, Bool, true, false, not, ◌||◌, if◌then◌else◌}
+use Rattle.std.specs.Prelude.{ℕ, nat_lt, List, [], ◌∷◌, ◌++◌, count_by, sum_by, take_while, Option}
+use Rattle.std.specs.Prelude.{Some, None, Bool, true, false, not, ◌||◌, if◌then◌else◌}
 use Rattle.ngc_machine.specs.declared.tools.Tool.{Tool}
 use Rattle.ngc_canonical.specs.declared.command.Action.{Action}
-use Rattle.ngc_canonical.specs.declared.command.Action.TheVariants.{Move, Mount, Dwell, Stop, OptionalStop}
+use Rattle.ngc_canonical.specs.declared.command.Action.TheVariants.{Move, Mount, Dwell, Stop}
+use Rattle.ngc_canonical.specs.declared.command.Action.TheVariants.{OptionalStop}
 use Rattle.ngc_canonical.specs.declared.command.Command.{Command}
 use Rattle.ngc_canonical.specs.declared.movement.Pace.{Pace}
 use Rattle.ngc_canonical.specs.declared.movement.Pace.TheVariants.{Rapid, Feed}

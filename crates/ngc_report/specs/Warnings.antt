@@ -1,5 +1,7 @@
 -- What passes and is nearly always a mistake. Our own.
-use Rattle.std.specs.Prelude.{ℕ, ◌+◌, ◌*◌, nat_lt, int_lt, unsigned_abs, List, [], ◌∷◌, ◌++◌, length, map, Option, Some, None, Bool, false, not, ◌&&◌, ◌||◌, if◌then◌else◌}
+use Rattle.std.specs.Prelude.{ℕ, ◌+◌, ◌*◌, nat_lt, int_lt, unsigned_abs, List, [], ◌∷◌, ◌++◌}
+use Rattle.std.specs.Prelude.{length, map, Option, Some, None, Bool, false, not, ◌&&◌, ◌||◌}
+use Rattle.std.specs.Prelude.{if◌then◌else◌}
 use Rattle.std.specs.List.{list_any}
 use Rattle.std.specs.Ordering.{int_eq}
 use Rattle.ngc_fixed_length.specs.Grid.{grid}
@@ -61,7 +63,8 @@ is_at p q = int_eq p.x q.x && (int_eq p.y q.y && int_eq p.z q.z)
 -- to a home position, and not only up or down
 abbrev pub goes_home : MachineFile → Point3 → Point3 → Bool
 goes_home machine start end =
-    (is_at end machine.home28 || is_at end machine.home30) && (not (int_eq start.x end.x) || not (int_eq start.y end.y))
+    (is_at end machine.home28 || is_at end machine.home30)
+    && (not (int_eq start.x end.x) || not (int_eq start.y end.y))
 
 -- a body reaches below the top of some fixture
 abbrev pub is_low : MachineFile → Solid → Bool
@@ -73,7 +76,8 @@ comes_low machine tool b = list_any (is_low machine) (bodies tool (span machine.
 
 -- a traverse home on which it does
 abbrev pub is_low_home : MachineFile → Option Tool → Way → Pace → Bool
-is_low_home machine tool (Line start end) Rapid = goes_home machine start end && comes_low machine tool (reach machine.step (Line start end))
+is_low_home machine tool (Line start end) Rapid =
+    goes_home machine start end && comes_low machine tool (reach machine.step (Line start end))
 is_low_home machine tool _ _ = false
 
 -- ---- over a program
@@ -94,26 +98,30 @@ line_of machine concern s c = if is_concerned machine concern s c.action then c.
 -- the lines of the commands concerned, in order
 abbrev pub lines_of : MachineFile → Concern → Reached → List Command → List ℕ
 lines_of machine concern s [] = []
-lines_of machine concern s (c ∷ cs) = line_of machine concern s c ++ lines_of machine concern (after s c.action) cs
+lines_of machine concern s (c ∷ cs) =
+    line_of machine concern s c ++ lines_of machine concern (after s c.action) cs
 
 -- none, or one of their number and the first
 abbrev pub warning : Concern → List ℕ → List Warning
 warning concern [] = []
-warning concern (line ∷ lines) = record { concern = concern; count = length (line ∷ lines); line = line } ∷ []
+warning concern (line ∷ lines) =
+    record { concern = concern; count = length (line ∷ lines); line = line } ∷ []
 
 -- a program begins at the start, without a tool
 abbrev pub beginning : MachineFile → Reached
 beginning machine = record { tool = None; place = machine.start }
 
 abbrev pub warnings_about : MachineFile → Concern → List Command → List Warning
-warnings_about machine concern commands = warning concern (lines_of machine concern (beginning machine) commands)
+warnings_about machine concern commands =
+    warning concern (lines_of machine concern (beginning machine) commands)
 
 abbrev pub warned : MachineFile → Concern → List Command → List told.Line
 warned machine concern commands = map lines.Warned (warnings_about machine concern commands)
 
 abbrev pub warning_lines : MachineFile → List Command → List told.Line
 warning_lines machine commands =
-    warned machine NoTool commands ++ (warned machine FastFeed commands ++ warned machine LowHome commands)
+    warned machine NoTool commands
+    ++ (warned machine FastFeed commands ++ warned machine LowHome commands)
 
 -- ---- as they are counted
 

@@ -13,7 +13,8 @@ square_between from to = unsigned_abs (to -ℤ from) * unsigned_abs (to -ℤ fro
 
 -- a line's: the greatest whole number whose square is at most the sum of the squares along the axes
 abbrev pub line_length : Point3 → Point3 → ℕ
-line_length start end = whole_root (square_between start.x end.x + square_between start.y end.y + square_between start.z end.z)
+line_length start end = whole_root
+    (square_between start.x end.x + square_between start.y end.y + square_between start.z end.z)
 
 -- an arc's isn't counted: it is no root of a whole number
 abbrev pub straight_length : Way → ℕ

@@ -1,5 +1,6 @@
 -- The lines of a report, in words and millimetres. Our own.
-use Rattle.std.specs.Prelude.{ℕ, ℤ, pos, negsuc, unsigned_abs, List, ◌++◌, codes, decimal, Option, Some, None}
+use Rattle.std.specs.Prelude.{ℕ, ℤ, pos, negsuc, unsigned_abs, List, ◌++◌, codes, decimal, Option}
+use Rattle.std.specs.Prelude.{Some, None}
 use Rattle.ngc_fixed_length.specs.declared.points.Point3.{Point3}
 use Rattle.ngc_text.specs.Millimetres.{size_text, mm_text}
 use Rattle.ngc_machine.specs.declared.tools.Tool.{Tool}
@@ -31,7 +32,8 @@ unfoldable pub room_text : ℤ → List ℕ
 room_text z = size_text (unsigned_abs z) ++ room_words z
 
 unfoldable pub place_text : Point3 → List ℕ
-place_text p = codes "X " ++ mm_text p.x ++ codes ", Y " ++ mm_text p.y ++ codes ", Z " ++ mm_text p.z
+place_text p =
+    codes "X " ++ mm_text p.x ++ codes ", Y " ++ mm_text p.y ++ codes ", Z " ++ mm_text p.z
 
 -- ---- lines
 
@@ -50,21 +52,27 @@ tool_text (Some tool) = codes "tool " ++ decimal tool.number
 
 unfoldable pub nearest_text : Option Nearest → List ℕ
 nearest_text None = codes ".\n"
-nearest_text (Some n) = codes "; nearest fixture " ++ decimal n.fixture ++ codes ", " ++ mm_text n.distance ++ codes " away.\n"
+nearest_text (Some n) = codes "; nearest fixture " ++ decimal n.fixture ++ codes ", "
+    ++ mm_text n.distance ++ codes " away.\n"
 
 abbrev pub along_text : Along → List ℕ
 along_text a =
-    axis_text a.axis ++ codes " from " ++ mm_text a.low ++ codes " to " ++ mm_text a.high ++ codes ", " ++ room_text a.room.below ++ codes " below and " ++
+    axis_text a.axis ++ codes " from " ++ mm_text a.low ++ codes " to " ++ mm_text a.high
+    ++ codes ", " ++ room_text a.room.below ++ codes " below and " ++
     room_text a.room.above ++ codes " above.\n"
 
 abbrev pub use_text : ToolUse → Option Nearest → List ℕ
 use_text u n =
-    codes "With " ++ tool_text u.tool ++ codes ": traverses " ++ decimal u.traverses ++ codes " along " ++ size_text u.traverse_way ++
-    codes " mm, feeds " ++ decimal u.feeds ++ codes " along " ++ size_text u.feed_way ++ codes " mm, arcs " ++ decimal u.arcs ++ codes ", dwells " ++ decimal u.dwells ++ codes ", stops " ++ decimal u.stops ++ nearest_text n
+    codes "With " ++ tool_text u.tool ++ codes ": traverses " ++ decimal u.traverses
+    ++ codes " along " ++ size_text u.traverse_way ++
+    codes " mm, feeds " ++ decimal u.feeds ++ codes " along " ++ size_text u.feed_way
+    ++ codes " mm, arcs " ++ decimal u.arcs ++ codes ", dwells " ++ decimal u.dwells
+    ++ codes ", stops " ++ decimal u.stops ++ nearest_text n
 
 abbrev pub command_text : ℕ → Scene → List ℕ
 command_text k s =
-    codes "Command " ++ decimal k ++ codes " of line " ++ decimal s.line ++ codes ", with " ++ tool_text s.tool ++ codes ", from " ++ place_text s.from ++
+    codes "Command " ++ decimal k ++ codes " of line " ++ decimal s.line ++ codes ", with "
+    ++ tool_text s.tool ++ codes ", from " ++ place_text s.from ++
     codes " to " ++ place_text s.to ++ codes ".\n"
 
 -- the height from which on a fixture is passed over, where the travel has it
@@ -74,13 +82,16 @@ over_text (Some height) = codes "; from Z " ++ mm_text height ++ codes " up it p
 
 abbrev pub met_text : Met → List ℕ
 met_text m =
-    codes "It meets fixture " ++ decimal m.number ++ codes ", from " ++ place_text m.fixture.low ++ codes " to " ++ place_text m.fixture.high ++
+    codes "It meets fixture " ++ decimal m.number ++ codes ", from " ++ place_text m.fixture.low
+    ++ codes " to " ++ place_text m.fixture.high ++
     over_text m.over
 
 unfoldable pub obstacle_text : Option Obstacle → List ℕ
-obstacle_text None = codes "No side of the travel and no fixture is in the way of the whole: a box of the certificate is too large.\n"
+obstacle_text None =
+    codes "No side of the travel and no fixture is in the way of the whole: a box of the certificate is too large.\n"
 obstacle_text (Some (Travel m)) =
-    codes "It leaves the travel " ++ side_text m.side ++ axis_text m.axis ++ codes ": " ++ room_text m.left ++ codes ".\n"
+    codes "It leaves the travel " ++ side_text m.side ++ axis_text m.axis ++ codes ": "
+    ++ room_text m.left ++ codes ".\n"
 obstacle_text (Some (Fixture m)) = met_text m
 
 unfoldable pub concern_text : Concern → List ℕ
@@ -90,10 +101,12 @@ concern_text LowHome = codes "traverses home along X or Y, below the top of a fi
 
 abbrev pub warning_text : Warning → List ℕ
 warning_text w =
-    codes "warning: " ++ concern_text w.concern ++ codes ": " ++ decimal w.count ++ codes ", the first in line " ++ decimal w.line ++ codes ".\n"
+    codes "warning: " ++ concern_text w.concern ++ codes ": " ++ decimal w.count
+    ++ codes ", the first in line " ++ decimal w.line ++ codes ".\n"
 
 unfoldable pub line_text : Line → List ℕ
-line_text lines.Fits = codes "The program fits: every position is inside the travel and clear of every fixture.\n"
+line_text lines.Fits =
+    codes "The program fits: every position is inside the travel and clear of every fixture.\n"
 line_text lines.Refused = codes "The program does not fit.\n"
 line_text (lines.Along a) = along_text a
 line_text (lines.Use u n) = use_text u n

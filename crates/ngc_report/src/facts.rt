@@ -2,7 +2,10 @@
 ghost use Rattle.std.specs.Prelude.{◌≡◌, ◌+◌, ◌≤◌, ◌++◌, codes, decimal, length};
 ghost use Rattle.std.specs.Fmt.{signed_decimal};
 ghost use Rattle.ngc_text.specs.Collected.{CHUNK_SIZE, HasLineRoom};
-ghost use Rattle.ngc_report.specs.Facts.{tool_fact, triple, nearest_fact, along_fact, use_fact, side_fact, start_fact, command_fact, over_fact, travel_fact, fixture_fact, obstacle_fact, warning_fact, line_fact};
+ghost use Rattle.ngc_report.specs.Facts.{tool_fact, triple, nearest_fact, along_fact, use_fact};
+ghost use Rattle.ngc_report.specs.Facts.{side_fact, start_fact, command_fact, over_fact};
+ghost use Rattle.ngc_report.specs.Facts.{travel_fact, fixture_fact, obstacle_fact, warning_fact};
+ghost use Rattle.ngc_report.specs.Facts.{line_fact};
 ghost use Rattle.ngc_report.specs.Words.{concern_text};
 
 use crate::line::{Along, Line};
@@ -61,7 +64,9 @@ fn add_triple(chunk: &mut Chunk, place: &Point3)
 
 fn add_distance(chunk: &mut Chunk, nearest: &Nearest)
     requires { length chunk.old + 120 ≤ CHUNK_SIZE }
-    ensures { chunk.new ≡ chunk.old ++ (decimal nearest.now.fixture ++ codes ",\"distance\":" ++ signed_decimal nearest.now.distance ++ codes "}") }
+    ensures { chunk.new ≡ chunk.old
+        ++ (decimal nearest.now.fixture ++ codes ",\"distance\":"
+        ++ signed_decimal nearest.now.distance ++ codes "}") }
 {
     chunk.add_number(nearest.fixture);
     chunk.add_text(b",\"distance\":");

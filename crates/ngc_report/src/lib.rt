@@ -9,8 +9,10 @@
 //! X from 0 mm to 120.5 mm, 30 mm left below and 79.5 mm left above.
 //! Y from 0 mm to 40 mm, 30 mm left below and 160 mm left above.
 //! Z from -3 mm to 50 mm, 97 mm left below and 0 mm left above.
-//! With no tool: traverses 1 along 50 mm, feeds 0 along 0 mm, arcs 0, dwells 0, stops 0; nearest fixture 0, 40 mm away.
-//! With tool 3: traverses 12 along 374.5 mm, feeds 40 along 812.142135 mm, arcs 8, dwells 0, stops 1; nearest fixture 2, 4.25 mm away.
+//! With no tool: traverses 1 along 50 mm, feeds 0 along 0 mm, arcs 0, dwells 0, stops 0; nearest
+//! fixture 0, 40 mm away.
+//! With tool 3: traverses 12 along 374.5 mm, feeds 40 along 812.142135 mm, arcs 8, dwells 0, stops
+//! 1; nearest fixture 2, 4.25 mm away.
 //! ```
 //!
 //! Without fixtures a use ends behind its stops. Of a program that is refused, commands and

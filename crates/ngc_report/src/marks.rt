@@ -8,7 +8,10 @@ ghost use Rattle.ngc_line_reader.specs.Letter.{letter_byte};
 ghost use Rattle.ngc_line_reader.specs.ProgramView.{text_in};
 ghost use Rattle.ngc_line_reader.specs.ScanLine.{parts_of};
 ghost use Rattle.ngc_text.specs.Collected.{CHUNK_SIZE, HasLineRoom};
-ghost use Rattle.ngc_report.specs.Marks.{number_of, written_number, is_wanted, fits, first_word, named_word, mark_of, mark_if, letter_text, unknown_text, idle_text, missing_text, phrase, has_phrase, words_sentence, fact_sentence, sentence, named_line};
+ghost use Rattle.ngc_report.specs.Marks.{number_of, written_number, is_wanted, fits, first_word};
+ghost use Rattle.ngc_report.specs.Marks.{named_word, mark_of, mark_if, letter_text, unknown_text};
+ghost use Rattle.ngc_report.specs.Marks.{idle_text, missing_text, phrase, has_phrase};
+ghost use Rattle.ngc_report.specs.Marks.{words_sentence, fact_sentence, sentence, named_line};
 
 use crate::form::Form;
 use crate::quotes::line_bytes;
@@ -104,7 +107,8 @@ fn first_word(line: &Line, letter: Letter, wanted: Wanted) -> Option<RawWord>
 }
 
 fn code_word(line: &Line, letter: Letter, millionths: i64) -> Option<RawWord>
-    ensures { result ≡ option_or (first_word letter (Wanted.Number millionths) (parts_of line.now)) (first_word letter Wanted.Reckoned (parts_of line.now)) }
+    ensures { result ≡ option_or (first_word letter (Wanted.Number millionths) (parts_of line.now))
+        (first_word letter Wanted.Reckoned (parts_of line.now)) }
 {
     match first_word(line, letter, Wanted::Number(millionths)) {
         Some(word) => Some(word),
@@ -257,7 +261,8 @@ fn add_mark_if(chunk: &mut Chunk, form: Form, number: u32, column: Option<u16>)
 
 fn add_named(chunk: &mut Chunk, form: Form, number: u32, bytes: &[u8], fault: &Fault)
     requires { length chunk.old ≤ 1000 }
-    ensures { chunk.new ≡ chunk.old ++ (mark_if form number (mark_of bytes.now fault.now) ++ sentence form fault.now) }
+    ensures { chunk.new ≡ chunk.old
+        ++ (mark_if form number (mark_of bytes.now fault.now) ++ sentence form fault.now) }
 {
     add_mark_if(chunk, form, number, mark_of(bytes, fault));
     add_sentence(chunk, form, fault);
@@ -294,8 +299,12 @@ pub fn write_named<A: Allocator, W: Sink>(
     fault: &Fault,
     sink: &mut W,
 ) -> Result<(), WriteFault>
-    ensures ok { OnOk result (Appends (W.written sink.old) (W.written sink.new) (named_line form number fault.now (text_in program.now).lines)) }
-    ensures fault { OnErr result (AppendsBeginning (W.written sink.old) (W.written sink.new) (named_line form number fault.now (text_in program.now).lines)) }
+    ensures ok { OnOk result
+        (Appends (W.written sink.old) (W.written sink.new)
+        (named_line form number fault.now (text_in program.now).lines)) }
+    ensures fault { OnErr result
+        (AppendsBeginning (W.written sink.old) (W.written sink.new)
+        (named_line form number fault.now (text_in program.now).lines)) }
     ensures counts { CountsFailure (W.failures sink.old) (W.failures sink.new) result }
 {
     let mut chunk = named(program, form, number, fault);

@@ -1,5 +1,6 @@
 //! How near the bodies of tools come to fixtures.
-ghost use Rattle.std.specs.Prelude.{◌≡◌, ◌<◌, ◌≤◌, ◌^◌, unsigned_abs, length, fold, flat_map, take, drop};
+ghost use Rattle.std.specs.Prelude.{◌≡◌, ◌<◌, ◌≤◌, ◌^◌, unsigned_abs, length, fold, flat_map, take};
+ghost use Rattle.std.specs.Prelude.{drop};
 ghost use Rattle.ngc_collision.specs.Inside.{solid_of};
 ghost use Rattle.ngc_machine.specs.Machine.{file_of};
 ghost use Rattle.ngc_report.specs.Nearing.{is_nearer, nearer, distances, around, over_pieces};
@@ -42,7 +43,8 @@ fn nearest_to<A: Allocator>(
     solid: &Solid,
     best: Option<Nearest>,
 ) -> Option<Nearest>
-    ensures { result ≡ fold nearer best (distances 0 (file_of machine.now).fixtures (solid_of solid.now)) }
+    ensures { result ≡ fold nearer best
+        (distances 0 (file_of machine.now).fixtures (solid_of solid.now)) }
 {
     let mut nearest = best;
     for (i, fixture) in machine.fixtures.iter().enumerate() {
@@ -98,7 +100,8 @@ impl Nearest {
         end: usize,
     ) -> Option<Nearest>
         requires { end ≤ length motions.now }
-        ensures { result ≡ nearest (file_of machine.now) tool.now (drop first (take end motions.now)) }
+        ensures { result ≡ nearest (file_of machine.now) tool.now
+            (drop first (take end motions.now)) }
     {
         let mut nearest = None;
         for i in first..end {

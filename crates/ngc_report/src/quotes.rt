@@ -15,7 +15,8 @@ use std::alloc::Allocator;
 
 /// The bytes of the line with this number in the file.
 pub(crate) fn line_bytes<A: Allocator>(program: &Program<A>, number: u32) -> Option<&[u8]>
-    ensures { option_map (λ b. b.now) result ≡ option_map (λ l. l.bytes) (line_with number (text_in program.now).lines) }
+    ensures { option_map (λ b. b.now) result
+        ≡ option_map (λ l. l.bytes) (line_with number (text_in program.now).lines) }
 {
     for index in 0..program.len() {
         if program.number(index) == number {
@@ -84,8 +85,12 @@ pub fn write_line<A: Allocator, W: Sink>(
     number: u32,
     sink: &mut W,
 ) -> Result<(), WriteFault>
-    ensures ok { OnOk result (Appends (W.written sink.old) (W.written sink.new) (quoted form number (text_in program.now).lines)) }
-    ensures fault { OnErr result (AppendsBeginning (W.written sink.old) (W.written sink.new) (quoted form number (text_in program.now).lines)) }
+    ensures ok { OnOk result
+        (Appends (W.written sink.old) (W.written sink.new)
+        (quoted form number (text_in program.now).lines)) }
+    ensures fault { OnErr result
+        (AppendsBeginning (W.written sink.old) (W.written sink.new)
+        (quoted form number (text_in program.now).lines)) }
     ensures counts { CountsFailure (W.failures sink.old) (W.failures sink.new) result }
 {
     let mut chunk = quote_of(form, number, line_bytes(program, number));

@@ -5,7 +5,8 @@ ghost use Rattle.ngc_text.specs.Failures.{CountsFailure};
 ghost use Rattle.ngc_text.specs.Written.{AppendsBeginning};
 ghost use Rattle.ngc_machine.specs.Machine.{file_of};
 ghost use Rattle.ngc_report.specs.Forms.{report_text};
-ghost use Rattle.ngc_report.specs.Reports.{Tells, all_lines, causes_lines, start_lines_if, verdict_line};
+ghost use Rattle.ngc_report.specs.Reports.{Tells, all_lines, causes_lines, start_lines_if};
+ghost use Rattle.ngc_report.specs.Reports.{verdict_line};
 ghost use Rattle.ngc_report.specs.Scenes.{StandsBehind, scene_at, standing as standing_behind};
 
 use crate::bounds::extent;
@@ -39,7 +40,8 @@ impl Standing {
     fn at<A: Allocator>(&self, machine: &Machine<A>, commands: &[Command], count: usize) -> Standing
         requires last { StandsBehind (file_of machine.now) commands.now self.now }
         requires count { count ≤ length commands.now }
-        ensures reached { result.reached ≡ standing_behind (file_of machine.now) (take count commands.now) }
+        ensures reached { result.reached ≡ standing_behind (file_of machine.now)
+            (take count commands.now) }
         ensures stands { StandsBehind (file_of machine.now) commands.now result }
     {
         if count < self.count {
@@ -79,7 +81,8 @@ fn tell_causes<A: Allocator, W: Sink>(
     indices: &[u32],
     sink: &mut W,
 ) -> Result<(), WriteFault>
-    ensures told { Tells form (W.written sink.old) (W.written sink.new) chunk.old chunk.new result (causes_lines (file_of machine.now) commands.now indices.now) }
+    ensures told { Tells form (W.written sink.old) (W.written sink.new) chunk.old chunk.new result
+        (causes_lines (file_of machine.now) commands.now indices.now) }
     ensures counts { CountsFailure (W.failures sink.old) (W.failures sink.new) result }
 {
     let mut standing = Standing::first(machine, commands);
@@ -101,7 +104,8 @@ fn tell_start_if<A: Allocator, W: Sink>(
     start: bool,
     sink: &mut W,
 ) -> Result<(), WriteFault>
-    ensures told { Tells form (W.written sink.old) (W.written sink.new) chunk.old chunk.new result (start_lines_if (file_of machine.now) start) }
+    ensures told { Tells form (W.written sink.old) (W.written sink.new) chunk.old chunk.new result
+        (start_lines_if (file_of machine.now) start) }
     ensures counts { CountsFailure (W.failures sink.old) (W.failures sink.new) result }
 {
     if start {
@@ -120,7 +124,9 @@ fn tell_refused<A: Allocator, W: Sink>(
     indices: &[u32],
     sink: &mut W,
 ) -> Result<(), WriteFault>
-    ensures told { Tells form (W.written sink.old) (W.written sink.new) chunk.old chunk.new result (start_lines_if (file_of machine.now) start ++ causes_lines (file_of machine.now) commands.now indices.now) }
+    ensures told { Tells form (W.written sink.old) (W.written sink.new) chunk.old chunk.new result
+        (start_lines_if (file_of machine.now) start
+        ++ causes_lines (file_of machine.now) commands.now indices.now) }
     ensures counts { CountsFailure (W.failures sink.old) (W.failures sink.new) result }
 {
     match tell_start_if(chunk, form, machine, start, sink) {
@@ -149,7 +155,8 @@ fn tell_everything<A: Allocator, W: Sink>(
     indices: &[u32],
     sink: &mut W,
 ) -> Result<(), WriteFault>
-    ensures told { Tells form (W.written sink.old) (W.written sink.new) chunk.old chunk.new result (all_lines (file_of machine.now) commands.now start indices.now) }
+    ensures told { Tells form (W.written sink.old) (W.written sink.new) chunk.old chunk.new result
+        (all_lines (file_of machine.now) commands.now start indices.now) }
     ensures counts { CountsFailure (W.failures sink.old) (W.failures sink.new) result }
 {
     match tell_all(chunk, form, &[verdict(start, indices)], sink) {
@@ -177,8 +184,12 @@ pub fn write_refusals<A: Allocator, W: Sink>(
     indices: &[u32],
     sink: &mut W,
 ) -> Result<(), WriteFault>
-    ensures ok { OnOk result (Appends (W.written sink.old) (W.written sink.new) (report_text form (all_lines (file_of machine.now) commands.now start indices.now))) }
-    ensures fault { OnErr result (AppendsBeginning (W.written sink.old) (W.written sink.new) (report_text form (all_lines (file_of machine.now) commands.now start indices.now))) }
+    ensures ok { OnOk result
+        (Appends (W.written sink.old) (W.written sink.new)
+        (report_text form (all_lines (file_of machine.now) commands.now start indices.now))) }
+    ensures fault { OnErr result
+        (AppendsBeginning (W.written sink.old) (W.written sink.new)
+        (report_text form (all_lines (file_of machine.now) commands.now start indices.now))) }
     ensures counts { CountsFailure (W.failures sink.old) (W.failures sink.new) result }
 {
     let mut chunk = Chunk::new();

@@ -7,7 +7,8 @@ ghost use Rattle.ngc_text.specs.Written.{AppendsBeginning};
 ghost use Rattle.ngc_certificate_text.specs.Collects.{Collects};
 ghost use Rattle.ngc_machine.specs.Machine.{file_of};
 ghost use Rattle.ngc_text.specs.Collected.{HasLineRoom};
-ghost use Rattle.ngc_report.specs.Reports.{Tells, motions_in, along, alongs, use_lines, fit_lines, start_lines, scene_lines, cause_lines, refusal_lines};
+ghost use Rattle.ngc_report.specs.Reports.{Tells, motions_in, along, alongs, use_lines, fit_lines};
+ghost use Rattle.ngc_report.specs.Reports.{start_lines, scene_lines, cause_lines, refusal_lines};
 ghost use Rattle.ngc_report.specs.Uses.{tool_uses};
 ghost use Rattle.ngc_report.specs.Forms.{spelled, report_text};
 
@@ -39,7 +40,8 @@ fn add_spelled(chunk: &mut Chunk, form: Form, line: &Line)
 }
 
 fn tell<W: Sink>(chunk: &mut Chunk, form: Form, line: &Line, sink: &mut W) -> Result<(), WriteFault>
-    ensures text { Collects (W.written sink.old) (W.written sink.new) chunk.old chunk.new result (spelled form line.now) }
+    ensures text { Collects (W.written sink.old) (W.written sink.new) chunk.old chunk.new result
+        (spelled form line.now) }
     ensures counts { CountsFailure (W.failures sink.old) (W.failures sink.new) result }
 {
     match chunk.make_room(sink) {
@@ -56,7 +58,8 @@ pub(crate) fn tell_all<W: Sink>(
     lines: &[Line],
     sink: &mut W,
 ) -> Result<(), WriteFault>
-    ensures told { Tells form (W.written sink.old) (W.written sink.new) chunk.old chunk.new result lines.now }
+    ensures told { Tells form (W.written sink.old)
+        (W.written sink.new) chunk.old chunk.new result lines.now }
     ensures counts { CountsFailure (W.failures sink.old) (W.failures sink.new) result }
 {
     for line in lines {
@@ -110,7 +113,8 @@ fn tell_uses<A: Allocator, B: Allocator, W: Sink>(
     motions: &Motions<B>,
     sink: &mut W,
 ) -> Result<(), WriteFault>
-    ensures told { Tells form (W.written sink.old) (W.written sink.new) chunk.old chunk.new result (use_lines (file_of machine.now) (tool_uses commands.now) motions.now) }
+    ensures told { Tells form (W.written sink.old) (W.written sink.new) chunk.old chunk.new result
+        (use_lines (file_of machine.now) (tool_uses commands.now) motions.now) }
     ensures counts { CountsFailure (W.failures sink.old) (W.failures sink.new) result }
 {
     let mut uses = ToolUses::new(commands);
@@ -135,7 +139,8 @@ fn tell_fit<A: Allocator, B: Allocator, W: Sink>(
     motions: &Motions<B>,
     sink: &mut W,
 ) -> Result<(), WriteFault>
-    ensures told { Tells form (W.written sink.old) (W.written sink.new) chunk.old chunk.new result (fit_lines (file_of machine.now) commands.now motions.now) }
+    ensures told { Tells form (W.written sink.old) (W.written sink.new) chunk.old chunk.new result
+        (fit_lines (file_of machine.now) commands.now motions.now) }
     ensures counts { CountsFailure (W.failures sink.old) (W.failures sink.new) result }
 {
     match tell_all(chunk, form, &[Line::Fits], sink) {
@@ -161,7 +166,8 @@ pub(crate) fn tell_start<A: Allocator, W: Sink>(
     fixture: Option<u32>,
     sink: &mut W,
 ) -> Result<(), WriteFault>
-    ensures told { Tells form (W.written sink.old) (W.written sink.new) chunk.old chunk.new result (start_lines (file_of machine.now) fixture) }
+    ensures told { Tells form (W.written sink.old) (W.written sink.new) chunk.old chunk.new result
+        (start_lines (file_of machine.now) fixture) }
     ensures counts { CountsFailure (W.failures sink.old) (W.failures sink.new) result }
 {
     let scene = Scene::start(machine);
@@ -183,7 +189,8 @@ pub(crate) fn tell_scene<A: Allocator, W: Sink>(
     scene: &Option<Scene>,
     sink: &mut W,
 ) -> Result<(), WriteFault>
-    ensures told { Tells form (W.written sink.old) (W.written sink.new) chunk.old chunk.new result (scene_lines (file_of machine.now) command fixture scene.now) }
+    ensures told { Tells form (W.written sink.old) (W.written sink.new) chunk.old chunk.new result
+        (scene_lines (file_of machine.now) command fixture scene.now) }
     ensures counts { CountsFailure (W.failures sink.old) (W.failures sink.new) result }
 {
     match scene {
@@ -205,7 +212,8 @@ fn tell_cause<A: Allocator, W: Sink>(
     fixture: Option<u32>,
     sink: &mut W,
 ) -> Result<(), WriteFault>
-    ensures told { Tells form (W.written sink.old) (W.written sink.new) chunk.old chunk.new result (cause_lines (file_of machine.now) commands.now command fixture) }
+    ensures told { Tells form (W.written sink.old) (W.written sink.new) chunk.old chunk.new result
+        (cause_lines (file_of machine.now) commands.now command fixture) }
     ensures counts { CountsFailure (W.failures sink.old) (W.failures sink.new) result }
 {
     match command {
@@ -226,7 +234,8 @@ fn tell_refusal<A: Allocator, W: Sink>(
     fixture: Option<u32>,
     sink: &mut W,
 ) -> Result<(), WriteFault>
-    ensures told { Tells form (W.written sink.old) (W.written sink.new) chunk.old chunk.new result (refusal_lines (file_of machine.now) commands.now command fixture) }
+    ensures told { Tells form (W.written sink.old) (W.written sink.new) chunk.old chunk.new result
+        (refusal_lines (file_of machine.now) commands.now command fixture) }
     ensures counts { CountsFailure (W.failures sink.old) (W.failures sink.new) result }
 {
     match tell_all(chunk, form, &[Line::Refused], sink) {
@@ -257,8 +266,12 @@ pub fn write_fit<A: Allocator, B: Allocator, W: Sink>(
     motions: &Motions<B>,
     sink: &mut W,
 ) -> Result<(), WriteFault>
-    ensures ok { OnOk result (Appends (W.written sink.old) (W.written sink.new) (report_text form (fit_lines (file_of machine.now) commands.now motions.now))) }
-    ensures fault { OnErr result (AppendsBeginning (W.written sink.old) (W.written sink.new) (report_text form (fit_lines (file_of machine.now) commands.now motions.now))) }
+    ensures ok { OnOk result
+        (Appends (W.written sink.old) (W.written sink.new)
+        (report_text form (fit_lines (file_of machine.now) commands.now motions.now))) }
+    ensures fault { OnErr result
+        (AppendsBeginning (W.written sink.old) (W.written sink.new)
+        (report_text form (fit_lines (file_of machine.now) commands.now motions.now))) }
     ensures counts { CountsFailure (W.failures sink.old) (W.failures sink.new) result }
 {
     let mut chunk = Chunk::new();
@@ -281,8 +294,12 @@ pub fn write_refusal<A: Allocator, W: Sink>(
     fixture: Option<u32>,
     sink: &mut W,
 ) -> Result<(), WriteFault>
-    ensures ok { OnOk result (Appends (W.written sink.old) (W.written sink.new) (report_text form (refusal_lines (file_of machine.now) commands.now command fixture))) }
-    ensures fault { OnErr result (AppendsBeginning (W.written sink.old) (W.written sink.new) (report_text form (refusal_lines (file_of machine.now) commands.now command fixture))) }
+    ensures ok { OnOk result
+        (Appends (W.written sink.old) (W.written sink.new)
+        (report_text form (refusal_lines (file_of machine.now) commands.now command fixture))) }
+    ensures fault { OnErr result
+        (AppendsBeginning (W.written sink.old) (W.written sink.new)
+        (report_text form (refusal_lines (file_of machine.now) commands.now command fixture))) }
     ensures counts { CountsFailure (W.failures sink.old) (W.failures sink.new) result }
 {
     let mut chunk = Chunk::new();

@@ -2,7 +2,9 @@
 ghost use Rattle.std.specs.Prelude.{◌≡◌, ◌≤◌, unsigned_abs};
 ghost use Rattle.ngc_canonical.specs.Movement.{start_of};
 ghost use Rattle.ngc_machine.specs.Machine.{file_of};
-ghost use Rattle.ngc_report.specs.Scenes.{after, gone_on, standing, start_scene, still, moving, scene_of, scene_at, foot, over_height, over, named, obstacle};
+ghost use Rattle.ngc_report.specs.Scenes.{after, gone_on, standing, start_scene, still, moving};
+ghost use Rattle.ngc_report.specs.Scenes.{scene_of, scene_at, foot, over_height, over, named};
+ghost use Rattle.ngc_report.specs.Scenes.{obstacle};
 
 use crate::bounds::reach;
 use crate::margins::Margin;

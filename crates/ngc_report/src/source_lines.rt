@@ -121,8 +121,12 @@ pub fn write_source_line<W: Sink>(
     column: u16,
     sink: &mut W,
 ) -> Result<(), WriteFault>
-    ensures ok { OnOk result (Appends (W.written sink.old) (W.written sink.new) (marked form number column (bytes_with number (lines_of text.now)))) }
-    ensures fault { OnErr result (AppendsBeginning (W.written sink.old) (W.written sink.new) (marked form number column (bytes_with number (lines_of text.now)))) }
+    ensures ok { OnOk result
+        (Appends (W.written sink.old) (W.written sink.new)
+        (marked form number column (bytes_with number (lines_of text.now)))) }
+    ensures fault { OnErr result
+        (AppendsBeginning (W.written sink.old) (W.written sink.new)
+        (marked form number column (bytes_with number (lines_of text.now)))) }
     ensures counts { CountsFailure (W.failures sink.old) (W.failures sink.new) result }
 {
     let mut chunk = marked_line(form, number, column, source_line(text, number));

@@ -1,6 +1,8 @@
 //! The uses of tools in a program.
 ghost use Rattle.std.specs.Prelude.{◌≡◌, ◌^◌, ◌<◌, ◌∷◌, [], MatchOption, count_by, sum_by};
-ghost use Rattle.ngc_report.specs.Uses.{is_change, is_traverse, is_feed, is_arc, is_dwell, is_stop, traversed, fed, stretch, use_of, moves, changes, tool_uses, uses_left};
+ghost use Rattle.ngc_report.specs.Uses.{is_change, is_traverse, is_feed, is_arc, is_dwell, is_stop};
+ghost use Rattle.ngc_report.specs.Uses.{traversed, fed, stretch, use_of, moves, changes, tool_uses};
+ghost use Rattle.ngc_report.specs.Uses.{uses_left};
 
 use crate::ways::length_of;
 use ngc_canonical::{Action, Command, Motion, Pace, Tool, Way};
@@ -215,7 +217,8 @@ impl ToolUse {
 
 /// The tool of the next change, and the commands behind it.
 fn next_change(commands: &[Command]) -> Option<(Option<Tool>, &[Command])>
-    ensures { MatchOption result (changes commands.now ≡ []) (λ p. changes commands.now ≡ use_of p.0 p.1.now ∷ changes p.1.now) }
+    ensures { MatchOption result (changes commands.now ≡ [])
+        (λ p. changes commands.now ≡ use_of p.0 p.1.now ∷ changes p.1.now) }
 {
     for (i, command) in commands.iter().enumerate() {
         if let Action::Mount(tool) = command.action {
@@ -239,7 +242,8 @@ impl<'a> ToolUses<'a> {
 
     /// The next use, or `None` behind the last one.
     pub fn next_use(&mut self) -> Option<ToolUse>
-        ensures { MatchOption result (uses_left self.old ≡ []) (λ u. uses_left self.old ≡ u ∷ uses_left self.new) }
+        ensures { MatchOption result (uses_left self.old ≡ [])
+            (λ u. uses_left self.old ≡ u ∷ uses_left self.new) }
     {
         if let Some(first) = self.first {
             self.first = None;

@@ -24,7 +24,8 @@ fn tell_warned<A: Allocator, W: Sink>(
     commands: &[Command],
     sink: &mut W,
 ) -> Result<(), WriteFault>
-    ensures told { Tells form (W.written sink.old) (W.written sink.new) chunk.old chunk.new result (warned (file_of machine.now) concern commands.now) }
+    ensures told { Tells form (W.written sink.old) (W.written sink.new) chunk.old chunk.new result
+        (warned (file_of machine.now) concern commands.now) }
     ensures counts { CountsFailure (W.failures sink.old) (W.failures sink.new) result }
 {
     match warning_about(machine, concern, commands) {
@@ -40,7 +41,8 @@ fn tell_warnings<A: Allocator, W: Sink>(
     commands: &[Command],
     sink: &mut W,
 ) -> Result<(), WriteFault>
-    ensures told { Tells form (W.written sink.old) (W.written sink.new) chunk.old chunk.new result (warning_lines (file_of machine.now) commands.now) }
+    ensures told { Tells form (W.written sink.old) (W.written sink.new) chunk.old chunk.new result
+        (warning_lines (file_of machine.now) commands.now) }
     ensures counts { CountsFailure (W.failures sink.old) (W.failures sink.new) result }
 {
     match tell_warned(chunk, form, machine, Concern::NoTool, commands, sink) {
@@ -68,8 +70,12 @@ pub fn write_warnings<A: Allocator, W: Sink>(
     commands: &[Command],
     sink: &mut W,
 ) -> Result<(), WriteFault>
-    ensures ok { OnOk result (Appends (W.written sink.old) (W.written sink.new) (report_text form (warning_lines (file_of machine.now) commands.now))) }
-    ensures fault { OnErr result (AppendsBeginning (W.written sink.old) (W.written sink.new) (report_text form (warning_lines (file_of machine.now) commands.now))) }
+    ensures ok { OnOk result
+        (Appends (W.written sink.old) (W.written sink.new)
+        (report_text form (warning_lines (file_of machine.now) commands.now))) }
+    ensures fault { OnErr result
+        (AppendsBeginning (W.written sink.old) (W.written sink.new)
+        (report_text form (warning_lines (file_of machine.now) commands.now))) }
     ensures counts { CountsFailure (W.failures sink.old) (W.failures sink.new) result }
 {
     let mut chunk = Chunk::new();

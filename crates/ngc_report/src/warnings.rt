@@ -1,11 +1,15 @@
 //! What passes and is nearly always a mistake.
-ghost use Rattle.std.specs.Prelude.{◌≡◌, ◌+◌, ◌≤◌, ◌<◌, ◌∷◌, [], map, fold, unsigned_abs, MatchOption};
+ghost use Rattle.std.specs.Prelude.{◌≡◌, ◌+◌, ◌≤◌, ◌<◌, ◌∷◌, [], map, fold, unsigned_abs};
+ghost use Rattle.std.specs.Prelude.{MatchOption};
 ghost use Rattle.std.specs.List.{list_any};
 ghost use Rattle.std.specs.Ordering.{int_eq};
 ghost use Rattle.ngc_collision.specs.Inside.{solid_of};
 ghost use Rattle.ngc_fixed_length.specs.Length.{IsStep};
 ghost use Rattle.ngc_machine.specs.Machine.{file_of};
-ghost use Rattle.ngc_report.specs.Warnings.{leaves, is_unarmed, step_speed, greatest_speed, is_fast, is_at, goes_home, is_low, comes_low, is_low_home, concerns, is_concerned, line_of, warnings_about, counted, number_of};
+ghost use Rattle.ngc_report.specs.Warnings.{leaves, is_unarmed, step_speed, greatest_speed};
+ghost use Rattle.ngc_report.specs.Warnings.{is_fast, is_at, goes_home, is_low, comes_low};
+ghost use Rattle.ngc_report.specs.Warnings.{is_low_home, concerns, is_concerned, line_of};
+ghost use Rattle.ngc_report.specs.Warnings.{warnings_about, counted, number_of};
 
 use crate::bounds::reach;
 use crate::scene::{Reached, after};
@@ -208,7 +212,8 @@ fn with_command<A: Allocator>(
     command: &Command,
 ) -> Option<Warning>
     requires { number_of found < usize.MAX }
-    ensures value { result ≡ fold (counted concern) found (line_of (file_of machine.now) concern before.now command.now) }
+    ensures value { result ≡ fold (counted concern) found
+        (line_of (file_of machine.now) concern before.now command.now) }
     ensures few { number_of result ≤ number_of found + 1 }
 {
     if is_concerned(machine, concern, before, &command.action) {
@@ -224,7 +229,8 @@ pub(crate) fn warning_about<A: Allocator>(
     concern: Concern,
     commands: &[Command],
 ) -> Option<Warning>
-    ensures { MatchOption result (warnings_about (file_of machine.now) concern commands.now ≡ []) (λ w. warnings_about (file_of machine.now) concern commands.now ≡ w ∷ []) }
+    ensures { MatchOption result (warnings_about (file_of machine.now) concern commands.now ≡ [])
+        (λ w. warnings_about (file_of machine.now) concern commands.now ≡ w ∷ []) }
 {
     let mut found = None;
     let mut reached = Reached {

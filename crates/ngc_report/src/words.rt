@@ -2,7 +2,10 @@
 ghost use Rattle.std.specs.Prelude.{◌≡◌, ◌+◌, ◌≤◌, ◌++◌, codes, decimal, length};
 ghost use Rattle.ngc_text.specs.Collected.{CHUNK_SIZE, HasLineRoom};
 ghost use Rattle.ngc_text.specs.Millimetres.{mm_text};
-ghost use Rattle.ngc_report.specs.Words.{room_words, room_text, place_text, axis_text, side_text, tool_text, nearest_text, along_text, use_text, command_text, over_text, met_text, obstacle_text, concern_text, warning_text, line_text};
+ghost use Rattle.ngc_report.specs.Words.{room_words, room_text, place_text, axis_text, side_text};
+ghost use Rattle.ngc_report.specs.Words.{tool_text, nearest_text, along_text, use_text};
+ghost use Rattle.ngc_report.specs.Words.{command_text, over_text, met_text, obstacle_text};
+ghost use Rattle.ngc_report.specs.Words.{concern_text, warning_text, line_text};
 
 use crate::line::{Along, Line};
 use crate::margins::{Axis, Margin, Side};
@@ -107,7 +110,9 @@ fn add_tool(chunk: &mut Chunk, tool: &Option<Tool>)
 
 fn add_distance(chunk: &mut Chunk, nearest: &Nearest)
     requires { length chunk.old + 120 ≤ CHUNK_SIZE }
-    ensures { chunk.new ≡ chunk.old ++ (codes "; nearest fixture " ++ decimal nearest.now.fixture ++ codes ", " ++ mm_text nearest.now.distance ++ codes " away.\n") }
+    ensures { chunk.new ≡ chunk.old
+        ++ (codes "; nearest fixture " ++ decimal nearest.now.fixture ++ codes ", "
+        ++ mm_text nearest.now.distance ++ codes " away.\n") }
 {
     chunk.add_text(b"; nearest fixture ");
     chunk.add_number(nearest.fixture);
@@ -168,7 +173,8 @@ fn add_use(chunk: &mut Chunk, one: &ToolUse, nearest: &Option<Nearest>)
 
 fn add_start(chunk: &mut Chunk, scene: &Scene)
     requires { HasLineRoom chunk.old }
-    ensures { chunk.new ≡ chunk.old ++ (codes "The start is refused, at " ++ place_text scene.now.from ++ codes ".\n") }
+    ensures { chunk.new ≡ chunk.old
+        ++ (codes "The start is refused, at " ++ place_text scene.now.from ++ codes ".\n") }
 {
     chunk.add_text(b"The start is refused, at ");
     add_place(chunk, &scene.from);
@@ -194,7 +200,9 @@ fn add_command(chunk: &mut Chunk, command: usize, scene: &Scene)
 
 fn add_side(chunk: &mut Chunk, margin: &Margin)
     requires { HasLineRoom chunk.old }
-    ensures { chunk.new ≡ chunk.old ++ (codes "It leaves the travel " ++ side_text margin.now.side ++ axis_text margin.now.axis ++ codes ": " ++ room_text margin.now.left ++ codes ".\n") }
+    ensures { chunk.new ≡ chunk.old
+        ++ (codes "It leaves the travel " ++ side_text margin.now.side ++ axis_text margin.now.axis
+        ++ codes ": " ++ room_text margin.now.left ++ codes ".\n") }
 {
     chunk.add_text(b"It leaves the travel ");
     chunk.add_text(side_name(margin.side));
@@ -206,7 +214,8 @@ fn add_side(chunk: &mut Chunk, margin: &Margin)
 
 fn add_height(chunk: &mut Chunk, height: i64)
     requires { length chunk.old + 90 ≤ CHUNK_SIZE }
-    ensures { chunk.new ≡ chunk.old ++ (codes "; from Z " ++ mm_text height ++ codes " up it passes over.\n") }
+    ensures { chunk.new ≡ chunk.old
+        ++ (codes "; from Z " ++ mm_text height ++ codes " up it passes over.\n") }
 {
     chunk.add_text(b"; from Z ");
     chunk.add_millimetres(i128::from(height));

@@ -5,7 +5,8 @@ use Rattle.ngc_text.proofs.Appended.{begins_after}
 use Rattle.ngc_text.specs.Written.{AppendsBeginning}
 use Rattle.ngc_text.specs.Collected.{WritesFront}
 
-pub front_begun : (x y z : Option (List ℕ)) (before after more : List ℕ) → WritesFront x y before after → AppendsBeginning y z (after ++ more) → AppendsBeginning x z (before ++ more)
+pub front_begun : (x y z : Option (List ℕ)) (before after more : List ℕ) → WritesFront x y before after → AppendsBeginning y z (after ++ more) →
+    AppendsBeginning x z (before ++ more)
 front_begun x y z before after more w b =
     let P : List ℕ → Type 0 = λ text. AppendsBeginning x z text in
     let text : w.0 ++ ((after ++ more) ++ []) ≡ before ++ more =

@@ -1,5 +1,6 @@
 -- The machine stays untouched in ticks of which nothing is told.
-use Rattle.std.proofs.Common.{◌≡◌, inl, inr, ℕ, zero, suc, ◌+◌, ◌-◌, ◌≤◌, List, [], ◌∷◌, length, replicate, Option, None, Some, Ok, Bool, true, false, refl, ap, sym, subst, ◌∙◌, arith}
+use Rattle.std.proofs.Common.{◌≡◌, inl, inr, ℕ, zero, suc, ◌+◌, ◌-◌, ◌≤◌, List, [], ◌∷◌, length, replicate, Option, None, Some, Ok, Bool, true, false, refl, ap}
+use Rattle.std.proofs.Common.{sym, subst, ◌∙◌, arith}
 use Rattle.std.specs.Prelude.{MatchBool, nat_lt, nat_le, if◌then◌else◌}
 use Rattle.std.proofs.lemmas.List.{length-replicate}
 use Rattle.ngc_fixed_length.specs.declared.points.StepPos.{StepPos}
@@ -27,7 +28,8 @@ use Rattle.ngc_run_log.proofs.Untouched.{untouched_tick}
 no_end : (p : Option StepPos) (ended : Option Ending) → quiet ≡ Ok (Ticked p ended) → ended ≡ None
 no_end p ended says = cc
 
-moved_dwelt : (b : Bool) (s t there : State) (over further : ℕ) (p : Option StepPos) (e : Ending) → quiet ≡ Ok (Ticked p (if b then Some e else None)) → there.dwelt ≡ s.dwelt →
+moved_dwelt : (b : Bool) (s t there : State) (over further : ℕ) (p : Option StepPos) (e : Ending) → quiet ≡ Ok (Ticked p (if b then Some e else None)) →
+    there.dwelt ≡ s.dwelt →
     t ≡ (if b then without_head over there else record there { travelled = further }) → s.dwelt ≤ t.dwelt
 moved_dwelt true s t there over further p e says same is = absurd (let never = no_end p (Some e) says in cc)
 moved_dwelt false s t there over further p e says same is = let d : t.dwelt ≡ there.dwelt = ap (λ (x : State). x.dwelt) is in omega (arith, d, same)
@@ -35,7 +37,8 @@ moved_dwelt false s t there over further p e says same is = let d : t.dwelt ≡ 
 travel_dwelt : (job : Job) (l : Queued) (ls : List Queued) (s t : State) → Travels job l ls s quiet t → s.dwelt ≤ t.dwelt
 travel_dwelt job l ls s t go =
     let v = t.rate in
-    moved_dwelt (nat_le (millionths l) (s.travelled + v)) s t (record s { rate = v; position = point l.path (place_after l s v) }) (s.travelled + v - millionths l) (s.travelled + v)
+    moved_dwelt (nat_le (millionths l) (s.travelled + v)) s t (record s { rate = v; position = point l.path (place_after l s v) })
+    (s.travelled + v - millionths l) (s.travelled + v)
     (pulse l s v) (ending l.command.action s) go.says refl go.goes_on
 
 rest_dwelt : (job : Job) (s t : State) → Rests job s quiet t → s.dwelt ≤ t.dwelt
@@ -95,7 +98,8 @@ one_coasts n job s x t works left later =
     }
 
 coasted : (n : ℕ) (job : Job) (s : State) (xs : List State) → IsUntouched job s → s.stopped ≡ false → 1 ≤ length s.ring →
-    Run job s (replicate n Tick) (replicate n quiet) xs → KeepGoing job s (replicate n Tick) xs → (last_state s xs).dwelt ≤ DWELL_LIMIT → HasCoasted job s (last_state s xs) n
+    Run job s (replicate n Tick) (replicate n quiet) xs → KeepGoing job s (replicate n Tick) xs → (last_state s xs).dwelt ≤ DWELL_LIMIT →
+    HasCoasted job s (last_state s xs) n
 coasted zero job s [] u runs some r k brief = record { untouched = u; ring = refl; done = refl; running = runs; spends = omega arith }
 coasted zero job s (x ∷ xs) u runs some r k brief = absurd r
 coasted (suc n) job s [] u runs some r k brief = absurd r
@@ -109,8 +113,10 @@ coasted (suc n) job s (x ∷ xs) u runs some r k brief =
     let ring : length x.ring ≡ length s.ring = ap length left.1 in
     one_coasts n job s x (last_state x xs) works left (coasted n job x xs untouched works.running (omega (arith, ring, some)) r.1 k.1 brief)
 
-pub quiet_coasts : (n : ℕ) (old new : ControllerData) (a b : Recorder) (x : Option (List ℕ)) → IsUntouched old.job old.state → old.state.stopped ≡ false → 1 ≤ length old.state.ring → new.job ≡ old.job →
-    Stretch old.job old.state new.state (replicate n Tick) (replicate n quiet) → new.state.dwelt ≤ DWELL_LIMIT → Records (replicate n Tick) (replicate n quiet) a b x x → Coasts old new a b x
+pub quiet_coasts : (n : ℕ) (old new : ControllerData) (a b : Recorder) (x : Option (List ℕ)) → IsUntouched old.job old.state → old.state.stopped ≡ false →
+    1 ≤ length old.state.ring → new.job ≡ old.job →
+    Stretch old.job old.state new.state (replicate n Tick) (replicate n quiet) → new.state.dwelt ≤ DWELL_LIMIT →
+    Records (replicate n Tick) (replicate n quiet) a b x x → Coasts old new a b x
 quiet_coasts n old new a b x u runs some same stretch brief recorded =
     let D : State → Type 0 = λ t. t.dwelt ≤ DWELL_LIMIT in
     let H : State → Type 0 = λ t. HasCoasted old.job old.state t n in

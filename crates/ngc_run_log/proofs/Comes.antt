@@ -33,7 +33,8 @@ pub record AreNew (first : Trace) (job : Job) (state : State) (recorder : Record
   pub chunk : recorder.chunk ≡ opening_text first
 
 pub new_recorder : (trace : Trace) (job : Job) (state : State) (a : Recorder) (position : StepPos) → state ≡ opening job.machine → position ≡ state.position
-    → a.report ≡ record { ticks = 0; path_steps = 0; refused = 0; position = position } → a.trace ≡ trace → ticks_of trace ≡ 0 → a.chunk ≡ opening_text trace → AreNew trace job state a
+    → a.report ≡ record { ticks = 0; path_steps = 0; refused = 0; position = position } → a.trace ≡ trace → ticks_of trace ≡ 0 → a.chunk ≡ opening_text trace →
+    AreNew trace job state a
 new_recorder trace job state a position opens stands report same begins chunk = record {
   opens = opens;
   report = report ∙ ap (λ (p : StepPos). record { ticks = 0; path_steps = 0; refused = 0; position = p }) stands;
@@ -52,7 +53,8 @@ none_counted trace job state a n new = record {
   ticks = omega (arith, ap ticks_of new.trace, new.begins);
 }
 
-is_run : (job : Job) (s t : State) (events : List Event) (outcomes : List Outcome) → RunsSafely job → RunsInTime job → s ≡ opening job.machine → Stretch job s t events outcomes → IsRun job events outcomes
+is_run : (job : Job) (s t : State) (events : List Event) (outcomes : List Outcome) → RunsSafely job → RunsInTime job → s ≡ opening job.machine →
+    Stretch job s t events outcomes → IsRun job events outcomes
 is_run job s t events outcomes safe in_time opens stretch =
     let R : State → Type 0 = λ x. Run job x events outcomes stretch.states in
     let K : State → Type 0 = λ x. KeepGoing job x events stretch.states in
@@ -66,7 +68,8 @@ is_run job s t events outcomes safe in_time opens stretch =
       in_time = in_time events outcomes stretch.states runs goes_on;
     }
 
-pub reports : (trace : Trace) (job : Job) (s : State) (a b : Recorder) (events : List Event) (outcomes : List Outcome) → AreNew trace job s a → Counts events outcomes a.report b.report → Reports job events outcomes b.report
+pub reports : (trace : Trace) (job : Job) (s : State) (a b : Recorder) (events : List Event) (outcomes : List Outcome) → AreNew trace job s a →
+    Counts events outcomes a.report b.report → Reports job events outcomes b.report
 reports trace job s a b events outcomes new counts =
     let place : a.report.position ≡ (opening job.machine).position = ap (λ (r : Report). r.position) new.report ∙ ap (λ (x : State). x.position) new.opens in
     record {
@@ -77,30 +80,35 @@ reports trace job s a b events outcomes new counts =
     }
 
 -- what was written and what is still collected is the text before the last
-text_is : (trace : Trace) (job : Job) (s : State) (a b : Recorder) (x y : Option (List ℕ)) (events : List Event) (outcomes : List Outcome) → AreNew trace job s a → (r : Records events outcomes a b x y) →
+text_is : (trace : Trace) (job : Job) (s : State) (a b : Recorder) (x y : Option (List ℕ)) (events : List Event) (outcomes : List Outcome) →
+    AreNew trace job s a → (r : Records events outcomes a b x y) →
     r.collects.front ++ (b.chunk ++ last_text b.trace) ≡ whole_text trace outcomes
 text_is trace job s a b x y events outcomes new r =
     let after : b.trace ≡ trace_after trace outcomes = r.trace ∙ ap (λ t. trace_after t outcomes) new.trace in
-    let opened : a.chunk ++ trace_text a.trace outcomes ≡ opening_text trace ++ trace_text trace outcomes = ap (λ l. l ++ trace_text a.trace outcomes) new.chunk ∙ ap (λ t. opening_text trace ++ trace_text t outcomes) new.trace in
+    let opened : a.chunk ++ trace_text a.trace outcomes ≡ opening_text trace ++ trace_text trace outcomes =
+    ap (λ l. l ++ trace_text a.trace outcomes) new.chunk ∙ ap (λ t. opening_text trace ++ trace_text t outcomes) new.trace in
     sym (append_assoc r.collects.front b.chunk (last_text b.trace))
     ∙ ap (λ l. l ++ last_text b.trace) (sym r.collects.splits ∙ opened)
     ∙ ap (λ t. (opening_text trace ++ trace_text trace outcomes) ++ last_text t) after
     ∙ append_assoc (opening_text trace) (trace_text trace outcomes) (last_text (trace_after trace outcomes))
 
 -- all was written, and the last text
-pub all_written : (trace : Trace) (job : Job) (s : State) (a b : Recorder) (x y z : Option (List ℕ)) (events : List Event) (outcomes : List Outcome) → AreNew trace job s a → Records events outcomes a b x y →
+pub all_written : (trace : Trace) (job : Job) (s : State) (a b : Recorder) (x y z : Option (List ℕ)) (events : List Event) (outcomes : List Outcome) →
+    AreNew trace job s a → Records events outcomes a b x y →
     Appends y z (b.chunk ++ last_text b.trace) → Appends x z (whole_text trace outcomes)
 all_written trace job s a b x y z events outcomes new r wrote =
     let P : List ℕ → Type 0 = λ text. Appends x z text in
     subst P (text_is trace job s a b x y events outcomes new r) (appends_both x y z r.collects.front (b.chunk ++ last_text b.trace) r.collects.writes wrote)
 
 -- then a write failed
-pub all_begun : (trace : Trace) (job : Job) (s : State) (a b : Recorder) (x y z : Option (List ℕ)) (events : List Event) (outcomes : List Outcome) → AreNew trace job s a → Records events outcomes a b x y →
+pub all_begun : (trace : Trace) (job : Job) (s : State) (a b : Recorder) (x y z : Option (List ℕ)) (events : List Event) (outcomes : List Outcome) →
+    AreNew trace job s a → Records events outcomes a b x y →
     AppendsBeginning y z (b.chunk ++ last_text b.trace) → AppendsBeginning x z (whole_text trace outcomes)
 all_begun trace job s a b x y z events outcomes new r wrote =
     let P : List ℕ → Type 0 = λ text. AppendsBeginning x z text in
     let rest : List ℕ = b.chunk ++ last_text b.trace in
-    let text : r.collects.front ++ (rest ++ []) ≡ whole_text trace outcomes = ap (λ l. r.collects.front ++ l) (append-nil rest) ∙ text_is trace job s a b x y events outcomes new r in
+    let text : r.collects.front ++ (rest ++ []) ≡ whole_text trace outcomes =
+    ap (λ l. r.collects.front ++ l) (append-nil rest) ∙ text_is trace job s a b x y events outcomes new r in
     subst P text (begins_after x y z r.collects.front rest [] r.collects.writes wrote)
 
 -- a write failed before the last text was added
@@ -108,7 +116,8 @@ pub some_begun : (trace : Trace) (job : Job) (s : State) (a : Recorder) (x z : O
     AppendsBeginning x z (a.chunk ++ trace_text a.trace outcomes) → AppendsBeginning x z (whole_text trace outcomes)
 some_begun trace job s a x z outcomes new wrote =
     let end : List ℕ = last_text (trace_after trace outcomes) in
-    let opened : a.chunk ++ trace_text a.trace outcomes ≡ opening_text trace ++ trace_text trace outcomes = ap (λ l. l ++ trace_text a.trace outcomes) new.chunk ∙ ap (λ t. opening_text trace ++ trace_text t outcomes) new.trace in (
+    let opened : a.chunk ++ trace_text a.trace outcomes ≡ opening_text trace ++ trace_text trace outcomes =
+    ap (λ l. l ++ trace_text a.trace outcomes) new.chunk ∙ ap (λ t. opening_text trace ++ trace_text t outcomes) new.trace in (
       wrote.0,
       wrote.1 ++ end,
       sym (append_assoc (opening_text trace) (trace_text trace outcomes) end) ∙ ap (λ l. l ++ end) (sym opened ∙ wrote.2) ∙ append_assoc wrote.0 wrote.1 end,
@@ -119,8 +128,10 @@ all_taken : (lines : List EventLine) (i : ℕ) → length lines ≤ i → events
 all_taken lines i h = ap events_of (take_all i lines h)
 
 -- all is written
-pub run_traced : (trace : Trace) (job : Job) (s t : State) (a b : Recorder) (x y z : Option (List ℕ)) (lines : List EventLine) (i : ℕ) (report : Report) → AreNew trace job s a → RunsSafely job → RunsInTime job → length lines ≤ i
-    → IsRecorded job s t a b x y (events_of (take i lines)) → Appends y z (b.chunk ++ last_text b.trace) → report ≡ b.report → IsTracedRun trace job lines x z report
+pub run_traced : (trace : Trace) (job : Job) (s t : State) (a b : Recorder) (x y z : Option (List ℕ)) (lines : List EventLine) (i : ℕ) (report : Report) →
+    AreNew trace job s a → RunsSafely job → RunsInTime job → length lines ≤ i
+    → IsRecorded job s t a b x y (events_of (take i lines)) → Appends y z (b.chunk ++ last_text b.trace) → report ≡ b.report →
+    IsTracedRun trace job lines x z report
 run_traced trace job s t a b x y z lines i report new safe in_time h done wrote same =
     let E : List Event → Type 0 = λ es. IsRecorded job s t a b x y es in
     let whole : IsRecorded job s t a b x y (events_of lines) = subst E (all_taken lines i h) done in
@@ -138,7 +149,8 @@ if_ok_both P R (Ok x) p q f = f x p q
 if_ok_both P R (Err e) p q f = tt
 
 -- all events were given, and then a write failed
-pub run_untraced : (trace : Trace) (job : Job) (s t : State) (a b : Recorder) (x y z : Option (List ℕ)) (lines : List EventLine) (i : ℕ) → AreNew trace job s a → RunsSafely job → RunsInTime job → length lines ≤ i
+pub run_untraced : (trace : Trace) (job : Job) (s t : State) (a b : Recorder) (x y z : Option (List ℕ)) (lines : List EventLine) (i : ℕ) →
+    AreNew trace job s a → RunsSafely job → RunsInTime job → length lines ≤ i
     → IsRecorded job s t a b x y (events_of (take i lines)) → AppendsBeginning y z (b.chunk ++ last_text b.trace) → IsUntracedRun trace job lines x z
 run_untraced trace job s t a b x y z lines i new safe in_time h done wrote =
     let E : List Event → Type 0 = λ es. IsRecorded job s t a b x y es in
@@ -153,7 +165,8 @@ run_untraced trace job s t a b x y z lines i new safe in_time h done wrote =
     }
 
 -- a write failed before all events were given
-pub run_cut : (trace : Trace) (job : Job) (s : State) (a : Recorder) (x z : Option (List ℕ)) (lines : List EventLine) → AreNew trace job s a → RunsSafely job → RunsInTime job → IsCutShort job s a x z (events_of lines) →
+pub run_cut : (trace : Trace) (job : Job) (s : State) (a : Recorder) (x z : Option (List ℕ)) (lines : List EventLine) → AreNew trace job s a → RunsSafely job →
+    RunsInTime job → IsCutShort job s a x z (events_of lines) →
     IsUntracedRun trace job lines x z
 run_cut trace job s a x z lines new safe in_time cut = record {
   given = cut.given;
@@ -170,5 +183,6 @@ safe_of a block_delete job ok same = subst RunsSafely (sym same) (accepted_runs_
 pub in_time_of : (a : AcceptedData) (block_delete : Bool) (job : Job) → IsAccepted a → job ≡ job_of a.machine (commands_at block_delete a) → RunsInTime job
 in_time_of a block_delete job ok same = subst RunsInTime (sym same) (machines_run_in_time (job_of a.machine (commands_at block_delete a)) ok.machine)
 
-pub opens_of : (a : AcceptedData) (block_delete : Bool) (job : Job) (state : State) → job ≡ job_of a.machine (commands_at block_delete a) → state ≡ opening a.machine → state ≡ opening job.machine
+pub opens_of : (a : AcceptedData) (block_delete : Bool) (job : Job) (state : State) → job ≡ job_of a.machine (commands_at block_delete a) →
+    state ≡ opening a.machine → state ≡ opening job.machine
 opens_of a block_delete job state same opens = opens ∙ ap (λ (j : Job). opening j.machine) (sym same)

@@ -26,7 +26,8 @@ use Rattle.ngc_run_log.specs.Log.{log}
 use Rattle.ngc_run_log.specs.Tracing.{ticks_in, trace_of, ticks_of, whole_text}
 use Rattle.ngc_run_log.specs.Runs.{ComesTo}
 use Rattle.ngc_run_log.specs.Through.{GoesThrough}
-use Rattle.ngc_run_log.specs.Forms.{text_as, IsWrittenRun, IsUnwrittenRun, ComesAs, IsWrittenThrough, IsWrittenOff, GoesThroughAs, IsTracedRun, IsUntracedRun, IsTracedThrough, IsTracedOff}
+use Rattle.ngc_run_log.specs.Forms.{text_as, IsWrittenRun, IsUnwrittenRun, ComesAs, IsWrittenThrough, IsWrittenOff, GoesThroughAs, IsTracedRun, IsUntracedRun}
+use Rattle.ngc_run_log.specs.Forms.{IsTracedThrough, IsTracedOff}
 use Rattle.ngc_run_log.proofs.Leads.{run_pulses}
 
 -- ---- the trace of a job
@@ -37,8 +38,10 @@ pub record IsTraceOf (form : Form) (job : Job) (trace : Trace) : Type 0 where
   pub joined : AreJoined job.machine.start (ways_of (actions_of job.commands))
   pub is : trace ≡ trace_of form job.machine.ticks_per_second (start_of_job job)
 
-pub trace_is : (form : Form) (a : AcceptedData) (block_delete : Bool) (trace : Trace) (rate : ℕ) (position : StepPos) (state : State) → IsAccepted a → trace ≡ trace_of form rate position →
-    rate ≡ a.machine.ticks_per_second → position ≡ state.position → state ≡ opening a.machine → IsTraceOf form (job_of a.machine (commands_at block_delete a)) trace
+pub trace_is : (form : Form) (a : AcceptedData) (block_delete : Bool) (trace : Trace) (rate : ℕ) (position : StepPos) (state : State) → IsAccepted a →
+    trace ≡ trace_of form rate position →
+    rate ≡ a.machine.ticks_per_second → position ≡ state.position → state ≡ opening a.machine →
+    IsTraceOf form (job_of a.machine (commands_at block_delete a)) trace
 trace_is form a block_delete trace rate position state ok is ticks place opens = record {
   machine = ok.machine;
   joined = at block_delete;
@@ -56,18 +59,22 @@ none_ticked form trace rate position is = ap ticks_of is ∙ none form where
 
 -- ---- the text
 
-first_text : (form : Form) (job : Job) (es : List Event) (os : List Outcome) (xs : List State) → IsMachine job.machine → AreJoined job.machine.start (ways_of (actions_of job.commands)) → Run job (opening job.machine) es os xs →
+first_text : (form : Form) (job : Job) (es : List Event) (os : List Outcome) (xs : List State) → IsMachine job.machine →
+    AreJoined job.machine.start (ways_of (actions_of job.commands)) → Run job (opening job.machine) es os xs →
     whole_text (trace_of form job.machine.ticks_per_second (start_of_job job)) os ≡ text_as form job es os xs
 first_text Log job es os xs machine joined r = append-nil (log os)
 first_text Pulses job es os xs machine joined r =
-    whole_dump job.machine.ticks_per_second (start_of_job job) (ticks_in os) ∙ ap (vcd job.machine.ticks_per_second) (sym (run_pulses job es os xs machine joined r))
+    whole_dump job.machine.ticks_per_second (start_of_job job) (ticks_in os)
+    ∙ ap (vcd job.machine.ticks_per_second) (sym (run_pulses job es os xs machine joined r))
 
-text_of_run : (form : Form) (job : Job) (trace : Trace) (es : List Event) (os : List Outcome) (xs : List State) → IsTraceOf form job trace → Run job (opening job.machine) es os xs → whole_text trace os ≡ text_as form job es os xs
+text_of_run : (form : Form) (job : Job) (trace : Trace) (es : List Event) (os : List Outcome) (xs : List State) → IsTraceOf form job trace →
+    Run job (opening job.machine) es os xs → whole_text trace os ≡ text_as form job es os xs
 text_of_run form job trace es os xs t r = ap (λ (x : Trace). whole_text x os) t.is ∙ first_text form job es os xs t.machine t.joined r
 
 -- ---- what a run comes to
 
-written_run : (form : Form) (trace : Trace) (job : Job) (lines : List EventLine) (x y : Option (List ℕ)) (report : Report) → IsTraceOf form job trace → IsTracedRun trace job lines x y report → IsWrittenRun form job lines x y report
+written_run : (form : Form) (trace : Trace) (job : Job) (lines : List EventLine) (x y : Option (List ℕ)) (report : Report) → IsTraceOf form job trace →
+    IsTracedRun trace job lines x y report → IsWrittenRun form job lines x y report
 written_run form trace job lines x y report t r = record {
   outcomes = r.outcomes;
   run = r.run;
@@ -75,7 +82,8 @@ written_run form trace job lines x y report t r = record {
   reports = r.reports;
 }
 
-unwritten_run : (form : Form) (trace : Trace) (job : Job) (lines : List EventLine) (x y : Option (List ℕ)) → IsTraceOf form job trace → IsUntracedRun trace job lines x y → IsUnwrittenRun form job lines x y
+unwritten_run : (form : Form) (trace : Trace) (job : Job) (lines : List EventLine) (x y : Option (List ℕ)) → IsTraceOf form job trace →
+    IsUntracedRun trace job lines x y → IsUnwrittenRun form job lines x y
 unwritten_run form trace job lines x y t r = record {
   given = r.given;
   left = r.left;
@@ -85,17 +93,21 @@ unwritten_run form trace job lines x y t r = record {
   written = subst (AppendsBeginning x y) (text_of_run form job trace _ r.outcomes r.run.states t r.run.runs) r.written;
 }
 
-pub run_written : (form : Form) (trace : Trace) (job asked : Job) (lines : List EventLine) (x y : Option (List ℕ)) (report : Report) → IsTraceOf form asked trace → job ≡ asked → IsTracedRun trace job lines x y report →
+pub run_written : (form : Form) (trace : Trace) (job asked : Job) (lines : List EventLine) (x y : Option (List ℕ)) (report : Report) →
+    IsTraceOf form asked trace → job ≡ asked → IsTracedRun trace job lines x y report →
     IsWrittenRun form asked lines x y report
-run_written form trace job asked lines x y report t same r = written_run form trace asked lines x y report t (subst (λ (j : Job). IsTracedRun trace j lines x y report) same r)
+run_written form trace job asked lines x y report t same r =
+    written_run form trace asked lines x y report t (subst (λ (j : Job). IsTracedRun trace j lines x y report) same r)
 
-pub run_unwritten : (form : Form) (trace : Trace) (job asked : Job) (lines : List EventLine) (x y : Option (List ℕ)) → IsTraceOf form asked trace → job ≡ asked → IsUntracedRun trace job lines x y →
+pub run_unwritten : (form : Form) (trace : Trace) (job asked : Job) (lines : List EventLine) (x y : Option (List ℕ)) → IsTraceOf form asked trace →
+    job ≡ asked → IsUntracedRun trace job lines x y →
     IsUnwrittenRun form asked lines x y
 run_unwritten form trace job asked lines x y t same r = unwritten_run form trace asked lines x y t (subst (λ (j : Job). IsUntracedRun trace j lines x y) same r)
 
 -- ---- what a run through the program comes to
 
-written_through : (form : Form) (trace : Trace) (job : Job) (x y : Option (List ℕ)) (report : Report) → IsTraceOf form job trace → IsTracedThrough trace job x y report → IsWrittenThrough form job x y report
+written_through : (form : Form) (trace : Trace) (job : Job) (x y : Option (List ℕ)) (report : Report) → IsTraceOf form job trace →
+    IsTracedThrough trace job x y report → IsWrittenThrough form job x y report
 written_through form trace job x y report t r = record {
   events = r.events;
   outcomes = r.outcomes;
@@ -106,7 +118,8 @@ written_through form trace job x y report t r = record {
   reports = r.reports;
 }
 
-written_off : (form : Form) (trace : Trace) (job : Job) (x y : Option (List ℕ)) → IsTraceOf form job trace → IsTracedOff trace job x y → IsWrittenOff form job x y
+written_off : (form : Form) (trace : Trace) (job : Job) (x y : Option (List ℕ)) → IsTraceOf form job trace → IsTracedOff trace job x y →
+    IsWrittenOff form job x y
 written_off form trace job x y t r = record {
   given = r.given;
   outcomes = r.outcomes;
@@ -114,20 +127,25 @@ written_off form trace job x y t r = record {
   written = subst (AppendsBeginning x y) (text_of_run form job trace r.given r.outcomes r.smooth.run.states t r.smooth.run.runs) r.written;
 }
 
-pub through_written : (form : Form) (trace : Trace) (job asked : Job) (x y : Option (List ℕ)) (report : Report) → IsTraceOf form asked trace → job ≡ asked → IsTracedThrough trace job x y report → IsWrittenThrough form asked x y report
-through_written form trace job asked x y report t same r = written_through form trace asked x y report t (subst (λ (j : Job). IsTracedThrough trace j x y report) same r)
+pub through_written : (form : Form) (trace : Trace) (job asked : Job) (x y : Option (List ℕ)) (report : Report) → IsTraceOf form asked trace → job ≡ asked →
+    IsTracedThrough trace job x y report → IsWrittenThrough form asked x y report
+through_written form trace job asked x y report t same r =
+    written_through form trace asked x y report t (subst (λ (j : Job). IsTracedThrough trace j x y report) same r)
 
-pub through_off : (form : Form) (trace : Trace) (job asked : Job) (x y : Option (List ℕ)) → IsTraceOf form asked trace → job ≡ asked → IsTracedOff trace job x y → IsWrittenOff form asked x y
+pub through_off : (form : Form) (trace : Trace) (job asked : Job) (x y : Option (List ℕ)) → IsTraceOf form asked trace → job ≡ asked →
+    IsTracedOff trace job x y → IsWrittenOff form asked x y
 through_off form trace job asked x y t same r = written_off form trace asked x y t (subst (λ (j : Job). IsTracedOff trace j x y) same r)
 
 -- ---- the log
 
 pub logged : (job : Job) (lines : List EventLine) (x y : Option (List ℕ)) (r : Result Report RunFault) → ComesAs Log job lines x y r → ComesTo job lines x y r
 logged job lines x y (Ok report) w = record { outcomes = w.outcomes; run = w.run; logged = w.written; reports = w.reports }
-logged job lines x y (Err (Write fault)) w = record { given = w.given; left = w.left; are_first = w.are_first; outcomes = w.outcomes; run = w.run; logged = w.written }
+logged job lines x y (Err (Write fault)) w =
+    record { given = w.given; left = w.left; are_first = w.are_first; outcomes = w.outcomes; run = w.run; logged = w.written }
 logged job lines x y (Err Memory) w = w
 
 pub logged_through : (job : Job) (x y : Option (List ℕ)) (r : Result Report RunFault) → GoesThroughAs Log job x y r → GoesThrough job x y r
-logged_through job x y (Ok report) w = record { events = w.events; outcomes = w.outcomes; smooth = w.smooth; done = w.done; told = w.told; logged = w.written; reports = w.reports }
+logged_through job x y (Ok report) w =
+    record { events = w.events; outcomes = w.outcomes; smooth = w.smooth; done = w.done; told = w.told; logged = w.written; reports = w.reports }
 logged_through job x y (Err (Write fault)) w = record { given = w.given; outcomes = w.outcomes; smooth = w.smooth; logged = w.written }
 logged_through job x y (Err Memory) w = w

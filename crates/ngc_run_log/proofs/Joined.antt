@@ -1,5 +1,6 @@
 -- Stretches of a run, one after another.
-use Rattle.std.proofs.Common.{◌≡◌, ◌+◌, ◌≤◌, ℕ, List, [], ◌∷◌, ◌++◌, length, Option, count_by, refl, ap, sym, subst, ◌∙◌, arith, lit≤, Bool, cond, Some, None, Ok, Err}
+use Rattle.std.proofs.Common.{◌≡◌, ◌+◌, ◌≤◌, ℕ, List, [], ◌∷◌, ◌++◌, length, Option, count_by, refl, ap, sym, subst, ◌∙◌, arith, lit≤, Bool, cond, Some, None}
+use Rattle.std.proofs.Common.{Ok, Err}
 use Rattle.std.proofs.KnownBytes.{Appends-nil}
 use Rattle.std.proofs.lemmas.List.{append_assoc, append-nil, length-append}
 use Rattle.std.proofs.lemmas.List.Sums.{sum_by-append, count_by-le-length}
@@ -37,7 +38,8 @@ last_position-append p (x ∷ xs) ys = last_position-append x xs ys
 
 -- ---- runs
 
-runs_joined : (job : Job) (s : State) (es fs : List Event) (os ps : List Outcome) (xs ys : List State) → Run job s es os xs → Run job (last_state s xs) fs ps ys → Run job s (es ++ fs) (os ++ ps) (xs ++ ys)
+runs_joined : (job : Job) (s : State) (es fs : List Event) (os ps : List Outcome) (xs ys : List State) → Run job s es os xs →
+    Run job (last_state s xs) fs ps ys → Run job s (es ++ fs) (os ++ ps) (xs ++ ys)
 runs_joined job s [] fs [] ps [] ys r q = q
 runs_joined job s (e ∷ es) fs (o ∷ os) ps (x ∷ xs) ys r q = (r.0, runs_joined job x es fs os ps xs ys r.1 q)
 runs_joined job s [] fs (o ∷ os) ps xs ys r q = absurd r
@@ -45,7 +47,8 @@ runs_joined job s [] fs [] ps (x ∷ xs) ys r q = absurd r
 runs_joined job s (e ∷ es) fs [] ps xs ys r q = absurd r
 runs_joined job s (e ∷ es) fs (o ∷ os) ps [] ys r q = absurd r
 
-goings_joined : (job : Job) (s : State) (es fs : List Event) (os : List Outcome) (xs ys : List State) → Run job s es os xs → KeepGoing job s es xs → KeepGoing job (last_state s xs) fs ys → KeepGoing job s (es ++ fs) (xs ++ ys)
+goings_joined : (job : Job) (s : State) (es fs : List Event) (os : List Outcome) (xs ys : List State) → Run job s es os xs → KeepGoing job s es xs →
+    KeepGoing job (last_state s xs) fs ys → KeepGoing job s (es ++ fs) (xs ++ ys)
 goings_joined job s [] fs [] [] ys r k m = m
 goings_joined job s (e ∷ es) fs (o ∷ os) (x ∷ xs) ys r k m = (k.0, goings_joined job x es fs os xs ys r.1 k.1 m)
 goings_joined job s [] fs (o ∷ os) xs ys r k m = absurd r
@@ -62,7 +65,8 @@ same_lengths job s [] [] (x ∷ xs) r = absurd r
 same_lengths job s (e ∷ es) [] xs r = absurd r
 same_lengths job s (e ∷ es) (o ∷ os) [] r = absurd r
 
-pub stretches_joined : (job : Job) (s t u : State) (es fs : List Event) (os ps : List Outcome) → Stretch job s t es os → Stretch job t u fs ps → Stretch job s u (es ++ fs) (os ++ ps)
+pub stretches_joined : (job : Job) (s t u : State) (es fs : List Event) (os ps : List Outcome) → Stretch job s t es os → Stretch job t u fs ps →
+    Stretch job s u (es ++ fs) (os ++ ps)
 stretches_joined job s t u es fs os ps a b =
     let R : State → Type 0 = λ x. Run job x fs ps b.states in
     let K : State → Type 0 = λ x. KeepGoing job x fs b.states in
@@ -82,7 +86,8 @@ counts_joined es fs os ps r s t a b =
       ticks = omega (arith, a.ticks, b.ticks, count_by-append is_tick es fs);
       path_steps = omega (arith, a.path_steps, b.path_steps, ap length places, length-append (positions os) (positions ps));
       refused = omega (arith, a.refused, b.refused, count_by-append is_refusal os ps);
-      position = b.position ∙ ap (λ p. last_position p (positions ps)) a.position ∙ sym (last_position-append r.position (positions os) (positions ps)) ∙ ap (last_position r.position) (sym places);
+      position = b.position ∙ ap (λ p. last_position p (positions ps)) a.position ∙ sym (last_position-append r.position (positions os) (positions ps))
+          ∙ ap (last_position r.position) (sym places);
     }
 
 -- an outcome leads to one position at the most
@@ -110,7 +115,8 @@ begun_after a b c x y s t p q =
 
 -- ---- what is recorded
 
-pub records_joined : (es fs : List Event) (os ps : List Outcome) (a b c : Recorder) (x y z : Option (List ℕ)) → Records es os a b x y → Records fs ps b c y z → Records (es ++ fs) (os ++ ps) a c x z
+pub records_joined : (es fs : List Event) (os ps : List Outcome) (a b c : Recorder) (x y z : Option (List ℕ)) → Records es os a b x y → Records fs ps b c y z →
+    Records (es ++ fs) (os ++ ps) a c x z
 records_joined es fs os ps a b c x y z p q =
     let C : List ℕ → Type 0 = λ text. Collects x z a.chunk text c.chunk in
     let T : Trace → Type 0 = λ t. Collects y z b.chunk (trace_text t ps) c.chunk in
@@ -119,7 +125,8 @@ records_joined es fs os ps a b c x y z p q =
       trace = q.trace ∙ ap (λ t. trace_after t ps) p.trace ∙ sym (trace_after-append a.trace os ps);
       collects =
           subst C (sym (trace_text-append a.trace os ps))
-          (collected_both x y z a.chunk b.chunk c.chunk (trace_text a.trace os) (trace_text (trace_after a.trace os) ps) p.collects (subst T p.trace q.collects));
+          (collected_both x y z a.chunk b.chunk c.chunk (trace_text a.trace os) (trace_text (trace_after a.trace os) ps) p.collects
+          (subst T p.trace q.collects));
     }
 
 pub begun_behind : (es : List Event) (os ps : List Outcome) (a b : Recorder) (x y z : Option (List ℕ)) → Records es os a b x y →
@@ -208,7 +215,8 @@ one_position (Ok (Switched on)) = lit≤ tt
 one_position (Ok Started) = lit≤ tt
 one_position (Err e) = lit≤ tt
 
-pub few_recorded : (a b : Recorder) (x y : Option (List ℕ)) (es : List Event) (os : List Outcome) (n m : ℕ) → Records es os a b x y → length os ≡ length es → HasFew n a → n + length es ≤ m → HasFew m b
+pub few_recorded : (a b : Recorder) (x y : Option (List ℕ)) (es : List Event) (os : List Outcome) (n m : ℕ) → Records es os a b x y → length os ≡ length es →
+    HasFew n a → n + length es ≤ m → HasFew m b
 few_recorded a b x y es os n m p lengths few h = record {
   report = record {
     ticks = omega (arith, p.counts.ticks, few.report.ticks, count_by-le-length is_tick es);
@@ -218,5 +226,7 @@ few_recorded a b x y es os n m p lengths few h = record {
   ticks = omega (arith, ap ticks_of p.trace, few_ticks a.trace os, few.ticks, lengths);
 }
 
-pub few_more : (job : Job) (s t : State) (a b : Recorder) (x y : Option (List ℕ)) (es : List Event) (n m : ℕ) → IsRecorded job s t a b x y es → HasFew n a → n + length es ≤ m → HasFew m b
-few_more job s t a b x y es n m p few h = few_recorded a b x y es p.outcomes n m p.records (same_lengths job s es p.outcomes p.stretch.states p.stretch.runs) few h
+pub few_more : (job : Job) (s t : State) (a b : Recorder) (x y : Option (List ℕ)) (es : List Event) (n m : ℕ) → IsRecorded job s t a b x y es → HasFew n a →
+    n + length es ≤ m → HasFew m b
+few_more job s t a b x y es n m p few h =
+    few_recorded a b x y es p.outcomes n m p.records (same_lengths job s es p.outcomes p.stretch.states p.stretch.runs) few h

@@ -78,7 +78,8 @@ quiet_dumped n d = ap Pulses (ap (after_ticks d) (quiet_in n) ∙ none_after n d
 
 -- ---- as they are recorded
 
-pub quiet_recorded : (n : ℕ) (a b : Recorder) (x : Option (List ℕ)) → b.report ≡ record a.report { ticks = a.report.ticks + n } → b.trace ≡ trace_after a.trace (replicate n quiet) → b.chunk ≡ a.chunk →
+pub quiet_recorded : (n : ℕ) (a b : Recorder) (x : Option (List ℕ)) → b.report ≡ record a.report { ticks = a.report.ticks + n } →
+    b.trace ≡ trace_after a.trace (replicate n quiet) → b.chunk ≡ a.chunk →
     Records (replicate n Tick) (replicate n quiet) a b x x
 quiet_recorded n a b x counted traced same = record {
   counts = record {
@@ -92,7 +93,8 @@ quiet_recorded n a b x counted traced same = record {
 }
 
 -- where ticks are what is given
-pub quiet_given : (job : Job) (s t : State) (a b : Recorder) (x : Option (List ℕ)) (e : Event) (n : ℕ) → e ≡ Tick → Stretch job s t (replicate n Tick) (replicate n quiet) → Records (replicate n Tick) (replicate n quiet) a b x x →
+pub quiet_given : (job : Job) (s t : State) (a b : Recorder) (x : Option (List ℕ)) (e : Event) (n : ℕ) → e ≡ Tick →
+    Stretch job s t (replicate n Tick) (replicate n quiet) → Records (replicate n Tick) (replicate n quiet) a b x x →
     IsRecorded job s t a b x x (replicate n e)
 quiet_given job s t a b x e n is goes recorded =
     let P : Event → Type 0 = λ k. IsRecorded job s t a b x x (replicate n k) in

@@ -1,5 +1,6 @@
 -- A tick goes on with the head, where the machine is neither held nor stopped.
-use Rattle.std.proofs.Common.{◌≡◌, inl, inr, ℕ, suc, ◌+◌, ◌-◌, ◌*◌, ◌<◌, ◌≤◌, ap, subst, sym, ◌∙◌, arith, refl, List, [], ◌∷◌, length, drop, Option, Some, None, Ok, true, false, Bool, min}
+use Rattle.std.proofs.Common.{◌≡◌, inl, inr, ℕ, suc, ◌+◌, ◌-◌, ◌*◌, ◌<◌, ◌≤◌, ap, subst, sym, ◌∙◌, arith, refl, List, [], ◌∷◌, length, drop, Option, Some, None}
+use Rattle.std.proofs.Common.{Ok, true, false, Bool, min}
 use Rattle.std.specs.Prelude.{MatchBool, nat_lt, nat_le, if◌then◌else◌}
 use Rattle.std.specs.List.{AllByRecursion}
 use Rattle.std.proofs.lemmas.Bool.{ltb-true}
@@ -18,7 +19,8 @@ use Rattle.ngc_events.specs.declared.reply.Ending.TheVariants.{Done, Stopped, En
 use Rattle.ngc_events.specs.declared.reply.Reply.TheVariants.{Ticked}
 use Rattle.ngc_behaviour.specs.State.{Job, Queued, State, path_steps, millionths}
 use Rattle.ngc_behaviour.specs.Reach.{rest}
-use Rattle.ngc_behaviour.specs.Step.{Outcome, Step, MayTake, Rests, Finishes, Dwells, Serves, Travels, HeadTick, TickBy, without_head, after, ending, pulse, place_after, ticks_of}
+use Rattle.ngc_behaviour.specs.Step.{Outcome, Step, MayTake, Rests, Finishes, Dwells, Serves, Travels, HeadTick, TickBy, without_head, after, ending, pulse}
+use Rattle.ngc_behaviour.specs.Step.{place_after, ticks_of}
 use Rattle.ngc_behaviour.specs.Progress.{IsFree, TravelsAtLeast, GoesOn}
 use Rattle.ngc_behaviour.proofs.Cases.{match_with}
 use Rattle.ngc_run_log.specs.Stretches.{IsUntouched, is_stop, LeavesBy, TellsBy}
@@ -56,17 +58,20 @@ moves : (job : Job) (a : Action) (path : List StepPos) → MayTake job a path �
 moves job (actions.Move m) path take some = (m, refl)
 moves job _ path take some = absurd (let none = ap length take in omega (arith, none, some))
 
-least_some : (job : Job) (l : Queued) → IsMachine job.machine → MayTake job l.command.action l.path → 0 < path_steps l → 1 ≤ least_travel job.machine l.command.action (path_steps l)
+least_some : (job : Job) (l : Queued) → IsMachine job.machine → MayTake job l.command.action l.path → 0 < path_steps l →
+    1 ≤ least_travel job.machine l.command.action (path_steps l)
 least_some job l m take some =
     (may_travel_least job.machine l.command.action l.command.action (path_steps l) 1 m (moves job l.command.action l.path take (omega (arith, some)))).some
 
 -- what a tick of rate v leaves on a motion of x millionths
 goes_by : (ring : List Queued) (old new : State) (o : Outcome) (v x m : ℕ) (p : Option StepPos) (q : StepPos) (e : Ending) (b : Bool) →
-    is_stop e ≡ false → old.stopped ≡ false → x ≤ STEPS_LIMIT * MILLION → MILLION ≤ x → v ≤ MILLION → old.travelled ≤ STEPS_LIMIT * MILLION → 1 ≤ m → min m (x - old.travelled) ≤ v →
+    is_stop e ≡ false → old.stopped ≡ false → x ≤ STEPS_LIMIT * MILLION → MILLION ≤ x → v ≤ MILLION → old.travelled ≤ STEPS_LIMIT * MILLION → 1 ≤ m →
+    min m (x - old.travelled) ≤ v →
     (b ≡ false → old.travelled + v < x) →
     TellsBy (Some e) ring (o ∷ []) →
     o ≡ Ok (Ticked p (if b then Some e else None)) →
-    new ≡ (if b then without_head (old.travelled + v - x) (record old { rate = v; position = q }) else record old { rate = v; position = q; travelled = old.travelled + v }) →
+    new ≡ (if b then without_head (old.travelled + v - x) (record old { rate = v; position = q })
+    else record old { rate = v; position = q; travelled = old.travelled + v }) →
     Goes ring old o new
 goes_by ring old new o v x m p q e true quiet runs long some small far least go short tells says is =
     let t : new.travelled ≡ old.travelled + v - x = ap (λ (s : State). s.travelled) is in
@@ -92,7 +97,8 @@ goes_by ring old new o v x m p q e false quiet runs long some small far least go
       held = ap (λ (s : State). s.held) is;
       percent = ap (λ (s : State). s.percent) is;
       travelled = omega (arith, t, less, long);
-      leaves = record { running = ap (λ (s : State). s.stopped) is ∙ runs; ring = ap (λ (s : State). s.ring) is; spends = omega (arith, t, d, less, least, go) };
+      leaves =
+          record { running = ap (λ (s : State). s.stopped) is ∙ runs; ring = ap (λ (s : State). s.ring) is; spends = omega (arith, t, d, less, least, go) };
       left = (ap (λ (s : State). s.done) is, ap (λ (s : State). s.ring) is);
       tells = tt;
     }
@@ -102,23 +108,29 @@ motion_runs (actions.Move m) s h = refl
 motion_runs _ s h = let e = h.1 in cc
 
 -- nor is it the program's end
-motion_goes : (a : Action) (e : Ending) (l : Queued) (ls : List Queued) (outcomes : List Outcome) → IsMotion l.command.action → TellsBy (Some e) (l ∷ ls) outcomes
+motion_goes : (a : Action) (e : Ending) (l : Queued) (ls : List Queued) (outcomes : List Outcome) → IsMotion l.command.action →
+    TellsBy (Some e) (l ∷ ls) outcomes
 motion_goes a e l ls outcomes motion = λ end. (let is = motion.1 in cc)
 
-travel_goes : (job : Job) (l : Queued) (ls : List Queued) (old : State) (o : Outcome) (new : State) → IsMachine job.machine → MayTake job l.command.action l.path → path_steps l ≤ STEPS_LIMIT →
-    old.travelled ≤ STEPS_LIMIT * MILLION → old.stopped ≡ false → 0 < path_steps l → min (least_travel job.machine l.command.action (path_steps l)) (rest l old) ≤ new.rate → Travels job l ls old o new → Goes (l ∷ ls) old o new
+travel_goes : (job : Job) (l : Queued) (ls : List Queued) (old : State) (o : Outcome) (new : State) → IsMachine job.machine →
+    MayTake job l.command.action l.path → path_steps l ≤ STEPS_LIMIT →
+    old.travelled ≤ STEPS_LIMIT * MILLION → old.stopped ≡ false → 0 < path_steps l →
+    min (least_travel job.machine l.command.action (path_steps l)) (rest l old) ≤ new.rate → Travels job l ls old o new → Goes (l ∷ ls) old o new
 travel_goes job l ls old o new m take short far runs some go t =
     let v = new.rate in
     let fast : v ≤ job.machine.max_rate = t.may.rules.within.greatest in
     let max : job.machine.max_rate ≤ MILLION = m.max_rate.greatest in
     let motion = moves job l.command.action l.path take (omega (arith, some)) in
-    goes_by (l ∷ ls) old new o v (millionths l) (least_travel job.machine l.command.action (path_steps l)) (pulse l old v) (point l.path (place_after l old v)) (ending l.command.action old) (nat_le (millionths l) (old.travelled + v))
+    goes_by (l ∷ ls) old new o v (millionths l) (least_travel job.machine l.command.action (path_steps l)) (pulse l old v) (point l.path (place_after l old v))
+    (ending l.command.action old) (nat_le (millionths l) (old.travelled + v))
     (motion_runs l.command.action old motion) runs (omega (arith, short)) (omega (arith, some)) (omega (arith, fast, max)) far (least_some job l m take some) go
-    (λ b. (let less : old.travelled + v < millionths l = grind (arith, nat_tests) in less)) (motion_goes l.command.action (ending l.command.action old) l ls (o ∷ []) motion) t.says t.goes_on
+    (λ b. (let less : old.travelled + v < millionths l = grind (arith, nat_tests) in less))
+    (motion_goes l.command.action (ending l.command.action old) l ls (o ∷ []) motion) t.says t.goes_on
 
 -- ---- an action that travels nothing
 
-dwell_goes : (job : Job) (ring : List Queued) (old : State) (o : Outcome) (new : State) → old.travelled ≤ STEPS_LIMIT * MILLION → old.stopped ≡ false → Dwells job old o new → Goes ring old o new
+dwell_goes : (job : Job) (ring : List Queued) (old : State) (o : Outcome) (new : State) → old.travelled ≤ STEPS_LIMIT * MILLION → old.stopped ≡ false →
+    Dwells job old o new → Goes ring old o new
 dwell_goes job ring old o new far runs d =
     let t : new.travelled ≡ old.travelled = ap (λ (s : State). s.travelled) d.counts in
     let more : new.dwelt ≡ suc old.dwelt = ap (λ (s : State). s.dwelt) d.counts in
@@ -156,7 +168,8 @@ stop_tells actions.Stop s t runs switch h = h
 stop_tells actions.OptionalStop s t runs switch h = switch ∙ by_switch s.stop_switch s.done h
 stop_tells _ s t runs switch h = runs
 
-finish_goes : (job : Job) (l : Queued) (ls : List Queued) (old : State) (o : Outcome) (new : State) → old.stopped ≡ false → Finishes job l.command.action old o new → Goes (l ∷ ls) old o new
+finish_goes : (job : Job) (l : Queued) (ls : List Queued) (old : State) (o : Outcome) (new : State) → old.stopped ≡ false →
+    Finishes job l.command.action old o new → Goes (l ∷ ls) old o new
 finish_goes job l ls old o new runs f =
     let a = l.command.action in
     let there : State = record (without_head 0 old) { rate = 0 } in
@@ -171,29 +184,34 @@ finish_goes job l ls old o new runs f =
       travelled = omega (arith, t);
       leaves = λ quiet. ap (λ (s : State). s.stopped) f.goes_on ∙ stop_tells a old there runs refl quiet;
       left = (ap (λ (s : State). s.done) f.goes_on ∙ kept.done, ap (λ (s : State). s.ring) f.goes_on ∙ kept.ring);
-      tells = λ end. (let told : ending a old ≡ End = ap (λ x. ending x old) end in (told, ([], ap (λ x. x ∷ []) (f.says ∙ ap (λ e. Ok (Ticked None (Some e))) told))));
+      tells = λ end. (let told : ending a old ≡ End = ap (λ x. ending x old) end in
+          (told, ([], ap (λ x. x ∷ []) (f.says ∙ ap (λ e. Ok (Ticked None (Some e))) told))));
     }
 
 -- ---- any head
 
-head_goes : (job : Job) (l : Queued) (ls : List Queued) (old : State) (o : Outcome) (new : State) → IsUntouched job old → old.ring ≡ l ∷ ls → old.stopped ≡ false →
+head_goes : (job : Job) (l : Queued) (ls : List Queued) (old : State) (o : Outcome) (new : State) → IsUntouched job old → old.ring ≡ l ∷ ls →
+    old.stopped ≡ false →
     TravelsAtLeast job (l ∷ ls) old new.rate → HeadTick job l ls old o new → Goes (l ∷ ls) old o new
 head_goes job l ls old o new u is runs g t =
     let path = subst (AllByRecursion (λ (k : Queued). MayTake job k.command.action k.path)) is u.paths in
     let short = subst (AllByRecursion (λ (k : Queued). path_steps k ≤ STEPS_LIMIT)) is u.short in
-    elim (match_with (nat_lt 0 (path_steps l)) (Travels job l ls old o new) (MatchBool old.held (Rests job old o new) (Serves job l.command.action old o new)) t) [
+    elim (match_with (nat_lt 0 (path_steps l)) (Travels job l ls old o new)
+    (MatchBool old.held (Rests job old o new) (Serves job l.command.action old o new)) t) [
       | inl b ↦ (let some : 0 < path_steps l = ltb-true 0 (path_steps l) b.0 in
           travel_goes job l ls old o new u.machine path.0 short.0 u.travelled runs some (g (is_free job old u runs) some) b.1)
       | inr b ↦ elim (match_with old.held (Rests job old o new) (Serves job l.command.action old o new) b.1) [
         | inl r ↦ absurd (let e : true ≡ false = sym r.0 ∙ u.not_held in cc)
-        | inr r ↦ elim (match_with (nat_lt (suc old.dwelt) (ticks_of job l.command.action)) (Dwells job old o new) (Finishes job l.command.action old o new) r.1) [
-          | inl d ↦ dwell_goes job (l ∷ ls) old o new u.travelled runs d.1
-          | inr d ↦ finish_goes job l ls old o new runs d.1
-        ]
+        | inr r ↦ elim (match_with (nat_lt (suc old.dwelt) (ticks_of job l.command.action)) (Dwells job old o new)
+            (Finishes job l.command.action old o new) r.1) [
+              | inl d ↦ dwell_goes job (l ∷ ls) old o new u.travelled runs d.1
+              | inr d ↦ finish_goes job l ls old o new runs d.1
+            ]
       ]
     ]
 
-ring_goes : (job : Job) (ring : List Queued) (old : State) (o : Outcome) (new : State) → IsUntouched job old → old.ring ≡ ring → old.stopped ≡ false → 1 ≤ length ring →
+ring_goes : (job : Job) (ring : List Queued) (old : State) (o : Outcome) (new : State) → IsUntouched job old → old.ring ≡ ring → old.stopped ≡ false →
+    1 ≤ length ring →
     TravelsAtLeast job ring old new.rate → TickBy job false ring old o new → Goes ring old o new
 ring_goes job [] old o new u is runs some g t = absurd (omega (arith, some))
 ring_goes job (l ∷ ls) old o new u is runs some g t = head_goes job l ls old o new u is runs g t

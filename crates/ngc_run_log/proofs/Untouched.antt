@@ -1,5 +1,6 @@
 -- Loads, ticks and starts: none is refused, and the machine stays untouched.
-use Rattle.std.proofs.Common.{◌≡◌, ◌⊎◌, inl, inr, ℕ, zero, suc, ◌+◌, ◌^◌, ◌<◌, ◌≤◌, ap, subst, sym, ◌∙◌, arith, refl, List, [], ◌∷◌, ◌++◌, length, length-append, length-drop, drop, Option, Some, None, Ok, Err, true, false, Bool, count_by}
+use Rattle.std.proofs.Common.{◌≡◌, ◌⊎◌, inl, inr, ℕ, zero, suc, ◌+◌, ◌^◌, ◌<◌, ◌≤◌, ap, subst, sym, ◌∙◌, arith, refl, List, [], ◌∷◌, ◌++◌, length}
+use Rattle.std.proofs.Common.{length-append, length-drop, drop, Option, Some, None, Ok, Err, true, false, Bool, count_by}
 use Rattle.std.specs.Prelude.{MatchBool, nat_lt, slice_get, cond}
 use Rattle.std.specs.List.{AllByRecursion}
 use Rattle.std.proofs.lemmas.Bool.{lt-ltb}
@@ -27,7 +28,8 @@ use Rattle.ngc_run_log.specs.Runs.{is_refusal}
 use Rattle.ngc_behaviour.specs.Stretch.{Stretch}
 use Rattle.ngc_run_log.specs.Recording.{HasFew}
 use Rattle.ngc_run_log.specs.Through.{IsLoadTickOrStart, TellsEnd}
-use Rattle.ngc_run_log.specs.Stretches.{IsUntouched, IsGiven, IsGivenLast, GoesBy, BreaksOff, TicksBy, Works, spent, ending_in, is_stop, does_in, SPENT_LIMIT, TellsBy, TellsHead, GoesBehind, FinishesHead, Finishes}
+use Rattle.ngc_run_log.specs.Stretches.{IsUntouched, IsGiven, IsGivenLast, GoesBy, BreaksOff, TicksBy, Works, spent, ending_in, is_stop, does_in, SPENT_LIMIT}
+use Rattle.ngc_run_log.specs.Stretches.{TellsBy, TellsHead, GoesBehind, FinishesHead, Finishes}
 use Rattle.ngc_run_log.proofs.Joined.{one_step, stretches_joined, records_joined, begun_behind, begun_more, none_recorded, count_by-append, few_more}
 use Rattle.ngc_run_log.proofs.Ticks.{Goes, HasLeft, tick_goes}
 
@@ -63,12 +65,14 @@ pub record Comes (job : Job) (old : State) (o : Outcome) (new : State) : Type 0 
 
 load_by : (b : Bool) (job : Job) (old : State) (c : Command) (o : Outcome) (new : State) → command_at job (loaded old) ≡ Some c → b ≡ true →
     MatchBool b
-    ((path : List StepPos) × MayTake job c.action path × (o ≡ Ok (Loaded (loaded old))) × (new ≡ record old { ring = old.ring ++ record { command = c; path = path } ∷ [] }))
+    ((path : List StepPos) × MayTake job c.action path × (o ≡ Ok (Loaded (loaded old))) ×
+    (new ≡ record old { ring = old.ring ++ record { command = c; path = path } ∷ [] }))
     ((o ≡ Err RingFull) × (new ≡ old)) → Comes job old o new
 load_by true job old c o new found room t = record { says = t.2; added = record { command = c; path = t.0 }; takes = t.1; next = found; is = t.3 }
 load_by false job old c o new found room t = cc
 
-load_comes : (job : Job) (old : State) (o : Outcome) (new : State) (c : Command) → command_at job (loaded old) ≡ Some c → length old.ring < RING → Step job old Load o new → Comes job old o new
+load_comes : (job : Job) (old : State) (o : Outcome) (new : State) (c : Command) → command_at job (loaded old) ≡ Some c → length old.ring < RING →
+    Step job old Load o new → Comes job old o new
 load_comes job old o new c found room t =
     load_by (nat_lt (length old.ring) RING) job old c o new found (lt-ltb (length old.ring) RING room) (subst (λ next. LoadCommand job old next o new) found t)
 
@@ -78,7 +82,8 @@ found_within xs k h = elim ((slice_get_cases xs k).1) [
   | inr p ↦ absurd (let past = p.0 in omega (arith, h, past))
 ]
 
-pub comes : (job : Job) (old : State) (o : Outcome) (new : State) → loaded old < length job.commands → length old.ring < RING → Step job old Load o new → Comes job old o new
+pub comes : (job : Job) (old : State) (o : Outcome) (new : State) → loaded old < length job.commands → length old.ring < RING → Step job old Load o new →
+    Comes job old o new
 comes job old o new left room t = let f = found_within job.commands (loaded old) left in load_comes job old o new f.0 f.1 room t
 
 -- ---- the machine stays untouched
@@ -112,7 +117,8 @@ untouched_load job old o new u c short =
       not_held = ap (λ (s : State). s.held) c.is ∙ u.not_held;
       percent = ap (λ (s : State). s.percent) c.is ∙ u.percent;
       commands = next_load job old o new u.commands c;
-      paths = subst (AllByRecursion (λ (l : Queued). MayTake job l.command.action l.path)) (sym ring) (all_both (λ (l : Queued). MayTake job l.command.action l.path) old.ring (c.added ∷ []) u.paths (c.takes, tt));
+      paths = subst (AllByRecursion (λ (l : Queued). MayTake job l.command.action l.path)) (sym ring)
+          (all_both (λ (l : Queued). MayTake job l.command.action l.path) old.ring (c.added ∷ []) u.paths (c.takes, tt));
       short = short;
       travelled = omega (arith, t, u.travelled);
       dwelt = omega (arith, d, u.dwelt);
@@ -136,7 +142,8 @@ all_left : (P : Queued → Type 0) (ended : Option Ending) (old new : State) →
 all_left P None old new h a = subst (AllByRecursion P) (sym h.1) a
 all_left P (Some e) old new h a = subst (AllByRecursion P) (sym h.1) (all_behind P old.ring a)
 
-pub untouched_tick : (job : Job) (old : State) (o : Outcome) (new : State) → IsUntouched job old → Goes old.ring old o new → new.dwelt ≤ DWELL_LIMIT → IsUntouched job new
+pub untouched_tick : (job : Job) (old : State) (o : Outcome) (new : State) → IsUntouched job old → Goes old.ring old o new → new.dwelt ≤ DWELL_LIMIT →
+    IsUntouched job new
 untouched_tick job old o new u g brief = record {
   machine = u.machine;
   not_held = g.held ∙ u.not_held;
@@ -153,8 +160,10 @@ untouched_tick job old o new u g brief = record {
 pub counted_fine : (o : Outcome) → is_refusal o ≡ false → count_by is_refusal (o ∷ []) ≡ 0
 counted_fine o fine = ap (λ b. 0 + cond b 1 0) fine
 
-abbrev pub goes_one : (event : Event) (o : Outcome) (loads does : ℕ) (old new : ControllerData) (a b : Recorder) (x y : Option (List ℕ)) → IsGiven event old new a b x y o → IsLoadTickOrStart event → is_refusal o ≡ false →
-    IsUntouched old.job new.state → new.state.done ≡ old.state.done + does → length new.state.ring + does ≡ length old.state.ring + loads → GoesBy 1 loads does old new a b x y
+abbrev pub goes_one : (event : Event) (o : Outcome) (loads does : ℕ) (old new : ControllerData) (a b : Recorder) (x y : Option (List ℕ)) →
+    IsGiven event old new a b x y o → IsLoadTickOrStart event → is_refusal o ≡ false →
+    IsUntouched old.job new.state → new.state.done ≡ old.state.done + does → length new.state.ring + does ≡ length old.state.ring + loads →
+    GoesBy 1 loads does old new a b x y
 goes_one event o loads does old new a b x y g kind fine u done ring =
     let J : Job → Type 0 = λ j. IsUntouched j new.state in
     record {
@@ -171,7 +180,8 @@ goes_one event o loads does old new a b x y g kind fine u done ring =
       ring = ring;
     }
 
-breaks_one : (event : Event) (old : ControllerData) (a : Recorder) (x y : Option (List ℕ)) (g : IsGivenLast event old a x y) → IsLoadTickOrStart event → is_refusal g.outcome ≡ false → BreaksOff old a x y
+breaks_one : (event : Event) (old : ControllerData) (a : Recorder) (x y : Option (List ℕ)) (g : IsGivenLast event old a x y) → IsLoadTickOrStart event →
+    is_refusal g.outcome ≡ false → BreaksOff old a x y
 breaks_one event old a x y g kind fine = record {
   events = event ∷ [];
   outcomes = g.outcome ∷ [];
@@ -187,31 +197,37 @@ fine_as o r e = ap is_refusal e
 
 -- ---- a load
 
-pub load_goes : (old new : ControllerData) (a b : Recorder) (x y : Option (List ℕ)) (o : Outcome) → IsUntouched old.job old.state → length old.state.ring < RING → loaded old.state < length old.job.commands →
+pub load_goes : (old new : ControllerData) (a b : Recorder) (x y : Option (List ℕ)) (o : Outcome) → IsUntouched old.job old.state →
+    length old.state.ring < RING → loaded old.state < length old.job.commands →
     IsGiven Load old new a b x y o → GoesBy 1 1 0 old new a b x y
 load_goes old new a b x y o u room left g =
     let c = comes old.job old.state o new.state left room g.step in
     let done : new.state.done ≡ old.state.done = ap (λ (s : State). s.done) c.is in
     let ring : length new.state.ring ≡ length (old.state.ring ++ c.added ∷ []) = ap (λ (s : State). length s.ring) c.is in
     let more = length-append old.state.ring (c.added ∷ []) in
-    goes_one Load o 1 0 old new a b x y g tt (fine_as o (Loaded (loaded old.state)) c.says) (untouched_load old.job old.state o new.state u c (g.short u.short)) (omega (arith, done)) (omega (arith, ring, more))
+    goes_one Load o 1 0 old new a b x y g tt (fine_as o (Loaded (loaded old.state)) c.says) (untouched_load old.job old.state o new.state u c (g.short u.short))
+    (omega (arith, done)) (omega (arith, ring, more))
 
-pub load_runs : (old new : ControllerData) (a b : Recorder) (x y : Option (List ℕ)) (o : Outcome) → old.state.stopped ≡ false → length old.state.ring < RING → loaded old.state < length old.job.commands →
+pub load_runs : (old new : ControllerData) (a b : Recorder) (x y : Option (List ℕ)) (o : Outcome) → old.state.stopped ≡ false → length old.state.ring < RING →
+    loaded old.state < length old.job.commands →
     IsGiven Load old new a b x y o → new.state.stopped ≡ false
 load_runs old new a b x y o runs room left g = ap (λ (s : State). s.stopped) (comes old.job old.state o new.state left room g.step).is ∙ runs
 
-pub load_breaks : (old : ControllerData) (a : Recorder) (x y : Option (List ℕ)) → length old.state.ring < RING → loaded old.state < length old.job.commands → IsGivenLast Load old a x y → BreaksOff old a x y
+pub load_breaks : (old : ControllerData) (a : Recorder) (x y : Option (List ℕ)) → length old.state.ring < RING → loaded old.state < length old.job.commands →
+    IsGivenLast Load old a x y → BreaksOff old a x y
 load_breaks old a x y room left g =
     breaks_one Load old a x y g tt (fine_as g.outcome (Loaded (loaded old.state)) (comes old.job old.state g.outcome g.reached left room g.step).says)
 
 -- ---- a start
 
-pub start_goes : (old new : ControllerData) (a b : Recorder) (x y : Option (List ℕ)) (o : Outcome) → IsUntouched old.job old.state → IsGiven Start old new a b x y o → GoesBy 1 0 0 old new a b x y
+pub start_goes : (old new : ControllerData) (a b : Recorder) (x y : Option (List ℕ)) (o : Outcome) → IsUntouched old.job old.state →
+    IsGiven Start old new a b x y o → GoesBy 1 0 0 old new a b x y
 start_goes old new a b x y o u g =
     let is : new.state ≡ record old.state { stopped = false } = g.step.1 in
     let done : new.state.done ≡ old.state.done = ap (λ (s : State). s.done) is in
     let ring : length new.state.ring ≡ length old.state.ring = ap (λ (s : State). length s.ring) is in
-    goes_one Start o 0 0 old new a b x y g tt (fine_as o Started g.step.0) (untouched_start old.job old.state new.state u is) (omega (arith, done)) (omega (arith, ring))
+    goes_one Start o 0 0 old new a b x y g tt (fine_as o Started g.step.0) (untouched_start old.job old.state new.state u is) (omega (arith, done))
+    (omega (arith, ring))
 
 pub start_runs : (old new : ControllerData) (a b : Recorder) (x y : Option (List ℕ)) (o : Outcome) → IsGiven Start old new a b x y o → new.state.stopped ≡ false
 start_runs old new a b x y o g = ap (λ (s : State). s.stopped) g.step.1
@@ -221,7 +237,8 @@ start_breaks old a x y g = breaks_one Start old a x y g tt (fine_as g.outcome St
 
 -- ---- a tick
 
-done_left : (ended : Option Ending) (old new : State) → HasLeft ended old new → 1 ≤ length old.ring → (new.done ≡ old.done + does_in ended) × (length new.ring + does_in ended ≡ length old.ring)
+done_left : (ended : Option Ending) (old new : State) → HasLeft ended old new → 1 ≤ length old.ring →
+    (new.done ≡ old.done + does_in ended) × (length new.ring + does_in ended ≡ length old.ring)
 done_left None old new h some = let d = h.0 in let r : length new.ring ≡ length old.ring = ap length h.1 in (omega (arith, d), omega (arith, r))
 done_left (Some e) old new h some =
     let d = h.0 in
@@ -229,7 +246,8 @@ done_left (Some e) old new h some =
     let less = length-drop 1 old.ring in
     (omega (arith, d), omega (arith, r, less, some))
 
-pub tick_ticks : (old new : ControllerData) (a b : Recorder) (x y : Option (List ℕ)) (o : Outcome) → IsUntouched old.job old.state → old.state.stopped ≡ false → 1 ≤ length old.state.ring →
+pub tick_ticks : (old new : ControllerData) (a b : Recorder) (x y : Option (List ℕ)) (o : Outcome) → IsUntouched old.job old.state → old.state.stopped ≡ false →
+    1 ≤ length old.state.ring →
     IsGiven Tick old new a b x y o → TicksBy old new a b x y (ending_in o)
 tick_ticks old new a b x y o u runs some g =
     let t = tick_goes old.job old.state o new.state u runs some g.step g.goes_on in
@@ -237,13 +255,15 @@ tick_ticks old new a b x y o u runs some g =
     let ring = left.1 in
     let same : t.ended ≡ ending_in o = sym (ap ending_in t.says) in
     let here : TicksBy old new a b x y t.ended = record {
-      goes = goes_one Tick o 0 (does_in t.ended) old new a b x y g tt (fine_as o (Ticked t.position t.ended) t.says) (untouched_tick old.job old.state o new.state u t g.dwelt) left.0 (omega (arith, ring));
+      goes = goes_one Tick o 0 (does_in t.ended) old new a b x y g tt (fine_as o (Ticked t.position t.ended) t.says)
+          (untouched_tick old.job old.state o new.state u t g.dwelt) left.0 (omega (arith, ring));
       leaves = t.leaves;
       tells = t.tells;
     } in
     subst (TicksBy old new a b x y) same here
 
-pub tick_breaks : (old : ControllerData) (a : Recorder) (x y : Option (List ℕ)) → IsUntouched old.job old.state → old.state.stopped ≡ false → 1 ≤ length old.state.ring → IsGivenLast Tick old a x y → BreaksOff old a x y
+pub tick_breaks : (old : ControllerData) (a : Recorder) (x y : Option (List ℕ)) → IsUntouched old.job old.state → old.state.stopped ≡ false →
+    1 ≤ length old.state.ring → IsGivenLast Tick old a x y → BreaksOff old a x y
 tick_breaks old a x y u runs some g =
     let t = tick_goes old.job old.state g.outcome g.reached u runs some g.step g.goes_on in
     breaks_one Tick old a x y g tt (fine_as g.outcome (Ticked t.position t.ended) t.says)
@@ -265,7 +285,8 @@ none_yet n old a x u = record {
   ring = omega arith;
 }
 
-abbrev pub goes_both : (n m k p q r f g d : ℕ) (old mid new : ControllerData) (a b c : Recorder) (x y z : Option (List ℕ)) → GoesBy n p f old mid a b x y → GoesBy m q g mid new b c y z →
+abbrev pub goes_both : (n m k p q r f g d : ℕ) (old mid new : ControllerData) (a b c : Recorder) (x y z : Option (List ℕ)) → GoesBy n p f old mid a b x y →
+    GoesBy m q g mid new b c y z →
     n + m ≤ k → r ≡ p + q → d ≡ f + g → GoesBy k r d old new a c x z
 goes_both n m k p q r f g d old mid new a b c x y z s t enough loads does =
     let S : Job → Type 0 = λ j. Stretch j mid.state new.state t.events t.outcomes in
@@ -285,7 +306,8 @@ goes_both n m k p q r f g d old mid new a b c x y z s t enough loads does =
       ring = omega (arith, s.ring, t.ring, loads, does);
     }
 
-pub breaks_later : (n p f : ℕ) (old mid : ControllerData) (a b : Recorder) (x y z : Option (List ℕ)) → GoesBy n p f old mid a b x y → BreaksOff mid b y z → BreaksOff old a x z
+pub breaks_later : (n p f : ℕ) (old mid : ControllerData) (a b : Recorder) (x y z : Option (List ℕ)) → GoesBy n p f old mid a b x y → BreaksOff mid b y z →
+    BreaksOff old a x z
 breaks_later n p f old mid a b x y z s t =
     let S : Job → Type 0 = λ j. Stretch j mid.state t.reached t.events t.outcomes in
     let refused = count_by-append is_refusal s.outcomes t.outcomes in
@@ -300,13 +322,19 @@ breaks_later n p f old mid a b x y z s t =
     }
 
 -- how large the counts are behind it
-pub few_behind : (n p f m k : ℕ) (old new : ControllerData) (a b : Recorder) (x y : Option (List ℕ)) → GoesBy n p f old new a b x y → HasFew m a → m + n ≤ k → HasFew k b
+pub few_behind : (n p f m k : ℕ) (old new : ControllerData) (a b : Recorder) (x y : Option (List ℕ)) → GoesBy n p f old new a b x y → HasFew m a →
+    m + n ≤ k → HasFew k b
 few_behind n p f m k old new a b x y s few h =
-    few_more old.job old.state new.state a b x y s.events m k (record { outcomes = s.outcomes; stretch = s.stretch; records = s.records }) few (omega (arith, s.few, h))
+    few_more old.job old.state new.state a b x y s.events m k (record { outcomes = s.outcomes; stretch = s.stretch; records = s.records }) few
+    (omega (arith, s.few, h))
 
 pub at_most_more : (n m : ℕ) (a : Recorder) → HasFew n a → n ≤ m → HasFew m a
 at_most_more n m a few h = record {
-  report = record { ticks = omega (arith, few.report.ticks, h); path_steps = omega (arith, few.report.path_steps, h); refused = omega (arith, few.report.refused, h) };
+  report = record {
+    ticks = omega (arith, few.report.ticks, h);
+    path_steps = omega (arith, few.report.path_steps, h);
+    refused = omega (arith, few.report.refused, h);
+  };
   ticks = omega (arith, few.ticks, h);
 }
 
@@ -334,7 +362,8 @@ head_told e (l ∷ ls) xs ys h none = λ end. (let told = h end in tells_before 
 -- ---- ticks on one head
 
 -- one more tick, in which no command ended
-pub tick_more : (ended : Option Ending) (old mid new : ControllerData) (a b c : Recorder) (x y z : Option (List ℕ)) → ended ≡ None → GoesBy (spent mid.state) 0 0 old mid a b x y → TicksBy mid new b c y z ended →
+pub tick_more : (ended : Option Ending) (old mid new : ControllerData) (a b c : Recorder) (x y z : Option (List ℕ)) → ended ≡ None →
+    GoesBy (spent mid.state) 0 0 old mid a b x y → TicksBy mid new b c y z ended →
     GoesBy (spent new.state) 0 0 old new a c x z × Works mid.state new.state
 tick_more ended old mid new a b c x y z none s t =
     let here : TicksBy mid new b c y z None = subst (TicksBy mid new b c y z) none t in
@@ -349,7 +378,8 @@ pub record EndsHead (e : Ending) (old new : ControllerData) (a b : Recorder) (x 
   pub tells : TellsBy (Some e) old.state.ring goes.outcomes
 
 -- the tick in which the command ended
-pub tick_last : (ended : Option Ending) (e : Ending) (old mid new : ControllerData) (a b c : Recorder) (x y z : Option (List ℕ)) → ended ≡ Some e → mid.state.ring ≡ old.state.ring →
+pub tick_last : (ended : Option Ending) (e : Ending) (old mid new : ControllerData) (a b c : Recorder) (x y z : Option (List ℕ)) → ended ≡ Some e →
+    mid.state.ring ≡ old.state.ring →
     GoesBy (spent mid.state) 0 0 old mid a b x y → TicksBy mid new b c y z ended → EndsHead e old new a c x z
 tick_last ended e old mid new a b c x y z some same s t =
     let here : TicksBy mid new b c y z (Some e) = subst (TicksBy mid new b c y z) some t in
@@ -361,24 +391,28 @@ tick_last ended e old mid new a b c x y z some same s t =
     }
 
 -- and a start behind it
-pub head_done : (e : Ending) (old mid new : ControllerData) (a b c : Recorder) (x y z : Option (List ℕ)) → EndsHead e old mid a b x y → GoesBehind e mid new b c y z → FinishesHead old new a c x z
+pub head_done : (e : Ending) (old mid new : ControllerData) (a b c : Recorder) (x y z : Option (List ℕ)) → EndsHead e old mid a b x y →
+    GoesBehind e mid new b c y z → FinishesHead old new a c x z
 head_done e old mid new a b c x y z s t = record {
   goes = goes_both (SPENT_LIMIT + 1) 1 (2 ^ 102) 0 0 0 1 0 1 old mid new a b c x y z s.goes t.goes (omega arith) refl refl;
   told = head_told e old.state.ring s.goes.outcomes t.goes.outcomes s.tells t.nothing;
 }
 
-pub started_behind : (ending : Ending) (k : ℕ) (old new : ControllerData) (a b : Recorder) (x y : Option (List ℕ)) → ending ≡ Stopped k → GoesBy 1 0 0 old new a b x y → GoesBehind ending old new a b x y
+pub started_behind : (ending : Ending) (k : ℕ) (old new : ControllerData) (a b : Recorder) (x y : Option (List ℕ)) → ending ≡ Stopped k →
+    GoesBy 1 0 0 old new a b x y → GoesBehind ending old new a b x y
 started_behind ending k old new a b x y is s = record {
   goes = s;
   nothing = λ quiet. (let stops : is_stop ending ≡ true = ap is_stop is in cc);
 }
 
-pub nothing_behind : (ending : Ending) (old : ControllerData) (a : Recorder) (x : Option (List ℕ)) → IsUntouched old.job old.state → GoesBehind ending old old a a x x
+pub nothing_behind : (ending : Ending) (old : ControllerData) (a : Recorder) (x : Option (List ℕ)) → IsUntouched old.job old.state →
+    GoesBehind ending old old a a x x
 nothing_behind ending old a x u = record { goes = none_yet 1 old a x u; nothing = λ _. refl }
 
 -- ---- several heads
 
-first_told : (job : Job) (s : State) (ring : List Queued) (outcomes : List Outcome) (c : Command) → s.ring ≡ ring → AreNext job s → 1 ≤ length ring → command_at job s.done ≡ Some c → c.action ≡ actions.End →
+first_told : (job : Job) (s : State) (ring : List Queued) (outcomes : List Outcome) (c : Command) → s.ring ≡ ring → AreNext job s → 1 ≤ length ring →
+    command_at job s.done ≡ Some c → c.action ≡ actions.End →
     TellsHead ring outcomes → TellsEnd outcomes
 first_told job s [] outcomes c is next some at end told = absurd (omega (arith, some))
 first_told job s (l ∷ ls) outcomes c is next some at end told =
@@ -390,7 +424,8 @@ first_told job s (l ∷ ls) outcomes c is next some at end told =
 pub none_finished : (n : ℕ) (old : ControllerData) (a : Recorder) (x : Option (List ℕ)) → IsUntouched old.job old.state → Finishes n 0 0 old old a a x x
 none_finished n old a x u = record { goes = none_yet n old a x u; told = λ some. absurd (omega (arith, some)) }
 
-pub one_more_finished : (n k i j : ℕ) (old mid new : ControllerData) (a b c : Recorder) (x y z : Option (List ℕ)) → 1 ≤ length mid.state.ring → Finishes n 0 i old mid a b x y → FinishesHead mid new b c y z →
+pub one_more_finished : (n k i j : ℕ) (old mid new : ControllerData) (a b c : Recorder) (x y z : Option (List ℕ)) → 1 ≤ length mid.state.ring →
+    Finishes n 0 i old mid a b x y → FinishesHead mid new b c y z →
     n + 2 ^ 102 ≤ k → j ≡ i + 1 → Finishes k 0 j old new a c x z
 one_more_finished n k i j old mid new a b c x y z some s t enough more = record {
   goes = goes_both n (2 ^ 102) k 0 0 0 i 1 j old mid new a b c x y z s.goes t.goes enough refl more;
@@ -398,10 +433,12 @@ one_more_finished n k i j old mid new a b c x y z some s t enough more = record 
       (let done = t.goes.done in
       let place : mid.state.done ≡ p = omega (arith, last, done) in
       let found : command_at mid.job mid.state.done ≡ Some command = ap (command_at mid.job) place ∙ ap (λ (j : Job). command_at j p) s.goes.job ∙ at in
-      tells_behind s.goes.outcomes t.goes.outcomes (first_told mid.job mid.state mid.state.ring t.goes.outcomes command refl s.goes.untouched.commands some found end t.told));
+      tells_behind s.goes.outcomes t.goes.outcomes
+      (first_told mid.job mid.state mid.state.ring t.goes.outcomes command refl s.goes.untouched.commands some found end t.told));
 }
 
-pub finished_behind : (n m k p q r f g d : ℕ) (old mid new : ControllerData) (a b c : Recorder) (x y z : Option (List ℕ)) → GoesBy n p f old mid a b x y → Finishes m q g mid new b c y z →
+pub finished_behind : (n m k p q r f g d : ℕ) (old mid new : ControllerData) (a b c : Recorder) (x y z : Option (List ℕ)) → GoesBy n p f old mid a b x y →
+    Finishes m q g mid new b c y z →
     n + m ≤ k → r ≡ p + q → d ≡ f + g → (0 < d → 0 < g) → Finishes k r d old new a c x z
 finished_behind n m k p q r f g d old mid new a b c x y z s t enough loads does more = record {
   goes = goes_both n m k p q r f g d old mid new a b c x y z s t.goes enough loads does;

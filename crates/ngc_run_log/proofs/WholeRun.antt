@@ -40,7 +40,8 @@ opening_untouched job s machine opens =
     } in
     subst (IsUntouched job) (sym opens) here
 
-pub opens_runs : (job : Job) (s t : State) (events : List Event) (outcomes : List Outcome) → RunsSafely job → RunsInTime job → s ≡ opening job.machine → Stretch job s t events outcomes →
+pub opens_runs : (job : Job) (s t : State) (events : List Event) (outcomes : List Outcome) → RunsSafely job → RunsInTime job → s ≡ opening job.machine →
+    Stretch job s t events outcomes →
     (run : IsRun job events outcomes) × (t ≡ last_state (opening job.machine) run.states)
 opens_runs job s t events outcomes safe in_time opens stretch =
     let R : State → Type 0 = λ x. Run job x events outcomes stretch.states in
@@ -66,8 +67,10 @@ last_at [] last = refl
 last_at (c ∷ before) last = last_at before last
 
 -- all is done and written
-pub through_traced : (trace : Trace) (n count : ℕ) (old new : ControllerData) (a b : Recorder) (x y z : Option (List ℕ)) (report : Report) → AreNew trace old.job old.state a → RunsSafely old.job → RunsInTime old.job →
-    HasEnd old.job.commands → count ≡ length old.job.commands → Finishes n count count old new a b x y → Appends y z (b.chunk ++ last_text b.trace) → report ≡ b.report → IsTracedThrough trace old.job x z report
+pub through_traced : (trace : Trace) (n count : ℕ) (old new : ControllerData) (a b : Recorder) (x y z : Option (List ℕ)) (report : Report) →
+    AreNew trace old.job old.state a → RunsSafely old.job → RunsInTime old.job →
+    HasEnd old.job.commands → count ≡ length old.job.commands → Finishes n count count old new a b x y → Appends y z (b.chunk ++ last_text b.trace) →
+    report ≡ b.report → IsTracedThrough trace old.job x z report
 through_traced trace n count old new a b x y z report are_new safe in_time has_end all ended wrote same =
     let s : GoesBy n count count old new a b x y = ended.goes in
     let R : Report → Type 0 = λ r. Reports old.job s.events s.outcomes r in
@@ -75,35 +78,47 @@ through_traced trace n count old new a b x y z report are_new safe in_time has_e
     let none : old.state.done ≡ 0 = ap (λ (x : State). x.done) are_new.opens in
     let done : new.state.done ≡ length old.job.commands = omega (arith, s.done, none, all) in
     let before : List Command = has_end.before in
-    let is_count : suc (length before) ≡ length old.job.commands = count_to before has_end.last ∙ ap (λ (commands : List Command). length commands) (sym has_end.are) in
+    let is_count : suc (length before) ≡ length old.job.commands = count_to before has_end.last
+    ∙ ap (λ (commands : List Command). length commands) (sym has_end.are) in
     record {
       events = s.events;
       outcomes = s.outcomes;
       smooth = record { run = r.0; kinds = s.kinds; none_refused = s.none_refused };
       done = ap (λ (x : State). x.done) (sym r.1) ∙ done;
-      told = ended.told (omega (arith, is_count, all)) (length before) has_end.last (is_count ∙ sym done) (ap (λ commands. slice_get commands (length before)) has_end.are ∙ last_at before has_end.last) has_end.is_end;
+      told = ended.told (omega (arith, is_count, all)) (length before) has_end.last (is_count ∙ sym done)
+          (ap (λ commands. slice_get commands (length before)) has_end.are ∙ last_at before has_end.last) has_end.is_end;
       written = all_written trace old.job old.state a b x y z s.events s.outcomes are_new s.records wrote;
       reports = subst R (sym same) (reports trace old.job old.state a b s.events s.outcomes are_new s.records.counts);
     }
 
 -- all is done, and then a write failed
-pub through_unwritten : (trace : Trace) (n count : ℕ) (old new : ControllerData) (a b : Recorder) (x y z : Option (List ℕ)) → AreNew trace old.job old.state a → RunsSafely old.job → RunsInTime old.job →
+pub through_unwritten : (trace : Trace) (n count : ℕ) (old new : ControllerData) (a b : Recorder) (x y z : Option (List ℕ)) → AreNew trace old.job old.state a →
+    RunsSafely old.job → RunsInTime old.job →
     Finishes n count count old new a b x y → AppendsBeginning y z (b.chunk ++ last_text b.trace) → IsTracedOff trace old.job x z
 through_unwritten trace n count old new a b x y z are_new safe in_time ended wrote =
     let s : GoesBy n count count old new a b x y = ended.goes in
     record {
       given = s.events;
       outcomes = s.outcomes;
-      smooth = record { run = (opens_runs old.job old.state new.state s.events s.outcomes safe in_time are_new.opens s.stretch).0; kinds = s.kinds; none_refused = s.none_refused };
+      smooth = record {
+        run = (opens_runs old.job old.state new.state s.events s.outcomes safe in_time are_new.opens s.stretch).0;
+        kinds = s.kinds;
+        none_refused = s.none_refused;
+      };
       written = all_begun trace old.job old.state a b x y z s.events s.outcomes are_new s.records wrote;
     }
 
 -- a write failed before all was done
-pub through_broken : (trace : Trace) (old : ControllerData) (a : Recorder) (x z : Option (List ℕ)) → AreNew trace old.job old.state a → RunsSafely old.job → RunsInTime old.job → BreaksOff old a x z → IsTracedOff trace old.job x z
+pub through_broken : (trace : Trace) (old : ControllerData) (a : Recorder) (x z : Option (List ℕ)) → AreNew trace old.job old.state a → RunsSafely old.job →
+    RunsInTime old.job → BreaksOff old a x z → IsTracedOff trace old.job x z
 through_broken trace old a x z are_new safe in_time s = record {
   given = s.events;
   outcomes = s.outcomes;
-  smooth = record { run = (opens_runs old.job old.state s.reached s.events s.outcomes safe in_time are_new.opens s.stretch).0; kinds = s.kinds; none_refused = s.none_refused };
+  smooth = record {
+    run = (opens_runs old.job old.state s.reached s.events s.outcomes safe in_time are_new.opens s.stretch).0;
+    kinds = s.kinds;
+    none_refused = s.none_refused;
+  };
   written = some_begun trace old.job old.state a x z s.outcomes are_new s.begun;
 }
 
@@ -119,5 +134,6 @@ end_of a block_delete job ok same = subst (λ (j : Job). HasEnd j.commands) (sym
   at false = ok.off_commands.has_end
   at true = ok.on_commands.has_end
 
-pub machine_of : (a : AcceptedData) (block_delete : Bool) (job : Job) → IsAccepted a → job ≡ job_of a.machine (commands_at block_delete a) → IsMachine job.machine
+pub machine_of : (a : AcceptedData) (block_delete : Bool) (job : Job) → IsAccepted a → job ≡ job_of a.machine (commands_at block_delete a) →
+    IsMachine job.machine
 machine_of a block_delete job ok same = subst (λ (j : Job). IsMachine j.machine) (sym same) ok.machine

@@ -25,19 +25,22 @@ use Rattle.ngc_run_log.specs.Through.{IsSmoothRun, TellsEnd}
 -- bounds
 abbrev pub text_as : Form → Job → List Event → List Outcome → List State → List ℕ
 text_as Log job events outcomes states = log outcomes
-text_as Pulses job events outcomes states = vcd job.machine.ticks_per_second (pulses (start_of_job job) events states)
+text_as Pulses job events outcomes states =
+    vcd job.machine.ticks_per_second (pulses (start_of_job job) events states)
 
 -- ---- over lists of events
 
 -- all events were given, and all was written
-pub record IsWrittenRun (form : Form) (job : Job) (lines : List EventLine) (old new : Option (List ℕ)) (report : Report) : Type 0 where
+pub record IsWrittenRun (form : Form) (job : Job) (lines : List EventLine)
+    (old new : Option (List ℕ)) (report : Report) : Type 0 where
   pub outcomes : List Outcome
   pub run : IsRun job (events_of lines) outcomes
   pub written : Appends old new (text_as form job (events_of lines) outcomes run.states)
   pub reports : Reports job (events_of lines) outcomes report
 
 -- the first of the events were given, and what was written begins their text
-pub record IsUnwrittenRun (form : Form) (job : Job) (lines : List EventLine) (old new : Option (List ℕ)) : Type 0 where
+pub record IsUnwrittenRun (form : Form) (job : Job) (lines : List EventLine)
+    (old new : Option (List ℕ)) : Type 0 where
   pub given : List Event
   pub left : List Event
   pub are_first : events_of lines ≡ given ++ left
@@ -46,7 +49,8 @@ pub record IsUnwrittenRun (form : Form) (job : Job) (lines : List EventLine) (ol
   pub written : AppendsBeginning old new (text_as form job given outcomes run.states)
 
 -- That memory ran out says that nothing was written.
-abbrev pub ComesAs : Form → Job → List EventLine → Option (List ℕ) → Option (List ℕ) → Result Report RunFault → Type 0
+abbrev pub ComesAs : Form → Job → List EventLine → Option (List ℕ) → Option (List ℕ) →
+    Result Report RunFault → Type 0
 ComesAs form job lines old new (Ok report) = IsWrittenRun form job lines old new report
 ComesAs form job lines old new (Err (Write fault)) = IsUnwrittenRun form job lines old new
 ComesAs form job lines old new (Err Memory) = Keeps old new
@@ -54,7 +58,8 @@ ComesAs form job lines old new (Err Memory) = Keeps old new
 -- ---- through the program
 
 -- every command is done at the end, which is told last, and all was written
-pub record IsWrittenThrough (form : Form) (job : Job) (old new : Option (List ℕ)) (report : Report) : Type 0 where
+pub record IsWrittenThrough (form : Form) (job : Job) (old new : Option (List ℕ))
+    (report : Report) : Type 0 where
   pub events : List Event
   pub outcomes : List Outcome
   pub smooth : IsSmoothRun job events outcomes
@@ -70,28 +75,33 @@ pub record IsWrittenOff (form : Form) (job : Job) (old new : Option (List ℕ)) 
   pub smooth : IsSmoothRun job given outcomes
   pub written : AppendsBeginning old new (text_as form job given outcomes smooth.run.states)
 
-abbrev pub GoesThroughAs : Form → Job → Option (List ℕ) → Option (List ℕ) → Result Report RunFault → Type 0
+abbrev pub GoesThroughAs : Form → Job → Option (List ℕ) → Option (List ℕ) →
+    Result Report RunFault → Type 0
 GoesThroughAs form job old new (Ok report) = IsWrittenThrough form job old new report
 GoesThroughAs form job old new (Err (Write fault)) = IsWrittenOff form job old new
 GoesThroughAs form job old new (Err Memory) = Keeps old new
 
 -- ---- the pulses
 
-abbrev pub PulsesCome : Job → List EventLine → Option (List ℕ) → Option (List ℕ) → Result Report RunFault → Type 0
+abbrev pub PulsesCome : Job → List EventLine → Option (List ℕ) → Option (List ℕ) →
+    Result Report RunFault → Type 0
 PulsesCome = ComesAs Pulses
 
-abbrev pub PulsesGoThrough : Job → Option (List ℕ) → Option (List ℕ) → Result Report RunFault → Type 0
+abbrev pub PulsesGoThrough : Job → Option (List ℕ) → Option (List ℕ) →
+    Result Report RunFault → Type 0
 PulsesGoThrough = GoesThroughAs Pulses
 
 -- ---- on the way, from a trace on
 
-pub record IsTracedRun (trace : Trace) (job : Job) (lines : List EventLine) (old new : Option (List ℕ)) (report : Report) : Type 0 where
+pub record IsTracedRun (trace : Trace) (job : Job) (lines : List EventLine)
+    (old new : Option (List ℕ)) (report : Report) : Type 0 where
   pub outcomes : List Outcome
   pub run : IsRun job (events_of lines) outcomes
   pub written : Appends old new (whole_text trace outcomes)
   pub reports : Reports job (events_of lines) outcomes report
 
-pub record IsUntracedRun (trace : Trace) (job : Job) (lines : List EventLine) (old new : Option (List ℕ)) : Type 0 where
+pub record IsUntracedRun (trace : Trace) (job : Job) (lines : List EventLine)
+    (old new : Option (List ℕ)) : Type 0 where
   pub given : List Event
   pub left : List Event
   pub are_first : events_of lines ≡ given ++ left
@@ -99,7 +109,8 @@ pub record IsUntracedRun (trace : Trace) (job : Job) (lines : List EventLine) (o
   pub run : IsRun job given outcomes
   pub written : AppendsBeginning old new (whole_text trace outcomes)
 
-pub record IsTracedThrough (trace : Trace) (job : Job) (old new : Option (List ℕ)) (report : Report) : Type 0 where
+pub record IsTracedThrough (trace : Trace) (job : Job) (old new : Option (List ℕ))
+    (report : Report) : Type 0 where
   pub events : List Event
   pub outcomes : List Outcome
   pub smooth : IsSmoothRun job events outcomes

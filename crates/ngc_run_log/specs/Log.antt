@@ -1,10 +1,12 @@
 -- The text of a run's log: what came of each event. Our own format.
-use Rattle.std.specs.Prelude.{ℕ, List, [], ◌++◌, flat_map, decimal, codes, Option, Some, None, Ok, Err, Bool, true, false}
+use Rattle.std.specs.Prelude.{ℕ, List, [], ◌++◌, flat_map, decimal, codes, Option, Some, None, Ok}
+use Rattle.std.specs.Prelude.{Err, Bool, true, false}
 use Rattle.std.specs.Fmt.{signed_decimal}
 use Rattle.ngc_fixed_length.specs.declared.points.StepPos.{StepPos}
 use Rattle.ngc_events.specs.declared.reply.Ending.{Ending}
 use Rattle.ngc_events.specs.declared.reply.Ending.TheVariants.{Done, Stopped, End}
-use Rattle.ngc_events.specs.declared.reply.Reply.TheVariants.{Loaded, Ticked, Held, Resumed, Overridden, Switched, Started}
+use Rattle.ngc_events.specs.declared.reply.Reply.TheVariants.{Loaded, Ticked, Held, Resumed}
+use Rattle.ngc_events.specs.declared.reply.Reply.TheVariants.{Overridden, Switched, Started}
 use Rattle.ngc_events.specs.Faults.{event_fault_number}
 use Rattle.ngc_behaviour.specs.Step.{Outcome}
 
@@ -19,7 +21,8 @@ ending_text (Some End) = codes "end\n"
 
 abbrev pub position_text : Option StepPos → List ℕ
 position_text None = []
-position_text (Some p) = codes "pos " ++ signed_decimal p.x ++ codes " " ++ signed_decimal p.y ++ codes " " ++ signed_decimal p.z ++ codes "\n"
+position_text (Some p) = codes "pos " ++ signed_decimal p.x ++ codes " " ++ signed_decimal p.y
+    ++ codes " " ++ signed_decimal p.z ++ codes "\n"
 
 abbrev pub switch_text : Bool → List ℕ
 switch_text true = codes "switch on\n"

@@ -1,5 +1,6 @@
 -- How long a run through a program takes with each tool. Our own.
-use Rattle.std.specs.Prelude.{◌≡◌, ℕ, suc, ◌+◌, ◌*◌, ◌^◌, ◌<◌, min, List, [], ◌∷◌, ◌++◌, length, drop, count_by, None, Bool, true, false, if◌then◌else◌}
+use Rattle.std.specs.Prelude.{◌≡◌, ℕ, suc, ◌+◌, ◌*◌, ◌^◌, ◌<◌, min, List, [], ◌∷◌, ◌++◌, length}
+use Rattle.std.specs.Prelude.{drop, count_by, None, Bool, true, false, if◌then◌else◌}
 use Rattle.ngc_canonical.specs.declared.command.Action.{Action}
 use Rattle.ngc_canonical.specs.declared.command.Action.TheVariants.{Mount}
 use Rattle.ngc_canonical.specs.declared.command.Command.{Command}
@@ -28,7 +29,8 @@ part_length (c ∷ cs) = if changes_tool c.action then 1 else suc (part_length c
 
 -- from a command that isn't done up to the end of the next change of the tool, or of the last
 -- command: so many ticks
-pub record IsPart (job : Job) (old new : State) (n : ℕ) (events : List Event) (outcomes : List Outcome) : Type 0 where
+pub record IsPart (job : Job) (old new : State) (n : ℕ) (events : List Event)
+    (outcomes : List Outcome) : Type 0 where
   pub some : old.done < length job.commands
   pub stretch : Stretch job old new events outcomes
   pub done : new.done ≡ old.done + part_length (drop old.done job.commands)
@@ -38,8 +40,10 @@ pub record IsPart (job : Job) (old new : State) (n : ℕ) (events : List Event) 
 abbrev pub GoesInParts : Job → State → List ℕ → List Event → List Outcome → State → Type 0
 GoesInParts job old [] events outcomes new = (events ≡ []) × (outcomes ≡ []) × (new ≡ old)
 GoesInParts job old (n ∷ ns) events outcomes new =
-    (first : List Event) × (later : List Event) × (told : List Outcome) × (more : List Outcome) × (mid : State) ×
-    (events ≡ first ++ later) × (outcomes ≡ told ++ more) × IsPart job old mid n first told × GoesInParts job mid ns later more new
+    (first : List Event) × (later : List Event) × (told : List Outcome) × (more : List Outcome) ×
+    (mid : State) ×
+    (events ≡ first ++ later) × (outcomes ≡ told ++ more) × IsPart job old mid n first told ×
+    GoesInParts job mid ns later more new
 
 -- a run by itself through all commands, the end told last, has so many ticks, and each part so many
 -- of them
@@ -50,17 +54,21 @@ pub record IsTimedThrough (job : Job) (n : ℕ) (times : List ℕ) : Type 0 wher
   pub done : (last_state (opening job.machine) smooth.run.states).done ≡ length job.commands
   pub told : TellsEnd outcomes
   pub ticks : n ≡ count_by is_tick events
-  pub parts : GoesInParts job (opening job.machine) times events outcomes (last_state (opening job.machine) smooth.run.states)
+  pub parts : GoesInParts job (opening job.machine) times events outcomes
+      (last_state (opening job.machine) smooth.run.states)
 
 -- ---- on the way
 
 -- so many commands more are done, of which the last one tells its end where nothing is left to load
-pub record FinishesPart (count unloaded : ℕ) (old new : ControllerData) (before after : Recorder) : Type 0 where
+pub record FinishesPart (count unloaded : ℕ) (old new : ControllerData) (before after : Recorder) :
+    Type 0 where
   pub goes : GoesBy (count * 2 ^ 103) (min count unloaded) count old new before after None None
   pub told : unloaded < count → TellsDone old.job new.state.done goes.outcomes
 
 -- so many commands more are done, in parts
-pub record GoesParted (n loads does : ℕ) (old new : ControllerData) (before after : Recorder) (parts : List ℕ) : Type 0 where
+pub record GoesParted (n loads does : ℕ) (old new : ControllerData) (before after : Recorder)
+    (parts : List ℕ) : Type 0 where
   pub goes : GoesBy n loads does old new before after None None
   pub parted : GoesInParts old.job old.state parts goes.events goes.outcomes new.state
-  pub told : 0 < does → new.state.done ≡ length old.job.commands → TellsDone old.job new.state.done goes.outcomes
+  pub told : 0 < does → new.state.done ≡ length old.job.commands →
+      TellsDone old.job new.state.done goes.outcomes

@@ -39,19 +39,22 @@ pub record Collects (old new : Option (List ℕ)) (before text after : List ℕ)
   pub splits : before ++ text ≡ front ++ after
 
 -- these events are counted, and their text is collected
-pub record Records (events : List Event) (outcomes : List Outcome) (before after : Recorder) (written now : Option (List ℕ)) : Type 0 where
+pub record Records (events : List Event) (outcomes : List Outcome) (before after : Recorder)
+    (written now : Option (List ℕ)) : Type 0 where
   pub counts : Counts events outcomes before.report after.report
   pub trace : after.trace ≡ trace_after before.trace outcomes
   pub collects : Collects written now before.chunk (trace_text before.trace outcomes) after.chunk
 
 -- all these events were given and recorded
-pub record IsRecorded (job : Job) (old new : State) (before after : Recorder) (written now : Option (List ℕ)) (events : List Event) : Type 0 where
+pub record IsRecorded (job : Job) (old new : State) (before after : Recorder)
+    (written now : Option (List ℕ)) (events : List Event) : Type 0 where
   pub outcomes : List Outcome
   pub stretch : Stretch job old new events outcomes
   pub records : Records events outcomes before after written now
 
 -- the first of these events were given, and then a write failed
-pub record IsCutShort (job : Job) (old : State) (before : Recorder) (written now : Option (List ℕ)) (events : List Event) : Type 0 where
+pub record IsCutShort (job : Job) (old : State) (before : Recorder) (written now : Option (List ℕ))
+    (events : List Event) : Type 0 where
   pub given : List Event
   pub left : List Event
   pub are_first : events ≡ given ++ left

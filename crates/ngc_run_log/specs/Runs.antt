@@ -1,5 +1,6 @@
 -- What a run over lists of events comes to. Our own.
-use Rattle.std.specs.Prelude.{◌≡◌, ℕ, List, [], ◌∷◌, ◌++◌, length, count_by, Option, Ok, Err, Result, Bool, true, false}
+use Rattle.std.specs.Prelude.{◌≡◌, ℕ, List, [], ◌∷◌, ◌++◌, length, count_by, Option, Ok, Err}
+use Rattle.std.specs.Prelude.{Result, Bool, true, false}
 use Rattle.std.specs.Io.KnownBytes.{Appends, Keeps}
 use Rattle.ngc_fixed_length.specs.declared.points.StepPos.{StepPos}
 use Rattle.ngc_text.specs.Failures.{Rises}
@@ -35,21 +36,24 @@ pub record IsRun (job : Job) (events : List Event) (outcomes : List Outcome) : T
   pub in_time : IsDoneInTime job events states
 
 -- the report's numbers are those of the run
-pub record Reports (job : Job) (events : List Event) (outcomes : List Outcome) (report : Report) : Type 0 where
+pub record Reports (job : Job) (events : List Event) (outcomes : List Outcome) (report : Report) :
+    Type 0 where
   pub ticks : report.ticks ≡ count_by is_tick events
   pub path_steps : report.path_steps ≡ length (positions outcomes)
   pub refused : report.refused ≡ count_by is_refusal outcomes
   pub position : report.position ≡ last_position (start_of_job job) (positions outcomes)
 
 -- all events were given, and what was written is the log of what came of them
-pub record IsLoggedRun (job : Job) (lines : List EventLine) (old new : Option (List ℕ)) (report : Report) : Type 0 where
+pub record IsLoggedRun (job : Job) (lines : List EventLine) (old new : Option (List ℕ))
+    (report : Report) : Type 0 where
   pub outcomes : List Outcome
   pub run : IsRun job (events_of lines) outcomes
   pub logged : Appends old new (log outcomes)
   pub reports : Reports job (events_of lines) outcomes report
 
 -- the first of the events were given, and what was written begins the log of what came of them
-pub record IsBrokenRun (job : Job) (lines : List EventLine) (old new : Option (List ℕ)) : Type 0 where
+pub record IsBrokenRun (job : Job) (lines : List EventLine) (old new : Option (List ℕ)) :
+    Type 0 where
   pub given : List Event
   pub left : List Event
   pub are_first : events_of lines ≡ given ++ left
@@ -59,7 +63,8 @@ pub record IsBrokenRun (job : Job) (lines : List EventLine) (old new : Option (L
 
 -- What a run comes to, of the bytes of its sink where they are known. That memory ran out says that
 -- nothing was written.
-abbrev pub ComesTo : Job → List EventLine → Option (List ℕ) → Option (List ℕ) → Result Report RunFault → Type 0
+abbrev pub ComesTo : Job → List EventLine → Option (List ℕ) → Option (List ℕ) →
+    Result Report RunFault → Type 0
 ComesTo job lines old new (Ok report) = IsLoggedRun job lines old new report
 ComesTo job lines old new (Err (Write fault)) = IsBrokenRun job lines old new
 ComesTo job lines old new (Err Memory) = Keeps old new

@@ -1,5 +1,7 @@
 -- How a run goes on that nobody touches: from one event to a later one. Our own.
-use Rattle.std.specs.Prelude.{◌≡◌, ℕ, suc, slice_get, ◌+◌, ◌-◌, ◌*◌, ◌^◌, ◌≤◌, ◌<◌, List, [], ◌∷◌, ◌++◌, length, count_by, Option, None, Some, Ok, Err, Bool, true, false}
+use Rattle.std.specs.Prelude.{◌≡◌, ℕ, suc, slice_get, ◌+◌, ◌-◌, ◌*◌, ◌^◌, ◌≤◌, ◌<◌, List, [], ◌∷◌}
+use Rattle.std.specs.Prelude.{◌++◌, length, count_by, Option, None, Some, Ok, Err, Bool, true}
+use Rattle.std.specs.Prelude.{false}
 use Rattle.std.specs.List.{AllByRecursion}
 use Rattle.ngc_text.specs.Written.{AppendsBeginning}
 use Rattle.ngc_machine.specs.MachineRanges.{IsMachine}
@@ -9,7 +11,8 @@ use Rattle.ngc_planner.specs.Caps.{MILLION, STEPS_LIMIT}
 use Rattle.ngc_events.specs.declared.event.Event.{Event}
 use Rattle.ngc_events.specs.declared.reply.Ending.{Ending}
 use Rattle.ngc_events.specs.declared.reply.Ending.TheVariants.{Done, Stopped, End}
-use Rattle.ngc_events.specs.declared.reply.Reply.TheVariants.{Loaded, Ticked, Held, Resumed, Overridden, Switched, Started}
+use Rattle.ngc_events.specs.declared.reply.Reply.TheVariants.{Loaded, Ticked, Held, Resumed}
+use Rattle.ngc_events.specs.declared.reply.Reply.TheVariants.{Overridden, Switched, Started}
 use Rattle.ngc_behaviour.specs.State.{Job, Queued, State, command_at}
 use Rattle.ngc_behaviour.specs.Step.{Outcome, Step, MayTake}
 use Rattle.ngc_behaviour.specs.Progress.{GoesOn}
@@ -29,7 +32,8 @@ pub record IsUntouched (job : Job) (s : State) : Type 0 where
   pub machine : IsMachine job.machine
   pub not_held : s.held ≡ false
   pub percent : s.percent ≡ 100
-  pub commands : (i : ℕ) (l : Queued) → slice_get s.ring i ≡ Some l → command_at job (s.done + i) ≡ Some l.command
+  pub commands : (i : ℕ) (l : Queued) → slice_get s.ring i ≡ Some l →
+      command_at job (s.done + i) ≡ Some l.command
   pub paths : AllByRecursion (λ (l : Queued). MayTake job l.command.action l.path) s.ring
   pub short : AreShort s.ring
   pub travelled : s.travelled ≤ STEPS_LIMIT * MILLION
@@ -62,7 +66,8 @@ is_stop End = false
 -- ---- one event
 
 -- it was given, and what came of it is recorded
-pub record IsGiven (event : Event) (old new : ControllerData) (before after : Recorder) (written now : Option (List ℕ)) (outcome : Outcome) : Type 0 where
+pub record IsGiven (event : Event) (old new : ControllerData) (before after : Recorder)
+    (written now : Option (List ℕ)) (outcome : Outcome) : Type 0 where
   pub job : new.job ≡ old.job
   pub step : Step old.job old.state event outcome new.state
   pub goes_on : GoesOn old.job old.state event new.state
@@ -71,7 +76,8 @@ pub record IsGiven (event : Event) (old new : ControllerData) (before after : Re
   pub records : Records (event ∷ []) (outcome ∷ []) before after written now
 
 -- it was given, and then a write failed
-pub record IsGivenLast (event : Event) (old : ControllerData) (before : Recorder) (written now : Option (List ℕ)) : Type 0 where
+pub record IsGivenLast (event : Event) (old : ControllerData) (before : Recorder)
+    (written now : Option (List ℕ)) : Type 0 where
   pub outcome : Outcome
   pub reached : State
   pub step : Step old.job old.state event outcome reached
@@ -81,7 +87,8 @@ pub record IsGivenLast (event : Event) (old : ControllerData) (before : Recorder
 -- ---- several events
 
 -- at most n events were given and recorded, by which so many commands were loaded and so many done
-pub record GoesBy (n loads does : ℕ) (old new : ControllerData) (before after : Recorder) (written now : Option (List ℕ)) : Type 0 where
+pub record GoesBy (n loads does : ℕ) (old new : ControllerData) (before after : Recorder)
+    (written now : Option (List ℕ)) : Type 0 where
   pub events : List Event
   pub outcomes : List Outcome
   pub kinds : AllByRecursion IsLoadTickOrStart events
@@ -95,7 +102,8 @@ pub record GoesBy (n loads does : ℕ) (old new : ControllerData) (before after 
   pub ring : length new.state.ring + does ≡ length old.state.ring + loads
 
 -- some events were given, and then a write failed
-pub record BreaksOff (old : ControllerData) (before : Recorder) (written now : Option (List ℕ)) : Type 0 where
+pub record BreaksOff (old : ControllerData) (before : Recorder) (written now : Option (List ℕ)) :
+    Type 0 where
   pub events : List Event
   pub outcomes : List Outcome
   pub reached : State
@@ -113,7 +121,8 @@ pub record Works (old new : State) : Type 0 where
   pub spends : spent old < spent new
 
 -- ticks of which nothing is told: the head goes on
-pub record Coasts (old new : ControllerData) (before after : Recorder) (written : Option (List ℕ)) : Type 0 where
+pub record Coasts (old new : ControllerData) (before after : Recorder) (written : Option (List ℕ)) :
+    Type 0 where
   pub goes : GoesBy (spent new.state - spent old.state) 0 0 old new before after written written
   pub ring : new.state.ring ≡ old.state.ring
   pub running : new.state.stopped ≡ false
@@ -128,13 +137,15 @@ LeavesBy (Some ending) old new = is_stop ending ≡ false → new.stopped ≡ fa
 abbrev pub TellsBy : Option Ending → List Queued → List Outcome → Type 0
 TellsBy None ring outcomes = Unit {0}
 TellsBy (Some ending) [] outcomes = Unit {0}
-TellsBy (Some ending) (l ∷ ls) outcomes = l.command.action ≡ actions.End → (ending ≡ End) × TellsEnd outcomes
+TellsBy (Some ending) (l ∷ ls) outcomes =
+    l.command.action ≡ actions.End → (ending ≡ End) × TellsEnd outcomes
 
 abbrev pub does_in : Option Ending → ℕ
 does_in None = 0
 does_in (Some ending) = 1
 
-pub record TicksBy (old new : ControllerData) (before after : Recorder) (written now : Option (List ℕ)) (ending : Option Ending) : Type 0 where
+pub record TicksBy (old new : ControllerData) (before after : Recorder)
+    (written now : Option (List ℕ)) (ending : Option Ending) : Type 0 where
   pub goes : GoesBy 1 0 (does_in ending) old new before after written now
   pub leaves : LeavesBy ending old.state new.state
   pub tells : TellsBy ending old.state.ring goes.outcomes
@@ -142,7 +153,8 @@ pub record TicksBy (old new : ControllerData) (before after : Recorder) (written
 -- ---- what comes behind an ending
 
 -- nothing where it is no stop
-pub record GoesBehind (ending : Ending) (old new : ControllerData) (before after : Recorder) (written now : Option (List ℕ)) : Type 0 where
+pub record GoesBehind (ending : Ending) (old new : ControllerData) (before after : Recorder)
+    (written now : Option (List ℕ)) : Type 0 where
   pub goes : GoesBy 1 0 0 old new before after written now
   pub nothing : is_stop ending ≡ false → goes.outcomes ≡ []
 
@@ -151,14 +163,17 @@ abbrev pub TellsHead : List Queued → List Outcome → Type 0
 TellsHead [] outcomes = Unit {0}
 TellsHead (l ∷ ls) outcomes = l.command.action ≡ actions.End → TellsEnd outcomes
 
-pub record FinishesHead (old new : ControllerData) (before after : Recorder) (written now : Option (List ℕ)) : Type 0 where
+pub record FinishesHead (old new : ControllerData) (before after : Recorder)
+    (written now : Option (List ℕ)) : Type 0 where
   pub goes : GoesBy (2 ^ 102) 0 1 old new before after written now
   pub told : TellsHead old.state.ring goes.outcomes
 
 -- the last command that is done
 abbrev pub TellsDone : Job → ℕ → List Outcome → Type 0
-TellsDone job done outcomes = (k : ℕ) (c : Command) → suc k ≡ done → command_at job k ≡ Some c → c.action ≡ actions.End → TellsEnd outcomes
+TellsDone job done outcomes = (k : ℕ) (c : Command) → suc k ≡ done → command_at job k ≡ Some c →
+    c.action ≡ actions.End → TellsEnd outcomes
 
-pub record Finishes (n loads does : ℕ) (old new : ControllerData) (before after : Recorder) (written now : Option (List ℕ)) : Type 0 where
+pub record Finishes (n loads does : ℕ) (old new : ControllerData) (before after : Recorder)
+    (written now : Option (List ℕ)) : Type 0 where
   pub goes : GoesBy n loads does old new before after written now
   pub told : 0 < does → TellsDone old.job new.state.done goes.outcomes

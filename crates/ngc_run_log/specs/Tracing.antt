@@ -1,7 +1,8 @@
 -- What is written of a run on the way: its log, the dump of its pulses, or nothing. Our own.
 use Rattle.std.specs.Prelude.{ℕ, List, [], ◌∷◌, ◌++◌, flat_map, Option, Ok, Err}
 use Rattle.ngc_fixed_length.specs.declared.points.StepPos.{StepPos}
-use Rattle.ngc_events.specs.declared.reply.Reply.TheVariants.{Loaded, Ticked, Held, Resumed, Overridden, Switched, Started}
+use Rattle.ngc_events.specs.declared.reply.Reply.TheVariants.{Loaded, Ticked, Held, Resumed}
+use Rattle.ngc_events.specs.declared.reply.Reply.TheVariants.{Overridden, Switched, Started}
 use Rattle.ngc_behaviour.specs.Step.{Outcome}
 use Rattle.ngc_pulses.specs.Vcd.{header}
 use Rattle.ngc_pulses.specs.Dumping.{first_state, ticks_text, after_ticks, closing_text}
@@ -59,4 +60,5 @@ last_text (Pulses d) = closing_text d
 last_text Untold = []
 
 abbrev pub whole_text : Trace → List Outcome → List ℕ
-whole_text trace outcomes = opening_text trace ++ (trace_text trace outcomes ++ last_text (trace_after trace outcomes))
+whole_text trace outcomes =
+    opening_text trace ++ (trace_text trace outcomes ++ last_text (trace_after trace outcomes))

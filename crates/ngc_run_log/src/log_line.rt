@@ -1,7 +1,8 @@
 //! The text of a log.
 ghost use Rattle.std.specs.Prelude.{◌≡◌, ◌+◌, ◌≤◌, ◌++◌, length};
 ghost use Rattle.ngc_text.specs.Collected.{CHUNK_SIZE, HasLineRoom};
-ghost use Rattle.ngc_run_log.specs.Log.{numbered_line, ending_text, position_text, switch_text, text_of};
+ghost use Rattle.ngc_run_log.specs.Log.{numbered_line, ending_text, position_text, switch_text};
+ghost use Rattle.ngc_run_log.specs.Log.{text_of};
 
 use ngc_events::{Ending, EventFault, Reply};
 use ngc_fixed_length::StepPos;

@@ -1,5 +1,6 @@
 //! What is kept of a run while it goes on.
-ghost use Rattle.std.specs.Prelude.{◌≡◌, ◌+◌, ◌^◌, ◌++◌, ℕ, List, [], ◌∷◌, replicate, Option, None, Ok, IfOk, OnOk, OnErr};
+ghost use Rattle.std.specs.Prelude.{◌≡◌, ◌+◌, ◌^◌, ◌++◌, ℕ, List, [], ◌∷◌, replicate, Option, None};
+ghost use Rattle.std.specs.Prelude.{Ok, IfOk, OnOk, OnErr};
 ghost use Rattle.std.specs.Io.KnownBytes.{Appends};
 ghost use Rattle.ngc_events.specs.declared.event.Event.TheVariants.{Tick};
 ghost use Rattle.ngc_events.specs.declared.reply.Reply.TheVariants.{Ticked};
@@ -25,7 +26,8 @@ pub(crate) struct Recorder {
 impl Recorder {
     /// Nothing is given yet, and the machine stands at a position, in steps.
     pub(crate) fn new(trace: Trace, position: StepPos) -> Recorder
-        ensures report { result.report ≡ record { ticks = 0; path_steps = 0; refused = 0; position = position } }
+        ensures report { result.report
+            ≡ record { ticks = 0; path_steps = 0; refused = 0; position = position } }
         ensures trace { result.trace ≡ trace }
         ensures chunk { result.chunk ≡ opening_text trace }
     {
@@ -51,8 +53,11 @@ impl Recorder {
         sink: &mut W,
     ) -> Result<(), WriteFault>
         requires { HasFew (2 ^ 126) self.old }
-        ensures records { OnOk result (Records (event ∷ []) (outcome.now ∷ []) self.old self.new (W.written sink.old) (W.written sink.new)) }
-        ensures fault { OnErr result (AppendsBeginning (W.written sink.old) (W.written sink.new) self.old.chunk) }
+        ensures records { OnOk result
+            (Records (event ∷ []) (outcome.now ∷ []) self.old self.new (W.written sink.old)
+            (W.written sink.new)) }
+        ensures fault { OnErr result
+            (AppendsBeginning (W.written sink.old) (W.written sink.new) self.old.chunk) }
         ensures failures { CountsFailure (W.failures sink.old) (W.failures sink.new) result }
     {
         self.report.count(event, outcome);
@@ -78,7 +83,9 @@ impl Recorder {
     /// Counts ticks of which nothing is told.
     pub(crate) fn rest(&mut self, count: u64)
         requires { HasFew (2 ^ 125 + 2 ^ 102) self.old }
-        ensures { (written : Option (List ℕ)) → Records (replicate count Tick) (replicate count (Ok (Ticked None None))) self.old self.new written written }
+        ensures { (written : Option (List ℕ)) →
+            Records (replicate count Tick) (replicate count (Ok (Ticked None None))) self.old
+            self.new written written }
     {
         self.report.ticks += u128::from(count);
         self.trace.rest(count);
@@ -95,8 +102,12 @@ impl Recorder {
     pub(crate) fn finish<W: Sink>(mut self, sink: &mut W) -> Result<Report, WriteFault>
         requires { HasFew (2 ^ 126) self }
         ensures report { IfOk result (λ report. report ≡ self.report) }
-        ensures ok { OnOk result (Appends (W.written sink.old) (W.written sink.new) (self.chunk ++ last_text self.trace)) }
-        ensures fault { OnErr result (AppendsBeginning (W.written sink.old) (W.written sink.new) (self.chunk ++ last_text self.trace)) }
+        ensures ok { OnOk result
+            (Appends (W.written sink.old) (W.written sink.new)
+            (self.chunk ++ last_text self.trace)) }
+        ensures fault { OnErr result
+            (AppendsBeginning (W.written sink.old) (W.written sink.new)
+            (self.chunk ++ last_text self.trace)) }
         ensures failures { CountsFailure (W.failures sink.old) (W.failures sink.new) result }
     {
         match self.chunk.make_room(sink) {

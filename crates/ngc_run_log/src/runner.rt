@@ -1,4 +1,5 @@
-ghost use Rattle.std.specs.Prelude.{◌≡◌, ◌<◌, ◌≤◌, ◌^◌, ℕ, List, Option, replicate, IfOk, OnOk, OnErr};
+ghost use Rattle.std.specs.Prelude.{◌≡◌, ◌<◌, ◌≤◌, ◌^◌, ℕ, List, Option, replicate, IfOk, OnOk};
+ghost use Rattle.std.specs.Prelude.{OnErr};
 ghost use Rattle.ngc_behaviour.specs.Headline.{job_of, RunsInTime, RunsSafely};
 ghost use Rattle.ngc_behaviour.specs.State.{opening};
 ghost use Rattle.ngc_checker.specs.Accepted.{commands_at};
@@ -29,7 +30,9 @@ fn coast<A: Allocator + Copy>(
     requires { HasFew (2 ^ 125) recorder.old }
     ensures job { controller.new.job ≡ controller.old.job }
     ensures few { result ≤ most }
-    ensures recorded { (written : Option (List ℕ)) → IsRecorded controller.old.job controller.old.state controller.new.state recorder.old recorder.new written written (replicate result event) }
+    ensures recorded { (written : Option (List ℕ)) →
+        IsRecorded controller.old.job controller.old.state controller.new.state recorder.old
+        recorder.new written written (replicate result event) }
 {
     let Event::Tick = event else {
         return 0;
@@ -48,8 +51,13 @@ fn run_line<A: Allocator + Copy, W: Sink>(
 ) -> Result<(), WriteFault>
     requires { HasFew (2 ^ 100) recorder.old }
     ensures job { controller.new.job ≡ controller.old.job }
-    ensures recorded { OnOk result (IsRecorded controller.old.job controller.old.state controller.new.state recorder.old recorder.new (W.written sink.old) (W.written sink.new) (replicate line.now.times line.now.event)) }
-    ensures fault { OnErr result (IsCutShort controller.old.job controller.old.state recorder.old (W.written sink.old) (W.written sink.new) (replicate line.now.times line.now.event)) }
+    ensures recorded { OnOk result
+        (IsRecorded controller.old.job controller.old.state controller.new.state recorder.old
+        recorder.new (W.written sink.old) (W.written sink.new)
+        (replicate line.now.times line.now.event)) }
+    ensures fault { OnErr result
+        (IsCutShort controller.old.job controller.old.state recorder.old (W.written sink.old)
+        (W.written sink.new) (replicate line.now.times line.now.event)) }
     ensures times { line.now.times < 2 ^ 32 }
     ensures failures { CountsFailure (W.failures sink.old) (W.failures sink.new) result }
 {
@@ -76,8 +84,12 @@ fn run_lines<A: Allocator + Copy, W: Sink>(
     requires safe { RunsSafely controller.old.job }
     requires in_time { RunsInTime controller.old.job }
     requires begins { ticks_of trace ≡ 0 }
-    ensures traced { IfOk result (λ report. IsTracedRun trace controller.old.job lines.now (W.written sink.old) (W.written sink.new) report) }
-    ensures broken { OnErr result (IsUntracedRun trace controller.old.job lines.now (W.written sink.old) (W.written sink.new)) }
+    ensures traced { IfOk result
+        (λ report. IsTracedRun trace controller.old.job lines.now (W.written sink.old)
+        (W.written sink.new) report) }
+    ensures broken { OnErr result
+        (IsUntracedRun trace controller.old.job lines.now (W.written sink.old)
+        (W.written sink.new)) }
     ensures failures { CountsFailure (W.failures sink.old) (W.failures sink.new) result }
 {
     let mut recorder = Recorder::new(trace, controller.position());
@@ -99,7 +111,8 @@ fn run_as<A: Allocator + Copy, W: Sink>(
     form: Form,
     sink: &mut W,
 ) -> Result<Report, RunFault>
-    ensures comes { ComesAs form (job_of accepted.machine (commands_at block_delete accepted)) lines.now (W.written sink.old) (W.written sink.new) result }
+    ensures comes { ComesAs form (job_of accepted.machine (commands_at block_delete accepted))
+        lines.now (W.written sink.old) (W.written sink.new) result }
     ensures counts { FailsByWriting result (W.failures sink.old) (W.failures sink.new) }
 {
     // What holds of all that was accepted makes the run a safe one, which is done in time.
@@ -125,7 +138,8 @@ pub fn run<A: Allocator + Copy, W: Sink>(
     lines: &[EventLine],
     sink: &mut W,
 ) -> Result<Report, RunFault>
-    ensures comes { ComesTo (job_of accepted.machine (commands_at block_delete accepted)) lines.now (W.written sink.old) (W.written sink.new) result }
+    ensures comes { ComesTo (job_of accepted.machine (commands_at block_delete accepted)) lines.now
+        (W.written sink.old) (W.written sink.new) result }
     ensures counts { FailsByWriting result (W.failures sink.old) (W.failures sink.new) }
 {
     run_as(alloc, accepted, block_delete, lines, Form::Log, sink)
@@ -142,7 +156,8 @@ pub fn write_pulses<A: Allocator + Copy, W: Sink>(
     lines: &[EventLine],
     sink: &mut W,
 ) -> Result<Report, RunFault>
-    ensures comes { PulsesCome (job_of accepted.machine (commands_at block_delete accepted)) lines.now (W.written sink.old) (W.written sink.new) result }
+    ensures comes { PulsesCome (job_of accepted.machine (commands_at block_delete accepted))
+        lines.now (W.written sink.old) (W.written sink.new) result }
     ensures counts { FailsByWriting result (W.failures sink.old) (W.failures sink.new) }
 {
     run_as(alloc, accepted, block_delete, lines, Form::Pulses, sink)

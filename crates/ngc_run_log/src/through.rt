@@ -1,5 +1,6 @@
 //! A run through a whole program: nobody touches the panel but to start again behind a stop.
-ghost use Rattle.std.specs.Prelude.{◌≡◌, ◌≤◌, ◌<◌, ◌+◌, ◌-◌, ◌*◌, ◌^◌, ℕ, List, Option, min, length, false, OnOk, OnErr, IfOk};
+ghost use Rattle.std.specs.Prelude.{◌≡◌, ◌≤◌, ◌<◌, ◌+◌, ◌-◌, ◌*◌, ◌^◌, ℕ, List, Option, min};
+ghost use Rattle.std.specs.Prelude.{length, false, OnOk, OnErr, IfOk};
 ghost use Rattle.ngc_behaviour.specs.Headline.{job_of, RunsInTime, RunsSafely};
 ghost use Rattle.ngc_behaviour.specs.State.{RING, loaded, opening};
 ghost use Rattle.ngc_canonical.specs.Joined.{HasEnd};
@@ -7,10 +8,13 @@ ghost use Rattle.ngc_canonical.specs.State.{COMMAND_LIMIT};
 ghost use Rattle.ngc_checker.specs.Accepted.{commands_at};
 ghost use Rattle.ngc_text.specs.Failures.{CountsFailure};
 ghost use Rattle.ngc_machine.specs.MachineRanges.{IsMachine};
-ghost use Rattle.ngc_run_log.specs.Forms.{GoesThroughAs, IsTracedThrough, IsTracedOff, PulsesGoThrough};
+ghost use Rattle.ngc_run_log.specs.Forms.{GoesThroughAs, IsTracedThrough, IsTracedOff};
+ghost use Rattle.ngc_run_log.specs.Forms.{PulsesGoThrough};
 ghost use Rattle.ngc_run_log.specs.Recording.{HasFew};
 ghost use Rattle.ngc_run_log.specs.Runs.{FailsByWriting};
-ghost use Rattle.ngc_run_log.specs.Stretches.{IsUntouched, IsGiven, Coasts, IsGivenLast, GoesBy, BreaksOff, TicksBy, GoesBehind, FinishesHead, Finishes, ending_in, is_stop};
+ghost use Rattle.ngc_run_log.specs.Stretches.{IsUntouched, IsGiven, Coasts, IsGivenLast, GoesBy};
+ghost use Rattle.ngc_run_log.specs.Stretches.{BreaksOff, TicksBy, GoesBehind, FinishesHead};
+ghost use Rattle.ngc_run_log.specs.Stretches.{Finishes, ending_in, is_stop};
 ghost use Rattle.ngc_run_log.specs.Through.{GoesThrough};
 ghost use Rattle.ngc_run_log.specs.Tracing.{ticks_of};
 
@@ -35,8 +39,11 @@ fn give<A: Allocator + Copy, W: Sink>(
     sink: &mut W,
 ) -> Result<Result<Reply, EventFault>, WriteFault>
     requires { HasFew (2 ^ 126) recorder.old }
-    ensures given { IfOk result (IsGiven event controller.old controller.new recorder.old recorder.new (W.written sink.old) (W.written sink.new)) }
-    ensures fault { OnErr result (IsGivenLast event controller.old recorder.old (W.written sink.old) (W.written sink.new)) }
+    ensures given { IfOk result
+        (IsGiven event controller.old controller.new recorder.old recorder.new (W.written sink.old)
+        (W.written sink.new)) }
+    ensures fault { OnErr result
+        (IsGivenLast event controller.old recorder.old (W.written sink.old) (W.written sink.new)) }
     ensures failures { CountsFailure (W.failures sink.old) (W.failures sink.new) result }
 {
     let outcome = controller.event(event);
@@ -59,10 +66,13 @@ fn load_next<A: Allocator + Copy, W: Sink>(
     requires room { length controller.old.state.ring < RING }
     requires left { loaded controller.old.state < length controller.old.job.commands }
     requires few { HasFew (2 ^ 126) recorder.old }
-    ensures goes { OnOk result (GoesBy 1 1 0 controller.old controller.new recorder.old recorder.new (W.written sink.old) (W.written sink.new)) }
+    ensures goes { OnOk result
+        (GoesBy 1 1 0 controller.old controller.new recorder.old recorder.new (W.written sink.old)
+        (W.written sink.new)) }
     ensures still { OnOk result (recorder.new.report.ticks ≡ recorder.old.report.ticks) }
     ensures runs { OnOk result (controller.new.state.stopped ≡ false) }
-    ensures fault { OnErr result (BreaksOff controller.old recorder.old (W.written sink.old) (W.written sink.new)) }
+    ensures fault { OnErr result
+        (BreaksOff controller.old recorder.old (W.written sink.old) (W.written sink.new)) }
     ensures failures { CountsFailure (W.failures sink.old) (W.failures sink.new) result }
 {
     match give(controller, Event::Load, recorder, sink) {
@@ -79,9 +89,12 @@ fn start_again<A: Allocator + Copy, W: Sink>(
 ) -> Result<(), WriteFault>
     requires untouched { IsUntouched controller.old.job controller.old.state }
     requires few { HasFew (2 ^ 126) recorder.old }
-    ensures goes { OnOk result (GoesBy 1 0 0 controller.old controller.new recorder.old recorder.new (W.written sink.old) (W.written sink.new)) }
+    ensures goes { OnOk result
+        (GoesBy 1 0 0 controller.old controller.new recorder.old recorder.new (W.written sink.old)
+        (W.written sink.new)) }
     ensures runs { OnOk result (controller.new.state.stopped ≡ false) }
-    ensures fault { OnErr result (BreaksOff controller.old recorder.old (W.written sink.old) (W.written sink.new)) }
+    ensures fault { OnErr result
+        (BreaksOff controller.old recorder.old (W.written sink.old) (W.written sink.new)) }
     ensures failures { CountsFailure (W.failures sink.old) (W.failures sink.new) result }
 {
     match give(controller, Event::Start, recorder, sink) {
@@ -110,8 +123,11 @@ fn tick<A: Allocator + Copy, W: Sink>(
     requires runs { controller.old.state.stopped ≡ false }
     requires some { 1 ≤ length controller.old.state.ring }
     requires few { HasFew (2 ^ 126) recorder.old }
-    ensures ticks { IfOk result (TicksBy controller.old controller.new recorder.old recorder.new (W.written sink.old) (W.written sink.new)) }
-    ensures fault { OnErr result (BreaksOff controller.old recorder.old (W.written sink.old) (W.written sink.new)) }
+    ensures ticks { IfOk result
+        (TicksBy controller.old controller.new recorder.old recorder.new (W.written sink.old)
+        (W.written sink.new)) }
+    ensures fault { OnErr result
+        (BreaksOff controller.old recorder.old (W.written sink.old) (W.written sink.new)) }
     ensures failures { CountsFailure (W.failures sink.old) (W.failures sink.new) result }
 {
     match give(controller, Event::Tick, recorder, sink) {
@@ -126,7 +142,8 @@ fn coast<A: Allocator + Copy>(controller: &mut Controller<ArcPath, A>, recorder:
     requires runs { controller.old.state.stopped ≡ false }
     requires some { 1 ≤ length controller.old.state.ring }
     requires few { HasFew (2 ^ 125 + 2 ^ 102) recorder.old }
-    ensures { (written : Option (List ℕ)) → Coasts controller.old controller.new recorder.old recorder.new written }
+    ensures { (written : Option (List ℕ)) →
+        Coasts controller.old controller.new recorder.old recorder.new written }
 {
     let count = controller.coast(u64::MAX);
     // No command dwells for ever.
@@ -144,9 +161,12 @@ fn go_on_behind<A: Allocator + Copy, W: Sink>(
     requires untouched { IsUntouched controller.old.job controller.old.state }
     requires runs { is_stop ending ≡ false → controller.old.state.stopped ≡ false }
     requires few { HasFew (2 ^ 126) recorder.old }
-    ensures goes { OnOk result (GoesBehind ending controller.old controller.new recorder.old recorder.new (W.written sink.old) (W.written sink.new)) }
+    ensures goes { OnOk result
+        (GoesBehind ending controller.old controller.new recorder.old recorder.new
+        (W.written sink.old) (W.written sink.new)) }
     ensures runs { OnOk result (controller.new.state.stopped ≡ false) }
-    ensures fault { OnErr result (BreaksOff controller.old recorder.old (W.written sink.old) (W.written sink.new)) }
+    ensures fault { OnErr result
+        (BreaksOff controller.old recorder.old (W.written sink.old) (W.written sink.new)) }
     ensures failures { CountsFailure (W.failures sink.old) (W.failures sink.new) result }
 {
     match ending {
@@ -166,9 +186,12 @@ fn finish_head<A: Allocator + Copy, W: Sink>(
     requires runs { controller.old.state.stopped ≡ false }
     requires some { 1 ≤ length controller.old.state.ring }
     requires few { HasFew (2 ^ 125) recorder.old }
-    ensures goes { OnOk result (FinishesHead controller.old controller.new recorder.old recorder.new (W.written sink.old) (W.written sink.new)) }
+    ensures goes { OnOk result
+        (FinishesHead controller.old controller.new recorder.old recorder.new (W.written sink.old)
+        (W.written sink.new)) }
     ensures runs { OnOk result (controller.new.state.stopped ≡ false) }
-    ensures fault { OnErr result (BreaksOff controller.old recorder.old (W.written sink.old) (W.written sink.new)) }
+    ensures fault { OnErr result
+        (BreaksOff controller.old recorder.old (W.written sink.old) (W.written sink.new)) }
     ensures failures { CountsFailure (W.failures sink.old) (W.failures sink.new) result }
 {
     'ticks: loop {
@@ -195,10 +218,13 @@ pub(crate) fn fill_ring<A: Allocator + Copy, W: Sink>(
     requires untouched { IsUntouched controller.old.job controller.old.state }
     requires runs { controller.old.state.stopped ≡ false }
     requires few { HasFew (2 ^ 120) recorder.old }
-    ensures goes { OnOk result (GoesBy count count 0 controller.old controller.new recorder.old recorder.new (W.written sink.old) (W.written sink.new)) }
+    ensures goes { OnOk result
+        (GoesBy count count 0 controller.old controller.new recorder.old recorder.new
+        (W.written sink.old) (W.written sink.new)) }
     ensures still { OnOk result (recorder.new.report.ticks ≡ recorder.old.report.ticks) }
     ensures runs { OnOk result (controller.new.state.stopped ≡ false) }
-    ensures fault { OnErr result (BreaksOff controller.old recorder.old (W.written sink.old) (W.written sink.new)) }
+    ensures fault { OnErr result
+        (BreaksOff controller.old recorder.old (W.written sink.old) (W.written sink.new)) }
     ensures failures { CountsFailure (W.failures sink.old) (W.failures sink.new) result }
 {
     for _command in 0..count {
@@ -224,9 +250,12 @@ pub(crate) fn keep_full<A: Allocator + Copy, W: Sink>(
     requires untouched { IsUntouched controller.old.job controller.old.state }
     requires runs { controller.old.state.stopped ≡ false }
     requires few { HasFew (2 ^ 124) recorder.old }
-    ensures goes { OnOk result (GoesBy (count * 2 ^ 103) count count controller.old controller.new recorder.old recorder.new (W.written sink.old) (W.written sink.new)) }
+    ensures goes { OnOk result
+        (GoesBy (count * 2 ^ 103) count count controller.old controller.new recorder.old
+        recorder.new (W.written sink.old) (W.written sink.new)) }
     ensures runs { OnOk result (controller.new.state.stopped ≡ false) }
-    ensures fault { OnErr result (BreaksOff controller.old recorder.old (W.written sink.old) (W.written sink.new)) }
+    ensures fault { OnErr result
+        (BreaksOff controller.old recorder.old (W.written sink.old) (W.written sink.new)) }
     ensures failures { CountsFailure (W.failures sink.old) (W.failures sink.new) result }
 {
     for _command in 0..count {
@@ -254,9 +283,12 @@ pub(crate) fn finish<A: Allocator + Copy, W: Sink>(
     requires untouched { IsUntouched controller.old.job controller.old.state }
     requires runs { controller.old.state.stopped ≡ false }
     requires few { HasFew (2 ^ 124) recorder.old }
-    ensures goes { OnOk result (Finishes (count * 2 ^ 103) 0 count controller.old controller.new recorder.old recorder.new (W.written sink.old) (W.written sink.new)) }
+    ensures goes { OnOk result
+        (Finishes (count * 2 ^ 103) 0 count controller.old controller.new recorder.old recorder.new
+        (W.written sink.old) (W.written sink.new)) }
     ensures runs { OnOk result (controller.new.state.stopped ≡ false) }
-    ensures fault { OnErr result (BreaksOff controller.old recorder.old (W.written sink.old) (W.written sink.new)) }
+    ensures fault { OnErr result
+        (BreaksOff controller.old recorder.old (W.written sink.old) (W.written sink.new)) }
     ensures failures { CountsFailure (W.failures sink.old) (W.failures sink.new) result }
 {
     for _command in 0..count {
@@ -282,8 +314,11 @@ fn go_on<A: Allocator + Copy, W: Sink>(
     requires untouched { IsUntouched controller.old.job controller.old.state }
     requires runs { controller.old.state.stopped ≡ false }
     requires few { HasFew 0 recorder.old }
-    ensures goes { OnOk result (Finishes (2 ^ 125) count count controller.old controller.new recorder.old recorder.new (W.written sink.old) (W.written sink.new)) }
-    ensures fault { OnErr result (BreaksOff controller.old recorder.old (W.written sink.old) (W.written sink.new)) }
+    ensures goes { OnOk result
+        (Finishes (2 ^ 125) count count controller.old controller.new recorder.old recorder.new
+        (W.written sink.old) (W.written sink.new)) }
+    ensures fault { OnErr result
+        (BreaksOff controller.old recorder.old (W.written sink.old) (W.written sink.new)) }
     ensures failures { CountsFailure (W.failures sink.old) (W.failures sink.new) result }
 {
     let first = count.min(RING);
@@ -313,8 +348,10 @@ fn go_through<A: Allocator + Copy, W: Sink>(
     requires count { count ≡ length controller.old.job.commands }
     requires few_commands { count ≤ COMMAND_LIMIT }
     requires begins { ticks_of trace ≡ 0 }
-    ensures traced { IfOk result (IsTracedThrough trace controller.old.job (W.written sink.old) (W.written sink.new)) }
-    ensures broken { OnErr result (IsTracedOff trace controller.old.job (W.written sink.old) (W.written sink.new)) }
+    ensures traced { IfOk result
+        (IsTracedThrough trace controller.old.job (W.written sink.old) (W.written sink.new)) }
+    ensures broken { OnErr result
+        (IsTracedOff trace controller.old.job (W.written sink.old) (W.written sink.new)) }
     ensures failures { CountsFailure (W.failures sink.old) (W.failures sink.new) result }
 {
     let mut recorder = Recorder::new(trace, controller.position());
@@ -333,7 +370,9 @@ fn go_through_as<A: Allocator + Copy, W: Sink>(
     form: Form,
     sink: &mut W,
 ) -> Result<Report, RunFault>
-    ensures goes_through { GoesThroughAs form (job_of accepted.machine (commands_at block_delete accepted)) (W.written sink.old) (W.written sink.new) result }
+    ensures goes_through { GoesThroughAs form
+        (job_of accepted.machine (commands_at block_delete accepted)) (W.written sink.old)
+        (W.written sink.new) result }
     ensures counts { FailsByWriting result (W.failures sink.old) (W.failures sink.new) }
 {
     // What holds of all that was accepted makes the run a safe one, which is done in time.
@@ -360,7 +399,8 @@ pub fn run_through<A: Allocator + Copy, W: Sink>(
     block_delete: bool,
     sink: &mut W,
 ) -> Result<Report, RunFault>
-    ensures goes_through { GoesThrough (job_of accepted.machine (commands_at block_delete accepted)) (W.written sink.old) (W.written sink.new) result }
+    ensures goes_through { GoesThrough (job_of accepted.machine (commands_at block_delete accepted))
+        (W.written sink.old) (W.written sink.new) result }
     ensures counts { FailsByWriting result (W.failures sink.old) (W.failures sink.new) }
 {
     go_through_as(alloc, accepted, block_delete, Form::Log, sink)
@@ -375,7 +415,9 @@ pub fn write_pulses_through<A: Allocator + Copy, W: Sink>(
     block_delete: bool,
     sink: &mut W,
 ) -> Result<Report, RunFault>
-    ensures goes_through { PulsesGoThrough (job_of accepted.machine (commands_at block_delete accepted)) (W.written sink.old) (W.written sink.new) result }
+    ensures goes_through { PulsesGoThrough
+        (job_of accepted.machine (commands_at block_delete accepted)) (W.written sink.old)
+        (W.written sink.new) result }
     ensures counts { FailsByWriting result (W.failures sink.old) (W.failures sink.new) }
 {
     go_through_as(alloc, accepted, block_delete, Form::Pulses, sink)

@@ -6,7 +6,8 @@ ghost use Rattle.ngc_canonical.specs.Joined.{HasEnd};
 ghost use Rattle.ngc_canonical.specs.State.{COMMAND_LIMIT};
 ghost use Rattle.ngc_checker.specs.Accepted.{commands_at};
 ghost use Rattle.ngc_machine.specs.MachineRanges.{IsMachine};
-ghost use Rattle.ngc_run_log.specs.Parts.{FinishesPart, GoesParted, IsTimedThrough, changes_tool, part_length};
+ghost use Rattle.ngc_run_log.specs.Parts.{FinishesPart, GoesParted, IsTimedThrough, changes_tool};
+ghost use Rattle.ngc_run_log.specs.Parts.{part_length};
 ghost use Rattle.ngc_run_log.specs.Recording.{HasFew};
 ghost use Rattle.ngc_run_log.specs.Stretches.{GoesBy, IsUntouched};
 
@@ -80,7 +81,8 @@ fn load_first<A: Allocator + Copy>(
     requires untouched { IsUntouched controller.old.job controller.old.state }
     requires runs { controller.old.state.stopped ≡ false }
     requires few { HasFew 0 recorder.old }
-    ensures goes { GoesBy count count 0 controller.old controller.new recorder.old recorder.new None None }
+    ensures goes { GoesBy count count 0 controller.old controller.new recorder.old
+        recorder.new None None }
     ensures still { recorder.new.report.ticks ≡ recorder.old.report.ticks }
     ensures runs { controller.new.state.stopped ≡ false }
 {
@@ -106,7 +108,8 @@ fn finish_part<A: Allocator + Copy>(
     requires untouched { IsUntouched controller.old.job controller.old.state }
     requires runs { controller.old.state.stopped ≡ false }
     requires few { HasFew (2 ^ 123) recorder.old }
-    ensures goes { FinishesPart count unloaded controller.old controller.new recorder.old recorder.new }
+    ensures goes { FinishesPart count unloaded controller.old controller.new recorder.old
+        recorder.new }
     ensures runs { controller.new.state.stopped ≡ false }
 {
     let mut nowhere = Nowhere;
@@ -137,7 +140,10 @@ fn time_parts<A: Allocator + Copy>(
     requires untouched { IsUntouched controller.old.job controller.old.state }
     requires runs { controller.old.state.stopped ≡ false }
     requires few { HasFew 16 recorder.old }
-    ensures parts { IfOk result (λ parts. GoesParted (2 ^ 123) unloaded (length controller.old.job.commands) controller.old controller.new recorder.old recorder.new parts.items) }
+    ensures parts { IfOk result
+        (λ parts. GoesParted (2 ^ 123) unloaded
+        (length controller.old.job.commands) controller.old controller.new recorder.old recorder.new
+        parts.items) }
     ensures memory { IfErr result (λ fault. fault ≡ RunFault.Memory) }
 {
     let count = controller.commands().len();
@@ -193,7 +199,9 @@ pub fn time_through<A: Allocator + Copy>(
     accepted: Accepted<A>,
     block_delete: bool,
 ) -> Result<Timing<A>, RunFault>
-    ensures times { IfOk result (λ t. IsTimedThrough (job_of accepted.machine (commands_at block_delete accepted)) t.ticks t.parts.items) }
+    ensures times { IfOk result
+        (λ t. IsTimedThrough (job_of accepted.machine (commands_at block_delete accepted)) t.ticks
+        t.parts.items) }
     ensures memory { IfErr result (λ fault. fault ≡ RunFault.Memory) }
 {
     // What holds of all that was accepted makes the run a safe one, which is done in time.

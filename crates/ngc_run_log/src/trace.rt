@@ -4,7 +4,8 @@ ghost use Rattle.ngc_events.specs.declared.reply.Reply.TheVariants.{Ticked};
 ghost use Rattle.ngc_machine.specs.Ranges.{IsRate};
 ghost use Rattle.ngc_text.specs.Collected.{HasLineRoom};
 ghost use Rattle.ngc_pulses.specs.Dumping.{after_tick, tick_text};
-ghost use Rattle.ngc_run_log.specs.Tracing.{last_text, opening_text, ticks_of, trace_after, trace_of, trace_text};
+ghost use Rattle.ngc_run_log.specs.Tracing.{last_text, opening_text, ticks_of, trace_after};
+ghost use Rattle.ngc_run_log.specs.Tracing.{trace_of, trace_text};
 
 use crate::log_line::add_outcome;
 use ngc_events::{EventFault, Reply};

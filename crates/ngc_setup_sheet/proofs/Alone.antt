@@ -64,19 +64,22 @@ next_tool_warned s tools i t inside found =
 
 -- ---- three parts
 
-first_went : (s : Style) (old new : Option (List ℕ)) (before after : List ℕ) (a rest : List Line) → WritesFront old new (before ++ lines_text (chosen s a)) after
+first_went : (s : Style) (old new : Option (List ℕ)) (before after : List ℕ) (a rest : List Line) →
+    WritesFront old new (before ++ lines_text (chosen s a)) after
     → Ahead old new before after (chosen s rest) (chosen s (a ++ rest))
 first_went s old new before after a rest k =
     went old old new before before after (chosen s a) (chosen s rest) (chosen s (a ++ rest)) (chosen s (a ++ rest))
     (chosen-append s a rest) (begun old before (chosen s (a ++ rest))) k
 
-pub first_stopped : (s : Style) (old new : Option (List ℕ)) (before : List ℕ) (a rest : List Line) → AppendsBeginning old new (before ++ lines_text (chosen s a))
+pub first_stopped : (s : Style) (old new : Option (List ℕ)) (before : List ℕ) (a rest : List Line) →
+    AppendsBeginning old new (before ++ lines_text (chosen s a))
     → AppendsBeginning old new (before ++ lines_text (chosen s (a ++ rest)))
 first_stopped s old new before a rest k =
     stopped old old new before before (chosen s a) (chosen s rest) (chosen s (a ++ rest)) (chosen s (a ++ rest))
     (chosen-append s a rest) (begun old before (chosen s (a ++ rest))) k
 
-pub second_stopped : (s : Style) (old mid new : Option (List ℕ)) (before between : List ℕ) (a b rest : List Line) → WritesFront old mid (before ++ lines_text (chosen s a)) between
+pub second_stopped : (s : Style) (old mid new : Option (List ℕ)) (before between : List ℕ) (a b rest : List Line) →
+    WritesFront old mid (before ++ lines_text (chosen s a)) between
     → AppendsBeginning mid new (between ++ lines_text (chosen s b)) → AppendsBeginning old new (before ++ lines_text (chosen s (a ++ (b ++ rest))))
 second_stopped s old mid new before between a b rest h k =
     stopped old mid new before between (chosen s b) (chosen s rest) (chosen s (b ++ rest)) (chosen s (a ++ (b ++ rest)))

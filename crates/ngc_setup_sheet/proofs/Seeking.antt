@@ -37,9 +37,11 @@ behind_line-less (b ∷ bytes) h =
     let h : length (cond (b == 10) bytes (behind_line bytes)) ≤ length bytes = shorter (b == 10) bytes (behind_line bytes) (behind_line-length bytes) in
     omega arith
 
-pub quote_from-next : (header key : List ℕ) (ahead number : ℕ) (bytes line behind : List ℕ) (is : Seek) → 0 < length bytes → line ≡ line_of bytes → behind ≡ behind_line bytes
+pub quote_from-next : (header key : List ℕ) (ahead number : ℕ) (bytes line behind : List ℕ) (is : Seek) → 0 < length bytes → line ≡ line_of bytes →
+    behind ≡ behind_line bytes
     → is ≡ sought header key ahead line
-    → quote_from header key ahead number (lines_of bytes) ≡ found_or is (shown_line number line) (λ still. quote_from header key still (number + 1) (lines_of behind))
+    → quote_from header key ahead number (lines_of bytes) ≡ found_or is (shown_line number line)
+    (λ still. quote_from header key still (number + 1) (lines_of behind))
 quote_from-next header key ahead number bytes line behind is h l b s =
     ap (quote_from header key ahead number) (lines_of-split bytes h) ∙ rw (s, l, b) refl
 

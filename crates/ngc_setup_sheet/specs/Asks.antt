@@ -1,7 +1,10 @@
 -- What may be asked of a key, and whether a table meets it. Our own.
-use Rattle.std.specs.Prelude.{ℕ, ◌+◌, nat_le, ℤ, pos, negsuc, int_lt, List, [], ◌∷◌, take, Option, Some, None, is_some, is_none, Bool, true, false, ◌&&◌, ◌||◌, codes, if◌then◌else◌}
+use Rattle.std.specs.Prelude.{ℕ, ◌+◌, nat_le, ℤ, pos, negsuc, int_lt, List, [], ◌∷◌, take, Option}
+use Rattle.std.specs.Prelude.{Some, None, is_some, is_none, Bool, true, false, ◌&&◌, ◌||◌, codes}
+use Rattle.std.specs.Prelude.{if◌then◌else◌}
 use Rattle.std.specs.Ordering.{int_eq}
-use Rattle.toml.specs.Data.{Data, array, table, Items, no_items, item, Members, no_members, member, get, as_table}
+use Rattle.toml.specs.Data.{Data, array, table, Items, no_items, item, Members, no_members, member}
+use Rattle.toml.specs.Data.{get, as_table}
 use Rattle.ngc_machine.specs.declared.machine_contents.Coordinates.{Coordinates}
 use Rattle.ngc_machine.specs.MachineText.{is_at_most, is_below, is_on_grid}
 use Rattle.ngc_machine.specs.Numbers.{from_to}
@@ -39,18 +42,21 @@ is_three b value = passes (are_from b) (coordinates value)
 
 -- the three numbers under two keys
 abbrev pub related : (Coordinates → Coordinates → Bool) → List ℕ → List ℕ → Data → Bool
-related test key other tree = passes (λ p. passes (test p) (coordinates_at other tree)) (coordinates_at key tree)
+related test key other tree =
+    passes (λ p. passes (test p) (coordinates_at other tree)) (coordinates_at key tree)
 
 abbrev pub is_start_on_grid : Data → Bool
 is_start_on_grid tree =
-    passes (λ step. passes (λ start. int_lt (pos 0) step && is_on_grid step start) (coordinates_at (codes "start") tree)) (whole_at (codes "step") tree)
+    passes (λ step. passes (λ start. int_lt (pos 0) step && is_on_grid step start)
+    (coordinates_at (codes "start") tree)) (whole_at (codes "step") tree)
 
 -- ---- keys
 
 -- the first key that is none of these, of which 64 bytes are kept
 abbrev pub unknown_key : List (List ℕ) → Members → Option (List ℕ)
 unknown_key keys no_members = None
-unknown_key keys (member key value members) = if is_one_of keys key then unknown_key keys members else Some (take 64 key)
+unknown_key keys (member key value members) =
+    if is_one_of keys key then unknown_key keys members else Some (take 64 key)
 
 abbrev pub unknown_in : List (List ℕ) → Data → Option (List ℕ)
 unknown_in keys (table members) = unknown_key keys members
@@ -73,10 +79,12 @@ abbrev pub is_each : Each → Data → Bool
 is_each (each.Three b) value = is_three b value
 is_each each.Table value = is_some (as_table value)
 is_each (each.Part b) value =
-    is_none (unknown_in (codes "length" ∷ codes "radius" ∷ []) value) && is_whole b (codes "length") value && is_whole b (codes "radius") value
+    is_none (unknown_in (codes "length" ∷ codes "radius" ∷ []) value)
+    && is_whole b (codes "length") value && is_whole b (codes "radius") value
 
 abbrev pub is_array : ℕ → ℕ → Each → Data → Bool
-is_array least most e (array items) = from_to_count least most (item_count items) && all_items (is_each e) items
+is_array least most e (array items) =
+    from_to_count least most (item_count items) && all_items (is_each e) items
 is_array least most e _ = false
 
 -- it may be missing
@@ -88,7 +96,9 @@ is_array_at least most e (Some value) = is_array least most e value
 
 -- a number of the kind has any size
 abbrev pub bounds : Bool → ℤ → ℤ → Bounds
-bounds kind low high = if kind then record { low = negsuc 9223372036854775807; high = pos 9223372036854775807 } else record { low = low; high = high }
+bounds kind low high = if kind
+    then record { low = negsuc 9223372036854775807; high = pos 9223372036854775807 }
+    else record { low = low; high = high }
 
 -- and there are any number of tables
 abbrev pub least_count : Bool → ℕ → ℕ
@@ -101,15 +111,20 @@ abbrev pub is_met : Bool → Ask → List ℕ → Data → Bool
 is_met kind (asks.Whole low high) key tree = is_whole (bounds kind low high) key tree
 is_met kind (asks.Three low high) key tree = passes (is_three (bounds kind low high)) (get key tree)
 is_met kind asks.AxisRates key tree =
-    if is_second tree then passes (is_three (bounds kind (pos 1) (pos 1000000))) (get key tree) else is_none (get key tree)
-is_met kind asks.Origins key tree = is_array_at 9 9 (each.Three (bounds kind (negsuc 999999999) (pos 1000000000))) (get key tree)
-is_met kind (asks.Tables most) key tree = is_array_at 0 (most_count kind most) each.Table (get key tree)
+    if is_second tree then passes (is_three (bounds kind (pos 1) (pos 1000000))) (get key tree)
+    else is_none (get key tree)
+is_met kind asks.Origins key tree =
+    is_array_at 9 9 (each.Three (bounds kind (negsuc 999999999) (pos 1000000000))) (get key tree)
+is_met kind (asks.Tables most) key tree =
+    is_array_at 0 (most_count kind most) each.Table (get key tree)
 is_met kind asks.Parts key tree =
     is_some (get key tree) &&
-    is_array_at (least_count kind 1) (most_count kind 4) (each.Part (bounds kind (pos 0) (pos 1000000000))) (get key tree)
+    is_array_at (least_count kind 1) (most_count kind 4)
+    (each.Part (bounds kind (pos 0) (pos 1000000000))) (get key tree)
 is_met kind asks.AtMostHigh key tree = kind || related is_at_most (codes "low") (codes "high") tree
 is_met kind asks.BelowHigh key tree = kind || related is_below (codes "low") (codes "high") tree
 is_met kind asks.Within key tree =
     if kind then is_some (coordinates_at key tree)
-    else related is_at_most (codes "low") (codes "start") tree && related is_at_most (codes "start") (codes "high") tree
+    else related is_at_most (codes "low") (codes "start") tree
+    && related is_at_most (codes "start") (codes "high") tree
 is_met kind asks.OnGrid key tree = kind || is_start_on_grid tree

@@ -1,5 +1,7 @@
 -- The first mistake of a machine file or of a tool table. Our own.
-use Rattle.std.specs.Prelude.{ℕ, ◌+◌, ◌==◌, pos, negsuc, List, [], ◌∷◌, Option, Some, None, option_map, unwrap_or, is_some, Bool, true, false, not, ◌||◌, codes, if◌then◌else◌}
+use Rattle.std.specs.Prelude.{ℕ, ◌+◌, ◌==◌, pos, negsuc, List, [], ◌∷◌, Option, Some, None}
+use Rattle.std.specs.Prelude.{option_map, unwrap_or, is_some, Bool, true, false, not, ◌||◌, codes}
+use Rattle.std.specs.Prelude.{if◌then◌else◌}
 use Rattle.std.specs.List.{find}
 use Rattle.std.specs.Option.{option_or}
 use Rattle.std.specs.Ordering.{int_eq}
@@ -65,21 +67,26 @@ abbrev pub keys_of : Section → List (List ℕ)
 keys_of sections.Machine = codes "axis_rate" ∷ common_keys
 keys_of (sections.Fixture n) = codes "low" ∷ codes "high" ∷ []
 keys_of sections.Tools = codes "version" ∷ codes "tool" ∷ []
-keys_of (sections.FirstTool n) = codes "number" ∷ codes "length" ∷ codes "radius" ∷ codes "offset" ∷ []
-keys_of (sections.SecondTool n) = codes "number" ∷ codes "offset" ∷ codes "bottom" ∷ codes "parts" ∷ []
+keys_of (sections.FirstTool n) =
+    codes "number" ∷ codes "length" ∷ codes "radius" ∷ codes "offset" ∷ []
+keys_of (sections.SecondTool n) =
+    codes "number" ∷ codes "offset" ∷ codes "bottom" ∷ codes "parts" ∷ []
 
 -- ---- the first mistake of a table
 
 -- 269 asks each value to be of its kind, and each other fault what its own rows ask
 abbrev pub is_row_met : FileFault → Data → FileFault × Rule × Ask → Bool
 is_row_met faults.Document tree row = is_met true row.2 (key_text row.1) tree
-is_row_met fault tree row = not (number_of fault == number_of row.0) || is_met false row.2 (key_text row.1) tree
+is_row_met fault tree row =
+    not (number_of fault == number_of row.0) || is_met false row.2 (key_text row.1) tree
 
 abbrev pub unmet : FileFault → Data → List (FileFault × Rule × Ask) → Option Rule
-unmet fault tree rows = option_map (λ row. row.1) (find (λ row. not (is_row_met fault tree row)) rows)
+unmet fault tree rows =
+    option_map (λ row. row.1) (find (λ row. not (is_row_met fault tree row)) rows)
 
 abbrev pub complaint : Section → Data → Rule → Mistake
-complaint section tree rule = if is_some (get (key_text rule) tree) then mistakes.Refused section rule else mistakes.Missing section rule
+complaint section tree rule = if is_some (get (key_text rule) tree)
+    then mistakes.Refused section rule else mistakes.Missing section rule
 
 -- a key that is unknown goes first
 abbrev pub table_mistake : FileFault → Section → Data → Option Mistake
@@ -105,12 +112,15 @@ numbered section i = section
 -- numbered from i on
 abbrev pub first_in : FileFault → Section → ℕ → Items → Option Mistake
 first_in fault section i no_items = None
-first_in fault section i (item value items) = option_or (table_mistake fault (numbered section i) value) (first_in fault section (i + 1) items)
+first_in fault section i (item value items) =
+    option_or (table_mistake fault (numbered section i) value)
+    (first_in fault section (i + 1) items)
 
 -- both have the same number
 abbrev pub is_again : Data → Data → Bool
 is_again value other =
-    passes (λ number. passes (int_eq number) (whole_at (codes "number") other)) (whole_at (codes "number") value)
+    passes (λ number. passes (int_eq number) (whole_at (codes "number") other))
+    (whole_at (codes "number") value)
 
 abbrev pub stands_again : Data → Items → Bool
 stands_again value no_items = false
@@ -120,26 +130,30 @@ stands_again value (item other items) = is_again value other || stands_again val
 abbrev pub first_again : Section → ℕ → Items → Option Mistake
 first_again section i no_items = None
 first_again section i (item value items) =
-    if stands_again value items then Some (mistakes.Refused (numbered section i) rules.NumberOnce) else first_again section (i + 1) items
+    if stands_again value items then Some (mistakes.Refused (numbered section i) rules.NumberOnce)
+    else first_again section (i + 1) items
 
 -- ---- of a whole file
 
 abbrev pub machine_mistake_in : FileFault → Data → Mistake
 machine_mistake_in fault tree =
     unwrap_or
-    (option_or (table_mistake fault sections.Machine tree) (first_in fault (sections.Fixture 0) 0 (items_at (codes "fixture") tree)))
+    (option_or (table_mistake fault sections.Machine tree)
+    (first_in fault (sections.Fixture 0) 0 (items_at (codes "fixture") tree)))
     (mistakes.Other fault)
 
 abbrev pub first_tool : Data → Section
 first_tool tree = if is_second tree then sections.SecondTool 0 else sections.FirstTool 0
 
 abbrev pub tool_mistake : FileFault → Section → Items → Option Mistake
-tool_mistake fault section items = option_or (first_in fault section 0 items) (first_again section 0 items)
+tool_mistake fault section items =
+    option_or (first_in fault section 0 items) (first_again section 0 items)
 
 abbrev pub tools_mistake_in : FileFault → Data → Mistake
 tools_mistake_in fault tree =
     unwrap_or
-    (option_or (table_mistake fault sections.Tools tree) (tool_mistake fault (first_tool tree) (items_at (codes "tool") tree)))
+    (option_or (table_mistake fault sections.Tools tree)
+    (tool_mistake fault (first_tool tree) (items_at (codes "tool") tree)))
     (mistakes.Other fault)
 
 -- ---- of the bytes of a file

@@ -1,5 +1,6 @@
 -- The line of a file in which a key stands, as it is shown. Our own.
-use Rattle.std.specs.Prelude.{ℕ, ◌+◌, ◌-◌, ◌==◌, nat_eq, List, [], ◌∷◌, length, drop, codes, Bool, false, ◌&&◌, ◌||◌, if◌then◌else◌}
+use Rattle.std.specs.Prelude.{ℕ, ◌+◌, ◌-◌, ◌==◌, nat_eq, List, [], ◌∷◌, length, drop, codes, Bool}
+use Rattle.std.specs.Prelude.{false, ◌&&◌, ◌||◌, if◌then◌else◌}
 use Rattle.std.specs.List.{starts_with}
 use Rattle.ngc_text.specs.Shown.{shown_line}
 use Rattle.ngc_setup_sheet.specs.declared.quoted.Seek.{Seek}
@@ -60,7 +61,8 @@ found_or (seeks.Ahead ahead) here behind = behind ahead
 abbrev pub quote_from : List ℕ → List ℕ → ℕ → ℕ → List (List ℕ) → List ℕ
 quote_from header key ahead number [] = []
 quote_from header key ahead number (line ∷ lines) =
-    found_or (sought header key ahead line) (shown_line number line) (λ still. quote_from header key still (number + 1) lines)
+    found_or (sought header key ahead line) (shown_line number line)
+    (λ still. quote_from header key still (number + 1) lines)
 
 -- ---- the line of a key in a table
 
@@ -80,4 +82,5 @@ headers (sections.FirstTool n) = n + 1
 headers (sections.SecondTool n) = n + 1
 
 abbrev pub quote_of : Section → List ℕ → List ℕ → List ℕ
-quote_of section key bytes = quote_from (header_text section) key (headers section) 1 (lines_of bytes)
+quote_of section key bytes =
+    quote_from (header_text section) key (headers section) 1 (lines_of bytes)

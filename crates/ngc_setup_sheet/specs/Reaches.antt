@@ -1,5 +1,6 @@
 -- How far the tools of a table reach. Our own.
-use Rattle.std.specs.Prelude.{◌≤◌, ℤ, pos, ◌+ℤ◌, ◌-ℤ◌, int_le, unsigned_abs, List, [], ◌∷◌, Bool, ◌||◌}
+use Rattle.std.specs.Prelude.{◌≤◌, ℤ, pos, ◌+ℤ◌, ◌-ℤ◌, int_le, unsigned_abs, List, [], ◌∷◌, Bool}
+use Rattle.std.specs.Prelude.{◌||◌}
 use Rattle.std.specs.Int.{int_min, int_max}
 use Rattle.ngc_machine.specs.Machine.{MachineFile}
 use Rattle.ngc_machine.specs.declared.machine.Fixture.{Fixture}

@@ -1,13 +1,16 @@
 -- What a setup sheet tells of a machine and of its tools. Our own.
-use Rattle.std.specs.Prelude.{ℕ, ◌+◌, min, ℤ, pos, ◌+ℤ◌, ◌*ℤ◌, List, [], ◌∷◌, ◌++◌, map, filter, flat_map, Bool, true, false, if◌then◌else◌}
+use Rattle.std.specs.Prelude.{ℕ, ◌+◌, min, ℤ, pos, ◌+ℤ◌, ◌*ℤ◌, List, [], ◌∷◌, ◌++◌, map, filter}
+use Rattle.std.specs.Prelude.{flat_map, Bool, true, false, if◌then◌else◌}
 use Rattle.ngc_machine.specs.Machine.{MachineFile}
 use Rattle.ngc_machine.specs.declared.machine.Fixture.{Fixture}
 use Rattle.ngc_machine.specs.declared.parts.Part.{Part}
 use Rattle.ngc_machine.specs.declared.tools.Tool.{Tool}
-use Rattle.ngc_setup_sheet.specs.Figures.{steps_a_millimetre, millimetres_a_minute, acceleration, arc_acceleration}
+use Rattle.ngc_setup_sheet.specs.Figures.{steps_a_millimetre, millimetres_a_minute, acceleration}
+use Rattle.ngc_setup_sheet.specs.Figures.{arc_acceleration}
 use Rattle.ngc_setup_sheet.specs.Reaches.{reach_of, is_out_of_reach}
 use Rattle.ngc_setup_sheet.specs.Spelling.{lines_text}
-use Rattle.ngc_setup_sheet.specs.Warnings.{is_odd_speed, is_odd_acceleration, is_short_travel, is_thin, is_short_tool, is_odd_offset}
+use Rattle.ngc_setup_sheet.specs.Warnings.{is_odd_speed, is_odd_acceleration, is_short_travel}
+use Rattle.ngc_setup_sheet.specs.Warnings.{is_thin, is_short_tool, is_odd_offset}
 use Rattle.ngc_setup_sheet.specs.declared.line.Axis.TheVariants as axes
 use Rattle.ngc_setup_sheet.specs.declared.line.Fact.{Fact}
 use Rattle.ngc_setup_sheet.specs.declared.line.Fact.TheVariants as facts
@@ -33,7 +36,8 @@ axis_speed m rate = millimetres_a_minute m (min m.max_rate rate)
 
 abbrev pub machine_facts : MachineFile → List Line
 machine_facts m =
-    lines.Machine ∷ lines.Fact facts.Step (figures.Length m.step) ∷ lines.Fact facts.Steps (figures.PerMillimetre (steps_a_millimetre m)) ∷
+    lines.Machine ∷ lines.Fact facts.Step (figures.Length m.step)
+    ∷ lines.Fact facts.Steps (figures.PerMillimetre (steps_a_millimetre m)) ∷
     lines.Fact facts.Ticks (figures.PerSecond m.ticks_per_second) ∷
     lines.Fact facts.GreatestSpeed (figures.Speed (millimetres_a_minute m m.max_rate)) ∷
     lines.Fact facts.CornerSpeed (figures.Speed (millimetres_a_minute m m.corner)) ∷
@@ -45,14 +49,18 @@ machine_facts m =
 
 abbrev pub machine_places : MachineFile → List Line
 machine_places m =
-    from (facts.Travel axes.X) m.low.x m.high.x ∷ from (facts.Travel axes.Y) m.low.y m.high.y ∷ from (facts.Travel axes.Z) m.low.z m.high.z ∷
-    lines.Fact facts.Start (figures.Place m.start) ∷ lines.Fact facts.Home (figures.Place m.home28) ∷
+    from (facts.Travel axes.X) m.low.x m.high.x ∷ from (facts.Travel axes.Y) m.low.y m.high.y
+    ∷ from (facts.Travel axes.Z) m.low.z m.high.z ∷
+    lines.Fact facts.Start (figures.Place m.start)
+    ∷ lines.Fact facts.Home (figures.Place m.home28) ∷
     lines.Fact facts.SecondHome (figures.Place m.home30) ∷ []
 
 abbrev pub machine_warnings : MachineFile → List Line
 machine_warnings m =
-    warned (is_odd_speed m) warnings.Speed ++ (warned (is_odd_acceleration m) warnings.Acceleration ++
-    (warned (is_short_travel m.low.x m.high.x) (warnings.Travel axes.X) ++ (warned (is_short_travel m.low.y m.high.y) (warnings.Travel axes.Y) ++
+    warned (is_odd_speed m) warnings.Speed
+    ++ (warned (is_odd_acceleration m) warnings.Acceleration ++
+    (warned (is_short_travel m.low.x m.high.x) (warnings.Travel axes.X)
+    ++ (warned (is_short_travel m.low.y m.high.y) (warnings.Travel axes.Y) ++
     warned (is_short_travel m.low.z m.high.z) (warnings.Travel axes.Z))))
 
 unfoldable pub machine_lines : MachineFile → List Line
@@ -62,12 +70,15 @@ machine_lines m = machine_facts m ++ (machine_places m ++ machine_warnings m)
 
 abbrev pub fixture_facts : ℕ → Fixture → List Line
 fixture_facts i f =
-    lines.Fixture i ∷ from (facts.Extent axes.X) f.low.x f.high.x ∷ from (facts.Extent axes.Y) f.low.y f.high.y ∷
+    lines.Fixture i ∷ from (facts.Extent axes.X) f.low.x f.high.x
+    ∷ from (facts.Extent axes.Y) f.low.y f.high.y ∷
     from (facts.Extent axes.Z) f.low.z f.high.z ∷ []
 
 abbrev pub fixture_lines : MachineFile → Reach → ℕ → Fixture → List Line
 fixture_lines m r i f =
-    fixture_facts i f ++ (warned (is_thin f) (warnings.Thin i) ++ warned (is_out_of_reach m r f) (warnings.OutOfReach i))
+    fixture_facts i f
+    ++ (warned (is_thin f) (warnings.Thin i)
+    ++ warned (is_out_of_reach m r f) (warnings.OutOfReach i))
 
 -- numbered from i on
 abbrev pub fixtures_from : MachineFile → Reach → ℕ → List Fixture → List Line
@@ -79,7 +90,8 @@ fixtures_from m r i (f ∷ fs) = fixture_lines m r i f ++ fixtures_from m r (i +
 -- the parts of which the lowest stands on this height: each stands on the one before
 abbrev pub part_line : ℤ → Part → Line
 part_line foot part =
-    lines.Fact facts.Part (figures.Part (record { low = foot; high = foot +ℤ part.length }) (pos 2 *ℤ part.radius))
+    lines.Fact facts.Part
+    (figures.Part (record { low = foot; high = foot +ℤ part.length }) (pos 2 *ℤ part.radius))
 
 abbrev pub part_lines : ℤ → List Part → List Line
 part_lines foot [] = []
@@ -91,12 +103,14 @@ tool_facts t = lines.Tool t.number ∷ lines.Fact facts.Offset (figures.Length t
 abbrev pub tool_lines : Tool → List Line
 tool_lines t =
     tool_facts t ++ (part_lines t.bottom t.parts ++
-    (warned (is_short_tool t) (warnings.Short t.number) ++ warned (is_odd_offset t) (warnings.Offset t.number)))
+    (warned (is_short_tool t) (warnings.Short t.number)
+    ++ warned (is_odd_offset t) (warnings.Offset t.number)))
 
 -- ---- the whole sheet
 
 abbrev pub sheet : MachineFile → List Tool → List Line
-sheet m tools = machine_lines m ++ (fixtures_from m (reach_of tools) 0 m.fixtures ++ flat_map tool_lines tools)
+sheet m tools =
+    machine_lines m ++ (fixtures_from m (reach_of tools) 0 m.fixtures ++ flat_map tool_lines tools)
 
 -- its text
 abbrev pub sheet_text : MachineFile → List Tool → List ℕ

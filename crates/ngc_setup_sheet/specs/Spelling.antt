@@ -1,5 +1,6 @@
 -- How the lines of a setup sheet are spelled. Our own.
-use Rattle.std.specs.Prelude.{ℕ, ◌*◌, ◌/◌, ◌%◌, ◌-ℤ◌, unsigned_abs, List, ◌++◌, flat_map, codes, decimal}
+use Rattle.std.specs.Prelude.{ℕ, ◌*◌, ◌/◌, ◌%◌, ◌-ℤ◌, unsigned_abs, List, ◌++◌, flat_map, codes}
+use Rattle.std.specs.Prelude.{decimal}
 use Rattle.ngc_fixed_length.specs.declared.points.Point3.{Point3}
 use Rattle.ngc_text.specs.Millimetres.{number_text, size_text, length_text, mm_text}
 use Rattle.ngc_setup_sheet.specs.declared.line.Axis.TheVariants as axes
@@ -17,10 +18,12 @@ abbrev pub thousandths_text : ℕ → List ℕ
 thousandths_text n = number_text (n / 1000) (1000 * (n % 1000))
 
 abbrev pub span_text : Span → List ℕ
-span_text s = length_text s.low ++ codes " to " ++ length_text s.high ++ codes " mm, " ++ size_text (unsigned_abs (s.high -ℤ s.low)) ++ codes " mm long"
+span_text s = length_text s.low ++ codes " to " ++ length_text s.high ++ codes " mm, "
+    ++ size_text (unsigned_abs (s.high -ℤ s.low)) ++ codes " mm long"
 
 abbrev pub place_text : Point3 → List ℕ
-place_text p = codes "X " ++ length_text p.x ++ codes " Y " ++ length_text p.y ++ codes " Z " ++ mm_text p.z
+place_text p =
+    codes "X " ++ length_text p.x ++ codes " Y " ++ length_text p.y ++ codes " Z " ++ mm_text p.z
 
 unfoldable pub fact_text : Fact → List ℕ
 fact_text facts.Step = codes "  step                  "
@@ -61,10 +64,14 @@ warning_text warnings.Acceleration = codes "the acceleration is not from 1 to 20
 warning_text (warnings.Travel axes.X) = codes "the travel on X is less than 10 mm"
 warning_text (warnings.Travel axes.Y) = codes "the travel on Y is less than 10 mm"
 warning_text (warnings.Travel axes.Z) = codes "the travel on Z is less than 10 mm"
-warning_text (warnings.Thin n) = codes "fixture " ++ decimal n ++ codes " is thinner than 0.1 mm: its corners are in nanometres"
-warning_text (warnings.OutOfReach n) = codes "fixture " ++ decimal n ++ codes " is where no tool reaches"
-warning_text (warnings.Short n) = codes "tool " ++ decimal n ++ codes " is shorter than 1 mm: lengths are in nanometres"
-warning_text (warnings.Offset n) = codes "tool " ++ decimal n ++ codes " has an offset of more than twice or less than half its length"
+warning_text (warnings.Thin n) = codes "fixture " ++ decimal n
+    ++ codes " is thinner than 0.1 mm: its corners are in nanometres"
+warning_text (warnings.OutOfReach n) =
+    codes "fixture " ++ decimal n ++ codes " is where no tool reaches"
+warning_text (warnings.Short n) = codes "tool " ++ decimal n
+    ++ codes " is shorter than 1 mm: lengths are in nanometres"
+warning_text (warnings.Offset n) = codes "tool " ++ decimal n
+    ++ codes " has an offset of more than twice or less than half its length"
 
 -- an object of a JSON document, behind a comma and a line feed. A JSON string has its characters as
 -- they are but for quotation marks, backslashes and control characters, which it escapes (RFC

@@ -8,11 +8,13 @@ use Rattle.ngc_setup_sheet.specs.Reaches.{top_of}
 
 -- the greatest speed is below 0.1 mm/s or above 1,000 mm/s
 abbrev pub is_odd_speed : MachineFile → Bool
-is_odd_speed m = nat_lt (speed m m.max_rate) 100000000000 || nat_lt 1000000000000000 (speed m m.max_rate)
+is_odd_speed m =
+    nat_lt (speed m m.max_rate) 100000000000 || nat_lt 1000000000000000 (speed m m.max_rate)
 
 -- the acceleration is below 1 mm/s² or above 20,000 mm/s²
 abbrev pub is_odd_acceleration : MachineFile → Bool
-is_odd_acceleration m = nat_lt (gain m m.change) 1000000000000 || nat_lt 20000000000000000 (gain m m.change)
+is_odd_acceleration m =
+    nat_lt (gain m m.change) 1000000000000 || nat_lt 20000000000000000 (gain m m.change)
 
 -- from one coordinate to another it is less than so many nanometres
 abbrev pub is_shorter : ℤ → ℤ → ℤ → Bool
@@ -25,7 +27,8 @@ is_short_travel low high = is_shorter (pos 10000000) low high
 -- on some axis a fixture is thinner than 0.1 mm
 abbrev pub is_thin : Fixture → Bool
 is_thin f =
-    is_shorter (pos 100000) f.low.x f.high.x || (is_shorter (pos 100000) f.low.y f.high.y || is_shorter (pos 100000) f.low.z f.high.z)
+    is_shorter (pos 100000) f.low.x f.high.x
+    || (is_shorter (pos 100000) f.low.y f.high.y || is_shorter (pos 100000) f.low.z f.high.z)
 
 -- how long the body of a tool is
 abbrev pub body_length : Tool → ℤ
@@ -37,4 +40,5 @@ is_short_tool t = int_lt (body_length t) (pos 1000000)
 
 -- the offset is more than twice the body's length, or less than half of it
 abbrev pub is_odd_offset : Tool → Bool
-is_odd_offset t = int_lt (pos 2 *ℤ body_length t) t.offset || int_lt (pos 2 *ℤ t.offset) (body_length t)
+is_odd_offset t =
+    int_lt (pos 2 *ℤ body_length t) t.offset || int_lt (pos 2 *ℤ t.offset) (body_length t)

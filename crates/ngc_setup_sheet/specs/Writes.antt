@@ -10,7 +10,8 @@ use Rattle.ngc_setup_sheet.specs.declared.writer.Style.TheVariants as styles
 
 -- the text of lines comes behind what was collected; where a write fails, a beginning of both is
 -- written
-abbrev pub Writes : Option (List ℕ) → Option (List ℕ) → List ℕ → List ℕ → Result (Unit {0}) WriteFault → List Line → Type 0
+abbrev pub Writes : Option (List ℕ) → Option (List ℕ) → List ℕ → List ℕ →
+    Result (Unit {0}) WriteFault → List Line → Type 0
 Writes old new before after result told = Collects old new before after result (lines_text told)
 
 -- a line in a style

@@ -3,7 +3,9 @@ ghost use Rattle.std.specs.Prelude.{◌≡◌, ◌≤◌, ◌<◌, ◌*◌, ◌^
 ghost use Rattle.ngc_fixed_length.specs.Length.{IsStep};
 ghost use Rattle.ngc_machine.specs.Machine.{file_of};
 ghost use Rattle.ngc_machine.specs.Ranges.{IsRate};
-ghost use Rattle.ngc_setup_sheet.specs.Figures.{rounded, step_speed, speed, gain, millimetres_a_minute, acceleration, arc_acceleration, steps_a_millimetre};
+ghost use Rattle.ngc_setup_sheet.specs.Figures.{rounded, step_speed, speed, gain};
+ghost use Rattle.ngc_setup_sheet.specs.Figures.{millimetres_a_minute, acceleration};
+ghost use Rattle.ngc_setup_sheet.specs.Figures.{arc_acceleration, steps_a_millimetre};
 
 use ngc_fixed_length::Nm;
 use ngc_machine::Machine;

@@ -5,7 +5,10 @@ ghost use Rattle.ngc_machine.specs.Machine.{file_of};
 ghost use Rattle.ngc_machine.specs.Ranges.{IsRate};
 ghost use Rattle.ngc_setup_sheet.specs.Reaches.{IsReach};
 ghost use Rattle.ngc_setup_sheet.specs.declared.line.Figure.TheVariants as figures;
-ghost use Rattle.ngc_setup_sheet.specs.Sheets.{warned, from, axis_speed, machine_facts, machine_places, machine_warnings, machine_lines, fixture_facts, fixture_lines, part_line, part_lines, tool_facts, tool_lines};
+ghost use Rattle.ngc_setup_sheet.specs.Sheets.{warned, from, axis_speed, machine_facts};
+ghost use Rattle.ngc_setup_sheet.specs.Sheets.{machine_places, machine_warnings, machine_lines};
+ghost use Rattle.ngc_setup_sheet.specs.Sheets.{fixture_facts, fixture_lines, part_line, part_lines};
+ghost use Rattle.ngc_setup_sheet.specs.Sheets.{tool_facts, tool_lines};
 
 use crate::figures::{acceleration, arc_acceleration, millimetres_a_minute, steps_a_millimetre};
 use crate::line::{Axis, Fact, Figure, Line, Span, Warning};

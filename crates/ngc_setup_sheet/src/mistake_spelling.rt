@@ -3,7 +3,8 @@ ghost use Rattle.std.specs.Prelude.{◌≡◌, ◌+◌, ◌≤◌, ◌++◌, cod
 ghost use Rattle.ngc_machine.specs.Faults.{number_of};
 ghost use Rattle.ngc_text.specs.Collected.{CHUNK_SIZE};
 ghost use Rattle.ngc_setup_sheet.specs.Keys.{key_text};
-ghost use Rattle.ngc_setup_sheet.specs.MistakeTexts.{asked_text, known_text, section_text, sentence_text, mistake_text};
+ghost use Rattle.ngc_setup_sheet.specs.MistakeTexts.{asked_text, known_text, section_text};
+ghost use Rattle.ngc_setup_sheet.specs.MistakeTexts.{sentence_text, mistake_text};
 ghost use Rattle.ngc_setup_sheet.specs.Quoted.{quote_of};
 
 use crate::mistake::{Mistake, Rule, Section};
@@ -126,7 +127,9 @@ fn add_sentence(chunk: &mut Chunk, section: Section, key: &[u8], said: &[u8], as
 
 fn add_unknown(chunk: &mut Chunk, section: Section, key: &[u8], bytes: &[u8])
     requires { length chunk.old + 1100 ≤ CHUNK_SIZE }
-    ensures { chunk.new ≡ chunk.old ++ (sentence_text section key.now (codes "unknown. ") (known_text section) ++ quote_of section key.now bytes.now) }
+    ensures { chunk.new ≡ chunk.old
+        ++ (sentence_text section key.now (codes "unknown. ") (known_text section)
+        ++ quote_of section key.now bytes.now) }
 {
     add_sentence(chunk, section, key, b"unknown. ", known(section));
     add_quote(chunk, section, key, bytes);
@@ -134,7 +137,9 @@ fn add_unknown(chunk: &mut Chunk, section: Section, key: &[u8], bytes: &[u8])
 
 fn add_refused(chunk: &mut Chunk, section: Section, rule: Rule, bytes: &[u8])
     requires { length chunk.old + 1100 ≤ CHUNK_SIZE }
-    ensures { chunk.new ≡ chunk.old ++ (sentence_text section (key_text rule) (codes "refused. ") (asked_text rule) ++ quote_of section (key_text rule) bytes.now) }
+    ensures { chunk.new ≡ chunk.old
+        ++ (sentence_text section (key_text rule) (codes "refused. ") (asked_text rule)
+        ++ quote_of section (key_text rule) bytes.now) }
 {
     let key = key(rule).as_bytes();
     add_sentence(chunk, section, key, b"refused. ", asked(rule));

@@ -5,7 +5,8 @@ ghost use Rattle.toml.specs.Errors.{IsBlank};
 ghost use Rattle.toml.specs.View.{view};
 ghost use Rattle.ngc_text.specs.Failures.{CountsFailure};
 ghost use Rattle.ngc_text.specs.Written.{AppendsBeginning};
-ghost use Rattle.ngc_setup_sheet.specs.Mistakes.{machine_mistake_in, tools_mistake_in, in_document, machine_mistake_text, tools_mistake_text};
+ghost use Rattle.ngc_setup_sheet.specs.Mistakes.{machine_mistake_in, tools_mistake_in, in_document};
+ghost use Rattle.ngc_setup_sheet.specs.Mistakes.{machine_mistake_text, tools_mistake_text};
 
 use crate::mistake::Mistake;
 use crate::mistake_spelling::text;
@@ -44,10 +45,16 @@ pub fn write_machine_mistake<W: Sink>(
     fault: FileFault,
     sink: &mut W,
 ) -> Result<(), WriteFault>
-    ensures ok { OnOk result (Appends (W.written sink.old) (W.written sink.new) (machine_mistake_text bytes.now fault) ⊎ Keeps (W.written sink.old) (W.written sink.new)) }
-    ensures fault { OnErr result (AppendsBeginning (W.written sink.old) (W.written sink.new) (machine_mistake_text bytes.now fault)) }
+    ensures ok { OnOk result
+        (Appends (W.written sink.old) (W.written sink.new) (machine_mistake_text bytes.now fault) ⊎
+        Keeps (W.written sink.old) (W.written sink.new)) }
+    ensures fault { OnErr result
+        (AppendsBeginning (W.written sink.old) (W.written sink.new)
+        (machine_mistake_text bytes.now fault)) }
     // A file of white space and comments alone takes no memory.
-    ensures blank { IsBlank bytes.now → OnOk result (Appends (W.written sink.old) (W.written sink.new) (machine_mistake_text bytes.now fault)) }
+    ensures blank { IsBlank bytes.now →
+        OnOk result (Appends (W.written sink.old) (W.written sink.new)
+        (machine_mistake_text bytes.now fault)) }
     ensures counts { CountsFailure (W.failures sink.old) (W.failures sink.new) result }
 {
     match read_tree(alloc, bytes) {
@@ -64,9 +71,15 @@ pub fn write_tools_mistake<W: Sink>(
     fault: FileFault,
     sink: &mut W,
 ) -> Result<(), WriteFault>
-    ensures ok { OnOk result (Appends (W.written sink.old) (W.written sink.new) (tools_mistake_text bytes.now fault) ⊎ Keeps (W.written sink.old) (W.written sink.new)) }
-    ensures fault { OnErr result (AppendsBeginning (W.written sink.old) (W.written sink.new) (tools_mistake_text bytes.now fault)) }
-    ensures blank { IsBlank bytes.now → OnOk result (Appends (W.written sink.old) (W.written sink.new) (tools_mistake_text bytes.now fault)) }
+    ensures ok { OnOk result
+        (Appends (W.written sink.old) (W.written sink.new) (tools_mistake_text bytes.now fault) ⊎
+        Keeps (W.written sink.old) (W.written sink.new)) }
+    ensures fault { OnErr result
+        (AppendsBeginning (W.written sink.old) (W.written sink.new)
+        (tools_mistake_text bytes.now fault)) }
+    ensures blank { IsBlank bytes.now →
+        OnOk result (Appends (W.written sink.old) (W.written sink.new)
+        (tools_mistake_text bytes.now fault)) }
     ensures counts { CountsFailure (W.failures sink.old) (W.failures sink.new) result }
 {
     match read_tree(alloc, bytes) {

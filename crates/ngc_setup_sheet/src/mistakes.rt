@@ -2,7 +2,10 @@
 ghost use Rattle.std.specs.Prelude.{◌≡◌};
 ghost use Rattle.toml.specs.View.{view, items_view};
 ghost use Rattle.ngc_setup_sheet.specs.Asks.{unknown_in};
-ghost use Rattle.ngc_setup_sheet.specs.Mistakes.{keys_of, complaint, table_mistake, items_at, numbered, first_in, is_again, stands_again, first_again, machine_mistake_in, first_tool, tool_mistake, tools_mistake_in};
+ghost use Rattle.ngc_setup_sheet.specs.Mistakes.{keys_of, complaint, table_mistake, items_at};
+ghost use Rattle.ngc_setup_sheet.specs.Mistakes.{numbered, first_in, is_again, stands_again};
+ghost use Rattle.ngc_setup_sheet.specs.Mistakes.{first_again, machine_mistake_in, first_tool};
+ghost use Rattle.ngc_setup_sheet.specs.Mistakes.{tool_mistake, tools_mistake_in};
 
 use crate::mistake::{Mistake, Rule, Section, Word};
 use crate::rows::{key, unmet};

@@ -1,7 +1,9 @@
 //! The line of a file in which a key stands.
 ghost use Rattle.std.specs.Prelude.{◌≡◌, ◌+◌, ◌≤◌, ◌++◌, length};
 ghost use Rattle.ngc_text.specs.Collected.{CHUNK_SIZE};
-ghost use Rattle.ngc_setup_sheet.specs.Quoted.{line_of, behind_line, lines_of, unindented, ends_key, begins, gives, sought, quote_from, header_text, headers, quote_of};
+ghost use Rattle.ngc_setup_sheet.specs.Quoted.{line_of, behind_line, lines_of, unindented};
+ghost use Rattle.ngc_setup_sheet.specs.Quoted.{ends_key, begins, gives, sought, quote_from};
+ghost use Rattle.ngc_setup_sheet.specs.Quoted.{header_text, headers, quote_of};
 
 use crate::mistake::Section;
 use ngc_text::Chunk;
@@ -80,7 +82,8 @@ fn sought(header: &[u8], key: &[u8], ahead: u128, line: &[u8]) -> Seek
 
 fn add_quote_from(chunk: &mut Chunk, header: &[u8], key: &[u8], headers: u128, bytes: &[u8])
     requires { length chunk.old + 400 ≤ CHUNK_SIZE }
-    ensures { chunk.new ≡ chunk.old ++ quote_from header.now key.now headers 1 (lines_of bytes.now) }
+    ensures { chunk.new ≡ chunk.old ++ quote_from header.now key.now headers 1
+        (lines_of bytes.now) }
 {
     let mut ahead = headers;
     let mut number = 1;

@@ -2,7 +2,8 @@
 ghost use Rattle.std.specs.Prelude.{◌≡◌, ◌≤◌, ◌+◌, ◌+ℤ◌, ◌-ℤ◌, ◌||◌, unsigned_abs, int_le};
 ghost use Rattle.std.specs.Int.{int_min, int_max};
 ghost use Rattle.ngc_machine.specs.Machine.{file_of};
-ghost use Rattle.ngc_setup_sheet.specs.Reaches.{IsReach, top_of, widest, nothing, with_tool, reach_of, is_beyond, is_out_of_reach};
+ghost use Rattle.ngc_setup_sheet.specs.Reaches.{IsReach, top_of, widest, nothing, with_tool};
+ghost use Rattle.ngc_setup_sheet.specs.Reaches.{reach_of, is_beyond, is_out_of_reach};
 
 use ngc_fixed_length::Nm;
 use ngc_machine::{Fixture, Machine, Part, Parts, Tool};
@@ -120,7 +121,8 @@ fn is_beyond(low: i64, high: i64, other_low: Nm, other_high: Nm) -> bool
 
 fn is_beside(low: Nm, high: Nm, reach: &Reach, other_low: Nm, other_high: Nm) -> bool
     requires { IsReach reach.now }
-    ensures { result ≡ is_beyond (low -ℤ reach.now.radius) (high +ℤ reach.now.radius) other_low other_high }
+    ensures { result ≡ is_beyond (low -ℤ reach.now.radius)
+        (high +ℤ reach.now.radius) other_low other_high }
 {
     is_beyond(
         lowered(low, reach.radius),
@@ -132,7 +134,8 @@ fn is_beside(low: Nm, high: Nm, reach: &Reach, other_low: Nm, other_high: Nm) ->
 
 fn is_above_or_below(low: Nm, high: Nm, reach: &Reach, other_low: Nm, other_high: Nm) -> bool
     requires { IsReach reach.now }
-    ensures { result ≡ is_beyond (low +ℤ reach.now.bottom) (high +ℤ reach.now.top) other_low other_high }
+    ensures { result ≡ is_beyond (low +ℤ reach.now.bottom)
+        (high +ℤ reach.now.top) other_low other_high }
 {
     is_beyond(
         raised(low, reach.bottom),

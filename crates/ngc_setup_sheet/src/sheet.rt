@@ -5,7 +5,8 @@ ghost use Rattle.ngc_text.specs.Failures.{CountsFailure};
 ghost use Rattle.ngc_text.specs.Written.{AppendsBeginning};
 ghost use Rattle.ngc_machine.specs.Machine.{file_of};
 ghost use Rattle.ngc_setup_sheet.specs.Reaches.{IsReach};
-ghost use Rattle.ngc_setup_sheet.specs.Sheets.{fixture_lines, fixtures_from, tool_lines, sheet, sheet_text};
+ghost use Rattle.ngc_setup_sheet.specs.Sheets.{fixture_lines, fixtures_from, tool_lines, sheet};
+ghost use Rattle.ngc_setup_sheet.specs.Sheets.{sheet_text};
 ghost use Rattle.ngc_setup_sheet.specs.Writes.{Writes};
 
 use crate::lines::{fixture_lines, machine_lines, tool_lines};
@@ -22,7 +23,8 @@ fn write_fixtures<A: Allocator, W: Sink>(
     sink: &mut W,
 ) -> Result<(), WriteFault>
     requires { IsReach reach.now }
-    ensures written { Writes (W.written sink.old) (W.written sink.new) chunk.old chunk.new result (fixtures_from (file_of machine.now) reach.now 0 (file_of machine.now).fixtures) }
+    ensures written { Writes (W.written sink.old) (W.written sink.new) chunk.old chunk.new result
+        (fixtures_from (file_of machine.now) reach.now 0 (file_of machine.now).fixtures) }
     ensures counts { CountsFailure (W.failures sink.old) (W.failures sink.new) result }
 {
     for (i, fixture) in machine.fixtures.as_slice().iter().enumerate() {
@@ -36,7 +38,8 @@ fn write_fixtures<A: Allocator, W: Sink>(
 }
 
 fn write_tools<W: Sink>(chunk: &mut Chunk, tools: &[Tool], sink: &mut W) -> Result<(), WriteFault>
-    ensures written { Writes (W.written sink.old) (W.written sink.new) chunk.old chunk.new result (flat_map tool_lines tools.now) }
+    ensures written { Writes (W.written sink.old) (W.written sink.new) chunk.old chunk.new result
+        (flat_map tool_lines tools.now) }
     ensures counts { CountsFailure (W.failures sink.old) (W.failures sink.new) result }
 {
     for tool in tools {
@@ -55,7 +58,8 @@ fn write_all<A: Allocator, W: Sink>(
     tools: &[Tool],
     sink: &mut W,
 ) -> Result<(), WriteFault>
-    ensures written { Writes (W.written sink.old) (W.written sink.new) chunk.old chunk.new result (sheet (file_of machine.now) tools.now) }
+    ensures written { Writes (W.written sink.old) (W.written sink.new) chunk.old chunk.new result
+        (sheet (file_of machine.now) tools.now) }
     ensures counts { CountsFailure (W.failures sink.old) (W.failures sink.new) result }
 {
     let lines = machine_lines(machine);
@@ -81,8 +85,12 @@ pub fn write_sheet<A: Allocator, W: Sink>(
     tools: &[Tool],
     sink: &mut W,
 ) -> Result<(), WriteFault>
-    ensures ok { OnOk result (Appends (W.written sink.old) (W.written sink.new) (sheet_text (file_of machine.now) tools.now)) }
-    ensures fault { OnErr result (AppendsBeginning (W.written sink.old) (W.written sink.new) (sheet_text (file_of machine.now) tools.now)) }
+    ensures ok { OnOk result
+        (Appends (W.written sink.old) (W.written sink.new)
+        (sheet_text (file_of machine.now) tools.now)) }
+    ensures fault { OnErr result
+        (AppendsBeginning (W.written sink.old) (W.written sink.new)
+        (sheet_text (file_of machine.now) tools.now)) }
     ensures counts { CountsFailure (W.failures sink.old) (W.failures sink.new) result }
 {
     let mut chunk = Chunk::new();

@@ -2,7 +2,9 @@
 ghost use Rattle.std.specs.Prelude.{◌≡◌, ◌+◌, ◌≤◌, ◌++◌, codes, decimal, length};
 ghost use Rattle.ngc_text.specs.Collected.{CHUNK_SIZE, HasLineRoom};
 ghost use Rattle.ngc_text.specs.Millimetres.{mm_text};
-ghost use Rattle.ngc_setup_sheet.specs.Spelling.{thousandths_text, span_text, place_text, fact_text, figure_text, warning_text, warning_object, line_text};
+ghost use Rattle.ngc_setup_sheet.specs.Spelling.{thousandths_text, span_text, place_text};
+ghost use Rattle.ngc_setup_sheet.specs.Spelling.{fact_text, figure_text, warning_text};
+ghost use Rattle.ngc_setup_sheet.specs.Spelling.{warning_object, line_text};
 
 use crate::line::{Axis, Fact, Figure, Line, Span, Warning};
 use itoa::Integer;
@@ -75,7 +77,8 @@ fn fact(fact: &Fact) -> &'static [u8]
 
 fn add_part(chunk: &mut Chunk, heights: &Span, diameter: i64)
     requires { length chunk.old + 230 ≤ CHUNK_SIZE }
-    ensures text { chunk.new ≡ chunk.old ++ (span_text heights.now ++ codes ", diameter " ++ mm_text diameter) }
+    ensures text { chunk.new ≡ chunk.old
+        ++ (span_text heights.now ++ codes ", diameter " ++ mm_text diameter) }
     ensures short { length chunk.new ≤ length chunk.old + 230 }
 {
     add_span(chunk, heights);
@@ -164,7 +167,8 @@ fn add_warning(chunk: &mut Chunk, warning: &Warning)
 /// Adds a line that tells a fact.
 fn add_fact(chunk: &mut Chunk, told: &Fact, figure: &Figure)
     requires { HasLineRoom chunk.old }
-    ensures { chunk.new ≡ chunk.old ++ (fact_text told.now ++ figure_text figure.now ++ codes "\n") }
+    ensures { chunk.new ≡ chunk.old
+        ++ (fact_text told.now ++ figure_text figure.now ++ codes "\n") }
 {
     chunk.add_text(fact(told));
     add_figure(chunk, figure);
@@ -173,7 +177,8 @@ fn add_fact(chunk: &mut Chunk, told: &Fact, figure: &Figure)
 
 fn add_warned(chunk: &mut Chunk, warning: &Warning)
     requires { HasLineRoom chunk.old }
-    ensures { chunk.new ≡ chunk.old ++ (codes "warning: " ++ warning_text warning.now ++ codes "\n") }
+    ensures { chunk.new ≡ chunk.old
+        ++ (codes "warning: " ++ warning_text warning.now ++ codes "\n") }
 {
     chunk.add_text(b"warning: ");
     add_warning(chunk, warning);

@@ -6,7 +6,10 @@ ghost use Rattle.toml.specs.Data.{get, array};
 ghost use Rattle.toml.specs.View.{view, items_view, table_view};
 ghost use Rattle.ngc_machine.specs.MachineText.{is_at_most, is_below};
 ghost use Rattle.ngc_machine.specs.Tree.{is_one_of};
-ghost use Rattle.ngc_setup_sheet.specs.Asks.{passes, is_from, is_whole, is_second, are_from, is_three, related, all_items, unknown_key, unknown_in, from_to_count, is_each, is_array, is_array_at, bounds, least_count, most_count, is_start_on_grid, is_met};
+ghost use Rattle.ngc_setup_sheet.specs.Asks.{passes, is_from, is_whole, is_second, are_from};
+ghost use Rattle.ngc_setup_sheet.specs.Asks.{is_three, related, all_items, unknown_key, unknown_in};
+ghost use Rattle.ngc_setup_sheet.specs.Asks.{from_to_count, is_each, is_array, is_array_at, bounds};
+ghost use Rattle.ngc_setup_sheet.specs.Asks.{least_count, most_count, is_start_on_grid, is_met};
 ghost use Rattle.ngc_setup_sheet.specs.declared.mistake.Ask.TheVariants as asks;
 ghost use Rattle.ngc_setup_sheet.specs.declared.mistake.Each.TheVariants as each;
 
@@ -100,7 +103,9 @@ fn is_start_on_grid(tree: &Value) -> bool
 }
 
 fn first_other<'t>(table: &'t Table, keys: &[&str]) -> Option<&'t String>
-    ensures { option_map (λ k. k.now) result ≡ find (λ k. not (is_one_of (map (λ k. k.now) keys.entry.now) (string_bytes k))) (keys_of table.now.entries) }
+    ensures { option_map (λ k. k.now) result
+        ≡ find (λ k. not (is_one_of (map (λ k. k.now) keys.entry.now) (string_bytes k)))
+        (keys_of table.now.entries) }
 {
     table.keys().find(|key| !is_one_of(key.as_str(), keys))
 }

@@ -5,7 +5,8 @@ ghost use Rattle.ngc_text.specs.Failures.{CountsFailure};
 ghost use Rattle.ngc_text.specs.Written.{AppendsBeginning};
 ghost use Rattle.ngc_machine.specs.Machine.{file_of};
 ghost use Rattle.ngc_setup_sheet.specs.Reaches.{IsReach};
-ghost use Rattle.ngc_setup_sheet.specs.Sheets.{fixtures_from, tool_lines, sheet, warnings_text, warning_facts};
+ghost use Rattle.ngc_setup_sheet.specs.Sheets.{fixtures_from, tool_lines, sheet, warnings_text};
+ghost use Rattle.ngc_setup_sheet.specs.Sheets.{warning_facts};
 ghost use Rattle.ngc_setup_sheet.specs.Writes.{Writes, chosen};
 
 use crate::lines::{fixture_lines, machine_lines, tool_lines};
@@ -23,7 +24,9 @@ fn warn_of_fixtures<A: Allocator, W: Sink>(
     sink: &mut W,
 ) -> Result<(), WriteFault>
     requires { IsReach reach.now }
-    ensures written { Writes (W.written sink.old) (W.written sink.new) chunk.old chunk.new result (chosen style (fixtures_from (file_of machine.now) reach.now 0 (file_of machine.now).fixtures)) }
+    ensures written { Writes (W.written sink.old) (W.written sink.new) chunk.old chunk.new result
+        (chosen style
+        (fixtures_from (file_of machine.now) reach.now 0 (file_of machine.now).fixtures)) }
     ensures counts { CountsFailure (W.failures sink.old) (W.failures sink.new) result }
 {
     for (i, fixture) in machine.fixtures.as_slice().iter().enumerate() {
@@ -42,7 +45,8 @@ fn warn_of_tools<W: Sink>(
     tools: &[Tool],
     sink: &mut W,
 ) -> Result<(), WriteFault>
-    ensures written { Writes (W.written sink.old) (W.written sink.new) chunk.old chunk.new result (chosen style (flat_map tool_lines tools.now)) }
+    ensures written { Writes (W.written sink.old) (W.written sink.new) chunk.old chunk.new result
+        (chosen style (flat_map tool_lines tools.now)) }
     ensures counts { CountsFailure (W.failures sink.old) (W.failures sink.new) result }
 {
     for tool in tools {
@@ -62,7 +66,8 @@ fn warn_of_all<A: Allocator, W: Sink>(
     tools: &[Tool],
     sink: &mut W,
 ) -> Result<(), WriteFault>
-    ensures written { Writes (W.written sink.old) (W.written sink.new) chunk.old chunk.new result (chosen style (sheet (file_of machine.now) tools.now)) }
+    ensures written { Writes (W.written sink.old) (W.written sink.new) chunk.old chunk.new result
+        (chosen style (sheet (file_of machine.now) tools.now)) }
     ensures counts { CountsFailure (W.failures sink.old) (W.failures sink.new) result }
 {
     let lines = machine_lines(machine);
@@ -87,8 +92,12 @@ pub fn write_warnings<A: Allocator, W: Sink>(
     tools: &[Tool],
     sink: &mut W,
 ) -> Result<(), WriteFault>
-    ensures ok { OnOk result (Appends (W.written sink.old) (W.written sink.new) (warnings_text (file_of machine.now) tools.now)) }
-    ensures fault { OnErr result (AppendsBeginning (W.written sink.old) (W.written sink.new) (warnings_text (file_of machine.now) tools.now)) }
+    ensures ok { OnOk result
+        (Appends (W.written sink.old) (W.written sink.new)
+        (warnings_text (file_of machine.now) tools.now)) }
+    ensures fault { OnErr result
+        (AppendsBeginning (W.written sink.old) (W.written sink.new)
+        (warnings_text (file_of machine.now) tools.now)) }
     ensures counts { CountsFailure (W.failures sink.old) (W.failures sink.new) result }
 {
     let mut chunk = Chunk::new();
@@ -109,8 +118,12 @@ pub fn write_warning_facts<A: Allocator, W: Sink>(
     tools: &[Tool],
     sink: &mut W,
 ) -> Result<(), WriteFault>
-    ensures ok { OnOk result (Appends (W.written sink.old) (W.written sink.new) (warning_facts (file_of machine.now) tools.now)) }
-    ensures fault { OnErr result (AppendsBeginning (W.written sink.old) (W.written sink.new) (warning_facts (file_of machine.now) tools.now)) }
+    ensures ok { OnOk result
+        (Appends (W.written sink.old) (W.written sink.new)
+        (warning_facts (file_of machine.now) tools.now)) }
+    ensures fault { OnErr result
+        (AppendsBeginning (W.written sink.old) (W.written sink.new)
+        (warning_facts (file_of machine.now) tools.now)) }
     ensures counts { CountsFailure (W.failures sink.old) (W.failures sink.new) result }
 {
     let mut chunk = Chunk::new();

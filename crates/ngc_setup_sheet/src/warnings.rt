@@ -1,7 +1,8 @@
 //! What looks wrong in a machine file or in a tool table.
 ghost use Rattle.std.specs.Prelude.{◌≡◌, ◌||◌};
 ghost use Rattle.ngc_machine.specs.Machine.{file_of};
-ghost use Rattle.ngc_setup_sheet.specs.Warnings.{is_odd_speed, is_odd_acceleration, is_shorter, is_thin, is_short_tool, is_odd_offset};
+ghost use Rattle.ngc_setup_sheet.specs.Warnings.{is_odd_speed, is_odd_acceleration, is_shorter};
+ghost use Rattle.ngc_setup_sheet.specs.Warnings.{is_thin, is_short_tool, is_odd_offset};
 
 use crate::figures::{gain, speed};
 use crate::reach::top_of;

@@ -21,7 +21,8 @@ pub(crate) enum Style {
 }
 
 fn write_line<W: Sink>(chunk: &mut Chunk, line: &Line, sink: &mut W) -> Result<(), WriteFault>
-    ensures text { Collects (W.written sink.old) (W.written sink.new) chunk.old chunk.new result (line_text line.now) }
+    ensures text { Collects (W.written sink.old) (W.written sink.new) chunk.old chunk.new result
+        (line_text line.now) }
     ensures counts { CountsFailure (W.failures sink.old) (W.failures sink.new) result }
 {
     match chunk.make_room(sink) {
@@ -38,7 +39,8 @@ pub(crate) fn write_lines<W: Sink>(
     lines: &[Line],
     sink: &mut W,
 ) -> Result<(), WriteFault>
-    ensures written { Writes (W.written sink.old) (W.written sink.new) chunk.old chunk.new result lines.now }
+    ensures written { Writes (W.written sink.old)
+        (W.written sink.new) chunk.old chunk.new result lines.now }
     ensures counts { CountsFailure (W.failures sink.old) (W.failures sink.new) result }
 {
     for line in lines {
@@ -91,7 +93,8 @@ fn write_if_warning<W: Sink>(
     line: &Line,
     sink: &mut W,
 ) -> Result<(), WriteFault>
-    ensures written { Writes (W.written sink.old) (W.written sink.new) chunk.old chunk.new result (chosen style (line.now ∷ [])) }
+    ensures written { Writes (W.written sink.old) (W.written sink.new) chunk.old chunk.new result
+        (chosen style (line.now ∷ [])) }
     ensures counts { CountsFailure (W.failures sink.old) (W.failures sink.new) result }
 {
     if is_warning(line) {
@@ -108,7 +111,8 @@ pub(crate) fn write_warning_lines<W: Sink>(
     lines: &[Line],
     sink: &mut W,
 ) -> Result<(), WriteFault>
-    ensures written { Writes (W.written sink.old) (W.written sink.new) chunk.old chunk.new result (chosen style lines.now) }
+    ensures written { Writes (W.written sink.old) (W.written sink.new) chunk.old chunk.new result
+        (chosen style lines.now) }
     ensures counts { CountsFailure (W.failures sink.old) (W.failures sink.new) result }
 {
     for line in lines {

@@ -1,5 +1,6 @@
 -- What drawing a program comes to, from what its parts come to.
-use Rattle.std.proofs.Common.{◌≡◌, ℕ, ◌-◌, arith, List, [], ◌∷◌, ◌++◌, length, take, drop, Option, Some, None, Bool, Result, Ok, Err, IfSome, ap, refl, subst, sym, ◌∙◌}
+use Rattle.std.proofs.Common.{◌≡◌, ℕ, ◌-◌, arith, List, [], ◌∷◌, ◌++◌, length, take, drop, Option, Some, None, Bool, Result, Ok, Err, IfSome, ap, refl, subst}
+use Rattle.std.proofs.Common.{sym, ◌∙◌}
 use Rattle.std.specs.Prelude.{MatchOption, option_map, min}
 use Rattle.std.proofs.lemmas.List.{take_all, take_min, drop_min, length-drop}
 use Rattle.ngc_fixed_length.specs.Grid.{grid}
@@ -28,7 +29,8 @@ use Rattle.ngc_drawing.specs.declared.fault.DrawFault.TheVariants.{Memory, Write
 use Rattle.ngc_drawing.specs.declared.refusal.Refusal.{Refusal}
 use Rattle.ngc_drawing.specs.declared.view.View.{View}
 use Rattle.ngc_simulator.specs.Answers.{DrawsFrom, certificate_input, certificate_inputs, draw_inputs, program_input}
-use Rattle.ngc_simulator.specs.Drawing.{Draws, DrawsGiven, DrawsProgram, IsGivenRefusal, IsMadeRefusal, behind, fault_at, met_at, met_first, refusal_answer, setting_of, start_of}
+use Rattle.ngc_simulator.specs.Drawing.{Draws, DrawsGiven, DrawsProgram, IsGivenRefusal, IsMadeRefusal, behind, fault_at, met_at, met_first, refusal_answer}
+use Rattle.ngc_simulator.specs.Drawing.{setting_of, start_of}
 use Rattle.ngc_simulator.specs.Faults.{of_picture}
 use Rattle.ngc_simulator.specs.Lists.{IsMeaning, IsRefused}
 use Rattle.ngc_simulator.specs.Setups.{FileBytes, KeepsFiles, KeepsNamed}
@@ -68,9 +70,11 @@ refused_program setup bytes block_delete text fault is_text have fails = record 
 }
 
 -- the picture of commands that were handed on as a slice
-pub drawn : (setup : Setup) (bytes : List ℕ) (block_delete : Bool) (view : View) (entries : List Entry) (IsShown : List Command → Option Refusal → Type 0) (old new : Option (List ℕ))
+pub drawn : (setup : Setup) (bytes : List ℕ) (block_delete : Bool) (view : View) (entries : List Entry) (IsShown : List Command → Option Refusal → Type 0)
+    (old new : Option (List ℕ))
     (text : ProgramText) (commands given shown : List Command) (found : List Entry) (refusal : Option Refusal)
-    → given ≡ commands → shown ≡ commands → found ≡ entries → program_of bytes ≡ Ok text → HaveReadings text.lines → Means text setup block_delete (Ok commands) → IsShown given refusal
+    → given ≡ commands → shown ≡ commands → found ≡ entries → program_of bytes ≡ Ok text → HaveReadings text.lines →
+    Means text setup block_delete (Ok commands) → IsShown given refusal
     → Appends old new (picture_text view setup.machine shown found refusal) → Draws setup bytes block_delete view entries IsShown old new (Ok tt)
 drawn setup bytes block_delete view entries IsShown old new text commands given shown found refusal same same_shown same_found is_text have means shows wrote = (
   picture_text view setup.machine shown found refusal,
@@ -85,25 +89,31 @@ drawn setup bytes block_delete view entries IsShown old new text commands given 
 )
 
 -- and a beginning of it, or nothing where memory ran out
-pub drawing_stopped : (setup : Setup) (bytes : List ℕ) (block_delete : Bool) (view : View) (entries : List Entry) (IsShown : List Command → Option Refusal → Type 0) (old new : Option (List ℕ))
+pub drawing_stopped : (setup : Setup) (bytes : List ℕ) (block_delete : Bool) (view : View) (entries : List Entry)
+    (IsShown : List Command → Option Refusal → Type 0) (old new : Option (List ℕ))
     (text : ProgramText) (commands given shown : List Command) (found : List Entry) (refusal : Option Refusal) (fault : DrawFault)
-    → given ≡ commands → shown ≡ commands → found ≡ entries → program_of bytes ≡ Ok text → HaveReadings text.lines → Means text setup block_delete (Ok commands) → IsShown given refusal
+    → given ≡ commands → shown ≡ commands → found ≡ entries → program_of bytes ≡ Ok text → HaveReadings text.lines →
+    Means text setup block_delete (Ok commands) → IsShown given refusal
     → AppendsBeginning old new (picture_text view setup.machine shown found refusal) → (fault ≡ Memory → Keeps old new)
     → Draws setup bytes block_delete view entries IsShown old new (Err (of_picture fault))
-drawing_stopped setup bytes block_delete view entries IsShown old new text commands given shown found refusal Memory same same_shown same_found is_text have means shows wrote keeps = keeps refl
-drawing_stopped setup bytes block_delete view entries IsShown old new text commands given shown found refusal Write same same_shown same_found is_text have means shows wrote keeps = (
-  picture_text view setup.machine shown found refusal,
-  record {
-    commands = commands;
-    meaning = is_meaning setup bytes block_delete text (Ok commands) is_text have means;
-    refusal = refusal;
-    shows = subst (λ cs. IsShown cs refusal) same shows;
-    draws = ap (λ cs. picture_text view setup.machine cs found refusal) same_shown ∙ ap (λ es. picture_text view setup.machine commands es refusal) same_found;
-  },
-  wrote,
-)
+drawing_stopped setup bytes block_delete view entries IsShown old new text commands given shown found refusal Memory same same_shown same_found is_text have
+    means shows wrote keeps = keeps refl
+drawing_stopped setup bytes block_delete view entries IsShown old new text commands given shown found refusal Write same same_shown same_found is_text have
+    means shows wrote keeps = (
+      picture_text view setup.machine shown found refusal,
+      record {
+        commands = commands;
+        meaning = is_meaning setup bytes block_delete text (Ok commands) is_text have means;
+        refusal = refusal;
+        shows = subst (λ cs. IsShown cs refusal) same shows;
+        draws =
+            ap (λ cs. picture_text view setup.machine cs found refusal) same_shown ∙ ap (λ es. picture_text view setup.machine commands es refusal) same_found;
+      },
+      wrote,
+    )
 
-pub no_memory : (setup : Setup) (bytes : List ℕ) (block_delete : Bool) (view : View) (entries : List Entry) (IsShown : List Command → Option Refusal → Type 0) (known : Option (List ℕ)) (fault : DrawFault)
+pub no_memory : (setup : Setup) (bytes : List ℕ) (block_delete : Bool) (view : View) (entries : List Entry) (IsShown : List Command → Option Refusal → Type 0)
+    (known : Option (List ℕ)) (fault : DrawFault)
     → fault ≡ Memory → Draws setup bytes block_delete view entries IsShown known known (Err (of_picture fault))
 no_memory setup bytes block_delete view entries IsShown known Memory is = keeps_same known
 no_memory setup bytes block_delete view entries IsShown known Write is = cc
@@ -119,10 +129,12 @@ met_later machine cs k at place fixture found reached is_place met none is_at is
     ∙ ap (λ n. met_first machine (behind (start_of machine) (take n cs)) (drop n cs)) is_at
     ∙ ap (λ (l : List Command). met_first machine (behind (start_of machine) l) (drop (min k (length cs)) cs)) (take_min k cs)
     ∙ ap (λ (l : List Command). met_first machine (behind (start_of machine) (take k cs)) l) (drop_min k cs)
-    ∙ ap (λ (o : Option ℕ). o or met_first machine (behind (start_of machine) (take k cs)) (drop k cs)) (sym none ∙ met ∙ ap (place_fault machine None) is_place)
+    ∙ ap (λ (o : Option ℕ). o or met_first machine (behind (start_of machine) (take k cs)) (drop k cs))
+    (sym none ∙ met ∙ ap (place_fault machine None) is_place)
 
 -- a command that isn't cleared, with the fixture that is met there
-pub made_refusal_of : {X : Type 0} (view : X → CertificateData) (machine : MachineFile) (commands : List Command) (fault : MakeFault) (s : Setting) (k : ℕ) (fixture : Option ℕ)
+pub made_refusal_of : {X : Type 0} (view : X → CertificateData) (machine : MachineFile) (commands : List Command) (fault : MakeFault) (s : Setting) (k : ℕ)
+    (fixture : Option ℕ)
     → fault ≡ NotCleared s k → GivesMade view (Err fault) (IsMade machine 8 commands commands) → fixture ≡ met_at machine commands k
     → IsMadeRefusal machine commands (Some (record { command = k; fault = 304; fixture = fixture }))
 made_refusal_of view machine commands fault s k fixture is made met =
@@ -130,7 +142,8 @@ made_refusal_of view machine commands fault s k fixture is made met =
 
 -- ---- with a certificate
 
-pub given_fault : (setup : Setup) (bytes given_text : List ℕ) (block_delete : Bool) (view : View) (known : Option (List ℕ)) (text : ProgramText) (commands given : List Command)
+pub given_fault : (setup : Setup) (bytes given_text : List ℕ) (block_delete : Bool) (view : View) (known : Option (List ℕ)) (text : ProgramText)
+    (commands given : List Command)
     (c : CertificateData) (fault : CheckFault)
     → given ≡ commands → program_of bytes ≡ Ok text → HaveReadings text.lines → Means text setup block_delete (Ok commands) → certificate_said given_text ≡ Ok c
     → Err fault ≡ refusal_answer (fault_at setup.machine (setting_of block_delete) given c)
@@ -146,8 +159,10 @@ given_fault setup bytes given_text block_delete view known text commands given c
   keeps_same known,
 )
 
-pub given_stopped : (setup : Setup) (bytes text : List ℕ) (block_delete : Bool) (view : View) (old new : Option (List ℕ)) (c : CertificateData) (fault : DrawFault) → certificate_said text ≡ Ok c
-    → Draws setup bytes block_delete view (entries_at (setting_of block_delete) c) (IsGivenRefusal setup.machine (setting_of block_delete) c) old new (Err (of_picture fault))
+pub given_stopped : (setup : Setup) (bytes text : List ℕ) (block_delete : Bool) (view : View) (old new : Option (List ℕ)) (c : CertificateData)
+    (fault : DrawFault) → certificate_said text ≡ Ok c
+    → Draws setup bytes block_delete view (entries_at (setting_of block_delete) c) (IsGivenRefusal setup.machine (setting_of block_delete) c) old new
+    (Err (of_picture fault))
     → DrawsGiven setup bytes text block_delete view old new (Err (of_picture fault))
 given_stopped setup bytes text block_delete view old new c Memory said draws = (c, said, draws)
 given_stopped setup bytes text block_delete view old new c Write said draws = (c, said, draws)
@@ -160,7 +175,8 @@ From bytes options view old new outcome setup text named =
     IfSome (bytes (Some name)) (λ given. DrawsGiven setup text given options.delete view old new outcome))
 
 -- where no certificate is named
-pub plain_files : (bytes after : FileBytes) (options : DrawOptions) (view : View) (shop : Shop) (old new : Option (List ℕ)) (outcome : Result (Unit {0}) AnswerFault) (P : List ℕ → Type 0)
+pub plain_files : (bytes after : FileBytes) (options : DrawOptions) (view : View) (shop : Shop) (old new : Option (List ℕ))
+    (outcome : Result (Unit {0}) AnswerFault) (P : List ℕ → Type 0)
     → option_map (λ n. n.now) options.certificate ≡ None
     → GivesShop bytes (Some options.machine.now) (Some options.tools.now) (Ok shop) → KeepsFiles bytes after
     → IfSome (after (option_map (λ n. n.now) options.program)) P
@@ -169,17 +185,22 @@ pub plain_files : (bytes after : FileBytes) (options : DrawOptions) (view : View
 unfolding From
 plain_files bytes after options view shop old new outcome P is_none said keeps p on =
     on_setup bytes (Some options.machine.now) (Some options.tools.now) (setup_of shop.machine shop.tools)
-    (λ setup. IfSome (bytes (option_map (λ n. n.now) options.program)) (λ text. From bytes options view old new outcome setup text (option_map (λ n. n.now) options.certificate)))
+    (λ setup. IfSome (bytes (option_map (λ n. n.now) options.program))
+    (λ text. From bytes options view old new outcome setup text (option_map (λ n. n.now) options.certificate)))
     said.0 said.1
-    (subst (λ (named : Option (List ℕ)). IfSome (bytes (option_map (λ n. n.now) options.program)) (λ text. From bytes options view old new outcome (setup_of shop.machine shop.tools) text named)) (sym is_none)
-    (subst (λ (k : Option (List ℕ)). IfSome k (λ text. DrawsProgram (setup_of shop.machine shop.tools) text options.delete view old new outcome)) (keeps (option_map (λ n. n.now) options.program)) (on_known _ p)))
+    (subst (λ (named : Option (List ℕ)). IfSome (bytes (option_map (λ n. n.now) options.program))
+    (λ text. From bytes options view old new outcome (setup_of shop.machine shop.tools) text named)) (sym is_none)
+    (subst (λ (k : Option (List ℕ)). IfSome k (λ text. DrawsProgram (setup_of shop.machine shop.tools) text options.delete view old new outcome))
+    (keeps (option_map (λ n. n.now) options.program)) (on_known _ p)))
   where
-    on_known : (known : Option (List ℕ)) → IfSome known P → IfSome known (λ text. DrawsProgram (setup_of shop.machine shop.tools) text options.delete view old new outcome)
+    on_known : (known : Option (List ℕ)) → IfSome known P →
+        IfSome known (λ text. DrawsProgram (setup_of shop.machine shop.tools) text options.delete view old new outcome)
     on_known None q = tt
     on_known (Some a) q = on a q
 
 -- where one is
-pub given_files : (bytes after later : FileBytes) (options : DrawOptions) (name : List ℕ) (view : View) (shop : Shop) (old new : Option (List ℕ)) (outcome : Result (Unit {0}) AnswerFault) (P Q : List ℕ → Type 0)
+pub given_files : (bytes after later : FileBytes) (options : DrawOptions) (name : List ℕ) (view : View) (shop : Shop) (old new : Option (List ℕ))
+    (outcome : Result (Unit {0}) AnswerFault) (P Q : List ℕ → Type 0)
     → option_map (λ n. n.now) options.certificate ≡ Some name
     → GivesShop bytes (Some options.machine.now) (Some options.tools.now) (Ok shop) → KeepsFiles bytes after → KeepsNamed after later
     → IfSome (after (option_map (λ n. n.now) options.program)) P → IfSome (later (Some name)) Q
@@ -188,16 +209,21 @@ pub given_files : (bytes after later : FileBytes) (options : DrawOptions) (name 
 unfolding From
 given_files bytes after later options name view shop old new outcome P Q is_some said keeps named p q on =
     on_setup bytes (Some options.machine.now) (Some options.tools.now) (setup_of shop.machine shop.tools)
-    (λ setup. IfSome (bytes (option_map (λ n. n.now) options.program)) (λ text. From bytes options view old new outcome setup text (option_map (λ n. n.now) options.certificate)))
+    (λ setup. IfSome (bytes (option_map (λ n. n.now) options.program))
+    (λ text. From bytes options view old new outcome setup text (option_map (λ n. n.now) options.certificate)))
     said.0 said.1
-    (subst (λ (given : Option (List ℕ)). IfSome (bytes (option_map (λ n. n.now) options.program)) (λ text. From bytes options view old new outcome (setup_of shop.machine shop.tools) text given)) (sym is_some)
+    (subst (λ (given : Option (List ℕ)). IfSome (bytes (option_map (λ n. n.now) options.program))
+    (λ text. From bytes options view old new outcome (setup_of shop.machine shop.tools) text given)) (sym is_some)
     (on_two_files _ _ _ _ P Q (λ a b. DrawsGiven (setup_of shop.machine shop.tools) a b options.delete view old new outcome)
     (keeps (option_map (λ n. n.now) options.program)) (named name ∙ keeps (Some name)) on p q))
 
 -- ---- which file isn't read
 
 pub with_certificate : (P : List Input → Type 0) (options : DrawOptions) (view : View) (name : List ℕ) → option_map (λ n. n.now) options.certificate ≡ Some name
-    → P (shop_inputs (Some options.machine.now) (Some options.tools.now) ++ program_input (option_map (λ n. n.now) options.program) ∷ certificate_input name ∷ [])
+    → P (shop_inputs (Some options.machine.now) (Some options.tools.now) ++ program_input (option_map (λ n. n.now) options.program)
+    ∷ certificate_input name ∷ [])
     → P (draw_inputs options (Some view))
 with_certificate P options view name is p =
-    subst (λ (named : Option (List ℕ)). P (shop_inputs (Some options.machine.now) (Some options.tools.now) ++ program_input (option_map (λ n. n.now) options.program) ∷ certificate_inputs named)) (sym is) p
+    subst (λ (named : Option (List ℕ)).
+    P (shop_inputs (Some options.machine.now) (Some options.tools.now) ++ program_input (option_map (λ n. n.now) options.program)
+    ∷ certificate_inputs named)) (sym is) p

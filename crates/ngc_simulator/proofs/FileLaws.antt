@@ -26,21 +26,28 @@ or_of_reading Of (answers.Read e) of = tt
 or_of_reading Of (answers.Certificate e) of = tt
 or_of_reading Of _ of = of
 
-pub listed : (bytes after : FileBytes) (options : ListOptions) (shop : Shop) (source : Option (List ℕ)) (old new : Option (List ℕ)) (outcome : Result (Unit {0}) AnswerFault)
+pub listed : (bytes after : FileBytes) (options : ListOptions) (shop : Shop) (source : Option (List ℕ)) (old new : Option (List ℕ))
+    (outcome : Result (Unit {0}) AnswerFault)
     → GivesShop bytes (option_map (λ n. n.now) options.machine) (option_map (λ n. n.now) options.tools) (Ok shop) → KeepsFiles bytes after
     → source ≡ after (option_map (λ n. n.now) options.program)
     → IfSome source (λ text. Lists (setup_of shop.machine shop.tools) text options.delete old new outcome) → ListsOn bytes options old new outcome
 listed bytes after options shop source old new outcome said keeps is lists =
-    on_setup bytes _ _ (setup_of shop.machine shop.tools) (λ setup. IfSome (bytes (option_map (λ n. n.now) options.program)) (λ text. Lists setup text options.delete old new outcome))
-    said.0 said.1 (of_file _ source (λ text. Lists (setup_of shop.machine shop.tools) text options.delete old new outcome) (is ∙ keeps (option_map (λ n. n.now) options.program)) lists)
+    on_setup bytes _ _ (setup_of shop.machine shop.tools)
+    (λ setup. IfSome (bytes (option_map (λ n. n.now) options.program)) (λ text. Lists setup text options.delete old new outcome))
+    said.0 said.1 (of_file _ source (λ text. Lists (setup_of shop.machine shop.tools) text options.delete old new outcome)
+    (is ∙ keeps (option_map (λ n. n.now) options.program)) lists)
 
-pub certified_files : (bytes after : FileBytes) (options : CertifyOptions) (shop : Shop) (source : Option (List ℕ)) (old new : Option (List ℕ)) (outcome : Result (Unit {0}) AnswerFault)
+pub certified_files : (bytes after : FileBytes) (options : CertifyOptions) (shop : Shop) (source : Option (List ℕ)) (old new : Option (List ℕ))
+    (outcome : Result (Unit {0}) AnswerFault)
     → GivesShop bytes (Some options.machine.now) (Some options.tools.now) (Ok shop) → KeepsFiles bytes after
     → source ≡ after (option_map (λ n. n.now) options.program)
-    → IfSome source (λ text. Certifies (setup_of shop.machine shop.tools) text options.cuts options.format old new outcome) → CertifiesOn bytes options old new outcome
+    → IfSome source (λ text. Certifies (setup_of shop.machine shop.tools) text options.cuts options.format old new outcome) →
+    CertifiesOn bytes options old new outcome
 certified_files bytes after options shop source old new outcome said keeps is certifies =
-    on_setup bytes (Some options.machine.now) (Some options.tools.now) (setup_of shop.machine shop.tools) (λ setup. IfSome (bytes (option_map (λ n. n.now) options.program)) (λ text. Certifies setup text options.cuts options.format old new outcome))
-    said.0 said.1 (of_file _ source (λ text. Certifies (setup_of shop.machine shop.tools) text options.cuts options.format old new outcome) (is ∙ keeps (option_map (λ n. n.now) options.program)) certifies)
+    on_setup bytes (Some options.machine.now) (Some options.tools.now) (setup_of shop.machine shop.tools)
+    (λ setup. IfSome (bytes (option_map (λ n. n.now) options.program)) (λ text. Certifies setup text options.cuts options.format old new outcome))
+    said.0 said.1 (of_file _ source (λ text. Certifies (setup_of shop.machine shop.tools) text options.cuts options.format old new outcome)
+    (is ∙ keeps (option_map (λ n. n.now) options.program)) certifies)
 
 -- of two files, where the second is opened after the first
 both_files : (bytes : FileBytes) (first second : Option (List ℕ)) (known source : Option (List ℕ)) (P : List ℕ → List ℕ → Type 0)
@@ -48,17 +55,20 @@ both_files : (bytes : FileBytes) (first second : Option (List ℕ)) (known sourc
 both_files bytes first second known source P is_first is_second p =
     of_file first known (λ text. IfSome second (P text)) is_first (subst (λ (k : Option (List ℕ)). IfSome known (λ text. IfSome k (P text))) is_second p)
 
-pub checked_files : (bytes after later : FileBytes) (options : CheckOptions) (shop : Shop) (known source : Option (List ℕ)) (old new : Option (List ℕ)) (outcome : Result (Unit {0}) AnswerFault)
+pub checked_files : (bytes after later : FileBytes) (options : CheckOptions) (shop : Shop) (known source : Option (List ℕ)) (old new : Option (List ℕ))
+    (outcome : Result (Unit {0}) AnswerFault)
     → GivesShop bytes (Some options.machine.now) (Some options.tools.now) (Ok shop) → KeepsFiles bytes after → KeepsNamed after later
     → known ≡ after (option_map (λ n. n.now) options.program) → source ≡ later (Some options.certificate.now)
     → IfSome known (λ text. IfSome source (λ certificate. Checks (setup_of shop.machine shop.tools) text certificate old new outcome))
     → ChecksOn bytes options old new outcome
 checked_files bytes after later options shop known source old new outcome said keeps named is_program is_certificate on_both =
     on_setup bytes (Some options.machine.now) (Some options.tools.now) (setup_of shop.machine shop.tools)
-    (λ setup. IfSome (bytes (option_map (λ n. n.now) options.program)) (λ text. IfSome (bytes (Some options.certificate.now)) (λ certificate. Checks setup text certificate old new outcome)))
+    (λ setup. IfSome (bytes (option_map (λ n. n.now) options.program))
+    (λ text. IfSome (bytes (Some options.certificate.now)) (λ certificate. Checks setup text certificate old new outcome)))
     said.0 said.1
     (both_files bytes _ _ known source (λ text certificate. Checks (setup_of shop.machine shop.tools) text certificate old new outcome)
-    (is_program ∙ keeps (option_map (λ n. n.now) options.program)) (is_certificate ∙ named options.certificate.now ∙ keeps (Some options.certificate.now)) on_both)
+    (is_program ∙ keeps (option_map (λ n. n.now) options.program))
+    (is_certificate ∙ named options.certificate.now ∙ keeps (Some options.certificate.now)) on_both)
 
 pub all_known : (known : Option (List ℕ)) (P : List ℕ → Type 0) → ((bytes : List ℕ) → P bytes) → IfSome known P
 all_known None P on = tt
@@ -71,8 +81,10 @@ pub unread_files : (bytes after : FileBytes) (options : CheckOptions) (shop : Sh
     → IfSome source (λ text. FaultIs fault (program_of text)) → ChecksOn bytes options known known (Err (answers.Read fault))
 unread_files bytes after options shop source known fault said keeps is unread =
     on_setup bytes (Some options.machine.now) (Some options.tools.now) (setup_of shop.machine shop.tools)
-    (λ setup. IfSome (bytes (option_map (λ n. n.now) options.program)) (λ text. IfSome (bytes (Some options.certificate.now)) (λ certificate. Checks setup text certificate known known (Err (answers.Read fault)))))
+    (λ setup. IfSome (bytes (option_map (λ n. n.now) options.program))
+    (λ text. IfSome (bytes (Some options.certificate.now)) (λ certificate. Checks setup text certificate known known (Err (answers.Read fault)))))
     said.0 said.1
-    (of_file _ source (λ text. IfSome (bytes (Some options.certificate.now)) (λ certificate. Checks (setup_of shop.machine shop.tools) text certificate known known (Err (answers.Read fault))))
+    (of_file _ source (λ text. IfSome (bytes (Some options.certificate.now))
+    (λ certificate. Checks (setup_of shop.machine shop.tools) text certificate known known (Err (answers.Read fault))))
     (is ∙ keeps (option_map (λ n. n.now) options.program))
     (if_known source _ _ (λ text fault_is. all_known (bytes (Some options.certificate.now)) _ (λ certificate. (fault_is, keeps_same known))) unread))

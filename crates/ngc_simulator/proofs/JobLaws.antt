@@ -29,7 +29,8 @@ use Rattle.ngc_checker.proofs.AnswerLaw.{made_ok, first_is}
 use Rattle.ngc_command_line.specs.declared.options.Format.{Format}
 use Rattle.ngc_simulator.specs.declared.fault.AnswerFault.{AnswerFault}
 use Rattle.ngc_simulator.specs.declared.fault.AnswerFault.TheVariants as answers
-use Rattle.ngc_simulator.specs.Jobs.{IsProgram, AreMeanings, IsMadeFor, IsCertificateFor, WhyNotMade, refused_at, Certifies, AreGiven, IsAcceptedText, Checks, accepted_text}
+use Rattle.ngc_simulator.specs.Jobs.{IsProgram, AreMeanings, IsMadeFor, IsCertificateFor, WhyNotMade, refused_at, Certifies, AreGiven, IsAcceptedText, Checks}
+use Rattle.ngc_simulator.specs.Jobs.{accepted_text}
 use Rattle.ngc_simulator.proofs.ListLaws.{Means}
 
 -- what holds of an error holds of the outcome that it was turned into
@@ -44,7 +45,8 @@ pub if_known : (known : Option (List ℕ)) (P Q : List ℕ → Type 0) → ((byt
 if_known None P Q on p = tt
 if_known (Some bytes) P Q on p = on bytes p
 
-is_program : (bytes : List ℕ) (text : ProgramText) → program_of bytes ≡ Ok text → (have : HaveReadings text.lines) → IsProgram bytes (program_said text have.readings)
+is_program : (bytes : List ℕ) (text : ProgramText) → program_of bytes ≡ Ok text → (have : HaveReadings text.lines) →
+    IsProgram bytes (program_said text have.readings)
 is_program bytes text is_text have = record {
   text = text;
   is_text = is_text;
@@ -66,7 +68,8 @@ means_both setup bytes text off on is_text have off_means on_means = record {
 
 pub made_for : (setup : Setup) (bytes : List ℕ) (cuts : ℕ) (text : ProgramText) (off given_off on given_on : List Command) (c : CertificateData)
     → given_off ≡ off → given_on ≡ on → program_of bytes ≡ Ok text → HaveReadings text.lines → Means text setup false (Ok off) → Means text setup true (Ok on)
-    → IsMade setup.machine cuts given_off given_on (Ok c) → IsValid setup.machine given_off c.off → IsValid setup.machine given_on c.on → IsMadeFor setup bytes cuts c
+    → IsMade setup.machine cuts given_off given_on (Ok c) → IsValid setup.machine given_off c.off → IsValid setup.machine given_on c.on →
+    IsMadeFor setup bytes cuts c
 made_for setup bytes cuts text off given_off on given_on c same_off same_on is_text have off_means on_means is_made off_valid on_valid = record {
   off = given_off;
   on = given_on;
@@ -77,11 +80,13 @@ made_for setup bytes cuts text off given_off on given_on c same_off same_on is_t
   on_valid = on_valid;
 }
 
-pub certified : (setup : Setup) (bytes : List ℕ) (cuts : ℕ) (format : Format) (old new : Option (List ℕ)) (f : Form) → IsCertificateFor setup bytes cuts format f → Appends old new (spelling f)
+pub certified : (setup : Setup) (bytes : List ℕ) (cuts : ℕ) (format : Format) (old new : Option (List ℕ)) (f : Form) →
+    IsCertificateFor setup bytes cuts format f → Appends old new (spelling f)
     → Certifies setup bytes cuts format old new (Ok tt)
 certified setup bytes cuts format old new f is wrote = (f, is, wrote)
 
-pub certifying_stopped : (setup : Setup) (bytes : List ℕ) (cuts : ℕ) (format : Format) (old new : Option (List ℕ)) (f : Form) (fault : WriteFault) → IsCertificateFor setup bytes cuts format f
+pub certifying_stopped : (setup : Setup) (bytes : List ℕ) (cuts : ℕ) (format : Format) (old new : Option (List ℕ)) (f : Form) (fault : WriteFault) →
+    IsCertificateFor setup bytes cuts format f
     → AppendsBeginning old new (spelling f) → Certifies setup bytes cuts format old new (Err (answers.Write fault))
 certifying_stopped setup bytes cuts format old new f fault is wrote = (f, is, wrote)
 
@@ -89,7 +94,8 @@ pub keeps_same : (known : Option (List ℕ)) → Keeps known known
 keeps_same None = tt
 keeps_same (Some bytes) = refl
 
-pub not_made : {X : Type 0} (view : X → CertificateData) (setup : Setup) (bytes : List ℕ) (cuts : ℕ) (text : ProgramText) (off given_off on given_on : List Command) (fault : MakeFault)
+pub not_made : {X : Type 0} (view : X → CertificateData) (setup : Setup) (bytes : List ℕ) (cuts : ℕ) (text : ProgramText)
+    (off given_off on given_on : List Command) (fault : MakeFault)
     → given_off ≡ off → given_on ≡ on → program_of bytes ≡ Ok text → HaveReadings text.lines → Means text setup false (Ok off) → Means text setup true (Ok on)
     → GivesMade view (Err fault) (IsMade setup.machine cuts given_off given_on) → WhyNotMade setup bytes cuts (answers.Make fault)
 not_made view setup bytes cuts text off given_off on given_on Memory same_off same_on is_text have off_means on_means says = tt
@@ -103,7 +109,8 @@ not_made view setup bytes cuts text off given_off on given_on (NotCleared s k) s
 
 -- where no line begins with / the commands are the same at both settings
 pub means_alike : (text : ProgramText) (setup : Setup) (commands : List Command) (found : Bool) → found ≡ false
-    → ((rs : List Reading) → AreReadings text.lines rs → found ≡ has_deleted (program_said text rs).lines) → Means text setup false (Ok commands) → Means text setup true (Ok commands)
+    → ((rs : List Reading) → AreReadings text.lines rs → found ≡ has_deleted (program_said text rs).lines) → Means text setup false (Ok commands) →
+    Means text setup true (Ok commands)
 means_alike text setup commands found none is_found off_means = λ rs are.
     same_at_both (program_said text rs) setup (sym (is_found rs are) ∙ none) ∙ off_means rs are
 
@@ -114,7 +121,8 @@ FailsSo text setup block_delete fault = (rs : List Reading) → AreReadings text
 refused_off_by : (setup : Setup) (bytes : List ℕ) (cuts : ℕ) (text : ProgramText) (fault : ProgramFault)
     → program_of bytes ≡ Ok text → HaveReadings text.lines → FailsSo text setup false fault → WhyNotMade setup bytes cuts (refused_at Off fault)
 refused_off_by setup bytes cuts text programs.Memory is_text have fails = tt
-refused_off_by setup bytes cuts text (programs.At line e) is_text have fails = (program_said text have.readings, is_program bytes text is_text have, fails have.readings have.are)
+refused_off_by setup bytes cuts text (programs.At line e) is_text have fails =
+    (program_said text have.readings, is_program bytes text is_text have, fails have.readings have.are)
 
 refused_on_by : (setup : Setup) (bytes : List ℕ) (cuts : ℕ) (text : ProgramText) (off : List Command) (fault : ProgramFault)
     → program_of bytes ≡ Ok text → HaveReadings text.lines → Means text setup false (Ok off) → FailsSo text setup true fault
@@ -125,13 +133,17 @@ refused_on_by setup bytes cuts text off (programs.At line e) is_text have off_me
 
 pub refused_off : (setup : Setup) (bytes : List ℕ) (cuts : ℕ) (text : ProgramText) (fault : ProgramFault) (told : AnswerFault)
     → told ≡ refused_at Off fault → program_of bytes ≡ Ok text → HaveReadings text.lines → FailsSo text setup false fault → WhyNotMade setup bytes cuts told
-refused_off setup bytes cuts text fault told is is_text have fails = subst (WhyNotMade setup bytes cuts) (sym is) (refused_off_by setup bytes cuts text fault is_text have fails)
+refused_off setup bytes cuts text fault told is is_text have fails =
+    subst (WhyNotMade setup bytes cuts) (sym is) (refused_off_by setup bytes cuts text fault is_text have fails)
 
 pub refused_on : (setup : Setup) (bytes : List ℕ) (cuts : ℕ) (text : ProgramText) (off : List Command) (fault : ProgramFault) (told : AnswerFault)
-    → told ≡ refused_at On fault → program_of bytes ≡ Ok text → HaveReadings text.lines → Means text setup false (Ok off) → FailsSo text setup true fault → WhyNotMade setup bytes cuts told
-refused_on setup bytes cuts text off fault told is is_text have off_means fails = subst (WhyNotMade setup bytes cuts) (sym is) (refused_on_by setup bytes cuts text off fault is_text have off_means fails)
+    → told ≡ refused_at On fault → program_of bytes ≡ Ok text → HaveReadings text.lines → Means text setup false (Ok off) → FailsSo text setup true fault →
+    WhyNotMade setup bytes cuts told
+refused_on setup bytes cuts text off fault told is is_text have off_means fails =
+    subst (WhyNotMade setup bytes cuts) (sym is) (refused_on_by setup bytes cuts text off fault is_text have off_means fails)
 
-pub nothing_certified : (setup : Setup) (bytes : List ℕ) (cuts : ℕ) (format : Format) (known : Option (List ℕ)) (fault : AnswerFault) → WhyNotMade setup bytes cuts fault → Certifies setup bytes cuts format known known (Err fault)
+pub nothing_certified : (setup : Setup) (bytes : List ℕ) (cuts : ℕ) (format : Format) (known : Option (List ℕ)) (fault : AnswerFault) →
+    WhyNotMade setup bytes cuts fault → Certifies setup bytes cuts format known known (Err fault)
 nothing_certified setup bytes cuts format known (answers.Refused setting fault) why = (why, keeps_same known)
 nothing_certified setup bytes cuts format known (answers.Make fault) why = (why, keeps_same known)
 nothing_certified setup bytes cuts format known _ why = absurd why
@@ -142,7 +154,8 @@ nothing_certified setup bytes cuts format known _ why = absurd why
 abbrev pub Says : ProgramText → Setup → CertificateData → Result AcceptedData CheckFault → Type 0
 Says text setup c result = (rs : List Reading) → AreReadings text.lines rs → Answers (λ a. a) (program_said text rs) setup c result
 
-pub given : (bytes text : List ℕ) (program : ProgramText) (c : CertificateData) → program_of bytes ≡ Ok program → (have : HaveReadings program.lines) → certificate_said text ≡ Ok c
+pub given : (bytes text : List ℕ) (program : ProgramText) (c : CertificateData) → program_of bytes ≡ Ok program → (have : HaveReadings program.lines) →
+    certificate_said text ≡ Ok c
     → AreGiven bytes text (program_said program have.readings) c
 given bytes text program c is_text have said = record { is_program = is_program bytes program is_text have; is_certificate = said }
 
@@ -158,7 +171,8 @@ accepted_text_of setup bytes text program a is_text have says =
       none_refused = said.2;
     }
 
-pub accepted : (setup : Setup) (bytes text : List ℕ) (old new : Option (List ℕ)) → IsAcceptedText setup bytes text → Appends old new accepted_text → Checks setup bytes text old new (Ok tt)
+pub accepted : (setup : Setup) (bytes text : List ℕ) (old new : Option (List ℕ)) → IsAcceptedText setup bytes text → Appends old new accepted_text →
+    Checks setup bytes text old new (Ok tt)
 accepted setup bytes text old new is wrote = (is, wrote)
 
 pub accepting_stopped : (setup : Setup) (bytes text : List ℕ) (old new : Option (List ℕ)) (fault : WriteFault) → IsAcceptedText setup bytes text

@@ -11,14 +11,16 @@ use Rattle.ngc_line_reader.specs.ProgramText.{ProgramText, program_of, AreReadin
 use Rattle.ngc_simulator.specs.Jobs.{IsProgram, IsMadeFor, IsCertificateFor}
 use Rattle.ngc_simulator.proofs.ListLaws.{Means}
 
-pub in_version_one : (setup : Setup) (bytes : List ℕ) (cuts : ℕ) (c : CertificateData) (f : Form) → IsMadeFor setup bytes cuts c → f ≡ Parted c → IsCertificateFor setup bytes cuts One f
+pub in_version_one : (setup : Setup) (bytes : List ℕ) (cuts : ℕ) (c : CertificateData) (f : Form) → IsMadeFor setup bytes cuts c → f ≡ Parted c →
+    IsCertificateFor setup bytes cuts One f
 in_version_one setup bytes cuts c f made is = record { certificate = c; made = made; written = is }
 
 same_ok : {X E : Type 0} (x y : X) (r : Result X E) → r ≡ Ok x → r ≡ Ok y → x ≡ y
 same_ok x y r h i = cc
 
 -- what a file's program means is what each reading of its text does
-same_meaning : (setup : Setup) (bytes : List ℕ) (text : ProgramText) (program : ProgramLines) (block_delete : Bool) (commands found : List Command) → program_of bytes ≡ Ok text → IsProgram bytes program
+same_meaning : (setup : Setup) (bytes : List ℕ) (text : ProgramText) (program : ProgramLines) (block_delete : Bool) (commands found : List Command) →
+    program_of bytes ≡ Ok text → IsProgram bytes program
     → meaning program setup block_delete ≡ Ok commands → Means text setup block_delete (Ok found) → found ≡ commands
 same_meaning setup bytes text program block_delete commands found is_text is_program says means =
     let same_text : is_program.text ≡ text = same_ok is_program.text text (program_of bytes) is_program.is_text is_text in
@@ -28,7 +30,8 @@ same_meaning setup bytes text program block_delete commands found is_text is_pro
     (sym (ap (λ (p : ProgramLines). meaning p setup block_delete) said) ∙ says)
 
 -- a certificate that is made, joined by the commands that are found once more
-pub in_version_two : (setup : Setup) (bytes : List ℕ) (cuts : ℕ) (text : ProgramText) (off given_off on given_on : List Command) (c : CertificateData) (f : Form)
+pub in_version_two : (setup : Setup) (bytes : List ℕ) (cuts : ℕ) (text : ProgramText) (off given_off on given_on : List Command)
+    (c : CertificateData) (f : Form)
     → given_off ≡ off → given_on ≡ on → program_of bytes ≡ Ok text → Means text setup false (Ok off) → Means text setup true (Ok on)
     → IsMadeFor setup bytes cuts c → IsJoinedOf given_off given_on c f → IsCertificateFor setup bytes cuts Two f
 in_version_two setup bytes cuts text off given_off on given_on c f same_off same_on is_text off_means on_means made joined =

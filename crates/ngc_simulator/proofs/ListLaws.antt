@@ -16,7 +16,8 @@ use Rattle.ngc_simulator.specs.Lists.{IsListing, Lists}
 abbrev pub Means : ProgramText → Setup → Bool → Result (List Command) ProgramFault → Type 0
 Means text setup block_delete says = (rs : List Reading) → AreReadings text.lines rs → meaning (program_said text rs) setup block_delete ≡ says
 
-is_listing : (setup : Setup) (bytes : List ℕ) (block_delete : Bool) (text : ProgramText) (commands : List Command) → program_of bytes ≡ Ok text → HaveReadings text.lines
+is_listing : (setup : Setup) (bytes : List ℕ) (block_delete : Bool) (text : ProgramText) (commands : List Command) → program_of bytes ≡ Ok text →
+    HaveReadings text.lines
     → Means text setup block_delete (Ok commands) → IsListing setup bytes block_delete (listing setup.machine.step commands)
 is_listing setup bytes block_delete text commands is_text have means = record {
   commands = commands;
@@ -30,7 +31,8 @@ is_listing setup bytes block_delete text commands is_text have means = record {
   lists = refl;
 }
 
-pub write_stopped : (setup : Setup) (source : Option (List ℕ)) (block_delete : Bool) (old new : Option (List ℕ)) (text : ProgramText) (commands listed : List Command) (fault : WriteFault)
+pub write_stopped : (setup : Setup) (source : Option (List ℕ)) (block_delete : Bool) (old new : Option (List ℕ)) (text : ProgramText)
+    (commands listed : List Command) (fault : WriteFault)
     → listed ≡ commands → IfSome source (λ bytes. program_of bytes ≡ Ok text) → HaveReadings text.lines → Means text setup block_delete (Ok commands)
     → AppendsBeginning old new (listing setup.machine.step listed) → IfSome source (λ bytes. Lists setup bytes block_delete old new (Err (answers.Write fault)))
 write_stopped setup None block_delete old new text commands listed fault same is_text have means wrote = tt

@@ -45,14 +45,17 @@ no_events A events (texts.BadLine line) says = says
 no_events A events texts.TooManyLines says = says
 no_events A events texts.Memory says = tt
 
-pub events_refused : (A : Type 0) (recording : Recording) (setup : Setup) (bytes text events : List ℕ) (block_delete : Bool) (known : Option (List ℕ)) (program : ProgramText) (c : CertificateData) (fault : EventsFault)
+pub events_refused : (A : Type 0) (recording : Recording) (setup : Setup) (bytes text events : List ℕ) (block_delete : Bool) (known : Option (List ℕ))
+    (program : ProgramText) (c : CertificateData) (fault : EventsFault)
     → program_of bytes ≡ Ok program → HaveReadings program.lines → certificate_said text ≡ Ok c → GivesEvents {A = A} (Err fault) (events_said events)
     → Runs recording setup bytes text events block_delete known known (Err (answers.Events fault))
 events_refused A recording setup bytes text events block_delete known program c fault is_text have said says =
     (((program_said program have.readings, c, given bytes text program c is_text have said), no_events A events fault says), keeps_same known)
 
-pub run_refused : (recording : Recording) (setup : Setup) (bytes text events : List ℕ) (block_delete : Bool) (known : Option (List ℕ)) (program : ProgramText) (c : CertificateData) (lines : List EventLine) (fault : CheckFault)
-    → program_of bytes ≡ Ok program → HaveReadings program.lines → certificate_said text ≡ Ok c → events_said events ≡ Ok lines → Says program setup c (Err fault)
+pub run_refused : (recording : Recording) (setup : Setup) (bytes text events : List ℕ) (block_delete : Bool) (known : Option (List ℕ)) (program : ProgramText)
+    (c : CertificateData) (lines : List EventLine) (fault : CheckFault)
+    → program_of bytes ≡ Ok program → HaveReadings program.lines → certificate_said text ≡ Ok c → events_said events ≡ Ok lines →
+    Says program setup c (Err fault)
     → Runs recording setup bytes text events block_delete known known (Err (answers.Check fault))
 run_refused recording setup bytes text events block_delete known program c lines fault is_text have said are_lines says = (
   record {
@@ -85,7 +88,8 @@ accepted_job setup bytes text block_delete program c a is_text have said says =
       is_job = ap (λ machine. job_of machine (commands_at block_delete a)) checked.1.machine;
     }
 
-pub ran_over : (recording : Recording) (setup : Setup) (bytes text events : List ℕ) (block_delete : Bool) (old new : Option (List ℕ)) (program : ProgramText) (c : CertificateData) (lines given_lines : List EventLine) (a : AcceptedData) (result : Result Report RunFault)
+pub ran_over : (recording : Recording) (setup : Setup) (bytes text events : List ℕ) (block_delete : Bool) (old new : Option (List ℕ)) (program : ProgramText)
+    (c : CertificateData) (lines given_lines : List EventLine) (a : AcceptedData) (result : Result Report RunFault)
     → program_of bytes ≡ Ok program → HaveReadings program.lines → certificate_said text ≡ Ok c → events_said events ≡ Ok lines → Says program setup c (Ok a)
     → given_lines ≡ lines → RecordsRun recording (job_of a.machine (commands_at block_delete a)) given_lines old new result
     → RunsOver recording setup bytes text events block_delete old new result
@@ -98,17 +102,21 @@ ran_over recording setup bytes text events block_delete old new program c lines 
 }
 
 pub run_failed : (recording : Recording) (setup : Setup) (bytes text events : List ℕ) (block_delete : Bool) (old new : Option (List ℕ)) (fault : RunFault)
-    → RunsOver recording setup bytes text events block_delete old new (Err fault) → Runs recording setup bytes text events block_delete old new (Err (of_run fault))
+    → RunsOver recording setup bytes text events block_delete old new (Err fault) →
+    Runs recording setup bytes text events block_delete old new (Err (of_run fault))
 run_failed recording setup bytes text events block_delete old new runs.Memory ran = ran
 run_failed recording setup bytes text events block_delete old new (runs.Write e) ran = ran
 
 -- of the bytes that were read, and so of those of the file
-pub run_over : (recording : Recording) (setup : Setup) (bytes text events slice items : List ℕ) (block_delete : Bool) (old new : Option (List ℕ)) (outcome : Result Report AnswerFault)
-    → slice ≡ items → items ≡ events → Runs recording setup bytes text slice block_delete old new outcome → Runs recording setup bytes text events block_delete old new outcome
+pub run_over : (recording : Recording) (setup : Setup) (bytes text events slice items : List ℕ) (block_delete : Bool) (old new : Option (List ℕ))
+    (outcome : Result Report AnswerFault)
+    → slice ≡ items → items ≡ events → Runs recording setup bytes text slice block_delete old new outcome →
+    Runs recording setup bytes text events block_delete old new outcome
 run_over recording setup bytes text events slice items block_delete old new outcome same read runs =
     subst (λ es. Runs recording setup bytes text es block_delete old new outcome) (same ∙ read) runs
 
-pub no_certificate : (A : Type 0) (view : Certificate A → CertificateData) (text : List ℕ) (fault : CertificateFault) → GivesCertificate view (Err fault) (certificate_said text)
+pub no_certificate : (A : Type 0) (view : Certificate A → CertificateData) (text : List ℕ) (fault : CertificateFault) →
+    GivesCertificate view (Err fault) (certificate_said text)
     → IsNoCertificate text fault
 no_certificate A view text certificates.WrongHeader says = says
 no_certificate A view text (certificates.BadLine line) says = says
@@ -135,19 +143,23 @@ on_files first second third known source events P Q R S is_first is_second is_th
     on_two None events a p q r = tt
     on_two (Some b) events a p q r = on_last events a b p q r
 
-    on_all : (known source events : Option (List ℕ)) → IfSome known P → IfSome source Q → IfSome events R → IfSome known (λ a. IfSome source (λ b. IfSome events (S a b)))
+    on_all : (known source events : Option (List ℕ)) → IfSome known P → IfSome source Q → IfSome events R →
+        IfSome known (λ a. IfSome source (λ b. IfSome events (S a b)))
     on_all None source events p q r = tt
     on_all (Some a) source events p q r = on_two source events a p q r
 
 -- of what was read: the shop, then the program, the certificate and the events
-pub ran_files : (bytes after later last : FileBytes) (options : RunOptions) (shop : Shop) (old new : Option (List ℕ)) (outcome : Result Report AnswerFault) (P Q R : List ℕ → Type 0)
+pub ran_files : (bytes after later last : FileBytes) (options : RunOptions) (shop : Shop) (old new : Option (List ℕ)) (outcome : Result Report AnswerFault)
+    (P Q R : List ℕ → Type 0)
     → GivesShop bytes (Some options.machine.now) (Some options.tools.now) (Ok shop) → KeepsFiles bytes after → KeepsNamed after later → KeepsFiles later last
     → IfSome (after (option_map (λ n. n.now) options.program)) P → IfSome (later (Some options.certificate.now)) Q → IfSome (last (Some options.events.now)) R
     → ((a b e : List ℕ) → P a → Q b → R e → Runs options.recording (setup_of shop.machine shop.tools) a b e options.delete old new outcome)
     → RunsOn bytes options old new outcome
 ran_files bytes after later last options shop old new outcome P Q R said keeps named kept p q r on =
     on_setup bytes (Some options.machine.now) (Some options.tools.now) (setup_of shop.machine shop.tools)
-    (λ setup. IfSome (bytes (option_map (λ n. n.now) options.program)) (λ a. IfSome (bytes (Some options.certificate.now)) (λ b. IfSome (bytes (Some options.events.now)) (λ e. Runs options.recording setup a b e options.delete old new outcome))))
+    (λ setup. IfSome (bytes (option_map (λ n. n.now) options.program))
+    (λ a. IfSome (bytes (Some options.certificate.now))
+    (λ b. IfSome (bytes (Some options.events.now)) (λ e. Runs options.recording setup a b e options.delete old new outcome))))
     said.0 said.1
     (on_files _ _ _ _ _ _ P Q R (λ a b e. Runs options.recording (setup_of shop.machine shop.tools) a b e options.delete old new outcome)
     (keeps (option_map (λ n. n.now) options.program))
@@ -156,7 +168,8 @@ ran_files bytes after later last options shop old new outcome P Q R said keeps n
 
 -- ---- to the end
 
-pub through_refused : (recording : Recording) (setup : Setup) (bytes text : List ℕ) (block_delete : Bool) (known : Option (List ℕ)) (program : ProgramText) (c : CertificateData) (fault : CheckFault)
+pub through_refused : (recording : Recording) (setup : Setup) (bytes text : List ℕ) (block_delete : Bool) (known : Option (List ℕ)) (program : ProgramText)
+    (c : CertificateData) (fault : CheckFault)
     → program_of bytes ≡ Ok program → HaveReadings program.lines → certificate_said text ≡ Ok c → Says program setup c (Err fault)
     → RunsThrough recording setup bytes text block_delete known known (Err (answers.Check fault))
 through_refused recording setup bytes text block_delete known program c fault is_text have said says = (
@@ -169,7 +182,8 @@ through_refused recording setup bytes text block_delete known program c fault is
   keeps_same known,
 )
 
-pub went_through : (recording : Recording) (setup : Setup) (bytes text : List ℕ) (block_delete : Bool) (old new : Option (List ℕ)) (program : ProgramText) (c : CertificateData) (a : AcceptedData) (result : Result Report RunFault)
+pub went_through : (recording : Recording) (setup : Setup) (bytes text : List ℕ) (block_delete : Bool) (old new : Option (List ℕ)) (program : ProgramText)
+    (c : CertificateData) (a : AcceptedData) (result : Result Report RunFault)
     → program_of bytes ≡ Ok program → HaveReadings program.lines → certificate_said text ≡ Ok c → Says program setup c (Ok a)
     → RecordsThrough recording (job_of a.machine (commands_at block_delete a)) old new result
     → RunsWhole recording setup bytes text block_delete old new result
@@ -188,7 +202,8 @@ through_failed recording setup bytes text block_delete old new (runs.Write e) ra
 pub on_two_files : (first second known source : Option (List ℕ)) (P Q : List ℕ → Type 0) (S : List ℕ → List ℕ → Type 0)
     → known ≡ first → source ≡ second → ((a b : List ℕ) → P a → Q b → S a b) → IfSome known P → IfSome source Q → IfSome first (λ a. IfSome second (S a))
 on_two_files first second known source P Q S is_first is_second on p q =
-    subst (λ (k : Option (List ℕ)). IfSome k (λ a. IfSome second (S a))) is_first (subst (λ (k : Option (List ℕ)). IfSome known (λ a. IfSome k (S a))) is_second (on_both known source p q))
+    subst (λ (k : Option (List ℕ)). IfSome k (λ a. IfSome second (S a))) is_first
+    (subst (λ (k : Option (List ℕ)). IfSome known (λ a. IfSome k (S a))) is_second (on_both known source p q))
   where
     on_last : (source : Option (List ℕ)) (a : List ℕ) → P a → IfSome source Q → IfSome source (S a)
     on_last None a p q = tt
@@ -199,14 +214,16 @@ on_two_files first second known source P Q S is_first is_second on p q =
     on_both (Some a) source p q = on_last source a p q
 
 -- of what was read: the shop, then the program and the certificate
-pub went_files : (bytes after later : FileBytes) (options : RunThroughOptions) (shop : Shop) (old new : Option (List ℕ)) (outcome : Result Report AnswerFault) (P Q : List ℕ → Type 0)
+pub went_files : (bytes after later : FileBytes) (options : RunThroughOptions) (shop : Shop) (old new : Option (List ℕ)) (outcome : Result Report AnswerFault)
+    (P Q : List ℕ → Type 0)
     → GivesShop bytes (Some options.machine.now) (Some options.tools.now) (Ok shop) → KeepsFiles bytes after → KeepsNamed after later
     → IfSome (after (option_map (λ n. n.now) options.program)) P → IfSome (later (Some options.certificate.now)) Q
     → ((a b : List ℕ) → P a → Q b → RunsThrough options.recording (setup_of shop.machine shop.tools) a b options.delete old new outcome)
     → RunsThroughOn bytes options old new outcome
 went_files bytes after later options shop old new outcome P Q said keeps named p q on =
     on_setup bytes (Some options.machine.now) (Some options.tools.now) (setup_of shop.machine shop.tools)
-    (λ setup. IfSome (bytes (option_map (λ n. n.now) options.program)) (λ a. IfSome (bytes (Some options.certificate.now)) (λ b. RunsThrough options.recording setup a b options.delete old new outcome)))
+    (λ setup. IfSome (bytes (option_map (λ n. n.now) options.program))
+    (λ a. IfSome (bytes (Some options.certificate.now)) (λ b. RunsThrough options.recording setup a b options.delete old new outcome)))
     said.0 said.1
     (on_two_files _ _ _ _ P Q (λ a b. RunsThrough options.recording (setup_of shop.machine shop.tools) a b options.delete old new outcome)
     (keeps (option_map (λ n. n.now) options.program))

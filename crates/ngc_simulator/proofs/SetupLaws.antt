@@ -13,12 +13,14 @@ use Rattle.ngc_simulator.specs.declared.fault.AnswerFault.{AnswerFault}
 use Rattle.ngc_simulator.specs.declared.fault.AnswerFault.TheVariants as answers
 
 -- of the bytes that were read, and so of those of the file
-pub carried : (known : Option (List ℕ)) (items slice : List ℕ) (P : List ℕ → Type 0) → slice ≡ items → IfSome known (λ bytes. items ≡ bytes) → P slice → IfSome known P
+pub carried : (known : Option (List ℕ)) (items slice : List ℕ) (P : List ℕ → Type 0) → slice ≡ items → IfSome known (λ bytes. items ≡ bytes) → P slice →
+    IfSome known P
 carried None items slice P same read p = tt
 carried (Some bytes) items slice P same read p = subst P (same ∙ read) p
 
 -- what holds of it holds where more holds
-pub said_weaker : {T : Type 0} (read : List ℕ → Result T FileFault) (builtin : T) (bytes : FileBytes) (name : Option (List ℕ)) (P Q : Result T FileFault → Type 0)
+pub said_weaker : {T : Type 0} (read : List ℕ → Result T FileFault) (builtin : T) (bytes : FileBytes) (name : Option (List ℕ))
+    (P Q : Result T FileFault → Type 0)
     → ((says : Result T FileFault) → P says → Q says) → IfSaid read builtin bytes name P → IfSaid read builtin bytes name Q
 said_weaker read builtin bytes None P Q on p = on (Ok builtin) p
 said_weaker read builtin bytes (Some name) P Q on p = some_weaker (bytes (Some name)) p where
@@ -27,7 +29,8 @@ said_weaker read builtin bytes (Some name) P Q on p = some_weaker (bytes (Some n
   some_weaker (Some text) p = on (read text) p
 
 -- files that were kept say what they said
-pub said_before : {T : Type 0} (read : List ℕ → Result T FileFault) (builtin : T) (old new : FileBytes) (name : Option (List ℕ)) (P : Result T FileFault → Type 0)
+pub said_before : {T : Type 0} (read : List ℕ → Result T FileFault) (builtin : T) (old new : FileBytes) (name : Option (List ℕ))
+    (P : Result T FileFault → Type 0)
     → KeepsFiles old new → IfSaid read builtin new name P → IfSaid read builtin old name P
 said_before read builtin old new None P keeps p = p
 said_before read builtin old new (Some name) P keeps p = subst (λ (known : Option (List ℕ)). IfSome known (λ text. P (read text))) (keeps (Some name)) p
@@ -49,7 +52,8 @@ pub of_file : (known source : Option (List ℕ)) (P : List ℕ → Type 0) → s
 of_file known source P is p = subst (λ (k : Option (List ℕ)). IfSome k P) is p
 
 -- a machine file that is refused, and a tool table that is behind a machine file that was read
-pub refused_machine : (bytes : FileBytes) (machine tools : Option (List ℕ)) (fault : AnswerFault) → RefusesMachine bytes machine fault → RefusesShop bytes machine tools fault
+pub refused_machine : (bytes : FileBytes) (machine tools : Option (List ℕ)) (fault : AnswerFault) → RefusesMachine bytes machine fault →
+    RefusesShop bytes machine tools fault
 refused_machine bytes machine tools (answers.Machine e) refuses = refuses
 refused_machine bytes machine tools (answers.Input e) refuses = tt
 refused_machine bytes machine tools _ refuses = absurd refuses

@@ -14,7 +14,8 @@ use Rattle.ngc_machine.specs.ToolText.{tool_table}
 use Rattle.ngc_simulator.specs.Setups.{FileBytes, IfMachine, KeepsFiles}
 use Rattle.ngc_simulator.specs.Shops.{GivesShop}
 use Rattle.ngc_simulator.specs.Faults.{OfCertifying, OfChecking, OfDrawing, OfListing, OfRunning}
-use Rattle.ngc_simulator.specs.Unread.{Kind, OfMachine, OfTools, OfProgram, OfCertificate, OfEvents, IsReadAs, Input, setup_input, shop_inputs, AtFirst, TellsKindUnread, TellsFirstUnread, FailsBy, FailsByInput, program_unread, certificate_unread, unread_by}
+use Rattle.ngc_simulator.specs.Unread.{Kind, OfMachine, OfTools, OfProgram, OfCertificate, OfEvents, IsReadAs, Input, setup_input, shop_inputs, AtFirst}
+use Rattle.ngc_simulator.specs.Unread.{TellsKindUnread, TellsFirstUnread, FailsBy, FailsByInput, program_unread, certificate_unread, unread_by}
 use Rattle.ngc_simulator.specs.declared.fault.AnswerFault.{AnswerFault}
 use Rattle.ngc_simulator.specs.declared.fault.AnswerFault.TheVariants as answers
 use Rattle.ngc_simulator.specs.declared.setup.Shop.{Shop}
@@ -29,7 +30,8 @@ AllRead bytes (input ∷ more) = IfSome (bytes input.name) (IsReadAs input.kind)
 abbrev pub Told : (Option (List ℕ) → Type 0) → FileBytes → List Input → ℕ → ℕ → Option InputFault → Type 0
 Told fails bytes files old new why = MatchOption why (new ≡ old) (TellsFirstUnread fails bytes files old new)
 
-pub unread_told : {T : Type 0} (fails : Option (List ℕ) → Type 0) (bytes : FileBytes) (files : List Input) (old new : ℕ) (r : Result T AnswerFault) (e : AnswerFault)
+pub unread_told : {T : Type 0} (fails : Option (List ℕ) → Type 0) (bytes : FileBytes) (files : List Input) (old new : ℕ) (r : Result T AnswerFault)
+    (e : AnswerFault)
     → IsErrAnd r (λ a. a ≡ e) → Told fails bytes files old new (unread_by e) → FailsByInput fails bytes files old new r
 unread_told fails bytes files old new r e is told = turned r e (FailsByInput fails bytes files old new) is told
 
@@ -38,7 +40,8 @@ first_before P bytes [] more first = absurd first
 first_before P bytes (input ∷ files) more (inl p) = inl p
 first_before P bytes (input ∷ files) more (inr (read, first)) = inr (read, first_before P bytes files more first)
 
-pub first_behind : (P : Kind → Option (List ℕ) → Type 0) (bytes : FileBytes) (files more : List Input) → AllRead bytes files → AtFirst P bytes more → AtFirst P bytes (files ++ more)
+pub first_behind : (P : Kind → Option (List ℕ) → Type 0) (bytes : FileBytes) (files more : List Input) → AllRead bytes files → AtFirst P bytes more →
+    AtFirst P bytes (files ++ more)
 first_behind P bytes [] more all first = first
 first_behind P bytes (input ∷ files) more (read, all) first = inr (read, first_behind P bytes files more all first)
 
@@ -53,18 +56,23 @@ told_before fails bytes files more old new None told = told
 told_before fails bytes files more old new (Some fault) told = first_before (λ kind known. TellsKindUnread fails kind known old new fault) bytes files more told
 
 -- a file by itself, behind files that were read and before others
-pub told_behind : (fails : Option (List ℕ) → Type 0) (bytes after : FileBytes) (files : List Input) (kind : Kind) (name : Option (List ℕ)) (more : List Input) (old mid new : ℕ) (why : Option InputFault)
+pub told_behind : (fails : Option (List ℕ) → Type 0) (bytes after : FileBytes) (files : List Input) (kind : Kind) (name : Option (List ℕ)) (more : List Input)
+    (old mid new : ℕ) (why : Option InputFault)
     → AllRead bytes files → after name ≡ bytes name → mid ≡ old
-    → Told fails after (record { kind = kind; name = name } ∷ []) mid new why → Told fails bytes (files ++ record { kind = kind; name = name } ∷ more) old new why
+    → Told fails after (record { kind = kind; name = name } ∷ []) mid new why →
+    Told fails bytes (files ++ record { kind = kind; name = name } ∷ more) old new why
 told_behind fails bytes after files kind name more old mid new None all same_bytes same told = told ∙ same
 told_behind fails bytes after files kind name more old mid new (Some fault) all same_bytes same (inl tells) =
     first_behind (λ k known. TellsKindUnread fails k known old new fault) bytes files (record { kind = kind; name = name } ∷ more) all
-    (inl (subst (λ n. TellsKindUnread fails kind (bytes name) n new fault) same (subst (λ (known : Option (List ℕ)). TellsKindUnread fails kind known mid new fault) same_bytes tells)))
+    (inl (subst (λ n. TellsKindUnread fails kind (bytes name) n new fault) same
+    (subst (λ (known : Option (List ℕ)). TellsKindUnread fails kind known mid new fault) same_bytes tells)))
 told_behind fails bytes after files kind name more old mid new (Some fault) all same_bytes same (inr (read, none)) = absurd none
 
 -- a file that couldn't be opened, behind files that were read and before others
-pub unopened : (fails : Option (List ℕ) → Type 0) (bytes : FileBytes) (files : List Input) (kind : Kind) (name : Option (List ℕ)) (more : List Input) (old mid new : ℕ) (e : InputFault)
-    → e ≡ inputs.Device → AllRead bytes files → mid ≡ old → Rises mid new → Told fails bytes (files ++ record { kind = kind; name = name } ∷ more) old new (Some e)
+pub unopened : (fails : Option (List ℕ) → Type 0) (bytes : FileBytes) (files : List Input) (kind : Kind) (name : Option (List ℕ)) (more : List Input)
+    (old mid new : ℕ) (e : InputFault)
+    → e ≡ inputs.Device → AllRead bytes files → mid ≡ old → Rises mid new →
+    Told fails bytes (files ++ record { kind = kind; name = name } ∷ more) old new (Some e)
 unopened fails bytes files kind name more old mid new e is all same rises =
     subst (λ (f : InputFault). Told fails bytes (files ++ record { kind = kind; name = name } ∷ more) old new (Some f)) (sym is)
     (told_behind fails bytes bytes files kind name more old mid new (Some inputs.Device) all refl same (inl (by_kind kind)))
@@ -88,7 +96,8 @@ is_read read value known source same said =
     if_known known (λ text. read text ≡ Ok value) (λ text. IsOk (read text)) (λ text is. is_ok_of (read text) value is)
     (subst (λ (k : Option (List ℕ)). IfSome k (λ text. read text ≡ Ok value)) same said)
 
-pub shop_read : (bytes : FileBytes) (machine tools : Option (List ℕ)) (shop : Shop) → GivesShop bytes machine tools (Ok shop) → AllRead bytes (shop_inputs machine tools)
+pub shop_read : (bytes : FileBytes) (machine tools : Option (List ℕ)) (shop : Shop) → GivesShop bytes machine tools (Ok shop) →
+    AllRead bytes (shop_inputs machine tools)
 shop_read bytes None None shop said = tt
 shop_read bytes None (Some t) shop said = (is_read tool_table _ (bytes (Some t)) (bytes (Some t)) refl said.1, tt)
 shop_read bytes (Some m) None shop said = (is_read machine_file _ (bytes (Some m)) (bytes (Some m)) refl said.0, tt)
@@ -106,7 +115,8 @@ tools_told fails bytes after machine None old mid new (Some e) read keeps same t
 tools_told fails bytes after machine (Some name) old mid new (Some e) read keeps same told =
     told_behind fails bytes after (setup_input OfMachine machine) OfTools (Some name) [] old mid new (Some e) read (keeps (Some name)) same told
 
-pub machine_read : (bytes : FileBytes) (machine : Option (List ℕ)) (m : MachineFile) → IfMachine bytes machine (λ says. says ≡ Ok m) → AllRead bytes (setup_input OfMachine machine)
+pub machine_read : (bytes : FileBytes) (machine : Option (List ℕ)) (m : MachineFile) → IfMachine bytes machine (λ says. says ≡ Ok m) →
+    AllRead bytes (setup_input OfMachine machine)
 machine_read bytes None m said = tt
 machine_read bytes (Some name) m said = (is_read machine_file m (bytes (Some name)) (bytes (Some name)) refl said, tt)
 
@@ -122,21 +132,25 @@ program_failed fails bytes name old new reads.Memory same failed = same
 program_failed fails bytes name old new reads.Device same failed = inl (inr (same, failed refl))
 
 pub program_tried : {T : Type 0} (fails : Option (List ℕ) → Type 0) (bytes : FileBytes) (name : Option (List ℕ)) (old new : ℕ) (outcome : Result T ReadFault)
-    → new ≡ old → (outcome ≡ Err reads.Device → fails (bytes name)) → FailsBy program_unread fails bytes (record { kind = OfProgram; name = name } ∷ []) old new outcome
+    → new ≡ old → (outcome ≡ Err reads.Device → fails (bytes name)) →
+    FailsBy program_unread fails bytes (record { kind = OfProgram; name = name } ∷ []) old new outcome
 program_tried fails bytes name old new (Ok program) same failed = same
 program_tried fails bytes name old new (Err fault) same failed = program_failed fails bytes name old new fault same (λ is. failed (ap Err is))
 
 -- of the source that a certificate was read from
 pub certificate_failed : (fails : Option (List ℕ) → Type 0) (bytes : FileBytes) (name : Option (List ℕ)) (old new : ℕ) (fault : CertificateFault)
-    → new ≡ old → (fault ≡ texts.ReadFailed → fails (bytes name)) → Told fails bytes (record { kind = OfCertificate; name = name } ∷ []) old new (certificate_unread fault)
+    → new ≡ old → (fault ≡ texts.ReadFailed → fails (bytes name)) →
+    Told fails bytes (record { kind = OfCertificate; name = name } ∷ []) old new (certificate_unread fault)
 certificate_failed fails bytes name old new texts.Memory same failed = same
 certificate_failed fails bytes name old new texts.WrongHeader same failed = same
 certificate_failed fails bytes name old new (texts.BadLine line) same failed = same
 certificate_failed fails bytes name old new (texts.OutOfRange line) same failed = same
 certificate_failed fails bytes name old new texts.ReadFailed same failed = inl (inr (same, failed refl))
 
-pub certificate_tried : {T : Type 0} (fails : Option (List ℕ) → Type 0) (bytes : FileBytes) (name : Option (List ℕ)) (old new : ℕ) (outcome : Result T CertificateFault)
-    → new ≡ old → (outcome ≡ Err texts.ReadFailed → fails (bytes name)) → FailsBy certificate_unread fails bytes (record { kind = OfCertificate; name = name } ∷ []) old new outcome
+pub certificate_tried : {T : Type 0} (fails : Option (List ℕ) → Type 0) (bytes : FileBytes) (name : Option (List ℕ)) (old new : ℕ)
+    (outcome : Result T CertificateFault)
+    → new ≡ old → (outcome ≡ Err texts.ReadFailed → fails (bytes name)) →
+    FailsBy certificate_unread fails bytes (record { kind = OfCertificate; name = name } ∷ []) old new outcome
 certificate_tried fails bytes name old new (Ok certificate) same failed = same
 certificate_tried fails bytes name old new (Err fault) same failed = certificate_failed fails bytes name old new fault same (λ is. failed (ap Err is))
 
@@ -167,7 +181,8 @@ certify_told fails bytes files name old new (answers.Write e) of all same failed
 certify_told fails bytes files name old new _ of all same failed = absurd of
 
 -- a program that is opened by its name once more
-pub program_again : (fails : Option (List ℕ) → Type 0) (bytes later : FileBytes) (files : List Input) (program : Option (List ℕ)) (name : List ℕ) (old mid new : ℕ) (answer : AnswerFault)
+pub program_again : (fails : Option (List ℕ) → Type 0) (bytes later : FileBytes) (files : List Input) (program : Option (List ℕ)) (name : List ℕ)
+    (old mid new : ℕ) (answer : AnswerFault)
     → program ≡ Some name → AllRead bytes files → later (Some name) ≡ bytes (Some name) → mid ≡ old
     → Told fails later (record { kind = OfProgram; name = Some name } ∷ []) mid new (unread_by answer)
     → Told fails bytes (files ++ record { kind = OfProgram; name = program } ∷ []) old new (unread_by answer)

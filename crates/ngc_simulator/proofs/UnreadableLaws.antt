@@ -39,7 +39,8 @@ kept_keeps (Some xs) (Some ys) (Some zs) kept again = again ∙ kept
 tells_behind : (form : Form) (name : Option (List ℕ)) (bytes : List ℕ) (old mid new : Option (List ℕ)) (answer : AnswerFault)
     → Keeps old mid → TellsUnreadable form name bytes mid new answer → TellsUnreadable form name bytes old new answer
 tells_behind form name bytes old mid new (answers.Read e) kept (is, inl again) = (is, inl (kept_keeps old mid new kept again))
-tells_behind form name bytes old mid new (answers.Read e) kept (is, inr (named, of_text, wrote)) = (is, inr (named, of_text, kept_appends old mid new _ kept wrote))
+tells_behind form name bytes old mid new (answers.Read e) kept (is, inr (named, of_text, wrote)) =
+    (is, inr (named, of_text, kept_appends old mid new _ kept wrote))
 tells_behind form name bytes old mid new (answers.Write e) kept (fault, named, of_text, is, begins) =
     (fault, named, of_text, is, (begins.0, begins.1, begins.2, kept_appends old mid new _ kept begins.3))
 tells_behind form name bytes old mid new _ kept tells = absurd tells
@@ -50,8 +51,10 @@ tells_behind form name bytes old mid new _ kept tells = absurd tells
 abbrev pub TellsKnown : Form → Option (List ℕ) → Option (List ℕ) → Option (List ℕ) → Option (List ℕ) → ReadFault → AnswerFault → Type 0
 TellsKnown form name known old new fault answer = IfSome known (λ bytes. FaultIs fault (program_of bytes) → TellsUnreadable form name bytes old new answer)
 
-pub told_begun : (form : Form) (name known : Option (List ℕ)) (items slice : List ℕ) (old new : Option (List ℕ)) (fault : ReadFault) (stopped : WriteFault) → slice ≡ items → IfSome known (λ bytes. items ≡ bytes)
-    → IsSome name → is_of_text fault ≡ true → AppendsBeginning old new (unreadable_text form fault slice) → TellsKnown form name known old new fault (answers.Write stopped)
+pub told_begun : (form : Form) (name known : Option (List ℕ)) (items slice : List ℕ) (old new : Option (List ℕ)) (fault : ReadFault) (stopped : WriteFault) →
+    slice ≡ items → IfSome known (λ bytes. items ≡ bytes)
+    → IsSome name → is_of_text fault ≡ true → AppendsBeginning old new (unreadable_text form fault slice) →
+    TellsKnown form name known old new fault (answers.Write stopped)
 told_begun form name known items slice old new fault stopped same read named of_text wrote =
     carried known items slice (λ bytes. FaultIs fault (program_of bytes) → TellsUnreadable form name bytes old new (answers.Write stopped)) same read
     (λ is. (fault, named, of_text, is, wrote))
@@ -80,15 +83,18 @@ module _ (bytes after : FileBytes) (options : ReportOptions) (shop : Shop) (sour
 
   unreadable_on : (new : Option (List ℕ)) (answer : AnswerFault) → Known (Tells new answer) → UnreadableOn bytes options old new answer
   unreadable_on new answer tells =
-      on_setup bytes (Some options.machine.now) (Some options.tools.now) (setup_of shop.machine shop.tools) (λ setup. Known (Tells new answer)) said.0 said.1 tells
+      on_setup bytes (Some options.machine.now) (Some options.tools.now) (setup_of shop.machine shop.tools)
+      (λ setup. Known (Tells new answer)) said.0 said.1 tells
 
   -- where nothing is told beside the report
-  pub reported_comes : (new : Option (List ℕ)) (fault : AnswerFault) → OfCertifying fault → IfSome source (Reported new (Err fault)) → ReportComes bytes options old new (Err fault)
+  pub reported_comes : (new : Option (List ℕ)) (fault : AnswerFault) → OfCertifying fault → IfSome source (Reported new (Err fault)) →
+      ReportComes bytes options old new (Err fault)
   reported_comes new (answers.Read e) of reports =
       inr (inr (
         tt,
         unreadable_on new (answers.Read e)
-            (if_known _ (Reported new (Err (answers.Read e))) (Tells new (answers.Read e)) (λ text r. (r.0, inl r.1)) (known (Reported new (Err (answers.Read e))) reports)),
+            (if_known _ (Reported new (Err (answers.Read e))) (Tells new (answers.Read e)) (λ text r. (r.0, inl r.1))
+            (known (Reported new (Err (answers.Read e))) reports)),
       ))
   reported_comes new fault of reports = inr (inl (of, reports_on new (Err fault) (known (Reported new (Err fault)) reports)))
 
@@ -104,11 +110,13 @@ module _ (bytes after : FileBytes) (options : ReportOptions) (shop : Shop) (sour
   told_comes later name mid new fault answer of named keeps_later reports tells = inr (inr (
     of,
     unreadable_on new answer
-        (both_known _ (Reported mid (Err (answers.Read fault))) (λ text. FaultIs fault (program_of text) → TellsUnreadable (form_asked options.json) (Some name) text mid new answer) (Tells new answer)
+        (both_known _ (Reported mid (Err (answers.Read fault))) (λ text. FaultIs fault (program_of text) →
+        TellsUnreadable (form_asked options.json) (Some name) text mid new answer) (Tells new answer)
         (λ text r told.
         tells_behind (form_asked options.json) _ text old mid new answer r.1
         (subst (λ (n : Option (List ℕ)). TellsUnreadable (form_asked options.json) n text mid new answer) (sym named) (told r.0)))
         (known (Reported mid (Err (answers.Read fault))) reports)
         (subst (λ (n : Option (List ℕ)). TellsKnown (form_asked options.json) (Some name) (bytes n) mid new fault answer) (sym named)
-        (of_file (bytes (Some name)) (later (Some name)) (λ text. FaultIs fault (program_of text) → TellsUnreadable (form_asked options.json) (Some name) text mid new answer) (keeps_later (Some name) ∙ keeps (Some name)) tells))),
+        (of_file (bytes (Some name)) (later (Some name)) (λ text. FaultIs fault (program_of text) →
+        TellsUnreadable (form_asked options.json) (Some name) text mid new answer) (keeps_later (Some name) ∙ keeps (Some name)) tells))),
   ))

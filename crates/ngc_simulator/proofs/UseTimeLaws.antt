@@ -24,14 +24,16 @@ pub record IsLeft (old now : Option (List ℕ)) (left all : List ℕ) : Type 0 w
 pub all_left : (old : Option (List ℕ)) (left all : List ℕ) → left ≡ all → IsLeft old old left all
 all_left old left all is = record { front = []; wrote = Appends-nil old; splits = is }
 
-pub less_left : (old now next : Option (List ℕ)) (one left before all : List ℕ) → before ≡ one ++ left → IsLeft old now before all → Appends now next one → IsLeft old next left all
+pub less_left : (old now next : Option (List ℕ)) (one left before all : List ℕ) → before ≡ one ++ left → IsLeft old now before all → Appends now next one →
+    IsLeft old next left all
 less_left old now next one left before all is h wrote = record {
   front = h.front ++ one;
   wrote = appends_both old now next h.front one h.wrote wrote;
   splits = append_assoc h.front one left ∙ ap (λ l. h.front ++ l) (sym is) ∙ h.splits;
 }
 
-pub breaks_off : (old now next : Option (List ℕ)) (one left before all : List ℕ) → before ≡ one ++ left → IsLeft old now before all → AppendsBeginning now next one → AppendsBeginning old next all
+pub breaks_off : (old now next : Option (List ℕ)) (one left before all : List ℕ) → before ≡ one ++ left → IsLeft old now before all →
+    AppendsBeginning now next one → AppendsBeginning old next all
 breaks_off old now next one left before all is h wrote =
     let P : List ℕ → Type 0 = λ l. AppendsBeginning old next l in
     let whole : (h.front ++ one) ++ left ≡ all = append_assoc h.front one left ∙ ap (λ l. h.front ++ l) (sym is) ∙ h.splits in
@@ -46,25 +48,30 @@ none_left old now left all is h =
 -- ---- a time
 
 -- its text says no more of it than these
-same_time : (form : Form) (tool : Option Tool) (a b : RunTime) → a.ticks ≡ b.ticks → a.ticks_per_second ≡ b.ticks_per_second → use_time form tool a ≡ use_time form tool b
+same_time : (form : Form) (tool : Option Tool) (a b : RunTime) → a.ticks ≡ b.ticks → a.ticks_per_second ≡ b.ticks_per_second →
+    use_time form tool a ≡ use_time form tool b
 unfolding use_time
 same_time Words tool a b same even =
-    ap₂ (λ x y. codes "With " ++ tool_text tool ++ codes " it takes " ++ decimal x ++ codes " ticks, " ++ (clock_text (x / y) ++ codes "." ++ three_digits (x % y * 1000 / y)) ++ codes ".\n") same even
+    ap₂ (λ x y. codes "With " ++ tool_text tool ++ codes " it takes " ++ decimal x ++ codes " ticks, "
+    ++ (clock_text (x / y) ++ codes "." ++ three_digits (x % y * 1000 / y)) ++ codes ".\n") same even
 same_time Json tool a b same even =
     ap₂ (λ x y. codes ",\n{\"fact\":\"use_time\",\"tool\":" ++ tool_value tool ++ codes ",\"ticks\":" ++ decimal x ++ codes ",\"seconds\":"
     ++ (decimal (x / y) ++ codes "." ++ three_digits (x % y * 1000 / y)) ++ codes "}") same even
 
-pub time_appended : (old new : Option (List ℕ)) (form : Form) (tool : Option Tool) (a b : RunTime) → Appends old new (use_time form tool a) → a.ticks ≡ b.ticks → a.ticks_per_second ≡ b.ticks_per_second →
+pub time_appended : (old new : Option (List ℕ)) (form : Form) (tool : Option Tool) (a b : RunTime) → Appends old new (use_time form tool a) →
+    a.ticks ≡ b.ticks → a.ticks_per_second ≡ b.ticks_per_second →
     Appends old new (use_time form tool b)
 time_appended old new form tool a b wrote same even = appends_as old new (use_time form tool a) (use_time form tool b) (same_time form tool a b same even) wrote
 
-pub time_begun : (old new : Option (List ℕ)) (form : Form) (tool : Option Tool) (a b : RunTime) → AppendsBeginning old new (use_time form tool a) → a.ticks ≡ b.ticks → a.ticks_per_second ≡ b.ticks_per_second →
+pub time_begun : (old new : Option (List ℕ)) (form : Form) (tool : Option Tool) (a b : RunTime) → AppendsBeginning old new (use_time form tool a) →
+    a.ticks ≡ b.ticks → a.ticks_per_second ≡ b.ticks_per_second →
     AppendsBeginning old new (use_time form tool b)
 time_begun old new form tool a b wrote same even = begins_as old new (use_time form tool a) (use_time form tool b) (same_time form tool a b same even) wrote
 
 -- ---- the lines
 
-pub next_time : (form : Form) (whole : RunTime) (us : List ToolUse) (u : ToolUse) (more : List ToolUse) (ns : List ℕ) (n : ℕ) (later : List ℕ) → us ≡ u ∷ more → ns ≡ n ∷ later →
+pub next_time : (form : Form) (whole : RunTime) (us : List ToolUse) (u : ToolUse) (more : List ToolUse) (ns : List ℕ) (n : ℕ) (later : List ℕ) → us ≡ u ∷ more →
+    ns ≡ n ∷ later →
     use_times form whole us ns ≡ use_time form u.tool (record whole { ticks = n }) ++ use_times form whole more later
 next_time form whole us u more ns n later is_use is_ticks = ap₂ (λ x y. use_times form whole x y) is_use is_ticks
 

@@ -1,5 +1,6 @@
 -- What a run of the program comes to.
-use Rattle.std.specs.Prelude.{◌≡◌, ◌⊎◌, ℕ, Bool, true, false, List, [], ◌∷◌, ◌++◌, Option, Some, Result, Ok, Err, IfSome, option_map, MatchOption, None}
+use Rattle.std.specs.Prelude.{◌≡◌, ◌⊎◌, ℕ, Bool, true, false, List, [], ◌∷◌, ◌++◌, Option, Some}
+use Rattle.std.specs.Prelude.{Result, Ok, Err, IfSome, option_map, MatchOption, None}
 use Rattle.std.specs.Io.KnownBytes.{Appends, Keeps}
 use Rattle.ngc_command_line.specs.declared.options.ListOptions.{ListOptions}
 use Rattle.ngc_command_line.specs.declared.options.CertifyOptions.{CertifyOptions}
@@ -23,7 +24,9 @@ use Rattle.ngc_simulator.specs.declared.done.Done.{Done}
 use Rattle.ngc_simulator.specs.declared.done.Done.TheVariants.{Quietly, RunThrough}
 use Rattle.ngc_simulator.specs.declared.done.RunTime.{RunTime}
 use Rattle.ngc_simulator.specs.Guides.{Guides, version_text}
-use Rattle.ngc_simulator.specs.Faults.{FailsByOutput, OfCertifying, OfChecking, OfDrawing, OfListing, OfReporting, OfRunning, OfTelling, OfWriting, OrOfReading, answer_status, fault_line}
+use Rattle.ngc_simulator.specs.Faults.{FailsByOutput, OfCertifying, OfChecking, OfDrawing}
+use Rattle.ngc_simulator.specs.Faults.{OfListing, OfReporting, OfRunning, OfTelling, OfWriting}
+use Rattle.ngc_simulator.specs.Faults.{OrOfReading, answer_status, fault_line}
 use Rattle.ngc_simulator.specs.Lists.{Lists}
 use Rattle.ngc_drawing.specs.declared.view.View.{View}
 use Rattle.ngc_simulator.specs.Drawing.{DrawsGiven, DrawsProgram, view_named}
@@ -40,49 +43,68 @@ use Rattle.ngc_simulator.specs.Shops.{RefusesShop}
 use Rattle.ngc_simulator.specs.Mistaken.{TellsRefusal}
 use Rattle.ngc_simulator.specs.Times.{time_line}
 use Rattle.ngc_simulator.specs.Unreadable.{TellsUnreadable}
-use Rattle.ngc_simulator.specs.Unread.{Input, OfProgram, OfCertificate, OfEvents, shop_inputs, FailsByInput}
+use Rattle.ngc_simulator.specs.Unread.{Input, OfProgram, OfCertificate, OfEvents, shop_inputs}
+use Rattle.ngc_simulator.specs.Unread.{FailsByInput}
 
 -- what `list`, `certify`, `check` and `run` come to on the files that they name
-abbrev pub ListsOn : FileBytes → ListOptions → Option (List ℕ) → Option (List ℕ) → Result (Unit {0}) AnswerFault → Type 0
+abbrev pub ListsOn : FileBytes → ListOptions → Option (List ℕ) → Option (List ℕ) →
+    Result (Unit {0}) AnswerFault → Type 0
 ListsOn bytes options old new outcome =
-    OnSetup bytes (option_map (λ name. name.now) options.machine) (option_map (λ name. name.now) options.tools) (λ setup.
-    IfSome (bytes (option_map (λ name. name.now) options.program)) (λ text. Lists setup text options.delete old new outcome))
+    OnSetup bytes (option_map (λ name. name.now) options.machine)
+    (option_map (λ name. name.now) options.tools) (λ setup.
+    IfSome (bytes (option_map (λ name. name.now) options.program))
+    (λ text. Lists setup text options.delete old new outcome))
 
-abbrev pub CertifiesOn : FileBytes → CertifyOptions → Option (List ℕ) → Option (List ℕ) → Result (Unit {0}) AnswerFault → Type 0
+abbrev pub CertifiesOn : FileBytes → CertifyOptions → Option (List ℕ) → Option (List ℕ) →
+    Result (Unit {0}) AnswerFault → Type 0
 CertifiesOn bytes options old new outcome =
     OnSetup bytes (Some options.machine.now) (Some options.tools.now) (λ setup.
-    IfSome (bytes (option_map (λ name. name.now) options.program)) (λ text. Certifies setup text options.cuts options.format old new outcome))
+    IfSome (bytes (option_map (λ name. name.now) options.program))
+    (λ text. Certifies setup text options.cuts options.format old new outcome))
 
-abbrev pub ChecksOn : FileBytes → CheckOptions → Option (List ℕ) → Option (List ℕ) → Result (Unit {0}) AnswerFault → Type 0
+abbrev pub ChecksOn : FileBytes → CheckOptions → Option (List ℕ) → Option (List ℕ) →
+    Result (Unit {0}) AnswerFault → Type 0
 ChecksOn bytes options old new outcome =
     OnSetup bytes (Some options.machine.now) (Some options.tools.now) (λ setup.
     IfSome (bytes (option_map (λ name. name.now) options.program)) (λ text.
-    IfSome (bytes (Some options.certificate.now)) (λ certificate. Checks setup text certificate old new outcome)))
+    IfSome (bytes (Some options.certificate.now))
+    (λ certificate. Checks setup text certificate old new outcome)))
 
-abbrev pub RunsOn : FileBytes → RunOptions → Option (List ℕ) → Option (List ℕ) → Result Report AnswerFault → Type 0
+abbrev pub RunsOn : FileBytes → RunOptions → Option (List ℕ) → Option (List ℕ) →
+    Result Report AnswerFault → Type 0
 RunsOn bytes options old new outcome =
     OnSetup bytes (Some options.machine.now) (Some options.tools.now) (λ setup.
     IfSome (bytes (option_map (λ name. name.now) options.program)) (λ text.
     IfSome (bytes (Some options.certificate.now)) (λ certificate.
-    IfSome (bytes (Some options.events.now)) (λ events. Runs options.recording setup text certificate events options.delete old new outcome))))
+    IfSome (bytes (Some options.events.now))
+    (λ events. Runs options.recording setup text certificate events options.delete old
+    new outcome))))
 
-abbrev pub RunsThroughOn : FileBytes → RunThroughOptions → Option (List ℕ) → Option (List ℕ) → Result Report AnswerFault → Type 0
+abbrev pub RunsThroughOn : FileBytes → RunThroughOptions → Option (List ℕ) → Option (List ℕ) →
+    Result Report AnswerFault → Type 0
 RunsThroughOn bytes options old new outcome =
     OnSetup bytes (Some options.machine.now) (Some options.tools.now) (λ setup.
     IfSome (bytes (option_map (λ name. name.now) options.program)) (λ text.
-    IfSome (bytes (Some options.certificate.now)) (λ certificate. RunsThrough options.recording setup text certificate options.delete old new outcome)))
+    IfSome (bytes (Some options.certificate.now))
+    (λ certificate. RunsThrough options.recording setup text certificate options.delete old
+    new outcome)))
 
 -- a picture from this side, without a certificate or with one
-abbrev pub DrawsFrom : FileBytes → DrawOptions → View → Option (List ℕ) → Option (List ℕ) → Result (Unit {0}) AnswerFault → Type 0
+abbrev pub DrawsFrom : FileBytes → DrawOptions → View → Option (List ℕ) → Option (List ℕ) →
+    Result (Unit {0}) AnswerFault → Type 0
 DrawsFrom bytes options view old new outcome =
     OnSetup bytes (Some options.machine.now) (Some options.tools.now) (λ setup.
     IfSome (bytes (option_map (λ name. name.now) options.program)) (λ text.
-    MatchOption (option_map (λ name. name.now) options.certificate) (DrawsProgram setup text options.delete view old new outcome) (λ certificate.
-    IfSome (bytes (Some certificate)) (λ given. DrawsGiven setup text given options.delete view old new outcome))))
+    MatchOption (option_map (λ name. name.now) options.certificate)
+    (DrawsProgram setup text options.delete view old new outcome) (λ certificate.
+    IfSome (bytes (Some certificate))
+    (λ given. DrawsGiven setup text given options.delete view old new outcome))))
 
-abbrev pub ShowsOn : FileBytes → ShowOptions → Option (List ℕ) → Option (List ℕ) → Result (Unit {0}) AnswerFault → Type 0
+abbrev pub ShowsOn : FileBytes → ShowOptions → Option (List ℕ) → Option (List ℕ) →
+    Result (Unit {0}) AnswerFault → Type 0
 ShowsOn bytes options old new outcome =
-    OnSetup bytes (Some options.machine.now) (option_map (λ name. name.now) options.tools) (λ setup. Shows setup old new outcome)
+    OnSetup bytes (Some options.machine.now) (option_map (λ name. name.now) options.tools)
+    (λ setup. Shows setup old new outcome)
 
 -- what a report is asked for
 abbrev pub form_asked : Bool → Form
@@ -97,72 +119,95 @@ request_of options = record {
   some_cuts = options.some_cuts;
 }
 
-abbrev pub ReportsOn : FileBytes → ReportOptions → Option (List ℕ) → Option (List ℕ) → Result (Unit {0}) AnswerFault → Type 0
+abbrev pub ReportsOn : FileBytes → ReportOptions → Option (List ℕ) → Option (List ℕ) →
+    Result (Unit {0}) AnswerFault → Type 0
 ReportsOn bytes options old new outcome =
     OnSetup bytes (Some options.machine.now) (Some options.tools.now) (λ setup.
-    IfSome (bytes (option_map (λ name. name.now) options.program)) (λ text. Reports setup text (request_of options) old new outcome))
+    IfSome (bytes (option_map (λ name. name.now) options.program))
+    (λ text. Reports setup text (request_of options) old new outcome))
 
 -- A machine file or tool table that is refused leaves what was written as it was, and so does a
 -- file that isn't read.
-abbrev pub StopsEarly : FileBytes → Option (List ℕ) → Option (List ℕ) → Option (List ℕ) → Option (List ℕ) → AnswerFault → Type 0
+abbrev pub StopsEarly : FileBytes → Option (List ℕ) → Option (List ℕ) → Option (List ℕ) →
+    Option (List ℕ) → AnswerFault → Type 0
 StopsEarly bytes machine tools old new fault = RefusesShop bytes machine tools fault × Keeps old new
 
 -- What a command comes to: it is stopped, it does what it is for, or it fails by one of its faults.
-abbrev pub Comes : (AnswerFault → Type 0) → (AnswerFault → Type 0) → (Result (Unit {0}) AnswerFault → Type 0) → Result Done AnswerFault → Type 0
+abbrev pub Comes : (AnswerFault → Type 0) → (AnswerFault → Type 0) →
+    (Result (Unit {0}) AnswerFault → Type 0) → Result Done AnswerFault → Type 0
 Comes Stops MayFail Does (Ok Quietly) = Does (Ok tt)
 Comes Stops MayFail Does (Ok (RunThrough time)) = ⊥
 Comes Stops MayFail Does (Err fault) = Stops fault ⊎ (MayFail fault × Does (Err fault))
 
-abbrev pub ListComes : FileBytes → ListOptions → Option (List ℕ) → Option (List ℕ) → Result Done AnswerFault → Type 0
+abbrev pub ListComes : FileBytes → ListOptions → Option (List ℕ) → Option (List ℕ) →
+    Result Done AnswerFault → Type 0
 ListComes bytes options old new outcome =
-    Comes (StopsEarly bytes (option_map (λ name. name.now) options.machine) (option_map (λ name. name.now) options.tools) old new) OfListing
+    Comes (StopsEarly bytes (option_map (λ name. name.now) options.machine)
+    (option_map (λ name. name.now) options.tools) old new) OfListing
     (ListsOn bytes options old new) outcome
 
-abbrev pub CertifyComes : FileBytes → CertifyOptions → Option (List ℕ) → Option (List ℕ) → Result Done AnswerFault → Type 0
+abbrev pub CertifyComes : FileBytes → CertifyOptions → Option (List ℕ) → Option (List ℕ) →
+    Result Done AnswerFault → Type 0
 CertifyComes bytes options old new outcome =
-    Comes (StopsEarly bytes (Some options.machine.now) (Some options.tools.now) old new) OfCertifying (CertifiesOn bytes options old new) outcome
+    Comes (StopsEarly bytes (Some options.machine.now) (Some options.tools.now) old new)
+    OfCertifying (CertifiesOn bytes options old new) outcome
 
-abbrev pub CheckComes : FileBytes → CheckOptions → Option (List ℕ) → Option (List ℕ) → Result Done AnswerFault → Type 0
+abbrev pub CheckComes : FileBytes → CheckOptions → Option (List ℕ) → Option (List ℕ) →
+    Result Done AnswerFault → Type 0
 CheckComes bytes options old new outcome =
-    Comes (StopsEarly bytes (Some options.machine.now) (Some options.tools.now) old new) (OrOfReading OfChecking) (ChecksOn bytes options old new) outcome
+    Comes (StopsEarly bytes (Some options.machine.now) (Some options.tools.now) old new)
+    (OrOfReading OfChecking) (ChecksOn bytes options old new) outcome
 
 -- a run over events has a report, which the program does not write
-abbrev pub WithReport : (Result Report AnswerFault → Type 0) → Result (Unit {0}) AnswerFault → Type 0
+abbrev pub WithReport : (Result Report AnswerFault → Type 0) →
+    Result (Unit {0}) AnswerFault → Type 0
 WithReport Does (Ok u) = (report : Report) × Does (Ok report)
 WithReport Does (Err fault) = Does (Err fault)
 
-abbrev pub RunComes : FileBytes → RunOptions → Option (List ℕ) → Option (List ℕ) → Result Done AnswerFault → Type 0
+abbrev pub RunComes : FileBytes → RunOptions → Option (List ℕ) → Option (List ℕ) →
+    Result Done AnswerFault → Type 0
 RunComes bytes options old new outcome =
-    Comes (StopsEarly bytes (Some options.machine.now) (Some options.tools.now) old new) (OrOfReading OfRunning) (WithReport (RunsOn bytes options old new)) outcome
+    Comes (StopsEarly bytes (Some options.machine.now) (Some options.tools.now) old new)
+    (OrOfReading OfRunning) (WithReport (RunsOn bytes options old new)) outcome
 
 -- a view that isn't known is answered before a file is read
-abbrev pub DrawComes : FileBytes → DrawOptions → Option View → Option (List ℕ) → Option (List ℕ) → Result Done AnswerFault → Type 0
+abbrev pub DrawComes : FileBytes → DrawOptions → Option View → Option (List ℕ) → Option (List ℕ) →
+    Result Done AnswerFault → Type 0
 DrawComes bytes options None old new outcome = (outcome ≡ Err answers.UnknownView) × Keeps old new
 DrawComes bytes options (Some view) old new outcome =
-    Comes (StopsEarly bytes (Some options.machine.now) (Some options.tools.now) old new) (OrOfReading OfDrawing) (DrawsFrom bytes options view old new) outcome
+    Comes (StopsEarly bytes (Some options.machine.now) (Some options.tools.now) old new)
+    (OrOfReading OfDrawing) (DrawsFrom bytes options view old new) outcome
 
-abbrev pub ShowComes : FileBytes → ShowOptions → Option (List ℕ) → Option (List ℕ) → Result Done AnswerFault → Type 0
+abbrev pub ShowComes : FileBytes → ShowOptions → Option (List ℕ) → Option (List ℕ) →
+    Result Done AnswerFault → Type 0
 ShowComes bytes options old new outcome =
-    Comes (TellsRefusal Words bytes (Some options.machine.now) (option_map (λ name. name.now) options.tools) old new) OfWriting
+    Comes (TellsRefusal Words bytes (Some options.machine.now)
+    (option_map (λ name. name.now) options.tools) old new) OfWriting
     (ShowsOn bytes options old new) outcome
 
 -- what telling of a program that can't be read comes to on the files that they name
-abbrev pub UnreadableOn : FileBytes → ReportOptions → Option (List ℕ) → Option (List ℕ) → AnswerFault → Type 0
+abbrev pub UnreadableOn : FileBytes → ReportOptions → Option (List ℕ) → Option (List ℕ) →
+    AnswerFault → Type 0
 UnreadableOn bytes options old new fault =
     OnSetup bytes (Some options.machine.now) (Some options.tools.now) (λ setup.
     IfSome (bytes (option_map (λ name. name.now) options.program)) (λ text.
-    TellsUnreadable (form_asked options.json) (option_map (λ name. name.now) options.program) text old new fault))
+    TellsUnreadable (form_asked options.json)
+    (option_map (λ name. name.now) options.program) text old new fault))
 
 -- of a program that is read the report is told, and else its fault
-abbrev pub ReportFails : FileBytes → ReportOptions → Option (List ℕ) → Option (List ℕ) → AnswerFault → Type 0
+abbrev pub ReportFails : FileBytes → ReportOptions → Option (List ℕ) → Option (List ℕ) →
+    AnswerFault → Type 0
 ReportFails bytes options old new fault =
-    (OfReporting fault × ReportsOn bytes options old new (Err fault)) ⊎ (OfTelling fault × UnreadableOn bytes options old new fault)
+    (OfReporting fault × ReportsOn bytes options old new (Err fault)) ⊎
+    (OfTelling fault × UnreadableOn bytes options old new fault)
 
-abbrev pub ReportComes : FileBytes → ReportOptions → Option (List ℕ) → Option (List ℕ) → Result Done AnswerFault → Type 0
+abbrev pub ReportComes : FileBytes → ReportOptions → Option (List ℕ) → Option (List ℕ) →
+    Result Done AnswerFault → Type 0
 ReportComes bytes options old new (Ok Quietly) = ReportsOn bytes options old new (Ok tt)
 ReportComes bytes options old new (Ok (RunThrough time)) = ⊥
 ReportComes bytes options old new (Err fault) =
-    TellsRefusal (form_asked options.json) bytes (Some options.machine.now) (Some options.tools.now) old new fault ⊎ ReportFails bytes options old new fault
+    TellsRefusal (form_asked options.json) bytes (Some options.machine.now)
+    (Some options.tools.now) old new fault ⊎ ReportFails bytes options old new fault
 
 -- the run's ticks, and how many of them its machine gives a second
 pub record IsTimeOf (setup : Setup) (report : Report) (time : RunTime) : Type 0 where
@@ -170,13 +215,16 @@ pub record IsTimeOf (setup : Setup) (report : Report) (time : RunTime) : Type 0 
   pub ticks_per_second : time.ticks_per_second ≡ setup.machine.ticks_per_second
 
 abbrev pub IsTimeOn : FileBytes → RunThroughOptions → Report → RunTime → Type 0
-IsTimeOn bytes options report time = OnSetup bytes (Some options.machine.now) (Some options.tools.now) (λ setup. IsTimeOf setup report time)
+IsTimeOn bytes options report time = OnSetup bytes (Some options.machine.now)
+    (Some options.tools.now) (λ setup. IsTimeOf setup report time)
 
 -- of a run to the end the program tells the time
-abbrev pub RunThroughComes : FileBytes → RunThroughOptions → Option (List ℕ) → Option (List ℕ) → Result Done AnswerFault → Type 0
+abbrev pub RunThroughComes : FileBytes → RunThroughOptions → Option (List ℕ) → Option (List ℕ) →
+    Result Done AnswerFault → Type 0
 RunThroughComes bytes options old new (Ok Quietly) = ⊥
 RunThroughComes bytes options old new (Ok (RunThrough time)) =
-    (report : Report) × RunsThroughOn bytes options old new (Ok report) × IsTimeOn bytes options report time
+    (report : Report) × RunsThroughOn bytes options old new (Ok report) ×
+    IsTimeOn bytes options report time
 RunThroughComes bytes options old new (Err fault) =
     StopsEarly bytes (Some options.machine.now) (Some options.tools.now) old new fault
     ⊎ (OrOfReading OfRunning fault × RunsThroughOn bytes options old new (Err fault))
@@ -185,8 +233,10 @@ RunThroughComes bytes options old new (Err fault) =
 abbrev pub ExplainComes : ℕ → Option (List ℕ) → Option (List ℕ) → Result Done AnswerFault → Type 0
 ExplainComes number old new (Ok Quietly) = TellsFault number old new (Ok tt)
 ExplainComes number old new (Ok (RunThrough time)) = ⊥
-ExplainComes number old new (Err answers.UnknownFault) = TellsFault number old new (Err Unknown) × (is_fault number ≡ false)
-ExplainComes number old new (Err (answers.Write fault)) = TellsFault number old new (Err (Write fault))
+ExplainComes number old new (Err answers.UnknownFault) =
+    TellsFault number old new (Err Unknown) × (is_fault number ≡ false)
+ExplainComes number old new (Err (answers.Write fault)) =
+    TellsFault number old new (Err (Write fault))
 ExplainComes number old new (Err fault) = ⊥
 
 abbrev pub HelpComes : Option (List ℕ) → Option (List ℕ) → Result Done AnswerFault → Type 0
@@ -200,14 +250,18 @@ VersionComes old new (Ok (RunThrough time)) = ⊥
 VersionComes old new (Err (answers.Write fault)) = AppendsBeginning old new version_text
 VersionComes old new (Err fault) = ⊥
 
-abbrev pub ComesBy : FileBytes → Options → Option (List ℕ) → Option (List ℕ) → Result Done AnswerFault → Type 0
+abbrev pub ComesBy : FileBytes → Options → Option (List ℕ) → Option (List ℕ) →
+    Result Done AnswerFault → Type 0
 ComesBy bytes (commands.List options) old new outcome = ListComes bytes options old new outcome
-ComesBy bytes (commands.Certify options) old new outcome = CertifyComes bytes options old new outcome
+ComesBy bytes (commands.Certify options) old new outcome =
+    CertifyComes bytes options old new outcome
 ComesBy bytes (commands.Check options) old new outcome = CheckComes bytes options old new outcome
 ComesBy bytes (commands.Run options) old new outcome = RunComes bytes options old new outcome
-ComesBy bytes (commands.RunThrough options) old new outcome = RunThroughComes bytes options old new outcome
+ComesBy bytes (commands.RunThrough options) old new outcome =
+    RunThroughComes bytes options old new outcome
 ComesBy bytes (commands.Draw options) old new outcome =
-    DrawComes bytes options (view_named (option_map (λ name. name.now) options.view)) old new outcome
+    DrawComes bytes options (view_named (option_map (λ name. name.now) options.view))
+    old new outcome
 ComesBy bytes (commands.Show options) old new outcome = ShowComes bytes options old new outcome
 ComesBy bytes (commands.Report options) old new outcome = ReportComes bytes options old new outcome
 ComesBy bytes (commands.Explain number) old new outcome = ExplainComes number old new outcome
@@ -226,27 +280,32 @@ events_input name = record { kind = OfEvents; name = Some name }
 
 abbrev pub list_inputs : ListOptions → List Input
 list_inputs options =
-    shop_inputs (option_map (λ name. name.now) options.machine) (option_map (λ name. name.now) options.tools)
+    shop_inputs (option_map (λ name. name.now) options.machine)
+    (option_map (λ name. name.now) options.tools)
     ++ program_input (option_map (λ name. name.now) options.program) ∷ []
 
 abbrev pub certify_inputs : CertifyOptions → List Input
 certify_inputs options =
-    shop_inputs (Some options.machine.now) (Some options.tools.now) ++ program_input (option_map (λ name. name.now) options.program) ∷ []
+    shop_inputs (Some options.machine.now) (Some options.tools.now)
+    ++ program_input (option_map (λ name. name.now) options.program) ∷ []
 
 abbrev pub check_inputs : CheckOptions → List Input
 check_inputs options =
     shop_inputs (Some options.machine.now) (Some options.tools.now)
-    ++ program_input (option_map (λ name. name.now) options.program) ∷ certificate_input options.certificate.now ∷ []
+    ++ program_input (option_map (λ name. name.now) options.program)
+    ∷ certificate_input options.certificate.now ∷ []
 
 abbrev pub run_inputs : RunOptions → List Input
 run_inputs options =
     shop_inputs (Some options.machine.now) (Some options.tools.now)
-    ++ program_input (option_map (λ name. name.now) options.program) ∷ certificate_input options.certificate.now ∷ events_input options.events.now ∷ []
+    ++ program_input (option_map (λ name. name.now) options.program)
+    ∷ certificate_input options.certificate.now ∷ events_input options.events.now ∷ []
 
 abbrev pub run_through_inputs : RunThroughOptions → List Input
 run_through_inputs options =
     shop_inputs (Some options.machine.now) (Some options.tools.now)
-    ++ program_input (option_map (λ name. name.now) options.program) ∷ certificate_input options.certificate.now ∷ []
+    ++ program_input (option_map (λ name. name.now) options.program)
+    ∷ certificate_input options.certificate.now ∷ []
 
 abbrev pub certificate_inputs : Option (List ℕ) → List Input
 certificate_inputs None = []
@@ -257,14 +316,17 @@ abbrev pub draw_inputs : DrawOptions → Option View → List Input
 draw_inputs options None = []
 draw_inputs options (Some view) =
     shop_inputs (Some options.machine.now) (Some options.tools.now)
-    ++ program_input (option_map (λ name. name.now) options.program) ∷ certificate_inputs (option_map (λ name. name.now) options.certificate)
+    ++ program_input (option_map (λ name. name.now) options.program)
+    ∷ certificate_inputs (option_map (λ name. name.now) options.certificate)
 
 abbrev pub show_inputs : ShowOptions → List Input
-show_inputs options = shop_inputs (Some options.machine.now) (option_map (λ name. name.now) options.tools)
+show_inputs options =
+    shop_inputs (Some options.machine.now) (option_map (λ name. name.now) options.tools)
 
 abbrev pub report_inputs : ReportOptions → List Input
 report_inputs options =
-    shop_inputs (Some options.machine.now) (Some options.tools.now) ++ program_input (option_map (λ name. name.now) options.program) ∷ []
+    shop_inputs (Some options.machine.now) (Some options.tools.now)
+    ++ program_input (option_map (λ name. name.now) options.program) ∷ []
 
 abbrev pub inputs_of : Options → List Input
 inputs_of (commands.List options) = list_inputs options
@@ -272,7 +334,8 @@ inputs_of (commands.Certify options) = certify_inputs options
 inputs_of (commands.Check options) = check_inputs options
 inputs_of (commands.Run options) = run_inputs options
 inputs_of (commands.RunThrough options) = run_through_inputs options
-inputs_of (commands.Draw options) = draw_inputs options (view_named (option_map (λ name. name.now) options.view))
+inputs_of (commands.Draw options) =
+    draw_inputs options (view_named (option_map (λ name. name.now) options.view))
 inputs_of (commands.Show options) = show_inputs options
 inputs_of (commands.Report options) = report_inputs options
 inputs_of (commands.Explain number) = []
@@ -328,10 +391,12 @@ pub record Given : Type 1 where
 
 -- What the run came to, with the files that weren't read, the output, the status and the second
 -- sink that go with it.
-pub record Answers (files : Given) (options : Options) (output errors : Taking) (status : ℕ) : Type 0 where
+pub record Answers (files : Given) (options : Options) (output errors : Taking) (status : ℕ) :
+    Type 0 where
   pub outcome : Result Done AnswerFault
   pub comes : ComesBy files.bytes options output.old output.new outcome
-  pub unread : FailsByInput files.fails files.bytes (inputs_of options) files.failures files.failures_now outcome
+  pub unread : FailsByInput files.fails files.bytes
+      (inputs_of options) files.failures files.failures_now outcome
   pub counts : FailsByOutput outcome output.failures output.failures_now
   pub says : status ≡ status_of outcome
   pub tells : Tells outcome errors

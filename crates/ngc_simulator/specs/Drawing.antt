@@ -1,5 +1,6 @@
 -- What drawing a program comes to. Our own.
-use Rattle.std.specs.Prelude.{◌≡◌, ℕ, List, [], ◌∷◌, take, drop, Option, Some, None, Result, Ok, Err, Bool, codes, if◌then◌else◌}
+use Rattle.std.specs.Prelude.{◌≡◌, ℕ, List, [], ◌∷◌, take, drop, Option, Some, None, Result, Ok}
+use Rattle.std.specs.Prelude.{Err, Bool, codes, if◌then◌else◌}
 use Rattle.std.specs.Str.{bytes_eq}
 use Rattle.std.specs.Io.KnownBytes.{Appends, Keeps}
 use Rattle.ngc_text.specs.Written.{AppendsBeginning}
@@ -39,7 +40,8 @@ use Rattle.ngc_simulator.specs.Lists.{IsMeaning, IsRefused}
 abbrev pub view_named : Option (List ℕ) → Option View
 view_named None = Some Top
 view_named (Some name) =
-    if bytes_eq name (codes "top") then Some Top else if bytes_eq name (codes "front") then Some Front
+    if bytes_eq name (codes "top") then Some Top else if bytes_eq name (codes "front")
+    then Some Front
     else if bytes_eq name (codes "side") then Some Side else None
 
 abbrev pub setting_of : Bool → Setting
@@ -74,7 +76,8 @@ fixture_of (Some refusal) = fixture_in refusal.fault
 -- the fixture that a tool change meets where the axes stand, and a motion in one piece
 abbrev pub met_by : MachineFile → Reached → Action → Option ℕ
 met_by machine r (Mount tool) = place_fault machine tool (grid machine.step r.place)
-met_by machine r (Move m) = fixture_of (pieces_fault machine r.tool m.way (pieces_of machine.step m.way 1))
+met_by machine r (Move m) =
+    fixture_of (pieces_fault machine r.tool m.way (pieces_of machine.step m.way 1))
 met_by machine r _ = None
 
 abbrev pub met_first : MachineFile → Reached → List Command → Option ℕ
@@ -84,14 +87,17 @@ met_first machine r (c ∷ cs) = met_by machine r c.action
 -- the fixture that is met at the start, or by command k
 abbrev pub met_at : MachineFile → List Command → ℕ → Option ℕ
 met_at machine commands k =
-    place_fault machine None (grid machine.step machine.start) or met_first machine (behind (start_of machine) (take k commands)) (drop k commands)
+    place_fault machine None (grid machine.step machine.start) or met_first machine
+    (behind (start_of machine) (take k commands)) (drop k commands)
 
 -- where no certificate is given: what making one for these commands tells, with as many pieces as
 -- `certify` tries by itself
 abbrev pub IsMadeRefusal : MachineFile → List Command → Option Refusal → Type 0
-IsMadeRefusal machine commands None = (c : CertificateData) × IsMade machine 8 commands commands (Ok c)
+IsMadeRefusal machine commands None =
+    (c : CertificateData) × IsMade machine 8 commands commands (Ok c)
 IsMadeRefusal machine commands (Some refusal) =
-    (s : Setting) × IsMade machine 8 commands commands (Err (NotCleared s refusal.command)) × (refusal.fault ≡ 304)
+    (s : Setting) × IsMade machine 8 commands commands (Err (NotCleared s refusal.command)) ×
+    (refusal.fault ≡ 304)
     × (refusal.fixture ≡ met_at machine commands refusal.command)
 
 -- where one is given: its first fault at the setting, if that is for travel or for a fixture
@@ -99,14 +105,16 @@ abbrev pub piece_refusal : ℕ → PieceFault → Option Refusal
 piece_refusal k pieces.Chain = None
 piece_refusal k pieces.NotCovered = None
 piece_refusal k pieces.OutsideTravel = Some (record { command = k; fault = 315; fixture = None })
-piece_refusal k (pieces.MeetsFixture i) = Some (record { command = k; fault = 316; fixture = Some i })
+piece_refusal k (pieces.MeetsFixture i) =
+    Some (record { command = k; fault = 316; fixture = Some i })
 
 abbrev pub drawn_refusal : CheckFault → Option Refusal
 drawn_refusal (checks.Program s e) = None
 drawn_refusal (checks.MotionsDiffer s k) = None
 drawn_refusal (checks.Start i) = Some (record { command = 0; fault = 318; fixture = Some i })
 drawn_refusal (checks.Piece s k j e) = piece_refusal k e
-drawn_refusal (checks.ToolChange s k i) = Some (record { command = k; fault = 317; fixture = Some i })
+drawn_refusal (checks.ToolChange s k i) =
+    Some (record { command = k; fault = 317; fixture = Some i })
 drawn_refusal checks.Memory = None
 
 abbrev pub fault_at : MachineFile → Setting → List Command → CertificateData → Option CheckFault
@@ -125,7 +133,9 @@ refusal_answer (Some fault) = drawn_or fault (drawn_refusal fault)
 
 -- the picture of what a file means with the motions of a certificate, and with what is refused of
 -- it
-pub record IsPicture (setup : Setup) (bytes : List ℕ) (block_delete : Bool) (view : View) (entries : List Entry) (IsShown : List Command → Option Refusal → Type 0) (text : List ℕ) : Type 0 where
+pub record IsPicture (setup : Setup) (bytes : List ℕ) (block_delete : Bool) (view : View)
+    (entries : List Entry) (IsShown : List Command → Option Refusal → Type 0) (text : List ℕ) :
+    Type 0 where
   pub commands : List Command
   pub meaning : IsMeaning setup bytes block_delete (Ok commands)
   pub refusal : Option Refusal
@@ -134,31 +144,47 @@ pub record IsPicture (setup : Setup) (bytes : List ℕ) (block_delete : Bool) (v
 
 -- the picture was written, or a beginning of it where the sink failed; where there is none, what
 -- was written is as it was
-abbrev pub Draws : Setup → List ℕ → Bool → View → List Entry → (List Command → Option Refusal → Type 0) → Option (List ℕ) → Option (List ℕ) → Result (Unit {0}) AnswerFault → Type 0
-Draws setup bytes block_delete view entries IsShown old new (Ok u) = (text : List ℕ) × IsPicture setup bytes block_delete view entries IsShown text × Appends old new text
+abbrev pub Draws : Setup → List ℕ → Bool → View → List Entry →
+    (List Command → Option Refusal → Type 0) → Option (List ℕ) → Option (List ℕ) →
+    Result (Unit {0}) AnswerFault → Type 0
+Draws setup bytes block_delete view entries IsShown old new (Ok u) = (text : List ℕ) ×
+    IsPicture setup bytes block_delete view entries IsShown text × Appends old new text
 Draws setup bytes block_delete view entries IsShown old new (Err (answers.Write fault)) =
-    (text : List ℕ) × IsPicture setup bytes block_delete view entries IsShown text × AppendsBeginning old new text
+    (text : List ℕ) × IsPicture setup bytes block_delete view entries IsShown text ×
+    AppendsBeginning old new text
 Draws setup bytes block_delete view entries IsShown old new (Err answers.Memory) = Keeps old new
-Draws setup bytes block_delete view entries IsShown old new (Err (answers.Program fault)) = IsRefused setup bytes block_delete fault × Keeps old new
-Draws setup bytes block_delete view entries IsShown old new (Err (answers.Read fault)) = FaultIs fault (program_of bytes) × Keeps old new
+Draws setup bytes block_delete view entries IsShown old new (Err (answers.Program fault)) =
+    IsRefused setup bytes block_delete fault × Keeps old new
+Draws setup bytes block_delete view entries IsShown old new (Err (answers.Read fault)) =
+    FaultIs fault (program_of bytes) × Keeps old new
 Draws setup bytes block_delete view entries IsShown old new (Err _) = ⊥
 
 -- Of a program's file and a sink, without a certificate.
-abbrev pub DrawsProgram : Setup → List ℕ → Bool → View → Option (List ℕ) → Option (List ℕ) → Result (Unit {0}) AnswerFault → Type 0
-DrawsProgram setup bytes block_delete view old new outcome = Draws setup bytes block_delete view [] (IsMadeRefusal setup.machine) old new outcome
+abbrev pub DrawsProgram : Setup → List ℕ → Bool → View → Option (List ℕ) → Option (List ℕ) →
+    Result (Unit {0}) AnswerFault → Type 0
+DrawsProgram setup bytes block_delete view old new outcome =
+    Draws setup bytes block_delete view [] (IsMadeRefusal setup.machine) old new outcome
 
 -- what a certificate refuses of commands
-abbrev pub IsGivenRefusal : MachineFile → Setting → CertificateData → List Command → Option Refusal → Type 0
-IsGivenRefusal machine s c commands refusal = refusal_answer (fault_at machine s commands c) ≡ Ok refusal
+abbrev pub IsGivenRefusal : MachineFile → Setting → CertificateData → List Command →
+    Option Refusal → Type 0
+IsGivenRefusal machine s c commands refusal =
+    refusal_answer (fault_at machine s commands c) ≡ Ok refusal
 
 -- Of a program's file, a certificate's file and a sink. A fault of the certificate that isn't drawn
 -- is answered.
-abbrev pub DrawsGiven : Setup → List ℕ → List ℕ → Bool → View → Option (List ℕ) → Option (List ℕ) → Result (Unit {0}) AnswerFault → Type 0
-DrawsGiven setup bytes text block_delete view old new (Err (answers.Certificate fault)) = IsNoCertificate text fault × Keeps old new
+abbrev pub DrawsGiven : Setup → List ℕ → List ℕ → Bool → View → Option (List ℕ) → Option (List ℕ) →
+    Result (Unit {0}) AnswerFault → Type 0
+DrawsGiven setup bytes text block_delete view old new (Err (answers.Certificate fault)) =
+    IsNoCertificate text fault × Keeps old new
 DrawsGiven setup bytes text block_delete view old new (Err (answers.Check fault)) =
-    ((commands : List Command) × (c : CertificateData) × IsMeaning setup bytes block_delete (Ok commands) × (certificate_said text ≡ Ok c)
-    × (refusal_answer (fault_at setup.machine (setting_of block_delete) commands c) ≡ Err fault)) × Keeps old new
-DrawsGiven setup bytes text block_delete view old new (Err (answers.Read fault)) = FaultIs fault (program_of bytes) × Keeps old new
+    ((commands : List Command) × (c : CertificateData) ×
+    IsMeaning setup bytes block_delete (Ok commands) × (certificate_said text ≡ Ok c)
+    × (refusal_answer (fault_at setup.machine (setting_of block_delete) commands c) ≡ Err fault)) ×
+    Keeps old new
+DrawsGiven setup bytes text block_delete view old new (Err (answers.Read fault)) =
+    FaultIs fault (program_of bytes) × Keeps old new
 DrawsGiven setup bytes text block_delete view old new outcome =
     (c : CertificateData) × (certificate_said text ≡ Ok c)
-    × Draws setup bytes block_delete view (entries_at (setting_of block_delete) c) (IsGivenRefusal setup.machine (setting_of block_delete) c) old new outcome
+    × Draws setup bytes block_delete view (entries_at (setting_of block_delete) c)
+    (IsGivenRefusal setup.machine (setting_of block_delete) c) old new outcome

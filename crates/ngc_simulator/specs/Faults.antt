@@ -1,6 +1,7 @@
 -- What the program answers in place of its output: the numbers of faults, the lines that tell them,
 -- and the statuses. Our own.
-use Rattle.std.specs.Prelude.{◌≡◌, ℕ, List, ◌++◌, codes, decimal, Option, Some, None, Result, Ok, Err}
+use Rattle.std.specs.Prelude.{◌≡◌, ℕ, List, ◌++◌, codes, decimal, Option, Some, None, Result, Ok}
+use Rattle.std.specs.Prelude.{Err}
 use Rattle.ngc_canonical.specs.Faults.{program_number}
 use Rattle.ngc_canonical.specs.declared.fault.ProgramFault.{ProgramFault}
 use Rattle.ngc_canonical.specs.declared.fault.ProgramFault.TheVariants as programs
@@ -54,7 +55,8 @@ answer_number answers.UnknownView = 723
 
 -- where a fault stands: a line and a column, a line, a file, or nowhere
 abbrev pub read_place : ReadFault → List ℕ
-read_place (reads.Line line e) = codes " line " ++ decimal line ++ codes " column " ++ decimal e.column
+read_place (reads.Line line e) =
+    codes " line " ++ decimal line ++ codes " column " ++ decimal e.column
 read_place reads.NoEnd = codes ""
 read_place reads.TooManyLines = codes ""
 read_place reads.Memory = codes ""
@@ -83,7 +85,8 @@ piece_place (pieces.MeetsFixture fixture) = fixture_place fixture
 
 -- a program that is refused, with its own fault
 abbrev pub refused_place : Setting → ProgramFault → List ℕ
-refused_place setting e = setting_place setting ++ codes " fault " ++ decimal (program_number e) ++ program_place e
+refused_place setting e =
+    setting_place setting ++ codes " fault " ++ decimal (program_number e) ++ program_place e
 
 abbrev pub make_place : MakeFault → List ℕ
 make_place (makes.NotCleared setting command) = command_place setting command
@@ -93,8 +96,10 @@ abbrev pub check_place : CheckFault → List ℕ
 check_place (refusals.Program setting e) = refused_place setting e
 check_place (refusals.MotionsDiffer setting command) = command_place setting command
 check_place (refusals.Start fixture) = fixture_place fixture
-check_place (refusals.Piece setting command piece e) = command_place setting command ++ codes " piece " ++ decimal piece ++ piece_place e
-check_place (refusals.ToolChange setting command fixture) = command_place setting command ++ fixture_place fixture
+check_place (refusals.Piece setting command piece e) =
+    command_place setting command ++ codes " piece " ++ decimal piece ++ piece_place e
+check_place (refusals.ToolChange setting command fixture) =
+    command_place setting command ++ fixture_place fixture
 check_place refusals.Memory = codes ""
 
 abbrev pub line_of_text : Option ℕ → List ℕ

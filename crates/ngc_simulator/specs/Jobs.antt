@@ -48,7 +48,8 @@ pub record AreMeanings (setup : Setup) (bytes : List ℕ) (off on : List Command
 -- ---- certifying
 
 -- the certificate that is made for a file, and it is valid
-pub record IsMadeFor (setup : Setup) (bytes : List ℕ) (cuts : ℕ) (c : CertificateData) : Type 0 where
+pub record IsMadeFor (setup : Setup) (bytes : List ℕ) (cuts : ℕ) (c : CertificateData) :
+    Type 0 where
   pub off : List Command
   pub on : List Command
   pub means : AreMeanings setup bytes off on
@@ -62,7 +63,8 @@ IsWrittenAs One off on c f = f ≡ Parted c
 IsWrittenAs Two off on c f = IsJoinedOf off on c f
 
 -- the certificate that is made for a file, in a format
-pub record IsCertificateFor (setup : Setup) (bytes : List ℕ) (cuts : ℕ) (format : Format) (f : Form) : Type 0 where
+pub record IsCertificateFor (setup : Setup) (bytes : List ℕ) (cuts : ℕ) (format : Format)
+    (f : Form) : Type 0 where
   pub certificate : CertificateData
   pub made : IsMadeFor setup bytes cuts certificate
   pub written : IsWrittenAs format made.off made.on certificate f
@@ -71,7 +73,8 @@ pub record IsCertificateFor (setup : Setup) (bytes : List ℕ) (cuts : ℕ) (for
 -- delete on
 abbrev pub IsRefusedAt : Setup → ProgramLines → Setting → ProgramFault → Type 0
 IsRefusedAt setup program Off fault = meaning program setup false ≡ Err fault
-IsRefusedAt setup program On fault = (off : List Command) × (meaning program setup false ≡ Ok off) × (meaning program setup true ≡ Err fault)
+IsRefusedAt setup program On fault = (off : List Command) × (meaning program setup false ≡ Ok off) ×
+    (meaning program setup true ≡ Err fault)
 
 -- why such a program has no certificate
 abbrev pub refused_at : Setting → ProgramFault → AnswerFault
@@ -82,21 +85,28 @@ refused_at setting programs.Memory = answers.Make Memory
 abbrev pub IsNotMade : Setup → List ℕ → ℕ → MakeFault → Type 0
 IsNotMade setup bytes cuts Memory = Unit {0}
 IsNotMade setup bytes cuts (NotCleared s k) =
-    (off : List Command) × (on : List Command) × AreMeanings setup bytes off on × IsMade setup.machine cuts off on (Err (NotCleared s k))
+    (off : List Command) × (on : List Command) × AreMeanings setup bytes off on ×
+    IsMade setup.machine cuts off on (Err (NotCleared s k))
 
 -- why no certificate is made for a file's program: it is refused, or it isn't cleared
 abbrev pub WhyNotMade : Setup → List ℕ → ℕ → AnswerFault → Type 0
-WhyNotMade setup bytes cuts (answers.Refused setting fault) = (program : ProgramLines) × IsProgram bytes program × IsRefusedAt setup program setting fault
+WhyNotMade setup bytes cuts (answers.Refused setting fault) =
+    (program : ProgramLines) × IsProgram bytes program × IsRefusedAt setup program setting fault
 WhyNotMade setup bytes cuts (answers.Make fault) = IsNotMade setup bytes cuts fault
 WhyNotMade setup bytes cuts _ = ⊥
 
 -- Of a program's file and a sink: the text of its certificate was written, or a beginning of it
 -- where the sink failed; where none is made, what was written is as it was.
-abbrev pub Certifies : Setup → List ℕ → ℕ → Format → Option (List ℕ) → Option (List ℕ) → Result (Unit {0}) AnswerFault → Type 0
-Certifies setup bytes cuts format old new (Ok u) = (f : Form) × IsCertificateFor setup bytes cuts format f × Appends old new (spelling f)
-Certifies setup bytes cuts format old new (Err (answers.Read fault)) = FaultIs fault (program_of bytes) × Keeps old new
-Certifies setup bytes cuts format old new (Err (answers.Refused setting fault)) = WhyNotMade setup bytes cuts (answers.Refused setting fault) × Keeps old new
-Certifies setup bytes cuts format old new (Err (answers.Make fault)) = WhyNotMade setup bytes cuts (answers.Make fault) × Keeps old new
+abbrev pub Certifies : Setup → List ℕ → ℕ → Format → Option (List ℕ) → Option (List ℕ) →
+    Result (Unit {0}) AnswerFault → Type 0
+Certifies setup bytes cuts format old new (Ok u) =
+    (f : Form) × IsCertificateFor setup bytes cuts format f × Appends old new (spelling f)
+Certifies setup bytes cuts format old new (Err (answers.Read fault)) =
+    FaultIs fault (program_of bytes) × Keeps old new
+Certifies setup bytes cuts format old new (Err (answers.Refused setting fault)) =
+    WhyNotMade setup bytes cuts (answers.Refused setting fault) × Keeps old new
+Certifies setup bytes cuts format old new (Err (answers.Make fault)) =
+    WhyNotMade setup bytes cuts (answers.Make fault) × Keeps old new
 Certifies setup bytes cuts format old new (Err (answers.Write fault)) =
     (f : Form) × IsCertificateFor setup bytes cuts format f × AppendsBeginning old new (spelling f)
 Certifies setup bytes cuts format old new (Err _) = ⊥
@@ -104,7 +114,8 @@ Certifies setup bytes cuts format old new (Err _) = ⊥
 -- ---- checking
 
 -- the program of one file, and the certificate of another
-pub record AreGiven (bytes text : List ℕ) (program : ProgramLines) (c : CertificateData) : Type 0 where
+pub record AreGiven (bytes text : List ℕ) (program : ProgramLines) (c : CertificateData) :
+    Type 0 where
   pub is_program : IsProgram bytes program
   pub is_certificate : certificate_said text ≡ Ok c
 
@@ -130,11 +141,17 @@ accepted_text = codes "accepted\n"
 -- Of a program's file, a certificate's file and a sink: `accepted` was written where nothing is
 -- refused, or a beginning of it where the sink failed; else the first refusal is answered, and what
 -- was written is as it was.
-abbrev pub Checks : Setup → List ℕ → List ℕ → Option (List ℕ) → Option (List ℕ) → Result (Unit {0}) AnswerFault → Type 0
-Checks setup bytes text old new (Ok u) = IsAcceptedText setup bytes text × Appends old new accepted_text
-Checks setup bytes text old new (Err (answers.Read fault)) = FaultIs fault (program_of bytes) × Keeps old new
-Checks setup bytes text old new (Err (answers.Certificate fault)) = IsNoCertificate text fault × Keeps old new
+abbrev pub Checks : Setup → List ℕ → List ℕ → Option (List ℕ) → Option (List ℕ) →
+    Result (Unit {0}) AnswerFault → Type 0
+Checks setup bytes text old new (Ok u) =
+    IsAcceptedText setup bytes text × Appends old new accepted_text
+Checks setup bytes text old new (Err (answers.Read fault)) =
+    FaultIs fault (program_of bytes) × Keeps old new
+Checks setup bytes text old new (Err (answers.Certificate fault)) =
+    IsNoCertificate text fault × Keeps old new
 Checks setup bytes text old new (Err (answers.Check fault)) =
-    ((program : ProgramLines) × (c : CertificateData) × AreGiven bytes text program c × IsFirst fault (first_refusal program setup c)) × Keeps old new
-Checks setup bytes text old new (Err (answers.Write fault)) = IsAcceptedText setup bytes text × AppendsBeginning old new accepted_text
+    ((program : ProgramLines) × (c : CertificateData) × AreGiven bytes text program c ×
+    IsFirst fault (first_refusal program setup c)) × Keeps old new
+Checks setup bytes text old new (Err (answers.Write fault)) =
+    IsAcceptedText setup bytes text × AppendsBeginning old new accepted_text
 Checks setup bytes text old new (Err _) = ⊥

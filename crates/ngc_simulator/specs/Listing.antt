@@ -1,5 +1,6 @@
 -- The listing: a line for each command. Our own format.
-use Rattle.std.specs.Prelude.{ℕ, ◌+◌, ℤ, List, [], ◌∷◌, ◌++◌, codes, decimal, Option, Some, None, Bool, true, false}
+use Rattle.std.specs.Prelude.{ℕ, ◌+◌, ℤ, List, [], ◌∷◌, ◌++◌, codes, decimal, Option, Some, None}
+use Rattle.std.specs.Prelude.{Bool, true, false}
 use Rattle.std.specs.Fmt.{signed_decimal}
 use Rattle.ngc_fixed_length.specs.Grid.{grid}
 use Rattle.ngc_arc_geometry.specs.Shape.{ArcShape}
@@ -12,7 +13,9 @@ use Rattle.ngc_fixed_length.specs.declared.points.StepPos.{StepPos}
 use Rattle.ngc_machine.specs.declared.tools.Tool.{Tool}
 use Rattle.ngc_canonical.specs.Movement.{end_of}
 use Rattle.ngc_canonical.specs.declared.command.Action.{Action}
-use Rattle.ngc_canonical.specs.declared.command.Action.TheVariants.{Move, Mount, Dwell, Spindle, Coolant, Override, Stop, OptionalStop, End}
+use Rattle.ngc_canonical.specs.declared.command.Action.TheVariants.{Move, Mount, Dwell, Spindle}
+use Rattle.ngc_canonical.specs.declared.command.Action.TheVariants.{Coolant, Override, Stop}
+use Rattle.ngc_canonical.specs.declared.command.Action.TheVariants.{OptionalStop, End}
 use Rattle.ngc_canonical.specs.declared.command.Command.{Command}
 use Rattle.ngc_canonical.specs.declared.movement.Feed.{Feed}
 use Rattle.ngc_canonical.specs.declared.movement.Feed.TheVariants as feeds
@@ -54,7 +57,8 @@ plane_text YZ = codes "yz"
 
 -- the sense of turning, the plane, and the centre by the plane's axes
 abbrev pub arc_text : ArcShape → List ℕ
-arc_text arc = turn_text arc.turn ++ codes " " ++ plane_text arc.plane ++ codes " " ++ signed_decimal arc.centre.u ++ codes " " ++ signed_decimal arc.centre.v
+arc_text arc = turn_text arc.turn ++ codes " " ++ plane_text arc.plane ++ codes " "
+    ++ signed_decimal arc.centre.u ++ codes " " ++ signed_decimal arc.centre.v
 
 abbrev pub spindle_text : SpindleState → List ℕ
 spindle_text spindles.Off = codes "off"
@@ -100,11 +104,13 @@ act_text step End = codes " end"
 
 -- a line of the listing: the command's index, its line in the program, and what it does
 abbrev pub listing_line : ℤ → ℕ → Command → List ℕ
-listing_line step index command = decimal index ++ codes " " ++ decimal command.line ++ act_text step command.action ++ codes "\n"
+listing_line step index command =
+    decimal index ++ codes " " ++ decimal command.line ++ act_text step command.action ++ codes "\n"
 
 abbrev pub listing_from : ℕ → ℤ → List Command → List ℕ
 listing_from index step [] = []
-listing_from index step (command ∷ commands) = listing_line step index command ++ listing_from (index + 1) step commands
+listing_from index step (command ∷ commands) =
+    listing_line step index command ++ listing_from (index + 1) step commands
 
 -- the listing of a list of commands, whose indices count from 0
 abbrev pub listing : ℤ → List Command → List ℕ

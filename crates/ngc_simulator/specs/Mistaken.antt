@@ -1,5 +1,6 @@
 -- What is told of a machine file or a tool table that is refused. Our own.
-use Rattle.std.specs.Prelude.{◌≡◌, ◌≢◌, ◌⊎◌, ℕ, List, ◌++◌, Option, Some, Result, Ok, Err, IfSome, IsSomeAnd}
+use Rattle.std.specs.Prelude.{◌≡◌, ◌≢◌, ◌⊎◌, ℕ, List, ◌++◌, Option, Some, Result, Ok, Err, IfSome}
+use Rattle.std.specs.Prelude.{IsSomeAnd}
 use Rattle.std.specs.Io.KnownBytes.{Appends, Keeps}
 use Rattle.ngc_text.specs.Written.{AppendsBeginning}
 use Rattle.ngc_machine.specs.Faults.{number_of as file_number}
@@ -26,30 +27,41 @@ told_text Words text bytes e = text bytes e
 told_text Json text bytes e = fault_document (file_number e)
 
 -- P of that, where the file is known; that memory runs out is no mistake of it
-abbrev pub OfText : Form → (List ℕ → FileFault → List ℕ) → FileFault → Option (List ℕ) → (List ℕ → Type 0) → Type 0
+abbrev pub OfText : Form → (List ℕ → FileFault → List ℕ) → FileFault → Option (List ℕ) →
+    (List ℕ → Type 0) → Type 0
 OfText form text e known P = (e ≢ Memory) × IfSome known (λ bytes. P (told_text form text bytes e))
 
 -- the same of the one of two files that is refused
-abbrev pub OfMistake : Form → FileBytes → Option (List ℕ) → Option (List ℕ) → AnswerFault → (List ℕ → Type 0) → Type 0
-OfMistake form bytes machine tools (answers.Machine e) P = IsSomeAnd machine (λ name. OfText form machine_mistake_text e (bytes (Some name)) P)
-OfMistake form bytes machine tools (answers.Tools e) P = IsSomeAnd tools (λ name. OfText form tools_mistake_text e (bytes (Some name)) P)
+abbrev pub OfMistake : Form → FileBytes → Option (List ℕ) → Option (List ℕ) → AnswerFault →
+    (List ℕ → Type 0) → Type 0
+OfMistake form bytes machine tools (answers.Machine e) P =
+    IsSomeAnd machine (λ name. OfText form machine_mistake_text e (bytes (Some name)) P)
+OfMistake form bytes machine tools (answers.Tools e) P =
+    IsSomeAnd tools (λ name. OfText form tools_mistake_text e (bytes (Some name)) P)
 OfMistake form bytes machine tools fault P = ⊥
 
 -- A file that is refused has its mistake told, or nothing where memory ran out; and where the sink
 -- failed, a beginning of it. A file that isn't read leaves what was written as it was.
-abbrev pub TellsRefusal : Form → FileBytes → Option (List ℕ) → Option (List ℕ) → Option (List ℕ) → Option (List ℕ) → AnswerFault → Type 0
+abbrev pub TellsRefusal : Form → FileBytes → Option (List ℕ) → Option (List ℕ) → Option (List ℕ) →
+    Option (List ℕ) → AnswerFault → Type 0
 TellsRefusal form bytes machine tools old new (answers.Write fault) =
-    (refused : AnswerFault) × RefusesShop bytes machine tools refused × OfMistake form bytes machine tools refused (AppendsBeginning old new)
+    (refused : AnswerFault) × RefusesShop bytes machine tools refused ×
+    OfMistake form bytes machine tools refused (AppendsBeginning old new)
 TellsRefusal form bytes machine tools old new fault =
-    RefusesShop bytes machine tools fault × (Keeps old new ⊎ OfMistake form bytes machine tools fault (Appends old new))
+    RefusesShop bytes machine tools fault ×
+    (Keeps old new ⊎ OfMistake form bytes machine tools fault (Appends old new))
 
 -- the two files' machine and tools, with nothing written, or what is told in their place
-abbrev pub GivesTold : Form → FileBytes → Option (List ℕ) → Option (List ℕ) → Option (List ℕ) → Option (List ℕ) → Result Shop AnswerFault → Type 0
-GivesTold form bytes machine tools old new (Ok shop) = GivesShop bytes machine tools (Ok shop) × (new ≡ old)
-GivesTold form bytes machine tools old new (Err fault) = TellsRefusal form bytes machine tools old new fault
+abbrev pub GivesTold : Form → FileBytes → Option (List ℕ) → Option (List ℕ) → Option (List ℕ) →
+    Option (List ℕ) → Result Shop AnswerFault → Type 0
+GivesTold form bytes machine tools old new (Ok shop) =
+    GivesShop bytes machine tools (Ok shop) × (new ≡ old)
+GivesTold form bytes machine tools old new (Err fault) =
+    TellsRefusal form bytes machine tools old new fault
 
 -- what telling one file's mistake comes to, where the file may not be read again
-abbrev pub TellsMistake : ((List ℕ → Type 0) → Type 0) → Option (List ℕ) → Option (List ℕ) → Result (Unit {0}) AnswerFault → Type 0
+abbrev pub TellsMistake : ((List ℕ → Type 0) → Type 0) → Option (List ℕ) → Option (List ℕ) →
+    Result (Unit {0}) AnswerFault → Type 0
 TellsMistake Of old new (Ok u) = Keeps old new ⊎ Of (Appends old new)
 TellsMistake Of old new (Err (answers.Write fault)) = Of (AppendsBeginning old new)
 TellsMistake Of old new (Err (answers.Input fault)) = Keeps old new

@@ -1,5 +1,7 @@
 -- What telling whether a program fits comes to. Our own.
-use Rattle.std.specs.Prelude.{◌≡◌, ◌⊎◌, ℕ, List, [], ◌++◌, codes, decimal, slice_get, Option, Some, None, is_some, option_map, Result, Ok, Err, Bool, true, false, if◌then◌else◌}
+use Rattle.std.specs.Prelude.{◌≡◌, ◌⊎◌, ℕ, List, [], ◌++◌, codes, decimal, slice_get, Option, Some}
+use Rattle.std.specs.Prelude.{None, is_some, option_map, Result, Ok, Err, Bool, true, false}
+use Rattle.std.specs.Prelude.{if◌then◌else◌}
 use Rattle.std.specs.Io.KnownBytes.{Appends, Keeps}
 use Rattle.ngc_fixed_length.specs.Grid.{grid}
 use Rattle.ngc_text.specs.Written.{AppendsBeginning}
@@ -47,17 +49,20 @@ use Rattle.ngc_simulator.specs.declared.request.ReportRequest.{ReportRequest}
 -- a machine goes through these commands in this time, and through each part of them
 abbrev pub LastsFor : MachineFile → List Command → ProgramTimeData → Type 0
 LastsFor machine commands time =
-    IsTimedThrough (job_of machine commands) time.whole.ticks time.parts × (time.whole.ticks_per_second ≡ machine.ticks_per_second)
+    IsTimedThrough (job_of machine commands) time.whole.ticks time.parts ×
+    (time.whole.ticks_per_second ≡ machine.ticks_per_second)
 
 -- the line that tells it
 abbrev pub takes_words : RunTime → List ℕ
 takes_words time =
-    codes "It takes " ++ decimal time.ticks ++ codes " ticks, " ++ time_text time ++ codes " at " ++ decimal time.ticks_per_second
+    codes "It takes " ++ decimal time.ticks ++ codes " ticks, " ++ time_text time ++ codes " at "
+    ++ decimal time.ticks_per_second
     ++ codes " ticks a second.\n"
 
 abbrev pub takes_fact : RunTime → List ℕ
 takes_fact time =
-    codes ",\n{\"fact\":\"time\",\"ticks\":" ++ decimal time.ticks ++ codes ",\"ticks_per_second\":" ++ decimal time.ticks_per_second
+    codes ",\n{\"fact\":\"time\",\"ticks\":" ++ decimal time.ticks ++ codes ",\"ticks_per_second\":"
+    ++ decimal time.ticks_per_second
     ++ codes ",\"seconds\":" ++ seconds_text time ++ codes "}"
 
 abbrev pub takes_line : Form → RunTime → List ℕ
@@ -79,13 +84,16 @@ setting_line Json On = codes ",\n{\"fact\":\"setting\",\"block_delete\":true}"
 
 -- what stands before the first setting of a report, and before the other
 abbrev pub heading : Form → Bool → Bool → Setting → List ℕ
-heading form first named s = (if first then opening form else []) ++ (if named then setting_line form s else [])
+heading form first named s =
+    (if first then opening form else []) ++ (if named then setting_line form s else [])
 
 -- what fits at a setting, how long it takes, and what looks wrong there
-abbrev pub setting_text : Form → Bool → Bool → Setting → MachineFile → List Command → List Entry → ProgramTimeData → List ℕ
+abbrev pub setting_text : Form → Bool → Bool → Setting → MachineFile → List Command → List Entry →
+    ProgramTimeData → List ℕ
 setting_text form first named s machine commands motions time =
     heading form first named s
-    ++ (report_text form (fit_lines machine commands motions) ++ (duration_text form commands time ++ report_text form (warning_lines machine commands)))
+    ++ (report_text form (fit_lines machine commands motions)
+    ++ (duration_text form commands time ++ report_text form (warning_lines machine commands)))
 
 -- what looks wrong of the machine and of its tools
 abbrev pub shop_text : Form → Setup → List ℕ
@@ -93,12 +101,15 @@ shop_text Words setup = warnings_text setup.machine setup.tools
 shop_text Json setup = warning_facts setup.machine setup.tools
 
 -- at both settings, or once where they are alike; and the shop
-abbrev pub fits_text : Form → Bool → Setup → List Command → List Command → CertificateData → ProgramTimeData → ProgramTimeData → List ℕ
+abbrev pub fits_text : Form → Bool → Setup → List Command → List Command → CertificateData →
+    ProgramTimeData → ProgramTimeData → List ℕ
 fits_text form false setup off on c off_time on_time =
-    setting_text form true false Off setup.machine off c.off off_time ++ (shop_text form setup ++ closing form)
+    setting_text form true false Off setup.machine off c.off off_time
+    ++ (shop_text form setup ++ closing form)
 fits_text form true setup off on c off_time on_time =
     setting_text form true true Off setup.machine off c.off off_time
-    ++ (setting_text form false true On setup.machine on c.on on_time ++ (shop_text form setup ++ closing form))
+    ++ (setting_text form false true On setup.machine on c.on on_time
+    ++ (shop_text form setup ++ closing form))
 
 -- the number of the fault that is answered, which `ngc explain` knows more of
 abbrev pub hint : Form → ℕ → List ℕ
@@ -126,25 +137,35 @@ quoted_if form (Some number) lines = quoted form number lines
 -- what is in the way of a command, and its line
 abbrev pub cause_text : Form → MachineFile → List Command → Option ℕ → Option ℕ → List Line → List ℕ
 cause_text form machine commands told fixture lines =
-    report_text form (refusal_lines machine commands told fixture) ++ (quoted_if form (told_number commands told) lines ++ ending form 304)
+    report_text form (refusal_lines machine commands told fixture)
+    ++ (quoted_if form (told_number commands told) lines ++ ending form 304)
 
 -- what is in the way of command k at a setting
-abbrev pub refusal_text : Form → Bool → Setting → MachineFile → List Command → ℕ → List Line → List ℕ
+abbrev pub refusal_text : Form → Bool → Setting → MachineFile → List Command → ℕ →
+    List Line → List ℕ
 refusal_text form named s machine commands k lines =
     heading form true named s
-    ++ cause_text form machine commands (told_command (place_fault machine None (grid machine.step machine.start)) k) (met_at machine commands k) lines
+    ++ cause_text form machine commands
+    (told_command (place_fault machine None (grid machine.step machine.start)) k)
+    (met_at machine commands k) lines
 
 -- all that is in the way at a setting
-abbrev pub setting_refusals : Form → Bool → Bool → Setting → MachineFile → List Command → List ℕ → List ℕ
+abbrev pub setting_refusals : Form → Bool → Bool → Setting → MachineFile → List Command →
+    List ℕ → List ℕ
 setting_refusals form first named s machine commands ks =
     heading form first named s
-    ++ report_text form (all_lines machine commands (is_some (place_fault machine None (grid machine.step machine.start))) ks)
+    ++ report_text form
+    (all_lines machine commands
+    (is_some (place_fault machine None (grid machine.step machine.start))) ks)
 
 -- at both settings, or once where they are alike
-abbrev pub refusals_text : Form → Bool → MachineFile → List Command → List Command → List ℕ → List ℕ → List ℕ
-refusals_text form false machine off on off_ks on_ks = setting_refusals form true false Off machine off off_ks ++ ending form 304
+abbrev pub refusals_text : Form → Bool → MachineFile → List Command → List Command → List ℕ →
+    List ℕ → List ℕ
+refusals_text form false machine off on off_ks on_ks =
+    setting_refusals form true false Off machine off off_ks ++ ending form 304
 refusals_text form true machine off on off_ks on_ks =
-    setting_refusals form true true Off machine off off_ks ++ (setting_refusals form false true On machine on on_ks ++ ending form 304)
+    setting_refusals form true true Off machine off off_ks
+    ++ (setting_refusals form false true On machine on on_ks ++ ending form 304)
 
 -- a program that is refused
 abbrev pub refused_line : Form → List ℕ
@@ -154,10 +175,14 @@ refused_line Json = codes ",\n{\"fact\":\"verdict\",\"fits\":false}"
 -- at a line, with the word that a fault names
 abbrev pub rejection_text : Form → Bool → Setting → ℕ → Fault → List Line → List ℕ
 rejection_text form named s number fault lines =
-    heading form true named s ++ (refused_line form ++ (quoted form number lines ++ (named_line form number fault lines ++ ending form (fault_number fault))))
+    heading form true named s
+    ++ (refused_line form
+    ++ (quoted form number lines
+    ++ (named_line form number fault lines ++ ending form (fault_number fault))))
 
 abbrev pub fault_text : Form → Bool → Setting → ProgramFault → List Line → List ℕ
-fault_text form named s (programs.At number fault) lines = rejection_text form named s number fault lines
+fault_text form named s (programs.At number fault) lines =
+    rejection_text form named s number fault lines
 fault_text form named s programs.Memory lines = []
 
 abbrev pub commands_of : Setting → List Command → List Command → List Command
@@ -171,25 +196,30 @@ is_on On = true
 -- ---- reports
 
 -- the report of a file's program for which a certificate is made
-pub record IsFitReport (setup : Setup) (bytes : List ℕ) (request : ReportRequest) (text : List ℕ) : Type 0 where
+pub record IsFitReport (setup : Setup) (bytes : List ℕ) (request : ReportRequest) (text : List ℕ) :
+    Type 0 where
   pub certificate : CertificateData
   pub made : IsMadeFor setup bytes request.cuts certificate
   pub off_time : ProgramTimeData
   pub off_lasts : LastsFor setup.machine made.off off_time
   pub on_time : ProgramTimeData
   pub on_lasts : LastsFor setup.machine made.on on_time
-  pub tells : text ≡ fits_text request.form (has_deleted made.means.program.lines) setup made.off made.on certificate off_time on_time
+  pub tells : text ≡ fits_text request.form
+      (has_deleted made.means.program.lines) setup made.off made.on certificate off_time on_time
 
 -- the report of one of which command k isn't cleared at a setting
-pub record IsFirstReport (setup : Setup) (bytes : List ℕ) (request : ReportRequest) (s : Setting) (k : ℕ) (text : List ℕ) : Type 0 where
+pub record IsFirstReport (setup : Setup) (bytes : List ℕ) (request : ReportRequest) (s : Setting)
+    (k : ℕ) (text : List ℕ) : Type 0 where
   pub off : List Command
   pub on : List Command
   pub means : AreMeanings setup bytes off on
   pub made : IsMade setup.machine request.cuts off on (Err (NotCleared s k))
-  pub tells : text ≡ refusal_text request.form (has_deleted means.program.lines) s setup.machine (commands_of s off on) k means.is_program.text.lines
+  pub tells : text ≡ refusal_text request.form (has_deleted means.program.lines) s setup.machine
+      (commands_of s off on) k means.is_program.text.lines
 
 -- the report of all commands that aren't cleared, at either setting
-pub record IsAllReport (setup : Setup) (bytes : List ℕ) (request : ReportRequest) (s : Setting) (k : ℕ) (text : List ℕ) : Type 0 where
+pub record IsAllReport (setup : Setup) (bytes : List ℕ) (request : ReportRequest) (s : Setting)
+    (k : ℕ) (text : List ℕ) : Type 0 where
   pub off : List Command
   pub on : List Command
   pub means : AreMeanings setup bytes off on
@@ -198,7 +228,8 @@ pub record IsAllReport (setup : Setup) (bytes : List ℕ) (request : ReportReque
   pub off_uncleared : AreUncleared setup.machine request.cuts off off_ks
   pub on_ks : List ℕ
   pub on_uncleared : AreUncleared setup.machine request.cuts on on_ks
-  pub tells : text ≡ refusals_text request.form (has_deleted means.program.lines) setup.machine off on off_ks on_ks
+  pub tells : text ≡ refusals_text request.form
+      (has_deleted means.program.lines) setup.machine off on off_ks on_ks
 
 abbrev pub IsReportOf : Bool → Setup → List ℕ → ReportRequest → Setting → ℕ → List ℕ → Type 0
 IsReportOf false setup bytes request s k text = IsFirstReport setup bytes request s k text
@@ -208,47 +239,58 @@ abbrev pub IsRefusalReport : Setup → List ℕ → ReportRequest → Setting �
 IsRefusalReport setup bytes request s k text = IsReportOf request.all setup bytes request s k text
 
 -- the report of one that is refused at a setting, at a line
-pub record IsRejectionReport (setup : Setup) (bytes : List ℕ) (request : ReportRequest) (s : Setting) (fault : ProgramFault) (text : List ℕ) : Type 0 where
+pub record IsRejectionReport (setup : Setup) (bytes : List ℕ) (request : ReportRequest)
+    (s : Setting) (fault : ProgramFault) (text : List ℕ) : Type 0 where
   pub program : ProgramLines
   pub is_program : IsProgram bytes program
   pub refused : IsRefusedAt setup program s fault
-  pub tells : text ≡ fault_text request.form (has_deleted program.lines) s fault is_program.text.lines
+  pub tells : text ≡ fault_text request.form
+      (has_deleted program.lines) s fault is_program.text.lines
 
 -- one of them
 abbrev pub IsReport : Setup → List ℕ → ReportRequest → List ℕ → Type 0
 IsReport setup bytes request text =
-    IsFitReport setup bytes request text ⊎ (((s : Setting) × (k : ℕ) × IsRefusalReport setup bytes request s k text)
+    IsFitReport setup bytes request text ⊎
+    (((s : Setting) × (k : ℕ) × IsRefusalReport setup bytes request s k text)
     ⊎ ((s : Setting) × (fault : ProgramFault) × IsRejectionReport setup bytes request s fault text))
 
 -- Of a program's file and a sink: the report of what fits was written, or that of what is in the
 -- way or of the line that is refused, which is answered; or a beginning of one where the sink
 -- failed. Where there is none, what was written is as it was.
-abbrev pub Reports : Setup → List ℕ → ReportRequest → Option (List ℕ) → Option (List ℕ) → Result (Unit {0}) AnswerFault → Type 0
-Reports setup bytes request old new (Ok u) = (text : List ℕ) × IsFitReport setup bytes request text × Appends old new text
-Reports setup bytes request old new (Err (answers.Read fault)) = FaultIs fault (program_of bytes) × Keeps old new
+abbrev pub Reports : Setup → List ℕ → ReportRequest → Option (List ℕ) → Option (List ℕ) →
+    Result (Unit {0}) AnswerFault → Type 0
+Reports setup bytes request old new (Ok u) =
+    (text : List ℕ) × IsFitReport setup bytes request text × Appends old new text
+Reports setup bytes request old new (Err (answers.Read fault)) =
+    FaultIs fault (program_of bytes) × Keeps old new
 Reports setup bytes request old new (Err (answers.Refused s fault)) =
     (text : List ℕ) × IsRejectionReport setup bytes request s fault text × Appends old new text
 Reports setup bytes request old new (Err (answers.Make (NotCleared s k))) =
     (text : List ℕ) × IsRefusalReport setup bytes request s k text × Appends old new text
 Reports setup bytes request old new (Err (answers.Make Memory)) = Keeps old new
-Reports setup bytes request old new (Err (answers.Write fault)) = (text : List ℕ) × IsReport setup bytes request text × AppendsBeginning old new text
+Reports setup bytes request old new (Err (answers.Write fault)) =
+    (text : List ℕ) × IsReport setup bytes request text × AppendsBeginning old new text
 Reports setup bytes request old new (Err _) = ⊥
 
 -- ---- of a program that was read
 
 -- whether a line of it begins with `/`
 abbrev pub HasDeleted : ProgramText → Bool → Type 0
-HasDeleted text found = (rs : List Reading) → AreReadings text.lines rs → found ≡ has_deleted (program_said text rs).lines
+HasDeleted text found = (rs : List Reading) → AreReadings text.lines rs →
+    found ≡ has_deleted (program_said text rs).lines
 
 -- nothing is refused of a certificate for it
 abbrev pub IsPassed : ProgramText → Setup → CertificateData → Type 0
-IsPassed text setup c = (rs : List Reading) → AreReadings text.lines rs → first_refusal (program_said text rs) setup c ≡ None
+IsPassed text setup c = (rs : List Reading) → AreReadings text.lines rs →
+    first_refusal (program_said text rs) setup c ≡ None
 
 -- this was accepted of it
 abbrev pub IsAcceptedOf : ProgramText → Setup → AcceptedData → Type 0
-IsAcceptedOf text setup a = (rs : List Reading) → AreReadings text.lines rs → KeepsGiven (program_said text rs) setup a
+IsAcceptedOf text setup a =
+    (rs : List Reading) → AreReadings text.lines rs → KeepsGiven (program_said text rs) setup a
 
 -- it takes so long at a setting of block delete
 abbrev pub IsTimed : ProgramText → Setup → Bool → ProgramTimeData → Type 0
 IsTimed text setup block_delete time = (rs : List Reading) → AreReadings text.lines rs →
-    (commands : List Command) × (meaning (program_said text rs) setup block_delete ≡ Ok commands) × LastsFor setup.machine commands time
+    (commands : List Command) × (meaning (program_said text rs) setup block_delete ≡ Ok commands) ×
+    LastsFor setup.machine commands time

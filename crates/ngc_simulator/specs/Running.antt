@@ -29,17 +29,20 @@ use Rattle.ngc_simulator.specs.declared.fault.AnswerFault.TheVariants as answers
 use Rattle.ngc_simulator.specs.Jobs.{AreGiven, IsNoCertificate}
 
 -- what a run over events comes to by what is written of it, and what a run to the end comes to
-abbrev pub RecordsRun : Recording → Job → List EventLine → Option (List ℕ) → Option (List ℕ) → Result Report RunFault → Type 0
+abbrev pub RecordsRun : Recording → Job → List EventLine → Option (List ℕ) → Option (List ℕ) →
+    Result Report RunFault → Type 0
 RecordsRun Log = ComesTo
 RecordsRun Pulses = PulsesCome
 
-abbrev pub RecordsThrough : Recording → Job → Option (List ℕ) → Option (List ℕ) → Result Report RunFault → Type 0
+abbrev pub RecordsThrough : Recording → Job → Option (List ℕ) → Option (List ℕ) →
+    Result Report RunFault → Type 0
 RecordsThrough Log = GoesThrough
 RecordsThrough Pulses = PulsesGoThrough
 
 -- The job of a program's file at a setting of block delete: the commands that the program means
 -- there. Nothing is refused of it and of a certificate's file.
-pub record IsAcceptedJob (setup : Setup) (bytes text : List ℕ) (block_delete : Bool) (job : Job) : Type 0 where
+pub record IsAcceptedJob (setup : Setup) (bytes text : List ℕ) (block_delete : Bool) (job : Job) :
+    Type 0 where
   pub program : ProgramLines
   pub certificate : CertificateData
   pub given : AreGiven bytes text program certificate
@@ -50,7 +53,9 @@ pub record IsAcceptedJob (setup : Setup) (bytes text : List ℕ) (block_delete :
 
 -- the run of such a job over the events that a third file says, and what is written of it, and what
 -- it came to
-pub record RunsOver (recording : Recording) (setup : Setup) (bytes text events : List ℕ) (block_delete : Bool) (old new : Option (List ℕ)) (result : Result Report RunFault) : Type 0 where
+pub record RunsOver (recording : Recording) (setup : Setup) (bytes text events : List ℕ)
+    (block_delete : Bool) (old new : Option (List ℕ)) (result : Result Report RunFault) :
+    Type 0 where
   pub job : Job
   pub accepted : IsAcceptedJob setup bytes text block_delete job
   pub lines : List EventLine
@@ -59,7 +64,8 @@ pub record RunsOver (recording : Recording) (setup : Setup) (bytes text events :
 
 -- a program's file and a certificate's file are read
 abbrev pub AreRead : List ℕ → List ℕ → Type 0
-AreRead bytes text = (program : ProgramLines) × (c : CertificateData) × AreGiven bytes text program c
+AreRead bytes text =
+    (program : ProgramLines) × (c : CertificateData) × AreGiven bytes text program c
 
 -- a text says no events, but for want of memory
 abbrev pub AreNoEvents : List ℕ → EventsFault → Type 0
@@ -68,7 +74,8 @@ AreNoEvents events texts.TooManyLines = events_said events ≡ Err texts.TooMany
 AreNoEvents events texts.Memory = Unit {0}
 
 -- the first refusal of the two files, where the events are read
-pub record IsRefusedRun (setup : Setup) (bytes text events : List ℕ) (fault : CheckFault) : Type 0 where
+pub record IsRefusedRun (setup : Setup) (bytes text events : List ℕ) (fault : CheckFault) :
+    Type 0 where
   pub lines : List EventLine
   pub are_lines : events_said events ≡ Ok lines
   pub program : ProgramLines
@@ -77,7 +84,9 @@ pub record IsRefusedRun (setup : Setup) (bytes text events : List ℕ) (fault : 
   pub first : IsFirst fault (first_refusal program setup certificate)
 
 -- the run of such a job to its end, and what is written of it, and what it came to
-pub record RunsWhole (recording : Recording) (setup : Setup) (bytes text : List ℕ) (block_delete : Bool) (old new : Option (List ℕ)) (result : Result Report RunFault) : Type 0 where
+pub record RunsWhole (recording : Recording) (setup : Setup) (bytes text : List ℕ)
+    (block_delete : Bool) (old new : Option (List ℕ)) (result : Result Report RunFault) :
+    Type 0 where
   pub job : Job
   pub accepted : IsAcceptedJob setup bytes text block_delete job
   pub goes_through : RecordsThrough recording job old new result
@@ -92,22 +101,37 @@ pub record IsRefusedWhole (setup : Setup) (bytes text : List ℕ) (fault : Check
 -- Of a program's file, a certificate's file, an events file and a sink: the log or the pulses of
 -- the run were written, or a beginning where the sink failed; where there is no run, what was
 -- written is as it was.
-abbrev pub Runs : Recording → Setup → List ℕ → List ℕ → List ℕ → Bool → Option (List ℕ) → Option (List ℕ) → Result Report AnswerFault → Type 0
-Runs recording setup bytes text events block_delete old new (Ok report) = RunsOver recording setup bytes text events block_delete old new (Ok report)
-Runs recording setup bytes text events block_delete old new (Err (answers.Read fault)) = FaultIs fault (program_of bytes) × Keeps old new
-Runs recording setup bytes text events block_delete old new (Err (answers.Certificate fault)) = IsNoCertificate text fault × Keeps old new
-Runs recording setup bytes text events block_delete old new (Err (answers.Events fault)) = (AreRead bytes text × AreNoEvents events fault) × Keeps old new
-Runs recording setup bytes text events block_delete old new (Err (answers.Check fault)) = IsRefusedRun setup bytes text events fault × Keeps old new
-Runs recording setup bytes text events block_delete old new (Err answers.Memory) = RunsOver recording setup bytes text events block_delete old new (Err runs.Memory)
-Runs recording setup bytes text events block_delete old new (Err (answers.Write fault)) = RunsOver recording setup bytes text events block_delete old new (Err (runs.Write fault))
+abbrev pub Runs : Recording → Setup → List ℕ → List ℕ → List ℕ → Bool → Option (List ℕ) →
+    Option (List ℕ) → Result Report AnswerFault → Type 0
+Runs recording setup bytes text events block_delete old new (Ok report) =
+    RunsOver recording setup bytes text events block_delete old new (Ok report)
+Runs recording setup bytes text events block_delete old new (Err (answers.Read fault)) =
+    FaultIs fault (program_of bytes) × Keeps old new
+Runs recording setup bytes text events block_delete old new (Err (answers.Certificate fault)) =
+    IsNoCertificate text fault × Keeps old new
+Runs recording setup bytes text events block_delete old new (Err (answers.Events fault)) =
+    (AreRead bytes text × AreNoEvents events fault) × Keeps old new
+Runs recording setup bytes text events block_delete old new (Err (answers.Check fault)) =
+    IsRefusedRun setup bytes text events fault × Keeps old new
+Runs recording setup bytes text events block_delete old new (Err answers.Memory) =
+    RunsOver recording setup bytes text events block_delete old new (Err runs.Memory)
+Runs recording setup bytes text events block_delete old new (Err (answers.Write fault)) =
+    RunsOver recording setup bytes text events block_delete old new (Err (runs.Write fault))
 Runs recording setup bytes text events block_delete old new (Err _) = ⊥
 
 -- Of a program's file, a certificate's file and a sink: the same of a run to the end.
-abbrev pub RunsThrough : Recording → Setup → List ℕ → List ℕ → Bool → Option (List ℕ) → Option (List ℕ) → Result Report AnswerFault → Type 0
-RunsThrough recording setup bytes text block_delete old new (Ok report) = RunsWhole recording setup bytes text block_delete old new (Ok report)
-RunsThrough recording setup bytes text block_delete old new (Err (answers.Read fault)) = FaultIs fault (program_of bytes) × Keeps old new
-RunsThrough recording setup bytes text block_delete old new (Err (answers.Certificate fault)) = IsNoCertificate text fault × Keeps old new
-RunsThrough recording setup bytes text block_delete old new (Err (answers.Check fault)) = IsRefusedWhole setup bytes text fault × Keeps old new
-RunsThrough recording setup bytes text block_delete old new (Err answers.Memory) = RunsWhole recording setup bytes text block_delete old new (Err runs.Memory)
-RunsThrough recording setup bytes text block_delete old new (Err (answers.Write fault)) = RunsWhole recording setup bytes text block_delete old new (Err (runs.Write fault))
+abbrev pub RunsThrough : Recording → Setup → List ℕ → List ℕ → Bool → Option (List ℕ) →
+    Option (List ℕ) → Result Report AnswerFault → Type 0
+RunsThrough recording setup bytes text block_delete old new (Ok report) =
+    RunsWhole recording setup bytes text block_delete old new (Ok report)
+RunsThrough recording setup bytes text block_delete old new (Err (answers.Read fault)) =
+    FaultIs fault (program_of bytes) × Keeps old new
+RunsThrough recording setup bytes text block_delete old new (Err (answers.Certificate fault)) =
+    IsNoCertificate text fault × Keeps old new
+RunsThrough recording setup bytes text block_delete old new (Err (answers.Check fault)) =
+    IsRefusedWhole setup bytes text fault × Keeps old new
+RunsThrough recording setup bytes text block_delete old new (Err answers.Memory) =
+    RunsWhole recording setup bytes text block_delete old new (Err runs.Memory)
+RunsThrough recording setup bytes text block_delete old new (Err (answers.Write fault)) =
+    RunsWhole recording setup bytes text block_delete old new (Err (runs.Write fault))
 RunsThrough recording setup bytes text block_delete old new (Err _) = ⊥

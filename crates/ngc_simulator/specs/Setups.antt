@@ -13,7 +13,8 @@ abbrev pub FileBytes : Type 0
 FileBytes = Option (List ℕ) → Option (List ℕ)
 
 -- of what a named file says, where its bytes are known, and of what holds where none is named
-abbrev pub IfSaid : {T : Type 0} → (List ℕ → Result T FileFault) → T → FileBytes → Option (List ℕ) → (Result T FileFault → Type 0) → Type 0
+abbrev pub IfSaid : {T : Type 0} → (List ℕ → Result T FileFault) → T → FileBytes → Option (List ℕ) →
+    (Result T FileFault → Type 0) → Type 0
 IfSaid read builtin bytes None P = P (Ok builtin)
 IfSaid read builtin bytes (Some name) P = IfSome (bytes (Some name)) (λ text. P (read text))
 
@@ -25,12 +26,14 @@ abbrev pub KeepsNamed : FileBytes → FileBytes → Type 0
 KeepsNamed old new = (name : List ℕ) → new (Some name) ≡ old (Some name)
 
 -- the machine and its tools that the two files say
-pub record AreSetup (machine : Result MachineFile FileFault) (tools : Result (List Tool) FileFault) (setup : Setup) : Type 0 where
+pub record AreSetup (machine : Result MachineFile FileFault) (tools : Result (List Tool) FileFault)
+    (setup : Setup) : Type 0 where
   pub machine_said : machine ≡ Ok setup.machine
   pub tools_said : tools ≡ Ok setup.tools
 
 -- of what the machine file and the tool table say, and of what is taken where none is named
-abbrev pub IfMachine : FileBytes → Option (List ℕ) → (Result MachineFile FileFault → Type 0) → Type 0
+abbrev pub IfMachine : FileBytes → Option (List ℕ) →
+    (Result MachineFile FileFault → Type 0) → Type 0
 IfMachine bytes name P = IfSaid machine_file built_in_machine bytes name P
 
 abbrev pub IfTools : FileBytes → Option (List ℕ) → (Result (List Tool) FileFault → Type 0) → Type 0
@@ -39,7 +42,8 @@ IfTools bytes name P = IfSaid tool_table [] bytes name P
 -- what holds on the machine with its tools that two files say
 abbrev pub OnSetup : FileBytes → Option (List ℕ) → Option (List ℕ) → (Setup → Type 0) → Type 0
 OnSetup bytes machine tools P =
-    IfMachine bytes machine (λ m. IfTools bytes tools (λ t. (setup : Setup) × AreSetup m t setup × P setup))
+    IfMachine bytes machine
+    (λ m. IfTools bytes tools (λ t. (setup : Setup) × AreSetup m t setup × P setup))
 
 -- a refusal is that of the file, unless memory ran out
 abbrev pub Refuses : {T : Type 0} → FileFault → Result T FileFault → Type 0

@@ -21,10 +21,13 @@ RefusesTools bytes name _ = ⊥
 -- a refusal of one of the two files is that file's, and a tool table is refused behind a machine
 -- file that isn't
 abbrev pub RefusesShop : FileBytes → Option (List ℕ) → Option (List ℕ) → AnswerFault → Type 0
-RefusesShop bytes machine tools (answers.Tools e) = IfMachine bytes machine IsOk × RefusesTools bytes tools (answers.Tools e)
+RefusesShop bytes machine tools (answers.Tools e) =
+    IfMachine bytes machine IsOk × RefusesTools bytes tools (answers.Tools e)
 RefusesShop bytes machine tools fault = RefusesMachine bytes machine fault
 
-abbrev pub GivesShop : FileBytes → Option (List ℕ) → Option (List ℕ) → Result Shop AnswerFault → Type 0
+abbrev pub GivesShop : FileBytes → Option (List ℕ) → Option (List ℕ) →
+    Result Shop AnswerFault → Type 0
 GivesShop bytes machine tools (Ok shop) =
-    IfMachine bytes machine (λ says. says ≡ Ok (file_of shop.machine)) × IfTools bytes tools (λ says. says ≡ Ok (tools_of shop.tools))
+    IfMachine bytes machine (λ says. says ≡ Ok (file_of shop.machine)) ×
+    IfTools bytes tools (λ says. says ≡ Ok (tools_of shop.tools))
 GivesShop bytes machine tools (Err fault) = RefusesShop bytes machine tools fault

@@ -1,5 +1,6 @@
 -- How long a run through a program takes, as it is told. Our own.
-use Rattle.std.specs.Prelude.{ℕ, ◌*◌, ◌/◌, ◌%◌, List, [], ◌∷◌, ◌++◌, drop, codes, decimal, Option, None, Some, if◌then◌else◌}
+use Rattle.std.specs.Prelude.{ℕ, ◌*◌, ◌/◌, ◌%◌, List, [], ◌∷◌, ◌++◌, drop, codes, decimal, Option}
+use Rattle.std.specs.Prelude.{None, Some, if◌then◌else◌}
 use Rattle.ngc_canonical.specs.declared.command.Command.{Command}
 use Rattle.ngc_machine.specs.declared.tools.Tool.{Tool}
 use Rattle.ngc_report.specs.Uses.{moves, tool_uses, use_of}
@@ -18,21 +19,25 @@ three_digits n = decimal (n / 100) ++ two_digits (n % 100)
 
 -- hours, minutes and seconds
 abbrev pub clock_text : ℕ → List ℕ
-clock_text seconds = decimal (seconds / 3600) ++ codes ":" ++ two_digits (seconds / 60 % 60) ++ codes ":" ++ two_digits (seconds % 60)
+clock_text seconds = decimal (seconds / 3600) ++ codes ":" ++ two_digits (seconds / 60 % 60)
+    ++ codes ":" ++ two_digits (seconds % 60)
 
 -- the whole seconds of so many ticks, and the whole thousandths of what is left
 abbrev pub time_text : RunTime → List ℕ
 time_text time =
-    clock_text (time.ticks / time.ticks_per_second) ++ codes "." ++ three_digits (time.ticks % time.ticks_per_second * 1000 / time.ticks_per_second)
+    clock_text (time.ticks / time.ticks_per_second) ++ codes "."
+    ++ three_digits (time.ticks % time.ticks_per_second * 1000 / time.ticks_per_second)
 
 -- seconds as a number
 abbrev pub seconds_text : RunTime → List ℕ
 seconds_text time =
-    decimal (time.ticks / time.ticks_per_second) ++ codes "." ++ three_digits (time.ticks % time.ticks_per_second * 1000 / time.ticks_per_second)
+    decimal (time.ticks / time.ticks_per_second) ++ codes "."
+    ++ three_digits (time.ticks % time.ticks_per_second * 1000 / time.ticks_per_second)
 
 -- the line that tells it
 abbrev pub time_line : RunTime → List ℕ
-time_line time = codes "ngc: ticks " ++ decimal time.ticks ++ codes " time " ++ time_text time ++ codes "\n"
+time_line time =
+    codes "ngc: ticks " ++ decimal time.ticks ++ codes " time " ++ time_text time ++ codes "\n"
 
 -- ---- with each tool
 
@@ -53,11 +58,13 @@ tool_value None = codes "null"
 tool_value (Some tool) = decimal tool.number
 
 abbrev pub use_time_words : Option Tool → RunTime → List ℕ
-use_time_words tool time = codes "With " ++ tool_text tool ++ codes " it takes " ++ decimal time.ticks ++ codes " ticks, " ++ time_text time ++ codes ".\n"
+use_time_words tool time = codes "With " ++ tool_text tool ++ codes " it takes "
+    ++ decimal time.ticks ++ codes " ticks, " ++ time_text time ++ codes ".\n"
 
 abbrev pub use_time_fact : Option Tool → RunTime → List ℕ
 use_time_fact tool time =
-    codes ",\n{\"fact\":\"use_time\",\"tool\":" ++ tool_value tool ++ codes ",\"ticks\":" ++ decimal time.ticks ++ codes ",\"seconds\":"
+    codes ",\n{\"fact\":\"use_time\",\"tool\":" ++ tool_value tool ++ codes ",\"ticks\":"
+    ++ decimal time.ticks ++ codes ",\"seconds\":"
     ++ seconds_text time ++ codes "}"
 
 unfoldable pub use_time : Form → Option Tool → RunTime → List ℕ
@@ -68,8 +75,10 @@ use_time Json tool time = use_time_fact tool time
 abbrev pub use_times : Form → RunTime → List ToolUse → List ℕ → List ℕ
 use_times form whole [] ticks = []
 use_times form whole (u ∷ us) [] = []
-use_times form whole (u ∷ us) (n ∷ ns) = use_time form u.tool (record whole { ticks = n }) ++ use_times form whole us ns
+use_times form whole (u ∷ us) (n ∷ ns) =
+    use_time form u.tool (record whole { ticks = n }) ++ use_times form whole us ns
 
 -- of a program
 abbrev pub uses_text : Form → List Command → ProgramTimeData → List ℕ
-uses_text form commands time = use_times form time.whole (tool_uses commands) (ticks_told commands time.parts)
+uses_text form commands time =
+    use_times form time.whole (tool_uses commands) (ticks_told commands time.parts)

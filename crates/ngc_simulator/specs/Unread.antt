@@ -1,5 +1,6 @@
 -- Which file isn't read, and why. Our own.
-use Rattle.std.specs.Prelude.{◌≡◌, ◌<◌, ◌⊎◌, ℕ, List, [], ◌∷◌, ◌++◌, length, Option, Some, None, MatchOption, Result, Ok, Err, IsOk, IfSome}
+use Rattle.std.specs.Prelude.{◌≡◌, ◌<◌, ◌⊎◌, ℕ, List, [], ◌∷◌, ◌++◌, length, Option, Some, None}
+use Rattle.std.specs.Prelude.{MatchOption, Result, Ok, Err, IsOk, IfSome}
 use Rattle.ngc_certificate_text.specs.Said.{certificate_said}
 use Rattle.ngc_certificate_text.specs.declared.fault.CertificateFault.{CertificateFault}
 use Rattle.ngc_certificate_text.specs.declared.fault.CertificateFault.TheVariants as texts
@@ -52,12 +53,14 @@ shop_inputs machine tools = setup_input OfMachine machine ++ setup_input OfTools
 abbrev pub AtFirst : (Kind → Option (List ℕ) → Type 0) → FileBytes → List Input → Type 0
 AtFirst P bytes [] = ⊥
 AtFirst P bytes (input ∷ more) =
-    P input.kind (bytes input.name) ⊎ (IfSome (bytes input.name) (IsReadAs input.kind) × AtFirst P bytes more)
+    P input.kind (bytes input.name) ⊎
+    (IfSome (bytes input.name) (IsReadAs input.kind) × AtFirst P bytes more)
 
 -- ---- why a file isn't read
 
 -- a source that gave these bytes when it was opened failed later on
-pub record SourceFails {S : Type 0} (remaining : S → Option (List ℕ)) (failures : S → ℕ) (known : Option (List ℕ)) : Type 0 where
+pub record SourceFails {S : Type 0} (remaining : S → Option (List ℕ)) (failures : S → ℕ)
+    (known : Option (List ℕ)) : Type 0 where
   pub opened : S
   pub left : S
   pub gave : remaining opened ≡ known
@@ -71,17 +74,21 @@ IsUnread fails known old new = Rises old new ⊎ ((new ≡ old) × fails known)
 abbrev pub TellsUnread : (Option (List ℕ) → Type 0) → Option (List ℕ) → ℕ → ℕ → InputFault → Type 0
 TellsUnread fails known old new inputs.Memory = new ≡ old
 TellsUnread fails known old new inputs.Device = IsUnread fails known old new
-TellsUnread fails known old new inputs.TooLong = (new ≡ old) × IfSome known (λ bytes. FILE_LIMIT < length bytes)
+TellsUnread fails known old new inputs.TooLong =
+    (new ≡ old) × IfSome known (λ bytes. FILE_LIMIT < length bytes)
 
 -- the same of a file that is read as such; a program and a certificate are never too long
-abbrev pub TellsKindUnread : (Option (List ℕ) → Type 0) → Kind → Option (List ℕ) → ℕ → ℕ → InputFault → Type 0
+abbrev pub TellsKindUnread : (Option (List ℕ) → Type 0) → Kind → Option (List ℕ) → ℕ → ℕ →
+    InputFault → Type 0
 TellsKindUnread fails OfProgram known old new inputs.TooLong = ⊥
 TellsKindUnread fails OfCertificate known old new inputs.TooLong = ⊥
 TellsKindUnread fails kind known old new fault = TellsUnread fails known old new fault
 
 -- the first of these files that isn't read
-abbrev pub TellsFirstUnread : (Option (List ℕ) → Type 0) → FileBytes → List Input → ℕ → ℕ → InputFault → Type 0
-TellsFirstUnread fails bytes files old new fault = AtFirst (λ kind known. TellsKindUnread fails kind known old new fault) bytes files
+abbrev pub TellsFirstUnread : (Option (List ℕ) → Type 0) → FileBytes → List Input → ℕ → ℕ →
+    InputFault → Type 0
+TellsFirstUnread fails bytes files old new fault =
+    AtFirst (λ kind known. TellsKindUnread fails kind known old new fault) bytes files
 
 -- ---- what a fault says of it: 901, and 900 where a file is read whole; other faults say that all
 -- that was opened was read
@@ -108,9 +115,12 @@ unread_by _ = None
 
 -- The count of files that couldn't be opened rose where one couldn't, and else it is what it was.
 -- Where the outcome tells that a file isn't read, the first one that isn't is so.
-abbrev pub FailsBy : {T E : Type 0} → (E → Option InputFault) → (Option (List ℕ) → Type 0) → FileBytes → List Input → ℕ → ℕ → Result T E → Type 0
+abbrev pub FailsBy : {T E : Type 0} → (E → Option InputFault) → (Option (List ℕ) → Type 0) →
+    FileBytes → List Input → ℕ → ℕ → Result T E → Type 0
 FailsBy unread fails bytes files old new (Ok value) = new ≡ old
-FailsBy unread fails bytes files old new (Err fault) = MatchOption (unread fault) (new ≡ old) (TellsFirstUnread fails bytes files old new)
+FailsBy unread fails bytes files old new (Err fault) =
+    MatchOption (unread fault) (new ≡ old) (TellsFirstUnread fails bytes files old new)
 
-abbrev pub FailsByInput : {T : Type 0} → (Option (List ℕ) → Type 0) → FileBytes → List Input → ℕ → ℕ → Result T AnswerFault → Type 0
+abbrev pub FailsByInput : {T : Type 0} → (Option (List ℕ) → Type 0) → FileBytes → List Input → ℕ →
+    ℕ → Result T AnswerFault → Type 0
 FailsByInput fails bytes files old new outcome = FailsBy unread_by fails bytes files old new outcome

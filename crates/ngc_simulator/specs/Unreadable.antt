@@ -22,12 +22,14 @@ unreadable_line Json = codes ",\n{\"fact\":\"unreadable\"}"
 
 -- the line at fault with a mark below its column, or nothing where no line is
 abbrev pub marked_fault : Form → ReadFault → List ℕ → List ℕ
-marked_fault form (reads.Line number e) bytes = marked form number e.column (bytes_with number (lines_of bytes))
+marked_fault form (reads.Line number e) bytes =
+    marked form number e.column (bytes_with number (lines_of bytes))
 marked_fault form _ bytes = []
 
 -- the report of a program whose text has this fault
 abbrev pub unreadable_text : Form → ReadFault → List ℕ → List ℕ
-unreadable_text form fault bytes = opening form ++ (unreadable_line form ++ (marked_fault form fault bytes ++ ending form (read_number fault)))
+unreadable_text form fault bytes = opening form
+    ++ (unreadable_line form ++ (marked_fault form fault bytes ++ ending form (read_number fault)))
 
 -- that memory ran out or a device failed is no fault of the text
 abbrev pub is_of_text : ReadFault → Bool
@@ -38,10 +40,15 @@ is_of_text _ = true
 -- The program has this fault, which is told of a named file alone, since standard input isn't read
 -- again; and where the sink failed, a beginning of that is written. A file that isn't read again,
 -- as where it is too long or memory runs out, has nothing told.
-abbrev pub TellsUnreadable : Form → Option (List ℕ) → List ℕ → Option (List ℕ) → Option (List ℕ) → AnswerFault → Type 0
+abbrev pub TellsUnreadable : Form → Option (List ℕ) → List ℕ → Option (List ℕ) → Option (List ℕ) →
+    AnswerFault → Type 0
 TellsUnreadable form name bytes old new (answers.Read fault) =
     FaultIs fault (program_of bytes)
-    × (Keeps old new ⊎ (IsSome name × (is_of_text fault ≡ true) × Appends old new (unreadable_text form fault bytes)))
+    × (Keeps old new ⊎
+    (IsSome name × (is_of_text fault ≡ true) ×
+    Appends old new (unreadable_text form fault bytes)))
 TellsUnreadable form name bytes old new (answers.Write e) =
-    (fault : ReadFault) × IsSome name × (is_of_text fault ≡ true) × FaultIs fault (program_of bytes) × AppendsBeginning old new (unreadable_text form fault bytes)
+    (fault : ReadFault) × IsSome name × (is_of_text fault ≡ true) ×
+    FaultIs fault (program_of bytes) ×
+    AppendsBeginning old new (unreadable_text form fault bytes)
 TellsUnreadable form name bytes old new _ = ⊥

@@ -8,7 +8,8 @@ ghost use Rattle.ngc_line_reader.specs.ProgramView.{text_in};
 ghost use Rattle.ngc_line_reader.specs.declared.program.fault.ReadFault.TheVariants.{Device};
 ghost use Rattle.ngc_simulator.specs.Answers.{CertifyComes, certify_inputs};
 ghost use Rattle.ngc_simulator.specs.Faults.{FailsByOutput, OfCertifying, OfMaking};
-ghost use Rattle.ngc_simulator.specs.Jobs.{Certifies, IsCertificateFor, IsMadeFor, WhyNotMade, refused_at};
+ghost use Rattle.ngc_simulator.specs.Jobs.{Certifies, IsCertificateFor, IsMadeFor, WhyNotMade};
+ghost use Rattle.ngc_simulator.specs.Jobs.{refused_at};
 ghost use Rattle.ngc_simulator.specs.Reporting.{IsPassed};
 ghost use Rattle.ngc_simulator.specs.Unread.{FailsByInput, SourceFails};
 
@@ -47,11 +48,15 @@ pub(crate) fn made<A: Allocator + Copy>(
 ) -> Result<Certificate<A>, AnswerFault>
     requires { 1 ≤ cuts }
     // Whatever file the program was read from.
-    ensures made { (bytes : List ℕ) → program_of bytes ≡ Ok (text_in program.now) → HaveReadings (text_in program.now).lines → MatchResult result (λ c. IsMadeFor (setup_of machine.now tools.now) bytes cuts (said_of c)) (WhyNotMade (setup_of machine.now tools.now) bytes cuts) }
+    ensures made { (bytes : List ℕ) → program_of bytes ≡ Ok (text_in program.now) →
+        HaveReadings (text_in program.now).lines →
+        MatchResult result (λ c. IsMadeFor (setup_of machine.now tools.now) bytes cuts (said_of c))
+        (WhyNotMade (setup_of machine.now tools.now) bytes cuts) }
     ensures form { IfOk result (λ c. form_of c ≡ Parted (said_of c)) }
     ensures faults { IfErr result OfMaking }
     // Nothing is refused of what is made.
-    ensures passes { IfOk result (λ c. IsPassed (text_in program.now) (setup_of machine.now tools.now) (said_of c)) }
+    ensures passes { IfOk result
+        (λ c. IsPassed (text_in program.now) (setup_of machine.now tools.now) (said_of c)) }
 {
     let off = match interpret(alloc, program, machine, tools, false) {
         Ok(commands) => commands,
@@ -79,7 +84,12 @@ fn joined<A: Allocator + Copy>(
     tools: &Tools<A>,
 ) -> Result<Certificate<A>, AnswerFault>
     // Whatever file the program was read from, if the certificate is the one that is made for it.
-    ensures joined { (bytes : List ℕ) (cuts : ℕ) → program_of bytes ≡ Ok (text_in program.now) → HaveReadings (text_in program.now).lines → IsMadeFor (setup_of machine.now tools.now) bytes cuts (said_of certificate) → MatchResult result (λ c. IsCertificateFor (setup_of machine.now tools.now) bytes cuts Format.Two (form_of c)) (WhyNotMade (setup_of machine.now tools.now) bytes cuts) }
+    ensures joined { (bytes : List ℕ) (cuts : ℕ) → program_of bytes ≡ Ok (text_in program.now) →
+        HaveReadings (text_in program.now).lines →
+        IsMadeFor (setup_of machine.now tools.now) bytes cuts (said_of certificate) →
+        MatchResult result
+        (λ c. IsCertificateFor (setup_of machine.now tools.now) bytes cuts Format.Two (form_of c))
+        (WhyNotMade (setup_of machine.now tools.now) bytes cuts) }
     ensures faults { IfErr result OfMaking }
 {
     let off = match interpret(alloc, program, machine, tools, false) {
@@ -113,7 +123,11 @@ fn made_in<A: Allocator + Copy>(
     format: Format,
 ) -> Result<Certificate<A>, AnswerFault>
     requires { 1 ≤ cuts }
-    ensures made { (bytes : List ℕ) → program_of bytes ≡ Ok (text_in program.now) → HaveReadings (text_in program.now).lines → MatchResult result (λ c. IsCertificateFor (setup_of machine.now tools.now) bytes cuts format (form_of c)) (WhyNotMade (setup_of machine.now tools.now) bytes cuts) }
+    ensures made { (bytes : List ℕ) → program_of bytes ≡ Ok (text_in program.now) →
+        HaveReadings (text_in program.now).lines →
+        MatchResult result
+        (λ c. IsCertificateFor (setup_of machine.now tools.now) bytes cuts format (form_of c))
+        (WhyNotMade (setup_of machine.now tools.now) bytes cuts) }
     ensures faults { IfErr result OfMaking }
 {
     let certificate = made(alloc, program, machine, tools, cuts)?;
@@ -139,9 +153,12 @@ pub fn certify<A: Allocator + Copy, R: Source, W: Sink>(
     requires { 1 ≤ cuts }
     // Where the source's bytes are known, what is written is the certificate that is made for what
     // they mean.
-    ensures certifies { IfSome (R.remaining source.old) (λ bytes. Certifies (setup_of machine.now tools.now) bytes cuts format (W.written output.old) (W.written output.new) result) }
+    ensures certifies { IfSome (R.remaining source.old)
+        (λ bytes. Certifies (setup_of machine.now tools.now) bytes cuts format
+        (W.written output.old) (W.written output.new) result) }
     // A fault of reading or writing comes only from a device that failed.
-    ensures source { result ≡ Err (AnswerFault.Read Device) → Rises (R.failures source.old) (R.failures source.new) }
+    ensures source { result ≡ Err (AnswerFault.Read Device) →
+        Rises (R.failures source.old) (R.failures source.new) }
     ensures sink { FailsByOutput result (W.failures output.old) (W.failures output.new) }
     ensures faults { IfErr result OfCertifying }
 {
@@ -159,8 +176,10 @@ pub(crate) fn certify_files<F: Files, W: Sink>(
     output: &mut W,
 ) -> Result<Done, AnswerFault>
     requires { 1 ≤ options.now.cuts }
-    ensures comes { CertifyComes (F.bytes files.old) options.now (W.written output.old) (W.written output.new) result }
-    ensures unread { FailsByInput (SourceFails F.R.remaining F.R.failures) (F.bytes files.old) (certify_inputs options.now) (F.failures files.old) (F.failures files.new) result }
+    ensures comes { CertifyComes (F.bytes files.old) options.now (W.written output.old)
+        (W.written output.new) result }
+    ensures unread { FailsByInput (SourceFails F.R.remaining F.R.failures) (F.bytes files.old)
+        (certify_inputs options.now) (F.failures files.old) (F.failures files.new) result }
     ensures sink { FailsByOutput result (W.failures output.old) (W.failures output.new) }
 {
     let shop = read_shop(alloc, Some(options.machine), Some(options.tools), files)?;

@@ -34,9 +34,14 @@ pub fn check_program<A: Allocator + Copy, S: Source, W: Sink>(
 ) -> Result<(), AnswerFault>
     // Whatever file the program was read from, where the bytes of the certificate are known: the
     // answer is that of both.
-    ensures checks { (bytes : List ℕ) → program_of bytes ≡ Ok (text_in program.now) → HaveReadings (text_in program.now).lines → IfSome (S.remaining certificate.old) (λ text. Checks (setup_of machine.now tools.now) bytes text (W.written output.old) (W.written output.new) result) }
+    ensures checks { (bytes : List ℕ) → program_of bytes ≡ Ok (text_in program.now) →
+        HaveReadings (text_in program.now).lines →
+        IfSome (S.remaining certificate.old)
+        (λ text. Checks (setup_of machine.now tools.now) bytes text (W.written output.old)
+        (W.written output.new) result) }
     // A fault of reading or writing comes only from a device that failed.
-    ensures source { result ≡ Err (AnswerFault.Certificate ReadFailed) → Rises (S.failures certificate.old) (S.failures certificate.new) }
+    ensures source { result ≡ Err (AnswerFault.Certificate ReadFailed) →
+        Rises (S.failures certificate.old) (S.failures certificate.new) }
     ensures sink { FailsByOutput result (W.failures output.old) (W.failures output.new) }
     ensures faults { IfErr result OfChecking }
 {
@@ -56,8 +61,10 @@ pub(crate) fn check_files<F: Files, W: Sink>(
     files: &mut F,
     output: &mut W,
 ) -> Result<Done, AnswerFault>
-    ensures comes { CheckComes (F.bytes files.old) options.now (W.written output.old) (W.written output.new) result }
-    ensures unread { FailsByInput (SourceFails F.R.remaining F.R.failures) (F.bytes files.old) (check_inputs options.now) (F.failures files.old) (F.failures files.new) result }
+    ensures comes { CheckComes (F.bytes files.old) options.now (W.written output.old)
+        (W.written output.new) result }
+    ensures unread { FailsByInput (SourceFails F.R.remaining F.R.failures) (F.bytes files.old)
+        (check_inputs options.now) (F.failures files.old) (F.failures files.new) result }
     ensures sink { FailsByOutput result (W.failures output.old) (W.failures output.new) }
 {
     let shop = read_shop(alloc, Some(options.machine), Some(options.tools), files)?;

@@ -1,5 +1,6 @@
 //! Pictures of programs.
-ghost use Rattle.std.specs.Prelude.{◌≡◌, ◌≤◌, ℕ, List, IfErr, Ok, Some, None, MatchResult, length, option_map};
+ghost use Rattle.std.specs.Prelude.{◌≡◌, ◌≤◌, ℕ, List, IfErr, Ok, Some, None, MatchResult, length};
+ghost use Rattle.std.specs.Prelude.{option_map};
 ghost use Rattle.ngc_canonical.specs.Interpreter.{setup_of};
 ghost use Rattle.ngc_canonical.specs.State.{COMMAND_LIMIT};
 ghost use Rattle.ngc_certificate_text.specs.Contents.{said_of};
@@ -8,7 +9,10 @@ ghost use Rattle.ngc_line_reader.specs.ProgramText.{program_of, HaveReadings};
 ghost use Rattle.ngc_line_reader.specs.ProgramView.{text_in};
 ghost use Rattle.ngc_machine.specs.Machine.{file_of};
 ghost use Rattle.ngc_simulator.specs.Faults.{FailsByOutput, OfDrawing};
-ghost use Rattle.ngc_simulator.specs.Drawing.{DrawsGiven, DrawsProgram, IsMadeRefusal, after_action, behind, drawn_refusal, fault_at, fixture_of, met_at, met_by, met_first, refusal_answer, setting_of, start_of, view_named};
+ghost use Rattle.ngc_simulator.specs.Drawing.{DrawsGiven, DrawsProgram, IsMadeRefusal};
+ghost use Rattle.ngc_simulator.specs.Drawing.{after_action, behind, drawn_refusal, fault_at};
+ghost use Rattle.ngc_simulator.specs.Drawing.{fixture_of, met_at, met_by, met_first};
+ghost use Rattle.ngc_simulator.specs.Drawing.{refusal_answer, setting_of, start_of, view_named};
 
 use crate::fault::AnswerFault;
 use ngc_canonical::{Action, Command, interpret};
@@ -184,7 +188,8 @@ fn made_refusal<A: Allocator + Copy>(
     machine: &Machine<A>,
 ) -> Result<Option<Refusal>, DrawFault>
     requires { length commands.now ≤ COMMAND_LIMIT }
-    ensures { MatchResult result (IsMadeRefusal (file_of machine.now) commands.now) (λ fault. fault ≡ DrawFault.Memory) }
+    ensures { MatchResult result (IsMadeRefusal (file_of machine.now) commands.now)
+        (λ fault. fault ≡ DrawFault.Memory) }
 {
     let fault = match make_alike(alloc, commands, machine, 8) {
         Ok(_) => return Ok(None),
@@ -219,7 +224,9 @@ fn checked_refusal<A: Allocator>(
     certificate: &Certificate<A>,
 ) -> Result<Option<Refusal>, CheckFault>
     requires { length commands.now ≤ COMMAND_LIMIT }
-    ensures { result ≡ refusal_answer (fault_at (file_of machine.now) (setting_of block_delete) commands.now (said_of certificate.now)) }
+    ensures { result ≡ refusal_answer
+        (fault_at (file_of machine.now) (setting_of block_delete) commands.now
+        (said_of certificate.now)) }
 {
     let setting = setting_of(block_delete);
     match setting_fault(machine, setting, commands, certificate.motions(setting)) {
@@ -243,7 +250,10 @@ pub fn draw_program<A: Allocator + Copy, W: Sink>(
     output: &mut W,
 ) -> Result<(), AnswerFault>
     // Whatever file the program was read from: the picture is that of what it means.
-    ensures draws { (bytes : List ℕ) → program_of bytes ≡ Ok (text_in program.now) → HaveReadings (text_in program.now).lines → DrawsProgram (setup_of machine.now tools.now) bytes block_delete view (W.written output.old) (W.written output.new) result }
+    ensures draws { (bytes : List ℕ) → program_of bytes ≡ Ok (text_in program.now) →
+        HaveReadings (text_in program.now).lines →
+        DrawsProgram (setup_of machine.now tools.now) bytes block_delete view (W.written output.old)
+        (W.written output.new) result }
     ensures sink { FailsByOutput result (W.failures output.old) (W.failures output.new) }
     ensures faults { IfErr result OfDrawing }
 {
@@ -276,7 +286,11 @@ pub fn draw_certified<A: Allocator + Copy, W: Sink>(
     output: &mut W,
 ) -> Result<(), AnswerFault>
     // Whatever files the program and the certificate were read from.
-    ensures draws { (bytes text : List ℕ) → program_of bytes ≡ Ok (text_in program.now) → HaveReadings (text_in program.now).lines → certificate_said text ≡ Ok (said_of certificate.now) → DrawsGiven (setup_of machine.now tools.now) bytes text block_delete view (W.written output.old) (W.written output.new) result }
+    ensures draws { (bytes text : List ℕ) → program_of bytes ≡ Ok (text_in program.now) →
+        HaveReadings (text_in program.now).lines →
+        certificate_said text ≡ Ok (said_of certificate.now) →
+        DrawsGiven (setup_of machine.now tools.now) bytes text block_delete view
+        (W.written output.old) (W.written output.new) result }
     ensures sink { FailsByOutput result (W.failures output.old) (W.failures output.new) }
     ensures faults { IfErr result OfDrawing }
 {

@@ -25,8 +25,10 @@ fn draw_plain<F: Files, W: Sink>(
     output: &mut W,
 ) -> Result<Done, AnswerFault>
     requires { options.now.certificate ≡ None }
-    ensures comes { DrawComes (F.bytes files.old) options.now (Some view) (W.written output.old) (W.written output.new) result }
-    ensures unread { FailsByInput (SourceFails F.R.remaining F.R.failures) (F.bytes files.old) (draw_inputs options.now (Some view)) (F.failures files.old) (F.failures files.new) result }
+    ensures comes { DrawComes (F.bytes files.old) options.now (Some view) (W.written output.old)
+        (W.written output.new) result }
+    ensures unread { FailsByInput (SourceFails F.R.remaining F.R.failures) (F.bytes files.old)
+        (draw_inputs options.now (Some view)) (F.failures files.old) (F.failures files.new) result }
     ensures sink { FailsByOutput result (W.failures output.old) (W.failures output.new) }
 {
     let shop = read_shop(alloc, Some(options.machine), Some(options.tools), files)?;
@@ -53,8 +55,10 @@ fn draw_with<F: Files, W: Sink>(
     output: &mut W,
 ) -> Result<Done, AnswerFault>
     requires { option_map (λ name. name.now) options.now.certificate ≡ Some certificate.now }
-    ensures comes { DrawComes (F.bytes files.old) options.now (Some view) (W.written output.old) (W.written output.new) result }
-    ensures unread { FailsByInput (SourceFails F.R.remaining F.R.failures) (F.bytes files.old) (draw_inputs options.now (Some view)) (F.failures files.old) (F.failures files.new) result }
+    ensures comes { DrawComes (F.bytes files.old) options.now (Some view) (W.written output.old)
+        (W.written output.new) result }
+    ensures unread { FailsByInput (SourceFails F.R.remaining F.R.failures) (F.bytes files.old)
+        (draw_inputs options.now (Some view)) (F.failures files.old) (F.failures files.new) result }
     ensures sink { FailsByOutput result (W.failures output.old) (W.failures output.new) }
 {
     let shop = read_shop(alloc, Some(options.machine), Some(options.tools), files)?;
@@ -80,8 +84,12 @@ pub(crate) fn draw_files<F: Files, W: Sink>(
     files: &mut F,
     output: &mut W,
 ) -> Result<Done, AnswerFault>
-    ensures comes { DrawComes (F.bytes files.old) options.now (view_named (option_map (λ name. name.now) options.now.view)) (W.written output.old) (W.written output.new) result }
-    ensures unread { FailsByInput (SourceFails F.R.remaining F.R.failures) (F.bytes files.old) (draw_inputs options.now (view_named (option_map (λ name. name.now) options.now.view))) (F.failures files.old) (F.failures files.new) result }
+    ensures comes { DrawComes (F.bytes files.old) options.now
+        (view_named (option_map (λ name. name.now) options.now.view)) (W.written output.old)
+        (W.written output.new) result }
+    ensures unread { FailsByInput (SourceFails F.R.remaining F.R.failures) (F.bytes files.old)
+        (draw_inputs options.now (view_named (option_map (λ name. name.now) options.now.view)))
+        (F.failures files.old) (F.failures files.new) result }
     ensures sink { FailsByOutput result (W.failures output.old) (W.failures output.new) }
 {
     let Some(view) = view_of(options.view) else {

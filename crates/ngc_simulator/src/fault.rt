@@ -1,6 +1,8 @@
 //! What the program answers in place of its output.
 ghost use Rattle.std.specs.Prelude.{◌≡◌};
-ghost use Rattle.ngc_simulator.specs.Faults.{answer_number, answer_status, check_status, events_status, file_status, make_status, of_picture, of_run, program_status, read_status, text_status};
+ghost use Rattle.ngc_simulator.specs.Faults.{answer_number, answer_status, check_status};
+ghost use Rattle.ngc_simulator.specs.Faults.{events_status, file_status, make_status, of_picture};
+ghost use Rattle.ngc_simulator.specs.Faults.{of_run, program_status, read_status, text_status};
 ghost use Rattle.ngc_simulator.specs.declared.fault.AnswerFault.TheVariants as answers;
 
 use ngc_canonical::ProgramFault;

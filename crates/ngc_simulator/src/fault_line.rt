@@ -1,7 +1,10 @@
 //! The line that tells a fault on standard error.
 ghost use Rattle.std.specs.Prelude.{◌≡◌, ◌+◌, ◌≤◌, ◌++◌, length, decimal, codes};
 ghost use Rattle.ngc_text.specs.Collected.{CHUNK_SIZE};
-ghost use Rattle.ngc_simulator.specs.Faults.{answer_place, check_place, command_place, events_place, fault_line, file_place, fixture_place, line_of_text, make_place, piece_place, program_place, read_place, refused_place, setting_place};
+ghost use Rattle.ngc_simulator.specs.Faults.{answer_place, check_place, command_place};
+ghost use Rattle.ngc_simulator.specs.Faults.{events_place, fault_line, file_place, fixture_place};
+ghost use Rattle.ngc_simulator.specs.Faults.{line_of_text, make_place, piece_place, program_place};
+ghost use Rattle.ngc_simulator.specs.Faults.{read_place, refused_place, setting_place};
 
 use crate::fault::AnswerFault;
 use ngc_canonical::ProgramFault;
@@ -87,7 +90,8 @@ fn add_fixture(chunk: &mut Chunk, fixture: u32)
 
 fn add_piece(chunk: &mut Chunk, piece: u32, fault: &PieceFault)
     requires { length chunk.old + 120 ≤ CHUNK_SIZE }
-    ensures text { chunk.new ≡ chunk.old ++ codes " piece " ++ decimal piece ++ piece_place fault.now }
+    ensures text { chunk.new ≡ chunk.old ++ codes " piece " ++ decimal piece
+        ++ piece_place fault.now }
     ensures short { length chunk.new ≤ length chunk.old + 96 }
 {
     chunk.add_text(b" piece ");

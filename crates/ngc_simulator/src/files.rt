@@ -20,7 +20,9 @@ pub trait Files {
     /// The named file, or standard input; 901 where it can't be opened. A named file is opened
     /// without changing any, and standard input without changing the named ones.
     fn source(&mut self, name: Option<&str>) -> Result<Self::R, ReadFault>
-        ensures bytes { IfOk result (λ source. Self.R.remaining source ≡ bytes self.old (option_map (λ n. n.now) name.entry)) }
+        ensures bytes { IfOk result
+            (λ source. Self.R.remaining source ≡ bytes self.old
+            (option_map (λ n. n.now) name.entry)) }
         ensures keeps { IsSome name.entry → KeepsFiles (bytes self.old) (bytes self.new) }
         ensures named { KeepsNamed (bytes self.old) (bytes self.new) }
         ensures fault { IfErr result (λ fault. fault ≡ Device) }

@@ -8,7 +8,8 @@ ghost use Rattle.ngc_text.specs.Failures.{CountsFailure};
 ghost use Rattle.ngc_text.specs.Written.{AppendsBeginning};
 ghost use Rattle.ngc_machine.specs.Machine.{file_of};
 ghost use Rattle.ngc_report.specs.Forms.{closing};
-ghost use Rattle.ngc_simulator.specs.Reporting.{duration_text, fits_text, setting_text, shop_text, takes_line};
+ghost use Rattle.ngc_simulator.specs.Reporting.{duration_text, fits_text, setting_text, shop_text};
+ghost use Rattle.ngc_simulator.specs.Reporting.{takes_line};
 
 use crate::done::RunTime;
 use crate::program_time::ProgramTime;
@@ -26,8 +27,11 @@ use ngc_text::{Chunk, Sink, WriteFault, write_all};
 use std::alloc::Allocator;
 
 fn write_takes_line<W: Sink>(form: Form, time: &RunTime, output: &mut W) -> Result<(), WriteFault>
-    ensures ok { OnOk result (Appends (W.written output.old) (W.written output.new) (takes_line form time.now)) }
-    ensures fault { OnErr result (AppendsBeginning (W.written output.old) (W.written output.new) (takes_line form time.now)) }
+    ensures ok { OnOk result
+        (Appends (W.written output.old) (W.written output.new) (takes_line form time.now)) }
+    ensures fault { OnErr result
+        (AppendsBeginning (W.written output.old) (W.written output.new)
+        (takes_line form time.now)) }
     ensures counts { CountsFailure (W.failures output.old) (W.failures output.new) result }
 {
     let mut chunk = Chunk::new();
@@ -42,8 +46,12 @@ fn write_duration<A: Allocator, W: Sink>(
     time: &ProgramTime<A>,
     output: &mut W,
 ) -> Result<(), WriteFault>
-    ensures ok { OnOk result (Appends (W.written output.old) (W.written output.new) (duration_text form commands.now time.now)) }
-    ensures fault { OnErr result (AppendsBeginning (W.written output.old) (W.written output.new) (duration_text form commands.now time.now)) }
+    ensures ok { OnOk result
+        (Appends (W.written output.old) (W.written output.new)
+        (duration_text form commands.now time.now)) }
+    ensures fault { OnErr result
+        (AppendsBeginning (W.written output.old) (W.written output.new)
+        (duration_text form commands.now time.now)) }
     ensures counts { CountsFailure (W.failures output.old) (W.failures output.new) result }
 {
     write_takes_line(form, &time.whole, output)?;
@@ -62,8 +70,14 @@ fn write_setting<A: Allocator, W: Sink>(
     time: &ProgramTime<A>,
     output: &mut W,
 ) -> Result<(), WriteFault>
-    ensures ok { OnOk result (Appends (W.written output.old) (W.written output.new) (setting_text form first named setting (file_of machine.now) commands.now (entries_at setting (said_of certificate.now)) time.now)) }
-    ensures fault { OnErr result (AppendsBeginning (W.written output.old) (W.written output.new) (setting_text form first named setting (file_of machine.now) commands.now (entries_at setting (said_of certificate.now)) time.now)) }
+    ensures ok { OnOk result
+        (Appends (W.written output.old) (W.written output.new)
+        (setting_text form first named setting (file_of machine.now) commands.now
+        (entries_at setting (said_of certificate.now)) time.now)) }
+    ensures fault { OnErr result
+        (AppendsBeginning (W.written output.old) (W.written output.new)
+        (setting_text form first named setting (file_of machine.now) commands.now
+        (entries_at setting (said_of certificate.now)) time.now)) }
     ensures counts { CountsFailure (W.failures output.old) (W.failures output.new) result }
 {
     write_heading(form, first, named, setting, output)?;
@@ -85,8 +99,12 @@ fn write_shop<A: Allocator, W: Sink>(
     tools: &Tools<A>,
     output: &mut W,
 ) -> Result<(), WriteFault>
-    ensures ok { OnOk result (Appends (W.written output.old) (W.written output.new) (shop_text form (setup_of machine.now tools.now))) }
-    ensures fault { OnErr result (AppendsBeginning (W.written output.old) (W.written output.new) (shop_text form (setup_of machine.now tools.now))) }
+    ensures ok { OnOk result
+        (Appends (W.written output.old) (W.written output.new)
+        (shop_text form (setup_of machine.now tools.now))) }
+    ensures fault { OnErr result
+        (AppendsBeginning (W.written output.old) (W.written output.new)
+        (shop_text form (setup_of machine.now tools.now))) }
     ensures counts { CountsFailure (W.failures output.old) (W.failures output.new) result }
 {
     match form {
@@ -102,8 +120,12 @@ fn write_fit_end<A: Allocator, W: Sink>(
     tools: &Tools<A>,
     output: &mut W,
 ) -> Result<(), WriteFault>
-    ensures ok { OnOk result (Appends (W.written output.old) (W.written output.new) (shop_text form (setup_of machine.now tools.now) ++ closing form)) }
-    ensures fault { OnErr result (AppendsBeginning (W.written output.old) (W.written output.new) (shop_text form (setup_of machine.now tools.now) ++ closing form)) }
+    ensures ok { OnOk result
+        (Appends (W.written output.old) (W.written output.new)
+        (shop_text form (setup_of machine.now tools.now) ++ closing form)) }
+    ensures fault { OnErr result
+        (AppendsBeginning (W.written output.old) (W.written output.new)
+        (shop_text form (setup_of machine.now tools.now) ++ closing form)) }
     ensures counts { CountsFailure (W.failures output.old) (W.failures output.new) result }
 {
     write_shop(form, machine, tools, output)?;
@@ -120,8 +142,14 @@ pub(crate) fn write_once<A: Allocator, W: Sink>(
     time: &ProgramTime<A>,
     output: &mut W,
 ) -> Result<(), WriteFault>
-    ensures ok { OnOk result (Appends (W.written output.old) (W.written output.new) (fits_text form false (setup_of machine.now tools.now) accepted.now.off accepted.now.on (said_of certificate.now) time.now time.now)) }
-    ensures fault { OnErr result (AppendsBeginning (W.written output.old) (W.written output.new) (fits_text form false (setup_of machine.now tools.now) accepted.now.off accepted.now.on (said_of certificate.now) time.now time.now)) }
+    ensures ok { OnOk result
+        (Appends (W.written output.old) (W.written output.new)
+        (fits_text form false (setup_of machine.now tools.now) accepted.now.off accepted.now.on
+        (said_of certificate.now) time.now time.now)) }
+    ensures fault { OnErr result
+        (AppendsBeginning (W.written output.old) (W.written output.new)
+        (fits_text form false (setup_of machine.now tools.now) accepted.now.off accepted.now.on
+        (said_of certificate.now) time.now time.now)) }
     ensures counts { CountsFailure (W.failures output.old) (W.failures output.new) result }
 {
     let commands = accepted.commands(false);
@@ -150,8 +178,14 @@ pub(crate) fn write_both<A: Allocator, W: Sink>(
     on_time: &ProgramTime<A>,
     output: &mut W,
 ) -> Result<(), WriteFault>
-    ensures ok { OnOk result (Appends (W.written output.old) (W.written output.new) (fits_text form true (setup_of machine.now tools.now) accepted.now.off accepted.now.on (said_of certificate.now) off_time.now on_time.now)) }
-    ensures fault { OnErr result (AppendsBeginning (W.written output.old) (W.written output.new) (fits_text form true (setup_of machine.now tools.now) accepted.now.off accepted.now.on (said_of certificate.now) off_time.now on_time.now)) }
+    ensures ok { OnOk result
+        (Appends (W.written output.old) (W.written output.new)
+        (fits_text form true (setup_of machine.now tools.now) accepted.now.off accepted.now.on
+        (said_of certificate.now) off_time.now on_time.now)) }
+    ensures fault { OnErr result
+        (AppendsBeginning (W.written output.old) (W.written output.new)
+        (fits_text form true (setup_of machine.now tools.now) accepted.now.off accepted.now.on
+        (said_of certificate.now) off_time.now on_time.now)) }
     ensures counts { CountsFailure (W.failures output.old) (W.failures output.new) result }
 {
     let off = accepted.commands(false);

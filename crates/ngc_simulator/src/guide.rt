@@ -30,7 +30,8 @@ pub(crate) fn write_help<W: Sink>(
 
 pub(crate) fn write_version<W: Sink>(output: &mut W) -> Result<(), WriteFault>
     ensures ok { OnOk result (Appends (W.written output.old) (W.written output.new) version_text) }
-    ensures fault { OnErr result (AppendsBeginning (W.written output.old) (W.written output.new) version_text) }
+    ensures fault { OnErr result
+        (AppendsBeginning (W.written output.old) (W.written output.new) version_text) }
     ensures counts { CountsFailure (W.failures output.old) (W.failures output.new) result }
 {
     write_all(output, b"ngc 0.1.0\n")

@@ -33,9 +33,12 @@ pub fn list<A: Allocator + Copy, R: Source, W: Sink>(
     output: &mut W,
 ) -> Result<(), AnswerFault>
     // Where the source's bytes are known, what is written is the listing of what they mean.
-    ensures lists { IfSome (R.remaining source.old) (λ bytes. Lists (setup_of machine.now tools.now) bytes block_delete (W.written output.old) (W.written output.new) result) }
+    ensures lists { IfSome (R.remaining source.old)
+        (λ bytes. Lists (setup_of machine.now tools.now) bytes block_delete (W.written output.old)
+        (W.written output.new) result) }
     // A fault of reading or writing comes only from a device that failed.
-    ensures source { result ≡ Err (AnswerFault.Read Device) → Rises (R.failures source.old) (R.failures source.new) }
+    ensures source { result ≡ Err (AnswerFault.Read Device) →
+        Rises (R.failures source.old) (R.failures source.new) }
     ensures sink { FailsByOutput result (W.failures output.old) (W.failures output.new) }
     ensures faults { IfErr result OfListing }
 {
@@ -52,8 +55,10 @@ pub(crate) fn list_files<F: Files, W: Sink>(
     files: &mut F,
     output: &mut W,
 ) -> Result<Done, AnswerFault>
-    ensures comes { ListComes (F.bytes files.old) options.now (W.written output.old) (W.written output.new) result }
-    ensures unread { FailsByInput (SourceFails F.R.remaining F.R.failures) (F.bytes files.old) (list_inputs options.now) (F.failures files.old) (F.failures files.new) result }
+    ensures comes { ListComes (F.bytes files.old) options.now (W.written output.old)
+        (W.written output.new) result }
+    ensures unread { FailsByInput (SourceFails F.R.remaining F.R.failures) (F.bytes files.old)
+        (list_inputs options.now) (F.failures files.old) (F.failures files.new) result }
     ensures sink { FailsByOutput result (W.failures output.old) (W.failures output.new) }
 {
     let shop = read_shop(alloc, options.machine, options.tools, files)?;

@@ -5,7 +5,10 @@ ghost use Rattle.ngc_fixed_length.specs.Length.{IsStep};
 ghost use Rattle.ngc_text.specs.Written.{AppendsBeginning};
 ghost use Rattle.ngc_text.specs.Collected.{CHUNK_SIZE, HasLineRoom};
 ghost use Rattle.ngc_canonical.specs.Movement.{end_of};
-ghost use Rattle.ngc_simulator.specs.Listing.{end_text, feed_text, turn_text, plane_text, arc_text, spindle_text, coolant_text, number_of_tool, switch_text, way_text, pace_text, act_text, listing_line, listing};
+ghost use Rattle.ngc_simulator.specs.Listing.{end_text, feed_text, turn_text, plane_text, arc_text};
+ghost use Rattle.ngc_simulator.specs.Listing.{spindle_text, coolant_text, number_of_tool};
+ghost use Rattle.ngc_simulator.specs.Listing.{switch_text, way_text, pace_text, act_text};
+ghost use Rattle.ngc_simulator.specs.Listing.{listing_line, listing};
 
 use ngc_arc_geometry::Arc;
 use ngc_canonical::{Action, Command, CoolantState, Feed, Motion, Pace, SpindleState, Tool, Way};
@@ -152,7 +155,9 @@ fn add_pace(chunk: &mut Chunk, pace: &Pace)
 fn add_motion(chunk: &mut Chunk, step: Nm, motion: &Motion)
     requires room { length chunk.old + 420 ≤ CHUNK_SIZE }
     requires step { IsStep step }
-    ensures text { chunk.new ≡ chunk.old ++ (way_text motion.now.way motion.now.pace ++ end_text step (end_of motion.now.way) ++ pace_text motion.now.pace) }
+    ensures text { chunk.new ≡ chunk.old
+        ++ (way_text motion.now.way motion.now.pace ++ end_text step (end_of motion.now.way)
+        ++ pace_text motion.now.pace) }
     ensures short { length chunk.new ≤ length chunk.old + 410 }
 {
     add_way(chunk, &motion.way, &motion.pace);
@@ -213,8 +218,10 @@ fn add_line(chunk: &mut Chunk, step: Nm, index: usize, command: &Command)
 /// After a fault (902, and only where the sink failed) a beginning of the listing is written.
 pub fn write_list<W: Sink>(commands: &[Command], step: Nm, sink: &mut W) -> Result<(), WriteFault>
     requires { IsStep step }
-    ensures ok { OnOk result (Appends (W.written sink.old) (W.written sink.new) (listing step commands.now)) }
-    ensures fault { OnErr result (AppendsBeginning (W.written sink.old) (W.written sink.new) (listing step commands.now)) }
+    ensures ok { OnOk result
+        (Appends (W.written sink.old) (W.written sink.new) (listing step commands.now)) }
+    ensures fault { OnErr result
+        (AppendsBeginning (W.written sink.old) (W.written sink.new) (listing step commands.now)) }
     ensures counts { CountsFailure (W.failures sink.old) (W.failures sink.new) result }
 {
     let mut chunk = Chunk::new();

@@ -1,5 +1,6 @@
 //! The mistake of a machine file or a tool table that is refused, told before its fault.
-ghost use Rattle.std.specs.Prelude.{◌≡◌, ◌≢◌, IfErr, IsSomeAnd, None, OnErr, OnOk, Some, option_map};
+ghost use Rattle.std.specs.Prelude.{◌≡◌, ◌≢◌, IfErr, IsSomeAnd, None, OnErr, OnOk, Some};
+ghost use Rattle.std.specs.Prelude.{option_map};
 ghost use Rattle.std.specs.Io.KnownBytes.{Appends};
 ghost use Rattle.ngc_text.specs.Failures.{CountsFailure};
 ghost use Rattle.ngc_text.specs.Written.{AppendsBeginning};
@@ -10,7 +11,8 @@ ghost use Rattle.ngc_setup_sheet.specs.Mistakes.{machine_mistake_text, tools_mis
 ghost use Rattle.ngc_simulator.specs.Faults.{FailsByOutput};
 ghost use Rattle.ngc_simulator.specs.Mistaken.{GivesTold, OfText, TellsMistake, fault_document};
 ghost use Rattle.ngc_simulator.specs.Setups.{KeepsFiles};
-ghost use Rattle.ngc_simulator.specs.Unread.{FailsByInput, OfMachine, OfTools, SourceFails, setup_input, shop_inputs, unread_by};
+ghost use Rattle.ngc_simulator.specs.Unread.{FailsByInput, OfMachine, OfTools, SourceFails};
+ghost use Rattle.ngc_simulator.specs.Unread.{setup_input, shop_inputs, unread_by};
 
 use crate::fault::AnswerFault;
 use crate::files::Files;
@@ -23,8 +25,10 @@ use ngc_text::{InputFault, Sink, WriteFault, write_all};
 use std::alloc::Global;
 
 fn write_fault_document<W: Sink>(number: u16, output: &mut W) -> Result<(), WriteFault>
-    ensures ok { OnOk result (Appends (W.written output.old) (W.written output.new) (fault_document number)) }
-    ensures fault { OnErr result (AppendsBeginning (W.written output.old) (W.written output.new) (fault_document number)) }
+    ensures ok { OnOk result
+        (Appends (W.written output.old) (W.written output.new) (fault_document number)) }
+    ensures fault { OnErr result
+        (AppendsBeginning (W.written output.old) (W.written output.new) (fault_document number)) }
     ensures counts { CountsFailure (W.failures output.old) (W.failures output.new) result }
 {
     write_all(output, opening(Form::Json))?;
@@ -33,7 +37,8 @@ fn write_fault_document<W: Sink>(number: u16, output: &mut W) -> Result<(), Writ
 
 // Nothing is written where memory ran out.
 fn tell_number<W: Sink>(fault: FileFault, output: &mut W) -> Result<(), AnswerFault>
-    ensures tells { TellsMistake (λ P. (fault ≢ Memory) × P (fault_document (file_number fault))) (W.written output.old) (W.written output.new) result }
+    ensures tells { TellsMistake (λ P. (fault ≢ Memory) × P (fault_document (file_number fault)))
+        (W.written output.old) (W.written output.new) result }
     ensures unread { IfErr result (λ fault. unread_by fault ≡ None) }
     ensures sink { FailsByOutput result (W.failures output.old) (W.failures output.new) }
 {
@@ -52,9 +57,13 @@ fn tell_machine_words<F: Files, W: Sink>(
     files: &mut F,
     output: &mut W,
 ) -> Result<(), AnswerFault>
-    ensures tells { TellsMistake (OfText Words machine_mistake_text fault (F.bytes files.old (Some name.now))) (W.written output.old) (W.written output.new) result }
+    ensures tells { TellsMistake
+        (OfText Words machine_mistake_text fault (F.bytes files.old (Some name.now)))
+        (W.written output.old) (W.written output.new) result }
     ensures keeps { KeepsFiles (F.bytes files.old) (F.bytes files.new) }
-    ensures unread { FailsByInput (SourceFails F.R.remaining F.R.failures) (F.bytes files.old) (setup_input OfMachine (Some name.now)) (F.failures files.old) (F.failures files.new) result }
+    ensures unread { FailsByInput (SourceFails F.R.remaining F.R.failures) (F.bytes files.old)
+        (setup_input OfMachine (Some name.now)) (F.failures files.old)
+        (F.failures files.new) result }
     ensures sink { FailsByOutput result (W.failures output.old) (W.failures output.new) }
 {
     if fault == FileFault::Memory {
@@ -76,9 +85,12 @@ fn tell_tools_words<F: Files, W: Sink>(
     files: &mut F,
     output: &mut W,
 ) -> Result<(), AnswerFault>
-    ensures tells { TellsMistake (OfText Words tools_mistake_text fault (F.bytes files.old (Some name.now))) (W.written output.old) (W.written output.new) result }
+    ensures tells { TellsMistake
+        (OfText Words tools_mistake_text fault (F.bytes files.old (Some name.now)))
+        (W.written output.old) (W.written output.new) result }
     ensures keeps { KeepsFiles (F.bytes files.old) (F.bytes files.new) }
-    ensures unread { FailsByInput (SourceFails F.R.remaining F.R.failures) (F.bytes files.old) (setup_input OfTools (Some name.now)) (F.failures files.old) (F.failures files.new) result }
+    ensures unread { FailsByInput (SourceFails F.R.remaining F.R.failures) (F.bytes files.old)
+        (setup_input OfTools (Some name.now)) (F.failures files.old) (F.failures files.new) result }
     ensures sink { FailsByOutput result (W.failures output.old) (W.failures output.new) }
 {
     if fault == FileFault::Memory {
@@ -101,9 +113,13 @@ fn tell_machine_mistake<F: Files, W: Sink>(
     files: &mut F,
     output: &mut W,
 ) -> Result<(), AnswerFault>
-    ensures tells { TellsMistake (OfText form machine_mistake_text fault (F.bytes files.old (Some name.now))) (W.written output.old) (W.written output.new) result }
+    ensures tells { TellsMistake
+        (OfText form machine_mistake_text fault (F.bytes files.old (Some name.now)))
+        (W.written output.old) (W.written output.new) result }
     ensures keeps { KeepsFiles (F.bytes files.old) (F.bytes files.new) }
-    ensures unread { FailsByInput (SourceFails F.R.remaining F.R.failures) (F.bytes files.old) (setup_input OfMachine (Some name.now)) (F.failures files.old) (F.failures files.new) result }
+    ensures unread { FailsByInput (SourceFails F.R.remaining F.R.failures) (F.bytes files.old)
+        (setup_input OfMachine (Some name.now)) (F.failures files.old)
+        (F.failures files.new) result }
     ensures sink { FailsByOutput result (W.failures output.old) (W.failures output.new) }
 {
     match form {
@@ -120,9 +136,12 @@ fn tell_tools_mistake<F: Files, W: Sink>(
     files: &mut F,
     output: &mut W,
 ) -> Result<(), AnswerFault>
-    ensures tells { TellsMistake (OfText form tools_mistake_text fault (F.bytes files.old (Some name.now))) (W.written output.old) (W.written output.new) result }
+    ensures tells { TellsMistake
+        (OfText form tools_mistake_text fault (F.bytes files.old (Some name.now)))
+        (W.written output.old) (W.written output.new) result }
     ensures keeps { KeepsFiles (F.bytes files.old) (F.bytes files.new) }
-    ensures unread { FailsByInput (SourceFails F.R.remaining F.R.failures) (F.bytes files.old) (setup_input OfTools (Some name.now)) (F.failures files.old) (F.failures files.new) result }
+    ensures unread { FailsByInput (SourceFails F.R.remaining F.R.failures) (F.bytes files.old)
+        (setup_input OfTools (Some name.now)) (F.failures files.old) (F.failures files.new) result }
     ensures sink { FailsByOutput result (W.failures output.old) (W.failures output.new) }
 {
     match form {
@@ -143,10 +162,13 @@ pub(crate) fn read_shop_telling<F: Files, W: Sink>(
     files: &mut F,
     output: &mut W,
 ) -> Result<Shop, AnswerFault>
-    ensures said { GivesTold form (F.bytes files.old) (Some machine.now) (option_map (λ n. n.now) tools.entry) (W.written output.old) (W.written output.new) result }
+    ensures said { GivesTold form (F.bytes files.old) (Some machine.now)
+        (option_map (λ n. n.now) tools.entry) (W.written output.old) (W.written output.new) result }
     ensures keeps { KeepsFiles (F.bytes files.old) (F.bytes files.new) }
     // The first that isn't read can't be opened, its source fails, or it is too long.
-    ensures unread { FailsByInput (SourceFails F.R.remaining F.R.failures) (F.bytes files.old) (shop_inputs (Some machine.now) (option_map (λ n. n.now) tools.entry)) (F.failures files.old) (F.failures files.new) result }
+    ensures unread { FailsByInput (SourceFails F.R.remaining F.R.failures) (F.bytes files.old)
+        (shop_inputs (Some machine.now) (option_map (λ n. n.now) tools.entry))
+        (F.failures files.old) (F.failures files.new) result }
     ensures sink { FailsByOutput result (W.failures output.old) (W.failures output.new) }
 {
     match (read_shop(alloc, Some(machine), tools, files), tools) {

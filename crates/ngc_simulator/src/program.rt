@@ -29,8 +29,10 @@ fn run_command<F: Files, W: Sink>(
     files: &mut F,
     output: &mut W,
 ) -> Result<Done, AnswerFault>
-    ensures comes { ComesBy (F.bytes files.old) options.now (W.written output.old) (W.written output.new) result }
-    ensures unread { FailsByInput (SourceFails F.R.remaining F.R.failures) (F.bytes files.old) (inputs_of options.now) (F.failures files.old) (F.failures files.new) result }
+    ensures comes { ComesBy (F.bytes files.old) options.now (W.written output.old)
+        (W.written output.new) result }
+    ensures unread { FailsByInput (SourceFails F.R.remaining F.R.failures) (F.bytes files.old)
+        (inputs_of options.now) (F.failures files.old) (F.failures files.new) result }
     ensures sink { FailsByOutput result (W.failures output.old) (W.failures output.new) }
 {
     match options {
@@ -71,7 +73,27 @@ pub fn answer<F: Files, W: Sink, E: Sink>(
 ) -> u8
     // Of the files that the options name: the listing, the certificate, the word that it is
     // accepted, the log of the run, or a fault, and the status and the second sink tell which.
-    ensures answers { Answers (record { bytes = F.bytes files.old; fails = SourceFails F.R.remaining F.R.failures; failures = F.failures files.old; failures_now = F.failures files.new }) options.now (record { old = W.written output.old; new = W.written output.new; failures = W.failures output.old; failures_now = W.failures output.new }) (record { old = E.written errors.old; new = E.written errors.new; failures = E.failures errors.old; failures_now = E.failures errors.new }) result }
+    ensures answers { Answers
+        (record {
+          bytes = F.bytes files.old;
+          fails = SourceFails F.R.remaining F.R.failures;
+          failures = F.failures files.old;
+          failures_now =
+              F.failures files.new;
+        }) options.now
+        (record {
+          old = W.written output.old;
+          new = W.written output.new;
+          failures = W.failures output.old;
+          failures_now =
+              W.failures output.new;
+        })
+        (record {
+          old = E.written errors.old;
+          new = E.written errors.new;
+          failures = E.failures errors.old;
+          failures_now = E.failures errors.new;
+        }) result }
     ensures status { IsStatus result }
     // What is done has written what it had to, and nothing to the second sink but the time of a run
     // to the end.

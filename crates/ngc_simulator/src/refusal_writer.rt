@@ -9,7 +9,9 @@ ghost use Rattle.ngc_fixed_length.specs.Grid.{grid};
 ghost use Rattle.ngc_line_reader.specs.ProgramView.{text_in};
 ghost use Rattle.ngc_machine.specs.Machine.{file_of};
 ghost use Rattle.ngc_report.specs.Marks.{named_line};
-ghost use Rattle.ngc_simulator.specs.Reporting.{cause_text, ending, quoted_if, refusal_text, refusals_text, refused_line, rejection_text, setting_refusals, told_command, told_number};
+ghost use Rattle.ngc_simulator.specs.Reporting.{cause_text, ending, quoted_if, refusal_text};
+ghost use Rattle.ngc_simulator.specs.Reporting.{refusals_text, refused_line, rejection_text};
+ghost use Rattle.ngc_simulator.specs.Reporting.{setting_refusals, told_command, told_number};
 
 use crate::drawing::met_at;
 use crate::report_frame::{write_ending, write_heading};
@@ -23,7 +25,9 @@ use std::alloc::Allocator;
 
 // The command that a refusal is told of: none where the start point isn't clear.
 fn told_command<A: Allocator>(machine: &Machine<A>, command: u32) -> Option<usize>
-    ensures { result ≡ told_command (place_fault (file_of machine.now) None (grid (file_of machine.now).step (file_of machine.now).start)) command }
+    ensures { result ≡ told_command
+        (place_fault (file_of machine.now) None
+        (grid (file_of machine.now).step (file_of machine.now).start)) command }
 {
     match place_fault(machine, None, &machine.start.to_grid(machine.step)) {
         Some(_) => None,
@@ -50,8 +54,12 @@ fn write_told_line<A: Allocator, W: Sink>(
     number: Option<u32>,
     output: &mut W,
 ) -> Result<(), WriteFault>
-    ensures ok { OnOk result (Appends (W.written output.old) (W.written output.new) (quoted_if form number (text_in program.now).lines)) }
-    ensures fault { OnErr result (AppendsBeginning (W.written output.old) (W.written output.new) (quoted_if form number (text_in program.now).lines)) }
+    ensures ok { OnOk result
+        (Appends (W.written output.old) (W.written output.new)
+        (quoted_if form number (text_in program.now).lines)) }
+    ensures fault { OnErr result
+        (AppendsBeginning (W.written output.old) (W.written output.new)
+        (quoted_if form number (text_in program.now).lines)) }
     ensures counts { CountsFailure (W.failures output.old) (W.failures output.new) result }
 {
     match number {
@@ -67,8 +75,12 @@ fn write_cause_end<A: Allocator, W: Sink>(
     number: Option<u32>,
     output: &mut W,
 ) -> Result<(), WriteFault>
-    ensures ok { OnOk result (Appends (W.written output.old) (W.written output.new) (quoted_if form number (text_in program.now).lines ++ ending form 304)) }
-    ensures fault { OnErr result (AppendsBeginning (W.written output.old) (W.written output.new) (quoted_if form number (text_in program.now).lines ++ ending form 304)) }
+    ensures ok { OnOk result
+        (Appends (W.written output.old) (W.written output.new)
+        (quoted_if form number (text_in program.now).lines ++ ending form 304)) }
+    ensures fault { OnErr result
+        (AppendsBeginning (W.written output.old) (W.written output.new)
+        (quoted_if form number (text_in program.now).lines ++ ending form 304)) }
     ensures counts { CountsFailure (W.failures output.old) (W.failures output.new) result }
 {
     write_told_line(form, program, number, output)?;
@@ -85,8 +97,14 @@ fn write_cause<A: Allocator, W: Sink>(
     fixture: Option<u32>,
     output: &mut W,
 ) -> Result<(), WriteFault>
-    ensures ok { OnOk result (Appends (W.written output.old) (W.written output.new) (cause_text form (file_of machine.now) commands.now told fixture (text_in program.now).lines)) }
-    ensures fault { OnErr result (AppendsBeginning (W.written output.old) (W.written output.new) (cause_text form (file_of machine.now) commands.now told fixture (text_in program.now).lines)) }
+    ensures ok { OnOk result
+        (Appends (W.written output.old) (W.written output.new)
+        (cause_text form (file_of machine.now) commands.now told fixture
+        (text_in program.now).lines)) }
+    ensures fault { OnErr result
+        (AppendsBeginning (W.written output.old) (W.written output.new)
+        (cause_text form (file_of machine.now) commands.now told fixture
+        (text_in program.now).lines)) }
     ensures counts { CountsFailure (W.failures output.old) (W.failures output.new) result }
 {
     write_refusal(form, machine, commands, told, fixture, output)?;
@@ -104,8 +122,14 @@ pub(crate) fn write_refused<A: Allocator, W: Sink>(
     command: u32,
     output: &mut W,
 ) -> Result<(), WriteFault>
-    ensures ok { OnOk result (Appends (W.written output.old) (W.written output.new) (refusal_text form named setting (file_of machine.now) commands.now command (text_in program.now).lines)) }
-    ensures fault { OnErr result (AppendsBeginning (W.written output.old) (W.written output.new) (refusal_text form named setting (file_of machine.now) commands.now command (text_in program.now).lines)) }
+    ensures ok { OnOk result
+        (Appends (W.written output.old) (W.written output.new)
+        (refusal_text form named setting (file_of machine.now) commands.now command
+        (text_in program.now).lines)) }
+    ensures fault { OnErr result
+        (AppendsBeginning (W.written output.old) (W.written output.new)
+        (refusal_text form named setting (file_of machine.now) commands.now command
+        (text_in program.now).lines)) }
     ensures counts { CountsFailure (W.failures output.old) (W.failures output.new) result }
 {
     write_heading(form, true, named, setting, output)?;
@@ -115,7 +139,9 @@ pub(crate) fn write_refused<A: Allocator, W: Sink>(
 }
 
 fn is_start_refused<A: Allocator>(machine: &Machine<A>) -> bool
-    ensures { result ≡ is_some (place_fault (file_of machine.now) None (grid (file_of machine.now).step (file_of machine.now).start)) }
+    ensures { result ≡ is_some
+        (place_fault (file_of machine.now) None
+        (grid (file_of machine.now).step (file_of machine.now).start)) }
 {
     place_fault(machine, None, &machine.start.to_grid(machine.step)).is_some()
 }
@@ -131,8 +157,14 @@ fn write_setting_refusals<A: Allocator, W: Sink>(
     indices: &[u32],
     output: &mut W,
 ) -> Result<(), WriteFault>
-    ensures ok { OnOk result (Appends (W.written output.old) (W.written output.new) (setting_refusals form first named setting (file_of machine.now) commands.now indices.now)) }
-    ensures fault { OnErr result (AppendsBeginning (W.written output.old) (W.written output.new) (setting_refusals form first named setting (file_of machine.now) commands.now indices.now)) }
+    ensures ok { OnOk result
+        (Appends (W.written output.old) (W.written output.new)
+        (setting_refusals form first named setting
+        (file_of machine.now) commands.now indices.now)) }
+    ensures fault { OnErr result
+        (AppendsBeginning (W.written output.old) (W.written output.new)
+        (setting_refusals form first named setting
+        (file_of machine.now) commands.now indices.now)) }
     ensures counts { CountsFailure (W.failures output.old) (W.failures output.new) result }
 {
     write_heading(form, first, named, setting, output)?;
@@ -148,8 +180,14 @@ pub(crate) fn write_all_once<A: Allocator, W: Sink>(
     indices: &[u32],
     output: &mut W,
 ) -> Result<(), WriteFault>
-    ensures ok { OnOk result (Appends (W.written output.old) (W.written output.new) (refusals_text form false (file_of machine.now) commands.now commands.now indices.now indices.now)) }
-    ensures fault { OnErr result (AppendsBeginning (W.written output.old) (W.written output.new) (refusals_text form false (file_of machine.now) commands.now commands.now indices.now indices.now)) }
+    ensures ok { OnOk result
+        (Appends (W.written output.old) (W.written output.new)
+        (refusals_text form false (file_of machine.now) commands.now commands.now indices.now
+        indices.now)) }
+    ensures fault { OnErr result
+        (AppendsBeginning (W.written output.old) (W.written output.new)
+        (refusals_text form false (file_of machine.now) commands.now commands.now indices.now
+        indices.now)) }
     ensures counts { CountsFailure (W.failures output.old) (W.failures output.new) result }
 {
     write_setting_refusals(
@@ -175,8 +213,14 @@ pub(crate) fn write_all_both<A: Allocator, W: Sink>(
     on_indices: &[u32],
     output: &mut W,
 ) -> Result<(), WriteFault>
-    ensures ok { OnOk result (Appends (W.written output.old) (W.written output.new) (refusals_text form true (file_of machine.now) off.now on.now off_indices.now on_indices.now)) }
-    ensures fault { OnErr result (AppendsBeginning (W.written output.old) (W.written output.new) (refusals_text form true (file_of machine.now) off.now on.now off_indices.now on_indices.now)) }
+    ensures ok { OnOk result
+        (Appends (W.written output.old) (W.written output.new)
+        (refusals_text form true (file_of machine.now) off.now on.now off_indices.now
+        on_indices.now)) }
+    ensures fault { OnErr result
+        (AppendsBeginning (W.written output.old) (W.written output.new)
+        (refusals_text form true (file_of machine.now) off.now on.now off_indices.now
+        on_indices.now)) }
     ensures counts { CountsFailure (W.failures output.old) (W.failures output.new) result }
 {
     write_setting_refusals(
@@ -219,8 +263,14 @@ fn write_rejection_end<A: Allocator, W: Sink>(
     fault: &Fault,
     output: &mut W,
 ) -> Result<(), WriteFault>
-    ensures ok { OnOk result (Appends (W.written output.old) (W.written output.new) (named_line form number fault.now (text_in program.now).lines ++ ending form (fault_number fault.now))) }
-    ensures fault { OnErr result (AppendsBeginning (W.written output.old) (W.written output.new) (named_line form number fault.now (text_in program.now).lines ++ ending form (fault_number fault.now))) }
+    ensures ok { OnOk result
+        (Appends (W.written output.old) (W.written output.new)
+        (named_line form number fault.now (text_in program.now).lines
+        ++ ending form (fault_number fault.now))) }
+    ensures fault { OnErr result
+        (AppendsBeginning (W.written output.old) (W.written output.new)
+        (named_line form number fault.now (text_in program.now).lines
+        ++ ending form (fault_number fault.now))) }
     ensures counts { CountsFailure (W.failures output.old) (W.failures output.new) result }
 {
     write_named(form, program, number, fault, output)?;
@@ -237,8 +287,12 @@ pub(crate) fn write_rejection<A: Allocator, W: Sink>(
     fault: &Fault,
     output: &mut W,
 ) -> Result<(), WriteFault>
-    ensures ok { OnOk result (Appends (W.written output.old) (W.written output.new) (rejection_text form named setting number fault.now (text_in program.now).lines)) }
-    ensures fault { OnErr result (AppendsBeginning (W.written output.old) (W.written output.new) (rejection_text form named setting number fault.now (text_in program.now).lines)) }
+    ensures ok { OnOk result
+        (Appends (W.written output.old) (W.written output.new)
+        (rejection_text form named setting number fault.now (text_in program.now).lines)) }
+    ensures fault { OnErr result
+        (AppendsBeginning (W.written output.old) (W.written output.new)
+        (rejection_text form named setting number fault.now (text_in program.now).lines)) }
     ensures counts { CountsFailure (W.failures output.old) (W.failures output.new) result }
 {
     write_heading(form, true, named, setting, output)?;

@@ -64,8 +64,11 @@ pub(crate) fn write_heading<W: Sink>(
     setting: Setting,
     output: &mut W,
 ) -> Result<(), WriteFault>
-    ensures ok { OnOk result (Appends (W.written output.old) (W.written output.new) (heading form first named setting)) }
-    ensures fault { OnErr result (AppendsBeginning (W.written output.old) (W.written output.new) (heading form first named setting)) }
+    ensures ok { OnOk result
+        (Appends (W.written output.old) (W.written output.new) (heading form first named setting)) }
+    ensures fault { OnErr result
+        (AppendsBeginning (W.written output.old) (W.written output.new)
+        (heading form first named setting)) }
     ensures counts { CountsFailure (W.failures output.old) (W.failures output.new) result }
 {
     heading_of(form, first, named, setting).write_out(output)
@@ -117,8 +120,10 @@ pub(crate) fn write_ending<W: Sink>(
     number: u16,
     output: &mut W,
 ) -> Result<(), WriteFault>
-    ensures ok { OnOk result (Appends (W.written output.old) (W.written output.new) (ending form number)) }
-    ensures fault { OnErr result (AppendsBeginning (W.written output.old) (W.written output.new) (ending form number)) }
+    ensures ok { OnOk result
+        (Appends (W.written output.old) (W.written output.new) (ending form number)) }
+    ensures fault { OnErr result
+        (AppendsBeginning (W.written output.old) (W.written output.new) (ending form number)) }
     ensures counts { CountsFailure (W.failures output.old) (W.failures output.new) result }
 {
     ending_of(form, number).write_out(output)

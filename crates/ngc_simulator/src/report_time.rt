@@ -2,7 +2,8 @@
 ghost use Rattle.std.specs.Prelude.{◌≡◌, ◌+◌, ◌≤◌, ◌++◌, length};
 ghost use Rattle.ngc_text.specs.Collected.{CHUNK_SIZE};
 ghost use Rattle.ngc_simulator.specs.Reporting.{takes_fact, takes_line, takes_words};
-ghost use Rattle.ngc_simulator.specs.Times.{clock_text, seconds_text, three_digits, time_line, time_text, two_digits};
+ghost use Rattle.ngc_simulator.specs.Times.{clock_text, seconds_text, three_digits, time_line};
+ghost use Rattle.ngc_simulator.specs.Times.{time_text, two_digits};
 
 use crate::done::RunTime;
 use ngc_report::Form;

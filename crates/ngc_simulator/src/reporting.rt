@@ -7,7 +7,8 @@ ghost use Rattle.ngc_text.specs.Failures.{Rises};
 ghost use Rattle.ngc_line_reader.specs.ProgramText.{program_of, HaveReadings};
 ghost use Rattle.ngc_line_reader.specs.ProgramView.{text_in};
 ghost use Rattle.ngc_line_reader.specs.declared.program.fault.ReadFault.TheVariants.{Device};
-ghost use Rattle.ngc_simulator.specs.Faults.{FailsByOutput, FailsWith, OfCertifying, OfMaking, OfReporting};
+ghost use Rattle.ngc_simulator.specs.Faults.{FailsByOutput, FailsWith, OfCertifying, OfMaking};
+ghost use Rattle.ngc_simulator.specs.Faults.{OfReporting};
 ghost use Rattle.ngc_simulator.specs.Jobs.{IsMadeFor, WhyNotMade};
 ghost use Rattle.ngc_simulator.specs.Reporting.{HasDeleted, IsPassed, Reports, is_on};
 
@@ -46,9 +47,13 @@ fn report_fit<A: Allocator + Copy, W: Sink>(
     output: &mut W,
 ) -> Result<(), AnswerFault>
     requires readings { HaveReadings (text_in program.now).lines }
-    requires passes { IsPassed (text_in program.now) (setup_of machine.now tools.now) (said_of certificate.now) }
+    requires passes { IsPassed (text_in program.now) (setup_of machine.now tools.now)
+        (said_of certificate.now) }
     // Whatever file the program was read from.
-    ensures reports { (bytes : List ℕ) → program_of bytes ≡ Ok (text_in program.now) → IsMadeFor (setup_of machine.now tools.now) bytes request.cuts (said_of certificate.now) → Reports (setup_of machine.now tools.now) bytes request (W.written output.old) (W.written output.new) result }
+    ensures reports { (bytes : List ℕ) → program_of bytes ≡ Ok (text_in program.now) →
+        IsMadeFor (setup_of machine.now tools.now) bytes request.cuts (said_of certificate.now) →
+        Reports (setup_of machine.now tools.now) bytes request (W.written output.old)
+        (W.written output.new) result }
     ensures sink { FailsByOutput result (W.failures output.old) (W.failures output.new) }
     ensures faults { IfErr result OfReporting }
 {
@@ -93,7 +98,11 @@ fn report_first<A: Allocator + Copy, W: Sink>(
     output: &mut W,
 ) -> AnswerFault
     requires { request.all ≡ false }
-    ensures reports { (bytes : List ℕ) → program_of bytes ≡ Ok (text_in program.now) → WhyNotMade (setup_of machine.now tools.now) bytes request.cuts (AnswerFault.Make (MakeFault.NotCleared setting command)) → Reports (setup_of machine.now tools.now) bytes request (W.written output.old) (W.written output.new) (Err result) }
+    ensures reports { (bytes : List ℕ) → program_of bytes ≡ Ok (text_in program.now) →
+        WhyNotMade (setup_of machine.now tools.now) bytes request.cuts
+        (AnswerFault.Make (MakeFault.NotCleared setting command)) →
+        Reports (setup_of machine.now tools.now) bytes request (W.written output.old)
+        (W.written output.new) (Err result) }
     ensures sink { FailsWith result (W.failures output.old) (W.failures output.new) }
     ensures faults { OfReporting result }
 {
@@ -130,7 +139,11 @@ fn report_all_once<A: Allocator + Copy, W: Sink>(
 ) -> AnswerFault
     requires all { request.all ≡ true }
     requires alike { HasDeleted (text_in program.now) false }
-    ensures reports { (bytes : List ℕ) → program_of bytes ≡ Ok (text_in program.now) → WhyNotMade (setup_of machine.now tools.now) bytes request.cuts (AnswerFault.Make (MakeFault.NotCleared setting command)) → Reports (setup_of machine.now tools.now) bytes request (W.written output.old) (W.written output.new) (Err result) }
+    ensures reports { (bytes : List ℕ) → program_of bytes ≡ Ok (text_in program.now) →
+        WhyNotMade (setup_of machine.now tools.now) bytes request.cuts
+        (AnswerFault.Make (MakeFault.NotCleared setting command)) →
+        Reports (setup_of machine.now tools.now) bytes request (W.written output.old)
+        (W.written output.new) (Err result) }
     ensures sink { FailsWith result (W.failures output.old) (W.failures output.new) }
     ensures faults { OfReporting result }
 {
@@ -162,7 +175,11 @@ fn report_all_both<A: Allocator + Copy, W: Sink>(
 ) -> AnswerFault
     requires all { request.all ≡ true }
     requires named { HasDeleted (text_in program.now) true }
-    ensures reports { (bytes : List ℕ) → program_of bytes ≡ Ok (text_in program.now) → WhyNotMade (setup_of machine.now tools.now) bytes request.cuts (AnswerFault.Make (MakeFault.NotCleared setting command)) → Reports (setup_of machine.now tools.now) bytes request (W.written output.old) (W.written output.new) (Err result) }
+    ensures reports { (bytes : List ℕ) → program_of bytes ≡ Ok (text_in program.now) →
+        WhyNotMade (setup_of machine.now tools.now) bytes request.cuts
+        (AnswerFault.Make (MakeFault.NotCleared setting command)) →
+        Reports (setup_of machine.now tools.now) bytes request (W.written output.old)
+        (W.written output.new) (Err result) }
     ensures sink { FailsWith result (W.failures output.old) (W.failures output.new) }
     ensures faults { OfReporting result }
 {
@@ -211,7 +228,11 @@ fn report_refusal<A: Allocator + Copy, W: Sink>(
     request: ReportRequest,
     output: &mut W,
 ) -> AnswerFault
-    ensures reports { (bytes : List ℕ) → program_of bytes ≡ Ok (text_in program.now) → WhyNotMade (setup_of machine.now tools.now) bytes request.cuts (AnswerFault.Make (MakeFault.NotCleared setting command)) → Reports (setup_of machine.now tools.now) bytes request (W.written output.old) (W.written output.new) (Err result) }
+    ensures reports { (bytes : List ℕ) → program_of bytes ≡ Ok (text_in program.now) →
+        WhyNotMade (setup_of machine.now tools.now) bytes request.cuts
+        (AnswerFault.Make (MakeFault.NotCleared setting command)) →
+        Reports (setup_of machine.now tools.now) bytes request (W.written output.old)
+        (W.written output.new) (Err result) }
     ensures sink { FailsWith result (W.failures output.old) (W.failures output.new) }
     ensures faults { OfReporting result }
 {
@@ -241,7 +262,10 @@ fn report_unmade<A: Allocator + Copy, W: Sink>(
     request: ReportRequest,
     output: &mut W,
 ) -> AnswerFault
-    ensures reports { (bytes : List ℕ) → program_of bytes ≡ Ok (text_in program.now) → WhyNotMade (setup_of machine.now tools.now) bytes request.cuts (AnswerFault.Make fault) → Reports (setup_of machine.now tools.now) bytes request (W.written output.old) (W.written output.new) (Err result) }
+    ensures reports { (bytes : List ℕ) → program_of bytes ≡ Ok (text_in program.now) →
+        WhyNotMade (setup_of machine.now tools.now) bytes request.cuts (AnswerFault.Make fault) →
+        Reports (setup_of machine.now tools.now) bytes request (W.written output.old)
+        (W.written output.new) (Err result) }
     ensures sink { FailsWith result (W.failures output.old) (W.failures output.new) }
     ensures faults { OfReporting result }
 {
@@ -263,7 +287,10 @@ fn report_rejection<A: Allocator, W: Sink>(
     request: ReportRequest,
     output: &mut W,
 ) -> AnswerFault
-    ensures reports { (setup : Setup) (bytes : List ℕ) → program_of bytes ≡ Ok (text_in program.now) → WhyNotMade setup bytes request.cuts (AnswerFault.Refused setting fault) → Reports setup bytes request (W.written output.old) (W.written output.new) (Err result) }
+    ensures reports { (setup : Setup) (bytes : List ℕ) →
+        program_of bytes ≡ Ok (text_in program.now) →
+        WhyNotMade setup bytes request.cuts (AnswerFault.Refused setting fault) →
+        Reports setup bytes request (W.written output.old) (W.written output.new) (Err result) }
     ensures sink { FailsWith result (W.failures output.old) (W.failures output.new) }
     ensures faults { OfReporting result }
 {
@@ -289,7 +316,10 @@ fn report_fault<A: Allocator + Copy, W: Sink>(
     output: &mut W,
 ) -> AnswerFault
     requires { OfMaking fault }
-    ensures reports { (bytes : List ℕ) → program_of bytes ≡ Ok (text_in program.now) → WhyNotMade (setup_of machine.now tools.now) bytes request.cuts fault → Reports (setup_of machine.now tools.now) bytes request (W.written output.old) (W.written output.new) (Err result) }
+    ensures reports { (bytes : List ℕ) → program_of bytes ≡ Ok (text_in program.now) →
+        WhyNotMade (setup_of machine.now tools.now) bytes request.cuts fault →
+        Reports (setup_of machine.now tools.now) bytes request (W.written output.old)
+        (W.written output.new) (Err result) }
     ensures sink { FailsWith result (W.failures output.old) (W.failures output.new) }
     ensures faults { OfReporting result }
 {
@@ -317,9 +347,12 @@ pub fn report_program<A: Allocator + Copy, R: Source, W: Sink>(
     output: &mut W,
 ) -> Result<(), AnswerFault>
     // Where the source's bytes are known, what is written is the report of what they mean.
-    ensures reports { IfSome (R.remaining source.old) (λ bytes. Reports (setup_of machine.now tools.now) bytes request (W.written output.old) (W.written output.new) result) }
+    ensures reports { IfSome (R.remaining source.old)
+        (λ bytes. Reports (setup_of machine.now tools.now) bytes request (W.written output.old)
+        (W.written output.new) result) }
     // A fault of reading or writing comes only from a device that failed.
-    ensures source { result ≡ Err (AnswerFault.Read Device) → Rises (R.failures source.old) (R.failures source.new) }
+    ensures source { result ≡ Err (AnswerFault.Read Device) →
+        Rises (R.failures source.old) (R.failures source.new) }
     ensures sink { FailsByOutput result (W.failures output.old) (W.failures output.new) }
     ensures faults { IfErr result OfCertifying }
 {

@@ -36,7 +36,9 @@ fn record_run<A: Allocator + Copy, W: Sink>(
     recording: Recording,
     output: &mut W,
 ) -> Result<Report, RunFault>
-    ensures records { RecordsRun recording (job_of accepted.machine (commands_at block_delete accepted)) lines.now (W.written output.old) (W.written output.new) result }
+    ensures records { RecordsRun recording
+        (job_of accepted.machine (commands_at block_delete accepted)) lines.now
+        (W.written output.old) (W.written output.new) result }
     ensures counts { FailsByWriting result (W.failures output.old) (W.failures output.new) }
 {
     match recording {
@@ -61,7 +63,11 @@ pub fn run_program<A: Allocator + Copy, W: Sink>(
 ) -> Result<Report, AnswerFault>
     // Whatever files the program and the certificate were read from: the answer is that of these
     // and of the events.
-    ensures runs { (bytes text : List ℕ) → program_of bytes ≡ Ok (text_in program.now) → HaveReadings (text_in program.now).lines → certificate_said text ≡ Ok (said_of certificate.now) → Runs recording (setup_of machine.now tools.now) bytes text events.now block_delete (W.written output.old) (W.written output.new) result }
+    ensures runs { (bytes text : List ℕ) → program_of bytes ≡ Ok (text_in program.now) →
+        HaveReadings (text_in program.now).lines →
+        certificate_said text ≡ Ok (said_of certificate.now) →
+        Runs recording (setup_of machine.now tools.now) bytes text events.now block_delete
+        (W.written output.old) (W.written output.new) result }
     ensures sink { FailsByOutput result (W.failures output.old) (W.failures output.new) }
     ensures faults { IfErr result OfRunning }
 {
@@ -85,8 +91,10 @@ pub(crate) fn run_files<F: Files, W: Sink>(
     files: &mut F,
     output: &mut W,
 ) -> Result<Done, AnswerFault>
-    ensures comes { RunComes (F.bytes files.old) options.now (W.written output.old) (W.written output.new) result }
-    ensures unread { FailsByInput (SourceFails F.R.remaining F.R.failures) (F.bytes files.old) (run_inputs options.now) (F.failures files.old) (F.failures files.new) result }
+    ensures comes { RunComes (F.bytes files.old) options.now (W.written output.old)
+        (W.written output.new) result }
+    ensures unread { FailsByInput (SourceFails F.R.remaining F.R.failures) (F.bytes files.old)
+        (run_inputs options.now) (F.failures files.old) (F.failures files.new) result }
     ensures sink { FailsByOutput result (W.failures output.old) (W.failures output.new) }
 {
     let shop = read_shop(alloc, Some(options.machine), Some(options.tools), files)?;

@@ -1,10 +1,12 @@
 //! The machine and its tools, from the files that the command line names.
-ghost use Rattle.std.specs.Prelude.{◌≡◌, IfErr, IfOk, IfSome, MatchResult, Ok, OnOk, Some, option_map};
+ghost use Rattle.std.specs.Prelude.{◌≡◌, IfErr, IfOk, IfSome, MatchResult, Ok, OnOk, Some};
+ghost use Rattle.std.specs.Prelude.{option_map};
 ghost use Rattle.ngc_machine.specs.Machine.{file_of};
 ghost use Rattle.ngc_machine.specs.Tools.{tools_of};
 ghost use Rattle.ngc_simulator.specs.Setups.{IfMachine, IfTools, KeepsFiles};
 ghost use Rattle.ngc_simulator.specs.Shops.{GivesShop, RefusesMachine, RefusesTools};
-ghost use Rattle.ngc_simulator.specs.Unread.{FailsByInput, OfMachine, OfTools, SourceFails, TellsUnread, setup_input, shop_inputs};
+ghost use Rattle.ngc_simulator.specs.Unread.{FailsByInput, OfMachine, OfTools, SourceFails};
+ghost use Rattle.ngc_simulator.specs.Unread.{TellsUnread, setup_input, shop_inputs};
 
 use crate::fault::AnswerFault;
 use crate::files::Files;
@@ -25,11 +27,14 @@ const FILE_LIMIT: usize = 20_000_000;
 
 /// The bytes of a named file.
 pub fn bytes_of<F: Files>(alloc: Global, name: &str, files: &mut F) -> Result<Vec<u8>, InputFault>
-    ensures value { IfSome (F.bytes files.old (Some name.now)) (λ bytes. IfOk result (λ v. v.items ≡ bytes)) }
+    ensures value { IfSome (F.bytes files.old (Some name.now))
+        (λ bytes. IfOk result (λ v. v.items ≡ bytes)) }
     ensures keeps { KeepsFiles (F.bytes files.old) (F.bytes files.new) }
     ensures counts { OnOk result (F.failures files.new ≡ F.failures files.old) }
     // It isn't read only where it can't be opened, its source fails, or it is too long.
-    ensures unread { IfErr result (TellsUnread (SourceFails F.R.remaining F.R.failures) (F.bytes files.old (Some name.now)) (F.failures files.old) (F.failures files.new)) }
+    ensures unread { IfErr result
+        (TellsUnread (SourceFails F.R.remaining F.R.failures) (F.bytes files.old (Some name.now))
+        (F.failures files.old) (F.failures files.new)) }
 {
     let mut source = open_file(Some(name), files)?;
     read_whole(alloc, &mut source, FILE_LIMIT)
@@ -40,9 +45,13 @@ fn named_machine<F: Files>(
     name: &str,
     files: &mut F,
 ) -> Result<Machine<Global>, AnswerFault>
-    ensures said { MatchResult result (λ m. IfMachine (F.bytes files.old) (Some name.now) (λ says. says ≡ Ok (file_of m))) (RefusesMachine (F.bytes files.old) (Some name.now)) }
+    ensures said { MatchResult result
+        (λ m. IfMachine (F.bytes files.old) (Some name.now) (λ says. says ≡ Ok (file_of m)))
+        (RefusesMachine (F.bytes files.old) (Some name.now)) }
     ensures keeps { KeepsFiles (F.bytes files.old) (F.bytes files.new) }
-    ensures unread { FailsByInput (SourceFails F.R.remaining F.R.failures) (F.bytes files.old) (setup_input OfMachine (Some name.now)) (F.failures files.old) (F.failures files.new) result }
+    ensures unread { FailsByInput (SourceFails F.R.remaining F.R.failures) (F.bytes files.old)
+        (setup_input OfMachine (Some name.now)) (F.failures files.old)
+        (F.failures files.new) result }
 {
     let bytes = bytes_of(alloc, name, files)?;
     match Machine::read(alloc, bytes.as_slice()) {
@@ -56,9 +65,12 @@ fn named_tools<F: Files>(
     name: &str,
     files: &mut F,
 ) -> Result<Tools<Global>, AnswerFault>
-    ensures said { MatchResult result (λ t. IfTools (F.bytes files.old) (Some name.now) (λ says. says ≡ Ok (tools_of t))) (RefusesTools (F.bytes files.old) (Some name.now)) }
+    ensures said { MatchResult result
+        (λ t. IfTools (F.bytes files.old) (Some name.now) (λ says. says ≡ Ok (tools_of t)))
+        (RefusesTools (F.bytes files.old) (Some name.now)) }
     ensures keeps { KeepsFiles (F.bytes files.old) (F.bytes files.new) }
-    ensures unread { FailsByInput (SourceFails F.R.remaining F.R.failures) (F.bytes files.old) (setup_input OfTools (Some name.now)) (F.failures files.old) (F.failures files.new) result }
+    ensures unread { FailsByInput (SourceFails F.R.remaining F.R.failures) (F.bytes files.old)
+        (setup_input OfTools (Some name.now)) (F.failures files.old) (F.failures files.new) result }
 {
     let bytes = bytes_of(alloc, name, files)?;
     match Tools::read(alloc, bytes.as_slice()) {
@@ -73,9 +85,14 @@ fn read_machine<F: Files>(
     name: Option<&str>,
     files: &mut F,
 ) -> Result<Machine<Global>, AnswerFault>
-    ensures said { MatchResult result (λ m. IfMachine (F.bytes files.old) (option_map (λ n. n.now) name.entry) (λ says. says ≡ Ok (file_of m))) (RefusesMachine (F.bytes files.old) (option_map (λ n. n.now) name.entry)) }
+    ensures said { MatchResult result
+        (λ m. IfMachine (F.bytes files.old) (option_map (λ n. n.now) name.entry)
+        (λ says. says ≡ Ok (file_of m)))
+        (RefusesMachine (F.bytes files.old) (option_map (λ n. n.now) name.entry)) }
     ensures keeps { KeepsFiles (F.bytes files.old) (F.bytes files.new) }
-    ensures unread { FailsByInput (SourceFails F.R.remaining F.R.failures) (F.bytes files.old) (setup_input OfMachine (option_map (λ n. n.now) name.entry)) (F.failures files.old) (F.failures files.new) result }
+    ensures unread { FailsByInput (SourceFails F.R.remaining F.R.failures) (F.bytes files.old)
+        (setup_input OfMachine (option_map (λ n. n.now) name.entry)) (F.failures files.old)
+        (F.failures files.new) result }
 {
     match name {
         None => Ok(built_in_machine(alloc)),
@@ -89,9 +106,14 @@ fn read_tools<F: Files>(
     name: Option<&str>,
     files: &mut F,
 ) -> Result<Tools<Global>, AnswerFault>
-    ensures said { MatchResult result (λ t. IfTools (F.bytes files.old) (option_map (λ n. n.now) name.entry) (λ says. says ≡ Ok (tools_of t))) (RefusesTools (F.bytes files.old) (option_map (λ n. n.now) name.entry)) }
+    ensures said { MatchResult result
+        (λ t. IfTools (F.bytes files.old) (option_map (λ n. n.now) name.entry)
+        (λ says. says ≡ Ok (tools_of t)))
+        (RefusesTools (F.bytes files.old) (option_map (λ n. n.now) name.entry)) }
     ensures keeps { KeepsFiles (F.bytes files.old) (F.bytes files.new) }
-    ensures unread { FailsByInput (SourceFails F.R.remaining F.R.failures) (F.bytes files.old) (setup_input OfTools (option_map (λ n. n.now) name.entry)) (F.failures files.old) (F.failures files.new) result }
+    ensures unread { FailsByInput (SourceFails F.R.remaining F.R.failures) (F.bytes files.old)
+        (setup_input OfTools (option_map (λ n. n.now) name.entry)) (F.failures files.old)
+        (F.failures files.new) result }
 {
     match name {
         None => Ok(Tools::empty(alloc)),
@@ -106,10 +128,13 @@ pub fn read_shop<F: Files>(
     tools: Option<&str>,
     files: &mut F,
 ) -> Result<Shop, AnswerFault>
-    ensures said { GivesShop (F.bytes files.old) (option_map (λ n. n.now) machine.entry) (option_map (λ n. n.now) tools.entry) result }
+    ensures said { GivesShop (F.bytes files.old) (option_map (λ n. n.now) machine.entry)
+        (option_map (λ n. n.now) tools.entry) result }
     ensures keeps { KeepsFiles (F.bytes files.old) (F.bytes files.new) }
     // The first that isn't read can't be opened, its source fails, or it is too long.
-    ensures unread { FailsByInput (SourceFails F.R.remaining F.R.failures) (F.bytes files.old) (shop_inputs (option_map (λ n. n.now) machine.entry) (option_map (λ n. n.now) tools.entry)) (F.failures files.old) (F.failures files.new) result }
+    ensures unread { FailsByInput (SourceFails F.R.remaining F.R.failures) (F.bytes files.old)
+        (shop_inputs (option_map (λ n. n.now) machine.entry) (option_map (λ n. n.now) tools.entry))
+        (F.failures files.old) (F.failures files.new) result }
 {
     let machine = read_machine(alloc, machine, files)?;
     let tools = read_tools(alloc, tools, files)?;

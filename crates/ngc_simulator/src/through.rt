@@ -34,7 +34,9 @@ fn record_through<A: Allocator + Copy, W: Sink>(
     recording: Recording,
     output: &mut W,
 ) -> Result<Report, RunFault>
-    ensures records { RecordsThrough recording (job_of accepted.machine (commands_at block_delete accepted)) (W.written output.old) (W.written output.new) result }
+    ensures records { RecordsThrough recording
+        (job_of accepted.machine (commands_at block_delete accepted)) (W.written output.old)
+        (W.written output.new) result }
     ensures counts { FailsByWriting result (W.failures output.old) (W.failures output.new) }
 {
     match recording {
@@ -57,7 +59,11 @@ pub fn run_program_through<A: Allocator + Copy, W: Sink>(
     output: &mut W,
 ) -> Result<Report, AnswerFault>
     // Whatever files the program and the certificate were read from: the answer is that of these.
-    ensures runs { (bytes text : List ℕ) → program_of bytes ≡ Ok (text_in program.now) → HaveReadings (text_in program.now).lines → certificate_said text ≡ Ok (said_of certificate.now) → RunsThrough recording (setup_of machine.now tools.now) bytes text block_delete (W.written output.old) (W.written output.new) result }
+    ensures runs { (bytes text : List ℕ) → program_of bytes ≡ Ok (text_in program.now) →
+        HaveReadings (text_in program.now).lines →
+        certificate_said text ≡ Ok (said_of certificate.now) →
+        RunsThrough recording (setup_of machine.now tools.now) bytes text block_delete
+        (W.written output.old) (W.written output.new) result }
     ensures sink { FailsByOutput result (W.failures output.old) (W.failures output.new) }
     ensures faults { IfErr result OfRunning }
 {
@@ -73,8 +79,10 @@ pub(crate) fn run_through_files<F: Files, W: Sink>(
     files: &mut F,
     output: &mut W,
 ) -> Result<Done, AnswerFault>
-    ensures comes { RunThroughComes (F.bytes files.old) options.now (W.written output.old) (W.written output.new) result }
-    ensures unread { FailsByInput (SourceFails F.R.remaining F.R.failures) (F.bytes files.old) (run_through_inputs options.now) (F.failures files.old) (F.failures files.new) result }
+    ensures comes { RunThroughComes (F.bytes files.old) options.now (W.written output.old)
+        (W.written output.new) result }
+    ensures unread { FailsByInput (SourceFails F.R.remaining F.R.failures) (F.bytes files.old)
+        (run_through_inputs options.now) (F.failures files.old) (F.failures files.new) result }
     ensures sink { FailsByOutput result (W.failures output.old) (W.failures output.new) }
 {
     let shop = read_shop(alloc, Some(options.machine), Some(options.tools), files)?;

@@ -26,8 +26,10 @@ pub(crate) fn accept<A: Allocator + Copy>(
     certificate: &Certificate<A>,
 ) -> Result<Accepted<A>, MakeFault>
     requires readings { HaveReadings (text_in program.now).lines }
-    requires passes { IsPassed (text_in program.now) (setup_of machine.now tools.now) (said_of certificate.now) }
-    ensures keeps { IfOk result (IsAcceptedOf (text_in program.now) (setup_of machine.now tools.now)) }
+    requires passes { IsPassed (text_in program.now) (setup_of machine.now tools.now)
+        (said_of certificate.now) }
+    ensures keeps { IfOk result
+        (IsAcceptedOf (text_in program.now) (setup_of machine.now tools.now)) }
     ensures memory { IfErr result (λ fault. fault ≡ MakeFault.Memory) }
 {
     match check(alloc, program, machine, tools, certificate) {
@@ -44,7 +46,8 @@ pub(crate) fn time_of<A: Allocator + Copy>(
     accepted: &Accepted<A>,
     block_delete: bool,
 ) -> Result<ProgramTime<A>, MakeFault>
-    ensures lasts { IfOk result (λ t. LastsFor accepted.now.machine (commands_at block_delete accepted.now) t) }
+    ensures lasts { IfOk result
+        (λ t. LastsFor accepted.now.machine (commands_at block_delete accepted.now) t) }
     ensures memory { IfErr result (λ fault. fault ≡ MakeFault.Memory) }
 {
     let ticks_per_second = accepted.machine().ticks_per_second;

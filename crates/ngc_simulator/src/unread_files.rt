@@ -10,7 +10,8 @@ ghost use Rattle.ngc_simulator.specs.Answers.{program_input};
 ghost use Rattle.ngc_simulator.specs.Faults.{FailsWith, OfTelling};
 ghost use Rattle.ngc_simulator.specs.Setups.{KeepsFiles};
 ghost use Rattle.ngc_simulator.specs.Unread.{FailsByInput, SourceFails};
-ghost use Rattle.ngc_simulator.specs.Unreadable.{TellsUnreadable, is_of_text, marked_fault, unreadable_line, unreadable_text};
+ghost use Rattle.ngc_simulator.specs.Unreadable.{TellsUnreadable, is_of_text, marked_fault};
+ghost use Rattle.ngc_simulator.specs.Unreadable.{unreadable_line, unreadable_text};
 
 use crate::fault::AnswerFault;
 use crate::files::Files;
@@ -46,8 +47,11 @@ fn write_marked_fault<W: Sink>(
     fault: ReadFault,
     output: &mut W,
 ) -> Result<(), WriteFault>
-    ensures ok { OnOk result (Appends (W.written output.old) (W.written output.new) (marked_fault form fault text.now)) }
-    ensures fault { OnErr result (AppendsBeginning (W.written output.old) (W.written output.new) (marked_fault form fault text.now)) }
+    ensures ok { OnOk result
+        (Appends (W.written output.old) (W.written output.new) (marked_fault form fault text.now)) }
+    ensures fault { OnErr result
+        (AppendsBeginning (W.written output.old) (W.written output.new)
+        (marked_fault form fault text.now)) }
     ensures counts { CountsFailure (W.failures output.old) (W.failures output.new) result }
 {
     match fault {
@@ -67,8 +71,12 @@ fn write_unreadable<W: Sink>(
     fault: ReadFault,
     output: &mut W,
 ) -> Result<(), WriteFault>
-    ensures ok { OnOk result (Appends (W.written output.old) (W.written output.new) (unreadable_text form fault text.now)) }
-    ensures fault { OnErr result (AppendsBeginning (W.written output.old) (W.written output.new) (unreadable_text form fault text.now)) }
+    ensures ok { OnOk result
+        (Appends (W.written output.old) (W.written output.new)
+        (unreadable_text form fault text.now)) }
+    ensures fault { OnErr result
+        (AppendsBeginning (W.written output.old) (W.written output.new)
+        (unreadable_text form fault text.now)) }
     ensures counts { CountsFailure (W.failures output.old) (W.failures output.new) result }
 {
     write_all(output, opening(form))?;
@@ -88,10 +96,17 @@ pub(crate) fn tell_unreadable<F: Files, W: Sink>(
     files: &mut F,
     output: &mut W,
 ) -> AnswerFault
-    ensures tells { IfSome (F.bytes files.old (Some name.now)) (λ bytes. FaultIs fault (program_of bytes) → TellsUnreadable form (Some name.now) bytes (W.written output.old) (W.written output.new) result) }
+    ensures tells { IfSome (F.bytes files.old (Some name.now))
+        (λ bytes. FaultIs fault (program_of bytes) →
+        TellsUnreadable form (Some name.now) bytes (W.written output.old)
+        (W.written output.new) result) }
     ensures keeps { KeepsFiles (F.bytes files.old) (F.bytes files.new) }
     // Whichever of the two sources of the file failed.
-    ensures unread { (fault ≡ Device → SourceFails F.R.remaining F.R.failures (F.bytes files.old (Some name.now))) → FailsByInput {T = Unit {0}} (SourceFails F.R.remaining F.R.failures) (F.bytes files.old) (program_input (Some name.now) ∷ []) (F.failures files.old) (F.failures files.new) (Err result) }
+    ensures unread { (fault ≡ Device →
+        SourceFails F.R.remaining F.R.failures (F.bytes files.old (Some name.now))) →
+        FailsByInput {T = Unit {0}} (SourceFails F.R.remaining F.R.failures) (F.bytes files.old)
+        (program_input (Some name.now) ∷ []) (F.failures files.old) (F.failures files.new)
+        (Err result) }
     ensures sink { FailsWith result (W.failures output.old) (W.failures output.new) }
     ensures faults { OfTelling result }
 {

@@ -5,7 +5,8 @@ ghost use Rattle.ngc_text.specs.Failures.{CountsFailure};
 ghost use Rattle.ngc_text.specs.Written.{AppendsBeginning};
 ghost use Rattle.ngc_text.specs.Collected.{CHUNK_SIZE};
 ghost use Rattle.ngc_report.specs.Words.{tool_text};
-ghost use Rattle.ngc_simulator.specs.Times.{ticks_told, tool_value, use_time, use_time_fact, use_time_words, uses_text};
+ghost use Rattle.ngc_simulator.specs.Times.{ticks_told, tool_value, use_time, use_time_fact};
+ghost use Rattle.ngc_simulator.specs.Times.{use_time_words, uses_text};
 
 use crate::done::RunTime;
 use crate::program_time::ProgramTime;
@@ -86,8 +87,11 @@ fn write_use_time<W: Sink>(
     time: &RunTime,
     output: &mut W,
 ) -> Result<(), WriteFault>
-    ensures ok { OnOk result (Appends (W.written output.old) (W.written output.new) (use_time form tool.now time.now)) }
-    ensures fault { OnErr result (AppendsBeginning (W.written output.old) (W.written output.new) (use_time form tool.now time.now)) }
+    ensures ok { OnOk result
+        (Appends (W.written output.old) (W.written output.new) (use_time form tool.now time.now)) }
+    ensures fault { OnErr result
+        (AppendsBeginning (W.written output.old) (W.written output.new)
+        (use_time form tool.now time.now)) }
     ensures counts { CountsFailure (W.failures output.old) (W.failures output.new) result }
 {
     use_time_of(form, tool, time).write_out(output)
@@ -113,8 +117,12 @@ pub(crate) fn write_use_times<A: Allocator, W: Sink>(
     time: &ProgramTime<A>,
     output: &mut W,
 ) -> Result<(), WriteFault>
-    ensures ok { OnOk result (Appends (W.written output.old) (W.written output.new) (uses_text form commands.now time.now)) }
-    ensures fault { OnErr result (AppendsBeginning (W.written output.old) (W.written output.new) (uses_text form commands.now time.now)) }
+    ensures ok { OnOk result
+        (Appends (W.written output.old) (W.written output.new)
+        (uses_text form commands.now time.now)) }
+    ensures fault { OnErr result
+        (AppendsBeginning (W.written output.old) (W.written output.new)
+        (uses_text form commands.now time.now)) }
     ensures counts { CountsFailure (W.failures output.old) (W.failures output.new) result }
 {
     let mut uses = ToolUses::new(commands);

@@ -30,7 +30,8 @@ pub arc_path : (s : ℤ) (a : ArcShape) (p : Plan) (plane : Plane) (t : Turn) (l
     IsUnitPath (grid s a.start) (grid s a.end) (max p.moves (distance low high)) path → IsArcPath s a path
 arc_path s a p plane t low high path step same turn starts ends plan follows is unit =
     let n = max p.moves (distance low high) in
-    let at : path ≡ round_points a.plane a.turn p n low high = is ∙ ap (λ (q : Plane). round_points q t p n low high) same ∙ ap (λ (u : Turn). round_points a.plane u p n low high) turn in
+    let at : path ≡ round_points a.plane a.turn p n low high = is ∙ ap (λ (q : Plane). round_points q t p n low high) same
+    ∙ ap (λ (u : Turn). round_points a.plane u p n low high) turn in
     let low_is = starts ∙ ap (λ (q : Plane). seen_height q (grid s a.start)) same ∙ height_seen a.plane s a.start in
     let high_is = ends ∙ ap (λ (q : Plane). seen_height q (grid s a.end)) same ∙ height_seen a.plane s a.end in
     let of = lifts s a p n low high step low_is high_is refl plan follows (subst (λ l. IsUnitPath (grid s a.start) (grid s a.end) n l) at unit) in

@@ -29,7 +29,8 @@ pub record IsJointOf (g r : ℕ) (c : Way) (p : Spot) : Type 0 where
   pub near : 12 * squared (way_from g c p) ≤ 12 * (r * r) + 17 * (r * g) + 6 * (g * g)
   pub reach : IsInReach g c p
 
-pub joint_of : (g s r n : ℕ) (c b : Way) (p : Spot) → 0 < n → n ≤ s * s → n ≡ squared b → IsMoved g s r c.u b.u p.u → IsMoved g s r c.v b.v p.v → r ≤ 2000020000 → g ≤ 50000 → IsJointOf g r c p
+pub joint_of : (g s r n : ℕ) (c b : Way) (p : Spot) → 0 < n → n ≤ s * s → n ≡ squared b → IsMoved g s r c.u b.u p.u → IsMoved g s r c.v b.v p.v →
+    r ≤ 2000020000 → g ≤ 50000 → IsJointOf g r c p
 joint_of g s r n c b p some round same mu mv hr hg =
     let near = joint_near g s r c b p (some_root n s some round) mu mv (omega (arith, round, same)) in
     let way = is_way (way_from g c p) (way_from g c p) r g refl near hr hg in
@@ -70,9 +71,11 @@ pub begun_small : (g r limit : ℕ) (c : Way) (p : Spot) (s : Spoke) → IsBegun
 begun_small g r limit c p s b k =
     small_on g limit (r + 2 * g) s k (limit_within g r limit c p s b) (room_within g r) (begun_below g r limit c p s b) (omega (arith, b.radius, b.most))
 
-pub begun_spots : (g r limit : ℕ) (c : Way) (p : Spot) (s : Spoke) → IsBegun g r limit c p s → unsigned_abs c.u ≤ 93000000000 → unsigned_abs c.v ≤ 93000000000 → (k : ℕ) → IsSpot (round_at g limit s p k)
+pub begun_spots : (g r limit : ℕ) (c : Way) (p : Spot) (s : Spoke) → IsBegun g r limit c p s → unsigned_abs c.u ≤ 93000000000 → unsigned_abs c.v ≤ 93000000000 →
+    (k : ℕ) → IsSpot (round_at g limit s p k)
 begun_spots g r limit c p s b cu cv k =
-    spots_on g limit (r + 2 * g) (place_of c) s p k b.least cu cv (limit_within g r limit c p s b) (room_within g r) (begun_below g r limit c p s b) (omega (arith, b.radius, b.most)) b.about
+    spots_on g limit (r + 2 * g) (place_of c) s p k b.least cu cv (limit_within g r limit c p s b) (room_within g r) (begun_below g r limit c p s b)
+    (omega (arith, b.radius, b.most)) b.about
 
 -- few moves lie between such a point and another that is within reach
 from_there : (a c : ℤ) → a ≡ c +ℤ (a -ℤ c)
@@ -85,9 +88,14 @@ near_apart g c p q s step about small reach =
     let v = axis_apart g p.v q.v c.v (around s.quadrant s.x s.y).v ((q.v *ℤ pos g) -ℤ c.v) step about.v (from_there (q.v *ℤ pos g) c.v) a.1 reach.v in
     omega (arith, u, v)
 
-pub begun_apart : (g r limit : ℕ) (c : Way) (p q : Spot) (s : Spoke) → IsBegun g r limit c p s → IsInReach g c q → (k : ℕ) → straight_moves (round_at g limit s p k) q ≤ 30000000
+pub begun_apart : (g r limit : ℕ) (c : Way) (p q : Spot) (s : Spoke) → IsBegun g r limit c p s → IsInReach g c q → (k : ℕ) →
+    straight_moves (round_at g limit s p k) q ≤ 30000000
 begun_apart g r limit c p q s b reach k =
-    omega (arith, near_apart g c (round_at g limit s p k) q (spoke_at g limit s k) b.least (about_on g limit (place_of c) s p k b.about) (begun_small g r limit c p s b k) reach)
+    omega (
+      arith,
+      near_apart g c (round_at g limit s p k) q (spoke_at g limit s k) b.least (about_on g limit (place_of c) s p k b.about)
+          (begun_small g r limit c p s b k) reach,
+    )
 
 -- from a point within reach to the wheel's first
 pub reach_begun : (g r limit : ℕ) (c : Way) (p q : Spot) (s : Spoke) → IsBegun g r limit c p s → IsInReach g c q → straight_moves q p ≤ 30000000

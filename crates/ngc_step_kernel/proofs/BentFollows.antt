@@ -54,15 +54,18 @@ either : (n : ℕ) (before : Bool) → ((n ≡ 0) × (before ≡ false)) ⊎ (n 
 either n before (inl h) = inl h.0
 either n before (inr h) = inr h
 
-past_first : (f e : Spoke) (n : ℕ) → n ≡ quadrants_to f.quadrant e.quadrant → e.quadrant ≡ f.quadrant → ((n ≡ 0) × (is_before f e ≡ false)) ⊎ (n ≡ 3) → f.x * e.y ≤ f.y * e.x
+past_first : (f e : Spoke) (n : ℕ) → n ≡ quadrants_to f.quadrant e.quadrant → e.quadrant ≡ f.quadrant → ((n ≡ 0) × (is_before f e ≡ false)) ⊎ (n ≡ 3) →
+    f.x * e.y ≤ f.y * e.x
 past_first f e n count same (inl h) = told_past f e h.1
 past_first f e n count same (inr h) =
     let z : quadrants_to f.quadrant e.quadrant ≡ 0 = ap (λ (q : Quadrant). quadrants_to f.quadrant q) same ∙ to_itself f.quadrant in
     absurd (omega (arith, count, h, z))
 
 -- the end's ray is reached at the wheel's first point
-pub is_reached : (a : ArcShape) (g begun : ℕ) (b f e : Spoke) → Begins g b f begun → begun ≤ 1 → cross (way_to b) (way_to e) ≡ way_cross (view_of a).start (view_of a).end →
-    quadrants_left (quadrants_to f.quadrant e.quadrant) (int_lt (pos 0) (way_cross (view_of a).start (view_of a).end)) (is_before f e) ≡ None → (whole : ℕ) × IsReached b f e begun whole
+pub is_reached : (a : ArcShape) (g begun : ℕ) (b f e : Spoke) → Begins g b f begun → begun ≤ 1 →
+    cross (way_to b) (way_to e) ≡ way_cross (view_of a).start (view_of a).end →
+    quadrants_left (quadrants_to f.quadrant e.quadrant) (int_lt (pos 0) (way_cross (view_of a).start (view_of a).end)) (is_before f e) ≡ None →
+    (whole : ℕ) × IsReached b f e begun whole
 is_reached a g begun b f e at few c none =
     let n = quadrants_to f.quadrant e.quadrant in
     let area = way_cross (view_of a).start (view_of a).end in
@@ -77,22 +80,31 @@ is_reached a g begun b f e at few c none =
 way_apart : (c w j p : ℤ) (m : ℕ) → distance j w ≡ m → j ≡ p -ℤ c → distance (c +ℤ w) p ≡ m
 way_apart c w j p m h e = omega (arith, ints, h, e)
 
-pub spot_apart : (g : ℕ) (c w : Way) (p : Spot) (j e : Spoke) (m n : ℕ) → way_to j ≡ place_of (way_from g c p) → way_to e ≡ place_of w → IsApart (way_to j) (way_to e) m n →
-    ((distance (c.u +ℤ w.u) (p.u *ℤ pos g) ≡ m) × (distance (c.v +ℤ w.v) (p.v *ℤ pos g) ≡ n)) ⊎ ((distance (c.u +ℤ w.u) (p.u *ℤ pos g) ≡ n) × (distance (c.v +ℤ w.v) (p.v *ℤ pos g) ≡ m))
+pub spot_apart : (g : ℕ) (c w : Way) (p : Spot) (j e : Spoke) (m n : ℕ) → way_to j ≡ place_of (way_from g c p) → way_to e ≡ place_of w →
+    IsApart (way_to j) (way_to e) m n →
+    ((distance (c.u +ℤ w.u) (p.u *ℤ pos g) ≡ m) × (distance (c.v +ℤ w.v) (p.v *ℤ pos g) ≡ n)) ⊎
+    ((distance (c.u +ℤ w.u) (p.u *ℤ pos g) ≡ n) × (distance (c.v +ℤ w.v) (p.v *ℤ pos g) ≡ m))
 spot_apart g c w p j e m n hj he h =
     let ju = ap (λ (q : Point2). q.u) hj in
     let jv = ap (λ (q : Point2). q.v) hj in
     let eu = ap (λ (q : Point2). q.u) he in
     let ev = ap (λ (q : Point2). q.v) he in
     elim h [
-      | inl k ↦ inl (way_apart c.u w.u (way_to j).u (p.u *ℤ pos g) m (sym (ap (λ z. distance (way_to j).u z) eu) ∙ k.0) ju, way_apart c.v w.v (way_to j).v (p.v *ℤ pos g) n (sym (ap (λ z. distance (way_to j).v z) ev) ∙ k.1) jv)
-      | inr k ↦ inr (way_apart c.u w.u (way_to j).u (p.u *ℤ pos g) n (sym (ap (λ z. distance (way_to j).u z) eu) ∙ k.0) ju, way_apart c.v w.v (way_to j).v (p.v *ℤ pos g) m (sym (ap (λ z. distance (way_to j).v z) ev) ∙ k.1) jv)
+      | inl k ↦ inl (
+        way_apart c.u w.u (way_to j).u (p.u *ℤ pos g) m (sym (ap (λ z. distance (way_to j).u z) eu) ∙ k.0) ju,
+        way_apart c.v w.v (way_to j).v (p.v *ℤ pos g) n (sym (ap (λ z. distance (way_to j).v z) ev) ∙ k.1) jv,
+      )
+      | inr k ↦ inr (
+        way_apart c.u w.u (way_to j).u (p.u *ℤ pos g) n (sym (ap (λ z. distance (way_to j).u z) eu) ∙ k.0) ju,
+        way_apart c.v w.v (way_to j).v (p.v *ℤ pos g) m (sym (ap (λ z. distance (way_to j).v z) ev) ∙ k.1) jv,
+      )
     ]
 
 one_of : (g m : ℕ) → 0 < g → 20 * m ≤ 21 * g → 2 * m < 3 * g
 one_of g m some h = omega (arith, some, h)
 
-pub short_of : (g : ℕ) (c w : Way) (p : Spot) (j e : Spoke) → 0 < g → way_to j ≡ place_of (way_from g c p) → way_to e ≡ place_of w → SomeWay (IsPair g) j e → IsShortOf g c w p
+pub short_of : (g : ℕ) (c w : Way) (p : Spot) (j e : Spoke) → 0 < g → way_to j ≡ place_of (way_from g c p) → way_to e ≡ place_of w → SomeWay (IsPair g) j e →
+    IsShortOf g c w p
 short_of g c w p j e some hj he way =
     let m = way.0 in
     let n = way.1 in
@@ -116,7 +128,8 @@ short_of g c w p j e some hj he way =
       }
     ]
 
-pub near_of : (a : ArcShape) (g : ℕ) (p : Spot) (j e : Spoke) → way_to j ≡ place_of (way_from g (view_of a).centre p) → way_to e ≡ place_of (view_of a).end → SomeWay (IsFew g) j e →
+pub near_of : (a : ArcShape) (g : ℕ) (p : Spot) (j e : Spoke) → way_to j ≡ place_of (way_from g (view_of a).centre p) → way_to e ≡ place_of (view_of a).end →
+    SomeWay (IsFew g) j e →
     squared_distance (end_of a) (laid g a.turn p) ≤ 15 * (g * g)
 near_of a g p j e hj he way =
     let m = way.0 in

@@ -27,33 +27,40 @@ use Rattle.ngc_step_kernel.proofs.Settings.{sizes}
 use Rattle.ngc_step_kernel.proofs.TinyPoints.{small_leeway}
 use Rattle.ngc_step_kernel.proofs.ViewLemmas.{squared_is}
 
-large_bent : (a : ArcShape) (g s r q : ℕ) (from to joint entry : Spot) (first last : Spoke) (p : Plan) → IsBentSetting a g s r (q + 1) from to joint entry first last → 8 * g ≤ q + 1 → IsPlan p → IsBentPlan from joint to p →
+large_bent : (a : ArcShape) (g s r q : ℕ) (from to joint entry : Spot) (first last : Spoke) (p : Plan) →
+    IsBentSetting a g s r (q + 1) from to joint entry first last → 8 * g ≤ q + 1 → IsPlan p → IsBentPlan from joint to p →
     FollowsInPlane a g p.moves (λ j. laid g a.turn (course_at p j))
 large_bent a g s r q from to joint entry first last p z large plan bent =
     let n = sizes a g s r (q + 1) from to joint entry first last z.setting in
     let some = some_leeway g a in
-    let part = has_first a g s r (q + 1) 0 from to joint entry first last z.setting (omega (arith, z.setting.circle, large, z.setting.least, n.end_outer)) (omega arith) (omega (arith, some)) in
+    let part = has_first a g s r (q + 1) 0 from to joint entry first last z.setting (omega (arith, z.setting.circle, large, z.setting.least, n.end_outer))
+    (omega arith) (omega (arith, some)) in
     bent_follows a g from joint to p plan bent part (large_tail a g s r q from to joint entry first last z large part)
 
-small_bent : (a : ArcShape) (g s q o : ℕ) (from to joint entry : Spot) (first last : Spoke) (p : Plan) → IsBentSetting a g s (q + 1) o from to joint entry first last → o < 8 * g → IsPlan p → IsBentPlan from joint to p →
+small_bent : (a : ArcShape) (g s q o : ℕ) (from to joint entry : Spot) (first last : Spoke) (p : Plan) →
+    IsBentSetting a g s (q + 1) o from to joint entry first last → o < 8 * g → IsPlan p → IsBentPlan from joint to p →
     FollowsInPlane a g p.moves (λ j. laid g a.turn (course_at p j))
 small_bent a g s q o from to joint entry first last p z small plan bent =
     let n = sizes a g s (q + 1) o from to joint entry first last z.setting in
     let wide = small_leeway a g (omega (arith, n.end_inner, n.no_less, small)) in
-    let part = has_first a g s (q + 1) o g from to joint entry first last z.setting (omega (arith, n.no_more, n.end_outer)) (omega arith) (omega (arith, wide)) in
+    let part = has_first a g s (q + 1) o g from to joint entry first last z.setting (omega (arith, n.no_more, n.end_outer)) (omega arith)
+    (omega (arith, wide)) in
     bent_follows a g from joint to p plan bent part (small_tail a g s q o from to joint entry first last z small part)
 
-bent_set : (a : ArcShape) (g s r o : ℕ) (from to joint entry : Spot) (first last : Spoke) (p : Plan) → IsBentSetting a g s r o from to joint entry first last → IsPlan p → IsBentPlan from joint to p →
+bent_set : (a : ArcShape) (g s r o : ℕ) (from to joint entry : Spot) (first last : Spoke) (p : Plan) → IsBentSetting a g s r o from to joint entry first last →
+    IsPlan p → IsBentPlan from joint to p →
     FollowsInPlane a g p.moves (λ j. laid g a.turn (course_at p j))
 bent_set a g s r o from to joint entry first last p z plan bent =
     let n = sizes a g s r o from to joint entry first last z.setting in
     elim (cases_lt o (8 * g)) [
       | inl small ↦ (
           let e : r - 1 + 1 ≡ r = omega (arith, n.end_long, z.setting.least) in
-          small_bent a g s (r - 1) o from to joint entry first last p (subst (λ t. IsBentSetting a g s t o from to joint entry first last) (sym e) z) small plan bent)
+          small_bent a g s (r - 1) o from to joint entry first last p (subst (λ t. IsBentSetting a g s t o from to joint entry first last) (sym e) z)
+          small plan bent)
       | inr large ↦ (
           let e : o - 1 + 1 ≡ o = omega (arith, large, z.setting.least) in
-          large_bent a g s r (o - 1) from to joint entry first last p (subst (λ t. IsBentSetting a g s r t from to joint entry first last) (sym e) z) (omega (arith, large, e)) plan bent)
+          large_bent a g s r (o - 1) from to joint entry first last p (subst (λ t. IsBentSetting a g s r t from to joint entry first last) (sym e) z)
+          (omega (arith, large, e)) plan bent)
     ]
 
 pub record IsBentGiven (a : ArcShape) (g s r o limit : ℕ) (v : View) (from to joint entry : Spot) (first last : Spoke) (p : Plan) : Type 0 where
@@ -78,7 +85,8 @@ pub record IsBentGiven (a : ArcShape) (g s r o limit : ℕ) (v : View) (from to 
   pub plan : IsPlan p
   pub bent : IsBentPlan from joint to p
 
-bent_given : (a : ArcShape) (g s r o : ℕ) (from to joint entry : Spot) (first last : Spoke) (p : Plan) → IsBentGiven a g (s + 1) r o ((o + 2 * g / 5) * (o + 2 * g / 5)) (view_of a) from to joint entry first last p →
+bent_given : (a : ArcShape) (g s r o : ℕ) (from to joint entry : Spot) (first last : Spoke) (p : Plan) →
+    IsBentGiven a g (s + 1) r o ((o + 2 * g / 5) * (o + 2 * g / 5)) (view_of a) from to joint entry first last p →
     FollowsInPlane a g p.moves (λ j. laid g a.turn (course_at p j))
 bent_given a g s r o from to joint entry first last p z =
     bent_set a g s r o from to joint entry first last p (record {
@@ -103,11 +111,13 @@ bent_given a g s r o from to joint entry first last p z =
       none = z.none;
     }) z.plan z.bent
 
-pub bent_seen : (a : ArcShape) (g s r o limit : ℕ) (v : View) (from to joint entry : Spot) (first last : Spoke) (p : Plan) → v ≡ view_of a → IsBentGiven a g s r o limit v from to joint entry first last p →
+pub bent_seen : (a : ArcShape) (g s r o limit : ℕ) (v : View) (from to joint entry : Spot) (first last : Spoke) (p : Plan) → v ≡ view_of a →
+    IsBentGiven a g s r o limit v from to joint entry first last p →
     FollowsInPlane a g p.moves (λ j. laid g a.turn (course_at p j))
 bent_seen a g s r o limit v from to joint entry first last p seen z =
     let zv = subst (λ (w : View). IsBentGiven a g s r o limit w from to joint entry first last p) seen z in
     let zl = subst (λ t. IsBentGiven a g s r o t (view_of a) from to joint entry first last p) z.limit_is zv in
     let same = squared_is a.turn a.centre (start_of a) in
     let e = some_more s (squared (view_of a).start) (omega (arith, same, z.arc.some_radius)) zv.start_root.square in
-    bent_given a g (s - 1) r o from to joint entry first last p (subst (λ t. IsBentGiven a g t r o ((o + 2 * g / 5) * (o + 2 * g / 5)) (view_of a) from to joint entry first last p) (sym e) zl)
+    bent_given a g (s - 1) r o from to joint entry first last p
+    (subst (λ t. IsBentGiven a g t r o ((o + 2 * g / 5) * (o + 2 * g / 5)) (view_of a) from to joint entry first last p) (sym e) zl)

@@ -66,17 +66,21 @@ bent_last from joint to p s =
     let none : p.rolled - p.entered ≡ 0 = omega (arith, s.rolled, s.entered) in
     ap (λ n. rounded p n) none ∙ round_starts p.step p.limit p.first p.entry ∙ s.enters
 
-pub bent_follows : (a : ArcShape) (g : ℕ) (from joint to : Spot) (p : Plan) → IsPlan p → IsBentPlan from joint to p → HasFirst a g from joint → HasTail a g joint to →
+pub bent_follows : (a : ArcShape) (g : ℕ) (from joint to : Spot) (p : Plan) → IsPlan p → IsBentPlan from joint to p → HasFirst a g from joint →
+    HasTail a g joint to →
     FollowsInPlane a g p.moves (λ j. laid g a.turn (course_at p j))
 bent_follows a g from joint to p plan s part tail =
     let d = leeway (pos g) a + g + spread a in
     let last = bent_last from joint to p s in
     let none : p.rolled - p.entered ≡ 0 = omega (arith, s.rolled, s.entered) in
     let first_moves : p.joined ≡ straight_moves from joint = plan.joined ∙ rw (s.starts, s.joins) refl in
-    let here : course_at p p.joined ≡ joint = to_joint p p.joined (omega arith) ∙ rw (s.starts, s.joins) (straight_ends from joint p.joined (omega (arith, first_moves))) in
+    let here : course_at p p.joined ≡ joint = to_joint p p.joined (omega arith)
+    ∙ rw (s.starts, s.joins) (straight_ends from joint p.joined (omega (arith, first_moves))) in
     let at_joint : IsByArc a g (leeway (pos g) a) (laid g a.turn joint) =
-    subst (λ (q : Spot). IsByArc a g (leeway (pos g) a) (laid g a.turn q)) (straight_ends from joint p.joined (omega (arith, first_moves))) (part.near p.joined) in
-    let round_first : (k : ℕ) → k ≤ p.rolled - p.entered → rounded p k ≡ joint = λ k le. (let z : k ≡ 0 = omega (arith, le, none) in ap (λ n. rounded p n) z ∙ round_starts p.step p.limit p.first p.entry ∙ s.enters) in
+    subst (λ (q : Spot). IsByArc a g (leeway (pos g) a) (laid g a.turn q)) (straight_ends from joint p.joined (omega (arith, first_moves)))
+    (part.near p.joined) in
+    let round_first : (k : ℕ) → k ≤ p.rolled - p.entered → rounded p k ≡ joint =
+    λ k le. (let z : k ≡ 0 = omega (arith, le, none) in ap (λ n. rounded p n) z ∙ round_starts p.step p.limit p.first p.entry ∙ s.enters) in
     together a g p (record {
       plan = plan;
       first = λ k le. rw (s.starts, s.joins) (part.near k, part.beside k);
@@ -92,13 +96,15 @@ bent_follows a g from joint to p plan s part tail =
           omega (arith, h, part.short, tail.few));
     })
     (passes_from_before (λ k. laid g a.turn (course_at p k)) p.moves d p.joined 0 (extremes a) (omega arith)
-    (passes_along (λ k. laid g a.turn joint) (λ k. laid g a.turn (course_at p k)) (λ k. p.joined) 0 p.moves d 0 (extremes a) (λ k le. ap (λ (q : Spot). laid g a.turn q) here) (λ j k le. omega arith) (omega (arith, plan.moves, plan.rolled, plan.entered)) tail.order))
+    (passes_along (λ k. laid g a.turn joint) (λ k. laid g a.turn (course_at p k)) (λ k. p.joined) 0 p.moves d 0 (extremes a)
+    (λ k le. ap (λ (q : Spot). laid g a.turn q) here) (λ j k le. omega arith) (omega (arith, plan.moves, plan.rolled, plan.entered)) tail.order))
 
 -- ---- the way from the joint to the end, where no walk begins
 
 pub record IsBentSetting (a : ArcShape) (g p r o : ℕ) (from to joint entry : Spot) (first last : Spoke) : Type 0 where
   pub setting : IsSetting a g p r o from to joint entry first last
-  pub none : quadrants_left (quadrants_to first.quadrant last.quadrant) (int_lt (pos 0) (way_cross (view_of a).start (view_of a).end)) (is_before first last) ≡ None
+  pub none : quadrants_left (quadrants_to first.quadrant last.quadrant) (int_lt (pos 0) (way_cross (view_of a).start (view_of a).end))
+      (is_before first last) ≡ None
 
 -- what the wheel's first point says of the joint
 pub record HasReached (a : ArcShape) (g p o v : ℕ) (joint : Spot) (b j first last : Spoke) : Type 0 where
@@ -109,7 +115,8 @@ pub record HasReached (a : ArcShape) (g p o v : ℕ) (joint : Spot) (b j first l
   pub reach : IsReached b first last begun whole
   pub placed_joint : IsPlacedJoint g p o b j
 
-pub has_reached : (a : ArcShape) (g p r o m v : ℕ) (from to joint entry : Spot) (first last : Spoke) (s : IsBentSetting a g p r o from to joint entry first last) → IsInside g o m v →
+pub has_reached : (a : ArcShape) (g p r o m v : ℕ) (from to joint entry : Spot) (first last : Spoke)
+    (s : IsBentSetting a g p r o from to joint entry first last) → IsInside g o m v →
     (b : Spoke) × HasReached a g p o v joint b s.setting.entered.0 first last
 has_reached a g p r o m v from to joint entry first last s inside =
     let z = s.setting in
@@ -146,25 +153,30 @@ some_slope x y = elim (cases_lt x y) [
   | inr more ↦ (false, ((λ h. more), (λ h. absurd (grind (arith, h)))))
 ]
 
-free_joint : (g o v : ℕ) (j : Spoke) → 12 * square j.x j.y ≤ 12 * (o * o) + 17 * (o * g) + 6 * (g * g) → v * v ≤ square j.x j.y → (t : Bool) × IsNearJoint g o v t j
+free_joint : (g o v : ℕ) (j : Spoke) → 12 * square j.x j.y ≤ 12 * (o * o) + 17 * (o * g) + 6 * (g * g) → v * v ≤ square j.x j.y →
+    (t : Bool) × IsNearJoint g o v t j
 free_joint g o v j high low =
     let t = some_slope j.x j.y in
     (t.0, record { high = high; low = low; flat = λ h wide. t.1.0 h; steep_but = λ h wide. (let k = t.1.1 h in omega (arith, k)) })
 
 -- the quadrant point that the arc may have is beside the joint
-joint_by_axis : (a : ArcShape) (g p o v limit : ℕ) (joint : Spot) (b j first last : Spoke) (h : HasReached a g p o v joint b j first last) → IsEnteredFrom g limit (view_of a).start (way_from g (view_of a).centre joint) j first →
+joint_by_axis : (a : ArcShape) (g p o v limit : ℕ) (joint : Spot) (b j first last : Spoke) (h : HasReached a g p o v joint b j first last) →
+    IsEnteredFrom g limit (view_of a).start (way_from g (view_of a).centre joint) j first →
     first_axis b.y ≤ h.whole → IsByAxis g (turned_by (first_axis b.y) b.quadrant) j
 joint_by_axis a g p o v limit joint b j first last h from few =
     let less = no_farther b first last h.begun h.whole h.reach in
     let same : h.begun ≡ first_axis b.y = omega (arith, few, less, h.begins.soon) in
     subst (λ n. IsByAxis g (turned_by n b.quadrant) j) same (elim from [
       | inl stood ↦ stood_by_axis g b j h.begun (subst (λ (t : Spoke). Begins g b t h.begun) stood.1 h.begins) (omega (arith, few, less))
-      | inr behind ↦ (let roll = behind.1 in rolled_by_axis g limit _ b j h.begun roll.0 roll.1 (subst (λ (t : Spoke). Begins g b t h.begun) roll.2 h.begins) (omega (arith, few, less)))
+      | inr behind ↦ (let roll = behind.1 in rolled_by_axis g limit _ b j h.begun roll.0 roll.1 (subst (λ (t : Spoke). Begins g b t h.begun) roll.2 h.begins)
+          (omega (arith, few, less)))
     ])
 
-tail_order : (a : ArcShape) (g p o v limit : ℕ) (joint : Spot) (b j first last : Spoke) (h : HasReached a g p o v joint b j first last) → IsEnteredFrom g limit (view_of a).start (way_from g (view_of a).centre joint) j first →
+tail_order : (a : ArcShape) (g p o v limit : ℕ) (joint : Spot) (b j first last : Spoke) (h : HasReached a g p o v joint b j first last) →
+    IsEnteredFrom g limit (view_of a).start (way_from g (view_of a).centre joint) j first →
     way_to last ≡ place_of (view_of a).end → 0 < last.x → 0 < outer_radius a →
-    (IsByAxis g (turned_by (first_axis b.y) b.quadrant) j → IsWithin (leeway (pos g) a + g + spread a) (placed a j) (placed a (axis_spoke b (outer_radius a) (first_axis b.y)))) →
+    (IsByAxis g (turned_by (first_axis b.y) b.quadrant) j →
+    IsWithin (leeway (pos g) a + g + spread a) (placed a j) (placed a (axis_spoke b (outer_radius a) (first_axis b.y)))) →
     Passes (λ k. laid g a.turn joint) 0 (leeway (pos g) a + g + spread a) 0 (extremes a)
 tail_order a g p o v limit joint b j first last h from end_way end_out some near =
     let d = leeway (pos g) a + g + spread a in
@@ -180,13 +192,16 @@ tail_order a g p o v limit joint b j first last h from end_way end_out some near
       some_radius = some;
     } in
     let less = no_farther b first last h.begun h.whole h.reach in
-    let at = passes_at_one a b last j h.whole d round (omega (arith, less, h.begins.soon)) (λ few. near (joint_by_axis a g p o v limit joint b j first last h from few)) in
+    let at = passes_at_one a b last j h.whole d round (omega (arith, less, h.begins.soon))
+    (λ few. near (joint_by_axis a g p o v limit joint b j first last h from few)) in
     subst (λ (q : Point2). Passes (λ k. q) 0 d 0 (extremes a)) (sym same) at
 
 -- ---- circles of eight steps and more
 
-large_way : (a : ArcShape) (g p q : ℕ) (joint : Spot) (b j first last : Spoke) (h : HasReached a g p (q + 1) (q + 1 - 4 * g / 5) joint b j first last) → 500 ≤ g → 8 * g ≤ q + 1 →
-    IsEnteredFrom g (limit_of q (2 * g / 5)) (view_of a).start (way_from g (view_of a).centre joint) j first → IsRootCeil (squared (view_of a).end) (q + 1) → way_to last ≡ place_of (view_of a).end → 0 < last.x →
+large_way : (a : ArcShape) (g p q : ℕ) (joint : Spot) (b j first last : Spoke) (h : HasReached a g p (q + 1) (q + 1 - 4 * g / 5) joint b j first last) →
+    500 ≤ g → 8 * g ≤ q + 1 →
+    IsEnteredFrom g (limit_of q (2 * g / 5)) (view_of a).start (way_from g (view_of a).centre joint) j first → IsRootCeil (squared (view_of a).end) (q + 1) →
+    way_to last ≡ place_of (view_of a).end → 0 < last.x →
     SomeWay (IsPair g) j last
 large_way a g p q joint b j first last h step large from root end_way end_out =
     let rim = rim_of g q step large in
@@ -201,11 +216,13 @@ large_way a g p q joint b j first last h step large from root end_way end_out =
           let c = cross_told b j (view_of a).start (way_from g (view_of a).centre joint) h.joint_is.start_way h.joint_is.joint_way in
           let turned : cross (way_to b) (way_to j) <ℤ pos 0 = omega (arith, ints, behind.0, c) in
           let roll = behind.1 in
-          large_enters_way g q (2 * g / 5) (g / 2) (4 * g / 5) v p h.begun h.whole _ b j last roll.0 rim h.placed_joint (near_joint a g p (q + 1) v joint b j h.joint_is turned) ray end_out turned roll.1
+          large_enters_way g q (2 * g / 5) (g / 2) (4 * g / 5) v p h.begun h.whole _ b j last roll.0 rim h.placed_joint
+          (near_joint a g p (q + 1) v joint b j h.joint_is turned) ray end_out turned roll.1
           (subst (λ (t : Spoke). IsReached b t last h.begun h.whole) roll.2 h.reach))
     ]
 
-pub large_tail : (a : ArcShape) (g p r q : ℕ) (from to joint entry : Spot) (first last : Spoke) → IsBentSetting a g p r (q + 1) from to joint entry first last → 8 * g ≤ q + 1 → HasFirst a g from joint → HasTail a g joint to
+pub large_tail : (a : ArcShape) (g p r q : ℕ) (from to joint entry : Spot) (first last : Spoke) → IsBentSetting a g p r (q + 1) from to joint entry first last →
+    8 * g ≤ q + 1 → HasFirst a g from joint → HasTail a g joint to
 large_tail a g p r q from to joint entry first last s large part =
     let z = s.setting in
     let n = sizes a g p r (q + 1) from to joint entry first last z in
@@ -221,19 +238,25 @@ large_tail a g p r q from to joint entry first last s large part =
     let bound = large_stands g q (2 * g / 5) (g / 2) (4 * g / 5) v j rim h.1.joint_is.high h.1.joint_is.low in
     let some = some_leeway g a in
     let at_joint : IsByArc a g (leeway (pos g) a) (laid g a.turn joint) =
-    subst (λ (q : Spot). IsByArc a g (leeway (pos g) a) (laid g a.turn q)) (straight_ends from joint (straight_moves from joint) (omega arith)) (part.near (straight_moves from joint)) in
+    subst (λ (q : Spot). IsByArc a g (leeway (pos g) a) (laid g a.turn q)) (straight_ends from joint (straight_moves from joint) (omega arith))
+    (part.near (straight_moves from joint)) in
     record {
       last = λ i. short_by_arc a g (leeway (pos g) a) joint to i z.arc some z.end_at short at_joint;
-      beside = λ i. by_end_more a g (4 * g + spread a) (laid g a.turn (straight_at joint to (i + 1))) (omega arith) (inr (after_end a g i joint to (short_within a g joint to i z.end_at short)));
+      beside = λ i. by_end_more a g (4 * g + spread a) (laid g a.turn (straight_at joint to (i + 1))) (omega arith)
+          (inr (after_end a g i joint to (short_within a g joint to i z.end_at short)));
       few = last_short a g joint to z.end_at (near_of_short a g joint short);
       order = tail_order a g p (q + 1) v (limit_of q (2 * g / 5)) joint h.0 j first last h.1 z.entered.3 z.end_way z.end_out (omega (arith, n.end_outer, same))
-          (λ by. by_axis a j (turned_by (first_axis h.0.y) h.0.quadrant) g q (2 * g / 5) (g / 2) (4 * g / 5) v (leeway (pos g) a + g + spread a) rim bound.below bound.above (omega (arith, same, n.end_inner)) (omega (arith, same, n.end_outer)) (omega (arith, some)) by);
+          (λ by. by_axis a j (turned_by (first_axis h.0.y) h.0.quadrant) g q (2 * g / 5) (g / 2) (4 * g / 5) v
+          (leeway (pos g) a + g + spread a) rim bound.below bound.above (omega (arith, same, n.end_inner)) (omega (arith, same, n.end_outer))
+          (omega (arith, some)) by);
     }
 
 -- ---- smaller ones
 
-small_way : (a : ArcShape) (g p q o : ℕ) (joint : Spot) (b j first last : Spoke) (h : HasReached a g p o (o - 4 * g / 5) joint b j first last) → 500 ≤ g → 9 * g ≤ 4 * o → IsSmallRay g q o →
-    IsEnteredFrom g ((o + 2 * g / 5) * (o + 2 * g / 5)) (view_of a).start (way_from g (view_of a).centre joint) j first → IsRootCeil (squared (view_of a).end) (q + 1) → way_to last ≡ place_of (view_of a).end →
+small_way : (a : ArcShape) (g p q o : ℕ) (joint : Spot) (b j first last : Spoke) (h : HasReached a g p o (o - 4 * g / 5) joint b j first last) → 500 ≤ g →
+    9 * g ≤ 4 * o → IsSmallRay g q o →
+    IsEnteredFrom g ((o + 2 * g / 5) * (o + 2 * g / 5)) (view_of a).start (way_from g (view_of a).centre joint) j first →
+    IsRootCeil (squared (view_of a).end) (q + 1) → way_to last ≡ place_of (view_of a).end →
     SomeWay (IsFew g) j last
 small_way a g p q o joint b j first last h step least small from root end_way =
     let size = small_size g o step least in
@@ -248,11 +271,13 @@ small_way a g p q o joint b j first last h step least small from root end_way =
           let c = cross_told b j (view_of a).start (way_from g (view_of a).centre joint) h.joint_is.start_way h.joint_is.joint_way in
           let turned : cross (way_to b) (way_to j) <ℤ pos 0 = omega (arith, ints, behind.0, c) in
           let roll = behind.1 in
-          small_enters_way g q o (2 * g / 5) (11 * g / 10) (4 * g / 5) v p h.begun h.whole _ b j last roll.0 size small h.placed_joint (near_joint a g p o v joint b j h.joint_is turned) ray turned roll.1
+          small_enters_way g q o (2 * g / 5) (11 * g / 10) (4 * g / 5) v p h.begun h.whole _ b j last roll.0 size small h.placed_joint
+          (near_joint a g p o v joint b j h.joint_is turned) ray turned roll.1
           (subst (λ (t : Spoke). IsReached b t last h.begun h.whole) roll.2 h.reach))
     ]
 
-pub small_tail : (a : ArcShape) (g p q o : ℕ) (from to joint entry : Spot) (first last : Spoke) → IsBentSetting a g p (q + 1) o from to joint entry first last → o < 8 * g → HasFirst a g from joint → HasTail a g joint to
+pub small_tail : (a : ArcShape) (g p q o : ℕ) (from to joint entry : Spot) (first last : Spoke) → IsBentSetting a g p (q + 1) o from to joint entry first last →
+    o < 8 * g → HasFirst a g from joint → HasTail a g joint to
 small_tail a g p q o from to joint entry first last s small part =
     let z = s.setting in
     let r = q + 1 in
@@ -268,11 +293,13 @@ small_tail a g p q o from to joint entry first last s small part =
     let by = near_of a g joint j last h.1.joint_is.joint_way z.end_way way in
     let bound = small_stands g o (2 * g / 5) (11 * g / 10) (4 * g / 5) v j size h.1.joint_is.high h.1.joint_is.low in
     let at_joint : IsByArc a g (leeway (pos g) a) (laid g a.turn joint) =
-    subst (λ (q : Spot). IsByArc a g (leeway (pos g) a) (laid g a.turn q)) (straight_ends from joint (straight_moves from joint) (omega arith)) (part.near (straight_moves from joint)) in
+    subst (λ (q : Spot). IsByArc a g (leeway (pos g) a) (laid g a.turn q)) (straight_ends from joint (straight_moves from joint) (omega arith))
+    (part.near (straight_moves from joint)) in
     record {
       last = λ k. subst (λ t. IsByArc a g t (laid g a.turn (straight_at joint to k))) (sym wide) (last_by_arc a g joint to k z.arc z.end_at by at_joint.box);
       beside = λ k. last_by_end a g joint to (k + 1) z.end_at by;
       few = last_short a g joint to z.end_at by;
       order = tail_order a g p o v ((o + 2 * g / 5) * (o + 2 * g / 5)) joint h.0 j first last h.1 z.entered.3 z.end_way z.end_out (omega (arith, n.end_outer))
-          (λ near. small_by_axis a j (turned_by (first_axis h.0.y) h.0.quadrant) g o (2 * g / 5) (11 * g / 10) (4 * g / 5) v r (leeway (pos g) a + g + spread a) size bound.below bound.above n.end_inner n.end_outer (n.no_less, n.no_more) (omega (arith, wide)) near);
+          (λ near. small_by_axis a j (turned_by (first_axis h.0.y) h.0.quadrant) g o (2 * g / 5) (11 * g / 10) (4 * g / 5) v r
+          (leeway (pos g) a + g + spread a) size bound.below bound.above n.end_inner n.end_outer (n.no_less, n.no_more) (omega (arith, wide)) near);
     }

@@ -37,15 +37,18 @@ use Rattle.ngc_step_kernel.proofs.ViewLemmas.{squared_is}
 use Rattle.ngc_step_kernel.proofs.TinyPoints.{small_leeway}
 use Rattle.ngc_step_kernel.proofs.Together.{together}
 
-by_parts : (a : ArcShape) (g s r o left : ℕ) (from to joint entry : Spot) (first last : Spoke) (p : Plan) → IsRoundSetting a g s r o left (p.rolled - p.entered) from to joint entry first last → IsPlan p →
-    IsRoundPlan from joint entry to first last left g ((o + 2 * g / 5) * (o + 2 * g / 5)) p → HasFirst a g from joint → HasRest a g ((o + 2 * g / 5) * (o + 2 * g / 5)) (p.rolled - p.entered) left to first p →
+by_parts : (a : ArcShape) (g s r o left : ℕ) (from to joint entry : Spot) (first last : Spoke) (p : Plan) →
+    IsRoundSetting a g s r o left (p.rolled - p.entered) from to joint entry first last → IsPlan p →
+    IsRoundPlan from joint entry to first last left g ((o + 2 * g / 5) * (o + 2 * g / 5)) p → HasFirst a g from joint →
+    HasRest a g ((o + 2 * g / 5) * (o + 2 * g / 5)) (p.rolled - p.entered) left to first p →
     FollowsInPlane a g p.moves (λ j. laid g a.turn (course_at p j))
 by_parts a g s r o left from to joint entry first last p z plan round part rest =
     let limit = (o + 2 * g / 5) * (o + 2 * g / 5) in
     together a g p (round_parts a g limit left from joint entry to first last p plan round z.setting.about z.setting.beside part rest)
     (round_order a g limit left from joint entry to first last p plan round z.setting.about rest.keeps)
 
-large_follows : (a : ArcShape) (g s r q left : ℕ) (from to joint entry : Spot) (first last : Spoke) (p : Plan) → IsRoundSetting a g s r (q + 1) left (p.rolled - p.entered) from to joint entry first last → 8 * g ≤ q + 1 → IsPlan p →
+large_follows : (a : ArcShape) (g s r q left : ℕ) (from to joint entry : Spot) (first last : Spoke) (p : Plan) →
+    IsRoundSetting a g s r (q + 1) left (p.rolled - p.entered) from to joint entry first last → 8 * g ≤ q + 1 → IsPlan p →
     IsRoundPlan from joint entry to first last left g (limit_of q (2 * g / 5)) p → FollowsInPlane a g p.moves (λ j. laid g a.turn (course_at p j))
 large_follows a g s r q left from to joint entry first last p z large plan round =
     let n = sizes a g s r (q + 1) from to joint entry first last z.setting in
@@ -55,7 +58,8 @@ large_follows a g s r q left from to joint entry first last p z large plan round
     (has_first a g s r (q + 1) 0 from to joint entry first last z.setting out (omega arith) (omega (arith, some)))
     (large_rest a g s r q left from to joint entry first last p z large round)
 
-small_follows : (a : ArcShape) (g s q o left : ℕ) (from to joint entry : Spot) (first last : Spoke) (p : Plan) → IsRoundSetting a g s (q + 1) o left (p.rolled - p.entered) from to joint entry first last → o < 8 * g → IsPlan p →
+small_follows : (a : ArcShape) (g s q o left : ℕ) (from to joint entry : Spot) (first last : Spoke) (p : Plan) →
+    IsRoundSetting a g s (q + 1) o left (p.rolled - p.entered) from to joint entry first last → o < 8 * g → IsPlan p →
     IsRoundPlan from joint entry to first last left g ((o + 2 * g / 5) * (o + 2 * g / 5)) p → FollowsInPlane a g p.moves (λ j. laid g a.turn (course_at p j))
 small_follows a g s q o left from to joint entry first last p z small plan round =
     let n = sizes a g s (q + 1) o from to joint entry first last z.setting in
@@ -64,7 +68,8 @@ small_follows a g s q o left from to joint entry first last p z small plan round
     (has_first a g s (q + 1) o g from to joint entry first last z.setting (omega (arith, n.no_more, n.end_outer)) (omega arith) (omega (arith, wide)))
     (small_rest a g s q o left from to joint entry first last p z small round)
 
-pub round_follows : (a : ArcShape) (g s r o left : ℕ) (from to joint entry : Spot) (first last : Spoke) (p : Plan) → IsRoundSetting a g s r o left (p.rolled - p.entered) from to joint entry first last → IsPlan p →
+pub round_follows : (a : ArcShape) (g s r o left : ℕ) (from to joint entry : Spot) (first last : Spoke) (p : Plan) →
+    IsRoundSetting a g s r o left (p.rolled - p.entered) from to joint entry first last → IsPlan p →
     IsRoundPlan from joint entry to first last left g ((o + 2 * g / 5) * (o + 2 * g / 5)) p → FollowsInPlane a g p.moves (λ j. laid g a.turn (course_at p j))
 round_follows a g s r o left from to joint entry first last p z plan round =
     let n = sizes a g s r o from to joint entry first last z.setting in
@@ -100,26 +105,31 @@ straight_count from to p plan s =
 pub follows_same : (a : ArcShape) (g m n : ℕ) (f h : ℕ → Point2) → m ≡ n → ((k : ℕ) → h k ≡ f k) → FollowsInPlane a g m f → FollowsInPlane a g n h
 follows_same a g m n f h count same z = subst (λ t. FollowsInPlane a g t h) count (record {
   near = λ k le. subst (λ (q : Point2). IsByArc a g (leeway (pos g) a) q) (sym (same k)) (z.near k le);
-  onward = λ k less. subst (λ (q : Point2). GoesOn a (4 * g + spread a) q (h (k + 1))) (sym (same k)) (subst (λ (q : Point2). GoesOn a (4 * g + spread a) (f k) q) (sym (same (k + 1))) (z.onward k less));
+  onward = λ k less. subst (λ (q : Point2). GoesOn a (4 * g + spread a) q (h (k + 1))) (sym (same k))
+      (subst (λ (q : Point2). GoesOn a (4 * g + spread a) (f k) q) (sym (same (k + 1))) (z.onward k less));
   order = passes_along f h (λ k. k) m m (leeway (pos g) a + g + spread a) 0 (extremes a) (λ k le. same k) (λ j k le. le) (omega arith) z.order;
   short = z.short;
 })
 
-pub straight_follows : (a : ArcShape) (g : ℕ) (from to : Spot) (p : Plan) → IsArc a → 500 ≤ g → IsTiny a g → IsNearestSpot g (view_of a).centre (view_of a).start from → IsNearestSpot g (view_of a).centre (view_of a).end to →
+pub straight_follows : (a : ArcShape) (g : ℕ) (from to : Spot) (p : Plan) → IsArc a → 500 ≤ g → IsTiny a g →
+    IsNearestSpot g (view_of a).centre (view_of a).start from → IsNearestSpot g (view_of a).centre (view_of a).end to →
     IsPlan p → IsStraightPlan from to p → FollowsInPlane a g p.moves (λ j. laid g a.turn (course_at p j))
 straight_follows a g from to p arc step tiny first last plan s =
-    follows_same a g (straight_moves from to) p.moves (λ k. laid g a.turn (straight_at from to k)) (λ j. laid g a.turn (course_at p j)) (sym (straight_count from to p plan s))
+    follows_same a g (straight_moves from to) p.moves (λ k. laid g a.turn (straight_at from to k)) (λ j. laid g a.turn (course_at p j))
+    (sym (straight_count from to p plan s))
     (λ k. ap (λ (q : Spot). laid g a.turn q) (straight_course from to p k plan s)) (tiny_follows a g from to arc step tiny first last)
 
 -- ---- what is known where the course is planned
 
-pub tiny_told : (a : ArcShape) (g m : ℕ) (t : Bool) → m ≡ 4 * min (squared (view_of a).start) (squared (view_of a).end) → t ≡ nat_lt m (9 * (g * g)) → t ≡ true → IsTiny a g
+pub tiny_told : (a : ArcShape) (g m : ℕ) (t : Bool) → m ≡ 4 * min (squared (view_of a).start) (squared (view_of a).end) → t ≡ nat_lt m (9 * (g * g)) →
+    t ≡ true → IsTiny a g
 tiny_told a g m t e told does = tiny_seen a g (elim (cases_lt m (9 * (g * g))) [
   | inl less ↦ omega (arith, less, e)
   | inr more ↦ absurd (grind (arith, told, does, more))
 ])
 
-pub wide_told : (a : ArcShape) (g m : ℕ) (t : Bool) → m ≡ 4 * min (squared (view_of a).start) (squared (view_of a).end) → t ≡ nat_lt m (9 * (g * g)) → t ≡ false → 9 * (g * g) ≤ 4 * lo a
+pub wide_told : (a : ArcShape) (g m : ℕ) (t : Bool) → m ≡ 4 * min (squared (view_of a).start) (squared (view_of a).end) → t ≡ nat_lt m (9 * (g * g)) →
+    t ≡ false → 9 * (g * g) ≤ 4 * lo a
 wide_told a g m t e told lacks =
     let s = squared_is a.turn a.centre (start_of a) in
     let d = squared_is a.turn a.centre (end_of a) in
@@ -158,7 +168,8 @@ pub record IsRoundGiven (a : ArcShape) (g s r o limit left : ℕ) (v : View) (fr
   pub plan : IsPlan p
   pub round : IsRoundPlan from joint entry to first last left g limit p
 
-round_given : (a : ArcShape) (g s r o left : ℕ) (from to joint entry : Spot) (first last : Spoke) (p : Plan) → IsRoundGiven a g (s + 1) r o ((o + 2 * g / 5) * (o + 2 * g / 5)) left (view_of a) from to joint entry first last p →
+round_given : (a : ArcShape) (g s r o left : ℕ) (from to joint entry : Spot) (first last : Spoke) (p : Plan) →
+    IsRoundGiven a g (s + 1) r o ((o + 2 * g / 5) * (o + 2 * g / 5)) left (view_of a) from to joint entry first last p →
     FollowsInPlane a g p.moves (λ j. laid g a.turn (course_at p j))
 round_given a g s r o left from to joint entry first last p z =
     round_follows a g s r o left from to joint entry first last p (record {
@@ -185,20 +196,26 @@ round_given a g s r o left from to joint entry first last p z =
       past = z.round.past;
     }) z.plan z.round
 
-pub round_seen : (a : ArcShape) (g s r o limit left : ℕ) (v : View) (from to joint entry : Spot) (first last : Spoke) (p : Plan) → v ≡ view_of a → IsRoundGiven a g s r o limit left v from to joint entry first last p →
+pub round_seen : (a : ArcShape) (g s r o limit left : ℕ) (v : View) (from to joint entry : Spot) (first last : Spoke) (p : Plan) → v ≡ view_of a →
+    IsRoundGiven a g s r o limit left v from to joint entry first last p →
     FollowsInPlane a g p.moves (λ j. laid g a.turn (course_at p j))
 round_seen a g s r o limit left v from to joint entry first last p seen z =
     let zv = subst (λ (w : View). IsRoundGiven a g s r o limit left w from to joint entry first last p) seen z in
     let zl = subst (λ t. IsRoundGiven a g s r o t left (view_of a) from to joint entry first last p) z.limit_is zv in
     let same = squared_is a.turn a.centre (start_of a) in
     let e = some_more s (squared (view_of a).start) (omega (arith, same, z.arc.some_radius)) zv.start_root.square in
-    round_given a g (s - 1) r o left from to joint entry first last p (subst (λ t. IsRoundGiven a g t r o ((o + 2 * g / 5) * (o + 2 * g / 5)) left (view_of a) from to joint entry first last p) (sym e) zl)
+    round_given a g (s - 1) r o left from to joint entry first last p
+    (subst (λ t. IsRoundGiven a g t r o ((o + 2 * g / 5) * (o + 2 * g / 5)) left (view_of a) from to joint entry first last p) (sym e) zl)
 
-pub straight_seen : (a : ArcShape) (g m : ℕ) (t : Bool) (v : View) (from to : Spot) (p : Plan) → v ≡ view_of a → IsArc a → 500 ≤ g → m ≡ 4 * min (squared v.start) (squared v.end) → t ≡ nat_lt m (9 * (g * g)) → t ≡ true →
-    IsNearestSpot g v.centre v.start from → IsNearestSpot g v.centre v.end to → IsPlan p → IsStraightPlan from to p → FollowsInPlane a g p.moves (λ j. laid g a.turn (course_at p j))
+pub straight_seen : (a : ArcShape) (g m : ℕ) (t : Bool) (v : View) (from to : Spot) (p : Plan) → v ≡ view_of a → IsArc a → 500 ≤ g →
+    m ≡ 4 * min (squared v.start) (squared v.end) → t ≡ nat_lt m (9 * (g * g)) → t ≡ true →
+    IsNearestSpot g v.centre v.start from → IsNearestSpot g v.centre v.end to → IsPlan p → IsStraightPlan from to p →
+    FollowsInPlane a g p.moves (λ j. laid g a.turn (course_at p j))
 straight_seen a g m t v from to p seen arc step e told does first last plan s =
     let e' : m ≡ 4 * min (squared (view_of a).start) (squared (view_of a).end) = e ∙ ap (λ (w : View). 4 * min (squared w.start) (squared w.end)) seen in
-    straight_follows a g from to p arc step (tiny_told a g m t e' told does) (subst (λ (w : View). IsNearestSpot g w.centre w.start from) seen first) (subst (λ (w : View). IsNearestSpot g w.centre w.end to) seen last) plan s
+    straight_follows a g from to p arc step (tiny_told a g m t e' told does) (subst (λ (w : View). IsNearestSpot g w.centre w.start from) seen first)
+    (subst (λ (w : View). IsNearestSpot g w.centre w.end to) seen last) plan s
 
-pub wide_seen : (a : ArcShape) (g m : ℕ) (t : Bool) (v : View) → v ≡ view_of a → m ≡ 4 * min (squared v.start) (squared v.end) → t ≡ nat_lt m (9 * (g * g)) → t ≡ false → 9 * (g * g) ≤ 4 * lo a
+pub wide_seen : (a : ArcShape) (g m : ℕ) (t : Bool) (v : View) → v ≡ view_of a → m ≡ 4 * min (squared v.start) (squared v.end) → t ≡ nat_lt m (9 * (g * g)) →
+    t ≡ false → 9 * (g * g) ≤ 4 * lo a
 wide_seen a g m t v seen e told lacks = wide_told a g m t (e ∙ ap (λ (w : View). 4 * min (squared w.start) (squared w.end)) seen) told lacks

@@ -141,12 +141,14 @@ course_small p k s = elim (cases_lt k p.joined) [
 pub on_to_joint : (p : Plan) (k : ℕ) → k < p.joined → course_at p (k + 1) ≡ spot_moved (course_at p k) (spot_towards (course_at p k) p.joint)
 on_to_joint p k h = rw (to_joint p k (omega arith), to_joint p (k + 1) (omega arith)) (straight_on p.start p.joint k)
 
-pub on_to_entry : (p : Plan) (k : ℕ) → IsPlan p → p.joined ≤ k → k < p.entered → course_at p (k + 1) ≡ spot_moved (course_at p k) (spot_towards (course_at p k) p.entry)
+pub on_to_entry : (p : Plan) (k : ℕ) → IsPlan p → p.joined ≤ k → k < p.entered →
+    course_at p (k + 1) ≡ spot_moved (course_at p k) (spot_towards (course_at p k) p.entry)
 on_to_entry p k s from to =
     let e : k + 1 - p.joined ≡ k - p.joined + 1 = omega arith in
     rw (to_entry p k s from (omega arith), to_entry p (k + 1) s (omega arith) (omega arith), e) (straight_on p.joint p.entry (k - p.joined))
 
-pub on_to_last : (p : Plan) (k : ℕ) → IsPlan p → p.entered ≤ k → k < p.rolled → course_at p (k + 1) ≡ spot_moved (course_at p k) (wheel_move p.step p.limit p.first (k - p.entered))
+pub on_to_last : (p : Plan) (k : ℕ) → IsPlan p → p.entered ≤ k → k < p.rolled →
+    course_at p (k + 1) ≡ spot_moved (course_at p k) (wheel_move p.step p.limit p.first (k - p.entered))
 on_to_last p k s from to =
     let e : k + 1 - p.entered ≡ k - p.entered + 1 = omega arith in
     rw (to_last p k s from (omega arith), to_last p (k + 1) s (omega arith) (omega arith), e) (round_on p.step p.limit p.first p.entry (k - p.entered))
@@ -174,7 +176,8 @@ here_small p k at w pace rim s = rw s.here (course_small p k s.plan)
 pub wheel_small : (p : Plan) (k : ℕ) (at : Spot) (w : Spoke) (pace rim : ℕ) → IsCourseAt p k at w pace rim → k < p.rolled → IsSmall w
 wheel_small p k at w pace rim s h = rw (s.spoke (omega arith)) (s.plan.small (k - p.entered) (omega (arith, s.plan.rolled)))
 
-pub joins_on : (p : Plan) (k : ℕ) (at : Spot) (w : Spoke) (pace rim : ℕ) → IsCourseAt p k at w pace rim → k < p.moves → k < p.joined → IsCourseAt p (k + 1) (spot_moved at (spot_towards at p.joint)) w pace rim
+pub joins_on : (p : Plan) (k : ℕ) (at : Spot) (w : Spoke) (pace rim : ℕ) → IsCourseAt p k at w pace rim → k < p.moves → k < p.joined →
+    IsCourseAt p (k + 1) (spot_moved at (spot_towards at p.joint)) w pace rim
 joins_on p k at w pace rim s h less = record {
   plan = s.plan;
   done = omega arith;
@@ -184,7 +187,8 @@ joins_on p k at w pace rim s h less = record {
   rims = s.rims;
 }
 
-pub enters_on : (p : Plan) (k : ℕ) (at : Spot) (w : Spoke) (pace rim : ℕ) → IsCourseAt p k at w pace rim → k < p.moves → p.joined ≤ k → k < p.entered → IsCourseAt p (k + 1) (spot_moved at (spot_towards at p.entry)) w pace rim
+pub enters_on : (p : Plan) (k : ℕ) (at : Spot) (w : Spoke) (pace rim : ℕ) → IsCourseAt p k at w pace rim → k < p.moves → p.joined ≤ k → k < p.entered →
+    IsCourseAt p (k + 1) (spot_moved at (spot_towards at p.entry)) w pace rim
 enters_on p k at w pace rim s h more less = record {
   plan = s.plan;
   done = omega arith;
@@ -194,7 +198,8 @@ enters_on p k at w pace rim s h more less = record {
   rims = s.rims;
 }
 
-pub ends_on : (p : Plan) (k : ℕ) (at : Spot) (w : Spoke) (pace rim : ℕ) → IsCourseAt p k at w pace rim → k < p.moves → p.rolled ≤ k → IsCourseAt p (k + 1) (spot_moved at (spot_towards at p.end)) w pace rim
+pub ends_on : (p : Plan) (k : ℕ) (at : Spot) (w : Spoke) (pace rim : ℕ) → IsCourseAt p k at w pace rim → k < p.moves → p.rolled ≤ k →
+    IsCourseAt p (k + 1) (spot_moved at (spot_towards at p.end)) w pace rim
 ends_on p k at w pace rim s h more = record {
   plan = s.plan;
   done = omega arith;
@@ -211,7 +216,8 @@ rolls_next p k w v r here roll on =
     let next = spoke_on p.step p.limit p.first k in
     (on ∙ rw (same, here) (sym next), rw (same, here) refl)
 
-pub rolls_on : (p : Plan) (k : ℕ) (at : Spot) (w v : Spoke) (r : Roll) (pace rim pace' rim' : ℕ) → IsCourseAt p k at w pace rim → k < p.moves → p.entered ≤ k → k < p.rolled →
+pub rolls_on : (p : Plan) (k : ℕ) (at : Spot) (w v : Spoke) (r : Roll) (pace rim pace' rim' : ℕ) → IsCourseAt p k at w pace rim → k < p.moves → p.entered ≤ k →
+    k < p.rolled →
     IsRoll pace rim w r → v ≡ rolled pace r w → pace' ≡ pace → rim' ≡ rim → IsCourseAt p (k + 1) (spot_moved at (roll_move r w.quadrant)) v pace' rim'
 rolls_on p k at w v r pace rim pace' rim' s h more less roll on same_pace same_rim =
     let next = rolls_next p (k - p.entered) w v r (s.spoke (omega arith)) (rw (s.paces, s.rims) at roll) (rw s.paces at on) in
@@ -232,11 +238,13 @@ steps_small Back = omega (arith, ints)
 steps_small Stay = omega (arith, ints)
 steps_small Forward = omega (arith, ints)
 
-step_fits : (a s : ℤ) (m : AxisMove) → unsigned_abs a ≤ 200000000 → s ≡ steps_of m → to_z w32 (of_z w32 (to_z w32 (of_z w32 a) +ℤ to_z w32 (of_z w32 s))) ≡ a +ℤ steps_of m
+step_fits : (a s : ℤ) (m : AxisMove) → unsigned_abs a ≤ 200000000 → s ≡ steps_of m →
+    to_z w32 (of_z w32 (to_z w32 (of_z w32 a) +ℤ to_z w32 (of_z w32 s))) ≡ a +ℤ steps_of m
 step_fits a s m h e = let t = steps_small m in omega (arith, ints, e)
 
 pub moved_is : (p : Spot) (m : PlaneMove) (s t : ℤ) → IsSpot p → s ≡ steps_of m.u → t ≡ steps_of m.v →
-    spot_of (to_z w32 (of_z w32 (to_z w32 (of_z w32 p.u) +ℤ to_z w32 (of_z w32 s)))) (to_z w32 (of_z w32 (to_z w32 (of_z w32 p.v) +ℤ to_z w32 (of_z w32 t)))) ≡ spot_moved p m
+    spot_of (to_z w32 (of_z w32 (to_z w32 (of_z w32 p.u) +ℤ to_z w32 (of_z w32 s)))) (to_z w32 (of_z w32 (to_z w32 (of_z w32 p.v) +ℤ to_z w32 (of_z w32 t))))
+    ≡ spot_moved p m
 moved_is p m s t h a b = cc2 (step_fits p.u s m.u h.u a) (step_fits p.v t m.v h.v b)
 
 -- ---- a course with no wheel
@@ -249,7 +257,8 @@ stays_here : (g limit : ℕ) (s : Spoke) (p : Spot) (k : ℕ) → k ≡ 0 → ro
 unfolding round_at
 stays_here g limit s p k e = rw e refl
 
-pub straight_plan : (p : Plan) → p.joint ≡ p.start → p.entry ≡ p.start → p.joined ≡ 0 → p.entered ≡ 0 → p.rolled ≡ 0 → p.moves ≡ straight_moves p.start p.end → p.moves ≤ 200000000 →
+pub straight_plan : (p : Plan) → p.joint ≡ p.start → p.entry ≡ p.start → p.joined ≡ 0 → p.entered ≡ 0 → p.rolled ≡ 0 → p.moves ≡ straight_moves p.start p.end →
+    p.moves ≤ 200000000 →
     0 < p.step → p.step ≤ 50000 → IsSpot p.start → IsSpot p.end → IsSmall p.first → IsPlan p
 straight_plan p joint entry joined entered rolled moves few some short start end small =
     let none : p.rolled - p.entered ≡ 0 = omega arith in
@@ -279,7 +288,8 @@ pub round_starts : (g limit : ℕ) (s : Spoke) (p : Spot) → round_at g limit s
 unfolding round_at
 round_starts g limit s p = refl
 
-pub walk_on : (g limit : ℕ) (first w v : Spoke) (entry last next : Spot) (r : Roll) (k pace rim : ℕ) → pace ≡ g → rim ≡ limit → w ≡ spoke_at g limit first k → last ≡ round_at g limit first entry k →
+pub walk_on : (g limit : ℕ) (first w v : Spoke) (entry last next : Spot) (r : Roll) (k pace rim : ℕ) → pace ≡ g → rim ≡ limit → w ≡ spoke_at g limit first k →
+    last ≡ round_at g limit first entry k →
     IsRoll pace rim w r → v ≡ rolled pace r w → next ≡ spot_moved last (roll_move r w.quadrant) →
     (v ≡ spoke_at g limit first (k + 1)) × (next ≡ round_at g limit first entry (k + 1))
 walk_on g limit first w v entry last next r k pace rim paces rims here at roll on goes =
@@ -309,7 +319,8 @@ round_plan p some short start joint end small range joined entered m rolls last 
       small = λ k le. small k;
     }
 
-pub bent_plan : (p : Plan) → p.entry ≡ p.joint → p.joined ≡ straight_moves p.start p.joint → p.entered ≡ p.joined → p.rolled ≡ p.joined → p.moves ≡ p.joined + straight_moves p.joint p.end → p.moves ≤ 200000000 →
+pub bent_plan : (p : Plan) → p.entry ≡ p.joint → p.joined ≡ straight_moves p.start p.joint → p.entered ≡ p.joined → p.rolled ≡ p.joined →
+    p.moves ≡ p.joined + straight_moves p.joint p.end → p.moves ≤ 200000000 →
     0 < p.step → p.step ≤ 50000 → IsSpot p.start → IsSpot p.joint → IsSpot p.end → IsSmall p.first → IsPlan p
 bent_plan p entry joined entered rolled moves few some short start joint end small =
     let none : p.rolled - p.entered ≡ 0 = omega (arith, entered, rolled) in

@@ -46,7 +46,8 @@ end_seen (pos g) plane t c p step = nearest_seen g plane t c p (omega (arith, in
 end_seen (negsuc n) plane t c p step = absurd (omega (arith, ints, step.least))
 
 -- it lies within reach of the centre
-axis_reach : (c w p : ℤ) (g r : ℕ) → 2 * unsigned_abs ((c +ℤ w) -ℤ (p *ℤ pos g)) ≤ g → unsigned_abs w ≤ 2000020000 → g ≤ 50000 → unsigned_abs ((p *ℤ pos g) -ℤ c) ≤ 3000000000
+axis_reach : (c w p : ℤ) (g r : ℕ) → 2 * unsigned_abs ((c +ℤ w) -ℤ (p *ℤ pos g)) ≤ g → unsigned_abs w ≤ 2000020000 → g ≤ 50000 →
+    unsigned_abs ((p *ℤ pos g) -ℤ c) ≤ 3000000000
 axis_reach c w p g r near small short = omega (arith, ints, near, small, short)
 
 pub nearest_reach : (g : ℕ) (c w : Way) (p : Spot) → IsRadius w → IsNearestSpot g c w p → g ≤ 50000 → IsInReach g c p

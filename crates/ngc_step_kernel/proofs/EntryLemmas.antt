@@ -53,7 +53,8 @@ pub record IsJoined (g r : ℕ) (c : Way) (p : Spot) (w : Way) (s : Spoke) : Typ
   pub x : s.x ≤ 2900000000
   pub y : s.y ≤ 2900000000
 
-pub joined : (g r : ℕ) (c : Way) (p : Spot) (w : Way) (s : Spoke) → w ≡ way_from g c p → around s.quadrant s.x s.y ≡ place_of w → 12 * squared (way_from g c p) ≤ 12 * (r * r) + 17 * (r * g) + 6 * (g * g) →
+pub joined : (g r : ℕ) (c : Way) (p : Spot) (w : Way) (s : Spoke) → w ≡ way_from g c p → around s.quadrant s.x s.y ≡ place_of w →
+    12 * squared (way_from g c p) ≤ 12 * (r * r) + 17 * (r * g) + 6 * (g * g) →
     r ≤ 2000020000 → g ≤ 50000 → IsJoined g r c p w s
 joined g r c p w s e h near hr hg =
     let n = near_way w (way_from g c p) r g e near in
@@ -70,7 +71,8 @@ is_way w v r g e near hr hg =
     let v' = second_side w (r + g) n in
     record { u = omega (arith, u, hr, hg); v = omega (arith, v', hr, hg) }
 
-pub rolled_near : (g r : ℕ) (s : Spoke) (roll : Roll) → CanRoll g s roll → square s.x s.y ≤ (r + g) * (r + g) → square (rolled g roll s).x (rolled g roll s).y ≤ (r + 2 * g) * (r + 2 * g)
+pub rolled_near : (g r : ℕ) (s : Spoke) (roll : Roll) → CanRoll g s roll → square s.x s.y ≤ (r + g) * (r + g) →
+    square (rolled g roll s).x (rolled g roll s).y ≤ (r + 2 * g) * (r + 2 * g)
 rolled_near g r s Outward can near =
     let y = from_squares s.y (r + g) (omega (arith, near)) in
     omega (arith, near, mul-le-mul_left g y)
@@ -107,13 +109,23 @@ none_on p = omega (arith, ints)
 pub none_beside : (p : Spot) → straight_moves p p ≤ 1
 none_beside p = omega (arith, none_on p.u, none_on p.v)
 
-pub entered_from : (g limit : ℕ) (b w v : Way) (steep : Bool) (first s : Spoke) (roll : Roll) (z : ℤ) → v ≡ w → way_to first ≡ place_of v → (0 < unsigned_abs v.u + unsigned_abs v.v → 0 < first.x) → z ≡ way_cross b v → z <ℤ pos 0 → steep ≡ is_steep first.quadrant b →
+pub entered_from : (g limit : ℕ) (b w v : Way) (steep : Bool) (first s : Spoke) (roll : Roll) (z : ℤ) → v ≡ w → way_to first ≡ place_of v →
+    (0 < unsigned_abs v.u + unsigned_abs v.v → 0 < first.x) → z ≡ way_cross b v → z <ℤ pos 0 → steep ≡ is_steep first.quadrant b →
     IsEntry g limit steep first roll → s ≡ rolled g roll first → IsEntered g limit b w s
 entered_from g limit b w v steep first s roll z same at out area behind told entry on =
-    let e : way_cross b v ≡ way_cross b w = ap (λ (x : Way). way_cross b x) same in
-    (first, at ∙ ap (λ (x : Way). place_of x) same, subst (λ (x : Way). 0 < unsigned_abs x.u + unsigned_abs x.v → 0 < first.x) same out, inr (omega (arith, ints, behind, area, e), (roll, subst (λ t. IsEntry g limit t first roll) told entry, on)))
+    let e : way_cross b v ≡ way_cross b w = ap (λ (x : Way). way_cross b x) same in (
+      first,
+      at ∙ ap (λ (x : Way). place_of x) same,
+      subst (λ (x : Way). 0 < unsigned_abs x.u + unsigned_abs x.v → 0 < first.x) same out,
+      inr (omega (arith, ints, behind, area, e), (roll, subst (λ t. IsEntry g limit t first roll) told entry, on)),
+    )
 
-pub stood_from : (g limit : ℕ) (b w v : Way) (first : Spoke) (z : ℤ) → v ≡ w → way_to first ≡ place_of v → (0 < unsigned_abs v.u + unsigned_abs v.v → 0 < first.x) → z ≡ way_cross b v → pos 0 ≤ℤ z → IsEntered g limit b w first
+pub stood_from : (g limit : ℕ) (b w v : Way) (first : Spoke) (z : ℤ) → v ≡ w → way_to first ≡ place_of v →
+    (0 < unsigned_abs v.u + unsigned_abs v.v → 0 < first.x) → z ≡ way_cross b v → pos 0 ≤ℤ z → IsEntered g limit b w first
 stood_from g limit b w v first z same at out area ahead =
-    let e : way_cross b v ≡ way_cross b w = ap (λ (x : Way). way_cross b x) same in
-    (first, at ∙ ap (λ (x : Way). place_of x) same, subst (λ (x : Way). 0 < unsigned_abs x.u + unsigned_abs x.v → 0 < first.x) same out, inl (omega (arith, ints, ahead, area, e), refl))
+    let e : way_cross b v ≡ way_cross b w = ap (λ (x : Way). way_cross b x) same in (
+      first,
+      at ∙ ap (λ (x : Way). place_of x) same,
+      subst (λ (x : Way). 0 < unsigned_abs x.u + unsigned_abs x.v → 0 < first.x) same out,
+      inl (omega (arith, ints, ahead, area, e), refl),
+    )

@@ -15,21 +15,24 @@ use Rattle.ngc_step_kernel.proofs.StraightAxis.{IsOnWay, scaled_by, on_way}
 abbrev IsBetween : ℤ → ℤ → ℤ → Type 0
 IsBetween p q r = ((p ≤ℤ q) × (q ≤ℤ r)) ⊎ ((r ≤ℤ q) × (q ≤ℤ p))
 
-not_below : (s r m g : ℕ) (b S J X : ℤ) → m ≤ s → m ≤ r → 2 * unsigned_abs ((b *ℤ pos s) -ℤ S) ≤ s * g → 2 * unsigned_abs ((b *ℤ pos r) -ℤ J) ≤ s * g → IsBetween S X J →
+not_below : (s r m g : ℕ) (b S J X : ℤ) → m ≤ s → m ≤ r → 2 * unsigned_abs ((b *ℤ pos s) -ℤ S) ≤ s * g → 2 * unsigned_abs ((b *ℤ pos r) -ℤ J) ≤ s * g →
+    IsBetween S X J →
     2 * (m * unsigned_abs b) ≤ 2 * unsigned_abs X + s * g
 not_below s r m g (pos n) S J X ms mr hs hj (inl w) = omega (arith, ints, mul-le-mul_left n ms, mul-le-mul_left n mr, hs, hj, w.0, w.1)
 not_below s r m g (pos n) S J X ms mr hs hj (inr w) = omega (arith, ints, mul-le-mul_left n ms, mul-le-mul_left n mr, hs, hj, w.0, w.1)
 not_below s r m g (negsuc n) S J X ms mr hs hj (inl w) = omega (arith, ints, mul-le-mul_left (suc n) ms, mul-le-mul_left (suc n) mr, hs, hj, w.0, w.1)
 not_below s r m g (negsuc n) S J X ms mr hs hj (inr w) = omega (arith, ints, mul-le-mul_left (suc n) ms, mul-le-mul_left (suc n) mr, hs, hj, w.0, w.1)
 
-not_above : (s r m g : ℕ) (b S J X : ℤ) → s ≤ m → r ≤ m → 2 * unsigned_abs ((b *ℤ pos s) -ℤ S) ≤ s * g → 2 * unsigned_abs ((b *ℤ pos r) -ℤ J) ≤ s * g → IsBetween S X J →
+not_above : (s r m g : ℕ) (b S J X : ℤ) → s ≤ m → r ≤ m → 2 * unsigned_abs ((b *ℤ pos s) -ℤ S) ≤ s * g → 2 * unsigned_abs ((b *ℤ pos r) -ℤ J) ≤ s * g →
+    IsBetween S X J →
     2 * unsigned_abs X ≤ 2 * (m * unsigned_abs b) + s * g
 not_above s r m g (pos n) S J X ms mr hs hj (inl w) = omega (arith, ints, mul-le-mul_left n ms, mul-le-mul_left n mr, hs, hj, w.0, w.1)
 not_above s r m g (pos n) S J X ms mr hs hj (inr w) = omega (arith, ints, mul-le-mul_left n ms, mul-le-mul_left n mr, hs, hj, w.0, w.1)
 not_above s r m g (negsuc n) S J X ms mr hs hj (inl w) = omega (arith, ints, mul-le-mul_left (suc n) ms, mul-le-mul_left (suc n) mr, hs, hj, w.0, w.1)
 not_above s r m g (negsuc n) S J X ms mr hs hj (inr w) = omega (arith, ints, mul-le-mul_left (suc n) ms, mul-le-mul_left (suc n) mr, hs, hj, w.0, w.1)
 
-not_away : (s r h g : ℕ) (b S J X : ℤ) → r ≤ s + h → s ≤ r + h → 2 * unsigned_abs ((b *ℤ pos s) -ℤ S) ≤ s * g → 2 * unsigned_abs ((b *ℤ pos r) -ℤ J) ≤ s * g → IsBetween S X J →
+not_away : (s r h g : ℕ) (b S J X : ℤ) → r ≤ s + h → s ≤ r + h → 2 * unsigned_abs ((b *ℤ pos s) -ℤ S) ≤ s * g → 2 * unsigned_abs ((b *ℤ pos r) -ℤ J) ≤ s * g →
+    IsBetween S X J →
     2 * unsigned_abs (X -ℤ (b *ℤ pos s)) ≤ 2 * (h * unsigned_abs b) + s * g
 not_away s r h g (pos n) S J X hr hh hs hj (inl w) = omega (arith, ints, mul-le-mul_left n hr, mul-le-mul_left n hh, hs, hj, w.0, w.1)
 not_away s r h g (pos n) S J X hr hh hs hj (inr w) = omega (arith, ints, mul-le-mul_left n hr, mul-le-mul_left n hh, hs, hj, w.0, w.1)
@@ -38,7 +41,8 @@ not_away s r h g (negsuc n) S J X hr hh hs hj (inr w) = omega (arith, ints, mul-
 
 -- ---- what that says of the places
 
-nearest_off : (g s : ℕ) (c b p : ℤ) → 2 * unsigned_abs ((c +ℤ b) -ℤ (p *ℤ pos g)) ≤ g → 2 * unsigned_abs ((b *ℤ pos s) -ℤ (((p *ℤ pos g) -ℤ c) *ℤ pos s)) ≤ s * g
+nearest_off : (g s : ℕ) (c b p : ℤ) → 2 * unsigned_abs ((c +ℤ b) -ℤ (p *ℤ pos g)) ≤ g →
+    2 * unsigned_abs ((b *ℤ pos s) -ℤ (((p *ℤ pos g) -ℤ c) *ℤ pos s)) ≤ s * g
 nearest_off g s c b p near =
     let j = (p *ℤ pos g) -ℤ c in
     let x = b -ℤ j in

@@ -20,7 +20,8 @@ begins_at a g p o v limit joint b j first h room (inl stood) =
 begins_at a g p o v limit joint b j first h room (inr behind) =
     let c = cross_told b j (view_of a).start (way_from g (view_of a).centre joint) h.start_way h.joint_way in
     let roll = behind.1 in
-    let at = enters g limit p o (is_steep j.quadrant (view_of a).start) b j roll.0 h.joined (omega (arith, ints, behind.0, c)) (steep_told b j (view_of a).start h.start_way) room roll.1 in
+    let at = enters g limit p o (is_steep j.quadrant (view_of a).start) b j roll.0 h.joined (omega (arith, ints, behind.0, c))
+    (steep_told b j (view_of a).start h.start_way) room roll.1 in
     (at.0, subst (λ (s : Spoke). Begins g b s at.0) (sym roll.2) at.1)
 
 pub small_bound : (a : ArcShape) (g p o h l m v : ℕ) (joint : Spot) (b j first : Spoke) → HasJoint a g p o v joint b j → IsSmallSize g o h l m v →
@@ -31,7 +32,8 @@ small_bound a g p o h l m v joint b j first z size (inr behind) =
     let c = cross_told b j (view_of a).start (way_from g (view_of a).centre joint) z.start_way z.joint_way in
     let near = near_joint a g p o v joint b j z (omega (arith, ints, behind.0, c)) in
     let roll = behind.1 in
-    subst (λ (s : Spoke). IsBound g ((o + l) * (o + l)) v s) (sym roll.2) (small_enters g o h l m v (is_steep j.quadrant (view_of a).start) j roll.0 size near roll.1)
+    subst (λ (s : Spoke). IsBound g ((o + l) * (o + l)) v s) (sym roll.2)
+    (small_enters g o h l m v (is_steep j.quadrant (view_of a).start) j roll.0 size near roll.1)
 
 pub large_bound : (a : ArcShape) (g p q h k l v : ℕ) (joint : Spot) (b j first : Spoke) → HasJoint a g p (q + 1) v joint b j → IsRim g q h k l v →
     IsEnteredFrom g (limit_of q h) (view_of a).start (way_from g (view_of a).centre joint) j first → IsBound g (limit_of q l) v first

@@ -33,12 +33,14 @@ both_axes : (g s o bu bv yu yv : ℕ) → 0 < s → bu * bu + bv * bv ≤ s * s 
 both_axes g s o bu bv yu yv some round hu hv =
     let m = mul-le-mul_left (o * o) round in
     let a : (2 * (o * bu)) * (2 * (o * bu)) + (2 * (o * bv)) * (2 * (o * bv)) ≤ (2 * (o * s)) * (2 * (o * s)) = omega (arith, m) in
-    let c = sides_above (2 * (o * bu)) (2 * (o * bv)) (s * g) (s * g) (2 * (s * yu)) (2 * (s * yv)) (2 * (o * s)) (2 * (s * g)) hu hv a (twice_square (s * g)) in
+    let c = sides_above (2 * (o * bu)) (2 * (o * bv)) (s * g) (s * g) (2 * (s * yu)) (2 * (s * yv)) (2 * (o * s)) (2 * (s * g)) hu hv a
+    (twice_square (s * g)) in
     let d : ((2 * s) * (2 * s)) * (yu * yu + yv * yv) ≤ ((2 * s) * (2 * s)) * ((o + g) * (o + g)) = omega (arith, c) in
     le_of_mul-le-mul_left d (some_square s some)
 
 -- sizes on both axes that are no less than the part (t + g)/(p + 1) of bu and bv, but for half a step, add up to at least t
-both_axes_far : (g p t bu bv xu xv : ℕ) → 4 ≤ g → t + g ≤ p + 1 → p * p ≤ bu * bu + bv * bv → 2 * ((t + g) * bu) ≤ 2 * ((p + 1) * xu) + (p + 1) * g → 2 * ((t + g) * bv) ≤ 2 * ((p + 1) * xv) + (p + 1) * g →
+both_axes_far : (g p t bu bv xu xv : ℕ) → 4 ≤ g → t + g ≤ p + 1 → p * p ≤ bu * bu + bv * bv → 2 * ((t + g) * bu) ≤ 2 * ((p + 1) * xu) + (p + 1) * g →
+    2 * ((t + g) * bv) ≤ 2 * ((p + 1) * xv) + (p + 1) * g →
     t * t ≤ xu * xu + xv * xv
 both_axes_far g p t bu bv xu xv step inside low hu hv =
     let s = p + 1 in
@@ -46,14 +48,16 @@ both_axes_far g p t bu bv xu xv step inside low hu hv =
     let n = mul-le-mul_left (m * m) low in
     let a : (4 * (m * p)) * (4 * (m * p)) ≤ (4 * (m * bu)) * (4 * (m * bu)) + (4 * (m * bv)) * (4 * (m * bv)) = omega (arith, n) in
     let b : (2 * (s * g)) * (2 * (s * g)) + (2 * (s * g)) * (2 * (s * g)) ≤ (3 * (s * g)) * (3 * (s * g)) = omega arith in
-    let c = sides_below (4 * (m * bu)) (4 * (m * bv)) (2 * (s * g)) (2 * (s * g)) (4 * (s * xu)) (4 * (s * xv)) (4 * (m * p)) (3 * (s * g)) (omega (arith, hu)) (omega (arith, hv)) a b in
+    let c = sides_below (4 * (m * bu)) (4 * (m * bv)) (2 * (s * g)) (2 * (s * g)) (4 * (s * xu)) (4 * (s * xv)) (4 * (m * p)) (3 * (s * g)) (omega (arith, hu))
+    (omega (arith, hv)) a b in
     let d = mul-le-mul_left p step in
     let e : 4 * (s * t) ≤ 4 * (m * p) - 3 * (s * g) = omega (arith, d, inside, step) in
     let f = square_le (4 * (s * t)) (4 * (m * p) - 3 * (s * g)) e in
     let h : ((2 * s) * (2 * s)) * (t * t) ≤ ((2 * s) * (2 * s)) * (xu * xu + xv * xv) = omega (arith, f, c) in
     le_of_mul-le-mul_left h (some_square s (omega arith))
 
-no_nearer : (g s q m bu bv xu xv : ℕ) → 4 ≤ g → q + 1 ≡ s → m ≤ s → q * q ≤ bu * bu + bv * bv → 2 * (m * bu) ≤ 2 * (s * xu) + s * g → 2 * (m * bv) ≤ 2 * (s * xv) + s * g →
+no_nearer : (g s q m bu bv xu xv : ℕ) → 4 ≤ g → q + 1 ≡ s → m ≤ s → q * q ≤ bu * bu + bv * bv → 2 * (m * bu) ≤ 2 * (s * xu) + s * g →
+    2 * (m * bv) ≤ 2 * (s * xv) + s * g →
     (m - g) * (m - g) ≤ xu * xu + xv * xv
 no_nearer g s q m bu bv xu xv step es inside low hu hv =
     elim (cases_lt m g) [
@@ -89,44 +93,57 @@ pub record IsFirstPart (a : ArcShape) (g s r m o h : ℕ) (p j : Spot) : Type 0 
   pub moved_v : IsMoved g s r (view_of a).centre.v (view_of a).start.v j.v
 
 along_u : (a : ArcShape) (g s r m o h : ℕ) (p j : Spot) (k : ℕ) → IsFirstPart a g s r m o h p j →
-    IsFirstAxis g s m o h (unsigned_abs ((straight_place p.u j.u k *ℤ pos g) -ℤ (view_of a).centre.u)) (unsigned_abs (view_of a).start.u) (distance ((view_of a).centre.u +ℤ (view_of a).start.u) (straight_place p.u j.u k *ℤ pos g))
+    IsFirstAxis g s m o h (unsigned_abs ((straight_place p.u j.u k *ℤ pos g) -ℤ (view_of a).centre.u)) (unsigned_abs (view_of a).start.u)
+    (distance ((view_of a).centre.u +ℤ (view_of a).start.u) (straight_place p.u j.u k *ℤ pos g))
 along_u a g s r m o h p j k f = first_axis_near g s r m o h (view_of a).centre.u (view_of a).start.u p.u j.u k f.radii f.nearest.u f.moved_u
 
 along_v : (a : ArcShape) (g s r m o h : ℕ) (p j : Spot) (k : ℕ) → IsFirstPart a g s r m o h p j →
-    IsFirstAxis g s m o h (unsigned_abs ((straight_place p.v j.v k *ℤ pos g) -ℤ (view_of a).centre.v)) (unsigned_abs (view_of a).start.v) (distance ((view_of a).centre.v +ℤ (view_of a).start.v) (straight_place p.v j.v k *ℤ pos g))
+    IsFirstAxis g s m o h (unsigned_abs ((straight_place p.v j.v k *ℤ pos g) -ℤ (view_of a).centre.v)) (unsigned_abs (view_of a).start.v)
+    (distance ((view_of a).centre.v +ℤ (view_of a).start.v) (straight_place p.v j.v k *ℤ pos g))
 along_v a g s r m o h p j k f = first_axis_near g s r m o h (view_of a).centre.v (view_of a).start.v p.v j.v k f.radii f.nearest.v f.moved_v
 
 -- each point is at most h and a step from the start
-pub start_within : (a : ArcShape) (g s r m o h : ℕ) (p j : Spot) (k : ℕ) → IsFirstPart a g s r m o h p j → IsWithin (h + g) (start_of a) (laid g a.turn (straight_at p j k))
+pub start_within : (a : ArcShape) (g s r m o h : ℕ) (p j : Spot) (k : ℕ) → IsFirstPart a g s r m o h p j →
+    IsWithin (h + g) (start_of a) (laid g a.turn (straight_at p j k))
 start_within a g s r m o h p j k f =
     let u = along_u a g s r m o h p j k f in
     let v = along_v a g s r m o h p j k f in
-    let n = both_axes g s h (unsigned_abs (view_of a).start.u) (unsigned_abs (view_of a).start.v) (distance ((view_of a).centre.u +ℤ (view_of a).start.u) (straight_place p.u j.u k *ℤ pos g)) (distance ((view_of a).centre.v +ℤ (view_of a).start.v) (straight_place p.v j.v k *ℤ pos g)) f.radii.some f.root.square u.near v.near in
+    let n = both_axes g s h (unsigned_abs (view_of a).start.u) (unsigned_abs (view_of a).start.v)
+    (distance ((view_of a).centre.u +ℤ (view_of a).start.u) (straight_place p.u j.u k *ℤ pos g))
+    (distance ((view_of a).centre.v +ℤ (view_of a).start.v) (straight_place p.v j.v k *ℤ pos g)) f.radii.some f.root.square u.near v.near in
     omega (arith, n, start_apart a g (straight_at p j k))
 
 -- no farther from the centre than o and a step
-pub first_above : (a : ArcShape) (g s r m o h : ℕ) (p j : Spot) (k : ℕ) → IsFirstPart a g s r m o h p j → squared_distance a.centre (laid g a.turn (straight_at p j k)) ≤ (o + g) * (o + g)
+pub first_above : (a : ArcShape) (g s r m o h : ℕ) (p j : Spot) (k : ℕ) → IsFirstPart a g s r m o h p j →
+    squared_distance a.centre (laid g a.turn (straight_at p j k)) ≤ (o + g) * (o + g)
 first_above a g s r m o h p j k f =
     let u = along_u a g s r m o h p j k f in
     let v = along_v a g s r m o h p j k f in
-    let n = both_axes g s o (unsigned_abs (view_of a).start.u) (unsigned_abs (view_of a).start.v) (unsigned_abs ((straight_place p.u j.u k *ℤ pos g) -ℤ (view_of a).centre.u)) (unsigned_abs ((straight_place p.v j.v k *ℤ pos g) -ℤ (view_of a).centre.v)) f.radii.some f.root.square u.up v.up in
+    let n = both_axes g s o (unsigned_abs (view_of a).start.u) (unsigned_abs (view_of a).start.v)
+    (unsigned_abs ((straight_place p.u j.u k *ℤ pos g) -ℤ (view_of a).centre.u))
+    (unsigned_abs ((straight_place p.v j.v k *ℤ pos g) -ℤ (view_of a).centre.v)) f.radii.some f.root.square u.up v.up in
     omega (arith, n, centre_apart a g (straight_at p j k))
 
 -- and no nearer to it than m less a step
-pub first_below : (a : ArcShape) (g s r m o h : ℕ) (p j : Spot) (k : ℕ) → IsFirstPart a g s r m o h p j → (m - g) * (m - g) ≤ squared_distance a.centre (laid g a.turn (straight_at p j k))
+pub first_below : (a : ArcShape) (g s r m o h : ℕ) (p j : Spot) (k : ℕ) → IsFirstPart a g s r m o h p j →
+    (m - g) * (m - g) ≤ squared_distance a.centre (laid g a.turn (straight_at p j k))
 first_below a g s r m o h p j k f =
     let u = along_u a g s r m o h p j k f in
     let v = along_v a g s r m o h p j k f in
     let q = s - 1 in
     let e : q + 1 ≡ s = omega (arith, f.radii.some) in
     let low = ceil_low (squared (view_of a).start) s q f.root e in
-    let n = no_nearer g s q m (unsigned_abs (view_of a).start.u) (unsigned_abs (view_of a).start.v) (unsigned_abs ((straight_place p.u j.u k *ℤ pos g) -ℤ (view_of a).centre.u)) (unsigned_abs ((straight_place p.v j.v k *ℤ pos g) -ℤ (view_of a).centre.v)) (omega (arith, f.step)) e f.radii.m_s low u.down v.down in
+    let n = no_nearer g s q m (unsigned_abs (view_of a).start.u) (unsigned_abs (view_of a).start.v)
+    (unsigned_abs ((straight_place p.u j.u k *ℤ pos g) -ℤ (view_of a).centre.u))
+    (unsigned_abs ((straight_place p.v j.v k *ℤ pos g) -ℤ (view_of a).centre.v)) (omega (arith, f.step)) e f.radii.m_s low u.down v.down in
     omega (arith, n, centre_apart a g (straight_at p j k))
 
 -- ---- for an arc: the joint's radius r is between the arc's two, but for d
 
-pub first_part : (a : ArcShape) (g s r d : ℕ) (p j : Spot) → IsArc a → 500 ≤ g → IsRootCeil (squared (view_of a).start) s → inner_radius a ≤ r → r ≤ outer_radius a + d →
-    IsNearestSpot g (view_of a).centre (view_of a).start p → IsMoved g s r (view_of a).centre.u (view_of a).start.u j.u → IsMoved g s r (view_of a).centre.v (view_of a).start.v j.v →
+pub first_part : (a : ArcShape) (g s r d : ℕ) (p j : Spot) → IsArc a → 500 ≤ g → IsRootCeil (squared (view_of a).start) s → inner_radius a ≤ r →
+    r ≤ outer_radius a + d →
+    IsNearestSpot g (view_of a).centre (view_of a).start p → IsMoved g s r (view_of a).centre.u (view_of a).start.u j.u →
+    IsMoved g s r (view_of a).centre.v (view_of a).start.v j.v →
     IsFirstPart a g s r (inner_radius a) (outer_radius a + d) (spread a + d) p j
 first_part a g s r d p j arc step root inside outside nearest moved_u moved_v =
     let b = start_between a s arc root in
@@ -150,13 +167,16 @@ first_part a g s r d p j arc step root inside outside nearest moved_u moved_v =
     }
 
 -- each point of the first part is by the start
-pub first_by_end : (a : ArcShape) (g s r d : ℕ) (p j : Spot) (k : ℕ) → IsFirstPart a g s r (inner_radius a) (outer_radius a + d) (spread a + d) p j → IsByAnEnd a (g + spread a + d) (laid g a.turn (straight_at p j k))
+pub first_by_end : (a : ArcShape) (g s r d : ℕ) (p j : Spot) (k : ℕ) → IsFirstPart a g s r (inner_radius a) (outer_radius a + d) (spread a + d) p j →
+    IsByAnEnd a (g + spread a + d) (laid g a.turn (straight_at p j k))
 first_by_end a g s r d p j k f =
     let e : spread a + d + g ≡ g + spread a + d = omega arith in
-    inl (subst (λ n. IsWithin n (start_of a) (laid g a.turn (straight_at p j k))) e (start_within a g s r (inner_radius a) (outer_radius a + d) (spread a + d) p j k f))
+    inl (subst (λ n. IsWithin n (start_of a) (laid g a.turn (straight_at p j k))) e
+    (start_within a g s r (inner_radius a) (outer_radius a + d) (spread a + d) p j k f))
 
 -- and in the band
-pub first_in_band : (a : ArcShape) (g s r d w : ℕ) (p j : Spot) (k : ℕ) → IsFirstPart a g s r (inner_radius a) (outer_radius a + d) (spread a + d) p j → g + d ≤ w → IsInBand a w (laid g a.turn (straight_at p j k))
+pub first_in_band : (a : ArcShape) (g s r d w : ℕ) (p j : Spot) (k : ℕ) → IsFirstPart a g s r (inner_radius a) (outer_radius a + d) (spread a + d) p j →
+    g + d ≤ w → IsInBand a w (laid g a.turn (straight_at p j k))
 first_in_band a g s r d w p j k f wide =
     let i = square_le (inner_radius a - w) (inner_radius a - g) (omega (arith, wide)) in
     let o = square_le (outer_radius a + d + g) (outer_radius a + w) (omega (arith, wide)) in

@@ -27,7 +27,8 @@ pub scaled_place : (g s : ℕ) (p : ℤ) → p *ℤ pos (s * g) ≡ (p *ℤ pos 
 scaled_place g s (pos n) = let e : n * (s * g) ≡ n * g * s = omega arith in ap (λ m. pos m) e
 scaled_place g s (negsuc n) = let e : suc n * (s * g) ≡ suc n * g * s = omega arith in ap (λ m. neg_ℤ (pos m)) e ∙ sym (neg_times (suc n * g) s)
 
-apart : (c b p j : ℤ) (m : ℕ) → 2 * unsigned_abs ((c +ℤ b) -ℤ p) ≤ m → p ≡ j +ℤ c → (2 * unsigned_abs j ≤ 2 * unsigned_abs b + m) × (2 * unsigned_abs b ≤ 2 * unsigned_abs j + m)
+apart : (c b p j : ℤ) (m : ℕ) → 2 * unsigned_abs ((c +ℤ b) -ℤ p) ≤ m → p ≡ j +ℤ c →
+    (2 * unsigned_abs j ≤ 2 * unsigned_abs b + m) × (2 * unsigned_abs b ≤ 2 * unsigned_abs j + m)
 apart c b p j m near e = (omega (arith, ints, near, e), omega (arith, ints, near, e))
 
 pub moved_joint : (g s r : ℕ) (c b p : ℤ) → IsMoved g s r c b p → IsJoint g s r (unsigned_abs ((p *ℤ pos g) -ℤ c)) (unsigned_abs b)
@@ -52,6 +53,8 @@ from_there a c = omega (arith, ints)
 
 pub reach_apart : (g : ℕ) (c : Way) (p q : Spot) → 500 ≤ g → IsInReach g c p → IsInReach g c q → straight_moves p q ≤ 12000000
 reach_apart g c p q step hp hq =
-    let u = axis_apart g p.u q.u c.u ((p.u *ℤ pos g) -ℤ c.u) ((q.u *ℤ pos g) -ℤ c.u) step (from_there (p.u *ℤ pos g) c.u) (from_there (q.u *ℤ pos g) c.u) hp.u hq.u in
-    let v = axis_apart g p.v q.v c.v ((p.v *ℤ pos g) -ℤ c.v) ((q.v *ℤ pos g) -ℤ c.v) step (from_there (p.v *ℤ pos g) c.v) (from_there (q.v *ℤ pos g) c.v) hp.v hq.v in
+    let u = axis_apart g p.u q.u c.u ((p.u *ℤ pos g) -ℤ c.u) ((q.u *ℤ pos g) -ℤ c.u) step (from_there (p.u *ℤ pos g) c.u)
+    (from_there (q.u *ℤ pos g) c.u) hp.u hq.u in
+    let v = axis_apart g p.v q.v c.v ((p.v *ℤ pos g) -ℤ c.v) ((q.v *ℤ pos g) -ℤ c.v) step (from_there (p.v *ℤ pos g) c.v)
+    (from_there (q.v *ℤ pos g) c.v) hp.v hq.v in
     omega (arith, u, v)

@@ -1,5 +1,6 @@
 -- A last straight part of one or two moves: from a grid point less than 7/4 steps from the arc's end on both axes, and on one of them less than 3/2.
-use Rattle.std.proofs.Common.{◌≡◌, ℕ, zero, suc, ◌+◌, ◌-◌, ◌*◌, ◌<◌, ◌≤◌, ◌⊎◌, inl, inr, min, ℤ, pos, ◌+ℤ◌, ◌-ℤ◌, ◌*ℤ◌, ◌≤ℤ◌, unsigned_abs, arith, ap, sym, subst, ◌∙◌}
+use Rattle.std.proofs.Common.{◌≡◌, ℕ, zero, suc, ◌+◌, ◌-◌, ◌*◌, ◌<◌, ◌≤◌, ◌⊎◌, inl, inr, min, ℤ, pos, ◌+ℤ◌, ◌-ℤ◌, ◌*ℤ◌, ◌≤ℤ◌, unsigned_abs, arith, ap, sym}
+use Rattle.std.proofs.Common.{subst, ◌∙◌}
 use Rattle.std.proofs.lemmas.Bool.{cases_lt}
 use Rattle.std.proofs.lemmas.Int.{ints, by_lt_z}
 use Rattle.ngc_fixed_length.specs.Grid.{distance}
@@ -32,7 +33,8 @@ inside_up : (g m n : ℕ) (x y z : ℤ) → y ≡ x +ℤ pos (suc m) → z ≡ y
 inside_up g m n x y z e f = let a = scaled_by g (suc m) x y e in let b = scaled_by g (suc n) y z f in inr (inl (omega (arith, ints, a), omega (arith, ints, b)))
 
 inside_down : (g m n : ℕ) (x y z : ℤ) → x ≡ y +ℤ pos (suc m) → y ≡ z +ℤ pos (suc n) → IsInside g (x *ℤ pos g) (y *ℤ pos g) (z *ℤ pos g)
-inside_down g m n x y z e f = let a = scaled_by g (suc m) y x e in let b = scaled_by g (suc n) z y f in inr (inr (omega (arith, ints, a), omega (arith, ints, b)))
+inside_down g m n x y z e f = let a = scaled_by g (suc m) y x e in let b = scaled_by g (suc n) z y f in
+    inr (inr (omega (arith, ints, a), omega (arith, ints, b)))
 
 after_first : (g : ℕ) (a b : ℤ) (k : ℕ) → IsInside g (a *ℤ pos g) (straight_place a b (suc k) *ℤ pos g) (b *ℤ pos g)
 after_first g a b k =
@@ -71,14 +73,16 @@ pub record IsShortOf (g : ℕ) (c w : Way) (p : Spot) : Type 0 where
   pub one : (2 * distance (c.u +ℤ w.u) (p.u *ℤ pos g) < 3 * g) ⊎ (2 * distance (c.v +ℤ w.v) (p.v *ℤ pos g) < 3 * g)
 
 -- so is each point less than 3/2 steps from there on both axes
-pub beside_short : (g : ℕ) (c w : Way) (p : Spot) → 2 * distance (c.u +ℤ w.u) (p.u *ℤ pos g) < 3 * g → 2 * distance (c.v +ℤ w.v) (p.v *ℤ pos g) < 3 * g → IsShortOf g c w p
+pub beside_short : (g : ℕ) (c w : Way) (p : Spot) → 2 * distance (c.u +ℤ w.u) (p.u *ℤ pos g) < 3 * g → 2 * distance (c.v +ℤ w.v) (p.v *ℤ pos g) < 3 * g →
+    IsShortOf g c w p
 beside_short g c w p hu hv = record { u = omega (arith, hu); v = omega (arith, hv); one = inl hu }
 
 under_a_step : (x y g : ℕ) → 20 * x ≤ 17 * g → 2 * y ≤ g → x * x + y * y ≤ g * g
 under_a_step x y g hx hy = let a = square_le (20 * x) (17 * g) hx in let b = square_le (2 * y) g hy in omega (arith, a, b)
 
 -- after the first move from such a point l to the grid point e nearest to the end each point is at most a step from the end
-pub short_within : (a : ArcShape) (g : ℕ) (l e : Spot) (k : ℕ) → IsNearestSpot g (view_of a).centre (view_of a).end e → IsShortOf g (view_of a).centre (view_of a).end l →
+pub short_within : (a : ArcShape) (g : ℕ) (l e : Spot) (k : ℕ) → IsNearestSpot g (view_of a).centre (view_of a).end e →
+    IsShortOf g (view_of a).centre (view_of a).end l →
     IsWithin g (end_of a) (laid g a.turn (straight_at l e (suc k)))
 short_within a g l e k near short =
     let c = (view_of a).centre in
@@ -114,15 +118,18 @@ by_end_by_arc a g w p arc wide by =
     }
 
 -- where l is by the arc, all points are
-pub short_by_arc : (a : ArcShape) (g w : ℕ) (l e : Spot) (k : ℕ) → IsArc a → g ≤ w → IsNearestSpot g (view_of a).centre (view_of a).end e → IsShortOf g (view_of a).centre (view_of a).end l → IsByArc a g w (laid g a.turn l) →
+pub short_by_arc : (a : ArcShape) (g w : ℕ) (l e : Spot) (k : ℕ) → IsArc a → g ≤ w → IsNearestSpot g (view_of a).centre (view_of a).end e →
+    IsShortOf g (view_of a).centre (view_of a).end l → IsByArc a g w (laid g a.turn l) →
     IsByArc a g w (laid g a.turn (straight_at l e k))
 short_by_arc a g w l e zero arc wide near short first = subst (λ (p : Spot). IsByArc a g w (laid g a.turn p)) (sym (straight_starts l e)) first
 short_by_arc a g w l e (suc k) arc wide near short first = by_end_by_arc a g w (straight_at l e (suc k)) arc wide (inr (short_within a g l e k near short))
 
 -- and no move turns back away from the end
-pub short_goes_on : (a : ArcShape) (g : ℕ) (l e : Spot) (k : ℕ) → IsNearestSpot g (view_of a).centre (view_of a).end e → IsShortOf g (view_of a).centre (view_of a).end l →
+pub short_goes_on : (a : ArcShape) (g : ℕ) (l e : Spot) (k : ℕ) → IsNearestSpot g (view_of a).centre (view_of a).end e →
+    IsShortOf g (view_of a).centre (view_of a).end l →
     GoesOn a (4 * g + spread a) (laid g a.turn (straight_at l e k)) (laid g a.turn (straight_at l e (k + 1)))
 short_goes_on a g l e k near short =
     let same : suc k ≡ k + 1 = omega arith in
-    let by : IsWithin g (end_of a) (laid g a.turn (straight_at l e (k + 1))) = subst (λ n. IsWithin g (end_of a) (laid g a.turn (straight_at l e n))) same (short_within a g l e k near short) in
+    let by : IsWithin g (end_of a) (laid g a.turn (straight_at l e (k + 1))) =
+    subst (λ n. IsWithin g (end_of a) (laid g a.turn (straight_at l e n))) same (short_within a g l e k near short) in
     inr (inr (by_end_more a g (4 * g + spread a) (laid g a.turn (straight_at l e (k + 1))) (omega arith) (inr by)))

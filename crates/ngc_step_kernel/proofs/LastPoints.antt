@@ -49,39 +49,52 @@ back_across : (x z : ℕ) → unsigned_abs (neg_ℤ (pos x) -ℤ pos z) ≡ x + 
 back_across x z = omega (arith, ints, neg_is (pos x))
 
 around_same : (q : Quadrant) (x y z t : ℕ) → (let d = around q x y in let e = around q z t in
-    ((unsigned_abs (d.u -ℤ e.u) ≡ apart x z) × (unsigned_abs (d.v -ℤ e.v) ≡ apart y t)) ⊎ ((unsigned_abs (d.u -ℤ e.u) ≡ apart y t) × (unsigned_abs (d.v -ℤ e.v) ≡ apart x z)))
+    ((unsigned_abs (d.u -ℤ e.u) ≡ apart x z) × (unsigned_abs (d.v -ℤ e.v) ≡ apart y t)) ⊎
+    ((unsigned_abs (d.u -ℤ e.u) ≡ apart y t) × (unsigned_abs (d.v -ℤ e.v) ≡ apart x z)))
 around_same First x y z t = inl (ahead_off x z, ahead_off y t)
 around_same Second x y z t = inr (back_off y t, ahead_off x z)
 around_same Third x y z t = inl (back_off x z, back_off y t)
 around_same Fourth x y z t = inr (ahead_off y t, back_off x z)
 
 around_next : (q : Quadrant) (x y z t : ℕ) → (let d = around q x y in let e = around (following q) z t in
-    ((unsigned_abs (d.u -ℤ e.u) ≡ x + t) × (unsigned_abs (d.v -ℤ e.v) ≡ apart y z)) ⊎ ((unsigned_abs (d.u -ℤ e.u) ≡ apart y z) × (unsigned_abs (d.v -ℤ e.v) ≡ x + t)))
+    ((unsigned_abs (d.u -ℤ e.u) ≡ x + t) × (unsigned_abs (d.v -ℤ e.v) ≡ apart y z)) ⊎
+    ((unsigned_abs (d.u -ℤ e.u) ≡ apart y z) × (unsigned_abs (d.v -ℤ e.v) ≡ x + t)))
 around_next First x y z t = inl (ahead_across x t, ahead_off y z)
 around_next Second x y z t = inr (back_off y z, ahead_across x t)
 around_next Third x y z t = inl (back_across x t, back_off y z)
 around_next Fourth x y z t = inr (ahead_off y z, back_across x t)
 
 off_of : (g : ℕ) (c w : Way) (p : Spot) (s : Spoke) (d : Point2) (m n : ℕ) → IsAbout g (place_of c) p s → d ≡ place_of w →
-    (let a = around s.quadrant s.x s.y in ((unsigned_abs (a.u -ℤ d.u) ≡ m) × (unsigned_abs (a.v -ℤ d.v) ≡ n)) ⊎ ((unsigned_abs (a.u -ℤ d.u) ≡ n) × (unsigned_abs (a.v -ℤ d.v) ≡ m))) → IsOff g c w p m n
+    (let a = around s.quadrant s.x s.y in ((unsigned_abs (a.u -ℤ d.u) ≡ m) × (unsigned_abs (a.v -ℤ d.v) ≡ n)) ⊎
+    ((unsigned_abs (a.u -ℤ d.u) ≡ n) × (unsigned_abs (a.v -ℤ d.v) ≡ m))) → IsOff g c w p m n
 off_of g c w p s d m n about there off =
     let a = around s.quadrant s.x s.y in
     let u : d.u ≡ w.u = ap (λ (z : Point2). z.u) there in
     let v : d.v ≡ w.v = ap (λ (z : Point2). z.v) there in
     elim off [
-      | inl h ↦ inl (off_along c.u w.u (p.u *ℤ pos g) a.u m about.u (omega (arith, ints, u, h.0)), off_along c.v w.v (p.v *ℤ pos g) a.v n about.v (omega (arith, ints, v, h.1)))
-      | inr h ↦ inr (off_along c.u w.u (p.u *ℤ pos g) a.u n about.u (omega (arith, ints, u, h.0)), off_along c.v w.v (p.v *ℤ pos g) a.v m about.v (omega (arith, ints, v, h.1)))
+      | inl h ↦ inl (
+        off_along c.u w.u (p.u *ℤ pos g) a.u m about.u (omega (arith, ints, u, h.0)),
+        off_along c.v w.v (p.v *ℤ pos g) a.v n about.v (omega (arith, ints, v, h.1)),
+      )
+      | inr h ↦ inr (
+        off_along c.u w.u (p.u *ℤ pos g) a.u n about.u (omega (arith, ints, u, h.0)),
+        off_along c.v w.v (p.v *ℤ pos g) a.v m about.v (omega (arith, ints, v, h.1)),
+      )
     ]
 
 -- in one quadrant
-pub same_off : (g : ℕ) (c w : Way) (p : Spot) (s e : Spoke) → IsAbout g (place_of c) p s → around e.quadrant e.x e.y ≡ place_of w → s.quadrant ≡ e.quadrant → IsOff g c w p (apart s.x e.x) (apart s.y e.y)
+pub same_off : (g : ℕ) (c w : Way) (p : Spot) (s e : Spoke) → IsAbout g (place_of c) p s → around e.quadrant e.x e.y ≡ place_of w → s.quadrant ≡ e.quadrant →
+    IsOff g c w p (apart s.x e.x) (apart s.y e.y)
 same_off g c w p s e about end same =
-    off_of g c w p s (around s.quadrant e.x e.y) (apart s.x e.x) (apart s.y e.y) about (ap (λ (q : Quadrant). around q e.x e.y) same ∙ end) (around_same s.quadrant s.x s.y e.x e.y)
+    off_of g c w p s (around s.quadrant e.x e.y) (apart s.x e.x) (apart s.y e.y) about (ap (λ (q : Quadrant). around q e.x e.y) same ∙ end)
+    (around_same s.quadrant s.x s.y e.x e.y)
 
 -- the end in the next quadrant
-pub next_off : (g : ℕ) (c w : Way) (p : Spot) (s e : Spoke) → IsAbout g (place_of c) p s → around e.quadrant e.x e.y ≡ place_of w → e.quadrant ≡ following s.quadrant → IsOff g c w p (s.x + e.y) (apart s.y e.x)
+pub next_off : (g : ℕ) (c w : Way) (p : Spot) (s e : Spoke) → IsAbout g (place_of c) p s → around e.quadrant e.x e.y ≡ place_of w →
+    e.quadrant ≡ following s.quadrant → IsOff g c w p (s.x + e.y) (apart s.y e.x)
 next_off g c w p s e about end next =
-    off_of g c w p s (around (following s.quadrant) e.x e.y) (s.x + e.y) (apart s.y e.x) about (ap (λ (q : Quadrant). around q e.x e.y) (sym next) ∙ end) (around_next s.quadrant s.x s.y e.x e.y)
+    off_of g c w p s (around (following s.quadrant) e.x e.y) (s.x + e.y) (apart s.y e.x) about (ap (λ (q : Quadrant). around q e.x e.y) (sym next) ∙ end)
+    (around_next s.quadrant s.x s.y e.x e.y)
 
 -- ---- less than one and a half steps off on both axes, or fifteen squares of a step
 
@@ -92,7 +105,8 @@ off_short g c w p m n (inr off) hm hn = beside_short g c w p (omega (arith, off.
 square_sums : (x y m n : ℕ) → x ≡ m → y ≡ n → x * x + y * y ≡ m * m + n * n
 square_sums x y m n hx hy = ap (λ t. t * t + y * y) hx ∙ ap (λ t. m * m + t * t) hy
 
-pub off_apart : (a : ArcShape) (g : ℕ) (p : Spot) (m n : ℕ) → IsOff g (view_of a).centre (view_of a).end p m n → squared_distance (end_of a) (laid g a.turn p) ≡ m * m + n * n
+pub off_apart : (a : ArcShape) (g : ℕ) (p : Spot) (m n : ℕ) → IsOff g (view_of a).centre (view_of a).end p m n →
+    squared_distance (end_of a) (laid g a.turn p) ≡ m * m + n * n
 off_apart a g p m n off =
     let c = (view_of a).centre in
     let w = (view_of a).end in
@@ -112,24 +126,30 @@ pub large_last_short : (g : ℕ) (c w : Way) (p : Spot) (s e : Spoke) (here last
     (here ≡ last → s.quadrant ≡ e.quadrant) → (here + 1 ≡ last → e.quadrant ≡ following s.quadrant) →
     ((here ≡ last) × (IsBeside g s.x e.x × IsBeside g s.y e.y)) ⊎ ((here + 1 ≡ last) × ((2 * (s.x + e.y) < 3 * g) × IsBeside g s.y e.x)) → IsShortOf g c w p
 large_last_short g c w p s e here last about end same next near = elim near [
-  | inl one ↦ off_short g c w p (apart s.x e.x) (apart s.y e.y) (same_off g c w p s e about end (same one.0)) (beside_apart g s.x e.x one.1.0) (beside_apart g s.y e.y one.1.1)
+  | inl one ↦ off_short g c w p (apart s.x e.x) (apart s.y e.y) (same_off g c w p s e about end (same one.0)) (beside_apart g s.x e.x one.1.0)
+      (beside_apart g s.y e.y one.1.1)
   | inr two ↦ off_short g c w p (s.x + e.y) (apart s.y e.x) (next_off g c w p s e about end (next two.0)) two.1.0 (beside_apart g s.y e.x two.1.1)
 ]
 
-pub small_last_near : (a : ArcShape) (g : ℕ) (p : Spot) (s e : Spoke) (here last : ℕ) → IsAbout g (place_of (view_of a).centre) p s → around e.quadrant e.x e.y ≡ place_of (view_of a).end →
+pub small_last_near : (a : ArcShape) (g : ℕ) (p : Spot) (s e : Spoke) (here last : ℕ) → IsAbout g (place_of (view_of a).centre) p s →
+    around e.quadrant e.x e.y ≡ place_of (view_of a).end →
     (here ≡ last → s.quadrant ≡ e.quadrant) → (here + 1 ≡ last → e.quadrant ≡ following s.quadrant) →
-    ((here ≡ last) × (apart s.x e.x * apart s.x e.x + apart s.y e.y * apart s.y e.y ≤ 15 * (g * g))) ⊎ ((here + 1 ≡ last) × ((s.x + e.y) * (s.x + e.y) + apart s.y e.x * apart s.y e.x ≤ 15 * (g * g))) →
+    ((here ≡ last) × (apart s.x e.x * apart s.x e.x + apart s.y e.y * apart s.y e.y ≤ 15 * (g * g))) ⊎
+    ((here + 1 ≡ last) × ((s.x + e.y) * (s.x + e.y) + apart s.y e.x * apart s.y e.x ≤ 15 * (g * g))) →
     squared_distance (end_of a) (laid g a.turn p) ≤ 15 * (g * g)
 small_last_near a g p s e here last about end same next near =
     let c = (view_of a).centre in
     let w = (view_of a).end in
     elim near [
-      | inl one ↦ (let h = off_apart a g p (apart s.x e.x) (apart s.y e.y) (same_off g c w p s e about end (same one.0)) in subst (λ t. t ≤ 15 * (g * g)) (sym h) one.1)
-      | inr two ↦ (let h = off_apart a g p (s.x + e.y) (apart s.y e.x) (next_off g c w p s e about end (next two.0)) in subst (λ t. t ≤ 15 * (g * g)) (sym h) two.1)
+      | inl one ↦ (let h = off_apart a g p (apart s.x e.x) (apart s.y e.y) (same_off g c w p s e about end (same one.0)) in
+          subst (λ t. t ≤ 15 * (g * g)) (sym h) one.1)
+      | inr two ↦ (let h = off_apart a g p (s.x + e.y) (apart s.y e.x) (next_off g c w p s e about end (next two.0)) in
+          subst (λ t. t ≤ 15 * (g * g)) (sym h) two.1)
     ]
 
 -- the quadrants of a walk's last point and of the end
-pub last_quadrants : (a : ArcShape) (g limit n : ℕ) (at : ℕ → Spoke) (quadrant : ℕ → ℕ) (b e : Spoke) (begun left : ℕ) → IsWalk a g limit n at quadrant b e begun left →
+pub last_quadrants : (a : ArcShape) (g limit n : ℕ) (at : ℕ → Spoke) (quadrant : ℕ → ℕ) (b e : Spoke) (begun left : ℕ) →
+    IsWalk a g limit n at quadrant b e begun left →
     (quadrant n ≡ left → (at n).quadrant ≡ e.quadrant) × (quadrant n + 1 ≡ left → e.quadrant ≡ following (at n).quadrant)
 last_quadrants a g limit n at quadrant b e begun left w =
     let first = (at 0).quadrant in

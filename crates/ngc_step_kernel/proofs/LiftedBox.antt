@@ -45,10 +45,12 @@ above_fits z l g some h =
     let p = below_fits (neg_ℤ z) (neg_ℤ l) g some (omega (arith, ints, h, a, b, neg_times z (pos g))) in
     omega (arith, ints, p, neg_is z, neg_is (grid_below (pos g) (neg_ℤ l)))
 
-low_held : (g : ℕ) (a : ArcShape) (f : Point2 → ℤ) (z : ℤ) → 0 < g → (least f (start_of a) (other_points a) -ℤ pos (2 * g + spread a)) ≤ℤ (z *ℤ pos g) → low_at (pos g) a f ≤ℤ z
+low_held : (g : ℕ) (a : ArcShape) (f : Point2 → ℤ) (z : ℤ) → 0 < g → (least f (start_of a) (other_points a) -ℤ pos (2 * g + spread a)) ≤ℤ (z *ℤ pos g) →
+    low_at (pos g) a f ≤ℤ z
 low_held g a f z some h = above_fits z (least f (start_of a) (other_points a) -ℤ margin (pos g) a) g some (omega (arith, ints, h))
 
-high_held : (g : ℕ) (a : ArcShape) (f : Point2 → ℤ) (z : ℤ) → 0 < g → (z *ℤ pos g) ≤ℤ (greatest f (start_of a) (other_points a) +ℤ pos (2 * g + spread a)) → z ≤ℤ high_at (pos g) a f
+high_held : (g : ℕ) (a : ArcShape) (f : Point2 → ℤ) (z : ℤ) → 0 < g → (z *ℤ pos g) ≤ℤ (greatest f (start_of a) (other_points a) +ℤ pos (2 * g + spread a)) →
+    z ≤ℤ high_at (pos g) a f
 high_held g a f z some h = below_fits z (greatest f (start_of a) (other_points a) +ℤ margin (pos g) a) g some (omega (arith, ints, h))
 
 -- ---- the third axis
@@ -65,7 +67,8 @@ line_held n k a b le room = toward_held a b (steps n k (distance a b)) (steps-wi
 
 -- ---- all three
 
-space_between : (plane : Plane) (t : Turn) (q : Spot) (h u v w u' v' w' : ℤ) → u ≤ℤ q.u → q.u ≤ℤ u' → v ≤ℤ turned t q.v → turned t q.v ≤ℤ v' → w ≤ℤ h → h ≤ℤ w' →
+space_between : (plane : Plane) (t : Turn) (q : Spot) (h u v w u' v' w' : ℤ) → u ≤ℤ q.u → q.u ≤ℤ u' → v ≤ℤ turned t q.v → turned t q.v ≤ℤ v' →
+    w ≤ℤ h → h ≤ℤ w' →
     IsBetween (grid_at plane u v w) (grid_at plane u' v' w') (in_space plane t q h)
 space_between XY t q h u v w u' v' w' lu hu lv hv lw hw = record { x_low = lu; x_high = hu; y_low = lv; y_high = hv; z_low = lw; z_high = hw }
 space_between ZX t q h u v w u' v' w' lu hu lv hv lw hw = record { x_low = lv; x_high = hv; y_low = lw; y_high = hw; z_low = lu; z_high = hu }

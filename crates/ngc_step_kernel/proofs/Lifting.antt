@@ -1,5 +1,6 @@
 -- A course that follows an arc in its plane gives, lifted to three axes, a path that follows the arc.
-use Rattle.std.proofs.Common.{◌≡◌, ℕ, zero, suc, ◌+◌, ◌-◌, ◌*◌, ◌/◌, ◌%◌, ◌<◌, ◌≤◌, max, ◌⊎◌, inl, inr, refl, sym, ◌∙◌, ap, subst, arith, ℤ, pos, negsuc, ◌*ℤ◌, ◌≤ℤ◌, unsigned_abs, List}
+use Rattle.std.proofs.Common.{◌≡◌, ℕ, zero, suc, ◌+◌, ◌-◌, ◌*◌, ◌/◌, ◌%◌, ◌<◌, ◌≤◌, max, ◌⊎◌, inl, inr, refl, sym, ◌∙◌, ap, subst, arith, ℤ, pos, negsuc, ◌*ℤ◌}
+use Rattle.std.proofs.Common.{◌≤ℤ◌, unsigned_abs, List}
 use Rattle.std.proofs.lemmas.Bool.{cases_lt}
 use Rattle.std.proofs.lemmas.Int.{ints}
 use Rattle.std.proofs.lemmas.Nat.{div-mul-add, div-add-mod', mod_below, le-div}
@@ -47,7 +48,8 @@ seen_in XY t g q h = ap (λ (v : ℤ). record { u = q.u *ℤ pos g; v = v }) (tu
 seen_in ZX t g q h = ap (λ (v : ℤ). record { u = q.u *ℤ pos g; v = v }) (turned_times t q.v g)
 seen_in YZ t g q h = ap (λ (v : ℤ). record { u = q.u *ℤ pos g; v = v }) (turned_times t q.v g)
 
-high_in : (plane : Plane) (t : Turn) (q : Spot) (h : ℤ) → height plane (record { x = (in_space plane t q h).x; y = (in_space plane t q h).y; z = (in_space plane t q h).z }) ≡ h
+high_in : (plane : Plane) (t : Turn) (q : Spot) (h : ℤ) →
+    height plane (record { x = (in_space plane t q h).x; y = (in_space plane t q h).y; z = (in_space plane t q h).z }) ≡ h
 high_in XY t q h = refl
 high_in ZX t q h = refl
 high_in YZ t q h = refl
@@ -59,12 +61,14 @@ laid_at g t p j = laid g t (course_at p j)
 pub seen_round : (g : ℕ) (a : ArcShape) (p : Plan) (n : ℕ) (low high : ℤ) (k : ℕ) → k ≤ n →
     seen (pos g) a (point (round_points a.plane a.turn p n low high) k) ≡ laid_at g a.turn p (course_place n p k)
 seen_round g a p n low high k le =
-    ap (λ (q : StepPos). seen (pos g) a q) (point-round a.plane a.turn p n low high k le) ∙ seen_in a.plane a.turn g (course_at p (course_place n p k)) (line_place n k low high)
+    ap (λ (q : StepPos). seen (pos g) a q) (point-round a.plane a.turn p n low high k le)
+    ∙ seen_in a.plane a.turn g (course_at p (course_place n p k)) (line_place n k low high)
 
 pub high_round : (a : ArcShape) (p : Plan) (n : ℕ) (low high : ℤ) (k : ℕ) → k ≤ n →
     height_of a (point (round_points a.plane a.turn p n low high) k) ≡ line_place n k low high
 high_round a p n low high k le =
-    ap (λ (q : StepPos). height_of a q) (point-round a.plane a.turn p n low high k le) ∙ high_in a.plane a.turn (course_at p (course_place n p k)) (line_place n k low high)
+    ap (λ (q : StepPos). height_of a q) (point-round a.plane a.turn p n low high k le)
+    ∙ high_in a.plane a.turn (course_at p (course_place n p k)) (line_place n k low high)
 
 -- ---- no move of the path turns back where none of the course does
 
@@ -78,7 +82,8 @@ turning_none Clockwise z e = omega (arith, ints, e, neg_is z)
 stays_on : (a : ArcShape) (d : ℕ) (p : Point2) → GoesOn a d p p
 stays_on a d p = inl (turning_none a.turn (cross (from a.centre p) (from a.centre p)) (cross_self (from a.centre p)))
 
-goes_on : (a : ArcShape) (d n : ℕ) (f : ℕ → Point2) (i j : ℕ) → ((k : ℕ) → k < n → GoesOn a d (f k) (f (k + 1))) → j ≤ n → (j ≡ i) ⊎ (j ≡ i + 1) → GoesOn a d (f i) (f j)
+goes_on : (a : ArcShape) (d n : ℕ) (f : ℕ → Point2) (i j : ℕ) → ((k : ℕ) → k < n → GoesOn a d (f k) (f (k + 1))) → j ≤ n → (j ≡ i) ⊎ (j ≡ i + 1) →
+    GoesOn a d (f i) (f j)
 goes_on a d n f i j on room (inl same) = rw same (stays_on a d (f i))
 goes_on a d n f i j on room (inr next) = rw next (on i (omega (arith, next, room)))
 
@@ -102,7 +107,8 @@ first_on n m zero some fits =
     ap (λ t. steps n t m) none ∙ steps-zero n m
 first_on n m (suc j) some fits =
     let all = 2 * (suc j * n) + 2 * m - (n + 1) in
-    on_place n m j (all / (2 * m)) (all % (2 * m)) all fits (omega (arith, some, fits)) (omega (arith, div-add-mod' all (2 * m))) (mod_below all (2 * m) (omega (arith, some)))
+    on_place n m j (all / (2 * m)) (all % (2 * m)) all fits (omega (arith, some, fits)) (omega (arith, div-add-mod' all (2 * m)))
+    (mod_below all (2 * m) (omega (arith, some)))
 
 first_up : (n m i j : ℕ) → 0 < m → i ≤ j → first_place n m i ≤ first_place n m j
 first_up n m i j some le =
@@ -120,7 +126,8 @@ first_room n m some =
       | inr fine ↦ fine
     ]
 
-passes_shared : (f longer : ℕ → Point2) (n m d : ℕ) (qs : List Point2) → m ≤ n → ((k : ℕ) → k ≤ n → longer k ≡ f (steps n k m)) → Passes f m d 0 qs → Passes longer n d 0 qs
+passes_shared : (f longer : ℕ → Point2) (n m d : ℕ) (qs : List Point2) → m ≤ n → ((k : ℕ) → k ≤ n → longer k ≡ f (steps n k m)) → Passes f m d 0 qs →
+    Passes longer n d 0 qs
 passes_shared f longer n zero d qs fits same h =
     passes_along f longer (λ j. 0) 0 n d 0 qs
     (λ j le. same 0 (omega arith) ∙ ap f (let z = steps-zero n 0 in omega (arith, z, le)))
@@ -135,7 +142,8 @@ passes_shared f longer n (suc m) d qs fits same h =
 
 -- ---- all of it
 
-lifts_by : (g : ℕ) (a : ArcShape) (p : Plan) (n : ℕ) (low high : ℤ) → 0 < g → low ≡ start_height (pos g) a → high ≡ end_height (pos g) a → n ≡ max p.moves (distance low high) →
+lifts_by : (g : ℕ) (a : ArcShape) (p : Plan) (n : ℕ) (low high : ℤ) → 0 < g → low ≡ start_height (pos g) a → high ≡ end_height (pos g) a →
+    n ≡ max p.moves (distance low high) →
     FollowsInPlane a g p.moves (laid_at g a.turn p) →
     IsUnitPath (grid (pos g) a.start) (grid (pos g) a.end) n (round_points a.plane a.turn p n low high) →
     IsArcOf (pos g) a n (round_points a.plane a.turn p n low high)
@@ -143,28 +151,33 @@ lifts_by g a p n low high some starts ends size follows path =
     let fits : p.moves ≤ n = omega (arith, size) in
     let room : distance low high ≤ n = omega (arith, size) in
     let there = seen_round g a p n low high in
-    let near : (k : ℕ) → k ≤ n → IsByArc a g (leeway (pos g) a) (laid_at g a.turn p (course_place n p k)) = λ k le. follows.near (course_place n p k) (steps-within n k p.moves le fits) in
+    let near : (k : ℕ) → k ≤ n → IsByArc a g (leeway (pos g) a) (laid_at g a.turn p (course_place n p k)) =
+    λ k le. follows.near (course_place n p k) (steps-within n k p.moves le fits) in
     let weak : IsWeakArcOf (pos g) a n (round_points a.plane a.turn p n low high) = record {
       count = path.count;
       starts = path.starts;
       ends = path.ends;
       unit_moves = path.unit_moves;
-      inside = λ k le. rw (point-round a.plane a.turn p n low high k le) (lifted_inside g a (course_at p (course_place n p k)) n k low high some (near k le).box starts ends le room);
+      inside = λ k le. rw (point-round a.plane a.turn p n low high k le)
+          (lifted_inside g a (course_at p (course_place n p k)) n k low high some (near k le).box starts ends le room);
     } in
     record {
       weak = weak;
       band = λ k le. subst (λ (q : Point2). IsInBand a (leeway (pos g) a) q) (sym (there k le)) (near k le).band;
       sector = λ k le. subst (λ (q : Point2). IsBetweenEnds a (leeway (pos g) a + spread a) q) (sym (there k le)) (near k le).sector;
-      order = passes_shared (laid_at g a.turn p) (λ k. seen (pos g) a (point (round_points a.plane a.turn p n low high) k)) n p.moves (leeway (pos g) a + g + spread a) (extremes a) fits there follows.order;
+      order = passes_shared (laid_at g a.turn p) (λ k. seen (pos g) a (point (round_points a.plane a.turn p n low high) k)) n p.moves
+          (leeway (pos g) a + g + spread a) (extremes a) fits there follows.order;
       onward = λ k less. (
           let next = steps-next n k p.moves (omega (arith, less)) fits in
-          let on = goes_on a (4 * g + spread a) p.moves (laid_at g a.turn p) (course_place n p k) (course_place n p (k + 1)) follows.onward (steps-within n (k + 1) p.moves (omega (arith, less)) fits) (stay_or_go _ _ next.0 next.1) in
+          let on = goes_on a (4 * g + spread a) p.moves (laid_at g a.turn p) (course_place n p k) (course_place n p (k + 1)) follows.onward
+          (steps-within n (k + 1) p.moves (omega (arith, less)) fits) (stay_or_go _ _ next.0 next.1) in
           let e = there k (omega (arith, less)) in
           let f = there (k + 1) (omega (arith, less)) in
           subst (λ (q : Point2). GoesOn a (4 * g + spread a) q (seen (pos g) a (point (round_points a.plane a.turn p n low high) (k + 1)))) (sym e) (
           subst (λ (q : Point2). GoesOn a (4 * g + spread a) (laid_at g a.turn p (course_place n p k)) q) (sym f) on));
       rises = axis_follows n g (height a.plane a.start) (height a.plane a.end) (λ k. height_of a (point (round_points a.plane a.turn p n low high) k)) some
-          (λ k le. high_round a p n low high k le ∙ ap (λ (z : ℤ). line_place n k z high) starts ∙ ap (λ (z : ℤ). line_place n k (start_height (pos g) a) z) ends);
+          (λ k le. high_round a p n low high k le ∙ ap (λ (z : ℤ). line_place n k z high) starts
+          ∙ ap (λ (z : ℤ). line_place n k (start_height (pos g) a) z) ends);
       short = (
           let few : n ≤ p.moves + distance low high = omega (arith, size) in
           let scaled = mul-le-mul_left g few in

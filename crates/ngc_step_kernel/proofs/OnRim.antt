@@ -28,10 +28,12 @@ use Rattle.ngc_step_kernel.proofs.LineLemmas.{scale-sum}
 pub below_on : (g limit u : ℕ) (s : Spoke) (k : ℕ) → limit ≤ u * u → 2 * (g * g) ≤ u * u → IsBelow g (u * u) s → IsBelow g (u * u) (spoke_at g limit s k)
 unfolding spoke_at
 below_on g limit u s zero more room first = first
-below_on g limit u s (suc k) more room first = rolls_below g limit (u * u) (spoke_at g limit s k) (next_roll g limit (spoke_at g limit s k)) more room (below_on g limit u s k more room first) (next_is_due g limit (spoke_at g limit s k))
+below_on g limit u s (suc k) more room first = rolls_below g limit (u * u) (spoke_at g limit s k) (next_roll g limit (spoke_at g limit s k)) more room
+    (below_on g limit u s k more room first) (next_is_due g limit (spoke_at g limit s k))
 
 -- so all its coordinates fit
-pub small_on : (g limit u : ℕ) (s : Spoke) (k : ℕ) → limit ≤ u * u → 2 * (g * g) ≤ u * u → IsBelow g (u * u) s → u + g ≤ 3000000000 → IsSmall (spoke_at g limit s k)
+pub small_on : (g limit u : ℕ) (s : Spoke) (k : ℕ) → limit ≤ u * u → 2 * (g * g) ≤ u * u → IsBelow g (u * u) s → u + g ≤ 3000000000 →
+    IsSmall (spoke_at g limit s k)
 small_on g limit u s k more room first far =
     let near = within_reach g u (spoke_at g limit s k) (below_on g limit u s k more room first) in
     record { x = omega (arith, near.0); y = omega (arith, near.1) }
@@ -54,23 +56,40 @@ scaled_step g a m = rw (← step_scaled g m) (scale-sum g a (steps_of m))
 abbrev spoke_of : Quadrant → ℕ → ℕ → Spoke
 spoke_of q x y = record { quadrant = q; x = x; y = y }
 
-pub about_rolls : (g : ℕ) (c : Point2) (p : Spot) (q : Quadrant) (x y : ℕ) (r : Roll) → IsAbout g c p (spoke_of q x y) → CanRoll g (spoke_of q x y) r → IsAbout g c (spot_moved p (roll_move r q)) (rolled g r (spoke_of q x y))
-about_rolls g c p First x y Outward h roll = record { u = omega (arith, ints, scaled_step g p.u Stay, h.u); v = omega (arith, ints, scaled_step g p.v Forward, h.v) }
-about_rolls g c p Second x y Outward h roll = record { u = omega (arith, ints, scaled_step g p.u Back, h.u); v = omega (arith, ints, scaled_step g p.v Stay, h.v) }
-about_rolls g c p Third x y Outward h roll = record { u = omega (arith, ints, scaled_step g p.u Stay, h.u); v = omega (arith, ints, scaled_step g p.v Back, h.v) }
-about_rolls g c p Fourth x y Outward h roll = record { u = omega (arith, ints, scaled_step g p.u Forward, h.u); v = omega (arith, ints, scaled_step g p.v Stay, h.v) }
-about_rolls g c p First x y Diagonal h roll = record { u = omega (arith, ints, scaled_step g p.u Back, h.u, roll); v = omega (arith, ints, scaled_step g p.v Forward, h.v, roll) }
-about_rolls g c p Second x y Diagonal h roll = record { u = omega (arith, ints, scaled_step g p.u Back, h.u, roll); v = omega (arith, ints, scaled_step g p.v Back, h.v, roll) }
-about_rolls g c p Third x y Diagonal h roll = record { u = omega (arith, ints, scaled_step g p.u Forward, h.u, roll); v = omega (arith, ints, scaled_step g p.v Back, h.v, roll) }
-about_rolls g c p Fourth x y Diagonal h roll = record { u = omega (arith, ints, scaled_step g p.u Forward, h.u, roll); v = omega (arith, ints, scaled_step g p.v Forward, h.v, roll) }
-about_rolls g c p First x y Inward h roll = record { u = omega (arith, ints, scaled_step g p.u Back, h.u, roll); v = omega (arith, ints, scaled_step g p.v Stay, h.v, roll) }
-about_rolls g c p Second x y Inward h roll = record { u = omega (arith, ints, scaled_step g p.u Stay, h.u, roll); v = omega (arith, ints, scaled_step g p.v Back, h.v, roll) }
-about_rolls g c p Third x y Inward h roll = record { u = omega (arith, ints, scaled_step g p.u Forward, h.u, roll); v = omega (arith, ints, scaled_step g p.v Stay, h.v, roll) }
-about_rolls g c p Fourth x y Inward h roll = record { u = omega (arith, ints, scaled_step g p.u Stay, h.u, roll); v = omega (arith, ints, scaled_step g p.v Forward, h.v, roll) }
-about_rolls g c p First x y Over h roll = record { u = omega (arith, ints, scaled_step g p.u Back, h.u, roll); v = omega (arith, ints, scaled_step g p.v Stay, h.v, roll) }
-about_rolls g c p Second x y Over h roll = record { u = omega (arith, ints, scaled_step g p.u Stay, h.u, roll); v = omega (arith, ints, scaled_step g p.v Back, h.v, roll) }
-about_rolls g c p Third x y Over h roll = record { u = omega (arith, ints, scaled_step g p.u Forward, h.u, roll); v = omega (arith, ints, scaled_step g p.v Stay, h.v, roll) }
-about_rolls g c p Fourth x y Over h roll = record { u = omega (arith, ints, scaled_step g p.u Stay, h.u, roll); v = omega (arith, ints, scaled_step g p.v Forward, h.v, roll) }
+pub about_rolls : (g : ℕ) (c : Point2) (p : Spot) (q : Quadrant) (x y : ℕ) (r : Roll) → IsAbout g c p (spoke_of q x y) → CanRoll g (spoke_of q x y) r →
+    IsAbout g c (spot_moved p (roll_move r q)) (rolled g r (spoke_of q x y))
+about_rolls g c p First x y Outward h roll =
+    record { u = omega (arith, ints, scaled_step g p.u Stay, h.u); v = omega (arith, ints, scaled_step g p.v Forward, h.v) }
+about_rolls g c p Second x y Outward h roll =
+    record { u = omega (arith, ints, scaled_step g p.u Back, h.u); v = omega (arith, ints, scaled_step g p.v Stay, h.v) }
+about_rolls g c p Third x y Outward h roll =
+    record { u = omega (arith, ints, scaled_step g p.u Stay, h.u); v = omega (arith, ints, scaled_step g p.v Back, h.v) }
+about_rolls g c p Fourth x y Outward h roll =
+    record { u = omega (arith, ints, scaled_step g p.u Forward, h.u); v = omega (arith, ints, scaled_step g p.v Stay, h.v) }
+about_rolls g c p First x y Diagonal h roll =
+    record { u = omega (arith, ints, scaled_step g p.u Back, h.u, roll); v = omega (arith, ints, scaled_step g p.v Forward, h.v, roll) }
+about_rolls g c p Second x y Diagonal h roll =
+    record { u = omega (arith, ints, scaled_step g p.u Back, h.u, roll); v = omega (arith, ints, scaled_step g p.v Back, h.v, roll) }
+about_rolls g c p Third x y Diagonal h roll =
+    record { u = omega (arith, ints, scaled_step g p.u Forward, h.u, roll); v = omega (arith, ints, scaled_step g p.v Back, h.v, roll) }
+about_rolls g c p Fourth x y Diagonal h roll =
+    record { u = omega (arith, ints, scaled_step g p.u Forward, h.u, roll); v = omega (arith, ints, scaled_step g p.v Forward, h.v, roll) }
+about_rolls g c p First x y Inward h roll =
+    record { u = omega (arith, ints, scaled_step g p.u Back, h.u, roll); v = omega (arith, ints, scaled_step g p.v Stay, h.v, roll) }
+about_rolls g c p Second x y Inward h roll =
+    record { u = omega (arith, ints, scaled_step g p.u Stay, h.u, roll); v = omega (arith, ints, scaled_step g p.v Back, h.v, roll) }
+about_rolls g c p Third x y Inward h roll =
+    record { u = omega (arith, ints, scaled_step g p.u Forward, h.u, roll); v = omega (arith, ints, scaled_step g p.v Stay, h.v, roll) }
+about_rolls g c p Fourth x y Inward h roll =
+    record { u = omega (arith, ints, scaled_step g p.u Stay, h.u, roll); v = omega (arith, ints, scaled_step g p.v Forward, h.v, roll) }
+about_rolls g c p First x y Over h roll =
+    record { u = omega (arith, ints, scaled_step g p.u Back, h.u, roll); v = omega (arith, ints, scaled_step g p.v Stay, h.v, roll) }
+about_rolls g c p Second x y Over h roll =
+    record { u = omega (arith, ints, scaled_step g p.u Stay, h.u, roll); v = omega (arith, ints, scaled_step g p.v Back, h.v, roll) }
+about_rolls g c p Third x y Over h roll =
+    record { u = omega (arith, ints, scaled_step g p.u Forward, h.u, roll); v = omega (arith, ints, scaled_step g p.v Stay, h.v, roll) }
+about_rolls g c p Fourth x y Over h roll =
+    record { u = omega (arith, ints, scaled_step g p.u Stay, h.u, roll); v = omega (arith, ints, scaled_step g p.v Forward, h.v, roll) }
 
 can_of : (g limit : ℕ) (s : Spoke) (r : Roll) → IsRoll g limit s r → CanRoll g s r
 can_of g limit s Over h = omega (arith, h)
@@ -83,7 +102,8 @@ unfolding spoke_at round_at
 about_on g limit c s p zero first = first
 about_on g limit c s p (suc k) first =
     let w = spoke_at g limit s k in
-    about_rolls g c (round_at g limit s p k) w.quadrant w.x w.y (next_roll g limit w) (about_on g limit c s p k first) (can_of g limit w (next_roll g limit w) (next_is_due g limit w))
+    about_rolls g c (round_at g limit s p k) w.quadrant w.x w.y (next_roll g limit w) (about_on g limit c s p k first)
+    (can_of g limit w (next_roll g limit w) (next_is_due g limit w))
 
 -- ---- and how far out
 
@@ -91,7 +111,8 @@ place_small : (a : ℤ) (g b : ℕ) → 500 ≤ g → unsigned_abs (a *ℤ pos g
 place_small (pos n) g b h e = omega (arith, ints, mul-le-mul_left n h, e)
 place_small (negsuc n) g b h e = omega (arith, ints, mul-le-mul_left (suc n) h, e)
 
-pub around_small : (q : Quadrant) (x y : ℕ) → x ≤ 3000000000 → y ≤ 3000000000 → (unsigned_abs (around q x y).u ≤ 3000000000) × (unsigned_abs (around q x y).v ≤ 3000000000)
+pub around_small : (q : Quadrant) (x y : ℕ) → x ≤ 3000000000 → y ≤ 3000000000 →
+    (unsigned_abs (around q x y).u ≤ 3000000000) × (unsigned_abs (around q x y).v ≤ 3000000000)
 around_small First x y a b = (omega (arith, ints), omega (arith, ints))
 around_small Second x y a b = (omega (arith, ints), omega (arith, ints))
 around_small Third x y a b = (omega (arith, ints), omega (arith, ints))
@@ -100,7 +121,8 @@ around_small Fourth x y a b = (omega (arith, ints), omega (arith, ints))
 sum_small : (a b c : ℤ) → a ≡ b +ℤ c → unsigned_abs b ≤ 93000000000 → unsigned_abs c ≤ 3000000000 → unsigned_abs a ≤ 96000000000
 sum_small a b c e hb hc = omega (arith, ints, e)
 
-pub about_small : (g : ℕ) (c : Point2) (p : Spot) (s : Spoke) → 500 ≤ g → unsigned_abs c.u ≤ 93000000000 → unsigned_abs c.v ≤ 93000000000 → IsAbout g c p s → IsSmall s → IsSpot p
+pub about_small : (g : ℕ) (c : Point2) (p : Spot) (s : Spoke) → 500 ≤ g → unsigned_abs c.u ≤ 93000000000 → unsigned_abs c.v ≤ 93000000000 → IsAbout g c p s →
+    IsSmall s → IsSpot p
 about_small g c p s step cu cv h small =
     let a = around_small s.quadrant s.x s.y small.x small.y in
     let u = place_small p.u g 96000000000 step (sum_small (p.u *ℤ pos g) c.u (around s.quadrant s.x s.y).u h.u cu a.0) in
@@ -114,7 +136,8 @@ spots_on g limit u c s p k step cu cv more room first far about =
 
 -- ---- how many moves there are between two of them
 
-pub axis_apart : (g : ℕ) (p q c a b : ℤ) → 500 ≤ g → (p *ℤ pos g) ≡ c +ℤ a → (q *ℤ pos g) ≡ c +ℤ b → unsigned_abs a ≤ 3000000000 → unsigned_abs b ≤ 3000000000 → distance p q ≤ 12000000
+pub axis_apart : (g : ℕ) (p q c a b : ℤ) → 500 ≤ g → (p *ℤ pos g) ≡ c +ℤ a → (q *ℤ pos g) ≡ c +ℤ b → unsigned_abs a ≤ 3000000000 → unsigned_abs b ≤ 3000000000 →
+    distance p q ≤ 12000000
 axis_apart g p q c a b step hp hq ha hb =
     let d = q -ℤ p in
     let whole : p +ℤ d ≡ q = omega (arith, ints) in
@@ -123,7 +146,8 @@ axis_apart g p q c a b step hp hq ha hb =
     let h : unsigned_abs (d *ℤ pos g) ≤ 6000000000 = omega (arith, ints, f, hp, hq, ha, hb) in
     omega (arith, place_small d g 6000000000 step h)
 
-pub about_apart : (g : ℕ) (c : Point2) (p q : Spot) (s t : Spoke) → 500 ≤ g → IsAbout g c p s → IsAbout g c q t → IsSmall s → IsSmall t → straight_moves p q ≤ 12000000
+pub about_apart : (g : ℕ) (c : Point2) (p q : Spot) (s t : Spoke) → 500 ≤ g → IsAbout g c p s → IsAbout g c q t → IsSmall s → IsSmall t →
+    straight_moves p q ≤ 12000000
 about_apart g c p q s t step hp hq small_s small_t =
     let a = around_small s.quadrant s.x s.y small_s.x small_s.y in
     let b = around_small t.quadrant t.x t.y small_t.x small_t.y in

@@ -1,5 +1,6 @@
 -- The quadrant points of an arc are at its outer radius, so that a path with a place near to all that is there passes them in order.
-use Rattle.std.proofs.Common.{◌≡◌, ℕ, zero, suc, ◌+◌, ◌*◌, ◌≤◌, Bool, true, false, cond, filter, take, drop, ◌++◌, List, [], ◌∷◌, ℤ, pos, ◌+ℤ◌, ◌-ℤ◌, unsigned_abs, arith, refl}
+use Rattle.std.proofs.Common.{◌≡◌, ℕ, zero, suc, ◌+◌, ◌*◌, ◌≤◌, Bool, true, false, cond, filter, take, drop, ◌++◌, List, [], ◌∷◌, ℤ, pos, ◌+ℤ◌, ◌-ℤ◌}
+use Rattle.std.proofs.Common.{unsigned_abs, arith, refl}
 use Rattle.std.proofs.lemmas.Int.{ints}
 use Rattle.ngc_fixed_length.specs.declared.modes.Turn.{Turn}
 use Rattle.ngc_fixed_length.specs.declared.modes.Turn.TheVariants.{Counterclockwise, Clockwise}
@@ -36,7 +37,8 @@ inside_both : (c : Point2) (r : ℕ) (ps qs : List Point2) → AreInside c r ps 
 inside_both c r [] qs h k = k
 inside_both c r (p ∷ ps) qs h k = (h.0, inside_both c r ps qs h.1 k)
 
-inside_cond : (c : Point2) (r : ℕ) (b : Bool) (q : Point2) (qs : List Point2) → squared_distance c q ≤ r * r → AreInside c r qs → AreInside c r (cond b (q ∷ qs) qs)
+inside_cond : (c : Point2) (r : ℕ) (b : Bool) (q : Point2) (qs : List Point2) → squared_distance c q ≤ r * r → AreInside c r qs →
+    AreInside c r (cond b (q ∷ qs) qs)
 inside_cond c r true q qs h k = (h, k)
 inside_cond c r false q qs h k = k
 
@@ -60,10 +62,20 @@ aside_v c r z e =
     omega (arith, s, t)
 
 inside_quadrants : (t : Turn) (c : Point2) (r : ℕ) → AreInside c r (quadrant_points t c (pos r))
-inside_quadrants Counterclockwise c r =
-    (aside_u c r (c.u +ℤ pos r) (omega (arith, ints)), (aside_v c r (c.v +ℤ pos r) (omega (arith, ints)), (aside_u c r (c.u -ℤ pos r) (omega (arith, ints)), (aside_v c r (c.v -ℤ pos r) (omega (arith, ints)), tt))))
-inside_quadrants Clockwise c r =
-    (aside_u c r (c.u +ℤ pos r) (omega (arith, ints)), (aside_v c r (c.v -ℤ pos r) (omega (arith, ints)), (aside_u c r (c.u -ℤ pos r) (omega (arith, ints)), (aside_v c r (c.v +ℤ pos r) (omega (arith, ints)), tt))))
+inside_quadrants Counterclockwise c r = (
+  aside_u c r (c.u +ℤ pos r) (omega (arith, ints)),
+  (
+    aside_v c r (c.v +ℤ pos r) (omega (arith, ints)),
+    (aside_u c r (c.u -ℤ pos r) (omega (arith, ints)), (aside_v c r (c.v -ℤ pos r) (omega (arith, ints)), tt)),
+  ),
+)
+inside_quadrants Clockwise c r = (
+  aside_u c r (c.u +ℤ pos r) (omega (arith, ints)),
+  (
+    aside_v c r (c.v -ℤ pos r) (omega (arith, ints)),
+    (aside_u c r (c.u -ℤ pos r) (omega (arith, ints)), (aside_v c r (c.v +ℤ pos r) (omega (arith, ints)), tt)),
+  ),
+)
 
 -- the quadrant points of an arc are no farther out than its outer radius
 pub extremes_inside : (a : ArcShape) → AreInside a.centre (outer_radius a) (extremes a)
@@ -72,16 +84,20 @@ extremes_inside a =
     let all = inside_quadrants a.turn a.centre (outer_radius a) in
     let n = first_quadrant a in
     inside_filtered a.centre (outer_radius a) (in_sector a) (quadrants_in_turn a)
-    (inside_both a.centre (outer_radius a) (drop n ps) (take n ps) (inside_dropped a.centre (outer_radius a) n ps all) (inside_taken a.centre (outer_radius a) n ps all))
+    (inside_both a.centre (outer_radius a) (drop n ps) (take n ps) (inside_dropped a.centre (outer_radius a) n ps all)
+    (inside_taken a.centre (outer_radius a) n ps all))
 
 -- a path with a place near to all points inside passes them
-pub passes_at : (at : ℕ → Point2) (n d i k : ℕ) (c : Point2) (r : ℕ) (qs : List Point2) → i ≤ k → k ≤ n → ((x : Point2) → squared_distance c x ≤ r * r → IsWithin d (at k) x) → AreInside c r qs → Passes at n d i qs
+pub passes_at : (at : ℕ → Point2) (n d i k : ℕ) (c : Point2) (r : ℕ) (qs : List Point2) → i ≤ k → k ≤ n →
+    ((x : Point2) → squared_distance c x ≤ r * r → IsWithin d (at k) x) → AreInside c r qs → Passes at n d i qs
 passes_at at n d i k c r [] from to near all = tt
 passes_at at n d i k c r (q ∷ qs) from to near all = (k, from, to, near q all.0, passes_at at n d k k c r qs (omega arith) to near all.1)
 
 -- so the course of a tiny arc passes its quadrant points
-pub tiny_passes : (a : ArcShape) (g : ℕ) (p e : Spot) → IsArc a → IsTiny a g → IsNearestSpot g (view_of a).centre (view_of a).start p → IsNearestSpot g (view_of a).centre (view_of a).end e →
+pub tiny_passes : (a : ArcShape) (g : ℕ) (p e : Spot) → IsArc a → IsTiny a g → IsNearestSpot g (view_of a).centre (view_of a).start p →
+    IsNearestSpot g (view_of a).centre (view_of a).end e →
     Passes (λ k. laid g a.turn (straight_at p e k)) (straight_moves p e) (5 * g + spread a) 0 (extremes a)
 tiny_passes a g p e arc tiny first last =
     let h = tiny_place a g p e arc tiny first last in
-    passes_at (λ k. laid g a.turn (straight_at p e k)) (straight_moves p e) (5 * g + spread a) 0 h.0 a.centre (outer_radius a) (extremes a) (omega arith) h.1 h.2 (extremes_inside a)
+    passes_at (λ k. laid g a.turn (straight_at p e k)) (straight_moves p e) (5 * g + spread a) 0 h.0 a.centre (outer_radius a) (extremes a)
+    (omega arith) h.1 h.2 (extremes_inside a)

@@ -20,7 +20,8 @@ use Rattle.ngc_step_kernel.specs.View.{squared, view_of, way_between, way_from}
 
 -- the squared distance of a grid place from where a way leads from the centre
 abbrev pub apart_squared : ℕ → Way → Way → Spot → ℕ
-apart_squared g c w p = distance (c.u +ℤ w.u) (p.u *ℤ pos g) * distance (c.u +ℤ w.u) (p.u *ℤ pos g) + distance (c.v +ℤ w.v) (p.v *ℤ pos g) * distance (c.v +ℤ w.v) (p.v *ℤ pos g)
+apart_squared g c w p =
+    distance (c.u +ℤ w.u) (p.u *ℤ pos g) * distance (c.u +ℤ w.u) (p.u *ℤ pos g) + distance (c.v +ℤ w.v) (p.v *ℤ pos g) * distance (c.v +ℤ w.v) (p.v *ℤ pos g)
 
 two_squares : (p q : ℤ) (m n : ℕ) → unsigned_abs p ≡ m → unsigned_abs q ≡ n → unsigned_abs ((p *ℤ p) +ℤ (q *ℤ q)) ≡ m * m + n * n
 two_squares p q m n hp hq = square_sum p q ∙ ap (λ t. t * t + unsigned_abs q * unsigned_abs q) hp ∙ ap (λ t. m * m + t * t) hq
@@ -36,11 +37,13 @@ turned_from Clockwise c z = omega (arith, ints, neg_is c, neg_is z)
 straight_off : (c q z : ℤ) → unsigned_abs (z -ℤ q) ≡ distance (c +ℤ (q -ℤ c)) z
 straight_off c q z = omega (arith, ints)
 
-point_apart : (g : ℕ) (t : Turn) (c q : Point2) (p : Spot) → squared_distance q (laid g t p) ≡ apart_squared g (record { u = c.u; v = turned t c.v }) (way_between t c q) p
+point_apart : (g : ℕ) (t : Turn) (c q : Point2) (p : Spot) → squared_distance q (laid g t p)
+    ≡ apart_squared g (record { u = c.u; v = turned t c.v }) (way_between t c q) p
 point_apart g t c q p =
     let x = p.u *ℤ pos g in
     let y = p.v *ℤ pos g in
-    two_squares (x -ℤ q.u) (turned t y -ℤ q.v) (distance (c.u +ℤ (q.u -ℤ c.u)) x) (distance (turned t c.v +ℤ turned t (q.v -ℤ c.v)) y) (straight_off c.u q.u x) (turned_off t c.v q.v y)
+    two_squares (x -ℤ q.u) (turned t y -ℤ q.v) (distance (c.u +ℤ (q.u -ℤ c.u)) x) (distance (turned t c.v +ℤ turned t (q.v -ℤ c.v)) y) (straight_off c.u q.u x)
+    (turned_off t c.v q.v y)
 
 -- from the arc's start to a grid place, from its end, and from its centre
 pub start_apart : (a : ArcShape) (g : ℕ) (p : Spot) → squared_distance (start_of a) (laid g a.turn p) ≡ apart_squared g (view_of a).centre (view_of a).start p
@@ -53,7 +56,8 @@ pub centre_apart : (a : ArcShape) (g : ℕ) (p : Spot) → squared_distance a.ce
 centre_apart a g p =
     let x = p.u *ℤ pos g in
     let y = p.v *ℤ pos g in
-    two_squares (x -ℤ a.centre.u) (turned a.turn y -ℤ a.centre.v) (unsigned_abs (x -ℤ a.centre.u)) (unsigned_abs (y -ℤ turned a.turn a.centre.v)) refl (turned_from a.turn a.centre.v y)
+    two_squares (x -ℤ a.centre.u) (turned a.turn y -ℤ a.centre.v) (unsigned_abs (x -ℤ a.centre.u)) (unsigned_abs (y -ℤ turned a.turn a.centre.v)) refl
+    (turned_from a.turn a.centre.v y)
 
 -- ---- the triangle's inequality, for numbers
 
@@ -91,7 +95,8 @@ sides_below p q x y u v m d hp hq hm hd =
 
 -- ---- for points of the plane
 
-apart_on : (c q p : ℤ) → (unsigned_abs (p -ℤ c) ≤ unsigned_abs (q -ℤ c) + unsigned_abs (p -ℤ q)) × (unsigned_abs (q -ℤ c) ≤ unsigned_abs (p -ℤ c) + unsigned_abs (p -ℤ q))
+apart_on : (c q p : ℤ) → (unsigned_abs (p -ℤ c) ≤ unsigned_abs (q -ℤ c) + unsigned_abs (p -ℤ q)) ×
+    (unsigned_abs (q -ℤ c) ≤ unsigned_abs (p -ℤ c) + unsigned_abs (p -ℤ q))
 apart_on c q p = (omega (arith, ints), omega (arith, ints))
 
 apart_is : (p q : Point2) → squared_distance p q ≡ unsigned_abs (q.u -ℤ p.u) * unsigned_abs (q.u -ℤ p.u) + unsigned_abs (q.v -ℤ p.v) * unsigned_abs (q.v -ℤ p.v)
@@ -99,18 +104,21 @@ apart_is p q = square_sum (q.u -ℤ p.u) (q.v -ℤ p.v)
 
 pub apart_back : (p q : Point2) → squared_distance p q ≡ squared_distance q p
 apart_back p q =
-    two_squares (q.u -ℤ p.u) (q.v -ℤ p.v) (unsigned_abs (p.u -ℤ q.u)) (unsigned_abs (p.v -ℤ q.v)) (omega (arith, ints)) (omega (arith, ints)) ∙ omega (arith, apart_is q p)
+    two_squares (q.u -ℤ p.u) (q.v -ℤ p.v) (unsigned_abs (p.u -ℤ q.u)) (unsigned_abs (p.v -ℤ q.v)) (omega (arith, ints)) (omega (arith, ints))
+    ∙ omega (arith, apart_is q p)
 
 pub plane_above : (c q p : Point2) (m d : ℕ) → squared_distance c q ≤ m * m → squared_distance q p ≤ d * d → squared_distance c p ≤ (m + d) * (m + d)
 plane_above c q p m d hm hd =
     let u = apart_on c.u q.u p.u in
     let v = apart_on c.v q.v p.v in
-    let h = sides_above (unsigned_abs (q.u -ℤ c.u)) (unsigned_abs (q.v -ℤ c.v)) (unsigned_abs (p.u -ℤ q.u)) (unsigned_abs (p.v -ℤ q.v)) (unsigned_abs (p.u -ℤ c.u)) (unsigned_abs (p.v -ℤ c.v)) m d u.0 v.0 (omega (arith, apart_is c q, hm)) (omega (arith, apart_is q p, hd)) in
+    let h = sides_above (unsigned_abs (q.u -ℤ c.u)) (unsigned_abs (q.v -ℤ c.v)) (unsigned_abs (p.u -ℤ q.u)) (unsigned_abs (p.v -ℤ q.v))
+    (unsigned_abs (p.u -ℤ c.u)) (unsigned_abs (p.v -ℤ c.v)) m d u.0 v.0 (omega (arith, apart_is c q, hm)) (omega (arith, apart_is q p, hd)) in
     omega (arith, apart_is c p, h)
 
 pub plane_below : (c q p : Point2) (m d : ℕ) → m * m ≤ squared_distance c q → squared_distance q p ≤ d * d → (m - d) * (m - d) ≤ squared_distance c p
 plane_below c q p m d hm hd =
     let u = apart_on c.u q.u p.u in
     let v = apart_on c.v q.v p.v in
-    let h = sides_below (unsigned_abs (q.u -ℤ c.u)) (unsigned_abs (q.v -ℤ c.v)) (unsigned_abs (p.u -ℤ q.u)) (unsigned_abs (p.v -ℤ q.v)) (unsigned_abs (p.u -ℤ c.u)) (unsigned_abs (p.v -ℤ c.v)) m d u.1 v.1 (omega (arith, apart_is c q, hm)) (omega (arith, apart_is q p, hd)) in
+    let h = sides_below (unsigned_abs (q.u -ℤ c.u)) (unsigned_abs (q.v -ℤ c.v)) (unsigned_abs (p.u -ℤ q.u)) (unsigned_abs (p.v -ℤ q.v))
+    (unsigned_abs (p.u -ℤ c.u)) (unsigned_abs (p.v -ℤ c.v)) m d u.1 v.1 (omega (arith, apart_is c q, hm)) (omega (arith, apart_is q p, hd)) in
     omega (arith, apart_is c p, h)

@@ -22,7 +22,8 @@ before_first g limit s e quadrants h =
     let q = first_quadrant g limit s in
     record {
       count = omega (arith, q);
-      before = subst (λ n. IsBeforeEnd n quadrants (spoke_at g limit s 0) e) (sym q) (subst (λ (w : Spoke). IsBeforeEnd 0 quadrants w e) (sym (first_spoke g limit s)) h);
+      before = subst (λ n. IsBeforeEnd n quadrants (spoke_at g limit s 0) e) (sym q)
+          (subst (λ (w : Spoke). IsBeforeEnd 0 quadrants w e) (sym (first_spoke g limit s)) h);
     }
 
 pub quadrant_on : (g limit : ℕ) (s w : Spoke) (r : Roll) (k pace rim : ℕ) → pace ≡ g → rim ≡ limit → w ≡ spoke_at g limit s k → IsRoll pace rim w r →
@@ -59,7 +60,8 @@ told_past s e h = elim (cases_lt (s.y * e.x) (s.x * e.y)) [
 ]
 
 -- one move on
-pub before_on : (g limit : ℕ) (s e w v : Spoke) (r : Roll) (quadrants left m k pace rim : ℕ) → IsBefore g limit s e quadrants left k → pace ≡ g → rim ≡ limit → w ≡ spoke_at g limit s k → IsRoll pace rim w r →
+pub before_on : (g limit : ℕ) (s e w v : Spoke) (r : Roll) (quadrants left m k pace rim : ℕ) → IsBefore g limit s e quadrants left k → pace ≡ g → rim ≡ limit →
+    w ≡ spoke_at g limit s k → IsRoll pace rim w r →
     v ≡ spoke_at g limit s (k + 1) → IsLeftAfter left r v e (Some m) → IsBefore g limit s e quadrants m (k + 1)
 before_on g limit s e w v r quadrants left m k pace rim b paces rims here roll there h =
     let q = quadrant_on g limit s w r k pace rim paces rims here roll in
@@ -77,7 +79,8 @@ before_on g limit s e w v r quadrants left m k pace rim b paces rims here roll t
     }
 
 -- or the end's direction is reached
-pub past_on : (g limit : ℕ) (s e w v : Spoke) (r : Roll) (quadrants left k pace rim : ℕ) → IsBefore g limit s e quadrants left k → pace ≡ g → rim ≡ limit → w ≡ spoke_at g limit s k → IsRoll pace rim w r →
+pub past_on : (g limit : ℕ) (s e w v : Spoke) (r : Roll) (quadrants left k pace rim : ℕ) → IsBefore g limit s e quadrants left k → pace ≡ g → rim ≡ limit →
+    w ≡ spoke_at g limit s k → IsRoll pace rim w r →
     v ≡ spoke_at g limit s (k + 1) → IsLeftAfter left r v e None → IsBeforeEnd (quadrant_at g limit s (k + 1)) quadrants (spoke_at g limit s (k + 1)) e → ⊥
 past_on g limit s e w v r quadrants left k pace rim b paces rims here roll there h (inl less) =
     let q = quadrant_on g limit s w r k pace rim paces rims here roll in

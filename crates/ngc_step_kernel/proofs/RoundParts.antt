@@ -73,12 +73,15 @@ laid_placed a g p s h =
 
 pub record IsRoundSetting (a : ArcShape) (g p r o left m : ℕ) (from to joint entry : Spot) (first last : Spoke) : Type 0 where
   pub setting : IsSetting a g p r o from to joint entry first last
-  pub counted : quadrants_left (quadrants_to first.quadrant last.quadrant) (int_lt (pos 0) (way_cross (view_of a).start (view_of a).end)) (is_before first last) ≡ Some left
+  pub counted : quadrants_left (quadrants_to first.quadrant last.quadrant) (int_lt (pos 0) (way_cross (view_of a).start (view_of a).end))
+      (is_before first last) ≡ Some left
   pub before : IsBeforeEnd (quadrant_at g ((o + 2 * g / 5) * (o + 2 * g / 5)) first m) left (spoke_at g ((o + 2 * g / 5) * (o + 2 * g / 5)) first m) last
-  pub past : m < 100000000 → IsBeforeEnd (quadrant_at g ((o + 2 * g / 5) * (o + 2 * g / 5)) first (m + 1)) left (spoke_at g ((o + 2 * g / 5) * (o + 2 * g / 5)) first (m + 1)) last → ⊥
+  pub past : m < 100000000 →
+      IsBeforeEnd (quadrant_at g ((o + 2 * g / 5) * (o + 2 * g / 5)) first (m + 1)) left (spoke_at g ((o + 2 * g / 5) * (o + 2 * g / 5)) first (m + 1)) last → ⊥
 
 -- no walk is cut off
-few_of : (a : ArcShape) (g u limit m : ℕ) (at : ℕ → Spoke) (quadrant : ℕ → ℕ) (b e : Spoke) (begun left : ℕ) → IsWalk a g limit m at quadrant b e begun left → 500 ≤ g → limit ≤ u * u → 2 * (g * g) ≤ u * u → IsBelow g (u * u) (at 0) →
+few_of : (a : ArcShape) (g u limit m : ℕ) (at : ℕ → Spoke) (quadrant : ℕ → ℕ) (b e : Spoke) (begun left : ℕ) → IsWalk a g limit m at quadrant b e begun left →
+    500 ≤ g → limit ≤ u * u → 2 * (g * g) ≤ u * u → IsBelow g (u * u) (at 0) →
     u + g ≤ 2100000000 → m < 100000000
 few_of a g u limit m at quadrant b e begun left w step bound room first small =
     let four = at_most_four (begun + left) b.x b.y e.x e.y w.turn in
@@ -95,16 +98,19 @@ last_roll g limit m left first last before past =
     let e : suc m ≡ m + 1 = omega arith in
     let s = next_spoke g limit first m in
     let q = next_quadrant g limit first m in
-    let past' : IsBeforeEnd (quadrant_at g limit first (suc m)) left (spoke_at g limit first (suc m)) last → ⊥ = λ h. past (subst (λ t. IsBeforeEnd (quadrant_at g limit first t) left (spoke_at g limit first t) last) e h) in
+    let past' : IsBeforeEnd (quadrant_at g limit first (suc m)) left (spoke_at g limit first (suc m)) last →
+    ⊥ = λ h. past (subst (λ t. IsBeforeEnd (quadrant_at g limit first t) left (spoke_at g limit first t) last) e h) in
     record {
       roll = next_is_due g limit (spoke_at g limit first m);
       before = before;
-      past = subst (λ n. IsBeforeEnd n left (rolled g (next_roll g limit (spoke_at g limit first m)) (spoke_at g limit first m)) last → ⊥) q (subst (λ (w : Spoke). IsBeforeEnd (quadrant_at g limit first (suc m)) left w last → ⊥) s past');
+      past = subst (λ n. IsBeforeEnd n left (rolled g (next_roll g limit (spoke_at g limit first m)) (spoke_at g limit first m)) last → ⊥) q
+          (subst (λ (w : Spoke). IsBeforeEnd (quadrant_at g limit first (suc m)) left w last → ⊥) s past');
     }
 
 -- ---- the arc's ends as ends of rays
 
-pub end_of_ray : (a : ArcShape) (x y n root : ℕ) → n ≡ x * x + y * y → IsRootCeil n root → inner_radius a * inner_radius a ≤ n → n ≤ outer_radius a * outer_radius a → 0 < n →
+pub end_of_ray : (a : ArcShape) (x y n root : ℕ) → n ≡ x * x + y * y → IsRootCeil n root → inner_radius a * inner_radius a ≤ n →
+    n ≤ outer_radius a * outer_radius a → 0 < n →
     (floor : ℕ) × IsEnd a x y floor
 end_of_ray a x y n root same ceil low high some =
     let up = ceil.square in
@@ -160,7 +166,8 @@ pub record IsRoundWalk (a : ArcShape) (g limit begun left m : ℕ) (b first last
   pub start_end : (root : ℕ) × IsEnd a b.x b.y root
   pub end_end : (root : ℕ) × IsEnd a last.x last.y root
 
-pub round_walk_of : (a : ArcShape) (g p r o v left m : ℕ) (from to joint entry : Spot) (first last b : Spoke) (s : IsRoundSetting a g p r o left m from to joint entry first last) →
+pub round_walk_of : (a : ArcShape) (g p r o v left m : ℕ) (from to joint entry : Spot) (first last b : Spoke)
+    (s : IsRoundSetting a g p r o left m from to joint entry first last) →
     HasJoint a g p o v joint b s.setting.entered.0 → (begun : ℕ) × IsRoundWalk a g ((o + 2 * g / 5) * (o + 2 * g / 5)) begun left m b first last
 round_walk_of a g p r o v left m from to joint entry first last b s h =
     let z = s.setting in
@@ -181,13 +188,18 @@ round_walk_of a g p r o v left m from to joint entry first last b s h =
         walk = w;
         soon = at.1.soon;
         beside = λ k. subst (λ (q : Spoke). q.y ≤ g) (sym (first_spoke g limit first)) (at.1.beside k);
-        start_end = end_of_ray a b.x b.y (squared (view_of a).start) (p + 1) (sym sb) z.start_root (omega (arith, i.square, si)) (omega (arith, u.square, si)) (omega (arith, si, z.arc.some_radius));
-        end_end = end_of_ray a last.x last.y (squared (view_of a).end) r (sym se) z.end_root (omega (arith, i.square, ei)) (omega (arith, u.square, ei)) (omega (arith, ei, z.arc.some_radius));
+        start_end = end_of_ray a b.x b.y (squared (view_of a).start) (p + 1) (sym sb) z.start_root (omega (arith, i.square, si)) (omega (arith, u.square, si))
+            (omega (arith, si, z.arc.some_radius));
+        end_end = end_of_ray a last.x last.y (squared (view_of a).end) r (sym se) z.end_root (omega (arith, i.square, ei)) (omega (arith, u.square, ei))
+            (omega (arith, ei, z.arc.some_radius));
       },
     )
 
-pub large_circuit : (a : ArcShape) (g p r q left m : ℕ) (from to joint entry : Spot) (first last : Spoke) → IsRoundSetting a g p r (q + 1) left m from to joint entry first last → 8 * g ≤ q + 1 →
-    (b : Spoke) × ((begun : ℕ) × (IsCircuit a g q (2 * g / 5) (g / 2) (4 * g / 5) (q + 1 - 4 * g / 5) m (spoke_at g (limit_of q (2 * g / 5)) first) (quadrant_at g (limit_of q (2 * g / 5)) first) b last begun left
+pub large_circuit : (a : ArcShape) (g p r q left m : ℕ) (from to joint entry : Spot) (first last : Spoke) →
+    IsRoundSetting a g p r (q + 1) left m from to joint entry first last → 8 * g ≤ q + 1 →
+    (b : Spoke) × ((begun : ℕ) ×
+    (IsCircuit a g q (2 * g / 5) (g / 2) (4 * g / 5) (q + 1 - 4 * g / 5) m (spoke_at g (limit_of q (2 * g / 5)) first)
+    (quadrant_at g (limit_of q (2 * g / 5)) first) b last begun left
     × IsRoundWalk a g (limit_of q (2 * g / 5)) begun left m b first last))
 large_circuit a g p r q left m from to joint entry first last s large =
     let z = s.setting in
@@ -205,7 +217,9 @@ large_circuit a g p r q left m from to joint entry first last s large =
     let same : q + 1 ≡ r = omega (arith, z.circle, large, z.least) in
     let grows = square_le (q + 1 + 2 * g / 5) (q + 1 + 4 * g / 5) (omega arith) in
     let wide = square_le (2 * g) (q + 1 + 4 * g / 5) (omega (arith, large)) in
-    let few = few_of a g (q + 1 + 4 * g / 5) limit m (spoke_at g limit first) (quadrant_at g limit first) j.0 last w.0 left w.1.walk z.least grows (omega (arith, wide)) below (omega (arith, same, z.most, z.end_root.least 2000020000 (omega (arith, squared_is a.turn a.centre (end_of a), z.arc.radius)))) in
+    let few = few_of a g (q + 1 + 4 * g / 5) limit m (spoke_at g limit first) (quadrant_at g limit first) j.0 last w.0 left w.1.walk z.least grows
+    (omega (arith, wide)) below
+    (omega (arith, same, z.most, z.end_root.least 2000020000 (omega (arith, squared_is a.turn a.centre (end_of a), z.arc.radius)))) in
     let roll = last_roll g limit m left first last s.before (s.past few) in (
       j.0,
       (
@@ -220,7 +234,8 @@ large_circuit a g p r q left m from to joint entry first last s large =
             outside = omega (arith, same, n.end_outer);
             soon = w.1.soon;
             beside = w.1.beside;
-            ends = ends_there g limit (spoke_at g limit first m) last (next_roll g limit (spoke_at g limit first m)) (quadrant_at g limit first m) left roll.roll roll.before roll.past;
+            ends = ends_there g limit (spoke_at g limit first m) last (next_roll g limit (spoke_at g limit first m))
+                (quadrant_at g limit first m) left roll.roll roll.before roll.past;
           },
           w.1,
         ),
@@ -240,8 +255,11 @@ small_size g o step least = record {
   inner = omega (arith, least);
 }
 
-pub small_circuit : (a : ArcShape) (g p r o left m : ℕ) (from to joint entry : Spot) (first last : Spoke) → IsRoundSetting a g p r o left m from to joint entry first last → o ≤ 8 * g →
-    (b : Spoke) × ((begun : ℕ) × (IsSmallCircuit a g o (2 * g / 5) (11 * g / 10) (4 * g / 5) (o - 4 * g / 5) r m (spoke_at g ((o + 2 * g / 5) * (o + 2 * g / 5)) first) (quadrant_at g ((o + 2 * g / 5) * (o + 2 * g / 5)) first) b last begun left
+pub small_circuit : (a : ArcShape) (g p r o left m : ℕ) (from to joint entry : Spot) (first last : Spoke) →
+    IsRoundSetting a g p r o left m from to joint entry first last → o ≤ 8 * g →
+    (b : Spoke) × ((begun : ℕ) ×
+    (IsSmallCircuit a g o (2 * g / 5) (11 * g / 10) (4 * g / 5) (o - 4 * g / 5) r m (spoke_at g ((o + 2 * g / 5) * (o + 2 * g / 5)) first)
+    (quadrant_at g ((o + 2 * g / 5) * (o + 2 * g / 5)) first) b last begun left
     × IsRoundWalk a g ((o + 2 * g / 5) * (o + 2 * g / 5)) begun left m b first last))
 small_circuit a g p r o left m from to joint entry first last s small =
     let z = s.setting in
@@ -257,7 +275,8 @@ small_circuit a g p r o left m from to joint entry first last s small =
     let below = subst (λ (t : Spoke). IsBelow g ((o + 11 * g / 10) * (o + 11 * g / 10)) t) zeroth bound.below in
     let above = subst (λ (t : Spoke). IsAbove g v t) zeroth bound.above in
     let few = few_of a g (o + 11 * g / 10) limit m (spoke_at g limit first) (quadrant_at g limit first) j.0 last w.0 left w.1.walk z.least
-    (more_limit g o (2 * g / 5) (11 * g / 10) (4 * g / 5) v size) (twice_high g o (2 * g / 5) (11 * g / 10) (4 * g / 5) v size) below (omega (arith, small, z.most)) in
+    (more_limit g o (2 * g / 5) (11 * g / 10) (4 * g / 5) v size) (twice_high g o (2 * g / 5) (11 * g / 10) (4 * g / 5) v size) below
+    (omega (arith, small, z.most)) in
     let roll = last_roll g limit m left first last s.before (s.past few) in (
       j.0,
       (
@@ -277,7 +296,8 @@ small_circuit a g p r o left m from to joint entry first last s small =
             ];
             soon = w.1.soon;
             beside = w.1.beside;
-            ends = ends_there g limit (spoke_at g limit first m) last (next_roll g limit (spoke_at g limit first m)) (quadrant_at g limit first m) left roll.roll roll.before roll.past;
+            ends = ends_there g limit (spoke_at g limit first m) last (next_roll g limit (spoke_at g limit first m))
+                (quadrant_at g limit first m) left roll.roll roll.before roll.past;
           },
           w.1,
         ),

@@ -36,7 +36,8 @@ told_not z h = grind (arith, ints, h)
 pub amount_of : (x y : Option ℕ) → x ≡ y → amount x ≡ amount y
 amount_of x y h = ap amount h
 
-pub counted_of : (n : ℕ) (short before : Bool) (left : ℕ) (area : ℤ) → n ≤ 3 → short ≡ int_lt (pos 0) area → quadrants_left n short before ≡ Some left → IsCounted n left area
+pub counted_of : (n : ℕ) (short before : Bool) (left : ℕ) (area : ℤ) → n ≤ 3 → short ≡ int_lt (pos 0) area → quadrants_left n short before ≡ Some left →
+    IsCounted n left area
 counted_of zero true true left area few told h = inl (told_ahead area told, omega (arith, amount_of (Some 0) (Some left) h))
 counted_of zero true false left area few told h = absurd (omega (arith, amount_of None (Some left) h))
 counted_of zero false before left area few told h = inr (told_not area told, omega (arith, amount_of (Some 4) (Some left) h))
@@ -73,9 +74,11 @@ end_placed a e h = placed_at a (end_of a) e (h ∙ seen_way a.turn a.centre (end
 
 -- ---- the walk
 
-pub walks : (a : ArcShape) (g limit m begun left : ℕ) (b first last : Spoke) → 0 < g → g * g ≤ limit → way_to b ≡ place_of (view_of a).start → 0 < b.x → way_to last ≡ place_of (view_of a).end → 0 < last.x →
+pub walks : (a : ArcShape) (g limit m begun left : ℕ) (b first last : Spoke) → 0 < g → g * g ≤ limit → way_to b ≡ place_of (view_of a).start → 0 < b.x →
+    way_to last ≡ place_of (view_of a).end → 0 < last.x →
     Begins g b first begun → begun ≤ 1 →
-    quadrants_left (quadrants_to first.quadrant last.quadrant) (int_lt (pos 0) (way_cross (view_of a).start (view_of a).end)) (is_before first last) ≡ Some left →
+    quadrants_left (quadrants_to first.quadrant last.quadrant) (int_lt (pos 0) (way_cross (view_of a).start (view_of a).end)) (is_before first last)
+    ≡ Some left →
     IsBeforeEnd (quadrant_at g limit first m) left (spoke_at g limit first m) last →
     IsWalk a g limit m (spoke_at g limit first) (quadrant_at g limit first) b last begun left
 walks a g limit m begun left b first last some room start start_out end end_out at few told before =

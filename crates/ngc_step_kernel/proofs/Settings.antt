@@ -71,7 +71,8 @@ pub record AreSizes (a : ArcShape) (g p r o : ℕ) : Type 0 where
 long_root : (g n m s : ℕ) → 9 * (g * g) ≤ 4 * m → m ≤ n → n ≤ s * s → 3 * g ≤ 2 * s
 long_root g n m s wide less round = from_squares (3 * g) (2 * s) (omega (arith, wide, less, round))
 
-pub sizes : (a : ArcShape) (g p r o : ℕ) (from to joint entry : Spot) (first last : Spoke) → IsSetting a g p r o from to joint entry first last → AreSizes a g p r o
+pub sizes : (a : ArcShape) (g p r o : ℕ) (from to joint entry : Spot) (first last : Spoke) → IsSetting a g p r o from to joint entry first last →
+    AreSizes a g p r o
 sizes a g p r o from to joint entry first last s =
     let start_is = squared_is a.turn a.centre (start_of a) in
     let end_is = squared_is a.turn a.centre (end_of a) in
@@ -135,7 +136,8 @@ some_way u v h = elim (cases_lt 0 (u + v)) [
 sum_long : (g x y : ℕ) → g * g ≤ x * x + y * y → g ≤ x + y
 sum_long g x y h = from_squares g (x + y) (omega (arith, h))
 
-pub has_joint : (a : ArcShape) (g p r o m v : ℕ) (from to joint entry : Spot) (first last : Spoke) (s : IsSetting a g p r o from to joint entry first last) → IsInside g o m v →
+pub has_joint : (a : ArcShape) (g p r o m v : ℕ) (from to joint entry : Spot) (first last : Spoke) (s : IsSetting a g p r o from to joint entry first last) →
+    IsInside g o m v →
     (b : Spoke) × HasJoint a g p o v joint b s.entered.0
 has_joint a g p r o m v from to joint entry first last s z =
     let n = sizes a g p r o from to joint entry first last s in
@@ -146,7 +148,8 @@ has_joint a g p r o m v from to joint entry first last s z =
     let round = root_below (squared start) p s.start_root in
     let ju = moved_joint g (p + 1) o c.u start.u joint.u s.moved_u in
     let jv = moved_joint g (p + 1) o c.v start.v joint.v s.moved_v in
-    let low : v * v ≤ squared w = joint_above g p o m v (unsigned_abs w.u) (unsigned_abs w.v) (unsigned_abs start.u) (unsigned_abs start.v) s.least z.low z.inner n.few_times ju jv round in
+    let low : v * v ≤ squared w = joint_above g p o m v (unsigned_abs w.u) (unsigned_abs w.v) (unsigned_abs start.u)
+    (unsigned_abs start.v) s.least z.low z.inner n.few_times ju jv round in
     let same = square_of_way w j s.entered.1 in
     let long : g ≤ v = omega (arith, z.inner, z.high, n.circle_long) in
     let gv = square_le g v long in
@@ -181,12 +184,14 @@ has_joint a g p r o m v from to joint entry first last s z =
 
 steep_in : (q : Quadrant) (x y : ℕ) (w : Way) → around q x y ≡ place_of w → is_steep q w ≡ nat_lt x y
 steep_in First x y w h = rw (sym (ap (λ (p : Point2). p.u) h), sym (ap (λ (p : Point2). p.v) h)) refl
-steep_in Second x y w h = let e = neg_is (pos y) in let f : unsigned_abs (neg_ℤ (pos y)) ≡ y = omega (arith, ints, e) in rw (sym (ap (λ (p : Point2). p.u) h), sym (ap (λ (p : Point2). p.v) h), f) refl
+steep_in Second x y w h = let e = neg_is (pos y) in let f : unsigned_abs (neg_ℤ (pos y)) ≡ y = omega (arith, ints, e) in
+    rw (sym (ap (λ (p : Point2). p.u) h), sym (ap (λ (p : Point2). p.v) h), f) refl
 steep_in Third x y w h =
     let e = neg_is (pos y) in let f : unsigned_abs (neg_ℤ (pos y)) ≡ y = omega (arith, ints, e) in
     let i = neg_is (pos x) in let k : unsigned_abs (neg_ℤ (pos x)) ≡ x = omega (arith, ints, i) in
     rw (sym (ap (λ (p : Point2). p.u) h), sym (ap (λ (p : Point2). p.v) h), f, k) refl
-steep_in Fourth x y w h = let i = neg_is (pos x) in let k : unsigned_abs (neg_ℤ (pos x)) ≡ x = omega (arith, ints, i) in rw (sym (ap (λ (p : Point2). p.u) h), sym (ap (λ (p : Point2). p.v) h), k) refl
+steep_in Fourth x y w h = let i = neg_is (pos x) in let k : unsigned_abs (neg_ℤ (pos x)) ≡ x = omega (arith, ints, i) in
+    rw (sym (ap (λ (p : Point2). p.u) h), sym (ap (λ (p : Point2). p.v) h), k) refl
 
 told_steep : (t : Bool) (x y : ℕ) → t ≡ nat_lt x y → IsSteep t x y
 told_steep true x y h = elim (cases_lt x y) [
@@ -205,14 +210,16 @@ pub cross_told : (b j : Spoke) (s w : Way) → way_to b ≡ place_of s → way_t
 cross_told b j s w hb hj = ap (λ (q : Point2). cross q (way_to j)) hb ∙ ap (λ (q : Point2). cross (place_of s) q) hj
 
 -- where the joint is behind, it is no less flat or steep than the start but for a step
-pub near_joint : (a : ArcShape) (g p o v : ℕ) (joint : Spot) (b j : Spoke) → HasJoint a g p o v joint b j → cross (way_to b) (way_to j) <ℤ pos 0 → IsNearJoint g o v (is_steep j.quadrant (view_of a).start) j
+pub near_joint : (a : ArcShape) (g p o v : ℕ) (joint : Spot) (b j : Spoke) → HasJoint a g p o v joint b j → cross (way_to b) (way_to j) <ℤ pos 0 →
+    IsNearJoint g o v (is_steep j.quadrant (view_of a).start) j
 near_joint a g p o v joint b j h behind =
     let t = is_steep j.quadrant (view_of a).start in
     let k = h.joined in
     elim (four_ways b.quadrant j.quadrant) [
       | inl same ↦ (
           let m = moved_same b.quadrant g (p + 1) o b.x b.y j.x j.y (into g p o b.quadrant j.quadrant b.quadrant b.x b.y j.x j.y same k.moved) in
-          let c : cross (way_to b) (way_to j) ≡ pos (b.x * j.y) -ℤ pos (b.y * j.x) = ap (λ (z : Quadrant). cross (way_to b) (around z j.x j.y)) same ∙ cross_same b.quadrant b.x b.y j.x j.y in
+          let c : cross (way_to b) (way_to j) ≡ pos (b.x * j.y) -ℤ pos (b.y * j.x) =
+          ap (λ (z : Quadrant). cross (way_to b) (around z j.x j.y)) same ∙ cross_same b.quadrant b.x b.y j.x j.y in
           let less : b.x * j.y < b.y * j.x = omega (arith, ints, behind, c) in
           let steep = steep_told b j (view_of a).start h.start_way same in
           record {
@@ -236,13 +243,16 @@ near_joint a g p o v joint b j h behind =
                 le_of_mul-le-mul_left sum (omega arith));
           })
       | inr (inl next) ↦ (
-          let c : cross (way_to b) (way_to j) ≡ pos (b.x * j.x + b.y * j.y) = ap (λ (z : Quadrant). cross (way_to b) (around z j.x j.y)) next ∙ cross_next b.quadrant b.x b.y j.x j.y in
+          let c : cross (way_to b) (way_to j) ≡ pos (b.x * j.x + b.y * j.y) =
+          ap (λ (z : Quadrant). cross (way_to b) (around z j.x j.y)) next ∙ cross_next b.quadrant b.x b.y j.x j.y in
           absurd (omega (arith, ints, behind, c)))
       | inr (inr (inl opposite)) ↦ (
-          let m = moved_opposite b.quadrant g (p + 1) o b.x b.y j.x j.y (into g p o b.quadrant j.quadrant (following (following b.quadrant)) b.x b.y j.x j.y opposite k.moved) in
+          let m = moved_opposite b.quadrant g (p + 1) o b.x b.y j.x j.y
+          (into g p o b.quadrant j.quadrant (following (following b.quadrant)) b.x b.y j.x j.y opposite k.moved) in
           absurd (not_opposite g p o b.x b.y j.x j.y k.step k.far k.some k.round m.0 m.1))
       | inr (inr (inr before)) ↦ (
-          let m = moved_before j.quadrant g (p + 1) o b.x b.y j.x j.y (from g p o b.quadrant j.quadrant (following j.quadrant) b.x b.y j.x j.y before k.moved) in
+          let m = moved_before j.quadrant g (p + 1) o b.x b.y j.x j.y
+          (from g p o b.quadrant j.quadrant (following j.quadrant) b.x b.y j.x j.y before k.moved) in
           let near = small_across g (p + 1) o b.y j.x (omega arith) m.1 in
           record {
             high = h.high;

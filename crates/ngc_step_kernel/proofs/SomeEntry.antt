@@ -75,7 +75,8 @@ record IsSpokeAt (g o : ℕ) (v : View) (joint : Spot) (j : Spoke) : Type 0 wher
   out : 0 < unsigned_abs (way_from g v.centre joint).u + unsigned_abs (way_from g v.centre joint).v → 0 < j.x
   joined : IsJoined g o v.centre joint (way_from g v.centre joint) j
 
-rolls_in : (g o limit : ℕ) (v : View) (joint : Spot) (j : Spoke) (roll : Roll) → IsSpokeAt g o v joint j → way_cross v.start (way_from g v.centre joint) <ℤ pos 0 →
+rolls_in : (g o limit : ℕ) (v : View) (joint : Spot) (j : Spoke) (roll : Roll) → IsSpokeAt g o v joint j →
+    way_cross v.start (way_from g v.centre joint) <ℤ pos 0 →
     IsEntry g limit (is_steep j.quadrant v.start) j roll → HasEntered g o limit v joint (spot_moved joint (roll_move roll j.quadrant)) (rolled g roll j)
 rolls_in g o limit v joint j roll z behind entry =
     let can = can_enter g limit (is_steep j.quadrant v.start) j roll entry in
@@ -102,7 +103,8 @@ stands g o limit v joint j z ahead =
       near = wider (square j.x j.y) o g z.joined.near;
     }
 
-entry_at : (g o limit : ℕ) (v : View) (joint : Spot) (j : Spoke) → IsSpokeAt g o v joint j → (entry : Spot) × (first : Spoke) × HasEntered g o limit v joint entry first
+entry_at : (g o limit : ℕ) (v : View) (joint : Spot) (j : Spoke) → IsSpokeAt g o v joint j →
+    (entry : Spot) × (first : Spoke) × HasEntered g o limit v joint entry first
 entry_at g o limit v joint j z =
     by_lt_z (way_cross v.start (way_from g v.centre joint)) (pos 0)
     (λ behind. let found = some_entry g limit (is_steep j.quadrant v.start) j in

@@ -210,18 +210,21 @@ record IsBegin (a : ArcShape) (g s r o limit : ℕ) (v : View) (from to joint en
   end_way : way_to last ≡ place_of v.end
   end_out : 0 < last.x
 
-begun : (a : ArcShape) (g s r o limit : ℕ) (v : View) (from to joint entry : Spot) (first last : Spoke) → IsBegin a g s r o limit v from to joint entry first last →
+begun : (a : ArcShape) (g s r o limit : ℕ) (v : View) (from to joint entry : Spot) (first last : Spoke) →
+    IsBegin a g s r o limit v from to joint entry first last →
     IsBegun g o limit v.centre entry first
 begun a g s r o limit v from to joint entry first last z =
     begun_of g o limit v.centre entry first z.seen.least z.seen.most z.circle.bound z.circle.limit_is z.enters.about z.enters.near
 
-to_joint : (a : ArcShape) (g s r o limit : ℕ) (v : View) (from to joint entry : Spot) (first last : Spoke) → IsBegin a g s r o limit v from to joint entry first last →
+to_joint : (a : ArcShape) (g s r o limit : ℕ) (v : View) (from to joint entry : Spot) (first last : Spoke) →
+    IsBegin a g s r o limit v from to joint entry first last →
     straight_moves from joint ≤ 30000000
 to_joint a g s r o limit v from to joint entry first last z =
     let reach = nearest_reach g v.centre v.start from z.seen.view.start z.seen.start_at z.seen.most in
     omega (arith, reach_apart g v.centre from joint z.seen.least reach z.joint_at.near.reach)
 
-from_joint : (a : ArcShape) (g s r o limit : ℕ) (v : View) (from to joint entry : Spot) (first last : Spoke) → IsBegin a g s r o limit v from to joint entry first last →
+from_joint : (a : ArcShape) (g s r o limit : ℕ) (v : View) (from to joint entry : Spot) (first last : Spoke) →
+    IsBegin a g s r o limit v from to joint entry first last →
     straight_moves joint to ≤ 30000000
 from_joint a g s r o limit v from to joint entry first last z =
     let reach = nearest_reach g v.centre v.end to z.seen.view.end z.seen.end_at z.seen.most in
@@ -232,7 +235,8 @@ from_joint a g s r o limit v from to joint entry first last z =
 bent_few : (m n : ℕ) → m ≤ 30000000 → n ≤ 30000000 → m + n ≤ 200000000
 bent_few m n hm hn = omega (arith, hm, hn)
 
-bent_course : (a : ArcShape) (g s r o limit : ℕ) (v : View) (from to joint entry : Spot) (first last : Spoke) → IsBegin a g s r o limit v from to joint entry first last →
+bent_course : (a : ArcShape) (g s r o limit : ℕ) (v : View) (from to joint entry : Spot) (first last : Spoke) →
+    IsBegin a g s r o limit v from to joint entry first last →
     left_of v first last ≡ None → IsCourse a g from to (bent_of g from joint to)
 bent_course a g s r o limit v from to joint entry first last z none =
     let some : 0 < g = omega (arith, z.seen.least) in
@@ -368,8 +372,10 @@ begun_course a g s r o limit n v from to joint entry first last most z =
       | inr some ↦ (
           let quadrants = quadrants_to first.quadrant last.quadrant in
           let before = some_left quadrants (int_lt (pos 0) (way_cross v.start v.end)) (is_before first last) some.0 first last refl some.1 in
-          let found = some_last g limit some.0 n first last before in
-          (round_of g limit from joint entry to first found.0, round_course a g s r o limit some.0 n v from to joint entry first last found.0 z some.1 most found.1))
+          let found = some_last g limit some.0 n first last before in (
+            round_of g limit from joint entry to first found.0,
+            round_course a g s r o limit some.0 n v from to joint entry first last found.0 z some.1 most found.1,
+          ))
     ]
 
 circle_course : (a : ArcShape) (g s r o limit : ℕ) (v : View) (from to : Spot) → IsSeen a g v from to → is_tiny g v ≡ false → IsCircle g s r o limit v →

@@ -34,7 +34,8 @@ on_way g a b k =
     down_way g m (d - m) a (toward a b m) b (omega (arith, ints, e)) (omega (arith, ints, e, le, down)))
 
 -- a place of the way is between its ends
-pub place_between : (a b : ℤ) (k : ℕ) → ((a ≤ℤ straight_place a b k) × (straight_place a b k ≤ℤ b)) ⊎ ((b ≤ℤ straight_place a b k) × (straight_place a b k ≤ℤ a))
+pub place_between : (a b : ℤ) (k : ℕ) → ((a ≤ℤ straight_place a b k) × (straight_place a b k ≤ℤ b)) ⊎
+    ((b ≤ℤ straight_place a b k) × (straight_place a b k ≤ℤ a))
 place_between a b k =
     let d = distance a b in
     let m = min k d in

@@ -67,13 +67,18 @@ turned_high Clockwise g p q r h w hp hr =
     omega (arith, ints, e, neg_is q, l)
 
 -- all of it is
-pub straight_in_hull : (a : ArcShape) (g m : ℕ) (p q : Spot) (k : ℕ) → IsNearHull a m (laid g a.turn p) → IsNearHull a m (laid g a.turn q) → IsNearHull a m (laid g a.turn (straight_at p q k))
+pub straight_in_hull : (a : ArcShape) (g m : ℕ) (p q : Spot) (k : ℕ) → IsNearHull a m (laid g a.turn p) → IsNearHull a m (laid g a.turn q) →
+    IsNearHull a m (laid g a.turn (straight_at p q k))
 straight_in_hull a g m p q k hp hq =
     let u = on_way g p.u q.u k in
     let v = on_way g p.v q.v k in
     record {
-      low_u = way_low g (p.u *ℤ pos g) (straight_place p.u q.u k *ℤ pos g) (q.u *ℤ pos g) (least first_of (start_of a) (other_points a) -ℤ pos m) u hp.low_u hq.low_u;
-      high_u = way_high g (p.u *ℤ pos g) (straight_place p.u q.u k *ℤ pos g) (q.u *ℤ pos g) (greatest first_of (start_of a) (other_points a) +ℤ pos m) u hp.high_u hq.high_u;
-      low_v = turned_low a.turn g (p.v *ℤ pos g) (straight_place p.v q.v k *ℤ pos g) (q.v *ℤ pos g) (least second_of (start_of a) (other_points a) -ℤ pos m) v hp.low_v hq.low_v;
-      high_v = turned_high a.turn g (p.v *ℤ pos g) (straight_place p.v q.v k *ℤ pos g) (q.v *ℤ pos g) (greatest second_of (start_of a) (other_points a) +ℤ pos m) v hp.high_v hq.high_v;
+      low_u = way_low g (p.u *ℤ pos g) (straight_place p.u q.u k *ℤ pos g) (q.u *ℤ pos g)
+          (least first_of (start_of a) (other_points a) -ℤ pos m) u hp.low_u hq.low_u;
+      high_u = way_high g (p.u *ℤ pos g) (straight_place p.u q.u k *ℤ pos g) (q.u *ℤ pos g)
+          (greatest first_of (start_of a) (other_points a) +ℤ pos m) u hp.high_u hq.high_u;
+      low_v = turned_low a.turn g (p.v *ℤ pos g) (straight_place p.v q.v k *ℤ pos g) (q.v *ℤ pos g)
+          (least second_of (start_of a) (other_points a) -ℤ pos m) v hp.low_v hq.low_v;
+      high_v = turned_high a.turn g (p.v *ℤ pos g) (straight_place p.v q.v k *ℤ pos g) (q.v *ℤ pos g)
+          (greatest second_of (start_of a) (other_points a) +ℤ pos m) v hp.high_v hq.high_v;
     }

@@ -51,7 +51,8 @@ end_between a r arc root =
 
 -- ---- a point by an end is near the circles
 
-near_circles : (a : ArcShape) (q p : Point2) (d : ℕ) → IsArc a → lo a ≤ squared_distance a.centre q → squared_distance a.centre q ≤ hi a → IsWithin d q p → IsInBand a d p
+near_circles : (a : ArcShape) (q p : Point2) (d : ℕ) → IsArc a → lo a ≤ squared_distance a.centre q → squared_distance a.centre q ≤ hi a → IsWithin d q p →
+    IsInBand a d p
 near_circles a q p d arc low high near =
     let i = (inner_root a arc).square in
     let o = (outer_root a arc).square in
@@ -84,19 +85,24 @@ last_no_farther a g l e k near =
     omega (arith, h, end_apart a g l, end_apart a g (straight_at l e k))
 
 -- so it is within d of the end where its first one is
-pub last_within : (a : ArcShape) (g d : ℕ) (l e : Spot) (k : ℕ) → IsNearestSpot g (view_of a).centre (view_of a).end e → IsWithin d (end_of a) (laid g a.turn l) →
+pub last_within : (a : ArcShape) (g d : ℕ) (l e : Spot) (k : ℕ) → IsNearestSpot g (view_of a).centre (view_of a).end e →
+    IsWithin d (end_of a) (laid g a.turn l) →
     IsWithin d (end_of a) (laid g a.turn (straight_at l e k))
 last_within a g d l e k near first = let h = last_no_farther a g l e k near in omega (arith, h, first)
 
 -- where the square of the first one's distance is at most 15*g*g, each point is within four steps of the end, and so by it and in the band
-pub last_near : (a : ArcShape) (g : ℕ) (l e : Spot) (k : ℕ) → IsNearestSpot g (view_of a).centre (view_of a).end e → squared_distance (end_of a) (laid g a.turn l) ≤ 15 * (g * g) →
+pub last_near : (a : ArcShape) (g : ℕ) (l e : Spot) (k : ℕ) → IsNearestSpot g (view_of a).centre (view_of a).end e →
+    squared_distance (end_of a) (laid g a.turn l) ≤ 15 * (g * g) →
     IsWithin (4 * g) (end_of a) (laid g a.turn (straight_at l e k))
 last_near a g l e k near first = last_within a g (4 * g) l e k near (omega (arith, first))
 
-pub last_by_end : (a : ArcShape) (g : ℕ) (l e : Spot) (k : ℕ) → IsNearestSpot g (view_of a).centre (view_of a).end e → squared_distance (end_of a) (laid g a.turn l) ≤ 15 * (g * g) →
+pub last_by_end : (a : ArcShape) (g : ℕ) (l e : Spot) (k : ℕ) → IsNearestSpot g (view_of a).centre (view_of a).end e →
+    squared_distance (end_of a) (laid g a.turn l) ≤ 15 * (g * g) →
     IsByAnEnd a (4 * g + spread a) (laid g a.turn (straight_at l e k))
-last_by_end a g l e k near first = inr (within_more (4 * g) (4 * g + spread a) (end_of a) (laid g a.turn (straight_at l e k)) (omega arith) (last_near a g l e k near first))
+last_by_end a g l e k near first =
+    inr (within_more (4 * g) (4 * g + spread a) (end_of a) (laid g a.turn (straight_at l e k)) (omega arith) (last_near a g l e k near first))
 
-pub last_in_band : (a : ArcShape) (g : ℕ) (l e : Spot) (k : ℕ) → IsArc a → IsNearestSpot g (view_of a).centre (view_of a).end e → squared_distance (end_of a) (laid g a.turn l) ≤ 15 * (g * g) →
+pub last_in_band : (a : ArcShape) (g : ℕ) (l e : Spot) (k : ℕ) → IsArc a → IsNearestSpot g (view_of a).centre (view_of a).end e →
+    squared_distance (end_of a) (laid g a.turn l) ≤ 15 * (g * g) →
     IsInBand a (4 * g) (laid g a.turn (straight_at l e k))
 last_in_band a g l e k arc near first = by_end_in_band a (4 * g) (laid g a.turn (straight_at l e k)) arc (inr (last_near a g l e k near first))

@@ -75,13 +75,15 @@ tiny_ends a g arc tiny =
 -- ---- the way between the grid points p and e nearest to them
 
 -- along one axis, from the place nearest to s to the one nearest to t
-from_first : (g : ℕ) (a b s t : ℤ) (k : ℕ) → 2 * unsigned_abs (s -ℤ (a *ℤ pos g)) ≤ g → 2 * unsigned_abs (t -ℤ (b *ℤ pos g)) ≤ g → 2 * distance s (straight_place a b k *ℤ pos g) ≤ 2 * distance s t + g
+from_first : (g : ℕ) (a b s t : ℤ) (k : ℕ) → 2 * unsigned_abs (s -ℤ (a *ℤ pos g)) ≤ g → 2 * unsigned_abs (t -ℤ (b *ℤ pos g)) ≤ g →
+    2 * distance s (straight_place a b k *ℤ pos g) ≤ 2 * distance s t + g
 from_first g a b s t k hs ht =
     let m = max (distance s (a *ℤ pos g)) (distance s (b *ℤ pos g)) in
     let h = place_within g a b s k m (omega arith) (omega arith) in
     omega (arith, ints, h, hs, ht)
 
-from_last : (g : ℕ) (a b s t : ℤ) (k : ℕ) → 2 * unsigned_abs (s -ℤ (a *ℤ pos g)) ≤ g → 2 * unsigned_abs (t -ℤ (b *ℤ pos g)) ≤ g → 2 * distance t (straight_place a b k *ℤ pos g) ≤ 2 * distance s t + g
+from_last : (g : ℕ) (a b s t : ℤ) (k : ℕ) → 2 * unsigned_abs (s -ℤ (a *ℤ pos g)) ≤ g → 2 * unsigned_abs (t -ℤ (b *ℤ pos g)) ≤ g →
+    2 * distance t (straight_place a b k *ℤ pos g) ≤ 2 * distance s t + g
 from_last g a b s t k hs ht =
     let m = max (distance t (a *ℤ pos g)) (distance t (b *ℤ pos g)) in
     let h = place_within g a b t k m (omega arith) (omega arith) in
@@ -114,7 +116,8 @@ ends_gap a =
     ∙ sym (square_sum (e.u -ℤ s.u) (e.v -ℤ s.v))
 
 -- each point of it is within four steps and the difference of the radii of the start
-pub tiny_by_start : (a : ArcShape) (g : ℕ) (p e : Spot) (k : ℕ) → IsArc a → IsTiny a g → IsNearestSpot g (view_of a).centre (view_of a).start p → IsNearestSpot g (view_of a).centre (view_of a).end e →
+pub tiny_by_start : (a : ArcShape) (g : ℕ) (p e : Spot) (k : ℕ) → IsArc a → IsTiny a g → IsNearestSpot g (view_of a).centre (view_of a).start p →
+    IsNearestSpot g (view_of a).centre (view_of a).end e →
     IsWithin (4 * g + spread a) (start_of a) (laid g a.turn (straight_at p e k))
 tiny_by_start a g p e k arc tiny first last =
     let c = (view_of a).centre in
@@ -122,11 +125,13 @@ tiny_by_start a g p e k arc tiny first last =
     let t = (view_of a).end in
     let u = from_first g p.u e.u (c.u +ℤ s.u) (c.u +ℤ t.u) k first.u last.u in
     let v = from_first g p.v e.v (c.v +ℤ s.v) (c.v +ℤ t.v) k first.v last.v in
-    let h = both_off g (3 * g + spread a) (gap_u a) (gap_v a) (distance (c.u +ℤ s.u) (straight_place p.u e.u k *ℤ pos g)) (distance (c.v +ℤ s.v) (straight_place p.v e.v k *ℤ pos g)) (omega (arith, ends_gap a, tiny_ends a g arc tiny)) u v in
+    let h = both_off g (3 * g + spread a) (gap_u a) (gap_v a) (distance (c.u +ℤ s.u) (straight_place p.u e.u k *ℤ pos g))
+    (distance (c.v +ℤ s.v) (straight_place p.v e.v k *ℤ pos g)) (omega (arith, ends_gap a, tiny_ends a g arc tiny)) u v in
     omega (arith, h, start_apart a g (straight_at p e k))
 
 -- and of the end
-pub tiny_by_end : (a : ArcShape) (g : ℕ) (p e : Spot) (k : ℕ) → IsArc a → IsTiny a g → IsNearestSpot g (view_of a).centre (view_of a).start p → IsNearestSpot g (view_of a).centre (view_of a).end e →
+pub tiny_by_end : (a : ArcShape) (g : ℕ) (p e : Spot) (k : ℕ) → IsArc a → IsTiny a g → IsNearestSpot g (view_of a).centre (view_of a).start p →
+    IsNearestSpot g (view_of a).centre (view_of a).end e →
     IsWithin (4 * g + spread a) (end_of a) (laid g a.turn (straight_at p e k))
 tiny_by_end a g p e k arc tiny first last =
     let c = (view_of a).centre in
@@ -134,9 +139,11 @@ tiny_by_end a g p e k arc tiny first last =
     let t = (view_of a).end in
     let u = from_last g p.u e.u (c.u +ℤ s.u) (c.u +ℤ t.u) k first.u last.u in
     let v = from_last g p.v e.v (c.v +ℤ s.v) (c.v +ℤ t.v) k first.v last.v in
-    let h = both_off g (3 * g + spread a) (gap_u a) (gap_v a) (distance (c.u +ℤ t.u) (straight_place p.u e.u k *ℤ pos g)) (distance (c.v +ℤ t.v) (straight_place p.v e.v k *ℤ pos g)) (omega (arith, ends_gap a, tiny_ends a g arc tiny)) u v in
+    let h = both_off g (3 * g + spread a) (gap_u a) (gap_v a) (distance (c.u +ℤ t.u) (straight_place p.u e.u k *ℤ pos g))
+    (distance (c.v +ℤ t.v) (straight_place p.v e.v k *ℤ pos g)) (omega (arith, ends_gap a, tiny_ends a g arc tiny)) u v in
     omega (arith, h, end_apart a g (straight_at p e k))
 
-pub tiny_by_an_end : (a : ArcShape) (g : ℕ) (p e : Spot) (k : ℕ) → IsArc a → IsTiny a g → IsNearestSpot g (view_of a).centre (view_of a).start p → IsNearestSpot g (view_of a).centre (view_of a).end e →
+pub tiny_by_an_end : (a : ArcShape) (g : ℕ) (p e : Spot) (k : ℕ) → IsArc a → IsTiny a g → IsNearestSpot g (view_of a).centre (view_of a).start p →
+    IsNearestSpot g (view_of a).centre (view_of a).end e →
     IsByAnEnd a (4 * g + spread a) (laid g a.turn (straight_at p e k))
 tiny_by_an_end a g p e k arc tiny first last = inl (tiny_by_start a g p e k arc tiny first last)

@@ -39,12 +39,15 @@ end_spot_near a g p near = let h = nearest_apart g (view_of a).centre (view_of a
 
 -- ---- what is at the outer radius
 
-three_ways : (c p q x : Point2) (g i o : ℕ) → squared_distance p q ≤ g * g → squared_distance c p ≤ i * i → squared_distance c x ≤ o * o → squared_distance q x ≤ (g + (i + o)) * (g + (i + o))
+three_ways : (c p q x : Point2) (g i o : ℕ) → squared_distance p q ≤ g * g → squared_distance c p ≤ i * i → squared_distance c x ≤ o * o →
+    squared_distance q x ≤ (g + (i + o)) * (g + (i + o))
 three_ways c p q x g i o hq hp hx = plane_above q p x g (i + o) (omega (arith, hq, apart_back q p)) (two_ends c p x i o hp hx)
 
 -- some point of the way is within five steps and the difference of the radii of each point that is no farther out than the outer radius
-pub tiny_place : (a : ArcShape) (g : ℕ) (p e : Spot) → IsArc a → IsTiny a g → IsNearestSpot g (view_of a).centre (view_of a).start p → IsNearestSpot g (view_of a).centre (view_of a).end e →
-    (k : ℕ) × (k ≤ straight_moves p e) × ((x : Point2) → squared_distance a.centre x ≤ outer_radius a * outer_radius a → IsWithin (5 * g + spread a) (laid g a.turn (straight_at p e k)) x)
+pub tiny_place : (a : ArcShape) (g : ℕ) (p e : Spot) → IsArc a → IsTiny a g → IsNearestSpot g (view_of a).centre (view_of a).start p →
+    IsNearestSpot g (view_of a).centre (view_of a).end e →
+    (k : ℕ) × (k ≤ straight_moves p e) ×
+    ((x : Point2) → squared_distance a.centre x ≤ outer_radius a * outer_radius a → IsWithin (5 * g + spread a) (laid g a.turn (straight_at p e k)) x)
 tiny_place a g p e arc tiny first last =
     let r = tiny_radii a g arc tiny in
     let i = inner_radius a + 1 in
@@ -77,14 +80,17 @@ one_of_two x m n h =
       | inr more ↦ (let a = square_le x m (omega (arith, h, more)) in omega (arith, a))
     ]
 
-axis_between : (g : ℕ) (a b c : ℤ) (k : ℕ) → unsigned_abs ((straight_place a b k *ℤ pos g) -ℤ c) ≤ max (unsigned_abs ((a *ℤ pos g) -ℤ c)) (unsigned_abs ((b *ℤ pos g) -ℤ c))
+axis_between : (g : ℕ) (a b c : ℤ) (k : ℕ) → unsigned_abs ((straight_place a b k *ℤ pos g) -ℤ c)
+    ≤ max (unsigned_abs ((a *ℤ pos g) -ℤ c)) (unsigned_abs ((b *ℤ pos g) -ℤ c))
 axis_between g a b c k = place_within g a b c k (max (unsigned_abs ((a *ℤ pos g) -ℤ c)) (unsigned_abs ((b *ℤ pos g) -ℤ c))) (omega arith) (omega arith)
 
 -- the square of each point's distance is at most those of the first and the last point together
 pub straight_square : (g : ℕ) (c : Way) (p e : Spot) (k : ℕ) → squared (way_from g c (straight_at p e k)) ≤ squared (way_from g c p) + squared (way_from g c e)
 straight_square g c p e k =
-    let u = one_of_two (unsigned_abs (way_from g c (straight_at p e k)).u) (unsigned_abs (way_from g c p).u) (unsigned_abs (way_from g c e).u) (axis_between g p.u e.u c.u k) in
-    let v = one_of_two (unsigned_abs (way_from g c (straight_at p e k)).v) (unsigned_abs (way_from g c p).v) (unsigned_abs (way_from g c e).v) (axis_between g p.v e.v c.v k) in
+    let u = one_of_two (unsigned_abs (way_from g c (straight_at p e k)).u) (unsigned_abs (way_from g c p).u) (unsigned_abs (way_from g c e).u)
+    (axis_between g p.u e.u c.u k) in
+    let v = one_of_two (unsigned_abs (way_from g c (straight_at p e k)).v) (unsigned_abs (way_from g c p).v) (unsigned_abs (way_from g c e).v)
+    (axis_between g p.v e.v c.v k) in
     omega (arith, u, v)
 
 both_out : (i o g : ℕ) → 500 ≤ g → 2 * i ≤ 3 * g + 1 → (i + g) * (i + g) + (o + g) * (o + g) ≤ (o + 4 * g) * (o + 4 * g)
@@ -93,7 +99,8 @@ both_out i o g step small =
     omega (arith, a)
 
 -- each point is in the band of four steps
-pub tiny_in_band : (a : ArcShape) (g : ℕ) (p e : Spot) (k : ℕ) → IsArc a → 500 ≤ g → IsTiny a g → IsNearestSpot g (view_of a).centre (view_of a).start p → IsNearestSpot g (view_of a).centre (view_of a).end e →
+pub tiny_in_band : (a : ArcShape) (g : ℕ) (p e : Spot) (k : ℕ) → IsArc a → 500 ≤ g → IsTiny a g → IsNearestSpot g (view_of a).centre (view_of a).start p →
+    IsNearestSpot g (view_of a).centre (view_of a).end e →
     IsInBand a (4 * g) (laid g a.turn (straight_at p e k))
 tiny_in_band a g p e k arc step tiny first last =
     let r = tiny_radii a g arc tiny in

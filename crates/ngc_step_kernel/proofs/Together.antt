@@ -20,7 +20,8 @@ use Rattle.ngc_step_kernel.proofs.CourseLemmas.{to_joint, to_last, to_end}
 
 pub record HasParts (a : ArcShape) (g : ℕ) (p : Plan) : Type 0 where
   pub plan : IsPlan p
-  pub first : (k : ℕ) → k ≤ p.joined → IsByArc a g (leeway (pos g) a) (laid g a.turn (straight_at p.start p.joint k)) × IsByAnEnd a (4 * g + spread a) (laid g a.turn (straight_at p.start p.joint k))
+  pub first : (k : ℕ) → k ≤ p.joined → IsByArc a g (leeway (pos g) a) (laid g a.turn (straight_at p.start p.joint k)) ×
+      IsByAnEnd a (4 * g + spread a) (laid g a.turn (straight_at p.start p.joint k))
   pub enters : straight_moves p.joint p.entry ≤ 1
   pub round : (k : ℕ) → k ≤ p.rolled - p.entered → IsByArc a g (leeway (pos g) a) (laid g a.turn (rounded p k))
   pub onward : (k : ℕ) → k < p.rolled - p.entered → GoesOn a (4 * g + spread a) (laid g a.turn (rounded p k)) (laid g a.turn (rounded p (k + 1)))
@@ -39,20 +40,24 @@ parts_near a g p k s h = elim (cases_lt p.joined k) [
   ])
 ]
 
-first_goes : (a : ArcShape) (g : ℕ) (p : Plan) (k : ℕ) → HasParts a g p → k ≤ p.joined → GoesOn a (4 * g + spread a) (laid g a.turn (course_at p k)) (laid g a.turn (course_at p (k + 1)))
+first_goes : (a : ArcShape) (g : ℕ) (p : Plan) (k : ℕ) → HasParts a g p → k ≤ p.joined →
+    GoesOn a (4 * g + spread a) (laid g a.turn (course_at p k)) (laid g a.turn (course_at p (k + 1)))
 first_goes a g p k s h = rw (to_joint p k h) (inr (inl (s.first k h).1))
 
-round_goes : (a : ArcShape) (g : ℕ) (p : Plan) (k : ℕ) → HasParts a g p → p.entered ≤ k → k < p.rolled → GoesOn a (4 * g + spread a) (laid g a.turn (course_at p k)) (laid g a.turn (course_at p (k + 1)))
+round_goes : (a : ArcShape) (g : ℕ) (p : Plan) (k : ℕ) → HasParts a g p → p.entered ≤ k → k < p.rolled →
+    GoesOn a (4 * g + spread a) (laid g a.turn (course_at p k)) (laid g a.turn (course_at p (k + 1)))
 round_goes a g p k s from to =
     let e : k + 1 - p.entered ≡ k - p.entered + 1 = omega arith in
     rw (to_last p k s.plan from (omega arith), to_last p (k + 1) s.plan (omega arith) (omega arith), e) (s.onward (k - p.entered) (omega arith))
 
-last_goes : (a : ArcShape) (g : ℕ) (p : Plan) (k : ℕ) → HasParts a g p → p.rolled ≤ k → k < p.moves → GoesOn a (4 * g + spread a) (laid g a.turn (course_at p k)) (laid g a.turn (course_at p (k + 1)))
+last_goes : (a : ArcShape) (g : ℕ) (p : Plan) (k : ℕ) → HasParts a g p → p.rolled ≤ k → k < p.moves →
+    GoesOn a (4 * g + spread a) (laid g a.turn (course_at p k)) (laid g a.turn (course_at p (k + 1)))
 last_goes a g p k s from to =
     let e : k + 1 - p.rolled ≡ k - p.rolled + 1 = omega arith in
     rw (to_end p (k + 1) s.plan (omega arith), e) (inr (inr (s.beside (k - p.rolled) (omega (arith, s.plan.moves)))))
 
-parts_go : (a : ArcShape) (g : ℕ) (p : Plan) (k : ℕ) → HasParts a g p → k < p.moves → GoesOn a (4 * g + spread a) (laid g a.turn (course_at p k)) (laid g a.turn (course_at p (k + 1)))
+parts_go : (a : ArcShape) (g : ℕ) (p : Plan) (k : ℕ) → HasParts a g p → k < p.moves →
+    GoesOn a (4 * g + spread a) (laid g a.turn (course_at p k)) (laid g a.turn (course_at p (k + 1)))
 parts_go a g p k s h = elim (cases_lt p.joined k) [
   | inr first ↦ first_goes a g p k s first
   | inl past ↦ (let entered : p.entered ≤ k = omega (arith, past, s.plan.entered, s.enters) in elim (cases_lt k p.rolled) [

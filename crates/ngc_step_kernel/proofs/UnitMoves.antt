@@ -23,7 +23,8 @@ use Rattle.ngc_step_kernel.specs.Move.{steps_of}
 use Rattle.ngc_step_kernel.specs.Round.{turned, in_space, round_point, round_points}
 use Rattle.ngc_step_kernel.specs.Spots.{axis_towards, roll_move, spot_moved, spot_towards, straight_at, straight_moves, straight_place}
 use Rattle.ngc_step_kernel.specs.UnitPath.{IsUnitPath}
-use Rattle.ngc_step_kernel.proofs.CourseLemmas.{place_on, steps_small, to_joint, to_entry, to_end, on_to_joint, on_to_entry, on_to_last, on_to_end, course_starts, course_ends}
+use Rattle.ngc_step_kernel.proofs.CourseLemmas.{place_on, steps_small, to_joint, to_entry, to_end, on_to_joint, on_to_entry, on_to_last, on_to_end}
+use Rattle.ngc_step_kernel.proofs.CourseLemmas.{course_starts, course_ends}
 use Rattle.ngc_step_kernel.proofs.LineLemmas.{distance-toward, place-zero, place-all}
 use Rattle.ngc_step_kernel.proofs.RoundLemmas.{length-round, point-round}
 use Rattle.ngc_step_kernel.proofs.Sharing.{steps, steps-zero, steps-all, steps-next, steps-within}
@@ -73,12 +74,24 @@ roll_goes Over Fourth = omega (arith, ints)
 
 pub course_goes : (p : Plan) (k : ℕ) → IsPlan p → k < p.moves → (m : PlaneMove) × (course_at p (k + 1) ≡ spot_moved (course_at p k) m) × (1 ≤ goes m)
 course_goes p k s h = elim (cases_lt k p.joined) [
-  | inl a ↦ (spot_towards (course_at p k) p.joint, on_to_joint p k a, rw (to_joint p k (omega arith)) (straight_goes p.start p.joint k (omega (arith, s.joined))))
+  | inl a ↦ (
+    spot_towards (course_at p k) p.joint,
+    on_to_joint p k a,
+    rw (to_joint p k (omega arith)) (straight_goes p.start p.joint k (omega (arith, s.joined))),
+  )
   | inr a ↦ elim (cases_lt k p.entered) [
-    | inl b ↦ (spot_towards (course_at p k) p.entry, on_to_entry p k s a b, rw (to_entry p k s a (omega arith)) (straight_goes p.joint p.entry (k - p.joined) (omega (arith, s.entered))))
+    | inl b ↦ (
+      spot_towards (course_at p k) p.entry,
+      on_to_entry p k s a b,
+      rw (to_entry p k s a (omega arith)) (straight_goes p.joint p.entry (k - p.joined) (omega (arith, s.entered))),
+    )
     | inr b ↦ elim (cases_lt k p.rolled) [
       | inl c ↦ (wheel_move p.step p.limit p.first (k - p.entered), on_to_last p k s b c, roll_goes _ _)
-      | inr c ↦ (spot_towards (course_at p k) p.end, on_to_end p k s c, rw (to_end p k s c) (straight_goes (last_of p) p.end (k - p.rolled) (omega (arith, s.moves))))
+      | inr c ↦ (
+        spot_towards (course_at p k) p.end,
+        on_to_end p k s c,
+        rw (to_end p k s c) (straight_goes (last_of p) p.end (k - p.rolled) (omega (arith, s.moves))),
+      )
     ]
   ]
 ]
@@ -109,28 +122,54 @@ turned_apart Clockwise a b = omega (arith, ints)
 same_place : (a b : ℤ) → a ≡ b → distance a b ≡ 0
 same_place a b e = omega (arith, ints, e)
 
-space_unit : (plane : Plane) (t : Turn) (r s : Spot) (g h : ℤ) → AreNear r s → distance g h ≤ 1 → 1 ≤ distance r.u s.u + distance r.v s.v + distance g h → IsUnitMove (in_space plane t r g) (in_space plane t s h)
+space_unit : (plane : Plane) (t : Turn) (r s : Spot) (g h : ℤ) → AreNear r s → distance g h ≤ 1 → 1 ≤ distance r.u s.u + distance r.v s.v + distance g h →
+    IsUnitMove (in_space plane t r g) (in_space plane t s h)
 space_unit XY t r s g h near high apart = let e = turned_apart t r.v s.v in record {
   x = near.u;
   y = omega (arith, e, near.v);
   z = high;
-  moves = λ same. absurd (omega (arith, apart, e, same_place _ _ (ap (λ (p : StepPos). p.x) same), same_place _ _ (ap (λ (p : StepPos). p.y) same), same_place _ _ (ap (λ (p : StepPos). p.z) same)));
+  moves = λ same. absurd
+      (omega (
+        arith,
+        apart,
+        e,
+        same_place _ _ (ap (λ (p : StepPos). p.x) same),
+        same_place _ _ (ap (λ (p : StepPos). p.y) same),
+        same_place _ _ (ap (λ (p : StepPos). p.z) same),
+      ));
 }
 space_unit ZX t r s g h near high apart = let e = turned_apart t r.v s.v in record {
   x = omega (arith, e, near.v);
   y = high;
   z = near.u;
-  moves = λ same. absurd (omega (arith, apart, e, same_place _ _ (ap (λ (p : StepPos). p.x) same), same_place _ _ (ap (λ (p : StepPos). p.y) same), same_place _ _ (ap (λ (p : StepPos). p.z) same)));
+  moves = λ same. absurd
+      (omega (
+        arith,
+        apart,
+        e,
+        same_place _ _ (ap (λ (p : StepPos). p.x) same),
+        same_place _ _ (ap (λ (p : StepPos). p.y) same),
+        same_place _ _ (ap (λ (p : StepPos). p.z) same),
+      ));
 }
 space_unit YZ t r s g h near high apart = let e = turned_apart t r.v s.v in record {
   x = high;
   y = near.u;
   z = omega (arith, e, near.v);
-  moves = λ same. absurd (omega (arith, apart, e, same_place _ _ (ap (λ (p : StepPos). p.x) same), same_place _ _ (ap (λ (p : StepPos). p.y) same), same_place _ _ (ap (λ (p : StepPos). p.z) same)));
+  moves = λ same. absurd
+      (omega (
+        arith,
+        apart,
+        e,
+        same_place _ _ (ap (λ (p : StepPos). p.x) same),
+        same_place _ _ (ap (λ (p : StepPos). p.y) same),
+        same_place _ _ (ap (λ (p : StepPos). p.z) same),
+      ));
 }
 
 -- the plane's part of a move of the path: one move or none, and one where the plane has as many as the path
-plane_part : (p : Plan) (i j : ℕ) → IsPlan p → j ≤ p.moves → (j ≡ i) ⊎ (j ≡ i + 1) → AreNear (course_at p i) (course_at p j) × (j ≡ i + 1 → 1 ≤ distance (course_at p i).u (course_at p j).u + distance (course_at p i).v (course_at p j).v)
+plane_part : (p : Plan) (i j : ℕ) → IsPlan p → j ≤ p.moves → (j ≡ i) ⊎ (j ≡ i + 1) →
+    AreNear (course_at p i) (course_at p j) × (j ≡ i + 1 → 1 ≤ distance (course_at p i).u (course_at p j).u + distance (course_at p i).v (course_at p j).v)
 plane_part p i j s h (inl same) = (same_near _ _ (ap (course_at p) same), λ e. absurd (omega (arith, same, e)))
 plane_part p i j s h (inr next) =
     let m = course_goes p i s (omega (arith, next)) in
@@ -161,12 +200,16 @@ cc_space : (plane : Plane) (t : Turn) (r s : Spot) (g h : ℤ) → r ≡ s → g
 cc_space plane t r s g h a b = rw (a, b) refl
 
 pub unit_path : (plane : Plane) (t : Turn) (p : Plan) (low high : ℤ) → IsPlan p →
-    IsUnitPath (in_space plane t p.start low) (in_space plane t p.end high) (max p.moves (distance low high)) (round_points plane t p (max p.moves (distance low high)) low high)
+    IsUnitPath (in_space plane t p.start low) (in_space plane t p.end high) (max p.moves (distance low high))
+    (round_points plane t p (max p.moves (distance low high)) low high)
 unit_path plane t p low high s =
     let n = max p.moves (distance low high) in
     record {
       count = length-round plane t p n low high;
-      starts = point-round plane t p n low high 0 (omega arith) ∙ cc_space plane t _ _ _ _ (ap (course_at p) (steps-zero n p.moves) ∙ course_starts p) (place-zero n low high);
-      ends = point-round plane t p n low high n (omega arith) ∙ cc_space plane t _ _ _ _ (ap (course_at p) (steps-all n p.moves (omega arith)) ∙ course_ends p s) (place-all n low high (omega arith));
-      unit_moves = λ k less. rw (point-round plane t p n low high k (omega arith), point-round plane t p n low high (k + 1) (omega arith)) (round_unit plane t p low high n k s refl less);
+      starts = point-round plane t p n low high 0 (omega arith) ∙ cc_space plane t _ _ _ _ (ap (course_at p) (steps-zero n p.moves) ∙ course_starts p)
+          (place-zero n low high);
+      ends = point-round plane t p n low high n (omega arith) ∙ cc_space plane t _ _ _ _
+          (ap (course_at p) (steps-all n p.moves (omega arith)) ∙ course_ends p s) (place-all n low high (omega arith));
+      unit_moves = λ k less. rw (point-round plane t p n low high k (omega arith), point-round plane t p n low high (k + 1) (omega arith))
+          (round_unit plane t p low high n k s refl less);
     }

@@ -80,7 +80,8 @@ pub moved_small : (g s r : ℕ) (c b x p : ℤ) → 0 < s → 500 ≤ g → g �
 moved_small g s r c b x p some least most sum near =
     let e = unsigned_abs-mul p (pos (s * g)) in
     let f : unsigned_abs ((c *ℤ pos s) +ℤ (b *ℤ pos r)) ≤ s * 95000020000 = rw sum.is at sum.bound in
-    let a : 2 * unsigned_abs (p *ℤ pos (s * g)) ≤ 2 * (s * 95000020000) + s * g = twice_near ((c *ℤ pos s) +ℤ (b *ℤ pos r)) (p *ℤ pos (s * g)) (s * 95000020000) (s * g) f near in
+    let a : 2 * unsigned_abs (p *ℤ pos (s * g)) ≤ 2 * (s * 95000020000) + s * g =
+    twice_near ((c *ℤ pos s) +ℤ (b *ℤ pos r)) (p *ℤ pos (s * g)) (s * 95000020000) (s * g) f near in
     let d : s * (2 * (unsigned_abs p * g)) ≤ s * (190000040000 + g) = omega (arith, a, e) in
     let h = le_of_mul-le-mul_left d some in
     omega (arith, h, mul-le-mul_left (unsigned_abs p) least)

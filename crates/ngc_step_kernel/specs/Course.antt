@@ -13,7 +13,8 @@ use Rattle.ngc_step_kernel.specs.Spots.{IsSpot, roll_move, spot_moved, straight_
 
 -- what roll k is in the plane
 abbrev pub wheel_move : ℕ → ℕ → Spoke → ℕ → PlaneMove
-wheel_move g limit s k = roll_move (next_roll g limit (spoke_at g limit s k)) (spoke_at g limit s k).quadrant
+wheel_move g limit s k =
+    roll_move (next_roll g limit (spoke_at g limit s k)) (spoke_at g limit s k).quadrant
 
 -- the grid point that k rolls lead to from p
 unfoldable pub round_at : ℕ → ℕ → Spoke → Spot → ℕ → Spot

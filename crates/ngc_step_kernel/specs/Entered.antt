@@ -1,6 +1,7 @@
 -- Where a wheel begins: at the joint, or a move on from it where the joint lies behind the start's
 -- direction. Our own.
-use Rattle.std.specs.Prelude.{◌≡◌, ◌⊎◌, ℕ, ◌+◌, ◌<◌, nat_lt, Bool, ℤ, pos, ◌-ℤ◌, ◌*ℤ◌, ◌≤ℤ◌, ◌<ℤ◌, unsigned_abs}
+use Rattle.std.specs.Prelude.{◌≡◌, ◌⊎◌, ℕ, ◌+◌, ◌<◌, nat_lt, Bool, ℤ, pos, ◌-ℤ◌, ◌*ℤ◌, ◌≤ℤ◌, ◌<ℤ◌}
+use Rattle.std.specs.Prelude.{unsigned_abs}
 use Rattle.ngc_wheel.specs.Around.{way_to}
 use Rattle.ngc_wheel.specs.Entering.{IsEntry}
 use Rattle.ngc_wheel.specs.Wheel.{rolled}
@@ -25,8 +26,12 @@ way_cross b w = (b.u *ℤ w.v) -ℤ (b.v *ℤ w.u)
 -- from the joint's point
 abbrev pub IsEnteredFrom : ℕ → ℕ → Way → Way → Spoke → Spoke → Type 0
 IsEnteredFrom g limit b w first s =
-    ((pos 0 ≤ℤ way_cross b w) × (s ≡ first)) ⊎ ((way_cross b w <ℤ pos 0) × ((roll : Roll) × IsEntry g limit (is_steep first.quadrant b) first roll × (s ≡ rolled g roll first)))
+    ((pos 0 ≤ℤ way_cross b w) × (s ≡ first)) ⊎
+    ((way_cross b w <ℤ pos 0) ×
+    ((roll : Roll) × IsEntry g limit (is_steep first.quadrant b) first roll ×
+    (s ≡ rolled g roll first)))
 
 -- for the start's way b and the joint's way w
 abbrev pub IsEntered : ℕ → ℕ → Way → Way → Spoke → Type 0
-IsEntered g limit b w s = (first : Spoke) × (way_to first ≡ place_of w) × (0 < unsigned_abs w.u + unsigned_abs w.v → 0 < first.x) × IsEnteredFrom g limit b w first s
+IsEntered g limit b w s = (first : Spoke) × (way_to first ≡ place_of w) ×
+    (0 < unsigned_abs w.u + unsigned_abs w.v → 0 < first.x) × IsEnteredFrom g limit b w first s

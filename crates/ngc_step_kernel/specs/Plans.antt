@@ -26,7 +26,8 @@ pub record IsBentPlan (start joint end : Spot) (p : Plan) : Type 0 where
   pub rolled : p.rolled ≡ p.joined
 
 -- round with a wheel: up to its last point before the end's direction, unless it is cut off
-pub record IsRoundPlan (start joint entry end : Spot) (first last : Spoke) (quadrants step limit : ℕ) (p : Plan) : Type 0 where
+pub record IsRoundPlan (start joint entry end : Spot) (first last : Spoke)
+    (quadrants step limit : ℕ) (p : Plan) : Type 0 where
   pub starts : p.start ≡ start
   pub joins : p.joint ≡ joint
   pub enters : p.entry ≡ entry
@@ -35,5 +36,8 @@ pub record IsRoundPlan (start joint entry end : Spot) (first last : Spoke) (quad
   pub steps : p.step ≡ step
   pub limits : p.limit ≡ limit
   pub few : p.rolled - p.entered ≤ 100000000
-  pub before : IsBeforeEnd (quadrant_at step limit first (p.rolled - p.entered)) quadrants (spoke_at step limit first (p.rolled - p.entered)) last
-  pub past : p.rolled - p.entered < 100000000 → IsBeforeEnd (quadrant_at step limit first (p.rolled - p.entered + 1)) quadrants (spoke_at step limit first (p.rolled - p.entered + 1)) last → ⊥
+  pub before : IsBeforeEnd (quadrant_at step limit first (p.rolled - p.entered)) quadrants
+      (spoke_at step limit first (p.rolled - p.entered)) last
+  pub past : p.rolled - p.entered < 100000000 →
+      IsBeforeEnd (quadrant_at step limit first (p.rolled - p.entered + 1)) quadrants
+      (spoke_at step limit first (p.rolled - p.entered + 1)) last → ⊥

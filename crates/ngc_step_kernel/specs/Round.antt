@@ -56,14 +56,20 @@ abbrev pub course_place : ℕ → Plan → ℕ → ℕ
 course_place n p k = nearest_size (k * p.moves) n
 
 abbrev pub round_point : Plane → Turn → Plan → ℕ → ℤ → ℤ → ℕ → StepPos
-round_point plane turn p n low high k = in_space plane turn (course_at p (course_place n p k)) (line_place n k low high)
+round_point plane turn p n low high k =
+    in_space plane turn (course_at p (course_place n p k)) (line_place n k low high)
 
 -- points 0 to n
 abbrev pub round_points : Plane → Turn → Plan → ℕ → ℤ → ℤ → List StepPos
 round_points plane turn p n low high = listed n (round_point plane turn p n low high)
 
 abbrev pub round_walk : Plane → Turn → Plan → ℕ → Axis → ℕ → ℕ → RootedWalk
-round_walk plane turn p n height k roots = record { points = round_points plane turn p n height.start height.end; place = k; roots = roots }
+round_walk plane turn p n height k roots =
+    record {
+      points = round_points plane turn p n height.start height.end;
+      place = k;
+      roots = roots;
+    }
 
 -- how far the course is after a move of the axis that shares it out
 abbrev pub followed : AxisMove → ℕ → ℕ

@@ -1,5 +1,6 @@
 -- An arc seen about its centre as one that turns from u towards v: a clockwise one in the mirror.
-use Rattle.std.specs.Prelude.{ℕ, zero, suc, Bool, true, false, if◌then◌else◌, Option, Some, None, ◌+◌, ◌*◌, ◌<◌, ◌≤◌, ℤ, pos, ◌+ℤ◌, ◌-ℤ◌, ◌*ℤ◌, unsigned_abs}
+use Rattle.std.specs.Prelude.{ℕ, zero, suc, Bool, true, false, if◌then◌else◌, Option, Some, None}
+use Rattle.std.specs.Prelude.{◌+◌, ◌*◌, ◌<◌, ◌≤◌, ℤ, pos, ◌+ℤ◌, ◌-ℤ◌, ◌*ℤ◌, unsigned_abs}
 use Rattle.ngc_fixed_length.specs.declared.modes.Turn.{Turn}
 use Rattle.ngc_fixed_length.specs.declared.points.Point2.{Point2}
 use Rattle.ngc_arc_geometry.specs.Shape.{ArcShape, start_of, end_of}
@@ -36,7 +37,8 @@ pub record IsView (a : View) : Type 0 where
 -- along an axis p steps of length g is the grid place nearest to where the way b from c leads once
 -- it is moved from radius s to r
 abbrev pub IsMoved : ℕ → ℕ → ℕ → ℤ → ℤ → ℤ → Type 0
-IsMoved g s r c b p = 2 * unsigned_abs (((c *ℤ pos s) +ℤ (b *ℤ pos r)) -ℤ (p *ℤ pos (s * g))) ≤ s * g
+IsMoved g s r c b p =
+    2 * unsigned_abs (((c *ℤ pos s) +ℤ (b *ℤ pos r)) -ℤ (p *ℤ pos (s * g))) ≤ s * g
 
 -- the grid point nearest to where a way leads from the centre
 pub record IsNearestSpot (g : ℕ) (c w : Way) (p : Spot) : Type 0 where

@@ -36,7 +36,9 @@ impl<W: Wheel + Drop> Model for RoundPath<W> {
 
     ghost view = { λ r. round_walk r.plane r.turn r.course.plan r.moves r.height r.done r.roots };
 
-    ghost invariant = { λ r. IsSpread r.course.plan r.course.done r.moves r.done r.progress r.height × IsCourseAt r.course.plan r.course.done r.course.at (W.place r.course.wheel) (W.pace r.course.wheel) (W.rim r.course.wheel) };
+    ghost invariant = { λ r. IsSpread r.course.plan r.course.done r.moves r.done r.progress
+        r.height × IsCourseAt r.course.plan r.course.done r.course.at (W.place r.course.wheel)
+        (W.pace r.course.wheel) (W.rim r.course.wheel) };
 }
 
 /// A path that follows an arc by squares that it keeps by additions, without a root on the way.
@@ -52,7 +54,8 @@ ghost use Rattle.ngc_fixed_length.specs.LinePath.{point};
 ghost use Rattle.ngc_arc_geometry.specs.ArcPath.{IsArcPath};
 ghost use Rattle.ngc_step_kernel.specs.Move.{moved};
 ghost use Rattle.ngc_step_kernel.specs.Course.{IsPlan};
-ghost use Rattle.ngc_step_kernel.specs.Round.{in_space, move_in_space, seen_spot, seen_height, round_points};
+ghost use Rattle.ngc_step_kernel.specs.Round.{in_space, move_in_space, seen_spot, seen_height};
+ghost use Rattle.ngc_step_kernel.specs.Round.{round_points};
 ghost use Rattle.ngc_step_kernel.specs.Spots.{IsSpot};
 
 /// The grid point at a place of the plane, so high.
@@ -132,8 +135,10 @@ impl<W: Wheel + Drop> RoundPath<W> {
         requires plan { IsPlan plan }
         requires low { unsigned_abs low ≤ 200000000 }
         requires high { unsigned_abs high ≤ 200000000 }
-        ensures points { result.points ≡ round_points plane turn plan (max plan.moves (distance low high)) low high }
-        ensures unit { IsUnitPath (in_space plane turn plan.start low) (in_space plane turn plan.end high) (max plan.moves (distance low high)) result.points }
+        ensures points { result.points ≡ round_points plane turn plan
+            (max plan.moves (distance low high)) low high }
+        ensures unit { IsUnitPath (in_space plane turn plan.start low)
+            (in_space plane turn plan.end high) (max plan.moves (distance low high)) result.points }
         ensures place { result.place ≡ 0 }
         ensures roots { result.roots ≡ roots }
     {
@@ -168,7 +173,8 @@ impl<W: Wheel + Drop> Path for RoundPath<W> {
         requires { self.old.place + 1 < length self.old.points }
         ensures points { self.new.points ≡ self.old.points }
         ensures place { self.new.place ≡ self.old.place + 1 }
-        ensures answer { point self.new.points self.new.place ≡ moved (point self.old.points self.old.place) result }
+        ensures answer { point self.new.points self.new.place
+            ≡ moved (point self.old.points self.old.place) result }
         ensures roots { self.new.roots ≡ self.old.roots }
     {
         self.done += 1;

@@ -1,4 +1,5 @@
-ghost use Rattle.std.specs.Prelude.{◌≡◌, ◌≤◌, ◌+◌, ◌*◌, ◌/◌, min, max, nat_lt, pos, ◌-ℤ◌, ◌*ℤ◌, int_lt};
+ghost use Rattle.std.specs.Prelude.{◌≡◌, ◌≤◌, ◌+◌, ◌*◌, ◌/◌, min, max, nat_lt, pos, ◌-ℤ◌, ◌*ℤ◌};
+ghost use Rattle.std.specs.Prelude.{int_lt};
 ghost use Rattle.ngc_wheel.specs.Quadrants.{quadrants_to};
 ghost use Rattle.ngc_wheel.specs.Wheel.{square, is_before, IsSmall};
 ghost use Rattle.ngc_step_kernel.specs.About.{IsAbout};
@@ -8,7 +9,8 @@ ghost use Rattle.ngc_step_kernel.specs.Course.{IsPlan, course_at};
 ghost use Rattle.ngc_step_kernel.specs.PlaneCourse.{laid, FollowsInPlane};
 ghost use Rattle.ngc_step_kernel.specs.Entered.{is_steep, IsEntered};
 ghost use Rattle.ngc_step_kernel.specs.Spots.{IsSpot, straight_moves};
-ghost use Rattle.ngc_step_kernel.specs.View.{squared, place_of, way_from, quadrants_left, view_of, IsView, IsNearestSpot};
+ghost use Rattle.ngc_step_kernel.specs.View.{squared, place_of, way_from, quadrants_left, view_of};
+ghost use Rattle.ngc_step_kernel.specs.View.{IsView, IsNearestSpot};
 ghost use Rattle.ngc_step_kernel.specs.Ways.{IsWay};
 
 use crate::plan::Plan;
@@ -42,14 +44,17 @@ impl Entry {
     fn of(view: &View, joint: Spot, step: u64, radius: u64, limit: u64) -> Entry
         requires view { IsView view.now }
         requires joint { IsSpot joint }
-        requires near { 12 * squared (way_from step view.now.centre joint) ≤ 12 * (radius * radius) + 17 * (radius * step) + 6 * (step * step) }
+        requires near { 12 * squared (way_from step view.now.centre joint)
+            ≤ 12 * (radius * radius) + 17 * (radius * step) + 6 * (step * step) }
         requires radius { radius ≤ 2000020000 }
         requires least { 500 ≤ step }
         requires greatest { step ≤ 50000 }
         ensures about { IsAbout step (place_of view.now.centre) result.spot result.spoke }
-        ensures entered { IsEntered step limit view.now.start (way_from step view.now.centre joint) result.spoke }
+        ensures entered { IsEntered step limit view.now.start
+            (way_from step view.now.centre joint) result.spoke }
         ensures beside { straight_moves joint result.spot ≤ 1 }
-        ensures near { square result.spoke.x result.spoke.y ≤ (radius + 2 * step) * (radius + 2 * step) }
+        ensures near { square result.spoke.x result.spoke.y
+            ≤ (radius + 2 * step) * (radius + 2 * step) }
     {
         let way = view.way_to(&joint, step);
         let first = way.spoke();
@@ -75,7 +80,10 @@ fn quadrants_left(view: &View, first: &Spoke, end: &Spoke) -> Option<u32>
     requires end { IsWay view.now.end }
     requires first { IsSmall first.now }
     requires last { IsSmall end.now }
-    ensures { result ≡ quadrants_left (quadrants_to first.now.quadrant end.now.quadrant) (int_lt (pos 0) ((view.now.start.u *ℤ view.now.end.v) -ℤ (view.now.start.v *ℤ view.now.end.u))) (is_before first.now end.now) }
+    ensures { result ≡ quadrants_left (quadrants_to first.now.quadrant end.now.quadrant)
+        (int_lt (pos 0)
+        ((view.now.start.u *ℤ view.now.end.v) -ℤ (view.now.start.v *ℤ view.now.end.u)))
+        (is_before first.now end.now) }
 {
     let is_short = 0 < view.start.cross(&view.end);
     let is_before = first.is_before(end);
@@ -92,7 +100,8 @@ fn is_tiny(view: &View, step: u64) -> bool
     requires start { IsWay view.now.start }
     requires end { IsWay view.now.end }
     requires greatest { step ≤ 50000 }
-    ensures { result ≡ nat_lt (4 * min (squared view.now.start) (squared view.now.end)) (9 * (step * step)) }
+    ensures { result ≡ nat_lt (4 * min (squared view.now.start) (squared view.now.end))
+        (9 * (step * step)) }
 {
     let lesser = view.start.square().min(view.end.square());
     4 * lesser < 9 * u128::from(step * step)
@@ -134,7 +143,8 @@ impl Plan {
         ensures start { result.start ≡ start }
         ensures end { result.end ≡ end }
         ensures roots { roots.new.taken ≤ roots.old.taken + 2 }
-        ensures follows { (a : ArcShape) → view.now ≡ view_of a → IsArc a → FollowsInPlane a step result.moves (λ j. laid step a.turn (course_at result j)) }
+        ensures follows { (a : ArcShape) → view.now ≡ view_of a → IsArc a →
+            FollowsInPlane a step result.moves (λ j. laid step a.turn (course_at result j)) }
     {
         if is_tiny(view, step) {
             return Plan::straight(start, end, step);

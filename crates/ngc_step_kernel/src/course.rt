@@ -24,7 +24,8 @@ impl<W: Wheel + Drop> Course<W> {
         requires { IsPlan plan }
         ensures plan { result.plan ≡ plan }
         ensures done { result.done ≡ 0 }
-        ensures state { IsCourseAt result.plan result.done result.at (W.place result.wheel) (W.pace result.wheel) (W.rim result.wheel) }
+        ensures state { IsCourseAt result.plan result.done result.at (W.place result.wheel)
+            (W.pace result.wheel) (W.rim result.wheel) }
     {
         Course {
             plan,
@@ -35,11 +36,13 @@ impl<W: Wheel + Drop> Course<W> {
     }
 
     pub(crate) fn advance(&mut self) -> PlaneMove
-        requires state { IsCourseAt self.old.plan self.old.done self.old.at (W.place self.old.wheel) (W.pace self.old.wheel) (W.rim self.old.wheel) }
+        requires state { IsCourseAt self.old.plan self.old.done self.old.at (W.place self.old.wheel)
+            (W.pace self.old.wheel) (W.rim self.old.wheel) }
         requires room { self.old.done < self.old.plan.moves }
         ensures plan { self.new.plan ≡ self.old.plan }
         ensures done { self.new.done ≡ self.old.done + 1 }
-        ensures state { IsCourseAt self.new.plan self.new.done self.new.at (W.place self.new.wheel) (W.pace self.new.wheel) (W.rim self.new.wheel) }
+        ensures state { IsCourseAt self.new.plan self.new.done self.new.at (W.place self.new.wheel)
+            (W.pace self.new.wheel) (W.rim self.new.wheel) }
         ensures answer { self.new.at ≡ spot_moved self.old.at result }
     {
         let step = if self.done < self.plan.joined {
@@ -59,11 +62,13 @@ impl<W: Wheel + Drop> Course<W> {
 
     /// Goes one move on where one is due.
     pub(crate) fn follow(&mut self, due: AxisMove) -> PlaneMove
-        requires state { IsCourseAt self.old.plan self.old.done self.old.at (W.place self.old.wheel) (W.pace self.old.wheel) (W.rim self.old.wheel) }
+        requires state { IsCourseAt self.old.plan self.old.done self.old.at (W.place self.old.wheel)
+            (W.pace self.old.wheel) (W.rim self.old.wheel) }
         requires room { due ≡ Forward → self.old.done < self.old.plan.moves }
         ensures plan { self.new.plan ≡ self.old.plan }
         ensures done { self.new.done ≡ followed due self.old.done }
-        ensures state { IsCourseAt self.new.plan self.new.done self.new.at (W.place self.new.wheel) (W.pace self.new.wheel) (W.rim self.new.wheel) }
+        ensures state { IsCourseAt self.new.plan self.new.done self.new.at (W.place self.new.wheel)
+            (W.pace self.new.wheel) (W.rim self.new.wheel) }
         ensures answer { self.new.at ≡ spot_moved self.old.at result }
     {
         match due {

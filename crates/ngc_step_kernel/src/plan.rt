@@ -111,10 +111,12 @@ impl Plan {
         requires range { (k : ℕ) → IsSpot (round_at step limit first entry k) }
         requires joins { straight_moves start joint ≤ 30000000 }
         requires enters { straight_moves joint entry ≤ 30000000 }
-        requires ends { (k : ℕ) → straight_moves (round_at step limit first entry k) end ≤ 30000000 }
+        requires ends { (k : ℕ) → straight_moves (round_at step limit first entry k) end
+            ≤ 30000000 }
         requires before { IsBeforeEnd 0 quadrants first end_spoke.now }
         ensures plan { IsPlan result }
-        ensures round { IsRoundPlan start joint entry end first end_spoke.now quadrants step limit result }
+        ensures round { IsRoundPlan start joint entry end first end_spoke.now quadrants step
+            limit result }
         ensures start { result.start ≡ start }
         ensures end { result.end ≡ end }
     {

@@ -43,8 +43,11 @@ pub(crate) fn rolls<W: Wheel + Drop>(
     requires range { (k : ℕ) → IsSpot (round_at step limit first entry k) }
     requires before { IsBeforeEnd 0 quadrants first end.now }
     ensures few { result.0 ≤ 100000000 }
-    ensures before { IsBeforeEnd (quadrant_at step limit first result.0) quadrants (spoke_at step limit first result.0) end.now }
-    ensures past { result.0 < 100000000 → IsBeforeEnd (quadrant_at step limit first (result.0 + 1)) quadrants (spoke_at step limit first (result.0 + 1)) end.now → ⊥ }
+    ensures before { IsBeforeEnd (quadrant_at step limit first result.0) quadrants
+        (spoke_at step limit first result.0) end.now }
+    ensures past { result.0 < 100000000 →
+        IsBeforeEnd (quadrant_at step limit first (result.0 + 1)) quadrants
+        (spoke_at step limit first (result.0 + 1)) end.now → ⊥ }
     ensures last { result.1 ≡ round_at step limit first entry result.0 }
 {
     let mut wheel = W::new(first, step, limit);

@@ -37,7 +37,8 @@ impl Way {
     /// The square of its length.
     pub(crate) fn square(&self) -> u128
         requires { IsWay self.now }
-        ensures { result ≡ unsigned_abs self.now.u * unsigned_abs self.now.u + unsigned_abs self.now.v * unsigned_abs self.now.v }
+        ensures { result ≡ unsigned_abs self.now.u * unsigned_abs self.now.u
+            + unsigned_abs self.now.v * unsigned_abs self.now.v }
     {
         let u = u128::from(self.u.unsigned_abs());
         let v = u128::from(self.v.unsigned_abs());
@@ -46,7 +47,8 @@ impl Way {
 
     pub(crate) fn spoke(&self) -> Spoke
         requires { IsWay self.now }
-        ensures place { around result.quadrant result.x result.y ≡ record { u = self.now.u; v = self.now.v } }
+        ensures place { around result.quadrant result.x result.y
+            ≡ record { u = self.now.u; v = self.now.v } }
         ensures small { IsSmall result }
         ensures out { 0 < unsigned_abs self.now.u + unsigned_abs self.now.v → 0 < result.x }
     {

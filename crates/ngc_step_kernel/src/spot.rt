@@ -1,5 +1,6 @@
 ghost use Rattle.std.specs.Prelude.{◌≡◌, ◌≤◌, unsigned_abs};
-ghost use Rattle.ngc_step_kernel.specs.Spots.{axis_towards, roll_move, spot_towards, spot_moved, straight_moves, IsSpot};
+ghost use Rattle.ngc_step_kernel.specs.Spots.{axis_towards, roll_move, spot_towards, spot_moved};
+ghost use Rattle.ngc_step_kernel.specs.Spots.{straight_moves, IsSpot};
 
 use crate::moves::AxisMove;
 use ngc_wheel::{Quadrant, Roll};

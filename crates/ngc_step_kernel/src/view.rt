@@ -2,7 +2,8 @@ ghost use Rattle.std.specs.Prelude.{◌≡◌, ◌≤◌, ◌<◌, ◌*◌, ◌+
 ghost use Rattle.ngc_arc_geometry.specs.Radii.{IsArc};
 ghost use Rattle.ngc_step_kernel.specs.Round.{turned};
 ghost use Rattle.ngc_step_kernel.specs.Spots.{IsSpot};
-ghost use Rattle.ngc_step_kernel.specs.View.{way_between, view_of, way_from, squared, IsView, IsMoved};
+ghost use Rattle.ngc_step_kernel.specs.View.{way_between, view_of, way_from, squared, IsView};
+ghost use Rattle.ngc_step_kernel.specs.View.{IsMoved};
 
 use crate::round::Way;
 use crate::spot::Spot;

@@ -5,7 +5,8 @@ use Rattle.std.proofs.lemmas.List.{append_assoc, take_rest, length-drop}
 use Rattle.std.specs.Io.KnownBytes.{Appends, Keeps}
 use Rattle.ngc_text.specs.Written.{AppendsBeginning}
 
-pub appends_joined : (old mid new : Option (List ℕ)) (text : List ℕ) (d n : ℕ) → Appends old mid (take d text) → Appends mid new (take n (drop d text)) → Appends old new (take (d + n) text)
+pub appends_joined : (old mid new : Option (List ℕ)) (text : List ℕ) (d n : ℕ) → Appends old mid (take d text) → Appends mid new (take n (drop d text)) →
+    Appends old new (take (d + n) text)
 appends_joined None mid new text d n h k = tt
 appends_joined (Some xs) None new text d n h k = absurd h
 appends_joined (Some xs) (Some ys) None text d n h k = absurd k
@@ -13,7 +14,8 @@ appends_joined (Some xs) (Some ys) (Some zs) text d n h k =
     k ∙ ap (λ l. l ++ take n (drop d text)) h ∙ append_assoc xs (take d text) (take n (drop d text)) ∙ ap (λ l. xs ++ l) (sym (take-add d n text))
 
 -- a beginning is written, and then a beginning of the slice that is left
-pub appends_more : (old mid new : Option (List ℕ)) (text : List ℕ) (d n : ℕ) → Appends old mid (take d text) → Appends mid new (take n (take (length text - d) (drop d text))) → Appends old new (take (d + n) text)
+pub appends_more : (old mid new : Option (List ℕ)) (text : List ℕ) (d n : ℕ) → Appends old mid (take d text) →
+    Appends mid new (take n (take (length text - d) (drop d text))) → Appends old new (take (d + n) text)
 appends_more old mid new text d n h k =
     let P : List ℕ → Type 0 = λ rest. Appends mid new (take n rest) in
     appends_joined old mid new text d n h (subst P (take_rest text d) k)
@@ -40,6 +42,11 @@ appends_both (Some xs) (Some ys) None a b h k = absurd k
 appends_both (Some xs) (Some ys) (Some zs) a b h k = k ∙ ap (λ l. l ++ b) h ∙ append_assoc xs a b
 
 -- one text and then a beginning of another, with more behind it
-pub begins_after : (old mid new : Option (List ℕ)) (a b more : List ℕ) → Appends old mid a → AppendsBeginning mid new b → AppendsBeginning old new (a ++ (b ++ more))
-begins_after old mid new a b more h k =
-    (a ++ k.0, k.1 ++ more, ap (λ l. a ++ l) (ap (λ l. l ++ more) k.2 ∙ append_assoc k.0 k.1 more) ∙ sym (append_assoc a k.0 (k.1 ++ more)), appends_both old mid new a k.0 h k.3)
+pub begins_after : (old mid new : Option (List ℕ)) (a b more : List ℕ) → Appends old mid a → AppendsBeginning mid new b →
+    AppendsBeginning old new (a ++ (b ++ more))
+begins_after old mid new a b more h k = (
+  a ++ k.0,
+  k.1 ++ more,
+  ap (λ l. a ++ l) (ap (λ l. l ++ more) k.2 ∙ append_assoc k.0 k.1 more) ∙ sym (append_assoc a k.0 (k.1 ++ more)),
+  appends_both old mid new a k.0 h k.3,
+)

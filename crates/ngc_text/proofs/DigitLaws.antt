@@ -1,5 +1,6 @@
 -- Sizes of digits as they are read, up to a bound.
-use Rattle.std.proofs.Common.{◌≡◌, ℕ, zero, suc, ◌+◌, ◌*◌, ◌-◌, ◌<◌, min, ap, subst, Bool, true, false, List, [], ◌∷◌, length, take, get_or, refl, sym, ◌∙◌, arith}
+use Rattle.std.proofs.Common.{◌≡◌, ℕ, zero, suc, ◌+◌, ◌*◌, ◌-◌, ◌<◌, min, ap, subst, Bool, true, false, List, [], ◌∷◌, length, take, get_or, refl, sym, ◌∙◌}
+use Rattle.std.proofs.Common.{arith}
 use Rattle.std.specs.Prelude.{◌&&◌}
 use Rattle.std.specs.Char.{is_ascii_digit, digit_value}
 use Rattle.std.specs.Str.{all_ascii_digits}
@@ -18,14 +19,16 @@ digits_fail (d ∷ ds) (suc i) h e = rw (digits_fail ds i (omega arith) e) (no_m
   no_more true = refl
   no_more false = refl
 
-digits_next : (ds : List ℕ) (i : ℕ) → i < length ds → all_ascii_digits (take i ds) ≡ true → is_ascii_digit (get_or ds i 0) ≡ true → all_ascii_digits (take (suc i) ds) ≡ true
+digits_next : (ds : List ℕ) (i : ℕ) → i < length ds → all_ascii_digits (take i ds) ≡ true → is_ascii_digit (get_or ds i 0) ≡ true →
+    all_ascii_digits (take (suc i) ds) ≡ true
 digits_next [] i h all e = absurd (omega (arith, h))
 digits_next (d ∷ ds) zero h all e = rw e refl
 digits_next (d ∷ ds) (suc i) h all e =
     let p = and_parts (is_ascii_digit d) (all_ascii_digits (take i ds)) all in
     rw (p.0, digits_next ds i (omega arith) p.1 e) refl
 
-pub digits_more : (ds : List ℕ) (i j : ℕ) → i < length ds → j ≡ suc i → all_ascii_digits (take i ds) ≡ true → is_ascii_digit (get_or ds i 0) ≡ true → all_ascii_digits (take j ds) ≡ true
+pub digits_more : (ds : List ℕ) (i j : ℕ) → i < length ds → j ≡ suc i → all_ascii_digits (take i ds) ≡ true → is_ascii_digit (get_or ds i 0) ≡ true →
+    all_ascii_digits (take j ds) ≡ true
 digits_more ds i j h e all d = subst (λ (k : ℕ). all_ascii_digits (take k ds) ≡ true) (sym e) (digits_next ds i h all d)
 
 digit_of : (d : ℕ) → is_ascii_digit d ≡ true → digit_value d ≡ d - 48

@@ -28,7 +28,8 @@ split_last s (x ∷ xs) h =
     rw (other_byte x s parts.0, split_last s xs parts.1) refl
 
 -- joined parts fall apart again
-pub split_joined : (s : ℕ) (x : List ℕ) (xs : List (List ℕ)) → list_all (lacks s) (x ∷ xs) ≡ true → slice_split (λ b. b == s) (join_with_byte s (x ∷ xs)) ≡ x ∷ xs
+pub split_joined : (s : ℕ) (x : List ℕ) (xs : List (List ℕ)) → list_all (lacks s) (x ∷ xs) ≡ true →
+    slice_split (λ b. b == s) (join_with_byte s (x ∷ xs)) ≡ x ∷ xs
 split_joined s x [] h = split_last s x (and_parts (lacks s x) true h).0
 split_joined s x (y ∷ ys) h =
     let parts = and_parts (lacks s x) (list_all (lacks s) (y ∷ ys)) h in

@@ -1,15 +1,18 @@
 -- Numbers with up to six decimals: nanometres as millimetres. Our own.
-use Rattle.std.specs.Prelude.{ℕ, ◌+◌, ◌/◌, ◌%◌, ◌==◌, ℤ, pos, negsuc, unsigned_abs, List, [], ◌∷◌, ◌++◌, take, codes, decimal, if◌then◌else◌}
+use Rattle.std.specs.Prelude.{ℕ, ◌+◌, ◌/◌, ◌%◌, ◌==◌, ℤ, pos, negsuc, unsigned_abs, List, [], ◌∷◌}
+use Rattle.std.specs.Prelude.{◌++◌, take, codes, decimal, if◌then◌else◌}
 
 -- a point and six digits; 48 is the code of 0
 abbrev pub decimals : ℕ → List ℕ
 decimals n =
-    46 ∷ (48 + n / 100000) ∷ (48 + n / 10000 % 10) ∷ (48 + n / 1000 % 10) ∷ (48 + n / 100 % 10) ∷ (48 + n / 10 % 10) ∷ (48 + n % 10) ∷ []
+    46 ∷ (48 + n / 100000) ∷ (48 + n / 10000 % 10) ∷ (48 + n / 1000 % 10) ∷ (48 + n / 100 % 10)
+    ∷ (48 + n / 10 % 10) ∷ (48 + n % 10) ∷ []
 
 -- how many of these are written: no noughts at the end, and no point alone
 abbrev pub kept : ℕ → ℕ
 kept n =
-    if n == 0 then 0 else (if n % 100000 == 0 then 2 else (if n % 10000 == 0 then 3 else (if n % 1000 == 0 then 4
+    if n == 0 then 0
+    else (if n % 100000 == 0 then 2 else (if n % 10000 == 0 then 3 else (if n % 1000 == 0 then 4
     else (if n % 100 == 0 then 5 else (if n % 10 == 0 then 6 else 7)))))
 
 -- a whole number and millionths

@@ -60,7 +60,8 @@ impl Chunk {
     /// 122 bytes must be there.
     pub fn add_three<I: Integer>(&mut self, first: I, second: I, third: I)
         requires { length self.old + 122 ≤ CHUNK_SIZE }
-        ensures text { self.new ≡ self.old ++ I.text first ++ codes " " ++ I.text second ++ codes " " ++ I.text third }
+        ensures text { self.new ≡ self.old ++ I.text first ++ codes " " ++ I.text second
+            ++ codes " " ++ I.text third }
         ensures short { length self.new ≤ length self.old + 122 }
     {
         self.add_number(first);
@@ -75,7 +76,8 @@ impl Chunk {
     pub fn write_out<W: Sink>(&mut self, sink: &mut W) -> Result<(), WriteFault>
         ensures ok { OnOk result (Appends (W.written sink.old) (W.written sink.new) self.old) }
         ensures empty { OnOk result (self.new ≡ []) }
-        ensures fault { OnErr result (AppendsBeginning (W.written sink.old) (W.written sink.new) self.old) }
+        ensures fault { OnErr result
+            (AppendsBeginning (W.written sink.old) (W.written sink.new) self.old) }
         ensures counts { CountsFailure (W.failures sink.old) (W.failures sink.new) result }
     {
         match write_all(sink, self.bytes.as_slice()) {
@@ -92,8 +94,10 @@ impl Chunk {
     /// After a fault a beginning of it is written, and the sink has counted the failure.
     pub fn make_room<W: Sink>(&mut self, sink: &mut W) -> Result<(), WriteFault>
         ensures room { OnOk result (HasLineRoom self.new) }
-        ensures ok { OnOk result (WritesFront (W.written sink.old) (W.written sink.new) self.old self.new) }
-        ensures fault { OnErr result (AppendsBeginning (W.written sink.old) (W.written sink.new) self.old) }
+        ensures ok { OnOk result
+            (WritesFront (W.written sink.old) (W.written sink.new) self.old self.new) }
+        ensures fault { OnErr result
+            (AppendsBeginning (W.written sink.old) (W.written sink.new) self.old) }
         ensures counts { CountsFailure (W.failures sink.old) (W.failures sink.new) result }
     {
         if self.bytes.len() <= MOST_BEFORE_A_LINE {

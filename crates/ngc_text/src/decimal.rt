@@ -1,6 +1,7 @@
 ghost use Rattle.std.specs.Prelude.{◌≡◌, ◌≤◌, IfSome};
 ghost use Rattle.std.specs.Option.{option_map};
-ghost use Rattle.ngc_text.specs.Decimals.{decimal_in as decimal_said, limited, digits_size, has_lead};
+ghost use Rattle.ngc_text.specs.Decimals.{decimal_in as decimal_said, limited, digits_size};
+ghost use Rattle.ngc_text.specs.Decimals.{has_lead};
 
 // Greater numbers are taken for this one.
 const GREATEST: u64 = 10_000_000_000;

@@ -1,6 +1,7 @@
 ghost use Rattle.std.specs.Prelude.{◌≡◌, ◌+◌, ◌<◌, ◌≤◌, ◌++◌, length};
 ghost use Rattle.ngc_text.specs.Collected.{CHUNK_SIZE};
-ghost use Rattle.ngc_text.specs.Millimetres.{decimals, kept, number_text, size_text, sign_text, length_text, mm_text};
+ghost use Rattle.ngc_text.specs.Millimetres.{decimals, kept, number_text, size_text, sign_text};
+ghost use Rattle.ngc_text.specs.Millimetres.{length_text, mm_text};
 
 use crate::Chunk;
 

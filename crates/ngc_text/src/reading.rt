@@ -20,11 +20,13 @@ pub fn read_whole<A: Allocator, R: Source>(
     ensures end { OnOk result (IsAtEnd (R.remaining source.new)) }
     ensures within { IfOk result (λ v. vec_len v ≤ limit) }
     // Only a source that had more is too long.
-    ensures long { result ≡ Err InputFault.TooLong → IfSome (R.remaining source.old) (λ bytes. limit < length bytes) }
+    ensures long { result ≡ Err InputFault.TooLong →
+        IfSome (R.remaining source.old) (λ bytes. limit < length bytes) }
     // The source failed just where the answer says so.
     ensures device { FailsByDevice (R.failures source.old) (R.failures source.new) result }
     // Whatever the answer, the source lost at most the limit and a chunk.
-    ensures taken { ConsumesAtMost (R.remaining source.old) (R.remaining source.new) (limit + PULL_SIZE) }
+    ensures taken { ConsumesAtMost (R.remaining source.old) (R.remaining source.new)
+        (limit + PULL_SIZE) }
 {
     let mut bytes = Vec::new(alloc);
     let mut chunk = [0u8; PULL_SIZE];

@@ -15,7 +15,8 @@ fn shown(byte: u8) -> u8
     }
 }
 
-/// The first 256 bytes of a text, as a terminal shows them: what it doesn't print as `?`, and tabs and carriage returns as spaces.
+/// The first 256 bytes of a text, as a terminal shows them: what it doesn't print as `?`, and tabs
+/// and carriage returns as spaces.
 pub fn shown_bytes(bytes: &[u8]) -> ArrayVec<u8, 256>
     ensures text { result.items ≡ shown_text bytes.now }
     ensures few { length result.items ≤ 256 }
@@ -28,7 +29,8 @@ pub fn shown_bytes(bytes: &[u8]) -> ArrayVec<u8, 256>
 }
 
 impl Chunk {
-    /// Adds a line behind its number, as `Line 3: G0 X400` and a line feed, of which `shown_bytes` are shown. Room for 310 bytes
+    /// Adds a line behind its number, as `Line 3: G0 X400` and a line feed, of which `shown_bytes`
+    /// are shown. Room for 310 bytes
     /// must be there.
     pub fn add_line(&mut self, number: usize, line: &[u8])
         requires { length self.old + 310 ≤ CHUNK_SIZE }

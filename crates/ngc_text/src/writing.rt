@@ -24,7 +24,8 @@ impl WriteFault {
 /// failure.
 pub fn write_all<W: Sink>(sink: &mut W, text: &[u8]) -> Result<(), WriteFault>
     ensures ok { OnOk result (Appends (W.written sink.old) (W.written sink.new) text.now) }
-    ensures fault { OnErr result (AppendsBeginning (W.written sink.old) (W.written sink.new) text.now) }
+    ensures fault { OnErr result
+        (AppendsBeginning (W.written sink.old) (W.written sink.new) text.now) }
     ensures counts { CountsFailure (W.failures sink.old) (W.failures sink.new) result }
 {
     let mut done = 0;

@@ -32,7 +32,8 @@ not_too_near g q h k l v x y near r above small =
 
 -- ---- in its start's quadrant, behind the start's direction: a box round the start and the quadrant points ahead has the point.
 -- The start is (bx, by), at the radius p + 1, and the band goes from low to p + 1 + wide.
-pub beside_start : (x y bx by p wide : ℕ) → x * by ≤ y * bx → square x y ≤ (p + 1 + wide) * (p + 1 + wide) → p * p ≤ square bx by → bx ≤ p + 1 → wide + 2 ≤ p → x ≤ bx + wide + 1
+pub beside_start : (x y bx by p wide : ℕ) → x * by ≤ y * bx → square x y ≤ (p + 1 + wide) * (p + 1 + wide) → p * p ≤ square bx by → bx ≤ p + 1 → wide + 2 ≤ p →
+    x ≤ bx + wide + 1
 beside_start x y bx by p wide past near round small room = past_in x y bx by p wide past near round small room
 
 pub above_start : (x y bx by low d : ℕ) → x * by ≤ y * bx → low * low ≤ square x y → square bx by ≤ (low + d) * (low + d) → 0 < low → by ≤ y + d

@@ -68,7 +68,8 @@ by_all g high low s a b = record {
   above = record { all = omega (arith, b); by_axis = λ _. b };
 }
 
-pub small_stands : (g r h l m v : ℕ) (j : Spoke) → IsSmallSize g r h l m v → 12 * square j.x j.y ≤ 12 * (r * r) + 17 * (r * g) + 6 * (g * g) → v * v ≤ square j.x j.y → IsBound g ((r + l) * (r + l)) v j
+pub small_stands : (g r h l m v : ℕ) (j : Spoke) → IsSmallSize g r h l m v → 12 * square j.x j.y ≤ 12 * (r * r) + 17 * (r * g) + 6 * (g * g) →
+    v * v ≤ square j.x j.y → IsBound g ((r + l) * (r + l)) v j
 small_stands g r h l m v j s high low = by_all g ((r + l) * (r + l)) v j (within_small g r h l m v (square j.x j.y) s (omega (arith, high))) low
 
 over_axis_high : (g high x y : ℕ) → x < g → y < g → 2 * (g * g) ≤ high → square y (g - x) ≤ high
@@ -89,7 +90,8 @@ over_axis_low g v x y hx hy room above =
     let b = below_step g y hy in
     absurd (omega (arith, a, b, room, above, hx))
 
-enters_over : (g high v : ℕ) (j : Spoke) → j.x < g → 2 * (g * g) ≤ high → 2 * (g * g) ≤ v * v → square j.x j.y ≤ high → v * v ≤ square j.x j.y → IsBound g high v (rolled g Over j)
+enters_over : (g high v : ℕ) (j : Spoke) → j.x < g → 2 * (g * g) ≤ high → 2 * (g * g) ≤ v * v → square j.x j.y ≤ high → v * v ≤ square j.x j.y →
+    IsBound g high v (rolled g Over j)
 enters_over g high v j near room low below above = record {
   below = record { all = over_below g high j.x j.y near below; by_axis = λ less. over_axis_high g high j.x j.y near less room };
   above = record { all = over_above g v j.x j.y near above; by_axis = λ less. over_axis_low g v j.x j.y near less low above };
@@ -101,10 +103,12 @@ grows v x y g h = omega (arith, h)
 steep_grows : (v t y g : ℕ) → v * v ≤ square (t + g) y → t ≤ y → v * v ≤ square t (y + g)
 steep_grows v t y g h le = let a = mul-le-mul_left g le in omega (arith, h, a)
 
-pub small_enters : (g r h l m v : ℕ) (steep : Bool) (j : Spoke) (roll : Roll) → IsSmallSize g r h l m v → IsNearJoint g r v steep j → IsEntry g ((r + h) * (r + h)) steep j roll →
+pub small_enters : (g r h l m v : ℕ) (steep : Bool) (j : Spoke) (roll : Roll) → IsSmallSize g r h l m v → IsNearJoint g r v steep j →
+    IsEntry g ((r + h) * (r + h)) steep j roll →
     IsBound g ((r + l) * (r + l)) v (rolled g roll j)
 small_enters g r h l m v steep j Over s near entry =
-    enters_over g ((r + l) * (r + l)) v j entry (twice_high g r h l m v s) (twice_low g r h l m v s) (within_small g r h l m v (square j.x j.y) s (omega (arith, near.high))) near.low
+    enters_over g ((r + l) * (r + l)) v j entry (twice_high g r h l m v s) (twice_low g r h l m v s)
+    (within_small g r h l m v (square j.x j.y) s (omega (arith, near.high))) near.low
 small_enters g r h l m v steep j Outward s near entry =
     by_all g ((r + l) * (r + l)) v (rolled g Outward j) (omega (arith, entry.2, more_limit g r h l m v s)) (grows v j.x j.y g near.low)
 small_enters g r h l m v steep j Diagonal s near entry =
@@ -151,10 +155,12 @@ twice_rim g q h k l v s =
     let b = square_le (2 * g) v (omega (arith, s.far, s.inner, s.l_high)) in
     (omega (arith, a), omega (arith, b))
 
-pub large_stands : (g q h k l v : ℕ) (j : Spoke) → IsRim g q h k l v → 12 * square j.x j.y ≤ 12 * ((q + 1) * (q + 1)) + 17 * ((q + 1) * g) + 6 * (g * g) → v * v ≤ square j.x j.y → IsBound g (limit_of q l) v j
+pub large_stands : (g q h k l v : ℕ) (j : Spoke) → IsRim g q h k l v → 12 * square j.x j.y ≤ 12 * ((q + 1) * (q + 1)) + 17 * ((q + 1) * g) + 6 * (g * g) →
+    v * v ≤ square j.x j.y → IsBound g (limit_of q l) v j
 large_stands g q h k l v j s high low = by_all g (limit_of q l) v j (within_large g q h k l v (square j.x j.y) s high) low
 
-pub large_enters : (g q h k l v : ℕ) (steep : Bool) (j : Spoke) (roll : Roll) → IsRim g q h k l v → IsNearJoint g (q + 1) v steep j → IsEntry g (limit_of q h) steep j roll →
+pub large_enters : (g q h k l v : ℕ) (steep : Bool) (j : Spoke) (roll : Roll) → IsRim g q h k l v → IsNearJoint g (q + 1) v steep j →
+    IsEntry g (limit_of q h) steep j roll →
     IsBound g (limit_of q l) v (rolled g roll j)
 large_enters g q h k l v steep j Over s near entry =
     let twice = twice_rim g q h k l v s in

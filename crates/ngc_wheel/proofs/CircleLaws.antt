@@ -58,8 +58,10 @@ near_on : (g q n : ℕ) (at : ℕ → Spoke) (quadrant : ℕ → ℕ) (k : ℕ) 
 near_on g q n at quadrant k way le =
     let rim = rim_of g q way.step way.large in
     let room = roomy g q (2 * g / 5) (g / 2) (4 * g / 5) (q + 1 - 4 * g / 5) rim in
-    let below = all_below g (limit_of q (2 * g / 5)) (limit_of q (4 * g / 5)) n at quadrant k way.rolling room.limit room.outer (starts_below g q (at 0) way.first) le in
-    let above = all_above g (q + 1 - 4 * g / 5) (limit_of q (2 * g / 5)) n at quadrant k way.rolling room.bound room.inner (starts_above g q (at 0) way.first) le in
+    let below = all_below g (limit_of q (2 * g / 5)) (limit_of q (4 * g / 5)) n at quadrant k way.rolling room.limit room.outer
+    (starts_below g q (at 0) way.first) le in
+    let above = all_above g (q + 1 - 4 * g / 5) (limit_of q (2 * g / 5)) n at quadrant k way.rolling room.bound room.inner
+    (starts_above g q (at 0) way.first) le in
     record {
       inner = not_too_near g q (2 * g / 5) (g / 2) (4 * g / 5) (q + 1 - 4 * g / 5) (at k).x (at k).y (q + 1) rim above.all (omega arith);
       outer = not_too_far g q (2 * g / 5) (g / 2) (4 * g / 5) (q + 1 - 4 * g / 5) (at k).x (at k).y (q + 1) rim below.all (omega arith);
@@ -76,7 +78,8 @@ stays_near g r n at quadrant way k le =
 
 -- ---- round
 
-round_on : (g q n : ℕ) (at : ℕ → Spoke) (quadrant : ℕ → ℕ) (k m : ℕ) → GoesRound g (q + 1) n at quadrant → k ≤ n → quadrant k ≤ m → k * g ≤ 2 * (q + 1 + 4 * g / 5 + g) * (m + 1)
+round_on : (g q n : ℕ) (at : ℕ → Spoke) (quadrant : ℕ → ℕ) (k m : ℕ) → GoesRound g (q + 1) n at quadrant → k ≤ n → quadrant k ≤ m →
+    k * g ≤ 2 * (q + 1 + 4 * g / 5 + g) * (m + 1)
 round_on g q n at quadrant k m way le few =
     let rim = rim_of g q way.step way.large in
     let room = roomy g q (2 * g / 5) (g / 2) (4 * g / 5) (q + 1 - 4 * g / 5) rim in

@@ -15,7 +15,8 @@ axes_sum x y r h =
     let p = squares_apart x y in
     from_squares (12 * (x + y)) (17 * r) (omega arith)
 
-pub joint_below : (g s r x y bx by : ℕ) → 0 < s → IsJoint g s r x bx → IsJoint g s r y by → bx * bx + by * by ≤ s * s → 12 * square x y ≤ 12 * (r * r) + 17 * (r * g) + 6 * (g * g)
+pub joint_below : (g s r x y bx by : ℕ) → 0 < s → IsJoint g s r x bx → IsJoint g s r y by → bx * bx + by * by ≤ s * s →
+    12 * square x y ≤ 12 * (r * r) + 17 * (r * g) + 6 * (g * g)
 joint_below g s r x y bx by some jx jy round =
     let a = square_le (2 * (s * x)) (2 * (r * bx) + s * g) jx.up in
     let b = square_le (2 * (s * y)) (2 * (r * by) + s * g) jy.up in
@@ -24,7 +25,8 @@ joint_below g s r x y bx by some jx jy round =
     let e : (s * s) * (12 * square x y) ≤ (s * s) * (12 * (r * r) + 17 * (r * g) + 6 * (g * g)) = omega arith in
     le_of_mul-le-mul_left e (omega (arith, square_le 1 s some))
 
-pub joint_above : (g p r l v x y bx by : ℕ) → 500 ≤ g → 4 * g ≤ 5 * l + 4 → v + l ≡ r → r ≤ 20 * (p + 1) → IsJoint g (p + 1) r x bx → IsJoint g (p + 1) r y by → p * p ≤ bx * bx + by * by → v * v ≤ square x y
+pub joint_above : (g p r l v x y bx by : ℕ) → 500 ≤ g → 4 * g ≤ 5 * l + 4 → v + l ≡ r → r ≤ 20 * (p + 1) → IsJoint g (p + 1) r x bx → IsJoint g (p + 1) r y by →
+    p * p ≤ bx * bx + by * by → v * v ≤ square x y
 joint_above g p r l v x y bx by step low inner near jx jy round =
     elim (cases_lt (square x y) (v * v)) [
       | inr more ↦ more
@@ -46,14 +48,16 @@ joint_above g p r l v x y bx by step low inner near jx jy round =
 
 -- ---- the point that a move from the joint leads to is between the bounds that a wheel keeps
 
-begins_outward : (g q h k l v x y : ℕ) → IsRim g q h k l v → g ≤ x → v * v ≤ square x y → square x (y + g) ≤ limit_of q h → (square x (y + g) ≤ limit_of q l) × (v * v ≤ square x (y + g))
+begins_outward : (g q h k l v x y : ℕ) → IsRim g q h k l v → g ≤ x → v * v ≤ square x y → square x (y + g) ≤ limit_of q h →
+    (square x (y + g) ≤ limit_of q l) × (v * v ≤ square x (y + g))
 begins_outward g q h k l v x y r inside above fits =
     let a : q + 1 + h ≤ q + 1 + l = omega (arith, r.h_high, r.l_low, r.step) in
     let b = square_le (q + 1 + h) (q + 1 + l) a in
     (omega arith, omega arith)
 
 -- diagonal, where outward is too far: the joint is flat, as the start is
-pub begins_diagonal_flat : (g q h k l v x y t : ℕ) → IsRim g q h k l v → x ≡ t + g → y ≤ x → 12 * square x y ≤ 12 * ((q + 1) * (q + 1)) + 17 * ((q + 1) * g) + 6 * (g * g) → square t (y + g) ≤ limit_of q l + g * g
+pub begins_diagonal_flat : (g q h k l v x y t : ℕ) → IsRim g q h k l v → x ≡ t + g → y ≤ x →
+    12 * square x y ≤ 12 * ((q + 1) * (q + 1)) + 17 * ((q + 1) * g) + 6 * (g * g) → square t (y + g) ≤ limit_of q l + g * g
 begins_diagonal_flat g q h k l v x y t r e flat below =
     let a = less_step g x t e in
     let b = mul-le-mul_left g flat in
@@ -66,7 +70,8 @@ begins_diagonal_flat g q h k l v x y t r e flat below =
     let m = mul-le-mul_left (q + 1) r.step in
     omega arith
 
-pub begins_inward : (g q h k l v x y t : ℕ) → IsRim g q h k l v → x ≡ t + g → square x y ≤ limit_of q l → limit_of q h < square t (y + g) → (square t y ≤ limit_of q l) × (v * v ≤ square t y)
+pub begins_inward : (g q h k l v x y t : ℕ) → IsRim g q h k l v → x ≡ t + g → square x y ≤ limit_of q l → limit_of q h < square t (y + g) →
+    (square t y ≤ limit_of q l) × (v * v ≤ square t y)
 begins_inward g q h k l v x y t r e below refused =
     let a = less_step g x t e in
     let b : v + g ≤ q + 1 + h = omega (arith, r.inner, r.h_low, r.l_low, r.step) in
@@ -74,7 +79,8 @@ begins_inward g q h k l v x y t r e below refused =
     (omega arith, inward_above g v t y (omega arith))
 
 -- diagonal, where the limit allows it: the joint is steep, but for the rounding
-pub begins_diagonal_steep : (g q h k l v x y t : ℕ) → IsRim g q h k l v → x ≡ t + g → x ≤ y + g → v * v ≤ square x y → square t (y + g) ≤ limit_of q h → (square t (y + g) ≤ limit_of q l) × (v * v ≤ square t (y + g))
+pub begins_diagonal_steep : (g q h k l v x y t : ℕ) → IsRim g q h k l v → x ≡ t + g → x ≤ y + g → v * v ≤ square x y → square t (y + g) ≤ limit_of q h →
+    (square t (y + g) ≤ limit_of q l) × (v * v ≤ square t (y + g))
 begins_diagonal_steep g q h k l v x y t r e steep above fits =
     let a = less_step g x t e in
     let b : t ≤ y = omega arith in
@@ -83,7 +89,8 @@ begins_diagonal_steep g q h k l v x y t r e steep above fits =
     let f = square_le (q + 1 + h) (q + 1 + l) d in
     (omega arith, omega arith)
 
-pub begins_over : (g q h k l v x y : ℕ) → IsRim g q h k l v → x < g → square x y ≤ limit_of q l → v * v ≤ square x y → (square y (g - x) ≤ limit_of q l + g * g) × (v * v ≤ square y (g - x) + g * g)
+pub begins_over : (g q h k l v x y : ℕ) → IsRim g q h k l v → x < g → square x y ≤ limit_of q l → v * v ≤ square x y →
+    (square y (g - x) ≤ limit_of q l + g * g) × (v * v ≤ square y (g - x) + g * g)
 begins_over g q h k l v x y r less below above = (over_below g (limit_of q l) x y less below, over_above g v x y less above)
 
 -- over the axis the start's ray is crossed: where the start is in the joint's quadrant
@@ -91,7 +98,8 @@ pub over_enters : (g x y bx by : ℕ) → x ≤ g → by * x ≤ bx * y + by * g
 over_enters g x y bx by h = omega (arith, mul-le-mul_left by h)
 
 -- and where it is in the next one, at (by, c) there
-pub over_enters_behind : (g s r x y by c : ℕ) → 0 < s → x < g → g ≤ x + y → 2 * (s * x) + 2 * (r * c) ≤ s * g → 2 * (s * y) ≤ 2 * (r * by) + s * g → r * (c * y) ≤ r * (by * (g - x))
+pub over_enters_behind : (g s r x y by c : ℕ) → 0 < s → x < g → g ≤ x + y → 2 * (s * x) + 2 * (r * c) ≤ s * g → 2 * (s * y) ≤ 2 * (r * by) + s * g →
+    r * (c * y) ≤ r * (by * (g - x))
 over_enters_behind g s r x y by c some less far jx jy =
     let t = g - x in
     let e : t + x ≡ g = omega arith in

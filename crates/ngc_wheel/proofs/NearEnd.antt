@@ -102,7 +102,8 @@ above_zero : (x y ex ey : ℕ) → y * ex < x * ey → 0 < ey
 above_zero x y ex zero before = absurd (omega arith)
 above_zero x y ex (suc ey) before = omega arith
 
-outward_near : (g q h k l v x y ex ey : ℕ) → IsRim g q h k l v → IsRay q ex ey → v * v ≤ square x y + g * g → 0 < ey → y * ex ≤ x * ey → x * ey ≤ (y + g) * ex → 2 * ey < 2 * y + 3 * g
+outward_near : (g q h k l v x y ex ey : ℕ) → IsRim g q h k l v → IsRay q ex ey → v * v ≤ square x y + g * g → 0 < ey → y * ex ≤ x * ey → x * ey ≤ (y + g) * ex →
+    2 * ey < 2 * y + 3 * g
 outward_near g q h k l v x y ex ey r ray above some before past =
     elim (cases_lt (2 * ey) (2 * y + 3 * g)) [
       | inl less ↦ less
@@ -118,7 +119,8 @@ outward_near g q h k l v x y ex ey r ray above some before past =
           absurd (omega (arith, a, c, d, f, i, j, above, ray.great, r.step, r.far)))
     ]
 
-inward_ahead : (g q h k l v t x y ex ey : ℕ) → IsRim g q h k l v → IsRay q ex ey → t + g ≡ x → square x y ≤ limit_of q l + g * g → t * ey ≤ y * ex → 2 * x < 2 * ex + 3 * g
+inward_ahead : (g q h k l v t x y ex ey : ℕ) → IsRim g q h k l v → IsRay q ex ey → t + g ≡ x → square x y ≤ limit_of q l + g * g → t * ey ≤ y * ex →
+    2 * x < 2 * ex + 3 * g
 inward_ahead g q h k l v t x y zero ey r ray e below past =
     let high = from_squares q ey (omega (arith, ray.small)) in
     elim (cases_lt 0 t) [

@@ -25,7 +25,8 @@ goes_on g limit reach n s Over hx hy roll = omega (arith, roll)
 -- ---- no turning back: in a quadrant the cross product of two neighbours is above 0, or 0
 pub turns_on : (g limit : ℕ) (s : Spoke) → (r : Roll) → g ≤ s.x → IsRoll g limit s r → s.y * (rolled g r s).x ≤ s.x * (rolled g r s).y
 turns_on g limit s Outward h roll = omega arith
-turns_on g limit s Diagonal h roll = let t = s.x - g in let e : t + g ≡ s.x = omega arith in let a = mul-le-mul_left s.y h in let b : s.y * (t + g) ≡ s.y * s.x = rw e in omega arith
+turns_on g limit s Diagonal h roll = let t = s.x - g in let e : t + g ≡ s.x = omega arith in let a = mul-le-mul_left s.y h in
+    let b : s.y * (t + g) ≡ s.y * s.x = rw e in omega arith
 turns_on g limit s Inward h roll = let t = s.x - g in let e : t + g ≡ s.x = omega arith in let b : s.y * (t + g) ≡ s.y * s.x = rw e in omega arith
 turns_on g limit s Over h roll = absurd (omega (arith, roll))
 

@@ -30,7 +30,8 @@ pub beyond : (x y ex ey : ℕ) → x * ey ≤ y * ex → x * x * (ex * ex + ey *
 beyond x y ex ey past = let p = square_le (x * ey) (y * ex) past in omega arith
 
 -- beyond the ray and at most q + 1 + h from the centre, a point is at most h + 1 farther along x than e
-pub past_in : (x y ex ey q h : ℕ) → x * ey ≤ y * ex → x * x + y * y ≤ (q + 1 + h) * (q + 1 + h) → q * q ≤ ex * ex + ey * ey → ex ≤ q + 1 → h + 2 ≤ q → x ≤ ex + h + 1
+pub past_in : (x y ex ey q h : ℕ) → x * ey ≤ y * ex → x * x + y * y ≤ (q + 1 + h) * (q + 1 + h) → q * q ≤ ex * ex + ey * ey → ex ≤ q + 1 → h + 2 ≤ q →
+    x ≤ ex + h + 1
 past_in x y ex ey q h past near round small wide =
     let a = beyond x y ex ey past in
     let b = mul-le-mul_left (x * x) round in
@@ -85,7 +86,8 @@ inward_near g t y ex ey limit some past refused room =
     ]
 
 -- a diagonal move leads beyond the ray, since one outward is too far out
-diagonal_far : (g δ Y ex ey t limit : ℕ) → 0 < ey → t + g ≡ ex + δ → t * ey ≤ Y * ex → 2 * Y + g ≤ 2 * ey → 4 * limit < 4 * ((ex + δ) * (ex + δ) + Y * Y) → 4 * (ex * ex + ey * ey) + 5 * (g * g) ≤ 4 * limit → ⊥
+diagonal_far : (g δ Y ex ey t limit : ℕ) → 0 < ey → t + g ≡ ex + δ → t * ey ≤ Y * ex → 2 * Y + g ≤ 2 * ey → 4 * limit < 4 * ((ex + δ) * (ex + δ) + Y * Y) →
+    4 * (ex * ex + ey * ey) + 5 * (g * g) ≤ 4 * limit → ⊥
 diagonal_far g δ Y ex ey t limit some e past low refused room =
     let a = mul-le-mul_left ex low in
     let te : (t + g) * ey ≡ (ex + δ) * ey = rw e in
@@ -108,7 +110,8 @@ diagonal_far g δ Y ex ey t limit some e past low refused room =
     let n = square_le δ g c in
     omega arith
 
-pub diagonal_near : (g t y ex ey limit : ℕ) → 0 < ey → t * ey ≤ (y + g) * ex → limit < (t + g) * (t + g) + (y + g) * (y + g) → 4 * (ex * ex + ey * ey) + 5 * (g * g) ≤ 4 * limit → 2 * ey < 2 * y + 3 * g
+pub diagonal_near : (g t y ex ey limit : ℕ) → 0 < ey → t * ey ≤ (y + g) * ex → limit < (t + g) * (t + g) + (y + g) * (y + g) →
+    4 * (ex * ex + ey * ey) + 5 * (g * g) ≤ 4 * limit → 2 * ey < 2 * y + 3 * g
 diagonal_near g t y ex ey limit some past refused room =
     elim (cases_lt (2 * ey) (2 * y + 3 * g)) [
       | inl less ↦ less

@@ -41,7 +41,8 @@ over_axis g limit x y h room less =
     omega arith
 
 -- for a bound that is no less than the limit: a wheel may begin somewhat farther out
-pub rolls_below : (g limit big : ℕ) (s : Spoke) (r : Roll) → limit ≤ big → 2 * (g * g) ≤ big → IsBelow g big s → IsRoll g limit s r → IsBelow g big (rolled g r s)
+pub rolls_below : (g limit big : ℕ) (s : Spoke) (r : Roll) → limit ≤ big → 2 * (g * g) ≤ big → IsBelow g big s → IsRoll g limit s r →
+    IsBelow g big (rolled g r s)
 rolls_below g limit big s Outward more room below roll = record { all = omega (arith, roll.1); by_axis = λ _. omega (arith, roll.1) }
 rolls_below g limit big s Diagonal more room below roll = record { all = omega (arith, roll.2); by_axis = λ _. omega (arith, roll.2) }
 rolls_below g limit big s Inward more room below roll =
@@ -85,7 +86,8 @@ over_twice g v x y hx hy room above =
     let b = below_square g y hy in
     absurd (omega arith)
 
-pub rolls_above : (g v limit : ℕ) (s : Spoke) (r : Roll) → (v + g) * (v + g) ≤ limit → 2 * (g * g) ≤ v * v → IsAbove g v s → IsRoll g limit s r → IsAbove g v (rolled g r s)
+pub rolls_above : (g v limit : ℕ) (s : Spoke) (r : Roll) → (v + g) * (v + g) ≤ limit → 2 * (g * g) ≤ v * v → IsAbove g v s → IsRoll g limit s r →
+    IsAbove g v (rolled g r s)
 rolls_above g v limit s Outward more room above roll =
     let h : v * v ≤ square s.x (s.y + g) = omega (arith, above.all) in
     record { all = omega (arith, h); by_axis = λ _. h }

@@ -8,7 +8,8 @@ use Rattle.ngc_wheel.specs.Bounds.{IsBelow, IsAbove}
 use Rattle.ngc_wheel.proofs.Rays.{from_squares}
 use Rattle.ngc_wheel.proofs.Progress.{gone, goes_on}
 
-pub all_below : (g limit big n : ℕ) (at : ℕ → Spoke) (quadrant : ℕ → ℕ) (k : ℕ) → IsRolling g limit n at quadrant → limit ≤ big → 2 * (g * g) ≤ big → IsBelow g big (at 0) → k ≤ n → IsBelow g big (at k)
+pub all_below : (g limit big n : ℕ) (at : ℕ → Spoke) (quadrant : ℕ → ℕ) (k : ℕ) → IsRolling g limit n at quadrant → limit ≤ big → 2 * (g * g) ≤ big →
+    IsBelow g big (at 0) → k ≤ n → IsBelow g big (at k)
 all_below g limit big n at quadrant zero way more room first le = first
 all_below g limit big n at quadrant (suc k) way more room first le =
     let e : k + 1 ≡ suc k = omega arith in
@@ -16,7 +17,8 @@ all_below g limit big n at quadrant (suc k) way more room first le =
     let here = all_below g limit big n at quadrant k way more room first (omega arith) in
     subst (λ t. IsBelow g big (at t)) e (rw step.2 (rolls_below g limit big (at k) step.0 more room here step.1))
 
-pub all_above : (g v limit n : ℕ) (at : ℕ → Spoke) (quadrant : ℕ → ℕ) (k : ℕ) → IsRolling g limit n at quadrant → (v + g) * (v + g) ≤ limit → 2 * (g * g) ≤ v * v → IsAbove g v (at 0) → k ≤ n → IsAbove g v (at k)
+pub all_above : (g v limit n : ℕ) (at : ℕ → Spoke) (quadrant : ℕ → ℕ) (k : ℕ) → IsRolling g limit n at quadrant → (v + g) * (v + g) ≤ limit →
+    2 * (g * g) ≤ v * v → IsAbove g v (at 0) → k ≤ n → IsAbove g v (at k)
 all_above g v limit n at quadrant zero way more room first le = first
 all_above g v limit n at quadrant (suc k) way more room first le =
     let e : k + 1 ≡ suc k = omega arith in
@@ -32,7 +34,8 @@ within_reach g u s below =
     (from_squares s.x (u + g) a, from_squares s.y (u + g) b)
 
 -- k moves lead at least k steps on
-pub far_on : (g u limit n : ℕ) (at : ℕ → Spoke) (quadrant : ℕ → ℕ) (k : ℕ) → IsRolling g limit n at quadrant → limit ≤ u * u → 2 * (g * g) ≤ u * u → IsBelow g (u * u) (at 0) → k ≤ n →
+pub far_on : (g u limit n : ℕ) (at : ℕ → Spoke) (quadrant : ℕ → ℕ) (k : ℕ) → IsRolling g limit n at quadrant → limit ≤ u * u → 2 * (g * g) ≤ u * u →
+    IsBelow g (u * u) (at 0) → k ≤ n →
     gone (u + g) 0 (at 0) + k * g ≤ gone (u + g) (quadrant k) (at k)
 far_on g u limit n at quadrant zero way bound room first le = let e = way.starts in rw e (omega arith)
 far_on g u limit n at quadrant (suc k) way bound room first le =
@@ -46,7 +49,8 @@ far_on g u limit n at quadrant (suc k) way bound room first le =
     subst (λ t. gone (u + g) 0 (at 0) + t * g ≤ gone (u + g) (quadrant t) (at t)) e after
 
 -- so the wheel is soon past any number of quadrants
-pub soon_past : (g u limit n : ℕ) (at : ℕ → Spoke) (quadrant : ℕ → ℕ) (k q : ℕ) → IsRolling g limit n at quadrant → limit ≤ u * u → 2 * (g * g) ≤ u * u → IsBelow g (u * u) (at 0) → k ≤ n → quadrant k ≤ q →
+pub soon_past : (g u limit n : ℕ) (at : ℕ → Spoke) (quadrant : ℕ → ℕ) (k q : ℕ) → IsRolling g limit n at quadrant → limit ≤ u * u → 2 * (g * g) ≤ u * u →
+    IsBelow g (u * u) (at 0) → k ≤ n → quadrant k ≤ q →
     k * g ≤ 2 * (u + g) * (q + 1)
 soon_past g u limit n at quadrant k q way bound room first le few =
     let far = far_on g u limit n at quadrant k way bound room first le in

@@ -22,7 +22,8 @@ over_least G lo E d e few near =
     let h = mul-le-mul_left d few in
     omega (arith, a, b, c, f, h, near)
 
-farther_out : (g r G t E m : ℕ) → G ≡ g * g → t ≡ r * g → r ≤ 8 * g → r * r ≤ E + G → m ≤ 4 * t + 6 * G → 15 * G < 2 * E + m → 52 * (G * E) + 30 * (G * m) < m * m + 225 * (G * G) → ⊥
+farther_out : (g r G t E m : ℕ) → G ≡ g * g → t ≡ r * g → r ≤ 8 * g → r * r ≤ E + G → m ≤ 4 * t + 6 * G → 15 * G < 2 * E + m →
+    52 * (G * E) + 30 * (G * m) < m * m + 225 * (G * G) → ⊥
 farther_out g r G t E m eG et small round far more near =
     let rg = mul-le-mul_left g small in
     let t_small : t ≤ 8 * G = omega (arith, rg, eG, et) in
@@ -57,7 +58,8 @@ farther_out g r G t E m eG et small round far more near =
 
 -- ---- where it is farther in, by m
 
-nearer : (g r G t E m : ℕ) → G ≡ g * g → t ≡ r * g → E ≤ r * r → 31 * (r * r) ≤ 31 * E + G → 15 * G + m < 2 * E → (7 * g ≤ 2 * r → m + G ≤ 3 * t) → 52 * (G * E) < (m + 15 * G) * (m + 15 * G) → ⊥
+nearer : (g r G t E m : ℕ) → G ≡ g * g → t ≡ r * g → E ≤ r * r → 31 * (r * r) ≤ 31 * E + G → 15 * G + m < 2 * E → (7 * g ≤ 2 * r → m + G ≤ 3 * t) →
+    52 * (G * E) < (m + 15 * G) * (m + 15 * G) → ⊥
 nearer g r G t E m eG et high round more close near =
     elim (cases_lt (2 * r) (7 * g)) [
       | inl slim ↦ (
@@ -112,7 +114,8 @@ by_the_end g q A E p c D r e =
                 let aE : A * E ≡ (E + m) * E = ap (λ x. x * E) em in
                 let aa : (A + E) * (A + E) ≡ (E + m + E) * (E + m + E) = ap (λ x. (x + E) * (x + E)) em in
                 let ga : G * (A + E) ≡ G * (E + m + E) = ap (λ x. G * (x + E)) em in
-                absurd (farther_out g (q + 1) G t E m (omega arith) (omega arith) r.small (omega (arith, r.end_low, gg, qq)) (omega (arith, r.below, r.end_low, em, gg, qq)) (omega (arith, es, em, a, long, e))
+                absurd (farther_out g (q + 1) G t E m (omega arith) (omega arith) r.small (omega (arith, r.end_low, gg, qq))
+                (omega (arith, r.below, r.end_low, em, gg, qq)) (omega (arith, es, em, a, long, e))
                 (omega (arith, near, ss, gs, aE, aa, ga))))
             | inl ins ↦ (
                 let m = E - A in
@@ -122,7 +125,8 @@ by_the_end g q A E p c D r e =
                 let aa : (A + E + m) * (A + E + m) ≡ (E + E) * (E + E) = ap (λ x. x * x) (let h : A + E + m ≡ E + E = omega (arith, eA) in h) in
                 let am : m * (A + E + m) ≡ m * (E + E) = ap (λ x. m * x) (let h : A + E + m ≡ E + E = omega (arith, eA) in h) in
                 let ga : G * (A + E + m) ≡ G * (E + E) = ap (λ x. G * x) (let h : A + E + m ≡ E + E = omega (arith, eA) in h) in
-                absurd (nearer g (q + 1) G t E m (omega arith) (omega arith) r.end_high (omega (arith, r.end_low, gg, qq)) (omega (arith, es, em, a)) (λ wide. (omega (arith, r.above wide, em)))
+                absurd (nearer g (q + 1) G t E m (omega arith) (omega arith) r.end_high (omega (arith, r.end_low, gg, qq)) (omega (arith, es, em, a))
+                (λ wide. (omega (arith, r.above wide, em)))
                 (omega (arith, near, ss, gs, aE, aa, am, ga))))
           ])
     ]
@@ -178,7 +182,8 @@ within_roll g limit s Inward ex ey roll past =
     omega (arith, f, past)
 
 -- what that says of squares
-from_bounds : (g q x y E p c : ℕ) → IsSlim g q x y → q * q ≤ E → E ≤ (q + 1) * (q + 1) → c * c + p * p ≡ square x y * E → c * c ≤ 2 * (g * g * E) → IsBeforeRay g q (square x y) E p c
+from_bounds : (g q x y E p c : ℕ) → IsSlim g q x y → q * q ≤ E → E ≤ (q + 1) * (q + 1) → c * c + p * p ≡ square x y * E → c * c ≤ 2 * (g * g * E) →
+    IsBeforeRay g q (square x y) E p c
 from_bounds g q x y E p c r low high lagrange beside = record {
   step = r.step;
   small = r.small;
@@ -193,7 +198,8 @@ from_bounds g q x y E p c r low high lagrange beside = record {
 }
 
 -- the end in the point's quadrant
-pub last_here : (g q limit : ℕ) (s : Spoke) (r : Roll) (ex ey : ℕ) → IsSlim g q s.x s.y → IsRay q ex ey → IsRoll g limit s r → s.y * ex ≤ s.x * ey → Reaches g s r ex ey →
+pub last_here : (g q limit : ℕ) (s : Spoke) (r : Roll) (ex ey : ℕ) → IsSlim g q s.x s.y → IsRay q ex ey → IsRoll g limit s r → s.y * ex ≤ s.x * ey →
+    Reaches g s r ex ey →
     apart s.x ex * apart s.x ex + apart s.y ey * apart s.y ey ≤ 15 * (g * g)
 last_here g q limit s r ex ey slim ray roll before past =
     let x = s.x in

@@ -15,7 +15,17 @@ pub neg_left : (q s : ℕ) → neg_ℤ (pos q) *ℤ pos s ≡ neg_ℤ (pos (q * 
 neg_left q s = let e = neg_is (pos q) in omega (arith, ints, ap (λ t. t * s) e.0, ap (λ t. t * s) e.1)
 
 both_neg : (q s : ℕ) → neg_ℤ (pos q) *ℤ neg_ℤ (pos s) ≡ pos (q * s)
-both_neg q s = let e = neg_is (pos q) in let f = neg_is (pos s) in omega (arith, ints, ap (λ t. t * up (neg_ℤ (pos s))) e.0, ap (λ t. t * down (neg_ℤ (pos s))) e.0, ap (λ t. t * up (neg_ℤ (pos s))) e.1, ap (λ t. t * down (neg_ℤ (pos s))) e.1, ap (λ t. q * t) f.0, ap (λ t. q * t) f.1)
+both_neg q s = let e = neg_is (pos q) in let f = neg_is (pos s) in
+    omega (
+      arith,
+      ints,
+      ap (λ t. t * up (neg_ℤ (pos s))) e.0,
+      ap (λ t. t * down (neg_ℤ (pos s))) e.0,
+      ap (λ t. t * up (neg_ℤ (pos s))) e.1,
+      ap (λ t. t * down (neg_ℤ (pos s))) e.1,
+      ap (λ t. q * t) f.0,
+      ap (λ t. q * t) f.1,
+    )
 
 -- two points of one quadrant
 pub cross_same : (q : Quadrant) (x y z w : ℕ) → cross (around q x y) (around q z w) ≡ pos (x * w) -ℤ pos (y * z)
@@ -53,4 +63,5 @@ cross_behind Fourth x y z w = rw (neg_right y w, both_neg x z) (omega (arith, in
 
 -- a move over an axis turns on
 pub over_turns : (q : Quadrant) (g x y : ℕ) → x ≤ g → cross (around q x y) (around (following q) y (g - x)) ≡ pos (y * g)
-over_turns q g x y h = let t = g - x in let e : t + x ≡ g = omega arith in let a : y * (t + x) ≡ y * g = rw e in rw (cross_next q x y y t) (omega (arith, ints, a))
+over_turns q g x y h = let t = g - x in let e : t + x ≡ g = omega arith in let a : y * (t + x) ≡ y * g = rw e in
+    rw (cross_next q x y y t) (omega (arith, ints, a))

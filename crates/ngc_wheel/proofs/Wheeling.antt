@@ -13,7 +13,8 @@ pub first_spoke : (g limit : ℕ) (s : Spoke) → spoke_at g limit s 0 ≡ s
 unfolding spoke_at
 first_spoke g limit s = refl
 
-pub next_quadrant : (g limit : ℕ) (s : Spoke) (k : ℕ) → quadrant_at g limit s (suc k) ≡ quadrants_of (quadrant_at g limit s k) (next_roll g limit (spoke_at g limit s k))
+pub next_quadrant : (g limit : ℕ) (s : Spoke) (k : ℕ) → quadrant_at g limit s (suc k)
+    ≡ quadrants_of (quadrant_at g limit s k) (next_roll g limit (spoke_at g limit s k))
 unfolding quadrant_at
 next_quadrant g limit s k = refl
 

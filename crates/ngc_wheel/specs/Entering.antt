@@ -13,4 +13,6 @@ abbrev pub IsEntry : ℕ → ℕ → Bool → Spoke → Roll → Type 0
 IsEntry g limit steep s Over = s.x < g
 IsEntry g limit steep s Outward = (steep ≡ false) × (g ≤ s.x) × (square s.x (s.y + g) ≤ limit)
 IsEntry g limit steep s Inward = (steep ≡ true) × (g ≤ s.x) × (limit < square (s.x - g) (s.y + g))
-IsEntry g limit steep s Diagonal = (g ≤ s.x) × (((steep ≡ true) × (square (s.x - g) (s.y + g) ≤ limit)) ⊎ ((steep ≡ false) × (limit < square s.x (s.y + g))))
+IsEntry g limit steep s Diagonal = (g ≤ s.x) ×
+    (((steep ≡ true) × (square (s.x - g) (s.y + g) ≤ limit)) ⊎
+    ((steep ≡ false) × (limit < square s.x (s.y + g))))

@@ -17,20 +17,24 @@ quadrants_of n Inward = n
 -- points 0 to n of a wheel, and how many quadrants on each one is
 pub record IsRolling (g limit n : ℕ) (at : ℕ → Spoke) (quadrant : ℕ → ℕ) : Type 0 where
   pub starts : quadrant 0 ≡ 0
-  pub rolls : (k : ℕ) → k < n → (r : Roll) × IsRoll g limit (at k) r × (at (k + 1) ≡ rolled g r (at k)) × (quadrant (k + 1) ≡ quadrants_of (quadrant k) r)
+  pub rolls : (k : ℕ) → k < n → (r : Roll) × IsRoll g limit (at k) r ×
+      (at (k + 1) ≡ rolled g r (at k)) × (quadrant (k + 1) ≡ quadrants_of (quadrant k) r)
 
 -- the points that the rule leads to from s: the k-th, and how many quadrants on it is
 unfoldable pub spoke_at : ℕ → ℕ → Spoke → ℕ → Spoke
 spoke_at g limit s zero = s
-spoke_at g limit s (suc k) = rolled g (next_roll g limit (spoke_at g limit s k)) (spoke_at g limit s k)
+spoke_at g limit s (suc k) =
+    rolled g (next_roll g limit (spoke_at g limit s k)) (spoke_at g limit s k)
 
 unfoldable pub quadrant_at : ℕ → ℕ → Spoke → ℕ → ℕ
 quadrant_at g limit s zero = 0
-quadrant_at g limit s (suc k) = quadrants_of (quadrant_at g limit s k) (next_roll g limit (spoke_at g limit s k))
+quadrant_at g limit s (suc k) =
+    quadrants_of (quadrant_at g limit s k) (next_roll g limit (spoke_at g limit s k))
 
 -- any number of them are the points of a wheel
 abbrev pub RollsFromAnywhere : Type 0
-RollsFromAnywhere = (g limit : ℕ) (s : Spoke) (n : ℕ) → IsRolling g limit n (spoke_at g limit s) (quadrant_at g limit s)
+RollsFromAnywhere = (g limit : ℕ) (s : Spoke) (n : ℕ) →
+    IsRolling g limit n (spoke_at g limit s) (quadrant_at g limit s)
 
 -- from the circle of radius r about the centre it is at most d, inward or outward
 pub record IsNearCircle (r d : ℕ) (s : Spoke) : Type 0 where
@@ -47,12 +51,16 @@ pub record GoesRound (g r n : ℕ) (at : ℕ → Spoke) (quadrant : ℕ → ℕ)
 
 -- such a wheel stays within a step of the circle
 abbrev pub StaysNear : Type 0
-StaysNear = (g r n : ℕ) (at : ℕ → Spoke) (quadrant : ℕ → ℕ) → GoesRound g r n at quadrant → (k : ℕ) → k ≤ n → IsNearCircle r g (at k)
+StaysNear = (g r n : ℕ) (at : ℕ → Spoke) (quadrant : ℕ → ℕ) → GoesRound g r n at quadrant →
+    (k : ℕ) → k ≤ n → IsNearCircle r g (at k)
 
 -- it leaves m quadrants behind in at most 2*(m + 1)*(r + 2*g)/g moves
 abbrev pub ComesRound : Type 0
-ComesRound = (g r n : ℕ) (at : ℕ → Spoke) (quadrant : ℕ → ℕ) → GoesRound g r n at quadrant → (k m : ℕ) → k ≤ n → quadrant k ≤ m → k * g ≤ 2 * (r + 2 * g) * (m + 1)
+ComesRound = (g r n : ℕ) (at : ℕ → Spoke) (quadrant : ℕ → ℕ) → GoesRound g r n at quadrant →
+    (k m : ℕ) → k ≤ n → quadrant k ≤ m → k * g ≤ 2 * (r + 2 * g) * (m + 1)
 
 -- no wheel turns back: the cross product about the centre of a move's ends is at least 0
 abbrev pub NeverTurnsBack : Type 0
-NeverTurnsBack = (g limit n : ℕ) (at : ℕ → Spoke) (quadrant : ℕ → ℕ) → IsRolling g limit n at quadrant → (k : ℕ) → k < n → pos 0 ≤ℤ cross (way_to (at k)) (way_to (at (k + 1)))
+NeverTurnsBack = (g limit n : ℕ) (at : ℕ → Spoke) (quadrant : ℕ → ℕ) →
+    IsRolling g limit n at quadrant → (k : ℕ) → k < n →
+    pos 0 ≤ℤ cross (way_to (at k)) (way_to (at (k + 1)))

@@ -22,7 +22,8 @@ rolled g Over s = record { quadrant = following s.quadrant; x = s.y; y = g - s.x
 abbrev pub IsRoll : ℕ → ℕ → Spoke → Roll → Type 0
 IsRoll g limit s Over = s.x < g
 IsRoll g limit s Outward = (g ≤ s.x) × (square s.x (s.y + g) ≤ limit)
-IsRoll g limit s Diagonal = (g ≤ s.x) × (limit < square s.x (s.y + g)) × (square (s.x - g) (s.y + g) ≤ limit)
+IsRoll g limit s Diagonal =
+    (g ≤ s.x) × (limit < square s.x (s.y + g)) × (square (s.x - g) (s.y + g) ≤ limit)
 IsRoll g limit s Inward = (g ≤ s.x) × (limit < square (s.x - g) (s.y + g))
 
 -- the same as a function
@@ -34,7 +35,8 @@ next_roll g limit s =
 
 -- at each point one move is due, and no other
 abbrev pub OneIsDue : Type 0
-OneIsDue = (g limit : ℕ) (s : Spoke) → IsRoll g limit s (next_roll g limit s) × ((r : Roll) → IsRoll g limit s r → r ≡ next_roll g limit s)
+OneIsDue = (g limit : ℕ) (s : Spoke) → IsRoll g limit s (next_roll g limit s) ×
+    ((r : Roll) → IsRoll g limit s r → r ≡ next_roll g limit s)
 
 -- coordinates whose squares have a sum within 64 bits
 pub record IsSmall (s : Spoke) : Type 0 where

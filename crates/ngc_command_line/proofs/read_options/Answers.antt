@@ -4,7 +4,8 @@ use Rattle.clap.specs.Walk.{texts}
 use Rattle.ngc_command_line.specs.Meant.{AreOptions}
 use Rattle.ngc_command_line.proofs.Found.{found_from_parts}
 use Rattle.ngc_command_line.proofs.Simple.{ngc_is_free, ngc_is_simple, taken_is_memory}
-use Rattle.ngc_command_line.proofs.Spelled.{certify_read, certify_taken, check_read, check_taken, draw_read, draw_taken, help_read, help_taken, list_read, list_taken, report_read, report_taken, run_read, run_taken, show_read, show_taken, version_read, version_taken}
+use Rattle.ngc_command_line.proofs.Spelled.{certify_read, certify_taken, check_read, check_taken, draw_read, draw_taken, help_read, help_taken, list_read}
+use Rattle.ngc_command_line.proofs.Spelled.{list_taken, report_read, report_taken, run_read, run_taken, show_read, show_taken, version_read, version_taken}
 use Rattle.ngc_command_line.proofs.Whole.{taken_is_whole}
 use Rattle.ngc_command_line.proofs.read_options.Goals as goal
 
@@ -35,22 +36,27 @@ pub returns-clause-spelled : goal.returns-clause-spelled
 returns-clause-spelled c = λ program machine tools delete spelled. list_read _ program machine tools delete _ spelled (returns-clause-options c)
 
 pub returns-clause-spelled_certify : goal.returns-clause-spelled_certify
-returns-clause-spelled_certify c = λ machine tools program cuts format range spelled. certify_read _ machine tools program cuts format _ range spelled (returns-clause-options c)
+returns-clause-spelled_certify c =
+    λ machine tools program cuts format range spelled. certify_read _ machine tools program cuts format _ range spelled (returns-clause-options c)
 
 pub returns-clause-spelled_check : goal.returns-clause-spelled_check
-returns-clause-spelled_check c = λ machine tools certificate program spelled. check_read _ machine tools certificate program _ spelled (returns-clause-options c)
+returns-clause-spelled_check c =
+    λ machine tools certificate program spelled. check_read _ machine tools certificate program _ spelled (returns-clause-options c)
 
 pub returns-clause-spelled_run : goal.returns-clause-spelled_run
-returns-clause-spelled_run c = λ recording machine tools certificate events program delete spelled. run_read _ recording machine tools certificate events program delete _ spelled (returns-clause-options c)
+returns-clause-spelled_run c = λ recording machine tools certificate events program delete spelled.
+    run_read _ recording machine tools certificate events program delete _ spelled (returns-clause-options c)
 
 pub returns-clause-spelled_draw : goal.returns-clause-spelled_draw
-returns-clause-spelled_draw c = λ machine tools certificate program view delete spelled. draw_read _ machine tools certificate program view delete _ spelled (returns-clause-options c)
+returns-clause-spelled_draw c =
+    λ machine tools certificate program view delete spelled. draw_read _ machine tools certificate program view delete _ spelled (returns-clause-options c)
 
 pub returns-clause-spelled_show : goal.returns-clause-spelled_show
 returns-clause-spelled_show c = λ machine tools spelled. show_read _ machine tools _ spelled (returns-clause-options c)
 
 pub returns-clause-spelled_report : goal.returns-clause-spelled_report
-returns-clause-spelled_report c = λ machine tools program cuts all json range spelled. report_read _ machine tools program cuts all json _ range spelled (returns-clause-options c)
+returns-clause-spelled_report c =
+    λ machine tools program cuts all json range spelled. report_read _ machine tools program cuts all json _ range spelled (returns-clause-options c)
 
 pub returns-clause-spelled_help : goal.returns-clause-spelled_help
 returns-clause-spelled_help c = λ command among spelled. help_read _ command _ among spelled (returns-clause-options c)
@@ -67,7 +73,8 @@ returns-in-Err-clause-spelled c = λ program machine tools delete spelled.
 
 pub returns-in-Err-clause-spelled_certify : goal.returns-in-Err-clause-spelled_certify
 returns-in-Err-clause-spelled_certify c = λ machine tools program cuts format range spelled.
-    c.usage_fault.ensures (taken_is_memory _ _ c.in-Err.error c.in-Ok.ensures (certify_taken _ machine tools program cuts format range spelled) c.in-Err.ensures.kinds)
+    c.usage_fault.ensures
+    (taken_is_memory _ _ c.in-Err.error c.in-Ok.ensures (certify_taken _ machine tools program cuts format range spelled) c.in-Err.ensures.kinds)
 
 pub returns-in-Err-clause-spelled_check : goal.returns-in-Err-clause-spelled_check
 returns-in-Err-clause-spelled_check c = λ machine tools certificate program spelled.
@@ -75,11 +82,14 @@ returns-in-Err-clause-spelled_check c = λ machine tools certificate program spe
 
 pub returns-in-Err-clause-spelled_run : goal.returns-in-Err-clause-spelled_run
 returns-in-Err-clause-spelled_run c = λ recording machine tools certificate events program delete spelled.
-    c.usage_fault.ensures (taken_is_memory _ _ c.in-Err.error c.in-Ok.ensures (run_taken _ recording machine tools certificate events program delete spelled) c.in-Err.ensures.kinds)
+    c.usage_fault.ensures
+    (taken_is_memory _ _ c.in-Err.error c.in-Ok.ensures (run_taken _ recording machine tools certificate events program delete spelled)
+    c.in-Err.ensures.kinds)
 
 pub returns-in-Err-clause-spelled_draw : goal.returns-in-Err-clause-spelled_draw
 returns-in-Err-clause-spelled_draw c = λ machine tools certificate program view delete spelled.
-    c.usage_fault.ensures (taken_is_memory _ _ c.in-Err.error c.in-Ok.ensures (draw_taken _ machine tools certificate program view delete spelled) c.in-Err.ensures.kinds)
+    c.usage_fault.ensures
+    (taken_is_memory _ _ c.in-Err.error c.in-Ok.ensures (draw_taken _ machine tools certificate program view delete spelled) c.in-Err.ensures.kinds)
 
 pub returns-in-Err-clause-spelled_show : goal.returns-in-Err-clause-spelled_show
 returns-in-Err-clause-spelled_show c = λ machine tools spelled.
@@ -87,7 +97,8 @@ returns-in-Err-clause-spelled_show c = λ machine tools spelled.
 
 pub returns-in-Err-clause-spelled_report : goal.returns-in-Err-clause-spelled_report
 returns-in-Err-clause-spelled_report c = λ machine tools program cuts all json range spelled.
-    c.usage_fault.ensures (taken_is_memory _ _ c.in-Err.error c.in-Ok.ensures (report_taken _ machine tools program cuts all json range spelled) c.in-Err.ensures.kinds)
+    c.usage_fault.ensures
+    (taken_is_memory _ _ c.in-Err.error c.in-Ok.ensures (report_taken _ machine tools program cuts all json range spelled) c.in-Err.ensures.kinds)
 
 pub returns-in-Err-clause-spelled_help : goal.returns-in-Err-clause-spelled_help
 returns-in-Err-clause-spelled_help c = λ command among spelled.

@@ -3,7 +3,14 @@ ghost use Rattle.std.specs.List.{prefix_len};
 ghost use Rattle.arrayvec.specs.ArrayVec.{array_vec_len};
 ghost use Rattle.ngc_line_reader.specs.Text.{place_in};
 ghost use Rattle.ngc_line_reader.specs.Scan.{Gives};
-ghost use Rattle.ngc_line_reader.specs.ScanLine.{parts_of, word_at as word_found, setting_at as setting_found, is_comment_byte as is_in_comment, after_comment as behind_comment, comment_at as comment_found, start_fault as fault_of_start, other_item_at as other_item_found, item_at as item_found};
+ghost use Rattle.ngc_line_reader.specs.ScanLine.{parts_of, word_at as word_found};
+ghost use Rattle.ngc_line_reader.specs.ScanLine.{setting_at as setting_found};
+ghost use Rattle.ngc_line_reader.specs.ScanLine.{is_comment_byte as is_in_comment};
+ghost use Rattle.ngc_line_reader.specs.ScanLine.{after_comment as behind_comment};
+ghost use Rattle.ngc_line_reader.specs.ScanLine.{comment_at as comment_found};
+ghost use Rattle.ngc_line_reader.specs.ScanLine.{start_fault as fault_of_start};
+ghost use Rattle.ngc_line_reader.specs.ScanLine.{other_item_at as other_item_found};
+ghost use Rattle.ngc_line_reader.specs.ScanLine.{item_at as item_found};
 
 use crate::fault::{FaultKind, Refusal};
 use crate::letter::{Letter, letter_of};
@@ -24,9 +31,12 @@ fn word_at<'a>(
     requires some { 0 < length s.now }
     requires room { length s.now ≤ room }
     requires space { array_vec_len line.old.tokens + length s.now ≤ 256 }
-    ensures reads { Gives (λ rest. (parts_of line.new, rest.now)) result (word_found (place_in columns.now) room (parts_of line.old) letter s.now) }
+    ensures reads { Gives (λ rest. (parts_of line.new, rest.now)) result
+        (word_found (place_in columns.now) room (parts_of line.old) letter s.now) }
     ensures shorter { IfOk result (λ rest. length rest.now < length s.now) }
-    ensures space { IfOk result (λ rest. array_vec_len line.new.tokens + length rest.now ≤ array_vec_len line.old.tokens + length s.now) }
+    ensures space { IfOk result
+        (λ rest. array_vec_len line.new.tokens + length rest.now
+        ≤ array_vec_len line.old.tokens + length s.now) }
     ensures settings { line.new.settings ≡ line.old.settings }
     ensures not_long { IfErr result (λ e. e ≢ Refusal.OfItem FaultKind.LineTooLong) }
 {
@@ -56,10 +66,15 @@ fn setting_at<'a>(
     requires room { length s.now ≤ room }
     requires space { array_vec_len line.old.tokens + length s.now ≤ 256 }
     requires few { 4 * array_vec_len line.old.settings + length s.now ≤ 256 }
-    ensures reads { Gives (λ rest. (parts_of line.new, rest.now)) result (setting_found (place_in columns.now) room (parts_of line.old) s.now) }
+    ensures reads { Gives (λ rest. (parts_of line.new, rest.now)) result
+        (setting_found (place_in columns.now) room (parts_of line.old) s.now) }
     ensures shorter { IfOk result (λ rest. length rest.now < length s.now) }
-    ensures space { IfOk result (λ rest. array_vec_len line.new.tokens + length rest.now ≤ array_vec_len line.old.tokens + length s.now) }
-    ensures few { IfOk result (λ rest. 4 * array_vec_len line.new.settings + length rest.now ≤ 4 * array_vec_len line.old.settings + length s.now) }
+    ensures space { IfOk result
+        (λ rest. array_vec_len line.new.tokens + length rest.now
+        ≤ array_vec_len line.old.tokens + length s.now) }
+    ensures few { IfOk result
+        (λ rest. 4 * array_vec_len line.new.settings + length rest.now
+        ≤ 4 * array_vec_len line.old.settings + length s.now) }
     ensures not_long { IfErr result (λ e. e ≢ Refusal.OfItem FaultKind.LineTooLong) }
 {
     let column = column_of(columns, s.len());
@@ -141,10 +156,15 @@ fn other_item_at<'a>(
     requires room { length s.now ≤ room }
     requires space { array_vec_len line.old.tokens + length s.now ≤ 256 }
     requires few { 4 * array_vec_len line.old.settings + length s.now ≤ 256 }
-    ensures reads { Gives (λ rest. (parts_of line.new, rest.now)) result (other_item_found (place_in columns.now) room (parts_of line.old) s.now) }
+    ensures reads { Gives (λ rest. (parts_of line.new, rest.now)) result
+        (other_item_found (place_in columns.now) room (parts_of line.old) s.now) }
     ensures shorter { IfOk result (λ rest. length rest.now < length s.now) }
-    ensures space { IfOk result (λ rest. array_vec_len line.new.tokens + length rest.now ≤ array_vec_len line.old.tokens + length s.now) }
-    ensures few { IfOk result (λ rest. 4 * array_vec_len line.new.settings + length rest.now ≤ 4 * array_vec_len line.old.settings + length s.now) }
+    ensures space { IfOk result
+        (λ rest. array_vec_len line.new.tokens + length rest.now
+        ≤ array_vec_len line.old.tokens + length s.now) }
+    ensures few { IfOk result
+        (λ rest. 4 * array_vec_len line.new.settings + length rest.now
+        ≤ 4 * array_vec_len line.old.settings + length s.now) }
     ensures not_long { IfErr result (λ e. e ≢ Refusal.OfItem FaultKind.LineTooLong) }
 {
     if begins(b'#', s) {
@@ -168,10 +188,15 @@ pub(crate) fn item_at<'a>(
     requires room { length s.now ≤ room }
     requires space { array_vec_len line.old.tokens + length s.now ≤ 256 }
     requires few { 4 * array_vec_len line.old.settings + length s.now ≤ 256 }
-    ensures reads { Gives (λ rest. (parts_of line.new, rest.now)) result (item_found (place_in columns.now) room (parts_of line.old) s.now) }
+    ensures reads { Gives (λ rest. (parts_of line.new, rest.now)) result
+        (item_found (place_in columns.now) room (parts_of line.old) s.now) }
     ensures shorter { IfOk result (λ rest. length rest.now < length s.now) }
-    ensures space { IfOk result (λ rest. array_vec_len line.new.tokens + length rest.now ≤ array_vec_len line.old.tokens + length s.now) }
-    ensures few { IfOk result (λ rest. 4 * array_vec_len line.new.settings + length rest.now ≤ 4 * array_vec_len line.old.settings + length s.now) }
+    ensures space { IfOk result
+        (λ rest. array_vec_len line.new.tokens + length rest.now
+        ≤ array_vec_len line.old.tokens + length s.now) }
+    ensures few { IfOk result
+        (λ rest. 4 * array_vec_len line.new.settings + length rest.now
+        ≤ 4 * array_vec_len line.old.settings + length s.now) }
     ensures not_long { IfErr result (λ e. e ≢ Refusal.OfItem FaultKind.LineTooLong) }
 {
     match letter_of(s[0]) {

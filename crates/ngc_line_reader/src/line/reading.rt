@@ -1,10 +1,15 @@
-ghost use Rattle.std.specs.Prelude.{◌≡◌, ℕ, ◌+◌, ◌*◌, ◌≤◌, ◌<◌, List, [], length, OnOk, IfOk, IfErr, IsOk, ◌≢◌};
+ghost use Rattle.std.specs.Prelude.{◌≡◌, ℕ, ◌+◌, ◌*◌, ◌≤◌, ◌<◌, List, [], length, OnOk, IfOk};
+ghost use Rattle.std.specs.Prelude.{IfErr, IsOk, ◌≢◌};
 ghost use Rattle.arrayvec.specs.ArrayVec.{array_vec_len};
 ghost use Rattle.ngc_line_reader.specs.Text.{text, columns as columns_in, place_in};
 ghost use Rattle.ngc_line_reader.specs.Grammar.{Reading, Reads};
 ghost use Rattle.ngc_line_reader.specs.Held.{HoldsReading, WithinLimits};
 ghost use Rattle.ngc_line_reader.specs.Scan.{Gives};
-ghost use Rattle.ngc_line_reader.specs.ScanLine.{parts_of, no_parts, refused_at as refused_in, items_at as items_found, line_number_at as line_number_found, after_slash as behind_slash, said_of, text_at as text_found};
+ghost use Rattle.ngc_line_reader.specs.ScanLine.{parts_of, no_parts, refused_at as refused_in};
+ghost use Rattle.ngc_line_reader.specs.ScanLine.{items_at as items_found};
+ghost use Rattle.ngc_line_reader.specs.ScanLine.{line_number_at as line_number_found};
+ghost use Rattle.ngc_line_reader.specs.ScanLine.{after_slash as behind_slash, said_of};
+ghost use Rattle.ngc_line_reader.specs.ScanLine.{text_at as text_found};
 ghost use Rattle.ngc_line_reader.specs.ReadLine.{line_read};
 ghost use Rattle.ngc_line_reader.specs.Refused.{WritesTooLarge, WritesManyWords};
 
@@ -20,8 +25,10 @@ const LINE_LENGTH: usize = 256;
 
 // A refusal with its column.
 fn refused_at(columns: &[u16], left: usize, why: Refusal) -> LineFault
-    ensures value { (s : List ℕ) → length s ≡ left → result ≡ refused_in (place_in columns.now) s why }
-    ensures not_long { why ≢ Refusal.OfItem FaultKind.LineTooLong → result.kind ≢ FaultKind.LineTooLong }
+    ensures value { (s : List ℕ) → length s ≡ left →
+        result ≡ refused_in (place_in columns.now) s why }
+    ensures not_long { why ≢ Refusal.OfItem FaultKind.LineTooLong →
+        result.kind ≢ FaultKind.LineTooLong }
 {
     match why {
         Refusal::OfItem(kind) => LineFault {
@@ -41,7 +48,8 @@ fn items_at(columns: &[u16], room: usize, text: &[u8], line: &mut Line) -> Resul
     requires room { length text.now < room }
     requires space { array_vec_len line.old.tokens + length text.now ≤ 256 }
     requires few { 4 * array_vec_len line.old.settings + length text.now ≤ 256 }
-    ensures reads { Gives (λ _. parts_of line.new) result (items_found (place_in columns.now) room (parts_of line.old) text.now) }
+    ensures reads { Gives (λ _. parts_of line.new) result
+        (items_found (place_in columns.now) room (parts_of line.old) text.now) }
     ensures not_long { IfErr result (λ f. f.kind ≢ FaultKind.LineTooLong) }
 {
     let mut room = room;
@@ -90,7 +98,8 @@ fn after_slash(s: &[u8]) -> &[u8]
 #[tactic(auto, unfolding(crate::specs::ScanLine::text_at))]
 fn text_at(columns: &[u16], text: &[u8], line: &mut Line) -> Result<(), LineFault>
     requires { length text.now ≤ 256 }
-    ensures reads { Gives (λ _. said_of line.new) result (text_found (place_in columns.now) text.now) }
+    ensures reads { Gives (λ _. said_of line.new) result
+        (text_found (place_in columns.now) text.now) }
     ensures not_long { IfErr result (λ f. f.kind ≢ FaultKind.LineTooLong) }
 {
     line.words.clear();
@@ -131,7 +140,8 @@ impl Line {
         // What it holds then is a reading of the line.
         ensures found { OnOk result (HoldsReading bytes.now self.new) }
         // A line that has a reading within the limits is not refused.
-        ensures only { (r : Reading) → Reads bytes.now r → WithinLimits r → length bytes.now ≤ 256 → IsOk result }
+        ensures only { (r : Reading) → Reads bytes.now r → WithinLimits r → length bytes.now ≤ 256 →
+            IsOk result }
         // Which fault comes: a line that is too long is refused as such, another by the first fault
         // from the left.
         ensures first { Gives (λ _. said_of self.new) result (line_read bytes.now) }
@@ -140,7 +150,8 @@ impl Line {
         // A number is refused as too large only where such a number is written,
         ensures large { IfErr result (λ f. f.kind ≡ FaultKind.TooLarge → WritesTooLarge bytes.now) }
         // and a word as one too many only behind 64 words.
-        ensures many { IfErr result (λ f. f.kind ≡ FaultKind.TooManyWords → WritesManyWords bytes.now) }
+        ensures many { IfErr result (λ f. f.kind ≡ FaultKind.TooManyWords →
+            WritesManyWords bytes.now) }
     {
         if bytes.len() > LINE_LENGTH {
             return Err(LineFault {
@@ -161,7 +172,8 @@ pub fn read_line(line: &[u8]) -> Result<Line, LineFault>
     // What is answered is a reading of the line.
     ensures found { IfOk result (λ answer. HoldsReading line.now answer) }
     // A line that has a reading within the limits is not refused.
-    ensures only { (r : Reading) → Reads line.now r → WithinLimits r → length line.now ≤ 256 → IsOk result }
+    ensures only { (r : Reading) → Reads line.now r → WithinLimits r → length line.now ≤ 256 →
+        IsOk result }
     // Which fault comes: a line that is too long is refused as such, another by the first fault
     // from the left.
     ensures first { Gives said_of result (line_read line.now) }

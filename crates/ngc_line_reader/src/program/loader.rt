@@ -1,10 +1,14 @@
-ghost use Rattle.std.specs.Prelude.{◌≡◌, ◌≢◌, ℕ, ◌+◌, ◌≤◌, ◌<◌, List, [], ◌∷◌, ◌++◌, length, IfOk, IfErr, OnOk, MatchOption, MatchResult, true, None, Ok, Err};
+ghost use Rattle.std.specs.Prelude.{◌≡◌, ◌≢◌, ℕ, ◌+◌, ◌≤◌, ◌<◌, List, [], ◌∷◌, ◌++◌, length, IfOk};
+ghost use Rattle.std.specs.Prelude.{IfErr, OnOk, MatchOption, MatchResult, true, None, Ok, Err};
 ghost use Rattle.ngc_line_reader.specs.ProgramText.{HaveReadings, fault_of, program_of};
 ghost use Rattle.ngc_line_reader.specs.ReadLine.{line_read};
 ghost use Rattle.ngc_line_reader.specs.ScanLine.{said_of};
 ghost use Rattle.ngc_line_reader.specs.ProgramView.{text_in, lines_in, FaultIs, OutcomeIs};
 ghost use Rattle.ngc_line_reader.specs.Stored.{line_of};
-ghost use Rattle.ngc_line_reader.specs.Load.{is_percent as is_percent_line, number_in, ended, next_line, TakesLine, RefusedBy, StepGives, walked, resumed, standing, IsOfLines, PartsLines, IsLoading, IsSplit, NoFeed, room_behind, room_of};
+ghost use Rattle.ngc_line_reader.specs.Load.{is_percent as is_percent_line, number_in, ended};
+ghost use Rattle.ngc_line_reader.specs.Load.{next_line, TakesLine, RefusedBy, StepGives, walked};
+ghost use Rattle.ngc_line_reader.specs.Load.{resumed, standing, IsOfLines, PartsLines, IsLoading};
+ghost use Rattle.ngc_line_reader.specs.Load.{IsSplit, NoFeed, room_behind, room_of};
 ghost use Rattle.ngc_line_reader.specs.Pieces.{firm_lines, fault_so_far};
 ghost use Rattle.ngc_line_reader.specs.Program.{split_lines};
 
@@ -57,7 +61,8 @@ fn check_line(phase: Phase, done: usize, bytes: &[u8], reading: &mut Line) -> Re
     ensures few { OnOk result (done < 100000) }
     ensures sound { OnOk result (fault_of done (line_of (number_in phase done) bytes.now) ≡ None) }
     ensures held { OnOk result (line_read bytes.now ≡ Ok (said_of reading.new)) }
-    ensures refused { IfErr result (λ e. RefusedBy (fault_of done (line_of (number_in phase done) bytes.now)) e) }
+    ensures refused { IfErr result
+        (λ e. RefusedBy (fault_of done (line_of (number_in phase done) bytes.now)) e) }
 {
     if done >= LINES {
         return Err(ReadFault::TooManyLines);
@@ -85,7 +90,9 @@ impl<A: Allocator> LinesSoFar<A> {
     // The next line, which is no `%` line.
     fn read_line(&mut self, bytes: &[u8], reading: &mut Line) -> Result<(), ReadFault>
         ensures taken { OnOk result (TakesLine self.old self.new bytes.now) }
-        ensures refused { IfErr result (λ e. RefusedBy (fault_of (length (lines_in self.old.lines)) (next_line self.old bytes.now)) e) }
+        ensures refused { IfErr result
+            (λ e. RefusedBy
+            (fault_of (length (lines_in self.old.lines)) (next_line self.old bytes.now)) e) }
     {
         match check_line(self.phase, self.lines.len(), bytes, reading) {
             Ok(number) => match self.lines.push(number, bytes, reading) {
@@ -101,7 +108,9 @@ impl<A: Allocator> LinesSoFar<A> {
 
     // A `%` line marks the file in front, and ends its text later.
     fn take_percent(&mut self) -> Step
-        ensures step { (ls : List (List ℕ)) (bytes : List ℕ) → is_percent_line bytes ≡ true → StepGives (Ok result) (walked self.old (bytes ∷ ls)) (walked self.new ls) (ended self.new) }
+        ensures step { (ls : List (List ℕ)) (bytes : List ℕ) → is_percent_line bytes ≡ true →
+            StepGives (Ok result) (walked self.old (bytes ∷ ls)) (walked self.new ls)
+            (ended self.new) }
         ensures progress { result ≡ Step.More → room_behind self.new + 257 ≤ room_behind self.old }
     {
         match self.phase {
@@ -115,9 +124,12 @@ impl<A: Allocator> LinesSoFar<A> {
 
     // The next line.
     fn take_line(&mut self, bytes: &[u8], reading: &mut Line) -> Result<Step, ReadFault>
-        ensures step { (ls : List (List ℕ)) → StepGives result (walked self.old (bytes.now ∷ ls)) (walked self.new ls) (ended self.new) }
+        ensures step { (ls : List (List ℕ)) →
+            StepGives result (walked self.old (bytes.now ∷ ls)) (walked self.new ls)
+            (ended self.new) }
         ensures quiet { IfErr result (λ e. IsOfLines e) }
-        ensures progress { result ≡ Ok Step.More → room_behind self.new + length bytes.now + 1 ≤ room_behind self.old }
+        ensures progress { result ≡ Ok Step.More →
+            room_behind self.new + length bytes.now + 1 ≤ room_behind self.old }
     {
         if is_percent(bytes) {
             return Ok(self.take_percent());
@@ -130,7 +142,9 @@ impl<A: Allocator> LinesSoFar<A> {
 
     // Why a line of more than 256 bytes is refused.
     fn long_line(&self) -> ReadFault
-        ensures value { (bytes : List ℕ) → 256 < length bytes → RefusedBy (fault_of (length (lines_in self.now.lines)) (next_line self.now bytes)) result }
+        ensures value { (bytes : List ℕ) → 256 < length bytes →
+            RefusedBy (fault_of (length (lines_in self.now.lines)) (next_line self.now bytes))
+            result }
         ensures quiet { IsOfLines result }
     {
         if self.lines.len() >= LINES {
@@ -171,7 +185,8 @@ impl<A: Allocator> Loader<A> {
         A: Copy,
         ensures loading { IsLoading result }
         ensures begins { (bytes : List ℕ) → program_of bytes ≡ resumed split_lines result bytes }
-        ensures firm { (bytes : List ℕ) → fault_so_far bytes ≡ standing (resumed firm_lines result bytes) }
+        ensures firm { (bytes : List ℕ) → fault_so_far bytes
+            ≡ standing (resumed firm_lines result bytes) }
     {
         Loader {
             found: LinesSoFar::new(alloc),
@@ -183,7 +198,10 @@ impl<A: Allocator> Loader<A> {
     fn keep(&mut self, piece: &[u8]) -> Result<(), ReadFault>
         requires loading { IsLoading self.old }
         requires feedless { NoFeed piece.now }
-        ensures step { (lines : List ℕ → List (List ℕ)) → PartsLines lines → (rest : List ℕ) → MatchResult result (λ _. resumed lines self.old (piece.now ++ rest) ≡ resumed lines self.new rest) (λ e. FaultIs e (resumed lines self.old (piece.now ++ rest))) }
+        ensures step { (lines : List ℕ → List (List ℕ)) → PartsLines lines → (rest : List ℕ) →
+            MatchResult result
+            (λ _. resumed lines self.old (piece.now ++ rest) ≡ resumed lines self.new rest)
+            (λ e. FaultIs e (resumed lines self.old (piece.now ++ rest))) }
         ensures loading { OnOk result (IsLoading self.new) }
         ensures quiet { IfErr result (λ e. IsOfLines e) }
         ensures progress { OnOk result (room_of self.new + length piece.now ≤ room_of self.old) }
@@ -197,7 +215,9 @@ impl<A: Allocator> Loader<A> {
     // The line that is cut ends here.
     fn end_cut(&mut self, reading: &mut Line) -> Result<Step, ReadFault>
         requires { IsLoading self.old }
-        ensures step { (ls : List (List ℕ)) → StepGives result (walked self.old.found (self.old.cut.items ∷ ls)) (walked self.new.found ls) (ended self.new.found) }
+        ensures step { (ls : List (List ℕ)) →
+            StepGives result (walked self.old.found (self.old.cut.items ∷ ls))
+            (walked self.new.found ls) (ended self.new.found) }
         ensures empty { OnOk result (self.new.cut.items ≡ []) }
         ensures quiet { IfErr result (λ e. IsOfLines e) }
         ensures progress { result ≡ Ok Step.More → room_of self.new + 1 ≤ room_of self.old }
@@ -215,10 +235,13 @@ impl<A: Allocator> Loader<A> {
     fn end_line(&mut self, piece: &[u8], reading: &mut Line) -> Result<Step, ReadFault>
         requires loading { IsLoading self.old }
         requires feedless { NoFeed piece.now }
-        ensures step { (lines : List ℕ → List (List ℕ)) → PartsLines lines → (rest : List ℕ) → StepGives result (resumed lines self.old (piece.now ++ (10 ∷ rest))) (resumed lines self.new rest) (ended self.new.found) }
+        ensures step { (lines : List ℕ → List (List ℕ)) → PartsLines lines → (rest : List ℕ) →
+            StepGives result (resumed lines self.old (piece.now ++ (10 ∷ rest)))
+            (resumed lines self.new rest) (ended self.new.found) }
         ensures loading { OnOk result (IsLoading self.new) }
         ensures quiet { IfErr result (λ e. IsOfLines e) }
-        ensures progress { result ≡ Ok Step.More → room_of self.new + length piece.now + 1 ≤ room_of self.old }
+        ensures progress { result ≡ Ok Step.More →
+            room_of self.new + length piece.now + 1 ≤ room_of self.old }
     {
         if self.cut.is_empty() {
             return self.found.take_line(piece, reading);
@@ -232,10 +255,13 @@ impl<A: Allocator> Loader<A> {
     /// More bytes of the file.
     pub(crate) fn feed(&mut self, chunk: &[u8], reading: &mut Line) -> Result<Step, ReadFault>
         requires { IsLoading self.old }
-        ensures step { (lines : List ℕ → List (List ℕ)) → PartsLines lines → (rest : List ℕ) → StepGives result (resumed lines self.old (chunk.now ++ rest)) (resumed lines self.new rest) (ended self.new.found) }
+        ensures step { (lines : List ℕ → List (List ℕ)) → PartsLines lines → (rest : List ℕ) →
+            StepGives result (resumed lines self.old (chunk.now ++ rest))
+            (resumed lines self.new rest) (ended self.new.found) }
         ensures loading { OnOk result (IsLoading self.new) }
         ensures quiet { IfErr result (λ e. IsOfLines e) }
-        ensures progress { result ≡ Ok Step.More → room_of self.new + length chunk.now ≤ room_of self.old }
+        ensures progress { result ≡ Ok Step.More →
+            room_of self.new + length chunk.now ≤ room_of self.old }
     {
         let mut rest = chunk;
         while let Some((piece, behind)) = split_line(rest) {

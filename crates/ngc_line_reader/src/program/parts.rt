@@ -82,7 +82,8 @@ fn keep_numbers<A: Allocator>(
     numbers: &mut Vec<Value, A>,
     tokens: &[Token],
 ) -> Result<(), AllocError>
-    ensures { OnOk result (numbers.new.items ≡ numbers.old.items ++ numbers_of (symbols tokens.now)) }
+    ensures { OnOk result
+        (numbers.new.items ≡ numbers.old.items ++ numbers_of (symbols tokens.now)) }
 {
     for token in tokens {
         if let Symbol::Number(value) = token.symbol {
@@ -126,7 +127,8 @@ fn load_tokens(kinds: &[Kind], numbers: &[Value], tokens: &mut ArrayVec<Token, 2
 }
 
 impl<A: Allocator> PartLists<A> {
-    ghost use Rattle.ngc_line_reader.specs.Kept.{parts_in, parts_at, kept_of, IsWithin, Keeps, no_kept};
+    ghost use Rattle.ngc_line_reader.specs.Kept.{parts_in, parts_at, kept_of, IsWithin, Keeps};
+    ghost use Rattle.ngc_line_reader.specs.Kept.{no_kept};
 
     pub(crate) fn new(alloc: A) -> PartLists<A>
     where
@@ -145,7 +147,8 @@ impl<A: Allocator> PartLists<A> {
     pub(crate) fn push(&mut self, line: &Line) -> Result<LineParts, AllocError>
         ensures kept { OnOk result (Keeps (parts_in self.old) (parts_in self.new)) }
         ensures within { IfOk result (λ p. IsWithin (parts_in self.new) p) }
-        ensures value { IfOk result (λ p. parts_at (parts_in self.new) p ≡ kept_of (parts_of line.now)) }
+        ensures value { IfOk result
+            (λ p. parts_at (parts_in self.new) p ≡ kept_of (parts_of line.now)) }
         ensures deleted { IfOk result (λ p. p.deleted ≡ line.now.deleted) }
     {
         let words = place_behind(self.words.len())?;
@@ -177,7 +180,9 @@ impl<A: Allocator> PartLists<A> {
         ensures deleted { line.new.deleted ≡ parts.deleted }
         ensures words { line.new.words.items ≡ (parts_at (parts_in self.now) parts).words }
         ensures settings { line.new.settings.items ≡ (parts_at (parts_in self.now) parts).settings }
-        ensures symbols { symbols line.new.tokens.items ≡ symbols_from (parts_at (parts_in self.now) parts).kinds (parts_at (parts_in self.now) parts).numbers }
+        ensures symbols { symbols line.new.tokens.items
+            ≡ symbols_from (parts_at (parts_in self.now) parts).kinds
+            (parts_at (parts_in self.now) parts).numbers }
     {
         let words = parts.words as usize;
         let settings = parts.settings as usize;

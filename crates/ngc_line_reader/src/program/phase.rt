@@ -1,5 +1,7 @@
 ghost use Rattle.std.specs.Prelude.{◌≡◌, ◌≤◌};
-ghost use Rattle.ngc_line_reader.specs.Load.{is_blank as is_blank_line, is_percent as is_percent_line, phase_after, number_in, after_blanks};
+ghost use Rattle.ngc_line_reader.specs.Load.{is_blank as is_blank_line};
+ghost use Rattle.ngc_line_reader.specs.Load.{is_percent as is_percent_line, phase_after, number_in};
+ghost use Rattle.ngc_line_reader.specs.Load.{after_blanks};
 
 /// Whether the lines so far are blank; else whether the first other one was a `%`.
 #[derive(Clone, Copy)]

@@ -40,12 +40,14 @@ pub struct ProgramReader<A: Allocator> {
 }
 
 impl<A: Allocator> ProgramReader<A> {
-    ghost use Rattle.std.specs.Prelude.{ℕ, List, [], ◌+◌, ◌≤◌, ◌++◌, length, false, MatchResult, IfOk, OnOk, IfSome, None, Err};
+    ghost use Rattle.std.specs.Prelude.{ℕ, List, [], ◌+◌, ◌≤◌, ◌++◌, length, false, MatchResult};
+    ghost use Rattle.std.specs.Prelude.{IfOk, OnOk, IfSome, None, Err};
     ghost use Rattle.std.specs.Result.{result_err};
     ghost use Rattle.ngc_line_reader.specs.ProgramText.{program_of, HaveReadings};
     ghost use Rattle.ngc_line_reader.specs.ProgramView.{text_in, FaultIs, OutcomeIs};
     ghost use Rattle.ngc_line_reader.specs.Pieces.{fault_so_far};
-    ghost use Rattle.ngc_line_reader.specs.ReaderView.{outcome_in, fault_in, refusal_in, has_ended_in, room_in, AnswerIs};
+    ghost use Rattle.ngc_line_reader.specs.ReaderView.{outcome_in, fault_in, refusal_in};
+    ghost use Rattle.ngc_line_reader.specs.ReaderView.{has_ended_in, room_in, AnswerIs};
 
     /// A reader that was fed nothing yet.
     pub fn new(alloc: A) -> ProgramReader<A>
@@ -68,16 +70,21 @@ impl<A: Allocator> ProgramReader<A> {
     pub fn feed(&mut self, piece: &[u8]) -> Result<(), ReadFault>
         // The fault is that of the lines so far, and where none stands, none is answered.
         ensures answer { AnswerIs result (fault_in self.old piece.now) }
-        ensures firm { OnOk result ((rest : List ℕ) → fault_in self.old (piece.now ++ rest) ≡ fault_in self.new rest) }
+        ensures firm { OnOk result ((rest : List ℕ) →
+            fault_in self.old (piece.now ++ rest) ≡ fault_in self.new rest) }
         // Whatever follows, the text comes to the same as if this piece stood in front of it: a
         // fault stays.
-        ensures text { (rest : List ℕ) → MatchResult result (λ _. outcome_in self.old (piece.now ++ rest) ≡ outcome_in self.new rest) (λ fault. FaultIs fault (outcome_in self.old (piece.now ++ rest))) }
+        ensures text { (rest : List ℕ) →
+            MatchResult result
+            (λ _. outcome_in self.old (piece.now ++ rest) ≡ outcome_in self.new rest)
+            (λ fault. FaultIs fault (outcome_in self.old (piece.now ++ rest))) }
         // A fault is kept, also want of memory, and answered again.
         ensures refusal { refusal_in self.new ≡ result_err result }
         ensures again { IfSome (refusal_in self.old) (λ fault. result ≡ Err fault) }
         ensures device { result ≢ Err Device }
         // A text is no longer than its lines may be.
-        ensures room { OnOk result (has_ended_in self.new ≡ false → room_in self.new + length piece.now ≤ room_in self.old) }
+        ensures room { OnOk result (has_ended_in self.new ≡ false →
+            room_in self.new + length piece.now ≤ room_in self.old) }
     {
         match self.state {
             State::Going => match self.loader.feed(piece, &mut self.reading) {

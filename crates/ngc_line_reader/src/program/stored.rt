@@ -1,10 +1,12 @@
-ghost use Rattle.std.specs.Prelude.{ℕ, List, ◌≡◌, ◌++◌, ◌∷◌, [], ◌<◌, ◌≤◌, length, slice_get, slice_range, vec_len, Some, Ok, IsOk, IfOk, OnOk, IsTrue};
+ghost use Rattle.std.specs.Prelude.{ℕ, List, ◌≡◌, ◌++◌, ◌∷◌, [], ◌<◌, ◌≤◌, length, slice_get};
+ghost use Rattle.std.specs.Prelude.{slice_range, vec_len, Some, Ok, IsOk, IfOk, OnOk, IsTrue};
 ghost use Rattle.std.specs.Option.{option_map};
 ghost use Rattle.std.proofs.Props.{props};
 ghost use Rattle.ngc_line_reader.specs.Stored.{is_stored, line_of, lines_from, start_from};
 ghost use Rattle.ngc_line_reader.specs.ReadLine.{line_read};
 ghost use Rattle.ngc_line_reader.specs.ScanLine.{parts_of, said_of};
-ghost use Rattle.ngc_line_reader.specs.Kept.{parts_in, parts_at, kept_of, IsWithin, AreWithin, AreKept};
+ghost use Rattle.ngc_line_reader.specs.Kept.{parts_in, parts_at, kept_of, IsWithin, AreWithin};
+ghost use Rattle.ngc_line_reader.specs.Kept.{AreKept};
 ghost use Rattle.ngc_line_reader.specs.Shown.{ShowsReading};
 
 use crate::line::Line;
@@ -80,7 +82,8 @@ impl<A: Allocator> StoredLines<A> {
         requires { index < length (lines_in self.now) }
         ensures order { result.0 ≤ result.1 }
         ensures within { result.1 ≤ vec_len self.now.bytes }
-        ensures value { option_map (λ l. l.bytes) (slice_get (lines_in self.now) index) ≡ Some (slice_range self.now.bytes.items result.0 result.1) }
+        ensures value { option_map (λ l. l.bytes) (slice_get (lines_in self.now) index)
+            ≡ Some (slice_range self.now.bytes.items result.0 result.1) }
         ensures read { IsOk (line_read (slice_range self.now.bytes.items result.0 result.1)) }
     {
         (self.start(index), self.ends[index].end as usize)
@@ -88,7 +91,8 @@ impl<A: Allocator> StoredLines<A> {
 
     pub(crate) fn bytes(&self, index: usize) -> &[u8]
         requires { index < length (lines_in self.now) }
-        ensures value { option_map (λ l. l.bytes) (slice_get (lines_in self.now) index) ≡ Some result.now }
+        ensures value { option_map (λ l. l.bytes) (slice_get (lines_in self.now) index)
+            ≡ Some result.now }
         ensures read { IsOk (line_read result.now) }
     {
         let (start, end) = self.bounds(index);
@@ -99,7 +103,8 @@ impl<A: Allocator> StoredLines<A> {
     #[tactic(auto, using(crate::proofs::StoredLaws::counting_lines))]
     pub(crate) fn load(&self, index: usize, line: &mut Line)
         requires { index < length (lines_in self.now) }
-        ensures { (bytes : List ℕ) → option_map (λ l. l.bytes) (slice_get (lines_in self.now) index) ≡ Some bytes → ShowsReading bytes line.new.deleted (parts_of line.new) }
+        ensures { (bytes : List ℕ) → option_map (λ l. l.bytes) (slice_get (lines_in self.now) index)
+            ≡ Some bytes → ShowsReading bytes line.new.deleted (parts_of line.new) }
     {
         self.parts.load(self.ends[index].parts, line);
     }
@@ -109,7 +114,8 @@ impl<A: Allocator> StoredLines<A> {
         ensures bytes { OnOk result (self.new.bytes ≡ self.old.bytes) }
         ensures ends { OnOk result (self.new.ends ≡ self.old.ends) }
         ensures within { IfOk result (λ p. IsWithin (parts_in self.new.parts) p) }
-        ensures value { IfOk result (λ p. parts_at (parts_in self.new.parts) p ≡ kept_of (parts_of reading.now)) }
+        ensures value { IfOk result
+            (λ p. parts_at (parts_in self.new.parts) p ≡ kept_of (parts_of reading.now)) }
         ensures deleted { IfOk result (λ p. p.deleted ≡ reading.now.deleted) }
     {
         match self.parts.push(reading) {
@@ -132,7 +138,8 @@ impl<A: Allocator> StoredLines<A> {
         requires few { length (lines_in self.old) < 100000 }
         requires short { length bytes.now ≤ 256 }
         requires read { line_read bytes.now ≡ Ok (said_of reading.now) }
-        ensures pushed { OnOk result (lines_in self.new ≡ lines_in self.old ++ (line_of number bytes.now ∷ [])) }
+        ensures pushed { OnOk result
+            (lines_in self.new ≡ lines_in self.old ++ (line_of number bytes.now ∷ [])) }
     {
         let start = self.bytes.len();
         let parts = self.keep(reading)?;

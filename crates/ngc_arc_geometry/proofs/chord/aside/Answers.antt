@@ -5,7 +5,8 @@ use Rattle.std.proofs.lemmas.Int.{ints}
 use Rattle.ngc_arc_geometry.proofs.ChordLemmas.{aside_square, aside_bound}
 use Rattle.ngc_arc_geometry.proofs.chord.aside.Goals as goal
 
-square : (c : goal.After-root_floor) → 4 * c.args.chord_square * (c.root_floor.result * c.root_floor.result) ≤ unsigned_abs c.args.part * unsigned_abs c.args.part * (4 * c.args.square - c.args.chord_square)
+square : (c : goal.After-root_floor) → 4 * c.args.chord_square * (c.root_floor.result * c.root_floor.result)
+    ≤ unsigned_abs c.args.part * unsigned_abs c.args.part * (4 * c.args.square - c.args.chord_square)
 square c =
     let size : c.from-size.result ≡ unsigned_abs c.args.part = omega (arith, ints) in
     let root = rw size at c.root_floor.ensures.square in
@@ -13,12 +14,14 @@ square c =
 
 pub returns-clause-bound : goal.returns-clause-bound
 returns-clause-bound c =
-    let small = aside_bound (unsigned_abs c.args.part * unsigned_abs c.args.part) c.args.square c.args.chord_square c.root_floor.result c.requires.chord c.requires.reached c.requires.limit c.requires.part (square c) in
+    let small = aside_bound (unsigned_abs c.args.part * unsigned_abs c.args.part) c.args.square c.args.chord_square c.root_floor.result c.requires.chord
+    c.requires.reached c.requires.limit c.requires.part (square c) in
     omega (arith, ints, small)
 
 pub returns-clause-square : goal.returns-clause-square
 returns-clause-square c =
-    let small = aside_bound (unsigned_abs c.args.part * unsigned_abs c.args.part) c.args.square c.args.chord_square c.root_floor.result c.requires.chord c.requires.reached c.requires.limit c.requires.part (square c) in
+    let small = aside_bound (unsigned_abs c.args.part * unsigned_abs c.args.part) c.args.square c.args.chord_square c.root_floor.result c.requires.chord
+    c.requires.reached c.requires.limit c.requires.part (square c) in
     let kept : unsigned_abs (to_z w64 c.root_floor.result) ≡ c.root_floor.result = omega (arith, ints, small) in
     rw kept (square c)
 
@@ -28,7 +31,8 @@ part_small k2 q d2 part reached limit = omega arith
 
 product_fits : (k2 q d2 : ℕ) → k2 ≤ d2 → d2 ≤ 4 * q → q ≤ 4000000000000000000 → Fits w128 (k2 * (4 * q - d2))
 product_fits k2 q d2 part reached limit =
-    let p : k2 * (4 * q - d2) ≤ 16000000000000000000 * 16000000000000000000 = mul-le k2 (4 * q - d2) 16000000000000000000 16000000000000000000 (part_small k2 q d2 part reached limit) (omega arith) in
+    let p : k2 * (4 * q - d2) ≤ 16000000000000000000 * 16000000000000000000 =
+    mul-le k2 (4 * q - d2) 16000000000000000000 16000000000000000000 (part_small k2 q d2 part reached limit) (omega arith) in
     omega (arith, ints, p)
 
 size_square : (c : goal.After-from-size) → c.from-size.result * c.from-size.result ≤ c.args.chord_square
@@ -42,4 +46,5 @@ overflow_mul-size c =
     omega (arith, ints, small)
 
 pub overflow_mul-size-2 : goal.overflow_mul-size-2
-overflow_mul-size-2 c = product_fits (c.from-size.result * c.from-size.result) c.args.square c.args.chord_square (size_square c) c.requires.reached c.requires.limit
+overflow_mul-size-2 c =
+    product_fits (c.from-size.result * c.from-size.result) c.args.square c.args.chord_square (size_square c) c.requires.reached c.requires.limit

@@ -16,9 +16,11 @@ returns-clause-value c =
     let aside : to_z w64 (of_z w64 c.args.aside) ≡ c.args.aside = omega (arith, ints) in
     let one : unsigned_abs c.signum.result ≤ 1 = omega (arith, ints) in
     let sides = unsigned_abs-mul c.args.side c.signum.result in
-    let sides_one : unsigned_abs c.args.side * unsigned_abs c.signum.result ≤ 1 * 1 = mul-le (unsigned_abs c.args.side) (unsigned_abs c.signum.result) 1 1 c.requires.side one in
+    let sides_one : unsigned_abs c.args.side * unsigned_abs c.signum.result ≤ 1 * 1 =
+    mul-le (unsigned_abs c.args.side) (unsigned_abs c.signum.result) 1 1 c.requires.side one in
     let first = to_z-of_z w64 (c.args.side *ℤ c.signum.result) (fits_signed_mul w64 c.args.side c.signum.result 1 1 c.requires.side one (lit< tt)) in
-    let both = to_z-of_z w64 (c.args.side *ℤ c.signum.result *ℤ c.args.aside) (fits_signed_mul w64 (c.args.side *ℤ c.signum.result) c.args.aside 1 2000000000 (omega arith) c.requires.aside (lit< tt)) in
+    let both = to_z-of_z w64 (c.args.side *ℤ c.signum.result *ℤ c.args.aside)
+    (fits_signed_mul w64 (c.args.side *ℤ c.signum.result) c.args.aside 1 2000000000 (omega arith) c.requires.aside (lit< tt)) in
     rw (side, sign, aside, first, both, sign_is c)
 
 pub returns-clause-bound : goal.returns-clause-bound
@@ -26,8 +28,10 @@ returns-clause-bound c =
     let same = returns-clause-value c in
     let one : unsigned_abs (int_signum c.args.part) ≤ 1 = rw (← sign_is c) (omega (arith, ints)) in
     let sides = mul-le (unsigned_abs c.args.side) (unsigned_abs (int_signum c.args.part)) 1 1 c.requires.side one in
-    let whole = mul-le (unsigned_abs c.args.side * unsigned_abs (int_signum c.args.part)) (unsigned_abs c.args.aside) 1 (unsigned_abs c.args.aside) sides (omega arith) in
-    rw (same, unsigned_abs-mul (c.args.side *ℤ int_signum c.args.part) c.args.aside, unsigned_abs-mul c.args.side (int_signum c.args.part)) (omega (arith, whole))
+    let whole = mul-le (unsigned_abs c.args.side * unsigned_abs (int_signum c.args.part)) (unsigned_abs c.args.aside) 1 (unsigned_abs c.args.aside) sides
+    (omega arith) in
+    rw (same, unsigned_abs-mul (c.args.side *ℤ int_signum c.args.part) c.args.aside, unsigned_abs-mul c.args.side (int_signum c.args.part))
+    (omega (arith, whole))
 
 pub overflow_mul-result-2 : goal.overflow_mul-result-2
 overflow_mul-result-2 c =
@@ -38,4 +42,5 @@ overflow_mul-result-2 c =
     let sides = unsigned_abs-mul c.args.side c.signum.result in
     let sides_one = mul-le (unsigned_abs c.args.side) (unsigned_abs c.signum.result) 1 1 c.requires.side one in
     let first = to_z-of_z w64 (c.args.side *ℤ c.signum.result) (fits_signed_mul w64 c.args.side c.signum.result 1 1 c.requires.side one (lit< tt)) in
-    rw (side, sign, aside, first) (fits_signed_mul w64 (c.args.side *ℤ c.signum.result) c.args.aside 1 2000000000 (omega (arith, sides, sides_one)) c.requires.aside (lit< tt))
+    rw (side, sign, aside, first)
+    (fits_signed_mul w64 (c.args.side *ℤ c.signum.result) c.args.aside 1 2000000000 (omega (arith, sides, sides_one)) c.requires.aside (lit< tt))

@@ -8,7 +8,8 @@ use Rattle.ngc_arc_geometry.proofs.extent.first_grid_point.Goals as goal
 
 quotient : (c : After-div_euclid) → c.div_euclid.result ≡ int_div_euclid (neg_ℤ c.args.nanometres) c.args.step
 quotient c =
-    let nanometres : to_z w64 (of_z w64 (pos 0 -ℤ to_z w64 (of_z w64 c.args.nanometres))) ≡ neg_ℤ c.args.nanometres = turned c.args.nanometres c.requires.bound in
+    let nanometres : to_z w64 (of_z w64 (pos 0 -ℤ to_z w64 (of_z w64 c.args.nanometres))) ≡ neg_ℤ c.args.nanometres =
+    turned c.args.nanometres c.requires.bound in
     let step : to_z w64 (of_z w64 c.nanometres.result) ≡ c.args.step = omega (arith, ints) in
     rw (nanometres, step) at c.div_euclid.ensures
 

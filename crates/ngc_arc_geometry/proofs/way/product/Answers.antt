@@ -8,10 +8,12 @@ pub returns-clause-value : goal.returns-clause-value
 returns-clause-value c =
     let left : to_z w128 (of_z w128 c.from.result) ≡ c.args.x = omega (arith, ints) in
     let right : to_z w128 (of_z w128 c.from-2.result) ≡ c.args.y = omega (arith, ints) in
-    rw (left, right) (to_z-of_z w128 (c.args.x *ℤ c.args.y) (fits_signed_mul w128 c.args.x c.args.y 400000000000 400000000000 c.requires.x c.requires.y (lit< tt)))
+    rw (left, right) (to_z-of_z w128 (c.args.x *ℤ c.args.y)
+    (fits_signed_mul w128 c.args.x c.args.y 400000000000 400000000000 c.requires.x c.requires.y (lit< tt)))
 
 pub returns-clause-bound : goal.returns-clause-bound
 returns-clause-bound c =
     let same = returns-clause-value c in
-    let size : unsigned_abs c.args.x * unsigned_abs c.args.y ≤ 400000000000 * 400000000000 = mul-le (unsigned_abs c.args.x) (unsigned_abs c.args.y) 400000000000 400000000000 c.requires.x c.requires.y in
+    let size : unsigned_abs c.args.x * unsigned_abs c.args.y ≤ 400000000000 * 400000000000 =
+    mul-le (unsigned_abs c.args.x) (unsigned_abs c.args.y) 400000000000 400000000000 c.requires.x c.requires.y in
     rw (same, unsigned_abs-mul c.args.x c.args.y) (omega arith)

@@ -13,7 +13,8 @@ returns-then-view g c = λ rs are.
     let here = seen_line lines c.loop-index.index within in
     let shows = seen here.line.bytes (c.load.ensures here.line.bytes (bytes_seen lines c.loop-index.index here)) c.view.ensures.deleted c.view.ensures.parts in
     let rest : Bool = has_deleted (with_readings (drop (c.loop-index.index + 1) lines) (drop (c.loop-index.index + 1) rs)) in
-    sym (c.loop-index.invariant rs are ∙ deleted_from lines rs c.loop-index.index _ _ _ _ shows (next_seen lines rs c.loop-index.index here are) ∙ ap (λ (x : Bool). x || rest) c.if-view.true)
+    sym (c.loop-index.invariant rs are ∙ deleted_from lines rs c.loop-index.index _ _ _ _ shows (next_seen lines rs c.loop-index.index here are)
+    ∙ ap (λ (x : Bool). x || rest) c.if-view.true)
 
 pub loop-index-preserved : goal.loop-index-preserved
 loop-index-preserved g c = λ rs are.
@@ -22,4 +23,5 @@ loop-index-preserved g c = λ rs are.
     let here = seen_line lines c.loop-index.index within in
     let shows = seen here.line.bytes (c.load.ensures here.line.bytes (bytes_seen lines c.loop-index.index here)) c.view.ensures.deleted c.view.ensures.parts in
     let rest : Bool = has_deleted (with_readings (drop (c.loop-index.index + 1) lines) (drop (c.loop-index.index + 1) rs)) in
-    c.loop-index.invariant rs are ∙ deleted_from lines rs c.loop-index.index _ _ _ _ shows (next_seen lines rs c.loop-index.index here are) ∙ ap (λ (x : Bool). x || rest) c.if-view.false
+    c.loop-index.invariant rs are ∙ deleted_from lines rs c.loop-index.index _ _ _ _ shows (next_seen lines rs c.loop-index.index here are)
+    ∙ ap (λ (x : Bool). x || rest) c.if-view.false

@@ -15,9 +15,11 @@ returns-in-Err-clause-commands g c = λ rs are.
     let lines = (text_in c.args.program.now).lines in
     let here = line_at lines c.loop-index.index c.number.result c.number.ensures in
     let next : NextLine lines rs c.loop-index.index c.number.result here.line.bytes = next_line _ _ _ _ here.line are here.at here.numbered in
-    let shows = seen here.line.bytes (c.load.ensures here.line.bytes (bytes_at lines c.loop-index.index c.number.result here)) c.view.ensures.deleted c.view.ensures.parts in
+    let shows = seen here.line.bytes (c.load.ensures here.line.bytes (bytes_at lines c.loop-index.index c.number.result here)) c.view.ensures.deleted
+    c.view.ensures.parts in
     refused_fails c.in-Err.fault _ _ _
-    (λ e refused. c.loop-index.invariant.leads rs are ∙ left_refused (setup_of c.args.machine.now c.args.tools.now) _ c.args.block_delete lines rs c.loop-index.index _ _ _ e c.loop-index.invariant.running next refused)
+    (λ e refused. c.loop-index.invariant.leads rs are ∙ left_refused
+    (setup_of c.args.machine.now c.args.tools.now) _ c.args.block_delete lines rs c.loop-index.index _ _ _ e c.loop-index.invariant.running next refused)
     (c.in-Err.ensures here.line.bytes shows next.reading next.reads)
 
 pub returns-then-interpreter-clause-commands : goal.returns-then-interpreter-clause-commands
@@ -25,10 +27,12 @@ returns-then-interpreter-clause-commands g c = λ rs are.
     let lines = (text_in c.args.program.now).lines in
     let here = line_at lines c.loop-index.index c.number.result c.number.ensures in
     let next : NextLine lines rs c.loop-index.index c.number.result here.line.bytes = next_line _ _ _ _ here.line are here.at here.numbered in
-    let shows = seen here.line.bytes (c.load.ensures here.line.bytes (bytes_at lines c.loop-index.index c.number.result here)) c.view.ensures.deleted c.view.ensures.parts in
+    let shows = seen here.line.bytes (c.load.ensures here.line.bytes (bytes_at lines c.loop-index.index c.number.result here)) c.view.ensures.deleted
+    c.view.ensures.parts in
     ap commands_of
     (c.loop-index.invariant.leads rs are
-    ∙ left_ended (setup_of c.args.machine.now c.args.tools.now) _ c.args.block_delete lines rs c.loop-index.index _ _ _ _ c.loop-index.invariant.running next (c.in-Ok-take_line.ensures here.line.bytes shows next.reading next.reads) c.if-interpreter.true)
+    ∙ left_ended (setup_of c.args.machine.now c.args.tools.now) _ c.args.block_delete lines rs c.loop-index.index _ _ _ _ c.loop-index.invariant.running next
+    (c.in-Ok-take_line.ensures here.line.bytes shows next.reading next.reads) c.if-interpreter.true)
     ∙ ap (λ (l : List Command). Ok l) (sym c.into_commands.ensures)
 
 pub loop-index-preserved : goal.loop-index-preserved
@@ -36,28 +40,36 @@ loop-index-preserved g c = record {
   running = c.if-interpreter.false;
   no_end =
       let here = line_at (text_in c.args.program.now).lines c.loop-index.index c.number.result c.number.ensures in
-      let shows = seen here.line.bytes (c.load.ensures here.line.bytes (bytes_at _ c.loop-index.index c.number.result here)) c.view.ensures.deleted c.view.ensures.parts in
-      line_on (setup_of c.args.machine.now c.args.tools.now) c.args.block_delete c.number.result shows.reading (state_of c.loop-index.interpreter) (state_of c.take_line.new.self)
-      c.loop-index.invariant.running c.loop-index.invariant.no_end (c.in-Ok-take_line.ensures here.line.bytes shows shows.reading shows.reads) c.if-interpreter.false;
+      let shows = seen here.line.bytes (c.load.ensures here.line.bytes (bytes_at _ c.loop-index.index c.number.result here)) c.view.ensures.deleted
+      c.view.ensures.parts in
+      line_on (setup_of c.args.machine.now c.args.tools.now) c.args.block_delete c.number.result shows.reading (state_of c.loop-index.interpreter)
+      (state_of c.take_line.new.self)
+      c.loop-index.invariant.running c.loop-index.invariant.no_end (c.in-Ok-take_line.ensures here.line.bytes shows shows.reading shows.reads)
+      c.if-interpreter.false;
   holds =
       let here = line_at (text_in c.args.program.now).lines c.loop-index.index c.number.result c.number.ensures in
-      let shows = seen here.line.bytes (c.load.ensures here.line.bytes (bytes_at _ c.loop-index.index c.number.result here)) c.view.ensures.deleted c.view.ensures.parts in
-      went_on (file_of c.args.machine.now).start (setup_of c.args.machine.now c.args.tools.now) c.args.block_delete c.number.result shows.reading (state_of c.loop-index.interpreter) (state_of c.take_line.new.self)
+      let shows = seen here.line.bytes (c.load.ensures here.line.bytes (bytes_at _ c.loop-index.index c.number.result here)) c.view.ensures.deleted
+      c.view.ensures.parts in
+      went_on (file_of c.args.machine.now).start (setup_of c.args.machine.now c.args.tools.now) c.args.block_delete c.number.result shows.reading
+      (state_of c.loop-index.interpreter) (state_of c.take_line.new.self)
       c.loop-index.invariant.holds (c.in-Ok-take_line.ensures here.line.bytes shows shows.reading shows.reads);
   leads = λ rs are.
       let lines = (text_in c.args.program.now).lines in
       let here = line_at lines c.loop-index.index c.number.result c.number.ensures in
       let next : NextLine lines rs c.loop-index.index c.number.result here.line.bytes = next_line _ _ _ _ here.line are here.at here.numbered in
-      let shows = seen here.line.bytes (c.load.ensures here.line.bytes (bytes_at lines c.loop-index.index c.number.result here)) c.view.ensures.deleted c.view.ensures.parts in
+      let shows = seen here.line.bytes (c.load.ensures here.line.bytes (bytes_at lines c.loop-index.index c.number.result here)) c.view.ensures.deleted
+      c.view.ensures.parts in
       c.loop-index.invariant.leads rs are
-      ∙ left_on (setup_of c.args.machine.now c.args.tools.now) _ c.args.block_delete lines rs c.loop-index.index _ _ _ _ c.loop-index.invariant.running next (c.in-Ok-take_line.ensures here.line.bytes shows next.reading next.reads) c.if-interpreter.false;
+      ∙ left_on (setup_of c.args.machine.now c.args.tools.now) _ c.args.block_delete lines rs c.loop-index.index _ _ _ _ c.loop-index.invariant.running next
+      (c.in-Ok-take_line.ensures here.line.bytes shows next.reading next.reads) c.if-interpreter.false;
 }
 
 pub returns-clause-commands : goal.returns-clause-commands
 returns-clause-commands g c = λ rs are.
     let lines = (text_in c.args.program.now).lines in
     let past : length lines ≤ c.loop-index.index = omega (arith, c.loop-index-test.false, c.len-index-end.ensures.value) in
-    let same : meaning (program_said (text_in c.args.program.now) rs) (setup_of c.args.machine.now c.args.tools.now) c.args.block_delete ≡ commands_of (past_last c.mark_of.result c.len.result (state_of c.loop-index.interpreter)) =
+    let same : meaning (program_said (text_in c.args.program.now) rs) (setup_of c.args.machine.now c.args.tools.now) c.args.block_delete
+    ≡ commands_of (past_last c.mark_of.result c.len.result (state_of c.loop-index.interpreter)) =
     ap commands_of
     (c.loop-index.invariant.leads rs are
     ∙ left_none (setup_of c.args.machine.now c.args.tools.now) _ c.args.block_delete lines rs c.loop-index.index _ past
@@ -68,57 +80,74 @@ returns-clause-commands g c = λ rs are.
 pub returns-then-interpreter-clause-joined : goal.returns-then-interpreter-clause-joined
 returns-then-interpreter-clause-joined g c =
     let here = line_at (text_in c.args.program.now).lines c.loop-index.index c.number.result c.number.ensures in
-    let shows = seen here.line.bytes (c.load.ensures here.line.bytes (bytes_at _ c.loop-index.index c.number.result here)) c.view.ensures.deleted c.view.ensures.parts in
-    let holds = went_on (file_of c.args.machine.now).start (setup_of c.args.machine.now c.args.tools.now) c.args.block_delete c.number.result shows.reading (state_of c.loop-index.interpreter) (state_of c.take_line.new.self)
+    let shows = seen here.line.bytes (c.load.ensures here.line.bytes (bytes_at _ c.loop-index.index c.number.result here)) c.view.ensures.deleted
+    c.view.ensures.parts in
+    let holds = went_on (file_of c.args.machine.now).start (setup_of c.args.machine.now c.args.tools.now) c.args.block_delete c.number.result shows.reading
+    (state_of c.loop-index.interpreter) (state_of c.take_line.new.self)
     c.loop-index.invariant.holds (c.in-Ok-take_line.ensures here.line.bytes shows shows.reading shows.reads) in
     (handed_out (file_of c.args.machine.now).start (state_of c.take_line.new.self) _ holds c.into_commands.ensures).trail.leads.joined
 
 pub returns-then-interpreter-clause-radii : goal.returns-then-interpreter-clause-radii
 returns-then-interpreter-clause-radii g c =
     let here = line_at (text_in c.args.program.now).lines c.loop-index.index c.number.result c.number.ensures in
-    let shows = seen here.line.bytes (c.load.ensures here.line.bytes (bytes_at _ c.loop-index.index c.number.result here)) c.view.ensures.deleted c.view.ensures.parts in
-    let holds = went_on (file_of c.args.machine.now).start (setup_of c.args.machine.now c.args.tools.now) c.args.block_delete c.number.result shows.reading (state_of c.loop-index.interpreter) (state_of c.take_line.new.self)
+    let shows = seen here.line.bytes (c.load.ensures here.line.bytes (bytes_at _ c.loop-index.index c.number.result here)) c.view.ensures.deleted
+    c.view.ensures.parts in
+    let holds = went_on (file_of c.args.machine.now).start (setup_of c.args.machine.now c.args.tools.now) c.args.block_delete c.number.result shows.reading
+    (state_of c.loop-index.interpreter) (state_of c.take_line.new.self)
     c.loop-index.invariant.holds (c.in-Ok-take_line.ensures here.line.bytes shows shows.reading shows.reads) in
     (handed_out (file_of c.args.machine.now).start (state_of c.take_line.new.self) _ holds c.into_commands.ensures).trail.leads.radii
 
 pub returns-then-interpreter-clause-count : goal.returns-then-interpreter-clause-count
 returns-then-interpreter-clause-count g c =
     let here = line_at (text_in c.args.program.now).lines c.loop-index.index c.number.result c.number.ensures in
-    let shows = seen here.line.bytes (c.load.ensures here.line.bytes (bytes_at _ c.loop-index.index c.number.result here)) c.view.ensures.deleted c.view.ensures.parts in
-    let holds = went_on (file_of c.args.machine.now).start (setup_of c.args.machine.now c.args.tools.now) c.args.block_delete c.number.result shows.reading (state_of c.loop-index.interpreter) (state_of c.take_line.new.self)
+    let shows = seen here.line.bytes (c.load.ensures here.line.bytes (bytes_at _ c.loop-index.index c.number.result here)) c.view.ensures.deleted
+    c.view.ensures.parts in
+    let holds = went_on (file_of c.args.machine.now).start (setup_of c.args.machine.now c.args.tools.now) c.args.block_delete c.number.result shows.reading
+    (state_of c.loop-index.interpreter) (state_of c.take_line.new.self)
     c.loop-index.invariant.holds (c.in-Ok-take_line.ensures here.line.bytes shows shows.reading shows.reads) in
     (handed_out (file_of c.args.machine.now).start (state_of c.take_line.new.self) _ holds c.into_commands.ensures).trail.few
 
 pub returns-clause-joined : goal.returns-clause-joined
 returns-clause-joined g c =
-    finished_joined (file_of c.args.machine.now).start c.mark_of.result c.len.result (state_of c.loop-index.interpreter) (λ v. v.items) c.finish.result c.loop-index.invariant.holds c.finish.ensures
+    finished_joined (file_of c.args.machine.now).start c.mark_of.result c.len.result (state_of c.loop-index.interpreter)
+    (λ v. v.items) c.finish.result c.loop-index.invariant.holds c.finish.ensures
 
 pub returns-clause-radii : goal.returns-clause-radii
 returns-clause-radii g c =
-    finished_radii (file_of c.args.machine.now).start c.mark_of.result c.len.result (state_of c.loop-index.interpreter) (λ v. v.items) c.finish.result c.loop-index.invariant.holds c.finish.ensures
+    finished_radii (file_of c.args.machine.now).start c.mark_of.result c.len.result (state_of c.loop-index.interpreter)
+    (λ v. v.items) c.finish.result c.loop-index.invariant.holds c.finish.ensures
 
 pub returns-clause-count : goal.returns-clause-count
 returns-clause-count g c =
-    finished_few (file_of c.args.machine.now).start c.mark_of.result c.len.result (state_of c.loop-index.interpreter) (λ v. v.items) c.finish.result c.loop-index.invariant.holds c.finish.ensures
+    finished_few (file_of c.args.machine.now).start c.mark_of.result c.len.result (state_of c.loop-index.interpreter)
+    (λ v. v.items) c.finish.result c.loop-index.invariant.holds c.finish.ensures
 
 pub returns-then-interpreter-clause-ended : goal.returns-then-interpreter-clause-ended
 returns-then-interpreter-clause-ended g c =
     let here = line_at (text_in c.args.program.now).lines c.loop-index.index c.number.result c.number.ensures in
-    let shows = seen here.line.bytes (c.load.ensures here.line.bytes (bytes_at _ c.loop-index.index c.number.result here)) c.view.ensures.deleted c.view.ensures.parts in
-    line_ended (setup_of c.args.machine.now c.args.tools.now) c.args.block_delete c.number.result shows.reading (state_of c.loop-index.interpreter) (state_of c.take_line.new.self) _
-    c.loop-index.invariant.running c.loop-index.invariant.no_end (c.in-Ok-take_line.ensures here.line.bytes shows shows.reading shows.reads) c.into_commands.ensures
+    let shows = seen here.line.bytes (c.load.ensures here.line.bytes (bytes_at _ c.loop-index.index c.number.result here)) c.view.ensures.deleted
+    c.view.ensures.parts in
+    line_ended (setup_of c.args.machine.now c.args.tools.now) c.args.block_delete c.number.result shows.reading (state_of c.loop-index.interpreter)
+    (state_of c.take_line.new.self) _
+    c.loop-index.invariant.running c.loop-index.invariant.no_end (c.in-Ok-take_line.ensures here.line.bytes shows shows.reading shows.reads)
+    c.into_commands.ensures
 
 pub returns-clause-ended : goal.returns-clause-ended
 returns-clause-ended g c =
-    finished_ended c.mark_of.result c.len.result (state_of c.loop-index.interpreter) (λ v. v.items) c.finish.result c.loop-index.invariant.no_end c.finish.ensures
+    finished_ended c.mark_of.result c.len.result (state_of c.loop-index.interpreter)
+    (λ v. v.items) c.finish.result c.loop-index.invariant.no_end c.finish.ensures
 
 pub returns-then-interpreter-clause-has_end : goal.returns-then-interpreter-clause-has_end
 returns-then-interpreter-clause-has_end g c =
     let here = line_at (text_in c.args.program.now).lines c.loop-index.index c.number.result c.number.ensures in
-    let shows = seen here.line.bytes (c.load.ensures here.line.bytes (bytes_at _ c.loop-index.index c.number.result here)) c.view.ensures.deleted c.view.ensures.parts in
-    line_has_end (setup_of c.args.machine.now c.args.tools.now) c.args.block_delete c.number.result shows.reading (state_of c.loop-index.interpreter) (state_of c.take_line.new.self) _
-    c.loop-index.invariant.running c.loop-index.invariant.no_end (c.in-Ok-take_line.ensures here.line.bytes shows shows.reading shows.reads) c.if-interpreter.true c.into_commands.ensures
+    let shows = seen here.line.bytes (c.load.ensures here.line.bytes (bytes_at _ c.loop-index.index c.number.result here)) c.view.ensures.deleted
+    c.view.ensures.parts in
+    line_has_end (setup_of c.args.machine.now c.args.tools.now) c.args.block_delete c.number.result shows.reading (state_of c.loop-index.interpreter)
+    (state_of c.take_line.new.self) _
+    c.loop-index.invariant.running c.loop-index.invariant.no_end (c.in-Ok-take_line.ensures here.line.bytes shows shows.reading shows.reads)
+    c.if-interpreter.true c.into_commands.ensures
 
 pub returns-clause-has_end : goal.returns-clause-has_end
 returns-clause-has_end g c =
-    finished_has_end c.mark_of.result c.len.result (state_of c.loop-index.interpreter) (λ v. v.items) c.finish.result c.loop-index.invariant.no_end c.finish.ensures
+    finished_has_end c.mark_of.result c.len.result (state_of c.loop-index.interpreter)
+    (λ v. v.items) c.finish.result c.loop-index.invariant.no_end c.finish.ensures

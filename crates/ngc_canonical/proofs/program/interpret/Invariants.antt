@@ -19,6 +19,7 @@ invariant-loop-index g l = record {
   no_end : HasNoEnd (state_of l.interpreter).commands;
   holds : Holds (file_of l.machine).start (state_of l.interpreter);
   leads : (rs : List Reading) → AreReadings (text_in l.program).lines rs
-      → from_state (setup_of l.machine l.tools) (program_said (text_in l.program) rs) (remaining l.block_delete (program_said (text_in l.program) rs).lines) (start_state (file_of l.machine))
+      → from_state (setup_of l.machine l.tools) (program_said (text_in l.program) rs) (remaining l.block_delete (program_said (text_in l.program) rs).lines)
+      (start_state (file_of l.machine))
       ≡ left (setup_of l.machine l.tools) (program_said (text_in l.program) rs) l.block_delete (text_in l.program).lines rs l.index (state_of l.interpreter);
 }

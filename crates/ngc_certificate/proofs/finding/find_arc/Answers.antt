@@ -17,11 +17,13 @@ pub returns-then-branch-clause-good : goal.returns-then-branch-clause-good
 returns-then-branch-clause-good g c = λ clear.
     let machine = c.args.machine.now in
     subst (λ (ps : List Piece). IsTrue (list_all good_piece ps)) (sym c.in_ok-clears_in.ensures.pieces)
-    (whole_good (file_of machine) c.args.tool.now c.args.arc.now machine.step_in_range machine.travel_in_range (sym c.in_ok-clears_in.ensures.clear ∙ c.if-branch.true))
+    (whole_good (file_of machine) c.args.tool.now c.args.arc.now machine.step_in_range machine.travel_in_range
+    (sym c.in_ok-clears_in.ensures.clear ∙ c.if-branch.true))
 
 pub returns-then-branch-2-clause-found : goal.returns-then-branch-2-clause-found
 returns-then-branch-2-clause-found g c =
-    cut_stands (file_of c.args.machine.now) c.args.most c.args.tool.now c.args.arc.now true c.clears_cut.new.pieces.items (sym c.in_ok-clears_in.ensures.clear ∙ c.if-branch.false)
+    cut_stands (file_of c.args.machine.now) c.args.most c.args.tool.now c.args.arc.now true c.clears_cut.new.pieces.items
+    (sym c.in_ok-clears_in.ensures.clear ∙ c.if-branch.false)
     (λ h. c.in_ok-clears_cut.ensures.clear c.if-branch-2.true)
 
 pub returns-clause-found : goal.returns-clause-found

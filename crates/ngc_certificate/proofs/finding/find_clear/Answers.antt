@@ -9,7 +9,8 @@ pub returns-in-Line-clause-found : goal.returns-in-Line-clause-found
 returns-in-Line-clause-found g c =
     let items = c.find_count.new.pieces.items in
     map_ok c.find_count.result _ _ c.find_count.ensures
-    (λ clear h. line_found (file_of c.args.machine.now) c.args.most c.args.tool.now c.args.way.now c.in-Line.start c.in-Line.end (pieces_where clear items) c.in-Line.is h)
+    (λ clear h. line_found (file_of c.args.machine.now) c.args.most c.args.tool.now c.args.way.now c.in-Line.start c.in-Line.end
+    (pieces_where clear items) c.in-Line.is h)
 
 pub returns-in-Line-clause-good : goal.returns-in-Line-clause-good
 returns-in-Line-clause-good g c =

@@ -17,5 +17,6 @@ loop-count-preserved g c =
 pub returns-then-branch : goal.returns-then-branch
 returns-then-branch g c =
     c.loop-count.invariant
-    ∙ taken (file_of c.args.machine.now) c.args.most c.args.tool.now c.args.way.now c.loop-count.count-index c.clears_in.new.pieces.items c.loop-count-test.true c.if-count-most.false
+    ∙ taken (file_of c.args.machine.now) c.args.most c.args.tool.now c.args.way.now c.loop-count.count-index c.clears_in.new.pieces.items c.loop-count-test.true
+    c.if-count-most.false
     (sym c.if-branch.true ∙ c.in_ok-clears_in.ensures.clear) c.in_ok-clears_in.ensures.pieces

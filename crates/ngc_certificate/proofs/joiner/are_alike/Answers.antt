@@ -9,7 +9,8 @@ returns-then-same_way-clause-yes g c = λ is.
     let a = entry_at c.args.off_motions.now c.args.i in
     let b = entry_at c.args.on_motions.now c.args.i in
     are_alike c.args.off.now c.args.on.now a b c.in-Some-Some.off_way c.in-Some-Some.on_way c.pieces.result.now c.pieces-then-same_way.result.now
-    (found c.args.off.now c.args.on.now a b c.in-Some-Some.off_way c.in-Some-Some.on_way c.pieces.result.now c.pieces-then-same_way.result.now c.index.result c.index-2.result
+    (found c.args.off.now c.args.on.now a b c.in-Some-Some.off_way c.in-Some-Some.on_way c.pieces.result.now c.pieces-then-same_way.result.now c.index.result
+    c.index-2.result
     c.index.ensures c.index-2.ensures c.in-Some-Some.ensures c.in-Some-Some.ensures' c.pieces.ensures.value c.pieces-then-same_way.ensures.value)
     (c.same_way.ensures.yes c.if-same_way.true) (c.same_pieces.ensures.yes is)
 
@@ -23,4 +24,5 @@ returns-else-same_way-clause-no g c = λ differ alike.
     let b = entry_at c.args.on_motions.now c.args.i in
     c.same_way.ensures.no differ
     (one_way c.args.off.now c.args.on.now a b c.in-Some-Some.off_way c.in-Some-Some.on_way
-    (ap (way_at c.args.off.now) (sym c.index.ensures) ∙ sym c.in-Some-Some.ensures) (ap (way_at c.args.on.now) (sym c.index-2.ensures) ∙ sym c.in-Some-Some.ensures') alike)
+    (ap (way_at c.args.off.now) (sym c.index.ensures) ∙ sym c.in-Some-Some.ensures)
+    (ap (way_at c.args.on.now) (sym c.index-2.ensures) ∙ sym c.in-Some-Some.ensures') alike)

@@ -48,7 +48,8 @@ arc_is a b h =
     let second = and_parts turn (start && (end && centre)) first.1 in
     let third = and_parts start (end && centre) second.1 in
     let fourth = and_parts end centre third.1 in
-    arc_from a b (plane_is a.plane b.plane first.0) (turn_is a.turn b.turn second.0) (point_is a.start b.start third.0) (point_is a.end b.end fourth.0) (flat_is a.centre b.centre fourth.1)
+    arc_from a b (plane_is a.plane b.plane first.0) (turn_is a.turn b.turn second.0) (point_is a.start b.start third.0) (point_is a.end b.end fourth.0)
+    (flat_is a.centre b.centre fourth.1)
 
 line_is : (s e t f : Point3) → (derived.eq-value).it (Line s e) (Line t f) ≡ true → Line s e ≡ Line t f
 line_is s e t f h =

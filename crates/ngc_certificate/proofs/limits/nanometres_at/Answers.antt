@@ -23,4 +23,5 @@ overflow_mul-result c = rw (left c, right c) (fits c)
 
 pub returns : goal.returns
 returns c =
-    rw (left c, right c, to_z-of_z w64 (c.args.steps *ℤ c.args.step) (fits c), unsigned_abs-mul c.args.steps c.args.step) (mul-le (unsigned_abs c.args.steps) (unsigned_abs c.args.step) 2147483648 50000 (few c) (small c))
+    rw (left c, right c, to_z-of_z w64 (c.args.steps *ℤ c.args.step) (fits c), unsigned_abs-mul c.args.steps c.args.step)
+    (mul-le (unsigned_abs c.args.steps) (unsigned_abs c.args.step) 2147483648 50000 (few c) (small c))

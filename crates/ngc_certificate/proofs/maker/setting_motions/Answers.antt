@@ -9,7 +9,8 @@ pub returns-in-Err : goal.returns-in-Err
 returns-in-Err g c =
     let commands = c.args.commands.now in
     let i = c.loop-index.index in
-    stopped (file_of c.args.machine.now) c.args.most i commands c.index-commands-index.result.action (actions_of (drop i commands)) (actions_of (drop (i + 1) commands)) c.loop-index.progress c.take.new.self c.in-Err.refusal
+    stopped (file_of c.args.machine.now) c.args.most i commands c.index-commands-index.result.action (actions_of (drop i commands))
+    (actions_of (drop (i + 1) commands)) c.loop-index.progress c.take.new.self c.in-Err.refusal
     c.loop-index.invariant.leads (next_action i commands c.index-commands-index.result c.loop-index-test.true c.index-commands-index.is) c.in-Err.ensures
 
 pub loop-index-preserved : goal.loop-index-preserved
@@ -19,7 +20,8 @@ loop-index-preserved g c =
     let split = next_action i commands c.index-commands-index.result c.loop-index-test.true c.index-commands-index.is in
     record {
       leads = λ says given. c.loop-index.invariant.leads says
-          (subst (λ actions. IsGivenFrom (file_of c.args.machine.now) c.args.most i c.loop-index.progress actions says) (sym split) (c.in-Ok.ensures.0 (actions_of (drop (i + 1) commands)) says given));
+          (subst (λ actions. IsGivenFrom (file_of c.args.machine.now) c.args.most i c.loop-index.progress actions says) (sym split)
+          (c.in-Ok.ensures.0 (actions_of (drop (i + 1) commands)) says given));
       count = omega (arith, c.loop-index.invariant.count, c.in-Ok.ensures.1);
     }
 
@@ -29,4 +31,6 @@ returns g c =
     let i = c.loop-index.index in
     let motions = c.loop-index.progress.motions in
     let end = none_left i commands (omega (arith, c.loop-index-test.false)) in
-    c.loop-index.invariant.leads (Ok motions) (subst (λ actions. IsGivenFrom (file_of c.args.machine.now) c.args.most i c.loop-index.progress actions (Ok motions)) (sym end) (nothing_behind motions))
+    c.loop-index.invariant.leads (Ok motions)
+    (subst (λ actions. IsGivenFrom (file_of c.args.machine.now) c.args.most i c.loop-index.progress actions (Ok motions)) (sym end)
+    (nothing_behind motions))

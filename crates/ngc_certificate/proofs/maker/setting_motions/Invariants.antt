@@ -9,6 +9,7 @@ use Rattle.ngc_certificate.proofs.maker.setting_motions.Given as goal
 
 abbrev pub invariant-loop-index : goal.invariant-loop-index
 invariant-loop-index g l = record {
-  leads : (says : Result (List Entry) ℕ) → IsGivenFrom (file_of l.machine) l.most l.index l.progress (actions_of (drop l.index l.commands)) says → IsSettingMade (file_of l.machine) l.most l.commands says;
+  leads : (says : Result (List Entry) ℕ) → IsGivenFrom (file_of l.machine) l.most l.index l.progress (actions_of (drop l.index l.commands)) says →
+      IsSettingMade (file_of l.machine) l.most l.commands says;
   count : length l.progress.motions ≤ l.index;
 }

@@ -12,4 +12,5 @@ returns g c =
     let items = c.loop-index.indices.items in
     let end = none_left c.loop-index.index commands (omega (arith, c.loop-index-test.false)) in
     subst (AreUncleared machine c.args.cuts commands) (append-nil items)
-    (c.loop-index.invariant [] (subst (λ actions. AreUnclearedFrom machine c.args.cuts c.loop-index.index reached.tool reached.place actions []) (sym end) refl))
+    (c.loop-index.invariant []
+    (subst (λ actions. AreUnclearedFrom machine c.args.cuts c.loop-index.index reached.tool reached.place actions []) (sym end) refl))

@@ -7,7 +7,8 @@ use Rattle.ngc_certificate_text.proofs.certificate_lines.split_line.Goals as goa
 
 pub returns-in_err-end : goal.returns-in_err-end
 returns-in_err-end c =
-    subst (λ o. MatchOption o (IsTrue (is_feedless c.args.bytes.now)) (λ p. IsSplit c.args.bytes.now p.0.now p.1.now)) (sym c.from_residual.ensures) (no_feed_found c.args.bytes.now c.in_err-end.ensures)
+    subst (λ o. MatchOption o (IsTrue (is_feedless c.args.bytes.now)) (λ p. IsSplit c.args.bytes.now p.0.now p.1.now)) (sym c.from_residual.ensures)
+    (no_feed_found c.args.bytes.now c.in_err-end.ensures)
 
 pub returns : goal.returns
 returns c =
@@ -15,5 +16,6 @@ returns c =
     let back = c.split_at.result.1.now in
     record {
       feedless = ap is_feedless c.split_at.ensures.front ∙ found.feedless;
-      parts = found.parts ∙ ap₂ (λ line rest. line ++ (10 ∷ rest)) (sym c.split_at.ensures.front) (ap (drop 1) (sym c.split_at.ensures.back) ∙ sym (take_all (length back - 1) (drop 1 back) (omega (arith, length-drop 1 back))));
+      parts = found.parts ∙ ap₂ (λ line rest. line ++ (10 ∷ rest)) (sym c.split_at.ensures.front)
+          (ap (drop 1) (sym c.split_at.ensures.back) ∙ sym (take_all (length back - 1) (drop 1 back) (omega (arith, length-drop 1 back))));
     }

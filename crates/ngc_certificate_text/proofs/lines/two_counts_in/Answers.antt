@@ -4,7 +4,8 @@ use Rattle.ngc_certificate_text.proofs.ClampLaws.{two_clamped, numbers_say, no_n
 use Rattle.ngc_certificate_text.proofs.lines.two_counts_in.Goals as goal
 
 pub returns-in-Some : goal.returns-in-Some
-returns-in-Some c = numbers_say two_counts two_clamped (numbers_said (all_fields c.args.fields)) c.in-Some.numbers.items c.as_slice.result.now c.two_counts.result c.in-Some.ensures c.as_slice.ensures.value c.two_counts.ensures
+returns-in-Some c = numbers_say two_counts two_clamped (numbers_said (all_fields c.args.fields)) c.in-Some.numbers.items c.as_slice.result.now
+    c.two_counts.result c.in-Some.ensures c.as_slice.ensures.value c.two_counts.ensures
 
 pub returns-in-None : goal.returns-in-None
 returns-in-None c = no_numbers_say two_counts two_clamped (numbers_said (all_fields c.args.fields)) c.in-None.ensures

@@ -6,7 +6,8 @@ use Rattle.ngc_certificate_text.proofs.write.write_entries.Given as goal
 
 abbrev pub invariant-loop-kind : goal.invariant-loop-kind
 invariant-loop-kind g l = record {
-  front : WritesFront (g.W.Sink.written l.initial.sink) (g.W.Sink.written l.sink) (l.initial.chunk ++ flat_map item_lines (take l.kind-index (items_in l.order l.off l.on))) l.chunk;
+  front : WritesFront (g.W.Sink.written l.initial.sink) (g.W.Sink.written l.sink)
+      (l.initial.chunk ++ flat_map item_lines (take l.kind-index (items_in l.order l.off l.on))) l.chunk;
   failures : g.W.Sink.failures l.sink ≡ g.W.Sink.failures l.initial.sink;
   off : l.passed.off ≤ l.kind-index;
   on : l.passed.on ≤ l.kind-index;

@@ -7,20 +7,25 @@ use Rattle.ngc_certificate_text.proofs.write.write_joined.Goals as goal
 
 pub returns-in-Err-clause-text : goal.returns-in-Err-clause-text
 returns-in-Err-clause-text g c =
-    as_spelled (λ l. AppendsBeginning (g.W.Sink.written c.args.sink.now) (g.W.Sink.written c.write_counts.new.sink) (c.args.chunk.now ++ l)) _ _ _ _ _ c.requires.whole c.len-off_count.ensures.value c.len-on_count.ensures.value
+    as_spelled (λ l. AppendsBeginning (g.W.Sink.written c.args.sink.now) (g.W.Sink.written c.write_counts.new.sink) (c.args.chunk.now ++ l)) _ _ _ _ _
+    c.requires.whole c.len-off_count.ensures.value c.len-on_count.ensures.value
     (stopped_in_first _ _ _ _ _ _ _ _ c.add_text.ensures c.in-Err.ensures.text)
 
 pub returns-in-Err-write_entries-clause-text : goal.returns-in-Err-write_entries-clause-text
 returns-in-Err-write_entries-clause-text g c =
-    as_spelled (λ l. AppendsBeginning (g.W.Sink.written c.args.sink.now) (g.W.Sink.written c.write_entries.new.sink) (c.args.chunk.now ++ l)) _ _ _ _ _ c.requires.whole c.len-off_count.ensures.value c.len-on_count.ensures.value
+    as_spelled (λ l. AppendsBeginning (g.W.Sink.written c.args.sink.now) (g.W.Sink.written c.write_entries.new.sink) (c.args.chunk.now ++ l)) _ _ _ _ _
+    c.requires.whole c.len-off_count.ensures.value c.len-on_count.ensures.value
     (stopped_in_second _ _ _ _ _ _ _ _ _ _ c.add_text.ensures c.in-Ok.ensures.text c.in-Err-write_entries.ensures.text)
 
 pub returns-in-Err-make_room-clause-text : goal.returns-in-Err-make_room-clause-text
 returns-in-Err-make_room-clause-text g c =
-    as_spelled (λ l. AppendsBeginning (g.W.Sink.written c.args.sink.now) (g.W.Sink.written c.make_room.new.sink) (c.args.chunk.now ++ l)) _ _ _ _ _ c.requires.whole c.len-off_count.ensures.value c.len-on_count.ensures.value
+    as_spelled (λ l. AppendsBeginning (g.W.Sink.written c.args.sink.now) (g.W.Sink.written c.make_room.new.sink) (c.args.chunk.now ++ l)) _ _ _ _ _
+    c.requires.whole c.len-off_count.ensures.value c.len-on_count.ensures.value
     (stopped_behind _ _ _ _ _ _ _ _ _ _ _ _ c.add_text.ensures c.in-Ok.ensures.text c.in-Ok-write_entries.ensures.text c.in-Err-make_room.ensures.fault)
 
 pub returns-clause-text : goal.returns-clause-text
 returns-clause-text g c =
-    as_spelled (λ l. WritesFront (g.W.Sink.written c.args.sink.now) (g.W.Sink.written c.make_room.new.sink) (c.args.chunk.now ++ l) c.add_text-2.new.self) _ _ _ _ _ c.requires.whole c.len-off_count.ensures.value c.len-on_count.ensures.value
-    (made_whole _ _ _ _ _ _ _ _ _ _ _ _ _ _ c.add_text.ensures c.in-Ok.ensures.text c.in-Ok-write_entries.ensures.text c.in-Ok-make_room.ensures.ok c.add_text-2.ensures)
+    as_spelled (λ l. WritesFront (g.W.Sink.written c.args.sink.now) (g.W.Sink.written c.make_room.new.sink) (c.args.chunk.now ++ l) c.add_text-2.new.self) _ _ _
+    _ _ c.requires.whole c.len-off_count.ensures.value c.len-on_count.ensures.value
+    (made_whole _ _ _ _ _ _ _ _ _ _ _ _ _ _ c.add_text.ensures c.in-Ok.ensures.text c.in-Ok-write_entries.ensures.text c.in-Ok-make_room.ensures.ok
+    c.add_text-2.ensures)

@@ -7,7 +7,8 @@ use Rattle.ngc_certificate_text.proofs.write.write_motions.Goals as goal
 pub returns-in-Err-clause-text : goal.returns-in-Err-clause-text
 returns-in-Err-clause-text g c =
     let inside : c.loop-i.i < length c.args.motions.now = rw (← c.len-i-end.ensures.value) c.loop-i-test.true in
-    stopped_at entry_lines c.args.motions.now c.loop-i.i _ _ _ _ _ _ inside (entry_found c.args.motions.now c.loop-i.i _ _ inside c.index.ensures c.pieces.ensures.value)
+    stopped_at entry_lines c.args.motions.now c.loop-i.i _ _ _ _ _ _ inside
+    (entry_found c.args.motions.now c.loop-i.i _ _ inside c.index.ensures c.pieces.ensures.value)
     c.loop-i.invariant.front c.in-Err.ensures.text
 
 pub loop-i-preserved : goal.loop-i-preserved
@@ -15,7 +16,8 @@ loop-i-preserved g c =
     let inside : c.loop-i.i < length c.args.motions.now = rw (← c.len-i-end.ensures.value) c.loop-i-test.true in
     record {
       front =
-          one_more entry_lines c.args.motions.now c.loop-i.i _ _ _ _ _ _ _ inside (entry_found c.args.motions.now c.loop-i.i _ _ inside c.index.ensures c.pieces.ensures.value)
+          one_more entry_lines c.args.motions.now c.loop-i.i _ _ _ _ _ _ _ inside
+          (entry_found c.args.motions.now c.loop-i.i _ _ inside c.index.ensures c.pieces.ensures.value)
           c.loop-i.invariant.front c.in-Ok.ensures.text;
       failures = search rules;
     }

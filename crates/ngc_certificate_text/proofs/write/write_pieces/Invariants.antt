@@ -5,6 +5,7 @@ use Rattle.ngc_certificate_text.proofs.write.write_pieces.Given as goal
 
 abbrev pub invariant-loop-piece : goal.invariant-loop-piece
 invariant-loop-piece g l = record {
-  front : WritesFront (g.W.Sink.written l.initial.sink) (g.W.Sink.written l.sink) (l.initial.chunk ++ flat_map piece_line (take l.piece-index l.pieces)) l.chunk;
+  front : WritesFront (g.W.Sink.written l.initial.sink) (g.W.Sink.written l.sink)
+      (l.initial.chunk ++ flat_map piece_line (take l.piece-index l.pieces)) l.chunk;
   failures : g.W.Sink.failures l.sink ≡ g.W.Sink.failures l.initial.sink;
 }

@@ -13,4 +13,5 @@ returns-in-Err-make_room-clause-text g c =
 
 pub returns-clause-text : goal.returns-clause-text
 returns-clause-text g c =
-    made_whole _ _ _ _ _ _ _ _ _ _ _ _ _ _ c.add_text.ensures c.in-Ok.ensures.text c.in-Ok-write_setting.ensures.text c.in-Ok-make_room.ensures.ok c.add_text-2.ensures
+    made_whole _ _ _ _ _ _ _ _ _ _ _ _ _ _ c.add_text.ensures c.in-Ok.ensures.text c.in-Ok-write_setting.ensures.text c.in-Ok-make_room.ensures.ok
+    c.add_text-2.ensures

@@ -15,5 +15,20 @@ new-requires g c =
     let said = said_of c.args.certificate.now in
     let clear : c.settings_fault.result ≡ None = search rules in
     let none : settings_fault machine (Ok off) (Ok on) said ≡ None =
-    ap₂ (λ x y. settings_fault machine (Ok x) (Ok y) said) (sym c.as_slice.ensures.value) (sym c.as_slice-2.ensures.value) ∙ sym {b = settings_fault machine (Ok c.as_slice.result.now) (Ok c.as_slice-2.result.now) said} c.settings_fault.ensures ∙ clear in
-    accepted machine (file_of c.in-Ok-copy.own_machine) (tools_of c.in-Ok-copy-2.own_tools) off on said c.in-Ok-copy.ensures.same c.copy.ensures.range none (record { count = c.in-Ok.ensures.count; joined = c.in-Ok.ensures.joined; radii = c.in-Ok.ensures.radii; ended = c.in-Ok.ensures.ended; has_end = c.in-Ok.ensures.has_end }) (record { count = c.in-Ok-interpret.ensures.count; joined = c.in-Ok-interpret.ensures.joined; radii = c.in-Ok-interpret.ensures.radii; ended = c.in-Ok-interpret.ensures.ended; has_end = c.in-Ok-interpret.ensures.has_end })
+    ap₂ (λ x y. settings_fault machine (Ok x) (Ok y) said) (sym c.as_slice.ensures.value) (sym c.as_slice-2.ensures.value)
+    ∙ sym {b = settings_fault machine (Ok c.as_slice.result.now) (Ok c.as_slice-2.result.now) said} c.settings_fault.ensures ∙ clear in
+    accepted machine (file_of c.in-Ok-copy.own_machine) (tools_of c.in-Ok-copy-2.own_tools) off on said c.in-Ok-copy.ensures.same c.copy.ensures.range none
+    (record {
+      count = c.in-Ok.ensures.count;
+      joined = c.in-Ok.ensures.joined;
+      radii = c.in-Ok.ensures.radii;
+      ended = c.in-Ok.ensures.ended;
+      has_end = c.in-Ok.ensures.has_end;
+    })
+    (record {
+      count = c.in-Ok-interpret.ensures.count;
+      joined = c.in-Ok-interpret.ensures.joined;
+      radii = c.in-Ok-interpret.ensures.radii;
+      ended = c.in-Ok-interpret.ensures.ended;
+      has_end = c.in-Ok-interpret.ensures.has_end;
+    })

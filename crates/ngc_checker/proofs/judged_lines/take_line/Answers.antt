@@ -7,4 +7,5 @@ use Rattle.ngc_checker.proofs.judged_lines.take_line.Goals as goal
 pub returns-in-Ok-clause-at : goal.returns-in-Ok-clause-at
 returns-in-Ok-clause-at g c e is at v same =
     let here : c.take.new.self ≡ v = cc same in
-    subst (λ (x : JudgeData). IsAt (behind_told c.args.told.now) x) here (judged_at e c.args.told.now c.in-Ok.judge c.take.new.self is (at c.in-Ok.judge c.in-Ok.is) c.take.ensures.left)
+    subst (λ (x : JudgeData). IsAt (behind_told c.args.told.now) x) here
+    (judged_at e c.args.told.now c.in-Ok.judge c.take.new.self is (at c.in-Ok.judge c.in-Ok.is) c.take.ensures.left)

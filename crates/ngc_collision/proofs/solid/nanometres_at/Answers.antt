@@ -26,4 +26,5 @@ returns-clause-value c = rw (left c, right c) (to_z-of_z w64 (c.args.steps *ℤ 
 
 pub returns-clause-bound : goal.returns-clause-bound
 returns-clause-bound c =
-    rw (returns-clause-value c, unsigned_abs-mul c.args.steps c.args.step) (mul-le (unsigned_abs c.args.steps) (unsigned_abs c.args.step) 2147483648 50000 (few c) (small c))
+    rw (returns-clause-value c, unsigned_abs-mul c.args.steps c.args.step)
+    (mul-le (unsigned_abs c.args.steps) (unsigned_abs c.args.step) 2147483648 50000 (few c) (small c))

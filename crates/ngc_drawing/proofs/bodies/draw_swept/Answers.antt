@@ -19,8 +19,10 @@ returns-in-Err-clause-drawn g c =
     let run = c.loop-sweep.run in
     let s : Sweep = get_or ss i no_sweep in
     let next = next_sweep view step ts run ss i s c.loop-sweep-test.true (get_or_default ss i no_sweep s c.loop-sweep-test.true) in
-    stopped c.args.unit.now.micrometres (g.W.Sink.written c.args.sink.now) (g.W.Sink.written c.loop-sweep.sink) (g.W.Sink.written c.draw_all.new.sink) c.args.chunk.now c.loop-sweep.chunk
-    (swept view step ts run s) (swept_from view step ts (Some s.rank) (drop (i + 1) ss)) (swept_from view step ts run (drop i ss)) (swept_from view step ts None ss)
+    stopped c.args.unit.now.micrometres (g.W.Sink.written c.args.sink.now) (g.W.Sink.written c.loop-sweep.sink)
+    (g.W.Sink.written c.draw_all.new.sink) c.args.chunk.now c.loop-sweep.chunk
+    (swept view step ts run s) (swept_from view step ts (Some s.rank) (drop (i + 1) ss)) (swept_from view step ts run (drop i ss))
+    (swept_from view step ts None ss)
     next c.loop-sweep.invariant.ahead (rw (c.as_slice.ensures.value, c.swept-shapes.ensures) at c.in-Err.ensures.drawn)
 
 pub loop-sweep-preserved : goal.loop-sweep-preserved
@@ -35,8 +37,10 @@ loop-sweep-preserved g c =
     let next = next_sweep view step ts run ss i s c.loop-sweep-test.true (get_or_default ss i no_sweep s c.loop-sweep-test.true) in
     record {
       ahead =
-          went c.args.unit.now.micrometres (g.W.Sink.written c.args.sink.now) (g.W.Sink.written c.loop-sweep.sink) (g.W.Sink.written c.draw_all.new.sink) c.args.chunk.now c.loop-sweep.chunk c.draw_all.new.chunk
-          (swept view step ts run s) (swept_from view step ts (Some s.rank) (drop (i + 1) ss)) (swept_from view step ts run (drop i ss)) (swept_from view step ts None ss)
+          went c.args.unit.now.micrometres (g.W.Sink.written c.args.sink.now) (g.W.Sink.written c.loop-sweep.sink)
+          (g.W.Sink.written c.draw_all.new.sink) c.args.chunk.now c.loop-sweep.chunk c.draw_all.new.chunk
+          (swept view step ts run s) (swept_from view step ts (Some s.rank) (drop (i + 1) ss)) (swept_from view step ts run (drop i ss))
+          (swept_from view step ts None ss)
           next c.loop-sweep.invariant.ahead (rw (c.as_slice.ensures.value, c.swept-shapes.ensures) at c.in-Ok.ensures.drawn);
       failures = search rules;
     }
@@ -50,6 +54,9 @@ returns-clause-drawn g c =
     let i = c.loop-sweep.sweep-index in
     let run = c.loop-sweep.run in
     let none = at_drop_all (swept_from view step ts run) ss i c.loop-sweep-test.false in
-    last c.draw_all-2.result c.args.unit.now.micrometres (g.W.Sink.written c.args.sink.now) (g.W.Sink.written c.loop-sweep.sink) (g.W.Sink.written c.draw_all-2.new.sink) c.args.chunk.now c.loop-sweep.chunk c.draw_all-2.new.chunk
+    last c.draw_all-2.result c.args.unit.now.micrometres (g.W.Sink.written c.args.sink.now) (g.W.Sink.written c.loop-sweep.sink)
+    (g.W.Sink.written c.draw_all-2.new.sink) c.args.chunk.now c.loop-sweep.chunk c.draw_all-2.new.chunk
     (swept_from view step ts run (drop i ss)) (swept_from view step ts None ss) c.loop-sweep.invariant.ahead
-    (subst (λ (l : List Shape). Draws c.args.unit.now.micrometres (g.W.Sink.written c.loop-sweep.sink) (g.W.Sink.written c.draw_all-2.new.sink) c.loop-sweep.chunk c.draw_all-2.new.chunk c.draw_all-2.result l) (sym none) (rw (c.as_slice-2.ensures.value, c.bodies_end-end.ensures) at c.draw_all-2.ensures.drawn))
+    (subst (λ (l : List Shape). Draws c.args.unit.now.micrometres (g.W.Sink.written c.loop-sweep.sink)
+    (g.W.Sink.written c.draw_all-2.new.sink) c.loop-sweep.chunk c.draw_all-2.new.chunk c.draw_all-2.result l) (sym none)
+    (rw (c.as_slice-2.ensures.value, c.bodies_end-end.ensures) at c.draw_all-2.ensures.drawn))

@@ -6,10 +6,12 @@ use Rattle.ngc_drawing.proofs.drawer.draw_all.Goals as goal
 
 pub returns-in-Err-clause-drawn : goal.returns-in-Err-clause-drawn
 returns-in-Err-clause-drawn g c =
-    stopped_at (shape_text c.args.unit.now.micrometres) c.args.shapes.now c.loop-shape.shape-index _ _ _ _ _ _ c.loop-shape-test.true (get_or_default _ _ _ _ c.loop-shape-test.true) c.loop-shape.invariant.front c.in-Err.ensures.text
+    stopped_at (shape_text c.args.unit.now.micrometres) c.args.shapes.now c.loop-shape.shape-index _ _ _ _ _ _ c.loop-shape-test.true
+    (get_or_default _ _ _ _ c.loop-shape-test.true) c.loop-shape.invariant.front c.in-Err.ensures.text
 
 pub loop-shape-preserved : goal.loop-shape-preserved
 loop-shape-preserved g c = record {
-  front = one_more (shape_text c.args.unit.now.micrometres) c.args.shapes.now c.loop-shape.shape-index _ _ _ _ _ _ _ c.loop-shape-test.true (get_or_default _ _ _ _ c.loop-shape-test.true) c.loop-shape.invariant.front c.in-Ok.ensures.text;
+  front = one_more (shape_text c.args.unit.now.micrometres) c.args.shapes.now c.loop-shape.shape-index _ _ _ _ _ _ _ c.loop-shape-test.true
+      (get_or_default _ _ _ _ c.loop-shape-test.true) c.loop-shape.invariant.front c.in-Ok.ensures.text;
   failures = search rules;
 }

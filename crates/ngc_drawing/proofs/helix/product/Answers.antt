@@ -13,7 +13,8 @@ returns-clause-value c =
 pub returns-clause-bound : goal.returns-clause-bound
 returns-clause-bound c =
     let same = returns-clause-value c in
-    let size : unsigned_abs c.args.x * unsigned_abs c.args.y ≤ 10 ^ 13 * 10 ^ 13 = mul-le (unsigned_abs c.args.x) (unsigned_abs c.args.y) (10 ^ 13) (10 ^ 13) c.requires.x c.requires.y in
+    let size : unsigned_abs c.args.x * unsigned_abs c.args.y ≤ 10 ^ 13 * 10 ^ 13 =
+    mul-le (unsigned_abs c.args.x) (unsigned_abs c.args.y) (10 ^ 13) (10 ^ 13) c.requires.x c.requires.y in
     rw (same, unsigned_abs-mul c.args.x c.args.y) (omega arith)
 
 pub overflow_mul-result : goal.overflow_mul-result

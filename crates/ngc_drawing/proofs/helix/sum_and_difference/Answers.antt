@@ -11,7 +11,8 @@ returns-clause-value c =
     let less : to_z w64 (of_z w64 c.args.less) ≡ c.args.less = omega (arith, ints) in
     let sum : to_z w64 (of_z w64 (c.args.one +ℤ c.args.other)) ≡ c.args.one +ℤ c.args.other = omega (arith, ints) in
     let difference : to_z w64 (of_z w64 (c.args.more -ℤ c.args.less)) ≡ c.args.more -ℤ c.args.less = omega (arith, ints) in
-    let both : to_z w64 (of_z w64 ((c.args.one +ℤ c.args.other) +ℤ (c.args.more -ℤ c.args.less))) ≡ (c.args.one +ℤ c.args.other) +ℤ (c.args.more -ℤ c.args.less) = omega (arith, ints) in
+    let both : to_z w64 (of_z w64 ((c.args.one +ℤ c.args.other) +ℤ (c.args.more -ℤ c.args.less)))
+    ≡ (c.args.one +ℤ c.args.other) +ℤ (c.args.more -ℤ c.args.less) = omega (arith, ints) in
     rw (one, other, more, less, sum, difference) both
 
 pub returns-clause-bound : goal.returns-clause-bound

@@ -8,8 +8,10 @@ pub returns-in-Err-clause-drawn : goal.returns-in-Err-clause-drawn
 returns-in-Err-clause-drawn g c =
     let fs = c.args.fixtures.now in
     let step = next_fixture c.args.view fs c.loop-i.i c.index-fixtures-i.result c.loop-i-test.true c.index-fixtures-i.is in
-    stopped c.args.unit.now.micrometres (g.W.Sink.written c.args.sink.now) (g.W.Sink.written c.loop-i.sink) (g.W.Sink.written c.draw_all.new.sink) c.args.chunk.now c.loop-i.chunk
-    (fixture c.args.view c.loop-i.i c.index-fixtures-i.result) (fixtures_from c.args.view (c.loop-i.i + 1) (drop (c.loop-i.i + 1) fs)) (fixtures_from c.args.view c.loop-i.i (drop c.loop-i.i fs)) (fixtures_from c.args.view 0 fs)
+    stopped c.args.unit.now.micrometres (g.W.Sink.written c.args.sink.now) (g.W.Sink.written c.loop-i.sink)
+    (g.W.Sink.written c.draw_all.new.sink) c.args.chunk.now c.loop-i.chunk
+    (fixture c.args.view c.loop-i.i c.index-fixtures-i.result) (fixtures_from c.args.view (c.loop-i.i + 1) (drop (c.loop-i.i + 1) fs))
+    (fixtures_from c.args.view c.loop-i.i (drop c.loop-i.i fs)) (fixtures_from c.args.view 0 fs)
     step c.loop-i.invariant.ahead (rw (c.rectangle.ensures, c.spot.ensures) at c.in-Err.ensures.drawn)
 
 pub loop-i-preserved : goal.loop-i-preserved
@@ -18,8 +20,10 @@ loop-i-preserved g c =
     let step = next_fixture c.args.view fs c.loop-i.i c.index-fixtures-i.result c.loop-i-test.true c.index-fixtures-i.is in
     record {
       ahead =
-          went c.args.unit.now.micrometres (g.W.Sink.written c.args.sink.now) (g.W.Sink.written c.loop-i.sink) (g.W.Sink.written c.draw_all.new.sink) c.args.chunk.now c.loop-i.chunk c.draw_all.new.chunk
-          (fixture c.args.view c.loop-i.i c.index-fixtures-i.result) (fixtures_from c.args.view (c.loop-i.i + 1) (drop (c.loop-i.i + 1) fs)) (fixtures_from c.args.view c.loop-i.i (drop c.loop-i.i fs)) (fixtures_from c.args.view 0 fs)
+          went c.args.unit.now.micrometres (g.W.Sink.written c.args.sink.now) (g.W.Sink.written c.loop-i.sink)
+          (g.W.Sink.written c.draw_all.new.sink) c.args.chunk.now c.loop-i.chunk c.draw_all.new.chunk
+          (fixture c.args.view c.loop-i.i c.index-fixtures-i.result) (fixtures_from c.args.view (c.loop-i.i + 1) (drop (c.loop-i.i + 1) fs))
+          (fixtures_from c.args.view c.loop-i.i (drop c.loop-i.i fs)) (fixtures_from c.args.view 0 fs)
           step c.loop-i.invariant.ahead (rw (c.rectangle.ensures, c.spot.ensures) at c.in-Ok.ensures.drawn);
       failures = search rules;
     }

@@ -17,8 +17,10 @@ returns-in-Err-clause-drawn g c =
     let left2 : List Shape = part2 in
     let left1 : List Shape = part1 ++ left2 in
     let left0 : List Shape = part0 ++ left1 in
-    let ahead0 : Ahead unit (g.W.Sink.written c.args.sink.now) (g.W.Sink.written c.args.sink.now) c.args.chunk.now c.args.chunk.now left0 left0 = begun unit (g.W.Sink.written c.args.sink.now) c.args.chunk.now left0 in
-    stopped unit (g.W.Sink.written c.args.sink.now) (g.W.Sink.written c.args.sink.now) (g.W.Sink.written c.draw_opening.new.sink) c.args.chunk.now c.args.chunk.now part0 left1 left0 left0 refl ahead0 c.in-Err.ensures.drawn
+    let ahead0 : Ahead unit (g.W.Sink.written c.args.sink.now) (g.W.Sink.written c.args.sink.now) c.args.chunk.now c.args.chunk.now left0 left0 =
+    begun unit (g.W.Sink.written c.args.sink.now) c.args.chunk.now left0 in
+    stopped unit (g.W.Sink.written c.args.sink.now) (g.W.Sink.written c.args.sink.now)
+    (g.W.Sink.written c.draw_opening.new.sink) c.args.chunk.now c.args.chunk.now part0 left1 left0 left0 refl ahead0 c.in-Err.ensures.drawn
 
 pub returns-in-Err-draw_fixtures-clause-drawn : goal.returns-in-Err-draw_fixtures-clause-drawn
 returns-in-Err-draw_fixtures-clause-drawn g c =
@@ -29,10 +31,16 @@ returns-in-Err-draw_fixtures-clause-drawn g c =
     let left2 : List Shape = part2 in
     let left1 : List Shape = part1 ++ left2 in
     let left0 : List Shape = part0 ++ left1 in
-    let ahead0 : Ahead unit (g.W.Sink.written c.args.sink.now) (g.W.Sink.written c.args.sink.now) c.args.chunk.now c.args.chunk.now left0 left0 = begun unit (g.W.Sink.written c.args.sink.now) c.args.chunk.now left0 in
-    let ahead1 : Ahead unit (g.W.Sink.written c.args.sink.now) (g.W.Sink.written c.draw_opening.new.sink) c.args.chunk.now c.draw_opening.new.chunk left1 left0 =
-    went unit (g.W.Sink.written c.args.sink.now) (g.W.Sink.written c.args.sink.now) (g.W.Sink.written c.draw_opening.new.sink) c.args.chunk.now c.args.chunk.now c.draw_opening.new.chunk part0 left1 left0 left0 refl ahead0 c.in-Ok.ensures.drawn in
-    stopped unit (g.W.Sink.written c.args.sink.now) (g.W.Sink.written c.draw_opening.new.sink) (g.W.Sink.written c.draw_fixtures.new.sink) c.args.chunk.now c.draw_opening.new.chunk part1 left2 left1 left0 refl ahead1 (rw (c.unit_of-unit.ensures, c.as_slice.ensures.value) at c.in-Err-draw_fixtures.ensures.drawn)
+    let ahead0 : Ahead unit (g.W.Sink.written c.args.sink.now) (g.W.Sink.written c.args.sink.now) c.args.chunk.now c.args.chunk.now left0 left0 =
+    begun unit (g.W.Sink.written c.args.sink.now) c.args.chunk.now left0 in
+    let ahead1 : Ahead unit (g.W.Sink.written c.args.sink.now) (g.W.Sink.written c.draw_opening.new.sink) c.args.chunk.now c.draw_opening.new.chunk
+    left1 left0 =
+    went unit (g.W.Sink.written c.args.sink.now) (g.W.Sink.written c.args.sink.now)
+    (g.W.Sink.written c.draw_opening.new.sink) c.args.chunk.now c.args.chunk.now c.draw_opening.new.chunk part0 left1 left0 left0 refl ahead0
+    c.in-Ok.ensures.drawn in
+    stopped unit (g.W.Sink.written c.args.sink.now) (g.W.Sink.written c.draw_opening.new.sink)
+    (g.W.Sink.written c.draw_fixtures.new.sink) c.args.chunk.now c.draw_opening.new.chunk part1 left2 left1 left0 refl ahead1
+    (rw (c.unit_of-unit.ensures, c.as_slice.ensures.value) at c.in-Err-draw_fixtures.ensures.drawn)
 
 pub returns-clause-drawn : goal.returns-clause-drawn
 returns-clause-drawn g c =
@@ -43,9 +51,18 @@ returns-clause-drawn g c =
     let left2 : List Shape = part2 in
     let left1 : List Shape = part1 ++ left2 in
     let left0 : List Shape = part0 ++ left1 in
-    let ahead0 : Ahead unit (g.W.Sink.written c.args.sink.now) (g.W.Sink.written c.args.sink.now) c.args.chunk.now c.args.chunk.now left0 left0 = begun unit (g.W.Sink.written c.args.sink.now) c.args.chunk.now left0 in
-    let ahead1 : Ahead unit (g.W.Sink.written c.args.sink.now) (g.W.Sink.written c.draw_opening.new.sink) c.args.chunk.now c.draw_opening.new.chunk left1 left0 =
-    went unit (g.W.Sink.written c.args.sink.now) (g.W.Sink.written c.args.sink.now) (g.W.Sink.written c.draw_opening.new.sink) c.args.chunk.now c.args.chunk.now c.draw_opening.new.chunk part0 left1 left0 left0 refl ahead0 c.in-Ok.ensures.drawn in
-    let ahead2 : Ahead unit (g.W.Sink.written c.args.sink.now) (g.W.Sink.written c.draw_fixtures.new.sink) c.args.chunk.now c.draw_fixtures.new.chunk left2 left0 =
-    went unit (g.W.Sink.written c.args.sink.now) (g.W.Sink.written c.draw_opening.new.sink) (g.W.Sink.written c.draw_fixtures.new.sink) c.args.chunk.now c.draw_opening.new.chunk c.draw_fixtures.new.chunk part1 left2 left1 left0 refl ahead1 (rw (c.unit_of-unit.ensures, c.as_slice.ensures.value) at c.in-Ok-draw_fixtures.ensures.drawn) in
-    last c.draw_swept.result unit (g.W.Sink.written c.args.sink.now) (g.W.Sink.written c.draw_fixtures.new.sink) (g.W.Sink.written c.draw_swept.new.sink) c.args.chunk.now c.draw_fixtures.new.chunk c.draw_swept.new.chunk left2 left0 ahead2 (rw (c.unit_of-unit.ensures) at c.draw_swept.ensures.drawn)
+    let ahead0 : Ahead unit (g.W.Sink.written c.args.sink.now) (g.W.Sink.written c.args.sink.now) c.args.chunk.now c.args.chunk.now left0 left0 =
+    begun unit (g.W.Sink.written c.args.sink.now) c.args.chunk.now left0 in
+    let ahead1 : Ahead unit (g.W.Sink.written c.args.sink.now) (g.W.Sink.written c.draw_opening.new.sink) c.args.chunk.now c.draw_opening.new.chunk
+    left1 left0 =
+    went unit (g.W.Sink.written c.args.sink.now) (g.W.Sink.written c.args.sink.now)
+    (g.W.Sink.written c.draw_opening.new.sink) c.args.chunk.now c.args.chunk.now c.draw_opening.new.chunk part0 left1 left0 left0 refl ahead0
+    c.in-Ok.ensures.drawn in
+    let ahead2 : Ahead unit (g.W.Sink.written c.args.sink.now) (g.W.Sink.written c.draw_fixtures.new.sink) c.args.chunk.now c.draw_fixtures.new.chunk
+    left2 left0 =
+    went unit (g.W.Sink.written c.args.sink.now) (g.W.Sink.written c.draw_opening.new.sink)
+    (g.W.Sink.written c.draw_fixtures.new.sink) c.args.chunk.now c.draw_opening.new.chunk c.draw_fixtures.new.chunk part1 left2 left1 left0 refl ahead1
+    (rw (c.unit_of-unit.ensures, c.as_slice.ensures.value) at c.in-Ok-draw_fixtures.ensures.drawn) in
+    last c.draw_swept.result unit (g.W.Sink.written c.args.sink.now) (g.W.Sink.written c.draw_fixtures.new.sink)
+    (g.W.Sink.written c.draw_swept.new.sink) c.args.chunk.now c.draw_fixtures.new.chunk c.draw_swept.new.chunk left2 left0 ahead2
+    (rw (c.unit_of-unit.ensures) at c.draw_swept.ensures.drawn)

@@ -21,8 +21,10 @@ returns-in-Err-clause-drawn g c =
     let left2 : List Shape = part2 ++ left3 in
     let left1 : List Shape = part1 ++ left2 in
     let left0 : List Shape = part0 ++ left1 in
-    let ahead0 : Ahead unit (g.W.Sink.written c.args.sink.now) (g.W.Sink.written c.args.sink.now) c.args.chunk.now c.args.chunk.now left0 left0 = begun unit (g.W.Sink.written c.args.sink.now) c.args.chunk.now left0 in
-    stopped unit (g.W.Sink.written c.args.sink.now) (g.W.Sink.written c.args.sink.now) (g.W.Sink.written c.draw_ground.new.sink) c.args.chunk.now c.args.chunk.now part0 left1 left0 left0 refl ahead0 c.in-Err.ensures.drawn
+    let ahead0 : Ahead unit (g.W.Sink.written c.args.sink.now) (g.W.Sink.written c.args.sink.now) c.args.chunk.now c.args.chunk.now left0 left0 =
+    begun unit (g.W.Sink.written c.args.sink.now) c.args.chunk.now left0 in
+    stopped unit (g.W.Sink.written c.args.sink.now) (g.W.Sink.written c.args.sink.now)
+    (g.W.Sink.written c.draw_ground.new.sink) c.args.chunk.now c.args.chunk.now part0 left1 left0 left0 refl ahead0 c.in-Err.ensures.drawn
 
 pub returns-in-Err-draw_strokes-clause-drawn : goal.returns-in-Err-draw_strokes-clause-drawn
 returns-in-Err-draw_strokes-clause-drawn g c =
@@ -37,10 +39,15 @@ returns-in-Err-draw_strokes-clause-drawn g c =
     let left2 : List Shape = part2 ++ left3 in
     let left1 : List Shape = part1 ++ left2 in
     let left0 : List Shape = part0 ++ left1 in
-    let ahead0 : Ahead unit (g.W.Sink.written c.args.sink.now) (g.W.Sink.written c.args.sink.now) c.args.chunk.now c.args.chunk.now left0 left0 = begun unit (g.W.Sink.written c.args.sink.now) c.args.chunk.now left0 in
+    let ahead0 : Ahead unit (g.W.Sink.written c.args.sink.now) (g.W.Sink.written c.args.sink.now) c.args.chunk.now c.args.chunk.now left0 left0 =
+    begun unit (g.W.Sink.written c.args.sink.now) c.args.chunk.now left0 in
     let ahead1 : Ahead unit (g.W.Sink.written c.args.sink.now) (g.W.Sink.written c.draw_ground.new.sink) c.args.chunk.now c.draw_ground.new.chunk left1 left0 =
-    went unit (g.W.Sink.written c.args.sink.now) (g.W.Sink.written c.args.sink.now) (g.W.Sink.written c.draw_ground.new.sink) c.args.chunk.now c.args.chunk.now c.draw_ground.new.chunk part0 left1 left0 left0 refl ahead0 c.in-Ok.ensures.drawn in
-    stopped unit (g.W.Sink.written c.args.sink.now) (g.W.Sink.written c.draw_ground.new.sink) (g.W.Sink.written c.draw_strokes.new.sink) c.args.chunk.now c.draw_ground.new.chunk part1 left2 left1 left0 refl ahead1 (rw (c.unit_of-unit.ensures) at c.in-Err-draw_strokes.ensures.drawn)
+    went unit (g.W.Sink.written c.args.sink.now) (g.W.Sink.written c.args.sink.now)
+    (g.W.Sink.written c.draw_ground.new.sink) c.args.chunk.now c.args.chunk.now c.draw_ground.new.chunk part0 left1 left0 left0 refl ahead0
+    c.in-Ok.ensures.drawn in
+    stopped unit (g.W.Sink.written c.args.sink.now) (g.W.Sink.written c.draw_ground.new.sink)
+    (g.W.Sink.written c.draw_strokes.new.sink) c.args.chunk.now c.draw_ground.new.chunk part1 left2 left1 left0 refl ahead1
+    (rw (c.unit_of-unit.ensures) at c.in-Err-draw_strokes.ensures.drawn)
 
 pub returns-in-Err-draw_marks-clause-drawn : goal.returns-in-Err-draw_marks-clause-drawn
 returns-in-Err-draw_marks-clause-drawn g c =
@@ -55,12 +62,20 @@ returns-in-Err-draw_marks-clause-drawn g c =
     let left2 : List Shape = part2 ++ left3 in
     let left1 : List Shape = part1 ++ left2 in
     let left0 : List Shape = part0 ++ left1 in
-    let ahead0 : Ahead unit (g.W.Sink.written c.args.sink.now) (g.W.Sink.written c.args.sink.now) c.args.chunk.now c.args.chunk.now left0 left0 = begun unit (g.W.Sink.written c.args.sink.now) c.args.chunk.now left0 in
+    let ahead0 : Ahead unit (g.W.Sink.written c.args.sink.now) (g.W.Sink.written c.args.sink.now) c.args.chunk.now c.args.chunk.now left0 left0 =
+    begun unit (g.W.Sink.written c.args.sink.now) c.args.chunk.now left0 in
     let ahead1 : Ahead unit (g.W.Sink.written c.args.sink.now) (g.W.Sink.written c.draw_ground.new.sink) c.args.chunk.now c.draw_ground.new.chunk left1 left0 =
-    went unit (g.W.Sink.written c.args.sink.now) (g.W.Sink.written c.args.sink.now) (g.W.Sink.written c.draw_ground.new.sink) c.args.chunk.now c.args.chunk.now c.draw_ground.new.chunk part0 left1 left0 left0 refl ahead0 c.in-Ok.ensures.drawn in
-    let ahead2 : Ahead unit (g.W.Sink.written c.args.sink.now) (g.W.Sink.written c.draw_strokes.new.sink) c.args.chunk.now c.draw_strokes.new.chunk left2 left0 =
-    went unit (g.W.Sink.written c.args.sink.now) (g.W.Sink.written c.draw_ground.new.sink) (g.W.Sink.written c.draw_strokes.new.sink) c.args.chunk.now c.draw_ground.new.chunk c.draw_strokes.new.chunk part1 left2 left1 left0 refl ahead1 (rw (c.unit_of-unit.ensures) at c.in-Ok-draw_strokes.ensures.drawn) in
-    stopped unit (g.W.Sink.written c.args.sink.now) (g.W.Sink.written c.draw_strokes.new.sink) (g.W.Sink.written c.draw_marks.new.sink) c.args.chunk.now c.draw_strokes.new.chunk part2 left3 left2 left0 refl ahead2 (rw (c.unit_of-unit.ensures) at c.in-Err-draw_marks.ensures.drawn)
+    went unit (g.W.Sink.written c.args.sink.now) (g.W.Sink.written c.args.sink.now)
+    (g.W.Sink.written c.draw_ground.new.sink) c.args.chunk.now c.args.chunk.now c.draw_ground.new.chunk part0 left1 left0 left0 refl ahead0
+    c.in-Ok.ensures.drawn in
+    let ahead2 : Ahead unit (g.W.Sink.written c.args.sink.now) (g.W.Sink.written c.draw_strokes.new.sink) c.args.chunk.now c.draw_strokes.new.chunk
+    left2 left0 =
+    went unit (g.W.Sink.written c.args.sink.now) (g.W.Sink.written c.draw_ground.new.sink)
+    (g.W.Sink.written c.draw_strokes.new.sink) c.args.chunk.now c.draw_ground.new.chunk c.draw_strokes.new.chunk part1 left2 left1 left0 refl ahead1
+    (rw (c.unit_of-unit.ensures) at c.in-Ok-draw_strokes.ensures.drawn) in
+    stopped unit (g.W.Sink.written c.args.sink.now) (g.W.Sink.written c.draw_strokes.new.sink)
+    (g.W.Sink.written c.draw_marks.new.sink) c.args.chunk.now c.draw_strokes.new.chunk part2 left3 left2 left0 refl ahead2
+    (rw (c.unit_of-unit.ensures) at c.in-Err-draw_marks.ensures.drawn)
 
 pub returns-in-Err-draw_refused-clause-drawn : goal.returns-in-Err-draw_refused-clause-drawn
 returns-in-Err-draw_refused-clause-drawn g c =
@@ -75,14 +90,24 @@ returns-in-Err-draw_refused-clause-drawn g c =
     let left2 : List Shape = part2 ++ left3 in
     let left1 : List Shape = part1 ++ left2 in
     let left0 : List Shape = part0 ++ left1 in
-    let ahead0 : Ahead unit (g.W.Sink.written c.args.sink.now) (g.W.Sink.written c.args.sink.now) c.args.chunk.now c.args.chunk.now left0 left0 = begun unit (g.W.Sink.written c.args.sink.now) c.args.chunk.now left0 in
+    let ahead0 : Ahead unit (g.W.Sink.written c.args.sink.now) (g.W.Sink.written c.args.sink.now) c.args.chunk.now c.args.chunk.now left0 left0 =
+    begun unit (g.W.Sink.written c.args.sink.now) c.args.chunk.now left0 in
     let ahead1 : Ahead unit (g.W.Sink.written c.args.sink.now) (g.W.Sink.written c.draw_ground.new.sink) c.args.chunk.now c.draw_ground.new.chunk left1 left0 =
-    went unit (g.W.Sink.written c.args.sink.now) (g.W.Sink.written c.args.sink.now) (g.W.Sink.written c.draw_ground.new.sink) c.args.chunk.now c.args.chunk.now c.draw_ground.new.chunk part0 left1 left0 left0 refl ahead0 c.in-Ok.ensures.drawn in
-    let ahead2 : Ahead unit (g.W.Sink.written c.args.sink.now) (g.W.Sink.written c.draw_strokes.new.sink) c.args.chunk.now c.draw_strokes.new.chunk left2 left0 =
-    went unit (g.W.Sink.written c.args.sink.now) (g.W.Sink.written c.draw_ground.new.sink) (g.W.Sink.written c.draw_strokes.new.sink) c.args.chunk.now c.draw_ground.new.chunk c.draw_strokes.new.chunk part1 left2 left1 left0 refl ahead1 (rw (c.unit_of-unit.ensures) at c.in-Ok-draw_strokes.ensures.drawn) in
+    went unit (g.W.Sink.written c.args.sink.now) (g.W.Sink.written c.args.sink.now)
+    (g.W.Sink.written c.draw_ground.new.sink) c.args.chunk.now c.args.chunk.now c.draw_ground.new.chunk part0 left1 left0 left0 refl ahead0
+    c.in-Ok.ensures.drawn in
+    let ahead2 : Ahead unit (g.W.Sink.written c.args.sink.now) (g.W.Sink.written c.draw_strokes.new.sink) c.args.chunk.now c.draw_strokes.new.chunk
+    left2 left0 =
+    went unit (g.W.Sink.written c.args.sink.now) (g.W.Sink.written c.draw_ground.new.sink)
+    (g.W.Sink.written c.draw_strokes.new.sink) c.args.chunk.now c.draw_ground.new.chunk c.draw_strokes.new.chunk part1 left2 left1 left0 refl ahead1
+    (rw (c.unit_of-unit.ensures) at c.in-Ok-draw_strokes.ensures.drawn) in
     let ahead3 : Ahead unit (g.W.Sink.written c.args.sink.now) (g.W.Sink.written c.draw_marks.new.sink) c.args.chunk.now c.draw_marks.new.chunk left3 left0 =
-    went unit (g.W.Sink.written c.args.sink.now) (g.W.Sink.written c.draw_strokes.new.sink) (g.W.Sink.written c.draw_marks.new.sink) c.args.chunk.now c.draw_strokes.new.chunk c.draw_marks.new.chunk part2 left3 left2 left0 refl ahead2 (rw (c.unit_of-unit.ensures) at c.in-Ok-draw_marks.ensures.drawn) in
-    stopped unit (g.W.Sink.written c.args.sink.now) (g.W.Sink.written c.draw_marks.new.sink) (g.W.Sink.written c.draw_refused.new.sink) c.args.chunk.now c.draw_marks.new.chunk part3 left4 left3 left0 refl ahead3 (rw (c.unit_of-unit.ensures) at c.in-Err-draw_refused.ensures.drawn)
+    went unit (g.W.Sink.written c.args.sink.now) (g.W.Sink.written c.draw_strokes.new.sink)
+    (g.W.Sink.written c.draw_marks.new.sink) c.args.chunk.now c.draw_strokes.new.chunk c.draw_marks.new.chunk part2 left3 left2 left0 refl ahead2
+    (rw (c.unit_of-unit.ensures) at c.in-Ok-draw_marks.ensures.drawn) in
+    stopped unit (g.W.Sink.written c.args.sink.now) (g.W.Sink.written c.draw_marks.new.sink)
+    (g.W.Sink.written c.draw_refused.new.sink) c.args.chunk.now c.draw_marks.new.chunk part3 left4 left3 left0 refl ahead3
+    (rw (c.unit_of-unit.ensures) at c.in-Err-draw_refused.ensures.drawn)
 
 pub returns-clause-drawn : goal.returns-clause-drawn
 returns-clause-drawn g c =
@@ -97,13 +122,26 @@ returns-clause-drawn g c =
     let left2 : List Shape = part2 ++ left3 in
     let left1 : List Shape = part1 ++ left2 in
     let left0 : List Shape = part0 ++ left1 in
-    let ahead0 : Ahead unit (g.W.Sink.written c.args.sink.now) (g.W.Sink.written c.args.sink.now) c.args.chunk.now c.args.chunk.now left0 left0 = begun unit (g.W.Sink.written c.args.sink.now) c.args.chunk.now left0 in
+    let ahead0 : Ahead unit (g.W.Sink.written c.args.sink.now) (g.W.Sink.written c.args.sink.now) c.args.chunk.now c.args.chunk.now left0 left0 =
+    begun unit (g.W.Sink.written c.args.sink.now) c.args.chunk.now left0 in
     let ahead1 : Ahead unit (g.W.Sink.written c.args.sink.now) (g.W.Sink.written c.draw_ground.new.sink) c.args.chunk.now c.draw_ground.new.chunk left1 left0 =
-    went unit (g.W.Sink.written c.args.sink.now) (g.W.Sink.written c.args.sink.now) (g.W.Sink.written c.draw_ground.new.sink) c.args.chunk.now c.args.chunk.now c.draw_ground.new.chunk part0 left1 left0 left0 refl ahead0 c.in-Ok.ensures.drawn in
-    let ahead2 : Ahead unit (g.W.Sink.written c.args.sink.now) (g.W.Sink.written c.draw_strokes.new.sink) c.args.chunk.now c.draw_strokes.new.chunk left2 left0 =
-    went unit (g.W.Sink.written c.args.sink.now) (g.W.Sink.written c.draw_ground.new.sink) (g.W.Sink.written c.draw_strokes.new.sink) c.args.chunk.now c.draw_ground.new.chunk c.draw_strokes.new.chunk part1 left2 left1 left0 refl ahead1 (rw (c.unit_of-unit.ensures) at c.in-Ok-draw_strokes.ensures.drawn) in
+    went unit (g.W.Sink.written c.args.sink.now) (g.W.Sink.written c.args.sink.now)
+    (g.W.Sink.written c.draw_ground.new.sink) c.args.chunk.now c.args.chunk.now c.draw_ground.new.chunk part0 left1 left0 left0 refl ahead0
+    c.in-Ok.ensures.drawn in
+    let ahead2 : Ahead unit (g.W.Sink.written c.args.sink.now) (g.W.Sink.written c.draw_strokes.new.sink) c.args.chunk.now c.draw_strokes.new.chunk
+    left2 left0 =
+    went unit (g.W.Sink.written c.args.sink.now) (g.W.Sink.written c.draw_ground.new.sink)
+    (g.W.Sink.written c.draw_strokes.new.sink) c.args.chunk.now c.draw_ground.new.chunk c.draw_strokes.new.chunk part1 left2 left1 left0 refl ahead1
+    (rw (c.unit_of-unit.ensures) at c.in-Ok-draw_strokes.ensures.drawn) in
     let ahead3 : Ahead unit (g.W.Sink.written c.args.sink.now) (g.W.Sink.written c.draw_marks.new.sink) c.args.chunk.now c.draw_marks.new.chunk left3 left0 =
-    went unit (g.W.Sink.written c.args.sink.now) (g.W.Sink.written c.draw_strokes.new.sink) (g.W.Sink.written c.draw_marks.new.sink) c.args.chunk.now c.draw_strokes.new.chunk c.draw_marks.new.chunk part2 left3 left2 left0 refl ahead2 (rw (c.unit_of-unit.ensures) at c.in-Ok-draw_marks.ensures.drawn) in
-    let ahead4 : Ahead unit (g.W.Sink.written c.args.sink.now) (g.W.Sink.written c.draw_refused.new.sink) c.args.chunk.now c.draw_refused.new.chunk left4 left0 =
-    went unit (g.W.Sink.written c.args.sink.now) (g.W.Sink.written c.draw_marks.new.sink) (g.W.Sink.written c.draw_refused.new.sink) c.args.chunk.now c.draw_marks.new.chunk c.draw_refused.new.chunk part3 left4 left3 left0 refl ahead3 (rw (c.unit_of-unit.ensures) at c.in-Ok-draw_refused.ensures.drawn) in
-    last c.draw_legend.result unit (g.W.Sink.written c.args.sink.now) (g.W.Sink.written c.draw_refused.new.sink) (g.W.Sink.written c.draw_legend.new.sink) c.args.chunk.now c.draw_refused.new.chunk c.draw_legend.new.chunk left4 left0 ahead4 c.draw_legend.ensures.drawn
+    went unit (g.W.Sink.written c.args.sink.now) (g.W.Sink.written c.draw_strokes.new.sink)
+    (g.W.Sink.written c.draw_marks.new.sink) c.args.chunk.now c.draw_strokes.new.chunk c.draw_marks.new.chunk part2 left3 left2 left0 refl ahead2
+    (rw (c.unit_of-unit.ensures) at c.in-Ok-draw_marks.ensures.drawn) in
+    let ahead4 : Ahead unit (g.W.Sink.written c.args.sink.now) (g.W.Sink.written c.draw_refused.new.sink) c.args.chunk.now c.draw_refused.new.chunk
+    left4 left0 =
+    went unit (g.W.Sink.written c.args.sink.now) (g.W.Sink.written c.draw_marks.new.sink)
+    (g.W.Sink.written c.draw_refused.new.sink) c.args.chunk.now c.draw_marks.new.chunk c.draw_refused.new.chunk part3 left4 left3 left0 refl ahead3
+    (rw (c.unit_of-unit.ensures) at c.in-Ok-draw_refused.ensures.drawn) in
+    last c.draw_legend.result unit (g.W.Sink.written c.args.sink.now) (g.W.Sink.written c.draw_refused.new.sink)
+    (g.W.Sink.written c.draw_legend.new.sink) c.args.chunk.now c.draw_refused.new.chunk c.draw_legend.new.chunk left4 left0 ahead4
+    c.draw_legend.ensures.drawn

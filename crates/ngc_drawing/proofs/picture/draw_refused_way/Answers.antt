@@ -22,6 +22,7 @@ returns-clause-drawn g c =
     let view = c.args.view in
     let way = c.args.way.now in
     let end : List Shape = shapes.PathEnd ∷ shapes.FaultNumber (spot view (end_of way)) c.args.fault ∷ [] in
-    both c.draw_all.result c.args.unit.now.micrometres (g.W.Sink.written c.args.sink.now) (g.W.Sink.written c.draw_stroke.new.sink) (g.W.Sink.written c.draw_all.new.sink) c.args.chunk.now c.draw_stroke.new.chunk c.draw_all.new.chunk
+    both c.draw_all.result c.args.unit.now.micrometres (g.W.Sink.written c.args.sink.now) (g.W.Sink.written c.draw_stroke.new.sink)
+    (g.W.Sink.written c.draw_all.new.sink) c.args.chunk.now c.draw_stroke.new.chunk c.draw_all.new.chunk
     (stroke view None inks.Fault way) end (refused_way view c.args.fault way) refl c.in-Ok.ensures.drawn
     (rw (c.spot.ensures, c.end.ensures) at c.draw_all.ensures.drawn)

@@ -12,7 +12,8 @@ returns-in-Err-clause-drawn g c =
     let whole : List Shape = tool_row c.args.rank c.args.tool.now in
     let first : List Shape = shapes.Tool c.args.rank (number_of c.args.tool.now) ∷ [] in
     let rest : List Shape = parts c.args.tool.now ++ shapes.ToolEnd ∷ [] in
-    stopped unit (g.W.Sink.written c.args.sink.now) (g.W.Sink.written c.args.sink.now) (g.W.Sink.written c.draw_all.new.sink) c.args.chunk.now c.args.chunk.now first rest whole whole refl
+    stopped unit (g.W.Sink.written c.args.sink.now) (g.W.Sink.written c.args.sink.now)
+    (g.W.Sink.written c.draw_all.new.sink) c.args.chunk.now c.args.chunk.now first rest whole whole refl
     (begun unit (g.W.Sink.written c.args.sink.now) c.args.chunk.now whole) (rw c.number_of.ensures at c.in-Err.ensures.drawn)
 
 pub returns-clause-drawn : goal.returns-clause-drawn
@@ -21,7 +22,9 @@ returns-clause-drawn g c =
     let whole : List Shape = tool_row c.args.rank c.args.tool.now in
     let first : List Shape = shapes.Tool c.args.rank (number_of c.args.tool.now) ∷ [] in
     let rest : List Shape = parts c.args.tool.now ++ shapes.ToolEnd ∷ [] in
-    last c.draw_all-2.result unit (g.W.Sink.written c.args.sink.now) (g.W.Sink.written c.draw_all.new.sink) (g.W.Sink.written c.draw_all-2.new.sink) c.args.chunk.now c.draw_all.new.chunk c.draw_all-2.new.chunk rest whole
-    (went unit (g.W.Sink.written c.args.sink.now) (g.W.Sink.written c.args.sink.now) (g.W.Sink.written c.draw_all.new.sink) c.args.chunk.now c.args.chunk.now c.draw_all.new.chunk first rest whole whole refl
+    last c.draw_all-2.result unit (g.W.Sink.written c.args.sink.now) (g.W.Sink.written c.draw_all.new.sink)
+    (g.W.Sink.written c.draw_all-2.new.sink) c.args.chunk.now c.draw_all.new.chunk c.draw_all-2.new.chunk rest whole
+    (went unit (g.W.Sink.written c.args.sink.now) (g.W.Sink.written c.args.sink.now)
+    (g.W.Sink.written c.draw_all.new.sink) c.args.chunk.now c.args.chunk.now c.draw_all.new.chunk first rest whole whole refl
     (begun unit (g.W.Sink.written c.args.sink.now) c.args.chunk.now whole) (rw c.number_of.ensures at c.in-Ok.ensures.drawn))
     (rw (c.as_slice.ensures.value, c.push.ensures.items, c.parts-rest.ensures.value) at c.draw_all-2.ensures.drawn)

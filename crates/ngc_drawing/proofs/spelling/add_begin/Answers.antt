@@ -10,4 +10,24 @@ returns c =
     let v1 : to_z w128 (of_z w128 c.args.sheet.now.height) ≡ c.args.sheet.now.height = omega (arith, ints) in
     let v2 : to_z w128 (of_z w128 c.args.sheet.now.left) ≡ c.args.sheet.now.left = omega (arith, ints) in
     let v3 : to_z w128 (of_z w128 c.args.sheet.now.top) ≡ c.args.sheet.now.top = omega (arith, ints) in
-    rw (c.add_text-7.ensures, c.add_wide-6.ensures.text, v1, c.add_text-6.ensures, c.add_wide-5.ensures.text, v0, c.add_text-5.ensures, c.add_wide-4.ensures.text, v3, c.add_text-4.ensures, c.add_wide-3.ensures.text, v2, c.add_text-3.ensures, c.add_wide-2.ensures.text, v1, c.add_text-2.ensures, c.add_wide.ensures.text, v0, c.add_text.ensures) (simp append_assoc)
+    rw (
+      c.add_text-7.ensures,
+      c.add_wide-6.ensures.text,
+      v1,
+      c.add_text-6.ensures,
+      c.add_wide-5.ensures.text,
+      v0,
+      c.add_text-5.ensures,
+      c.add_wide-4.ensures.text,
+      v3,
+      c.add_text-4.ensures,
+      c.add_wide-3.ensures.text,
+      v2,
+      c.add_text-3.ensures,
+      c.add_wide-2.ensures.text,
+      v1,
+      c.add_text-2.ensures,
+      c.add_wide.ensures.text,
+      v0,
+      c.add_text.ensures,
+    ) (simp append_assoc)

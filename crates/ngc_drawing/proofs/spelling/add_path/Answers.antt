@@ -5,4 +5,8 @@ use Rattle.ngc_drawing.proofs.spelling.add_path.Goals as goal
 
 pub returns : goal.returns
 returns c =
-    more c.args.chunk.now c.add_text-2.new.self c.add_spot.new.chunk (codes "<path stroke=\"" ++ ink_text c.args.ink.now ++ codes "\" d=\"M") (spot_text c.args.at.now) (more c.args.chunk.now c.add_ink.new.chunk c.add_text-2.new.self (codes "<path stroke=\"" ++ ink_text c.args.ink.now) (codes "\" d=\"M") (more c.args.chunk.now c.add_text.new.self c.add_ink.new.chunk (codes "<path stroke=\"") (ink_text c.args.ink.now) c.add_text.ensures c.add_ink.ensures.text) c.add_text-2.ensures) c.add_spot.ensures.text
+    more c.args.chunk.now c.add_text-2.new.self c.add_spot.new.chunk (codes "<path stroke=\"" ++ ink_text c.args.ink.now ++ codes "\" d=\"M")
+    (spot_text c.args.at.now)
+    (more c.args.chunk.now c.add_ink.new.chunk c.add_text-2.new.self (codes "<path stroke=\"" ++ ink_text c.args.ink.now) (codes "\" d=\"M")
+    (more c.args.chunk.now c.add_text.new.self c.add_ink.new.chunk (codes "<path stroke=\"")
+    (ink_text c.args.ink.now) c.add_text.ensures c.add_ink.ensures.text) c.add_text-2.ensures) c.add_spot.ensures.text

@@ -8,4 +8,13 @@ use Rattle.ngc_drawing.proofs.spelling.add_round.Goals as goal
 pub returns : goal.returns
 returns c =
     let v0 : to_z w64 (of_z w64 c.args.radius) ≡ c.args.radius = omega (arith, ints) in
-    more c.args.chunk.now c.add_text-3.new.self c.add_spot.new.chunk (codes "\nA" ++ length_text c.args.radius ++ codes " " ++ length_text c.args.radius ++ turn_text c.args.clockwise) (spot_text c.args.to.now) (more c.args.chunk.now c.add_length-2.new.chunk c.add_text-3.new.self (codes "\nA" ++ length_text c.args.radius ++ codes " " ++ length_text c.args.radius) (turn_text c.args.clockwise) (more c.args.chunk.now c.add_text-2.new.self c.add_length-2.new.chunk (codes "\nA" ++ length_text c.args.radius ++ codes " ") (length_text c.args.radius) (more c.args.chunk.now c.add_length.new.chunk c.add_text-2.new.self (codes "\nA" ++ length_text c.args.radius) (codes " ") (more c.args.chunk.now c.add_text.new.self c.add_length.new.chunk (codes "\nA") (length_text c.args.radius) c.add_text.ensures (rw v0 at c.add_length.ensures.text)) c.add_text-2.ensures) (rw v0 at c.add_length-2.ensures.text)) (rw c.turn.ensures.text at c.add_text-3.ensures)) c.add_spot.ensures.text
+    more c.args.chunk.now c.add_text-3.new.self c.add_spot.new.chunk
+    (codes "\nA" ++ length_text c.args.radius ++ codes " " ++ length_text c.args.radius ++ turn_text c.args.clockwise) (spot_text c.args.to.now)
+    (more c.args.chunk.now c.add_length-2.new.chunk c.add_text-3.new.self
+    (codes "\nA" ++ length_text c.args.radius ++ codes " " ++ length_text c.args.radius) (turn_text c.args.clockwise)
+    (more c.args.chunk.now c.add_text-2.new.self c.add_length-2.new.chunk (codes "\nA" ++ length_text c.args.radius ++ codes " ")
+    (length_text c.args.radius)
+    (more c.args.chunk.now c.add_length.new.chunk c.add_text-2.new.self (codes "\nA" ++ length_text c.args.radius) (codes " ")
+    (more c.args.chunk.now c.add_text.new.self c.add_length.new.chunk (codes "\nA") (length_text c.args.radius) c.add_text.ensures
+    (rw v0 at c.add_length.ensures.text)) c.add_text-2.ensures) (rw v0 at c.add_length-2.ensures.text))
+    (rw c.turn.ensures.text at c.add_text-3.ensures)) c.add_spot.ensures.text

@@ -15,7 +15,8 @@ returns-in-Err-clause-drawn g c =
     let m = c.middle-middle.result in
     cut_short c.args.unit.now.micrometres (g.W.Sink.written c.args.sink.now) (g.W.Sink.written c.draw_curve.new.sink) c.args.chunk.now
     (lines view n arc s m) (lines view n arc m arc.end) (map (line_to view) (helix_points arc))
-    (both_halves view arc n s m arc.end (c.halvings-halvings.ensures ∙ ap helices.halvings c.outer_radius.ensures.value) c.start.ensures.value c.middle-middle.ensures refl) c.in-Err.ensures.drawn
+    (both_halves view arc n s m arc.end (c.halvings-halvings.ensures ∙ ap helices.halvings c.outer_radius.ensures.value) c.start.ensures.value
+    c.middle-middle.ensures refl) c.in-Err.ensures.drawn
 
 pub returns-clause-drawn : goal.returns-clause-drawn
 returns-clause-drawn g c =
@@ -25,6 +26,8 @@ returns-clause-drawn g c =
     let s = c.start.result in
     let m = c.middle-middle.result in
     let e = c.end.result in
-    both c.draw_curve-2.result c.args.unit.now.micrometres (g.W.Sink.written c.args.sink.now) (g.W.Sink.written c.draw_curve.new.sink) (g.W.Sink.written c.draw_curve-2.new.sink) c.args.chunk.now c.draw_curve.new.chunk c.draw_curve-2.new.chunk
+    both c.draw_curve-2.result c.args.unit.now.micrometres (g.W.Sink.written c.args.sink.now) (g.W.Sink.written c.draw_curve.new.sink)
+    (g.W.Sink.written c.draw_curve-2.new.sink) c.args.chunk.now c.draw_curve.new.chunk c.draw_curve-2.new.chunk
     (lines view n arc s m) (lines view n arc m e) (map (line_to view) (helix_points arc))
-    (both_halves view arc n s m e (c.halvings-halvings.ensures ∙ ap helices.halvings c.outer_radius.ensures.value) c.start.ensures.value c.middle-middle.ensures c.end.ensures.value) c.in-Ok.ensures.drawn c.draw_curve-2.ensures.drawn
+    (both_halves view arc n s m e (c.halvings-halvings.ensures ∙ ap helices.halvings c.outer_radius.ensures.value) c.start.ensures.value c.middle-middle.ensures
+    c.end.ensures.value) c.in-Ok.ensures.drawn c.draw_curve-2.ensures.drawn

@@ -17,6 +17,7 @@ pub returns-clause-drawn : goal.returns-clause-drawn
 returns-clause-drawn g c =
     let view = c.args.view in
     let way = c.args.way.now in
-    both c.draw_course.result c.args.unit.now.micrometres (g.W.Sink.written c.args.sink.now) (g.W.Sink.written c.draw_all.new.sink) (g.W.Sink.written c.draw_course.new.sink) c.args.chunk.now c.draw_all.new.chunk c.draw_course.new.chunk
+    both c.draw_course.result c.args.unit.now.micrometres (g.W.Sink.written c.args.sink.now) (g.W.Sink.written c.draw_all.new.sink)
+    (g.W.Sink.written c.draw_course.new.sink) c.args.chunk.now c.draw_all.new.chunk c.draw_course.new.chunk
     (lead c.args.run.now c.args.ink (spot view (start_of way))) (course view way) (stroke view c.args.run.now c.args.ink way) refl
     (rw (c.as_slice.ensures.value, c.lead-lead.ensures, c.spot.ensures, c.start_of.ensures) at c.in-Ok.ensures.drawn) c.draw_course.ensures.drawn

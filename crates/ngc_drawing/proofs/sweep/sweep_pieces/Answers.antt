@@ -10,10 +10,12 @@ loop-piece-preserved g c = λ rest.
     let grows = rw c.of-next.ensures at c.in-Ok.ensures in
     rw (c.held_with.ensures, c.of-next.ensures)
     (c.loop-piece.invariant rest
-    ∙ next_piece c.args.view c.args.most c.args.rank c.loop-piece.held c.loop-piece.list.items c.finish.new.list.items c.args.pieces.now c.loop-piece.piece-index c.piece-item.result rest
+    ∙ next_piece c.args.view c.args.most c.args.rank c.loop-piece.held c.loop-piece.list.items c.finish.new.list.items c.args.pieces.now
+    c.loop-piece.piece-index c.piece-item.result rest
     c.loop-piece-test.true c.piece-item.is grows)
 
 pub returns : goal.returns
 returns g c = λ rest.
     c.loop-piece.invariant rest
-    ∙ at_drop_all (λ (l : List Piece). c.loop-piece.list.items ++ joined c.args.view c.args.most c.loop-piece.held (map (sweep_of c.args.rank) l ++ rest)) c.args.pieces.now c.loop-piece.piece-index c.loop-piece-test.false
+    ∙ at_drop_all (λ (l : List Piece). c.loop-piece.list.items ++ joined c.args.view c.args.most c.loop-piece.held (map (sweep_of c.args.rank) l ++ rest))
+    c.args.pieces.now c.loop-piece.piece-index c.loop-piece-test.false

@@ -9,7 +9,8 @@ returns-then-before-ge-LINE_LIMIT c = lines_many (c.args.before + 1) c.args.text
 pub returns-in-Some-event_in : goal.returns-in-Some-event_in
 returns-in-Some-event_in c =
     let rest = rest_of c.args.text.now c.in-Some.end c.in-Some.ensures in (
-      line_taken (c.args.before + 1) c.args.text.now _ _ c.in-Some.end c.in-Some-event_in.line (omega arith) c.in-Some.ensures refl rest.0 c.in-Some-event_in.ensures,
+      line_taken (c.args.before + 1) c.args.text.now _ _ c.in-Some.end c.in-Some-event_in.line
+          (omega arith) c.in-Some.ensures refl rest.0 c.in-Some-event_in.ensures,
       rest.1,
     )
 

@@ -6,10 +6,12 @@ use Rattle.ngc_fault_texts.proofs.telling.write_parts.Goals as goal
 
 pub returns-in-Err-clause-fault : goal.returns-in-Err-clause-fault
 returns-in-Err-clause-fault g c =
-    stopped _ _ _ _ _ _ _ (at_drop_more (told c.args.number) c.args.parts.now c.loop-part.part-index _ c.loop-part-test.true) c.loop-part.invariant.reached c.in-Err.ensures.fault
+    stopped _ _ _ _ _ _ _ (at_drop_more (told c.args.number) c.args.parts.now c.loop-part.part-index _ c.loop-part-test.true) c.loop-part.invariant.reached
+    c.in-Err.ensures.fault
 
 pub loop-part-preserved : goal.loop-part-preserved
 loop-part-preserved g c = record {
-  reached = went_on _ _ _ _ _ _ _ (at_drop_more (told c.args.number) c.args.parts.now c.loop-part.part-index _ c.loop-part-test.true) c.loop-part.invariant.reached c.in-Ok.ensures.ok;
+  reached = went_on _ _ _ _ _ _ _ (at_drop_more (told c.args.number) c.args.parts.now c.loop-part.part-index _ c.loop-part-test.true)
+      c.loop-part.invariant.reached c.in-Ok.ensures.ok;
   failures = search rules;
 }

@@ -9,7 +9,9 @@ pub returns-in-Err-write_column-clause-fault : goal.returns-in-Err-write_column-
 returns-in-Err-write_column-clause-fault g c = second_broken _ _ _ _ _ _ c.in-Ok.ensures.ok c.in-Err-write_column.ensures.fault
 
 pub returns-clause-ok : goal.returns-clause-ok
-returns-clause-ok g c = on_ok_weaker c.write_mend.result (three_written _ _ _ _ _ _ _ c.in-Ok.ensures.ok c.in-Ok-write_column.ensures.ok) c.write_mend.ensures.ok
+returns-clause-ok g c =
+    on_ok_weaker c.write_mend.result (three_written _ _ _ _ _ _ _ c.in-Ok.ensures.ok c.in-Ok-write_column.ensures.ok) c.write_mend.ensures.ok
 
 pub returns-clause-fault : goal.returns-clause-fault
-returns-clause-fault g c = on_err_weaker c.write_mend.result (third_broken _ _ _ _ _ _ _ c.in-Ok.ensures.ok c.in-Ok-write_column.ensures.ok) c.write_mend.ensures.fault
+returns-clause-fault g c =
+    on_err_weaker c.write_mend.result (third_broken _ _ _ _ _ _ _ c.in-Ok.ensures.ok c.in-Ok-write_column.ensures.ok) c.write_mend.ensures.fault

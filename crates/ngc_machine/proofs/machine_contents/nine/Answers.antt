@@ -9,7 +9,8 @@ pub loop-i-preserved : goal.loop-i-preserved
 loop-i-preserved c =
     let nine = c.loop-i.invariant.0 in (
       length-set _ _ _ ∙ nine,
-      nine-more c.args.values.now c.loop-i.origins c.loop-i.i c.index-values-i.result c.in_ok-origins.field-0 c.loop-i-test.true (omega arith) c.index-values-i.is c.in_ok-origins.ensures c.loop-i.invariant.1,
+      nine-more c.args.values.now c.loop-i.origins c.loop-i.i c.index-values-i.result c.in_ok-origins.field-0 c.loop-i-test.true
+          (omega arith) c.index-values-i.is c.in_ok-origins.ensures c.loop-i.invariant.1,
     )
 
 pub returns : goal.returns

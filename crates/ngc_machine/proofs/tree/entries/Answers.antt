@@ -4,13 +4,15 @@ use Rattle.ngc_machine.proofs.tree.entries.Goals as goal
 pub loop-value-preserved : goal.loop-value-preserved
 loop-value-preserved g c =
     let read = rw c.in-Some.is at c.read.ensures in
-    let more = entries-more g.E.Entry.reading c.args.values.now c.loop-value.entries.items c.loop-value.value-index c.value-item.result c.in-Some.entry c.loop-value-test.true c.value-item.is read c.loop-value.invariant in
+    let more = entries-more g.E.Entry.reading c.args.values.now c.loop-value.entries.items c.loop-value.value-index c.value-item.result c.in-Some.entry
+    c.loop-value-test.true c.value-item.is read c.loop-value.invariant in
     rw c.in_ok-push-in-Some.ensures.items more
 
 pub returns-in-None : goal.returns-in-None
 returns-in-None g c =
     let read = rw c.in-None.is at c.read.ensures in
-    entries-none g.E.Entry.reading c.args.values.now c.loop-value.entries.items c.loop-value.value-index c.value-item.result c.loop-value-test.true c.value-item.is read c.loop-value.invariant
+    entries-none g.E.Entry.reading c.args.values.now c.loop-value.entries.items c.loop-value.value-index c.value-item.result c.loop-value-test.true
+    c.value-item.is read c.loop-value.invariant
 
 pub returns : goal.returns
 returns g c = entries-all g.E.Entry.reading c.args.values.now c.loop-value.entries.items c.loop-value.value-index c.loop-value-test.false c.loop-value.invariant

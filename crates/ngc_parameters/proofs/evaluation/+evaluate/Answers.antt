@@ -19,9 +19,11 @@ value_with-returns-in_default-clause-value t c =
 pub value_at-returns-in-Err-clause-value : goal.value_at-returns-in-Err-clause-value
 value_at-returns-in-Err-clause-value t c =
     let parts : symbols c.args.s.now ≡ mark.Parameter ∷ symbols c.in-Some.rest.now = grind (arith, common_steps) in
-    rw parts (inner_err c.args.steps c.args.room (held c.args.parameters.now) (symbols c.in-Some.rest.now) c.in-Err.fault (omega arith) (omega arith) c.in-Err.ensures.value).0
+    rw parts (inner_err c.args.steps c.args.room (held c.args.parameters.now) (symbols c.in-Some.rest.now) c.in-Err.fault (omega arith)
+    (omega arith) c.in-Err.ensures.value).0
 
 pub value_at-returns-in-Err-value_at-clause-value : goal.value_at-returns-in-Err-value_at-clause-value
 value_at-returns-in-Err-value_at-clause-value t c =
     let parts : symbols c.args.s.now ≡ mark.Open ∷ symbols c.in-Some.rest.now = grind (arith, common_steps) in
-    rw parts (inner_err c.args.steps c.args.room (held c.args.parameters.now) (symbols c.in-Some.rest.now) c.in-Err-value_at.fault (omega arith) (omega arith) c.in-Err-value_at.ensures.value).1
+    rw parts (inner_err c.args.steps c.args.room (held c.args.parameters.now) (symbols c.in-Some.rest.now) c.in-Err-value_at.fault (omega arith)
+    (omega arith) c.in-Err-value_at.ensures.value).1

@@ -6,6 +6,7 @@ use Rattle.ngc_parameters.proofs.store.changes_of_line.Given as goal
 
 abbrev pub invariant-loop-raw : goal.invariant-loop-raw
 invariant-loop-raw l = record {
-  values : settings_after (held l.parameters) l.line.tokens.now (change_pairs l.changes.settings.items) (drop l.raw-index l.raw-items) ≡ settings_on (held l.parameters) l.line.tokens.now l.line.settings.now;
+  values : settings_after (held l.parameters) l.line.tokens.now (change_pairs l.changes.settings.items) (drop l.raw-index l.raw-items)
+      ≡ settings_on (held l.parameters) l.line.tokens.now l.line.settings.now;
   count : length l.changes.settings.items ≤ l.raw-index;
 }

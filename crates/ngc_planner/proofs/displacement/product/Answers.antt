@@ -21,4 +21,5 @@ returns-clause-value c = rw (left c, right c) (to_z-of_z w128 (c.args.a *ℤ c.a
 
 pub returns-clause-bound : goal.returns-clause-bound
 returns-clause-bound c =
-    rw (returns-clause-value c, unsigned_abs-mul c.args.a c.args.b) (mul-le (unsigned_abs c.args.a) (unsigned_abs c.args.b) 200000000000 200000000000 c.requires.a c.requires.b)
+    rw (returns-clause-value c, unsigned_abs-mul c.args.a c.args.b)
+    (mul-le (unsigned_abs c.args.a) (unsigned_abs c.args.b) 200000000000 200000000000 c.requires.a c.requires.b)

@@ -3,4 +3,16 @@ use Rattle.ngc_report.proofs.facts.add_command.Goals as goal
 
 pub returns : goal.returns
 returns c =
-    rw (c.add_text-6.ensures, c.add_triple-2.ensures.text, c.add_text-5.ensures, c.add_triple.ensures.text, c.add_text-4.ensures, c.add_tool.ensures.text, c.add_text-3.ensures, c.add_number-2.ensures.text, c.add_text-2.ensures, c.add_number.ensures.text, c.add_text.ensures) (simp append_assoc)
+    rw (
+      c.add_text-6.ensures,
+      c.add_triple-2.ensures.text,
+      c.add_text-5.ensures,
+      c.add_triple.ensures.text,
+      c.add_text-4.ensures,
+      c.add_tool.ensures.text,
+      c.add_text-3.ensures,
+      c.add_number-2.ensures.text,
+      c.add_text-2.ensures,
+      c.add_number.ensures.text,
+      c.add_text.ensures,
+    ) (simp append_assoc)

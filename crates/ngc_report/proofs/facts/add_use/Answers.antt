@@ -3,4 +3,23 @@ use Rattle.ngc_report.proofs.facts.add_use.Goals as goal
 
 pub returns : goal.returns
 returns c =
-    rw (c.add_nearest.ensures, c.add_text-9.ensures, c.add_count-5.ensures.text, c.add_text-8.ensures, c.add_count-4.ensures.text, c.add_text-7.ensures, c.add_count-3.ensures.text, c.add_text-6.ensures, c.add_number-2.ensures.text, c.add_text-5.ensures, c.add_count-2.ensures.text, c.add_text-4.ensures, c.add_number.ensures.text, c.add_text-3.ensures, c.add_count.ensures.text, c.add_text-2.ensures, c.add_tool.ensures.text, c.add_text.ensures) (simp append_assoc)
+    rw (
+      c.add_nearest.ensures,
+      c.add_text-9.ensures,
+      c.add_count-5.ensures.text,
+      c.add_text-8.ensures,
+      c.add_count-4.ensures.text,
+      c.add_text-7.ensures,
+      c.add_count-3.ensures.text,
+      c.add_text-6.ensures,
+      c.add_number-2.ensures.text,
+      c.add_text-5.ensures,
+      c.add_count-2.ensures.text,
+      c.add_text-4.ensures,
+      c.add_number.ensures.text,
+      c.add_text-3.ensures,
+      c.add_count.ensures.text,
+      c.add_text-2.ensures,
+      c.add_tool.ensures.text,
+      c.add_text.ensures,
+    ) (simp append_assoc)

@@ -10,4 +10,5 @@ returns-clause-value c =
     let x : to_z w128 (of_z w128 c.axis_gap-x.result) ≡ c.axis_gap-x.result = omega (arith, ints) in
     let y : to_z w128 (of_z w128 c.axis_gap-y.result) ≡ c.axis_gap-y.result = omega (arith, ints) in
     let z : to_z w128 (of_z w128 c.axis_gap-z.result) ≡ c.axis_gap-z.result = omega (arith, ints) in
-    rw (r, c.greater-2.ensures.value, x, yz, c.greater.ensures.value, y, z, c.axis_gap-x.ensures.value, c.axis_gap-y.ensures.value, c.axis_gap-z.ensures.value) (search rules)
+    rw (r, c.greater-2.ensures.value, x, yz, c.greater.ensures.value, y, z, c.axis_gap-x.ensures.value, c.axis_gap-y.ensures.value, c.axis_gap-z.ensures.value)
+    (search rules)

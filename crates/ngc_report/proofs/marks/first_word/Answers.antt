@@ -7,5 +7,6 @@ use Rattle.ngc_report.proofs.marks.first_word.Goals as goal
 
 pub returns : goal.returns
 returns c =
-    let e = find_from_yields_List (λ w. fits c.args.letter c.args.wanted c.args.line.now.tokens.items w) _ _ c.find.result c.find.ensures.ran (YieldsList-from_slice c.args.line.now.words.items cc) (λ x b q k. search (rules, tests)) in
+    let e = find_from_yields_List (λ w. fits c.args.letter c.args.wanted c.args.line.now.tokens.items w) _ _ c.find.result c.find.ensures.ran
+    (YieldsList-from_slice c.args.line.now.words.items cc) (λ x b q k. search (rules, tests)) in
     c.copied.ensures ∙ e

@@ -3,4 +3,12 @@ use Rattle.ngc_report.proofs.quotes.add_fact.Goals as goal
 
 pub returns-clause-text : goal.returns-clause-text
 returns-clause-text c =
-    rw (c.add_text-3.ensures, c.add_string.ensures.text, c.as_slice.ensures.value, c.shown_bytes.ensures.text, c.add_text-2.ensures, c.add_number.ensures.text, c.add_text.ensures) (simp append_assoc)
+    rw (
+      c.add_text-3.ensures,
+      c.add_string.ensures.text,
+      c.as_slice.ensures.value,
+      c.shown_bytes.ensures.text,
+      c.add_text-2.ensures,
+      c.add_number.ensures.text,
+      c.add_text.ensures,
+    ) (simp append_assoc)

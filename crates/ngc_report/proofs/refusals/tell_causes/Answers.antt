@@ -9,7 +9,8 @@ use Rattle.ngc_report.proofs.refusals.tell_causes.Goals as goal
 
 pub loop-index-init : goal.loop-index-init
 loop-index-init g c = record {
-  ahead = begun c.args.form (g.W.Sink.written c.args.sink.now) c.args.chunk.now (causes_lines (file_of c.args.machine.now) c.args.commands.now c.args.indices.now);
+  ahead =
+      begun c.args.form (g.W.Sink.written c.args.sink.now) c.args.chunk.now (causes_lines (file_of c.args.machine.now) c.args.commands.now c.args.indices.now);
   stands = c.first-standing.ensures;
   failures = refl;
 }
@@ -22,7 +23,8 @@ returns-in-Err-clause-told g c =
     let i = c.loop-index.index-index in
     let k = get_or ks i 0 in
     let one : List Line = scene_lines m k None (scene_at m cs k) in
-    stopped c.args.form (g.W.Sink.written c.args.sink.now) (g.W.Sink.written c.loop-index.sink) (g.W.Sink.written c.tell_scene.new.sink) c.args.chunk.now c.loop-index.chunk
+    stopped c.args.form (g.W.Sink.written c.args.sink.now) (g.W.Sink.written c.loop-index.sink)
+    (g.W.Sink.written c.tell_scene.new.sink) c.args.chunk.now c.loop-index.chunk
     one (causes_lines m cs (drop (i + 1) ks)) (causes_lines m cs (drop i ks)) (causes_lines m cs ks)
     (next_cause m cs ks i c.loop-index-test.true) c.loop-index.invariant.ahead (rw c.scene-scene.ensures.scene at c.in-Err.ensures.told)
 
@@ -35,7 +37,8 @@ loop-index-preserved g c =
     let k = get_or ks i 0 in
     let one : List Line = scene_lines m k None (scene_at m cs k) in
     let ahead =
-    went c.args.form (g.W.Sink.written c.args.sink.now) (g.W.Sink.written c.loop-index.sink) (g.W.Sink.written c.tell_scene.new.sink) c.args.chunk.now c.loop-index.chunk c.tell_scene.new.chunk
+    went c.args.form (g.W.Sink.written c.args.sink.now) (g.W.Sink.written c.loop-index.sink)
+    (g.W.Sink.written c.tell_scene.new.sink) c.args.chunk.now c.loop-index.chunk c.tell_scene.new.chunk
     one (causes_lines m cs (drop (i + 1) ks)) (causes_lines m cs (drop i ks)) (causes_lines m cs ks)
     (next_cause m cs ks i c.loop-index-test.true) c.loop-index.invariant.ahead (rw c.scene-scene.ensures.scene at c.in-Ok.ensures.told) in
     record { ahead = ahead; stands = c.scene-scene.ensures.stands; failures = search rules }
@@ -46,4 +49,5 @@ returns-clause-told g c =
     let cs = c.args.commands.now in
     let ks = c.args.indices.now in
     finished c.args.form (g.W.Sink.written c.args.sink.now) (g.W.Sink.written c.loop-index.sink) c.args.chunk.now c.loop-index.chunk
-    (causes_lines m cs (drop c.loop-index.index-index ks)) (causes_lines m cs ks) (none_left m cs ks c.loop-index.index-index c.loop-index-test.false) c.loop-index.invariant.ahead
+    (causes_lines m cs (drop c.loop-index.index-index ks)) (causes_lines m cs ks)
+    (none_left m cs ks c.loop-index.index-index c.loop-index-test.false) c.loop-index.invariant.ahead

@@ -21,7 +21,8 @@ returns-in-Err-tell_all-clause-told g c =
     let head : List Line = verdict_line c.args.start c.args.indices.now ∷ [] in
     let sides : List Line = alongs m (extent m c.args.commands.now) in
     let rest : List Line = start_lines_if m c.args.start ++ causes_lines m c.args.commands.now c.args.indices.now in
-    second_stopped c.args.form (g.W.Sink.written c.args.sink.now) (g.W.Sink.written c.tell_all.new.sink) (g.W.Sink.written c.tell_all-2.new.sink) c.args.chunk.now c.tell_all.new.chunk head sides rest
+    second_stopped c.args.form (g.W.Sink.written c.args.sink.now) (g.W.Sink.written c.tell_all.new.sink)
+    (g.W.Sink.written c.tell_all-2.new.sink) c.args.chunk.now c.tell_all.new.chunk head sides rest
     (rw c.verdict.ensures at c.in-Ok.ensures.told) (rw (c.alongs-sides.ensures, c.extent.ensures) at c.in-Err-tell_all.ensures.told)
 
 pub returns-clause-told : goal.returns-clause-told
@@ -30,6 +31,7 @@ returns-clause-told g c =
     let head : List Line = verdict_line c.args.start c.args.indices.now ∷ [] in
     let sides : List Line = alongs m (extent m c.args.commands.now) in
     let rest : List Line = start_lines_if m c.args.start ++ causes_lines m c.args.commands.now c.args.indices.now in
-    all_three c.args.form c.tell_refused.result (g.W.Sink.written c.args.sink.now) (g.W.Sink.written c.tell_all.new.sink) (g.W.Sink.written c.tell_all-2.new.sink) (g.W.Sink.written c.tell_refused.new.sink)
+    all_three c.args.form c.tell_refused.result (g.W.Sink.written c.args.sink.now) (g.W.Sink.written c.tell_all.new.sink)
+    (g.W.Sink.written c.tell_all-2.new.sink) (g.W.Sink.written c.tell_refused.new.sink)
     c.args.chunk.now c.tell_all.new.chunk c.tell_all-2.new.chunk c.tell_refused.new.chunk head sides rest
     (rw c.verdict.ensures at c.in-Ok.ensures.told) (rw (c.alongs-sides.ensures, c.extent.ensures) at c.in-Ok-tell_all.ensures.told) c.tell_refused.ensures.told

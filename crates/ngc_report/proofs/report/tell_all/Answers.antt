@@ -5,10 +5,12 @@ use Rattle.ngc_report.proofs.report.tell_all.Goals as goal
 
 pub returns-in-Err-clause-told : goal.returns-in-Err-clause-told
 returns-in-Err-clause-told g c =
-    stopped_at (spelled c.args.form) c.args.lines.now c.loop-line.line-index _ _ _ _ _ _ c.loop-line-test.true c.line-item.is c.loop-line.invariant.front c.in-Err.ensures.text
+    stopped_at (spelled c.args.form) c.args.lines.now c.loop-line.line-index _ _ _ _ _ _ c.loop-line-test.true c.line-item.is c.loop-line.invariant.front
+    c.in-Err.ensures.text
 
 pub loop-line-preserved : goal.loop-line-preserved
 loop-line-preserved g c = record {
-  front = one_more (spelled c.args.form) c.args.lines.now c.loop-line.line-index _ _ _ _ _ _ _ c.loop-line-test.true c.line-item.is c.loop-line.invariant.front c.in-Ok.ensures.text;
+  front = one_more (spelled c.args.form) c.args.lines.now c.loop-line.line-index _ _ _ _ _ _ _ c.loop-line-test.true c.line-item.is c.loop-line.invariant.front
+      c.in-Ok.ensures.text;
   failures = search rules;
 }

@@ -5,6 +5,7 @@ use Rattle.ngc_report.proofs.report.tell_all.Given as goal
 
 abbrev pub invariant-loop-line : goal.invariant-loop-line
 invariant-loop-line g l = record {
-  front : WritesFront (g.W.Sink.written l.initial.sink) (g.W.Sink.written l.sink) (l.initial.chunk ++ flat_map (spelled l.form) (take l.line-index l.lines)) l.chunk;
+  front : WritesFront (g.W.Sink.written l.initial.sink) (g.W.Sink.written l.sink)
+      (l.initial.chunk ++ flat_map (spelled l.form) (take l.line-index l.lines)) l.chunk;
   failures : g.W.Sink.failures l.sink ≡ g.W.Sink.failures l.initial.sink;
 }

@@ -13,7 +13,8 @@ returns-in-Err-clause-told g c =
     let head : List Line = lines.Refused ∷ [] in
     let sides : List Line = alongs m (extent m c.args.commands.now) in
     let rest : List Line = cause_lines m c.args.commands.now c.args.command c.args.fixture in
-    first_stopped c.args.form (g.W.Sink.written c.args.sink.now) (g.W.Sink.written c.tell_all.new.sink) c.args.chunk.now head (sides ++ rest) c.in-Err.ensures.told
+    first_stopped c.args.form (g.W.Sink.written c.args.sink.now) (g.W.Sink.written c.tell_all.new.sink) c.args.chunk.now head
+    (sides ++ rest) c.in-Err.ensures.told
 
 pub returns-in-Err-tell_all-clause-told : goal.returns-in-Err-tell_all-clause-told
 returns-in-Err-tell_all-clause-told g c =
@@ -21,7 +22,8 @@ returns-in-Err-tell_all-clause-told g c =
     let head : List Line = lines.Refused ∷ [] in
     let sides : List Line = alongs m (extent m c.args.commands.now) in
     let rest : List Line = cause_lines m c.args.commands.now c.args.command c.args.fixture in
-    second_stopped c.args.form (g.W.Sink.written c.args.sink.now) (g.W.Sink.written c.tell_all.new.sink) (g.W.Sink.written c.tell_all-2.new.sink) c.args.chunk.now c.tell_all.new.chunk head sides rest
+    second_stopped c.args.form (g.W.Sink.written c.args.sink.now) (g.W.Sink.written c.tell_all.new.sink)
+    (g.W.Sink.written c.tell_all-2.new.sink) c.args.chunk.now c.tell_all.new.chunk head sides rest
     c.in-Ok.ensures.told (rw (c.alongs.ensures, c.extent.ensures) at c.in-Err-tell_all.ensures.told)
 
 pub returns-clause-told : goal.returns-clause-told
@@ -30,6 +32,7 @@ returns-clause-told g c =
     let head : List Line = lines.Refused ∷ [] in
     let sides : List Line = alongs m (extent m c.args.commands.now) in
     let rest : List Line = cause_lines m c.args.commands.now c.args.command c.args.fixture in
-    all_three c.args.form c.tell_cause.result (g.W.Sink.written c.args.sink.now) (g.W.Sink.written c.tell_all.new.sink) (g.W.Sink.written c.tell_all-2.new.sink) (g.W.Sink.written c.tell_cause.new.sink)
+    all_three c.args.form c.tell_cause.result (g.W.Sink.written c.args.sink.now) (g.W.Sink.written c.tell_all.new.sink) (g.W.Sink.written c.tell_all-2.new.sink)
+    (g.W.Sink.written c.tell_cause.new.sink)
     c.args.chunk.now c.tell_all.new.chunk c.tell_all-2.new.chunk c.tell_cause.new.chunk head sides rest
     c.in-Ok.ensures.told (rw (c.alongs.ensures, c.extent.ensures) at c.in-Ok-tell_all.ensures.told) c.tell_cause.ensures.told

@@ -16,7 +16,8 @@ loop-one-init g c =
     let whole : List Line = use_lines (file_of c.args.machine.now) (tool_uses c.args.commands.now) c.args.motions.now in
     record {
       ahead =
-          subst (λ (us : List ToolUse). Ahead c.args.form w w c.args.chunk.now c.args.chunk.now (use_lines (file_of c.args.machine.now) us c.args.motions.now) whole)
+          subst (λ (us : List ToolUse). Ahead c.args.form w w c.args.chunk.now c.args.chunk.now
+          (use_lines (file_of c.args.machine.now) us c.args.motions.now) whole)
           (sym c.new-uses.ensures) (begun c.args.form w c.args.chunk.now whole);
       inside = omega arith;
       failures = refl;
@@ -31,8 +32,10 @@ returns-in-Err-clause-told g c =
     let step =
     next_use m (uses_left c.loop-one.uses) c.in-Some.one (uses_left c.next_use.new.self) ms c.loop-one.first c.motions_up_to.result end
     c.in-Some.ensures c.loop-one.invariant.inside (rw c.len.ensures.value at c.motions_up_to.ensures) refl in
-    stopped c.args.form (g.W.Sink.written c.args.sink.now) (g.W.Sink.written c.loop-one.sink) (g.W.Sink.written c.tell_all.new.sink) c.args.chunk.now c.loop-one.chunk
-    one (use_lines m (uses_left c.next_use.new.self) (drop end ms)) (use_lines m (uses_left c.loop-one.uses) (drop c.loop-one.first ms)) (use_lines m (tool_uses c.args.commands.now) ms)
+    stopped c.args.form (g.W.Sink.written c.args.sink.now) (g.W.Sink.written c.loop-one.sink)
+    (g.W.Sink.written c.tell_all.new.sink) c.args.chunk.now c.loop-one.chunk
+    one (use_lines m (uses_left c.next_use.new.self) (drop end ms)) (use_lines m (uses_left c.loop-one.uses) (drop c.loop-one.first ms))
+    (use_lines m (tool_uses c.args.commands.now) ms)
     step c.loop-one.invariant.ahead (rw c.over-nearest.ensures at c.in-Err.ensures.told)
 
 pub loop-one-preserved : goal.loop-one-preserved
@@ -45,8 +48,10 @@ loop-one-preserved g c =
     next_use m (uses_left c.loop-one.uses) c.in-Some.one (uses_left c.next_use.new.self) ms c.loop-one.first c.motions_up_to.result end
     c.in-Some.ensures c.loop-one.invariant.inside (rw c.len.ensures.value at c.motions_up_to.ensures) refl in
     let ahead =
-    went c.args.form (g.W.Sink.written c.args.sink.now) (g.W.Sink.written c.loop-one.sink) (g.W.Sink.written c.tell_all.new.sink) c.args.chunk.now c.loop-one.chunk c.tell_all.new.chunk
-    one (use_lines m (uses_left c.next_use.new.self) (drop end ms)) (use_lines m (uses_left c.loop-one.uses) (drop c.loop-one.first ms)) (use_lines m (tool_uses c.args.commands.now) ms)
+    went c.args.form (g.W.Sink.written c.args.sink.now) (g.W.Sink.written c.loop-one.sink)
+    (g.W.Sink.written c.tell_all.new.sink) c.args.chunk.now c.loop-one.chunk c.tell_all.new.chunk
+    one (use_lines m (uses_left c.next_use.new.self) (drop end ms)) (use_lines m (uses_left c.loop-one.uses) (drop c.loop-one.first ms))
+    (use_lines m (tool_uses c.args.commands.now) ms)
     step c.loop-one.invariant.ahead (rw c.over-nearest.ensures at c.in-Ok.ensures.told) in
     record {
       ahead = ahead;

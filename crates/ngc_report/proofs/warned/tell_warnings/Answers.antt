@@ -24,7 +24,9 @@ pub returns-clause-told : goal.returns-clause-told
 returns-clause-told g c =
     let m = file_of c.args.machine.now in
     let cs = c.args.commands.now in
-    all_three c.args.form c.tell_warned-3.result (g.W.Sink.written c.args.sink.now) (g.W.Sink.written c.tell_warned.new.sink) (g.W.Sink.written c.tell_warned-2.new.sink)
+    all_three c.args.form c.tell_warned-3.result (g.W.Sink.written c.args.sink.now) (g.W.Sink.written c.tell_warned.new.sink)
+    (g.W.Sink.written c.tell_warned-2.new.sink)
     (g.W.Sink.written c.tell_warned-3.new.sink)
-    c.args.chunk.now c.tell_warned.new.chunk c.tell_warned-2.new.chunk c.tell_warned-3.new.chunk (warned m NoTool cs) (warned m FastFeed cs) (warned m LowHome cs)
+    c.args.chunk.now c.tell_warned.new.chunk c.tell_warned-2.new.chunk c.tell_warned-3.new.chunk (warned m NoTool cs) (warned m FastFeed cs)
+    (warned m LowHome cs)
     c.in-Ok.ensures.told c.in-Ok-tell_warned.ensures.told c.tell_warned-3.ensures.told

@@ -10,7 +10,8 @@ pub loop-command-preserved : goal.loop-command-preserved
 loop-command-preserved g c = record {
   same =
       rw (c.with_command-found.ensures.value, c.after-reached.ensures)
-      (next_command (file_of c.args.machine.now) c.args.concern c.loop-command.found c.loop-command.reached c.args.commands.now c.loop-command.command-index c.command-item.result
+      (next_command (file_of c.args.machine.now) c.args.concern c.loop-command.found c.loop-command.reached c.args.commands.now c.loop-command.command-index
+      c.command-item.result
       c.loop-command-test.true c.command-item.is ∙ c.loop-command.invariant.same);
   few = omega (arith, c.with_command-found.ensures.few);
 }
@@ -20,5 +21,6 @@ returns g c =
     let m = file_of c.args.machine.now in
     let k = c.args.concern in
     all_counted k (lines_of m k (beginning m) c.args.commands.now) c.loop-command.found
-    (sym (at_drop_all (λ l. fold (counted k) c.loop-command.found (lines_of m k c.loop-command.reached l)) c.args.commands.now c.loop-command.command-index c.loop-command-test.false)
+    (sym (at_drop_all (λ l. fold (counted k) c.loop-command.found (lines_of m k c.loop-command.reached l)) c.args.commands.now c.loop-command.command-index
+    c.loop-command-test.false)
     ∙ c.loop-command.invariant.same)

@@ -10,4 +10,20 @@ returns c =
     let v1 : to_z w128 (of_z w128 c.from-2.result) ≡ c.args.along.now.high = omega (arith, ints, c.from-2.ensures) in
     let v2 : to_z w64 (of_z w64 c.args.along.now.room.below) ≡ c.args.along.now.room.below = omega (arith, ints) in
     let v3 : to_z w64 (of_z w64 c.args.along.now.room.above) ≡ c.args.along.now.room.above = omega (arith, ints) in
-    rw (c.add_text-6.ensures, c.add_room-2.ensures.text, v3, c.add_text-5.ensures, c.add_room.ensures.text, v2, c.add_text-4.ensures, c.add_millimetres-2.ensures.text, v1, c.add_text-3.ensures, c.add_millimetres.ensures.text, v0, c.add_text-2.ensures, c.add_text.ensures, c.axis_name.ensures.text) (simp append_assoc)
+    rw (
+      c.add_text-6.ensures,
+      c.add_room-2.ensures.text,
+      v3,
+      c.add_text-5.ensures,
+      c.add_room.ensures.text,
+      v2,
+      c.add_text-4.ensures,
+      c.add_millimetres-2.ensures.text,
+      v1,
+      c.add_text-3.ensures,
+      c.add_millimetres.ensures.text,
+      v0,
+      c.add_text-2.ensures,
+      c.add_text.ensures,
+      c.axis_name.ensures.text,
+    ) (simp append_assoc)

@@ -3,4 +3,13 @@ use Rattle.ngc_report.proofs.words.add_warning.Goals as goal
 
 pub returns : goal.returns
 returns c =
-    rw (c.add_text-5.ensures, c.add_number-2.ensures.text, c.add_text-4.ensures, c.add_number.ensures.text, c.add_text-3.ensures, c.add_text-2.ensures, c.concern_words.ensures.text, c.add_text.ensures) (simp append_assoc)
+    rw (
+      c.add_text-5.ensures,
+      c.add_number-2.ensures.text,
+      c.add_text-4.ensures,
+      c.add_number.ensures.text,
+      c.add_text-3.ensures,
+      c.add_text-2.ensures,
+      c.concern_words.ensures.text,
+      c.add_text.ensures,
+    ) (simp append_assoc)

@@ -19,11 +19,13 @@ run_lines-requires-clause-begins g c = none_ticked c.args.form _ _ _ c.new-trace
 pub returns-in-Ok-run_lines-clause-comes : goal.returns-in-Ok-run_lines-clause-comes
 returns-in-Ok-run_lines-clause-comes g c =
     run_written c.args.form c.new-trace.result _ _ _ _ _ _
-    (trace_is c.args.form c.args.accepted c.args.block_delete _ _ _ _ c.machine.ensures.accepted c.new-trace.ensures (ap (λ (m : MachineFile). m.ticks_per_second) c.machine.ensures.value) c.position.ensures c.in-Ok.ensures.made.1)
+    (trace_is c.args.form c.args.accepted c.args.block_delete _ _ _ _ c.machine.ensures.accepted c.new-trace.ensures
+    (ap (λ (m : MachineFile). m.ticks_per_second) c.machine.ensures.value) c.position.ensures c.in-Ok.ensures.made.1)
     c.in-Ok.ensures.made.0 c.in-Ok-run_lines.ensures.traced
 
 pub returns-clause-comes : goal.returns-clause-comes
 returns-clause-comes g c =
     run_unwritten c.args.form c.new-trace.result _ _ _ _ _
-    (trace_is c.args.form c.args.accepted c.args.block_delete _ _ _ _ c.machine.ensures.accepted c.new-trace.ensures (ap (λ (m : MachineFile). m.ticks_per_second) c.machine.ensures.value) c.position.ensures c.in-Ok.ensures.made.1)
+    (trace_is c.args.form c.args.accepted c.args.block_delete _ _ _ _ c.machine.ensures.accepted c.new-trace.ensures
+    (ap (λ (m : MachineFile). m.ticks_per_second) c.machine.ensures.value) c.position.ensures c.in-Ok.ensures.made.1)
     c.in-Ok.ensures.made.0 c.in-Err-run_lines.ensures.broken

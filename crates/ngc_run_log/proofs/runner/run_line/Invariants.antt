@@ -6,7 +6,8 @@ abbrev pub invariant-turns : goal.invariant-turns
 invariant-turns g l = record {
   few : l.left ≤ l.line.times;
   job : l.controller.job ≡ l.initial.controller.job;
-  recorded : IsRecorded l.initial.controller.job l.initial.controller.state l.controller.state l.initial.recorder l.recorder (g.W.Sink.written l.initial.sink) (g.W.Sink.written l.sink) (replicate (l.line.times - l.left) l.line.event);
+  recorded : IsRecorded l.initial.controller.job l.initial.controller.state l.controller.state l.initial.recorder l.recorder (g.W.Sink.written l.initial.sink)
+      (g.W.Sink.written l.sink) (replicate (l.line.times - l.left) l.line.event);
   failures : g.W.Sink.failures l.sink ≡ g.W.Sink.failures l.initial.sink;
 }
 

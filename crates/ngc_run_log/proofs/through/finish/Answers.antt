@@ -10,14 +10,16 @@ loop-command-init g c = record {
 }
 
 pub finish_head-requires-clause-few : goal.finish_head-requires-clause-few
-finish_head-requires-clause-few g c = few_behind _ _ _ (2 ^ 124) (2 ^ 125) _ _ _ _ _ _ c.loop-command.invariant.goes.goes c.requires.few (omega (arith, c.requires.small))
+finish_head-requires-clause-few g c =
+    few_behind _ _ _ (2 ^ 124) (2 ^ 125) _ _ _ _ _ _ c.loop-command.invariant.goes.goes c.requires.few (omega (arith, c.requires.small))
 
 pub finish_head-requires-clause-some : goal.finish_head-requires-clause-some
 finish_head-requires-clause-some g c = omega (arith, c.loop-command.invariant.goes.goes.ring, c.requires.loaded)
 
 pub loop-command-preserved : goal.loop-command-preserved
 loop-command-preserved g c = record {
-  goes = one_more_finished _ _ _ _ _ _ _ _ _ _ _ _ _ (omega (arith, c.loop-command.invariant.goes.goes.ring, c.requires.loaded)) c.loop-command.invariant.goes c.in-Ok.ensures.goes (omega arith) (omega arith);
+  goes = one_more_finished _ _ _ _ _ _ _ _ _ _ _ _ _ (omega (arith, c.loop-command.invariant.goes.goes.ring, c.requires.loaded)) c.loop-command.invariant.goes
+      c.in-Ok.ensures.goes (omega arith) (omega arith);
   running = c.in-Ok.ensures.runs;
   failures = search rules;
 }

@@ -48,12 +48,17 @@ ticks-preserved g c =
 
 pub go_on_behind-requires-clause-few : goal.go_on_behind-requires-clause-few
 go_on_behind-requires-clause-few g c =
-    few_behind _ _ _ (2 ^ 125) (2 ^ 126) _ _ _ _ _ _ (tick_last _ _ _ _ _ _ _ _ _ _ _ c.in-Some.is c.ticks.invariant.same c.ticks.invariant.goes c.in-Ok.ensures.ticks).goes c.requires.few (omega arith)
+    few_behind _ _ _ (2 ^ 125) (2 ^ 126) _ _ _ _ _ _
+    (tick_last _ _ _ _ _ _ _ _ _ _ _ c.in-Some.is c.ticks.invariant.same c.ticks.invariant.goes c.in-Ok.ensures.ticks).goes c.requires.few (omega arith)
 
 pub returns-in-Some-clause-goes : goal.returns-in-Some-clause-goes
 returns-in-Some-clause-goes g c =
-    on_ok_weaker c.go_on_behind.result (head_done _ _ _ _ _ _ _ _ _ _ (tick_last _ _ _ _ _ _ _ _ _ _ _ c.in-Some.is c.ticks.invariant.same c.ticks.invariant.goes c.in-Ok.ensures.ticks)) c.go_on_behind.ensures.goes
+    on_ok_weaker c.go_on_behind.result
+    (head_done _ _ _ _ _ _ _ _ _ _ (tick_last _ _ _ _ _ _ _ _ _ _ _ c.in-Some.is c.ticks.invariant.same c.ticks.invariant.goes c.in-Ok.ensures.ticks))
+    c.go_on_behind.ensures.goes
 
 pub returns-in-Some-clause-fault : goal.returns-in-Some-clause-fault
 returns-in-Some-clause-fault g c =
-    on_err_weaker c.go_on_behind.result (breaks_later _ _ _ _ _ _ _ _ _ _ (tick_last _ _ _ _ _ _ _ _ _ _ _ c.in-Some.is c.ticks.invariant.same c.ticks.invariant.goes c.in-Ok.ensures.ticks).goes) c.go_on_behind.ensures.fault
+    on_err_weaker c.go_on_behind.result
+    (breaks_later _ _ _ _ _ _ _ _ _ _
+    (tick_last _ _ _ _ _ _ _ _ _ _ _ c.in-Some.is c.ticks.invariant.same c.ticks.invariant.goes c.in-Ok.ensures.ticks).goes) c.go_on_behind.ensures.fault

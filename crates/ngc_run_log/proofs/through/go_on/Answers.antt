@@ -7,7 +7,8 @@ pub fill_ring-requires-clause-few : goal.fill_ring-requires-clause-few
 fill_ring-requires-clause-few g c = at_most_more 0 (2 ^ 120) _ c.requires.few (omega arith)
 
 pub keep_full-requires-clause-few : goal.keep_full-requires-clause-few
-keep_full-requires-clause-few g c = few_behind _ _ _ 0 (2 ^ 124) _ _ _ _ _ _ c.in-Ok.ensures.goes c.requires.few (omega (arith, c.requires.few_commands, c.min-first.ensures))
+keep_full-requires-clause-few g c =
+    few_behind _ _ _ 0 (2 ^ 124) _ _ _ _ _ _ c.in-Ok.ensures.goes c.requires.few (omega (arith, c.requires.few_commands, c.min-first.ensures))
 
 pub returns-in-Err-keep_full-clause-fault : goal.returns-in-Err-keep_full-clause-fault
 returns-in-Err-keep_full-clause-fault g c = breaks_later _ _ _ _ _ _ _ _ _ _ c.in-Ok.ensures.goes c.in-Err-keep_full.ensures.fault
@@ -22,9 +23,14 @@ returns-clause-goes g c =
     let first = c.min-first.result in
     let count = c.args.count in
     let least = c.min-first.ensures in
-    let loaded = goes_both first ((count - first) * 2 ^ 103) (first + (count - first) * 2 ^ 103) first (count - first) count 0 (count - first) (count - first) _ _ _ _ _ _ _ _ _ c.in-Ok.ensures.goes c.in-Ok-keep_full.ensures.goes (omega arith) (omega (arith, least)) (omega arith) in
-    on_ok_weaker c.finish.result (λ last. finished_behind _ (first * 2 ^ 103) (2 ^ 125) count 0 count (count - first) first count _ _ _ _ _ _ _ _ _ loaded last (omega (arith, least, c.requires.few_commands)) (omega arith) (omega (arith, least)) (λ some. omega (arith, least, some))) c.finish.ensures.goes
+    let loaded = goes_both first ((count - first) * 2 ^ 103) (first + (count - first) * 2 ^ 103) first (count - first) count 0 (count - first)
+    (count - first) _ _ _ _ _ _ _ _ _ c.in-Ok.ensures.goes c.in-Ok-keep_full.ensures.goes (omega arith) (omega (arith, least)) (omega arith) in
+    on_ok_weaker c.finish.result
+    (λ last. finished_behind _ (first * 2 ^ 103) (2 ^ 125) count 0 count (count - first) first count _ _ _ _ _ _ _ _ _ loaded last
+    (omega (arith, least, c.requires.few_commands)) (omega arith) (omega (arith, least)) (λ some. omega (arith, least, some))) c.finish.ensures.goes
 
 pub returns-clause-fault : goal.returns-clause-fault
 returns-clause-fault g c =
-    on_err_weaker c.finish.result (λ last. breaks_later _ _ _ _ _ _ _ _ _ _ c.in-Ok.ensures.goes (breaks_later _ _ _ _ _ _ _ _ _ _ c.in-Ok-keep_full.ensures.goes last)) c.finish.ensures.fault
+    on_err_weaker c.finish.result
+    (λ last. breaks_later _ _ _ _ _ _ _ _ _ _ c.in-Ok.ensures.goes (breaks_later _ _ _ _ _ _ _ _ _ _ c.in-Ok-keep_full.ensures.goes last))
+    c.finish.ensures.fault

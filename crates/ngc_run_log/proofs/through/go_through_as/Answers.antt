@@ -26,11 +26,13 @@ go_through-requires-clause-begins g c = none_ticked c.args.form _ _ _ c.new-trac
 pub returns-in-Ok-go_through-clause-goes_through : goal.returns-in-Ok-go_through-clause-goes_through
 returns-in-Ok-go_through-clause-goes_through g c =
     through_written c.args.form c.new-trace.result _ _ _ _ _
-    (trace_is c.args.form c.args.accepted c.args.block_delete _ _ _ _ c.machine.ensures.accepted c.new-trace.ensures (ap (λ (m : MachineFile). m.ticks_per_second) c.machine.ensures.value) c.position.ensures c.in-Ok.ensures.made.1)
+    (trace_is c.args.form c.args.accepted c.args.block_delete _ _ _ _ c.machine.ensures.accepted c.new-trace.ensures
+    (ap (λ (m : MachineFile). m.ticks_per_second) c.machine.ensures.value) c.position.ensures c.in-Ok.ensures.made.1)
     c.in-Ok.ensures.made.0 c.in-Ok-go_through.ensures.traced
 
 pub returns-clause-goes_through : goal.returns-clause-goes_through
 returns-clause-goes_through g c =
     through_off c.args.form c.new-trace.result _ _ _ _
-    (trace_is c.args.form c.args.accepted c.args.block_delete _ _ _ _ c.machine.ensures.accepted c.new-trace.ensures (ap (λ (m : MachineFile). m.ticks_per_second) c.machine.ensures.value) c.position.ensures c.in-Ok.ensures.made.1)
+    (trace_is c.args.form c.args.accepted c.args.block_delete _ _ _ _ c.machine.ensures.accepted c.new-trace.ensures
+    (ap (λ (m : MachineFile). m.ticks_per_second) c.machine.ensures.value) c.position.ensures c.in-Ok.ensures.made.1)
     c.in-Ok.ensures.made.0 c.in-Err-go_through.ensures.broken

@@ -11,7 +11,8 @@ loop-command-init g c = record {
 }
 
 pub finish_head-requires-clause-few : goal.finish_head-requires-clause-few
-finish_head-requires-clause-few g c = few_behind _ _ _ (2 ^ 124) (2 ^ 125) _ _ _ _ _ _ c.loop-command.invariant.goes c.requires.few (omega (arith, c.requires.few_commands))
+finish_head-requires-clause-few g c =
+    few_behind _ _ _ (2 ^ 124) (2 ^ 125) _ _ _ _ _ _ c.loop-command.invariant.goes c.requires.few (omega (arith, c.requires.few_commands))
 
 pub finish_head-requires-clause-some : goal.finish_head-requires-clause-some
 finish_head-requires-clause-some g c = omega (arith, c.loop-command.invariant.goes.ring, c.requires.some)
@@ -28,12 +29,22 @@ pub load_next-requires-clause-left : goal.load_next-requires-clause-left
 load_next-requires-clause-left g c =
     let before = c.loop-command.invariant.goes in
     let head = c.in-Ok.ensures.goes.goes in
-    omega (arith, before.ring, before.done, head.ring, head.done, c.requires.left, ap (λ (j : Job). length j.commands) before.job, ap (λ (j : Job). length j.commands) head.job)
+    omega (
+      arith,
+      before.ring,
+      before.done,
+      head.ring,
+      head.done,
+      c.requires.left,
+      ap (λ (j : Job). length j.commands) before.job,
+      ap (λ (j : Job). length j.commands) head.job,
+    )
 
 pub loop-command-preserved : goal.loop-command-preserved
 loop-command-preserved g c =
     let i = c.loop-command._command in
-    let ended = goes_both _ (2 ^ 102) (i * 2 ^ 103 + 2 ^ 102) _ 0 i _ 1 (i + 1) _ _ _ _ _ _ _ _ _ c.loop-command.invariant.goes c.in-Ok.ensures.goes.goes (omega arith) (omega arith) (omega arith) in
+    let ended = goes_both _ (2 ^ 102) (i * 2 ^ 103 + 2 ^ 102) _ 0 i _ 1 (i + 1) _ _ _ _ _ _ _ _ _ c.loop-command.invariant.goes c.in-Ok.ensures.goes.goes
+    (omega arith) (omega arith) (omega arith) in
     record {
       goes = goes_both _ 1 _ _ 1 _ _ 0 _ _ _ _ _ _ _ _ _ _ ended c.in-Ok-load_next.ensures.goes (omega arith) (omega arith) (omega arith);
       running = c.in-Ok-load_next.ensures.runs;
@@ -44,4 +55,5 @@ pub returns-in-Err-clause-fault : goal.returns-in-Err-clause-fault
 returns-in-Err-clause-fault g c = breaks_later _ _ _ _ _ _ _ _ _ _ c.loop-command.invariant.goes c.in-Err.ensures.fault
 
 pub returns-in-Err-load_next-clause-fault : goal.returns-in-Err-load_next-clause-fault
-returns-in-Err-load_next-clause-fault g c = breaks_later _ _ _ _ _ _ _ _ _ _ c.loop-command.invariant.goes (breaks_later _ _ _ _ _ _ _ _ _ _ c.in-Ok.ensures.goes.goes c.in-Err-load_next.ensures.fault)
+returns-in-Err-load_next-clause-fault g c =
+    breaks_later _ _ _ _ _ _ _ _ _ _ c.loop-command.invariant.goes (breaks_later _ _ _ _ _ _ _ _ _ _ c.in-Ok.ensures.goes.goes c.in-Err-load_next.ensures.fault)

@@ -4,7 +4,8 @@ use Rattle.ngc_run_log.proofs.Untouched.{few_behind, goes_both}
 use Rattle.ngc_run_log.proofs.timing.finish_part.Goals as goal
 
 pub finish-requires-clause-few : goal.finish-requires-clause-few
-finish-requires-clause-few g c = few_behind _ _ _ (2 ^ 123) (2 ^ 124) _ _ _ _ _ _ c.in-Ok.ensures.goes c.requires.few (omega (arith, c.requires.few_commands, c.min-loads.ensures))
+finish-requires-clause-few g c =
+    few_behind _ _ _ (2 ^ 123) (2 ^ 124) _ _ _ _ _ _ c.in-Ok.ensures.goes c.requires.few (omega (arith, c.requires.few_commands, c.min-loads.ensures))
 
 pub returns-clause-goes : goal.returns-clause-goes
 returns-clause-goes g c =
@@ -14,7 +15,8 @@ returns-clause-goes g c =
     let first = c.in-Ok.ensures.goes in
     let last = c.in-Ok-finish.ensures.goes in
     record {
-      goes = goes_both (loads * 2 ^ 103) ((count - loads) * 2 ^ 103) (count * 2 ^ 103) loads 0 (min count c.args.unloaded) loads (count - loads) count _ _ _ _ _ _ _ _ _ first last.goes
+      goes = goes_both (loads * 2 ^ 103) ((count - loads) * 2 ^ 103) (count * 2 ^ 103) loads 0 (min count c.args.unloaded) loads
+          (count - loads) count _ _ _ _ _ _ _ _ _ first last.goes
           (omega (arith, least)) (omega (arith, least)) (omega (arith, least));
       told = λ some. told_behind _ _ _ first.outcomes last.goes.outcomes first.job (last.told (omega (arith, least, some)));
     }

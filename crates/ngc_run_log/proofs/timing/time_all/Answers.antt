@@ -10,14 +10,18 @@ pub time_parts-requires-clause-few : goal.time_parts-requires-clause-few
 time_parts-requires-clause-few g c =
     let controller = c.args.controller.now in
     let new : AreNew Untold controller.job controller.state c.new-recorder.result =
-    new_recorder Untold controller.job controller.state c.new-recorder.result _ c.requires.opens c.position.ensures c.new-recorder.ensures.report c.new-recorder.ensures.trace refl c.new-recorder.ensures.chunk in
-    few_behind _ _ _ 0 16 _ _ _ _ _ _ c.load_first.ensures.goes (none_counted Untold controller.job controller.state c.new-recorder.result 0 new) (omega (arith, c.min-first.ensures))
+    new_recorder Untold controller.job controller.state c.new-recorder.result _ c.requires.opens c.position.ensures c.new-recorder.ensures.report
+    c.new-recorder.ensures.trace refl c.new-recorder.ensures.chunk in
+    few_behind _ _ _ 0 16 _ _ _ _ _ _ c.load_first.ensures.goes (none_counted Untold controller.job controller.state c.new-recorder.result 0 new)
+    (omega (arith, c.min-first.ensures))
 
 pub returns-in-Ok-clause-times : goal.returns-in-Ok-clause-times
 returns-in-Ok-clause-times g c =
     let controller = c.args.controller.now in
     let new : AreNew Untold controller.job controller.state c.new-recorder.result =
-    new_recorder Untold controller.job controller.state c.new-recorder.result _ c.requires.opens c.position.ensures c.new-recorder.ensures.report c.new-recorder.ensures.trace refl c.new-recorder.ensures.chunk in
+    new_recorder Untold controller.job controller.state c.new-recorder.result _ c.requires.opens c.position.ensures c.new-recorder.ensures.report
+    c.new-recorder.ensures.trace refl c.new-recorder.ensures.chunk in
     let P : ℕ → Type 0 = λ n. IsTimedThrough controller.job n c.in-Ok.parts.items in
     subst P (sym c.ticks.ensures)
-    (timed_through Untold _ _ _ _ _ _ _ _ _ _ new c.requires.safe c.requires.in_time c.requires.has_end c.load_first.ensures.goes c.load_first.ensures.still refl c.in-Ok.ensures.parts)
+    (timed_through Untold _ _ _ _ _ _ _ _ _ _ new c.requires.safe c.requires.in_time c.requires.has_end c.load_first.ensures.goes c.load_first.ensures.still
+    refl c.in-Ok.ensures.parts)

@@ -29,7 +29,8 @@ finish_part-requires-clause-few_commands g c =
     let inv = c.loop-done.invariant in
     let counted = inv.count in
     let test = c.loop-done-test.true in
-    let within = (is_next _ _ _ _ _ _ _ _ _ _ _ inv.goes c.requires.none_done inv.rest c.commands.ensures c.part_length-length.ensures (omega (arith, test, counted))).within in
+    let within = (is_next _ _ _ _ _ _ _ _ _ _ _ inv.goes c.requires.none_done inv.rest c.commands.ensures c.part_length-length.ensures
+    (omega (arith, test, counted))).within in
     omega (arith, within, c.requires.few_commands)
 
 pub finish_part-requires-clause-few : goal.finish_part-requires-clause-few
@@ -44,7 +45,8 @@ loop-done-smaller g c =
     let inv = c.loop-done.invariant in
     let counted = inv.count in
     let test = c.loop-done-test.true in
-    let some = (is_next _ _ _ _ _ _ _ _ _ _ _ inv.goes c.requires.none_done inv.rest c.commands.ensures c.part_length-length.ensures (omega (arith, test, counted))).some in
+    let some = (is_next _ _ _ _ _ _ _ _ _ _ _ inv.goes c.requires.none_done inv.rest c.commands.ensures c.part_length-length.ensures
+    (omega (arith, test, counted))).some in
     omega (arith, test, some)
 
 pub loop-done-preserved : goal.loop-done-preserved
@@ -52,7 +54,8 @@ loop-done-preserved g c =
     let inv = c.loop-done.invariant in
     let counted = inv.count in
     let test = c.loop-done-test.true in
-    let next = is_next _ _ _ _ _ _ _ _ _ _ _ inv.goes c.requires.none_done inv.rest c.commands.ensures c.part_length-length.ensures (omega (arith, test, counted)) in
+    let next = is_next _ _ _ _ _ _ _ _ _ _ _ inv.goes c.requires.none_done inv.rest c.commands.ensures c.part_length-length.ensures
+    (omega (arith, test, counted)) in
     let k = c.part_length-length.result in
     let done = c.loop-done.done in
     let left = c.loop-done.left in
@@ -67,9 +70,11 @@ loop-done-preserved g c =
     let part = c.finish_part.ensures.goes in
     let moved = part.goes.done in
     let ring = part.goes.ring in
-    let same : length c.finish_part.new.controller.job.commands ≡ length c.loop-done.controller.job.commands = ap (λ (j : Job). length j.commands) part.goes.job in
+    let same : length c.finish_part.new.controller.job.commands ≡ length c.loop-done.controller.job.commands =
+    ap (λ (j : Job). length j.commands) part.goes.job in
     let P : List ℕ → Type 0 =
-    λ l. GoesParted ((done + k) * 2 ^ 103) (c.args.unloaded - c.saturating_sub-left.result) (done + k) c.args.controller.now c.finish_part.new.controller c.args.recorder.now c.finish_part.new.recorder l in
+    λ l. GoesParted ((done + k) * 2 ^ 103) (c.args.unloaded - c.saturating_sub-left.result)
+    (done + k) c.args.controller.now c.finish_part.new.controller c.args.recorder.now c.finish_part.new.recorder l in
     let before = c.ticks-before.ensures in
     let now = c.ticks.ensures in
     record {
@@ -95,5 +100,7 @@ returns-clause-parts g c =
     let fewer = inv.fewer in
     let moved = inv.goes.goes.done in
     let test = c.loop-done-test.false in
-    let lengths : length c.loop-done.controller.job.commands ≡ length c.args.controller.now.job.commands = ap (λ (j : Job). length j.commands) inv.goes.goes.job in
-    parted_as _ _ _ (2 ^ 123) _ _ _ _ _ _ _ inv.goes (omega (arith, within, counted, c.requires.few_commands)) (omega (arith, counted, within, rest, fewer, moved, test, lengths, c.requires.none_done)) (omega (arith, counted, within, test))
+    let lengths : length c.loop-done.controller.job.commands ≡ length c.args.controller.now.job.commands =
+    ap (λ (j : Job). length j.commands) inv.goes.goes.job in
+    parted_as _ _ _ (2 ^ 123) _ _ _ _ _ _ _ inv.goes (omega (arith, within, counted, c.requires.few_commands))
+    (omega (arith, counted, within, rest, fewer, moved, test, lengths, c.requires.none_done)) (omega (arith, counted, within, test))

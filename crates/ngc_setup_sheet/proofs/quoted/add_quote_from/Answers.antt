@@ -7,7 +7,8 @@ returns-in-Found c =
     let more : 0 < length c.loop-left.left.now = filled c.loop-left.left.now (sym c.is_empty.ensures ∙ c.loop-left-test.true) in
     quoted_at _ _ _ _ _ c.loop-left.invariant.chunk c.add_line.ensures.text
     (c.loop-left.invariant.same
-    ∙ quote_from-next c.args.header.now c.args.key.now c.loop-left.ahead c.loop-left.number c.loop-left.left.now c.split_line.result.0.now c.split_line.result.1.now _
+    ∙ quote_from-next c.args.header.now c.args.key.now c.loop-left.ahead c.loop-left.number c.loop-left.left.now c.split_line.result.0.now
+    c.split_line.result.1.now _
     more c.split_line.ensures.line c.split_line.ensures.behind c.in-Found.ensures)
 
 pub returns-in-Ended : goal.returns-in-Ended
@@ -15,7 +16,8 @@ returns-in-Ended c =
     let more : 0 < length c.loop-left.left.now = filled c.loop-left.left.now (sym c.is_empty.ensures ∙ c.loop-left-test.true) in
     unquoted _ _ _ c.loop-left.invariant.chunk
     (c.loop-left.invariant.same
-    ∙ quote_from-next c.args.header.now c.args.key.now c.loop-left.ahead c.loop-left.number c.loop-left.left.now c.split_line.result.0.now c.split_line.result.1.now _
+    ∙ quote_from-next c.args.header.now c.args.key.now c.loop-left.ahead c.loop-left.number c.loop-left.left.now c.split_line.result.0.now
+    c.split_line.result.1.now _
     more c.split_line.ensures.line c.split_line.ensures.behind c.in-Ended.ensures)
 
 pub loop-left-smaller : goal.loop-left-smaller
@@ -32,7 +34,8 @@ loop-left-preserved c =
       chunk = c.loop-left.invariant.chunk;
       same =
           c.loop-left.invariant.same
-          ∙ quote_from-next c.args.header.now c.args.key.now c.loop-left.ahead c.loop-left.number c.loop-left.left.now c.split_line.result.0.now c.split_line.result.1.now _
+          ∙ quote_from-next c.args.header.now c.args.key.now c.loop-left.ahead c.loop-left.number c.loop-left.left.now c.split_line.result.0.now
+          c.split_line.result.1.now _
           more c.split_line.ensures.line c.split_line.ensures.behind c.in-Ahead.ensures;
       number = omega (arith, behind_line-less c.loop-left.left.now more);
     }

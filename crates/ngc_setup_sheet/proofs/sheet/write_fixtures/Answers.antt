@@ -25,8 +25,10 @@ loop-i-preserved g c =
     let f = c.fixture-item.result in
     record {
       ahead =
-          went (g.W.Sink.written c.args.sink.now) (g.W.Sink.written c.loop-i.sink) (g.W.Sink.written c.write_lines.new.sink) c.args.chunk.now c.loop-i.chunk c.write_lines.new.chunk
-          (fixture_lines m r i f) (fixtures_from m r (i + 1) (drop (i + 1) m.fixtures)) (fixtures_from m r i (drop i m.fixtures)) (fixtures_from m r 0 m.fixtures)
+          went (g.W.Sink.written c.args.sink.now) (g.W.Sink.written c.loop-i.sink)
+          (g.W.Sink.written c.write_lines.new.sink) c.args.chunk.now c.loop-i.chunk c.write_lines.new.chunk
+          (fixture_lines m r i f) (fixtures_from m r (i + 1) (drop (i + 1) m.fixtures)) (fixtures_from m r i (drop i m.fixtures))
+          (fixtures_from m r 0 m.fixtures)
           (next_fixture m r m.fixtures i f (rw c.as_slice-fixture-items.ensures.value at c.loop-i-test.true)
           (rw c.as_slice-fixture-items.ensures.value at c.fixture-item.is)) c.loop-i.invariant.ahead
           (rw (c.as_slice.ensures.value, c.fixture_lines-lines.ensures) at c.in-Ok.ensures.written);

@@ -11,7 +11,8 @@ returns-in-Err-clause-written g c =
     let t = c.tool-item.result in
     stopped (g.W.Sink.written c.args.sink.now) (g.W.Sink.written c.loop-tool.sink) (g.W.Sink.written c.write_lines.new.sink) c.args.chunk.now c.loop-tool.chunk
     (tool_lines t) (flat_map tool_lines (drop (i + 1) ts)) (flat_map tool_lines (drop i ts)) (flat_map tool_lines ts)
-    (next_tool ts i t c.loop-tool-test.true c.tool-item.is) c.loop-tool.invariant.ahead (rw (c.as_slice.ensures.value, c.tool_lines-lines.ensures) at c.in-Err.ensures.written)
+    (next_tool ts i t c.loop-tool-test.true c.tool-item.is) c.loop-tool.invariant.ahead
+    (rw (c.as_slice.ensures.value, c.tool_lines-lines.ensures) at c.in-Err.ensures.written)
 
 pub loop-tool-preserved : goal.loop-tool-preserved
 loop-tool-preserved g c =
@@ -20,8 +21,10 @@ loop-tool-preserved g c =
     let t = c.tool-item.result in
     record {
       ahead =
-          went (g.W.Sink.written c.args.sink.now) (g.W.Sink.written c.loop-tool.sink) (g.W.Sink.written c.write_lines.new.sink) c.args.chunk.now c.loop-tool.chunk c.write_lines.new.chunk
+          went (g.W.Sink.written c.args.sink.now) (g.W.Sink.written c.loop-tool.sink)
+          (g.W.Sink.written c.write_lines.new.sink) c.args.chunk.now c.loop-tool.chunk c.write_lines.new.chunk
           (tool_lines t) (flat_map tool_lines (drop (i + 1) ts)) (flat_map tool_lines (drop i ts)) (flat_map tool_lines ts)
-          (next_tool ts i t c.loop-tool-test.true c.tool-item.is) c.loop-tool.invariant.ahead (rw (c.as_slice.ensures.value, c.tool_lines-lines.ensures) at c.in-Ok.ensures.written);
+          (next_tool ts i t c.loop-tool-test.true c.tool-item.is) c.loop-tool.invariant.ahead
+          (rw (c.as_slice.ensures.value, c.tool_lines-lines.ensures) at c.in-Ok.ensures.written);
       failures = search rules;
     }

@@ -24,7 +24,8 @@ returns-in-Err-warn_of_fixtures-clause-written g c =
     let m = file_of c.args.machine.now in
     let ts = c.args.tools.now in
     let fixtures : List Line = fixtures_from m (reach_of ts) 0 m.fixtures in
-    second_stopped c.args.style (g.W.Sink.written c.args.sink.now) (g.W.Sink.written c.write_warning_lines.new.sink) (g.W.Sink.written c.warn_of_fixtures.new.sink)
+    second_stopped c.args.style (g.W.Sink.written c.args.sink.now) (g.W.Sink.written c.write_warning_lines.new.sink)
+    (g.W.Sink.written c.warn_of_fixtures.new.sink)
     c.args.chunk.now c.write_warning_lines.new.chunk (machine_lines m) fixtures (flat_map tool_lines ts)
     (rw (c.as_slice.ensures.value, c.machine_lines-lines.ensures) at c.in-Ok.ensures.written)
     (subst (λ (r : Reach). AppendsBeginning (g.W.Sink.written c.write_warning_lines.new.sink) (g.W.Sink.written c.warn_of_fixtures.new.sink)
@@ -36,7 +37,8 @@ returns-clause-written g c =
     let m = file_of c.args.machine.now in
     let ts = c.args.tools.now in
     let fixtures : List Line = fixtures_from m (reach_of ts) 0 m.fixtures in
-    all_three c.args.style c.warn_of_tools.result (g.W.Sink.written c.args.sink.now) (g.W.Sink.written c.write_warning_lines.new.sink) (g.W.Sink.written c.warn_of_fixtures.new.sink)
+    all_three c.args.style c.warn_of_tools.result (g.W.Sink.written c.args.sink.now) (g.W.Sink.written c.write_warning_lines.new.sink)
+    (g.W.Sink.written c.warn_of_fixtures.new.sink)
     (g.W.Sink.written c.warn_of_tools.new.sink)
     c.args.chunk.now c.write_warning_lines.new.chunk c.warn_of_fixtures.new.chunk c.warn_of_tools.new.chunk (machine_lines m) fixtures (flat_map tool_lines ts)
     (rw (c.as_slice.ensures.value, c.machine_lines-lines.ensures) at c.in-Ok.ensures.written)

@@ -20,7 +20,8 @@ returns-in-Err-clause-written g c =
     let r = c.args.reach.now in
     let i = c.loop-i.i in
     let f = c.fixture-item.result in
-    stopped (g.W.Sink.written c.args.sink.now) (g.W.Sink.written c.loop-i.sink) (g.W.Sink.written c.write_warning_lines.new.sink) c.args.chunk.now c.loop-i.chunk
+    stopped (g.W.Sink.written c.args.sink.now) (g.W.Sink.written c.loop-i.sink)
+    (g.W.Sink.written c.write_warning_lines.new.sink) c.args.chunk.now c.loop-i.chunk
     (chosen c.args.style (fixture_lines m r i f)) (chosen c.args.style (fixtures_from m r (i + 1) (drop (i + 1) m.fixtures)))
     (chosen c.args.style (fixtures_from m r i (drop i m.fixtures))) (chosen c.args.style (fixtures_from m r 0 m.fixtures))
     (next_fixture_warned c.args.style m r m.fixtures i f (rw c.as_slice-fixture-items.ensures.value at c.loop-i-test.true)

@@ -10,7 +10,8 @@ returns-in-Err-clause-written g c =
     let ts = c.args.tools.now in
     let i = c.loop-tool.tool-index in
     let t = c.tool-item.result in
-    stopped (g.W.Sink.written c.args.sink.now) (g.W.Sink.written c.loop-tool.sink) (g.W.Sink.written c.write_warning_lines.new.sink) c.args.chunk.now c.loop-tool.chunk
+    stopped (g.W.Sink.written c.args.sink.now) (g.W.Sink.written c.loop-tool.sink)
+    (g.W.Sink.written c.write_warning_lines.new.sink) c.args.chunk.now c.loop-tool.chunk
     (chosen c.args.style (tool_lines t)) (chosen c.args.style (flat_map tool_lines (drop (i + 1) ts)))
     (chosen c.args.style (flat_map tool_lines (drop i ts))) (chosen c.args.style (flat_map tool_lines ts))
     (next_tool_warned c.args.style ts i t c.loop-tool-test.true c.tool-item.is) c.loop-tool.invariant.ahead

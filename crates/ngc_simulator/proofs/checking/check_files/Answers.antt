@@ -13,59 +13,110 @@ use Rattle.ngc_simulator.proofs.checking.check_files.Goals as goal
 
 pub returns-in_err-shop-clause-comes : goal.returns-in_err-shop-clause-comes
 returns-in_err-shop-clause-comes g c =
-    turned _ c.in_err-shop.field-0.0 (CheckComes (g.F.Files.bytes c.args.files.now) c.args.options.now (g.W.Sink.written c.args.output.now) (g.W.Sink.written c.args.output.now)) c.from_residual.ensures.1 (inl (c.in_err-shop.ensures.said, keeps_same _))
+    turned _ c.in_err-shop.field-0.0
+    (CheckComes (g.F.Files.bytes c.args.files.now) c.args.options.now (g.W.Sink.written c.args.output.now) (g.W.Sink.written c.args.output.now))
+    c.from_residual.ensures.1 (inl (c.in_err-shop.ensures.said, keeps_same _))
 
 pub returns-in_err-program-clause-comes : goal.returns-in_err-program-clause-comes
 returns-in_err-program-clause-comes g c =
-    turned _ (answers.Read c.in_err-program.field-0.0) (CheckComes (g.F.Files.bytes c.args.files.now) c.args.options.now (g.W.Sink.written c.args.output.now) (g.W.Sink.written c.args.output.now)) c.from_residual-in_err-program.ensures.1
+    turned _ (answers.Read c.in_err-program.field-0.0)
+    (CheckComes (g.F.Files.bytes c.args.files.now) c.args.options.now (g.W.Sink.written c.args.output.now) (g.W.Sink.written c.args.output.now))
+    c.from_residual-in_err-program.ensures.1
     (inr (
       tt,
-      unread_files (g.F.Files.bytes c.args.files.now) (g.F.Files.bytes c.read_shop.new.files) c.args.options.now c.in_ok-shop.shop _ (g.W.Sink.written c.args.output.now) c.in_err-program.field-0.0
+      unread_files (g.F.Files.bytes c.args.files.now) (g.F.Files.bytes c.read_shop.new.files) c.args.options.now c.in_ok-shop.shop _
+          (g.W.Sink.written c.args.output.now) c.in_err-program.field-0.0
           c.in_ok-shop.ensures.said c.read_shop.ensures.keeps refl c.in_err-program.ensures.text,
     ))
 
 pub returns-in_err-certificate-clause-comes : goal.returns-in_err-certificate-clause-comes
 returns-in_err-certificate-clause-comes g c =
-    turned _ (answers.Input c.in_err-certificate.field-0.0) (CheckComes (g.F.Files.bytes c.args.files.now) c.args.options.now (g.W.Sink.written c.args.output.now) (g.W.Sink.written c.args.output.now)) c.from_residual-in_err-certificate.ensures.1 (inl (tt, keeps_same _))
+    turned _ (answers.Input c.in_err-certificate.field-0.0)
+    (CheckComes (g.F.Files.bytes c.args.files.now) c.args.options.now (g.W.Sink.written c.args.output.now) (g.W.Sink.written c.args.output.now))
+    c.from_residual-in_err-certificate.ensures.1 (inl (tt, keeps_same _))
 
 pub returns-clause-comes : goal.returns-clause-comes
 returns-clause-comes g c =
-    checked_files (g.F.Files.bytes c.args.files.now) (g.F.Files.bytes c.read_shop.new.files) (g.F.Files.bytes c.read_program.new.files) c.args.options.now c.in_ok-shop.shop _ _ (g.W.Sink.written c.args.output.now) (g.W.Sink.written c.check_program.new.output) (Ok tt)
+    checked_files (g.F.Files.bytes c.args.files.now) (g.F.Files.bytes c.read_shop.new.files)
+    (g.F.Files.bytes c.read_program.new.files) c.args.options.now c.in_ok-shop.shop _ _ (g.W.Sink.written c.args.output.now)
+    (g.W.Sink.written c.check_program.new.output) (Ok tt)
     c.in_ok-shop.ensures.said c.read_shop.ensures.keeps c.read_program.ensures.named refl c.in_ok-certificate.ensures.bytes
     (if_known _ _ _ (λ bytes is_text. c.in_ok-check_program.ensures.checks bytes is_text c.in_ok-program.ensures.readings) c.in_ok-program.ensures.text)
 
 pub returns-in_err-check_program-clause-comes : goal.returns-in_err-check_program-clause-comes
 returns-in_err-check_program-clause-comes g c =
     let fault = c.in_err-check_program.field-0.0 in
-    turned _ fault (CheckComes (g.F.Files.bytes c.args.files.now) c.args.options.now (g.W.Sink.written c.args.output.now) (g.W.Sink.written c.check_program.new.output)) c.from_residual-in_err-check_program.ensures.1
+    turned _ fault (CheckComes (g.F.Files.bytes c.args.files.now) c.args.options.now (g.W.Sink.written c.args.output.now)
+    (g.W.Sink.written c.check_program.new.output)) c.from_residual-in_err-check_program.ensures.1
     (inr (
       or_of_reading OfChecking fault c.in_err-check_program.ensures.faults,
-      checked_files (g.F.Files.bytes c.args.files.now) (g.F.Files.bytes c.read_shop.new.files) (g.F.Files.bytes c.read_program.new.files) c.args.options.now c.in_ok-shop.shop _ _ (g.W.Sink.written c.args.output.now) (g.W.Sink.written c.check_program.new.output) (Err fault)
+      checked_files (g.F.Files.bytes c.args.files.now) (g.F.Files.bytes c.read_shop.new.files)
+          (g.F.Files.bytes c.read_program.new.files) c.args.options.now c.in_ok-shop.shop _ _ (g.W.Sink.written c.args.output.now)
+          (g.W.Sink.written c.check_program.new.output) (Err fault)
           c.in_ok-shop.ensures.said c.read_shop.ensures.keeps c.read_program.ensures.named refl c.in_ok-certificate.ensures.bytes
           (if_known _ _ _ (λ bytes is_text. c.in_err-check_program.ensures.checks bytes is_text c.in_ok-program.ensures.readings) c.in_ok-program.ensures.text),
     ))
 
 pub returns-in_err-shop-clause-unread : goal.returns-in_err-shop-clause-unread
 returns-in_err-shop-clause-unread g c =
-    unread_told (SourceFails g.F.R.Source.remaining g.F.R.Source.failures) (g.F.Files.bytes c.args.files.now) (check_inputs c.args.options.now) _ _ _ c.in_err-shop.field-0.0 c.from_residual.ensures.1
-    (told_before (SourceFails g.F.R.Source.remaining g.F.R.Source.failures) (g.F.Files.bytes c.args.files.now) (shop_inputs (Some c.args.options.now.machine.now) (Some c.args.options.now.tools.now)) (program_input (option_map (λ n. n.now) c.args.options.now.program) ∷ certificate_input c.args.options.now.certificate.now ∷ []) _ _ (unread_by c.in_err-shop.field-0.0) c.in_err-shop.ensures.unread)
+    unread_told (SourceFails g.F.R.Source.remaining g.F.R.Source.failures) (g.F.Files.bytes c.args.files.now)
+    (check_inputs c.args.options.now) _ _ _ c.in_err-shop.field-0.0 c.from_residual.ensures.1
+    (told_before (SourceFails g.F.R.Source.remaining g.F.R.Source.failures) (g.F.Files.bytes c.args.files.now)
+    (shop_inputs (Some c.args.options.now.machine.now) (Some c.args.options.now.tools.now))
+    (program_input (option_map (λ n. n.now) c.args.options.now.program) ∷ certificate_input c.args.options.now.certificate.now ∷ []) _ _
+    (unread_by c.in_err-shop.field-0.0) c.in_err-shop.ensures.unread)
 
 pub returns-in_err-program-clause-unread : goal.returns-in_err-program-clause-unread
 returns-in_err-program-clause-unread g c =
-    unread_told (SourceFails g.F.R.Source.remaining g.F.R.Source.failures) (g.F.Files.bytes c.args.files.now) (check_inputs c.args.options.now) _ _ _ (answers.Read c.in_err-program.field-0.0) c.from_residual-in_err-program.ensures.1
-    (told_behind (SourceFails g.F.R.Source.remaining g.F.R.Source.failures) (g.F.Files.bytes c.args.files.now) (g.F.Files.bytes c.read_shop.new.files) (shop_inputs (Some c.args.options.now.machine.now) (Some c.args.options.now.tools.now)) OfProgram (option_map (λ n. n.now) c.args.options.now.program) (certificate_input c.args.options.now.certificate.now ∷ []) _ _ _ (program_unread c.in_err-program.field-0.0)
-    (shop_read (g.F.Files.bytes c.args.files.now) (Some c.args.options.now.machine.now) (Some c.args.options.now.tools.now) c.in_ok-shop.shop c.in_ok-shop.ensures.said) (c.read_shop.ensures.keeps (option_map (λ n. n.now) c.args.options.now.program)) c.in_ok-shop.ensures.unread c.in_err-program.ensures.unread)
+    unread_told (SourceFails g.F.R.Source.remaining g.F.R.Source.failures) (g.F.Files.bytes c.args.files.now) (check_inputs c.args.options.now) _ _ _
+    (answers.Read c.in_err-program.field-0.0) c.from_residual-in_err-program.ensures.1
+    (told_behind (SourceFails g.F.R.Source.remaining g.F.R.Source.failures) (g.F.Files.bytes c.args.files.now) (g.F.Files.bytes c.read_shop.new.files)
+    (shop_inputs (Some c.args.options.now.machine.now) (Some c.args.options.now.tools.now)) OfProgram (option_map (λ n. n.now) c.args.options.now.program)
+    (certificate_input c.args.options.now.certificate.now ∷ []) _ _ _ (program_unread c.in_err-program.field-0.0)
+    (shop_read (g.F.Files.bytes c.args.files.now) (Some c.args.options.now.machine.now)
+    (Some c.args.options.now.tools.now) c.in_ok-shop.shop c.in_ok-shop.ensures.said)
+    (c.read_shop.ensures.keeps (option_map (λ n. n.now) c.args.options.now.program)) c.in_ok-shop.ensures.unread c.in_err-program.ensures.unread)
 
 pub returns-in_err-certificate-clause-unread : goal.returns-in_err-certificate-clause-unread
 returns-in_err-certificate-clause-unread g c =
-    unread_told (SourceFails g.F.R.Source.remaining g.F.R.Source.failures) (g.F.Files.bytes c.args.files.now) (check_inputs c.args.options.now) _ _ _ (answers.Input c.in_err-certificate.field-0.0) c.from_residual-in_err-certificate.ensures.1
-    (unopened (SourceFails g.F.R.Source.remaining g.F.R.Source.failures) (g.F.Files.bytes c.args.files.now) (shop_inputs (Some c.args.options.now.machine.now) (Some c.args.options.now.tools.now) ++ program_input (option_map (λ n. n.now) c.args.options.now.program) ∷ []) OfCertificate (Some c.args.options.now.certificate.now) [] _ _ _ c.in_err-certificate.field-0.0 c.in_err-certificate.ensures.fault
-    (all_read (g.F.Files.bytes c.args.files.now) (shop_inputs (Some c.args.options.now.machine.now) (Some c.args.options.now.tools.now)) (program_input (option_map (λ n. n.now) c.args.options.now.program) ∷ []) (shop_read (g.F.Files.bytes c.args.files.now) (Some c.args.options.now.machine.now) (Some c.args.options.now.tools.now) c.in_ok-shop.shop c.in_ok-shop.ensures.said) (is_read program_of _ (g.F.Files.bytes c.args.files.now (option_map (λ n. n.now) c.args.options.now.program)) (g.F.Files.bytes c.read_shop.new.files (option_map (λ n. n.now) c.args.options.now.program)) (c.read_shop.ensures.keeps (option_map (λ n. n.now) c.args.options.now.program)) c.in_ok-program.ensures.text, tt)) (c.in_ok-program.ensures.unread ∙ c.in_ok-shop.ensures.unread) c.in_err-certificate.ensures.counts)
+    unread_told (SourceFails g.F.R.Source.remaining g.F.R.Source.failures) (g.F.Files.bytes c.args.files.now) (check_inputs c.args.options.now) _ _ _
+    (answers.Input c.in_err-certificate.field-0.0) c.from_residual-in_err-certificate.ensures.1
+    (unopened (SourceFails g.F.R.Source.remaining g.F.R.Source.failures) (g.F.Files.bytes c.args.files.now)
+    (shop_inputs (Some c.args.options.now.machine.now) (Some c.args.options.now.tools.now)
+    ++ program_input (option_map (λ n. n.now) c.args.options.now.program)
+    ∷ []) OfCertificate (Some c.args.options.now.certificate.now) [] _ _ _ c.in_err-certificate.field-0.0 c.in_err-certificate.ensures.fault
+    (all_read (g.F.Files.bytes c.args.files.now) (shop_inputs (Some c.args.options.now.machine.now) (Some c.args.options.now.tools.now))
+    (program_input (option_map (λ n. n.now) c.args.options.now.program) ∷ [])
+    (shop_read (g.F.Files.bytes c.args.files.now) (Some c.args.options.now.machine.now)
+    (Some c.args.options.now.tools.now) c.in_ok-shop.shop c.in_ok-shop.ensures.said) (
+      is_read program_of _ (g.F.Files.bytes c.args.files.now (option_map (λ n. n.now) c.args.options.now.program))
+          (g.F.Files.bytes c.read_shop.new.files (option_map (λ n. n.now) c.args.options.now.program))
+          (c.read_shop.ensures.keeps (option_map (λ n. n.now) c.args.options.now.program)) c.in_ok-program.ensures.text,
+      tt,
+    )) (c.in_ok-program.ensures.unread ∙ c.in_ok-shop.ensures.unread) c.in_err-certificate.ensures.counts)
 
 pub returns-in_err-check_program-clause-unread : goal.returns-in_err-check_program-clause-unread
 returns-in_err-check_program-clause-unread g c =
-    unread_told (SourceFails g.F.R.Source.remaining g.F.R.Source.failures) (g.F.Files.bytes c.args.files.now) (check_inputs c.args.options.now) _ _ _ c.in_err-check_program.field-0.0 c.from_residual-in_err-check_program.ensures.1
-    (check_told (SourceFails g.F.R.Source.remaining g.F.R.Source.failures) (g.F.Files.bytes c.args.files.now) (shop_inputs (Some c.args.options.now.machine.now) (Some c.args.options.now.tools.now) ++ program_input (option_map (λ n. n.now) c.args.options.now.program) ∷ []) (Some c.args.options.now.certificate.now) _ _ c.in_err-check_program.field-0.0 c.in_err-check_program.ensures.faults
-    (all_read (g.F.Files.bytes c.args.files.now) (shop_inputs (Some c.args.options.now.machine.now) (Some c.args.options.now.tools.now)) (program_input (option_map (λ n. n.now) c.args.options.now.program) ∷ []) (shop_read (g.F.Files.bytes c.args.files.now) (Some c.args.options.now.machine.now) (Some c.args.options.now.tools.now) c.in_ok-shop.shop c.in_ok-shop.ensures.said) (is_read program_of _ (g.F.Files.bytes c.args.files.now (option_map (λ n. n.now) c.args.options.now.program)) (g.F.Files.bytes c.read_shop.new.files (option_map (λ n. n.now) c.args.options.now.program)) (c.read_shop.ensures.keeps (option_map (λ n. n.now) c.args.options.now.program)) c.in_ok-program.ensures.text, tt))
+    unread_told (SourceFails g.F.R.Source.remaining g.F.R.Source.failures) (g.F.Files.bytes c.args.files.now)
+    (check_inputs c.args.options.now) _ _ _ c.in_err-check_program.field-0.0 c.from_residual-in_err-check_program.ensures.1
+    (check_told (SourceFails g.F.R.Source.remaining g.F.R.Source.failures) (g.F.Files.bytes c.args.files.now)
+    (shop_inputs (Some c.args.options.now.machine.now) (Some c.args.options.now.tools.now)
+    ++ program_input (option_map (λ n. n.now) c.args.options.now.program)
+    ∷ []) (Some c.args.options.now.certificate.now) _ _ c.in_err-check_program.field-0.0 c.in_err-check_program.ensures.faults
+    (all_read (g.F.Files.bytes c.args.files.now) (shop_inputs (Some c.args.options.now.machine.now) (Some c.args.options.now.tools.now))
+    (program_input (option_map (λ n. n.now) c.args.options.now.program) ∷ [])
+    (shop_read (g.F.Files.bytes c.args.files.now) (Some c.args.options.now.machine.now)
+    (Some c.args.options.now.tools.now) c.in_ok-shop.shop c.in_ok-shop.ensures.said) (
+      is_read program_of _ (g.F.Files.bytes c.args.files.now (option_map (λ n. n.now) c.args.options.now.program))
+          (g.F.Files.bytes c.read_shop.new.files (option_map (λ n. n.now) c.args.options.now.program))
+          (c.read_shop.ensures.keeps (option_map (λ n. n.now) c.args.options.now.program)) c.in_ok-program.ensures.text,
+      tt,
+    ))
     (c.in_ok-certificate.ensures.counts ∙ c.in_ok-program.ensures.unread ∙ c.in_ok-shop.ensures.unread)
-    (λ is. record { opened = c.in_ok-certificate.certificate; left = c.check_program.new.certificate; gave = c.in_ok-certificate.ensures.bytes ∙ c.read_program.ensures.named c.args.options.now.certificate.now ∙ c.read_shop.ensures.keeps (Some c.args.options.now.certificate.now); fails = c.in_err-check_program.ensures.source (ap Err is) }))
+    (λ is. record {
+      opened = c.in_ok-certificate.certificate;
+      left = c.check_program.new.certificate;
+      gave = c.in_ok-certificate.ensures.bytes ∙ c.read_program.ensures.named c.args.options.now.certificate.now
+          ∙ c.read_shop.ensures.keeps (Some c.args.options.now.certificate.now);
+      fails = c.in_err-check_program.ensures.source (ap Err is);
+    }))

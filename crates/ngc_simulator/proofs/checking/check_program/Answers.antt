@@ -17,7 +17,9 @@ pub returns-in_err-write_all-clause-checks : goal.returns-in_err-write_all-claus
 returns-in_err-write_all-clause-checks g c bytes is_text have =
     let setup = setup_of c.args.machine.now c.args.tools.now in
     let fault = c.in_err-write_all.field-0.0 in
-    turned _ (answers.Write fault) (λ r. IfSome (g.S.Source.remaining c.args.certificate.now) (λ text. Checks setup bytes text (g.W.Sink.written c.args.output.now) (g.W.Sink.written c.write_all.new.sink) r)) c.from_residual.ensures.1
+    turned _ (answers.Write fault)
+    (λ r. IfSome (g.S.Source.remaining c.args.certificate.now)
+    (λ text. Checks setup bytes text (g.W.Sink.written c.args.output.now) (g.W.Sink.written c.write_all.new.sink) r)) c.from_residual.ensures.1
     (if_known _ _ _ (λ text says. accepting_stopped setup bytes text _ _ fault
     (accepted_text_of setup bytes text (text_in c.args.program.now) c.in-Ok.field-0 is_text have says) c.in_err-write_all.ensures.fault)
     (c.in-Ok.ensures.said have.readings have.are))

@@ -12,28 +12,55 @@ use Rattle.ngc_simulator.proofs.drawing.draw_certified.Goals as goal
 
 pub returns-in_err-commands-clause-draws : goal.returns-in_err-commands-clause-draws
 returns-in_err-commands-clause-draws g c = λ bytes text is_text have said.
-    turned _ (answers.Program c.in_err-commands.field-0.0) (DrawsGiven (setup_of c.args.machine.now c.args.tools.now) bytes text c.args.block_delete c.args.view (g.W.Sink.written c.args.output.now) (g.W.Sink.written c.args.output.now)) c.from_residual.ensures.1
-    (said_of c.args.certificate.now, said, (refused_program (setup_of c.args.machine.now c.args.tools.now) bytes c.args.block_delete (text_in c.args.program.now) c.in_err-commands.field-0.0 is_text have c.in_err-commands.ensures.commands, keeps_same _))
+    turned _ (answers.Program c.in_err-commands.field-0.0)
+    (DrawsGiven (setup_of c.args.machine.now c.args.tools.now) bytes text c.args.block_delete c.args.view (g.W.Sink.written c.args.output.now)
+    (g.W.Sink.written c.args.output.now)) c.from_residual.ensures.1 (
+      said_of c.args.certificate.now,
+      said,
+      (
+        refused_program (setup_of c.args.machine.now c.args.tools.now) bytes c.args.block_delete
+            (text_in c.args.program.now) c.in_err-commands.field-0.0 is_text have c.in_err-commands.ensures.commands,
+        keeps_same _,
+      ),
+    )
 
 pub returns-in_err-refusal-clause-draws : goal.returns-in_err-refusal-clause-draws
 returns-in_err-refusal-clause-draws g c = λ bytes text is_text have said.
-    turned _ (answers.Check c.in_err-refusal.field-0.0) (DrawsGiven (setup_of c.args.machine.now c.args.tools.now) bytes text c.args.block_delete c.args.view (g.W.Sink.written c.args.output.now) (g.W.Sink.written c.args.output.now)) c.from_residual-in_err-refusal.ensures.1
-    (given_fault (setup_of c.args.machine.now c.args.tools.now) bytes text c.args.block_delete c.args.view _ (text_in c.args.program.now) c.in_ok-commands.commands.items c.as_slice.result.now (said_of c.args.certificate.now) c.in_err-refusal.field-0.0
+    turned _ (answers.Check c.in_err-refusal.field-0.0)
+    (DrawsGiven (setup_of c.args.machine.now c.args.tools.now) bytes text c.args.block_delete c.args.view (g.W.Sink.written c.args.output.now)
+    (g.W.Sink.written c.args.output.now)) c.from_residual-in_err-refusal.ensures.1
+    (given_fault (setup_of c.args.machine.now c.args.tools.now) bytes text c.args.block_delete c.args.view _
+    (text_in c.args.program.now) c.in_ok-commands.commands.items c.as_slice.result.now (said_of c.args.certificate.now) c.in_err-refusal.field-0.0
     c.as_slice.ensures.value is_text have c.in_ok-commands.ensures.commands said c.in_err-refusal.ensures)
 
 pub returns-in_err-write_svg-clause-draws : goal.returns-in_err-write_svg-clause-draws
 returns-in_err-write_svg-clause-draws g c = λ bytes text is_text have said.
     let setup = setup_of c.args.machine.now c.args.tools.now in
-    turned _ (of_picture c.in_err-write_svg.field-0.0) (DrawsGiven (setup_of c.args.machine.now c.args.tools.now) bytes text c.args.block_delete c.args.view (g.W.Sink.written c.args.output.now) (g.W.Sink.written c.write_svg.new.sink)) c.from_residual-in_err-write_svg.ensures.1
+    turned _ (of_picture c.in_err-write_svg.field-0.0)
+    (DrawsGiven (setup_of c.args.machine.now c.args.tools.now) bytes text c.args.block_delete c.args.view (g.W.Sink.written c.args.output.now)
+    (g.W.Sink.written c.write_svg.new.sink)) c.from_residual-in_err-write_svg.ensures.1
     (given_stopped setup bytes text c.args.block_delete c.args.view _ _ (said_of c.args.certificate.now) c.in_err-write_svg.field-0.0 said
-    (drawing_stopped setup bytes c.args.block_delete c.args.view (entries_at (setting_of c.args.block_delete) (said_of c.args.certificate.now)) (IsGivenRefusal setup.machine (setting_of c.args.block_delete) (said_of c.args.certificate.now)) _ _ (text_in c.args.program.now) c.in_ok-commands.commands.items c.as_slice.result.now c.as_slice-2.result.now c.motions-motions.result.now _ c.in_err-write_svg.field-0.0
-    c.as_slice.ensures.value c.as_slice-2.ensures.value (c.motions-motions.ensures ∙ ap (λ s. entries_at s (said_of c.args.certificate.now)) c.setting_of.ensures) is_text have c.in_ok-commands.ensures.commands (sym {b = refusal_answer (fault_at setup.machine (setting_of c.args.block_delete) c.as_slice.result.now (said_of c.args.certificate.now))} c.in_ok-refusal.ensures) c.in_err-write_svg.ensures.fault (λ is. c.in_err-write_svg.ensures.memory (ap Err is))))
+    (drawing_stopped setup bytes c.args.block_delete c.args.view (entries_at (setting_of c.args.block_delete) (said_of c.args.certificate.now))
+    (IsGivenRefusal setup.machine (setting_of c.args.block_delete) (said_of c.args.certificate.now)) _ _
+    (text_in c.args.program.now) c.in_ok-commands.commands.items c.as_slice.result.now c.as_slice-2.result.now c.motions-motions.result.now _
+    c.in_err-write_svg.field-0.0
+    c.as_slice.ensures.value c.as_slice-2.ensures.value
+    (c.motions-motions.ensures ∙ ap (λ s. entries_at s (said_of c.args.certificate.now)) c.setting_of.ensures) is_text have
+    c.in_ok-commands.ensures.commands
+    (sym {b = refusal_answer (fault_at setup.machine (setting_of c.args.block_delete) c.as_slice.result.now (said_of c.args.certificate.now))}
+    c.in_ok-refusal.ensures) c.in_err-write_svg.ensures.fault (λ is. c.in_err-write_svg.ensures.memory (ap Err is))))
 
 pub returns-clause-draws : goal.returns-clause-draws
 returns-clause-draws g c = λ bytes text is_text have said.
     let setup = setup_of c.args.machine.now c.args.tools.now in (
       said_of c.args.certificate.now,
       said,
-      drawn setup bytes c.args.block_delete c.args.view (entries_at (setting_of c.args.block_delete) (said_of c.args.certificate.now)) (IsGivenRefusal setup.machine (setting_of c.args.block_delete) (said_of c.args.certificate.now)) _ _ (text_in c.args.program.now) c.in_ok-commands.commands.items c.as_slice.result.now c.as_slice-2.result.now c.motions-motions.result.now _
-          c.as_slice.ensures.value c.as_slice-2.ensures.value (c.motions-motions.ensures ∙ ap (λ s. entries_at s (said_of c.args.certificate.now)) c.setting_of.ensures) is_text have c.in_ok-commands.ensures.commands (sym {b = refusal_answer (fault_at setup.machine (setting_of c.args.block_delete) c.as_slice.result.now (said_of c.args.certificate.now))} c.in_ok-refusal.ensures) c.in_ok-write_svg.ensures.ok,
+      drawn setup bytes c.args.block_delete c.args.view (entries_at (setting_of c.args.block_delete) (said_of c.args.certificate.now))
+          (IsGivenRefusal setup.machine (setting_of c.args.block_delete) (said_of c.args.certificate.now)) _ _
+          (text_in c.args.program.now) c.in_ok-commands.commands.items c.as_slice.result.now c.as_slice-2.result.now c.motions-motions.result.now _
+          c.as_slice.ensures.value c.as_slice-2.ensures.value
+          (c.motions-motions.ensures ∙ ap (λ s. entries_at s (said_of c.args.certificate.now)) c.setting_of.ensures) is_text have
+          c.in_ok-commands.ensures.commands
+          (sym {b = refusal_answer (fault_at setup.machine (setting_of c.args.block_delete) c.as_slice.result.now (said_of c.args.certificate.now))}
+          c.in_ok-refusal.ensures) c.in_ok-write_svg.ensures.ok,
     )

@@ -10,26 +10,38 @@ use Rattle.ngc_simulator.proofs.fit_writer.write_both.Goals as goal
 
 pub returns-in_err-write_setting-clause-fault : goal.returns-in_err-write_setting-clause-fault
 returns-in_err-write_setting-clause-fault g c =
-    on_err _ _ (begins_first _ _ _ _ (begins_as _ _ _ _ (ap (λ cs. setting_text c.args.form true true Off (file_of c.args.machine.now) cs (entries_at Off (said_of c.args.certificate.now)) c.args.off_time.now) c.commands-off.ensures) c.in_err-write_setting.ensures.fault))
+    on_err _ _ (begins_first _ _ _ _
+    (begins_as _ _ _ _ (ap
+    (λ cs. setting_text c.args.form true true Off (file_of c.args.machine.now) cs (entries_at Off (said_of c.args.certificate.now)) c.args.off_time.now)
+    c.commands-off.ensures) c.in_err-write_setting.ensures.fault))
 
 pub returns-in_err-write_setting-2-clause-fault : goal.returns-in_err-write_setting-2-clause-fault
 returns-in_err-write_setting-2-clause-fault g c =
-    let off = ap (λ cs. setting_text c.args.form true true Off (file_of c.args.machine.now) cs (entries_at Off (said_of c.args.certificate.now)) c.args.off_time.now) c.commands-off.ensures in
-    let on = ap (λ cs. setting_text c.args.form false true On (file_of c.args.machine.now) cs (entries_at On (said_of c.args.certificate.now)) c.args.on_time.now) c.commands-on.ensures in
-    on_err _ _ (begins_last _ _ _ _ _ (appends_as _ _ _ _ off c.in_ok-write_setting.ensures.ok) (begins_first _ _ _ _ (begins_as _ _ _ _ on c.in_err-write_setting-2.ensures.fault)))
+    let off = ap (λ cs. setting_text c.args.form true true Off (file_of c.args.machine.now) cs
+    (entries_at Off (said_of c.args.certificate.now)) c.args.off_time.now) c.commands-off.ensures in
+    let on = ap (λ cs. setting_text c.args.form false true On (file_of c.args.machine.now) cs
+    (entries_at On (said_of c.args.certificate.now)) c.args.on_time.now) c.commands-on.ensures in
+    on_err _ _ (begins_last _ _ _ _ _ (appends_as _ _ _ _ off c.in_ok-write_setting.ensures.ok)
+    (begins_first _ _ _ _ (begins_as _ _ _ _ on c.in_err-write_setting-2.ensures.fault)))
 
 pub returns-clause-ok : goal.returns-clause-ok
 returns-clause-ok g c =
-    let off = ap (λ cs. setting_text c.args.form true true Off (file_of c.args.machine.now) cs (entries_at Off (said_of c.args.certificate.now)) c.args.off_time.now) c.commands-off.ensures in
-    let on = ap (λ cs. setting_text c.args.form false true On (file_of c.args.machine.now) cs (entries_at On (said_of c.args.certificate.now)) c.args.on_time.now) c.commands-on.ensures in
+    let off = ap (λ cs. setting_text c.args.form true true Off (file_of c.args.machine.now) cs
+    (entries_at Off (said_of c.args.certificate.now)) c.args.off_time.now) c.commands-off.ensures in
+    let on = ap (λ cs. setting_text c.args.form false true On (file_of c.args.machine.now) cs
+    (entries_at On (said_of c.args.certificate.now)) c.args.on_time.now) c.commands-on.ensures in
     ok_weaker c.write_fit_end.result _ _
-    (λ wrote. appends_both _ _ _ _ _ (appends_as _ _ _ _ off c.in_ok-write_setting.ensures.ok) (appends_both _ _ _ _ _ (appends_as _ _ _ _ on c.in_ok-write_setting-2.ensures.ok) wrote))
+    (λ wrote. appends_both _ _ _ _ _ (appends_as _ _ _ _ off c.in_ok-write_setting.ensures.ok)
+    (appends_both _ _ _ _ _ (appends_as _ _ _ _ on c.in_ok-write_setting-2.ensures.ok) wrote))
     c.write_fit_end.ensures.ok
 
 pub returns-clause-fault : goal.returns-clause-fault
 returns-clause-fault g c =
-    let off = ap (λ cs. setting_text c.args.form true true Off (file_of c.args.machine.now) cs (entries_at Off (said_of c.args.certificate.now)) c.args.off_time.now) c.commands-off.ensures in
-    let on = ap (λ cs. setting_text c.args.form false true On (file_of c.args.machine.now) cs (entries_at On (said_of c.args.certificate.now)) c.args.on_time.now) c.commands-on.ensures in
+    let off = ap (λ cs. setting_text c.args.form true true Off (file_of c.args.machine.now) cs
+    (entries_at Off (said_of c.args.certificate.now)) c.args.off_time.now) c.commands-off.ensures in
+    let on = ap (λ cs. setting_text c.args.form false true On (file_of c.args.machine.now) cs
+    (entries_at On (said_of c.args.certificate.now)) c.args.on_time.now) c.commands-on.ensures in
     err_weaker c.write_fit_end.result _ _
-    (λ wrote. begins_last _ _ _ _ _ (appends_as _ _ _ _ off c.in_ok-write_setting.ensures.ok) (begins_last _ _ _ _ _ (appends_as _ _ _ _ on c.in_ok-write_setting-2.ensures.ok) wrote))
+    (λ wrote. begins_last _ _ _ _ _ (appends_as _ _ _ _ off c.in_ok-write_setting.ensures.ok)
+    (begins_last _ _ _ _ _ (appends_as _ _ _ _ on c.in_ok-write_setting-2.ensures.ok) wrote))
     c.write_fit_end.ensures.fault

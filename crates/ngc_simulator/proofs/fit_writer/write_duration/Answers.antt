@@ -13,9 +13,11 @@ returns-in_err-write_takes_line-clause-fault g c =
 pub returns-clause-ok : goal.returns-clause-ok
 returns-clause-ok g c =
     let line = ap (λ (t : ProgramTimeData). takes_line c.args.form t.whole) c.time.view_is in
-    ok_weaker c.write_use_times.result _ _ (λ wrote. appends_both _ _ _ _ _ (appends_as _ _ _ _ line c.in_ok-write_takes_line.ensures.ok) wrote) c.write_use_times.ensures.ok
+    ok_weaker c.write_use_times.result _ _ (λ wrote. appends_both _ _ _ _ _ (appends_as _ _ _ _ line c.in_ok-write_takes_line.ensures.ok) wrote)
+    c.write_use_times.ensures.ok
 
 pub returns-clause-fault : goal.returns-clause-fault
 returns-clause-fault g c =
     let line = ap (λ (t : ProgramTimeData). takes_line c.args.form t.whole) c.time.view_is in
-    err_weaker c.write_use_times.result _ _ (λ wrote. begins_last _ _ _ _ _ (appends_as _ _ _ _ line c.in_ok-write_takes_line.ensures.ok) wrote) c.write_use_times.ensures.fault
+    err_weaker c.write_use_times.result _ _ (λ wrote. begins_last _ _ _ _ _ (appends_as _ _ _ _ line c.in_ok-write_takes_line.ensures.ok) wrote)
+    c.write_use_times.ensures.fault

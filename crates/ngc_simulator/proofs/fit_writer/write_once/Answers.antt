@@ -10,15 +10,20 @@ use Rattle.ngc_simulator.proofs.fit_writer.write_once.Goals as goal
 
 pub returns-in_err-write_setting-clause-fault : goal.returns-in_err-write_setting-clause-fault
 returns-in_err-write_setting-clause-fault g c =
-    let is = ap (λ cs. setting_text c.args.form true false Off (file_of c.args.machine.now) cs (entries_at Off (said_of c.args.certificate.now)) c.args.time.now) c.commands-commands.ensures in
+    let is = ap (λ cs. setting_text c.args.form true false Off (file_of c.args.machine.now) cs
+    (entries_at Off (said_of c.args.certificate.now)) c.args.time.now) c.commands-commands.ensures in
     on_err _ _ (begins_first _ _ _ _ (begins_as _ _ _ _ is c.in_err-write_setting.ensures.fault))
 
 pub returns-clause-ok : goal.returns-clause-ok
 returns-clause-ok g c =
-    let is = ap (λ cs. setting_text c.args.form true false Off (file_of c.args.machine.now) cs (entries_at Off (said_of c.args.certificate.now)) c.args.time.now) c.commands-commands.ensures in
-    ok_weaker c.write_fit_end.result _ _ (λ wrote. appends_both _ _ _ _ _ (appends_as _ _ _ _ is c.in_ok-write_setting.ensures.ok) wrote) c.write_fit_end.ensures.ok
+    let is = ap (λ cs. setting_text c.args.form true false Off (file_of c.args.machine.now) cs
+    (entries_at Off (said_of c.args.certificate.now)) c.args.time.now) c.commands-commands.ensures in
+    ok_weaker c.write_fit_end.result _ _ (λ wrote. appends_both _ _ _ _ _ (appends_as _ _ _ _ is c.in_ok-write_setting.ensures.ok) wrote)
+    c.write_fit_end.ensures.ok
 
 pub returns-clause-fault : goal.returns-clause-fault
 returns-clause-fault g c =
-    let is = ap (λ cs. setting_text c.args.form true false Off (file_of c.args.machine.now) cs (entries_at Off (said_of c.args.certificate.now)) c.args.time.now) c.commands-commands.ensures in
-    err_weaker c.write_fit_end.result _ _ (λ wrote. begins_last _ _ _ _ _ (appends_as _ _ _ _ is c.in_ok-write_setting.ensures.ok) wrote) c.write_fit_end.ensures.fault
+    let is = ap (λ cs. setting_text c.args.form true false Off (file_of c.args.machine.now) cs
+    (entries_at Off (said_of c.args.certificate.now)) c.args.time.now) c.commands-commands.ensures in
+    err_weaker c.write_fit_end.result _ _ (λ wrote. begins_last _ _ _ _ _ (appends_as _ _ _ _ is c.in_ok-write_setting.ensures.ok) wrote)
+    c.write_fit_end.ensures.fault

@@ -13,5 +13,12 @@ returns-clause-text c =
     let x : to_z w32 (of_z w32 point.x) ≡ point.x = omega (arith, ints) in
     let y : to_z w32 (of_z w32 point.y) ≡ point.y = omega (arith, ints) in
     let z : to_z w32 (of_z w32 point.z) ≡ point.z = omega (arith, ints) in
-    rw (c.add_three-2.ensures.text, c.add_text.ensures, c.add_three.ensures.text, c.nanometres.ensures.value, c.nanometres-2.ensures.value, c.nanometres-3.ensures.value)
+    rw (
+      c.add_three-2.ensures.text,
+      c.add_text.ensures,
+      c.add_three.ensures.text,
+      c.nanometres.ensures.value,
+      c.nanometres-2.ensures.value,
+      c.nanometres-3.ensures.value,
+    )
     (rw (a, b, d, x, y, z, c.to_grid-point.ensures.value) (simp append_assoc))

@@ -20,4 +20,5 @@ returns-clause-fault g c = on_err_weaker c.write_out.result (stopped _ _ _ _ _ _
 pub returns-clause-ok : goal.returns-clause-ok
 returns-clause-ok g c =
     on_ok_weaker c.write_out.result
-    (finished _ _ _ _ _ _ (no_rest c.args.step c.args.commands.now c.loop-index.index c.loop-index-test.false) c.loop-index.invariant.progress) c.write_out.ensures.ok
+    (finished _ _ _ _ _ _ (no_rest c.args.step c.args.commands.now c.loop-index.index c.loop-index-test.false) c.loop-index.invariant.progress)
+    c.write_out.ensures.ok

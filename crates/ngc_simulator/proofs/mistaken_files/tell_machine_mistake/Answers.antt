@@ -5,4 +5,5 @@ use Rattle.ngc_simulator.proofs.mistaken_files.tell_machine_mistake.Goals as goa
 
 pub returns-in-Json-clause-unread : goal.returns-in-Json-clause-unread
 returns-in-Json-clause-unread g c =
-    nothing_read (SourceFails g.F.R.Source.remaining g.F.R.Source.failures) (g.F.Files.bytes c.args.files.now) (setup_input OfMachine (Some c.args.name.now)) _ c.tell_number.result c.tell_number.ensures.unread
+    nothing_read (SourceFails g.F.R.Source.remaining g.F.R.Source.failures) (g.F.Files.bytes c.args.files.now)
+    (setup_input OfMachine (Some c.args.name.now)) _ c.tell_number.result c.tell_number.ensures.unread

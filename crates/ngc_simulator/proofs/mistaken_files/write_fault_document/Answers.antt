@@ -6,12 +6,17 @@ use Rattle.ngc_simulator.proofs.ReportLaws.{appends_as, begins_as, begins_first,
 use Rattle.ngc_simulator.proofs.mistaken_files.write_fault_document.Goals as goal
 
 pub returns-in_err-write_all-clause-fault : goal.returns-in_err-write_all-clause-fault
-returns-in_err-write_all-clause-fault g c = on_err _ _ (begins_first _ _ (opening Json) (ending Json c.args.number) (begins_as _ _ _ _ c.opening.ensures.text c.in_err-write_all.ensures.fault))
+returns-in_err-write_all-clause-fault g c =
+    on_err _ _ (begins_first _ _ (opening Json) (ending Json c.args.number) (begins_as _ _ _ _ c.opening.ensures.text c.in_err-write_all.ensures.fault))
 
 pub returns-clause-ok : goal.returns-clause-ok
 returns-clause-ok g c =
-    ok_weaker c.write_ending.result _ _ (λ wrote. appends_both _ _ _ (opening Json) (ending Json c.args.number) (appends_as _ _ _ _ c.opening.ensures.text c.in_ok-write_all.ensures.ok) wrote) c.write_ending.ensures.ok
+    ok_weaker c.write_ending.result _ _
+    (λ wrote. appends_both _ _ _ (opening Json) (ending Json c.args.number) (appends_as _ _ _ _ c.opening.ensures.text c.in_ok-write_all.ensures.ok) wrote)
+    c.write_ending.ensures.ok
 
 pub returns-clause-fault : goal.returns-clause-fault
 returns-clause-fault g c =
-    err_weaker c.write_ending.result _ _ (λ wrote. begins_last _ _ _ (opening Json) (ending Json c.args.number) (appends_as _ _ _ _ c.opening.ensures.text c.in_ok-write_all.ensures.ok) wrote) c.write_ending.ensures.fault
+    err_weaker c.write_ending.result _ _
+    (λ wrote. begins_last _ _ _ (opening Json) (ending Json c.args.number) (appends_as _ _ _ _ c.opening.ensures.text c.in_ok-write_all.ensures.ok) wrote)
+    c.write_ending.ensures.fault

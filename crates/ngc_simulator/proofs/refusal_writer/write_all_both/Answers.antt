@@ -6,10 +6,15 @@ pub returns-in_err-write_setting_refusals-clause-fault : goal.returns-in_err-wri
 returns-in_err-write_setting_refusals-clause-fault g c = on_err _ _ (begins_first _ _ _ _ c.in_err-write_setting_refusals.ensures.fault)
 
 pub returns-in_err-write_setting_refusals-2-clause-fault : goal.returns-in_err-write_setting_refusals-2-clause-fault
-returns-in_err-write_setting_refusals-2-clause-fault g c = on_err _ _ (begins_last _ _ _ _ _ c.in_ok-write_setting_refusals.ensures.ok (begins_first _ _ _ _ c.in_err-write_setting_refusals-2.ensures.fault))
+returns-in_err-write_setting_refusals-2-clause-fault g c =
+    on_err _ _ (begins_last _ _ _ _ _ c.in_ok-write_setting_refusals.ensures.ok (begins_first _ _ _ _ c.in_err-write_setting_refusals-2.ensures.fault))
 
 pub returns-clause-ok : goal.returns-clause-ok
-returns-clause-ok g c = ok_weaker c.write_ending.result _ _ (λ wrote. appends_both _ _ _ _ _ c.in_ok-write_setting_refusals.ensures.ok (appends_both _ _ _ _ _ c.in_ok-write_setting_refusals-2.ensures.ok wrote)) c.write_ending.ensures.ok
+returns-clause-ok g c = ok_weaker c.write_ending.result _ _
+    (λ wrote. appends_both _ _ _ _ _ c.in_ok-write_setting_refusals.ensures.ok (appends_both _ _ _ _ _ c.in_ok-write_setting_refusals-2.ensures.ok wrote))
+    c.write_ending.ensures.ok
 
 pub returns-clause-fault : goal.returns-clause-fault
-returns-clause-fault g c = err_weaker c.write_ending.result _ _ (λ wrote. begins_last _ _ _ _ _ c.in_ok-write_setting_refusals.ensures.ok (begins_last _ _ _ _ _ c.in_ok-write_setting_refusals-2.ensures.ok wrote)) c.write_ending.ensures.fault
+returns-clause-fault g c = err_weaker c.write_ending.result _ _
+    (λ wrote. begins_last _ _ _ _ _ c.in_ok-write_setting_refusals.ensures.ok (begins_last _ _ _ _ _ c.in_ok-write_setting_refusals-2.ensures.ok wrote))
+    c.write_ending.ensures.fault

@@ -9,4 +9,5 @@ pub returns-clause-ok : goal.returns-clause-ok
 returns-clause-ok g c = ok_weaker c.write_ending.result _ _ (λ wrote. appends_both _ _ _ _ _ c.in_ok-write_told_line.ensures.ok wrote) c.write_ending.ensures.ok
 
 pub returns-clause-fault : goal.returns-clause-fault
-returns-clause-fault g c = err_weaker c.write_ending.result _ _ (λ wrote. begins_last _ _ _ _ _ c.in_ok-write_told_line.ensures.ok wrote) c.write_ending.ensures.fault
+returns-clause-fault g c =
+    err_weaker c.write_ending.result _ _ (λ wrote. begins_last _ _ _ _ _ c.in_ok-write_told_line.ensures.ok wrote) c.write_ending.ensures.fault

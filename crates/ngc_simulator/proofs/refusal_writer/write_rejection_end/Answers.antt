@@ -15,4 +15,5 @@ returns-clause-ok g c =
 pub returns-clause-fault : goal.returns-clause-fault
 returns-clause-fault g c =
     let is = ap (λ n. ending c.args.form n) c.number.ensures in
-    err_weaker c.write_ending.result _ _ (λ wrote. begins_last _ _ _ _ _ c.in_ok-write_named.ensures.ok (begins_as _ _ _ _ is wrote)) c.write_ending.ensures.fault
+    err_weaker c.write_ending.result _ _ (λ wrote. begins_last _ _ _ _ _ c.in_ok-write_named.ensures.ok (begins_as _ _ _ _ is wrote))
+    c.write_ending.ensures.fault

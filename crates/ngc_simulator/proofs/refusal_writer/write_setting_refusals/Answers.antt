@@ -11,10 +11,14 @@ returns-in_err-write_heading-clause-fault g c = on_err _ _ (begins_first _ _ _ _
 
 pub returns-clause-ok : goal.returns-clause-ok
 returns-clause-ok g c =
-    let is = ap (λ start. report_text c.args.form (all_lines (file_of c.args.machine.now) c.args.commands.now start c.args.indices.now)) c.is_start_refused-start.ensures in
-    ok_weaker c.write_refusals.result _ _ (λ wrote. appends_both _ _ _ _ _ c.in_ok-write_heading.ensures.ok (appends_as _ _ _ _ is wrote)) c.write_refusals.ensures.ok
+    let is = ap (λ start. report_text c.args.form (all_lines (file_of c.args.machine.now) c.args.commands.now start c.args.indices.now))
+    c.is_start_refused-start.ensures in
+    ok_weaker c.write_refusals.result _ _ (λ wrote. appends_both _ _ _ _ _ c.in_ok-write_heading.ensures.ok (appends_as _ _ _ _ is wrote))
+    c.write_refusals.ensures.ok
 
 pub returns-clause-fault : goal.returns-clause-fault
 returns-clause-fault g c =
-    let is = ap (λ start. report_text c.args.form (all_lines (file_of c.args.machine.now) c.args.commands.now start c.args.indices.now)) c.is_start_refused-start.ensures in
-    err_weaker c.write_refusals.result _ _ (λ wrote. begins_last _ _ _ _ _ c.in_ok-write_heading.ensures.ok (begins_as _ _ _ _ is wrote)) c.write_refusals.ensures.fault
+    let is = ap (λ start. report_text c.args.form (all_lines (file_of c.args.machine.now) c.args.commands.now start c.args.indices.now))
+    c.is_start_refused-start.ensures in
+    err_weaker c.write_refusals.result _ _ (λ wrote. begins_last _ _ _ _ _ c.in_ok-write_heading.ensures.ok (begins_as _ _ _ _ is wrote))
+    c.write_refusals.ensures.fault

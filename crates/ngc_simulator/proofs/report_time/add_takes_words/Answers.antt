@@ -6,5 +6,7 @@ use Rattle.ngc_simulator.proofs.report_time.add_takes_words.Goals as goal
 
 pub returns : goal.returns
 returns c =
-    seven_added _ _ _ _ _ _ _ _ (codes "It takes ") (decimal c.args.time.now.ticks) (codes " ticks, ") (time_text c.args.time.now) (codes " at ") (decimal c.args.time.now.ticks_per_second) (codes " ticks a second.\n")
-    c.add_text.ensures c.add_number.ensures.text c.add_text-2.ensures c.add_time.ensures.text c.add_text-3.ensures c.add_number-2.ensures.text c.add_text-4.ensures
+    seven_added _ _ _ _ _ _ _ _ (codes "It takes ") (decimal c.args.time.now.ticks) (codes " ticks, ") (time_text c.args.time.now) (codes " at ")
+    (decimal c.args.time.now.ticks_per_second) (codes " ticks a second.\n")
+    c.add_text.ensures c.add_number.ensures.text c.add_text-2.ensures c.add_time.ensures.text c.add_text-3.ensures c.add_number-2.ensures.text
+    c.add_text-4.ensures

@@ -17,29 +17,36 @@ use Rattle.ngc_simulator.proofs.reporting_files.report_files.Goals as goal
 
 pub returns-in_err-shop-clause-comes : goal.returns-in_err-shop-clause-comes
 returns-in_err-shop-clause-comes g c =
-    turned _ c.in_err-shop.field-0.0 (ReportComes (g.F.Files.bytes c.args.files.now) c.args.options.now (g.W.Sink.written c.args.output.now) (g.W.Sink.written c.read_shop_telling.new.output)) c.from_residual.ensures.1
-    (inl (subst (λ (f : Form). TellsRefusal f (g.F.Files.bytes c.args.files.now) (Some c.args.options.now.machine.now) (Some c.args.options.now.tools.now) (g.W.Sink.written c.args.output.now) (g.W.Sink.written c.read_shop_telling.new.output) c.in_err-shop.field-0.0)
+    turned _ c.in_err-shop.field-0.0
+    (ReportComes (g.F.Files.bytes c.args.files.now) c.args.options.now (g.W.Sink.written c.args.output.now)
+    (g.W.Sink.written c.read_shop_telling.new.output)) c.from_residual.ensures.1
+    (inl (subst (λ (f : Form). TellsRefusal f (g.F.Files.bytes c.args.files.now) (Some c.args.options.now.machine.now) (Some c.args.options.now.tools.now)
+    (g.W.Sink.written c.args.output.now) (g.W.Sink.written c.read_shop_telling.new.output) c.in_err-shop.field-0.0)
     (ap (λ r. r.form) c.request_of-request.ensures) c.in_err-shop.ensures.said))
 
 pub returns-in_err-source-clause-comes : goal.returns-in_err-source-clause-comes
 returns-in_err-source-clause-comes g c =
     let fault = answers.Input c.in_err-source.field-0.0 in
-    turned _ fault (ReportComes (g.F.Files.bytes c.args.files.now) c.args.options.now (g.W.Sink.written c.args.output.now) (g.W.Sink.written c.read_shop_telling.new.output)) c.from_residual-in_err-source.ensures.1
+    turned _ fault (ReportComes (g.F.Files.bytes c.args.files.now) c.args.options.now (g.W.Sink.written c.args.output.now)
+    (g.W.Sink.written c.read_shop_telling.new.output)) c.from_residual-in_err-source.ensures.1
     (inl (tt, inl (subst (λ (o : Option (List ℕ)). Keeps o (g.W.Sink.written c.read_shop_telling.new.output)) c.in_ok-shop.ensures.said.1 (keeps_same _))))
 
 pub returns-in-Ok-clause-comes : goal.returns-in-Ok-clause-comes
 returns-in-Ok-clause-comes g c =
     let new = g.W.Sink.written c.report_program.new.output in
     subst (λ (o : Option (List ℕ)). ReportsOn (g.F.Files.bytes c.args.files.now) c.args.options.now o new (Ok tt)) c.in_ok-shop.ensures.said.1
-    (reported_files (g.F.Files.bytes c.args.files.now) (g.F.Files.bytes c.read_shop_telling.new.files) c.args.options.now c.in_ok-shop.shop _ (g.W.Sink.written c.read_shop_telling.new.output) new (Ok tt)
-    c.in_ok-shop.ensures.said.0 c.read_shop_telling.ensures.keeps c.in_ok-source.ensures.bytes (asked c.args.options.now c.in_ok-shop.shop c.request_of-request.result _ _ _ (Ok tt) c.request_of-request.ensures c.in-Ok.ensures.reports))
+    (reported_files (g.F.Files.bytes c.args.files.now) (g.F.Files.bytes c.read_shop_telling.new.files) c.args.options.now c.in_ok-shop.shop _
+    (g.W.Sink.written c.read_shop_telling.new.output) new (Ok tt)
+    c.in_ok-shop.ensures.said.0 c.read_shop_telling.ensures.keeps c.in_ok-source.ensures.bytes
+    (asked c.args.options.now c.in_ok-shop.shop c.request_of-request.result _ _ _ (Ok tt) c.request_of-request.ensures c.in-Ok.ensures.reports))
 
 pub returns-in-None-clause-comes : goal.returns-in-None-clause-comes
 returns-in-None-clause-comes g c =
     let fault = c.in-Err.fault in
     let new = g.W.Sink.written c.report_program.new.output in
     subst (λ (o : Option (List ℕ)). ReportComes (g.F.Files.bytes c.args.files.now) c.args.options.now o new (Err fault)) c.in_ok-shop.ensures.said.1
-    (reported_comes (g.F.Files.bytes c.args.files.now) (g.F.Files.bytes c.read_shop_telling.new.files) c.args.options.now c.in_ok-shop.shop _ (g.W.Sink.written c.read_shop_telling.new.output)
+    (reported_comes (g.F.Files.bytes c.args.files.now) (g.F.Files.bytes c.read_shop_telling.new.files) c.args.options.now c.in_ok-shop.shop _
+    (g.W.Sink.written c.read_shop_telling.new.output)
     c.in_ok-shop.ensures.said.0 c.read_shop_telling.ensures.keeps c.in_ok-source.ensures.bytes new fault c.in-Err.ensures.faults
     (asked c.args.options.now c.in_ok-shop.shop c.request_of-request.result _ _ _ (Err fault) c.request_of-request.ensures c.in-Err.ensures.reports))
 
@@ -48,7 +55,8 @@ returns-clause-comes g c =
     let fault = c.in-Err.fault in
     let new = g.W.Sink.written c.report_program.new.output in
     subst (λ (o : Option (List ℕ)). ReportComes (g.F.Files.bytes c.args.files.now) c.args.options.now o new (Err fault)) c.in_ok-shop.ensures.said.1
-    (reported_comes (g.F.Files.bytes c.args.files.now) (g.F.Files.bytes c.read_shop_telling.new.files) c.args.options.now c.in_ok-shop.shop _ (g.W.Sink.written c.read_shop_telling.new.output)
+    (reported_comes (g.F.Files.bytes c.args.files.now) (g.F.Files.bytes c.read_shop_telling.new.files) c.args.options.now c.in_ok-shop.shop _
+    (g.W.Sink.written c.read_shop_telling.new.output)
     c.in_ok-shop.ensures.said.0 c.read_shop_telling.ensures.keeps c.in_ok-source.ensures.bytes new fault c.in-Err.ensures.faults
     (asked c.args.options.now c.in_ok-shop.shop c.request_of-request.result _ _ _ (Err fault) c.request_of-request.ensures c.in-Err.ensures.reports))
 
@@ -59,47 +67,77 @@ returns-in-Read-clause-comes g c =
     let answer = c.tell_unreadable-told.result in
     let mid = g.W.Sink.written c.report_program.new.output in
     let new = g.W.Sink.written c.tell_unreadable-told.new.output in
-    let reports = asked c.args.options.now shop c.request_of-request.result _ _ mid (Err c.in-Err.fault) c.request_of-request.ensures c.in-Err.ensures.reports in
+    let reports = asked c.args.options.now shop c.request_of-request.result _ _ mid
+    (Err c.in-Err.fault) c.request_of-request.ensures c.in-Err.ensures.reports in
     subst (λ (o : Option (List ℕ)). ReportComes (g.F.Files.bytes c.args.files.now) c.args.options.now o new (Err answer)) c.in_ok-shop.ensures.said.1
-    (told_comes (g.F.Files.bytes c.args.files.now) (g.F.Files.bytes c.read_shop_telling.new.files) c.args.options.now shop (g.F.R.Source.remaining c.in_ok-source.source)
+    (told_comes (g.F.Files.bytes c.args.files.now) (g.F.Files.bytes c.read_shop_telling.new.files) c.args.options.now shop
+    (g.F.R.Source.remaining c.in_ok-source.source)
     (g.W.Sink.written c.read_shop_telling.new.output) c.in_ok-shop.ensures.said.0 c.read_shop_telling.ensures.keeps c.in_ok-source.ensures.bytes
-    (g.F.Files.bytes c.open_file.new.files) name mid new c.in-Read.fault answer c.tell_unreadable-told.ensures.faults (ap (option_map (λ n. n.now)) c.in-Some.is) (c.in_ok-source.ensures.keeps (subst IsSome (sym c.in-Some.is) refl))
-    (subst (λ (f : AnswerFault). IfSome (g.F.R.Source.remaining c.in_ok-source.source) (λ text. Reports (setup_of shop.machine shop.tools) text (request_of c.args.options.now) (g.W.Sink.written c.read_shop_telling.new.output) mid (Err f)))
+    (g.F.Files.bytes c.open_file.new.files) name mid new c.in-Read.fault answer c.tell_unreadable-told.ensures.faults
+    (ap (option_map (λ n. n.now)) c.in-Some.is) (c.in_ok-source.ensures.keeps (subst IsSome (sym c.in-Some.is) refl))
+    (subst (λ (f : AnswerFault). IfSome (g.F.R.Source.remaining c.in_ok-source.source)
+    (λ text. Reports (setup_of shop.machine shop.tools) text (request_of c.args.options.now) (g.W.Sink.written c.read_shop_telling.new.output) mid (Err f)))
     c.in-Read.is reports)
-    (subst (λ (f : Form). TellsKnown f (Some name) (g.F.Files.bytes c.open_file.new.files (Some name)) mid new c.in-Read.fault answer) (ap (λ r. r.form) c.request_of-request.ensures)
+    (subst (λ (f : Form). TellsKnown f (Some name) (g.F.Files.bytes c.open_file.new.files (Some name)) mid new c.in-Read.fault answer)
+    (ap (λ r. r.form) c.request_of-request.ensures)
     c.tell_unreadable-told.ensures.tells))
 
 pub returns-in_err-shop-clause-unread : goal.returns-in_err-shop-clause-unread
 returns-in_err-shop-clause-unread g c =
-    unread_told (SourceFails g.F.R.Source.remaining g.F.R.Source.failures) (g.F.Files.bytes c.args.files.now) (report_inputs c.args.options.now) _ _ _ c.in_err-shop.field-0.0 c.from_residual.ensures.1
-    (told_before (SourceFails g.F.R.Source.remaining g.F.R.Source.failures) (g.F.Files.bytes c.args.files.now) (shop_inputs (Some c.args.options.now.machine.now) (Some c.args.options.now.tools.now)) (program_input (option_map (λ n. n.now) c.args.options.now.program) ∷ []) _ _ (unread_by c.in_err-shop.field-0.0) c.in_err-shop.ensures.unread)
+    unread_told (SourceFails g.F.R.Source.remaining g.F.R.Source.failures) (g.F.Files.bytes c.args.files.now)
+    (report_inputs c.args.options.now) _ _ _ c.in_err-shop.field-0.0 c.from_residual.ensures.1
+    (told_before (SourceFails g.F.R.Source.remaining g.F.R.Source.failures) (g.F.Files.bytes c.args.files.now)
+    (shop_inputs (Some c.args.options.now.machine.now) (Some c.args.options.now.tools.now))
+    (program_input (option_map (λ n. n.now) c.args.options.now.program) ∷ []) _ _ (unread_by c.in_err-shop.field-0.0) c.in_err-shop.ensures.unread)
 
 pub returns-in_err-source-clause-unread : goal.returns-in_err-source-clause-unread
 returns-in_err-source-clause-unread g c =
-    unread_told (SourceFails g.F.R.Source.remaining g.F.R.Source.failures) (g.F.Files.bytes c.args.files.now) (report_inputs c.args.options.now) _ _ _ (answers.Input c.in_err-source.field-0.0) c.from_residual-in_err-source.ensures.1
-    (unopened (SourceFails g.F.R.Source.remaining g.F.R.Source.failures) (g.F.Files.bytes c.args.files.now) (shop_inputs (Some c.args.options.now.machine.now) (Some c.args.options.now.tools.now)) OfProgram (option_map (λ n. n.now) c.args.options.now.program) [] _ _ _ c.in_err-source.field-0.0 c.in_err-source.ensures.fault
-    (shop_read (g.F.Files.bytes c.args.files.now) (Some c.args.options.now.machine.now) (Some c.args.options.now.tools.now) c.in_ok-shop.shop c.in_ok-shop.ensures.said.0) c.in_ok-shop.ensures.unread c.in_err-source.ensures.counts)
+    unread_told (SourceFails g.F.R.Source.remaining g.F.R.Source.failures) (g.F.Files.bytes c.args.files.now) (report_inputs c.args.options.now) _ _ _
+    (answers.Input c.in_err-source.field-0.0) c.from_residual-in_err-source.ensures.1
+    (unopened (SourceFails g.F.R.Source.remaining g.F.R.Source.failures) (g.F.Files.bytes c.args.files.now)
+    (shop_inputs (Some c.args.options.now.machine.now) (Some c.args.options.now.tools.now)) OfProgram
+    (option_map (λ n. n.now) c.args.options.now.program) [] _ _ _ c.in_err-source.field-0.0 c.in_err-source.ensures.fault
+    (shop_read (g.F.Files.bytes c.args.files.now) (Some c.args.options.now.machine.now)
+    (Some c.args.options.now.tools.now) c.in_ok-shop.shop c.in_ok-shop.ensures.said.0) c.in_ok-shop.ensures.unread c.in_err-source.ensures.counts)
 
 pub returns-in-None-clause-unread : goal.returns-in-None-clause-unread
 returns-in-None-clause-unread g c =
-    certify_told (SourceFails g.F.R.Source.remaining g.F.R.Source.failures) (g.F.Files.bytes c.args.files.now) (shop_inputs (Some c.args.options.now.machine.now) (Some c.args.options.now.tools.now)) (option_map (λ n. n.now) c.args.options.now.program) _ _ c.in-Err.fault c.in-Err.ensures.faults
-    (shop_read (g.F.Files.bytes c.args.files.now) (Some c.args.options.now.machine.now) (Some c.args.options.now.tools.now) c.in_ok-shop.shop c.in_ok-shop.ensures.said.0) (c.in_ok-source.ensures.counts ∙ c.in_ok-shop.ensures.unread)
-    (λ is. record { opened = c.in_ok-source.source; left = c.report_program.new.source; gave = c.in_ok-source.ensures.bytes ∙ c.read_shop_telling.ensures.keeps (option_map (λ n. n.now) c.args.options.now.program); fails = c.in-Err.ensures.source (ap Err is) })
+    certify_told (SourceFails g.F.R.Source.remaining g.F.R.Source.failures) (g.F.Files.bytes c.args.files.now)
+    (shop_inputs (Some c.args.options.now.machine.now) (Some c.args.options.now.tools.now))
+    (option_map (λ n. n.now) c.args.options.now.program) _ _ c.in-Err.fault c.in-Err.ensures.faults
+    (shop_read (g.F.Files.bytes c.args.files.now) (Some c.args.options.now.machine.now)
+    (Some c.args.options.now.tools.now) c.in_ok-shop.shop c.in_ok-shop.ensures.said.0) (c.in_ok-source.ensures.counts ∙ c.in_ok-shop.ensures.unread)
+    (λ is. record {
+      opened = c.in_ok-source.source;
+      left = c.report_program.new.source;
+      gave = c.in_ok-source.ensures.bytes ∙ c.read_shop_telling.ensures.keeps (option_map (λ n. n.now) c.args.options.now.program);
+      fails = c.in-Err.ensures.source (ap Err is);
+    })
 
 pub returns-clause-unread : goal.returns-clause-unread
 returns-clause-unread g c =
-    certify_told (SourceFails g.F.R.Source.remaining g.F.R.Source.failures) (g.F.Files.bytes c.args.files.now) (shop_inputs (Some c.args.options.now.machine.now) (Some c.args.options.now.tools.now)) (option_map (λ n. n.now) c.args.options.now.program) _ _ c.in-Err.fault c.in-Err.ensures.faults
-    (shop_read (g.F.Files.bytes c.args.files.now) (Some c.args.options.now.machine.now) (Some c.args.options.now.tools.now) c.in_ok-shop.shop c.in_ok-shop.ensures.said.0) (c.in_ok-source.ensures.counts ∙ c.in_ok-shop.ensures.unread)
-    (λ is. record { opened = c.in_ok-source.source; left = c.report_program.new.source; gave = c.in_ok-source.ensures.bytes ∙ c.read_shop_telling.ensures.keeps (option_map (λ n. n.now) c.args.options.now.program); fails = c.in-Err.ensures.source (ap Err is) })
+    certify_told (SourceFails g.F.R.Source.remaining g.F.R.Source.failures) (g.F.Files.bytes c.args.files.now)
+    (shop_inputs (Some c.args.options.now.machine.now) (Some c.args.options.now.tools.now))
+    (option_map (λ n. n.now) c.args.options.now.program) _ _ c.in-Err.fault c.in-Err.ensures.faults
+    (shop_read (g.F.Files.bytes c.args.files.now) (Some c.args.options.now.machine.now)
+    (Some c.args.options.now.tools.now) c.in_ok-shop.shop c.in_ok-shop.ensures.said.0) (c.in_ok-source.ensures.counts ∙ c.in_ok-shop.ensures.unread)
+    (λ is. record {
+      opened = c.in_ok-source.source;
+      left = c.report_program.new.source;
+      gave = c.in_ok-source.ensures.bytes ∙ c.read_shop_telling.ensures.keeps (option_map (λ n. n.now) c.args.options.now.program);
+      fails = c.in-Err.ensures.source (ap Err is);
+    })
 
 pub returns-in-Read-clause-unread : goal.returns-in-Read-clause-unread
 returns-in-Read-clause-unread g c =
     let name = c.in-Some.name.now in
     let named = ap (option_map (λ n. n.now)) c.in-Some.is in
     let keeps_later = c.in_ok-source.ensures.keeps (subst IsSome (sym c.in-Some.is) refl) in
-    program_again (SourceFails g.F.R.Source.remaining g.F.R.Source.failures) (g.F.Files.bytes c.args.files.now) (g.F.Files.bytes c.open_file.new.files) (shop_inputs (Some c.args.options.now.machine.now) (Some c.args.options.now.tools.now))
+    program_again (SourceFails g.F.R.Source.remaining g.F.R.Source.failures) (g.F.Files.bytes c.args.files.now) (g.F.Files.bytes c.open_file.new.files)
+    (shop_inputs (Some c.args.options.now.machine.now) (Some c.args.options.now.tools.now))
     (option_map (λ n. n.now) c.args.options.now.program) name _ _ _ c.tell_unreadable-told.result named
-    (shop_read (g.F.Files.bytes c.args.files.now) (Some c.args.options.now.machine.now) (Some c.args.options.now.tools.now) c.in_ok-shop.shop c.in_ok-shop.ensures.said.0)
+    (shop_read (g.F.Files.bytes c.args.files.now) (Some c.args.options.now.machine.now)
+    (Some c.args.options.now.tools.now) c.in_ok-shop.shop c.in_ok-shop.ensures.said.0)
     (keeps_later (Some name) ∙ c.read_shop_telling.ensures.keeps (Some name)) (c.in_ok-source.ensures.counts ∙ c.in_ok-shop.ensures.unread)
     (c.tell_unreadable-told.ensures.unread (λ is. record {
       opened = c.in_ok-source.source;

@@ -6,7 +6,9 @@ use Rattle.ngc_simulator.proofs.SetupLaws.{carried}
 use Rattle.ngc_simulator.proofs.setup.named_machine.Goals as goal
 
 pub returns-in-Ok-clause-said : goal.returns-in-Ok-clause-said
-returns-in-Ok-clause-said g c = carried _ _ _ (λ b. machine_file b ≡ Ok (file_of c.in-Ok.machine)) c.as_slice.ensures.value c.in_ok-bytes.ensures.value c.in-Ok.ensures.file
+returns-in-Ok-clause-said g c =
+    carried _ _ _ (λ b. machine_file b ≡ Ok (file_of c.in-Ok.machine)) c.as_slice.ensures.value c.in_ok-bytes.ensures.value c.in-Ok.ensures.file
 
 pub returns-clause-said : goal.returns-clause-said
-returns-clause-said g c = carried _ _ _ (λ b. Refuses c.in-Err.fault (machine_file b)) c.as_slice.ensures.value c.in_ok-bytes.ensures.value c.in-Err.ensures.file
+returns-clause-said g c =
+    carried _ _ _ (λ b. Refuses c.in-Err.fault (machine_file b)) c.as_slice.ensures.value c.in_ok-bytes.ensures.value c.in-Err.ensures.file

@@ -27,7 +27,9 @@ shown bytes options shop old new outcome said shows =
 
 pub returns-in_err-shop-clause-comes : goal.returns-in_err-shop-clause-comes
 returns-in_err-shop-clause-comes g c =
-    turned _ c.in_err-shop.field-0.0 (ShowComes (g.F.Files.bytes c.args.files.now) c.args.options.now (g.W.Sink.written c.args.output.now) (g.W.Sink.written c.read_shop_telling.new.output)) c.from_residual.ensures.1 (inl c.in_err-shop.ensures.said)
+    turned _ c.in_err-shop.field-0.0
+    (ShowComes (g.F.Files.bytes c.args.files.now) c.args.options.now (g.W.Sink.written c.args.output.now) (g.W.Sink.written c.read_shop_telling.new.output))
+    c.from_residual.ensures.1 (inl c.in_err-shop.ensures.said)
 
 pub returns-clause-comes : goal.returns-clause-comes
 returns-clause-comes g c =
@@ -42,10 +44,12 @@ returns-in_err-write_sheet-clause-comes g c =
     let old = g.W.Sink.written c.read_shop_telling.new.output in
     let new = g.W.Sink.written c.write_sheet.new.sink in
     let fault = answers.Write c.in_err-write_sheet.field-0.0 in
-    turned _ fault (ShowComes (g.F.Files.bytes c.args.files.now) c.args.options.now (g.W.Sink.written c.args.output.now) (g.W.Sink.written c.write_sheet.new.sink)) c.from_residual-in_err-write_sheet.ensures.1
+    turned _ fault (ShowComes (g.F.Files.bytes c.args.files.now) c.args.options.now (g.W.Sink.written c.args.output.now)
+    (g.W.Sink.written c.write_sheet.new.sink)) c.from_residual-in_err-write_sheet.ensures.1
     (inr (
       tt,
       subst (λ (o : Option (List ℕ)). ShowsOn (g.F.Files.bytes c.args.files.now) c.args.options.now o new (Err fault)) c.in_ok-shop.ensures.said.1
           (shown (g.F.Files.bytes c.args.files.now) c.args.options.now c.in_ok-shop.shop old new (Err fault) c.in_ok-shop.ensures.said.0
-          (subst (λ (ts : List Tool). AppendsBeginning old new (sheet_text (file_of c.in_ok-shop.shop.machine) ts)) c.tools.ensures.tools c.in_err-write_sheet.ensures.fault)),
+          (subst (λ (ts : List Tool). AppendsBeginning old new (sheet_text (file_of c.in_ok-shop.shop.machine) ts)) c.tools.ensures.tools
+          c.in_err-write_sheet.ensures.fault)),
     ))

@@ -24,7 +24,8 @@ returns-clause-ok g c =
     let line = appends_as _ _ _ _ c.unreadable_line.ensures c.in_ok-write_all-2.ensures.ok in
     let is = ap (λ n. ending c.args.form n) c.number.ensures in
     ok_weaker c.write_ending.result _ _
-    (λ wrote. appends_both _ _ _ _ _ opened (appends_both _ _ _ _ _ line (appends_both _ _ _ _ _ c.in_ok-write_marked_fault.ensures.ok (appends_as _ _ _ _ is wrote))))
+    (λ wrote. appends_both _ _ _ _ _ opened
+    (appends_both _ _ _ _ _ line (appends_both _ _ _ _ _ c.in_ok-write_marked_fault.ensures.ok (appends_as _ _ _ _ is wrote))))
     c.write_ending.ensures.ok
 
 pub returns-clause-fault : goal.returns-clause-fault
@@ -33,5 +34,6 @@ returns-clause-fault g c =
     let line = appends_as _ _ _ _ c.unreadable_line.ensures c.in_ok-write_all-2.ensures.ok in
     let is = ap (λ n. ending c.args.form n) c.number.ensures in
     err_weaker c.write_ending.result _ _
-    (λ wrote. begins_last _ _ _ _ _ opened (begins_last _ _ _ _ _ line (begins_last _ _ _ _ _ c.in_ok-write_marked_fault.ensures.ok (begins_as _ _ _ _ is wrote))))
+    (λ wrote. begins_last _ _ _ _ _ opened
+    (begins_last _ _ _ _ _ line (begins_last _ _ _ _ _ c.in_ok-write_marked_fault.ensures.ok (begins_as _ _ _ _ is wrote))))
     c.write_ending.ensures.fault

@@ -6,7 +6,8 @@ use Rattle.ngc_simulator.proofs.use_times.write_use_times.Given as goal
 
 abbrev pub invariant-loop-one : goal.invariant-loop-one
 invariant-loop-one g l = record {
-  goes : IsLeft (g.W.Sink.written l.initial.output) (g.W.Sink.written l.output) (use_times l.form l.time.whole (uses_left l.uses) l.left) (uses_text l.form l.commands l.time);
+  goes : IsLeft (g.W.Sink.written l.initial.output) (g.W.Sink.written l.output) (use_times l.form l.time.whole (uses_left l.uses) l.left)
+      (uses_text l.form l.commands l.time);
   failures : g.W.Sink.failures l.output ≡ g.W.Sink.failures l.initial.output;
 }
 

@@ -26,13 +26,23 @@ returns-in-None-clause-past g c =
     let i = c.loop-moves.invariant in
     let a = c.advance-roll.ensures in
     let on = walk_on c.args.step c.args.limit c.args.first _ _ c.args.entry c.loop-moves.last _ _ c.loop-moves.moves _ _ i.1 i.2 i.0 i.3 a.roll a.place refl in
-    let left = subst (λ (o : Option ℕ). IsLeftAfter c.loop-moves.left c.advance-roll.result c.spoke.result c.args.end.now o) c.in-None.is c.left_after.ensures in
-    λ few. past_on c.args.step c.args.limit c.args.first c.args.end.now _ c.spoke.result c.advance-roll.result c.args.quadrants c.loop-moves.left c.loop-moves.moves _ _ i.4 i.1 i.2 i.0 a.roll (c.spoke.ensures ∙ on.0) left
+    let left = subst (λ (o : Option ℕ). IsLeftAfter c.loop-moves.left c.advance-roll.result c.spoke.result c.args.end.now o) c.in-None.is
+    c.left_after.ensures in
+    λ few. past_on c.args.step c.args.limit c.args.first c.args.end.now _ c.spoke.result c.advance-roll.result c.args.quadrants c.loop-moves.left
+    c.loop-moves.moves _ _ i.4 i.1 i.2 i.0 a.roll (c.spoke.ensures ∙ on.0) left
 
 pub loop-moves-preserved : goal.loop-moves-preserved
 loop-moves-preserved g c =
     let i = c.loop-moves.invariant in
     let a = c.advance-roll.ensures in
-    let on = walk_on c.args.step c.args.limit c.args.first _ _ c.args.entry c.loop-moves.last _ _ c.loop-moves.moves _ _ i.1 i.2 i.0 i.3 a.roll a.place (c.moved-last.ensures ∙ rw (c.of.ensures, c.spoke-quadrant.ensures) refl) in
-    let left = subst (λ (o : Option ℕ). IsLeftAfter c.loop-moves.left c.advance-roll.result c.spoke.result c.args.end.now o) c.in-Some.is c.left_after.ensures in
-    (on.0, a.pace ∙ i.1, a.rim ∙ i.2, on.1, before_on c.args.step c.args.limit c.args.first c.args.end.now _ c.spoke.result c.advance-roll.result c.args.quadrants c.loop-moves.left c.in-Some.next c.loop-moves.moves _ _ i.4 i.1 i.2 i.0 a.roll (c.spoke.ensures ∙ on.0) left)
+    let on = walk_on c.args.step c.args.limit c.args.first _ _ c.args.entry c.loop-moves.last _ _ c.loop-moves.moves _ _ i.1 i.2 i.0 i.3 a.roll a.place
+    (c.moved-last.ensures ∙ rw (c.of.ensures, c.spoke-quadrant.ensures) refl) in
+    let left = subst (λ (o : Option ℕ). IsLeftAfter c.loop-moves.left c.advance-roll.result c.spoke.result c.args.end.now o) c.in-Some.is
+    c.left_after.ensures in (
+      on.0,
+      a.pace ∙ i.1,
+      a.rim ∙ i.2,
+      on.1,
+      before_on c.args.step c.args.limit c.args.first c.args.end.now _ c.spoke.result c.advance-roll.result c.args.quadrants c.loop-moves.left c.in-Some.next
+          c.loop-moves.moves _ _ i.4 i.1 i.2 i.0 a.roll (c.spoke.ensures ∙ on.0) left,
+    )

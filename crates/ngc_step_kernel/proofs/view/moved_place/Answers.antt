@@ -28,7 +28,8 @@ returns-clause-near c =
     let sum = moved_sum c.args.centre c.args.way _ _ c.args.radius c.args.other a b d e r.centre r.way r.radius r.other in
     let few : c.args.radius * c.args.step ≤ 2000020000 * 50000 = mul-le c.args.radius c.args.step 2000020000 50000 r.radius r.greatest in
     let div : to_z w128 (of_z w128 c.from.result) ≡ pos (c.args.radius * c.args.step) = omega (arith, ints, few, c.from.ensures) in
-    let near = moved_near c.args.step c.args.radius c.args.other c.args.centre c.args.way _ _ c.rounded_quotient.result c.rounded_quotient.ensures.nearest sum.is div in
+    let near = moved_near c.args.step c.args.radius c.args.other c.args.centre c.args.way _ _ c.rounded_quotient.result c.rounded_quotient.ensures.nearest
+    sum.is div in
     let small = moved_small c.args.step c.args.radius c.args.other c.args.centre c.args.way _ c.rounded_quotient.result r.some r.least r.greatest sum near in
     let same : to_z w32 (of_z w32 (to_z w128 (of_z w128 c.rounded_quotient.result))) ≡ c.rounded_quotient.result = omega (arith, ints, small) in
     rw same near
@@ -45,7 +46,8 @@ overflow_cast-result c =
     let sum = moved_sum c.args.centre c.args.way _ _ c.args.radius c.args.other a b d e r.centre r.way r.radius r.other in
     let few : c.args.radius * c.args.step ≤ 2000020000 * 50000 = mul-le c.args.radius c.args.step 2000020000 50000 r.radius r.greatest in
     let div : to_z w128 (of_z w128 c.from.result) ≡ pos (c.args.radius * c.args.step) = omega (arith, ints, few, c.from.ensures) in
-    let near = moved_near c.args.step c.args.radius c.args.other c.args.centre c.args.way _ _ c.rounded_quotient.result c.rounded_quotient.ensures.nearest sum.is div in
+    let near = moved_near c.args.step c.args.radius c.args.other c.args.centre c.args.way _ _ c.rounded_quotient.result c.rounded_quotient.ensures.nearest
+    sum.is div in
     let small = moved_small c.args.step c.args.radius c.args.other c.args.centre c.args.way _ c.rounded_quotient.result r.some r.least r.greatest sum near in
     omega (arith, ints, small)
 
@@ -61,7 +63,8 @@ returns-clause-range c =
     let sum = moved_sum c.args.centre c.args.way _ _ c.args.radius c.args.other a b d e r.centre r.way r.radius r.other in
     let few : c.args.radius * c.args.step ≤ 2000020000 * 50000 = mul-le c.args.radius c.args.step 2000020000 50000 r.radius r.greatest in
     let div : to_z w128 (of_z w128 c.from.result) ≡ pos (c.args.radius * c.args.step) = omega (arith, ints, few, c.from.ensures) in
-    let near = moved_near c.args.step c.args.radius c.args.other c.args.centre c.args.way _ _ c.rounded_quotient.result c.rounded_quotient.ensures.nearest sum.is div in
+    let near = moved_near c.args.step c.args.radius c.args.other c.args.centre c.args.way _ _ c.rounded_quotient.result c.rounded_quotient.ensures.nearest
+    sum.is div in
     let small = moved_small c.args.step c.args.radius c.args.other c.args.centre c.args.way _ c.rounded_quotient.result r.some r.least r.greatest sum near in
     let same : to_z w32 (of_z w32 (to_z w128 (of_z w128 c.rounded_quotient.result))) ≡ c.rounded_quotient.result = omega (arith, ints, small) in
     rw same small

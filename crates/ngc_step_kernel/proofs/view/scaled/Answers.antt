@@ -7,7 +7,8 @@ pub returns-clause-value : goal.returns-clause-value
 returns-clause-value c =
     let left : to_z w128 (of_z w128 c.from.result) ≡ c.args.x = omega (arith, ints) in
     let right : to_z w128 (of_z w128 c.from-2.result) ≡ pos c.args.radius = omega (arith, ints) in
-    rw (left, right) (to_z-of_z w128 (c.args.x *ℤ pos c.args.radius) (fits_signed_mul w128 c.args.x (pos c.args.radius) 100000000000 3000000000 c.requires.x c.requires.radius (lit< tt)))
+    rw (left, right) (to_z-of_z w128 (c.args.x *ℤ pos c.args.radius)
+    (fits_signed_mul w128 c.args.x (pos c.args.radius) 100000000000 3000000000 c.requires.x c.requires.radius (lit< tt)))
 
 pub returns-clause-bound : goal.returns-clause-bound
 returns-clause-bound c =

@@ -9,12 +9,15 @@ use Rattle.ngc_text.proofs.decimal.digits_size.Goals as goal
 pub returns-then-not-is_ascii_digit-clause-value : goal.returns-then-not-is_ascii_digit-clause-value
 returns-then-not-is_ascii_digit-clause-value c =
     let e : is_ascii_digit (get_or c.args.digits.now c.loop-byte.byte-index 0) ≡ false = sym c.is_ascii_digit.ensures.value ∙ c.if-not-is_ascii_digit.true in
-    ap (λ b. if b then Some (limited (digits_value 10 c.args.digits.now)) else None) (sym (digits_fail c.args.digits.now c.loop-byte.byte-index (omega arith) e))
+    ap (λ b. if b then Some (limited (digits_value 10 c.args.digits.now)) else None)
+    (sym (digits_fail c.args.digits.now c.loop-byte.byte-index (omega arith) e))
 
 pub loop-byte-preserved : goal.loop-byte-preserved
 loop-byte-preserved c =
     let e : is_ascii_digit (get_or c.args.digits.now c.loop-byte.byte-index 0) ≡ true = sym c.is_ascii_digit.ensures.value ∙ c.if-not-is_ascii_digit.false in
     record {
-      digits = digits_more c.args.digits.now c.loop-byte.byte-index (c.loop-byte.byte-index + 1) c.loop-byte-test.true (omega arith) c.loop-byte.invariant.digits e;
-      size = size_more c.args.digits.now c.loop-byte.byte-index c.loop-byte.size c.from.result c.min-size.result c.loop-byte-test.true c.loop-byte.invariant.size e (c.from.ensures ∙ c.saturating_sub.ensures) c.min-size.ensures;
+      digits =
+          digits_more c.args.digits.now c.loop-byte.byte-index (c.loop-byte.byte-index + 1) c.loop-byte-test.true (omega arith) c.loop-byte.invariant.digits e;
+      size = size_more c.args.digits.now c.loop-byte.byte-index c.loop-byte.size c.from.result c.min-size.result c.loop-byte-test.true
+          c.loop-byte.invariant.size e (c.from.ensures ∙ c.saturating_sub.ensures) c.min-size.ensures;
     }

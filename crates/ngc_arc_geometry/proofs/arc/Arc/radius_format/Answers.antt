@@ -24,7 +24,8 @@ returns c =
     let found : radius_centre t e r ≡ Ok c.in_ok-centre.centre = cc (c.in_ok-centre.was {u = tt}) in
     let last : c.with_equal_radii.result ≡ with_equal_radii t (arc_about e c.in_ok-centre.centre) = cc in
     let rest = λ (centre : Point2). with_equal_radii t (arc_about e centre) in
-    let passed = four_pass (not e.has_axis_word) _ _ _ NoAxisWord EndIsStart RadiusOutOfRange RadiusOutOfRange (radius_centre t e r >>= rest) word (not_zero (chord_square e) chord) (not_zero (unsigned_abs r) some) (not_over 4000000000000000000 (unsigned_abs r * unsigned_abs r) limit) in
+    let passed = four_pass (not e.has_axis_word) _ _ _ NoAxisWord EndIsStart RadiusOutOfRange RadiusOutOfRange (radius_centre t e r >>= rest) word
+    (not_zero (chord_square e) chord) (not_zero (unsigned_abs r) some) (not_over 4000000000000000000 (unsigned_abs r * unsigned_abs r) limit) in
     last ∙ sym (passed ∙ ap (λ found. found >>= rest) found)
 
 pub overflow_mul-size : goal.overflow_mul-size

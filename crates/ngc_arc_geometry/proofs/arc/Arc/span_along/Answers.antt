@@ -9,7 +9,8 @@ least-requires c =
     let start : to_z w64 (of_z w64 c.along-start.result) ≡ c.along-start.result = omega (arith, ints) in
     let end_is : to_z w64 (of_z w64 c.along-end.result) ≡ c.along-end.result = omega (arith, ints) in
     let value = rw (start, end_is) at c.min.ensures.value in
-    let small : unsigned_abs c.min.result ≤ 100000000000 = rw value (int_min_bound c.along-start.result c.along-end.result 100000000000 c.along-start.ensures.bound c.along-end.ensures.bound) in
+    let small : unsigned_abs c.min.result ≤ 100000000000 = rw value
+    (int_min_bound c.along-start.result c.along-end.result 100000000000 c.along-start.ensures.bound c.along-end.ensures.bound) in
     omega (arith, ints, small)
 
 pub greatest-requires : goal.greatest-requires
@@ -17,7 +18,8 @@ greatest-requires c =
     let start : to_z w64 (of_z w64 c.along-start.result) ≡ c.along-start.result = omega (arith, ints) in
     let end_is : to_z w64 (of_z w64 c.along-end.result) ≡ c.along-end.result = omega (arith, ints) in
     let value = rw (start, end_is) at c.max.ensures.value in
-    let small : unsigned_abs c.max.result ≤ 100000000000 = rw value (int_max_bound c.along-start.result c.along-end.result 100000000000 c.along-start.ensures.bound c.along-end.ensures.bound) in
+    let small : unsigned_abs c.max.result ≤ 100000000000 = rw value
+    (int_max_bound c.along-start.result c.along-end.result 100000000000 c.along-start.ensures.bound c.along-end.ensures.bound) in
     omega (arith, ints, small)
 
 pub returns-clause-low : goal.returns-clause-low

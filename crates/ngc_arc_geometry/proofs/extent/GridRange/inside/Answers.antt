@@ -10,4 +10,7 @@ invariant_of-result c =
     let last : to_z w32 (of_z w32 c.last_grid_point.result) ≡ c.last_grid_point.result = omega (arith, ints) in
     let above = rw (kept_coordinate c.args.low c.requires.low) at c.first_grid_point.ensures.near in
     let below = rw (kept_coordinate c.args.high c.requires.high) at c.last_grid_point.ensures.near in
-    record { ordered = rw (first, last) (ordered c.args.low c.args.high c.args.step c.first_grid_point.result c.last_grid_point.result c.requires.step c.requires.apart above below) }
+    record {
+      ordered = rw (first, last)
+          (ordered c.args.low c.args.high c.args.step c.first_grid_point.result c.last_grid_point.result c.requires.step c.requires.apart above below);
+    }

@@ -5,4 +5,5 @@ use Rattle.ngc_arc_geometry.proofs.extent.PlaneAxis.greatest.Given as goal
 
 abbrev pub invariant-loop-point : goal.invariant-loop-point
 invariant-loop-point l =
-    (fold int_max l.greatest (map (along l.self) (drop l.point-index l.points)) ≡ fold int_max l.initial.greatest (map (along l.self) l.points)) × (unsigned_abs l.greatest ≤ 100000000000) × (l.initial.greatest ≤ℤ l.greatest)
+    (fold int_max l.greatest (map (along l.self) (drop l.point-index l.points)) ≡ fold int_max l.initial.greatest (map (along l.self) l.points)) ×
+    (unsigned_abs l.greatest ≤ 100000000000) × (l.initial.greatest ≤ℤ l.greatest)

@@ -5,4 +5,5 @@ use Rattle.ngc_arc_geometry.proofs.extent.PlaneAxis.least.Given as goal
 
 abbrev pub invariant-loop-point : goal.invariant-loop-point
 invariant-loop-point l =
-    (fold int_min l.least (map (along l.self) (drop l.point-index l.points)) ≡ fold int_min l.initial.least (map (along l.self) l.points)) × (unsigned_abs l.least ≤ 100000000000) × (l.least ≤ℤ l.initial.least)
+    (fold int_min l.least (map (along l.self) (drop l.point-index l.points)) ≡ fold int_min l.initial.least (map (along l.self) l.points)) ×
+    (unsigned_abs l.least ≤ 100000000000) × (l.least ≤ℤ l.initial.least)

@@ -13,23 +13,27 @@ use Rattle.ngc_arc_geometry.proofs.given.Ends.offset_from_middle.Goals.{After-ne
 use Rattle.ngc_arc_geometry.proofs.given.Ends.offset_from_middle.Goals as goal
 
 -- the parts of a chord are no longer than it
-of_v : (p : Point2) (z : ℤ) (n : ℕ) → z ≡ p.v → unsigned_abs z ≤ 400000000000 → n ≡ unsigned_abs (dot p p) → unsigned_abs (to_z w64 (of_z w64 z)) * unsigned_abs (to_z w64 (of_z w64 z)) ≤ n
+of_v : (p : Point2) (z : ℤ) (n : ℕ) → z ≡ p.v → unsigned_abs z ≤ 400000000000 → n ≡ unsigned_abs (dot p p) →
+    unsigned_abs (to_z w64 (of_z w64 z)) * unsigned_abs (to_z w64 (of_z w64 z)) ≤ n
 of_v p z n is bound square =
     let kept : to_z w64 (of_z w64 z) ≡ z = omega (arith, ints) in
     let sum = square_sum p.u p.v in
     rw (kept, is, square, sum) (omega arith)
 
-of_u : (p : Point2) (z : ℤ) (n : ℕ) → z ≡ p.u → unsigned_abs z ≤ 400000000000 → n ≡ unsigned_abs (dot p p) → unsigned_abs (to_z w64 (of_z w64 z)) * unsigned_abs (to_z w64 (of_z w64 z)) ≤ n
+of_u : (p : Point2) (z : ℤ) (n : ℕ) → z ≡ p.u → unsigned_abs z ≤ 400000000000 → n ≡ unsigned_abs (dot p p) →
+    unsigned_abs (to_z w64 (of_z w64 z)) * unsigned_abs (to_z w64 (of_z w64 z)) ≤ n
 of_u p z n is bound square =
     let kept : to_z w64 (of_z w64 z) ≡ z = omega (arith, ints) in
     let sum = square_sum p.u p.v in
     rw (kept, is, square, sum) (omega arith)
 
 pub aside-requires-clause-part : goal.aside-requires-clause-part
-aside-requires-clause-part c = of_v c.chord-chord.result c.v-2.result c.square-square_of_chord.result c.v-2.ensures.value c.v-2.ensures.bound c.square-square_of_chord.ensures
+aside-requires-clause-part c =
+    of_v c.chord-chord.result c.v-2.result c.square-square_of_chord.result c.v-2.ensures.value c.v-2.ensures.bound c.square-square_of_chord.ensures
 
 pub aside-requires-2-clause-part : goal.aside-requires-2-clause-part
-aside-requires-2-clause-part c = of_u c.chord-chord.result c.u-2.result c.square-square_of_chord.result c.u-2.ensures.value c.u-2.ensures.bound c.square-square_of_chord.ensures
+aside-requires-2-clause-part c =
+    of_u c.chord-chord.result c.u-2.result c.square-square_of_chord.result c.u-2.ensures.value c.u-2.ensures.bound c.square-square_of_chord.ensures
 
 first_bound : (c : After-signed_aside-v) → unsigned_abs c.signed_aside-u.result ≤ 2000000000
 first_bound c =
@@ -50,7 +54,9 @@ new-requires-clause-v c =
     let small : unsigned_abs c.signed_aside-v.result ≤ 2000000000 = omega (arith, ap unsigned_abs aside) in
     rw (kept c.signed_aside-v.result small) (omega (arith, small))
 
-first : (c : After-new) → c.signed_aside-u.result ≡ side_of c.args.self.now.turn c.args.is_long *ℤ int_signum (chord c.args.self.now).v *ℤ aside_of c.args.square (chord_square c.args.self.now) (chord c.args.self.now).v
+first : (c : After-new) →
+    c.signed_aside-u.result ≡ side_of c.args.self.now.turn c.args.is_long *ℤ int_signum (chord c.args.self.now).v
+    *ℤ aside_of c.args.square (chord_square c.args.self.now) (chord c.args.self.now).v
 first c =
     let side : to_z w64 (of_z w64 c.side-side.result) ≡ c.side-side.result = omega (arith, ints) in
     let sign : to_z w64 (of_z w64 c.v.result) ≡ c.chord-chord.result.v = omega (arith, ints) in
@@ -60,7 +66,9 @@ first c =
     let signed = rw (side, sign, aside, value, c.side-side.ensures.value) at c.signed_aside-u.ensures.value in
     rw c.chord-chord.ensures at signed
 
-second : (c : After-new) → c.signed_aside-v.result ≡ side_of c.args.self.now.turn c.args.is_long *ℤ int_signum (chord c.args.self.now).u *ℤ aside_of c.args.square (chord_square c.args.self.now) (chord c.args.self.now).u
+second : (c : After-new) →
+    c.signed_aside-v.result ≡ side_of c.args.self.now.turn c.args.is_long *ℤ int_signum (chord c.args.self.now).u
+    *ℤ aside_of c.args.square (chord_square c.args.self.now) (chord c.args.self.now).u
 second c =
     let side : to_z w64 (of_z w64 c.side-side.result) ≡ c.side-side.result = omega (arith, ints) in
     let sign : to_z w64 (of_z w64 c.u.result) ≡ c.chord-chord.result.u = omega (arith, ints) in

@@ -12,7 +12,8 @@ pub returns-then-square-reach-clause-radii : goal.returns-then-square-reach-clau
 returns-then-square-reach-clause-radii c =
     let size : c.from-size.result ≡ unsigned_abs c.args.radius = omega (arith, ints) in
     let chord : c.square-square.result ≡ chord_square c.args.self.now = cc in
-    let reached : chord_square c.args.self.now ≤ 4 * (unsigned_abs c.args.radius + c.args.tolerance) * (unsigned_abs c.args.radius + c.args.tolerance) = rw (← chord, ← size) c.if-square-reach.true in
+    let reached : chord_square c.args.self.now ≤ 4 * (unsigned_abs c.args.radius + c.args.tolerance) * (unsigned_abs c.args.radius + c.args.tolerance) =
+    rw (← chord, ← size) c.if-square-reach.true in
     rw c.middle.ensures (range_at_middle c.args.self.now c.args.tolerance (unsigned_abs c.args.radius) (omega arith) c.requires.tolerance reached)
 
 -- tests

@@ -7,6 +7,7 @@ use Rattle.ngc_canonical.proofs.state.Interpreter.make_repeats.Given as goal
 
 abbrev pub invariant-loop-index : goal.invariant-loop-index
 invariant-loop-index g l = record {
-  leads : make_moves (moves_from l.cycle l.start (l.index + 1) (repeats_of l.cycle.repeats - l.index)) (state_of l.self) ≡ make_moves (all_moves l.cycle l.start) (state_of l.fn.self);
+  leads : make_moves (moves_from l.cycle l.start (l.index + 1) (repeats_of l.cycle.repeats - l.index)) (state_of l.self)
+      ≡ make_moves (all_moves l.cycle l.start) (state_of l.fn.self);
   frames : (state_of l.self).frames ≡ (state_of l.fn.self).frames;
 }

@@ -5,4 +5,5 @@ use Rattle.ngc_canonical.specs.Perform.{run}
 use Rattle.ngc_canonical.proofs.state.Interpreter.run.Given as goal
 
 abbrev pub invariant-loop-effect : goal.invariant-loop-effect
-invariant-loop-effect g l = run (setup_of l.machine l.tools) (drop l.effect-index l.effects) (state_of l.self) ≡ run (setup_of l.machine l.tools) l.effects (state_of l.fn.self)
+invariant-loop-effect g l =
+    run (setup_of l.machine l.tools) (drop l.effect-index l.effects) (state_of l.self) ≡ run (setup_of l.machine l.tools) l.effects (state_of l.fn.self)

@@ -9,12 +9,14 @@ use Rattle.ngc_certificate_text.proofs.certificate.Certificate.joined.Goals as g
 
 pub invariant_of-result : goal.invariant_of-result
 invariant_of-result g c =
-    let made = joined_whole c.args.both c.len.result c.len-2.result c.args.self.off c.args.self.on c.in_ok-kinds_of.field-0.items c.requires c.len.ensures.value c.len-2.ensures.value c.in_ok-kinds_of.ensures in
+    let made = joined_whole c.args.both c.len.result c.len-2.result c.args.self.off c.args.self.on c.in_ok-kinds_of.field-0.items c.requires c.len.ensures.value
+    c.len-2.ensures.value c.in_ok-kinds_of.ensures in
     record { whole = λ kinds is. subst (λ (ks : List EntryKind). IsWhole ks c.args.self.off c.args.self.on) (same_Some _ _ is) made.whole }
 
 pub returns-clause-form : goal.returns-clause-form
 returns-clause-form g c =
-    let made = joined_whole c.args.both c.len.result c.len-2.result c.args.self.off c.args.self.on c.in_ok-kinds_of.field-0.items c.requires c.len.ensures.value c.len-2.ensures.value c.in_ok-kinds_of.ensures in
+    let made = joined_whole c.args.both c.len.result c.len-2.result c.args.self.off c.args.self.on c.in_ok-kinds_of.field-0.items c.requires c.len.ensures.value
+    c.len-2.ensures.value c.in_ok-kinds_of.ensures in
     ap (λ (items : List Item). Joined items) made.is
 
 pub returns-clause-entries : goal.returns-clause-entries

@@ -7,10 +7,12 @@ use Rattle.ngc_certificate_text.proofs.certificate.Certificate.write.Goals as go
 
 pub returns-in-Ok-clause-ok : goal.returns-in-Ok-clause-ok
 returns-in-Ok-clause-ok g c =
-    let from_start : c.new-chunk.result ++ spelling (form_of c.args.self.now) ≡ spelling (form_of c.args.self.now) = ap (λ (l : List ℕ). l ++ spelling (form_of c.args.self.now)) c.new-chunk.ensures in
+    let from_start : c.new-chunk.result ++ spelling (form_of c.args.self.now) ≡ spelling (form_of c.args.self.now) =
+    ap (λ (l : List ℕ). l ++ spelling (form_of c.args.self.now)) c.new-chunk.ensures in
     on_ok_weaker c.write_out.result (all_written _ _ _ _ _ (rw from_start at c.in-Ok.ensures.text)) c.write_out.ensures.ok
 
 pub returns-in-Ok-clause-fault : goal.returns-in-Ok-clause-fault
 returns-in-Ok-clause-fault g c =
-    let from_start : c.new-chunk.result ++ spelling (form_of c.args.self.now) ≡ spelling (form_of c.args.self.now) = ap (λ (l : List ℕ). l ++ spelling (form_of c.args.self.now)) c.new-chunk.ensures in
+    let from_start : c.new-chunk.result ++ spelling (form_of c.args.self.now) ≡ spelling (form_of c.args.self.now) =
+    ap (λ (l : List ℕ). l ++ spelling (form_of c.args.self.now)) c.new-chunk.ensures in
     on_err_weaker c.write_out.result (beginning_written _ _ _ _ _ (rw from_start at c.in-Ok.ensures.text)) c.write_out.ensures.fault

@@ -19,24 +19,36 @@ push-requires-in-On-clause-room g c = room_for _ _ _ _ (of.On c.in-On.index) On 
 
 pub returns-in_ok-push-in-Both-2-clause-pushed : goal.returns-in_ok-push-in-Both-2-clause-pushed
 returns-in_ok-push-in-Both-2-clause-pushed g c =
-    on_ok_weaker c.push_kind.result (λ e. (pushed_both _ _ _ _ _ _ _ _ _ _ _ c.requires.kept c.in-Both.is c.as_slice-pieces.ensures.value e c.in_ok-push-in-Both.ensures.ok c.in_ok-push-in-Both-2.ensures.ok).is) c.push_kind.ensures
+    on_ok_weaker c.push_kind.result
+    (λ e. (pushed_both _ _ _ _ _ _ _ _ _ _ _ c.requires.kept c.in-Both.is c.as_slice-pieces.ensures.value e c.in_ok-push-in-Both.ensures.ok
+    c.in_ok-push-in-Both-2.ensures.ok).is) c.push_kind.ensures
 
 pub returns-in_ok-push-in-Both-2-clause-kept : goal.returns-in_ok-push-in-Both-2-clause-kept
 returns-in_ok-push-in-Both-2-clause-kept g c =
-    on_ok_weaker c.push_kind.result (λ e. (pushed_both _ _ _ _ _ _ _ _ _ _ _ c.requires.kept c.in-Both.is c.as_slice-pieces.ensures.value e c.in_ok-push-in-Both.ensures.ok c.in_ok-push-in-Both-2.ensures.ok).whole) c.push_kind.ensures
+    on_ok_weaker c.push_kind.result
+    (λ e. (pushed_both _ _ _ _ _ _ _ _ _ _ _ c.requires.kept c.in-Both.is c.as_slice-pieces.ensures.value e c.in_ok-push-in-Both.ensures.ok
+    c.in_ok-push-in-Both-2.ensures.ok).whole) c.push_kind.ensures
 
 pub returns-in_ok-push-in-Off-clause-pushed : goal.returns-in_ok-push-in-Off-clause-pushed
 returns-in_ok-push-in-Off-clause-pushed g c =
-    on_ok_weaker c.push_kind-in-Off.result (λ e. (pushed_off _ _ _ _ _ _ _ _ _ c.requires.kept c.in-Off.is c.as_slice-pieces.ensures.value e c.in_ok-push-in-Off.ensures.ok).is) c.push_kind-in-Off.ensures
+    on_ok_weaker c.push_kind-in-Off.result
+    (λ e. (pushed_off _ _ _ _ _ _ _ _ _ c.requires.kept c.in-Off.is c.as_slice-pieces.ensures.value e c.in_ok-push-in-Off.ensures.ok).is)
+    c.push_kind-in-Off.ensures
 
 pub returns-in_ok-push-in-Off-clause-kept : goal.returns-in_ok-push-in-Off-clause-kept
 returns-in_ok-push-in-Off-clause-kept g c =
-    on_ok_weaker c.push_kind-in-Off.result (λ e. (pushed_off _ _ _ _ _ _ _ _ _ c.requires.kept c.in-Off.is c.as_slice-pieces.ensures.value e c.in_ok-push-in-Off.ensures.ok).whole) c.push_kind-in-Off.ensures
+    on_ok_weaker c.push_kind-in-Off.result
+    (λ e. (pushed_off _ _ _ _ _ _ _ _ _ c.requires.kept c.in-Off.is c.as_slice-pieces.ensures.value e c.in_ok-push-in-Off.ensures.ok).whole)
+    c.push_kind-in-Off.ensures
 
 pub returns-in_ok-push-in-On-clause-pushed : goal.returns-in_ok-push-in-On-clause-pushed
 returns-in_ok-push-in-On-clause-pushed g c =
-    on_ok_weaker c.push_kind-in-On.result (λ e. (pushed_on _ _ _ _ _ _ _ _ _ c.requires.kept c.in-On.is c.as_slice-pieces.ensures.value e c.in_ok-push-in-On.ensures.ok).is) c.push_kind-in-On.ensures
+    on_ok_weaker c.push_kind-in-On.result
+    (λ e. (pushed_on _ _ _ _ _ _ _ _ _ c.requires.kept c.in-On.is c.as_slice-pieces.ensures.value e c.in_ok-push-in-On.ensures.ok).is)
+    c.push_kind-in-On.ensures
 
 pub returns-in_ok-push-in-On-clause-kept : goal.returns-in_ok-push-in-On-clause-kept
 returns-in_ok-push-in-On-clause-kept g c =
-    on_ok_weaker c.push_kind-in-On.result (λ e. (pushed_on _ _ _ _ _ _ _ _ _ c.requires.kept c.in-On.is c.as_slice-pieces.ensures.value e c.in_ok-push-in-On.ensures.ok).whole) c.push_kind-in-On.ensures
+    on_ok_weaker c.push_kind-in-On.result
+    (λ e. (pushed_on _ _ _ _ _ _ _ _ _ c.requires.kept c.in-On.is c.as_slice-pieces.ensures.value e c.in_ok-push-in-On.ensures.ok).whole)
+    c.push_kind-in-On.ensures

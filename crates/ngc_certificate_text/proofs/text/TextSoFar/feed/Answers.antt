@@ -16,11 +16,13 @@ lines-preserved g c =
     record {
       text = λ lines parts rest.
           c.lines.invariant.text lines parts rest
-          ∙ told_leads (expected_in old.lines) (expected_in next) told (heard_in old.found) (heard_in c.take.new.self) (left_by lines old.lines (c.lines.rest.now ++ rest)) (left_by lines next (c.in-Ok-Some.behind.now ++ rest))
+          ∙ told_leads (expected_in old.lines) (expected_in next) told (heard_in old.found) (heard_in c.take.new.self)
+          (left_by lines old.lines (c.lines.rest.now ++ rest)) (left_by lines next (c.in-Ok-Some.behind.now ++ rest))
           expected.0 c.lines.invariant.reading.expecting expected.1 hears (step lines parts rest);
       reading = record {
         reading = c.in-Ok-Some.ensures.reading;
-        expecting = told_expects (expected_in old.lines) (expected_in next) told (heard_in old.found) (heard_in c.take.new.self) expected.0 expected.1 hears c.lines.invariant.reading.expecting;
+        expecting = told_expects (expected_in old.lines) (expected_in next) told (heard_in old.found)
+            (heard_in c.take.new.self) expected.0 expected.1 hears c.lines.invariant.reading.expecting;
         kept = c.in-Ok.ensures.kept;
       };
       room = omega (arith, room);

@@ -7,7 +7,8 @@ use Rattle.ngc_certificate_text.proofs.text.TextSoFar.feed.Given as goal
 
 abbrev pub invariant-lines : goal.invariant-lines
 invariant-lines g l = record {
-  text : (lines : List ℕ → List (List ℕ)) → PartsLines lines → (rest : List ℕ) → resumed l.initial.self lines (l.bytes ++ rest) ≡ resumed l.self lines (l.rest ++ rest);
+  text : (lines : List ℕ → List (List ℕ)) → PartsLines lines → (rest : List ℕ) →
+      resumed l.initial.self lines (l.bytes ++ rest) ≡ resumed l.self lines (l.rest ++ rest);
   reading : IsResuming l.self;
   room : room_of l.self.lines + length l.bytes ≤ room_of l.initial.self.lines + length l.rest;
 }

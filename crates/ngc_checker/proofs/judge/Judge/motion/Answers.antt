@@ -19,13 +19,16 @@ invariant_of-self g c =
           let e = w.motion.ensures in
           let f = w.motion-in-Both.ensures in
           rw w.self-inside-is (begun_judged file j.off.items j.on.items j.off_walk w.motion.new.self j.on_walk w.motion-in-Both.new.self _ n j.left judge zero
-          (both_begun file j.off.items j.on.items _ _ j.off_walk w.motion.new.self j.on_walk w.motion-in-Both.new.self _ _ n c.requires.some off on (e.index, e.following, e.left) (f.index, f.following, f.left)))
+          (both_begun file j.off.items j.on.items _ _ j.off_walk w.motion.new.self j.on_walk w.motion-in-Both.new.self _ _ n c.requires.some off on
+          (e.index, e.following, e.left) (f.index, f.following, f.left)))
       | in-Off w ↦
           let e = w.motion-in-Off.ensures in
           rw w.self-inside-is (begun_judged file j.off.items j.on.items j.off_walk w.motion-in-Off.new.self j.on_walk j.on_walk _ n j.left judge zero
-          (off_begun file j.off.items j.on.items _ j.off_walk w.motion-in-Off.new.self j.on_walk _ n j.left judge.on_walking zero c.requires.some off (e.index, e.following, e.left)))
+          (off_begun file j.off.items j.on.items _ j.off_walk w.motion-in-Off.new.self j.on_walk _ n j.left judge.on_walking zero c.requires.some off
+          (e.index, e.following, e.left)))
       | in-On w ↦
           let e = w.motion-in-On.ensures in
           rw w.self-inside-is (begun_judged file j.off.items j.on.items j.off_walk j.off_walk j.on_walk w.motion-in-On.new.self _ n j.left judge zero
-          (on_begun file j.off.items j.on.items _ j.off_walk j.on_walk w.motion-in-On.new.self _ n j.left judge.off_walking zero c.requires.some on (e.index, e.following, e.left)))
+          (on_begun file j.off.items j.on.items _ j.off_walk j.on_walk w.motion-in-On.new.self _ n j.left judge.off_walking zero c.requires.some on
+          (e.index, e.following, e.left)))
     ]

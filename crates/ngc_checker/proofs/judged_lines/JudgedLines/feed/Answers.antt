@@ -12,7 +12,8 @@ use Rattle.ngc_checker.proofs.LineJudging.{may_judge, front_judged}
 use Rattle.std.proofs.Common.{ℕ, subst, refl}
 use Rattle.ngc_checker.proofs.judged_lines.JudgedLines.feed.Goals as goal
 
-may_take : (e : Expected) (number : ℕ) (told : Told) (j : Result JudgeData CheckFault) → IsSound e number → IsNext e told → ((v : JudgeData) → j ≡ Ok v → IsAt e v) → IfOk j (λ v. MayJudge told v)
+may_take : (e : Expected) (number : ℕ) (told : Told) (j : Result JudgeData CheckFault) → IsSound e number → IsNext e told →
+    ((v : JudgeData) → j ≡ Ok v → IsAt e v) → IfOk j (λ v. MayJudge told v)
 may_take e number told (Ok v) sound is at = may_judge e number told v sound is (at v refl)
 may_take e number told (Err fault) sound is at = tt
 
@@ -34,11 +35,13 @@ lines-preserved g c =
     record {
       text = λ lines parts rest.
           c.lines.invariant.text lines parts rest
-          ∙ front_judged told (judged_by old.judge) (judged_by c.take_line.new.judge) (left_by lines old.lines (c.lines.rest.now ++ rest)) (left_by lines next (c.in-Ok-Some.behind.now ++ rest))
+          ∙ front_judged told (judged_by old.judge) (judged_by c.take_line.new.judge) (left_by lines old.lines (c.lines.rest.now ++ rest))
+          (left_by lines next (c.in-Ok-Some.behind.now ++ rest))
           c.take_line.ensures.verdict (step lines parts rest);
       reading = record {
         reading = c.in-Ok-Some.ensures.reading;
-        at = λ v is. subst (λ (e : Expected). IsAt e v) (sym expected.1) (c.take_line.ensures.at (expected_in old.lines) expected.0 c.lines.invariant.reading.at v is);
+        at = λ v is. subst (λ (e : Expected). IsAt e v) (sym expected.1)
+            (c.take_line.ensures.at (expected_in old.lines) expected.0 c.lines.invariant.reading.at v is);
       };
       kept = c.take_line.ensures.kept ∙ c.lines.invariant.kept;
       room = omega (arith, room);

@@ -7,7 +7,8 @@ use Rattle.ngc_checker.proofs.judged_lines.JudgedLines.feed.Given as goal
 
 abbrev pub invariant-lines : goal.invariant-lines
 invariant-lines g l = record {
-  text : (lines : List ℕ → List (List ℕ)) → PartsLines lines → (rest : List ℕ) → judged l.initial.self lines (l.bytes ++ rest) ≡ judged l.self lines (l.rest ++ rest);
+  text : (lines : List ℕ → List (List ℕ)) → PartsLines lines → (rest : List ℕ) →
+      judged l.initial.self lines (l.bytes ++ rest) ≡ judged l.self lines (l.rest ++ rest);
   reading : IsJudged l.self;
   kept : kept_by l.self.judge ≡ kept_by l.initial.self.judge;
   room : room_of l.self.lines + length l.bytes ≤ room_of l.initial.self.lines + length l.rest;

@@ -8,6 +8,7 @@ loop-part-preserved c =
       search rules,
       (
         search rules,
-        stacked-more _ c.as_slice-part-items.result.now c.loop-part.part-index _ _ _ _ _ _ _ c.loop-part-test.true c.part-item.is (search rules) c.filled.ensures c.push.ensures.items c.loop-part.invariant.1.1,
+        stacked-more _ c.as_slice-part-items.result.now c.loop-part.part-index _ _ _ _ _ _ _ c.loop-part-test.true c.part-item.is
+            (search rules) c.filled.ensures c.push.ensures.items c.loop-part.invariant.1.1,
       ),
     )

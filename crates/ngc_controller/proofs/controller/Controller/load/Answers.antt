@@ -24,7 +24,9 @@ returns-then-len-ge-RING-clause-loads g c =
     let p = i.progress in
     let commands = commands_at i.block_delete i.accepted in
     let old = state_of p.done p.ring p.drive p.dwelt i.position i.tool i.panel in
-    let found : slice_get commands (p.done + length p.ring.loaded) ≡ Some c.in-Some.command.now = (let lookup = c.in-Some.ensures.lookup in found_in c.commands-commands.result.now commands (p.done + c.len.result) (p.done + length p.ring.loaded) c.in-Some.command.now lookup.3.0 lookup.1 c.commands-commands.ensures (ap (λ k. p.done + k) c.len.ensures.value)) in
+    let found : slice_get commands (p.done + length p.ring.loaded) ≡ Some c.in-Some.command.now =
+    (let lookup = c.in-Some.ensures.lookup in found_in c.commands-commands.result.now commands (p.done + c.len.result)
+    (p.done + length p.ring.loaded) c.in-Some.command.now lookup.3.0 lookup.1 c.commands-commands.ensures (ap (λ k. p.done + k) c.len.ensures.value)) in
     let full : RING ≤ length p.ring.loaded = omega (arith, c.len-2.ensures.value, c.if-len-ge-RING.true) in
     rw (← c.self.view_is) (loads_not (job_of i.accepted.machine commands) old old c.in-Some.command.now _ found full refl)
 
@@ -37,10 +39,15 @@ invariant_of-self g c =
     let job = job_of machine commands in
     let n = c.load.new.self in
     let q = c.new-loaded.result.queued in
-    let ramp = more_as machine _ commands _ (p.done + length p.ring.loaded) p.drive.flows_on q p.drive.ramp n.drive.ramp c.load.ensures.ramp c.machine-machine.ensures.value c.commands-commands.ensures in
-    let target = target_as machine _ (effective_at i.panel) _ n.ring.loaded n.drive.target c.load.ensures.target c.machine-machine.ensures.value c.effective.ensures in
-    let found : slice_get commands (p.done + length p.ring.loaded) ≡ Some c.in-Some.command.now = (let lookup = c.in-Some.ensures.lookup in found_in c.commands-commands.result.now commands (p.done + c.len.result) (p.done + length p.ring.loaded) c.in-Some.command.now lookup.3.0 lookup.1 c.commands-commands.ensures (ap (λ k. p.done + k) c.len.ensures.value)) in
-    loaded_order job p.done p.ring p.drive p.dwelt i.panel q n.done n.ring n.drive n.dwelt c.self.invariant ramp c.load.ensures.flows_on target (slice_get_within _ _ _ found) c.load.ensures.done c.load.ensures.dwelt c.load.ensures.loaded c.load.ensures.place
+    let ramp = more_as machine _ commands _ (p.done + length p.ring.loaded) p.drive.flows_on q p.drive.ramp n.drive.ramp c.load.ensures.ramp
+    c.machine-machine.ensures.value c.commands-commands.ensures in
+    let target = target_as machine _ (effective_at i.panel) _ n.ring.loaded n.drive.target c.load.ensures.target c.machine-machine.ensures.value
+    c.effective.ensures in
+    let found : slice_get commands (p.done + length p.ring.loaded) ≡ Some c.in-Some.command.now =
+    (let lookup = c.in-Some.ensures.lookup in found_in c.commands-commands.result.now commands (p.done + c.len.result)
+    (p.done + length p.ring.loaded) c.in-Some.command.now lookup.3.0 lookup.1 c.commands-commands.ensures (ap (λ k. p.done + k) c.len.ensures.value)) in
+    loaded_order job p.done p.ring p.drive p.dwelt i.panel q n.done n.ring n.drive n.dwelt c.self.invariant ramp c.load.ensures.flows_on target
+    (slice_get_within _ _ _ found) c.load.ensures.done c.load.ensures.dwelt c.load.ensures.loaded c.load.ensures.place
 
 pub returns-clause-loads : goal.returns-clause-loads
 returns-clause-loads g c =
@@ -51,8 +58,13 @@ returns-clause-loads g c =
     let job = job_of machine commands in
     let n = c.load.new.self in
     let q = c.new-loaded.result.queued in
-    let ramp = more_as machine _ commands _ (p.done + length p.ring.loaded) p.drive.flows_on q p.drive.ramp n.drive.ramp c.load.ensures.ramp c.machine-machine.ensures.value c.commands-commands.ensures in
-    let found : slice_get commands (p.done + length p.ring.loaded) ≡ Some c.in-Some.command.now = (let lookup = c.in-Some.ensures.lookup in found_in c.commands-commands.result.now commands (p.done + c.len.result) (p.done + length p.ring.loaded) c.in-Some.command.now lookup.3.0 lookup.1 c.commands-commands.ensures (ap (λ k. p.done + k) c.len.ensures.value)) in
+    let ramp = more_as machine _ commands _ (p.done + length p.ring.loaded) p.drive.flows_on q p.drive.ramp n.drive.ramp c.load.ensures.ramp
+    c.machine-machine.ensures.value c.commands-commands.ensures in
+    let found : slice_get commands (p.done + length p.ring.loaded) ≡ Some c.in-Some.command.now =
+    (let lookup = c.in-Some.ensures.lookup in found_in c.commands-commands.result.now commands (p.done + c.len.result)
+    (p.done + length p.ring.loaded) c.in-Some.command.now lookup.3.0 lookup.1 c.commands-commands.ensures (ap (λ k. p.done + k) c.len.ensures.value)) in
     let room : length p.ring.loaded < RING = omega (arith, c.len-2.ensures.value, c.if-len-ge-RING.false) in
     rw (← c.self.view_is, c.len.ensures.value)
-    (loads job p.done p.ring p.drive p.dwelt i.position i.tool i.panel c.in-Some.command.now q n.done n.ring n.drive n.dwelt c.self.invariant found room c.new-loaded.ensures.command (c.new-loaded.ensures.takes job (ap (λ (m : MachineFile). m.step) (sym c.machine-machine.ensures.value))) ramp c.load.ensures.done c.load.ensures.dwelt c.load.ensures.loaded)
+    (loads job p.done p.ring p.drive p.dwelt i.position i.tool i.panel c.in-Some.command.now q n.done n.ring n.drive n.dwelt c.self.invariant found room
+    c.new-loaded.ensures.command (c.new-loaded.ensures.takes job (ap (λ (m : MachineFile). m.step) (sym c.machine-machine.ensures.value))) ramp
+    c.load.ensures.done c.load.ensures.dwelt c.load.ensures.loaded)

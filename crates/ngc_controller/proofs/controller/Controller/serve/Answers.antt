@@ -19,7 +19,8 @@ halt-requires g c =
     let i = c.self.inside in
     let p = i.progress in
     let o = c.self.invariant in
-    let served : IsServed p.ring.loaded c.args.action = subst (λ (x : ControllerData). IsServed x.state.ring c.args.action) (sym c.self.view_is) c.requires.head in
+    let served : IsServed p.ring.loaded c.args.action = subst (λ (x : ControllerData). IsServed x.state.ring c.args.action)
+    (sym c.self.view_is) c.requires.head in
     omega (arith, o.change, o.slow (served_still p.ring.loaded c.args.action served))
 
 pub invariant_of-self : goal.invariant_of-self
@@ -35,15 +36,20 @@ invariant_of-self-2 g c =
     let p = i.progress in
     let job = job_of i.accepted.machine (commands_at i.block_delete i.accepted) in
     let o = c.self.invariant in
-    let served : IsServed p.ring.loaded c.args.action = subst (λ (x : ControllerData). IsServed x.state.ring c.args.action) (sym c.self.view_is) c.requires.head in
+    let served : IsServed p.ring.loaded c.args.action = subst (λ (x : ControllerData). IsServed x.state.ring c.args.action)
+    (sym c.self.view_is) c.requires.head in
     let ramp : RampState = record p.drive.ramp { rate = 0 } in
     let halted : Drive = record p.drive { ramp = ramp } in
     let n = c.leave.new.self in
     let panel = c.panel_after-self-inside.result in
     let left = served_left job p.done p.ring p.drive p.dwelt i.panel c.args.action o served in
-    let target = target_as i.accepted.machine _ (effective_at panel) _ n.ring.loaded n.drive.target c.leave.ensures.target c.machine-machine.ensures.value c.effective.ensures in
-    left_order job p.done p.ring.loaded ramp p.drive.flows_on panel n.done n.ring n.drive n.dwelt o.machine left.0 (ap (λ x. x / MILLION) left.1) o.flows_on (λ stopped. refl) o.few (served_some p.ring.loaded c.args.action served) c.leave.ensures.loaded c.leave.ensures.place c.leave.ensures.done c.leave.ensures.dwelt
-    (c.leave.ensures.ramp ∙ ap (λ (d : Drive). d.ramp) {y = halted} c.halt.ensures) (c.leave.ensures.flows_on ∙ ap (λ (d : Drive). d.flows_on) {y = halted} c.halt.ensures) target
+    let target = target_as i.accepted.machine _ (effective_at panel) _ n.ring.loaded n.drive.target c.leave.ensures.target c.machine-machine.ensures.value
+    c.effective.ensures in
+    left_order job p.done p.ring.loaded ramp p.drive.flows_on panel n.done n.ring n.drive n.dwelt o.machine left.0 (ap (λ x. x / MILLION) left.1) o.flows_on
+    (λ stopped. refl) o.few (served_some p.ring.loaded c.args.action served) c.leave.ensures.loaded c.leave.ensures.place c.leave.ensures.done
+    c.leave.ensures.dwelt
+    (c.leave.ensures.ramp ∙ ap (λ (d : Drive). d.ramp) {y = halted} c.halt.ensures)
+    (c.leave.ensures.flows_on ∙ ap (λ (d : Drive). d.flows_on) {y = halted} c.halt.ensures) target
 
 pub returns-clause-serves : goal.returns-clause-serves
 returns-clause-serves g c =
@@ -52,7 +58,8 @@ returns-clause-serves g c =
     let job = job_of i.accepted.machine (commands_at i.block_delete i.accepted) in
     let o = c.self.invariant in
     let old = state_of p.done p.ring p.drive p.dwelt i.position i.tool i.panel in
-    let served : IsServed p.ring.loaded c.args.action = subst (λ (x : ControllerData). IsServed x.state.ring c.args.action) (sym c.self.view_is) c.requires.head in
+    let served : IsServed p.ring.loaded c.args.action = subst (λ (x : ControllerData). IsServed x.state.ring c.args.action)
+    (sym c.self.view_is) c.requires.head in
     let still : RampState = record p.drive.ramp { rate = 0 } in
     let halted : Drive = record p.drive { ramp = still } in
     let n = c.leave.new.self in
@@ -60,12 +67,16 @@ returns-clause-serves g c =
     let left = served_left job p.done p.ring p.drive p.dwelt i.panel c.args.action o served in
     let queue : n.ring.loaded ≡ drop 1 p.ring.loaded = c.leave.ensures.loaded in
     let ramp : n.drive.ramp ≡ still = c.leave.ensures.ramp ∙ ap (λ (d : Drive). d.ramp) {y = halted} c.halt.ensures in
-    let none : travelled_of n.ring.loaded n.drive.ramp.rest ≡ 0 = ap (λ xs. travelled_of xs n.drive.ramp.rest) queue ∙ ap (λ (x : RampState). travelled_of (drop 1 p.ring.loaded) x.rest) {y = still} ramp ∙ left.1 in
+    let none : travelled_of n.ring.loaded n.drive.ramp.rest ≡ 0 = ap (λ xs. travelled_of xs n.drive.ramp.rest) queue
+    ∙ ap (λ (x : RampState). travelled_of (drop 1 p.ring.loaded) x.rest) {y = still} ramp ∙ left.1 in
     let ticks = c.dwells_on.ensures.value job (ap (λ (m : MachineFile). m.ticks_per_second) (sym c.machine-machine.ensures.value)) in
     let over : nat_lt (suc p.dwelt) (ticks_of job c.args.action) ≡ false = sym ticks ∙ c.if-dwells_on.false in
-    let ends : Finishes job c.args.action old (Ok (Ticked None (Some c.ending_of.result))) (state_of n.done n.ring n.drive n.dwelt i.position c.tool_after-self-inside.result panel) = record {
+    let ends : Finishes job c.args.action old (Ok (Ticked None (Some c.ending_of.result)))
+    (state_of n.done n.ring n.drive n.dwelt i.position c.tool_after-self-inside.result panel) = record {
       slow = o.slow (served_still p.ring.loaded c.args.action served);
       says = ap (λ e. Ok (Ticked None (Some e))) (c.ending_of.ensures old refl refl);
-      goes_on = finished c.args.action old i.tool c.tool_after-self-inside.result i.panel panel n.done n.ring.loaded n.drive.ramp.rate (travelled_of n.ring.loaded n.drive.ramp.rest) n.dwelt (omega (arith, c.leave.ensures.done)) queue (ap (λ (x : RampState). x.rate) ramp) none c.leave.ensures.dwelt c.tool_after-self-inside.ensures c.panel_after-self-inside.ensures;
+      goes_on = finished c.args.action old i.tool c.tool_after-self-inside.result i.panel panel n.done n.ring.loaded n.drive.ramp.rate
+          (travelled_of n.ring.loaded n.drive.ramp.rest) n.dwelt (omega (arith, c.leave.ensures.done)) queue
+          (ap (λ (x : RampState). x.rate) ramp) none c.leave.ensures.dwelt c.tool_after-self-inside.ensures c.panel_after-self-inside.ensures;
     } in
     rw (← c.self.view_is) (serves_done job c.args.action old _ _ over ends)

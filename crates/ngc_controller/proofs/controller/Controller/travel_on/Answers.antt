@@ -18,5 +18,6 @@ returns-clause-coasts g c =
     let f = c.follow-self-inside in
     let t = c.coast-ticks in
     let some : 1 ≤ t.result = omega (arith, c.if-ticks-eq0.false) in
-    let h = even_by job p.done p.ring f.new.self p.drive p.dwelt i.position i.tool i.panel t.new.self c.wish-wish.result t.result f.result c.self.invariant moves runs c.wish-wish.ensures t.ensures.coasts some f.ensures.loaded f.ensures.place f.ensures.point in
+    let h = even_by job p.done p.ring f.new.self p.drive p.dwelt i.position i.tool i.panel t.new.self c.wish-wish.result t.result f.result c.self.invariant
+    moves runs c.wish-wish.ensures t.ensures.coasts some f.ensures.loaded f.ensures.place f.ensures.point in
     rw (← c.self.view_is) (coasts_on job p.ring.loaded old p.drive.ramp c.wish-wish.result p.drive.target t.result p.ring.place f.result h)

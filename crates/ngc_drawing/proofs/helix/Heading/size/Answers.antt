@@ -15,5 +15,6 @@ returns-clause-v c =
 
 pub returns-clause-bound : goal.returns-clause-bound
 returns-clause-bound c =
-    let small : c.root_floor.result ≤ 10 ^ 13 = from_squares c.root_floor.result (10 ^ 13) (omega (arith, c.root_floor.ensures.square, c.square.ensures.bound)) in
+    let small : c.root_floor.result ≤ 10 ^ 13 = from_squares c.root_floor.result (10 ^ 13)
+    (omega (arith, c.root_floor.ensures.square, c.square.ensures.bound)) in
     omega (arith, small)

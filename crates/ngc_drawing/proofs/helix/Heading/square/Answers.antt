@@ -5,7 +5,8 @@ use Rattle.std.proofs.lemmas.Nat.{mul-le}
 use Rattle.ngc_arc_geometry.proofs.Squares.{square_sum}
 use Rattle.ngc_drawing.proofs.helix.Heading.square.Goals as goal
 
-sum_of : (c : goal.After-square_of) → c.square_of.result ≡ unsigned_abs c.args.self.now.u * unsigned_abs c.args.self.now.u + unsigned_abs c.args.self.now.v * unsigned_abs c.args.self.now.v
+sum_of : (c : goal.After-square_of) →
+    c.square_of.result ≡ unsigned_abs c.args.self.now.u * unsigned_abs c.args.self.now.u + unsigned_abs c.args.self.now.v * unsigned_abs c.args.self.now.v
 sum_of c =
     let u : to_z w64 (of_z w64 c.args.self.now.u) ≡ c.args.self.now.u = omega (arith, ints) in
     let v : to_z w64 (of_z w64 c.args.self.now.v) ≡ c.args.self.now.v = omega (arith, ints) in

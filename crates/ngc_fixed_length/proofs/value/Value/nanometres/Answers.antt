@@ -29,7 +29,8 @@ left c = omega (arith, ints)
 right : (c : goal.After-nanometres) → to_z w128 (of_z w128 c.nanometres.result) ≡ nanometres_in c.args.units
 right c = let u = inch c.args.units in omega (arith, ints)
 
-product : (c : goal.After-rounded_quotient) → to_z w128 (of_z w128 (to_z w128 (of_z w128 c.from.result) *ℤ to_z w128 (of_z w128 c.nanometres.result))) ≡ c.args.self *ℤ nanometres_in c.args.units
+product : (c : goal.After-rounded_quotient) → to_z w128 (of_z w128 (to_z w128 (of_z w128 c.from.result) *ℤ to_z w128 (of_z w128 c.nanometres.result)))
+    ≡ c.args.self *ℤ nanometres_in c.args.units
 product c =
     let u = inch c.args.units in
     let a : to_z w128 (of_z w128 c.from.result) ≡ c.args.self = omega (arith, ints) in

@@ -4,10 +4,13 @@ use Rattle.ngc_line_reader.proofs.RefusedLaws.{large_is_written, many_are_writte
 use Rattle.ngc_line_reader.proofs.line.Line.read.Goals as goal
 
 pub returns-clause-found : goal.returns-clause-found
-returns-clause-found c = gives_reading c.args.bytes.now _ _ c.text_at.new.line c.text_at.result c.fill_text-length.ensures.bytes c.fill_text-length.ensures.columns c.text_at.ensures.reads
+returns-clause-found c =
+    gives_reading c.args.bytes.now _ _ c.text_at.new.line c.text_at.result c.fill_text-length.ensures.bytes c.fill_text-length.ensures.columns
+    c.text_at.ensures.reads
 
 pub returns-clause-only : goal.returns-clause-only
-returns-clause-only c r reads limits short = finds_reading c.args.bytes.now _ _ c.text_at.new.line c.text_at.result c.fill_text-length.ensures.bytes c.text_at.ensures.reads r reads limits
+returns-clause-only c r reads limits short =
+    finds_reading c.args.bytes.now _ _ c.text_at.new.line c.text_at.result c.fill_text-length.ensures.bytes c.text_at.ensures.reads r reads limits
 
 pub returns-clause-large : goal.returns-clause-large
 returns-clause-large c = large_is_written c.args.bytes.now _ _ c.text_at.new.line c.text_at.result c.fill_text-length.ensures.bytes c.text_at.ensures.reads

@@ -18,7 +18,8 @@ invariant_of-result c = record {
   home28_in_range = rw c.place-4.ensures c.requires.home28;
   home30_in_range = rw c.place-5.ensures c.requires.home30;
   origins_in_range = origins_in_range _ _ c.origins.ensures c.requires.origins;
-  fixtures_in_range = fixtures_in_range _ _ (c.in_ok-fixtures.ensures ∙ ap (map fixture_of) c.as_slice.ensures.value) c.requires.fixture_count c.requires.fixtures;
+  fixtures_in_range =
+      fixtures_in_range _ _ (c.in_ok-fixtures.ensures ∙ ap (map fixture_of) c.as_slice.ensures.value) c.requires.fixture_count c.requires.fixtures;
 }
 
 pub returns : goal.returns

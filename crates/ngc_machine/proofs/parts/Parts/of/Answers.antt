@@ -10,5 +10,6 @@ push-requires c =
 pub returns : goal.returns
 returns c =
     let least = nonempty c.args.parts.now (sym c.is_empty.ensures ∙ c.if-is_empty.false) in
-    let whole = (rw c.one-made.ensures at c.loop-part.invariant) ∙ first-rest c.args.parts.now _ c.loop-part.part-index least c.index-parts-0.is c.loop-part-test.false in
+    let whole = (rw c.one-made.ensures at c.loop-part.invariant) ∙ first-rest c.args.parts.now _ c.loop-part.part-index least c.index-parts-0.is
+    c.loop-part-test.false in
     rw whole (sym (one_to_four-yes c.args.parts.now least c.if-parts-gt4.false))

@@ -8,4 +8,5 @@ invariant_of-result c =
     record { in_range = tools_in_range c.args.self.now.tools.items c.loop-entry.entry-index _ (omega arith) c.loop-entry.invariant c.requires }
 
 pub tool-requires : goal.tool-requires
-tool-requires c = entry_at c.args.self.now.tools.items _ c.loop-entry.entry-index _ c.deref-entry-items.ensures.value c.loop-entry-test.true c.entry-item.is c.requires
+tool-requires c =
+    entry_at c.args.self.now.tools.items _ c.loop-entry.entry-index _ c.deref-entry-items.ensures.value c.loop-entry-test.true c.entry-item.is c.requires

@@ -6,5 +6,6 @@ use Rattle.ngc_parameters.proofs.parameters.Store.make.Given as goal
 
 abbrev pub invariant-loop-change : goal.invariant-loop-change
 invariant-loop-change g l = record {
-  values : (k : ℕ) → after_settings (change_pairs (drop l.change-index l.change-items)) (parameters_of l.self) k ≡ after_settings (change_pairs l.change-items) (parameters_of l.initial.self) k;
+  values : (k : ℕ) → after_settings (change_pairs (drop l.change-index l.change-items)) (parameters_of l.self) k
+      ≡ after_settings (change_pairs l.change-items) (parameters_of l.initial.self) k;
 }

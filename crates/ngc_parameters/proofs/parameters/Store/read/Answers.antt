@@ -8,5 +8,6 @@ use Rattle.ngc_parameters.proofs.parameters.Store.read.Goals as goal
 
 pub returns-clause-value : goal.returns-clause-value
 returns-clause-value g c =
-    let found = subst (λ (vs : List ℤ). Gives (λ _. values_in c.line_of.new.values) c.line_of.result (values_on (held vs) (view_parts c.args.line))) c.as_slice.ensures.value c.line_of.ensures.value in
+    let found = subst (λ (vs : List ℤ). Gives (λ _. values_in c.line_of.new.values) c.line_of.result (values_on (held vs) (view_parts c.args.line)))
+    c.as_slice.ensures.value c.line_of.ensures.value in
     line_is (parameters_of c.args.self.now) (view_parts c.args.line) (λ _. values_in c.line_of.new.values) c.line_of.result found

@@ -7,4 +7,5 @@ use Rattle.ngc_planner.proofs.ramp.Ramp.coast.Goals as goal
 pub invariant_of-self : goal.invariant_of-self
 invariant_of-self c =
     let n = c.even_ticks-ticks.result in
-    coasted (state_of c.self.inside) c.args.wish n c.self.invariant (subst (λ (r : RampState). MayCoastOn r.legs r c.args.wish n) (sym c.self.view_is) c.even_ticks-ticks.ensures.may)
+    coasted (state_of c.self.inside) c.args.wish n c.self.invariant
+    (subst (λ (r : RampState). MayCoastOn r.legs r c.args.wish n) (sym c.self.view_is) c.even_ticks-ticks.ensures.may)

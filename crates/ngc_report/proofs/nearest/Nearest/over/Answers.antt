@@ -15,4 +15,5 @@ loop-i-preserved g c =
     let here : get_or (take c.args.end c.args.motions.now) c.loop-i.i e ≡ e =
     get_or-take c.args.end c.args.motions.now c.loop-i.i e c.loop-i-test.true ∙ get_or_default _ _ _ _ whole in
     rw (c.nearest_over-nearest.ensures, c.pieces.ensures.value)
-    (next_of (over_motion (file_of c.args.machine.now) c.args.tool.now) c.loop-i.nearest (take c.args.end c.args.motions.now) c.loop-i.i e inside (sym here) ∙ c.loop-i.invariant)
+    (next_of (over_motion (file_of c.args.machine.now) c.args.tool.now) c.loop-i.nearest (take c.args.end c.args.motions.now) c.loop-i.i e inside (sym here)
+    ∙ c.loop-i.invariant)

@@ -8,7 +8,8 @@ pub returns-clause-reached : goal.returns-clause-reached
 returns-clause-reached g c =
     let start : Reached = record { tool = None; place = (file_of c.args.machine.now).start } in
     c.gone_on-reached.ensures
-    ∙ gone_further start c.args.self.now.reached c.args.commands.now c.args.self.now.count c.args.count (omega (arith, c.if-count-self.false)) c.requires.last.stands
+    ∙ gone_further start c.args.self.now.reached c.args.commands.now c.args.self.now.count c.args.count
+    (omega (arith, c.if-count-self.false)) c.requires.last.stands
 
 pub returns-clause-stands : goal.returns-clause-stands
 returns-clause-stands g c =
@@ -17,5 +18,6 @@ returns-clause-stands g c =
       within = c.requires.count;
       stands =
           c.gone_on-reached.ensures
-          ∙ gone_further start c.args.self.now.reached c.args.commands.now c.args.self.now.count c.args.count (omega (arith, c.if-count-self.false)) c.requires.last.stands;
+          ∙ gone_further start c.args.self.now.reached c.args.commands.now c.args.self.now.count c.args.count
+          (omega (arith, c.if-count-self.false)) c.requires.last.stands;
     }

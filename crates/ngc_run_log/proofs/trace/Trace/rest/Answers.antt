@@ -6,4 +6,5 @@ use Rattle.ngc_run_log.proofs.trace.Trace.rest.Goals as goal
 
 pub returns-in-Pulses : goal.returns-in-Pulses
 returns-in-Pulses c =
-    ap Pulses c.rest_for.ensures ∙ sym (quiet_dumped c.args.count c.in-Pulses.dump) ∙ ap (λ t. trace_after t (replicate c.args.count quiet)) (sym c.in-Pulses.is)
+    ap Pulses c.rest_for.ensures ∙ sym (quiet_dumped c.args.count c.in-Pulses.dump)
+    ∙ ap (λ t. trace_after t (replicate c.args.count quiet)) (sym c.in-Pulses.is)

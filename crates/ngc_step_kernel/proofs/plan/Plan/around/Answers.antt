@@ -11,7 +11,12 @@ use Rattle.ngc_step_kernel.proofs.plan.Plan.around.Goals as goal
 pub straight-requires-clause-few : goal.straight-requires-clause-few
 straight-requires-clause-few g c =
     let r = c.requires in
-    omega (arith, reach_apart c.args.step c.args.view.now.centre c.args.start c.args.end r.least (nearest_reach c.args.step c.args.view.now.centre c.args.view.now.start c.args.start r.view.start r.start_at r.greatest) (nearest_reach c.args.step c.args.view.now.centre c.args.view.now.end c.args.end r.view.end r.end_at r.greatest))
+    omega (
+      arith,
+      reach_apart c.args.step c.args.view.now.centre c.args.start c.args.end r.least
+          (nearest_reach c.args.step c.args.view.now.centre c.args.view.now.start c.args.start r.view.start r.start_at r.greatest)
+          (nearest_reach c.args.step c.args.view.now.centre c.args.view.now.end c.args.end r.view.end r.end_at r.greatest),
+    )
 
 pub joint-joint-requires-clause-radius : goal.joint-joint-requires-clause-radius
 joint-joint-requires-clause-radius g c = c.ceil-radius.ensures.least 2000020000 (omega (arith, c.square.ensures, c.requires.view.start.bound))
@@ -26,7 +31,9 @@ pub of-entry-requires-clause-near : goal.of-entry-requires-clause-near
 of-entry-requires-clause-near g c =
     let r = c.requires in
     let other = c.circle_of-circle.ensures.bound in
-    (joint_of c.args.step c.ceil-radius.result c.circle_of-circle.result c.square.result c.args.view.now.centre c.args.view.now.start c.joint-joint.result (omega (arith, c.square.ensures, r.view.start.some)) c.ceil-radius.ensures.square c.square.ensures c.joint-joint.ensures.u c.joint-joint.ensures.v other r.greatest).near
+    (joint_of c.args.step c.ceil-radius.result c.circle_of-circle.result c.square.result c.args.view.now.centre c.args.view.now.start c.joint-joint.result
+    (omega (arith, c.square.ensures, r.view.start.some)) c.ceil-radius.ensures.square c.square.ensures c.joint-joint.ensures.u c.joint-joint.ensures.v other
+    r.greatest).near
 
 pub of-entry-requires-clause-radius : goal.of-entry-requires-clause-radius
 of-entry-requires-clause-radius g c = c.circle_of-circle.ensures.bound
@@ -41,60 +48,101 @@ pub by_joint-requires-clause-joins : goal.by_joint-requires-clause-joins
 by_joint-requires-clause-joins g c =
     let r = c.requires in
     let other = c.circle_of-circle.ensures.bound in
-    let joint = joint_of c.args.step c.ceil-radius.result c.circle_of-circle.result c.square.result c.args.view.now.centre c.args.view.now.start c.joint-joint.result (omega (arith, c.square.ensures, r.view.start.some)) c.ceil-radius.ensures.square c.square.ensures c.joint-joint.ensures.u c.joint-joint.ensures.v other r.greatest in
-    omega (arith, reach_apart c.args.step c.args.view.now.centre c.args.start c.joint-joint.result r.least (nearest_reach c.args.step c.args.view.now.centre c.args.view.now.start c.args.start r.view.start r.start_at r.greatest) joint.reach)
+    let joint = joint_of c.args.step c.ceil-radius.result c.circle_of-circle.result c.square.result c.args.view.now.centre c.args.view.now.start
+    c.joint-joint.result (omega (arith, c.square.ensures, r.view.start.some)) c.ceil-radius.ensures.square c.square.ensures c.joint-joint.ensures.u
+    c.joint-joint.ensures.v other r.greatest in
+    omega (
+      arith,
+      reach_apart c.args.step c.args.view.now.centre c.args.start c.joint-joint.result r.least
+          (nearest_reach c.args.step c.args.view.now.centre c.args.view.now.start c.args.start r.view.start r.start_at r.greatest) joint.reach,
+    )
 
 pub by_joint-requires-clause-ends : goal.by_joint-requires-clause-ends
 by_joint-requires-clause-ends g c =
     let r = c.requires in
     let other = c.circle_of-circle.ensures.bound in
-    let joint = joint_of c.args.step c.ceil-radius.result c.circle_of-circle.result c.square.result c.args.view.now.centre c.args.view.now.start c.joint-joint.result (omega (arith, c.square.ensures, r.view.start.some)) c.ceil-radius.ensures.square c.square.ensures c.joint-joint.ensures.u c.joint-joint.ensures.v other r.greatest in
-    omega (arith, reach_apart c.args.step c.args.view.now.centre c.joint-joint.result c.args.end r.least joint.reach (nearest_reach c.args.step c.args.view.now.centre c.args.view.now.end c.args.end r.view.end r.end_at r.greatest))
+    let joint = joint_of c.args.step c.ceil-radius.result c.circle_of-circle.result c.square.result c.args.view.now.centre c.args.view.now.start
+    c.joint-joint.result (omega (arith, c.square.ensures, r.view.start.some)) c.ceil-radius.ensures.square c.square.ensures c.joint-joint.ensures.u
+    c.joint-joint.ensures.v other r.greatest in
+    omega (
+      arith,
+      reach_apart c.args.step c.args.view.now.centre c.joint-joint.result c.args.end r.least joint.reach
+          (nearest_reach c.args.step c.args.view.now.centre c.args.view.now.end c.args.end r.view.end r.end_at r.greatest),
+    )
 
 pub round-requires-clause-small : goal.round-requires-clause-small
-round-requires-clause-small g c = begun_small c.args.step c.circle_of-circle.result c.limit_of-limit.result c.args.view.now.centre c.of-entry.result.spot c.of-entry.result.spoke (begun_of c.args.step c.circle_of-circle.result c.limit_of-limit.result c.args.view.now.centre c.of-entry.result.spot c.of-entry.result.spoke c.requires.least c.requires.greatest c.circle_of-circle.ensures.bound c.limit_of-limit.ensures.value c.of-entry.ensures.about c.of-entry.ensures.near)
+round-requires-clause-small g c =
+    begun_small c.args.step c.circle_of-circle.result c.limit_of-limit.result c.args.view.now.centre c.of-entry.result.spot c.of-entry.result.spoke
+    (begun_of c.args.step c.circle_of-circle.result c.limit_of-limit.result c.args.view.now.centre c.of-entry.result.spot c.of-entry.result.spoke
+    c.requires.least c.requires.greatest c.circle_of-circle.ensures.bound c.limit_of-limit.ensures.value c.of-entry.ensures.about c.of-entry.ensures.near)
 
 pub round-requires-clause-range : goal.round-requires-clause-range
 round-requires-clause-range g c =
-    begun_spots c.args.step c.circle_of-circle.result c.limit_of-limit.result c.args.view.now.centre c.of-entry.result.spot c.of-entry.result.spoke (begun_of c.args.step c.circle_of-circle.result c.limit_of-limit.result c.args.view.now.centre c.of-entry.result.spot c.of-entry.result.spoke c.requires.least c.requires.greatest c.circle_of-circle.ensures.bound c.limit_of-limit.ensures.value c.of-entry.ensures.about c.of-entry.ensures.near) c.requires.view.centre_u c.requires.view.centre_v
+    begun_spots c.args.step c.circle_of-circle.result c.limit_of-limit.result c.args.view.now.centre c.of-entry.result.spot c.of-entry.result.spoke
+    (begun_of c.args.step c.circle_of-circle.result c.limit_of-limit.result c.args.view.now.centre c.of-entry.result.spot c.of-entry.result.spoke
+    c.requires.least c.requires.greatest c.circle_of-circle.ensures.bound c.limit_of-limit.ensures.value c.of-entry.ensures.about c.of-entry.ensures.near)
+    c.requires.view.centre_u c.requires.view.centre_v
 
 pub round-requires-clause-joins : goal.round-requires-clause-joins
 round-requires-clause-joins g c =
     let r = c.requires in
     let other = c.circle_of-circle.ensures.bound in
-    let joint = joint_of c.args.step c.ceil-radius.result c.circle_of-circle.result c.square.result c.args.view.now.centre c.args.view.now.start c.joint-joint.result (omega (arith, c.square.ensures, r.view.start.some)) c.ceil-radius.ensures.square c.square.ensures c.joint-joint.ensures.u c.joint-joint.ensures.v other r.greatest in
-    omega (arith, reach_apart c.args.step c.args.view.now.centre c.args.start c.joint-joint.result r.least (nearest_reach c.args.step c.args.view.now.centre c.args.view.now.start c.args.start r.view.start r.start_at r.greatest) joint.reach)
+    let joint = joint_of c.args.step c.ceil-radius.result c.circle_of-circle.result c.square.result c.args.view.now.centre c.args.view.now.start
+    c.joint-joint.result (omega (arith, c.square.ensures, r.view.start.some)) c.ceil-radius.ensures.square c.square.ensures c.joint-joint.ensures.u
+    c.joint-joint.ensures.v other r.greatest in
+    omega (
+      arith,
+      reach_apart c.args.step c.args.view.now.centre c.args.start c.joint-joint.result r.least
+          (nearest_reach c.args.step c.args.view.now.centre c.args.view.now.start c.args.start r.view.start r.start_at r.greatest) joint.reach,
+    )
 
 pub round-requires-clause-enters : goal.round-requires-clause-enters
 round-requires-clause-enters g c =
     let r = c.requires in
     let other = c.circle_of-circle.ensures.bound in
-    let joint = joint_of c.args.step c.ceil-radius.result c.circle_of-circle.result c.square.result c.args.view.now.centre c.args.view.now.start c.joint-joint.result (omega (arith, c.square.ensures, r.view.start.some)) c.ceil-radius.ensures.square c.square.ensures c.joint-joint.ensures.u c.joint-joint.ensures.v other r.greatest in
-    reach_begun c.args.step c.circle_of-circle.result c.limit_of-limit.result c.args.view.now.centre c.of-entry.result.spot c.joint-joint.result c.of-entry.result.spoke (begun_of c.args.step c.circle_of-circle.result c.limit_of-limit.result c.args.view.now.centre c.of-entry.result.spot c.of-entry.result.spoke c.requires.least c.requires.greatest c.circle_of-circle.ensures.bound c.limit_of-limit.ensures.value c.of-entry.ensures.about c.of-entry.ensures.near) joint.reach
+    let joint = joint_of c.args.step c.ceil-radius.result c.circle_of-circle.result c.square.result c.args.view.now.centre c.args.view.now.start
+    c.joint-joint.result (omega (arith, c.square.ensures, r.view.start.some)) c.ceil-radius.ensures.square c.square.ensures c.joint-joint.ensures.u
+    c.joint-joint.ensures.v other r.greatest in
+    reach_begun c.args.step c.circle_of-circle.result c.limit_of-limit.result c.args.view.now.centre c.of-entry.result.spot c.joint-joint.result
+    c.of-entry.result.spoke
+    (begun_of c.args.step c.circle_of-circle.result c.limit_of-limit.result c.args.view.now.centre c.of-entry.result.spot c.of-entry.result.spoke
+    c.requires.least c.requires.greatest c.circle_of-circle.ensures.bound c.limit_of-limit.ensures.value c.of-entry.ensures.about
+    c.of-entry.ensures.near) joint.reach
 
 pub round-requires-clause-ends : goal.round-requires-clause-ends
 round-requires-clause-ends g c =
-    begun_apart c.args.step c.circle_of-circle.result c.limit_of-limit.result c.args.view.now.centre c.of-entry.result.spot c.args.end c.of-entry.result.spoke (begun_of c.args.step c.circle_of-circle.result c.limit_of-limit.result c.args.view.now.centre c.of-entry.result.spot c.of-entry.result.spoke c.requires.least c.requires.greatest c.circle_of-circle.ensures.bound c.limit_of-limit.ensures.value c.of-entry.ensures.about c.of-entry.ensures.near) (nearest_reach c.args.step c.args.view.now.centre c.args.view.now.end c.args.end c.requires.view.end c.requires.end_at c.requires.greatest)
+    begun_apart c.args.step c.circle_of-circle.result c.limit_of-limit.result c.args.view.now.centre c.of-entry.result.spot c.args.end c.of-entry.result.spoke
+    (begun_of c.args.step c.circle_of-circle.result c.limit_of-limit.result c.args.view.now.centre c.of-entry.result.spot c.of-entry.result.spoke
+    c.requires.least c.requires.greatest c.circle_of-circle.ensures.bound c.limit_of-limit.ensures.value c.of-entry.ensures.about c.of-entry.ensures.near)
+    (nearest_reach c.args.step c.args.view.now.centre c.args.view.now.end c.args.end c.requires.view.end c.requires.end_at c.requires.greatest)
 
 pub round-requires-clause-before : goal.round-requires-clause-before
-round-requires-clause-before g c = some_left _ _ _ c.in-Some.quadrants c.of-entry.result.spoke c.spoke-last.result refl (sym c.quadrants_left.ensures ∙ c.in-Some.is)
+round-requires-clause-before g c =
+    some_left _ _ _ c.in-Some.quadrants c.of-entry.result.spoke c.spoke-last.result refl (sym c.quadrants_left.ensures ∙ c.in-Some.is)
 
 pub quadrants_left-requires-clause-first : goal.quadrants_left-requires-clause-first
-quadrants_left-requires-clause-first g c = first_small c.args.step c.circle_of-circle.result c.limit_of-limit.result c.args.view.now.centre c.of-entry.result.spot c.of-entry.result.spoke (begun_of c.args.step c.circle_of-circle.result c.limit_of-limit.result c.args.view.now.centre c.of-entry.result.spot c.of-entry.result.spoke c.requires.least c.requires.greatest c.circle_of-circle.ensures.bound c.limit_of-limit.ensures.value c.of-entry.ensures.about c.of-entry.ensures.near)
+quadrants_left-requires-clause-first g c =
+    first_small c.args.step c.circle_of-circle.result c.limit_of-limit.result c.args.view.now.centre c.of-entry.result.spot c.of-entry.result.spoke
+    (begun_of c.args.step c.circle_of-circle.result c.limit_of-limit.result c.args.view.now.centre c.of-entry.result.spot c.of-entry.result.spoke
+    c.requires.least c.requires.greatest c.circle_of-circle.ensures.bound c.limit_of-limit.ensures.value c.of-entry.ensures.about c.of-entry.ensures.near)
 
 pub returns-then-is_tiny-clause-follows : goal.returns-then-is_tiny-clause-follows
 returns-then-is_tiny-clause-follows g c = λ a seen arc.
-    straight_seen a c.args.step _ c.is_tiny.result c.args.view.now c.args.start c.args.end c.straight.result seen arc c.requires.least refl c.is_tiny.ensures c.if-is_tiny.true c.requires.start_at c.requires.end_at c.straight.ensures.plan c.straight.ensures.straight
+    straight_seen a c.args.step _ c.is_tiny.result c.args.view.now c.args.start c.args.end c.straight.result seen arc c.requires.least refl c.is_tiny.ensures
+    c.if-is_tiny.true c.requires.start_at c.requires.end_at c.straight.ensures.plan c.straight.ensures.straight
 
 pub returns-in-None-clause-follows : goal.returns-in-None-clause-follows
 returns-in-None-clause-follows g c = λ a seen arc.
-    bent_seen a c.args.step c.ceil-radius.result c.ceil-other.result c.circle_of-circle.result c.limit_of-limit.result c.args.view.now c.args.start c.args.end c.joint-joint.result c.of-entry.result.spot c.of-entry.result.spoke c.spoke-last.result c.by_joint.result seen (record {
+    bent_seen a c.args.step c.ceil-radius.result c.ceil-other.result c.circle_of-circle.result c.limit_of-limit.result c.args.view.now c.args.start c.args.end
+    c.joint-joint.result c.of-entry.result.spot c.of-entry.result.spoke c.spoke-last.result c.by_joint.result seen (record {
       arc = arc;
       least = c.requires.least;
       most = c.requires.greatest;
       wide = wide_seen a c.args.step _ c.is_tiny.result c.args.view.now seen refl c.is_tiny.ensures c.if-is_tiny.false;
-      start_root = root_told c.square.result (squared c.args.view.now.start) c.ceil-radius.result c.square.ensures c.ceil-radius.ensures.square c.ceil-radius.ensures.least;
-      end_root = root_told c.square-2.result (squared c.args.view.now.end) c.ceil-other.result c.square-2.ensures c.ceil-other.ensures.square c.ceil-other.ensures.least;
+      start_root = root_told c.square.result (squared c.args.view.now.start) c.ceil-radius.result c.square.ensures c.ceil-radius.ensures.square
+          c.ceil-radius.ensures.least;
+      end_root = root_told c.square-2.result (squared c.args.view.now.end) c.ceil-other.result c.square-2.ensures c.ceil-other.ensures.square
+          c.ceil-other.ensures.least;
       circle = c.circle_of-circle.ensures.value;
       limit_is = c.limit_of-limit.ensures.value;
       start_at = c.requires.start_at;
@@ -113,13 +161,16 @@ returns-in-None-clause-follows g c = λ a seen arc.
 
 pub returns-in-Some-clause-follows : goal.returns-in-Some-clause-follows
 returns-in-Some-clause-follows g c = λ a seen arc.
-    round_seen a c.args.step c.ceil-radius.result c.ceil-other.result c.circle_of-circle.result c.limit_of-limit.result c.in-Some.quadrants c.args.view.now c.args.start c.args.end c.joint-joint.result c.of-entry.result.spot c.of-entry.result.spoke c.spoke-last.result c.round.result seen (record {
+    round_seen a c.args.step c.ceil-radius.result c.ceil-other.result c.circle_of-circle.result c.limit_of-limit.result c.in-Some.quadrants c.args.view.now
+    c.args.start c.args.end c.joint-joint.result c.of-entry.result.spot c.of-entry.result.spoke c.spoke-last.result c.round.result seen (record {
       arc = arc;
       least = c.requires.least;
       most = c.requires.greatest;
       wide = wide_seen a c.args.step _ c.is_tiny.result c.args.view.now seen refl c.is_tiny.ensures c.if-is_tiny.false;
-      start_root = root_told c.square.result (squared c.args.view.now.start) c.ceil-radius.result c.square.ensures c.ceil-radius.ensures.square c.ceil-radius.ensures.least;
-      end_root = root_told c.square-2.result (squared c.args.view.now.end) c.ceil-other.result c.square-2.ensures c.ceil-other.ensures.square c.ceil-other.ensures.least;
+      start_root = root_told c.square.result (squared c.args.view.now.start) c.ceil-radius.result c.square.ensures c.ceil-radius.ensures.square
+          c.ceil-radius.ensures.least;
+      end_root = root_told c.square-2.result (squared c.args.view.now.end) c.ceil-other.result c.square-2.ensures c.ceil-other.ensures.square
+          c.ceil-other.ensures.least;
       circle = c.circle_of-circle.ensures.value;
       limit_is = c.limit_of-limit.ensures.value;
       start_at = c.requires.start_at;

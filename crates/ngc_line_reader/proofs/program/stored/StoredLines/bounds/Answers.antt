@@ -15,19 +15,22 @@ within bytes ends i h = omega (arith, length-lines_from bytes 0 ends)
 pub returns-clause-order : goal.returns-clause-order
 returns-clause-order g c =
     let inside = within c.args.self.now.bytes.items c.args.self.now.ends.items c.args.index c.requires in
-    let h = stored_bounds c.args.self.now.bytes.items c.args.self.now.ends.items c.args.index c.index.result.now c.args.self.now.stored inside c.index.ensures in
+    let h = stored_bounds c.args.self.now.bytes.items c.args.self.now.ends.items c.args.index c.index.result.now c.args.self.now.stored inside
+    c.index.ensures in
     omega (arith, h.0, c.start.ensures)
 
 pub returns-clause-within : goal.returns-clause-within
 returns-clause-within g c =
     let inside = within c.args.self.now.bytes.items c.args.self.now.ends.items c.args.index c.requires in
-    let h = stored_bounds c.args.self.now.bytes.items c.args.self.now.ends.items c.args.index c.index.result.now c.args.self.now.stored inside c.index.ensures in
+    let h = stored_bounds c.args.self.now.bytes.items c.args.self.now.ends.items c.args.index c.index.result.now c.args.self.now.stored inside
+    c.index.ensures in
     omega (arith, h.1)
 
 pub returns-clause-value : goal.returns-clause-value
 returns-clause-value g c =
     let inside = within c.args.self.now.bytes.items c.args.self.now.ends.items c.args.index c.requires in
-    ap (option_map (λ (l : Line). l.bytes)) (stored_line c.args.self.now.bytes.items c.args.self.now.ends.items c.args.index c.index.result.now inside c.index.ensures)
+    ap (option_map (λ (l : Line). l.bytes))
+    (stored_line c.args.self.now.bytes.items c.args.self.now.ends.items c.args.index c.index.result.now inside c.index.ensures)
     ∙ ap (λ (s : ℕ). Some (slice_range c.args.self.now.bytes.items s c.index.result.now.end)) (sym c.start.ensures)
 
 pub returns-clause-read : goal.returns-clause-read

@@ -16,6 +16,8 @@ pub returns : goal.returns
 returns g c = λ bytes is.
     let inside : c.args.index < length c.args.self.now.ends.items = omega (arith, length-lines_from c.args.self.now.bytes.items 0 c.args.self.now.ends.items) in
     let all = parts_in c.args.self.now.parts in
-    let same = line_kept_is all (lines_in c.args.self.now) c.args.self.now.ends.items c.args.index c.index.result.now bytes c.args.self.now.kept inside c.index.ensures is in
-    shown_line bytes (nat_le 257 (length bytes)) (parts_at all c.index.result.now.parts) c.index.result.now.parts.deleted c.load.new.line.deleted (parts_of c.load.new.line) refl (sym same)
+    let same = line_kept_is all (lines_in c.args.self.now) c.args.self.now.ends.items c.args.index c.index.result.now bytes c.args.self.now.kept inside
+    c.index.ensures is in
+    shown_line bytes (nat_le 257 (length bytes)) (parts_at all c.index.result.now.parts) c.index.result.now.parts.deleted c.load.new.line.deleted
+    (parts_of c.load.new.line) refl (sym same)
     c.load.ensures.deleted c.load.ensures.words c.load.ensures.settings c.load.ensures.symbols

@@ -20,24 +20,31 @@ pub invariant_of-self-in-Ok : goal.invariant_of-self-in-Ok
 invariant_of-self-in-Ok g c =
     let old = c.keep.new.self in
     let e : LineEnd = record { number = c.args.number; end = c.len-end.result; parts = c.in_ok-parts.parts } in
-    let pushes : Pushes c.args.number c.len-end.result c.in_ok-parts.parts old.bytes.items c.args.bytes.now c.extend_from_slice.new.self.items old.ends.items c.push.new.self.items = record { bytes_are = c.in_ok-extend_from_slice.ensures.items; end_is = omega arith; ends_are = c.in-Ok.ensures.items } in
+    let pushes : Pushes c.args.number c.len-end.result c.in_ok-parts.parts old.bytes.items c.args.bytes.now c.extend_from_slice.new.self.items old.ends.items
+    c.push.new.self.items = record { bytes_are = c.in_ok-extend_from_slice.ensures.items; end_is = omega arith; ends_are = c.in-Ok.ensures.items } in
     let same = ap (λ v. length v.items) c.in_ok-parts.ensures.ends in
     record {
       few = omega (arith, same, length-lines_from c.args.self.now.bytes.items 0 c.args.self.now.ends.items, c.requires.few, c.in-Ok.ensures.len);
-      stored = push_stored c.args.number c.len-end.result c.in_ok-parts.parts old.bytes.items c.args.bytes.now c.extend_from_slice.new.self.items old.ends.items c.push.new.self.items
+      stored = push_stored c.args.number c.len-end.result c.in_ok-parts.parts old.bytes.items c.args.bytes.now c.extend_from_slice.new.self.items old.ends.items
+          c.push.new.self.items
           pushes old.stored c.requires.short (is_ok_of (line_read c.args.bytes.now) _ c.requires.read);
       within = within_after (parts_in old.parts) old.ends.items c.push.new.self.items e c.in-Ok.ensures.items old.within c.in_ok-parts.ensures.within;
-      kept = kept_after (parts_in old.parts) (lines_in old) (lines_from c.extend_from_slice.new.self.items 0 c.push.new.self.items) old.ends.items c.push.new.self.items (line_of c.args.number c.args.bytes.now) e
-          (push_lines c.args.number c.len-end.result c.in_ok-parts.parts old.bytes.items c.args.bytes.now c.extend_from_slice.new.self.items old.ends.items c.push.new.self.items pushes old.stored)
+      kept = kept_after (parts_in old.parts) (lines_in old) (lines_from c.extend_from_slice.new.self.items 0 c.push.new.self.items) old.ends.items
+          c.push.new.self.items (line_of c.args.number c.args.bytes.now) e
+          (push_lines c.args.number c.len-end.result c.in_ok-parts.parts old.bytes.items c.args.bytes.now c.extend_from_slice.new.self.items old.ends.items
+          c.push.new.self.items pushes old.stored)
           c.in-Ok.ensures.items old.kept
-          (reading_kept (parts_in old.parts) c.args.number c.args.bytes.now c.args.reading.now e c.requires.read c.in_ok-parts.ensures.value c.in_ok-parts.ensures.deleted);
+          (reading_kept (parts_in old.parts) c.args.number c.args.bytes.now c.args.reading.now e c.requires.read c.in_ok-parts.ensures.value
+          c.in_ok-parts.ensures.deleted);
     }
 
 pub returns-in-Ok : goal.returns-in-Ok
 returns-in-Ok g c =
     let old = c.keep.new.self in
-    let pushes : Pushes c.args.number c.len-end.result c.in_ok-parts.parts old.bytes.items c.args.bytes.now c.extend_from_slice.new.self.items old.ends.items c.push.new.self.items = record { bytes_are = c.in_ok-extend_from_slice.ensures.items; end_is = omega arith; ends_are = c.in-Ok.ensures.items } in
+    let pushes : Pushes c.args.number c.len-end.result c.in_ok-parts.parts old.bytes.items c.args.bytes.now c.extend_from_slice.new.self.items old.ends.items
+    c.push.new.self.items = record { bytes_are = c.in_ok-extend_from_slice.ensures.items; end_is = omega arith; ends_are = c.in-Ok.ensures.items } in
     record {
-      pushed = push_lines c.args.number c.len-end.result c.in_ok-parts.parts old.bytes.items c.args.bytes.now c.extend_from_slice.new.self.items old.ends.items c.push.new.self.items pushes old.stored
+      pushed = push_lines c.args.number c.len-end.result c.in_ok-parts.parts old.bytes.items c.args.bytes.now c.extend_from_slice.new.self.items old.ends.items
+          c.push.new.self.items pushes old.stored
           ∙ ap₂ (λ b e. lines_from b.items 0 e.items ++ (line_of c.args.number c.args.bytes.now ∷ [])) c.in_ok-parts.ensures.bytes c.in_ok-parts.ensures.ends;
     }
