@@ -18,7 +18,7 @@ use Rattle.ngc_certificate_text.specs.EntryLines.{version_said, motion_counts, c
 use Rattle.ngc_certificate_text.specs.Lines.{numbers_in, numbers_behind, is_count, ranged, two_counts}
 use Rattle.ngc_certificate_text.specs.Number.{fields}
 use Rattle.ngc_certificate_text.specs.Parts.{motion_of, both_of}
-use Rattle.ngc_certificate_text.proofs.ClampLaws.{same_count, ranged_same}
+use Rattle.ngc_certificate_text.proofs.NumbersOutOfRange.{same_count, ranged_same}
 use Rattle.ngc_certificate_text.proofs.WordLemmas.{word_is, word_not}
 
 -- ---- the first line

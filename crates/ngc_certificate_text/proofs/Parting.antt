@@ -8,7 +8,7 @@ use Rattle.std.proofs.lemmas.List.Folds.{list_all-append}
 use Rattle.ngc_certificate_text.specs.Parted.{is_feedless, firm_behind, firm, firm_lines, GoesOn, PartsLines}
 use Rattle.ngc_certificate_text.specs.Said.{lines_of}
 use Rattle.ngc_text.proofs.Splits.{split_here, split_last}
-use Rattle.ngc_certificate_text.proofs.SaidLaws.{some_lines}
+use Rattle.ngc_certificate_text.proofs.SpelledTexts.{some_lines}
 
 other_byte : (b : ℕ) → not (b == 10) ≡ true → (b == 10) ≡ false
 other_byte b h = grind (arith, nat_tests)

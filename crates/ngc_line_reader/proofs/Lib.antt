@@ -9,7 +9,7 @@ pub mod UniqueLine
 -- How many digits stand in front.
 pub mod Digits
 -- One step of the readers, where there is room.
-pub mod ScanSteps
+pub mod Scanning
 -- What is spelled so is read.
 pub mod ReadsBack
 -- What is read is spelled so.
@@ -17,13 +17,13 @@ pub mod Takes
 -- A number's digits, rounded to millionths.
 pub mod Rounded
 -- One byte of a line's text.
-pub mod TextSteps
+pub mod TextBytes
 -- One item of a line, where there is room.
-pub mod LineSteps
+pub mod LineItems
 -- Reading lines, in both directions.
-pub mod LineLaws
+pub mod ReadLines
 -- Why a line is refused for one of its limits.
-pub mod RefusedLaws
+pub mod RefusedLines
 -- Texts, readings and faults of lines: worked examples, computed.
 mod Examples
 -- Worked examples of files, computed.
@@ -33,16 +33,16 @@ pub mod Blanks
 -- A line that is read has a reading within the limits, and so have the lines that are stored.
 pub mod Readings
 -- Stored lines: what a push does to them, and where one lies.
-pub mod StoredLaws
+pub mod StoredLines
 -- Symbols that are kept as their kinds and their numbers.
-pub mod SymbolLaws
+pub mod KeptSymbols
 -- What is kept of lines: what a push does to it, and what it says.
-pub mod KeptLaws
+pub mod KeptLines
 -- Lines that bytes make, and the first line feed among them.
 pub mod Feeds
 -- The lines of a file, one by one, and what the whole file says.
 pub mod Walk
 -- What taking a line or a piece of one comes to.
-pub mod LoadLaws
+pub mod TakenPieces
 -- What a piece does to a reader.
-pub mod ReaderLaws
+pub mod Pieces

@@ -20,7 +20,7 @@ use Rattle.ngc_line_reader.specs.ReadLine.{line_read}
 use Rattle.ngc_line_reader.specs.ProgramText.{HasReading, HaveReadings}
 use Rattle.ngc_line_reader.specs.Stored.{is_read}
 use Rattle.ngc_line_reader.proofs.Takes.{bind_ok, chosen, done, ok_is}
-use Rattle.ngc_line_reader.proofs.LineLaws.{located_ok, text_takes}
+use Rattle.ngc_line_reader.proofs.ReadLines.{located_ok, text_takes}
 
 -- behind an item there are at most 64 words
 

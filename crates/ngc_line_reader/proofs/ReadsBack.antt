@@ -20,7 +20,7 @@ use Rattle.ngc_line_reader.specs.Tokens.{token_at, tokens_of, rest_tokens, IsWit
 use Rattle.ngc_line_reader.specs.Scan.{begins, after_sign, digits_at, after_digits, decimals_at, after_decimals, whole_at, fraction_at, after_number}
 use Rattle.ngc_line_reader.specs.Scan.{value_fits, number_at, operator_at, real_at, rest_at}
 use Rattle.ngc_line_reader.proofs.Unique.{NoDigit, NoDigit-Stops, NoDigit-behind, body, body_not, numeral_not, heads, rest_stops}
-use Rattle.ngc_line_reader.proofs.ScanSteps.{real_step, rest_step}
+use Rattle.ngc_line_reader.proofs.Scanning.{real_step, rest_step}
 
 -- digits are read up to what is none
 prefix_digits : (ds r : List ℕ) → IsDigits ds → NoDigit r → prefix_len is_ascii_digit (ds ++ r) ≡ length ds

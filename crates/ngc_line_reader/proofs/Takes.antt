@@ -23,7 +23,7 @@ use Rattle.ngc_line_reader.specs.Numbers.{written_value, numeral_value, is_negat
 use Rattle.ngc_line_reader.specs.Tokens.{token_at, tokens_of, rest_tokens, IsWithinLimit, IsRestWithinLimit}
 use Rattle.ngc_line_reader.specs.Scan.{◌>>=◌, begins, refusal, sign_at, after_sign, digits_at, after_digits, decimals_at, after_decimals, whole_at, fraction_at}
 use Rattle.ngc_line_reader.specs.Scan.{after_number, value_fits, number_at, number_token, operator_at, real_at, rest_at}
-use Rattle.ngc_line_reader.proofs.ScanSteps.{nonempty}
+use Rattle.ngc_line_reader.proofs.Scanning.{nonempty}
 
 pub bind_ok : {A B E : Type 0} (r : Result A E) (f : A → Result B E) (y : B) → (r >>= f) ≡ Ok y → (x : A) × (r ≡ Ok x) × (f x ≡ Ok y)
 bind_ok (Ok x) f y e = (x, refl, e)

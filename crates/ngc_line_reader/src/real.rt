@@ -25,7 +25,7 @@ fn push_symbol(columns: &[u16], symbol: Symbol, s: &[u8], tokens: &mut ArrayVec<
 }
 
 // A number, and what follows it. (It stands outside the cycle of calls.)
-#[tactic(auto, using(crate::proofs::ScanSteps::number_shorter))]
+#[tactic(auto, using(crate::proofs::Scanning::number_shorter))]
 fn number_token<'a>(
     columns: &[u16],
     s: &'a [u8],
@@ -51,7 +51,7 @@ fn number_token<'a>(
 
 // The tokens of a real value, and what follows it.
 #[cycle(real)]
-#[tactic(auto, using(crate::proofs::ScanSteps::real_step))]
+#[tactic(auto, using(crate::proofs::Scanning::real_step))]
 pub(crate) fn real_at<'a>(
     columns: &[u16],
     room: usize,
@@ -82,7 +82,7 @@ pub(crate) fn real_at<'a>(
 
 // What follows the first value in brackets.
 #[cycle(real)]
-#[tactic(auto, using(crate::proofs::ScanSteps::rest_step))]
+#[tactic(auto, using(crate::proofs::Scanning::rest_step))]
 fn rest_at<'a>(
     columns: &[u16],
     room: usize,

@@ -84,7 +84,7 @@ pub(crate) fn column_of(columns: &[u16], left: usize) -> u16
 
 /// The text of a line, into `bytes`, and the column of each of its bytes, into `columns`: so many
 /// of either.
-#[tactic(auto, using(crate::proofs::TextSteps::one_byte))]
+#[tactic(auto, using(crate::proofs::TextBytes::one_byte))]
 pub(crate) fn fill_text(line: &[u8], bytes: &mut [u8; 256], columns: &mut [u16; 256]) -> usize
     requires { length line.now ≤ 256 }
     ensures within { result ≤ 256 }

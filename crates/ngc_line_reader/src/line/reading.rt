@@ -43,7 +43,7 @@ fn refused_at(columns: &[u16], left: usize, why: Refusal) -> LineFault
 }
 
 // The items of a text, behind those that `line` holds.
-#[tactic(auto, using(crate::proofs::LineSteps::items_step))]
+#[tactic(auto, using(crate::proofs::LineItems::items_step))]
 fn items_at(columns: &[u16], room: usize, text: &[u8], line: &mut Line) -> Result<(), LineFault>
     requires room { length text.now < room }
     requires space { array_vec_len line.old.tokens + length text.now ≤ 256 }

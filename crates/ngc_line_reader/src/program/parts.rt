@@ -112,7 +112,7 @@ fn take_symbol<'a>(kind: Kind, numbers: &'a [Value]) -> (Symbol, &'a [Value])
 }
 
 // The tokens of these kinds and numbers, in place of what is there; their columns are not kept.
-#[tactic(auto, using(crate::proofs::SymbolLaws::pushed_symbols))]
+#[tactic(auto, using(crate::proofs::KeptSymbols::pushed_symbols))]
 fn load_tokens(kinds: &[Kind], numbers: &[Value], tokens: &mut ArrayVec<Token, 256>)
     requires { length kinds.now ≤ 256 }
     ensures { symbols tokens.new.items ≡ symbols_from kinds.now numbers.now }

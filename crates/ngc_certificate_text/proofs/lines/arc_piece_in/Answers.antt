@@ -1,6 +1,6 @@
 use Rattle.ngc_certificate_text.specs.Lines.{numbers_in as numbers_said, arc_piece}
 use Rattle.ngc_certificate_text.specs.Clamped.{all_fields}
-use Rattle.ngc_certificate_text.proofs.ClampLaws.{arc_clamped, numbers_say, no_numbers_say}
+use Rattle.ngc_certificate_text.proofs.NumbersOutOfRange.{arc_clamped, numbers_say, no_numbers_say}
 use Rattle.ngc_certificate_text.proofs.lines.arc_piece_in.Goals as goal
 
 pub returns-in-Some : goal.returns-in-Some

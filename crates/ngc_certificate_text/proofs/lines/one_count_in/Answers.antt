@@ -1,6 +1,6 @@
 use Rattle.ngc_certificate_text.specs.Lines.{numbers_in as numbers_said, one_count}
 use Rattle.ngc_certificate_text.specs.Clamped.{all_fields}
-use Rattle.ngc_certificate_text.proofs.ClampLaws.{one_clamped, numbers_say, no_numbers_say}
+use Rattle.ngc_certificate_text.proofs.NumbersOutOfRange.{one_clamped, numbers_say, no_numbers_say}
 use Rattle.ngc_certificate_text.proofs.lines.one_count_in.Goals as goal
 
 pub returns-in-Some : goal.returns-in-Some

@@ -1,7 +1,7 @@
 use Rattle.ngc_certificate_text.specs.Clamped.{all_fields}
 use Rattle.ngc_certificate_text.specs.EntryLines.{three_counts}
 use Rattle.ngc_certificate_text.specs.Lines.{numbers_in as numbers_said}
-use Rattle.ngc_certificate_text.proofs.ClampLaws.{numbers_say, no_numbers_say}
+use Rattle.ngc_certificate_text.proofs.NumbersOutOfRange.{numbers_say, no_numbers_say}
 use Rattle.ngc_certificate_text.proofs.EntryWords.{three_clamped}
 use Rattle.ngc_certificate_text.proofs.lines.three_counts_in.Goals as goal
 

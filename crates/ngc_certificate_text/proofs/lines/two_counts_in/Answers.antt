@@ -1,6 +1,6 @@
 use Rattle.ngc_certificate_text.specs.Lines.{numbers_in as numbers_said, two_counts}
 use Rattle.ngc_certificate_text.specs.Clamped.{all_fields}
-use Rattle.ngc_certificate_text.proofs.ClampLaws.{two_clamped, numbers_say, no_numbers_say}
+use Rattle.ngc_certificate_text.proofs.NumbersOutOfRange.{two_clamped, numbers_say, no_numbers_say}
 use Rattle.ngc_certificate_text.proofs.lines.two_counts_in.Goals as goal
 
 pub returns-in-Some : goal.returns-in-Some

@@ -4,7 +4,7 @@ use Rattle.ngc_certificate_text.specs.declared.certificate.EntryKind.{EntryKind}
 use Rattle.ngc_certificate_text.specs.Certificate.{AreEntries}
 use Rattle.ngc_certificate_text.specs.Joined.{Item, Joined}
 use Rattle.ngc_certificate_text.specs.Order.{IsWhole}
-use Rattle.ngc_certificate_text.proofs.JoinedFirstLaws.{joined_is, joined_whole}
+use Rattle.ngc_certificate_text.proofs.JoinedFirst.{joined_is, joined_whole}
 use Rattle.ngc_certificate_text.proofs.certificate.Certificate.joined.Goals as goal
 
 pub invariant_of-result : goal.invariant_of-result

@@ -1,5 +1,5 @@
 use Rattle.std.proofs.Common.{◌∷◌}
-use Rattle.ngc_certificate_text.proofs.TextLaws.{whole_line, cut_line, empty_items}
+use Rattle.ngc_certificate_text.proofs.LinesSoFar.{whole_line, cut_line, empty_items}
 use Rattle.ngc_certificate_text.proofs.certificate_lines.CertificateLines.end_line.Goals as goal
 
 pub returns-then-is_empty-clause-step : goal.returns-then-is_empty-clause-step

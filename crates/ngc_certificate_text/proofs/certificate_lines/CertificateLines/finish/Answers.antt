@@ -1,6 +1,6 @@
 use Rattle.std.proofs.Common.{◌≡◌, ◌<◌, length}
 use Rattle.ngc_certificate_text.specs.declared.expected.Expected.TheVariants as expect
-use Rattle.ngc_certificate_text.proofs.TextLaws.{all_read, last_line, empty_items, some_items}
+use Rattle.ngc_certificate_text.proofs.LinesSoFar.{all_read, last_line, empty_items, some_items}
 use Rattle.ngc_certificate_text.proofs.certificate_lines.CertificateLines.finish.Goals.{else-has_ended-via-then-has_ended+else-is_empty}
 use Rattle.ngc_certificate_text.proofs.certificate_lines.CertificateLines.finish.Goals.{else-has_ended-via-else-has_ended}
 use Rattle.ngc_certificate_text.proofs.certificate_lines.CertificateLines.finish.Goals as goal

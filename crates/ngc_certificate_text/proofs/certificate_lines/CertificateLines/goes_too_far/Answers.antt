@@ -1,5 +1,5 @@
 use Rattle.std.proofs.lemmas.Bool.{not-true}
-use Rattle.ngc_certificate_text.proofs.TextLaws.{goes_too_far, some_items}
+use Rattle.ngc_certificate_text.proofs.LinesSoFar.{goes_too_far, some_items}
 use Rattle.ngc_certificate_text.proofs.certificate_lines.CertificateLines.goes_too_far.Goals as goal
 
 pub returns-then-has_ended : goal.returns-then-has_ended

@@ -1,5 +1,5 @@
 use Rattle.std.proofs.Common.{◌+◌, length}
-use Rattle.ngc_certificate_text.proofs.TextLaws.{long_cut, no_room}
+use Rattle.ngc_certificate_text.proofs.LinesSoFar.{long_cut, no_room}
 use Rattle.ngc_certificate_text.proofs.certificate_lines.CertificateLines.keep.Goals as goal
 
 pub returns-in-Err-clause-step : goal.returns-in-Err-clause-step

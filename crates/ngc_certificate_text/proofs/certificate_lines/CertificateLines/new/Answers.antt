@@ -3,7 +3,7 @@ use Rattle.ngc_certificate_text.specs.declared.next_line.NextLine.{NextLine}
 use Rattle.ngc_certificate_text.specs.declared.expected.Expected.TheVariants as expect
 use Rattle.ngc_certificate_text.specs.Ahead.{IsSound}
 use Rattle.ngc_certificate_text.specs.Parted.{is_feedless}
-use Rattle.ngc_certificate_text.proofs.TextLaws.{motions_text, motions_firm, form_text, form_firm}
+use Rattle.ngc_certificate_text.proofs.LinesSoFar.{motions_text, motions_firm, form_text, form_firm}
 use Rattle.ngc_certificate_text.proofs.certificate_lines.CertificateLines.new.Goals as goal
 
 first_sound : IsSound expect.Header 1

@@ -2,7 +2,7 @@ use Rattle.std.proofs.Common.{refl}
 use Rattle.std.proofs.lemmas.Result.{on_ok_weaker}
 use Rattle.ngc_certificate_text.specs.declared.expected.Indices.TheVariants as of
 use Rattle.ngc_certificate_text.specs.declared.piece.Setting.TheVariants.{Off, On}
-use Rattle.ngc_certificate_text.proofs.OrderLaws.{pushed_both, pushed_off, pushed_on, room_for}
+use Rattle.ngc_certificate_text.proofs.OrderOfEntries.{pushed_both, pushed_off, pushed_on, room_for}
 use Rattle.ngc_certificate_text.proofs.found.Found.push_entry.Goals as goal
 
 pub push-requires-clause-room : goal.push-requires-clause-room

@@ -1,6 +1,6 @@
 use Rattle.std.proofs.Common.{◌<◌, length}
 use Rattle.ngc_certificate_text.specs.Held.{held_entries}
-use Rattle.ngc_certificate_text.proofs.HeldLaws.{its_pieces}
+use Rattle.ngc_certificate_text.proofs.HeldMotions.{its_pieces}
 use Rattle.ngc_certificate_text.proofs.motions.Motions.pieces.Goals as goal
 
 pub returns-clause-some : goal.returns-clause-some

@@ -1,7 +1,7 @@
 use Rattle.std.proofs.Common.{◌≡◌, ◌<◌, ◌++◌, ◌∷◌, List, [], length, ap, ◌∙◌, arith}
 use Rattle.ngc_certificate_text.specs.Certificate.{Entry, MOTION_LIMIT}
 use Rattle.ngc_certificate_text.specs.Held.{held_entries}
-use Rattle.ngc_certificate_text.proofs.HeldLaws.{one_more, still_held}
+use Rattle.ngc_certificate_text.proofs.HeldMotions.{one_more, still_held}
 use Rattle.ngc_certificate_text.proofs.motions.Motions.push.Goals as goal
 
 pub invariant_of-self-in-Ok : goal.invariant_of-self-in-Ok

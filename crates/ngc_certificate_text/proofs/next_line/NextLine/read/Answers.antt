@@ -4,8 +4,8 @@ use Rattle.ngc_certificate_text.specs.declared.expected.Expected.{Expected}
 use Rattle.ngc_certificate_text.specs.Ahead.{Left, left_from, lines_ahead, IsSound}
 use Rattle.ngc_certificate_text.specs.Said.{next_number}
 use Rattle.ngc_certificate_text.specs.Told.{IsFront, behind_told}
-use Rattle.ngc_certificate_text.proofs.AheadLaws.{wrong_said, two_left}
-use Rattle.ngc_certificate_text.proofs.NextLaws.{told_front, told_refused, told_next, told_sound, told_lines}
+use Rattle.ngc_certificate_text.proofs.LinesAhead.{wrong_said, two_left}
+use Rattle.ngc_certificate_text.proofs.NextLines.{told_front, told_refused, told_next, told_sound, told_lines}
 use Rattle.ngc_certificate_text.proofs.next_line.NextLine.read.Goals as goal
 
 abbrev refused : CertificateFault → Left

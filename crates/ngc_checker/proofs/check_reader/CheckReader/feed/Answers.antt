@@ -1,5 +1,5 @@
 use Rattle.ngc_checker.specs.Checked.{judged}
-use Rattle.ngc_certificate_text.proofs.ReaderLaws.{lines_quiet, more_answer, more_firm, more_text, fault_answer, fault_text}
+use Rattle.ngc_certificate_text.proofs.Pieces.{lines_quiet, more_answer, more_firm, more_text, fault_answer, fault_text}
 use Rattle.ngc_checker.proofs.check_reader.CheckReader.feed.Goals as goal
 
 pub returns-in-Ok-clause-answer : goal.returns-in-Ok-clause-answer

@@ -1,5 +1,5 @@
 use Rattle.std.proofs.Common.{refl}
-use Rattle.ngc_line_reader.proofs.LineLaws.{holds_nothing}
+use Rattle.ngc_line_reader.proofs.ReadLines.{holds_nothing}
 use Rattle.ngc_line_reader.proofs.line.Line.empty.Goals as goal
 
 pub returns : goal.returns

@@ -1,6 +1,6 @@
 use Rattle.std.proofs.Common.{rules}
-use Rattle.ngc_line_reader.proofs.LineLaws.{gives_reading, finds_reading}
-use Rattle.ngc_line_reader.proofs.RefusedLaws.{large_is_written, many_are_written}
+use Rattle.ngc_line_reader.proofs.ReadLines.{gives_reading, finds_reading}
+use Rattle.ngc_line_reader.proofs.RefusedLines.{large_is_written, many_are_written}
 use Rattle.ngc_line_reader.proofs.line.Line.read.Goals as goal
 
 pub returns-clause-found : goal.returns-clause-found

@@ -1,6 +1,6 @@
 use Rattle.std.proofs.Common.{ap, sym, ◌∙◌}
 use Rattle.std.proofs.Math.ListN.{drop_of_length-le}
-use Rattle.ngc_line_reader.proofs.SymbolLaws.{kinds_after, all_kinds}
+use Rattle.ngc_line_reader.proofs.KeptSymbols.{kinds_after, all_kinds}
 use Rattle.ngc_line_reader.proofs.program.parts.keep_kinds.Goals as goal
 
 pub returns : goal.returns

@@ -1,6 +1,6 @@
 -- The kinds left come to what all of them do.
 use Rattle.std.proofs.Common.{◌≡◌, drop}
-use Rattle.ngc_line_reader.proofs.SymbolLaws.{kinds_after}
+use Rattle.ngc_line_reader.proofs.KeptSymbols.{kinds_after}
 use Rattle.ngc_line_reader.proofs.program.parts.keep_kinds.Given as goal
 
 abbrev pub invariant-loop-token : goal.invariant-loop-token

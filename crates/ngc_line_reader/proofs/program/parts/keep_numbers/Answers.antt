@@ -1,6 +1,6 @@
 use Rattle.std.proofs.Common.{ap, sym, ◌∙◌}
 use Rattle.std.proofs.Math.ListN.{drop_of_length-le}
-use Rattle.ngc_line_reader.proofs.SymbolLaws.{numbers_after, all_numbers}
+use Rattle.ngc_line_reader.proofs.KeptSymbols.{numbers_after, all_numbers}
 use Rattle.ngc_line_reader.proofs.program.parts.keep_numbers.Goals as goal
 
 pub returns : goal.returns

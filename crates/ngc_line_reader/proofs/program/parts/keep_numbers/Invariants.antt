@@ -1,6 +1,6 @@
 -- The numbers left come to what all of them do.
 use Rattle.std.proofs.Common.{◌≡◌, drop}
-use Rattle.ngc_line_reader.proofs.SymbolLaws.{numbers_after}
+use Rattle.ngc_line_reader.proofs.KeptSymbols.{numbers_after}
 use Rattle.ngc_line_reader.proofs.program.parts.keep_numbers.Given as goal
 
 abbrev pub invariant-loop-token : goal.invariant-loop-token

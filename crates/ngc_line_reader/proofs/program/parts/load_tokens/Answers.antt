@@ -1,7 +1,7 @@
 use Rattle.std.proofs.Common.{ap, sym, ◌∙◌, []}
 use Rattle.std.proofs.Math.ListN.{drop_of_length-le}
 use Rattle.ngc_line_reader.specs.Tokens.{symbols}
-use Rattle.ngc_line_reader.proofs.SymbolLaws.{loaded_after, all_loaded}
+use Rattle.ngc_line_reader.proofs.KeptSymbols.{loaded_after, all_loaded}
 use Rattle.ngc_line_reader.proofs.program.parts.load_tokens.Goals as goal
 
 pub returns : goal.returns

@@ -1,7 +1,7 @@
 -- The symbols left come to what all of them do.
 use Rattle.std.proofs.Common.{◌≡◌, ◌≤◌, [], drop, length}
 use Rattle.ngc_line_reader.specs.Tokens.{symbols}
-use Rattle.ngc_line_reader.proofs.SymbolLaws.{loaded_after}
+use Rattle.ngc_line_reader.proofs.KeptSymbols.{loaded_after}
 use Rattle.ngc_line_reader.proofs.program.parts.load_tokens.Given as goal
 
 abbrev pub invariant-loop-kind : goal.invariant-loop-kind

@@ -1,5 +1,5 @@
 use Rattle.std.proofs.Common.{sym, ◌∙◌}
-use Rattle.ngc_line_reader.proofs.LoadLaws.{took_line, refused_line}
+use Rattle.ngc_line_reader.proofs.TakenPieces.{took_line, refused_line}
 use Rattle.ngc_line_reader.proofs.program.loader.LinesSoFar.take_line.Goals as goal
 
 pub returns-in-Ok-clause-step : goal.returns-in-Ok-clause-step

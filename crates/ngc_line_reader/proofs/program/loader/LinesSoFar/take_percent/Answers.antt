@@ -1,4 +1,4 @@
-use Rattle.ngc_line_reader.proofs.LoadLaws.{marking_line, ending_line, not_start}
+use Rattle.ngc_line_reader.proofs.TakenPieces.{marking_line, ending_line, not_start}
 use Rattle.ngc_line_reader.proofs.program.loader.LinesSoFar.take_percent.Goals as goal
 
 pub returns-in-Start-clause-step : goal.returns-in-Start-clause-step

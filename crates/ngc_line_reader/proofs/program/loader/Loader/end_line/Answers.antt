@@ -1,5 +1,5 @@
 use Rattle.std.proofs.Common.{◌∷◌}
-use Rattle.ngc_line_reader.proofs.LoadLaws.{whole_line, cut_line, empty_items}
+use Rattle.ngc_line_reader.proofs.TakenPieces.{whole_line, cut_line, empty_items}
 use Rattle.ngc_line_reader.proofs.program.loader.Loader.end_line.Goals as goal
 
 pub returns-then-is_empty-clause-step : goal.returns-then-is_empty-clause-step

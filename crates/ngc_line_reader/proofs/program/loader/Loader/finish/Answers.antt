@@ -1,5 +1,5 @@
 use Rattle.ngc_line_reader.specs.ProgramView.{text_in}
-use Rattle.ngc_line_reader.proofs.LoadLaws.{some_items, last_more, last_end, last_fault}
+use Rattle.ngc_line_reader.proofs.TakenPieces.{some_items, last_more, last_end, last_fault}
 use Rattle.ngc_line_reader.proofs.program.loader.Loader.finish.Goals as goal
 
 pub returns-in-Ok-More-clause-text : goal.returns-in-Ok-More-clause-text

@@ -1,5 +1,5 @@
 use Rattle.std.proofs.Common.{◌+◌, length}
-use Rattle.ngc_line_reader.proofs.LoadLaws.{long_cut, no_room}
+use Rattle.ngc_line_reader.proofs.TakenPieces.{long_cut, no_room}
 use Rattle.ngc_line_reader.proofs.program.loader.Loader.keep.Goals as goal
 
 pub returns-in-Err-clause-step : goal.returns-in-Err-clause-step

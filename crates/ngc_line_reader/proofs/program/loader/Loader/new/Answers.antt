@@ -1,4 +1,4 @@
-use Rattle.ngc_line_reader.proofs.LoadLaws.{begun_program, begun_firm}
+use Rattle.ngc_line_reader.proofs.TakenPieces.{begun_program, begun_firm}
 use Rattle.ngc_line_reader.proofs.program.loader.Loader.new.Goals as goal
 
 pub returns-clause-begins : goal.returns-clause-begins

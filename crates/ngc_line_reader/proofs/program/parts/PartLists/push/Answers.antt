@@ -3,7 +3,7 @@ use Rattle.std.proofs.lemmas.Int.{ints}
 use Rattle.std.proofs.Common.{ap, length, length-append, arith}
 use Rattle.ngc_line_reader.specs.Tokens.{symbols}
 use Rattle.ngc_line_reader.specs.Symbols.{numbers_of}
-use Rattle.ngc_line_reader.proofs.SymbolLaws.{few_numbers}
+use Rattle.ngc_line_reader.proofs.KeptSymbols.{few_numbers}
 use Rattle.ngc_line_reader.proofs.program.parts.PartLists.push.Goals as goal
 
 pub overflow_cast-result-3 : goal.overflow_cast-result-3

@@ -1,5 +1,5 @@
 use Rattle.std.proofs.Common.{rules}
-use Rattle.ngc_line_reader.proofs.ReaderLaws.{more_answer, more_firm, more_text, end_answer, end_firm, end_text, fault_answer, fault_text}
+use Rattle.ngc_line_reader.proofs.Pieces.{more_answer, more_firm, more_text, end_answer, end_firm, end_text, fault_answer, fault_text}
 use Rattle.ngc_line_reader.proofs.program.reader.ProgramReader.feed.Goals as goal
 
 pub returns-in-Ok-More-clause-answer : goal.returns-in-Ok-More-clause-answer

@@ -1,6 +1,6 @@
 use Rattle.ngc_line_reader.specs.Kept.{parts_in}
 use Rattle.ngc_line_reader.specs.ProgramView.{lines_in}
-use Rattle.ngc_line_reader.proofs.KeptLaws.{within_stays, kept_stays}
+use Rattle.ngc_line_reader.proofs.KeptLines.{within_stays, kept_stays}
 use Rattle.ngc_line_reader.proofs.program.stored.StoredLines.keep.Goals as goal
 
 pub invariant_of-self : goal.invariant_of-self

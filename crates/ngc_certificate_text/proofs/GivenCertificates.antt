@@ -9,7 +9,7 @@ use Rattle.ngc_certificate_text.specs.Contents.{said_of, form_of}
 use Rattle.ngc_certificate_text.specs.Given.{GivesCertificate}
 use Rattle.ngc_certificate_text.specs.Joined.{Form, contents}
 use Rattle.ngc_certificate_text.specs.Said.{made_with, form_said, certificate_said}
-use Rattle.ngc_certificate_text.proofs.AheadLaws.{certificate_is}
+use Rattle.ngc_certificate_text.proofs.LinesAhead.{certificate_is}
 
 abbrev ok_data : CertificateData → Result CertificateData CertificateFault
 ok_data c = Ok c

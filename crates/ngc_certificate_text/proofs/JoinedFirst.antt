@@ -16,7 +16,7 @@ use Rattle.ngc_certificate_text.specs.Certificate.{Entry, IsEntry, AreEntries, I
 use Rattle.ngc_certificate_text.specs.Joined.{Item, IsItem, IsJoined, entry_with, onto_motions, expansion, in_order}
 use Rattle.ngc_certificate_text.specs.JoinedFirst.{both_item, alone_items, joined_first, HaveSamePieces}
 use Rattle.ngc_certificate_text.specs.Order.{kind_of, kinds_of}
-use Rattle.ngc_certificate_text.proofs.OrderLaws.{data_of, both_expanded, Pushed, from_items}
+use Rattle.ngc_certificate_text.proofs.OrderOfEntries.{data_of, both_expanded, Pushed, from_items}
 
 -- ---- the kinds of the entries
 

@@ -24,10 +24,10 @@ use Rattle.ngc_certificate_text.specs.Number.{number_in}
 use Rattle.ngc_certificate_text.specs.Parted.{firm, firm_lines, PartsLines}
 use Rattle.ngc_certificate_text.specs.Reader.{Saying, outcome_by, firm_by, FaultIs, StepGives, Stands, AnswerIs}
 use Rattle.ngc_certificate_text.specs.Said.{lines_of}
-use Rattle.ngc_certificate_text.proofs.AheadLaws.{wrong_said, ended_said, header_read, header_ended, setting_flawed, counts_flawed, motion_flawed, piece_flawed}
-use Rattle.ngc_certificate_text.proofs.AheadLaws.{end_read}
-use Rattle.ngc_certificate_text.proofs.EntryLaws.{if_taken}
-use Rattle.ngc_certificate_text.proofs.LineLaws.{end_reads}
+use Rattle.ngc_certificate_text.proofs.LinesAhead.{wrong_said, ended_said, header_read, header_ended, setting_flawed, counts_flawed, motion_flawed, piece_flawed}
+use Rattle.ngc_certificate_text.proofs.LinesAhead.{end_read}
+use Rattle.ngc_certificate_text.proofs.EntriesLeft.{if_taken}
+use Rattle.ngc_certificate_text.proofs.SpelledLines.{end_reads}
 use Rattle.ngc_certificate_text.proofs.Parting.{lines_parts, firm_parts, firm_begun}
 
 -- ---- whatever is expected, a text may follow that has one fault, and another that has none or another one

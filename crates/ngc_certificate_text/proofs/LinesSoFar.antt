@@ -12,9 +12,9 @@ use Rattle.ngc_certificate_text.specs.LinesView.{left_by, IsReading}
 use Rattle.ngc_certificate_text.specs.Parted.{is_feedless, firm, firm_lines, PartsLines}
 use Rattle.ngc_certificate_text.specs.Said.{lines_of, nothing_in, certificate_said, form_said}
 use Rattle.ngc_certificate_text.specs.Told.{IsFront, Tells}
-use Rattle.ngc_certificate_text.proofs.AheadLaws.{HasNoLine, wrong_said, nothing_said, ended_said, two_left, one_left, begun_said, begun_form}
+use Rattle.ngc_certificate_text.proofs.LinesAhead.{HasNoLine, wrong_said, nothing_said, ended_said, two_left, one_left, begun_said, begun_form}
 use Rattle.ngc_certificate_text.proofs.Parting.{feedless_both, split_onto, only_line}
-use Rattle.ngc_certificate_text.proofs.SaidLaws.{some_lines}
+use Rattle.ngc_certificate_text.proofs.SpelledTexts.{some_lines}
 
 -- a line that tells from and to equal rests
 tells_is : (result : Result Told CertificateFault) (a b c d : Left) → a ≡ b → (OnOk result (c ≡ d)) → Tells result b d → Tells result a c

@@ -15,9 +15,9 @@ use Rattle.ngc_line_reader.specs.declared.line.Line.{Line as HeldLine}
 use Rattle.ngc_line_reader.specs.Shown.{ShowsReading, items_of}
 use Rattle.ngc_line_reader.specs.Tokens.{symbols}
 use Rattle.ngc_line_reader.specs.Symbols.{symbols_from}
-use Rattle.ngc_line_reader.proofs.SymbolLaws.{loads_back}
+use Rattle.ngc_line_reader.proofs.KeptSymbols.{loads_back}
 use Rattle.ngc_line_reader.specs.Kept.{KeptParts, kept_of, IsWithin, Keeps, AreWithin, AreKept, parts_at, said_in, line_said, line_kept}
-use Rattle.ngc_line_reader.proofs.LineLaws.{text_takes}
+use Rattle.ngc_line_reader.proofs.ReadLines.{text_takes}
 
 map-push : {X Y : Type 0} (f : X → Y) (xs : List X) (x : X) → map f (xs ++ (x ∷ [])) ≡ map f xs ++ (f x ∷ [])
 map-push f [] x = refl

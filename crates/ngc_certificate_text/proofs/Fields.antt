@@ -13,7 +13,7 @@ use Rattle.std.proofs.lemmas.Slice.Eq.{bytes_eq-Decides}
 use Rattle.ngc_text.proofs.Splits.{lacks, split_joined}
 use Rattle.ngc_certificate_text.specs.Number.{fields, number_in}
 use Rattle.ngc_certificate_text.specs.Lines.{numbers_in, numbers_behind}
-use Rattle.ngc_certificate_text.proofs.NumberLaws.{signed_lacks, number_in-signed, number_spelled}
+use Rattle.ngc_certificate_text.proofs.SignedNumbers.{signed_lacks, number_in-signed, number_spelled}
 
 pub joined_split : (s : ℕ) (text : List ℕ) → join_with_byte s (slice_split (λ b. b == s) text) ≡ text
 joined_split s text = join_with_byte-slice_split s text

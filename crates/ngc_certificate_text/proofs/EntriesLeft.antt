@@ -23,9 +23,9 @@ use Rattle.ngc_certificate_text.specs.Lines.{numbers_in, numbers_behind, is_coun
 use Rattle.ngc_certificate_text.specs.Number.{fields}
 use Rattle.ngc_certificate_text.specs.Said.{Place, Said, then_read, line_at, several, item_at, items_at}
 use Rattle.ngc_certificate_text.specs.Spelling.{item_line}
-use Rattle.ngc_certificate_text.proofs.FieldLaws.{AreSmall, line_text, line_fields, line_numbers, line_spelled, numbers_in-signed, numbers_spelled, bytes_same}
-use Rattle.ngc_certificate_text.proofs.FieldLaws.{joined_split}
-use Rattle.ngc_certificate_text.proofs.LineLaws.{IsLine, AreWords, behind_length, text_is_line, ranged_ok, count_from, counted, two_counts_ok}
+use Rattle.ngc_certificate_text.proofs.Fields.{AreSmall, line_text, line_fields, line_numbers, line_spelled, numbers_in-signed, numbers_spelled, bytes_same}
+use Rattle.ngc_certificate_text.proofs.Fields.{joined_split}
+use Rattle.ngc_certificate_text.proofs.SpelledLines.{IsLine, AreWords, behind_length, text_is_line, ranged_ok, count_from, counted, two_counts_ok}
 use Rattle.ngc_certificate_text.proofs.Taken.{then_ok, line_taken, ok_same, read_to}
 
 abbrev pub total : EntriesLeft → ℕ

@@ -34,7 +34,7 @@ use Rattle.ngc_line_reader.proofs.Unique.{NoDigit-Stops}
 use Rattle.ngc_line_reader.proofs.UniqueLine.{item_not, end_text, end_stops, end_not, slash, number_not_slash}
 use Rattle.ngc_line_reader.proofs.ReadsBack.{begins_not, begins_stops, digits_again, real_again}
 use Rattle.ngc_line_reader.proofs.Takes.{bind_ok, chosen, done, ok_is, begins_is, digits_are, real_takes}
-use Rattle.ngc_line_reader.proofs.LineSteps.{items_step}
+use Rattle.ngc_line_reader.proofs.LineItems.{items_step}
 
 -- the parts with these items added, before a text
 abbrev pub added : (ℕ → ℕ) → Parts → List Item → List ℕ → Parts

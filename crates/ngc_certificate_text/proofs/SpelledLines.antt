@@ -24,8 +24,8 @@ use Rattle.ngc_certificate_text.specs.Number.{fields}
 use Rattle.ngc_certificate_text.specs.Lines.{numbers_in, numbers_behind, is_count, ranged, one_count, setting_said, two_counts, motion_said, is_step, are_steps}
 use Rattle.ngc_certificate_text.specs.Lines.{good_box, boxed, line_piece, arc_piece, piece_in, piece_said, end_said}
 use Rattle.ngc_text.proofs.Splits.{lacks}
-use Rattle.ngc_certificate_text.proofs.FieldLaws.{AreSmall, line_text, line_fields, line_numbers, line_spelled, numbers_lack, numbers_in-signed}
-use Rattle.ngc_certificate_text.proofs.FieldLaws.{numbers_spelled, bytes_same, joined_split}
+use Rattle.ngc_certificate_text.proofs.Fields.{AreSmall, line_text, line_fields, line_numbers, line_spelled, numbers_lack, numbers_in-signed}
+use Rattle.ngc_certificate_text.proofs.Fields.{numbers_spelled, bytes_same, joined_split}
 
 -- ---- a line is short, and has no line feed
 

@@ -35,9 +35,9 @@ use Rattle.ngc_line_reader.specs.Refused.{HasTooLarge, HasWords, WritesTooLarge,
 use Rattle.ngc_line_reader.proofs.LetterLemmas.{letter_bounds, letter_no_digit}
 use Rattle.ngc_line_reader.proofs.Unique.{NoDigit}
 use Rattle.ngc_line_reader.proofs.UniqueLine.{slash}
-use Rattle.ngc_line_reader.proofs.ScanSteps.{nonempty}
+use Rattle.ngc_line_reader.proofs.Scanning.{nonempty}
 use Rattle.ngc_line_reader.proofs.Takes.{chosen, begins_is, numeral_of, numeral_parts, numeral_is, operator_takes, real_takes}
-use Rattle.ngc_line_reader.proofs.LineLaws.{letter_first, item_takes, step_words, located_ok, number_takes, slash_takes}
+use Rattle.ngc_line_reader.proofs.ReadLines.{letter_first, item_takes, step_words, located_ok, number_takes, slash_takes}
 
 abbrev err : {A E : Type 0} → E → Result A E
 err e = Err e

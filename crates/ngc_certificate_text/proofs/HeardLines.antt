@@ -29,7 +29,7 @@ use Rattle.ngc_certificate_text.specs.Found.{Heard, add_item, heard_piece, heard
 use Rattle.ngc_certificate_text.specs.Found.{MayExpect, IsPieceTaken, MayTake}
 use Rattle.ngc_certificate_text.specs.Joined.{Item, expansion, IsItem, Form, form_by}
 use Rattle.ngc_certificate_text.specs.Told.{onto, Fits, IsFront, behind_version, behind_piece, behind_told, left_at, taken_at, IsNext}
-use Rattle.ngc_certificate_text.proofs.OrderLaws.{item, both_expanded}
+use Rattle.ngc_certificate_text.proofs.OrderOfEntries.{item, both_expanded}
 
 -- ---- the whole certificate stays the same
 
