@@ -14,3 +14,7 @@ pub mod Texts
 pub mod Whole
 -- The boxes of a certificate, one step further.
 pub mod Sweeps
+-- A list that is filled with what another's elements give.
+pub mod Mapped
+-- What is at most a hundred metres is taken as a length.
+pub mod Lengths

@@ -16,3 +16,5 @@ pub mod Counts
 pub mod Splits
 -- The commands that are refused, one after another.
 pub mod Causes
+-- A difference of two coordinates is held by 64 bits.
+mod Apart
