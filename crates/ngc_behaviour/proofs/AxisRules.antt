@@ -11,7 +11,7 @@ use Rattle.ngc_canonical.specs.declared.command.Action.TheVariants.{Move}
 use Rattle.ngc_canonical.specs.Movement.{actions_of, ways_of, AreJoined}
 use Rattle.ngc_planner.specs.declared.axes.Axes.{Axes}
 use Rattle.ngc_planner.specs.Axes.{axes_of, IsWithinAxes, MayMoveAxes}
-use Rattle.ngc_planner.specs.Caps.{MILLION}
+use Rattle.ngc_fixed_length.specs.Limits.{MILLION}
 use Rattle.ngc_planner.specs.Pulses.{is_path_step, KeepsPulseRules}
 use Rattle.ngc_events.specs.declared.event.Event.{Event}
 use Rattle.ngc_behaviour.specs.State.{Job, State, opening}

@@ -2,7 +2,7 @@
 use Rattle.std.proofs.Common.{ℕ, zero, suc, ◌+◌, ◌*◌, ◌/◌, ◌≤◌, arith, List, [], ◌∷◌, Bool, cond}
 use Rattle.std.specs.Prelude.{take, drop, count_by}
 use Rattle.std.proofs.lemmas.List.Sums.{sum_by-cons}
-use Rattle.ngc_planner.specs.Caps.{MILLION}
+use Rattle.ngc_fixed_length.specs.Limits.{MILLION}
 use Rattle.ngc_planner.specs.Pulses.{up_to_whole}
 
 -- after s millionths; each tick goes on to t

@@ -10,7 +10,7 @@ use Rattle.ngc_machine.specs.MachineRanges.{IsMachine}
 use Rattle.ngc_canonical.specs.declared.command.Command.{Command}
 use Rattle.ngc_planner.specs.declared.leg.Leg.{Leg}
 use Rattle.ngc_planner.specs.Braking.{braking}
-use Rattle.ngc_planner.specs.Caps.{MILLION}
+use Rattle.ngc_fixed_length.specs.Limits.{MILLION}
 use Rattle.ngc_planner.specs.Bounds.{IsWithinBounds, IsMotion, IsLeastTravel, bound_of, least_travel}
 use Rattle.ngc_planner.specs.Joints.{joint_before, joint_after}
 use Rattle.ngc_planner.specs.Leg.{tick_bound}

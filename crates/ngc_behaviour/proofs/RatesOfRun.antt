@@ -11,7 +11,7 @@ use Rattle.ngc_canonical.specs.declared.movement.Way.TheVariants.{Line, Arc}
 use Rattle.ngc_canonical.specs.declared.command.Action.{Action}
 use Rattle.ngc_canonical.specs.declared.command.Action.TheVariants.{Move}
 use Rattle.ngc_planner.specs.Axes.{MayMoveAxes}
-use Rattle.ngc_planner.specs.Caps.{MILLION}
+use Rattle.ngc_fixed_length.specs.Limits.{MILLION}
 use Rattle.ngc_planner.specs.Bounds.{MayTurnOn, MayTurn}
 use Rattle.ngc_events.specs.declared.event.Event.{Event}
 use Rattle.ngc_events.specs.declared.event.Event.TheVariants.{Load, Tick, Hold, Resume, Override, StopSwitch, Start}

@@ -19,7 +19,7 @@ use Rattle.ngc_canonical.specs.declared.command.Action.TheVariants.{Move}
 use Rattle.ngc_canonical.specs.declared.command.Action.TheVariants as actions
 use Rattle.ngc_canonical.specs.Joined.{IsLastIfEnd, EndIsLast}
 use Rattle.ngc_canonical.specs.ProgramPath.{IsPathOf, IsPathOfAll}
-use Rattle.ngc_planner.specs.Caps.{MILLION}
+use Rattle.ngc_fixed_length.specs.Limits.{MILLION}
 use Rattle.ngc_events.specs.declared.event.Event.{Event}
 use Rattle.ngc_events.specs.declared.reply.Ending.TheVariants.{End}
 use Rattle.ngc_events.specs.declared.reply.Reply.TheVariants.{Ticked}

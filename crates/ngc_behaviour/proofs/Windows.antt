@@ -3,7 +3,7 @@ use Rattle.std.proofs.Common.{◌≡◌, ℕ, zero, suc, ◌+◌, ◌*◌, ◌/�
 use Rattle.std.specs.Prelude.{length, take, drop, count_by, slice_index_or}
 use Rattle.std.proofs.lemmas.List.{drop-drop, drop_more, length-drop}
 use Rattle.std.proofs.lemmas.List.Sums.{sum_by-cons}
-use Rattle.ngc_planner.specs.Caps.{MILLION}
+use Rattle.ngc_fixed_length.specs.Limits.{MILLION}
 use Rattle.ngc_planner.specs.Pulses.{up_to_whole}
 
 -- The rate v of a tick x, after a tick of rate r and after s millionths: by at most a from r. The test counts a tick in which one

@@ -6,7 +6,7 @@ use Rattle.ngc_fixed_length.specs.Grid.{grid}
 use Rattle.ngc_canonical.specs.declared.command.Command.{Command}
 use Rattle.ngc_machine.specs.declared.tools.Tool.{Tool}
 use Rattle.ngc_machine.specs.Machine.{MachineFile}
-use Rattle.ngc_planner.specs.Caps.{MILLION}
+use Rattle.ngc_fixed_length.specs.Limits.{MILLION}
 
 -- what the machine runs: a machine file, and the commands of a setting
 pub record Job : Type 0 where

@@ -12,11 +12,8 @@ ghost use Rattle.ngc_canned_cycles.specs.Refusals.{is_repeat_in_range, is_in_ran
 
 use crate::cycle::{Cycle, Hole, Start};
 use crate::fault::CycleFault;
-use ngc_fixed_length::{FeedMode, Nm, Value};
-
-const COORDINATE: u128 = 1_000_000_000;
-
-const MILLION: u64 = 1_000_000;
+use ngc_fixed_length::{FeedMode, MILLIONTHS, Nm, Value};
+use ngc_offsets::COORDINATE;
 
 /// The least number, at least 1, of pecks that go all the way.
 pub(crate) fn peck_count(way: i128, peck: u64) -> u64
@@ -80,7 +77,7 @@ fn is_coordinate_if_given(given: Option<Nm>, coordinate: i128) -> bool
 fn is_coordinate(nanometres: i128) -> bool
     ensures { result ≡ is_within COORDINATE_LIMIT nanometres }
 {
-    nanometres.unsigned_abs() <= COORDINATE
+    nanometres.unsigned_abs() <= u128::from(COORDINATE)
 }
 
 impl Cycle {
@@ -90,7 +87,7 @@ impl Cycle {
     {
         match self.repeats {
             None => 1,
-            Some(repeats) => (repeats.millionths().unsigned_abs() / MILLION) as u32,
+            Some(repeats) => (repeats.millionths().unsigned_abs() / MILLIONTHS) as u32,
         }
     }
 
@@ -101,7 +98,7 @@ impl Cycle {
             None => false,
             Some(repeats) => {
                 let count = self.repeat_count();
-                let is_whole = repeats.millionths().unsigned_abs() % MILLION == 0;
+                let is_whole = repeats.millionths().unsigned_abs() % MILLIONTHS == 0;
                 is_negative(repeats) || !is_whole || !(count >= 1 && count <= 9_999)
             }
         }

@@ -9,7 +9,7 @@ use Rattle.ngc_machine.specs.MachineRanges.{IsMachine}
 use Rattle.ngc_machine.specs.declared.tools.Tool.{Tool}
 use Rattle.ngc_canonical.specs.declared.command.Action.{Action}
 use Rattle.ngc_planner.specs.Bounds.{IsMotion}
-use Rattle.ngc_planner.specs.Caps.{MILLION}
+use Rattle.ngc_fixed_length.specs.Limits.{MILLION}
 use Rattle.ngc_planner.specs.Ramp.{RampState, IsRest, MayCoast, MayCoastOn, Coasts}
 use Rattle.ngc_planner.proofs.CoastLaws.{coast_ticks, coast_on}
 use Rattle.ngc_events.specs.declared.event.Event.{Event}

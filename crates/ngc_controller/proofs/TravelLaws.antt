@@ -10,7 +10,7 @@ use Rattle.ngc_machine.specs.MachineRanges.{IsMachine}
 use Rattle.ngc_canonical.specs.declared.command.Action.{Action}
 use Rattle.ngc_canonical.specs.declared.command.Action.TheVariants as actions
 use Rattle.ngc_planner.specs.Bounds.{IsMotion}
-use Rattle.ngc_planner.specs.Caps.{MILLION}
+use Rattle.ngc_fixed_length.specs.Limits.{MILLION}
 use Rattle.ngc_planner.specs.Ramp.{RampState, TicksTo}
 use Rattle.ngc_behaviour.specs.State.{Job, Queued, State, path_steps, millionths}
 use Rattle.ngc_behaviour.specs.Progress.{TravelsAtLeast}

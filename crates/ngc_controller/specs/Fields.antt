@@ -6,7 +6,7 @@ use Rattle.ngc_canonical.specs.declared.command.Action.{Action}
 use Rattle.ngc_canonical.specs.declared.command.Action.TheVariants as actions
 use Rattle.ngc_machine.specs.MachineRanges.{IsMachine}
 use Rattle.ngc_machine.specs.declared.tools.Tool.{Tool}
-use Rattle.ngc_planner.specs.Caps.{MILLION}
+use Rattle.ngc_fixed_length.specs.Limits.{MILLION}
 use Rattle.ngc_planner.specs.Ramp.{IsRest, next_rest}
 use Rattle.ngc_behaviour.specs.State.{Job, State, Queued, path_steps, millionths}
 use Rattle.ngc_behaviour.specs.Progress.{TravelsAtLeast}

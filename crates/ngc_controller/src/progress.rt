@@ -1,7 +1,7 @@
 //! How far the machine is in its commands.
 ghost use Rattle.std.specs.Prelude.{◌≡◌, ◌≤◌, ◌<◌, ◌+◌, ◌^◌, ◌++◌, ◌∷◌, [], length, drop, IfOk};
 ghost use Rattle.ngc_machine.specs.Machine.{file_of};
-ghost use Rattle.ngc_planner.specs.Caps.{MILLION};
+ghost use Rattle.ngc_fixed_length.specs.Limits.{MILLION};
 ghost use Rattle.ngc_behaviour.specs.Headline.{job_of};
 ghost use Rattle.ngc_behaviour.specs.State.{RING};
 ghost use Rattle.ngc_controller.specs.Drive.{flows_on, with_one_more, IsTarget};

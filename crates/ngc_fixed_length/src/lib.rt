@@ -17,4 +17,4 @@ pub use points::{GridBox, Point2, Point3, StepPos};
 pub use roots::{root_ceil, root_floor};
 pub use rounding::rounded_quotient;
 pub use units::Units;
-pub use value::Value;
+pub use value::{MILLIONTHS, Value};

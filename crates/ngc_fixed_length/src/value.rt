@@ -8,6 +8,9 @@ use crate::rounding::rounded_quotient;
 use crate::units::Units;
 use std::marker::Model;
 
+/// How many millionths one has.
+pub const MILLIONTHS: u64 = 1_000_000;
+
 /// A number of a program, in millionths: at most 10^9 units, so 10^15 millionths, in size.
 #[derive(Clone, Copy, Debug, PartialEq, Eq, PartialOrd, Ord)]
 pub struct Value {

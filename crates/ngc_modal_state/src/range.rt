@@ -2,21 +2,19 @@ ghost use Rattle.std.specs.Prelude.{◌≡◌};
 ghost use Rattle.ngc_modal_state.specs.Use.{is_whole as whole_number, whole as whole_part};
 ghost use Rattle.ngc_modal_state.specs.Use.{negative, not_whole_from};
 
-use ngc_fixed_length::Value;
-
-const MILLION: u64 = 1_000_000;
+use ngc_fixed_length::{MILLIONTHS, Value};
 
 // The whole number of units in a value's size.
 pub(crate) fn whole(value: Value) -> u32
     ensures { result ≡ whole_part value }
 {
-    (value.millionths().unsigned_abs() / MILLION) as u32
+    (value.millionths().unsigned_abs() / MILLIONTHS) as u32
 }
 
 fn is_whole(value: Value) -> bool
     ensures { result ≡ whole_number value }
 {
-    value.millionths().unsigned_abs() % MILLION == 0
+    value.millionths().unsigned_abs() % MILLIONTHS == 0
 }
 
 // Whether the word stands and its value is below 0.

@@ -10,3 +10,4 @@ mod range;
 pub use fault::FrameFault;
 pub use frames::Frames;
 pub use given::{AxisLengths, machine_target};
+pub use range::COORDINATE;

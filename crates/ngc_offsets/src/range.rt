@@ -8,7 +8,8 @@ ghost use Rattle.ngc_offsets.specs.Faults.{offset as offset_in};
 use crate::fault::FrameFault;
 use ngc_fixed_length::{Nm, Point3};
 
-const COORDINATE: u64 = 1_000_000_000;
+/// How far from 0 a coordinate that words give may be, in nanometres.
+pub const COORDINATE: u64 = 1_000_000_000;
 
 const OFFSET: u64 = 4_000_000_000;
 

@@ -20,7 +20,8 @@ use Rattle.ngc_canonical.specs.declared.movement.Way.{Way}
 use Rattle.ngc_canonical.specs.declared.movement.Way.TheVariants.{Line, Arc}
 use Rattle.ngc_planner.specs.Axes.{IsWithinAxes, MayMoveAxes, rate_where, least_rate, axes_of, axes_bound}
 use Rattle.ngc_planner.specs.declared.axes.Axes.{Axes}
-use Rattle.ngc_planner.specs.Caps.{MILLION, motion_cap, cap_of}
+use Rattle.ngc_fixed_length.specs.Limits.{MILLION}
+use Rattle.ngc_planner.specs.Caps.{motion_cap, cap_of}
 use Rattle.ngc_planner.specs.Bounds.{MayTurnOn, MayTurn, IsGreatestBound, IsMotion, turn_rate, turn_bound, bound_of, target_at, MayTravelLeast}
 use Rattle.ngc_planner.specs.Joints.{goes_straight_on, joint_of}
 

@@ -6,7 +6,7 @@ use Rattle.std.proofs.lemmas.Bool.Decides.{nat_tests}
 use Rattle.std.proofs.lemmas.Nat.{div-mul-add, div-add-mod'}
 use Rattle.ngc_planner.specs.declared.leg.Leg.{Leg}
 use Rattle.ngc_planner.specs.Braking.{braking}
-use Rattle.ngc_planner.specs.Caps.{MILLION}
+use Rattle.ngc_fixed_length.specs.Limits.{MILLION}
 use Rattle.ngc_planner.specs.Leg.{tick_bound, travelled}
 use Rattle.ngc_planner.specs.Ramp.{RampState, IsRamp, IsKept, IsRest, MayTick, TicksTo, MayCoast, MayCoastOn, next_rest}
 use Rattle.ngc_planner.proofs.BrakingLaws.{braking_none, braking_step, braking_least}

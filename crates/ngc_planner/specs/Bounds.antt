@@ -12,7 +12,8 @@ use Rattle.ngc_canonical.specs.declared.movement.Motion.{Motion}
 use Rattle.ngc_canonical.specs.declared.movement.Way.{Way}
 use Rattle.ngc_canonical.specs.declared.movement.Way.TheVariants.{Line, Arc}
 use Rattle.ngc_planner.specs.Axes.{MayMoveAxes, axes_bound}
-use Rattle.ngc_planner.specs.Caps.{MILLION, cap_of}
+use Rattle.ngc_fixed_length.specs.Limits.{MILLION}
+use Rattle.ngc_planner.specs.Caps.{cap_of}
 use Rattle.ngc_planner.specs.Joints.{joint_of}
 
 -- on an arc v*v*step is at most the machine's turn times the radius

@@ -1,7 +1,8 @@
--- Feed caps, in millionths of a path step a tick. Our own; what F means is NISTIR 6556, 2.1.2.5 and
--- 3.5.19.
+-- Feed caps, in millionths of a path step a tick, of which no rate has above a MILLION. Our own; what
+-- F means is NISTIR 6556, 2.1.2.5 and 3.5.19.
 use Rattle.std.specs.Prelude.{ℕ, ◌+◌, ◌*◌, ◌/◌, ◌≤◌, max, unsigned_abs, if◌then◌else◌}
 use Rattle.ngc_fixed_length.specs.Grid.{distance}
+use Rattle.ngc_fixed_length.specs.Limits.{MILLION}
 use Rattle.ngc_fixed_length.specs.Places.{height}
 use Rattle.ngc_fixed_length.specs.Roots.{whole_root_above}
 use Rattle.ngc_fixed_length.specs.Signed.{same}
@@ -16,10 +17,6 @@ use Rattle.ngc_canonical.specs.declared.movement.Pace.{Pace}
 use Rattle.ngc_canonical.specs.declared.movement.Pace.TheVariants as paces
 use Rattle.ngc_canonical.specs.declared.movement.Way.{Way}
 use Rattle.ngc_canonical.specs.declared.movement.Way.TheVariants.{Line, Arc}
-
--- millionths in a path step; no rate is above it
-abbrev pub MILLION : ℕ
-MILLION = 1000000
 
 -- how many path steps a motion may have
 abbrev pub STEPS_LIMIT : ℕ

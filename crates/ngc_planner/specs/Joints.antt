@@ -10,7 +10,7 @@ use Rattle.ngc_canonical.specs.declared.command.Action.TheVariants.{Move}
 use Rattle.ngc_canonical.specs.declared.command.Command.{Command}
 use Rattle.ngc_canonical.specs.declared.movement.Way.{Way}
 use Rattle.ngc_canonical.specs.declared.movement.Way.TheVariants.{Line}
-use Rattle.ngc_planner.specs.Caps.{MILLION}
+use Rattle.ngc_fixed_length.specs.Limits.{MILLION}
 
 -- on the plane of two axes d and e point the same way or opposite ways, or one of them doesn't
 -- point at all

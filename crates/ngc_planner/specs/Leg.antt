@@ -2,7 +2,7 @@
 use Rattle.std.specs.Prelude.{◌≡◌, ℕ, ◌+◌, ◌-◌, ◌*◌, ◌/◌, ◌≤◌, min, ◌==◌, nat_lt, Bool}
 use Rattle.std.specs.Prelude.{if◌then◌else◌}
 use Rattle.ngc_planner.specs.declared.leg.Leg.{Leg}
-use Rattle.ngc_planner.specs.Caps.{MILLION}
+use Rattle.ngc_fixed_length.specs.Limits.{MILLION}
 
 -- of whole path steps, at least one, and with bounds of at least 1
 pub record IsLeg (l : Leg) : Type 0 where

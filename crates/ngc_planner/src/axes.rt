@@ -3,7 +3,7 @@ ghost use Rattle.ngc_fixed_length.specs.Length.{IsStep};
 ghost use Rattle.ngc_machine.specs.Machine.{file_of};
 ghost use Rattle.ngc_planner.specs.Axes.{differing, with_plane, axes_of, rate_where, least_rate};
 ghost use Rattle.ngc_planner.specs.Axes.{axes_rate};
-ghost use Rattle.ngc_planner.specs.Caps.{MILLION};
+ghost use Rattle.ngc_fixed_length.specs.Limits.{MILLION};
 
 use ngc_canonical::Way;
 use ngc_fixed_length::{Nm, Plane, StepPos};

@@ -1,7 +1,8 @@
 ghost use Rattle.std.specs.Prelude.{◌≡◌, ◌≤◌, ◌<◌, ◌^◌};
 ghost use Rattle.ngc_machine.specs.Machine.{file_of};
 ghost use Rattle.ngc_planner.specs.Axes.{axes_bound};
-ghost use Rattle.ngc_planner.specs.Caps.{MILLION, STEPS_LIMIT};
+ghost use Rattle.ngc_fixed_length.specs.Limits.{MILLION};
+ghost use Rattle.ngc_planner.specs.Caps.{STEPS_LIMIT};
 ghost use Rattle.ngc_planner.specs.Bounds.{IsMotion, arc_rate, turn_rate, turn_bound};
 ghost use Rattle.ngc_planner.specs.Bounds.{greatest_rate, bound_of, overridden, target_at};
 

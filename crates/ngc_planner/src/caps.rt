@@ -1,7 +1,8 @@
 ghost use Rattle.std.specs.Prelude.{◌≡◌, ◌+◌, ◌*◌, ◌/◌, ◌^◌, ◌≤◌, ◌<◌, unsigned_abs};
 ghost use Rattle.ngc_fixed_length.specs.Grid.{distance};
 ghost use Rattle.ngc_machine.specs.Machine.{file_of};
-ghost use Rattle.ngc_planner.specs.Caps.{MILLION, STEPS_LIMIT, length_between, crosswise};
+ghost use Rattle.ngc_fixed_length.specs.Limits.{MILLION};
+ghost use Rattle.ngc_planner.specs.Caps.{STEPS_LIMIT, length_between, crosswise};
 ghost use Rattle.ngc_planner.specs.Caps.{inverse_cap, line_cap, arc_cap, feed_cap, cap_of};
 ghost use Rattle.ngc_planner.specs.Caps.{KeepsFeed};
 

@@ -1,7 +1,7 @@
 ghost use Rattle.std.specs.Prelude.{◌≡◌, ◌≤◌};
 ghost use Rattle.ngc_machine.specs.Machine.{file_of};
 ghost use Rattle.ngc_planner.specs.Joints.{goes_straight_on, joint_of};
-ghost use Rattle.ngc_planner.specs.Caps.{MILLION};
+ghost use Rattle.ngc_fixed_length.specs.Limits.{MILLION};
 
 use crate::displacement::Displacement;
 use ngc_canonical::{Action, Way};

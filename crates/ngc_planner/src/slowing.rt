@@ -1,6 +1,6 @@
 ghost use Rattle.std.specs.Prelude.{◌≡◌, ◌≤◌, nat_lt};
 ghost use Rattle.ngc_planner.specs.Braking.{braking};
-ghost use Rattle.ngc_planner.specs.Caps.{MILLION};
+ghost use Rattle.ngc_fixed_length.specs.Limits.{MILLION};
 
 /// How far a rate of at most 1,000,000 goes on where each tick takes `change` from it, 1 to
 /// 1,000,000: rate + (rate - change) + (rate - 2 change) + .., while above 0.

@@ -10,7 +10,8 @@ use Rattle.ngc_fixed_length.specs.LinePath.{point}
 use Rattle.ngc_machine.specs.MachineRanges.{IsMachine}
 use Rattle.ngc_canonical.specs.declared.command.Action.{Action}
 use Rattle.ngc_canonical.specs.declared.command.Action.TheVariants as actions
-use Rattle.ngc_planner.specs.Caps.{MILLION, STEPS_LIMIT}
+use Rattle.ngc_fixed_length.specs.Limits.{MILLION}
+use Rattle.ngc_planner.specs.Caps.{STEPS_LIMIT}
 use Rattle.ngc_planner.specs.Bounds.{IsMotion, least_travel}
 use Rattle.ngc_planner.proofs.BoundLaws.{may_travel_least}
 use Rattle.ngc_events.specs.declared.event.Event.TheVariants.{Tick}

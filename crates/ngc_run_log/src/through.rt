@@ -29,7 +29,7 @@ use ngc_text::{Sink, WriteFault};
 use std::alloc::Allocator;
 
 /// How many commands may be loaded and not done.
-const RING: usize = 16;
+pub(crate) const RING: usize = 16;
 
 // Gives an event, and records what came of it.
 fn give<A: Allocator + Copy, W: Sink>(

@@ -13,7 +13,7 @@ ghost use Rattle.ngc_run_log.specs.Stretches.{GoesBy, IsUntouched};
 
 use crate::recorder::Recorder;
 use crate::report::RunFault;
-use crate::through::{fill_ring, finish, keep_full};
+use crate::through::{RING, fill_ring, finish, keep_full};
 use crate::trace::Trace;
 use ngc_canonical::{Action, Command};
 use ngc_checker::Accepted;
@@ -21,9 +21,6 @@ use ngc_controller::Controller;
 use ngc_step_kernel::ArcPath;
 use ngc_text::{DeviceFault, Sink};
 use std::alloc::Allocator;
-
-/// How many commands may be loaded and not done.
-const RING: usize = 16;
 
 /// How long a run through a program takes.
 #[derive(Debug, Drop)]

@@ -5,7 +5,8 @@ use Rattle.ngc_canonical.specs.declared.movement.Feed.TheVariants.{PerMinute, In
 use Rattle.ngc_canonical.specs.declared.movement.Pace.TheVariants as paces
 use Rattle.ngc_canonical.specs.declared.movement.Way.{Way}
 use Rattle.ngc_canonical.specs.declared.movement.Way.TheVariants.{Line, Arc}
-use Rattle.ngc_planner.specs.Caps.{MILLION, KeepsLineFeed, KeepsMotionFeed, length_between, line_cap, feed_cap}
+use Rattle.ngc_fixed_length.specs.Limits.{MILLION}
+use Rattle.ngc_planner.specs.Caps.{KeepsLineFeed, KeepsMotionFeed, length_between, line_cap, feed_cap}
 use Rattle.ngc_planner.proofs.CapLaws.{below_quotient}
 use Rattle.ngc_planner.proofs.caps.cap_of.Goals as goal
 

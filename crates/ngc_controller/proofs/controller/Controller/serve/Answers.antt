@@ -5,7 +5,7 @@ use Rattle.ngc_behaviour.specs.Step.{Finishes, ticks_of}
 use Rattle.ngc_events.specs.declared.reply.Reply.TheVariants.{Ticked}
 use Rattle.ngc_checker.specs.Accepted.{commands_at}
 use Rattle.ngc_machine.specs.Machine.{MachineFile}
-use Rattle.ngc_planner.specs.Caps.{MILLION}
+use Rattle.ngc_fixed_length.specs.Limits.{MILLION}
 use Rattle.ngc_planner.specs.Ramp.{RampState}
 use Rattle.ngc_controller.specs.declared.drive.Drive.{Drive}
 use Rattle.ngc_controller.specs.Controller.{ControllerData}
