@@ -154,7 +154,8 @@ pub fn read_options<'a>(alloc: Global, words: &'a [&'a str]) -> Result<Options<'
     // is spelled, where the last three may be left out.
     ensures spelled_certify { (machine tools : Text) (program : Option Text) (cuts : Option ℕ)
         (format : Option Format)
-        → AreCutsInRange cuts → texts words.entry.now ≡ certify_words machine tools program cuts format
+        → AreCutsInRange cuts
+        → texts words.entry.now ≡ certify_words machine tools program cuts format
         → MatchResult result (AsksForCertify machine tools program cuts format)
         (λ fault. fault ≡ UsageFault.Memory) }
     // `check --machine=FILE --tools=FILE --certificate=FILE --program=FILE` is read as it is
@@ -168,7 +169,8 @@ pub fn read_options<'a>(alloc: Global, words: &'a [&'a str]) -> Result<Options<'
     // same.
     ensures spelled_run { (recording : Recording) (machine tools certificate : Text)
         (events program : Option Text) (delete : Bool)
-        → texts words.entry.now ≡ run_words recording machine tools certificate events program delete
+        → texts words.entry.now
+        ≡ run_words recording machine tools certificate events program delete
         → MatchResult result (AsksForRun recording machine tools certificate events program delete)
         (λ fault. fault ≡ UsageFault.Memory) }
     // `draw --machine=FILE --tools=FILE --certificate=FILE --program=FILE --view=VIEW --delete` is
@@ -186,7 +188,8 @@ pub fn read_options<'a>(alloc: Global, words: &'a [&'a str]) -> Result<Options<'
     // spelled, where the last four may be left out.
     ensures spelled_report { (machine tools : Text) (program : Option Text) (cuts : Option ℕ)
         (all json : Bool)
-        → AreCutsInRange cuts → texts words.entry.now ≡ report_words machine tools program cuts all json
+        → AreCutsInRange cuts
+        → texts words.entry.now ≡ report_words machine tools program cuts all json
         → MatchResult result (AsksForReport machine tools program cuts all json)
         (λ fault. fault ≡ UsageFault.Memory) }
     // So are `help`, `help COMMAND` with the name of a command, and `version`.

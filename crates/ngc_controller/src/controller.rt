@@ -56,7 +56,8 @@ impl<K: ArcKernel + Drop, A: Allocator> Model for Controller<K, A> {
 
     ghost view = { λ c. record {
       job = job_of c.accepted.machine (commands_at c.block_delete c.accepted);
-      state = state_of c.progress.done c.progress.ring c.progress.drive c.progress.dwelt c.position c.tool c.panel;
+      state = state_of c.progress.done c.progress.ring c.progress.drive c.progress.dwelt c.position
+          c.tool c.panel;
       recent = c.recent;
     } };
 
