@@ -24,7 +24,8 @@ use Rattle.ngc_certificate_text.specs.Number.{number_in}
 use Rattle.ngc_certificate_text.specs.Parted.{firm, firm_lines, PartsLines}
 use Rattle.ngc_certificate_text.specs.Reader.{Saying, outcome_by, firm_by, FaultIs, StepGives, Stands, AnswerIs}
 use Rattle.ngc_certificate_text.specs.Said.{lines_of}
-use Rattle.ngc_certificate_text.proofs.LinesAhead.{wrong_said, ended_said, header_read, header_ended, setting_flawed, counts_flawed, motion_flawed, piece_flawed}
+use Rattle.ngc_certificate_text.proofs.LinesAhead.{wrong_said, ended_said, header_read, header_ended, setting_flawed, counts_flawed, motion_flawed}
+use Rattle.ngc_certificate_text.proofs.LinesAhead.{piece_flawed}
 use Rattle.ngc_certificate_text.proofs.LinesAhead.{end_read}
 use Rattle.ngc_certificate_text.proofs.EntriesLeft.{if_taken}
 use Rattle.ngc_certificate_text.proofs.SpelledLines.{end_reads}

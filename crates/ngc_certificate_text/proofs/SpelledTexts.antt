@@ -32,8 +32,10 @@ use Rattle.ngc_certificate_text.specs.Said.{settings_at, item_at, items_at, join
 use Rattle.ngc_certificate_text.specs.Said.{has_steps, HasSteps, item_steps, IsForm, OneSpelling}
 use Rattle.ngc_text.proofs.Splits.{lacks, split_here}
 use Rattle.ngc_certificate_text.proofs.Fields.{joined_split, bytes_same}
-use Rattle.ngc_certificate_text.proofs.SpelledLines.{IsLine, IsName, setting_text, setting_line_is, setting_is_line, setting_reads, setting_spelled, motion_text}
-use Rattle.ngc_certificate_text.proofs.SpelledLines.{motion_is_line, motion_reads, motion_spelled, motion_line_is, IsHeld, piece_text, piece_is_line, piece_reads}
+use Rattle.ngc_certificate_text.proofs.SpelledLines.{IsLine, IsName, setting_text, setting_line_is, setting_is_line, setting_reads, setting_spelled}
+use Rattle.ngc_certificate_text.proofs.SpelledLines.{motion_text}
+use Rattle.ngc_certificate_text.proofs.SpelledLines.{motion_is_line, motion_reads, motion_spelled, motion_line_is, IsHeld, piece_text, piece_is_line}
+use Rattle.ngc_certificate_text.proofs.SpelledLines.{piece_reads}
 use Rattle.ngc_certificate_text.proofs.SpelledLines.{piece_spelled, piece_line_is, end_is_line, end_reads, end_spelled}
 use Rattle.ngc_certificate_text.proofs.EntriesLeft.{total, IsTaken, entry_text, entry_is_line, entry_reads, entry_spelled, item_line_is, counts_text}
 use Rattle.ngc_certificate_text.proofs.EntriesLeft.{counts_is_line, counts_reads, counts_spelled, one_fewer, some_on, no_more, items_none, more_items, item_is}

@@ -5,7 +5,7 @@ ghost use Rattle.ngc_fixed_length.specs.Length.{IsStep};
 ghost use Rattle.ngc_fixed_length.specs.Limits.{LENGTH_LIMIT, IsLength};
 
 use crate::fault::NumberFault;
-use crate::rounding::rounded_quotient;
+use crate::rounding::short_quotient;
 use std::marker::Model;
 
 /// A length in nanometres, at most 10^11 in size.
@@ -67,6 +67,6 @@ impl Nm {
         ensures value { result ≡ nearest self step }
         ensures bound { unsigned_abs result ≤ 200000000 }
     {
-        rounded_quotient(i128::from(self.nanometres), i128::from(step.nanometres)) as i32
+        short_quotient(self.nanometres, step.nanometres.unsigned_abs()) as i32
     }
 }

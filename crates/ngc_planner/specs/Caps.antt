@@ -1,4 +1,5 @@
--- Feed caps, in millionths of a path step a tick, of which no rate has above a MILLION. Our own; what
+-- Feed caps, in millionths of a path step a tick, of which no rate has above a MILLION. Our own;
+-- what
 -- F means is NISTIR 6556, 2.1.2.5 and 3.5.19.
 use Rattle.std.specs.Prelude.{ℕ, ◌+◌, ◌*◌, ◌/◌, ◌≤◌, max, unsigned_abs, if◌then◌else◌}
 use Rattle.ngc_fixed_length.specs.Grid.{distance}

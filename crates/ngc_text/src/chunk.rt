@@ -16,6 +16,8 @@ use std::marker::Model;
 #[derive(Drop)]
 pub struct Chunk {
     bytes: ArrayVec<u8, 16384>,
+    // Where a number's digits are spelled.
+    digits: Buffer,
 }
 
 impl Model for Chunk {
@@ -33,6 +35,7 @@ impl Chunk {
     {
         Chunk {
             bytes: ArrayVec::new(),
+            digits: Buffer::new(),
         }
     }
 
@@ -52,8 +55,8 @@ impl Chunk {
         ensures text { self.new ≡ self.old ++ I.text number }
         ensures short { length self.new ≤ length self.old + 40 }
     {
-        let mut buffer = Buffer::new();
-        self.add_text(buffer.format(number).as_bytes());
+        let digits = self.digits.format(number).as_bytes();
+        let _ = self.bytes.try_extend_from_slice(digits);
     }
 
     /// Adds three numbers as `add_number` does, with a space between each and the next. Room for
