@@ -5,7 +5,7 @@ pub mod OrderOfEntries
 -- Motions of both settings, of which the first are joined, as entries.
 pub mod JoinedFirst
 -- Entries that are left, one by one.
-pub mod EntriesLeft
+pub mod LeftEntries
 -- Lines that are taken.
 pub mod Taken
 -- The spelling of a number with a sign says it, and what says a number is its spelling.

@@ -35,7 +35,7 @@ use Rattle.ngc_certificate_text.specs.Said.{Place, Said, then_read, next_number,
 use Rattle.ngc_certificate_text.specs.Said.{items_at, joined_at, said_with, made_with, version_is, header_in, form_at, nothing_in, ended, lines_of, form_said}
 use Rattle.ngc_certificate_text.specs.Said.{certificate_said}
 use Rattle.ngc_certificate_text.specs.Told.{any_said, behind_version}
-use Rattle.ngc_certificate_text.proofs.EntriesLeft.{total, takes_one, items_more, items_none, items_enough}
+use Rattle.ngc_certificate_text.proofs.LeftEntries.{total, takes_one, items_more, items_none, items_enough}
 use Rattle.ngc_certificate_text.proofs.Fields.{bytes_same}
 
 short_line : (n : ℕ) → n ≤ 256 → nat_le n 256 ≡ true

@@ -36,7 +36,7 @@ use Rattle.ngc_certificate_text.specs.Told.{any_said, motion_told, told_by, faul
 use Rattle.ngc_certificate_text.proofs.LinesAhead.{begun, of_parted, header_ended, two_left, nothing_said, setting_flawed, counts_flawed, motion_flawed}
 use Rattle.ngc_certificate_text.proofs.LinesAhead.{piece_flawed, end_flawed, header_read, header_wrong, setting_read, counts_read, motion_read, piece_read}
 use Rattle.ngc_certificate_text.proofs.LinesAhead.{last_read, end_read, left_fits, left_none}
-use Rattle.ngc_certificate_text.proofs.EntriesLeft.{total, entry_spelled, counts_spelled, least, some_on, more_on}
+use Rattle.ngc_certificate_text.proofs.LeftEntries.{total, entry_spelled, counts_spelled, least, some_on, more_on}
 use Rattle.ngc_certificate_text.proofs.SpelledLines.{setting_spelled, motion_spelled, piece_spelled}
 
 -- ---- a line that is right

@@ -27,7 +27,7 @@ use Rattle.ngc_certificate_text.specs.Said.{lines_of}
 use Rattle.ngc_certificate_text.proofs.LinesAhead.{wrong_said, ended_said, header_read, header_ended, setting_flawed, counts_flawed, motion_flawed}
 use Rattle.ngc_certificate_text.proofs.LinesAhead.{piece_flawed}
 use Rattle.ngc_certificate_text.proofs.LinesAhead.{end_read}
-use Rattle.ngc_certificate_text.proofs.EntriesLeft.{if_taken}
+use Rattle.ngc_certificate_text.proofs.LeftEntries.{if_taken}
 use Rattle.ngc_certificate_text.proofs.SpelledLines.{end_reads}
 use Rattle.ngc_certificate_text.proofs.Parting.{lines_parts, firm_parts, firm_begun}
 

@@ -37,9 +37,9 @@ use Rattle.ngc_certificate_text.proofs.SpelledLines.{motion_text}
 use Rattle.ngc_certificate_text.proofs.SpelledLines.{motion_is_line, motion_reads, motion_spelled, motion_line_is, IsHeld, piece_text, piece_is_line}
 use Rattle.ngc_certificate_text.proofs.SpelledLines.{piece_reads}
 use Rattle.ngc_certificate_text.proofs.SpelledLines.{piece_spelled, piece_line_is, end_is_line, end_reads, end_spelled}
-use Rattle.ngc_certificate_text.proofs.EntriesLeft.{total, IsTaken, entry_text, entry_is_line, entry_reads, entry_spelled, item_line_is, counts_text}
-use Rattle.ngc_certificate_text.proofs.EntriesLeft.{counts_is_line, counts_reads, counts_spelled, one_fewer, some_on, no_more, items_none, more_items, item_is}
-use Rattle.ngc_certificate_text.proofs.EntriesLeft.{pieces_behind as entry_pieces}
+use Rattle.ngc_certificate_text.proofs.LeftEntries.{total, IsTaken, entry_text, entry_is_line, entry_reads, entry_spelled, item_line_is, counts_text}
+use Rattle.ngc_certificate_text.proofs.LeftEntries.{counts_is_line, counts_reads, counts_spelled, one_fewer, some_on, no_more, items_none, more_items, item_is}
+use Rattle.ngc_certificate_text.proofs.LeftEntries.{pieces_behind as entry_pieces}
 use Rattle.ngc_certificate_text.proofs.Taken.{text_left, then_ok, line_taken, ok_same, read_to, said_ok}
 
 -- ---- places

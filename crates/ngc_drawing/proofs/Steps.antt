@@ -1,12 +1,11 @@
 -- What is still to be drawn, one step further.
-use Rattle.std.proofs.Common.{◌≡◌, ℕ, ◌+◌, ◌<◌, ◌≤◌, List, ◌++◌, length, get_or, drop, Option, ap, sym, ◌∙◌}
-use Rattle.std.proofs.lemmas.List.{drop_more, at_drop_more, at_drop_all}
+use Rattle.std.proofs.Common.{◌≡◌, ℕ, ◌+◌, ◌<◌, List, ◌++◌, length, get_or, drop, Option, ap, sym, ◌∙◌}
+use Rattle.std.proofs.lemmas.List.{drop_more}
 use Rattle.ngc_machine.specs.declared.machine.Fixture.{Fixture}
 use Rattle.ngc_machine.specs.declared.tools.Tool.{Tool}
 use Rattle.ngc_canonical.specs.declared.command.Command.{Command}
 use Rattle.ngc_drawing.specs.Pictures.{fixture, fixtures_from, tool_row, tool_rows}
 use Rattle.ngc_drawing.specs.Strokes.{strokes_of, strokes_from, after}
-use Rattle.ngc_drawing.specs.Tools.{mounted, used_by, used_from}
 use Rattle.ngc_drawing.specs.declared.pen.Pen.{Pen}
 use Rattle.ngc_drawing.specs.declared.view.View.{View}
 
@@ -25,15 +24,3 @@ pub next_command : (view : View) (tools : List (Option Tool)) (pen : Pen) (cs : 
 next_command view tools pen cs i c inside found =
     ap (strokes_from view tools pen) (drop_more cs i c inside)
     ∙ ap (λ (x : Command). strokes_of view pen x.action ++ strokes_from view tools (after view tools pen x.action) (drop (i + 1) cs)) (sym found)
-
-pub next_used : (tools more all : List (Option Tool)) (tool other : Option Tool) (cs : List Command) (i : ℕ) (c : Command) → i < length cs → c ≡ get_or cs i c
-    → more ≡ used_by tools tool c.action → other ≡ mounted tool c.action → used_from tools tool (drop i cs) ≡ all → used_from more other (drop (i + 1) cs) ≡ all
-next_used tools more all tool other cs i c inside found is_more is_other before =
-    ap (λ (ts : List (Option Tool)). used_from ts other (drop (i + 1) cs)) is_more
-    ∙ (ap (λ (t : Option Tool). used_from (used_by tools tool c.action) t (drop (i + 1) cs)) is_other
-    ∙ (ap (λ (x : Command). used_from (used_by tools tool x.action) (mounted tool x.action) (drop (i + 1) cs)) found
-    ∙ (sym (at_drop_more (used_from tools tool) cs i c inside) ∙ before)))
-
-pub all_used : (tools all : List (Option Tool)) (tool : Option Tool) (cs : List Command) (i : ℕ) → length cs ≤ i → used_from tools tool (drop i cs)
-    ≡ all → tools ≡ all
-all_used tools all tool cs i ended before = sym (at_drop_all (used_from tools tool) cs i ended) ∙ before

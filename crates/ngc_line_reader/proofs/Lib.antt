@@ -33,7 +33,7 @@ pub mod Blanks
 -- A line that is read has a reading within the limits, and so have the lines that are stored.
 pub mod Readings
 -- Stored lines: what a push does to them, and where one lies.
-pub mod StoredLines
+pub mod LinesInStore
 -- Symbols that are kept as their kinds and their numbers.
 pub mod KeptSymbols
 -- What is kept of lines: what a push does to it, and what it says.

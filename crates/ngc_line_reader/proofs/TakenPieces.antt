@@ -23,7 +23,7 @@ use Rattle.ngc_line_reader.specs.ProgramView.{lines_in, FaultIs, OutcomeIs}
 use Rattle.ngc_line_reader.specs.Pieces.{firm_lines, fault_so_far}
 use Rattle.ngc_line_reader.specs.Load.{phase_after, is_percent, is_blank, next_line, TakesLine, RefusedBy, at_percent, ended_in, walk, ended, walked, resumed}
 use Rattle.ngc_line_reader.specs.Load.{standing, PartsLines, NoFeed, IsLoading, StepGives, phase_room, room_behind}
-use Rattle.ngc_line_reader.proofs.StoredLines.{length-lines_from}
+use Rattle.ngc_line_reader.proofs.LinesInStore.{length-lines_from}
 use Rattle.ngc_line_reader.proofs.Walk.{walk_line, walk_refused, walk_percent, walk_program, walk_firm}
 use Rattle.ngc_line_reader.proofs.Feeds.{split_last, feedless_both}
 

@@ -87,7 +87,7 @@ impl<A: Allocator> Program<A> {
         self.lines.load(index, line)
     }
 
-    #[tactic(auto, using(crate::proofs::StoredLines::stored_readings))]
+    #[tactic(auto, using(crate::proofs::LinesInStore::stored_readings))]
     fn new(lines: StoredLines<A>, marked: bool) -> Program<A>
         ensures text { text_in result ≡ record { lines = lines_in lines; marked = marked } }
         ensures readings { HaveReadings (text_in result).lines }

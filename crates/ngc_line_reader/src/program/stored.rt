@@ -48,7 +48,7 @@ impl<A: Allocator> StoredLines<A> {
         }
     }
 
-    #[tactic(auto, using(crate::proofs::StoredLines::counting_lines))]
+    #[tactic(auto, using(crate::proofs::LinesInStore::counting_lines))]
     pub(crate) fn len(&self) -> usize
         ensures value { result ≡ length (lines_in self.now) }
         ensures few { result ≤ 100000 }
@@ -56,7 +56,7 @@ impl<A: Allocator> StoredLines<A> {
         self.ends.len()
     }
 
-    #[tactic(auto, using(crate::proofs::StoredLines::counting_lines))]
+    #[tactic(auto, using(crate::proofs::LinesInStore::counting_lines))]
     pub(crate) fn number(&self, index: usize) -> u32
         requires { index < length (lines_in self.now) }
         ensures { option_map (λ l. l.number) (slice_get (lines_in self.now) index) ≡ Some result }
@@ -65,7 +65,7 @@ impl<A: Allocator> StoredLines<A> {
     }
 
     // Where a line's bytes begin.
-    #[tactic(auto, using(crate::proofs::StoredLines::counting_lines, crate::proofs::StoredLines::start_first))]
+    #[tactic(auto, using(crate::proofs::LinesInStore::counting_lines, crate::proofs::LinesInStore::start_first))]
     fn start(&self, index: usize) -> usize
         requires { index < length (lines_in self.now) }
         ensures { result ≡ start_from 0 self.now.ends.items index }
@@ -77,7 +77,7 @@ impl<A: Allocator> StoredLines<A> {
     }
 
     // Where a line's bytes begin and end.
-    #[tactic(auto, using(crate::proofs::StoredLines::counting_lines))]
+    #[tactic(auto, using(crate::proofs::LinesInStore::counting_lines))]
     fn bounds(&self, index: usize) -> (usize, usize)
         requires { index < length (lines_in self.now) }
         ensures order { result.0 ≤ result.1 }
@@ -100,7 +100,7 @@ impl<A: Allocator> StoredLines<A> {
     }
 
     // What a line says, in place of what `line` holds.
-    #[tactic(auto, using(crate::proofs::StoredLines::counting_lines))]
+    #[tactic(auto, using(crate::proofs::LinesInStore::counting_lines))]
     pub(crate) fn load(&self, index: usize, line: &mut Line)
         requires { index < length (lines_in self.now) }
         ensures { (bytes : List ℕ) → option_map (λ l. l.bytes) (slice_get (lines_in self.now) index)

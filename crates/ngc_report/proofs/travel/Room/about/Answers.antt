@@ -1,4 +1,4 @@
-use Rattle.std.proofs.Common.{arith, ◌≡◌, to_z, of_z, w32}
+use Rattle.std.proofs.Common.{arith, rules, ◌≡◌, to_z, of_z, w32}
 use Rattle.std.proofs.lemmas.Int.{ints}
 use Rattle.ngc_report.proofs.travel.Room.about.Goals as goal
 

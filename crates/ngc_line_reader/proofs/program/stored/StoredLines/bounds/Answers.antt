@@ -5,7 +5,7 @@ use Rattle.ngc_line_reader.specs.Program.{Line}
 use Rattle.ngc_line_reader.specs.ReadLine.{line_read}
 use Rattle.ngc_line_reader.specs.declared.program.stored.LineEnd.{LineEnd}
 use Rattle.ngc_line_reader.specs.Stored.{lines_from}
-use Rattle.ngc_line_reader.proofs.StoredLines.{length-lines_from, stored_line, stored_bounds, stored_read}
+use Rattle.ngc_line_reader.proofs.LinesInStore.{length-lines_from, stored_line, stored_bounds, stored_read}
 use Rattle.ngc_line_reader.proofs.program.stored.StoredLines.bounds.Goals as goal
 
 -- an index of a line is one of its end

@@ -3,7 +3,7 @@ use Rattle.std.specs.Prelude.{nat_le}
 use Rattle.ngc_line_reader.specs.Kept.{parts_in, parts_at}
 use Rattle.ngc_line_reader.specs.ScanLine.{parts_of}
 use Rattle.ngc_line_reader.specs.ProgramView.{lines_in}
-use Rattle.ngc_line_reader.proofs.StoredLines.{length-lines_from}
+use Rattle.ngc_line_reader.proofs.LinesInStore.{length-lines_from}
 use Rattle.ngc_line_reader.proofs.KeptLines.{kept_within, shown_line, line_kept_is}
 use Rattle.ngc_line_reader.proofs.program.stored.StoredLines.load.Goals as goal
 

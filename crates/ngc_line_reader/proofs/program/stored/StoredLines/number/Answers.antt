@@ -1,7 +1,7 @@
 use Rattle.std.proofs.Common.{◌<◌, ap, length, arith}
 use Rattle.std.specs.Option.{option_map}
 use Rattle.ngc_line_reader.specs.Program.{Line}
-use Rattle.ngc_line_reader.proofs.StoredLines.{length-lines_from, stored_line}
+use Rattle.ngc_line_reader.proofs.LinesInStore.{length-lines_from, stored_line}
 use Rattle.ngc_line_reader.proofs.program.stored.StoredLines.number.Goals as goal
 
 pub returns : goal.returns

@@ -4,7 +4,7 @@ use Rattle.ngc_line_reader.specs.Kept.{parts_in}
 use Rattle.ngc_line_reader.specs.ProgramView.{lines_in}
 use Rattle.ngc_line_reader.specs.ReadLine.{line_read}
 use Rattle.ngc_line_reader.specs.Stored.{line_of, lines_from}
-use Rattle.ngc_line_reader.proofs.StoredLines.{length-lines_from, stored_size, Pushes, push_stored, push_lines}
+use Rattle.ngc_line_reader.proofs.LinesInStore.{length-lines_from, stored_size, Pushes, push_stored, push_lines}
 use Rattle.ngc_line_reader.proofs.KeptLines.{within_after, kept_after, reading_kept, is_ok_of}
 use Rattle.ngc_line_reader.proofs.program.stored.StoredLines.push.Goals as goal
 

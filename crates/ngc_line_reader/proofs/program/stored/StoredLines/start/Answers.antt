@@ -1,5 +1,5 @@
 use Rattle.std.proofs.Common.{◌<◌, length, arith}
-use Rattle.ngc_line_reader.proofs.StoredLines.{length-lines_from, start_behind}
+use Rattle.ngc_line_reader.proofs.LinesInStore.{length-lines_from, start_behind}
 use Rattle.ngc_line_reader.proofs.program.stored.StoredLines.start.Goals as goal
 
 pub returns-in-Some : goal.returns-in-Some
