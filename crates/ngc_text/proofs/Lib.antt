@@ -10,3 +10,5 @@ pub mod DigitLaws
 pub mod Splits
 -- The first elements of a list, where there may be fewer.
 pub mod Firsts
+-- A number's text that is added with more bytes behind it than count.
+pub mod Spelled

@@ -1,13 +1,19 @@
-ghost use Rattle.std.specs.Prelude.{◌≡◌, ◌+◌, ◌≤◌, ◌++◌, ℕ, List, [], codes, length, OnOk, OnErr};
+ghost use Rattle.std.specs.Prelude.{◌≡◌, ◌+◌, ◌≤◌, ◌++◌, ℕ, List, [], codes, length, take, drop};
+ghost use Rattle.std.specs.Prelude.{◌-◌, OnOk, OnErr};
 ghost use Rattle.std.specs.Io.KnownBytes.{Appends};
 ghost use Rattle.ngc_text.specs.Failures.{CountsFailure};
 ghost use Rattle.ngc_text.specs.Written.{AppendsBeginning};
 ghost use Rattle.ngc_text.specs.Collected.{CHUNK_SIZE, HasLineRoom, WritesFront};
 
 use crate::{Sink, WriteFault, write_all};
-use arrayvec::ArrayVec;
-use itoa::{Buffer, Integer};
+use itoa::Integer;
 use std::marker::Model;
+
+const MOST_TEXT: usize = 16384;
+
+const MOST_BEFORE_A_LINE: usize = MOST_TEXT - 512;
+// The length of the longest number's text.
+const MOST_DIGITS: usize = 40;
 
 /// Text that is collected until a large piece of it is written: a system call a line would be too
 /// dear.
@@ -15,18 +21,38 @@ use std::marker::Model;
 /// It holds at most 16,384 bytes, and `make_room` leaves 512 of them free, enough for a line.
 #[derive(Drop)]
 pub struct Chunk {
-    bytes: ArrayVec<u8, 16384>,
-    // Where a number's digits are spelled.
-    digits: Buffer,
+    // An array and a length, not an `ArrayVec`, which wipes what it lets go of.
+    bytes: [u8; MOST_TEXT],
+    len: usize,
 }
 
 impl Model for Chunk {
     ghost Value = { List ℕ };
 
-    ghost view = { λ c. c.bytes.items };
+    ghost view = { λ c. take c.len c.bytes };
+
+    ghost invariant = { λ c. c.len ≤ 16384 };
 }
 
-const MOST_BEFORE_A_LINE: usize = 16384 - 512;
+// Spells a number so that its text ends with the room, and answers where it begins.
+fn spell_at_end<I: Integer>(number: I, room: &mut [u8; MOST_DIGITS]) -> usize
+    ensures text { drop result room.new ≡ I.text number }
+    ensures length { length room.new ≡ 40 }
+    ensures within { result ≤ 40 }
+{
+    number.write(room)
+}
+
+// Spells a number so that its text ends in the middle of the room, and answers where it begins.
+fn spell<I: Integer>(number: I, room: &mut [u8; 2 * MOST_DIGITS]) -> usize
+    ensures text { take (40 - result) (drop result room.new) ≡ I.text number }
+    ensures within { result ≤ 40 }
+{
+    let Some(front) = room.first_chunk_mut::<MOST_DIGITS>() else {
+        unreachable!()
+    };
+    spell_at_end(number, front)
+}
 
 impl Chunk {
     /// No text.
@@ -34,8 +60,8 @@ impl Chunk {
         ensures { result ≡ [] }
     {
         Chunk {
-            bytes: ArrayVec::new(),
-            digits: Buffer::new(),
+            bytes: [0; MOST_TEXT],
+            len: 0,
         }
     }
 
@@ -44,8 +70,9 @@ impl Chunk {
         requires { length self.old + length text.now ≤ CHUNK_SIZE }
         ensures { self.new ≡ self.old ++ text.now }
     {
-        let _len = self.bytes.len();
-        let _ = self.bytes.try_extend_from_slice(text);
+        let end = self.len + text.len();
+        self.bytes[self.len..end].copy_from_slice(text);
+        self.len = end;
     }
 
     /// Adds a number's decimal digits, behind a minus sign below zero. Room for 40 bytes must be
@@ -55,8 +82,12 @@ impl Chunk {
         ensures text { self.new ≡ self.old ++ I.text number }
         ensures short { length self.new ≤ length self.old + 40 }
     {
-        let digits = self.digits.format(number).as_bytes();
-        let _ = self.bytes.try_extend_from_slice(digits);
+        let mut digits = [0; 2 * MOST_DIGITS];
+        let start = spell(number, &mut digits);
+        let end = self.len + MOST_DIGITS;
+        // A copy of a known size is a few instructions; what it adds behind the text doesn't count.
+        self.bytes[self.len..end].copy_from_slice(&digits[start..start + MOST_DIGITS]);
+        self.len = end - start;
     }
 
     /// Adds three numbers as `add_number` does, with a space between each and the next. Room for
@@ -83,9 +114,9 @@ impl Chunk {
             (AppendsBeginning (W.written sink.old) (W.written sink.new) self.old) }
         ensures counts { CountsFailure (W.failures sink.old) (W.failures sink.new) result }
     {
-        match write_all(sink, self.bytes.as_slice()) {
+        match write_all(sink, &self.bytes[..self.len]) {
             Ok(()) => {
-                self.bytes.clear();
+                self.len = 0;
                 Ok(())
             }
             Err(fault) => Err(fault),
@@ -103,7 +134,7 @@ impl Chunk {
             (AppendsBeginning (W.written sink.old) (W.written sink.new) self.old) }
         ensures counts { CountsFailure (W.failures sink.old) (W.failures sink.new) result }
     {
-        if self.bytes.len() <= MOST_BEFORE_A_LINE {
+        if self.len <= MOST_BEFORE_A_LINE {
             return Ok(());
         }
         self.write_out(sink)

@@ -1,5 +1,6 @@
-use Rattle.std.proofs.Common.{rules}
+use Rattle.std.proofs.Common.{refl, arith}
+use Rattle.std.proofs.lemmas.Slice.{take-put_mid}
 use Rattle.ngc_text.proofs.chunk.Chunk.add_text.Goals as goal
 
 pub returns : goal.returns
-returns c = search rules
+returns c = rw (c.copy_from_slice.ensures.after, ← c.self.view_is) (take-put_mid c.self.inside.len _ c.self.inside.bytes c.args.text.now _ refl (omega (arith, c.self.invariant, c.self.told)))
