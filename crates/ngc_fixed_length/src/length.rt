@@ -1,4 +1,4 @@
-ghost use Rattle.std.specs.Prelude.{◌≡◌, ◌≤◌, ℤ, pos, unsigned_abs};
+ghost use Rattle.std.specs.Prelude.{◌≡◌, ◌≤◌, ℤ, ◌+ℤ◌, ◌-ℤ◌, pos, unsigned_abs};
 ghost use Rattle.ngc_fixed_length.specs.NumberFault.{within};
 ghost use Rattle.ngc_fixed_length.specs.Rounding.{nearest};
 ghost use Rattle.ngc_fixed_length.specs.Length.{IsStep};
@@ -59,6 +59,26 @@ impl Nm {
         ensures bound { IsLength result }
     {
         self.nanometres
+    }
+
+    /// The sum, of lengths whose sum is one.
+    pub fn plus(self, other: Nm) -> Nm
+        requires { IsLength (self +ℤ other) }
+        ensures { result ≡ self +ℤ other }
+    {
+        Nm {
+            nanometres: self.nanometres + other.nanometres,
+        }
+    }
+
+    /// What this length has beyond the other, where that is a length.
+    pub fn minus(self, other: Nm) -> Nm
+        requires { IsLength (self -ℤ other) }
+        ensures { result ≡ self -ℤ other }
+    {
+        Nm {
+            nanometres: self.nanometres - other.nanometres,
+        }
     }
 
     /// The nearest grid point of a step of 500 to 50,000 nm, in steps; ties go away from zero.

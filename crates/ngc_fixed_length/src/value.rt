@@ -4,7 +4,7 @@ ghost use Rattle.ngc_fixed_length.specs.Limits.{quotient, nanometres_of, length_
 
 use crate::fault::NumberFault;
 use crate::length::Nm;
-use crate::rounding::rounded_quotient;
+use crate::rounding::{rounded_quotient, short_quotient};
 use crate::units::Units;
 use std::marker::Model;
 
@@ -96,8 +96,11 @@ impl Value {
         ensures value { result ≡ nanometres_of units self }
         ensures bound { unsigned_abs result ≤ 25400000000000000 }
     {
-        let product = i128::from(self.millionths) * units.nanometres();
-        rounded_quotient(product, 1_000_000) as i64
+        match units {
+            Units::Millimetres => self.millionths,
+            // An inch has 25.4 millimetres.
+            Units::Inches => short_quotient(self.millionths * 254, 10),
+        }
     }
 
     /// The length of so many units to the nearest nanometre, ties away from zero, or `TooLarge`

@@ -8,7 +8,7 @@ ghost use Rattle.ngc_offsets.specs.Frames.{new_axis as axis_after, left_over as 
 
 use crate::fault::FrameFault;
 use crate::given::{AxisLengths, given_place};
-use crate::range::{coordinate, minus, offset, plus, sum};
+use crate::range::{coordinate, minus, offset, plus};
 use ngc_fixed_length::{Distance, Nm, Point3, System};
 use std::marker::Model;
 
@@ -183,7 +183,7 @@ impl Frames {
         Point3 {
             x: origin.x,
             y: origin.y,
-            z: sum(origin.z, self.length),
+            z: origin.z.plus(self.length),
         }
     }
 

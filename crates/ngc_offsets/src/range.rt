@@ -1,5 +1,5 @@
-ghost use Rattle.std.specs.Prelude.{◌≡◌, ◌≤◌, ◌+ℤ◌, ◌-ℤ◌, unsigned_abs, IfOk};
-ghost use Rattle.ngc_fixed_length.specs.Limits.{IsLength, LENGTH_LIMIT};
+ghost use Rattle.std.specs.Prelude.{◌≡◌, ◌≤◌, unsigned_abs, IfOk};
+ghost use Rattle.ngc_fixed_length.specs.Limits.{LENGTH_LIMIT};
 ghost use Rattle.ngc_fixed_length.specs.Places.{IsPlace, plus as sum_of, minus as difference_of};
 ghost use Rattle.ngc_offsets.specs.Ranges.{IsCoordinate, IsOffset};
 ghost use Rattle.ngc_offsets.specs.Faults.{limited as limited_to, coordinate as coordinate_in};
@@ -44,31 +44,15 @@ pub(crate) fn offset(nanometres: i64) -> Result<Nm, FrameFault>
     limited(OFFSET, nanometres)
 }
 
-/// The sum of two lengths.
-pub(crate) fn sum(a: Nm, b: Nm) -> Nm
-    requires { IsLength (a +ℤ b) }
-    ensures { result ≡ a +ℤ b }
-{
-    Nm::from_nanometres(i128::from(a.nanometres() + b.nanometres())).unwrap()
-}
-
-// What the first length has beyond the second.
-fn difference(a: Nm, b: Nm) -> Nm
-    requires { IsLength (a -ℤ b) }
-    ensures { result ≡ a -ℤ b }
-{
-    Nm::from_nanometres(i128::from(a.nanometres() - b.nanometres())).unwrap()
-}
-
 /// The sum of two points, axis by axis.
 pub(crate) fn plus(p: &Point3, q: &Point3) -> Point3
     requires { IsPlace (sum_of p.now q.now) }
     ensures { result ≡ sum_of p.now q.now }
 {
     Point3 {
-        x: sum(p.x, q.x),
-        y: sum(p.y, q.y),
-        z: sum(p.z, q.z),
+        x: p.x.plus(q.x),
+        y: p.y.plus(q.y),
+        z: p.z.plus(q.z),
     }
 }
 
@@ -78,8 +62,8 @@ pub(crate) fn minus(p: &Point3, q: &Point3) -> Point3
     ensures { result ≡ difference_of p.now q.now }
 {
     Point3 {
-        x: difference(p.x, q.x),
-        y: difference(p.y, q.y),
-        z: difference(p.z, q.z),
+        x: p.x.minus(q.x),
+        y: p.y.minus(q.y),
+        z: p.z.minus(q.z),
     }
 }
