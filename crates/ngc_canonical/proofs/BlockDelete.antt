@@ -2,12 +2,10 @@
 use Rattle.std.proofs.Common.{◌≡◌, ℕ, zero, suc, ◌+◌, ◌<◌, ◌≤◌, List, [], ◌∷◌, length, drop, Some, Bool, true, false, refl, ap, sym, ◌∙◌, arith}
 use Rattle.std.proofs.Math.ListN.{drop_of_length-le}
 use Rattle.std.specs.Prelude.{slice_get, ◌||◌, if◌then◌else◌}
-use Rattle.std.specs.Option.{option_map}
 use Rattle.ngc_line_reader.specs.Grammar.{Reading}
 use Rattle.ngc_line_reader.specs.Program.{Line}
 use Rattle.ngc_line_reader.specs.ProgramText.{AreReadings}
-use Rattle.ngc_line_reader.specs.ScanLine.{Parts}
-use Rattle.ngc_line_reader.specs.Shown.{ShowsReading}
+use Rattle.ngc_line_reader.specs.Words.{SaysDeleted}
 use Rattle.ngc_line_reader.proofs.UniqueLine.{one_reading}
 use Rattle.ngc_canonical.specs.Joined.{SameAtBoth}
 use Rattle.ngc_canonical.specs.Meaning.{NumberedLine, commands_of, from_state, has_deleted, remaining, with_readings}
@@ -50,9 +48,6 @@ pub record SeenLine (lines : List Line) (i : ℕ) : Type 0 where
   pub line : Line
   pub at : slice_get lines i ≡ Some line
 
-pub bytes_seen : (lines : List Line) (i : ℕ) (h : SeenLine lines i) → option_map (λ (l : Line). l.bytes) (slice_get lines i) ≡ Some h.line.bytes
-bytes_seen lines i h = ap (option_map (λ (l : Line). l.bytes)) h.at
-
 pub next_seen : (lines : List Line) (rs : List Reading) (i : ℕ) (h : SeenLine lines i) → AreReadings lines rs → NextLine lines rs i h.line.number h.line.bytes
 next_seen lines rs i h are = next_line lines rs i h.line.number h.line are h.at refl
 
@@ -60,13 +55,13 @@ pub seen_line : (lines : List Line) (i : ℕ) → i < length lines → SeenLine 
 seen_line lines i h = let found = line_within lines i h in record { line = found.0; at = found.1 }
 
 -- whether a line is deleted from here on: this one, or one behind it
-pub deleted_from : (lines : List Line) (rs : List Reading) (i : ℕ) (bytes : List ℕ) (deleted : Bool) (parts : Parts) (number : ℕ) →
-    ShowsReading bytes deleted parts → NextLine lines rs i number bytes
+pub deleted_from : (lines : List Line) (rs : List Reading) (i : ℕ) (bytes : List ℕ) (deleted : Bool) (number : ℕ) →
+    SaysDeleted bytes deleted → NextLine lines rs i number bytes
     → has_deleted (with_readings (drop i lines) (drop i rs)) ≡ (deleted || has_deleted (with_readings (drop (i + 1) lines) (drop (i + 1) rs)))
-deleted_from lines rs i bytes deleted parts number h next =
+deleted_from lines rs i bytes deleted number h next =
     let rest : Bool = has_deleted (with_readings (drop (i + 1) lines) (drop (i + 1) rs)) in
     let same : next.reading ≡ h.reading = one_reading bytes next.reading h.reading next.reads h.reads in
-    ap has_deleted next.behind ∙ ap (λ (x : Bool). x || rest) (ap (λ (x : Reading). x.deleted) same ∙ sym h.shows.deletes)
+    ap has_deleted next.behind ∙ ap (λ (x : Bool). x || rest) (ap (λ (x : Reading). x.deleted) same ∙ sym h.says)
 
 pub none_from : (lines : List Line) (rs : List Reading) (i : ℕ) → length lines ≤ i → has_deleted (with_readings (drop i lines) (drop i rs)) ≡ false
 none_from lines rs i h = ap (λ (l : List Line). has_deleted (with_readings l (drop i rs))) (drop_of_length-le lines h)

@@ -1,13 +1,25 @@
 -- A program's lines, one after another.
-use Rattle.std.proofs.Common.{◌≡◌, ℕ, zero, suc, ◌+◌, ◌≤◌, List, [], ◌∷◌, length, drop, Option, Some, None, Bool, true, false, Result, Ok, Err, refl, ap, sym}
+use Rattle.std.proofs.Common.{◌≡◌, ℕ, zero, suc, ◌+◌, ◌≤◌, List, [], ◌∷◌, length, drop, Option, Some, Bool, true, false, Result, Ok, Err, refl, ap, sym}
 use Rattle.std.proofs.Common.{subst, ◌∙◌, arith}
 use Rattle.std.proofs.lemmas.Option.{same_Some}
 use Rattle.std.proofs.Math.ListN.{drop_of_length-le}
-use Rattle.std.specs.Prelude.{slice_get, ◌&&◌}
+use Rattle.std.specs.Prelude.{slice_get, ◌&&◌, ℤ}
 use Rattle.std.specs.Option.{option_map}
 use Rattle.ngc_line_reader.specs.Grammar.{Reading, Reads}
+use Rattle.ngc_line_reader.specs.Grammar.{Item}
 use Rattle.ngc_line_reader.specs.ScanLine.{Parts}
 use Rattle.ngc_line_reader.specs.Shown.{ShowsReading}
+use Rattle.ngc_line_reader.specs.Held.{AllWithinLimit}
+use Rattle.ngc_line_reader.specs.Words.{number_words, SaysDeleted}
+use Rattle.ngc_line_reader.specs.declared.letter.Letter.{Letter}
+use Rattle.ngc_parameters.specs.declared.fault.EvalFault.{EvalFault}
+use Rattle.ngc_parameters.proofs.NumberValues.{number_values}
+use Rattle.ngc_modal_state.specs.declared.effect.Effect.{Effect}
+use Rattle.ngc_canonical.specs.declared.fault.Fault.TheVariants.{Value}
+use Rattle.ngc_canonical.specs.Meaning.{effects_of, with_settings}
+use Rattle.ngc_canonical.specs.Perform.{run}
+use Rattle.ngc_canonical.specs.Steps.{◌>>=◌, faulted}
+use Rattle.ngc_canonical.specs.Taken.{execute_words, IsTaken}
 use Rattle.ngc_line_reader.proofs.UniqueLine.{one_reading}
 use Rattle.ngc_line_reader.specs.Program.{Line}
 use Rattle.ngc_line_reader.specs.ProgramText.{AreReadings}
@@ -41,21 +53,6 @@ next_line (x ∷ lines) (r ∷ rs) (suc i) number line are at n =
     let e : suc i + 1 ≡ suc (i + 1) = omega arith in
     record { reading = further.reading; reads = further.reads; behind = rw e further.behind }
 
--- the line at an index, and its number
-pub record IsAt (lines : List Line) (i number : ℕ) : Type 0 where
-  pub line : Line
-  pub at : slice_get lines i ≡ Some line
-  pub numbered : line.number ≡ number
-
-pub line_at : (lines : List Line) (i number : ℕ) → option_map (λ (l : Line). l.number) (slice_get lines i) ≡ Some number → IsAt lines i number
-line_at lines i number n = by_line (slice_get lines i) refl n where
-  by_line : (x : Option Line) → slice_get lines i ≡ x → option_map (λ (l : Line). l.number) x ≡ Some number → IsAt lines i number
-  by_line None at none = absurd (cc none)
-  by_line (Some l) at same = record { line = l; at = at; numbered = same_Some _ _ same }
-
-pub bytes_at : (lines : List Line) (i number : ℕ) (h : IsAt lines i number) → option_map (λ (l : Line). l.bytes) (slice_get lines i) ≡ Some h.line.bytes
-bytes_at lines i number h = ap (option_map (λ (l : Line). l.bytes)) h.at
-
 -- a line that block delete takes out changes nothing, another leads to the lines behind it
 pub step_remaining : (setup : Setup) (p : Program) (block_delete : Bool) (number : ℕ) (r : Reading) (rest : List NumberedLine) (s : State) → s.ended ≡ false
     → from_state setup p (remaining block_delete (record { number = number; reading = r } ∷ rest)) s
@@ -70,20 +67,44 @@ step_remaining setup p block_delete number r rest s running = by_test (block_del
 
 -- ---- a line that is kept
 
-same_reading : (bytes : List ℕ) (deleted : Bool) (parts : Parts) (h : ShowsReading bytes deleted parts) (r : Reading) → Reads bytes r → r ≡ h.reading
-same_reading bytes deleted parts h r reads = one_reading bytes r h.reading reads h.reads
+abbrev pub bytes_in : List Line → ℕ → Option (List ℕ)
+bytes_in lines i = option_map (λ (l : Line). l.bytes) (slice_get lines i)
+
+pub bytes_are : (lines : List Line) (i : ℕ) (line : Line) → slice_get lines i ≡ Some line → bytes_in lines i ≡ Some line.bytes
+bytes_are lines i line at = ap (option_map (λ (l : Line). l.bytes)) at
+
+pub number_is : (lines : List Line) (i number : ℕ) (line : Line) → slice_get lines i ≡ Some line → option_map (λ (l : Line). l.number) (slice_get lines i) ≡ Some number
+    → line.number ≡ number
+number_is lines i number line at n = same_Some _ _ (sym (ap (option_map (λ (l : Line). l.number)) at) ∙ n)
 
 -- a view of what was loaded says the same
 pub seen : (bytes : List ℕ) {d e : Bool} {p q : Parts} → ShowsReading bytes d p → e ≡ d → q ≡ p → ShowsReading bytes e q
 seen bytes {d} {e} {p} {q} h same parts = subst (λ (x : Bool). ShowsReading bytes x q) (sym same) (subst (λ (x : Parts). ShowsReading bytes d x) (sym parts) h)
 
+then_same : (x : Result State Fault) → (x >>= λ (t : State). Ok (with_settings [] t)) ≡ x
+then_same (Ok t) = refl
+then_same (Err e) = refl
+
+and_then : (x : Result (List Effect) Fault) (f : List Effect → Result State Fault)
+    → (x >>= λ (what : List Effect). f what >>= λ (t : State). Ok (with_settings [] t)) ≡ (x >>= f)
+and_then (Ok what) f = then_same (f what)
+and_then (Err e) f = refl
+
+-- words with numbers for their values are executed as the line is that they stand on
+pub words_do : (setup : Setup) (items : List Item) (words : List (Letter × ℤ)) (s : State) → AllWithinLimit items → Some words ≡ number_words items
+    → execute_words setup words s ≡ execute setup items s
+words_do setup items words s limit is =
+    sym (
+    ap (λ (v : Result (List (Letter × ℤ) × List (ℕ × ℤ)) EvalFault). faulted Value v >>= λ values. effects_of s.modes values.0 >>= λ what.
+    run setup what s >>= λ t. Ok (with_settings values.1 t)) (number_values s.parameters items words limit (sym is))
+    ∙ and_then (effects_of s.modes words) (λ what. run setup what s))
+
 -- block delete takes it out
-pub left_out : (setup : Setup) (block_delete : Bool) (number : ℕ) (bytes : List ℕ) (deleted : Bool) (parts : Parts) (s : State) →
-    ShowsReading bytes deleted parts → block_delete ≡ true → deleted ≡ true
-    → (r : Reading) → Reads bytes r → after_line setup block_delete number r s ≡ Ok s
-left_out setup block_delete number bytes deleted parts s h on out r reads =
-    let d : r.deleted ≡ true = ap (λ (x : Reading). x.deleted) (same_reading bytes deleted parts h r reads) ∙ sym h.shows.deletes ∙ out in
-    rw (on, d) refl
+pub left_out : (setup : Setup) (block_delete deleted : Bool) (line : Line) (s : State) → SaysDeleted line.bytes deleted → block_delete ≡ true → deleted ≡ true
+    → IsTaken setup block_delete line (Ok tt) s s
+left_out setup block_delete deleted line s h on out =
+    let d : h.reading.deleted ≡ true = sym h.says ∙ out in
+    record { reading = h.reading; reads = h.reads; becomes = rw (on, d) refl }
 
 pub not_out_off : (block_delete deleted : Bool) → block_delete ≡ false → (block_delete && deleted) ≡ false
 not_out_off block_delete deleted off = rw off refl
@@ -91,17 +112,23 @@ not_out_off block_delete deleted off = rw off refl
 pub not_out_kept : (block_delete deleted : Bool) → block_delete ≡ true → deleted ≡ false → (block_delete && deleted) ≡ false
 not_out_kept block_delete deleted on kept = rw (on, kept) refl
 
+pub at_same_line : (s t : State) (number : ℕ) {line : ℕ} → line ≡ number → t ≡ record s { line = number } → t ≡ record s { line = line }
+at_same_line s t number same at = at ∙ ap (λ (n : ℕ). record s { line = n }) (sym same)
+
 -- it is executed
-pub executed_line : (setup : Setup) (block_delete : Bool) (number : ℕ) (bytes : List ℕ) (deleted : Bool) (parts : Parts) (s t : State)
-    (h : ShowsReading bytes deleted parts) (x : Result State Fault)
-    → (block_delete && deleted) ≡ false → t ≡ record s { line = number } → execute setup h.reading.items t ≡ x
-    → (r : Reading) → Reads bytes r → after_line setup block_delete number r s ≡ at_line number x
-executed_line setup block_delete number bytes deleted parts s t h x kept at does r reads =
-    let same : r ≡ h.reading = same_reading bytes deleted parts h r reads in
-    let d : (block_delete && r.deleted) ≡ false = ap (λ (y : Bool). block_delete && y) (ap (λ (y : Reading). y.deleted) same ∙ sym h.shows.deletes) ∙ kept in
-    let does_r : execute setup r.items (record s { line = number }) ≡ x =
-    ap (λ (y : Reading). execute setup y.items (record s { line = number })) same ∙ ap (execute setup h.reading.items) (sym at) ∙ does in
-    rw d (ap (at_line number) does_r)
+pub executed_line : (setup : Setup) (block_delete deleted : Bool) (line : Line) (s t : State) (r : Reading) → SaysDeleted line.bytes deleted
+    → (block_delete && deleted) ≡ false → t ≡ record s { line = line.number } → Reads line.bytes r
+    → after_line setup block_delete line.number r s ≡ at_line line.number (execute setup r.items t)
+executed_line setup block_delete deleted line s t r h kept at reads =
+    let same : r ≡ h.reading = one_reading line.bytes r h.reading reads h.reads in
+    let d : (block_delete && r.deleted) ≡ false = ap (λ (y : Bool). block_delete && y) (ap (λ (y : Reading). y.deleted) same ∙ sym h.says) ∙ kept in
+    rw d (ap (λ (u : State). at_line line.number (execute setup r.items u)) (sym at))
+
+-- any reading leads to the same
+pub taken_as : (setup : Setup) (block_delete : Bool) (line : Line) (answer : Result (Unit {0}) ProgramFault) (old new : State) (r : Reading)
+    → IsTaken setup block_delete line answer old new → Reads line.bytes r → BecomesAt answer new (after_line setup block_delete line.number r old)
+taken_as setup block_delete line answer old new r h reads =
+    subst (λ (x : Reading). BecomesAt answer new (after_line setup block_delete line.number x old)) (one_reading line.bytes h.reading r h.reads reads) h.becomes
 
 -- ---- from line to line
 

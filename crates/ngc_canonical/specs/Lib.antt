@@ -11,4 +11,5 @@ pub mod Cycles
 pub mod Perform
 pub mod Meaning
 pub mod Interpreter
+pub mod Taken
 pub mod Joined

@@ -5,7 +5,7 @@ ghost use Rattle.ngc_line_reader.specs.ProgramText.{AreReadings};
 ghost use Rattle.ngc_line_reader.specs.ProgramView.{text_in};
 ghost use Rattle.ngc_canonical.specs.Meaning.{program_said, has_deleted};
 
-use ngc_line_reader::{Line, Program};
+use ngc_line_reader::Program;
 use std::alloc::Allocator;
 
 /// Whether a line of a program begins with `/`. Where none does, block delete changes nothing.
@@ -14,10 +14,8 @@ pub fn has_deleted_lines<A: Allocator>(program: &Program<A>) -> bool
     ensures { (rs : List Reading) → AreReadings (text_in program.now).lines rs →
         result ≡ has_deleted (program_said (text_in program.now) rs).lines }
 {
-    let mut line = Line::empty();
     for index in 0..program.len() {
-        program.load(index, &mut line);
-        if line.view().deleted {
+        if program.is_deleted(index) {
             return true;
         }
     }

@@ -37,6 +37,8 @@ impl<A: Allocator + Copy> Interpreter<A> {
         }
     }
 
+    // (Its answer is large, and looked at at once.)
+    #[inline(always)]
     fn perform(
         &mut self,
         machine: &Machine<A>,
@@ -93,6 +95,7 @@ impl<A: Allocator + Copy> Interpreter<A> {
     }
 
     /// Effects one after another.
+    #[inline(never)]
     pub(crate) fn run(
         &mut self,
         machine: &Machine<A>,

@@ -75,6 +75,7 @@ fn home_of<A: Allocator>(machine: &Machine<A>, home: Home) -> Point3
 
 impl<A: Allocator> Interpreter<A> {
     /// The place of the machine that axis words give; with G53 they are coordinates of the machine.
+    #[inline(always)]
     pub(crate) fn end_of(&self, is_machine_place: bool, words: &AxisWords) -> Result<Point3, Fault>
         ensures value { result ≡ end_in is_machine_place (state_of self.now) words.now }
         ensures range { IfOk result IsMachinePlace }

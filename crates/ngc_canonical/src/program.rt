@@ -1,17 +1,20 @@
 //! A program's lines, one after another.
-ghost use Rattle.std.specs.Prelude.{◌≡◌, ◌≤◌, ℤ, ℕ, List, length, IfOk};
-ghost use Rattle.ngc_line_reader.specs.Grammar.{Reading, Reads};
+ghost use Rattle.std.specs.Prelude.{◌≡◌, ◌≤◌, ◌<◌, ℕ, List, length, slice_get, Some, IfOk};
+ghost use Rattle.ngc_line_reader.specs.Grammar.{Reading};
 ghost use Rattle.ngc_line_reader.specs.Held.{AllWithinLimit};
-ghost use Rattle.ngc_line_reader.specs.Shown.{view_parts, items_of, items_said, ShowsReading};
+ghost use Rattle.ngc_line_reader.specs.Shown.{view_parts, items_of, items_said};
+ghost use Rattle.ngc_line_reader.specs.Program.{Line as ProgramLine};
+ghost use Rattle.ngc_line_reader.specs.Words.{pairs_of};
 ghost use Rattle.ngc_line_reader.specs.ProgramText.{AreReadings};
 ghost use Rattle.ngc_line_reader.specs.ProgramView.{text_in};
 ghost use Rattle.ngc_machine.specs.Machine.{file_of};
-ghost use Rattle.ngc_parameters.specs.Stored.{pairs_of, changes_of};
+ghost use Rattle.ngc_parameters.specs.Stored.{changes_of};
 ghost use Rattle.ngc_canonical.specs.Meaning.{effects_of as effects_in, execute as executed};
-ghost use Rattle.ngc_canonical.specs.Meaning.{with_settings, after_line, past_last, commands_of};
+ghost use Rattle.ngc_canonical.specs.Meaning.{with_settings, past_last, commands_of};
 ghost use Rattle.ngc_canonical.specs.Meaning.{GivesMeaning, GivesEffects, meaning, program_said};
 ghost use Rattle.ngc_canonical.specs.Meaning.{mark_of as marked_at};
-ghost use Rattle.ngc_canonical.specs.Interpreter.{setup_of, state_of, Becomes, BecomesAt};
+ghost use Rattle.ngc_canonical.specs.Interpreter.{setup_of, state_of, Becomes};
+ghost use Rattle.ngc_canonical.specs.Taken.{execute_words as words_executed, IsExecuted, IsTaken};
 ghost use Rattle.ngc_canonical.specs.Movement.{actions_of, ways_of, AreJoined};
 ghost use Rattle.ngc_canonical.specs.Joined.{HaveEvenRadii, EndIsLast, HasEnd};
 
@@ -19,15 +22,17 @@ use crate::command::{Action, Command};
 use crate::fault::{Fault, ProgramFault};
 use crate::state::{Interpreter, Refusal};
 use arrayvec::ArrayVec;
-use ngc_line_reader::{Line, LineView, Program};
+use ngc_line_reader::{Line, LineView, Program, Word};
 use ngc_machine::{Machine, Tools};
 use ngc_modal_state::{Block, Effect};
-use ngc_parameters::{Changes, LineValues, Word};
+use ngc_parameters::{Changes, LineValues};
 use std::alloc::Allocator;
 
-/// Where the values and effects of lines are found, one after another: room that is made once.
+/// Where what lines say, their values and their effects are found, one line's after another's:
+/// room that is made once.
 #[derive(Drop)]
 pub struct Work {
+    pub line: Line,
     pub values: LineValues,
     pub effects: ArrayVec<Effect, 24>,
 }
@@ -55,33 +60,81 @@ impl<A: Allocator + Copy> Interpreter<A> {
         self.store.make(changes);
     }
 
-    // Executes a line.
+    // Executes words with these values.
+    fn execute_words(
+        &mut self,
+        machine: &Machine<A>,
+        tools: &Tools<A>,
+        words: &[Word],
+        effects: &mut ArrayVec<Effect, 24>,
+    ) -> Result<(), Refusal>
+        ensures { Becomes result (state_of self.new)
+            (words_executed (setup_of machine.now tools.now) (pairs_of words.now)
+            (state_of self.old)) }
+    {
+        match self.effects(words, effects) {
+            Ok(()) => self.run(machine, tools, effects.as_slice()),
+            Err(fault) => Err(Refusal::Breaks(fault)),
+        }
+    }
+
+    // Executes what a line says.
     fn execute(
         &mut self,
         machine: &Machine<A>,
         tools: &Tools<A>,
         line: LineView<'_>,
-        work: &mut Work,
+        values: &mut LineValues,
+        effects: &mut ArrayVec<Effect, 24>,
     ) -> Result<(), Refusal>
         ensures { (bytes : List ℕ) (r : Reading) →
             items_of (view_parts line.entry) ≡ items_said bytes r → AllWithinLimit r.items →
             Becomes result (state_of self.new)
             (executed (setup_of machine.now tools.now) r.items (state_of self.old)) }
     {
-        match self.store.read(line, &mut work.values) {
+        match self.store.read(line, values) {
             Ok(()) => {}
             Err(fault) => return Err(Refusal::Breaks(Fault::Value(fault))),
         }
-        match self.effects(work.values.words.as_slice(), &mut work.effects) {
+        match self.effects(values.words.as_slice(), effects) {
             Ok(()) => {}
             Err(fault) => return Err(Refusal::Breaks(fault)),
         }
-        match self.run(machine, tools, work.effects.as_slice()) {
+        match self.run(machine, tools, effects.as_slice()) {
             Ok(()) => {
-                self.set(&work.values.changes);
+                self.set(&values.changes);
                 Ok(())
             }
             Err(refusal) => Err(refusal),
+        }
+    }
+
+    // Executes a line of the program. Where its values are numbers, nothing has to be worked out.
+    fn execute_line(
+        &mut self,
+        machine: &Machine<A>,
+        tools: &Tools<A>,
+        program: &Program<A>,
+        index: usize,
+        work: &mut Work,
+    ) -> Result<(), Refusal>
+        requires { index < length (text_in program.now).lines }
+        ensures { (line : ProgramLine) → slice_get (text_in program.now).lines index ≡ Some line →
+            IsExecuted (setup_of machine.now tools.now) line result (state_of self.old)
+            (state_of self.new) }
+    {
+        match program.numbers(index) {
+            Some(words) => self.execute_words(machine, tools, words, &mut work.effects),
+            None => {
+                program.load(index, &mut work.line);
+                self.execute(
+                    machine,
+                    tools,
+                    work.line.view(),
+                    &mut work.values,
+                    &mut work.effects,
+                )
+            }
         }
     }
 
@@ -91,33 +144,31 @@ impl<A: Allocator + Copy> Interpreter<A> {
         self.line = line;
     }
 
-    /// Executes a line of the program, unless block delete takes it out. `work` is where its values
-    /// and effects are found.
+    /// Executes a line of the program, unless block delete takes it out. `work` is where what it
+    /// says, its values and its effects are found.
     pub(crate) fn take_line(
         &mut self,
         machine: &Machine<A>,
         tools: &Tools<A>,
-        number: u32,
-        line: LineView<'_>,
+        program: &Program<A>,
+        index: usize,
         work: &mut Work,
         block_delete: bool,
     ) -> Result<(), ProgramFault>
-        ensures { (bytes : List ℕ) → ShowsReading bytes line.entry.deleted (view_parts line.entry) →
-            (r : Reading) → Reads bytes r →
-            BecomesAt result (state_of self.new)
-            (after_line (setup_of machine.now tools.now) block_delete number r
-            (state_of self.old)) }
+        requires { index < length (text_in program.now).lines }
+        ensures { (line : ProgramLine) → slice_get (text_in program.now).lines index ≡ Some line →
+            IsTaken (setup_of machine.now tools.now) block_delete line result (state_of self.old)
+            (state_of self.new) }
     {
-        if block_delete && line.deleted {
+        let deleted = program.is_deleted(index);
+        if block_delete && deleted {
             return Ok(());
         }
-        self.at(number);
-        match self.execute(machine, tools, line, work) {
+        let line = program.number(index);
+        self.at(line);
+        match self.execute_line(machine, tools, program, index, work) {
             Ok(()) => Ok(()),
-            Err(Refusal::Breaks(fault)) => Err(ProgramFault::At {
-                line: number,
-                fault,
-            }),
+            Err(Refusal::Breaks(fault)) => Err(ProgramFault::At { line, fault }),
             Err(Refusal::Memory) => Err(ProgramFault::Memory),
         }
     }
@@ -190,21 +241,13 @@ pub fn interpret<A: Allocator + Copy>(
     let Ok(mut interpreter) = Interpreter::new(alloc, machine) else {
         return Err(ProgramFault::Memory);
     };
-    let mut line = Line::empty();
     let mut work = Work {
+        line: Line::empty(),
         values: LineValues::empty(),
         effects: ArrayVec::new(),
     };
     for index in 0..program.len() {
-        program.load(index, &mut line);
-        match interpreter.take_line(
-            machine,
-            tools,
-            program.number(index),
-            line.view(),
-            &mut work,
-            block_delete,
-        ) {
+        match interpreter.take_line(machine, tools, program, index, &mut work, block_delete) {
             Ok(()) => {}
             Err(fault) => return Err(fault),
         }

@@ -1,8 +1,9 @@
 -- What is kept of lines: what a push does to it, and what it says.
 use Rattle.std.proofs.Common.{◌≡◌, ℕ, zero, suc, ◌<◌, ap, subst, Bool, true, false, Option, Some, None, List, [], ◌∷◌, ◌++◌, length, map, get_or, slice_get}
-use Rattle.std.proofs.Common.{Result, Ok, Err, refl, sym, ◌∙◌}
+use Rattle.std.proofs.Common.{Result, Ok, Err, refl, sym, ◌∙◌, arith}
 use Rattle.std.specs.Option.{option_map}
-use Rattle.std.specs.Prelude.{nat_le, IsOk}
+use Rattle.std.specs.Prelude.{◌==◌, ◌&&◌, nat_le, IsOk, ℤ, if◌then◌else◌}
+use Rattle.std.proofs.lemmas.Bool.Decides.{nat_tests}
 use Rattle.std.proofs.lemmas.Option.{slice_get-map, slice_get_read, same_Some}
 use Rattle.ngc_line_reader.specs.declared.program.stored.LineEnd.{LineEnd}
 use Rattle.ngc_line_reader.specs.declared.fault.LineFault.{LineFault}
@@ -16,40 +17,47 @@ use Rattle.ngc_line_reader.specs.Shown.{ShowsReading, items_of}
 use Rattle.ngc_line_reader.specs.Tokens.{symbols}
 use Rattle.ngc_line_reader.specs.Symbols.{symbols_from}
 use Rattle.ngc_line_reader.proofs.KeptSymbols.{loads_back}
-use Rattle.ngc_line_reader.specs.Kept.{KeptParts, kept_of, IsWithin, Keeps, AreWithin, AreKept, parts_at, said_in, line_said, line_kept}
-use Rattle.ngc_line_reader.proofs.ReadLines.{text_takes}
+use Rattle.ngc_line_reader.specs.Kept.{AllKept, LineKept, by_numbers, by_symbols, SymbolsKept, symbols_kept_of, is_numbered, numbered_words, kept_of}
+use Rattle.ngc_line_reader.specs.Kept.{LiesWithin, Keeps, AreWithin, AreKept, parts_at, said_in, line_said, line_kept}
+use Rattle.ngc_line_reader.specs.Grammar.{behind}
+use Rattle.ngc_line_reader.specs.Held.{all_tokens, words_from, settings_from}
+use Rattle.ngc_line_reader.specs.Words.{pairs_of, number_words, SaysNumbers, SaysDeleted}
+use Rattle.ngc_line_reader.specs.declared.letter.Letter.{Letter}
+use Rattle.ngc_line_reader.specs.declared.word.Word.{Word}
+use Rattle.ngc_line_reader.proofs.NumberWords.{numbered_are, are_numbered}
+use Rattle.ngc_line_reader.proofs.ReadLines.{TakesText, text_takes}
 
 map-push : {X Y : Type 0} (f : X → Y) (xs : List X) (x : X) → map f (xs ++ (x ∷ [])) ≡ map f xs ++ (f x ∷ [])
 map-push f [] x = refl
 map-push f (y ∷ xs) x = ap (λ l. f y ∷ l) (map-push f xs x)
 
 -- what lies within stays within
-pub within_stays : (old new : KeptParts) (ends : List LineEnd) → Keeps old new → AreWithin old ends → AreWithin new ends
+pub within_stays : (old new : AllKept) (ends : List LineEnd) → Keeps old new → AreWithin old ends → AreWithin new ends
 within_stays old new [] keeps w = tt
-within_stays old new (e ∷ ends) keeps w = ((keeps e.parts w.0).0, within_stays old new ends keeps w.1)
+within_stays old new (e ∷ ends) keeps w = ((keeps e.parts.kept w.0).0, within_stays old new ends keeps w.1)
 
-within_more : (all : KeptParts) (ends : List LineEnd) (e : LineEnd) → AreWithin all ends → IsWithin all e.parts → AreWithin all (ends ++ (e ∷ []))
+within_more : (all : AllKept) (ends : List LineEnd) (e : LineEnd) → AreWithin all ends → LiesWithin all e.parts.kept → AreWithin all (ends ++ (e ∷ []))
 within_more all [] e w h = (h, tt)
 within_more all (x ∷ ends) e w h = (w.0, within_more all ends e w.1 h)
 
 -- and one more
-pub within_after : (all : KeptParts) (ends behind : List LineEnd) (e : LineEnd) → behind ≡ ends ++ (e ∷ []) → AreWithin all ends → IsWithin all e.parts →
+pub within_after : (all : AllKept) (ends behind : List LineEnd) (e : LineEnd) → behind ≡ ends ++ (e ∷ []) → AreWithin all ends → LiesWithin all e.parts.kept →
     AreWithin all behind
 within_after all ends behind e is w h = subst (λ (l : List LineEnd). AreWithin all l) (sym is) (within_more all ends e w h)
 
-same_kept : (old new : KeptParts) (ends : List LineEnd) → Keeps old new → AreWithin old ends → map (line_kept new) ends ≡ map (line_kept old) ends
+same_kept : (old new : AllKept) (ends : List LineEnd) → Keeps old new → AreWithin old ends → map (line_kept new) ends ≡ map (line_kept old) ends
 same_kept old new [] keeps w = refl
 same_kept old new (e ∷ ends) keeps w =
-    ap (λ (p : KeptParts). Some (e.parts.deleted, p) ∷ map (line_kept new) ends) (keeps e.parts w.0).1
+    ap (λ (p : LineKept). Some (e.parts.deleted, p) ∷ map (line_kept new) ends) (keeps e.parts.kept w.0).1
     ∙ ap (λ l. line_kept old e ∷ l) (same_kept old new ends keeps w.1)
 
 -- what is kept of the lines stays
-pub kept_stays : (old new : KeptParts) (lines : List Line) (ends : List LineEnd) → Keeps old new → AreWithin old ends → AreKept old lines ends →
+pub kept_stays : (old new : AllKept) (lines : List Line) (ends : List LineEnd) → Keeps old new → AreWithin old ends → AreKept old lines ends →
     AreKept new lines ends
 kept_stays old new lines ends keeps w h = h ∙ sym (same_kept old new ends keeps w)
 
 -- and one more is kept
-pub kept_after : (all : KeptParts) (lines after : List Line) (ends behind : List LineEnd) (line : Line) (e : LineEnd) → after ≡ lines ++ (line ∷ []) →
+pub kept_after : (all : AllKept) (lines after : List Line) (ends behind : List LineEnd) (line : Line) (e : LineEnd) → after ≡ lines ++ (line ∷ []) →
     behind ≡ ends ++ (e ∷ []) → AreKept all lines ends
     → line_said line ≡ line_kept all e → AreKept all after behind
 kept_after all lines after ends behind line e a b h same =
@@ -61,24 +69,24 @@ kept_after all lines after ends behind line e a b h same =
     ∙ sym (ap (map (line_kept all)) b)
 
 -- a line that was read is kept
-pub reading_kept : (all : KeptParts) (number : ℕ) (bytes : List ℕ) (reading : HeldLine) (e : LineEnd) → line_read bytes ≡ Ok (said_of reading) →
-    parts_at all e.parts ≡ kept_of (parts_of reading) → e.parts.deleted ≡ reading.deleted
+pub reading_kept : (all : AllKept) (number : ℕ) (bytes : List ℕ) (reading : HeldLine) (e : LineEnd) → line_read bytes ≡ Ok (said_of reading) →
+    parts_at all e.parts.kept ≡ kept_of (parts_of reading) → e.parts.deleted ≡ reading.deleted
     → line_said (line_of number bytes) ≡ line_kept all e
 reading_kept all number bytes reading e read parts deleted =
-    ap said_in read ∙ ap (λ (p : KeptParts). Some (reading.deleted, p)) (sym parts) ∙ ap (λ (d : Bool). Some (d, parts_at all e.parts)) (sym deleted)
+    ap said_in read ∙ ap (λ (p : LineKept). Some (reading.deleted, p)) (sym parts) ∙ ap (λ (d : Bool). Some (d, parts_at all e.parts.kept)) (sym deleted)
 
-within_at : (all : KeptParts) (ends : List LineEnd) (i : ℕ) (e : LineEnd) → AreWithin all ends → slice_get ends i ≡ Some e → IsWithin all e.parts
+within_at : (all : AllKept) (ends : List LineEnd) (i : ℕ) (e : LineEnd) → AreWithin all ends → slice_get ends i ≡ Some e → LiesWithin all e.parts.kept
 within_at all [] i e w is = absurd (cc is)
-within_at all (x ∷ ends) zero e w is = subst (λ (y : LineEnd). IsWithin all y.parts) (same_Some _ _ is) w.0
+within_at all (x ∷ ends) zero e w is = subst (λ (y : LineEnd). LiesWithin all y.parts.kept) (same_Some _ _ is) w.0
 within_at all (x ∷ ends) (suc i) e w is = within_at all ends i e w.1 is
 
 -- what is kept of the line of an index lies within
-pub kept_within : (all : KeptParts) (ends : List LineEnd) (i : ℕ) (e : LineEnd) → AreWithin all ends → i < length ends → e ≡ get_or ends i e →
-    IsWithin all e.parts
+pub kept_within : (all : AllKept) (ends : List LineEnd) (i : ℕ) (e : LineEnd) → AreWithin all ends → i < length ends → e ≡ get_or ends i e →
+    LiesWithin all e.parts.kept
 kept_within all ends i e w h is = within_at all ends i e w (slice_get_read ends (length ends) i e refl h is)
 
 -- the line of an index says what is kept of it
-said_at : (all : KeptParts) (lines : List Line) (ends : List LineEnd) (i : ℕ) (l : Line) (e : LineEnd) → AreKept all lines ends → slice_get lines i ≡ Some l →
+said_at : (all : AllKept) (lines : List Line) (ends : List LineEnd) (i : ℕ) (l : Line) (e : LineEnd) → AreKept all lines ends → slice_get lines i ≡ Some l →
     slice_get ends i ≡ Some e
     → line_said l ≡ line_kept all e
 said_at all lines ends i l e kept at end =
@@ -88,43 +96,129 @@ said_at all lines ends i l e kept at end =
     ∙ slice_get-map (line_kept all) ends i
     ∙ ap (option_map (line_kept all)) end)
 
+-- a line that is kept by symbols has words or settings with other values than numbers
+by_test : (b : Bool) (ws : List Word) (k kept : SymbolsKept) → (if b then by_numbers ws else by_symbols k) ≡ by_symbols kept → (b ≡ false) × (k ≡ kept)
+by_test true ws k kept is = absurd (cc is)
+by_test false ws k kept is = (refl, cc is)
+
+symbols_are : (said : Parts) (kept : SymbolsKept) → kept_of said ≡ by_symbols kept → (is_numbered said ≡ false) × (symbols_kept_of said ≡ kept)
+symbols_are said kept is = by_test (is_numbered said) (numbered_words said.words said.tokens) (symbols_kept_of said) kept is
+
+-- and one that is kept by numbers has none
+by_other_test : (b : Bool) (ws kept : List Word) (k : SymbolsKept) → (if b then by_numbers ws else by_symbols k) ≡ by_numbers kept → (b ≡ true) × (ws ≡ kept)
+by_other_test true ws kept k is = (refl, cc is)
+by_other_test false ws kept k is = absurd (cc is)
+
+numbers_are : (said : Parts) (kept : List Word) → kept_of said ≡ by_numbers kept → (is_numbered said ≡ true) × (numbered_words said.words said.tokens ≡ kept)
+numbers_are said kept is = by_other_test (is_numbered said) (numbered_words said.words said.tokens) kept (symbols_kept_of said) is
+
 -- what is loaded is what a reading says
-items_are : (said : Parts) (kept : KeptParts) (parts : Parts) → kept_of said ≡ kept → parts.words ≡ kept.words → parts.settings ≡ kept.settings →
+items_are : (said : Parts) (kept : SymbolsKept) (parts : Parts) → kept_of said ≡ by_symbols kept → parts.words ≡ kept.words → parts.settings ≡ kept.settings →
     symbols parts.tokens ≡ symbols_from kept.kinds kept.numbers → items_of parts ≡ items_of said
-items_are said kept parts same words settings marks =
-    let w : parts.words ≡ said.words = words ∙ sym (ap (λ (k : KeptParts). k.words) same) in
-    let s : parts.settings ≡ said.settings = settings ∙ sym (ap (λ (k : KeptParts). k.settings) same) in
-    let m : symbols parts.tokens ≡ symbols said.tokens = marks ∙ sym (ap (λ (k : KeptParts). symbols_from k.kinds k.numbers) same)
+items_are said kept parts is words settings marks =
+    let same : symbols_kept_of said ≡ kept = (symbols_are said kept is).1 in
+    let w : parts.words ≡ said.words = words ∙ sym (ap (λ (k : SymbolsKept). k.words) same) in
+    let s : parts.settings ≡ said.settings = settings ∙ sym (ap (λ (k : SymbolsKept). k.settings) same) in
+    let m : symbols parts.tokens ≡ symbols said.tokens = marks ∙ sym (ap (λ (k : SymbolsKept). symbols_from k.kinds k.numbers) same)
     ∙ loads_back (symbols said.tokens) in
     λ i. record { words = w i; settings = s i; symbols = m i }
 
-shown_as : (bytes : List ℕ) (found : Result Said LineFault) (kept : KeptParts) (d deleted : Bool) (parts : Parts) →
-    text_at (place_in (columns bytes)) (text bytes) ≡ found → said_in found ≡ Some (d, kept)
+-- what is said where something is kept
+record SaysKept (bytes : List ℕ) (d : Bool) (kept : LineKept) : Type 0 where
+  said : Said
+  takes : TakesText (place_in (columns bytes)) (text bytes) said
+  deletes : said.deleted ≡ d
+  keeps : kept_of said.parts ≡ kept
+
+said_from : (bytes : List ℕ) (found : Result Said LineFault) (d : Bool) (kept : LineKept) → text_at (place_in (columns bytes)) (text bytes) ≡ found
+    → said_in found ≡ Some (d, kept) → SaysKept bytes d kept
+said_from bytes (Err fault) d kept is same = absurd (cc same)
+said_from bytes (Ok s) d kept is same =
+    let pair : (s.deleted, kept_of s.parts) ≡ (d, kept) = same_Some _ _ same in
+    record {
+      said = s;
+      takes = text_takes (place_in (columns bytes)) (text bytes) s is;
+      deletes = ap (λ (x : Bool × LineKept). x.0) pair;
+      keeps = ap (λ (x : Bool × LineKept). x.1) pair;
+    }
+
+says_kept : (bytes : List ℕ) (long : Bool) (d : Bool) (kept : LineKept) → nat_le 257 (length bytes) ≡ long → said_in (line_read bytes) ≡ Some (d, kept)
+    → SaysKept bytes d kept
+says_kept bytes true d kept is same = absurd (cc (is, same))
+says_kept bytes false d kept is same = said_from bytes (text_at (place_in (columns bytes)) (text bytes)) d kept refl (rw is at same)
+
+pub shown_line : (bytes : List ℕ) (kept : SymbolsKept) (d deleted : Bool) (parts : Parts) → said_in (line_read bytes) ≡ Some (d, by_symbols kept)
     → deleted ≡ d → parts.words ≡ kept.words → parts.settings ≡ kept.settings → symbols parts.tokens ≡ symbols_from kept.kinds kept.numbers →
     ShowsReading bytes deleted parts
-shown_as bytes (Err fault) kept d deleted parts is same out words settings marks = absurd (cc same)
-shown_as bytes (Ok s) kept d deleted parts is same out words settings marks =
-    let w = text_takes (place_in (columns bytes)) (text bytes) s is in
-    let pair : (s.deleted, kept_of s.parts) ≡ (d, kept) = same_Some _ _ same in
+shown_line bytes kept d deleted parts same out words settings marks =
+    let k = says_kept bytes (nat_le 257 (length bytes)) d (by_symbols kept) refl same in
+    let w = k.takes in
     record {
       reading = w.r;
       reads = (w.is, w.spelled);
       limit = w.limit;
       shows = record {
-        deletes = out ∙ sym (ap (λ (x : Bool × KeptParts). x.0) pair) ∙ ap (λ (x : Said). x.deleted) w.says;
-        says = items_are s.parts kept parts (ap (λ (x : Bool × KeptParts). x.1) pair) words settings marks ∙ ap (λ (x : Said). items_of x.parts) w.says;
+        deletes = out ∙ sym k.deletes ∙ ap (λ (x : Said). x.deleted) w.says;
+        says = items_are k.said.parts kept parts k.keeps words settings marks ∙ ap (λ (x : Said). items_of x.parts) w.says;
       };
     }
 
-pub shown_line : (bytes : List ℕ) (long : Bool) (kept : KeptParts) (d deleted : Bool) (parts : Parts) → nat_le 257 (length bytes) ≡ long →
-    said_in (line_read bytes) ≡ Some (d, kept)
-    → deleted ≡ d → parts.words ≡ kept.words → parts.settings ≡ kept.settings → symbols parts.tokens ≡ symbols_from kept.kinds kept.numbers →
-    ShowsReading bytes deleted parts
-shown_line bytes true kept d deleted parts is same out words settings marks = absurd (cc (is, same))
-shown_line bytes false kept d deleted parts is same out words settings marks =
-    shown_as bytes (text_at (place_in (columns bytes)) (text bytes)) kept d deleted parts refl (rw is at same) out words settings marks
+-- whether block delete takes a line out is kept
+pub deleted_line : (bytes : List ℕ) (d : Bool) (kept : LineKept) → said_in (line_read bytes) ≡ Some (d, kept) → SaysDeleted bytes d
+deleted_line bytes d kept same =
+    let k = says_kept bytes (nat_le 257 (length bytes)) d kept refl same in
+    record {
+      reading = k.takes.r;
+      reads = (k.takes.is, k.takes.spelled);
+      says = sym k.deletes ∙ ap (λ (x : Said). x.deleted) k.takes.says;
+    }
 
-pub line_kept_is : (all : KeptParts) (lines : List Line) (ends : List LineEnd) (i : ℕ) (e : LineEnd) (bytes : List ℕ) → AreKept all lines ends →
+both : (a b : Bool) → (a && b) ≡ true → (a ≡ true) × (b ≡ true)
+both true b h = (refl, h)
+both false b h = absurd (cc h)
+
+same_true : (m n : ℕ) → (m == n) ≡ true → m ≡ n
+same_true m n h = grind (arith, nat_tests)
+
+true_same : (m n : ℕ) → m ≡ n → (m == n) ≡ true
+true_same m n h = grind (arith, nat_tests)
+
+-- words that are kept with their numbers are a line's words
+pub numbered_line : (bytes : List ℕ) (d : Bool) (ws : List Word) → said_in (line_read bytes) ≡ Some (d, by_numbers ws) → SaysNumbers bytes (Some (pairs_of ws))
+numbered_line bytes d ws same =
+    let k = says_kept bytes (nat_le 257 (length bytes)) d (by_numbers ws) refl same in
+    let w = k.takes in
+    let place = place_in (columns bytes) in
+    let end : List ℕ = behind 59 w.r.remark in
+    let n = numbers_are k.said.parts ws k.keeps in
+    let parts = ap (λ (x : Said). x.parts) w.says in
+    let tests : (length (settings_from place 0 w.r.items end) == 0) && (length (all_tokens place w.r.items end) == length (words_from place 0 w.r.items end)) ≡ true =
+    sym (ap is_numbered parts) ∙ n.0 in
+    let t = both _ _ tests in
+    let are = numbered_are place 0 w.r.items end (same_true _ _ t.0) (same_true _ _ t.1) in
+    record {
+      reading = w.r;
+      reads = (w.is, w.spelled);
+      limit = w.limit;
+      says = sym (are ∙ ap (λ (p : Parts). Some (pairs_of (numbered_words p.words p.tokens))) (sym parts) ∙ ap (λ (l : List Word). Some (pairs_of l)) n.1);
+    }
+
+-- a line that is kept by its symbols has other values than numbers
+pub symbols_line : (bytes : List ℕ) (d : Bool) (kept : SymbolsKept) → said_in (line_read bytes) ≡ Some (d, by_symbols kept) → SaysNumbers bytes None
+symbols_line bytes d kept same =
+    let k = says_kept bytes (nat_le 257 (length bytes)) d (by_symbols kept) refl same in
+    let w = k.takes in
+    let place = place_in (columns bytes) in
+    let end : List ℕ = behind 59 w.r.remark in
+    let n = symbols_are k.said.parts kept k.keeps in
+    let parts = ap (λ (x : Said). x.parts) w.says in
+    let not_all = sym (ap is_numbered parts) ∙ n.0 in
+    record { reading = w.r; reads = (w.is, w.spelled); limit = w.limit; says = other (number_words w.r.items) (are_numbered place 0 w.r.items end) not_all } where
+      other : {a b c d : ℕ} (x : Option (List (Letter × ℤ))) → ((ws : List (Letter × ℤ)) → x ≡ Some ws → (a ≡ b) × (c ≡ d)) → ((a == b) && (c == d)) ≡ false → None ≡ x
+      other None are not_all = refl
+      other (Some ws) are not_all = let h = are ws refl in absurd (cc (not_all, true_same _ _ h.0, true_same _ _ h.1))
+
+pub line_kept_is : (all : AllKept) (lines : List Line) (ends : List LineEnd) (i : ℕ) (e : LineEnd) (bytes : List ℕ) → AreKept all lines ends →
     i < length ends → e ≡ get_or ends i e
     → option_map (λ (l : Line). l.bytes) (slice_get lines i) ≡ Some bytes → (line_kept all e ≡ said_in (line_read bytes))
 line_kept_is all lines ends i e bytes kept h is b = by_line (slice_get lines i) refl b where

@@ -36,6 +36,8 @@ pub mod Readings
 pub mod LinesInStore
 -- Symbols that are kept as their kinds and their numbers.
 pub mod KeptSymbols
+-- Words whose values are numbers: those of a line without settings that has a token for each word.
+pub mod NumberWords
 -- What is kept of lines: what a push does to it, and what it says.
 pub mod KeptLines
 -- Lines that bytes make, and the first line feed among them.

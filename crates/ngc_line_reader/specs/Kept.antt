@@ -1,59 +1,108 @@
 -- How the words, settings and tokens of lines are kept: one line's behind the other's, and for each
 -- line where its own lie.
-use Rattle.std.specs.Prelude.{ℤ, ◌+◌, ◌≤◌, ◌≡◌, List, [], length, slice_range, map, Bool, Option}
-use Rattle.std.specs.Prelude.{Some, None, Result, Ok, Err}
+use Rattle.std.specs.Prelude.{ℕ, ℤ, pos, ◌+◌, ◌≤◌, ◌≡◌, List, [], ◌∷◌, length, slice_range, map, Bool}
+use Rattle.std.specs.Prelude.{◌==◌, ◌&&◌, if◌then◌else◌, Option, Some, None, Result, Ok, Err}
 use Rattle.std.specs.List.{AllByRecursion}
 use Rattle.ngc_line_reader.specs.declared.fault.LineFault.{LineFault}
 use Rattle.ngc_line_reader.specs.declared.line.RawWord.{RawWord}
 use Rattle.ngc_line_reader.specs.declared.line.RawSetting.{RawSetting}
 use Rattle.ngc_line_reader.specs.declared.program.parts.Kind.{Kind}
-use Rattle.ngc_line_reader.specs.Tokens.{symbols}
+use Rattle.ngc_line_reader.specs.declared.program.parts.Kept.{Kept}
+use Rattle.ngc_line_reader.specs.declared.program.parts.Kept.TheVariants as places
+use Rattle.ngc_line_reader.specs.declared.program.parts.SymbolParts.{SymbolParts}
+use Rattle.ngc_line_reader.specs.declared.token.Symbol.{Symbol}
+use Rattle.ngc_line_reader.specs.declared.token.Symbol.TheVariants as marks
+use Rattle.ngc_line_reader.specs.declared.token.Token.{Token}
+use Rattle.ngc_line_reader.specs.declared.word.Word.{Word}
+use Rattle.ngc_line_reader.specs.Tokens.{symbols as marks_of}
 use Rattle.ngc_line_reader.specs.Symbols.{kind_of, numbers_of}
-use Rattle.ngc_line_reader.specs.declared.program.parts.LineParts.{LineParts}
 use Rattle.ngc_line_reader.specs.declared.program.parts.PartLists.{PartLists}
 use Rattle.ngc_line_reader.specs.declared.program.stored.LineEnd.{LineEnd}
 use Rattle.ngc_line_reader.specs.Program.{Line}
 use Rattle.ngc_line_reader.specs.ReadLine.{line_read}
 use Rattle.ngc_line_reader.specs.ScanLine.{Parts, Said}
 
--- words, settings, the kinds of symbols, and numbers
-pub record KeptParts : Type 0 where
+-- what is kept of a line whose words have other values than numbers, or that has settings: words,
+-- settings, the kinds of symbols, and numbers
+pub record SymbolsKept : Type 0 where
   pub words : List RawWord
   pub settings : List RawSetting
   pub kinds : List Kind
   pub numbers : List ℤ
 
-abbrev pub no_kept : KeptParts
-no_kept = record { words = []; settings = []; kinds = []; numbers = [] }
+-- what is kept of a line: its words with the numbers that are their values, or the symbols of these
+pub data LineKept : Type 0 where
+  by_numbers : List Word → LineKept
+  by_symbols : SymbolsKept → LineKept
 
--- what is kept of words, settings and tokens
-abbrev pub kept_of : Parts → KeptParts
-kept_of p = record {
+-- the number of a symbol, or 0
+abbrev pub number_in : Symbol → ℤ
+number_in (marks.Number x) = x
+number_in marks.Parameter = pos 0
+number_in marks.Open = pos 0
+number_in marks.Close = pos 0
+number_in (marks.Operator o) = pos 0
+
+-- words with the numbers of as many tokens
+abbrev pub numbered_words : List RawWord → List Token → List Word
+numbered_words [] ts = []
+numbered_words (w ∷ ws) [] = []
+numbered_words (w ∷ ws) (t ∷ ts) =
+    record { letter = w.letter; value = number_in t.symbol } ∷ numbered_words ws ts
+
+-- there is no setting, and each word has one token, which then is a number
+abbrev pub is_numbered : Parts → Bool
+is_numbered p = (length p.settings == 0) && (length p.tokens == length p.words)
+
+abbrev pub symbols_kept_of : Parts → SymbolsKept
+symbols_kept_of p = record {
   words = p.words;
   settings = p.settings;
-  kinds = map kind_of (symbols p.tokens);
-  numbers = numbers_of (symbols p.tokens);
+  kinds = map kind_of (marks_of p.tokens);
+  numbers = numbers_of (marks_of p.tokens);
 }
 
-abbrev pub parts_in : {A : Type 0} → PartLists A → KeptParts
+-- what is kept of words, settings and tokens
+abbrev pub kept_of : Parts → LineKept
+kept_of p = if is_numbered p then by_numbers (numbered_words p.words p.tokens)
+    else by_symbols (symbols_kept_of p)
+
+-- what is kept of all lines
+pub record AllKept : Type 0 where
+  pub numbered : List Word
+  pub words : List RawWord
+  pub settings : List RawSetting
+  pub kinds : List Kind
+  pub numbers : List ℤ
+
+abbrev pub no_kept : AllKept
+no_kept = record { numbered = []; words = []; settings = []; kinds = []; numbers = [] }
+
+abbrev pub parts_in : {A : Type 0} → PartLists A → AllKept
 parts_in l = record {
+  numbered = l.numbered.items;
   words = l.words.items;
   settings = l.settings.items;
   kinds = l.kinds.items;
   numbers = l.numbers.items;
 }
 
--- what lies there
-abbrev pub parts_at : KeptParts → LineParts → KeptParts
-parts_at all p = record {
+abbrev pub symbols_at : AllKept → SymbolParts → SymbolsKept
+symbols_at all p = record {
   words = slice_range all.words p.words (p.words + p.word_count);
   settings = slice_range all.settings p.settings (p.settings + p.setting_count);
   kinds = slice_range all.kinds p.kinds (p.kinds + p.kind_count);
   numbers = slice_range all.numbers p.numbers (p.numbers + p.number_count);
 }
 
+-- what lies there
+abbrev pub parts_at : AllKept → Kept → LineKept
+parts_at all (places.Numbers first count) =
+    by_numbers (slice_range all.numbered first (first + count))
+parts_at all (places.Symbols p) = by_symbols (symbols_at all p)
+
 -- it lies within what is kept, and is no more than a line's
-pub record IsWithin (all : KeptParts) (p : LineParts) : Type 0 where
+pub record IsWithin (all : AllKept) (p : SymbolParts) : Type 0 where
   pub words : p.words + p.word_count ≤ length all.words
   pub settings : p.settings + p.setting_count ≤ length all.settings
   pub kinds : p.kinds + p.kind_count ≤ length all.kinds
@@ -62,26 +111,47 @@ pub record IsWithin (all : KeptParts) (p : LineParts) : Type 0 where
   pub few_settings : p.setting_count ≤ 64
   pub few_kinds : p.kind_count ≤ 256
 
--- what was kept stays
-abbrev pub Keeps : KeptParts → KeptParts → Type 0
-Keeps old new =
-    (p : LineParts) → IsWithin old p → IsWithin new p × (parts_at new p ≡ parts_at old p)
+-- where numbered words end, and where symbols lie, if there are any
+abbrev pub numbered_end : Kept → ℕ
+numbered_end (places.Numbers first count) = first + count
+numbered_end (places.Symbols p) = 0
 
-abbrev pub AreWithin : KeptParts → List LineEnd → Type 0
-AreWithin all ends = AllByRecursion (λ e. IsWithin all e.parts) ends
+abbrev pub symbol_parts : Kept → SymbolParts
+symbol_parts (places.Numbers first count) = record {
+  words = 0;
+  settings = 0;
+  kinds = 0;
+  numbers = 0;
+  kind_count = 0;
+  number_count = 0;
+  word_count = 0;
+  setting_count = 0;
+}
+symbol_parts (places.Symbols p) = p
+
+abbrev pub LiesWithin : AllKept → Kept → Type 0
+LiesWithin all k = (numbered_end k ≤ length all.numbered) × IsWithin all (symbol_parts k)
+
+-- what was kept stays
+abbrev pub Keeps : AllKept → AllKept → Type 0
+Keeps old new =
+    (k : Kept) → LiesWithin old k → LiesWithin new k × (parts_at new k ≡ parts_at old k)
+
+abbrev pub AreWithin : AllKept → List LineEnd → Type 0
+AreWithin all ends = AllByRecursion (λ e. LiesWithin all e.parts.kept) ends
 
 -- whether block delete takes a line out, and what is kept of it
-abbrev pub said_in : Result Said LineFault → Option (Bool × KeptParts)
+abbrev pub said_in : Result Said LineFault → Option (Bool × LineKept)
 said_in (Ok said) = Some (said.deleted, kept_of said.parts)
 said_in (Err fault) = None
 
-abbrev pub line_said : Line → Option (Bool × KeptParts)
+abbrev pub line_said : Line → Option (Bool × LineKept)
 line_said line = said_in (line_read line.bytes)
 
 -- what is kept of a line
-abbrev pub line_kept : KeptParts → LineEnd → Option (Bool × KeptParts)
-line_kept all e = Some (e.parts.deleted, parts_at all e.parts)
+abbrev pub line_kept : AllKept → LineEnd → Option (Bool × LineKept)
+line_kept all e = Some (e.parts.deleted, parts_at all e.parts.kept)
 
 -- of each line what it says is kept
-abbrev pub AreKept : KeptParts → List Line → List LineEnd → Type 0
+abbrev pub AreKept : AllKept → List Line → List LineEnd → Type 0
 AreKept all lines ends = map line_said lines ≡ map (line_kept all) ends

@@ -8,6 +8,7 @@ pub mod ScanLine
 pub mod Tokens
 pub mod Held
 pub mod Shown
+pub mod Words
 pub mod Symbols
 pub mod Kept
 pub mod ReadLine

@@ -11,6 +11,7 @@ mod program;
 mod real;
 mod text;
 mod token;
+mod word;
 
 pub use fault::{FaultKind, LineFault};
 pub use letter::Letter;
@@ -18,3 +19,4 @@ pub use line::reading::read_line;
 pub use line::{Line, LineView, RawSetting, RawWord};
 pub use program::{Program, ProgramReader, ReadFault};
 pub use token::{Operator, Symbol, Token};
+pub use word::Word;

@@ -1,5 +1,5 @@
 ghost use Rattle.std.specs.Prelude.{◌≡◌, ℕ, ◌*◌, ◌+◌, ◌^◌, ◌≤◌, ◌<◌, List, ◌++◌, length, drop, min};
-ghost use Rattle.std.specs.Prelude.{IfOk, IfErr, ◌≢◌, ◌-◌, pos, neg_ℤ, IsTrue, if◌then◌else◌};
+ghost use Rattle.std.specs.Prelude.{[], Ok, ℤ, IfErr, ◌≢◌, ◌-◌, pos, neg_ℤ, IsTrue, if◌then◌else◌};
 ghost use Rattle.std.specs.List.{prefix_len};
 ghost use Rattle.std.specs.Char.{is_ascii_digit};
 ghost use Rattle.ngc_fixed_length.specs.Rounding.{nearest_size};
@@ -11,6 +11,7 @@ ghost use Rattle.ngc_line_reader.specs.Scan.{is_known as is_known_byte};
 ghost use Rattle.ngc_line_reader.specs.Scan.{begins_unknown as has_unknown_first};
 ghost use Rattle.ngc_line_reader.specs.Scan.{refusal as refused, after_sign, decimals_at};
 ghost use Rattle.ngc_line_reader.specs.Scan.{after_decimals, number_at as number_found};
+ghost use Rattle.ngc_line_reader.specs.Scan.{◌>>=◌ as and_then, value_fits};
 
 use crate::fault::{FaultKind, Refusal};
 use ngc_fixed_length::{NumberFault, Value};
@@ -27,6 +28,7 @@ const UNITS: u64 = 10_000_000_000;
 
 // How many digits stand in front, and the number that they give, or `UNITS`.
 #[tactic(auto, using(crate::proofs::Digits::digits_counted))]
+#[inline]
 fn count_digits(s: &[u8]) -> (usize, u64)
     ensures count { result.0 ≡ prefix_len is_ascii_digit s.now }
     ensures within { result.0 ≤ length s.now }
@@ -43,6 +45,7 @@ fn count_digits(s: &[u8]) -> (usize, u64)
 }
 
 // The digits in front, and what follows them.
+#[inline]
 pub(crate) fn split_digits(s: &[u8]) -> (Digits<'_>, &[u8])
     ensures front { result.0.bytes.now ≡ digits_at s.now }
     ensures units { result.0.units ≡ min (digits_value result.0.bytes.now) 10000000000 }
@@ -82,6 +85,7 @@ pub(crate) fn refusal(kind: FaultKind, s: &[u8]) -> Refusal
     }
 }
 
+#[inline]
 pub(crate) fn begins(byte: u8, s: &[u8]) -> bool
     ensures first { result ≡ has_first byte s.now }
     ensures some { IsTrue result → 0 < length s.now }
@@ -93,6 +97,7 @@ pub(crate) fn begins(byte: u8, s: &[u8]) -> bool
 }
 
 // The bytes after the first.
+#[inline]
 pub(crate) fn tail(s: &[u8]) -> &[u8]
     requires { 0 < length s.now }
     ensures { result.now ≡ drop 1 s.now }
@@ -100,6 +105,7 @@ pub(crate) fn tail(s: &[u8]) -> &[u8]
     &s[1..]
 }
 
+#[inline]
 fn split_sign(s: &[u8]) -> &[u8]
     ensures { result.now ≡ after_sign s.now }
 {
@@ -111,6 +117,7 @@ fn split_sign(s: &[u8]) -> &[u8]
 }
 
 // The digits behind a point, and what follows them.
+#[inline]
 fn split_decimals(s: &[u8]) -> (Digits<'_>, &[u8])
     ensures front { result.0.bytes.now ≡ digits_of (decimals_at s.now) }
     ensures units { result.0.units ≡ min (digits_value result.0.bytes.now) 10000000000 }
@@ -128,13 +135,30 @@ fn split_decimals(s: &[u8]) -> (Digits<'_>, &[u8])
     }
 }
 
+// A value, if it is not too large, with what follows it.
+#[inline]
+fn with_rest(value: Result<Value, NumberFault>, rest: &[u8]) -> Result<(Value, &[u8]), Refusal>
+    ensures reads { Gives (λ x. (x.0, x.1.now)) result
+        (and_then {B = ℤ × List ℕ} (value_fits value) (λ z. Ok (z, rest.now))) }
+    ensures not_long { IfErr result (λ e. e ≢ Refusal.OfItem FaultKind.LineTooLong) }
+{
+    match value {
+        Ok(value) => Ok((value, rest)),
+        Err(_) => Err(Refusal::OfItem(FaultKind::TooLarge)),
+    }
+}
+
 // A number's value, and what follows it.
 #[tactic(auto, unfolding(crate::specs::Scan::number_at))]
+#[inline(always)]
 pub(crate) fn number_at(s: &[u8]) -> Result<(Value, &[u8]), Refusal>
     ensures reads { Gives (λ x. (x.0, x.1.now)) result (number_found s.now) }
     ensures not_long { IfErr result (λ e. e ≢ Refusal.OfItem FaultKind.LineTooLong) }
 {
     let (whole, after_whole) = split_digits(split_sign(s));
+    if !whole.bytes.is_empty() && !begins(b'.', after_whole) {
+        return with_rest(whole_value(begins(b'-', s), whole), after_whole);
+    }
     let (decimals, rest) = split_decimals(after_whole);
     if whole.bytes.is_empty() && decimals.bytes.is_empty() {
         return Err(refusal(FaultKind::BadNumber, rest));
@@ -142,13 +166,28 @@ pub(crate) fn number_at(s: &[u8]) -> Result<(Value, &[u8]), Refusal>
     if begins(b'.', rest) {
         return Err(Refusal::OfItem(FaultKind::BadNumber));
     }
-    match value_of(begins(b'-', s), whole, decimals) {
-        Ok(value) => Ok((value, rest)),
-        Err(_) => Err(Refusal::OfItem(FaultKind::TooLarge)),
+    with_rest(value_of(begins(b'-', s), whole, decimals), rest)
+}
+
+// The millionths that the last of so many decimals counts.
+#[inline]
+fn last_place(decimals: usize) -> u64
+    requires { decimals ≤ 6 }
+    ensures { result ≡ 10 ^ (6 - decimals) }
+{
+    match decimals {
+        0 => 1_000_000,
+        1 => 100_000,
+        2 => 10_000,
+        3 => 1_000,
+        4 => 100,
+        5 => 10,
+        _ => 1,
     }
 }
 
 // The decimals in millionths, rounded.
+#[inline]
 fn millionths_of(decimals: Digits<'_>) -> u64
     requires digits { IsDigits decimals.bytes.now }
     requires units { decimals.units ≡ min (digits_value decimals.bytes.now) 10000000000 }
@@ -160,10 +199,11 @@ fn millionths_of(decimals: Digits<'_>) -> u64
         // The seventh decimal rounds.
         (count_digits(&decimals.bytes[..7]).1 + 5) / 10
     } else {
-        decimals.units * 10u64.pow(6 - decimals.bytes.len() as u32)
+        decimals.units * last_place(decimals.bytes.len())
     }
 }
 
+#[inline]
 fn signed_value(negative: bool, size: u64) -> Result<Value, NumberFault>
     requires { size < 2 ^ 62 }
     ensures { result ≡ limited (signed negative size) }
@@ -175,6 +215,16 @@ fn signed_value(negative: bool, size: u64) -> Result<Value, NumberFault>
     }
 }
 
+// A value without decimals.
+#[inline]
+fn whole_value(negative: bool, whole: Digits<'_>) -> Result<Value, NumberFault>
+    requires { whole.units ≡ min (digits_value whole.bytes.now) 10000000000 }
+    ensures { result ≡ limited (written_value negative whole.entry.bytes.now []) }
+{
+    signed_value(negative, whole.units * 1_000_000)
+}
+
+#[inline]
 fn value_of(negative: bool, whole: Digits<'_>, decimals: Digits<'_>) -> Result<Value, NumberFault>
     requires units { whole.units ≡ min (digits_value whole.bytes.now) 10000000000 }
     requires digits { IsDigits decimals.bytes.now }

@@ -5,12 +5,14 @@ ghost use Rattle.ngc_text.specs.Failures.{Rises};
 ghost use Rattle.ngc_line_reader.specs.ReadLine.{line_read};
 ghost use Rattle.ngc_line_reader.specs.ScanLine.{parts_of};
 ghost use Rattle.ngc_line_reader.specs.Shown.{ShowsReading};
+ghost use Rattle.ngc_line_reader.specs.Words.{pairs_of, SaysNumbers, SaysDeleted};
 ghost use Rattle.ngc_line_reader.specs.ProgramText.{program_of, HaveReadings};
 ghost use Rattle.ngc_line_reader.specs.ProgramView.{text_in, lines_in, OutcomeIs};
 ghost use Rattle.ngc_line_reader.specs.declared.program.fault.ReadFault.TheVariants.{Device};
 
 use crate::line::Line;
 use crate::program::stored::StoredLines;
+use crate::word::Word;
 use ngc_text::Source;
 use std::alloc::Allocator;
 
@@ -74,10 +76,31 @@ impl<A: Allocator> Program<A> {
         self.lines.bytes(index)
     }
 
+    /// Whether a line that is read begins with `/`, so that block delete takes it out.
+    pub fn is_deleted(&self, index: usize) -> bool
+        requires { index < length (text_in self.now).lines }
+        ensures { (bytes : List ℕ) →
+            option_map (λ l. l.bytes) (slice_get (text_in self.now).lines index) ≡ Some bytes →
+            SaysDeleted bytes result }
+    {
+        self.lines.is_deleted(index)
+    }
+
+    /// The words of a line that is read, with their values, where each value is a number and the
+    /// line sets no parameter; else `None`.
+    pub fn numbers(&self, index: usize) -> Option<&[Word]>
+        requires { index < length (text_in self.now).lines }
+        ensures { (bytes : List ℕ) →
+            option_map (λ l. l.bytes) (slice_get (text_in self.now).lines index) ≡ Some bytes →
+            SaysNumbers bytes (option_map (λ ws. pairs_of ws.now) result) }
+    {
+        self.lines.numbers(index)
+    }
+
     /// What a line that is read says, in place of what `line` holds, as `Line::read` finds it in
     /// the line's bytes: whether block delete takes it out, its words, its settings, and the
-    /// symbols of its values. It was kept when the line was read, without the columns of tokens,
-    /// which are 0 then, and without the number behind `N`, so `line.number` stays as it is.
+    /// symbols of its values. The columns of its tokens and the number behind `N` are unspecified
+    /// then.
     pub fn load(&self, index: usize, line: &mut Line)
         requires { index < length (text_in self.now).lines }
         ensures { (bytes : List ℕ) →

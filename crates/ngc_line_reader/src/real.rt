@@ -14,7 +14,13 @@ use crate::token::{Operator, Symbol, Token};
 use arrayvec::ArrayVec;
 
 // A symbol that begins `s` is read.
-fn push_symbol(columns: &[u16], symbol: Symbol, s: &[u8], tokens: &mut ArrayVec<Token, 256>)
+#[inline]
+pub(crate) fn push_symbol(
+    columns: &[u16],
+    symbol: Symbol,
+    s: &[u8],
+    tokens: &mut ArrayVec<Token, 256>,
+)
     requires { array_vec_len tokens.old < 256 }
     ensures items { tokens.new.items ≡ tokens.old.items
         ++ token_at (place_in columns.now) symbol s.now ∷ [] }
@@ -25,6 +31,7 @@ fn push_symbol(columns: &[u16], symbol: Symbol, s: &[u8], tokens: &mut ArrayVec<
 }
 
 // A number, and what follows it. (It stands outside the cycle of calls.)
+#[inline]
 #[tactic(auto, using(crate::proofs::Scanning::number_shorter))]
 fn number_token<'a>(
     columns: &[u16],

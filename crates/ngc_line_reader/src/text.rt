@@ -1,4 +1,4 @@
-ghost use Rattle.std.specs.Prelude.{◌≡◌, ◌≤◌, length, take};
+ghost use Rattle.std.specs.Prelude.{◌≡◌, ◌≢◌, ◌≤◌, length, take, IsTrue};
 ghost use Rattle.ngc_line_reader.specs.Text.{place_after as next_place, is_blank as blank, upper};
 ghost use Rattle.ngc_line_reader.specs.Text.{kept, text, columns as columns_in, place_in};
 
@@ -8,6 +8,32 @@ pub enum Place {
     Outside,
     InComment,
     InRemark,
+}
+
+/// Room for a line's text and its columns while the line is read, whatever stands in it.
+#[derive(Drop)]
+pub(crate) struct Scratch {
+    pub(crate) bytes: [u8; 256],
+    pub(crate) columns: [u16; 256],
+}
+
+impl Scratch {
+    pub(crate) fn new() -> Scratch {
+        Scratch {
+            bytes: [0; 256],
+            columns: [0; 256],
+        }
+    }
+}
+
+// Most bytes: such a byte is kept as it is wherever it stands, and the next stands there too.
+#[inline]
+fn is_plain(byte: u8) -> bool
+    ensures low { IsTrue result → 42 ≤ byte }
+    ensures high { IsTrue result → byte ≤ 96 }
+    ensures not_remark { IsTrue result → byte ≢ 59 }
+{
+    byte >= b'*' && byte <= b'`' && byte != b';'
 }
 
 #[inline]
@@ -95,12 +121,22 @@ pub(crate) fn fill_text(line: &[u8], bytes: &mut [u8; 256], columns: &mut [u16; 
     let mut place = Place::Outside;
     for i in 0..line.len() {
         let byte = line[i];
+        let column = (i + 1) as u16;
+        if is_plain(byte) {
+            bytes[length] = byte;
+            columns[length] = column;
+            length += 1;
+            continue;
+        }
+        if byte == b' ' && matches!(place, Place::Outside) {
+            continue;
+        }
         if let Some(kept) = kept_byte(place, byte, i + 1 == line.len()) {
             bytes[length] = kept;
-            columns[length] = i as u16 + 1;
+            columns[length] = column;
             length += 1;
+            place = place_after(place, byte);
         }
-        place = place_after(place, byte);
     }
     length
 }

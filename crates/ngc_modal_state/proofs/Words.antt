@@ -3,9 +3,9 @@ use Rattle.std.proofs.Common.{◌≡◌, suc, ℤ, List, [], ◌∷◌, length, 
 use Rattle.std.specs.List.{count_by}
 use Rattle.std.proofs.lemmas.List.Sums.{length-filter}
 use Rattle.ngc_line_reader.specs.declared.letter.Letter.{Letter}
-use Rattle.ngc_parameters.specs.declared.store.Word.{Word}
+use Rattle.ngc_line_reader.specs.declared.word.Word.{Word}
 use Rattle.ngc_modal_state.specs.Block.{is_m_word}
-use Rattle.ngc_parameters.specs.Stored.{pair_of, pairs_of}
+use Rattle.ngc_line_reader.specs.Words.{pair_of, pairs_of}
 
 picked : (b : Bool) (w : Word) (xs : List Word) (ys : List (Letter × ℤ)) → length xs ≡ length ys →
     length (cond b (w ∷ xs) xs) ≡ length (cond b (pair_of w ∷ ys) ys)

@@ -1,6 +1,6 @@
 ghost use Rattle.std.specs.Prelude.{◌≡◌, ℤ, count_by};
 ghost use Rattle.ngc_line_reader.specs.declared.letter.Letter.{Letter};
-ghost use Rattle.ngc_parameters.specs.Stored.{pairs_of};
+ghost use Rattle.ngc_line_reader.specs.Words.{pairs_of};
 ghost use Rattle.ngc_modal_state.specs.Block.{is_m_word};
 ghost use Rattle.ngc_modal_state.specs.BlockWords.{first_value};
 
@@ -8,8 +8,7 @@ use crate::code::{Code, Coolant, LengthCode, MotionMode, Once, PathControl, Spin
 use crate::fault::ModalFault;
 use crate::table::{g_code, m_code};
 use ngc_fixed_length::{Distance, FeedMode, Plane, ReturnMode, System, Units, Value};
-use ngc_line_reader::Letter;
-use ngc_parameters::Word;
+use ngc_line_reader::{Letter, Word};
 
 /// The words X, Y, Z of a line.
 #[derive(Clone, Copy, PartialEq, Eq)]

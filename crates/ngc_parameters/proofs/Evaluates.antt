@@ -14,7 +14,7 @@ use Rattle.ngc_parameters.specs.Evaluate.{Found, parameter_value, symbol_value, 
 use Rattle.std.proofs.lemmas.Bool.{le-leb}
 use Rattle.std.proofs.lemmas.Bool.Decides.{nat_tests}
 
-within : (z : ℤ) → IsValue z → from_number (limited z) ≡ Ok z
+pub within : (z : ℤ) → IsValue z → from_number (limited z) ≡ Ok z
 within z h = let e = le-leb _ _ h in rw e refl
 
 indexed : (p : Parameters) (r : List Symbol) (value : Result ℤ EvalFault) →

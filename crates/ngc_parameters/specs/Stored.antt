@@ -8,8 +8,8 @@ use Rattle.ngc_line_reader.specs.ScanLine.{Parts}
 use Rattle.ngc_line_reader.specs.declared.letter.Letter.{Letter}
 use Rattle.ngc_line_reader.specs.Tokens.{symbols}
 use Rattle.ngc_line_reader.specs.Grammar.{Item}
+use Rattle.ngc_line_reader.specs.Words.{pairs_of}
 use Rattle.ngc_parameters.specs.declared.fault.EvalFault.{EvalFault}
-use Rattle.ngc_parameters.specs.declared.store.Word.{Word}
 use Rattle.ngc_parameters.specs.declared.change.Change.{Change}
 use Rattle.ngc_parameters.specs.declared.store.Changes.{Changes}
 use Rattle.ngc_parameters.specs.declared.store.LineValues.{LineValues}
@@ -21,12 +21,6 @@ use Rattle.ngc_parameters.specs.EvaluateView.{held}
 -- what the parameters hold
 abbrev pub parameters_of : {A : Type 0} → Store A → Parameters
 parameters_of s = held s.values.items
-
-abbrev pub pair_of : Word → Letter × ℤ
-pair_of w = (w.letter, w.value)
-
-abbrev pub pairs_of : List Word → List (Letter × ℤ)
-pairs_of ws = map pair_of ws
 
 abbrev pub change_pair : Change → ℕ × ℤ
 change_pair c = (c.index, c.value)

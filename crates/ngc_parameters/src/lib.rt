@@ -11,4 +11,4 @@ pub use change::Change;
 pub use evaluation::evaluate;
 pub use fault::EvalFault;
 pub use parameters::Store;
-pub use store::{Changes, LineValues, Word};
+pub use store::{Changes, LineValues};

@@ -7,7 +7,8 @@ ghost use Rattle.ngc_line_reader.specs.Shown.{view_parts, items_of, items_said};
 ghost use Rattle.ngc_parameters.specs.EvaluateView.{held};
 ghost use Rattle.ngc_parameters.specs.Meaning.{after_settings};
 ghost use Rattle.ngc_parameters.specs.Stored.{parameters_of, changes_of, line_values, value_from};
-ghost use Rattle.ngc_parameters.specs.Stored.{words_on, settings_on, pairs_of, values_in, IsSame};
+ghost use Rattle.ngc_parameters.specs.Stored.{words_on, settings_on, values_in, IsSame};
+ghost use Rattle.ngc_line_reader.specs.Words.{pairs_of};
 ghost use Rattle.ngc_parameters.specs.Stored.{change_from, values_on};
 
 use crate::change::Change;
@@ -16,30 +17,10 @@ use crate::fault::EvalFault;
 use crate::parameters::Store;
 use arrayvec::ArrayVec;
 use ngc_fixed_length::Value;
-use ngc_line_reader::{Letter, Line, LineView, Token};
+use ngc_line_reader::{Line, LineView, Token, Word};
 use std::alloc::Allocator;
 
 const COUNT: usize = 5161;
-
-/// A word's letter and value.
-#[derive(Clone, Copy, PartialEq, Eq)]
-pub struct Word {
-    pub letter: Letter,
-    pub value: Value,
-}
-
-impl Default for Word {
-    ghost use Rattle.ngc_line_reader.specs.declared.letter.Letter.TheVariants as letters;
-
-    ghost is_default = { λ w. w ≡ record { letter = letters.A; value = pos 0 } };
-
-    fn default() -> Word {
-        Word {
-            letter: Letter::default(),
-            value: Value::zero(),
-        }
-    }
-}
 
 /// What a line's settings do, from left to right.
 #[derive(Drop)]

@@ -2,7 +2,9 @@ use crate::checks::{holds, same};
 use crate::values::value;
 use linked_list_allocator::LocalHeap;
 use ngc_fixed_length::Value;
-use ngc_line_reader::{FaultKind, Letter, Line, LineFault, Operator, Program, ReadFault, Symbol};
+use ngc_line_reader::{
+    FaultKind, Letter, Line, LineFault, Operator, Program, ReadFault, Symbol, Word,
+};
 use ngc_test_devices::SlowSource;
 use ngc_text::Device;
 use std::alloc::Global;
@@ -206,6 +208,14 @@ fn is_loaded_second(rt: &impl Abort, line: &Line) {
     holds(rt, &"its symbols", line.tokens.len() == 1);
 }
 
+// Whether a line has one word, of a letter with a number.
+fn is_word(words: Option<&[Word]>, letter: Letter, number: Value) -> bool {
+    match words {
+        Some([word]) => word.letter == letter && word.value == number,
+        _ => false,
+    }
+}
+
 #[test]
 fn loaded_lines(rt: HostRuntime) -> Result<(), Fail> {
     let program = read(rt.alloc(), b"/N7 #3=#5 G0 (a) X[1+2.5]\nM2\n".as_slice())?;
@@ -216,6 +226,11 @@ fn loaded_lines(rt: HostRuntime) -> Result<(), Fail> {
     is_loaded_first(&rt, &line, number);
     program.load(1, &mut line);
     is_loaded_second(&rt, &line);
+    holds(&rt, &"taken out", program.is_deleted(0));
+    holds(&rt, &"not taken out", !program.is_deleted(1));
+    holds(&rt, &"no numbers", program.numbers(0).is_none());
+    let two = value(2_000_000)?;
+    holds(&rt, &"M2", is_word(program.numbers(1), Letter::M, two));
     Ok(())
 }
 

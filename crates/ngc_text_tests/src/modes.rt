@@ -1,12 +1,12 @@
 use crate::checks::same;
 use arrayvec::ArrayVec;
 use ngc_fixed_length::{Distance, FeedMode, Plane, ReturnMode, System, Turn, Units, Value};
-use ngc_line_reader::{Letter, read_line};
+use ngc_line_reader::{Letter, Word, read_line};
 use ngc_modal_state::{
     ArcWords, AxisWords, Block, Coolant, CycleCode, CycleWords, Effect, Home, MissingWord,
     ModalFault, Modes, MotionMode, PathControl, Spindle, Stopping, laws,
 };
-use ngc_parameters::{Store, Word};
+use ngc_parameters::Store;
 use std::alloc::Allocator;
 use std::process::Abort;
 use std::test::Fail;

@@ -1,8 +1,8 @@
 use crate::checks::{holds, same};
 use crate::values::value;
 use ngc_fixed_length::NumberFault;
-use ngc_line_reader::{Letter, read_line};
-use ngc_parameters::{EvalFault, Store, Word};
+use ngc_line_reader::{Letter, Word, read_line};
+use ngc_parameters::{EvalFault, Store};
 use std::alloc::Allocator;
 use std::test::Fail;
 

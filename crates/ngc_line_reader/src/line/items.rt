@@ -1,4 +1,5 @@
 ghost use Rattle.std.specs.Prelude.{◌≡◌, ◌+◌, ◌*◌, ◌≤◌, ◌<◌, length, IfOk, IfErr, ◌≢◌};
+ghost use Rattle.std.specs.Prelude.{IfSome, None, Ok};
 ghost use Rattle.std.specs.List.{prefix_len};
 ghost use Rattle.arrayvec.specs.ArrayVec.{array_vec_len};
 ghost use Rattle.ngc_line_reader.specs.Text.{place_in};
@@ -15,9 +16,10 @@ ghost use Rattle.ngc_line_reader.specs.ScanLine.{item_at as item_found};
 use crate::fault::{FaultKind, Refusal};
 use crate::letter::{Letter, letter_of};
 use crate::line::{Line, RawSetting, RawWord};
-use crate::number::{begins, refusal, tail};
-use crate::real::real_at;
+use crate::number::{begins, number_at, refusal, tail};
+use crate::real::{push_symbol, real_at};
 use crate::text::column_of;
+use crate::token::Symbol;
 
 // A word, and what follows it.
 #[tactic(auto, unfolding(crate::specs::ScanLine::word_at))]
@@ -52,6 +54,48 @@ fn word_at<'a>(
         first,
     });
     Ok(rest)
+}
+
+// What follows a word whose value is a number, as most items are; of another item nothing.
+#[inline(always)]
+#[tactic(auto, using(crate::proofs::Scanning::number_shorter))]
+pub(crate) fn short_word<'a>(
+    columns: &[u16],
+    room: usize,
+    s: &'a [u8],
+    line: &mut Line,
+) -> Option<&'a [u8]>
+    requires some { 0 < length s.now }
+    requires room { length s.now ≤ room }
+    requires space { array_vec_len line.old.tokens + length s.now ≤ 256 }
+    ensures reads { IfSome result
+        (λ rest. item_found (place_in columns.now) room (parts_of line.old) s.now
+        ≡ Ok (parts_of line.new, rest.now)) }
+    ensures shorter { IfSome result (λ rest. length rest.now < length s.now) }
+    ensures space { IfSome result
+        (λ rest. array_vec_len line.new.tokens + length rest.now
+        ≤ array_vec_len line.old.tokens + length s.now) }
+    ensures settings { line.new.settings ≡ line.old.settings }
+    ensures other { result ≡ None → line.new ≡ line.old }
+{
+    let letter = letter_of(s[0])?;
+    if line.words.is_full() {
+        return None;
+    }
+    match number_at(tail(s)) {
+        Ok((value, rest)) => {
+            let column = column_of(columns, s.len());
+            let first = line.tokens.len() as u16;
+            push_symbol(columns, Symbol::Number(value), tail(s), &mut line.tokens);
+            line.words.push(RawWord {
+                letter,
+                column,
+                first,
+            });
+            Some(rest)
+        }
+        Err(_) => None,
+    }
 }
 
 // A setting, and what follows it.
@@ -176,7 +220,8 @@ fn other_item_at<'a>(
     Err(Refusal::OfItem(start_fault(s[0])))
 }
 
-// An item, and what follows it.
+// An item, and what follows it. (Most are short words, which come here only if they are refused.)
+#[inline(never)]
 #[tactic(auto, unfolding(crate::specs::ScanLine::item_at))]
 pub(crate) fn item_at<'a>(
     columns: &[u16],

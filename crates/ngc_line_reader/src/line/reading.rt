@@ -15,9 +15,9 @@ ghost use Rattle.ngc_line_reader.specs.Refused.{WritesTooLarge, WritesManyWords}
 
 use crate::fault::{FaultKind, LineFault, Refusal};
 use crate::line::Line;
-use crate::line::items::item_at;
+use crate::line::items::{item_at, short_word};
 use crate::number::{begins, refusal, split_digits, tail};
-use crate::text::{column_of, fill_text};
+use crate::text::{Scratch, column_of, fill_text};
 use arrayvec::ArrayVec;
 
 /// The most bytes that a line may have, its line feed not counted.
@@ -56,6 +56,10 @@ fn items_at(columns: &[u16], room: usize, text: &[u8], line: &mut Line) -> Resul
     let mut rest = text;
     while !rest.is_empty() && !begins(b';', rest) {
         room -= 1;
+        if let Some(behind) = short_word(columns, room, rest, line) {
+            rest = behind;
+            continue;
+        }
         match item_at(columns, room, rest, line) {
             Ok(behind) => rest = behind,
             Err(why) => return Err(refused_at(columns, rest.len(), why)),
@@ -153,16 +157,28 @@ impl Line {
         ensures many { IfErr result (λ f. f.kind ≡ FaultKind.TooManyWords →
             WritesManyWords bytes.now) }
     {
+        self.read_into(bytes, &mut Scratch::new())
+    }
+
+    /// `read`, with room for the text that the caller keeps from line to line.
+    pub(crate) fn read_into(&mut self, bytes: &[u8], scratch: &mut Scratch) -> Result<(), LineFault>
+        ensures found { OnOk result (HoldsReading bytes.now self.new) }
+        ensures only { (r : Reading) → Reads bytes.now r → WithinLimits r → length bytes.now ≤ 256 →
+            IsOk result }
+        ensures first { Gives (λ _. said_of self.new) result (line_read bytes.now) }
+        ensures long { IfErr result (λ f. f.kind ≡ FaultKind.LineTooLong → 256 < length bytes.now) }
+        ensures large { IfErr result (λ f. f.kind ≡ FaultKind.TooLarge → WritesTooLarge bytes.now) }
+        ensures many { IfErr result (λ f. f.kind ≡ FaultKind.TooManyWords →
+            WritesManyWords bytes.now) }
+    {
         if bytes.len() > LINE_LENGTH {
             return Err(LineFault {
                 kind: FaultKind::LineTooLong,
                 column: 257,
             });
         }
-        let mut text = [0u8; 256];
-        let mut columns = [0u16; 256];
-        let length = fill_text(bytes, &mut text, &mut columns);
-        text_at(&columns[..length], &text[..length], self)
+        let length = fill_text(bytes, &mut scratch.bytes, &mut scratch.columns);
+        text_at(&scratch.columns[..length], &scratch.bytes[..length], self)
     }
 }
 

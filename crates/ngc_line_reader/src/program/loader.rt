@@ -18,11 +18,28 @@ use crate::program::Program;
 use crate::program::fault::ReadFault;
 use crate::program::phase::{Phase, is_percent};
 use crate::program::stored::StoredLines;
+use crate::text::Scratch;
 use arrayvec::ArrayVec;
 use memchr::memchr;
 use std::alloc::Allocator;
 
 const LINES: usize = 100_000;
+
+/// The line that is read, and room for its text: made once for all lines.
+#[derive(Drop)]
+pub(crate) struct Reading {
+    pub(crate) line: Line,
+    pub(crate) scratch: Scratch,
+}
+
+impl Reading {
+    pub(crate) fn new() -> Reading {
+        Reading {
+            line: Line::empty(),
+            scratch: Scratch::new(),
+        }
+    }
+}
 
 // Whether the text goes on.
 #[derive(Clone, Copy)]
@@ -55,12 +72,17 @@ fn split_line(bytes: &[u8]) -> Option<(&[u8], &[u8])>
 }
 
 // The number of a line that may be stored.
-fn check_line(phase: Phase, done: usize, bytes: &[u8], reading: &mut Line) -> Result<u32, ReadFault>
+fn check_line(
+    phase: Phase,
+    done: usize,
+    bytes: &[u8],
+    reading: &mut Reading,
+) -> Result<u32, ReadFault>
     requires { done ≤ 100000 }
     ensures number { IfOk result (λ n. n ≡ number_in phase done) }
     ensures few { OnOk result (done < 100000) }
     ensures sound { OnOk result (fault_of done (line_of (number_in phase done) bytes.now) ≡ None) }
-    ensures held { OnOk result (line_read bytes.now ≡ Ok (said_of reading.new)) }
+    ensures held { OnOk result (line_read bytes.now ≡ Ok (said_of reading.new.line)) }
     ensures refused { IfErr result
         (λ e. RefusedBy (fault_of done (line_of (number_in phase done) bytes.now)) e) }
 {
@@ -68,7 +90,7 @@ fn check_line(phase: Phase, done: usize, bytes: &[u8], reading: &mut Line) -> Re
         return Err(ReadFault::TooManyLines);
     }
     let number = phase.number(done);
-    match reading.read(bytes) {
+    match reading.line.read_into(bytes, &mut reading.scratch) {
         Ok(()) => Ok(number),
         Err(fault) => Err(ReadFault::Line(number, fault)),
     }
@@ -88,14 +110,14 @@ impl<A: Allocator> LinesSoFar<A> {
     }
 
     // The next line, which is no `%` line.
-    fn read_line(&mut self, bytes: &[u8], reading: &mut Line) -> Result<(), ReadFault>
+    fn read_line(&mut self, bytes: &[u8], reading: &mut Reading) -> Result<(), ReadFault>
         ensures taken { OnOk result (TakesLine self.old self.new bytes.now) }
         ensures refused { IfErr result
             (λ e. RefusedBy
             (fault_of (length (lines_in self.old.lines)) (next_line self.old bytes.now)) e) }
     {
         match check_line(self.phase, self.lines.len(), bytes, reading) {
-            Ok(number) => match self.lines.push(number, bytes, reading) {
+            Ok(number) => match self.lines.push(number, bytes, &reading.line) {
                 Ok(()) => {
                     self.phase = self.phase.after(bytes);
                     Ok(())
@@ -123,7 +145,7 @@ impl<A: Allocator> LinesSoFar<A> {
     }
 
     // The next line.
-    fn take_line(&mut self, bytes: &[u8], reading: &mut Line) -> Result<Step, ReadFault>
+    fn take_line(&mut self, bytes: &[u8], reading: &mut Reading) -> Result<Step, ReadFault>
         ensures step { (ls : List (List ℕ)) →
             StepGives result (walked self.old (bytes.now ∷ ls)) (walked self.new ls)
             (ended self.new) }
@@ -213,7 +235,7 @@ impl<A: Allocator> Loader<A> {
     }
 
     // The line that is cut ends here.
-    fn end_cut(&mut self, reading: &mut Line) -> Result<Step, ReadFault>
+    fn end_cut(&mut self, reading: &mut Reading) -> Result<Step, ReadFault>
         requires { IsLoading self.old }
         ensures step { (ls : List (List ℕ)) →
             StepGives result (walked self.old.found (self.old.cut.items ∷ ls))
@@ -232,7 +254,7 @@ impl<A: Allocator> Loader<A> {
     }
 
     // A piece that a line feed ends.
-    fn end_line(&mut self, piece: &[u8], reading: &mut Line) -> Result<Step, ReadFault>
+    fn end_line(&mut self, piece: &[u8], reading: &mut Reading) -> Result<Step, ReadFault>
         requires loading { IsLoading self.old }
         requires feedless { NoFeed piece.now }
         ensures step { (lines : List ℕ → List (List ℕ)) → PartsLines lines → (rest : List ℕ) →
@@ -253,7 +275,7 @@ impl<A: Allocator> Loader<A> {
     }
 
     /// More bytes of the file.
-    pub(crate) fn feed(&mut self, chunk: &[u8], reading: &mut Line) -> Result<Step, ReadFault>
+    pub(crate) fn feed(&mut self, chunk: &[u8], reading: &mut Reading) -> Result<Step, ReadFault>
         requires { IsLoading self.old }
         ensures step { (lines : List ℕ → List (List ℕ)) → PartsLines lines → (rest : List ℕ) →
             StepGives result (resumed lines self.old (chunk.now ++ rest))
@@ -287,7 +309,7 @@ impl<A: Allocator> Loader<A> {
     }
 
     /// The program, where no byte comes any more.
-    pub(crate) fn finish(mut self, reading: &mut Line) -> Result<Program<A>, ReadFault>
+    pub(crate) fn finish(mut self, reading: &mut Reading) -> Result<Program<A>, ReadFault>
         requires { IsLoading self }
         ensures text { OutcomeIs result (resumed split_lines self []) }
         ensures readings { IfOk result (λ p. HaveReadings (text_in p).lines) }

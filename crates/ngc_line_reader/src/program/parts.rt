@@ -2,9 +2,12 @@ ghost use Rattle.std.specs.Prelude.{◌≡◌, ◌≤◌, ◌++◌, [], length, 
 ghost use Rattle.ngc_line_reader.specs.ScanLine.{parts_of};
 ghost use Rattle.ngc_line_reader.specs.Tokens.{symbols};
 ghost use Rattle.ngc_line_reader.specs.Symbols.{kind_of, numbers_of, first_symbol, symbols_from};
+ghost use Rattle.ngc_line_reader.specs.Kept.{number_in as number_of_symbol, numbered_words};
+ghost use Rattle.ngc_line_reader.specs.Kept.{by_numbers, by_symbols};
 
 use crate::line::{Line, RawSetting, RawWord};
 use crate::token::{Operator, Symbol, Token};
+use crate::word::Word;
 use arrayvec::ArrayVec;
 use ngc_fixed_length::Value;
 use std::alloc::{AllocError, Allocator};
@@ -19,10 +22,9 @@ pub enum Kind {
     Operator(Operator),
 }
 
-/// Where the words, settings, symbols and numbers of a line lie, and whether block delete takes it
-/// out.
+/// Where the words, settings, symbols and numbers of a line lie.
 #[derive(Clone, Copy)]
-pub struct LineParts {
+pub struct SymbolParts {
     pub words: u32,
     pub settings: u32,
     pub kinds: u32,
@@ -31,12 +33,29 @@ pub struct LineParts {
     pub number_count: u16,
     pub word_count: u8,
     pub setting_count: u8,
-    pub deleted: bool,
 }
 
-/// The words, settings, symbols and numbers of lines, one line's behind the other's.
+/// Where what a line says lies.
+#[derive(Clone, Copy)]
+pub enum Kept {
+    /// A number is the value of each of its words, and it has no setting: so many words lie behind
+    /// so many of other lines.
+    Numbers { first: u32, count: u8 },
+    Symbols(SymbolParts),
+}
+
+/// Whether block delete takes a line out, and where what it says lies.
+#[derive(Clone, Copy)]
+pub struct LineParts {
+    pub deleted: bool,
+    pub kept: Kept,
+}
+
+/// What lines say, one line's behind the other's: words with numbers for their values, and of lines
+/// that have other values their words, settings, symbols and numbers.
 #[derive(Drop)]
 pub struct PartLists<A: Allocator> {
+    numbered: Vec<Word, A>,
     words: Vec<RawWord, A>,
     settings: Vec<RawSetting, A>,
     kinds: Vec<Kind, A>,
@@ -126,9 +145,43 @@ fn load_tokens(kinds: &[Kind], numbers: &[Value], tokens: &mut ArrayVec<Token, 2
     }
 }
 
+// The number of a symbol, or 0.
+fn number_in(symbol: Symbol) -> Value
+    ensures { result ≡ number_of_symbol symbol }
+{
+    match symbol {
+        Symbol::Number(value) => value,
+        _ => Value::zero(),
+    }
+}
+
+// Words with the numbers that are their values, behind what is kept.
+fn keep_numbered<A: Allocator>(
+    numbered: &mut Vec<Word, A>,
+    words: &[RawWord],
+    tokens: &[Token],
+) -> Result<(), AllocError>
+    requires { length tokens.now ≡ length words.now }
+    ensures { OnOk result
+        (numbered.new.items ≡ numbered.old.items ++ numbered_words words.now tokens.now) }
+{
+    for (index, word) in words.iter().enumerate() {
+        let word = Word {
+            letter: word.letter,
+            value: number_in(tokens[index].symbol),
+        };
+        if numbered.push(word).is_err() {
+            return Err(AllocError);
+        }
+    }
+    Ok(())
+}
+
 impl<A: Allocator> PartLists<A> {
-    ghost use Rattle.ngc_line_reader.specs.Kept.{parts_in, parts_at, kept_of, IsWithin, Keeps};
-    ghost use Rattle.ngc_line_reader.specs.Kept.{no_kept};
+    ghost use Rattle.ngc_line_reader.specs.Kept.{parts_in, parts_at, kept_of, LiesWithin, Keeps};
+    ghost use Rattle.ngc_line_reader.specs.Kept.{no_kept, is_numbered, IsWithin, symbols_at};
+    ghost use Rattle.ngc_line_reader.specs.Kept.{symbols_kept_of};
+    ghost use Rattle.ngc_line_reader.specs.declared.program.parts.Kept.TheVariants as places;
 
     pub(crate) fn new(alloc: A) -> PartLists<A>
     where
@@ -136,6 +189,7 @@ impl<A: Allocator> PartLists<A> {
         ensures { parts_in result ≡ no_kept }
     {
         PartLists {
+            numbered: Vec::new(alloc),
             words: Vec::new(alloc),
             settings: Vec::new(alloc),
             kinds: Vec::new(alloc),
@@ -143,13 +197,29 @@ impl<A: Allocator> PartLists<A> {
         }
     }
 
-    // What a line says, behind what is kept.
-    pub(crate) fn push(&mut self, line: &Line) -> Result<LineParts, AllocError>
+    // What a line says by numbers alone, behind what is kept.
+    fn push_numbered(&mut self, line: &Line) -> Result<Kept, AllocError>
+        requires { length line.now.tokens.items ≡ length line.now.words.items }
         ensures kept { OnOk result (Keeps (parts_in self.old) (parts_in self.new)) }
-        ensures within { IfOk result (λ p. IsWithin (parts_in self.new) p) }
-        ensures value { IfOk result
-            (λ p. parts_at (parts_in self.new) p ≡ kept_of (parts_of line.now)) }
-        ensures deleted { IfOk result (λ p. p.deleted ≡ line.now.deleted) }
+        ensures within { IfOk result (λ k. LiesWithin (parts_in self.new) k) }
+        ensures value { IfOk result (λ k. parts_at (parts_in self.new) k
+            ≡ by_numbers (numbered_words line.now.words.items line.now.tokens.items)) }
+    {
+        let first = place_behind(self.numbered.len())?;
+        let view = line.view();
+        keep_numbered(&mut self.numbered, view.words, view.tokens)?;
+        Ok(Kept::Numbers {
+            first,
+            count: view.words.len() as u8,
+        })
+    }
+
+    // What a line says by symbols, behind what is kept.
+    fn push_symbols(&mut self, line: &Line) -> Result<Kept, AllocError>
+        ensures kept { OnOk result (Keeps (parts_in self.old) (parts_in self.new)) }
+        ensures within { IfOk result (λ k. LiesWithin (parts_in self.new) k) }
+        ensures value { IfOk result (λ k. parts_at (parts_in self.new) k
+            ≡ by_symbols (symbols_kept_of (parts_of line.now))) }
     {
         let words = place_behind(self.words.len())?;
         let settings = place_behind(self.settings.len())?;
@@ -160,7 +230,7 @@ impl<A: Allocator> PartLists<A> {
         self.settings.extend_from_slice(view.settings)?;
         keep_kinds(&mut self.kinds, view.tokens)?;
         keep_numbers(&mut self.numbers, view.tokens)?;
-        Ok(LineParts {
+        Ok(Kept::Symbols(SymbolParts {
             words,
             settings,
             kinds,
@@ -169,26 +239,47 @@ impl<A: Allocator> PartLists<A> {
             number_count: (self.numbers.len() - numbers as usize) as u16,
             word_count: view.words.len() as u8,
             setting_count: view.settings.len() as u8,
-            deleted: view.deleted,
-        })
+        }))
     }
 
-    // What a line says, in place of what `line` holds; the columns of its tokens are not kept, nor
-    // is its number.
-    pub(crate) fn load(&self, parts: LineParts, line: &mut Line)
+    // What a line says, behind what is kept.
+    pub(crate) fn push(&mut self, line: &Line) -> Result<Kept, AllocError>
+        ensures kept { OnOk result (Keeps (parts_in self.old) (parts_in self.new)) }
+        ensures within { IfOk result (λ k. LiesWithin (parts_in self.new) k) }
+        ensures value { IfOk result
+            (λ k. parts_at (parts_in self.new) k ≡ kept_of (parts_of line.now)) }
+    {
+        if line.settings.is_empty() && line.tokens.len() == line.words.len() {
+            self.push_numbered(line)
+        } else {
+            self.push_symbols(line)
+        }
+    }
+
+    // Words with the numbers that are their values.
+    pub(crate) fn numbered(&self, first: u32, count: u8) -> &[Word]
+        requires { LiesWithin (parts_in self.now) (places.Numbers first count) }
+        ensures { parts_at (parts_in self.now) (places.Numbers first count) ≡ by_numbers result.now }
+    {
+        let first = first as usize;
+        &self.numbered[first..first + count as usize]
+    }
+
+    // What a line says by symbols, in place of what `line` holds but for its number and for whether
+    // block delete takes it out; the columns of its tokens are not kept.
+    pub(crate) fn load(&self, parts: SymbolParts, line: &mut Line)
         requires { IsWithin (parts_in self.now) parts }
-        ensures deleted { line.new.deleted ≡ parts.deleted }
-        ensures words { line.new.words.items ≡ (parts_at (parts_in self.now) parts).words }
-        ensures settings { line.new.settings.items ≡ (parts_at (parts_in self.now) parts).settings }
+        ensures words { line.new.words.items ≡ (symbols_at (parts_in self.now) parts).words }
+        ensures settings { line.new.settings.items
+            ≡ (symbols_at (parts_in self.now) parts).settings }
         ensures symbols { symbols line.new.tokens.items
-            ≡ symbols_from (parts_at (parts_in self.now) parts).kinds
-            (parts_at (parts_in self.now) parts).numbers }
+            ≡ symbols_from (symbols_at (parts_in self.now) parts).kinds
+            (symbols_at (parts_in self.now) parts).numbers }
     {
         let words = parts.words as usize;
         let settings = parts.settings as usize;
         let kinds = parts.kinds as usize;
         let numbers = parts.numbers as usize;
-        line.deleted = parts.deleted;
         line.words.clear();
         let _ = line
             .words

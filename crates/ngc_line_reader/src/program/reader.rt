@@ -4,10 +4,9 @@ ghost use Rattle.ngc_line_reader.specs.Load.{IsLoading};
 ghost use Rattle.ngc_line_reader.specs.declared.program.fault.ReadFault.TheVariants.{Device};
 ghost use Rattle.ngc_line_reader.specs.declared.program.reader.State.TheVariants.{Going, Refused};
 
-use crate::line::Line;
 use crate::program::Program;
 use crate::program::fault::ReadFault;
-use crate::program::loader::{Loader, Step};
+use crate::program::loader::{Loader, Reading, Step};
 use std::alloc::Allocator;
 
 /// Whether the text goes on, has ended, or is refused.
@@ -33,7 +32,7 @@ pub enum State {
 #[derive(Drop)]
 pub struct ProgramReader<A: Allocator> {
     loader: Loader<A>,
-    reading: Line,
+    reading: Reading,
     state: State,
     ghost loading: { state ≡ Going → IsLoading loader } by { Prim.hlevel props },
     ghost no_device: { state ≢ Refused Device } by { Prim.hlevel props },
@@ -59,7 +58,7 @@ impl<A: Allocator> ProgramReader<A> {
     {
         ProgramReader {
             loader: Loader::new(alloc),
-            reading: Line::empty(),
+            reading: Reading::new(),
             state: State::Going,
         }
     }

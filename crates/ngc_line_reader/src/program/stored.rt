@@ -5,12 +5,14 @@ ghost use Rattle.std.proofs.Props.{props};
 ghost use Rattle.ngc_line_reader.specs.Stored.{is_stored, line_of, lines_from, start_from};
 ghost use Rattle.ngc_line_reader.specs.ReadLine.{line_read};
 ghost use Rattle.ngc_line_reader.specs.ScanLine.{parts_of, said_of};
-ghost use Rattle.ngc_line_reader.specs.Kept.{parts_in, parts_at, kept_of, IsWithin, AreWithin};
+ghost use Rattle.ngc_line_reader.specs.Kept.{parts_in, parts_at, kept_of, LiesWithin, AreWithin};
 ghost use Rattle.ngc_line_reader.specs.Kept.{AreKept};
+ghost use Rattle.ngc_line_reader.specs.Words.{pairs_of, SaysNumbers, SaysDeleted};
 ghost use Rattle.ngc_line_reader.specs.Shown.{ShowsReading};
 
 use crate::line::Line;
-use crate::program::parts::{LineParts, PartLists};
+use crate::program::parts::{Kept, LineParts, PartLists};
+use crate::word::Word;
 use std::alloc::{AllocError, Allocator};
 
 /// The number of a line, where its bytes end, and where what it says lies.
@@ -99,6 +101,29 @@ impl<A: Allocator> StoredLines<A> {
         &self.bytes[start..end]
     }
 
+    // Whether block delete takes a line out.
+    #[tactic(auto, using(crate::proofs::LinesInStore::counting_lines))]
+    pub(crate) fn is_deleted(&self, index: usize) -> bool
+        requires { index < length (lines_in self.now) }
+        ensures { (bytes : List ℕ) → option_map (λ l. l.bytes) (slice_get (lines_in self.now) index)
+            ≡ Some bytes → SaysDeleted bytes result }
+    {
+        self.ends[index].parts.deleted
+    }
+
+    // The words of a line, where their values are numbers and nothing is set.
+    #[tactic(auto, using(crate::proofs::LinesInStore::counting_lines))]
+    pub(crate) fn numbers(&self, index: usize) -> Option<&[Word]>
+        requires { index < length (lines_in self.now) }
+        ensures { (bytes : List ℕ) → option_map (λ l. l.bytes) (slice_get (lines_in self.now) index)
+            ≡ Some bytes → SaysNumbers bytes (option_map (λ ws. pairs_of ws.now) result) }
+    {
+        match self.ends[index].parts.kept {
+            Kept::Numbers { first, count } => Some(self.parts.numbered(first, count)),
+            Kept::Symbols(_) => None,
+        }
+    }
+
     // What a line says, in place of what `line` holds.
     #[tactic(auto, using(crate::proofs::LinesInStore::counting_lines))]
     pub(crate) fn load(&self, index: usize, line: &mut Line)
@@ -106,20 +131,33 @@ impl<A: Allocator> StoredLines<A> {
         ensures { (bytes : List ℕ) → option_map (λ l. l.bytes) (slice_get (lines_in self.now) index)
             ≡ Some bytes → ShowsReading bytes line.new.deleted (parts_of line.new) }
     {
-        self.parts.load(self.ends[index].parts, line);
+        let LineParts { deleted, kept } = self.ends[index].parts;
+        match kept {
+            Kept::Numbers { .. } => {
+                // Its bytes say it still.
+                let _ = line.read(self.bytes(index));
+            }
+            Kept::Symbols(parts) => {
+                self.parts.load(parts, line);
+                line.deleted = deleted;
+            }
+        }
     }
 
     // What a line says, behind what is kept. Where memory is wanting, no line is left.
     fn keep(&mut self, reading: &Line) -> Result<LineParts, AllocError>
         ensures bytes { OnOk result (self.new.bytes ≡ self.old.bytes) }
         ensures ends { OnOk result (self.new.ends ≡ self.old.ends) }
-        ensures within { IfOk result (λ p. IsWithin (parts_in self.new.parts) p) }
+        ensures within { IfOk result (λ p. LiesWithin (parts_in self.new.parts) p.kept) }
         ensures value { IfOk result
-            (λ p. parts_at (parts_in self.new.parts) p ≡ kept_of (parts_of reading.now)) }
+            (λ p. parts_at (parts_in self.new.parts) p.kept ≡ kept_of (parts_of reading.now)) }
         ensures deleted { IfOk result (λ p. p.deleted ≡ reading.now.deleted) }
     {
         match self.parts.push(reading) {
-            Ok(parts) => Ok(parts),
+            Ok(kept) => Ok(LineParts {
+                deleted: reading.deleted,
+                kept,
+            }),
             Err(_) => {
                 self.bytes.clear();
                 self.ends.clear();

@@ -5,9 +5,9 @@ use Rattle.ngc_line_reader.proofs.number.millionths_of.Goals as goal
 pub overflow_mul-result : goal.overflow_mul-result
 overflow_mul-result c =
     let m = short_millionths c.args.decimals.bytes.now c.args.decimals.units c.requires.digits (omega arith) c.requires.units in
-    let times : c.args.decimals.units * c.pow.result ≡ c.args.decimals.units * 10 ^ (6 - length c.args.decimals.bytes.now) =
-    ap (λ (n : ℕ). c.args.decimals.units * n) c.pow.ensures in
-    let bound : c.args.decimals.units * c.pow.result ≤ 1000000 = omega (arith, times, m.bound) in
+    let times : c.args.decimals.units * c.last_place.result ≡ c.args.decimals.units * 10 ^ (6 - length c.args.decimals.bytes.now) =
+    ap (λ (n : ℕ). c.args.decimals.units * n) c.last_place.ensures in
+    let bound : c.args.decimals.units * c.last_place.result ≤ 1000000 = omega (arith, times, m.bound) in
     search rules
 
 pub returns-then-decimals-gt6-clause-value : goal.returns-then-decimals-gt6-clause-value
@@ -16,12 +16,12 @@ returns-then-decimals-gt6-clause-value c =
 
 pub returns-else-decimals-gt6-clause-value : goal.returns-else-decimals-gt6-clause-value
 returns-else-decimals-gt6-clause-value c =
-    ap (λ (n : ℕ). c.args.decimals.units * n) c.pow.ensures
+    ap (λ (n : ℕ). c.args.decimals.units * n) c.last_place.ensures
     ∙ (short_millionths c.args.decimals.bytes.now c.args.decimals.units c.requires.digits (omega arith) c.requires.units).value
 
 pub returns-else-decimals-gt6-clause-bound : goal.returns-else-decimals-gt6-clause-bound
 returns-else-decimals-gt6-clause-bound c =
     let m = short_millionths c.args.decimals.bytes.now c.args.decimals.units c.requires.digits (omega arith) c.requires.units in
-    let times : c.args.decimals.units * c.pow.result ≡ c.args.decimals.units * 10 ^ (6 - length c.args.decimals.bytes.now) =
-    ap (λ (n : ℕ). c.args.decimals.units * n) c.pow.ensures in
+    let times : c.args.decimals.units * c.last_place.result ≡ c.args.decimals.units * 10 ^ (6 - length c.args.decimals.bytes.now) =
+    ap (λ (n : ℕ). c.args.decimals.units * n) c.last_place.ensures in
     omega (arith, times, m.bound)

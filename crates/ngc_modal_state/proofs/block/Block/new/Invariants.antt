@@ -1,6 +1,6 @@
 -- The words left make of the block what all of them make of none.
 use Rattle.std.proofs.Common.{◌≡◌, drop}
-use Rattle.ngc_parameters.specs.Stored.{pairs_of}
+use Rattle.ngc_line_reader.specs.Words.{pairs_of}
 use Rattle.ngc_modal_state.specs.Block.{with_words, no_words}
 use Rattle.ngc_modal_state.proofs.block.Block.new.Given as goal
 

@@ -4,7 +4,7 @@ use Rattle.std.proofs.Common.{ap, length, length-append, arith}
 use Rattle.ngc_line_reader.specs.Tokens.{symbols}
 use Rattle.ngc_line_reader.specs.Symbols.{numbers_of}
 use Rattle.ngc_line_reader.proofs.KeptSymbols.{few_numbers}
-use Rattle.ngc_line_reader.proofs.program.parts.PartLists.push.Goals as goal
+use Rattle.ngc_line_reader.proofs.program.parts.PartLists.push_symbols.Goals as goal
 
 pub overflow_cast-result-3 : goal.overflow_cast-result-3
 overflow_cast-result-3 g c =

@@ -1,7 +1,7 @@
 use Rattle.std.proofs.Common.{rules}
 use Rattle.ngc_line_reader.proofs.ReadLines.{gives_reading, finds_reading}
 use Rattle.ngc_line_reader.proofs.RefusedLines.{large_is_written, many_are_written}
-use Rattle.ngc_line_reader.proofs.line.Line.read.Goals as goal
+use Rattle.ngc_line_reader.proofs.line.Line.read_into.Goals as goal
 
 pub returns-clause-found : goal.returns-clause-found
 returns-clause-found c =
