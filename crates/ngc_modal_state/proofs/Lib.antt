@@ -1,5 +1,7 @@
 -- Look-up in two tables, one after the other.
 pub mod TableLaws
+-- A line that is at most a plain move breaks no rule on the use of words.
+pub mod Plain
 -- Words by letter and value.
 pub mod Words
 -- A list that grows by what stands.

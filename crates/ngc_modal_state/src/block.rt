@@ -6,7 +6,7 @@ ghost use Rattle.ngc_modal_state.specs.BlockWords.{first_value};
 
 use crate::code::{Code, Coolant, LengthCode, MotionMode, Once, PathControl, Spindle, Stopping};
 use crate::fault::ModalFault;
-use crate::table::{g_code, m_code};
+use crate::table::{common_motion, g_code, m_code};
 use ngc_fixed_length::{Distance, FeedMode, Plane, ReturnMode, System, Units, Value};
 use ngc_line_reader::{Letter, Word};
 
@@ -62,6 +62,7 @@ pub struct Block {
 impl Block {
     ghost use Rattle.ngc_modal_state.specs.Block.{no_words, has_group, put_code, with_code};
     ghost use Rattle.ngc_modal_state.specs.Block.{with_word, block_of};
+    ghost use Rattle.ngc_line_reader.specs.declared.letter.Letter.TheVariants as letters;
     ghost use Rattle.ngc_modal_state.specs.Faults.{Becomes};
 
     // No words.
@@ -169,12 +170,25 @@ impl Block {
         Ok(())
     }
 
+    // Adds the code of a G word.
+    fn add_g_code(&mut self, value: Value) -> Result<(), ModalFault>
+        ensures { Becomes result self.new (with_word letters.G value self.old) }
+    {
+        match common_motion(value) {
+            Some(motion) if self.motion.is_none() => {
+                self.motion = Some(motion);
+                Ok(())
+            }
+            _ => self.add_code(g_code(value)?),
+        }
+    }
+
     fn add_word(&mut self, word: Word) -> Result<(), ModalFault>
         ensures { Becomes result self.new (with_word word.letter word.value self.old) }
     {
         let value = word.value;
         match word.letter {
-            Letter::G => self.add_code(g_code(value)?)?,
+            Letter::G => self.add_g_code(value)?,
             Letter::M => self.add_code(m_code(value)?)?,
             Letter::X => self.axes.x = once_a_line(self.axes.x, value)?,
             Letter::Y => self.axes.y = once_a_line(self.axes.y, value)?,
@@ -200,7 +214,7 @@ impl Block {
     pub fn new(words: &[Word]) -> Result<Block, ModalFault>
         ensures { result ≡ block_of (pairs_of words.now) }
     {
-        if m_words(words) > 4 {
+        if words.len() > 4 && m_words(words) > 4 {
             return Err(ModalFault::TooManyMWords);
         }
         let mut block = Block::empty();

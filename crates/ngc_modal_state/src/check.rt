@@ -1,4 +1,4 @@
-ghost use Rattle.std.specs.Prelude.{◌≡◌};
+ghost use Rattle.std.specs.Prelude.{◌≡◌, None, true, false, is_some, ◌||◌, ◌&&◌};
 ghost use Rattle.ngc_modal_state.specs.Use.{idle, lacks, depth_letter as letter_of_depth};
 ghost use Rattle.ngc_modal_state.specs.Tables.{first_where as first_in};
 
@@ -66,7 +66,7 @@ impl AxisWords {
 impl Block {
     ghost use Rattle.ngc_modal_state.specs.Use.{claimed_twice, idle_letter, lacks_axes, needs_feed};
     ghost use Rattle.ngc_modal_state.specs.Use.{missing_word, out_of_range, lacks_straight};
-    ghost use Rattle.ngc_modal_state.specs.Use.{check as check_of};
+    ghost use Rattle.ngc_modal_state.specs.Use.{check as check_of, has_offsets};
 
     // Whether two codes use the axis words, or P, or R stands together with I, J or K.
     #[tactic(auto, unfolding(crate::specs::Use::claimed_twice))]
@@ -190,21 +190,68 @@ impl Block {
         self.is_machine_place() && !self.motion_in_force(modes).is_straight()
     }
 
+    // Whether a code that holds for its line alone stands, G43 or G49, or a letter that neither a
+    // straight move nor an arc in the plane XY takes.
+    fn has_rare_words(&self) -> bool
+        ensures { result ≡ (is_some self.now.once || is_some self.now.tool_length
+            || is_some self.now.k || is_some self.now.p || is_some self.now.l || is_some self.now.q
+            || is_some self.now.h) }
+    {
+        self.once.is_some()
+            || self.tool_length.is_some()
+            || self.k.is_some()
+            || self.p.is_some()
+            || self.l.is_some()
+            || self.q.is_some()
+            || self.h.is_some()
+    }
+
+    // Whether R stands together with I, J or K.
+    fn has_two_centres(&self) -> bool
+        ensures { result ≡ (is_some self.now.r && has_offsets self.now) }
+    {
+        self.r.is_some() && self.has_offsets()
+    }
+
+    // Whether few tests show that the line breaks no rule on the use of words: so it is with most
+    // lines, at most a straight move, or an arc in the plane XY.
+    fn is_plain(&self, modes: &Modes) -> bool
+        ensures straight { result ≡ true → lacks_straight modes.now self.now ≡ false }
+        ensures one_use { result ≡ true → claimed_twice modes.now self.now ≡ false }
+        ensures used { result ≡ true → idle_letter modes.now self.now ≡ None }
+        ensures there { result ≡ true → missing_word modes.now self.now ≡ None }
+    {
+        if self.has_rare_words() {
+            return false;
+        }
+        let motion = self.motion_in_force(modes);
+        match self.feed_mode_in_force(modes) {
+            FeedMode::InverseTime => false,
+            FeedMode::PerMinute if motion.is_straight() => !self.has_arc_words(),
+            FeedMode::PerMinute if self.has_two_centres() => false,
+            FeedMode::PerMinute => {
+                motion.is_arc() && matches!(self.plane_in_force(modes), Plane::XY)
+            }
+        }
+    }
+
     // 210, or else the first of 206 to 209.
     pub(crate) fn check(&self, modes: &Modes) -> Result<(), ModalFault>
         ensures { result ≡ check_of modes.now self.now }
     {
-        if self.lacks_straight(modes) {
-            return Err(ModalFault::WithoutStraightMotion);
-        }
-        if self.is_claimed_twice(modes) {
-            return Err(ModalFault::ClaimedTwice);
-        }
-        if let Some(letter) = self.idle_letter(modes) {
-            return Err(ModalFault::WithoutUse(letter));
-        }
-        if let Some(word) = self.missing_word(modes) {
-            return Err(ModalFault::WordMissing(word));
+        if !self.is_plain(modes) {
+            if self.lacks_straight(modes) {
+                return Err(ModalFault::WithoutStraightMotion);
+            }
+            if self.is_claimed_twice(modes) {
+                return Err(ModalFault::ClaimedTwice);
+            }
+            if let Some(letter) = self.idle_letter(modes) {
+                return Err(ModalFault::WithoutUse(letter));
+            }
+            if let Some(word) = self.missing_word(modes) {
+                return Err(ModalFault::WordMissing(word));
+            }
         }
         if self.has_word_out_of_range() {
             return Err(ModalFault::OutOfRange);

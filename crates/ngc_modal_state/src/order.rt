@@ -1,4 +1,5 @@
-ghost use Rattle.std.specs.Prelude.{◌≡◌, ◌+◌, ◌<◌, ◌≤◌, ◌++◌, option_to_list, option_map};
+ghost use Rattle.std.specs.Prelude.{◌≡◌, ◌+◌, ◌<◌, ◌≤◌, ◌++◌, option_to_list, option_map, ◌||◌};
+ghost use Rattle.std.specs.Prelude.{is_some};
 ghost use Rattle.arrayvec.specs.ArrayVec.{array_vec_len};
 ghost use Rattle.ngc_modal_state.specs.Effects.{standing, mark as marked, system_at as system_by};
 
@@ -74,9 +75,10 @@ impl Block {
     fn inverse_feed(&self, modes: &Modes) -> Option<Value>
         ensures { result ≡ inverse_feed (feed_mode_of modes.now self.now) self.now.f }
     {
+        let value = self.f?;
         match self.feed_mode_in_force(modes) {
             FeedMode::PerMinute => None,
-            FeedMode::InverseTime => self.f,
+            FeedMode::InverseTime => Some(value),
         }
     }
 
@@ -156,43 +158,105 @@ impl Block {
         }
     }
 
-    // The line's motion by a motion code, where it moves.
-    fn move_effect(&self, motion: MotionMode, inverse: Option<Value>) -> Option<Effect>
-        ensures { result ≡ move_effect motion inverse self.now }
+    // The line's motion by a motion code, where it moves. What is added is written once, in its
+    // place: an effect is large.
+    fn add_move(
+        &self,
+        motion: MotionMode,
+        inverse: Option<Value>,
+        effects: &mut ArrayVec<Effect, 24>,
+    )
+        requires { array_vec_len effects.old < 24 }
+        ensures items { effects.new.items ≡ effects.old.items
+            ++ option_to_list (move_effect motion inverse self.now) }
+        ensures room { array_vec_len effects.new ≤ array_vec_len effects.old + 1 }
     {
         let axes = self.axes;
         let machine = self.is_machine_place();
         match motion {
-            MotionMode::Traverse => mark(Effect::Traverse { machine, axes }, self.has_axes()),
-            MotionMode::Straight => mark(
-                Effect::Straight {
-                    machine,
-                    axes,
-                    inverse,
-                },
-                self.has_axes(),
-            ),
-            MotionMode::Arc(turn) => mark(
-                Effect::Arc {
+            MotionMode::Traverse if self.has_axes() => {
+                effects.push(Effect::Traverse { machine, axes });
+            }
+            MotionMode::Straight if self.has_axes() => effects.push(Effect::Straight {
+                machine,
+                axes,
+                inverse,
+            }),
+            MotionMode::Arc(turn) if self.has_axes() || self.has_arc_words() => {
+                effects.push(Effect::Arc {
                     turn,
                     axes,
                     words: self.arc_words(),
                     inverse,
-                },
-                self.has_axes() || self.has_arc_words(),
-            ),
-            MotionMode::Cancel => None,
-            MotionMode::Cycle(hole) => Some(Effect::Cycle {
+                });
+            }
+            MotionMode::Cycle(hole) => effects.push(Effect::Cycle {
                 hole,
                 axes,
                 words: self.cycle_words(),
             }),
+            _ => {}
         }
     }
 
-    // Feed mode, F, S, T, M6, spindle, coolant, overrides and dwell.
-    #[tactic(auto, unfolding(crate::specs::Effects::first_effects))]
+    // Whether something stands that `add_first` adds behind F.
+    fn has_machine_words(&self) -> bool
+        ensures { result ≡ (is_some self.now.s || is_some self.now.t || self.now.change_tool
+            || is_some self.now.spindle || self.now.mist || self.now.flood || self.now.coolant_off
+            || is_some self.now.overrides || is_some self.now.once) }
+    {
+        self.s.is_some()
+            || self.t.is_some()
+            || self.change_tool
+            || self.spindle.is_some()
+            || self.mist
+            || self.flood
+            || self.coolant_off
+            || self.overrides.is_some()
+            || self.once.is_some()
+    }
+
+    // Whether something stands that `add_first` adds.
+    fn has_first_words(&self) -> bool
+        ensures { result ≡ (is_some self.now.feed_mode || is_some self.now.f
+            || (is_some self.now.s || is_some self.now.t || self.now.change_tool
+            || is_some self.now.spindle || self.now.mist || self.now.flood || self.now.coolant_off
+            || is_some self.now.overrides || is_some self.now.once)) }
+    {
+        self.feed_mode.is_some() || self.f.is_some() || self.has_machine_words()
+    }
+
+    // Whether a code stands that `add_modes` adds.
+    fn has_modes(&self) -> bool
+        ensures { result ≡ (is_some self.now.plane || is_some self.now.units || self.now.radius_off
+            || is_some self.now.tool_length || is_some self.now.system || is_some self.now.path
+            || is_some self.now.distance || is_some self.now.return_mode) }
+    {
+        self.plane.is_some()
+            || self.units.is_some()
+            || self.radius_off
+            || self.tool_length.is_some()
+            || self.system.is_some()
+            || self.path.is_some()
+            || self.distance.is_some()
+            || self.return_mode.is_some()
+    }
+
+    // Feed mode, F, S, T, M6, spindle, coolant, overrides and dwell, of which most lines have none.
     fn add_first(&self, modes: &Modes, effects: &mut ArrayVec<Effect, 24>)
+        requires { array_vec_len effects.old ≤ 13 }
+        ensures items { effects.new.items ≡ effects.old.items
+            ++ standing (first_effects modes.now self.now) }
+        ensures room { array_vec_len effects.new ≤ array_vec_len effects.old + 11 }
+    {
+        if !self.has_first_words() {
+            return;
+        }
+        self.add_first_words(modes, effects);
+    }
+
+    #[tactic(auto, unfolding(crate::specs::Effects::first_effects))]
+    fn add_first_words(&self, modes: &Modes, effects: &mut ArrayVec<Effect, 24>)
         requires { array_vec_len effects.old ≤ 13 }
         ensures items { effects.new.items ≡ effects.old.items
             ++ standing (first_effects modes.now self.now) }
@@ -200,6 +264,9 @@ impl Block {
     {
         add(effects, self.feed_mode.map(Effect::FeedMode));
         add(effects, self.feed_effect(modes));
+        if !self.has_machine_words() {
+            return;
+        }
         add(effects, self.s.map(Effect::Speed));
         add(effects, self.tool_effect());
         add(effects, mark(Effect::ChangeTool, self.change_tool));
@@ -222,6 +289,9 @@ impl Block {
         ensures items { effects.new.items ≡ effects.old.items ++ standing (mode_effects self.now) }
         ensures room { array_vec_len effects.new ≤ array_vec_len effects.old + 8 }
     {
+        if !self.has_modes() {
+            return;
+        }
         add(effects, self.plane.map(Effect::Plane));
         add(effects, self.units.map(Effect::Units));
         add(effects, mark(Effect::RadiusOff, self.radius_off));
@@ -242,10 +312,7 @@ impl Block {
     {
         add(effects, self.frame_effect());
         add(effects, self.motion.map(Effect::Motion));
-        add(
-            effects,
-            self.move_effect(self.user(modes), self.inverse_feed(modes)),
-        );
+        self.add_move(self.user(modes), self.inverse_feed(modes), effects);
         add(effects, self.stopping.map(Effect::Stopping));
     }
 

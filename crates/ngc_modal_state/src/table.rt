@@ -1,4 +1,5 @@
-ghost use Rattle.std.specs.Prelude.{◌≡◌};
+ghost use Rattle.std.specs.Prelude.{◌≡◌, IfSome, Ok};
+ghost use Rattle.ngc_modal_state.specs.declared.code.Code.TheVariants as codes;
 ghost use Rattle.ngc_modal_state.specs.Codes.{tenths as tenths_of, g_code as g_code_of};
 ghost use Rattle.ngc_modal_state.specs.Codes.{m_code as m_code_of, motion_codes, once_codes};
 ghost use Rattle.ngc_modal_state.specs.Codes.{mode_codes, g_codes, m_codes};
@@ -129,6 +130,20 @@ pub(crate) fn g_code(value: Value) -> Result<Code, ModalFault>
         Some(382 | 410 | 420 | 840 | 870 | 880) => Err(ModalFault::LeftOut),
         Some(tenths) => g_code_at(tenths).ok_or(unknown),
         None => Err(unknown),
+    }
+}
+
+/// The motion code of a G word, where it is one of the four of most lines: they need no look-up.
+#[tactic(auto, unfolding(crate::specs::Codes::g_code, crate::specs::Codes::motion_codes))]
+pub(crate) fn common_motion(value: Value) -> Option<MotionMode>
+    ensures { IfSome result (λ motion. g_code_of value ≡ Ok (codes.Motion motion)) }
+{
+    match value.millionths() {
+        0 => Some(MotionMode::Traverse),
+        1_000_000 => Some(MotionMode::Straight),
+        2_000_000 => Some(MotionMode::Arc(Turn::Clockwise)),
+        3_000_000 => Some(MotionMode::Arc(Turn::Counterclockwise)),
+        _ => None,
     }
 }
 

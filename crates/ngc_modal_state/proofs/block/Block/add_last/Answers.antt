@@ -9,5 +9,5 @@ unfolding last_effects
 returns-clause-items c =
     adds _ _ _ _ _ _ (search rules) c.add.ensures.items
     (adds _ _ _ _ _ _ (mapped _ _ _ _ (λ x y h. h) c.map.ensures.cases) c.add-2.ensures.items
-    (adds _ _ _ _ _ _ (search rules) c.add-3.ensures.items
-    (adds _ _ _ _ _ _ (mapped _ _ _ _ (λ x y h. h) c.map-2.ensures.cases) c.add-4.ensures.items (ends _))))
+    (adds _ _ _ _ _ _ (search rules) c.add_move.ensures.items
+    (adds _ _ _ _ _ _ (mapped _ _ _ _ (λ x y h. h) c.map-2.ensures.cases) c.add-3.ensures.items (ends _))))

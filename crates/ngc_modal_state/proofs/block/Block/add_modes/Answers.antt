@@ -1,7 +1,7 @@
 -- Each effect in its turn.
 use Rattle.std.proofs.Common.{rules}
 use Rattle.ngc_modal_state.specs.Effects.{mode_effects}
-use Rattle.ngc_modal_state.proofs.Standing.{adds, ends, mapped}
+use Rattle.ngc_modal_state.proofs.Standing.{adds, ends, mapped, no_modes}
 use Rattle.ngc_modal_state.proofs.block.Block.add_modes.Goals as goal
 
 pub returns-clause-items : goal.returns-clause-items
@@ -15,3 +15,6 @@ returns-clause-items c =
     (adds _ _ _ _ _ _ (mapped _ _ _ _ (λ x y h. h) c.map-4.ensures.cases) c.add-6.ensures.items
     (adds _ _ _ _ _ _ (mapped _ _ _ _ (λ x y h. h) c.map-5.ensures.cases) c.add-7.ensures.items
     (adds _ _ _ _ _ _ (mapped _ _ _ _ (λ x y h. h) c.map-6.ensures.cases) c.add-8.ensures.items (ends _))))))))
+
+pub returns-then-not-has_modes-clause-items : goal.returns-then-not-has_modes-clause-items
+returns-then-not-has_modes-clause-items c = no_modes _ (search rules) _

@@ -1,0 +1,26 @@
+-- Each effect in its turn.
+use Rattle.std.proofs.Common.{rules}
+use Rattle.ngc_modal_state.specs.Effects.{first_effects}
+use Rattle.ngc_modal_state.proofs.Standing.{adds, ends, mapped, feed_alone}
+use Rattle.ngc_modal_state.proofs.block.Block.add_first_words.Goals as goal
+
+pub returns-clause-items : goal.returns-clause-items
+unfolding first_effects
+returns-clause-items c =
+    adds _ _ _ _ _ _ (mapped _ _ _ _ (λ x y h. h) c.map.ensures.cases) c.add.ensures.items
+    (adds _ _ _ _ _ _ (search rules) c.add-2.ensures.items
+    (adds _ _ _ _ _ _ (mapped _ _ _ _ (λ x y h. h) c.map-2.ensures.cases) c.add-3.ensures.items
+    (adds _ _ _ _ _ _ (search rules) c.add-4.ensures.items
+    (adds _ _ _ _ _ _ (search rules) c.add-5.ensures.items
+    (adds _ _ _ _ _ _ (mapped _ _ _ _ (λ x y h. h) c.map-3.ensures.cases) c.add-6.ensures.items
+    (adds _ _ _ _ _ _ (search rules) c.add-7.ensures.items
+    (adds _ _ _ _ _ _ (search rules) c.add-8.ensures.items
+    (adds _ _ _ _ _ _ (search rules) c.add-9.ensures.items
+    (adds _ _ _ _ _ _ (mapped _ _ _ _ (λ x y h. h) c.map-4.ensures.cases) c.add-10.ensures.items
+    (adds _ _ _ _ _ _ (search rules) c.add-11.ensures.items (ends _)))))))))))
+
+pub returns-then-not-has_machine_words-clause-items : goal.returns-then-not-has_machine_words-clause-items
+returns-then-not-has_machine_words-clause-items c =
+    rw (feed_alone c.args.modes.now c.args.self.now (search rules))
+    (adds _ _ _ _ _ _ (mapped _ _ _ _ (λ x y h. h) c.map.ensures.cases) c.add.ensures.items
+    (adds _ _ _ _ _ _ (search rules) c.add-2.ensures.items (ends _)))
