@@ -1,8 +1,9 @@
 -- A program ends with the end, and nothing is executed after it.
 use Rattle.std.proofs.Common.{◌≡◌, ℕ, List, [], ◌∷◌, Option, Some, None, Bool, true, false, Result, Ok, Err, refl, sym, subst}
 use Rattle.std.proofs.lemmas.Result.{IfOk-at_ok}
-use Rattle.std.specs.Prelude.{IfOk, ◌&&◌, if◌then◌else◌}
+use Rattle.std.specs.Prelude.{ℤ, IfOk, ◌&&◌, if◌then◌else◌}
 use Rattle.ngc_line_reader.specs.Grammar.{Item, Reading}
+use Rattle.ngc_line_reader.specs.declared.letter.Letter.{Letter}
 use Rattle.ngc_machine.specs.Machine.{MachineFile}
 use Rattle.ngc_parameters.specs.Stored.{line_values}
 use Rattle.ngc_canonical.specs.declared.command.Action.TheVariants.{End}
@@ -11,9 +12,8 @@ use Rattle.ngc_canonical.specs.declared.fault.Fault.{Fault}
 use Rattle.ngc_canonical.specs.declared.fault.Fault.TheVariants.{Value}
 use Rattle.ngc_canonical.specs.declared.fault.ProgramFault.{ProgramFault}
 use Rattle.ngc_canonical.specs.Joined.{EndIsLast, HasEnd, EndsLast, HaveEnd}
-use Rattle.ngc_canonical.specs.Meaning.{NumberedLine, Program, effects_of, with_settings, execute, at_line, remaining, after_line, commands_of, past_last}
+use Rattle.ngc_canonical.specs.Meaning.{NumberedLine, Program, effects_of, with_settings, execute, execute_words, at_line, remaining, after_line, commands_of, past_last}
 use Rattle.ngc_canonical.specs.Meaning.{go_on, then_lines, from_state, meaning, GivesMeaning}
-use Rattle.ngc_canonical.specs.Perform.{run}
 use Rattle.ngc_canonical.specs.State.{Setup, State, start_state, emit}
 use Rattle.ngc_canonical.specs.Steps.{faulted}
 use Rattle.ngc_canonical.proofs.Ending.{StopIsLast, stops_last}
@@ -27,11 +27,13 @@ Ends s = IsEndOnly s.commands
 start_open : (machine : MachineFile) → Open (start_state machine)
 start_open machine = record { running = refl; no_end = tt }
 
+words_left : (setup : Setup) (words : List (Letter × ℤ)) (s : State) → Open s → IfOk (execute_words setup words s) Left
+words_left setup words s h = onward StopIsLast Left (effects_of s.modes words) _ (stops_last s.modes words) (λ what last. run_left setup what s last h)
+
 execute_left : (setup : Setup) (items : List Item) (s : State) → Open s → IfOk (execute setup items s) Left
 execute_left setup items s h =
     after Left (faulted Value (line_values s.parameters items)) _ (λ values.
-    onward StopIsLast Left (effects_of s.modes values.0) _ (stops_last s.modes values.0) (λ what last.
-    onward Left Left (run setup what s) (λ t. Ok (with_settings values.1 t)) (run_left setup what s last h) (λ t h_t. h_t)))
+    onward Left Left (execute_words setup values.0 s) (λ t. Ok (with_settings values.1 t)) (words_left setup values.0 s h) (λ t h_t. h_t))
 
 at_line_left : (P : State → Type 0) (line : ℕ) (r : Result State Fault) → IfOk r P → IfOk (at_line line r) P
 at_line_left P line (Ok s) h = h

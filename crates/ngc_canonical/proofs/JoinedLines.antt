@@ -1,9 +1,10 @@
 -- The lines of a program lead its motions on from the machine's start point, with even radii, and leave its commands few.
 use Rattle.std.proofs.Common.{◌≡◌, ℕ, ◌≤◌, List, [], ◌∷◌, length, Option, Some, None, Bool, true, false, Result, Ok, Err, refl, sym, subst, lit≤}
 use Rattle.std.proofs.lemmas.Result.{IfOk-at_ok, IfOk-weaker}
-use Rattle.std.specs.Prelude.{IfOk, ◌&&◌, if◌then◌else◌}
+use Rattle.std.specs.Prelude.{ℤ, IfOk, ◌&&◌, if◌then◌else◌}
 use Rattle.ngc_fixed_length.specs.declared.points.Point3.{Point3}
 use Rattle.ngc_line_reader.specs.Grammar.{Item, Reading}
+use Rattle.ngc_line_reader.specs.declared.letter.Letter.{Letter}
 use Rattle.ngc_machine.specs.Machine.{MachineFile}
 use Rattle.ngc_parameters.specs.Stored.{line_values}
 use Rattle.ngc_canonical.specs.declared.command.Action.TheVariants.{End}
@@ -12,10 +13,9 @@ use Rattle.ngc_canonical.specs.declared.fault.Fault.{Fault}
 use Rattle.ngc_canonical.specs.declared.fault.Fault.TheVariants.{Value}
 use Rattle.ngc_canonical.specs.declared.fault.ProgramFault.{ProgramFault}
 use Rattle.ngc_canonical.specs.Joined.{Joined, HaveEvenRadii, ArcsHaveEvenRadii, FewCommands}
-use Rattle.ngc_canonical.specs.Meaning.{NumberedLine, Program, effects_of, with_settings, execute, at_line, remaining, after_line, commands_of, past_last}
+use Rattle.ngc_canonical.specs.Meaning.{NumberedLine, Program, effects_of, with_settings, execute, execute_words, at_line, remaining, after_line, commands_of, past_last}
 use Rattle.ngc_canonical.specs.Meaning.{go_on, then_lines, from_state, meaning, GivesMeaning}
 use Rattle.ngc_canonical.specs.Movement.{actions_of, ways_of, AreJoined}
-use Rattle.ngc_canonical.specs.Perform.{run}
 use Rattle.ngc_canonical.specs.State.{Setup, State, COMMAND_LIMIT, start_state, emit}
 use Rattle.ngc_canonical.specs.Steps.{faulted}
 use Rattle.ngc_canonical.proofs.Joining.{IsTrail, Holds, onward, after, stays}
@@ -24,11 +24,13 @@ use Rattle.ngc_canonical.proofs.JoinedSteps.{run_holds}
 start_holds : (machine : MachineFile) → Holds machine.start (start_state machine)
 start_holds machine = record { leads = record { joined = tt; ends = refl; radii = tt }; few = lit≤ tt }
 
+words_hold : (p : Point3) (setup : Setup) (words : List (Letter × ℤ)) (s : State) → Holds p s → IfOk (execute_words setup words s) (Holds p)
+words_hold p setup words s h = after (Holds p) (effects_of s.modes words) _ (λ what. run_holds p setup what s h)
+
 execute_holds : (p : Point3) (setup : Setup) (items : List Item) (s : State) → Holds p s → IfOk (execute setup items s) (Holds p)
 execute_holds p setup items s h =
     after (Holds p) (faulted Value (line_values s.parameters items)) _ (λ values.
-    after (Holds p) (effects_of s.modes values.0) _ (λ what.
-    onward (Holds p) (Holds p) (run setup what s) (λ t. Ok (with_settings values.1 t)) (run_holds p setup what s h) (λ t h_t. h_t)))
+    onward (Holds p) (Holds p) (execute_words setup values.0 s) (λ t. Ok (with_settings values.1 t)) (words_hold p setup values.0 s h) (λ t h_t. h_t))
 
 at_line_holds : (p : Point3) (line : ℕ) (r : Result State Fault) → IfOk r (Holds p) → IfOk (at_line line r) (Holds p)
 at_line_holds p line (Ok s) h = h

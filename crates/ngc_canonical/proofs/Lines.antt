@@ -14,12 +14,10 @@ use Rattle.ngc_line_reader.specs.Words.{number_words, SaysDeleted}
 use Rattle.ngc_line_reader.specs.declared.letter.Letter.{Letter}
 use Rattle.ngc_parameters.specs.declared.fault.EvalFault.{EvalFault}
 use Rattle.ngc_parameters.proofs.NumberValues.{number_values}
-use Rattle.ngc_modal_state.specs.declared.effect.Effect.{Effect}
 use Rattle.ngc_canonical.specs.declared.fault.Fault.TheVariants.{Value}
-use Rattle.ngc_canonical.specs.Meaning.{effects_of, with_settings}
-use Rattle.ngc_canonical.specs.Perform.{run}
+use Rattle.ngc_canonical.specs.Meaning.{execute_words, with_settings}
 use Rattle.ngc_canonical.specs.Steps.{◌>>=◌, faulted}
-use Rattle.ngc_canonical.specs.Taken.{execute_words, IsTaken}
+use Rattle.ngc_canonical.specs.Taken.{IsTaken}
 use Rattle.ngc_line_reader.proofs.UniqueLine.{one_reading}
 use Rattle.ngc_line_reader.specs.Program.{Line}
 use Rattle.ngc_line_reader.specs.ProgramText.{AreReadings}
@@ -85,19 +83,14 @@ then_same : (x : Result State Fault) → (x >>= λ (t : State). Ok (with_setting
 then_same (Ok t) = refl
 then_same (Err e) = refl
 
-and_then : (x : Result (List Effect) Fault) (f : List Effect → Result State Fault)
-    → (x >>= λ (what : List Effect). f what >>= λ (t : State). Ok (with_settings [] t)) ≡ (x >>= f)
-and_then (Ok what) f = then_same (f what)
-and_then (Err e) f = refl
-
 -- words with numbers for their values are executed as the line is that they stand on
 pub words_do : (setup : Setup) (items : List Item) (words : List (Letter × ℤ)) (s : State) → AllWithinLimit items → Some words ≡ number_words items
     → execute_words setup words s ≡ execute setup items s
 words_do setup items words s limit is =
     sym (
-    ap (λ (v : Result (List (Letter × ℤ) × List (ℕ × ℤ)) EvalFault). faulted Value v >>= λ values. effects_of s.modes values.0 >>= λ what.
-    run setup what s >>= λ t. Ok (with_settings values.1 t)) (number_values s.parameters items words limit (sym is))
-    ∙ and_then (effects_of s.modes words) (λ what. run setup what s))
+    ap (λ (v : Result (List (Letter × ℤ) × List (ℕ × ℤ)) EvalFault). faulted Value v >>= λ values. execute_words setup values.0 s >>= λ t.
+    Ok (with_settings values.1 t)) (number_values s.parameters items words limit (sym is))
+    ∙ then_same (execute_words setup words s))
 
 -- block delete takes it out
 pub left_out : (setup : Setup) (block_delete deleted : Bool) (line : Line) (s : State) → SaysDeleted line.bytes deleted → block_delete ≡ true → deleted ≡ true

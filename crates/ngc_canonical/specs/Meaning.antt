@@ -43,12 +43,17 @@ effects_of modes words = do
 abbrev pub with_settings : List (ℕ × ℤ) → State → State
 with_settings settings s = record s { parameters = after_settings settings s.parameters }
 
--- a line: all values from the parameters before it, then its effects, then its settings
+-- what words with these values do, and no setting
+abbrev pub execute_words : Setup → List (Letter × ℤ) → State → Result State Fault
+execute_words setup words s = do
+  what ← effects_of s.modes words
+  run setup what s
+
+-- a line: all values from the parameters before it, then what its words do, then its settings
 abbrev pub execute : Setup → List Item → State → Result State Fault
 execute setup items s = do
   values ← faulted Value (line_values s.parameters items)
-  what ← effects_of s.modes values.0
-  t ← run setup what s
+  t ← execute_words setup values.0 s
   Ok (with_settings values.1 t)
 
 abbrev pub at_line : {A : Type 0} → ℕ → Result A Fault → Result A ProgramFault

@@ -10,11 +10,12 @@ ghost use Rattle.ngc_line_reader.specs.ProgramView.{text_in};
 ghost use Rattle.ngc_machine.specs.Machine.{file_of};
 ghost use Rattle.ngc_parameters.specs.Stored.{changes_of};
 ghost use Rattle.ngc_canonical.specs.Meaning.{effects_of as effects_in, execute as executed};
+ghost use Rattle.ngc_canonical.specs.Meaning.{execute_words as words_executed};
 ghost use Rattle.ngc_canonical.specs.Meaning.{with_settings, past_last, commands_of};
 ghost use Rattle.ngc_canonical.specs.Meaning.{GivesMeaning, GivesEffects, meaning, program_said};
 ghost use Rattle.ngc_canonical.specs.Meaning.{mark_of as marked_at};
 ghost use Rattle.ngc_canonical.specs.Interpreter.{setup_of, state_of, Becomes};
-ghost use Rattle.ngc_canonical.specs.Taken.{execute_words as words_executed, IsExecuted, IsTaken};
+ghost use Rattle.ngc_canonical.specs.Taken.{IsExecuted, IsTaken};
 ghost use Rattle.ngc_canonical.specs.Movement.{actions_of, ways_of, AreJoined};
 ghost use Rattle.ngc_canonical.specs.Joined.{HaveEvenRadii, EndIsLast, HasEnd};
 
@@ -96,11 +97,7 @@ impl<A: Allocator + Copy> Interpreter<A> {
             Ok(()) => {}
             Err(fault) => return Err(Refusal::Breaks(Fault::Value(fault))),
         }
-        match self.effects(values.words.as_slice(), effects) {
-            Ok(()) => {}
-            Err(fault) => return Err(Refusal::Breaks(fault)),
-        }
-        match self.run(machine, tools, effects.as_slice()) {
+        match self.execute_words(machine, tools, values.words.as_slice(), effects) {
             Ok(()) => {
                 self.set(&values.changes);
                 Ok(())

@@ -61,7 +61,7 @@ impl Nm {
         self.nanometres
     }
 
-    /// The sum, of lengths whose sum is one.
+    /// The sum, where it is at most 10^11 nm in size, as lengths are.
     pub fn plus(self, other: Nm) -> Nm
         requires { IsLength (self +ℤ other) }
         ensures { result ≡ self +ℤ other }
@@ -71,7 +71,7 @@ impl Nm {
         }
     }
 
-    /// What this length has beyond the other, where that is a length.
+    /// What this length has beyond the other, where that is at most 10^11 nm in size.
     pub fn minus(self, other: Nm) -> Nm
         requires { IsLength (self -ℤ other) }
         ensures { result ≡ self -ℤ other }

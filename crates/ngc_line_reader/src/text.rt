@@ -28,7 +28,7 @@ impl Scratch {
 
 // Most bytes: such a byte is kept as it is wherever it stands, and the next stands there too.
 #[inline]
-fn is_plain(byte: u8) -> bool
+fn is_kept_anywhere(byte: u8) -> bool
     ensures low { IsTrue result → 42 ≤ byte }
     ensures high { IsTrue result → byte ≤ 96 }
     ensures not_remark { IsTrue result → byte ≢ 59 }
@@ -122,7 +122,7 @@ pub(crate) fn fill_text(line: &[u8], bytes: &mut [u8; 256], columns: &mut [u16; 
     for i in 0..line.len() {
         let byte = line[i];
         let column = (i + 1) as u16;
-        if is_plain(byte) {
+        if is_kept_anywhere(byte) {
             bytes[length] = byte;
             columns[length] = column;
             length += 1;

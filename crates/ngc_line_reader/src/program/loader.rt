@@ -27,14 +27,14 @@ const LINES: usize = 100_000;
 
 /// The line that is read, and room for its text: made once for all lines.
 #[derive(Drop)]
-pub(crate) struct Reading {
+pub(crate) struct LineRoom {
     pub(crate) line: Line,
     pub(crate) scratch: Scratch,
 }
 
-impl Reading {
-    pub(crate) fn new() -> Reading {
-        Reading {
+impl LineRoom {
+    pub(crate) fn new() -> LineRoom {
+        LineRoom {
             line: Line::empty(),
             scratch: Scratch::new(),
         }
@@ -76,13 +76,13 @@ fn check_line(
     phase: Phase,
     done: usize,
     bytes: &[u8],
-    reading: &mut Reading,
+    room: &mut LineRoom,
 ) -> Result<u32, ReadFault>
     requires { done ≤ 100000 }
     ensures number { IfOk result (λ n. n ≡ number_in phase done) }
     ensures few { OnOk result (done < 100000) }
     ensures sound { OnOk result (fault_of done (line_of (number_in phase done) bytes.now) ≡ None) }
-    ensures held { OnOk result (line_read bytes.now ≡ Ok (said_of reading.new.line)) }
+    ensures held { OnOk result (line_read bytes.now ≡ Ok (said_of room.new.line)) }
     ensures refused { IfErr result
         (λ e. RefusedBy (fault_of done (line_of (number_in phase done) bytes.now)) e) }
 {
@@ -90,7 +90,7 @@ fn check_line(
         return Err(ReadFault::TooManyLines);
     }
     let number = phase.number(done);
-    match reading.line.read_into(bytes, &mut reading.scratch) {
+    match room.line.read_into(bytes, &mut room.scratch) {
         Ok(()) => Ok(number),
         Err(fault) => Err(ReadFault::Line(number, fault)),
     }
@@ -110,14 +110,14 @@ impl<A: Allocator> LinesSoFar<A> {
     }
 
     // The next line, which is no `%` line.
-    fn read_line(&mut self, bytes: &[u8], reading: &mut Reading) -> Result<(), ReadFault>
+    fn read_line(&mut self, bytes: &[u8], room: &mut LineRoom) -> Result<(), ReadFault>
         ensures taken { OnOk result (TakesLine self.old self.new bytes.now) }
         ensures refused { IfErr result
             (λ e. RefusedBy
             (fault_of (length (lines_in self.old.lines)) (next_line self.old bytes.now)) e) }
     {
-        match check_line(self.phase, self.lines.len(), bytes, reading) {
-            Ok(number) => match self.lines.push(number, bytes, &reading.line) {
+        match check_line(self.phase, self.lines.len(), bytes, room) {
+            Ok(number) => match self.lines.push(number, bytes, &room.line) {
                 Ok(()) => {
                     self.phase = self.phase.after(bytes);
                     Ok(())
@@ -145,7 +145,7 @@ impl<A: Allocator> LinesSoFar<A> {
     }
 
     // The next line.
-    fn take_line(&mut self, bytes: &[u8], reading: &mut Reading) -> Result<Step, ReadFault>
+    fn take_line(&mut self, bytes: &[u8], room: &mut LineRoom) -> Result<Step, ReadFault>
         ensures step { (ls : List (List ℕ)) →
             StepGives result (walked self.old (bytes.now ∷ ls)) (walked self.new ls)
             (ended self.new) }
@@ -156,7 +156,7 @@ impl<A: Allocator> LinesSoFar<A> {
         if is_percent(bytes) {
             return Ok(self.take_percent());
         }
-        match self.read_line(bytes, reading) {
+        match self.read_line(bytes, room) {
             Ok(()) => Ok(Step::More),
             Err(fault) => Err(fault),
         }
@@ -235,7 +235,7 @@ impl<A: Allocator> Loader<A> {
     }
 
     // The line that is cut ends here.
-    fn end_cut(&mut self, reading: &mut Reading) -> Result<Step, ReadFault>
+    fn end_cut(&mut self, room: &mut LineRoom) -> Result<Step, ReadFault>
         requires { IsLoading self.old }
         ensures step { (ls : List (List ℕ)) →
             StepGives result (walked self.old.found (self.old.cut.items ∷ ls))
@@ -244,7 +244,7 @@ impl<A: Allocator> Loader<A> {
         ensures quiet { IfErr result (λ e. IsOfLines e) }
         ensures progress { result ≡ Ok Step.More → room_of self.new + 1 ≤ room_of self.old }
     {
-        match self.found.take_line(self.cut.as_slice(), reading) {
+        match self.found.take_line(self.cut.as_slice(), room) {
             Ok(step) => {
                 self.cut.clear();
                 Ok(step)
@@ -254,7 +254,7 @@ impl<A: Allocator> Loader<A> {
     }
 
     // A piece that a line feed ends.
-    fn end_line(&mut self, piece: &[u8], reading: &mut Reading) -> Result<Step, ReadFault>
+    fn end_line(&mut self, piece: &[u8], room: &mut LineRoom) -> Result<Step, ReadFault>
         requires loading { IsLoading self.old }
         requires feedless { NoFeed piece.now }
         ensures step { (lines : List ℕ → List (List ℕ)) → PartsLines lines → (rest : List ℕ) →
@@ -266,16 +266,16 @@ impl<A: Allocator> Loader<A> {
             room_of self.new + length piece.now + 1 ≤ room_of self.old }
     {
         if self.cut.is_empty() {
-            return self.found.take_line(piece, reading);
+            return self.found.take_line(piece, room);
         }
         match self.keep(piece) {
-            Ok(()) => self.end_cut(reading),
+            Ok(()) => self.end_cut(room),
             Err(fault) => Err(fault),
         }
     }
 
     /// More bytes of the file.
-    pub(crate) fn feed(&mut self, chunk: &[u8], reading: &mut Reading) -> Result<Step, ReadFault>
+    pub(crate) fn feed(&mut self, chunk: &[u8], room: &mut LineRoom) -> Result<Step, ReadFault>
         requires { IsLoading self.old }
         ensures step { (lines : List ℕ → List (List ℕ)) → PartsLines lines → (rest : List ℕ) →
             StepGives result (resumed lines self.old (chunk.now ++ rest))
@@ -287,7 +287,7 @@ impl<A: Allocator> Loader<A> {
     {
         let mut rest = chunk;
         while let Some((piece, behind)) = split_line(rest) {
-            match self.end_line(piece, reading) {
+            match self.end_line(piece, room) {
                 Ok(Step::More) => rest = behind,
                 Ok(Step::End) => return Ok(Step::End),
                 Err(fault) => return Err(fault),
@@ -309,7 +309,7 @@ impl<A: Allocator> Loader<A> {
     }
 
     /// The program, where no byte comes any more.
-    pub(crate) fn finish(mut self, reading: &mut Reading) -> Result<Program<A>, ReadFault>
+    pub(crate) fn finish(mut self, room: &mut LineRoom) -> Result<Program<A>, ReadFault>
         requires { IsLoading self }
         ensures text { OutcomeIs result (resumed split_lines self []) }
         ensures readings { IfOk result (λ p. HaveReadings (text_in p).lines) }
@@ -319,7 +319,7 @@ impl<A: Allocator> Loader<A> {
             let Loader { found, cut: _ } = self;
             return found.finish();
         }
-        match self.end_cut(reading) {
+        match self.end_cut(room) {
             Ok(Step::More) => {
                 let Loader { found, cut: _ } = self;
                 found.finish()

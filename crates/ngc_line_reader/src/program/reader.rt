@@ -6,7 +6,7 @@ ghost use Rattle.ngc_line_reader.specs.declared.program.reader.State.TheVariants
 
 use crate::program::Program;
 use crate::program::fault::ReadFault;
-use crate::program::loader::{Loader, Reading, Step};
+use crate::program::loader::{LineRoom, Loader, Step};
 use std::alloc::Allocator;
 
 /// Whether the text goes on, has ended, or is refused.
@@ -32,7 +32,7 @@ pub enum State {
 #[derive(Drop)]
 pub struct ProgramReader<A: Allocator> {
     loader: Loader<A>,
-    reading: Reading,
+    room: LineRoom,
     state: State,
     ghost loading: { state ≡ Going → IsLoading loader } by { Prim.hlevel props },
     ghost no_device: { state ≢ Refused Device } by { Prim.hlevel props },
@@ -58,7 +58,7 @@ impl<A: Allocator> ProgramReader<A> {
     {
         ProgramReader {
             loader: Loader::new(alloc),
-            reading: Reading::new(),
+            room: LineRoom::new(),
             state: State::Going,
         }
     }
@@ -86,7 +86,7 @@ impl<A: Allocator> ProgramReader<A> {
             room_in self.new + length piece.now ≤ room_in self.old) }
     {
         match self.state {
-            State::Going => match self.loader.feed(piece, &mut self.reading) {
+            State::Going => match self.loader.feed(piece, &mut self.room) {
                 Ok(Step::More) => Ok(()),
                 Ok(Step::End) => {
                     self.state = State::Ended;
@@ -121,11 +121,11 @@ impl<A: Allocator> ProgramReader<A> {
     {
         let ProgramReader {
             loader,
-            mut reading,
+            mut room,
             state,
         } = self;
         match state {
-            State::Going => loader.finish(&mut reading),
+            State::Going => loader.finish(&mut room),
             State::Ended => Ok(loader.into_program()),
             State::Refused(fault) => Err(fault),
         }

@@ -1,6 +1,7 @@
-use super::checks::holds;
-use super::{LIST, NO_TEXTS, Texts, lists, outcome_of, refuses};
+use super::checks::{has_no_fault, holds};
+use super::{lists, refuses};
 use ngc_simulator::Options;
+use ngc_test_files::{LIST, NO_TEXTS, Texts, outcome_of};
 use std::test::Fail;
 
 const HOLES: &[(&str, &str)] = &[
@@ -126,7 +127,7 @@ fn the_most_commands(rt: HostRuntime) -> Result<(), Fail> {
         ..NO_TEXTS
     };
     let found = outcome_of(rt.alloc(), texts, &Options::List(LIST));
-    found.has_no_fault(&rt, "the most commands");
+    has_no_fault(&rt, &found, "the most commands");
     holds(
         &rt,
         &"output",

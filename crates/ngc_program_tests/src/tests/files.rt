@@ -1,9 +1,9 @@
-use super::checks::same;
-use super::runs::certificate_of;
-use super::{
-    LIST, MACHINE, NO_TEXTS, Outcome, RUN, SHORT_WAY, Texts, comes_to, on_the_mill, outcome_of,
-};
+use super::checks::{comes_to, has_no_fault, same};
 use ngc_simulator::{CertifyOptions, CheckOptions, Format, ListOptions, Options, RunOptions};
+use ngc_test_files::{
+    LIST, MACHINE, NO_TEXTS, Outcome, RUN, SHORT_WAY, Texts, certify_options, on_the_mill,
+    outcome_of,
+};
 use std::alloc::Global;
 use std::process::Abort;
 use std::test::Fail;
@@ -339,9 +339,11 @@ fn outcome_without(alloc: Global, call: Call, certificate: &[u8]) -> Outcome {
 
 #[test]
 fn files_that_are_not_there(rt: HostRuntime) {
-    let certificate = certificate_of(&rt, rt.alloc(), SHORT_WAY);
+    let options = Options::Certify(certify_options(8));
+    let made = outcome_of(rt.alloc(), on_the_mill(SHORT_WAY), &options);
+    has_no_fault(&rt, &made, SHORT_WAY);
     for (call, row) in NOT_THERE {
-        let found = outcome_without(rt.alloc(), *call, certificate.as_slice());
+        let found = outcome_without(rt.alloc(), *call, made.output.as_slice());
         same(&rt, &row, &found.status, &1);
         same(
             &rt,

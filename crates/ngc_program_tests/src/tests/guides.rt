@@ -1,8 +1,7 @@
 //! `ngc explain`, `ngc help` and `ngc version`, which read no file.
-use super::certificates::has_part;
-use super::checks::holds;
-use super::{NO_TEXTS, Outcome, comes_to, outcome_of};
+use super::checks::{comes_to, has_no_fault, holds};
 use ngc_simulator::Options;
+use ngc_test_files::{NO_TEXTS, Outcome, has_part, outcome_of};
 use std::alloc::Global;
 use std::process::Abort;
 use std::test::Fail;
@@ -121,7 +120,7 @@ fn explains_each_fault(rt: HostRuntime) -> Result<(), Fail> {
 // A help is that of the command alone, on standard output.
 fn helps(rt: &impl Abort, alloc: Global, command: Option<&str>, beginning: &str, usage: &str) {
     let found: Outcome = outcome_of(alloc, NO_TEXTS, &Options::Help(command));
-    found.has_no_fault(rt, usage);
+    has_no_fault(rt, &found, usage);
     let text = found.output.as_slice();
     holds(rt, &usage, text.starts_with(beginning.as_bytes()));
     holds(rt, &usage, has_part(text, usage.as_bytes()));

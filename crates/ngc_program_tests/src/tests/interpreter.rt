@@ -1,5 +1,7 @@
-use super::{LIST, NO_TEXTS, Texts, comes_to, lists, refuses};
+use super::checks::comes_to;
+use super::{lists, refuses};
 use ngc_simulator::{ListOptions, Options};
+use ngc_test_files::{LIST, NO_TEXTS, Texts};
 
 // Tool 1: 20 mm long, of 3 mm radius, offset 20 mm.
 const TOOLS: &[u8] = b"version = 1

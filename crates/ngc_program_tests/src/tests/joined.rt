@@ -1,7 +1,7 @@
 //! Certificates of version 2, as `ngc certify --format 2` writes them.
-use super::certificates::CHECK;
-use super::{SHORT_WAY, Texts, comes_to, on_the_mill};
+use super::checks::comes_to;
 use ngc_simulator::{CertifyOptions, Format, Options};
+use ngc_test_files::{CHECK, SHORT_WAY, Texts, on_the_mill};
 
 // A program, and its certificate.
 const ROWS: &[(&str, &str)] = &[

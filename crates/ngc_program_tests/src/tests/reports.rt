@@ -1,9 +1,11 @@
 //! `ngc report`: whole texts, with figures that were reckoned by hand.
-use super::checks::{holds, same};
-use super::{MACHINE, Outcome, SomeFiles, TOOLS, Text, Texts, on_the_mill, outcome_of, status_of};
+use super::checks::{ended, holds, same};
 use ngc_line_reader::ReadFault;
 use ngc_simulator::{Files, Options, ReportOptions, ShowOptions};
 use ngc_test_devices::FailingSink;
+use ngc_test_files::{
+    MACHINE, Outcome, SomeFiles, TOOLS, Text, Texts, on_the_mill, outcome_of, status_of,
+};
 use ngc_text::Device;
 use serde_json::Value;
 use std::alloc::Global;
@@ -617,7 +619,7 @@ fn are_reported(
 ) {
     for (machine, program, status, output, errors) in rows {
         let found = outcome_of(alloc, on(machine, program), &Options::Report(options));
-        found.is(rt, *status, output, errors, program);
+        ended(rt, &found, *status, output, errors, program);
     }
 }
 
@@ -673,7 +675,7 @@ fn are_refused(
             ..on_the_mill("M2\n")
         };
         let found = outcome_of(alloc, texts, options);
-        found.is(rt, 3, output, errors, errors);
+        ended(rt, &found, 3, output, errors, errors);
     }
 }
 
@@ -734,7 +736,7 @@ fn documents_are_json(rt: HostRuntime) -> Result<(), Fail> {
 fn a_program_that_is_not_there(rt: HostRuntime) {
     let options = Options::Report(report_options(Some("nowhere")));
     let found: Outcome = outcome_of(rt.alloc(), on_the_mill("M2\n"), &options);
-    found.is(&rt, 1, "", "ngc: fault 901\n", "nowhere");
+    ended(&rt, &found, 1, "", "ngc: fault 901\n", "nowhere");
     same(&rt, &"nowhere", &found.failures, &1);
 }
 
@@ -835,6 +837,6 @@ fn a_program_that_is_not_there_again(rt: HostRuntime) {
         errors: errors.into_inner(),
         failures: files.files.failures,
     };
-    found.is(&rt, 1, "", "ngc: fault 901\n", "opened again");
+    ended(&rt, &found, 1, "", "ngc: fault 901\n", "opened again");
     same(&rt, &"opened again", &found.failures, &1);
 }

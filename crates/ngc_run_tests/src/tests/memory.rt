@@ -1,11 +1,11 @@
 //! Each growth refused in turn: 900 with nothing written, and once there is memory the answer.
 use super::certificates::{BLOCK, POST, ROUND_THE_POST, SHORT_WAY_CERTIFICATE};
-use super::checks::{holds, same};
+use super::checks::{has_no_fault, holds, same};
 use super::jobs::{End, Job, Shop};
 use super::runs::{SHORT_WAY_EVENTS, SHORT_WAY_LOG, SHORT_WAY_REPORT};
-use super::{MACHINE, SHORT_WAY, TOOLS, Texts, certify_options, on_the_mill, outcome_of};
 use bumpalo::Bump;
 use ngc_simulator::{Machine, Options, Tools};
+use ngc_test_files::{MACHINE, SHORT_WAY, TOOLS, Texts, certify_options, on_the_mill, outcome_of};
 use ngc_text::Device;
 use std::alloc::Global;
 use std::process::Abort;
@@ -161,7 +161,7 @@ fn growths_refused_in_turn_round_a_fixture(rt: HostRuntime) -> Result<(), Fail> 
         ..on_the_mill(ROUND_THE_POST)
     };
     let made = outcome_of(rt.alloc(), texts, &Options::Certify(certify_options(8)));
-    made.has_no_fault(&rt, ROUND_THE_POST);
+    has_no_fault(&rt, &made, ROUND_THE_POST);
     let shop = shop_with(rt.alloc(), POST)?;
     let certificate = made.output.as_slice();
     let certify = Job::Certify(ROUND_THE_POST);

@@ -3,9 +3,11 @@ use super::certificates::SHORT_WAY_CERTIFICATE;
 use super::checks::{holds, same};
 use super::jobs::{End, Job};
 use super::runs::{SHORT_WAY_EVENTS, SHORT_WAY_LOG, certificate_of};
-use super::{NO_TEXTS, RUN, SHORT_WAY, SomeFiles, Texts, on_the_mill, outcome_of, status_of};
 use ngc_simulator::Options;
 use ngc_test_devices::FailingSink;
+use ngc_test_files::{
+    NO_TEXTS, RUN, SHORT_WAY, SomeFiles, Texts, on_the_mill, outcome_of, status_of,
+};
 use ngc_text::Device;
 use std::alloc::Global;
 use std::process::Abort;

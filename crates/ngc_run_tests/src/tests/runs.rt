@@ -1,10 +1,10 @@
-use super::certificates::{NO_MOTIONS, has_part};
-use super::checks::{holds, same};
-use super::{
-    MACHINE, Outcome, RUN, SHORT_WAY, Texts, certify_options, comes_to, on_the_mill, outcome_of,
-};
+use super::certificates::NO_MOTIONS;
+use super::checks::{comes_to, has_no_fault, holds, same};
 use ngc_fixed_length::StepPos;
 use ngc_simulator::{Options, Recording, Report, RunOptions, RunThroughOptions};
+use ngc_test_files::{
+    MACHINE, Outcome, RUN, SHORT_WAY, Texts, certify_options, has_part, on_the_mill, outcome_of,
+};
 use std::alloc::Global;
 use std::process::Abort;
 use std::test::Fail;
@@ -25,7 +25,7 @@ pub(super) const SHORT_WAY_REPORT: Report = Report {
 pub(super) fn certificate_of(rt: &impl Abort, alloc: Global, program: &str) -> Vec<u8> {
     let options = Options::Certify(certify_options(8));
     let found = outcome_of(alloc, on_the_mill(program), &options);
-    found.has_no_fault(rt, program);
+    has_no_fault(rt, &found, program);
     found.output
 }
 
@@ -120,7 +120,7 @@ fn a_millimetre_in_a_thousand_ticks(rt: HostRuntime) -> Result<(), Fail> {
         ..on_the_mill(program)
     };
     let found = outcome_of(rt.alloc(), texts, &Options::Run(RUN));
-    found.has_no_fault(&rt, program);
+    has_no_fault(&rt, &found, program);
     holds(
         &rt,
         &program,
@@ -147,7 +147,7 @@ fn a_motion_that_is_held_up_again_and_again_ends(rt: HostRuntime) -> Result<(), 
             ..on_the_mill(SHORT_WAY)
         };
         let found = outcome_of(rt.alloc(), texts, &Options::Run(RUN));
-        found.has_no_fault(&rt, "unrest");
+        has_no_fault(&rt, &found, "unrest");
         holds(
             &rt,
             &"unrest",

@@ -1,6 +1,8 @@
-use super::checks::holds;
-use super::{MACHINE, SHORT_WAY, Texts, certify_options, comes_to, on_the_mill, outcome_of};
+use super::checks::{comes_to, has_no_fault, holds};
 use ngc_simulator::{CheckOptions, Options};
+use ngc_test_files::{
+    CHECK, MACHINE, SHORT_WAY, Texts, certify_options, has_part, on_the_mill, outcome_of,
+};
 use std::alloc::Global;
 use std::process::Abort;
 use std::test::Fail;
@@ -62,13 +64,6 @@ pub(super) const SHORT_WAY_CERTIFICATE: &[u8] = b"ngc-certificate 1\n\
 pub(super) const NO_MOTIONS: &str = "ngc-certificate 1\nsetting off 0\nsetting on 0\nend\n";
 
 const ACCEPTED: &str = "accepted\n";
-
-pub(super) const CHECK: CheckOptions<'static> = CheckOptions {
-    machine: "machine",
-    tools: "tools",
-    certificate: "certificate",
-    program: None,
-};
 
 // The certificate with these motions at either setting of block delete.
 pub(super) fn certificate_with(alloc: Global, off: &str, on: &str) -> Result<String, Fail> {
@@ -513,10 +508,6 @@ const CUT_ARCS: &[(&str, u16, &[u8])] = &[
     ),
 ];
 
-pub(super) fn has_part(text: &[u8], part: &[u8]) -> bool {
-    text.windows(part.len().max(1)).any(|window| window == part)
-}
-
 // What is made for them is accepted.
 fn is_cut_and_accepted(
     rt: &impl Abort,
@@ -531,7 +522,7 @@ fn is_cut_and_accepted(
         ..on_the_mill(program)
     };
     let found = outcome_of(alloc, texts, &Options::Certify(certify_options(cuts)));
-    found.has_no_fault(rt, program);
+    has_no_fault(rt, &found, program);
     holds(rt, &program, has_part(found.output.as_slice(), beginning));
     let texts = Texts {
         certificate: found.output.as_slice(),
@@ -613,7 +604,7 @@ fn the_most_lines(alloc: Global) -> Result<String, Fail> {
 
 fn certifies_the_most(rt: &impl Abort, alloc: Global, texts: Texts<'_>) {
     let found = outcome_of(alloc, texts, &Options::Certify(certify_options(8)));
-    found.has_no_fault(rt, "the most commands");
+    has_no_fault(rt, &found, "the most commands");
     let beginning = b"ngc-certificate 1\nsetting off 999900\nmotion 0 1\n";
     holds(
         rt,

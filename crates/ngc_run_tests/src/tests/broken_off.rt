@@ -1,13 +1,13 @@
 //! Files that break off: sources that fail at each byte in turn, and files of which only a
 //! beginning is there.
-use super::certificates::{CHECK, POST, ROUND_THE_POST};
-use super::checks::same;
-use super::{
-    LIST, MACHINE, RUN, Texts, certify_options, comes_to, on_the_mill, outcome_of, status_of,
-};
+use super::certificates::{POST, ROUND_THE_POST};
+use super::checks::{comes_to, has_no_fault, same};
 use ngc_line_reader::ReadFault;
 use ngc_simulator::{Files, ListOptions, Options};
 use ngc_test_devices::SlowSource;
+use ngc_test_files::{
+    CHECK, LIST, MACHINE, RUN, Texts, certify_options, on_the_mill, outcome_of, status_of,
+};
 use ngc_text::Device;
 use std::alloc::Global;
 use std::process::Abort;
@@ -161,7 +161,7 @@ fn certificate_of_the_way(rt: &impl Abort, alloc: Global, machine: &str) -> Vec<
         ..on_the_mill(ROUND_THE_POST)
     };
     let made = outcome_of(alloc, texts, &Options::Certify(certify_options(8)));
-    made.has_no_fault(rt, ROUND_THE_POST);
+    has_no_fault(rt, &made, ROUND_THE_POST);
     made.output
 }
 

@@ -1,5 +1,4 @@
 //! The controller event by event: what it answers, where it stands, and its rates.
-use super::SHORT_WAY;
 use super::checks::{holds, same};
 use super::jobs::{End, Job, Shop, certify_text, written_by};
 use super::runs::{SHORT_WAY_EVENTS, SHORT_WAY_LOG, SHORT_WAY_REPORT};
@@ -10,6 +9,7 @@ use ngc_simulator::{
     Accepted, ArcPath, Certificate, Controller, Ending, Event, EventFault, Reply, Tools,
     built_in_machine, check, read_events, run,
 };
+use ngc_test_files::SHORT_WAY;
 use ngc_text::Device;
 use std::alloc::{Allocator, Global};
 use std::process::Abort;

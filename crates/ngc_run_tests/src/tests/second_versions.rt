@@ -1,7 +1,8 @@
 //! Files of version 2: tools of several parts, and a rate for each axis.
-use super::certificates::{BLOCK, CHECK, certificate_with};
-use super::{MACHINE, RUN, Texts, certify_options, comes_to, on_the_mill, outcome_of};
+use super::certificates::{BLOCK, certificate_with};
+use super::checks::{comes_to, has_no_fault};
 use ngc_simulator::Options;
+use ngc_test_files::{CHECK, MACHINE, RUN, Texts, certify_options, on_the_mill, outcome_of};
 use std::test::Fail;
 
 // A cutter of 40 mm in a holder of 20 mm, which ends at the controlled point.
@@ -130,7 +131,7 @@ fn rates_of_axes(rt: HostRuntime) {
             ..on_the_mill(program)
         };
         let certified = outcome_of(rt.alloc(), texts, &Options::Certify(certify_options(8)));
-        certified.has_no_fault(&rt, program);
+        has_no_fault(&rt, &certified, program);
         let texts = Texts {
             certificate: certified.output.as_slice(),
             ..texts

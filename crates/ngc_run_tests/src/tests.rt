@@ -1,0 +1,10 @@
+mod broken_off;
+mod certificates;
+mod checks;
+mod controller;
+mod jobs;
+mod looking_ahead;
+mod memory;
+mod runs;
+mod second_versions;
+mod sinks;
