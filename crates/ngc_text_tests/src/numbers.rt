@@ -67,6 +67,15 @@ fn lengths_round_to_nanometres_and_grid_points(rt: HostRuntime) -> Result<(), Fa
     Ok(())
 }
 
+#[test]
+fn lengths_are_added_and_subtracted(rt: HostRuntime) -> Result<(), Fail> {
+    let two = Nm::from_nanometres(2)?;
+    let five = Nm::from_nanometres(5)?;
+    same(&rt, &"2 + 5", &two.plus(five).nanometres(), &7);
+    same(&rt, &"2 - 5", &two.minus(five).nanometres(), &-3);
+    Ok(())
+}
+
 const MOST: u128 = 100_000_000_000_000_000_000_000_000_000_000_000_000;
 
 // Squares with the roots below and above.
