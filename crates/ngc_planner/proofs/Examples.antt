@@ -1,22 +1,26 @@
 -- Caps, bounds and braking on worked motions, by computing the definitions.
-use Rattle.std.proofs.Common.{◌≡◌, ℕ, ℤ, pos, Bool, true, false, [], ◌∷◌, refl}
+use Rattle.std.proofs.Common.{◌≡◌, ℕ, ℤ, pos, negsuc, Bool, true, false, [], ◌∷◌, refl}
 use Rattle.ngc_fixed_length.specs.Roots.{whole_root, whole_root_above}
-use Rattle.ngc_fixed_length.specs.declared.modes.Plane.TheVariants.{XY}
-use Rattle.ngc_fixed_length.specs.declared.modes.Turn.TheVariants.{Clockwise}
+use Rattle.ngc_fixed_length.specs.declared.modes.Plane.TheVariants.{XY, ZX, YZ}
+use Rattle.ngc_fixed_length.specs.Places.{plus, zero_point}
+use Rattle.ngc_fixed_length.specs.declared.modes.Turn.{Turn}
+use Rattle.ngc_fixed_length.specs.declared.modes.Turn.TheVariants.{Clockwise, Counterclockwise}
 use Rattle.ngc_fixed_length.specs.declared.points.Point3.{Point3}
 use Rattle.ngc_arc_geometry.specs.Shape.{ArcShape}
-use Rattle.ngc_machine.specs.Machine.{built_in_machine}
+use Rattle.ngc_machine.specs.Machine.{MachineFile, built_in_machine}
 use Rattle.ngc_canonical.specs.declared.command.Action.{Action}
 use Rattle.ngc_canonical.specs.declared.command.Action.TheVariants.{Move}
 use Rattle.ngc_canonical.specs.declared.movement.Feed.{Feed}
 use Rattle.ngc_canonical.specs.declared.movement.Feed.TheVariants.{PerMinute, Inverse}
 use Rattle.ngc_canonical.specs.declared.movement.Pace.TheVariants as paces
+use Rattle.ngc_canonical.specs.declared.movement.Way.{Way}
 use Rattle.ngc_canonical.specs.declared.movement.Way.TheVariants as ways
 use Rattle.ngc_planner.specs.Braking.{braking, braking_terms}
 use Rattle.ngc_planner.specs.Caps.{cap_of}
 use Rattle.ngc_planner.specs.Bounds.{turn_rate, bound_of, target_at, least_travel}
 use Rattle.ngc_planner.specs.Joints.{joint_of}
 use Rattle.ngc_planner.specs.Reach.{reach, free}
+use Rattle.ngc_planner.specs.Room.{has_room}
 use Rattle.ngc_planner.specs.declared.leg.Leg.{Leg}
 
 abbrev at : ℤ → ℤ → ℤ → Point3
@@ -121,3 +125,134 @@ free_above_corner = refl
 
 free_slow : free 20000 7 (leg 1000000 400000 50000 false) (leg 2000000 400000 50000 true ∷ leg 3000000 20000 1000000 true ∷ []) ≡ 5000007
 free_slow = refl
+
+-- from 60,000 to 50,000 within the leg, though not to 0
+room_at_corner : has_room 60000 1000 610000 (leg 1000000 400000 50000 false) (leg 2000000 400000 50000 true ∷ []) ≡ true
+unfolding braking_terms
+room_at_corner = refl
+
+no_room_at_corner : has_room 60000 1000 600000 (leg 1000000 400000 50000 false) (leg 2000000 400000 50000 true ∷ []) ≡ false
+unfolding braking_terms
+no_room_at_corner = refl
+
+-- the way that is known ends after 1.6 path steps
+no_room_to_stop : has_room 60000 1000 610000 (leg 1000000 400000 50000 false) (leg 1000000 400000 50000 true ∷ []) ≡ false
+unfolding braking_terms
+no_room_to_stop = refl
+
+-- ---- joints by headings
+
+-- the built-in machine, with a corner of 5,000 and a jump
+abbrev jumping : ℕ → MachineFile
+jumping jump = record {
+  step = pos 10000;
+  ticks_per_second = 10000;
+  max_rate = 400000;
+  axis_rates = record { x = 1000000; y = 1000000; z = 1000000 };
+  change = 1000;
+  corner = 5000;
+  jump = jump;
+  turn = 1000000000;
+  low = record { x = pos 0; y = pos 0; z = negsuc 99999999 };
+  high = record { x = pos 300000000; y = pos 300000000; z = pos 0 };
+  start = zero_point;
+  home28 = zero_point;
+  home30 = zero_point;
+  origins = [];
+  fixtures = [];
+}
+
+-- from zero along a vector, and on along another one
+abbrev lines : Point3 → Point3 → Way × Way
+lines p q = (ways.Line (at (pos 0) (pos 0) (pos 0)) p, ways.Line p (plus p q))
+
+abbrev joint_along : ℕ → Way × Way → ℕ
+joint_along jump two = joint_of (jumping jump) (Move (record { way = two.0; pace = paces.Rapid; stop = false }))
+    (Move (record { way = two.1; pace = paces.Rapid; stop = false }))
+
+-- a right angle is taken at the jump, a reversal at half of it, and no joint below the corner
+joint_right : joint_along 20000 (lines (at (pos 1000000) (pos 0) (pos 0)) (at (pos 0) (pos 3000000) (pos 0))) ≡ 20000
+joint_right = refl
+
+joint_reversed : joint_along 20000 (lines (at (pos 1000000) (pos 0) (pos 0)) (at (negsuc 2999999) (pos 0) (pos 0))) ≡ 10000
+joint_reversed = refl
+
+joint_low : joint_along 8000 (lines (at (pos 1000000) (pos 0) (pos 0)) (at (negsuc 2999999) (pos 0) (pos 0))) ≡ 5000
+joint_low = refl
+
+-- one degree
+joint_degree : joint_along 10000 (lines (at (pos 1000000) (pos 0) (pos 0)) (at (pos 1000000) (pos 17455) (pos 0))) ≡ 572901
+joint_degree = refl
+
+-- 45 degrees in space, and half a degree, which no rate is too fast for
+joint_slanted : joint_along 20000 (lines (at (pos 1000000) (pos 0) (pos 0)) (at (pos 2000000) (pos 0) (negsuc 1999999))) ≡ 20000
+joint_slanted = refl
+
+joint_slight : joint_along 20000 (lines (at (pos 1000000) (pos 0) (pos 0)) (at (pos 1000000) (pos 8727) (pos 0))) ≡ 1000000
+joint_slight = refl
+
+-- lines that go straight on, of lengths that share no factor
+joint_onward : joint_along 1 (lines (at (pos 3000001) (pos 6000002) (negsuc 9000002)) (at (pos 7) (pos 14) (negsuc 20))) ≡ 1000000
+joint_onward = refl
+
+-- from zero about a point on the y axis, as a line along the x axis meets it, and another level arc
+abbrev bow : Turn → ℤ → ArcShape
+bow turn centre = record { plane = XY; turn = turn; start = at (pos 0) (pos 0) (pos 0); end = at (pos 5000000) centre (pos 0); centre = record { u = pos 0; v = centre } }
+
+abbrev from_left : Way
+from_left = ways.Line (at (negsuc 9999999) (pos 0) (pos 0)) (at (pos 0) (pos 0) (pos 0))
+
+-- a line that runs into an arc along its tangent, and one that the arc turns back
+joint_tangent : joint_along 1 (from_left, ways.Arc (bow Clockwise (negsuc 4999999))) ≡ 1000000
+joint_tangent = refl
+
+joint_tangent_other : joint_along 1 (from_left, ways.Arc (bow Counterclockwise (pos 5000000))) ≡ 1000000
+joint_tangent_other = refl
+
+joint_cusp : joint_along 20000 (from_left, ways.Arc (bow Counterclockwise (negsuc 4999999))) ≡ 10000
+joint_cusp = refl
+
+-- the quarter of a circle ends along the y axis
+joint_left : joint_along 1 (ways.Arc (bow Counterclockwise (pos 5000000)), ways.Line (at (pos 5000000) (pos 5000000) (pos 0)) (at (pos 5000000) (pos 9000000) (pos 0))) ≡ 1000000
+joint_left = refl
+
+joint_left_aside : joint_along 20000 (ways.Arc (bow Counterclockwise (pos 5000000)), ways.Line (at (pos 5000000) (pos 5000000) (pos 0)) (at (pos 9000000) (pos 5000000) (pos 0))) ≡ 20000
+joint_left_aside = refl
+
+-- in the plane of z and x counterclockwise is from z to x: from the x axis it goes against z; in that
+-- of y and z from z against y
+joint_zx : joint_along 1 (
+  ways.Line (at (pos 5000000) (pos 0) (pos 9)) (at (pos 5000000) (pos 0) (pos 0)),
+  ways.Arc (record { plane = ZX; turn = Counterclockwise; start = at (pos 5000000) (pos 0) (pos 0); end = at (pos 0) (pos 0) (negsuc 4999999); centre = record { u = pos 0; v = pos 0 } }),
+) ≡ 1000000
+joint_zx = refl
+
+joint_yz : joint_along 1 (
+  ways.Line (at (pos 0) (pos 9) (pos 5000000)) (at (pos 0) (pos 0) (pos 5000000)),
+  ways.Arc (record { plane = YZ; turn = Counterclockwise; start = at (pos 0) (pos 0) (pos 5000000); end = at (pos 0) (negsuc 4999999) (pos 0); centre = record { u = pos 0; v = pos 0 } }),
+) ≡ 1000000
+joint_yz = refl
+
+-- and one that ends at another height
+abbrev helix : ArcShape
+helix = record { plane = XY; turn = Clockwise; start = at (pos 0) (pos 0) (pos 0); end = at (pos 5000000) (negsuc 4999999) (pos 1); centre = record { u = pos 0; v = negsuc 4999999 } }
+
+-- a helix has no heading, nor has a motion of no length
+joint_helix : joint_along 20000 (from_left, ways.Arc helix) ≡ 5000
+joint_helix = refl
+
+joint_after_helix : joint_along 20000 (ways.Arc helix, ways.Line (at (pos 5000000) (negsuc 4999999) (pos 1)) (at (pos 5000000) (negsuc 5999999) (pos 1))) ≡ 5000
+joint_after_helix = refl
+
+joint_still : joint_along 20000 (lines (at (pos 0) (pos 0) (pos 0)) (at (pos 1000000) (pos 0) (pos 0))) ≡ 5000
+joint_still = refl
+
+-- without a jump the corner alone rules, also along a tangent and at the slightest turn
+joint_plain_tangent : joint_along 0 (from_left, ways.Arc (bow Clockwise (negsuc 4999999))) ≡ 5000
+joint_plain_tangent = refl
+
+joint_plain_slight : joint_along 0 (lines (at (pos 100000000) (pos 0) (pos 0)) (at (pos 100000000) (pos 1) (pos 0))) ≡ 5000
+joint_plain_slight = refl
+
+joint_plain_onward : joint_along 0 (lines (at (pos 3000001) (pos 6000002) (negsuc 9000002)) (at (pos 7) (pos 14) (negsuc 20))) ≡ 1000000
+joint_plain_onward = refl

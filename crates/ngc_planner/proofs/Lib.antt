@@ -10,11 +10,19 @@ pub mod CoastLaws
 pub mod CoordinateLaws
 -- Caps, bounds and braking on worked motions, by computing the definitions.
 pub mod Examples
+-- How large the coordinates of headings are, and how near they are to the vector's.
+pub mod HeadingLaws
+-- Vectors that are positive multiples of each other.
+pub mod StraightLaws
+-- How much the rates of axes change at a joint.
+pub mod JointLaws
 -- Points with equal coordinates are equal.
 pub mod Points
 -- A tick of a ramp: that its rate is allowed, and what is kept.
 pub mod RampLaws
--- How far the way is free: for a slower rate, for more legs, and after a tick.
+-- How far the way is free.
 pub mod ReachLaws
+-- Room to brake: of a rate that is free, for more legs, and after a tick.
+pub mod RoomLaws
 -- What the fields of a ramp stand for after a load and after a tick.
 pub mod StateLaws

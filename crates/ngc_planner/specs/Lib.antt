@@ -2,9 +2,11 @@ pub mod Axes
 pub mod Braking
 pub mod Caps
 pub mod Bounds
+pub mod Headings
 pub mod Joints
 pub mod Pulses
 pub mod Leg
 pub mod Reach
+pub mod Room
 pub mod Ramp
 pub mod Inside
