@@ -1,0 +1,156 @@
+//! Memory that is refused to what reads texts and expands cycles, and sources without end.
+use crate::checks::{holds, same};
+use linked_list_allocator::LocalHeap;
+use ngc_canned_cycles::{Cycle, CycleFault, Hole, Start, expand};
+use ngc_events::{EventsFault, read_events};
+use ngc_fixed_length::{Distance, FeedMode, Nm, Plane, Point3, ReturnMode};
+use ngc_line_reader::{Program, ReadFault};
+use ngc_machine::Tools;
+use ngc_test_devices::EndlessSource;
+use ngc_text::{Device, InputFault, PULL_SIZE, read_whole};
+use std::alloc::{AllocError, Global};
+use std::process::Abort;
+use std::test::Fail;
+
+// What is read with the memory of a heap.
+#[derive(Clone, Copy, Debug)]
+enum Job {
+    Events,
+    File,
+    Program,
+}
+
+// Each job with its piece of text, how often that stands, how many events, bytes or lines are read,
+// and in which steps its heap grows.
+const JOBS: &[(Job, &str, usize, usize, usize)] = &[
+    (Job::Events, "load\n", 1_000, 1_000, 2_048),
+    (
+        Job::File,
+        "0123456789abcdef",
+        PULL_SIZE / 8,
+        2 * PULL_SIZE,
+        8_192,
+    ),
+    (Job::Program, "G1 X2 Y3 F100\nX4\n\n", 2, 6, 16),
+];
+
+// How much was read; where memory was refused, nothing.
+fn read_in(heap: &LocalHeap, job: Job, text: &[u8]) -> Option<usize> {
+    match job {
+        Job::Events => match read_events(heap, text) {
+            Ok(events) => Some(events.len()),
+            Err(EventsFault::Memory) => None,
+            Err(_) => Some(0),
+        },
+        Job::File => match read_whole(heap, &mut Device::new(text), 1_000_000) {
+            Ok(bytes) if bytes.as_slice() == text => Some(bytes.len()),
+            Err(InputFault::Memory) => None,
+            _ => Some(0),
+        },
+        Job::Program => match Program::read(heap, &mut Device::new(text)) {
+            Ok(program) => Some(program.len()),
+            Err(ReadFault::Memory) => None,
+            Err(_) => Some(0),
+        },
+    }
+}
+
+// In heaps of more and more steps: refused at first, and from some heap on done. No memory is kept.
+fn grows(
+    rt: &impl Abort,
+    alloc: Global,
+    (job, text, wanted, step): (Job, &str, usize, usize),
+) -> Result<(), Fail> {
+    let mut refused = 0u32;
+    let mut done = 0u32;
+    for steps in 1..80usize {
+        let heap = LocalHeap::new(alloc, steps.saturating_mul(step))?;
+        match read_in(&heap, job, text.as_bytes()) {
+            None => {
+                refused = refused.saturating_add(1);
+                same(rt, &(job, steps), &done, &0);
+            }
+            Some(count) => {
+                done = done.saturating_add(1);
+                same(rt, &(job, steps), &count, &wanted);
+            }
+        }
+        same(rt, &(job, steps), &heap.used(), &0);
+    }
+    holds(rt, &job, refused > 0 && done > 0);
+    Ok(())
+}
+
+#[test]
+fn refused_memory_is_told(rt: HostRuntime) -> Result<(), Fail> {
+    for (job, piece, times, wanted, step) in JOBS {
+        let text = piece.repeat(rt.alloc(), *times)?;
+        grows(&rt, rt.alloc(), (*job, text.as_str(), *wanted, *step))?;
+    }
+    Ok(())
+}
+
+// How many moves a hole of a millimetre has, with pecks of a micrometre or in one.
+fn moves_in(heap: &LocalHeap, hole: Hole) -> Result<Result<usize, CycleFault>, Fail> {
+    let cycle = Cycle {
+        hole,
+        plane: Plane::XY,
+        distance: Distance::Absolute,
+        clear: ReturnMode::Series,
+        feed_mode: FeedMode::PerMinute,
+        u: Some(Nm::from_nanometres(1_000_000)?),
+        v: None,
+        retract: Nm::zero(),
+        bottom: Nm::from_nanometres(-1_000_000)?,
+        repeats: None,
+    };
+    let start = Start {
+        place: Point3 {
+            x: Nm::zero(),
+            y: Nm::zero(),
+            z: Nm::zero(),
+        },
+        series: Nm::zero(),
+        turning: false,
+    };
+    cycle.check(&start)?;
+    if cycle.repeats() < 1 || !cycle.is_in_range(&start) {
+        return Err(Fail::new("the test's cycle is out of range"));
+    }
+    Ok(expand(heap, &cycle, &start, 1).map(|moves| moves.len()))
+}
+
+#[test]
+fn only_many_pecks_need_memory(rt: HostRuntime) -> Result<(), Fail> {
+    let heap = LocalHeap::new(rt.alloc(), 64)?;
+    same(&rt, &"a hole", &moves_in(&heap, Hole::Drill)?, &Ok(3));
+    let peck = Hole::Peck(Nm::from_nanometres(1_000)?);
+    same(
+        &rt,
+        &"pecks",
+        &moves_in(&heap, peck)?,
+        &Err(CycleFault::Memory),
+    );
+    Ok(())
+}
+
+#[test]
+fn an_empty_tool_table_takes_no_memory(rt: HostRuntime) -> Result<(), AllocError> {
+    let heap = LocalHeap::new(rt.alloc(), 512)?;
+    let copy = Tools::empty(&heap).copy(&heap)?;
+    holds(&rt, &"copy", copy.tools().is_empty());
+    same(&rt, &"used", &heap.used(), &0);
+    Ok(())
+}
+
+const LIMITS: &[usize] = &[0, 1_000_000];
+
+#[test]
+fn a_file_without_end(rt: HostRuntime) {
+    for limit in LIMITS {
+        let mut source = EndlessSource::new(b"", 0);
+        let fault = read_whole(rt.alloc(), &mut source, *limit).err();
+        same(&rt, limit, &fault, &Some(InputFault::TooLong));
+        holds(&rt, limit, source.given <= (*limit + PULL_SIZE) as u64);
+    }
+}

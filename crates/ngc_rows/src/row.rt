@@ -1,0 +1,144 @@
+use crate::directive::Role;
+use crate::files::RowFiles;
+use crate::text::{Text, around};
+use ngc_simulator::{Options, UsageFault, answer, read_options};
+use ngc_test_devices::FailingSink;
+use serde_json::Value;
+use std::alloc::{AllocError, Global};
+
+/// What the program prints, and its status.
+#[derive(Drop)]
+pub struct Outcome {
+    pub status: u8,
+    pub output: Vec<u8>,
+    pub errors: Vec<u8>,
+}
+
+/// A device that fails, by its name.
+#[derive(Drop)]
+struct Failing {
+    name: String,
+    place: usize,
+}
+
+/// The words of a command line, the files that they name, and what is wanted.
+#[derive(Drop)]
+pub struct Row {
+    /// The line on which the row begins.
+    pub line: u32,
+    pub words: String,
+    pub texts: Vec<Text>,
+    pub status: u8,
+    pub is_json: bool,
+    /// The name under which what the row prints is kept.
+    pub kept: Option<String>,
+    failing: Vec<Failing>,
+    once: Vec<String>,
+}
+
+// `answer` without its clauses: they would make the proofs of its callers longer.
+fn outcome_of(alloc: Global, row: &Row, shared: &[Text], options: &Options<'_>) -> Outcome {
+    let mut files = RowFiles::new(alloc, row, shared);
+    let mut output = sink(alloc, row.failing("output"));
+    let mut errors = sink(alloc, row.failing("errors"));
+    let status = answer(alloc, options, &mut files, &mut output, &mut errors);
+    Outcome {
+        status,
+        output: output.taken,
+        errors: errors.taken,
+    }
+}
+
+// A sink that takes this number of bytes and then fails.
+fn sink(alloc: Global, bytes: usize) -> FailingSink {
+    let most = if bytes == usize::MAX { bytes } else { 1 };
+    FailingSink::new(alloc, bytes, most)
+}
+
+// Whether one of the lines of a text stands, or doesn't stand, in what was printed, as it should.
+fn has_lines(found: &[u8], lines: &[u8], wanted: bool) -> bool {
+    let lines = lines.strip_suffix(b"\n").unwrap_or(lines);
+    lines
+        .split(|byte| *byte == b'\n')
+        .all(|line| around(found, line).is_some() == wanted)
+}
+
+impl Row {
+    pub fn new(alloc: Global, line: u32, words: &str) -> Result<Row, AllocError> {
+        Ok(Row {
+            line,
+            words: words.to_string(alloc)?,
+            texts: Vec::new(alloc),
+            status: 0,
+            is_json: false,
+            kept: None,
+            failing: Vec::new(alloc),
+            once: Vec::new(alloc),
+        })
+    }
+
+    /// Lets the device of that name fail at a byte.
+    pub fn fail(&mut self, alloc: Global, name: &str, place: usize) -> Result<(), AllocError> {
+        let name = name.to_string(alloc)?;
+        self.failing.push(Failing { name, place })?;
+        Ok(())
+    }
+
+    /// Lets the file of that name be opened once.
+    pub fn open_once(&mut self, alloc: Global, name: &str) -> Result<(), AllocError> {
+        self.once.push(name.to_string(alloc)?)?;
+        Ok(())
+    }
+
+    /// The byte at which the device of that name fails.
+    pub fn failing(&self, name: &str) -> usize {
+        self.failing
+            .iter()
+            .find(|failing| failing.name.as_str() == name)
+            .map_or(usize::MAX, |failing| failing.place)
+    }
+
+    /// Whether the file of that name can be opened once.
+    pub fn is_once(&self, name: &str) -> bool {
+        self.once.iter().any(|once| once.as_str() == name)
+    }
+
+    /// Runs the program on the row's files, and on those that rows share.
+    pub fn outcome(&self, alloc: Global, shared: &[Text]) -> Result<Outcome, AllocError> {
+        let words: Vec<&str> = self.words.as_str().split_whitespace().collect(alloc)?;
+        match read_options(alloc, words.as_slice()) {
+            Ok(options) => Ok(outcome_of(alloc, self, shared, &options)),
+            Err(UsageFault::Usage(text)) => Ok(Outcome {
+                status: 2,
+                output: Vec::new(alloc),
+                errors: text.as_bytes().to_vec(alloc)?,
+            }),
+            Err(UsageFault::Memory) => Err(AllocError),
+        }
+    }
+
+    /// Whether a stream is what the row wants of it.
+    pub fn is_wanted(&self, name: &str, found: &[u8]) -> bool {
+        let mut is_named = found.is_empty();
+        for text in self.texts.iter().filter(|text| text.name.as_str() == name) {
+            let bytes = text.bytes.as_slice();
+            let holds = match text.role {
+                Role::Is => found == bytes,
+                Role::Has => has_lines(found, bytes, true),
+                Role::Lacks => has_lines(found, bytes, false),
+                Role::File | Role::Shared => true,
+            };
+            if !holds {
+                return false;
+            }
+            is_named = is_named || matches!(text.role, Role::Is | Role::Has);
+        }
+        is_named
+    }
+
+    /// Whether what was printed is a document, where the row wants one.
+    pub fn is_document(&self, alloc: Global, found: &[u8]) -> bool {
+        !self.is_json
+            || std::str::from_utf8(found).is_ok_and(|text| Value::from_str(alloc, text).is_ok())
+    }
+}
