@@ -14,7 +14,7 @@ const SQUARE_LIMIT: u128 = 4_000_000_000_000_000_000;
 ///
 /// The radii at start and end are above 0, at most 2*10^9 nm but for the rounding of the centre,
 /// and nearly equal.
-#[derive(Clone, Copy, Debug, PartialEq, Eq)]
+#[derive(Clone, Copy, PartialEq, Eq)]
 pub struct Arc {
     plane: Plane,
     turn: Turn,

@@ -14,7 +14,7 @@ use ngc_fixed_length::{GridBox, Nm, Point2};
 use std::marker::Model;
 
 /// An arc on a grid, with what the pieces share that it is cut into.
-#[derive(Debug, Drop)]
+#[derive(Drop)]
 pub struct GridArc {
     arc: Arc,
     step: Nm,

@@ -28,7 +28,7 @@ impl Span {
 }
 
 /// From a first to a last grid point, both included, in steps.
-#[derive(Clone, Copy, Debug)]
+#[derive(Clone, Copy)]
 pub(crate) struct GridRange {
     pub(crate) low: i32,
     pub(crate) high: i32,

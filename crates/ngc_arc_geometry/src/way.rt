@@ -5,7 +5,7 @@ use std::marker::Model;
 
 /// A way in a plane, or a point of it that may lie farther out than lengths reach: at most 4*10^11
 /// nm on each axis.
-#[derive(Clone, Copy, Debug, PartialEq, Eq)]
+#[derive(Clone, Copy)]
 pub(crate) struct Way {
     u: i64,
     v: i64,

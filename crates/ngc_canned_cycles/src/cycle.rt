@@ -1,7 +1,7 @@
 use ngc_fixed_length::{Distance, FeedMode, Nm, Plane, Point2, Point3, ReturnMode, Value};
 
 /// What is done at a hole, with the dwell in seconds or the peck's depth.
-#[derive(Clone, Copy, Debug, PartialEq, Eq)]
+#[derive(Clone, Copy)]
 pub enum Hole {
     /// G81: down by feed, up by traverse.
     Drill,
@@ -56,7 +56,7 @@ pub struct Site {
 }
 
 /// A move of a cycle. Places are programmed ones.
-#[derive(Clone, Copy, Debug, PartialEq, Eq)]
+#[derive(Clone, Copy)]
 pub enum CycleMove {
     Traverse(Point3),
     Feed(Point3),

@@ -3,14 +3,14 @@ use ngc_fixed_length::Turn;
 use ngc_machine::Tool;
 
 /// What the spindle does, with its speed in millionths of a turn a minute.
-#[derive(Clone, Copy, Debug, PartialEq, Eq)]
+#[derive(Clone, Copy)]
 pub enum SpindleState {
     Off,
     Turning(Turn, u64),
 }
 
 /// Which coolants flow.
-#[derive(Clone, Copy, Debug, PartialEq, Eq)]
+#[derive(Clone, Copy)]
 pub enum CoolantState {
     Off,
     Mist,
@@ -19,7 +19,7 @@ pub enum CoolantState {
 }
 
 /// What a command does.
-#[derive(Clone, Copy, Debug, PartialEq, Eq)]
+#[derive(Clone, Copy)]
 pub enum Action {
     /// The axes move: G0 to G3, G28, G30.
     Move(Motion),
@@ -43,7 +43,7 @@ pub enum Action {
 }
 
 /// A command of the machine: what it does, with the line of the program that gives it, from 1.
-#[derive(Clone, Copy, Debug, PartialEq, Eq)]
+#[derive(Clone, Copy)]
 pub struct Command {
     pub line: u32,
     pub action: Action,

@@ -5,14 +5,14 @@ use ngc_fixed_length::Point3;
 
 /// The feed of a motion: nanometres a minute, or in inverse time how often a minute the motion
 /// could be made, in millionths.
-#[derive(Clone, Copy, Debug, PartialEq, Eq)]
+#[derive(Clone, Copy)]
 pub enum Feed {
     PerMinute(u64),
     Inverse(u64),
 }
 
 /// How fast a motion goes: at the greatest rate (G0, G28, G30), or at a feed (G1, G2, G3).
-#[derive(Clone, Copy, Debug, PartialEq, Eq)]
+#[derive(Clone, Copy)]
 pub enum Pace {
     Rapid,
     Feed(Feed),
@@ -20,14 +20,14 @@ pub enum Pace {
 
 /// The way of the axes, in nanometres of the machine before they are rounded to the grid: straight
 /// from start to end, or along an arc or a helix.
-#[derive(Clone, Copy, Debug, PartialEq, Eq)]
+#[derive(Clone, Copy, PartialEq, Eq)]
 pub enum Way {
     Line { start: Point3, end: Point3 },
     Arc(Arc),
 }
 
 /// A motion: the way of the axes, its pace, and whether the axes stop at its end.
-#[derive(Clone, Copy, Debug, PartialEq, Eq)]
+#[derive(Clone, Copy)]
 pub struct Motion {
     pub way: Way,
     pub pace: Pace,

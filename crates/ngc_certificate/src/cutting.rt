@@ -19,7 +19,7 @@ const CUT_LIMIT: u64 = 4_000_000_000;
 
 /// How far from the centre the pieces of an arc meet where it crosses an axis: a step inside the
 /// arc or a step outside.
-#[derive(Clone, Copy, Debug, PartialEq, Eq)]
+#[derive(Clone, Copy)]
 pub(crate) enum Stops {
     Inner,
     Outer,

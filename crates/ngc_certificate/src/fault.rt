@@ -38,7 +38,7 @@ impl PieceFault {
 }
 
 /// The first piece of a motion that is refused.
-#[derive(Clone, Copy, Debug, PartialEq, Eq)]
+#[derive(Clone, Copy)]
 pub struct PieceRefusal {
     /// Its number in the motion, counted from 0.
     pub piece: u32,

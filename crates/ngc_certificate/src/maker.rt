@@ -19,7 +19,7 @@ use std::alloc::Allocator;
 
 /// Why a setting has no motions with pieces: it doesn't clear this command, counted from 0, or
 /// memory ran out.
-#[derive(Clone, Copy, Debug)]
+#[derive(Clone, Copy)]
 enum Refusal {
     NotCleared(u32),
     Memory,

@@ -14,7 +14,7 @@ use std::alloc::{AllocError, Allocator};
 
 /// The tool that is mounted and the place that is reached, whether or not the commands so far are
 /// cleared.
-#[derive(Clone, Copy, Debug)]
+#[derive(Clone, Copy)]
 struct Reached {
     tool: Option<Tool>,
     place: Point3,

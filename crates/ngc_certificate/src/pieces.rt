@@ -58,7 +58,7 @@ pub fn piece_fault<A: Allocator>(
 }
 
 /// The pieces of a motion, judged one by one as they come.
-#[derive(Debug, Drop)]
+#[derive(Drop)]
 pub struct PieceJudge {
     tool: Option<Tool>,
     way: Way,

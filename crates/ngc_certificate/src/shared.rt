@@ -8,7 +8,7 @@ use ngc_canonical::Way;
 use ngc_fixed_length::{GridBox, Nm};
 
 /// What the pieces of a motion share, so that it is found once.
-#[derive(Debug, Drop)]
+#[derive(Drop)]
 pub(crate) enum Shared {
     /// The box of the motion in one piece.
     Whole(GridBox),

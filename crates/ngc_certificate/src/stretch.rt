@@ -2,7 +2,7 @@ use ngc_certificate_text::Cut;
 
 /// Where a piece stands in its motion: the cut where it begins, whether the motion has several
 /// pieces, and whether this is the last of them.
-#[derive(Clone, Copy, Debug, PartialEq, Eq)]
+#[derive(Clone, Copy)]
 pub struct Stretch {
     pub begin: Cut,
     pub several: bool,

@@ -10,7 +10,7 @@ use crate::piece::Setting;
 use std::alloc::{AllocError, Allocator};
 
 /// Of which settings an entry of version 2 is a motion.
-#[derive(Clone, Copy, Debug, PartialEq, Eq)]
+#[derive(Clone, Copy)]
 pub enum EntryKind {
     Both,
     Off,

@@ -9,7 +9,7 @@ use crate::told::{Told, Version};
 
 /// The index of a motion in its setting's list of commands, 0 to 999,999, or those of one motion of
 /// each setting.
-#[derive(Clone, Copy, Debug, PartialEq, Eq)]
+#[derive(Clone, Copy)]
 pub enum Indices {
     /// A motion of each setting with the same pieces: its index at `off`, and at `on`.
     Both(u32, u32),
@@ -18,7 +18,7 @@ pub enum Indices {
 }
 
 /// The entries of version 2 that come yet.
-#[derive(Clone, Copy, Debug, PartialEq, Eq)]
+#[derive(Clone, Copy)]
 pub struct EntriesLeft {
     /// How many motions of `off` they are.
     pub off: u32,
@@ -30,7 +30,7 @@ pub struct EntriesLeft {
 }
 
 /// The motions that come yet.
-#[derive(Clone, Copy, Debug, PartialEq, Eq)]
+#[derive(Clone, Copy)]
 pub enum MotionsLeft {
     /// So many of a setting: version 1.
     Parted(Setting, u32),
@@ -39,7 +39,7 @@ pub enum MotionsLeft {
 }
 
 /// A motion whose pieces are read, or in version 2 one of each setting.
-#[derive(Clone, Copy, Debug, PartialEq, Eq)]
+#[derive(Clone, Copy)]
 pub struct BegunMotion {
     pub indices: Indices,
     /// The pieces that come yet.
@@ -49,7 +49,7 @@ pub struct BegunMotion {
 }
 
 /// The line of a certificate that comes next.
-#[derive(Clone, Copy, Debug, PartialEq, Eq)]
+#[derive(Clone, Copy)]
 pub enum Expected {
     Header,
     Setting(Setting),

@@ -26,7 +26,7 @@ use crate::told::Version;
 use ngc_fixed_length::{GridBox, Nm, Point2, StepPos};
 
 /// Why a line is refused.
-#[derive(Clone, Copy, Debug, PartialEq, Eq)]
+#[derive(Clone, Copy)]
 pub enum LineFlaw {
     /// It is spelled wrong.
     Spelling,
@@ -36,21 +36,21 @@ pub enum LineFlaw {
 
 /// What the line of an entry says: its motions' indices in the lists of commands, and how many
 /// pieces they have.
-#[derive(Clone, Copy, Debug, PartialEq, Eq)]
+#[derive(Clone, Copy)]
 pub struct EntryLine {
     pub indices: Indices,
     pub pieces: u32,
 }
 
 /// How many motions both settings have.
-#[derive(Clone, Copy, Debug, PartialEq, Eq)]
+#[derive(Clone, Copy)]
 pub struct CountsLine {
     pub off: u32,
     pub on: u32,
 }
 
 /// What the line of a motion says: its index in the list of commands, and how many pieces it has.
-#[derive(Clone, Copy, Debug, PartialEq, Eq)]
+#[derive(Clone, Copy)]
 pub struct MotionLine {
     pub index: u32,
     pub pieces: u32,

@@ -8,7 +8,7 @@ pub enum Setting {
 }
 
 /// Where a piece of a motion ends.
-#[derive(Clone, Copy, Debug, PartialEq, Eq)]
+#[derive(Clone, Copy, PartialEq, Eq)]
 pub enum Cut {
     /// After so many parts of 65,536 of a line, 1 to 65,536.
     Part(u32),
@@ -17,7 +17,7 @@ pub enum Cut {
 }
 
 /// A piece of a motion: where it ends, and a box of grid points that holds it.
-#[derive(Clone, Copy, Debug, PartialEq, Eq)]
+#[derive(Clone, Copy, PartialEq, Eq)]
 pub struct Piece {
     pub end: Cut,
     pub bounds: GridBox,

@@ -2,7 +2,7 @@ use crate::expected::BegunMotion;
 use crate::piece::{Piece, Setting};
 
 /// The version of a certificate's text.
-#[derive(Clone, Copy, Debug, PartialEq, Eq)]
+#[derive(Clone, Copy)]
 pub enum Version {
     /// One setting of block delete behind the other.
     One,
@@ -11,7 +11,7 @@ pub enum Version {
 }
 
 /// What a line of a certificate's text tells.
-#[derive(Clone, Copy, Debug, PartialEq, Eq)]
+#[derive(Clone, Copy)]
 pub enum Told {
     /// The first line: a certificate of a version.
     Header(Version),

@@ -3,7 +3,7 @@
 ghost use Rattle.std.specs.Prelude.{◌≤◌};
 
 /// What the program is asked to do.
-#[derive(Clone, Copy, PartialEq, Eq)]
+#[derive(Clone, Copy)]
 pub enum Options<'a> {
     /// `ngc list`: print the commands of a part program.
     List(ListOptions<'a>),
@@ -32,7 +32,7 @@ pub enum Options<'a> {
 }
 
 /// The options of `ngc list`.
-#[derive(Clone, Copy, PartialEq, Eq)]
+#[derive(Clone, Copy)]
 pub struct ListOptions<'a> {
     /// The file of the part program. With none it comes from standard input.
     pub program: Option<&'a str>,
@@ -45,7 +45,7 @@ pub struct ListOptions<'a> {
 }
 
 /// The version of the text of a certificate.
-#[derive(Clone, Copy, PartialEq, Eq)]
+#[derive(Clone, Copy)]
 pub enum Format {
     /// Version 1: the motions of one setting of block delete, and then those of the other.
     One,
@@ -54,7 +54,7 @@ pub enum Format {
 }
 
 /// The options of `ngc certify`.
-#[derive(Clone, Copy, PartialEq, Eq)]
+#[derive(Clone, Copy)]
 pub struct CertifyOptions<'a> {
     /// The machine file.
     pub machine: &'a str,
@@ -70,7 +70,7 @@ pub struct CertifyOptions<'a> {
 }
 
 /// The options of `ngc check`.
-#[derive(Clone, Copy, PartialEq, Eq)]
+#[derive(Clone, Copy)]
 pub struct CheckOptions<'a> {
     /// The machine file.
     pub machine: &'a str,
@@ -83,7 +83,7 @@ pub struct CheckOptions<'a> {
 }
 
 /// What a run writes.
-#[derive(Clone, Copy, PartialEq, Eq)]
+#[derive(Clone, Copy)]
 pub enum Recording {
     /// `ngc run`: the log.
     Log,
@@ -92,7 +92,7 @@ pub enum Recording {
 }
 
 /// The options of `ngc run` and `ngc pulses` with events.
-#[derive(Clone, Copy, PartialEq, Eq)]
+#[derive(Clone, Copy)]
 pub struct RunOptions<'a> {
     /// What is written.
     pub recording: Recording,
@@ -111,7 +111,7 @@ pub struct RunOptions<'a> {
 }
 
 /// The options of `ngc run` and `ngc pulses` without events.
-#[derive(Clone, Copy, PartialEq, Eq)]
+#[derive(Clone, Copy)]
 pub struct RunThroughOptions<'a> {
     /// What is written.
     pub recording: Recording,
@@ -128,7 +128,7 @@ pub struct RunThroughOptions<'a> {
 }
 
 /// The options of `ngc draw`.
-#[derive(Clone, Copy, PartialEq, Eq)]
+#[derive(Clone, Copy)]
 pub struct DrawOptions<'a> {
     /// The machine file.
     pub machine: &'a str,
@@ -146,7 +146,7 @@ pub struct DrawOptions<'a> {
 }
 
 /// The options of `ngc show`.
-#[derive(Clone, Copy, PartialEq, Eq)]
+#[derive(Clone, Copy)]
 pub struct ShowOptions<'a> {
     /// The machine file.
     pub machine: &'a str,
@@ -155,7 +155,7 @@ pub struct ShowOptions<'a> {
 }
 
 /// The options of `ngc report`.
-#[derive(Clone, Copy, PartialEq, Eq)]
+#[derive(Clone, Copy)]
 pub struct ReportOptions<'a> {
     /// The machine file.
     pub machine: &'a str,

@@ -1,6 +1,6 @@
 /// Why a program is refused for travel or a fixture: the motion by its place in the list of
 /// commands from 0, the fault's number, and the fixture that the tool meets there, from 0.
-#[derive(Clone, Copy, Debug, PartialEq, Eq)]
+#[derive(Clone, Copy)]
 pub struct Refusal {
     pub command: usize,
     pub fault: u16,

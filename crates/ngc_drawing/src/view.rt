@@ -8,7 +8,7 @@ use ngc_collision::Place;
 use ngc_fixed_length::{Plane, Point3, rounded_quotient};
 
 /// From where the machine is seen.
-#[derive(Clone, Copy, Debug, PartialEq, Eq)]
+#[derive(Clone, Copy)]
 pub enum View {
     /// X to the right, Y up.
     Top,

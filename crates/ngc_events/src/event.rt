@@ -1,5 +1,5 @@
 /// What the panel, the loader and the pulse clock give to the controller.
-#[derive(Clone, Copy, Debug, PartialEq, Eq)]
+#[derive(Clone, Copy)]
 pub enum Event {
     /// The loader puts the next command into the ring.
     Load,
@@ -18,7 +18,7 @@ pub enum Event {
 }
 
 /// An event, and how many times it is given.
-#[derive(Clone, Copy, Debug, PartialEq, Eq)]
+#[derive(Clone, Copy)]
 pub struct EventLine {
     pub event: Event,
     /// 1 to 1,000,000 for ticks, 1 for every other event.

@@ -2,7 +2,7 @@ use ngc_fixed_length::StepPos;
 
 /// How a command ended: by itself, by stopping the machine, or with the program. Commands are
 /// counted from 0.
-#[derive(Clone, Copy, Debug, PartialEq, Eq)]
+#[derive(Clone, Copy)]
 pub enum Ending {
     /// By itself: its index.
     Done(u32),
@@ -13,7 +13,7 @@ pub enum Ending {
 }
 
 /// What the machine answers to an event that it takes.
-#[derive(Clone, Copy, Debug, PartialEq, Eq)]
+#[derive(Clone, Copy)]
 pub enum Reply {
     /// The next command was loaded: its index, from 0.
     Loaded(u32),

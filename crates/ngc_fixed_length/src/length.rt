@@ -9,7 +9,7 @@ use crate::rounding::short_quotient;
 use std::marker::Model;
 
 /// A length in nanometres, at most 10^11 in size.
-#[derive(Clone, Copy, Debug, PartialEq, Eq, PartialOrd, Ord)]
+#[derive(Clone, Copy, PartialEq, Eq, PartialOrd, Ord)]
 pub struct Nm {
     nanometres: i64,
 }

@@ -5,14 +5,14 @@ use crate::length::Nm;
 use crate::modes::Plane;
 
 /// A point of a plane, by the plane's axes u and v.
-#[derive(Clone, Copy, Debug, Default, PartialEq, Eq)]
+#[derive(Clone, Copy, Default, PartialEq, Eq)]
 pub struct Point2 {
     pub u: Nm,
     pub v: Nm,
 }
 
 /// A point of the machine.
-#[derive(Clone, Copy, Debug, PartialEq, Eq)]
+#[derive(Clone, Copy, PartialEq, Eq)]
 pub struct Point3 {
     pub x: Nm,
     pub y: Nm,
@@ -20,7 +20,7 @@ pub struct Point3 {
 }
 
 /// A point of the grid, in steps.
-#[derive(Clone, Copy, Debug, PartialEq, Eq)]
+#[derive(Clone, Copy, PartialEq, Eq)]
 pub struct StepPos {
     pub x: i32,
     pub y: i32,
@@ -29,7 +29,7 @@ pub struct StepPos {
 
 /// The grid points from the lowest corner to the highest, both included. With a low corner above
 /// the high one on some axis it holds no point.
-#[derive(Clone, Copy, Debug, PartialEq, Eq)]
+#[derive(Clone, Copy, PartialEq, Eq)]
 pub struct GridBox {
     pub low: StepPos,
     pub high: StepPos,

@@ -1,5 +1,5 @@
 /// The unit of a program's lengths: G21, G20.
-#[derive(Clone, Copy, Debug, PartialEq, Eq)]
+#[derive(Clone, Copy)]
 pub enum Units {
     Millimetres,
     Inches,

@@ -12,7 +12,7 @@ use std::marker::Model;
 pub const MILLIONTHS: u64 = 1_000_000;
 
 /// A number of a program, in millionths: at most 10^9 units, so 10^15 millionths, in size.
-#[derive(Clone, Copy, Debug, PartialEq, Eq, PartialOrd, Ord)]
+#[derive(Clone, Copy, PartialEq, Eq, PartialOrd, Ord)]
 pub struct Value {
     millionths: i64,
 }

@@ -5,7 +5,7 @@ use crate::token::Token;
 use arrayvec::ArrayVec;
 
 /// A word: its letter, its column, from 1, and where in the line's tokens those of its value begin.
-#[derive(Clone, Copy, Default, PartialEq, Eq)]
+#[derive(Clone, Copy, Default)]
 pub struct RawWord {
     pub letter: Letter,
     pub column: u16,
@@ -14,7 +14,7 @@ pub struct RawWord {
 
 /// A setting: its column, from 1, and where in the line's tokens those of its index and of its
 /// value begin.
-#[derive(Clone, Copy, Default, PartialEq, Eq)]
+#[derive(Clone, Copy, Default)]
 pub struct RawSetting {
     pub column: u16,
     pub index: u16,

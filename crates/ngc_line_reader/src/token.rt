@@ -3,7 +3,7 @@ ghost use Rattle.std.specs.Prelude.{◌≡◌};
 use ngc_fixed_length::Value;
 
 /// What stands between two values in brackets.
-#[derive(Clone, Copy, Debug, PartialEq, Eq)]
+#[derive(Clone, Copy)]
 pub enum Operator {
     Add,
     Subtract,
@@ -12,7 +12,7 @@ pub enum Operator {
 }
 
 /// A part of a real value.
-#[derive(Clone, Copy, Debug, PartialEq, Eq)]
+#[derive(Clone, Copy)]
 pub enum Symbol {
     Number(Value),
     /// `#`: the real value behind it is a parameter's index.
@@ -23,7 +23,7 @@ pub enum Symbol {
 }
 
 /// A part of a real value, and the column, from 1, of its first byte.
-#[derive(Clone, Copy, Debug, PartialEq, Eq)]
+#[derive(Clone, Copy)]
 pub struct Token {
     pub symbol: Symbol,
     pub column: u16,

@@ -2,7 +2,7 @@ use crate::letter::Letter;
 use ngc_fixed_length::Value;
 
 /// A word's letter and value.
-#[derive(Clone, Copy, PartialEq, Eq)]
+#[derive(Clone, Copy)]
 pub struct Word {
     pub letter: Letter,
     pub value: Value,

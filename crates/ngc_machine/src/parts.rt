@@ -5,7 +5,7 @@ use std::marker::Model;
 
 /// A part of a tool: a box of this length, and of twice the radius on X and Y. Lengths are
 /// nanometres.
-#[derive(Clone, Copy, Debug, PartialEq, Eq)]
+#[derive(Clone, Copy)]
 pub struct Part {
     /// 0 to 10^9.
     pub length: Nm,
@@ -14,7 +14,7 @@ pub struct Part {
 }
 
 /// One to four parts, the lowest first: each stands on the one before.
-#[derive(Clone, Copy, Debug, PartialEq, Eq)]
+#[derive(Clone, Copy)]
 pub struct Parts {
     /// The places that aren't used hold zeros, so that equal parts are equal here.
     places: [Part; 4],

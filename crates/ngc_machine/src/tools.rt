@@ -5,7 +5,7 @@ use ngc_fixed_length::Nm;
 use std::alloc::{AllocError, Allocator};
 
 /// A tool of the table. Lengths are nanometres.
-#[derive(Clone, Copy, Debug, PartialEq, Eq)]
+#[derive(Clone, Copy)]
 pub struct Tool {
     /// 1 to 9,999.
     pub number: u32,

@@ -11,7 +11,7 @@ use ngc_fixed_length::{Distance, FeedMode, Plane, ReturnMode, System, Units, Val
 use ngc_line_reader::{Letter, Word};
 
 /// The words X, Y, Z of a line.
-#[derive(Clone, Copy, PartialEq, Eq)]
+#[derive(Clone, Copy)]
 pub struct AxisWords {
     pub x: Option<Value>,
     pub y: Option<Value>,

@@ -1,7 +1,7 @@
 use ngc_fixed_length::{Distance, FeedMode, Plane, ReturnMode, System, Turn, Units};
 
 /// The code of a canned cycle: what it does at its hole.
-#[derive(Clone, Copy, Debug, PartialEq, Eq)]
+#[derive(Clone, Copy)]
 pub enum CycleCode {
     /// G81
     Drill,
@@ -18,7 +18,7 @@ pub enum CycleCode {
 }
 
 /// The motion mode: what axis words do.
-#[derive(Clone, Copy, Debug, PartialEq, Eq)]
+#[derive(Clone, Copy)]
 pub enum MotionMode {
     /// A motion in a straight line at the greatest rate: G0.
     Traverse,
@@ -33,7 +33,7 @@ pub enum MotionMode {
 }
 
 /// The tool length offset.
-#[derive(Clone, Copy, PartialEq, Eq)]
+#[derive(Clone, Copy)]
 pub enum LengthCode {
     /// G43
     Apply,
@@ -42,7 +42,7 @@ pub enum LengthCode {
 }
 
 /// How a path is followed where two motions meet.
-#[derive(Clone, Copy, PartialEq, Eq)]
+#[derive(Clone, Copy)]
 pub enum PathControl {
     /// G61
     ExactPath,
@@ -53,7 +53,7 @@ pub enum PathControl {
 }
 
 /// The codes that hold for their line alone.
-#[derive(Clone, Copy, PartialEq, Eq)]
+#[derive(Clone, Copy)]
 pub enum Once {
     /// G4
     Dwell,
@@ -76,7 +76,7 @@ pub enum Once {
 }
 
 /// What stops a program.
-#[derive(Clone, Copy, PartialEq, Eq)]
+#[derive(Clone, Copy)]
 pub enum Stopping {
     /// M0, M60
     Stop,
@@ -87,7 +87,7 @@ pub enum Stopping {
 }
 
 /// What the spindle does.
-#[derive(Clone, Copy, PartialEq, Eq)]
+#[derive(Clone, Copy)]
 pub enum Spindle {
     /// M3 clockwise, M4 counterclockwise.
     Start(Turn),
@@ -96,7 +96,7 @@ pub enum Spindle {
 }
 
 /// What the coolant does.
-#[derive(Clone, Copy, PartialEq, Eq)]
+#[derive(Clone, Copy)]
 pub enum Coolant {
     /// M7
     Mist,

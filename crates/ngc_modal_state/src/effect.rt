@@ -3,14 +3,14 @@ use crate::code::{Coolant, CycleCode, MotionMode, PathControl, Spindle, Stopping
 use ngc_fixed_length::{Distance, FeedMode, Plane, ReturnMode, System, Turn, Units, Value};
 
 /// The two home positions of a machine: G28, G30.
-#[derive(Clone, Copy, PartialEq, Eq)]
+#[derive(Clone, Copy)]
 pub enum Home {
     First,
     Second,
 }
 
 /// The words I, J, K and R of an arc.
-#[derive(Clone, Copy, PartialEq, Eq)]
+#[derive(Clone, Copy)]
 pub struct ArcWords {
     pub i: Option<Value>,
     pub j: Option<Value>,
@@ -19,7 +19,7 @@ pub struct ArcWords {
 }
 
 /// The words of a canned cycle beside X, Y and Z.
-#[derive(Clone, Copy, PartialEq, Eq)]
+#[derive(Clone, Copy)]
 pub struct CycleWords {
     pub l: Option<Value>,
     pub p: Option<Value>,
@@ -28,7 +28,7 @@ pub struct CycleWords {
 }
 
 /// One thing that a line does. What needs a word of the line carries it.
-#[derive(Clone, Copy, PartialEq, Eq)]
+#[derive(Clone, Copy)]
 pub enum Effect {
     FeedMode(FeedMode),
     /// F in feed per minute, in the units that the line leaves in force.

@@ -1,5 +1,5 @@
 /// How a report is spelled.
-#[derive(Clone, Copy, Debug, PartialEq, Eq)]
+#[derive(Clone, Copy)]
 pub enum Form {
     /// In sentences, with lengths in millimetres.
     Words,

@@ -6,7 +6,7 @@ use crate::uses::ToolUse;
 use crate::warnings::Warning;
 
 /// How far a program goes along an axis, in nanometres, and what is left there.
-#[derive(Clone, Copy, Debug, PartialEq, Eq)]
+#[derive(Clone, Copy)]
 pub struct Along {
     pub axis: Axis,
     pub low: i64,
@@ -15,7 +15,7 @@ pub struct Along {
 }
 
 /// A line of a report.
-#[derive(Clone, Copy, PartialEq, Eq)]
+#[derive(Clone, Copy)]
 pub enum Line {
     /// Every position is inside the travel and clear of every fixture.
     Fits,

@@ -5,7 +5,7 @@ ghost use Rattle.ngc_report.specs.Margins.{narrower, axis_margin, tightest};
 use crate::travel::{AxisRoom, Room};
 
 /// An axis of the machine.
-#[derive(Clone, Copy, Debug, PartialEq, Eq)]
+#[derive(Clone, Copy)]
 pub enum Axis {
     X,
     Y,
@@ -13,7 +13,7 @@ pub enum Axis {
 }
 
 /// A side of the travel along an axis.
-#[derive(Clone, Copy, Debug, PartialEq, Eq)]
+#[derive(Clone, Copy)]
 pub enum Side {
     Below,
     Above,
@@ -21,7 +21,7 @@ pub enum Side {
 
 /// What is left on one side of the travel, in nanometres; below zero by how much a box leaves it
 /// there.
-#[derive(Clone, Copy, Debug, PartialEq, Eq)]
+#[derive(Clone, Copy)]
 pub struct Margin {
     pub axis: Axis,
     pub side: Side,

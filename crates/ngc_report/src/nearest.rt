@@ -14,7 +14,7 @@ use std::alloc::Allocator;
 
 /// The fixture that is nearest, by its number from 0, and its distance in nanometres. It is below
 /// zero where the two overlap.
-#[derive(Clone, Copy, Debug, PartialEq, Eq)]
+#[derive(Clone, Copy)]
 pub struct Nearest {
     pub fixture: u32,
     pub distance: i128,

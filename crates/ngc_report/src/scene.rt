@@ -23,7 +23,7 @@ pub(crate) struct Reached {
 
 /// What a command that may be refused does: a motion, a change of the tool, or none, which is the
 /// start.
-#[derive(Clone, Copy, Debug, PartialEq, Eq)]
+#[derive(Clone, Copy)]
 pub struct Scene {
     /// The line of the program, from 1; 0 of the start.
     pub line: u32,
@@ -38,7 +38,7 @@ pub struct Scene {
 }
 
 /// A fixture that the tool's body meets.
-#[derive(Clone, Copy, PartialEq, Eq)]
+#[derive(Clone, Copy)]
 pub struct Met {
     /// Its number, from 0.
     pub number: u32,
@@ -49,7 +49,7 @@ pub struct Met {
 }
 
 /// What is in the way.
-#[derive(Clone, Copy, PartialEq, Eq)]
+#[derive(Clone, Copy)]
 pub enum Obstacle {
     /// This side of the travel, which the whole motion leaves farthest.
     Travel(Margin),

@@ -9,7 +9,7 @@ use std::alloc::Allocator;
 
 /// What is left between a box and the travel limits along an axis, in nanometres. Where the box
 /// leaves the travel it is below zero, by as much as the box leaves it.
-#[derive(Clone, Copy, Debug, PartialEq, Eq)]
+#[derive(Clone, Copy)]
 pub struct AxisRoom {
     pub below: i64,
     pub above: i64,
@@ -17,7 +17,7 @@ pub struct AxisRoom {
 
 /// What is left along each axis. Travel limits needn't lie on the grid, so it is no whole number of
 /// steps.
-#[derive(Clone, Copy, Debug, PartialEq, Eq)]
+#[derive(Clone, Copy)]
 pub struct Room {
     pub x: AxisRoom,
     pub y: AxisRoom,

@@ -9,7 +9,7 @@ use ngc_canonical::{Action, Command, Motion, Pace, Tool, Way};
 
 /// The use of a tool: from the command that mounts it to the next change, or to the end. Its
 /// motions are traverses, feeds along lines, and arcs.
-#[derive(Clone, Copy, Debug, PartialEq, Eq)]
+#[derive(Clone, Copy)]
 pub struct ToolUse {
     /// As it is mounted; `None` without a tool.
     pub tool: Option<Tool>,

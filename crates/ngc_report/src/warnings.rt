@@ -19,7 +19,7 @@ use ngc_fixed_length::{GridBox, Nm, Point3, StepPos};
 use std::alloc::Allocator;
 
 /// What a warning is about.
-#[derive(Clone, Copy, Debug, PartialEq, Eq)]
+#[derive(Clone, Copy)]
 pub enum Concern {
     /// Motions without a tool that don't stay at the height of the start.
     NoTool,
@@ -32,7 +32,7 @@ pub enum Concern {
 }
 
 /// A warning about the commands of a program.
-#[derive(Clone, Copy, Debug, PartialEq, Eq)]
+#[derive(Clone, Copy)]
 pub struct Warning {
     pub concern: Concern,
     /// How many commands it is about, at least 1.

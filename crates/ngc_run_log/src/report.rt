@@ -8,7 +8,7 @@ use ngc_text::WriteFault;
 use thiserror::Error;
 
 /// What a run came to.
-#[derive(Clone, Copy, Debug, PartialEq, Eq)]
+#[derive(Clone, Copy)]
 pub struct Report {
     /// How many ticks were given.
     pub ticks: u128,

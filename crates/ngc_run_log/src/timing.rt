@@ -23,7 +23,7 @@ use ngc_text::{DeviceFault, Sink};
 use std::alloc::Allocator;
 
 /// How long a run through a program takes.
-#[derive(Debug, Drop)]
+#[derive(Drop)]
 pub struct Timing<A: Allocator> {
     /// How many ticks were given.
     pub ticks: u128,

@@ -1,7 +1,7 @@
 ghost use Rattle.std.specs.Prelude.{◌≤◌};
 
 /// How long a run took: its ticks, and how many of them the machine gives a second.
-#[derive(Clone, Copy, Debug, PartialEq, Eq)]
+#[derive(Clone, Copy)]
 pub struct RunTime {
     pub ticks: u128,
     pub ticks_per_second: u32,
@@ -9,7 +9,7 @@ pub struct RunTime {
 }
 
 /// What is done where nothing is refused.
-#[derive(Clone, Copy, Debug, PartialEq, Eq)]
+#[derive(Clone, Copy)]
 pub enum Done {
     /// What is written says it all.
     Quietly,

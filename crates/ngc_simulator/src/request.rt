@@ -3,7 +3,7 @@ ghost use Rattle.std.specs.Prelude.{◌≤◌};
 use ngc_report::Form;
 
 /// What a report is asked for.
-#[derive(Clone, Copy, Debug, PartialEq, Eq)]
+#[derive(Clone, Copy)]
 pub struct ReportRequest {
     /// The most pieces that a motion is cut into, at least 1.
     pub cuts: u16,

@@ -6,7 +6,7 @@ ghost use Rattle.ngc_wheel.specs.Wheel.{IsSmall};
 use ngc_wheel::{Roll, Spoke};
 
 /// A way in a plane, in nanometres.
-#[derive(Clone, Copy, Debug)]
+#[derive(Clone, Copy)]
 pub(crate) struct Way {
     pub u: i64,
     pub v: i64,

@@ -6,7 +6,7 @@ ghost use Rattle.ngc_text.specs.Failures.{CountsFailure};
 use std::io::{Read, Write};
 
 /// A device answered a fault, or took nothing of some bytes.
-#[derive(Clone, Copy, Debug, PartialEq, Eq)]
+#[derive(Clone, Copy)]
 pub struct DeviceFault;
 
 /// What gives bytes.
