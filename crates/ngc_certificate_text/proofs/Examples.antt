@@ -134,10 +134,20 @@ off_behind_on : form_said (codes "ngc-certificate 2\nmotions 2 2\non 0 1\nline 6
 unfolding form_said version_said joined_at line_at several items_at item_at counts_said entry_said piece_said numbers_in number_in
 off_behind_on = refl
 
--- behind this one an entry of `off` alone would have to come
-last_on_first : form_said (codes "ngc-certificate 2\nmotions 1 1\non 0 1\nline 65536 0 0 0 3 0 0\noff 0 1\nline 65536 0 0 0 3 0 0\nend\n") ≡ Err (BadLine 3)
+-- so too after the last motion of `on`
+last_on_first : form_said (codes "ngc-certificate 2\nmotions 1 1\non 0 1\nline 65536 0 0 0 3 0 0\noff 0 1\nline 65536 0 0 0 3 0 0\nend\n") ≡ Err (BadLine 5)
 unfolding form_said version_said joined_at line_at several items_at item_at counts_said entry_said piece_said numbers_in number_in
 last_on_first = refl
+
+-- what is wrong before it decides
+out_before : form_said (codes "ngc-certificate 2\nmotions 1 1\non 0 1\nline 70000 0 0 0 3 0 0\noff 0 1\n") ≡ Err (OutOfRange 4)
+unfolding form_said version_said joined_at line_at several items_at item_at counts_said entry_said piece_said numbers_in number_in
+out_before = refl
+
+-- motions of `off` are missing
+off_missing : form_said (codes "ngc-certificate 2\nmotions 1 1\non 0 1\nline 65536 0 0 0 3 0 0\n") ≡ Err (BadLine 5)
+unfolding form_said version_said joined_at line_at several items_at item_at counts_said entry_said piece_said numbers_in number_in
+off_missing = refl
 
 -- ranges
 index_out : form_said (codes "ngc-certificate 2\nmotions 1 1\nboth 0 1000000 1\n") ≡ Err (OutOfRange 3)

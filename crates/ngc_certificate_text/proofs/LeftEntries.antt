@@ -10,12 +10,14 @@ use Rattle.std.proofs.lemmas.Bool.Decides.{nat_tests}
 use Rattle.ngc_certificate_text.specs.declared.expected.EntriesLeft.{EntriesLeft}
 use Rattle.ngc_certificate_text.specs.declared.expected.Indices.{Indices}
 use Rattle.ngc_certificate_text.specs.declared.expected.Indices.TheVariants.{Both, Off, On}
+use Rattle.ngc_certificate_text.specs.declared.expected.MotionsLeft.TheVariants.{Joined}
 use Rattle.ngc_certificate_text.specs.declared.lines.CountsLine.{CountsLine}
 use Rattle.ngc_certificate_text.specs.declared.lines.EntryLine.{EntryLine}
 use Rattle.ngc_certificate_text.specs.declared.lines.LineFlaw.{LineFlaw}
 use Rattle.ngc_certificate_text.specs.declared.lines.LineFlaw.TheVariants.{Spelling}
 use Rattle.ngc_certificate_text.specs.declared.lines.MotionLine.{MotionLine}
 use Rattle.ngc_certificate_text.specs.declared.piece.Piece.{Piece}
+use Rattle.ngc_certificate_text.specs.Ahead.{go_on}
 use Rattle.ngc_certificate_text.specs.Certificate.{INDEX_LIMIT, PIECE_LIMIT, MOTION_LIMIT}
 use Rattle.ngc_certificate_text.specs.EntryLines.{motion_counts, counts_said, none_left, may_come, left_behind, three_counts, of_setting, entry_in, entry_said}
 use Rattle.ngc_certificate_text.specs.Joined.{Item, good_indices}
@@ -292,22 +294,50 @@ counts_spelled line c h =
 
 -- ---- fewer entries are left
 
--- one of `on` alone may come where some are left, and not the last while some of `off` are
+-- one of `on` alone may come where some are left
 pub some_on : (left : EntriesLeft) (j : ℕ) → may_come left (On j) ≡ true → 1 ≤ left.on
-some_on left j h = by_more left.on (left.off == 0) (nat_lt 1 left.on) refl h where
-  by_more : (n : ℕ) (none b : Bool) → nat_lt 1 n ≡ b → (b || (none && nat_lt 0 n)) ≡ true → 1 ≤ n
-  by_more n none true e h = grind (arith, nat_tests)
-  by_more n none false e h = let p = and_parts none (nat_lt 0 n) h in grind (arith, nat_tests, p.1)
+some_on left j h = grind (arith, nat_tests)
 
-pub more_on : (left : EntriesLeft) (j : ℕ) → may_come left (On j) ≡ true → ((left.off == 0) || nat_lt 0 (left.on - 1)) ≡ true
-more_on left j h = by_more left.on (left.off == 0) (nat_lt 1 left.on) refl h where
-  some_more : (n : ℕ) → nat_lt 1 n ≡ true → nat_lt 0 (n - 1) ≡ true
-  some_more n e = grind (arith, nat_tests)
+-- ---- no entry may come
 
-  by_more : (n : ℕ) (none b : Bool) → nat_lt 1 n ≡ b → (b || (none && nat_lt 0 n)) ≡ true → (none || nat_lt 0 (n - 1)) ≡ true
-  by_more n true b e h = refl
-  by_more n false true e h = some_more n e
-  by_more n false false e h = absurd (cc h)
+-- after one of `on` alone motions of `off` are left, and none of `on`
+pub record IsClosed (left : EntriesLeft) : Type 0 where
+  pub behind_on : left.behind_on ≡ true
+  pub off : (left.off == 0) ≡ false
+  pub on : nat_lt 0 left.on ≡ false
+
+pub closed_left : (left : EntriesLeft) → go_on (Joined left) ≡ false → IsClosed left
+closed_left left h = by_tests left.behind_on (left.off == 0) (nat_lt 0 left.on) refl refl refl h where
+  by_tests : (b c d : Bool) → left.behind_on ≡ b → (left.off == 0) ≡ c → nat_lt 0 left.on ≡ d → (not b || (c || d)) ≡ false → IsClosed left
+  by_tests true false false e f g h = record { behind_on = e; off = f; on = g }
+  by_tests true false true e f g h = absurd (cc h)
+  by_tests true true d e f g h = absurd (cc h)
+  by_tests false c d e f g h = absurd (cc h)
+
+pub closed_some : (left : EntriesLeft) → IsClosed left → 1 ≤ total left
+closed_some left h = let off = h.off in grind (arith, nat_tests, off)
+
+none_tried : (word may : Bool) (says more : Result EntryLine LineFlaw) → may ≡ false → (if word && may then says else more) ≡ more
+none_tried true may says more h = rw h refl
+none_tried false may says more h = refl
+
+no_entry : (left : EntriesLeft) (fs : List (List ℕ)) → may_come left (Both 0 0) ≡ false → may_come left (Off 0) ≡ false → may_come left (On 0) ≡ false
+    → entry_in left fs ≡ Err Spelling
+no_entry left [] both off on = refl
+no_entry left (word ∷ fs) both off on =
+    none_tried (bytes_eq word (codes "both")) (may_come left (Both 0 0)) (three_counts (numbers_in fs)) _ both
+    ∙ none_tried (bytes_eq word (codes "off")) (may_come left (Off 0)) (of_setting Off (two_counts (numbers_in fs))) _ off
+    ∙ none_tried (bytes_eq word (codes "on")) (may_come left (On 0)) (of_setting On (two_counts (numbers_in fs))) (Err Spelling) on
+
+-- every line is wrong then
+pub closed_line : (left : EntriesLeft) (line : List ℕ) → IsClosed left → entry_said left line ≡ Err Spelling
+unfolding entry_said
+closed_line left line h =
+    no_entry left (fields line) (neither (nat_lt 0 left.off) (nat_lt 0 left.on) h.on)
+    (neither (nat_lt 0 left.off) (not left.behind_on) (ap not h.behind_on)) h.on where
+      neither : (a b : Bool) → b ≡ false → (a && b) ≡ false
+      neither true b e = e
+      neither false b e = refl
 
 pub one_fewer : (left : EntriesLeft) (i : Indices) → may_come left i ≡ true → total (left_behind left i) + 1 ≤ total left
 one_fewer left (Both i j) h = let p = and_parts (nat_lt 0 left.off) (nat_lt 0 left.on) h in grind (arith, nat_tests, p.0, p.1)

@@ -25,7 +25,7 @@ use Rattle.ngc_certificate_text.specs.declared.told.Version.{Version}
 use Rattle.ngc_certificate_text.specs.declared.told.Version.TheVariants.{One, Two}
 use Rattle.ngc_certificate_text.specs.Ahead.{Rest, nothing_left, certificate_of, form_of_text, of_version, index_at, item_of, with_items, with_motions}
 use Rattle.ngc_certificate_text.specs.Ahead.{with_pieces, name_of, end_ahead, behind, setting_ahead, motions_ahead, pieces_ahead, counts_ahead, behind_header}
-use Rattle.ngc_certificate_text.specs.Ahead.{ahead, Left, left_from, next_of_entries, next_of_motions, motions_behind, wrong_line, HaveSome, IsSound}
+use Rattle.ngc_certificate_text.specs.Ahead.{ahead, Left, left_from, next_of_entries, next_of_motions, motions_behind, wrong_line, HaveSome, go_on, is_open, IsSound}
 use Rattle.ngc_certificate_text.specs.Certificate.{Entry, CertificateData}
 use Rattle.ngc_certificate_text.specs.EntryLines.{version_said, counts_said, entry_said, of_setting, all_left, none_left, left_behind}
 use Rattle.ngc_certificate_text.specs.Joined.{Item, expansion, Form, contents, form_by}
@@ -35,7 +35,7 @@ use Rattle.ngc_certificate_text.specs.Said.{Place, Said, then_read, next_number,
 use Rattle.ngc_certificate_text.specs.Said.{items_at, joined_at, said_with, made_with, version_is, header_in, form_at, nothing_in, ended, lines_of, form_said}
 use Rattle.ngc_certificate_text.specs.Said.{certificate_said}
 use Rattle.ngc_certificate_text.specs.Told.{any_said, behind_version}
-use Rattle.ngc_certificate_text.proofs.LeftEntries.{total, takes_one, items_more, items_none, items_enough}
+use Rattle.ngc_certificate_text.proofs.LeftEntries.{total, takes_one, items_more, items_none, items_enough, closed_left, closed_some, closed_line}
 use Rattle.ngc_certificate_text.proofs.Fields.{bytes_same}
 
 short_line : (n : ℕ) → n ≤ 256 → nat_le n 256 ≡ true
@@ -465,6 +465,36 @@ wrong_said (next.Piece b) number lines sound h never =
     ap ended (pieces_stop b (b.pieces_left - 1) (at number lines) (faults.BadLine number) (omega (arith, some)) (line_missing piece_said number lines h))
 wrong_said next.End number lines sound h never = ap ended (end_stops (at number lines) (faults.BadLine number) (line_missing end_said number lines h))
 wrong_said next.Nothing number lines sound h never = rw (never refl) refl
+
+-- ---- no line may come next
+
+closed_line_in : (entries : EntriesLeft) (number : ℕ) (lines : List (List ℕ)) → go_on (Joined entries) ≡ false →
+    MotionMissing (Joined entries) (at number lines) (faults.BadLine number)
+closed_line_in entries number [] h = motion_missing (Joined entries) number [] tt
+closed_line_in entries number (last ∷ []) h = motion_missing (Joined entries) number (last ∷ []) tt
+closed_line_in entries number (line ∷ after ∷ left) h = by_length (nat_le (length line) 256) refl where
+  by_length : (short : Bool) → nat_le (length line) 256 ≡ short →
+      MotionMissing (Joined entries) (at number (line ∷ after ∷ left)) (faults.BadLine number)
+  by_length true e =
+      motion_wrong (Joined entries) number line after left Spelling (grind (arith, nat_tests, e)) (closed_line entries line (closed_left entries h))
+  by_length false e = motion_missing (Joined entries) number (line ∷ after ∷ left) (grind (arith, nat_tests, e))
+
+closed_motions : (m : MotionsLeft) (number : ℕ) (lines : List (List ℕ)) → go_on m ≡ false → motions_ahead m (at number lines) ≡ Err (faults.BadLine number)
+closed_motions (Parted s n) number lines h = absurd (cc h)
+closed_motions (Joined entries) number lines h =
+    motions_stop (Joined entries) (at number lines) (faults.BadLine number) (closed_some entries (closed_left entries h))
+    (closed_line_in entries number lines h)
+
+-- whatever comes, the next line is wrong
+pub closed_said : (e : Expected) (number : ℕ) (lines : List (List ℕ)) → is_open e ≡ false → left_from e number lines ≡ Err (wrong_line e number)
+unfolding ahead
+closed_said next.Header number lines h = absurd (cc h)
+closed_said (next.Setting s) number lines h = absurd (cc h)
+closed_said next.Counts number lines h = absurd (cc h)
+closed_said (next.Motion m) number lines h = ap ended (closed_motions m number lines h)
+closed_said (next.Piece b) number lines h = absurd (cc h)
+closed_said next.End number lines h = absurd (cc h)
+closed_said next.Nothing number lines h = absurd (cc h)
 
 -- ---- a line that is flawed
 

@@ -25,7 +25,7 @@ use Rattle.ngc_certificate_text.specs.declared.told.Told.TheVariants as tell
 use Rattle.ngc_certificate_text.specs.declared.told.Version.{Version}
 use Rattle.ngc_certificate_text.specs.declared.told.Version.TheVariants.{One, Two}
 use Rattle.ngc_certificate_text.specs.Ahead.{Rest, Left, left_from, made_with, name_of, index_at, of_version, next_of_entries, next_of_motions, motions_behind}
-use Rattle.ngc_certificate_text.specs.Ahead.{HaveSome, AreOpen, IsSound, lines_ahead, lines_of_motions}
+use Rattle.ngc_certificate_text.specs.Ahead.{HaveSome, go_on, is_open, wrong_line, IsSound, lines_ahead, lines_of_motions}
 use Rattle.ngc_certificate_text.specs.Certificate.{INDEX_LIMIT}
 use Rattle.ngc_certificate_text.specs.EntryLines.{version_said, counts_said, none_left, may_come, left_behind, all_left}
 use Rattle.ngc_certificate_text.specs.Joined.{good_indices}
@@ -34,9 +34,9 @@ use Rattle.ngc_certificate_text.specs.Said.{next_number, fault_at}
 use Rattle.ngc_certificate_text.specs.Told.{onto, Fits, IsFront, behind_version, behind_piece, behind_told, left_at, taken_at, IsNext, told_with, counts_told}
 use Rattle.ngc_certificate_text.specs.Told.{any_said, motion_told, told_by, fault_of}
 use Rattle.ngc_certificate_text.proofs.LinesAhead.{begun, of_parted, header_ended, two_left, nothing_said, setting_flawed, counts_flawed, motion_flawed}
-use Rattle.ngc_certificate_text.proofs.LinesAhead.{piece_flawed, end_flawed, header_read, header_wrong, setting_read, counts_read, motion_read, piece_read}
+use Rattle.ngc_certificate_text.proofs.LinesAhead.{closed_said, piece_flawed, end_flawed, header_read, header_wrong, setting_read, counts_read, motion_read, piece_read}
 use Rattle.ngc_certificate_text.proofs.LinesAhead.{last_read, end_read, left_fits, left_none}
-use Rattle.ngc_certificate_text.proofs.LeftEntries.{total, entry_spelled, counts_spelled, least, some_on, more_on}
+use Rattle.ngc_certificate_text.proofs.LeftEntries.{total, entry_spelled, counts_spelled, least, some_on}
 use Rattle.ngc_certificate_text.proofs.SpelledLines.{setting_spelled, motion_spelled, piece_spelled}
 
 -- ---- a line that is right
@@ -77,6 +77,11 @@ piece_ahead b true number lines some e =
     let none : b.pieces_left - 1 ≡ 0 = grind (arith, nat_tests) in
     last_read [] [] lines number (record b { pieces_left = b.pieces_left - 1 }) none
 piece_ahead b false number lines some e = refl
+
+-- where the rest of the text after a line has a fault, the text from that line on has it
+stopped : (told : Told) (before after : Left) (fault : CertificateFault) → IsFront told before after → after ≡ Err fault → before ≡ Err fault
+stopped told before (Ok r) fault front e = absurd (cc e)
+stopped told before (Err other) fault front e = front ∙ e
 
 module _ (number : ℕ) (line after : List ℕ) (left : List (List ℕ)) (short : length line ≤ 256) where
   piece_front : (b : BegunMotion) (p : Piece) → 1 ≤ b.pieces_left → piece_said line ≡ Ok p
@@ -185,6 +190,14 @@ module _ (number : ℕ) (line after : List ℕ) (left : List (List ℕ)) (short 
         refused : CertificateFault → Left
         refused fault = Err fault
 
+  -- a line that none may follow
+  pub told_closed : (e : Expected) (told : Told) → IsSound e number → told_by e line ≡ Ok told → is_open (behind_told told) ≡ false →
+      left_from e number (line ∷ after ∷ left) ≡ Err (wrong_line (behind_told told) (next_number number))
+  told_closed e told sound h closed = stopped told
+      (left_from e number (line ∷ after ∷ left)) (left_from (behind_told told) (next_number number) (after ∷ left))
+      (wrong_line (behind_told told) (next_number number)) (told_front e told sound h)
+      (closed_said (behind_told told) (next_number number) (after ∷ left) closed)
+
 -- ---- what is expected
 
 -- the motion of a setting is one of those that come
@@ -203,11 +216,6 @@ counted_joined left (of.Off i) On h = omega arith
 counted_joined left (of.On j) Off h = omega arith
 counted_joined left (of.On j) On h = let some = some_on left j h in omega (arith, some)
 
-going_joined : (left : EntriesLeft) (i : Indices) → may_come left i ≡ true → AreOpen (Joined (left_behind left i))
-going_joined left (of.Both i j) h = refl
-going_joined left (of.Off i) h = refl
-going_joined left (of.On j) h = more_on left j h
-
 good_index : (s : Setting) (i : ℕ) → i ≤ INDEX_LIMIT → good_indices (index_at s i) ≡ true
 good_index Off i h = least i INDEX_LIMIT h
 good_index On i h = least i INDEX_LIMIT h
@@ -221,7 +229,6 @@ motion_next (Parted s n) line e some h =
       left = Parted s n;
       expected = refl;
       behind = refl;
-      going = refl;
       counted = λ t. counted_parted s n r.0.index t some;
       indices = good_index s r.0.index spelled.index;
       some = spelled.some;
@@ -233,7 +240,6 @@ motion_next (Joined left) line e some h =
       left = Joined left;
       expected = refl;
       behind = refl;
-      going = going_joined left e.indices spelled.taken.may;
       counted = λ t. counted_joined left e.indices t spelled.taken.may;
       indices = spelled.taken.indices;
       some = spelled.taken.some;
@@ -277,92 +283,67 @@ entries_some left h = some_of left.off left.on h where
   some_of zero (suc n) h = omega arith
   some_of (suc m) n h = omega arith
 
-motion_sound : (m : MotionsLeft) (number : ℕ) → HaveSome m → AreOpen m → IsSound (next.Motion m) number
+motion_sound : (m : MotionsLeft) (number : ℕ) → HaveSome m → go_on m ≡ true → IsSound (next.Motion m) number
 motion_sound m number some going = record {
   first = λ e. absurd (cc e);
   motion = λ k e. let same : m ≡ k = cc e in subst HaveSome same some;
   piece = λ b e. absurd (cc e);
-  going = λ k e. let same : m ≡ k = cc e in subst AreOpen same going;
-  going_behind = λ b e. absurd (cc e);
+  going = going;
 }
 
-entries_sound : (b : Bool) (left : EntriesLeft) (number : ℕ) → none_left left ≡ b → AreOpen (Joined left) → IsSound (next_of_entries b left) number
-entries_sound true left number e going =
-    record {
-      first = λ e. absurd (cc e);
-      motion = λ k e. absurd (cc e);
-      piece = λ b e. absurd (cc e);
-      going = λ k e. absurd (cc e);
-      going_behind = λ b e. absurd (cc e);
-    }
+-- where neither the first line nor a motion nor a piece comes next
+other_sound : (e : Expected) (number : ℕ) → (e ≡ next.Header → ⊥) → ((m : MotionsLeft) → e ≡ next.Motion m → ⊥) →
+    ((b : BegunMotion) → e ≡ next.Piece b → ⊥) → is_open e ≡ true
+    → IsSound e number
+other_sound e number no_header no_motion no_piece going = record {
+  first = λ x. absurd (no_header x);
+  motion = λ m x. absurd (no_motion m x);
+  piece = λ b x. absurd (no_piece b x);
+  going = going;
+}
+
+end_sound : (number : ℕ) → IsSound next.End number
+end_sound number = other_sound next.End number (λ x. cc x) (λ m x. cc x) (λ b x. cc x) refl
+
+setting_sound : (s : Setting) (number : ℕ) → IsSound (next.Setting s) number
+setting_sound s number = other_sound (next.Setting s) number (λ x. cc x) (λ m x. cc x) (λ b x. cc x) refl
+
+entries_sound : (b : Bool) (left : EntriesLeft) (number : ℕ) → none_left left ≡ b → is_open (next_of_entries b left) ≡ true →
+    IsSound (next_of_entries b left) number
+entries_sound true left number e going = end_sound number
 entries_sound false left number e going = motion_sound (Joined left) number (entries_some left e) going
 
-motions_sound : (m : MotionsLeft) (number : ℕ) → AreOpen m → IsSound (next_of_motions m) number
-motions_sound (Parted Off zero) number going =
-    record {
-      first = λ e. absurd (cc e);
-      motion = λ k e. absurd (cc e);
-      piece = λ b e. absurd (cc e);
-      going = λ k e. absurd (cc e);
-      going_behind = λ b e. absurd (cc e);
-    }
-motions_sound (Parted On zero) number going =
-    record {
-      first = λ e. absurd (cc e);
-      motion = λ k e. absurd (cc e);
-      piece = λ b e. absurd (cc e);
-      going = λ k e. absurd (cc e);
-      going_behind = λ b e. absurd (cc e);
-    }
+motions_sound : (m : MotionsLeft) (number : ℕ) → is_open (next_of_motions m) ≡ true → IsSound (next_of_motions m) number
+motions_sound (Parted Off zero) number going = setting_sound On number
+motions_sound (Parted On zero) number going = end_sound number
 motions_sound (Parted s (suc n)) number going = motion_sound (Parted s (suc n)) number (omega arith) refl
 motions_sound (Joined left) number going = entries_sound (none_left left) left number refl going
 
 version_sound : (v : Version) (number : ℕ) → IsSound (behind_version v) number
-version_sound One number =
-    record {
-      first = λ e. absurd (cc e);
-      motion = λ k e. absurd (cc e);
-      piece = λ b e. absurd (cc e);
-      going = λ k e. absurd (cc e);
-      going_behind = λ b e. absurd (cc e);
-    }
-version_sound Two number =
-    record {
-      first = λ e. absurd (cc e);
-      motion = λ k e. absurd (cc e);
-      piece = λ b e. absurd (cc e);
-      going = λ k e. absurd (cc e);
-      going_behind = λ b e. absurd (cc e);
-    }
+version_sound One number = setting_sound Off number
+version_sound Two number = other_sound next.Counts number (λ x. cc x) (λ m x. cc x) (λ b x. cc x) refl
 
-piece_sound : (b : BegunMotion) (number : ℕ) → 1 ≤ b.pieces_left → AreOpen b.behind → IsSound (next.Piece b) number
-piece_sound b number some going = record {
+piece_sound : (b : BegunMotion) (number : ℕ) → 1 ≤ b.pieces_left → IsSound (next.Piece b) number
+piece_sound b number some = record {
   first = λ e. absurd (cc e);
   motion = λ k e. absurd (cc e);
   piece = λ d e. let same : b ≡ d = cc e in subst (λ (x : BegunMotion). 1 ≤ x.pieces_left) same some;
-  going = λ k e. absurd (cc e);
-  going_behind = λ d e. let same : b ≡ d = cc e in subst (λ (x : BegunMotion). AreOpen x.behind) same going;
+  going = refl;
 }
 
-behind_sound : (b : BegunMotion) (last : Bool) (number : ℕ) → nat_le b.pieces_left 1 ≡ last → AreOpen b.behind → IsSound (behind_piece last b) number
+behind_sound : (b : BegunMotion) (last : Bool) (number : ℕ) → nat_le b.pieces_left 1 ≡ last → is_open (behind_piece last b) ≡ true →
+    IsSound (behind_piece last b) number
 behind_sound b true number e going = motions_sound b.behind number going
 behind_sound b false number e going = let more : 1 ≤ b.pieces_left - 1 = grind (arith, nat_tests) in
-    piece_sound (record b { pieces_left = b.pieces_left - 1 }) number more going
+    piece_sound (record b { pieces_left = b.pieces_left - 1 }) number more
 
-pub told_sound : (e : Expected) (told : Told) (old number : ℕ) → IsSound e old → IsNext e told → IsSound (behind_told told) number
-told_sound e (tell.Header v) old number sound h = version_sound v number
-told_sound e (tell.Setting s n) old number sound h = motions_sound (Parted s n) number refl
-told_sound e (tell.Counts off on) old number sound h = motions_sound (Joined (record { off = off; on = on; behind_on = false })) number refl
-told_sound e (tell.Motion b) old number sound h = piece_sound b number h.some h.going
-told_sound e (tell.Piece b p) old number sound h = behind_sound b (nat_le b.pieces_left 1) number refl (sound.going_behind b h.0)
-told_sound e tell.End old number sound h =
-    record {
-      first = λ x. absurd (cc x);
-      motion = λ k x. absurd (cc x);
-      piece = λ b x. absurd (cc x);
-      going = λ k x. absurd (cc x);
-      going_behind = λ b x. absurd (cc x);
-    }
+pub told_sound : (e : Expected) (told : Told) (number : ℕ) → IsNext e told → is_open (behind_told told) ≡ true → IsSound (behind_told told) number
+told_sound e (tell.Header v) number h going = version_sound v number
+told_sound e (tell.Setting s n) number h going = motions_sound (Parted s n) number going
+told_sound e (tell.Counts off on) number h going = motions_sound (Joined (record { off = off; on = on; behind_on = false })) number going
+told_sound e (tell.Motion b) number h going = piece_sound b number h.some
+told_sound e (tell.Piece b p) number h going = behind_sound b (nat_le b.pieces_left 1) number refl going
+told_sound e tell.End number h going = other_sound next.Nothing number (λ x. cc x) (λ m x. cc x) (λ b x. cc x) refl
 
 -- ---- fewer lines may come
 

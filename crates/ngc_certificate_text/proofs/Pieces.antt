@@ -1,6 +1,6 @@
 -- What a piece does to a reader of a certificate's text.
 use Rattle.std.proofs.Common.{◌≡◌, ℕ, ◌+◌, ◌≤◌, ap, subst, Bool, true, false, Option, None, Result, Ok, Err, List, [], ◌∷◌, ◌++◌, length, refl, sym, ◌∙◌, arith}
-use Rattle.std.specs.Prelude.{codes, ◌==◌, ◌&&◌, ◌||◌, not, nat_lt}
+use Rattle.std.specs.Prelude.{codes, ◌==◌, ◌||◌, not, nat_lt}
 use Rattle.std.proofs.lemmas.Bool.{and_from}
 use Rattle.std.proofs.lemmas.Bool.Decides.{nat_tests}
 use Rattle.std.proofs.lemmas.List.{append-nil}
@@ -96,12 +96,9 @@ some_huge left true false e f some going =
     record {
       line = codes "on 9999999 1";
       short = omega arith;
-      out = huge_on left (by_last (nat_lt 1 left.on) (left.off == 0) (nat_lt 0 left.on) e on);
+      out = huge_on left on;
       alone = refl;
-    } where
-      by_last : (a b c : Bool) → b ≡ true → c ≡ true → (a || (b && c)) ≡ true
-      by_last true b c g h = refl
-      by_last false b c g h = and_from _ _ g h
+    }
 some_huge left true true e f some going =
     let off : left.off ≡ 0 = grind (arith, nat_tests) in
     let on : left.on ≡ 0 = grind (arith, nat_tests) in
@@ -138,8 +135,7 @@ none_stands next.Header number fault sound all =
         first = λ x. absurd (cc x);
         motion = λ k x. absurd (cc x);
         piece = λ b x. absurd (cc x);
-        going = λ k x. absurd (cc x);
-        going_behind = λ b x. absurd (cc x);
+        going = refl;
       }
 none_stands (next.Setting Off) number fault sound all =
     bad (next.Setting Off) number fault (codes "setting off 9999999") refl sound (λ x. cc x)
@@ -156,7 +152,7 @@ none_stands (next.Motion (Parted s n)) number fault sound all =
     (ap (of_setting (index_at s)) huge_motion)) refl all
 none_stands (next.Motion (Joined left)) number fault sound all =
     let some = sound.motion (Joined left) refl in
-    let huge = some_huge left (left.off == 0) (left.on == 0) refl refl some (sound.going (Joined left) refl) in
+    let huge = some_huge left (left.off == 0) (left.on == 0) refl refl some sound.going in
     bad (next.Motion (Joined left)) number fault huge.line refl sound (λ x. cc x)
     (motion_flawed number huge.line [] [] Range huge.short (Joined left) some huge.out) huge.alone all
 none_stands (next.Piece b) number fault sound all =

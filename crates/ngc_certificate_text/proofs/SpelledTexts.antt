@@ -1,7 +1,7 @@
 -- The text of a certificate says it, and what says a certificate is its text.
-use Rattle.std.proofs.Common.{◌≡◌, ◌⊎◌, inl, inr, ℕ, zero, suc, ◌+◌, ◌-◌, ◌<◌, ◌≤◌, ap, subst, Bool, true, false, Result, Ok, Err, List, [], ◌∷◌, ◌++◌, length}
+use Rattle.std.proofs.Common.{◌≡◌, ℕ, zero, suc, ◌+◌, ◌-◌, ◌≤◌, ap, subst, Bool, true, false, Result, Ok, Err, List, [], ◌∷◌, ◌++◌, length}
 use Rattle.std.proofs.Common.{refl, sym, ◌∙◌, append_assoc, arith}
-use Rattle.std.specs.Prelude.{codes, decimal, ◌==◌, ◌&&◌, ◌||◌, not, nat_le, nat_lt, if◌then◌else◌, flat_map}
+use Rattle.std.specs.Prelude.{codes, decimal, ◌==◌, ◌&&◌, not, nat_le, nat_lt, if◌then◌else◌, flat_map}
 use Rattle.std.specs.List.{All, AllByRecursion, list_all, onto_first, join_with_byte}
 use Rattle.std.specs.Str.{bytes_eq}
 use Rattle.std.proofs.lemmas.Bool.{and_from, and_parts}
@@ -25,7 +25,7 @@ use Rattle.ngc_certificate_text.specs.declared.lines.EntryLine.{EntryLine}
 use Rattle.ngc_certificate_text.specs.declared.told.Version.{Version}
 use Rattle.ngc_certificate_text.specs.declared.told.Version.TheVariants.{One, Two}
 use Rattle.ngc_certificate_text.specs.EntryLines.{version_said, counts_said, entry_said, may_come, left_behind, all_left}
-use Rattle.ngc_certificate_text.specs.Joined.{Item, onto_motions, expansion, IsItem, is_on, may_follow, in_order, IsJoined, Form, Parted, Joined}
+use Rattle.ngc_certificate_text.specs.Joined.{Item, expansion, IsItem, in_order, IsJoined, Form, Parted, Joined}
 use Rattle.ngc_certificate_text.specs.Lines.{setting_said, motion_said, piece_said, end_said, are_steps}
 use Rattle.ngc_certificate_text.specs.Said.{lines_of, Place, Said, then_read, next_number, line_is, line_in, line_at, several, entry_at, setting_at}
 use Rattle.ngc_certificate_text.specs.Said.{settings_at, item_at, items_at, joined_at, said_with, version_is, nothing_in, ended, header_in, form_at, form_said}
@@ -329,26 +329,6 @@ record IsFirst (left : EntriesLeft) (i : Indices) (xs : List Item) : Type 0 wher
 above_zero : (m n : ℕ) → m ≡ suc n → nat_lt 0 m ≡ true
 above_zero m n e = grind (arith, nat_tests)
 
--- behind a motion of `on` alone more of `on` come, or nothing
-more_on : (xs : List Item) (off on : ℕ) → off ≡ length ((expansion xs).off) → on ≡ suc (length ((expansion xs).on)) → in_order true xs ≡ true →
-    (off ≡ 0) ⊎ (1 < on)
-more_on [] off on e f order = inl e
-more_on (x ∷ xs) off on e f order = inr (by_indices x.indices x.pieces (expansion xs) order f) where
-  by_indices : (i : Indices) (ps : List Piece) (c : CertificateData) → (may_follow true i && in_order (is_on i) xs) ≡ true →
-      on ≡ suc (length ((onto_motions i ps c).on)) → 1 < on
-  by_indices (of.Both i j) ps c h e = omega (arith, e)
-  by_indices (of.Off i) ps c h e = absurd (cc h)
-  by_indices (of.On j) ps c h e = omega (arith, e)
-
-last_on : (off on : ℕ) (xs : List Item) → off ≡ length ((expansion xs).off) → on ≡ suc (length ((expansion xs).on)) → in_order true xs ≡ true →
-    (nat_lt 1 on || ((off == 0) && nat_lt 0 on)) ≡ true
-last_on off on xs e f order = by_more (nat_lt 1 on) refl (more_on xs off on e f order) where
-  by_more : (b : Bool) → nat_lt 1 on ≡ b → (off ≡ 0) ⊎ (1 < on) → (b || ((off == 0) && nat_lt 0 on)) ≡ true
-  by_more true g h = refl
-  by_more false g (inl none) = let zero_off : (off == 0) ≡ true = grind (arith, nat_tests) in
-      and_from _ _ zero_off (above_zero on (length ((expansion xs).on)) f)
-  by_more false g (inr more) = absurd (grind (arith, nat_tests))
-
 first_of_left : (left : EntriesLeft) (i : Indices) (ps : List Piece) (xs : List Item) → AreLeft left (record { indices = i; pieces = ps } ∷ xs) →
     IsFirst left i xs
 first_of_left left (of.Both i j) ps xs are = record {
@@ -362,7 +342,7 @@ first_of_left left (of.Off i) ps xs are =
       behind = record { off = omega (arith, are.off); on = are.on; order = p.1 };
     }
 first_of_left left (of.On j) ps xs are = record {
-  may = last_on left.off left.on xs are.off are.on are.order;
+  may = above_zero left.on (length ((expansion xs).on)) are.on;
   behind = record { off = are.off; on = omega (arith, are.on); order = are.order };
 }
 

@@ -160,21 +160,28 @@ how_many (Joined left) = left.off + left.on
 abbrev pub HaveSome : MotionsLeft → Type 0
 HaveSome left = 1 ≤ how_many left
 
--- behind an entry of `on` alone no motions of `off` are left, or there are more of `on`
+-- Some motion may come next. After an entry of `on` alone none may where motions of `off` are left
+-- and none of `on`.
 abbrev pub go_on : MotionsLeft → Bool
 go_on (Parted s left) = true
 go_on (Joined left) = not left.behind_on || ((left.off == 0) || nat_lt 0 left.on)
 
-abbrev pub AreOpen : MotionsLeft → Type 0
-AreOpen left = IsTrue (go_on left)
+-- some line may come next: where none may, the next line is wrong whatever it says
+abbrev pub is_open : Expected → Bool
+is_open next.Header = true
+is_open (next.Setting s) = true
+is_open next.Counts = true
+is_open (next.Motion left) = go_on left
+is_open (next.Piece b) = true
+is_open next.End = true
+is_open next.Nothing = true
 
--- a motion or a piece that comes next is counted, and the first line has the first number
+-- some line may come next, a motion or a piece is counted, and the first line has the first number
 pub record IsSound (e : Expected) (number : ℕ) : Type 0 where
   pub first : e ≡ next.Header → number ≡ 1
   pub motion : (left : MotionsLeft) → e ≡ next.Motion left → HaveSome left
   pub piece : (b : BegunMotion) → e ≡ next.Piece b → 1 ≤ b.pieces_left
-  pub going : (left : MotionsLeft) → e ≡ next.Motion left → AreOpen left
-  pub going_behind : (b : BegunMotion) → e ≡ next.Piece b → AreOpen b.behind
+  pub going : IsTrue (is_open e)
 
 -- how many lines may come: a motion takes at most 65,536
 abbrev pub LINES_OF_MOTIONS : ℕ

@@ -1,6 +1,6 @@
 -- What the lines of version 2 say: the counts, and the entries that may come. Our own.
 use Rattle.std.specs.Prelude.{ℕ, ◌-◌, nat_lt, ◌==◌, ℤ, unsigned_abs, List, [], ◌∷◌, codes, Option}
-use Rattle.std.specs.Prelude.{Some, Result, Ok, Err, Bool, true, false, not, ◌&&◌, ◌||◌}
+use Rattle.std.specs.Prelude.{Some, Result, Ok, Err, Bool, true, false, not, ◌&&◌}
 use Rattle.std.specs.Prelude.{if◌then◌else◌}
 use Rattle.std.specs.Str.{bytes_eq}
 use Rattle.ngc_certificate_text.specs.declared.expected.EntriesLeft.{EntriesLeft}
@@ -46,12 +46,12 @@ all_left c = record { off = c.off; on = c.on; behind_on = false }
 abbrev pub none_left : EntriesLeft → Bool
 none_left left = (left.off == 0) && (left.on == 0)
 
--- An entry of `off` alone comes directly behind none of `on` alone. So the last motion of `on`
--- comes alone only where none of `off` is left.
+-- An entry may come where motions of its settings are left, but one of `off` alone not directly
+-- after one of `on` alone.
 abbrev pub may_come : EntriesLeft → Indices → Bool
 may_come left (Both i j) = nat_lt 0 left.off && nat_lt 0 left.on
 may_come left (Off i) = nat_lt 0 left.off && not left.behind_on
-may_come left (On j) = nat_lt 1 left.on || ((left.off == 0) && nat_lt 0 left.on)
+may_come left (On j) = nat_lt 0 left.on
 
 abbrev pub left_behind : EntriesLeft → Indices → EntriesLeft
 left_behind left (Both i j) = record { off = left.off - 1; on = left.on - 1; behind_on = false }

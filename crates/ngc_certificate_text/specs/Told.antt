@@ -21,7 +21,7 @@ use Rattle.ngc_certificate_text.specs.declared.told.Told.TheVariants as tell
 use Rattle.ngc_certificate_text.specs.declared.told.Version.{Version}
 use Rattle.ngc_certificate_text.specs.declared.told.Version.TheVariants.{One, Two}
 use Rattle.ngc_certificate_text.specs.Ahead.{Rest, Left, name_of, index_at, of_version, with_items}
-use Rattle.ngc_certificate_text.specs.Ahead.{with_pieces, next_of_motions, motions_behind, AreOpen}
+use Rattle.ngc_certificate_text.specs.Ahead.{with_pieces, next_of_motions, motions_behind}
 use Rattle.ngc_certificate_text.specs.Certificate.{PIECE_LIMIT, MOTION_LIMIT, good_piece}
 use Rattle.ngc_certificate_text.specs.EntryLines.{version_said, counts_said, entry_said, of_setting}
 use Rattle.ngc_certificate_text.specs.Joined.{good_indices}
@@ -92,7 +92,6 @@ pub record IsMotionTold (e : Expected) (b : BegunMotion) : Type 0 where
   pub left : MotionsLeft
   pub expected : e ≡ next.Motion left
   pub behind : b.behind ≡ motions_behind left b.indices
-  pub going : AreOpen b.behind
   pub counted : (s : Setting) → left_at left s ≡ left_at b.behind s + taken_at b.indices s
   pub indices : IsTrue (good_indices b.indices)
   pub some : 1 ≤ b.pieces_left

@@ -126,8 +126,8 @@ impl CertificateLines {
 
     /// What the first line tells that ends in these bytes, with the bytes behind it; or `None`
     /// where no line ends in them, and they are kept. A fault is answered as soon as it stands:
-    /// with its line's line feed, or with the 257th byte of a line that is too long. Behind a fault
-    /// there is nothing more to ask.
+    /// with its line's line feed, with the 257th byte of a line that is too long, or with the line
+    /// before it where no line may follow that one. Behind a fault there is nothing more to ask.
     pub fn next<'a>(
         &mut self,
         bytes: &'a [u8],

@@ -1,6 +1,6 @@
 ghost use Rattle.std.specs.Prelude.{◌≡◌, nat_le, IsTrue};
 ghost use Rattle.ngc_certificate_text.specs.Ahead.{next_setting, next_of_entries, next_of_motions};
-ghost use Rattle.ngc_certificate_text.specs.Ahead.{motions_behind};
+ghost use Rattle.ngc_certificate_text.specs.Ahead.{motions_behind, go_on, is_open};
 ghost use Rattle.ngc_certificate_text.specs.EntryLines.{none_left, may_come, left_behind};
 ghost use Rattle.ngc_certificate_text.specs.Told.{behind_piece, behind_told, behind_version};
 
@@ -112,7 +112,14 @@ impl EntriesLeft {
     pub(crate) fn may_be_on(&self) -> bool
         ensures { result ≡ may_come self.now (Indices.On 0) }
     {
-        self.on > 1 || self.off == 0 && self.on > 0
+        self.on > 0
+    }
+
+    // Whether some entry may come next.
+    fn go_on(&self) -> bool
+        ensures { result ≡ go_on (MotionsLeft.Joined self.now) }
+    {
+        !self.behind_on || self.off == 0 || self.on > 0
     }
 
     // What comes yet behind an entry.
@@ -181,6 +188,17 @@ impl Version {
 }
 
 impl Expected {
+    /// Whether some line may come next. After an entry of the last motion of `on` alone none may
+    /// while motions of `off` are left: `off` may not follow it, and `both` needs one of each.
+    pub(crate) fn is_open(&self) -> bool
+        ensures { result ≡ is_open self.now }
+    {
+        match self {
+            Expected::Motion(MotionsLeft::Joined(left)) => left.go_on(),
+            _ => true,
+        }
+    }
+
     /// What comes behind a line.
     pub(crate) fn behind_told(told: &Told) -> Expected
         ensures { result ≡ behind_told told.now }

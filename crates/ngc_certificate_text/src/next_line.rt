@@ -149,7 +149,21 @@ impl NextLine {
         }
     }
 
-    /// What the next line tells. A refused one leaves all as it was.
+    // The line that follows one that tells this.
+    fn behind(&self, told: &Told) -> NextLine
+        ensures { result ≡ record {
+          expected = behind_told told.now;
+          number = next_number self.now.number;
+        } }
+    {
+        NextLine {
+            expected: Expected::behind_told(told),
+            number: self.number.saturating_add(1),
+        }
+    }
+
+    /// What the next line tells. Where no line may follow it, the text is refused at the line that
+    /// would. A refusal leaves all as it was.
     pub(crate) fn read(&mut self, line: &[u8]) -> Result<Told, CertificateFault>
         requires { IsSound self.old.expected self.old.number }
         ensures tells { (next : List ℕ) (left : List (List ℕ)) →
@@ -169,8 +183,12 @@ impl NextLine {
         }
         match self.told(line) {
             Ok(told) => {
-                self.expected = Expected::behind_told(&told);
-                self.number = self.number.saturating_add(1);
+                let next = self.behind(&told);
+                // Whatever follows is wrong, so the fault stands already.
+                if !next.expected.is_open() {
+                    return Err(next.wrong_line());
+                }
+                *self = next;
                 Ok(told)
             }
             Err(flaw) => Err(self.fault(flaw)),

@@ -57,8 +57,8 @@ impl<A: Allocator> CertificateReader<A> {
     }
 
     /// Takes the next bytes of the text, any number of them. A fault is answered as soon as it
-    /// stands: by the piece with the line feed that ends its line, or with the 257th byte of a line
-    /// that is too long.
+    /// stands: by the piece with the line feed that ends its line, with the 257th byte of a line
+    /// that is too long, or with the line before it where no line may follow that one.
     pub fn feed(&mut self, piece: &[u8]) -> Result<(), CertificateFault>
         // The fault is the one that the lines so far have whatever follows, and where they have
         // none, none is answered.

@@ -8,7 +8,7 @@ use Rattle.ngc_certificate_text.proofs.certificate_lines.CertificateLines.new.Go
 
 first_sound : IsSound expect.Header 1
 first_sound =
-    record { first = λ e. refl; motion = λ k e. absurd (cc e); piece = λ b e. absurd (cc e); going = λ k e. absurd (cc e); going_behind = λ b e. absurd (cc e) }
+    record { first = λ e. refl; motion = λ k e. absurd (cc e); piece = λ b e. absurd (cc e); going = refl }
 
 pub returns-clause-text : goal.returns-clause-text
 returns-clause-text c bytes =

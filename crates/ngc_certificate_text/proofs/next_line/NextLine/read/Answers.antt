@@ -1,11 +1,11 @@
-use Rattle.std.proofs.Common.{◌≡◌, ◌<◌, ◌∷◌, ap, subst, refl, sym, ◌∙◌, length, Err, arith}
+use Rattle.std.proofs.Common.{◌≡◌, ◌<◌, ◌∷◌, ap, subst, sym, ◌∙◌, length, Err, true, false, arith}
 use Rattle.ngc_certificate_text.specs.declared.fault.CertificateFault.{CertificateFault}
 use Rattle.ngc_certificate_text.specs.declared.expected.Expected.{Expected}
-use Rattle.ngc_certificate_text.specs.Ahead.{Left, left_from, lines_ahead, IsSound}
-use Rattle.ngc_certificate_text.specs.Said.{next_number}
+use Rattle.ngc_certificate_text.specs.declared.next_line.NextLine.{NextLine}
+use Rattle.ngc_certificate_text.specs.Ahead.{Left, left_from, lines_ahead, wrong_line, is_open, IsSound}
 use Rattle.ngc_certificate_text.specs.Told.{IsFront, behind_told}
 use Rattle.ngc_certificate_text.proofs.LinesAhead.{wrong_said, two_left}
-use Rattle.ngc_certificate_text.proofs.NextLines.{told_front, told_refused, told_next, told_sound, told_lines}
+use Rattle.ngc_certificate_text.proofs.NextLines.{told_front, told_closed, told_refused, told_next, told_sound, told_lines}
 use Rattle.ngc_certificate_text.proofs.next_line.NextLine.read.Goals as goal
 
 abbrev refused : CertificateFault → Left
@@ -18,32 +18,44 @@ returns-then-line-gt-LINE_BYTES-clause-tells c line left =
     wrong_said n.expected n.number _ c.requires long (λ _. two_left c.args.line.now line left)
     ∙ ap (λ (f : CertificateFault). refused f) (sym c.wrong_line.ensures)
 
-pub returns-in-Ok-clause-tells : goal.returns-in-Ok-clause-tells
-returns-in-Ok-clause-tells c line left =
+pub returns-then-not-is_open-clause-tells : goal.returns-then-not-is_open-clause-tells
+returns-then-not-is_open-clause-tells c line left =
+    let n = c.args.self.now in
+    let told = c.in-Ok.told in
+    let expected : c.behind-next.result.expected ≡ behind_told told = ap (λ (x : NextLine). x.expected) c.behind-next.ensures in
+    let closed : is_open (behind_told told) ≡ false = ap is_open (sym expected) ∙ sym c.is_open.ensures ∙ c.if-not-is_open.true in
+    told_closed n.number c.args.line.now line left (omega arith) n.expected told c.requires (sym c.told.ensures ∙ c.in-Ok.is) closed
+    ∙ ap (λ (x : NextLine). refused (wrong_line x.expected x.number)) (sym c.behind-next.ensures)
+    ∙ ap (λ (f : CertificateFault). refused f) (sym c.wrong_line-then-not-is_open.ensures)
+
+pub returns-else-not-is_open-clause-tells : goal.returns-else-not-is_open-clause-tells
+returns-else-not-is_open-clause-tells c line left =
     let n = c.args.self.now in
     let told = c.in-Ok.told in
     let front = told_front n.number c.args.line.now line left (omega arith) n.expected told c.requires (sym c.told.ensures ∙ c.in-Ok.is) in
-    let after : left_from (behind_told told) (next_number n.number) (line ∷ left)
-    ≡ left_from c.behind_told-self.result c.saturating_add-self.result (line ∷ left) =
-    rw (c.behind_told-self.ensures, c.saturating_add-self.ensures) refl in
-    subst (λ (l : Left). IsFront told (left_from n.expected n.number (c.args.line.now ∷ line ∷ left)) l) after front
+    subst (λ (x : NextLine). IsFront told (left_from n.expected n.number (c.args.line.now ∷ line ∷ left)) (left_from x.expected x.number (line ∷ left)))
+    (sym c.behind-next.ensures) front
 
-pub returns-in-Ok-clause-expected : goal.returns-in-Ok-clause-expected
-returns-in-Ok-clause-expected c =
-    let n = c.args.self.now in
-    (told_next n.expected n.number c.args.line.now c.in-Ok.told c.requires (sym c.told.ensures ∙ c.in-Ok.is), c.behind_told-self.ensures)
+pub returns-else-not-is_open-clause-expected : goal.returns-else-not-is_open-clause-expected
+returns-else-not-is_open-clause-expected c =
+    let n = c.args.self.now in (
+      told_next n.expected n.number c.args.line.now c.in-Ok.told c.requires (sym c.told.ensures ∙ c.in-Ok.is),
+      ap (λ (x : NextLine). x.expected) c.behind-next.ensures,
+    )
 
-pub returns-in-Ok-clause-sound : goal.returns-in-Ok-clause-sound
-returns-in-Ok-clause-sound c =
+pub returns-else-not-is_open-clause-sound : goal.returns-else-not-is_open-clause-sound
+returns-else-not-is_open-clause-sound c =
     let n = c.args.self.now in
-    subst (λ (e : Expected). IsSound e c.saturating_add-self.result) (sym c.behind_told-self.ensures)
-    (told_sound n.expected c.in-Ok.told n.number c.saturating_add-self.result c.requires
-    (told_next n.expected n.number c.args.line.now c.in-Ok.told c.requires (sym c.told.ensures ∙ c.in-Ok.is)))
+    let expected : c.behind-next.result.expected ≡ behind_told c.in-Ok.told = ap (λ (x : NextLine). x.expected) c.behind-next.ensures in
+    let open_next : is_open (behind_told c.in-Ok.told) ≡ true = ap is_open (sym expected) ∙ sym c.is_open.ensures ∙ c.if-not-is_open.false in
+    subst (λ (e : Expected). IsSound e c.behind-next.result.number) (sym expected)
+    (told_sound n.expected c.in-Ok.told c.behind-next.result.number
+    (told_next n.expected n.number c.args.line.now c.in-Ok.told c.requires (sym c.told.ensures ∙ c.in-Ok.is)) open_next)
 
-pub returns-in-Ok-clause-progress : goal.returns-in-Ok-clause-progress
-returns-in-Ok-clause-progress c =
+pub returns-else-not-is_open-clause-progress : goal.returns-else-not-is_open-clause-progress
+returns-else-not-is_open-clause-progress c =
     let n = c.args.self.now in
-    let new = ap lines_ahead c.behind_told-self.ensures in
+    let new = ap (λ (x : NextLine). lines_ahead x.expected) c.behind-next.ensures in
     omega (
       arith,
       new,
