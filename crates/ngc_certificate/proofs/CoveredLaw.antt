@@ -40,7 +40,7 @@ cut_box_is : (step : ℤ) (a : ArcShape) (last : Bool) (begin : Cut) (q : Point2
     arc_box step a (stretch true last begin) q ≡ cut_box step a (place_of a begin) q
 cut_box_is step a last begin q large = ap (λ (b : Bool). if b then cut_box step a (place_of a begin) q else swept_box step a) large
 
-cut_boxes_are : (step : ℤ) (a : ArcShape) (begin : Cut) (cuts : List Cut) → is_large step a ≡ true →
+pub cut_boxes_are : (step : ℤ) (a : ArcShape) (begin : Cut) (cuts : List Cut) → is_large step a ≡ true →
     boxes_from step (Arc a) true begin cuts ≡ cut_boxes step a (place_of a begin) (map (place_of a) cuts)
 cut_boxes_are step a begin [] large = refl
 cut_boxes_are step a begin (cut ∷ []) large = ap (λ b. b ∷ []) (cut_box_is step a true begin (place_of a cut) large)

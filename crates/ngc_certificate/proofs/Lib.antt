@@ -14,6 +14,8 @@ mod AxisBetween
 pub mod CoveredLines
 -- The law: lines by their pieces, arcs by their swept box or by what lies about their cuts.
 pub mod CoveredLaw
+-- The boxes of an arc's pieces, one piece more at a time.
+pub mod CutPieces
 -- Tests that are true.
 pub mod Truths
 -- What a cut arc that pieces share tells of their boxes.
@@ -50,3 +52,5 @@ pub mod SomeMade
 pub mod Oks
 -- Which commands aren't cleared, beside what is made.
 pub mod UnclearedLaws
+-- Past the commands before the one at which a setting is refused, and past that one.
+pub mod RefusedLaws

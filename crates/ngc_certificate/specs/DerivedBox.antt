@@ -1,6 +1,6 @@
 -- The box that a piece of a motion needs at least. Our own.
-use Rattle.std.specs.Prelude.{ℕ, ℤ, pos, ◌+ℤ◌, ◌-ℤ◌, ◌*ℤ◌, List, [], ◌∷◌, Bool, true, false, ◌&&◌}
-use Rattle.std.specs.Prelude.{if◌then◌else◌}
+use Rattle.std.specs.Prelude.{◌≡◌, ℕ, ℤ, pos, ◌+ℤ◌, ◌-ℤ◌, ◌*ℤ◌, List, [], ◌∷◌, map, Bool, true}
+use Rattle.std.specs.Prelude.{false, ◌&&◌, if◌then◌else◌}
 use Rattle.ngc_fixed_length.specs.Grid.{grid}
 use Rattle.std.specs.Int.{int_min, int_max}
 use Rattle.ngc_fixed_length.specs.Boxes.{grid_above, grid_below, box_of, common_box}
@@ -13,6 +13,7 @@ use Rattle.ngc_arc_geometry.specs.CutArc.{cut_box, is_large}
 use Rattle.ngc_canonical.specs.declared.movement.Way.{Way}
 use Rattle.ngc_canonical.specs.declared.movement.Way.TheVariants.{Line, Arc}
 use Rattle.ngc_certificate_text.specs.declared.piece.Cut.{Cut}
+use Rattle.ngc_certificate_text.specs.declared.piece.Piece.{Piece}
 use Rattle.ngc_certificate.specs.declared.stretch.Stretch.{Stretch}
 use Rattle.ngc_certificate_text.specs.Certificate.{WHOLE}
 use Rattle.ngc_certificate.specs.Chain.{part_of, place_of, first_cut, stretch, are_several}
@@ -69,3 +70,8 @@ boxes_from step w several begin (cut ∷ next ∷ cuts) =
 
 abbrev pub derived_boxes : ℤ → Way → List Cut → List GridBox
 derived_boxes step w cuts = boxes_from step w (are_several cuts) (first_cut w) cuts
+
+-- the box of each piece is its derived box
+abbrev pub HaveDerivedBoxes : ℤ → Way → List Piece → Type 0
+HaveDerivedBoxes step w pieces = map (λ (p : Piece). p.bounds) pieces
+    ≡ derived_boxes step w (map (λ (p : Piece). p.end) pieces)

@@ -24,7 +24,7 @@ use Rattle.ngc_certificate_text.specs.declared.piece.Setting.TheVariants.{Off, O
 use Rattle.ngc_certificate_text.specs.Certificate.{WHOLE, Entry, CertificateData}
 use Rattle.ngc_certificate.specs.declared.fault.MakeFault.{MakeFault}
 use Rattle.ngc_certificate.specs.declared.fault.MakeFault.TheVariants.{NotCleared, Memory}
-use Rattle.ngc_certificate.specs.DerivedBox.{line_box}
+use Rattle.ngc_certificate.specs.DerivedBox.{line_box, HaveDerivedBoxes}
 use Rattle.ngc_certificate.specs.PieceFault.{pieces_fault, place_fault}
 
 -- the line between two cuts
@@ -74,10 +74,12 @@ unless_met (Some fixture) k rest = Err k
 
 -- ---- what may be found for a motion
 
--- an arc in several pieces, as many as are allowed, that no refusal meets
+-- an arc in several pieces, at most as many as are allowed, each in its derived box, that no refusal
+-- meets
 pub record IsCutClear (machine : MachineFile) (most : ℕ) (tool : Option Tool) (a : ArcShape)
     (pieces : List Piece) : Type 0 where
   pub few : length pieces ≤ most
+  pub boxes : HaveDerivedBoxes machine.step (Arc a) pieces
   pub clear : pieces_fault machine tool (Arc a) pieces ≡ None
 
 -- such pieces, or none
@@ -85,7 +87,7 @@ abbrev pub MayCut : MachineFile → ℕ → Option Tool → ArcShape → Option 
 MayCut machine most tool a None = Unit {0}
 MayCut machine most tool a (Some pieces) = IsCutClear machine most tool a pieces
 
--- an arc stands in one piece where that clears; else where it is cut is free
+-- an arc stands in one piece where that clears; else only where it is cut is free
 pub record MayStand (machine : MachineFile) (most : ℕ) (tool : Option Tool) (a : ArcShape)
     (found : Option (List Piece)) : Type 0 where
   pub whole : is_none (pieces_fault machine tool (Arc a) (pieces_of machine.step (Arc a) 1))

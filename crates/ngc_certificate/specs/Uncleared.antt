@@ -61,7 +61,17 @@ NoneUnclearedIsMade = (machine : MachineFile) (most : ℕ) (commands : List Comm
     AreUncleared machine most commands [] →
     (entries : List Entry) × IsSettingMade machine most commands (Ok entries)
 
+-- a list that a command begins
+abbrev pub BeginsWith : ℕ → List ℕ → Type 0
+BeginsWith k ks = (rest : List ℕ) × (ks ≡ k ∷ rest)
+
 -- ---- from one command to the next
+
+-- the tool that is mounted and the place that is reached behind a command
+abbrev pub past : Action → Reached → Reached
+past (Move m) r = record { tool = r.tool; place = end_of m.way }
+past (Mount new) r = record { tool = new; place = r.place }
+past _ r = r
 
 -- command k leads on, cleared or not
 abbrev pub LeadsPast : MachineFile → ℕ → ℕ → Action → Reached → Bool → Reached → Type 0

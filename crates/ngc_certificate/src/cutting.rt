@@ -1,8 +1,12 @@
 //! Arcs cut into pieces that clear.
-ghost use Rattle.std.specs.Prelude.{◌≡◌, ◌≤◌, IfOk, IfSome, IsTrue, length};
+ghost use Rattle.std.specs.Prelude.{◌≡◌, ◌≤◌, IfOk, IfSome, IsTrue, length, true};
 ghost use Rattle.std.specs.List.{list_all};
 ghost use Rattle.ngc_fixed_length.specs.Signed.{is_within};
+ghost use Rattle.ngc_arc_geometry.specs.CutArc.{cut_box};
+ghost use Rattle.ngc_canonical.specs.declared.movement.Way.TheVariants as ways;
 ghost use Rattle.ngc_certificate_text.specs.Certificate.{good_cut, good_piece};
+ghost use Rattle.ngc_certificate.specs.Chain.{place_of};
+ghost use Rattle.ngc_certificate.specs.DerivedBox.{HaveDerivedBoxes};
 
 use crate::chain::place_of;
 use crate::furthest::{Band, Begin};
@@ -87,7 +91,9 @@ impl<A: Allocator> Cutter<'_, A> {
 
     /// The piece from a point on that goes as far as it may, where a certificate can say its cut.
     fn next_piece(&self, point: &Point2) -> Option<Piece>
-        ensures { IfSome result (λ p. IsTrue (good_piece p)) }
+        ensures good { IfSome result (λ p. IsTrue (good_piece p)) }
+        ensures bounds { IfSome result (λ p. p.bounds ≡ cut_box self.now.on_grid.step
+            self.now.on_grid.arc point.now (place_of self.now.on_grid.arc p.end)) }
     {
         let place = self.furthest(point)?;
         if !is_good_cut(&place) {
@@ -106,7 +112,9 @@ impl<'a, A: Allocator> Cutter<'a, A> {
         tool: &'a Option<Tool>,
         arc: &'a Arc,
         stops: Stops,
-    ) -> Cutter<'a, A> {
+    ) -> Cutter<'a, A>
+        ensures { result.on_grid ≡ record { arc = arc.now; step = machine.now.step } }
+    {
         let band = Band::of(arc, machine.step.nanometres().unsigned_abs());
         let stop_at = match stops {
             Stops::Inner => band.inner,
@@ -123,9 +131,9 @@ impl<'a, A: Allocator> Cutter<'a, A> {
     }
 }
 
-/// Fills `pieces` with an arc that is cut into at most `most` of them, each as long as clears it,
-/// by way of the quadrant directions ahead, and answers whether several pieces reach its end. Where
-/// they don't, what stands in `pieces` says nothing.
+/// Fills `pieces` with an arc that is cut into at most `most` of them, each as long as clears it
+/// and in its derived box, by way of the quadrant directions ahead, and answers whether several
+/// pieces reach its end. Where they don't, what stands in `pieces` says nothing.
 pub(crate) fn cut_arc<A: Allocator>(
     machine: &Machine<A>,
     tool: &Option<Tool>,
@@ -136,6 +144,8 @@ pub(crate) fn cut_arc<A: Allocator>(
 ) -> Result<bool, AllocError>
     ensures few { IfOk result (λ reached. length pieces.new.items ≤ most) }
     ensures good { IfOk result (λ reached. IsTrue (list_all good_piece pieces.new.items)) }
+    ensures boxes { IfOk result (λ reached. reached ≡ true →
+        HaveDerivedBoxes machine.now.step (ways.Arc arc.now) pieces.new.items) }
 {
     pieces.clear();
     let cutter = Cutter::new(machine, tool, arc, stops);

@@ -26,6 +26,6 @@ pub use fault::{MakeFault, MemoryFault, PieceFault, PieceRefusal};
 pub use joiner::join;
 pub use maker::{make, make_alike};
 pub use ngc_certificate_text::{Certificate, Cut, Motions, Piece, Setting};
-pub use not_cleared::uncleared;
+pub use not_cleared::{uncleared, uncleared_from};
 pub use pieces::{PieceJudge, piece_fault, pieces_fault, place_fault};
 pub use stretch::Stretch;
