@@ -31,6 +31,13 @@ millimetres_a_minute m rate = rounded (60 * speed m rate) 1000000000
 abbrev pub acceleration : MachineFile → ℕ → ℕ
 acceleration m change = rounded (gain m change) 1000000000
 
--- towards the centre of an arc: the square of the speed is at most this times the radius
-abbrev pub arc_acceleration : MachineFile → ℕ → ℕ
-arc_acceleration m turn = rounded (gain m turn) 1000000000000000
+-- the greatest acceleration towards the centre of an arc with a radius of a step or more, in
+-- millionths of a millionth of a nanometre per second squared. The machine's turn times the radius
+-- bounds the square of the rate, which is that of the axis that moves most. Where the arc runs along
+-- an axis, its speed is that rate. Where it runs diagonally, two axes have that rate: the square of
+-- the speed is twice as large, and so is the acceleration
+abbrev pub pull : MachineFile → ℕ
+pull m = 2 * gain m m.turn
+
+abbrev pub arc_acceleration : MachineFile → ℕ
+arc_acceleration m = rounded (pull m) 1000000000000000

@@ -1,7 +1,8 @@
 -- How far the tools of a table reach. Our own.
-use Rattle.std.specs.Prelude.{◌≤◌, ℤ, pos, ◌+ℤ◌, ◌-ℤ◌, int_le, unsigned_abs, List, [], ◌∷◌, Bool}
-use Rattle.std.specs.Prelude.{◌||◌}
+use Rattle.std.specs.Prelude.{◌≤◌, ℤ, pos, ◌+ℤ◌, ◌-ℤ◌, int_lt, int_le, unsigned_abs, List, []}
+use Rattle.std.specs.Prelude.{◌∷◌, Bool, ◌||◌}
 use Rattle.std.specs.Int.{int_min, int_max}
+use Rattle.ngc_fixed_length.specs.declared.points.Point3.{Point3}
 use Rattle.ngc_machine.specs.Machine.{MachineFile}
 use Rattle.ngc_machine.specs.declared.machine.Fixture.{Fixture}
 use Rattle.ngc_machine.specs.declared.parts.Part.{Part}
@@ -46,6 +47,17 @@ is_out_of_reach m r f =
     is_beyond (m.low.x -ℤ r.radius) (m.high.x +ℤ r.radius) f.low.x f.high.x ||
     (is_beyond (m.low.y -ℤ r.radius) (m.high.y +ℤ r.radius) f.low.y f.high.y ||
     is_beyond (m.low.z +ℤ r.bottom) (m.high.z +ℤ r.top) f.low.z f.high.z)
+
+-- a coordinate is below the one or above the other
+abbrev pub is_outside : ℤ → ℤ → ℤ → Bool
+is_outside low high z = int_lt z low || int_lt high z
+
+-- no tool's tip can be brought to a point: it lies outside the travel, which tools lengthen
+-- downwards
+abbrev pub is_outside_travel : MachineFile → Reach → Point3 → Bool
+is_outside_travel m r p =
+    is_outside m.low.x m.high.x p.x
+    || (is_outside m.low.y m.high.y p.y || is_outside (m.low.z +ℤ r.bottom) m.high.z p.z)
 
 -- no farther than tools go
 pub record IsReach (r : Reach) : Type 0 where

@@ -1,16 +1,20 @@
 -- What a setup sheet tells of a machine and of its tools. Our own.
-use Rattle.std.specs.Prelude.{ℕ, ◌+◌, min, ℤ, pos, ◌+ℤ◌, ◌*ℤ◌, List, [], ◌∷◌, ◌++◌, map, filter}
-use Rattle.std.specs.Prelude.{flat_map, Bool, true, false, if◌then◌else◌}
+use Rattle.std.specs.Prelude.{ℕ, ◌+◌, min, nat_lt, ℤ, pos, ◌+ℤ◌, ◌*ℤ◌, List, [], ◌∷◌, ◌++◌, map}
+use Rattle.std.specs.Prelude.{filter, flat_map, Bool, true, false, ◌&&◌, if◌then◌else◌}
+use Rattle.std.specs.Ordering.{int_eq}
+use Rattle.ngc_fixed_length.specs.declared.modes.System.{System}
+use Rattle.ngc_fixed_length.specs.declared.modes.System.TheVariants as systems
+use Rattle.ngc_fixed_length.specs.declared.points.Point3.{Point3}
 use Rattle.ngc_machine.specs.Machine.{MachineFile}
 use Rattle.ngc_machine.specs.declared.machine.Fixture.{Fixture}
 use Rattle.ngc_machine.specs.declared.parts.Part.{Part}
 use Rattle.ngc_machine.specs.declared.tools.Tool.{Tool}
 use Rattle.ngc_setup_sheet.specs.Figures.{steps_a_millimetre, millimetres_a_minute, acceleration}
 use Rattle.ngc_setup_sheet.specs.Figures.{arc_acceleration}
-use Rattle.ngc_setup_sheet.specs.Reaches.{reach_of, is_out_of_reach}
+use Rattle.ngc_setup_sheet.specs.Reaches.{reach_of, is_out_of_reach, is_outside_travel}
 use Rattle.ngc_setup_sheet.specs.Spelling.{lines_text}
 use Rattle.ngc_setup_sheet.specs.Warnings.{is_odd_speed, is_odd_acceleration, is_short_travel}
-use Rattle.ngc_setup_sheet.specs.Warnings.{is_thin, is_short_tool, is_odd_offset}
+use Rattle.ngc_setup_sheet.specs.Warnings.{is_slow_on_arcs, is_thin, is_short_tool, is_odd_offset}
 use Rattle.ngc_setup_sheet.specs.declared.line.Axis.TheVariants as axes
 use Rattle.ngc_setup_sheet.specs.declared.line.Fact.{Fact}
 use Rattle.ngc_setup_sheet.specs.declared.line.Fact.TheVariants as facts
@@ -21,9 +25,13 @@ use Rattle.ngc_setup_sheet.specs.declared.line.Warning.{Warning}
 use Rattle.ngc_setup_sheet.specs.declared.line.Warning.TheVariants as warnings
 use Rattle.ngc_setup_sheet.specs.declared.reach.Reach.{Reach}
 
+-- a line that is there where something holds
+abbrev pub line_where : Bool → Line → List Line
+line_where holds l = if holds then l ∷ [] else []
+
 -- a line where something looks wrong
 abbrev pub warned : Bool → Warning → List Line
-warned wrong w = if wrong then lines.Warning w ∷ [] else []
+warned wrong w = line_where wrong (lines.Warning w)
 
 abbrev pub from : Fact → ℤ → ℤ → Line
 from fact low high = lines.Fact fact (figures.Span (record { low = low; high = high }))
@@ -34,15 +42,24 @@ from fact low high = lines.Fact fact (figures.Span (record { low = low; high = h
 abbrev pub axis_speed : MachineFile → ℕ → ℕ
 axis_speed m rate = millimetres_a_minute m (min m.max_rate rate)
 
-abbrev pub machine_facts : MachineFile → List Line
-machine_facts m =
+abbrev pub step_facts : MachineFile → List Line
+step_facts m =
     lines.Machine ∷ lines.Fact facts.Step (figures.Length m.step)
     ∷ lines.Fact facts.Steps (figures.PerMillimetre (steps_a_millimetre m)) ∷
     lines.Fact facts.Ticks (figures.PerSecond m.ticks_per_second) ∷
     lines.Fact facts.GreatestSpeed (figures.Speed (millimetres_a_minute m m.max_rate)) ∷
-    lines.Fact facts.CornerSpeed (figures.Speed (millimetres_a_minute m m.corner)) ∷
+    lines.Fact facts.CornerSpeed (figures.Speed (millimetres_a_minute m m.corner)) ∷ []
+
+-- a jump of 0 is none
+abbrev pub jump_facts : MachineFile → List Line
+jump_facts m =
+    line_where (nat_lt 0 m.jump)
+    (lines.Fact facts.Jump (figures.Speed (millimetres_a_minute m m.jump)))
+
+abbrev pub rate_facts : MachineFile → List Line
+rate_facts m =
     lines.Fact facts.Acceleration (figures.Acceleration (acceleration m m.change)) ∷
-    lines.Fact facts.ArcAcceleration (figures.Acceleration (arc_acceleration m m.turn)) ∷
+    lines.Fact facts.ArcAcceleration (figures.Acceleration (arc_acceleration m)) ∷
     lines.Fact (facts.Speed axes.X) (figures.Speed (axis_speed m m.axis_rates.x)) ∷
     lines.Fact (facts.Speed axes.Y) (figures.Speed (axis_speed m m.axis_rates.y)) ∷
     lines.Fact (facts.Speed axes.Z) (figures.Speed (axis_speed m m.axis_rates.z)) ∷ []
@@ -55,16 +72,46 @@ machine_places m =
     ∷ lines.Fact facts.Home (figures.Place m.home28) ∷
     lines.Fact facts.SecondHome (figures.Place m.home30) ∷ []
 
+-- where an origin is that isn't set, as each is where the file names none
+abbrev pub is_zero : Point3 → Bool
+is_zero p = int_eq p.x (pos 0) && (int_eq p.y (pos 0) && int_eq p.z (pos 0))
+
+abbrev pub origin_lines : MachineFile → Reach → System → Point3 → List Line
+origin_lines m r s p =
+    if is_zero p then [] else
+    lines.Fact (facts.Origin s) (figures.Place p)
+    ∷ warned (is_outside_travel m r p) (warnings.Origin s)
+
+-- coordinate systems in the order of the file
+abbrev pub next_system : System → System
+next_system systems.First = systems.Second
+next_system systems.Second = systems.Third
+next_system systems.Third = systems.Fourth
+next_system systems.Fourth = systems.Fifth
+next_system systems.Fifth = systems.Sixth
+next_system systems.Sixth = systems.Seventh
+next_system systems.Seventh = systems.Eighth
+next_system systems.Eighth = systems.Ninth
+next_system systems.Ninth = systems.Ninth
+
+-- those of the systems from s on
+abbrev pub origins_from : MachineFile → Reach → System → List Point3 → List Line
+origins_from m r s [] = []
+origins_from m r s (p ∷ ps) = origin_lines m r s p ++ origins_from m r (next_system s) ps
+
 abbrev pub machine_warnings : MachineFile → List Line
 machine_warnings m =
     warned (is_odd_speed m) warnings.Speed
     ++ (warned (is_odd_acceleration m) warnings.Acceleration ++
+    (warned (is_slow_on_arcs m) warnings.Arcs ++
     (warned (is_short_travel m.low.x m.high.x) (warnings.Travel axes.X)
     ++ (warned (is_short_travel m.low.y m.high.y) (warnings.Travel axes.Y) ++
-    warned (is_short_travel m.low.z m.high.z) (warnings.Travel axes.Z))))
+    warned (is_short_travel m.low.z m.high.z) (warnings.Travel axes.Z)))))
 
-unfoldable pub machine_lines : MachineFile → List Line
-machine_lines m = machine_facts m ++ (machine_places m ++ machine_warnings m)
+unfoldable pub machine_lines : MachineFile → Reach → List Line
+machine_lines m r =
+    step_facts m ++ (jump_facts m ++ (rate_facts m ++ (machine_places m ++
+    (origins_from m r systems.First m.origins ++ machine_warnings m))))
 
 -- ---- fixtures
 
@@ -110,7 +157,8 @@ tool_lines t =
 
 abbrev pub sheet : MachineFile → List Tool → List Line
 sheet m tools =
-    machine_lines m ++ (fixtures_from m (reach_of tools) 0 m.fixtures ++ flat_map tool_lines tools)
+    machine_lines m (reach_of tools)
+    ++ (fixtures_from m (reach_of tools) 0 m.fixtures ++ flat_map tool_lines tools)
 
 -- its text
 abbrev pub sheet_text : MachineFile → List Tool → List ℕ

@@ -1,6 +1,8 @@
 -- How the lines of a setup sheet are spelled. Our own.
 use Rattle.std.specs.Prelude.{ℕ, ◌*◌, ◌/◌, ◌%◌, ◌-ℤ◌, unsigned_abs, List, ◌++◌, flat_map, codes}
 use Rattle.std.specs.Prelude.{decimal}
+use Rattle.ngc_fixed_length.specs.declared.modes.System.{System}
+use Rattle.ngc_fixed_length.specs.declared.modes.System.TheVariants as systems
 use Rattle.ngc_fixed_length.specs.declared.points.Point3.{Point3}
 use Rattle.ngc_text.specs.Millimetres.{number_text, size_text, length_text, mm_text}
 use Rattle.ngc_setup_sheet.specs.declared.line.Axis.TheVariants as axes
@@ -25,12 +27,36 @@ abbrev pub place_text : Point3 → List ℕ
 place_text p =
     codes "X " ++ length_text p.x ++ codes " Y " ++ length_text p.y ++ codes " Z " ++ mm_text p.z
 
+-- coordinate systems are told by the codes that select them
+unfoldable pub system_text : System → List ℕ
+system_text systems.First = codes "G54"
+system_text systems.Second = codes "G55"
+system_text systems.Third = codes "G56"
+system_text systems.Fourth = codes "G57"
+system_text systems.Fifth = codes "G58"
+system_text systems.Sixth = codes "G59"
+system_text systems.Seventh = codes "G59.1"
+system_text systems.Eighth = codes "G59.2"
+system_text systems.Ninth = codes "G59.3"
+
+unfoldable pub origin_text : System → List ℕ
+origin_text systems.First = codes "  origin of G54         "
+origin_text systems.Second = codes "  origin of G55         "
+origin_text systems.Third = codes "  origin of G56         "
+origin_text systems.Fourth = codes "  origin of G57         "
+origin_text systems.Fifth = codes "  origin of G58         "
+origin_text systems.Sixth = codes "  origin of G59         "
+origin_text systems.Seventh = codes "  origin of G59.1       "
+origin_text systems.Eighth = codes "  origin of G59.2       "
+origin_text systems.Ninth = codes "  origin of G59.3       "
+
 unfoldable pub fact_text : Fact → List ℕ
 fact_text facts.Step = codes "  step                  "
 fact_text facts.Steps = codes "  steps                 "
 fact_text facts.Ticks = codes "  ticks                 "
 fact_text facts.GreatestSpeed = codes "  greatest speed        "
 fact_text facts.CornerSpeed = codes "  speed at corners      "
+fact_text facts.Jump = codes "  jump at corners       "
 fact_text facts.Acceleration = codes "  acceleration          "
 fact_text facts.ArcAcceleration = codes "  acceleration on arcs  "
 fact_text (facts.Speed axes.X) = codes "  speed of X            "
@@ -42,6 +68,7 @@ fact_text (facts.Travel axes.Z) = codes "  travel on Z           "
 fact_text facts.Start = codes "  start                 "
 fact_text facts.Home = codes "  home of G28           "
 fact_text facts.SecondHome = codes "  home of G30           "
+fact_text (facts.Origin s) = origin_text s
 fact_text (facts.Extent axes.X) = codes "  on X                  "
 fact_text (facts.Extent axes.Y) = codes "  on Y                  "
 fact_text (facts.Extent axes.Z) = codes "  on Z                  "
@@ -61,9 +88,13 @@ figure_text (figures.Part s diameter) = span_text s ++ codes ", diameter " ++ mm
 unfoldable pub warning_text : Warning → List ℕ
 warning_text warnings.Speed = codes "the greatest speed is not from 0.1 to 1000 mm/s"
 warning_text warnings.Acceleration = codes "the acceleration is not from 1 to 20000 mm/s^2"
+warning_text warnings.Arcs = codes
+    "the acceleration on arcs is below 1 mm/s^2, so arcs crawl: raise `turn` to about 500000 times `change`"
 warning_text (warnings.Travel axes.X) = codes "the travel on X is less than 10 mm"
 warning_text (warnings.Travel axes.Y) = codes "the travel on Y is less than 10 mm"
 warning_text (warnings.Travel axes.Z) = codes "the travel on Z is less than 10 mm"
+warning_text (warnings.Origin s) = codes "the origin of " ++ system_text s
+    ++ codes " is outside the travel: no tool reaches it"
 warning_text (warnings.Thin n) = codes "fixture " ++ decimal n
     ++ codes " is thinner than 0.1 mm: its corners are in nanometres"
 warning_text (warnings.OutOfReach n) =

@@ -3,7 +3,7 @@ use Rattle.std.specs.Prelude.{nat_lt, ℤ, pos, ◌-ℤ◌, ◌*ℤ◌, int_lt, 
 use Rattle.ngc_machine.specs.Machine.{MachineFile}
 use Rattle.ngc_machine.specs.declared.machine.Fixture.{Fixture}
 use Rattle.ngc_machine.specs.declared.tools.Tool.{Tool}
-use Rattle.ngc_setup_sheet.specs.Figures.{speed, gain}
+use Rattle.ngc_setup_sheet.specs.Figures.{speed, gain, pull}
 use Rattle.ngc_setup_sheet.specs.Reaches.{top_of}
 
 -- the greatest speed is below 0.1 mm/s or above 1,000 mm/s
@@ -15,6 +15,12 @@ is_odd_speed m =
 abbrev pub is_odd_acceleration : MachineFile → Bool
 is_odd_acceleration m =
     nat_lt (gain m m.change) 1000000000000 || nat_lt 20000000000000000 (gain m m.change)
+
+-- the greatest acceleration towards the centre of an arc is below 1 mm/s², the least that is not
+-- odd of the acceleration along a path. An arc with a radius of 10 mm is then slower than 3.2 mm/s
+-- everywhere: the square of the speed is the acceleration times the radius
+abbrev pub is_slow_on_arcs : MachineFile → Bool
+is_slow_on_arcs m = nat_lt (pull m) 1000000000000000000
 
 -- from one coordinate to another it is less than so many nanometres
 abbrev pub is_shorter : ℤ → ℤ → ℤ → Bool

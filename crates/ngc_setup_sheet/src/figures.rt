@@ -2,10 +2,9 @@
 ghost use Rattle.std.specs.Prelude.{◌≡◌, ◌≤◌, ◌<◌, ◌*◌, ◌^◌, unsigned_abs};
 ghost use Rattle.ngc_fixed_length.specs.Length.{IsStep};
 ghost use Rattle.ngc_machine.specs.Machine.{file_of};
-ghost use Rattle.ngc_machine.specs.Ranges.{IsRate};
 ghost use Rattle.ngc_setup_sheet.specs.Figures.{rounded, step_speed, speed, gain};
 ghost use Rattle.ngc_setup_sheet.specs.Figures.{millimetres_a_minute, acceleration};
-ghost use Rattle.ngc_setup_sheet.specs.Figures.{arc_acceleration, steps_a_millimetre};
+ghost use Rattle.ngc_setup_sheet.specs.Figures.{pull, arc_acceleration, steps_a_millimetre};
 
 use ngc_fixed_length::Nm;
 use ngc_machine::Machine;
@@ -40,7 +39,7 @@ fn step_speed<A: Allocator>(machine: &Machine<A>) -> u64
 
 /// The speed of a rate, in millionths of a nanometre a second.
 pub(crate) fn speed<A: Allocator>(machine: &Machine<A>, rate: u32) -> u64
-    requires { IsRate rate }
+    requires { rate ≤ 1000000 }
     ensures value { result ≡ speed (file_of machine.now) rate }
     ensures bound { result ≤ 50000000000000000 }
 {
@@ -65,7 +64,7 @@ pub(crate) fn steps_a_millimetre<A: Allocator>(machine: &Machine<A>) -> u128
 
 /// The speed of a rate, in thousandths of a millimetre a minute.
 pub(crate) fn millimetres_a_minute<A: Allocator>(machine: &Machine<A>, rate: u32) -> u128
-    requires { IsRate rate }
+    requires { rate ≤ 1000000 }
     ensures { result ≡ millimetres_a_minute (file_of machine.now) rate }
 {
     rounded(60 * u128::from(speed(machine, rate)), 1_000_000_000)
@@ -78,10 +77,19 @@ pub(crate) fn acceleration<A: Allocator>(machine: &Machine<A>) -> u128
     rounded(gain(machine, u64::from(machine.change)), 1_000_000_000)
 }
 
-/// The greatest acceleration towards the centre of an arc, in thousandths of a millimetre per
-/// second squared.
-pub(crate) fn arc_acceleration<A: Allocator>(machine: &Machine<A>) -> u128
-    ensures { result ≡ arc_acceleration (file_of machine.now) (file_of machine.now).turn }
+/// Returns the greatest acceleration towards the centre of an arc, in millionths of a millionth of
+/// a nanometre per second squared.
+pub(crate) fn pull<A: Allocator>(machine: &Machine<A>) -> u128
+    ensures value { result ≡ pull (file_of machine.now) }
+    ensures bound { result ≤ 100000000000000000000000000000 }
 {
-    rounded(gain(machine, machine.turn), 1_000_000_000_000_000)
+    2 * gain(machine, machine.turn)
+}
+
+/// Returns the greatest acceleration towards the centre of an arc, in thousandths of a millimetre
+/// per second squared.
+pub(crate) fn arc_acceleration<A: Allocator>(machine: &Machine<A>) -> u128
+    ensures { result ≡ arc_acceleration (file_of machine.now) }
+{
+    rounded(pull(machine), 1_000_000_000_000_000)
 }

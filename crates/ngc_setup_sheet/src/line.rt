@@ -1,4 +1,4 @@
-use ngc_fixed_length::Point3;
+use ngc_fixed_length::{Point3, System};
 
 #[derive(Clone, Copy)]
 pub enum Axis {
@@ -24,7 +24,10 @@ pub enum Fact {
     Ticks,
     GreatestSpeed,
     CornerSpeed,
+    /// How much an axis' speed may change at once where two motions meet.
+    Jump,
     Acceleration,
+    /// The greatest acceleration towards the centre of an arc.
     ArcAcceleration,
     /// The greatest speed of a motion that may move the axis.
     Speed(Axis),
@@ -34,6 +37,8 @@ pub enum Fact {
     Home,
     /// The home position of G30.
     SecondHome,
+    /// The origin of the coordinate system.
+    Origin(System),
     /// A fixture's extent on the axis.
     Extent(Axis),
     /// What G43 takes.
@@ -64,7 +69,11 @@ pub enum Figure {
 pub enum Warning {
     Speed,
     Acceleration,
+    /// A weak pull towards the centres of arcs.
+    Arcs,
     Travel(Axis),
+    /// The origin of the coordinate system is out of reach.
+    Origin(System),
     /// A thin fixture, by its number.
     Thin(usize),
     /// A fixture out of reach, by its number.

@@ -4,44 +4,57 @@ ghost use Rattle.arrayvec.specs.ArrayVec.{array_vec_len};
 ghost use Rattle.ngc_machine.specs.Machine.{file_of};
 ghost use Rattle.ngc_machine.specs.Ranges.{IsRate};
 ghost use Rattle.ngc_setup_sheet.specs.Reaches.{IsReach};
+ghost use Rattle.ngc_fixed_length.specs.declared.modes.System.TheVariants as systems;
 ghost use Rattle.ngc_setup_sheet.specs.declared.line.Figure.TheVariants as figures;
-ghost use Rattle.ngc_setup_sheet.specs.Sheets.{warned, from, axis_speed, machine_facts};
-ghost use Rattle.ngc_setup_sheet.specs.Sheets.{machine_places, machine_warnings, machine_lines};
-ghost use Rattle.ngc_setup_sheet.specs.Sheets.{fixture_facts, fixture_lines, part_line, part_lines};
-ghost use Rattle.ngc_setup_sheet.specs.Sheets.{tool_facts, tool_lines};
+ghost use Rattle.ngc_setup_sheet.specs.Sheets.{line_where, warned, from, axis_speed, step_facts};
+ghost use Rattle.ngc_setup_sheet.specs.Sheets.{jump_facts, rate_facts, machine_places, is_zero};
+ghost use Rattle.ngc_setup_sheet.specs.Sheets.{origin_lines, next_system, origins_from};
+ghost use Rattle.ngc_setup_sheet.specs.Sheets.{machine_warnings, machine_lines, fixture_facts};
+ghost use Rattle.ngc_setup_sheet.specs.Sheets.{fixture_lines, part_line, part_lines, tool_facts};
+ghost use Rattle.ngc_setup_sheet.specs.Sheets.{tool_lines};
 
 use crate::figures::{acceleration, arc_acceleration, millimetres_a_minute, steps_a_millimetre};
 use crate::line::{Axis, Fact, Figure, Line, Span, Warning};
-use crate::reach::{Reach, end_of, is_out_of_reach};
+use crate::reach::{Reach, end_of, is_out_of_reach, is_outside_travel};
 use crate::warnings::{
-    is_odd_acceleration, is_odd_offset, is_odd_speed, is_short_tool, is_shorter, is_thin,
+    is_odd_acceleration, is_odd_offset, is_odd_speed, is_short_tool, is_shorter, is_slow_on_arcs,
+    is_thin,
 };
 use arrayvec::ArrayVec;
-use ngc_fixed_length::Nm;
+use ngc_fixed_length::{Nm, Point3, System};
 use ngc_machine::{Fixture, Machine, Part, Parts, Tool};
 use std::alloc::Allocator;
 
 /// Room for what is told of a machine, of a fixture or of a tool.
-pub(crate) type Lines = ArrayVec<Line, 32>;
+pub(crate) type Lines = ArrayVec<Line, 48>;
 
 const SHORT_TRAVEL: i64 = 10_000_000;
 
 fn add_all(lines: &mut Lines, told: &[Line])
-    requires { array_vec_len lines.old + length told.now ≤ 32 }
+    requires { array_vec_len lines.old + length told.now ≤ 48 }
     ensures items { lines.new.items ≡ lines.old.items ++ told.now }
     ensures count { array_vec_len lines.new ≡ array_vec_len lines.old + length told.now }
 {
     let _ = lines.try_extend_from_slice(told);
 }
 
+/// Adds a line where something holds.
+fn add_where(lines: &mut Lines, holds: bool, line: Line)
+    requires { array_vec_len lines.old < 48 }
+    ensures items { lines.new.items ≡ lines.old.items ++ line_where holds line }
+    ensures few { array_vec_len lines.new ≤ array_vec_len lines.old + 1 }
+{
+    if holds {
+        add_all(lines, &[line]);
+    }
+}
+
 fn warn(lines: &mut Lines, wrong: bool, warning: Warning)
-    requires { array_vec_len lines.old < 32 }
+    requires { array_vec_len lines.old < 48 }
     ensures items { lines.new.items ≡ lines.old.items ++ warned wrong warning }
     ensures few { array_vec_len lines.new ≤ array_vec_len lines.old + 1 }
 {
-    if wrong {
-        add_all(lines, &[Line::Warning(warning)]);
-    }
+    add_where(lines, wrong, Line::Warning(warning));
 }
 
 fn from(fact: Fact, low: Nm, high: Nm) -> Line
@@ -61,8 +74,8 @@ fn axis_speed<A: Allocator>(machine: &Machine<A>, rate: u32) -> Figure
     Figure::Speed(millimetres_a_minute(machine, machine.max_rate.min(rate)))
 }
 
-fn machine_facts<A: Allocator>(machine: &Machine<A>) -> [Line; 11]
-    ensures { result ≡ machine_facts (file_of machine.now) }
+fn step_facts<A: Allocator>(machine: &Machine<A>) -> [Line; 6]
+    ensures { result ≡ step_facts (file_of machine.now) }
 {
     let steps = Figure::PerMillimetre(steps_a_millimetre(machine));
     let greatest = Figure::Speed(millimetres_a_minute(machine, machine.max_rate));
@@ -74,6 +87,22 @@ fn machine_facts<A: Allocator>(machine: &Machine<A>) -> [Line; 11]
         Line::Fact(Fact::Ticks, Figure::PerSecond(machine.ticks_per_second)),
         Line::Fact(Fact::GreatestSpeed, greatest),
         Line::Fact(Fact::CornerSpeed, corner),
+    ]
+}
+
+fn add_jump<A: Allocator>(lines: &mut Lines, machine: &Machine<A>)
+    requires { array_vec_len lines.old < 48 }
+    ensures items { lines.new.items ≡ lines.old.items ++ jump_facts (file_of machine.now) }
+    ensures few { array_vec_len lines.new ≤ array_vec_len lines.old + 1 }
+{
+    let speed = Figure::Speed(millimetres_a_minute(machine, machine.jump));
+    add_where(lines, 0 < machine.jump, Line::Fact(Fact::Jump, speed));
+}
+
+fn rate_facts<A: Allocator>(machine: &Machine<A>) -> [Line; 5]
+    ensures { result ≡ rate_facts (file_of machine.now) }
+{
+    [
         Line::Fact(
             Fact::Acceleration,
             Figure::Acceleration(acceleration(machine)),
@@ -111,13 +140,78 @@ fn machine_places<A: Allocator>(machine: &Machine<A>) -> [Line; 6]
     ]
 }
 
+fn is_zero(place: &Point3) -> bool
+    ensures { result ≡ is_zero place.now }
+{
+    place.x.nanometres() == 0 && place.y.nanometres() == 0 && place.z.nanometres() == 0
+}
+
+fn add_origin<A: Allocator>(
+    lines: &mut Lines,
+    machine: &Machine<A>,
+    reach: &Reach,
+    system: System,
+    origin: &Point3,
+)
+    requires room { array_vec_len lines.old + 2 ≤ 48 }
+    requires reach { IsReach reach.now }
+    ensures items { lines.new.items ≡ lines.old.items
+        ++ origin_lines (file_of machine.now) reach.now system origin.now }
+    ensures few { array_vec_len lines.new ≤ array_vec_len lines.old + 2 }
+{
+    if !is_zero(origin) {
+        add_all(
+            lines,
+            &[Line::Fact(Fact::Origin(system), Figure::Place(*origin))],
+        );
+        let outside = is_outside_travel(machine, reach, origin);
+        warn(lines, outside, Warning::Origin(system));
+    }
+}
+
+/// Returns the coordinate system that comes next in the machine file.
+fn next_system(system: System) -> System
+    ensures { result ≡ next_system system }
+{
+    match system {
+        System::First => System::Second,
+        System::Second => System::Third,
+        System::Third => System::Fourth,
+        System::Fourth => System::Fifth,
+        System::Fifth => System::Sixth,
+        System::Sixth => System::Seventh,
+        System::Seventh => System::Eighth,
+        System::Eighth | System::Ninth => System::Ninth,
+    }
+}
+
+fn add_origins<A: Allocator>(
+    lines: &mut Lines,
+    machine: &Machine<A>,
+    reach: &Reach,
+    origins: &[Point3; 9],
+)
+    requires room { array_vec_len lines.old + 18 ≤ 48 }
+    requires reach { IsReach reach.now }
+    ensures items { lines.new.items ≡ lines.old.items
+        ++ origins_from (file_of machine.now) reach.now systems.First origins.now }
+    ensures few { array_vec_len lines.new ≤ array_vec_len lines.old + 18 }
+{
+    let mut system = System::First;
+    for origin in origins {
+        add_origin(lines, machine, reach, system, origin);
+        system = next_system(system);
+    }
+}
+
 fn warn_of_machine<A: Allocator>(lines: &mut Lines, machine: &Machine<A>)
-    requires { array_vec_len lines.old + 5 ≤ 32 }
+    requires { array_vec_len lines.old + 6 ≤ 48 }
     ensures { lines.new.items ≡ lines.old.items ++ machine_warnings (file_of machine.now) }
 {
     let (low, high) = (machine.low, machine.high);
     warn(lines, is_odd_speed(machine), Warning::Speed);
     warn(lines, is_odd_acceleration(machine), Warning::Acceleration);
+    warn(lines, is_slow_on_arcs(machine), Warning::Arcs);
     warn(
         lines,
         is_shorter(SHORT_TRAVEL, low.x, high.x),
@@ -136,12 +230,16 @@ fn warn_of_machine<A: Allocator>(lines: &mut Lines, machine: &Machine<A>)
 }
 
 #[tactic(auto, unfolding(crate::specs::Sheets::machine_lines))]
-pub(crate) fn machine_lines<A: Allocator>(machine: &Machine<A>) -> Lines
-    ensures { result.items ≡ machine_lines (file_of machine.now) }
+pub(crate) fn machine_lines<A: Allocator>(machine: &Machine<A>, reach: &Reach) -> Lines
+    requires { IsReach reach.now }
+    ensures { result.items ≡ machine_lines (file_of machine.now) reach.now }
 {
     let mut lines = ArrayVec::new();
-    add_all(&mut lines, &machine_facts(machine));
+    add_all(&mut lines, &step_facts(machine));
+    add_jump(&mut lines, machine);
+    add_all(&mut lines, &rate_facts(machine));
     add_all(&mut lines, &machine_places(machine));
+    add_origins(&mut lines, machine, reach, &machine.origins);
     warn_of_machine(&mut lines, machine);
     lines
 }
@@ -190,7 +288,7 @@ fn part_line(foot: i64, part: &Part) -> Line
 }
 
 fn add_parts(lines: &mut Lines, foot: Nm, parts: &Parts)
-    requires { array_vec_len lines.old + 4 ≤ 32 }
+    requires { array_vec_len lines.old + 4 ≤ 48 }
     ensures items { lines.new.items ≡ lines.old.items ++ part_lines foot parts.now }
     ensures few { array_vec_len lines.new ≤ array_vec_len lines.old + 4 }
 {

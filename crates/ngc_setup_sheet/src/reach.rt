@@ -3,9 +3,10 @@ ghost use Rattle.std.specs.Prelude.{◌≡◌, ◌≤◌, ◌+◌, ◌+ℤ◌, �
 ghost use Rattle.std.specs.Int.{int_min, int_max};
 ghost use Rattle.ngc_machine.specs.Machine.{file_of};
 ghost use Rattle.ngc_setup_sheet.specs.Reaches.{IsReach, top_of, widest, nothing, with_tool};
-ghost use Rattle.ngc_setup_sheet.specs.Reaches.{reach_of, is_beyond, is_out_of_reach};
+ghost use Rattle.ngc_setup_sheet.specs.Reaches.{reach_of, is_beyond, is_out_of_reach, is_outside};
+ghost use Rattle.ngc_setup_sheet.specs.Reaches.{is_outside_travel};
 
-use ngc_fixed_length::Nm;
+use ngc_fixed_length::{Nm, Point3};
 use ngc_machine::{Fixture, Machine, Part, Parts, Tool};
 use std::alloc::Allocator;
 
@@ -158,4 +159,38 @@ pub(crate) fn is_out_of_reach<A: Allocator>(
     is_beside(machine.low.x, machine.high.x, reach, low.x, high.x)
         || is_beside(machine.low.y, machine.high.y, reach, low.y, high.y)
         || is_above_or_below(machine.low.z, machine.high.z, reach, low.z, high.z)
+}
+
+fn is_outside(low: i64, high: Nm, place: Nm) -> bool
+    ensures { result ≡ is_outside low high place }
+{
+    place.nanometres() < low || high.nanometres() < place.nanometres()
+}
+
+fn is_outside_sideways(low: Nm, high: Nm, place: Nm) -> bool
+    ensures { result ≡ is_outside low high place }
+{
+    is_outside(low.nanometres(), high, place)
+}
+
+fn is_outside_in_height(low: Nm, high: Nm, reach: &Reach, place: Nm) -> bool
+    requires { IsReach reach.now }
+    ensures { result ≡ is_outside (low +ℤ reach.now.bottom) high place }
+{
+    is_outside(raised(low, reach.bottom), high, place)
+}
+
+/// Returns whether no tool's tip can be brought to a point, wherever within the travel the machine
+/// stands.
+pub(crate) fn is_outside_travel<A: Allocator>(
+    machine: &Machine<A>,
+    reach: &Reach,
+    point: &Point3,
+) -> bool
+    requires { IsReach reach.now }
+    ensures { result ≡ is_outside_travel (file_of machine.now) reach.now point.now }
+{
+    is_outside_sideways(machine.low.x, machine.high.x, point.x)
+        || is_outside_sideways(machine.low.y, machine.high.y, point.y)
+        || is_outside_in_height(machine.low.z, machine.high.z, reach, point.z)
 }

@@ -62,12 +62,13 @@ fn write_all<A: Allocator, W: Sink>(
         (sheet (file_of machine.now) tools.now) }
     ensures counts { CountsFailure (W.failures sink.old) (W.failures sink.new) result }
 {
-    let lines = machine_lines(machine);
+    let reach = Reach::of(tools);
+    let lines = machine_lines(machine, &reach);
     match write_lines(chunk, lines.as_slice(), sink) {
         Ok(()) => {}
         Err(fault) => return Err(fault),
     }
-    match write_fixtures(chunk, machine, &Reach::of(tools), sink) {
+    match write_fixtures(chunk, machine, &reach, sink) {
         Ok(()) => {}
         Err(fault) => return Err(fault),
     }
@@ -77,9 +78,9 @@ fn write_all<A: Allocator, W: Sink>(
 /// Writes the setup sheet of a machine and of its tools, in millimetres, with a warning below what
 /// looks wrong.
 ///
-/// Fixtures count as out of reach by these tools, or without any by the controlled point. It takes
-/// no memory. After a fault (902) a beginning of the text is written, and the sink has counted the
-/// failure.
+/// Fixtures and origins count as out of reach by these tools, or without any by the controlled
+/// point. It takes no memory. After a fault (902) a beginning of the text is written, and the sink
+/// has counted the failure.
 pub fn write_sheet<A: Allocator, W: Sink>(
     machine: &Machine<A>,
     tools: &[Tool],

@@ -3,12 +3,13 @@ ghost use Rattle.std.specs.Prelude.{◌≡◌, ◌+◌, ◌≤◌, ◌++◌, cod
 ghost use Rattle.ngc_text.specs.Collected.{CHUNK_SIZE, HasLineRoom};
 ghost use Rattle.ngc_text.specs.Millimetres.{mm_text};
 ghost use Rattle.ngc_setup_sheet.specs.Spelling.{thousandths_text, span_text, place_text};
-ghost use Rattle.ngc_setup_sheet.specs.Spelling.{fact_text, figure_text, warning_text};
+ghost use Rattle.ngc_setup_sheet.specs.Spelling.{system_text, origin_text, fact_text};
+ghost use Rattle.ngc_setup_sheet.specs.Spelling.{figure_text, warning_text};
 ghost use Rattle.ngc_setup_sheet.specs.Spelling.{warning_object, line_text};
 
 use crate::line::{Axis, Fact, Figure, Line, Span, Warning};
 use itoa::Integer;
-use ngc_fixed_length::Point3;
+use ngc_fixed_length::{Point3, System};
 use ngc_text::Chunk;
 
 fn add_thousandths(chunk: &mut Chunk, number: u128)
@@ -45,6 +46,42 @@ fn add_place(chunk: &mut Chunk, place: &Point3)
     chunk.add_millimetres(i128::from(place.z.nanometres()));
 }
 
+#[tactic(auto, unfolding(crate::specs::Spelling::system_text))]
+fn system_name(system: System) -> &'static [u8]
+    ensures text { result.now ≡ system_text system }
+    ensures short { length result.now ≤ 5 }
+{
+    match system {
+        System::First => b"G54",
+        System::Second => b"G55",
+        System::Third => b"G56",
+        System::Fourth => b"G57",
+        System::Fifth => b"G58",
+        System::Sixth => b"G59",
+        System::Seventh => b"G59.1",
+        System::Eighth => b"G59.2",
+        System::Ninth => b"G59.3",
+    }
+}
+
+#[tactic(auto, unfolding(crate::specs::Spelling::origin_text))]
+fn origin(system: System) -> &'static [u8]
+    ensures text { result.now ≡ origin_text system }
+    ensures short { length result.now ≤ 24 }
+{
+    match system {
+        System::First => b"  origin of G54         ",
+        System::Second => b"  origin of G55         ",
+        System::Third => b"  origin of G56         ",
+        System::Fourth => b"  origin of G57         ",
+        System::Fifth => b"  origin of G58         ",
+        System::Sixth => b"  origin of G59         ",
+        System::Seventh => b"  origin of G59.1       ",
+        System::Eighth => b"  origin of G59.2       ",
+        System::Ninth => b"  origin of G59.3       ",
+    }
+}
+
 #[tactic(auto, unfolding(crate::specs::Spelling::fact_text))]
 fn fact(fact: &Fact) -> &'static [u8]
     ensures text { result.now ≡ fact_text fact.now }
@@ -56,6 +93,7 @@ fn fact(fact: &Fact) -> &'static [u8]
         Fact::Ticks => b"  ticks                 ",
         Fact::GreatestSpeed => b"  greatest speed        ",
         Fact::CornerSpeed => b"  speed at corners      ",
+        Fact::Jump => b"  jump at corners       ",
         Fact::Acceleration => b"  acceleration          ",
         Fact::ArcAcceleration => b"  acceleration on arcs  ",
         Fact::Speed(Axis::X) => b"  speed of X            ",
@@ -67,6 +105,7 @@ fn fact(fact: &Fact) -> &'static [u8]
         Fact::Start => b"  start                 ",
         Fact::Home => b"  home of G28           ",
         Fact::SecondHome => b"  home of G30           ",
+        Fact::Origin(system) => origin(*system),
         Fact::Extent(Axis::X) => b"  on X                  ",
         Fact::Extent(Axis::Y) => b"  on Y                  ",
         Fact::Extent(Axis::Z) => b"  on Z                  ",
@@ -128,6 +167,20 @@ fn add_figure(chunk: &mut Chunk, figure: &Figure)
     }
 }
 
+/// Adds three texts.
+fn add_named(chunk: &mut Chunk, before: &[u8], name: &[u8], behind: &[u8])
+    requires room { length chunk.old + 160 ≤ CHUNK_SIZE }
+    requires before { length before.now ≤ 20 }
+    requires name { length name.now ≤ 20 }
+    requires behind { length behind.now ≤ 80 }
+    ensures text { chunk.new ≡ chunk.old ++ (before.now ++ name.now ++ behind.now) }
+    ensures short { length chunk.new ≤ length chunk.old + 160 }
+{
+    chunk.add_text(before);
+    chunk.add_text(name);
+    chunk.add_text(behind);
+}
+
 #[tactic(auto, unfolding(crate::specs::Spelling::warning_text))]
 fn add_warning(chunk: &mut Chunk, warning: &Warning)
     requires { length chunk.old + 160 ≤ CHUNK_SIZE }
@@ -137,9 +190,18 @@ fn add_warning(chunk: &mut Chunk, warning: &Warning)
     match warning {
         Warning::Speed => chunk.add_text(b"the greatest speed is not from 0.1 to 1000 mm/s"),
         Warning::Acceleration => chunk.add_text(b"the acceleration is not from 1 to 20000 mm/s^2"),
+        Warning::Arcs => chunk.add_text(
+            b"the acceleration on arcs is below 1 mm/s^2, so arcs crawl: raise `turn` to about 500000 times `change`",
+        ),
         Warning::Travel(Axis::X) => chunk.add_text(b"the travel on X is less than 10 mm"),
         Warning::Travel(Axis::Y) => chunk.add_text(b"the travel on Y is less than 10 mm"),
         Warning::Travel(Axis::Z) => chunk.add_text(b"the travel on Z is less than 10 mm"),
+        Warning::Origin(system) => add_named(
+            chunk,
+            b"the origin of ",
+            system_name(*system),
+            b" is outside the travel: no tool reaches it",
+        ),
         Warning::Thin(number) => add_numbered(
             chunk,
             b"fixture ",

@@ -70,12 +70,13 @@ fn warn_of_all<A: Allocator, W: Sink>(
         (chosen style (sheet (file_of machine.now) tools.now)) }
     ensures counts { CountsFailure (W.failures sink.old) (W.failures sink.new) result }
 {
-    let lines = machine_lines(machine);
+    let reach = Reach::of(tools);
+    let lines = machine_lines(machine, &reach);
     match write_warning_lines(chunk, style, lines.as_slice(), sink) {
         Ok(()) => {}
         Err(fault) => return Err(fault),
     }
-    match warn_of_fixtures(chunk, style, machine, &Reach::of(tools), sink) {
+    match warn_of_fixtures(chunk, style, machine, &reach, sink) {
         Ok(()) => {}
         Err(fault) => return Err(fault),
     }

@@ -2,9 +2,10 @@
 ghost use Rattle.std.specs.Prelude.{◌≡◌, ◌||◌};
 ghost use Rattle.ngc_machine.specs.Machine.{file_of};
 ghost use Rattle.ngc_setup_sheet.specs.Warnings.{is_odd_speed, is_odd_acceleration, is_shorter};
-ghost use Rattle.ngc_setup_sheet.specs.Warnings.{is_thin, is_short_tool, is_odd_offset};
+ghost use Rattle.ngc_setup_sheet.specs.Warnings.{is_slow_on_arcs, is_thin, is_short_tool};
+ghost use Rattle.ngc_setup_sheet.specs.Warnings.{is_odd_offset};
 
-use crate::figures::{gain, speed};
+use crate::figures::{gain, pull, speed};
 use crate::reach::top_of;
 use ngc_fixed_length::Nm;
 use ngc_machine::{Fixture, Machine, Tool};
@@ -22,6 +23,13 @@ pub(crate) fn is_odd_acceleration<A: Allocator>(machine: &Machine<A>) -> bool
 {
     let greatest = gain(machine, u64::from(machine.change));
     greatest < 1_000_000_000_000 || 20_000_000_000_000_000 < greatest
+}
+
+/// Returns whether arcs pull towards their centres by less than 1 mm/s^2 at most.
+pub(crate) fn is_slow_on_arcs<A: Allocator>(machine: &Machine<A>) -> bool
+    ensures { result ≡ is_slow_on_arcs (file_of machine.now) }
+{
+    pull(machine) < 1_000_000_000_000_000_000
 }
 
 /// Whether two coordinates are less than so many nanometres apart.

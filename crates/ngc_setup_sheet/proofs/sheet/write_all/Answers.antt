@@ -16,8 +16,8 @@ returns-in-Err-clause-written g c =
     let ts = c.args.tools.now in
     let behind : List Line = fixtures_from m (reach_of ts) 0 m.fixtures ++ flat_map tool_lines ts in
     stopped (g.W.Sink.written c.args.sink.now) (g.W.Sink.written c.args.sink.now) (g.W.Sink.written c.write_lines.new.sink) c.args.chunk.now c.args.chunk.now
-    (machine_lines m) behind (sheet m ts) (sheet m ts) refl (begun (g.W.Sink.written c.args.sink.now) c.args.chunk.now (sheet m ts))
-    (rw (c.as_slice.ensures.value, c.machine_lines-lines.ensures) at c.in-Err.ensures.written)
+    (machine_lines m (reach_of ts)) behind (sheet m ts) (sheet m ts) refl (begun (g.W.Sink.written c.args.sink.now) c.args.chunk.now (sheet m ts))
+    (rw (c.as_slice.ensures.value, c.machine_lines-lines.ensures, c.of-reach.ensures.value) at c.in-Err.ensures.written)
 
 pub returns-in-Err-write_fixtures-clause-written : goal.returns-in-Err-write_fixtures-clause-written
 returns-in-Err-write_fixtures-clause-written g c =
@@ -29,14 +29,14 @@ returns-in-Err-write_fixtures-clause-written g c =
     behind (sheet m ts) =
     went (g.W.Sink.written c.args.sink.now) (g.W.Sink.written c.args.sink.now) (g.W.Sink.written c.write_lines.new.sink)
     c.args.chunk.now c.args.chunk.now c.write_lines.new.chunk
-    (machine_lines m) behind (sheet m ts) (sheet m ts) refl (begun (g.W.Sink.written c.args.sink.now) c.args.chunk.now (sheet m ts))
-    (rw (c.as_slice.ensures.value, c.machine_lines-lines.ensures) at c.in-Ok.ensures.written) in
+    (machine_lines m (reach_of ts)) behind (sheet m ts) (sheet m ts) refl (begun (g.W.Sink.written c.args.sink.now) c.args.chunk.now (sheet m ts))
+    (rw (c.as_slice.ensures.value, c.machine_lines-lines.ensures, c.of-reach.ensures.value) at c.in-Ok.ensures.written) in
     stopped (g.W.Sink.written c.args.sink.now) (g.W.Sink.written c.write_lines.new.sink) (g.W.Sink.written c.write_fixtures.new.sink)
     c.args.chunk.now c.write_lines.new.chunk
     fixtures (flat_map tool_lines ts) behind (sheet m ts) refl first
     (subst (λ (r : Reach). AppendsBeginning (g.W.Sink.written c.write_lines.new.sink) (g.W.Sink.written c.write_fixtures.new.sink)
     (c.write_lines.new.chunk ++ lines_text (fixtures_from m r 0 m.fixtures)))
-    c.of.ensures.value c.in-Err-write_fixtures.ensures.written)
+    c.of-reach.ensures.value c.in-Err-write_fixtures.ensures.written)
 
 pub returns-clause-written : goal.returns-clause-written
 returns-clause-written g c =
@@ -48,8 +48,8 @@ returns-clause-written g c =
     behind (sheet m ts) =
     went (g.W.Sink.written c.args.sink.now) (g.W.Sink.written c.args.sink.now) (g.W.Sink.written c.write_lines.new.sink)
     c.args.chunk.now c.args.chunk.now c.write_lines.new.chunk
-    (machine_lines m) behind (sheet m ts) (sheet m ts) refl (begun (g.W.Sink.written c.args.sink.now) c.args.chunk.now (sheet m ts))
-    (rw (c.as_slice.ensures.value, c.machine_lines-lines.ensures) at c.in-Ok.ensures.written) in
+    (machine_lines m (reach_of ts)) behind (sheet m ts) (sheet m ts) refl (begun (g.W.Sink.written c.args.sink.now) c.args.chunk.now (sheet m ts))
+    (rw (c.as_slice.ensures.value, c.machine_lines-lines.ensures, c.of-reach.ensures.value) at c.in-Ok.ensures.written) in
     last c.write_tools.result (g.W.Sink.written c.args.sink.now) (g.W.Sink.written c.write_fixtures.new.sink) (g.W.Sink.written c.write_tools.new.sink)
     c.args.chunk.now c.write_fixtures.new.chunk c.write_tools.new.chunk (flat_map tool_lines ts) (sheet m ts)
     (went (g.W.Sink.written c.args.sink.now) (g.W.Sink.written c.write_lines.new.sink) (g.W.Sink.written c.write_fixtures.new.sink)
@@ -57,4 +57,4 @@ returns-clause-written g c =
     fixtures (flat_map tool_lines ts) behind (sheet m ts) refl first
     (subst (λ (r : Reach). WritesFront (g.W.Sink.written c.write_lines.new.sink) (g.W.Sink.written c.write_fixtures.new.sink)
     (c.write_lines.new.chunk ++ lines_text (fixtures_from m r 0 m.fixtures)) c.write_fixtures.new.chunk)
-    c.of.ensures.value c.in-Ok-write_fixtures.ensures.written)) c.write_tools.ensures.written
+    c.of-reach.ensures.value c.in-Ok-write_fixtures.ensures.written)) c.write_tools.ensures.written
