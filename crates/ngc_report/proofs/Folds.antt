@@ -1,4 +1,4 @@
--- The nearest, one element further.
+-- What is found over a list, one element further.
 use Rattle.std.proofs.Common.{◌≡◌, ℕ, ◌+◌, ◌<◌, ◌≤◌, List, [], ◌∷◌, ◌++◌, length, get_or, drop, flat_map, Option, ap, sym, ◌∙◌, refl}
 use Rattle.std.specs.Prelude.{fold, map}
 use Rattle.std.proofs.lemmas.List.{drop_more, at_drop_all}
@@ -10,13 +10,17 @@ use Rattle.ngc_report.specs.Gaps.{gap}
 use Rattle.ngc_report.specs.Nearing.{nearer, distances}
 use Rattle.ngc_report.specs.declared.nearest.Nearest.{Nearest}
 
+pub next_folded : {X Y Z : Type 0} (step : Z → Y → Z) (f : X → List Y) (first : Z) (xs : List X) (i : ℕ) (x : X) → i < length xs → x ≡ get_or xs i x
+    → fold step (fold step first (f x)) (flat_map f (drop (i + 1) xs)) ≡ fold step first (flat_map f (drop i xs))
+next_folded step f first xs i x inside found =
+    sym (fold-append step first (f x) (flat_map f (drop (i + 1) xs)))
+    ∙ ap (λ y. fold step first (f y ++ flat_map f (drop (i + 1) xs))) found
+    ∙ ap (fold step first) (sym (flat_map-cons f (get_or xs i x) (drop (i + 1) xs)))
+    ∙ ap (λ l. fold step first (flat_map f l)) (sym (drop_more xs i x inside))
+
 pub next_of : {X : Type 0} (f : X → List Nearest) (best : Option Nearest) (xs : List X) (i : ℕ) (x : X) → i < length xs → x ≡ get_or xs i x
     → fold nearer (fold nearer best (f x)) (flat_map f (drop (i + 1) xs)) ≡ fold nearer best (flat_map f (drop i xs))
-next_of f best xs i x inside found =
-    sym (fold-append nearer best (f x) (flat_map f (drop (i + 1) xs)))
-    ∙ ap (λ y. fold nearer best (f y ++ flat_map f (drop (i + 1) xs))) found
-    ∙ ap (fold nearer best) (sym (flat_map-cons f (get_or xs i x) (drop (i + 1) xs)))
-    ∙ ap (λ l. fold nearer best (flat_map f l)) (sym (drop_more xs i x inside))
+next_of f best xs i x inside found = next_folded nearer f best xs i x inside found
 
 pub next_fixture : (best : Option Nearest) (fs : List Fixture) (b : Solid) (i : ℕ) (f : Fixture) → i < length fs → f ≡ get_or fs i f
     → fold nearer (nearer best (record { fixture = i; distance = gap f b })) (distances (i + 1) (drop (i + 1) fs) b)

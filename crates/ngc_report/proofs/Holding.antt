@@ -49,7 +49,7 @@ in_reach step (Arc a) path k h within = h.1.weak.inside k (let n = h.1.weak.coun
 
 -- ---- all of them
 
-in_left : (a b : GridBox) (p : StepPos) → IsIn a p → IsIn (joint_box a b) p
+pub in_left : (a b : GridBox) (p : StepPos) → IsIn a p → IsIn (joint_box a b) p
 in_left a b p h = record {
   x_low = omega (arith, ints, clamps);
   x_high = omega (arith, ints, clamps);
@@ -59,7 +59,7 @@ in_left a b p h = record {
   z_high = omega (arith, ints, clamps);
 }
 
-in_right : (a b : GridBox) (p : StepPos) → IsIn b p → IsIn (joint_box a b) p
+pub in_right : (a b : GridBox) (p : StepPos) → IsIn b p → IsIn (joint_box a b) p
 in_right a b p h = record {
   x_low = omega (arith, ints, clamps);
   x_high = omega (arith, ints, clamps);
@@ -69,7 +69,7 @@ in_right a b p h = record {
   z_high = omega (arith, ints, clamps);
 }
 
-in_first : (a : GridBox) (bs : List GridBox) (p : StepPos) → IsIn a p → IsIn (fold joint_box a bs) p
+pub in_first : (a : GridBox) (bs : List GridBox) (p : StepPos) → IsIn a p → IsIn (fold joint_box a bs) p
 in_first a [] p h = h
 in_first a (b ∷ bs) p h = in_first (joint_box a b) bs p (in_left a b p h)
 
@@ -82,7 +82,7 @@ pub paths_law : ExtentHoldsPaths
 paths_law machine commands i d inside path k h within =
     in_one machine.step _ (ways_of (actions_of commands)) i d inside (point path k) (in_reach machine.step _ path k h within)
 
-at_itself : (p : StepPos) → IsIn (record { low = p; high = p }) p
+pub at_itself : (p : StepPos) → IsIn (record { low = p; high = p }) p
 at_itself p = record {
   x_low = omega (arith, ints);
   x_high = omega (arith, ints);

@@ -2,7 +2,11 @@
 pub mod Tests
 -- Every point that a program may come to lies in its extent.
 pub mod Holding
--- The nearest, one element further.
+-- A program that fits stays inside the travel.
+pub mod Fitting
+-- The part of an extent that lies within the travel.
+pub mod Within
+-- What is found over a list, one element further.
 pub mod Folds
 -- How far lines are told, where others come behind them.
 pub mod Ahead

@@ -1,17 +1,26 @@
 -- How far a program goes. Our own.
-use Rattle.std.specs.Prelude.{ℕ, ◌<◌, ℤ, List, length, fold, map}
+use Rattle.std.specs.Prelude.{ℕ, ◌<◌, ℤ, pos, ◌+ℤ◌, ◌-ℤ◌, List, length, fold, map, flat_map, IsTrue}
+use Rattle.std.specs.Prelude.{if◌then◌else◌}
 use Rattle.std.specs.List.{All}
-use Rattle.ngc_fixed_length.specs.Boxes.{IsIn, box_of, only, lesser_corner, greater_corner}
+use Rattle.ngc_fixed_length.specs.Boxes.{IsIn, box_of, only, common_box, grid_above, grid_below}
+use Rattle.ngc_fixed_length.specs.Boxes.{lesser_corner, greater_corner}
 use Rattle.ngc_fixed_length.specs.Grid.{grid}
+use Rattle.ngc_fixed_length.specs.Length.{IsStep}
 use Rattle.ngc_fixed_length.specs.LinePath.{point}
 use Rattle.ngc_fixed_length.specs.declared.points.GridBox.{GridBox}
 use Rattle.ngc_fixed_length.specs.declared.points.StepPos.{StepPos}
+use Rattle.ngc_arc_geometry.specs.CutArc.{cut_box, is_large}
+use Rattle.ngc_arc_geometry.specs.Shape as shapes
+use Rattle.ngc_arc_geometry.specs.Shape.{ArcShape}
 use Rattle.ngc_arc_geometry.specs.Swept.{swept_box}
 use Rattle.ngc_canonical.specs.Movement.{actions_of, ways_of}
 use Rattle.ngc_canonical.specs.ProgramPath.{IsPathOf}
 use Rattle.ngc_canonical.specs.declared.command.Command.{Command}
 use Rattle.ngc_canonical.specs.declared.movement.Way.{Way}
 use Rattle.ngc_canonical.specs.declared.movement.Way.TheVariants.{Line, Arc}
+use Rattle.ngc_collision.specs.Body.{is_in_travel}
+use Rattle.ngc_certificate_text.specs.Certificate.{Entry}
+use Rattle.ngc_certificate_text.specs.declared.piece.Piece.{Piece}
 use Rattle.ngc_machine.specs.Machine.{MachineFile}
 
 -- the least box that holds two boxes
@@ -22,6 +31,29 @@ joint_box a b = record { low = lesser_corner a.low b.low; high = greater_corner 
 abbrev pub reach : ℤ → Way → GridBox
 reach step (Line start end) = box_of (grid step start) (grid step end)
 reach step (Arc arc) = swept_box step arc
+
+-- a step farther and a step less on each axis
+abbrev pub next_corner : StepPos → StepPos
+next_corner p = record { x = p.x +ℤ pos 1; y = p.y +ℤ pos 1; z = p.z +ℤ pos 1 }
+
+abbrev pub previous_corner : StepPos → StepPos
+previous_corner p = record { x = p.x -ℤ pos 1; y = p.y -ℤ pos 1; z = p.z -ℤ pos 1 }
+
+-- a box with a step less on each side
+abbrev pub shrunk : GridBox → GridBox
+shrunk b = record { low = next_corner b.low; high = previous_corner b.high }
+
+-- the box of all pieces of an arc that is cut at each quadrant point, a step inside the arc: at its
+-- ends as large as in one piece, and a step less at the quadrant points
+abbrev pub cut_reach : ℤ → ArcShape → GridBox
+cut_reach step a = joint_box (shrunk (swept_box step a))
+    (joint_box (cut_box step a (shapes.start_of a) (shapes.start_of a))
+    (cut_box step a (shapes.end_of a) (shapes.end_of a)))
+
+-- the box of all pieces of a motion, where a large arc is cut so; small arcs aren't cut
+abbrev pub reach_in_pieces : ℤ → Way → GridBox
+reach_in_pieces step (Line start end) = reach step (Line start end)
+reach_in_pieces step (Arc a) = if is_large step a then cut_reach step a else swept_box step a
 
 -- the least box that holds the start point and the box of each motion
 abbrev pub extent : MachineFile → List Command → GridBox
@@ -39,3 +71,52 @@ ExtentHoldsPaths =
 abbrev pub ExtentHoldsStart : Type 0
 ExtentHoldsStart = (machine : MachineFile) (commands : List Command) →
     IsIn (extent machine commands) (grid machine.step machine.start)
+
+-- ---- with a certificate
+
+-- the boxes of a motion's pieces
+abbrev pub boxes_of : Entry → List GridBox
+boxes_of e = map (λ p. p.bounds) e.pieces
+
+-- the least box that holds the start point and the box of each piece
+abbrev pub fit_extent : MachineFile → List Entry → GridBox
+fit_extent machine motions =
+    fold joint_box (only (grid machine.step machine.start)) (flat_map boxes_of motions)
+
+-- it holds each point of the box of each piece
+abbrev pub FitExtentHoldsPieces : Type 0
+FitExtentHoldsPieces =
+    (machine : MachineFile) (motions : List Entry) → All (λ (e : Entry). All (λ (p : Piece).
+    (q : StepPos) → IsIn p.bounds q → IsIn (fit_extent machine motions) q) e.pieces) motions
+
+-- and the start point
+abbrev pub FitExtentHoldsStart : Type 0
+FitExtentHoldsStart = (machine : MachineFile) (motions : List Entry) →
+    IsIn (fit_extent machine motions) (grid machine.step machine.start)
+
+-- ---- within the travel
+
+-- the grid points within the travel limits
+abbrev pub travel_box : MachineFile → GridBox
+travel_box m = record {
+  low = record {
+    x = grid_above m.step m.low.x;
+    y = grid_above m.step m.low.y;
+    z = grid_above m.step m.low.z;
+  };
+  high = record {
+    x = grid_below m.step m.high.x;
+    y = grid_below m.step m.high.y;
+    z = grid_below m.step m.high.z;
+  };
+}
+
+-- what lies of the extent within the travel
+abbrev pub extent_in_travel : MachineFile → List Command → GridBox
+extent_in_travel machine commands = common_box (extent machine commands) (travel_box machine)
+
+-- it holds each point of the extent that lies within the travel limits
+abbrev pub ExtentInTravelHolds : Type 0
+ExtentInTravelHolds = (machine : MachineFile) (commands : List Command) (p : StepPos) →
+    IsStep machine.step → IsIn (extent machine commands) p →
+    IsTrue (is_in_travel machine (only p)) → IsIn (extent_in_travel machine commands) p

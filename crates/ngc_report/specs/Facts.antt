@@ -4,6 +4,7 @@ use Rattle.std.specs.Prelude.{ℕ, ℤ, List, ◌++◌, codes, decimal, Option, 
 use Rattle.std.specs.Fmt.{signed_decimal}
 use Rattle.ngc_fixed_length.specs.declared.points.Point3.{Point3}
 use Rattle.ngc_machine.specs.declared.tools.Tool.{Tool}
+use Rattle.ngc_collision.specs.Inside.{place_of}
 use Rattle.ngc_report.specs.Words.{axis_text, concern_text}
 use Rattle.ngc_report.specs.declared.line.Along.{Along}
 use Rattle.ngc_report.specs.declared.line.Line.{Line}
@@ -63,13 +64,14 @@ use_fact u n =
     ++ decimal u.stops ++ codes ",\"nearest_fixture\":" ++ nearest_fact n
 
 abbrev pub start_fact : Scene → List ℕ
-start_fact s = codes ",\n{\"fact\":\"start\",\"at\":" ++ triple s.from ++ codes "}"
+start_fact s = codes ",\n{\"fact\":\"start\",\"at\":" ++ triple (place_of s.from) ++ codes "}"
 
 abbrev pub command_fact : ℕ → Scene → List ℕ
 command_fact k s =
     codes ",\n{\"fact\":\"command\",\"index\":" ++ decimal k ++ codes ",\"line\":" ++ decimal s.line
     ++ codes ",\"tool\":" ++ tool_fact s.tool ++
-    codes ",\"from\":" ++ triple s.from ++ codes ",\"to\":" ++ triple s.to ++ codes "}"
+    codes ",\"from\":" ++ triple (place_of s.from) ++ codes ",\"to\":" ++ triple (place_of s.to)
+    ++ codes "}"
 
 abbrev pub travel_fact : Margin → List ℕ
 travel_fact m =

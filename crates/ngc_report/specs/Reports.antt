@@ -1,15 +1,20 @@
 -- The lines of reports. Our own.
 use Rattle.std.specs.Prelude.{ℕ, ◌+◌, ℤ, ◌*ℤ◌, List, [], ◌∷◌, ◌++◌, take, drop, flat_map, Bool}
-use Rattle.std.specs.Prelude.{true, false, Option, Some, None, Result}
+use Rattle.std.specs.Prelude.{true, false, Option, Some, None, Result, IsTrue}
+use Rattle.std.specs.List.{All, list_all}
+use Rattle.ngc_fixed_length.specs.Length.{IsStep}
 use Rattle.ngc_fixed_length.specs.declared.points.GridBox.{GridBox}
 use Rattle.ngc_text.specs.declared.writing.WriteFault.{WriteFault}
 use Rattle.ngc_machine.specs.Machine.{MachineFile}
+use Rattle.ngc_machine.specs.MachineRanges.{IsMachine}
 use Rattle.ngc_canonical.specs.declared.command.Command.{Command}
 use Rattle.ngc_certificate_text.specs.Certificate.{Entry}
 use Rattle.ngc_certificate_text.specs.Collects.{Collects}
-use Rattle.ngc_report.specs.Extents.{extent}
+use Rattle.ngc_certificate_text.specs.declared.piece.Piece.{Piece}
+use Rattle.ngc_collision.specs.Body.{is_in_travel}
+use Rattle.ngc_report.specs.Extents.{extent, fit_extent, extent_in_travel}
 use Rattle.ngc_report.specs.Nearing.{nearest}
-use Rattle.ngc_report.specs.Rooms.{room}
+use Rattle.ngc_report.specs.Rooms.{room, is_inside_on}
 use Rattle.ngc_report.specs.Scenes.{start_scene, scene_at, obstacle}
 use Rattle.ngc_report.specs.Uses.{tool_uses}
 use Rattle.ngc_report.specs.Forms.{report_text}
@@ -56,8 +61,25 @@ use_lines machine (u ∷ us) motions =
 -- of a program that fits
 abbrev pub fit_lines : MachineFile → List Command → List Entry → List Line
 fit_lines machine commands motions =
-    lines.Fits ∷ (alongs machine (extent machine commands)
+    lines.Fits ∷ (alongs machine (fit_extent machine motions)
     ++ use_lines machine (tool_uses commands) motions)
+
+-- each box of each piece lies within the travel limits
+abbrev pub ArePiecesInTravel : MachineFile → List Entry → Type 0
+ArePiecesInTravel machine motions =
+    All (λ (e : Entry). All (λ (p : Piece). IsTrue (is_in_travel machine p.bounds)) e.pieces)
+    motions
+
+-- a line that tells an extent tells of no side on which something is missing
+abbrev pub is_line_inside : Line → Bool
+is_line_inside (lines.Along a) = is_inside_on a.room
+is_line_inside _ = true
+
+-- a program that fits never has a negative margin
+abbrev pub FitStaysInside : Type 0
+FitStaysInside = (machine : MachineFile) (commands : List Command) (motions : List Entry) →
+    IsMachine machine → ArePiecesInTravel machine motions →
+    IsTrue (list_all is_line_inside (fit_lines machine commands motions))
 
 abbrev pub start_lines : MachineFile → Option ℕ → List Line
 start_lines machine fixture =
@@ -96,9 +118,20 @@ abbrev pub start_lines_if : MachineFile → Bool → List Line
 start_lines_if machine false = []
 start_lines_if machine true = start_lines machine None
 
+-- how far a program goes at a setting, without a certificate: where nothing is refused, each
+-- position lies within the travel
+abbrev pub told_extent : MachineFile → List Command → Bool → List ℕ → GridBox
+told_extent machine commands false [] = extent_in_travel machine commands
+told_extent machine commands _ _ = extent machine commands
+
 -- of a setting at which these commands are refused, and the start or not
 abbrev pub all_lines : MachineFile → List Command → Bool → List ℕ → List Line
 all_lines machine commands start ks =
     verdict_line start ks
-    ∷ (alongs machine (extent machine commands)
+    ∷ (alongs machine (told_extent machine commands start ks)
     ++ (start_lines_if machine start ++ causes_lines machine commands ks))
+
+-- a setting at which the program fits never has a negative margin
+abbrev pub SettingStaysInside : Type 0
+SettingStaysInside = (machine : MachineFile) (commands : List Command) → IsStep machine.step →
+    IsTrue (list_all is_line_inside (all_lines machine commands false []))

@@ -1,10 +1,11 @@
 -- What is in the way of a command. Our own.
-use Rattle.std.specs.Prelude.{◌≡◌, ◌≤◌, length, ℕ, ℤ, pos, ◌-ℤ◌, int_le, List, fold, take}
+use Rattle.std.specs.Prelude.{◌≡◌, ◌≤◌, length, ℕ, ℤ, pos, ◌-ℤ◌, ◌*ℤ◌, int_le, List, fold, take}
 use Rattle.std.specs.Prelude.{slice_get, Option, Some, None, option_map, option_and_then}
 use Rattle.std.specs.Prelude.{if◌then◌else◌}
 use Rattle.ngc_fixed_length.specs.Boxes.{only}
 use Rattle.ngc_fixed_length.specs.Grid.{grid}
 use Rattle.ngc_fixed_length.specs.declared.points.Point3.{Point3}
+use Rattle.ngc_fixed_length.specs.declared.points.StepPos.{StepPos}
 use Rattle.ngc_machine.specs.Machine.{MachineFile}
 use Rattle.ngc_machine.specs.declared.machine.Fixture.{Fixture}
 use Rattle.ngc_machine.specs.declared.tools.Tool.{Tool}
@@ -14,7 +15,8 @@ use Rattle.ngc_canonical.specs.declared.command.Action.TheVariants.{Move, Mount}
 use Rattle.ngc_canonical.specs.declared.command.Command.{Command}
 use Rattle.ngc_canonical.specs.declared.movement.Motion.{Motion}
 use Rattle.ngc_collision.specs.Body.{first_met}
-use Rattle.ngc_report.specs.Extents.{reach}
+use Rattle.ngc_collision.specs.declared.solid.Place.{Place}
+use Rattle.ngc_report.specs.Extents.{reach, reach_in_pieces}
 use Rattle.ngc_report.specs.Margins.{tightest}
 use Rattle.ngc_report.specs.Rooms.{room, is_inside}
 use Rattle.ngc_report.specs.declared.scene.Obstacle.{Obstacle}
@@ -36,25 +38,35 @@ gone_on s commands = fold after s (actions_of commands)
 abbrev pub standing : MachineFile → List Command → Reached
 standing machine commands = gone_on (record { tool = None; place = machine.start }) commands
 
+-- where a grid point lies, in nanometres
+abbrev pub lying : ℤ → StepPos → Place
+lying step p = record { x = p.x *ℤ step; y = p.y *ℤ step; z = p.z *ℤ step }
+
+-- where the machine goes for a point of the program: to the grid point nearest to it
+abbrev pub reached_at : MachineFile → Point3 → Place
+reached_at machine p = lying machine.step (grid machine.step p)
+
 -- the axes stand still
 abbrev pub still : MachineFile → ℕ → Option Tool → Point3 → Scene
 still machine line tool place =
     record {
       line = line;
-      from = place;
-      to = place;
+      from = reached_at machine place;
+      to = reached_at machine place;
       tool = tool;
       bounds = only (grid machine.step place);
+      in_pieces = only (grid machine.step place);
     }
 
 abbrev pub moving : MachineFile → ℕ → Option Tool → Motion → Scene
 moving machine line tool m =
     record {
       line = line;
-      from = start_of m.way;
-      to = end_of m.way;
+      from = reached_at machine (start_of m.way);
+      to = reached_at machine (end_of m.way);
       tool = tool;
       bounds = reach machine.step m.way;
+      in_pieces = reach_in_pieces machine.step m.way;
     }
 
 abbrev pub start_scene : MachineFile → Scene
@@ -95,14 +107,14 @@ named machine tool i =
     (record { number = i; fixture = f; over = over machine tool f }))
     (slice_get machine.fixtures i)
 
--- the fixture that is named; else the side of the travel that is left, or the first fixture that is
--- met
+-- The fixture that is named. Else the side of the travel that the motion in pieces leaves, or the
+-- first fixture that is met over the motion in one piece.
 abbrev pub obstacle : MachineFile → Scene → Option ℕ → Option Obstacle
 obstacle machine scene (Some i) = named machine scene.tool i
 obstacle machine scene None =
-    if is_inside (room machine scene.bounds)
+    if is_inside (room machine scene.in_pieces)
     then option_and_then (named machine scene.tool) (first_met machine scene.tool scene.bounds)
-    else Some (obstacles.Travel (tightest (room machine scene.bounds)))
+    else Some (obstacles.Travel (tightest (room machine scene.in_pieces)))
 
 -- the machine stands so behind the first of these commands
 pub record StandsBehind (machine : MachineFile) (commands : List Command) (s : Standing) :

@@ -1,5 +1,5 @@
 -- What passes and is nearly always a mistake. Our own.
-use Rattle.std.specs.Prelude.{ℕ, ◌+◌, ◌*◌, nat_lt, int_lt, unsigned_abs, List, [], ◌∷◌, ◌++◌}
+use Rattle.std.specs.Prelude.{ℕ, ◌+◌, ◌*◌, min, nat_lt, ℤ, int_lt, unsigned_abs, List, [], ◌∷◌, ◌++◌}
 use Rattle.std.specs.Prelude.{length, map, Option, Some, None, Bool, false, not, ◌&&◌, ◌||◌}
 use Rattle.std.specs.Prelude.{if◌then◌else◌}
 use Rattle.std.specs.List.{list_any}
@@ -46,14 +46,27 @@ is_unarmed machine (Some tool) way = false
 abbrev pub step_speed : MachineFile → ℕ
 step_speed machine = unsigned_abs machine.step * machine.ticks_per_second
 
--- the greatest speed along an axis, in millionths of a nanometre a second
-abbrev pub greatest_speed : MachineFile → ℕ
-greatest_speed machine = machine.max_rate * step_speed machine
+-- a rate, and no more than that of an axis along which a motion goes from low to high
+abbrev pub rate_on_axis : ℤ → ℤ → ℕ → ℕ → ℕ
+rate_on_axis low high of_axis rate = if int_eq low high then rate else min rate of_axis
+
+-- the greatest rate of a motion with this box, in millionths of a step a tick
+abbrev pub greatest_rate : MachineFile → GridBox → ℕ
+greatest_rate m b =
+    rate_on_axis b.low.x b.high.x m.axis_rates.x
+    (rate_on_axis b.low.y b.high.y m.axis_rates.y
+    (rate_on_axis b.low.z b.high.z m.axis_rates.z m.max_rate))
+
+-- its greatest speed along an axis, in millionths of a nanometre a second
+abbrev pub greatest_speed : MachineFile → Way → ℕ
+greatest_speed machine way =
+    greatest_rate machine (reach machine.step way) * step_speed machine
 
 -- a feed in nanometres a minute that is above it
-abbrev pub is_fast : MachineFile → Pace → Bool
-is_fast machine (Feed (PerMinute feed)) = nat_lt (60 * greatest_speed machine) (1000000 * feed)
-is_fast machine _ = false
+abbrev pub is_fast : MachineFile → Way → Pace → Bool
+is_fast machine way (Feed (PerMinute feed)) =
+    nat_lt (60 * greatest_speed machine way) (1000000 * feed)
+is_fast machine way _ = false
 
 -- ---- home between fixtures
 
@@ -84,7 +97,7 @@ is_low_home machine tool _ _ = false
 
 abbrev pub concerns : MachineFile → Concern → Option Tool → Motion → Bool
 concerns machine NoTool tool m = is_unarmed machine tool m.way
-concerns machine FastFeed tool m = is_fast machine m.pace
+concerns machine FastFeed tool m = is_fast machine m.way m.pace
 concerns machine LowHome tool m = is_low_home machine tool m.way m.pace
 
 -- a motion, with the tool that is mounted then

@@ -4,6 +4,7 @@ use Rattle.std.specs.Prelude.{Some, None}
 use Rattle.ngc_fixed_length.specs.declared.points.Point3.{Point3}
 use Rattle.ngc_text.specs.Millimetres.{size_text, mm_text}
 use Rattle.ngc_machine.specs.declared.tools.Tool.{Tool}
+use Rattle.ngc_collision.specs.Inside.{place_of}
 use Rattle.ngc_report.specs.declared.line.Along.{Along}
 use Rattle.ngc_report.specs.declared.line.Line.{Line}
 use Rattle.ngc_report.specs.declared.line.Line.TheVariants as lines
@@ -72,8 +73,8 @@ use_text u n =
 abbrev pub command_text : ℕ → Scene → List ℕ
 command_text k s =
     codes "Command " ++ decimal k ++ codes " of line " ++ decimal s.line ++ codes ", with "
-    ++ tool_text s.tool ++ codes ", from " ++ place_text s.from ++
-    codes " to " ++ place_text s.to ++ codes ".\n"
+    ++ tool_text s.tool ++ codes ", from " ++ place_text (place_of s.from) ++
+    codes " to " ++ place_text (place_of s.to) ++ codes ".\n"
 
 -- the height from which on a fixture is passed over, where the travel has it
 unfoldable pub over_text : Option ℤ → List ℕ
@@ -110,7 +111,8 @@ line_text lines.Fits =
 line_text lines.Refused = codes "The program does not fit.\n"
 line_text (lines.Along a) = along_text a
 line_text (lines.Use u n) = use_text u n
-line_text (lines.Start s) = codes "The start is refused, at " ++ place_text s.from ++ codes ".\n"
+line_text (lines.Start s) =
+    codes "The start is refused, at " ++ place_text (place_of s.from) ++ codes ".\n"
 line_text (lines.Command k s) = command_text k s
 line_text (lines.InTheWay o) = obstacle_text o
 line_text (lines.Warned w) = warning_text w

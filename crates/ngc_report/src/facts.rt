@@ -1,6 +1,7 @@
 //! How the lines of a report are spelled as facts of a JSON document.
 ghost use Rattle.std.specs.Prelude.{◌≡◌, ◌+◌, ◌≤◌, ◌++◌, codes, decimal, length};
 ghost use Rattle.std.specs.Fmt.{signed_decimal};
+ghost use Rattle.ngc_collision.specs.Inside.{place_of};
 ghost use Rattle.ngc_text.specs.Collected.{CHUNK_SIZE, HasLineRoom};
 ghost use Rattle.ngc_report.specs.Facts.{tool_fact, triple, nearest_fact, along_fact, use_fact};
 ghost use Rattle.ngc_report.specs.Facts.{side_fact, start_fact, command_fact, over_fact};
@@ -16,7 +17,7 @@ use crate::uses::ToolUse;
 use crate::warnings::Warning;
 use crate::words::{add_count, axis_name, concern_words};
 use ngc_canonical::Tool;
-use ngc_fixed_length::{Nm, Point3};
+use ngc_collision::Place;
 use ngc_text::Chunk;
 
 #[tactic(auto, unfolding(crate::specs::Facts::tool_fact))]
@@ -39,26 +40,18 @@ fn add_nanometres(chunk: &mut Chunk, nanometres: i64)
     chunk.add_number(nanometres);
 }
 
-fn add_coordinate(chunk: &mut Chunk, coordinate: Nm)
-    requires { length chunk.old + 40 ≤ CHUNK_SIZE }
-    ensures text { chunk.new ≡ chunk.old ++ signed_decimal coordinate }
-    ensures short { length chunk.new ≤ length chunk.old + 40 }
-{
-    add_nanometres(chunk, coordinate.nanometres());
-}
-
 #[tactic(auto, unfolding(crate::specs::Facts::triple))]
-fn add_triple(chunk: &mut Chunk, place: &Point3)
+fn add_triple(chunk: &mut Chunk, place: &Place)
     requires { length chunk.old + 124 ≤ CHUNK_SIZE }
-    ensures text { chunk.new ≡ chunk.old ++ triple place.now }
+    ensures text { chunk.new ≡ chunk.old ++ triple (place_of place.now) }
     ensures short { length chunk.new ≤ length chunk.old + 124 }
 {
     chunk.add_text(b"[");
-    add_coordinate(chunk, place.x);
+    add_nanometres(chunk, place.x);
     chunk.add_text(b",");
-    add_coordinate(chunk, place.y);
+    add_nanometres(chunk, place.y);
     chunk.add_text(b",");
-    add_coordinate(chunk, place.z);
+    add_nanometres(chunk, place.z);
     chunk.add_text(b"]");
 }
 
@@ -196,9 +189,9 @@ fn add_fixture(chunk: &mut Chunk, met: &Met)
     chunk.add_text(b",\n{\"fact\":\"obstacle\",\"kind\":\"fixture\",\"fixture\":");
     chunk.add_number(met.number);
     chunk.add_text(b",\"low\":");
-    add_triple(chunk, &met.fixture.low);
+    add_triple(chunk, &Place::at(&met.fixture.low));
     chunk.add_text(b",\"high\":");
-    add_triple(chunk, &met.fixture.high);
+    add_triple(chunk, &Place::at(&met.fixture.high));
     chunk.add_text(b",\"over_from_z\":");
     add_over(chunk, &met.over);
 }

@@ -60,7 +60,7 @@ mod warnings;
 mod ways;
 mod words;
 
-pub use bounds::{extent, reach};
+pub use bounds::{extent, fit_extent, reach};
 pub use form::Form;
 pub use gaps::gap;
 pub use line::{Along, Line};

@@ -6,15 +6,16 @@ ghost use Rattle.ngc_text.specs.Written.{AppendsBeginning};
 ghost use Rattle.ngc_machine.specs.Machine.{file_of};
 ghost use Rattle.ngc_report.specs.Forms.{report_text};
 ghost use Rattle.ngc_report.specs.Reports.{Tells, all_lines, causes_lines, start_lines_if};
-ghost use Rattle.ngc_report.specs.Reports.{verdict_line};
+ghost use Rattle.ngc_report.specs.Reports.{verdict_line, told_extent};
 ghost use Rattle.ngc_report.specs.Scenes.{StandsBehind, scene_at, standing as standing_behind};
 
-use crate::bounds::extent;
+use crate::bounds::{extent, extent_in_travel};
 use crate::form::Form;
 use crate::line::Line;
 use crate::report::{alongs, tell_all, tell_scene, tell_start};
 use crate::scene::{Reached, Scene, gone_on, scene_of, standing};
 use ngc_canonical::{Command, Machine};
+use ngc_fixed_length::GridBox;
 use ngc_text::{Chunk, Sink, WriteFault};
 use std::alloc::Allocator;
 
@@ -146,6 +147,21 @@ fn verdict(start: bool, indices: &[u32]) -> Line
     }
 }
 
+fn told_extent<A: Allocator>(
+    machine: &Machine<A>,
+    commands: &[Command],
+    start: bool,
+    indices: &[u32],
+) -> GridBox
+    ensures { result ≡ told_extent (file_of machine.now) commands.now start indices.now }
+{
+    if start || !indices.is_empty() {
+        extent(machine, commands)
+    } else {
+        extent_in_travel(machine, commands)
+    }
+}
+
 fn tell_everything<A: Allocator, W: Sink>(
     chunk: &mut Chunk,
     form: Form,
@@ -163,7 +179,7 @@ fn tell_everything<A: Allocator, W: Sink>(
         Ok(()) => {}
         Err(fault) => return Err(fault),
     }
-    let sides = alongs(machine, &extent(machine, commands));
+    let sides = alongs(machine, &told_extent(machine, commands, start, indices));
     match tell_all(chunk, form, &sides, sink) {
         Ok(()) => {}
         Err(fault) => return Err(fault),

@@ -12,7 +12,7 @@ ghost use Rattle.ngc_report.specs.Reports.{start_lines, scene_lines, cause_lines
 ghost use Rattle.ngc_report.specs.Uses.{tool_uses};
 ghost use Rattle.ngc_report.specs.Forms.{spelled, report_text};
 
-use crate::bounds::extent;
+use crate::bounds::{extent, fit_extent};
 use crate::facts::add_fact;
 use crate::form::Form;
 use crate::line::{Along, Line};
@@ -150,7 +150,7 @@ fn tell_fit<A: Allocator, B: Allocator, W: Sink>(
     match tell_all(
         chunk,
         form,
-        &alongs(machine, &extent(machine, commands)),
+        &alongs(machine, &fit_extent(machine, motions)),
         sink,
     ) {
         Ok(()) => {}

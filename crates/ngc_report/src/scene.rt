@@ -2,16 +2,18 @@
 ghost use Rattle.std.specs.Prelude.{◌≡◌, ◌≤◌, unsigned_abs};
 ghost use Rattle.ngc_canonical.specs.Movement.{start_of};
 ghost use Rattle.ngc_machine.specs.Machine.{file_of};
+ghost use Rattle.ngc_fixed_length.specs.Length.{IsStep};
 ghost use Rattle.ngc_report.specs.Scenes.{after, gone_on, standing, start_scene, still, moving};
+ghost use Rattle.ngc_report.specs.Scenes.{lying, reached_at};
 ghost use Rattle.ngc_report.specs.Scenes.{scene_of, scene_at, foot, over_height, over, named};
 ghost use Rattle.ngc_report.specs.Scenes.{obstacle};
 
-use crate::bounds::reach;
+use crate::bounds::{reach, reach_in_pieces};
 use crate::margins::Margin;
-use crate::travel::Room;
+use crate::travel::{Room, nanometres_at};
 use ngc_canonical::{Action, Command, Fixture, Machine, Motion, Tool, Way};
-use ngc_collision::first_met;
-use ngc_fixed_length::{GridBox, Point3};
+use ngc_collision::{Place, first_met};
+use ngc_fixed_length::{GridBox, Nm, Point3, StepPos};
 use std::alloc::Allocator;
 
 // The tool that is mounted, and the place that is reached.
@@ -27,14 +29,17 @@ pub(crate) struct Reached {
 pub struct Scene {
     /// The line of the program, from 1; 0 of the start.
     pub line: u32,
-    /// Where the motion begins; of a change and of the start where the axes stand.
-    pub from: Point3,
-    /// Where it ends.
-    pub to: Point3,
+    /// The grid point where the motion begins; of a change and of the start where the axes stand.
+    pub from: Place,
+    /// The grid point where it ends.
+    pub to: Place,
     /// The tool that is mounted then, of a change the new one.
     pub tool: Option<Tool>,
     /// The box of grid points of the whole motion, or the point where the axes stand.
     pub bounds: GridBox,
+    /// The box of grid points of its pieces, where a large arc is cut a step inside at each quadrant
+    /// point.
+    pub in_pieces: GridBox,
 }
 
 /// A fixture that the tool's body meets.
@@ -51,7 +56,7 @@ pub struct Met {
 /// What is in the way.
 #[derive(Clone, Copy)]
 pub enum Obstacle {
-    /// This side of the travel, which the whole motion leaves farthest.
+    /// This side of the travel, which the motion in pieces leaves farthest.
     Travel(Margin),
     /// A fixture that the tool's body meets.
     Fixture(Met),
@@ -104,15 +109,34 @@ pub(crate) fn standing<A: Allocator>(machine: &Machine<A>, commands: &[Command])
     gone_on(start, commands)
 }
 
+fn lying(step: Nm, point: &StepPos) -> Place
+    requires { IsStep step }
+    ensures { result ≡ lying step point.now }
+{
+    Place {
+        x: nanometres_at(step, point.x),
+        y: nanometres_at(step, point.y),
+        z: nanometres_at(step, point.z),
+    }
+}
+
+/// Where the machine goes for a point of the program: to the nearest grid point.
+fn reached_at<A: Allocator>(machine: &Machine<A>, point: &Point3) -> Place
+    ensures { result ≡ reached_at (file_of machine.now) point.now }
+{
+    lying(machine.step, &point.to_grid(machine.step))
+}
+
 fn still<A: Allocator>(machine: &Machine<A>, line: u32, tool: Option<Tool>, place: Point3) -> Scene
     ensures { result ≡ still (file_of machine.now) line tool place }
 {
     Scene {
         line,
-        from: place,
-        to: place,
+        from: reached_at(machine, &place),
+        to: reached_at(machine, &place),
         tool,
         bounds: GridBox::only(place.to_grid(machine.step)),
+        in_pieces: GridBox::only(place.to_grid(machine.step)),
     }
 }
 
@@ -126,10 +150,11 @@ fn moving<A: Allocator>(
 {
     Scene {
         line,
-        from: start_of(&motion.way),
-        to: motion.way.end(),
+        from: reached_at(machine, &start_of(&motion.way)),
+        to: reached_at(machine, &motion.way.end()),
         tool,
         bounds: reach(machine.step, &motion.way),
+        in_pieces: reach_in_pieces(machine.step, &motion.way),
     }
 }
 
@@ -210,9 +235,9 @@ impl Scene {
         }
     }
 
-    /// What is in the way: the fixture that a fault names; where none is named, the side of the
-    /// travel that the whole motion leaves, or else the first fixture that the tool's body meets
-    /// somewhere over the motion's box. `None` where neither is.
+    /// Returns what is in the way: the fixture that a fault names; where none is named, the side of
+    /// the travel that the motion in pieces leaves farthest, or else the first fixture that the
+    /// tool's body meets somewhere over the box of the whole motion. `None` where neither is.
     pub fn obstacle<A: Allocator>(
         &self,
         machine: &Machine<A>,
@@ -223,7 +248,7 @@ impl Scene {
         if let Some(fixture) = fixture {
             return named(machine, &self.tool, fixture);
         }
-        let room = Room::about(machine, &self.bounds);
+        let room = Room::about(machine, &self.in_pieces);
         if !room.is_inside() {
             return Some(Obstacle::Travel(room.tightest()));
         }

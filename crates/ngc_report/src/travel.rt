@@ -1,9 +1,12 @@
 //! What is left to the travel limits.
 ghost use Rattle.std.specs.Prelude.{◌≡◌, ◌≤◌, ◌-ℤ◌, ◌*ℤ◌, unsigned_abs};
+ghost use Rattle.ngc_fixed_length.specs.Boxes.{grid_above, grid_below};
 ghost use Rattle.ngc_fixed_length.specs.Length.{IsStep};
+ghost use Rattle.ngc_machine.specs.Machine.{file_of};
+ghost use Rattle.ngc_report.specs.Extents.{travel_box};
 ghost use Rattle.ngc_report.specs.Rooms.{axis_room};
 
-use ngc_fixed_length::{GridBox, Nm};
+use ngc_fixed_length::{GridBox, Nm, StepPos};
 use ngc_machine::Machine;
 use std::alloc::Allocator;
 
@@ -31,6 +34,40 @@ pub(crate) fn nanometres_at(step: Nm, steps: i32) -> i64
     ensures bound { unsigned_abs result ≤ 107374182400000 }
 {
     i64::from(steps) * step.nanometres()
+}
+
+// The first grid point that isn't below a coordinate, in steps.
+fn first_grid_point(step: Nm, coordinate: Nm) -> i32
+    requires { IsStep step }
+    ensures { result ≡ grid_above step coordinate }
+{
+    -(-coordinate.nanometres()).div_euclid(step.nanometres()) as i32
+}
+
+// The last grid point that isn't above a coordinate, in steps.
+fn last_grid_point(step: Nm, coordinate: Nm) -> i32
+    requires { IsStep step }
+    ensures { result ≡ grid_below step coordinate }
+{
+    coordinate.nanometres().div_euclid(step.nanometres()) as i32
+}
+
+/// The box of the grid points within the travel limits.
+pub(crate) fn travel_box<A: Allocator>(machine: &Machine<A>) -> GridBox
+    ensures { result ≡ travel_box (file_of machine.now) }
+{
+    GridBox {
+        low: StepPos {
+            x: first_grid_point(machine.step, machine.low.x),
+            y: first_grid_point(machine.step, machine.low.y),
+            z: first_grid_point(machine.step, machine.low.z),
+        },
+        high: StepPos {
+            x: last_grid_point(machine.step, machine.high.x),
+            y: last_grid_point(machine.step, machine.high.y),
+            z: last_grid_point(machine.step, machine.high.z),
+        },
+    }
 }
 
 fn room_below(step: Nm, low: i32, least: Nm) -> i64
@@ -69,7 +106,6 @@ impl AxisRoom {
 }
 
 impl Room {
-    ghost use Rattle.ngc_machine.specs.Machine.{file_of};
     ghost use Rattle.ngc_report.specs.Rooms.{room, is_inside};
 
     /// What is left to a machine's travel limits about a box of grid points.

@@ -1,12 +1,14 @@
 //! What passes and is nearly always a mistake.
 ghost use Rattle.std.specs.Prelude.{◌≡◌, ◌+◌, ◌≤◌, ◌<◌, ◌∷◌, [], map, fold, unsigned_abs};
 ghost use Rattle.std.specs.Prelude.{MatchOption};
+ghost use Rattle.ngc_fixed_length.specs.Limits.{MILLION};
 ghost use Rattle.std.specs.List.{list_any};
 ghost use Rattle.std.specs.Ordering.{int_eq};
 ghost use Rattle.ngc_collision.specs.Inside.{solid_of};
 ghost use Rattle.ngc_fixed_length.specs.Length.{IsStep};
 ghost use Rattle.ngc_machine.specs.Machine.{file_of};
 ghost use Rattle.ngc_report.specs.Warnings.{leaves, is_unarmed, step_speed, greatest_speed};
+ghost use Rattle.ngc_report.specs.Warnings.{rate_on_axis, greatest_rate};
 ghost use Rattle.ngc_report.specs.Warnings.{is_fast, is_at, goes_home, is_low, comes_low};
 ghost use Rattle.ngc_report.specs.Warnings.{is_low_home, concerns, is_concerned, line_of};
 ghost use Rattle.ngc_report.specs.Warnings.{warnings_about, counted, number_of};
@@ -23,8 +25,8 @@ use std::alloc::Allocator;
 pub enum Concern {
     /// Motions without a tool that don't stay at the height of the start.
     NoTool,
-    /// Feeds a minute above the machine's greatest speed along an axis. Inverse time feeds and
-    /// traverses don't count.
+    /// Feeds a minute above the greatest speed that the machine has along an axis on this motion.
+    /// Inverse time feeds and traverses don't count.
     FastFeed,
     /// Traverses along a line to a home position, not only up or down, on which a part of the
     /// tool's body, or without a tool the controlled point, comes below the top of a fixture.
@@ -76,20 +78,39 @@ fn step_speed<A: Allocator>(machine: &Machine<A>) -> u64
     size_of(machine.step) * u64::from(machine.ticks_per_second)
 }
 
-/// The greatest speed along an axis, in millionths of a nanometre a second.
-fn greatest_speed<A: Allocator>(machine: &Machine<A>) -> u64
-    ensures value { result ≡ greatest_speed (file_of machine.now) }
-    ensures bound { result ≤ 50000000000000000 }
+/// A rate, and no more than that of an axis along which a motion goes from one coordinate to another.
+fn rate_on_axis(low: i32, high: i32, of_axis: u32, rate: u32) -> u32
+    ensures value { result ≡ rate_on_axis low high of_axis rate }
+    ensures bound { result ≤ rate }
 {
-    u64::from(machine.max_rate) * step_speed(machine)
+    if low == high { rate } else { rate.min(of_axis) }
 }
 
-fn is_fast<A: Allocator>(machine: &Machine<A>, pace: &Pace) -> bool
-    ensures { result ≡ is_fast (file_of machine.now) pace.now }
+/// The greatest rate of a motion with this box, in millionths of a step a tick.
+fn greatest_rate<A: Allocator>(machine: &Machine<A>, bounds: &GridBox) -> u32
+    ensures value { result ≡ greatest_rate (file_of machine.now) bounds.now }
+    ensures bound { result ≤ MILLION }
+{
+    let (low, high, rates) = (&bounds.low, &bounds.high, &machine.axis_rates);
+    let z = rate_on_axis(low.z, high.z, rates.z, machine.max_rate);
+    let y = rate_on_axis(low.y, high.y, rates.y, z);
+    rate_on_axis(low.x, high.x, rates.x, y)
+}
+
+/// The greatest speed of a motion along an axis, in millionths of a nanometre a second.
+fn greatest_speed<A: Allocator>(machine: &Machine<A>, way: &Way) -> u64
+    ensures value { result ≡ greatest_speed (file_of machine.now) way.now }
+    ensures bound { result ≤ 50000000000000000 }
+{
+    u64::from(greatest_rate(machine, &reach(machine.step, way))) * step_speed(machine)
+}
+
+fn is_fast<A: Allocator>(machine: &Machine<A>, way: &Way, pace: &Pace) -> bool
+    ensures { result ≡ is_fast (file_of machine.now) way.now pace.now }
 {
     match pace {
         Pace::Feed(Feed::PerMinute(feed)) => {
-            60 * u128::from(greatest_speed(machine)) < 1_000_000 * u128::from(*feed)
+            60 * u128::from(greatest_speed(machine, way)) < 1_000_000 * u128::from(*feed)
         }
         Pace::Feed(Feed::Inverse(_)) | Pace::Rapid => false,
     }
@@ -167,7 +188,7 @@ fn concerns<A: Allocator>(
 {
     match concern {
         Concern::NoTool => is_unarmed(machine, tool, &motion.way),
-        Concern::FastFeed => is_fast(machine, &motion.pace),
+        Concern::FastFeed => is_fast(machine, &motion.way, &motion.pace),
         Concern::LowHome => is_low_home(machine, tool, &motion.way, &motion.pace),
     }
 }

@@ -1,6 +1,7 @@
 //! How the lines of a report are spelled.
 ghost use Rattle.std.specs.Prelude.{◌≡◌, ◌+◌, ◌≤◌, ◌++◌, codes, decimal, length};
 ghost use Rattle.ngc_text.specs.Collected.{CHUNK_SIZE, HasLineRoom};
+ghost use Rattle.ngc_collision.specs.Inside.{place_of};
 ghost use Rattle.ngc_text.specs.Millimetres.{mm_text};
 ghost use Rattle.ngc_report.specs.Words.{room_words, room_text, place_text, axis_text, side_text};
 ghost use Rattle.ngc_report.specs.Words.{tool_text, nearest_text, along_text, use_text};
@@ -14,7 +15,7 @@ use crate::scene::{Met, Obstacle, Scene};
 use crate::uses::ToolUse;
 use crate::warnings::{Concern, Warning};
 use ngc_canonical::Tool;
-use ngc_fixed_length::{Nm, Point3};
+use ngc_collision::Place;
 use ngc_text::Chunk;
 
 /// Adds a count, of 20 digits at most.
@@ -26,12 +27,12 @@ pub(crate) fn add_count(chunk: &mut Chunk, count: usize)
     chunk.add_number(count);
 }
 
-fn add_coordinate(chunk: &mut Chunk, coordinate: Nm)
+fn add_coordinate(chunk: &mut Chunk, coordinate: i64)
     requires { length chunk.old + 51 ≤ CHUNK_SIZE }
     ensures text { chunk.new ≡ chunk.old ++ mm_text coordinate }
     ensures short { length chunk.new ≤ length chunk.old + 51 }
 {
-    chunk.add_millimetres(i128::from(coordinate.nanometres()));
+    chunk.add_millimetres(i128::from(coordinate));
 }
 
 fn room_words(nanometres: i64) -> &'static [u8]
@@ -57,9 +58,9 @@ fn add_room(chunk: &mut Chunk, nanometres: i64)
 }
 
 #[tactic(auto, unfolding(crate::specs::Words::place_text))]
-fn add_place(chunk: &mut Chunk, place: &Point3)
+fn add_place(chunk: &mut Chunk, place: &Place)
     requires { length chunk.old + 163 ≤ CHUNK_SIZE }
-    ensures text { chunk.new ≡ chunk.old ++ place_text place.now }
+    ensures text { chunk.new ≡ chunk.old ++ place_text (place_of place.now) }
     ensures short { length chunk.new ≤ length chunk.old + 163 }
 {
     chunk.add_text(b"X ");
@@ -174,7 +175,8 @@ fn add_use(chunk: &mut Chunk, one: &ToolUse, nearest: &Option<Nearest>)
 fn add_start(chunk: &mut Chunk, scene: &Scene)
     requires { HasLineRoom chunk.old }
     ensures { chunk.new ≡ chunk.old
-        ++ (codes "The start is refused, at " ++ place_text scene.now.from ++ codes ".\n") }
+        ++ (codes "The start is refused, at " ++ place_text (place_of scene.now.from)
+        ++ codes ".\n") }
 {
     chunk.add_text(b"The start is refused, at ");
     add_place(chunk, &scene.from);
@@ -240,9 +242,9 @@ fn add_fixture(chunk: &mut Chunk, met: &Met)
     chunk.add_text(b"It meets fixture ");
     chunk.add_number(met.number);
     chunk.add_text(b", from ");
-    add_place(chunk, &met.fixture.low);
+    add_place(chunk, &Place::at(&met.fixture.low));
     chunk.add_text(b" to ");
-    add_place(chunk, &met.fixture.high);
+    add_place(chunk, &Place::at(&met.fixture.high));
     add_over(chunk, &met.over);
 }
 

@@ -1,7 +1,6 @@
 use Rattle.std.proofs.Common.{List, [], ◌∷◌, ◌++◌}
 use Rattle.ngc_machine.specs.Machine.{file_of}
-use Rattle.ngc_report.specs.Extents.{extent}
-use Rattle.ngc_report.specs.Reports.{alongs, causes_lines, start_lines_if, verdict_line}
+use Rattle.ngc_report.specs.Reports.{alongs, causes_lines, start_lines_if, told_extent, verdict_line}
 use Rattle.ngc_report.specs.declared.line.Line.{Line}
 use Rattle.ngc_report.proofs.Ahead.{first_stopped, second_stopped, all_three}
 use Rattle.ngc_report.proofs.refusals.tell_everything.Goals as goal
@@ -10,7 +9,7 @@ pub returns-in-Err-clause-told : goal.returns-in-Err-clause-told
 returns-in-Err-clause-told g c =
     let m = file_of c.args.machine.now in
     let head : List Line = verdict_line c.args.start c.args.indices.now ∷ [] in
-    let sides : List Line = alongs m (extent m c.args.commands.now) in
+    let sides : List Line = alongs m (told_extent m c.args.commands.now c.args.start c.args.indices.now) in
     let rest : List Line = start_lines_if m c.args.start ++ causes_lines m c.args.commands.now c.args.indices.now in
     first_stopped c.args.form (g.W.Sink.written c.args.sink.now) (g.W.Sink.written c.tell_all.new.sink) c.args.chunk.now head (sides ++ rest)
     (rw c.verdict.ensures at c.in-Err.ensures.told)
@@ -19,19 +18,19 @@ pub returns-in-Err-tell_all-clause-told : goal.returns-in-Err-tell_all-clause-to
 returns-in-Err-tell_all-clause-told g c =
     let m = file_of c.args.machine.now in
     let head : List Line = verdict_line c.args.start c.args.indices.now ∷ [] in
-    let sides : List Line = alongs m (extent m c.args.commands.now) in
+    let sides : List Line = alongs m (told_extent m c.args.commands.now c.args.start c.args.indices.now) in
     let rest : List Line = start_lines_if m c.args.start ++ causes_lines m c.args.commands.now c.args.indices.now in
     second_stopped c.args.form (g.W.Sink.written c.args.sink.now) (g.W.Sink.written c.tell_all.new.sink)
     (g.W.Sink.written c.tell_all-2.new.sink) c.args.chunk.now c.tell_all.new.chunk head sides rest
-    (rw c.verdict.ensures at c.in-Ok.ensures.told) (rw (c.alongs-sides.ensures, c.extent.ensures) at c.in-Err-tell_all.ensures.told)
+    (rw c.verdict.ensures at c.in-Ok.ensures.told) (rw (c.alongs-sides.ensures, c.told_extent.ensures) at c.in-Err-tell_all.ensures.told)
 
 pub returns-clause-told : goal.returns-clause-told
 returns-clause-told g c =
     let m = file_of c.args.machine.now in
     let head : List Line = verdict_line c.args.start c.args.indices.now ∷ [] in
-    let sides : List Line = alongs m (extent m c.args.commands.now) in
+    let sides : List Line = alongs m (told_extent m c.args.commands.now c.args.start c.args.indices.now) in
     let rest : List Line = start_lines_if m c.args.start ++ causes_lines m c.args.commands.now c.args.indices.now in
     all_three c.args.form c.tell_refused.result (g.W.Sink.written c.args.sink.now) (g.W.Sink.written c.tell_all.new.sink)
     (g.W.Sink.written c.tell_all-2.new.sink) (g.W.Sink.written c.tell_refused.new.sink)
     c.args.chunk.now c.tell_all.new.chunk c.tell_all-2.new.chunk c.tell_refused.new.chunk head sides rest
-    (rw c.verdict.ensures at c.in-Ok.ensures.told) (rw (c.alongs-sides.ensures, c.extent.ensures) at c.in-Ok-tell_all.ensures.told) c.tell_refused.ensures.told
+    (rw c.verdict.ensures at c.in-Ok.ensures.told) (rw (c.alongs-sides.ensures, c.told_extent.ensures) at c.in-Ok-tell_all.ensures.told) c.tell_refused.ensures.told

@@ -6,8 +6,10 @@ returns c =
     rw (
       c.add_over.ensures,
       c.add_place-2.ensures.text,
+      c.at-2.ensures,
       c.add_text-3.ensures,
       c.add_place.ensures.text,
+      c.at.ensures,
       c.add_text-2.ensures,
       c.add_number.ensures.text,
       c.add_text.ensures,
