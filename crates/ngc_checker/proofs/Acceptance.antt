@@ -10,7 +10,8 @@ use Rattle.ngc_certificate_text.specs.Certificate.{CertificateData}
 use Rattle.ngc_certificate.specs.Valid.{IsValid}
 use Rattle.ngc_certificate.proofs.NoFault.{neither}
 use Rattle.ngc_checker.specs.FirstRefusal.{setting_fault, settings_fault}
-use Rattle.ngc_checker.specs.Accepted.{AreCommands, IsAccepted}
+use Rattle.ngc_job.specs.Job.{AreCommands}
+use Rattle.ngc_checker.specs.Accepted.{IsAccepted}
 use Rattle.ngc_checker.specs.Held.{held}
 use Rattle.ngc_checker.proofs.NoRefusal.{setting_valid}
 

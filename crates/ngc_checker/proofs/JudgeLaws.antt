@@ -62,6 +62,14 @@ begun_says machine off on off_walk on_walk off_begins off_none on_begins on_none
     ap₂ (λ (x y : Option CheckFault). (x or y)) (begun_fault machine Off off off_walk r.pieces (certificate_of r).off off_begins off_none)
     (begun_fault machine On on on_walk r.pieces (certificate_of r).on on_begins on_none)
 
+pub begins_on : (machine own : MachineFile) (walk : SettingJudge) → machine ≡ own → Begins machine walk → Begins own walk
+begins_on machine own walk is begins = subst (λ (m : MachineFile). Begins m walk) is begins
+
+-- the machine as it is passed
+pub judged_on : (machine own : MachineFile) (off on : List Command) (off_walk on_walk : SettingJudge) (left : ℕ) → machine ≡ own →
+    IsJudge machine off on off_walk on_walk left → IsJudge own off on off_walk on_walk left
+judged_on machine own off on off_walk on_walk left is judge = subst (λ (m : MachineFile). IsJudge m off on off_walk on_walk left) is judge
+
 -- ---- a motion
 
 abbrev Moves : MachineFile → Setting → List Command → SettingJudge → SettingJudge → ℕ → ℕ → Type 0

@@ -10,5 +10,7 @@ pub mod JudgeLaws
 pub mod LineJudging
 -- What a verdict says is what the checker answers.
 pub mod AnswerLaw
+-- The check of a job is that of the program whose job it is.
+pub mod JobLaws
 -- What the check of a source's bytes comes to, from what the pieces of them do.
 pub mod SourceLaws

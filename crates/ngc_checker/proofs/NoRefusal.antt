@@ -18,6 +18,7 @@ use Rattle.ngc_certificate_text.specs.Certificate.{Entry, CertificateData}
 use Rattle.ngc_certificate.specs.Valid.{AreClearFrom, IsValid}
 use Rattle.ngc_certificate.specs.PieceFault.{pieces_fault, place_fault, ◌or◌}
 use Rattle.ngc_certificate.proofs.NoFault.{some_none, no_map, map_none, neither, both_none, clear_at, unmet_at, pieces_valid, pieces_pass}
+use Rattle.ngc_checker.specs.declared.fault.CheckFault.{CheckFault}
 use Rattle.ngc_checker.specs.declared.fault.CheckFault.TheVariants as faults
 use Rattle.ngc_checker.specs.FirstRefusal.{first_difference, motions_fault, start_fault, at_command, commands_fault, setting_fault, settings_fault}
 use Rattle.ngc_checker.specs.FirstRefusal.{first_refusal}
@@ -131,6 +132,13 @@ settings_pass program setup c h =
     ∙ both_none (setting_fault setup.machine Off h.off c.off) (setting_fault setup.machine On h.on c.on)
     (setting_passes setup.machine Off h.off c.off h.off_valid)
     (setting_passes setup.machine On h.on c.on h.on_valid)
+
+pub refused_valid : (machine : MachineFile) (off on : List Command) (c : CertificateData) (fault : CheckFault) → IsValid machine off c.off
+    → IsValid machine on c.on → settings_fault machine (Ok off) (Ok on) c ≡ Some fault → ⊥
+refused_valid machine off on c fault off_valid on_valid some =
+    let none = both_none (setting_fault machine Off off c.off) (setting_fault machine On on c.on) (setting_passes machine Off off c.off off_valid)
+    (setting_passes machine On on c.on on_valid) in
+    some_none fault (sym some ∙ none)
 
 pub law : NoneRefusedIsValid
 law = λ program setup c. (settings_valid program setup c (meaning program setup false) (meaning program setup true) refl refl, settings_pass program setup c)

@@ -14,7 +14,8 @@ use Rattle.ngc_canonical.specs.declared.movement.Motion.{Motion}
 use Rattle.ngc_canonical.specs.Movement.{actions_of, motion_indices, end_of}
 use Rattle.ngc_certificate_text.specs.declared.piece.Piece.{Piece}
 use Rattle.ngc_certificate_text.specs.declared.piece.Setting.{Setting}
-use Rattle.ngc_certificate_text.specs.Certificate.{Entry}
+use Rattle.ngc_certificate_text.specs.Certificate.{Entry, entry_at}
+use Rattle.ngc_certificate_text.proofs.Spelled.{entry_found}
 use Rattle.ngc_certificate.specs.declared.fault.PieceRefusal.{PieceRefusal}
 use Rattle.ngc_certificate.specs.declared.pieces.PieceJudge.{PieceJudge}
 use Rattle.ngc_certificate.specs.PieceFault.{pieces_fault, ◌or◌}
@@ -34,6 +35,15 @@ use Rattle.ngc_checker.specs.Walking.{walk_from, with_motion, pieces_left, comma
 
 left_at : (i : ℕ) (cs : List Command) (c : Command) → i < length cs → c ≡ get_or cs i c → drop i cs ≡ c ∷ drop (i + 1) cs
 left_at i cs c h e = let split = drop-cons cs i c h in rw (split, ← e, add-one) refl
+
+-- the motions of a certificate from one on, by its index and its pieces
+pub entry_ahead : (i : ℕ) (es : List Entry) (index : ℕ) (pieces : List Piece) → i < length es → index ≡ (entry_at es i).index →
+    pieces ≡ (entry_at es i).pieces → drop i es ≡ record { index = index; pieces = pieces } ∷ drop (i + 1) es
+entry_ahead i es index pieces inside is are =
+    let entry : Entry = record { index = index; pieces = pieces } in
+    let found = entry_found es i index pieces inside is are in
+    let split = drop-cons es i entry inside in
+    rw (split, ← found, add-one) refl
 
 drop_none : (n : ℕ) → drop {A = Command} n [] ≡ []
 drop_none zero = refl

@@ -1,17 +1,15 @@
 -- What was accepted: a program's commands at both settings of block delete, its machine and its
 -- tools. Our own.
-use Rattle.std.specs.Prelude.{◌≡◌, ◌≤◌, List, length, Option, Some, None, Result, Ok, Err, Bool}
+use Rattle.std.specs.Prelude.{◌≡◌, List, Option, Some, None, Result, Ok, Err, Bool}
 use Rattle.std.specs.Prelude.{true, false}
-use Rattle.ngc_fixed_length.specs.declared.points.Point3.{Point3}
 use Rattle.ngc_machine.specs.Machine.{MachineFile}
 use Rattle.ngc_machine.specs.MachineRanges.{IsMachine}
 use Rattle.ngc_machine.specs.declared.tools.Tool.{Tool}
 use Rattle.ngc_canonical.specs.declared.command.Command.{Command}
-use Rattle.ngc_canonical.specs.Joined.{HaveEvenRadii, EndIsLast, HasEnd}
 use Rattle.ngc_canonical.specs.Meaning.{Program, meaning}
-use Rattle.ngc_canonical.specs.Movement.{actions_of, ways_of, AreJoined}
-use Rattle.ngc_canonical.specs.State.{Setup, COMMAND_LIMIT}
+use Rattle.ngc_canonical.specs.State.{Setup}
 use Rattle.ngc_certificate_text.specs.Certificate.{CertificateData}
+use Rattle.ngc_job.specs.Job.{AreCommands}
 use Rattle.ngc_certificate.specs.Valid.{IsValid}
 use Rattle.ngc_checker.specs.declared.fault.CheckFault.{CheckFault}
 use Rattle.ngc_checker.specs.declared.fault.CheckFault.TheVariants.{Memory}
@@ -27,15 +25,6 @@ pub record AcceptedData : Type 0 where
 abbrev pub commands_at : Bool → AcceptedData → List Command
 commands_at false a = a.off
 commands_at true a = a.on
-
--- a setting's commands: there are few enough, each motion begins where the one before it ends, each
--- arc has even radii, the last one is the end, and nothing comes after an end
-pub record AreCommands (start : Point3) (commands : List Command) : Type 0 where
-  pub count : length commands ≤ COMMAND_LIMIT
-  pub joined : AreJoined start (ways_of (actions_of commands))
-  pub radii : HaveEvenRadii (ways_of (actions_of commands))
-  pub ended : EndIsLast commands
-  pub has_end : HasEnd commands
 
 -- what holds of all that was accepted: some certificate is valid for both settings
 pub record IsAccepted (a : AcceptedData) : Type 0 where

@@ -1,5 +1,5 @@
--- How what was accepted is held in memory, and which refusal a fault of the program is. Our own.
-use Rattle.std.specs.Prelude.{List}
+-- What is accepted of a job, and which refusal a fault of the program is. Our own.
+use Rattle.std.specs.Prelude.{List, true}
 use Rattle.ngc_machine.specs.Machine.{MachineFile}
 use Rattle.ngc_machine.specs.declared.tools.Tool.{Tool}
 use Rattle.ngc_canonical.specs.declared.command.Command.{Command}
@@ -8,10 +8,14 @@ use Rattle.ngc_canonical.specs.declared.fault.ProgramFault.TheVariants.{At, Memo
 use Rattle.ngc_certificate_text.specs.declared.piece.Setting.{Setting}
 use Rattle.ngc_checker.specs.declared.fault.CheckFault.{CheckFault}
 use Rattle.ngc_checker.specs.declared.fault.CheckFault.TheVariants as faults
+use Rattle.ngc_job.specs.Job.{JobData, commands_in}
 use Rattle.ngc_checker.specs.Accepted.{AcceptedData}
 
 abbrev pub held : MachineFile → List Tool → List Command → List Command → AcceptedData
 held machine tools off on = record { machine = machine; tools = tools; off = off; on = on }
+
+abbrev pub accepted_of : JobData → AcceptedData
+accepted_of j = held j.machine j.tools j.off (commands_in true j)
 
 -- want of memory is no fault of the program
 abbrev pub program_fault : Setting → ProgramFault → CheckFault

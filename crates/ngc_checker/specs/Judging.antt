@@ -12,7 +12,8 @@ use Rattle.ngc_certificate_text.specs.Ahead.{Rest, certificate_of}
 use Rattle.ngc_certificate_text.specs.Certificate.{CertificateData, PIECE_LIMIT}
 use Rattle.ngc_checker.specs.declared.fault.CheckFault.{CheckFault}
 use Rattle.ngc_checker.specs.declared.setting_judge.SettingJudge.{SettingJudge}
-use Rattle.ngc_checker.specs.Accepted.{AcceptedData, AreCommands}
+use Rattle.ngc_job.specs.Job.{AreCommands}
+use Rattle.ngc_checker.specs.Accepted.{AcceptedData}
 use Rattle.ngc_checker.specs.FirstRefusal.{settings_fault}
 use Rattle.ngc_checker.specs.Following.{IsFollowing}
 use Rattle.ngc_checker.specs.Held.{held}

@@ -2,7 +2,6 @@ pub mod Faults
 pub mod FirstRefusal
 pub mod Accepted
 pub mod Validity
-pub mod Progress
 pub mod Held
 pub mod Walking
 pub mod Following

@@ -1,56 +1,41 @@
 //! What the checker accepted.
-ghost use Rattle.std.specs.Prelude.{◌≡◌, IfOk};
+ghost use Rattle.std.specs.Prelude.{◌≡◌};
 ghost use Rattle.ngc_machine.specs.Machine.{file_of};
 ghost use Rattle.ngc_machine.specs.Tools.{tools_of};
 ghost use Rattle.ngc_checker.specs.Accepted.{commands_at, IsAccepted};
-ghost use Rattle.ngc_checker.specs.Held.{held};
+ghost use Rattle.ngc_checker.specs.Held.{accepted_of};
 
 use ngc_canonical::Command;
-use ngc_certificate::MemoryFault;
+use ngc_job::Job;
 use ngc_machine::{Machine, Tools};
 use std::alloc::Allocator;
 use std::marker::Model;
 
 /// A program that was accepted on a machine with its tools: its commands at both settings of block
-/// delete, and copies of machine and tools. Some certificate is valid for them. Only `check`,
-/// `check_source` and `CheckReader` make one.
+/// delete, and machine and tools of its own. Some certificate is valid for them. Only `check`,
+/// `check_job`, `check_source` and `CheckReader` make one.
 #[derive(Drop)]
 pub struct Accepted<A: Allocator> {
-    machine: Machine<A>,
-    tools: Tools<A>,
-    off: Vec<Command, A>,
-    on: Vec<Command, A>,
+    job: Job<A>,
 }
 
 impl<A: Allocator> Model for Accepted<A> {
-    ghost use Rattle.ngc_machine.specs.Machine.{file_of};
-    ghost use Rattle.ngc_machine.specs.Tools.{tools_of};
     ghost use Rattle.ngc_checker.specs.Accepted.{AcceptedData, IsAccepted};
-    ghost use Rattle.ngc_checker.specs.Held.{held};
+    ghost use Rattle.ngc_checker.specs.Held.{accepted_of};
 
     ghost Value = { AcceptedData };
 
-    ghost view = { λ a. held (file_of a.machine) (tools_of a.tools) a.off.items a.on.items };
+    ghost view = { λ a. accepted_of a.job };
 
-    ghost invariant = { λ a. IsAccepted (held (file_of a.machine) (tools_of a.tools) a.off.items a.on.items) };
+    ghost invariant = { λ a. IsAccepted (accepted_of a.job) };
 }
 
 impl<A: Allocator> Accepted<A> {
-    pub(crate) fn new(
-        machine: Machine<A>,
-        tools: Tools<A>,
-        off: Vec<Command, A>,
-        on: Vec<Command, A>,
-    ) -> Accepted<A>
-        requires { IsAccepted (held (file_of machine) (tools_of tools) off.items on.items) }
-        ensures { result ≡ held (file_of machine) (tools_of tools) off.items on.items }
+    pub(crate) fn new(job: Job<A>) -> Accepted<A>
+        requires { IsAccepted (accepted_of job) }
+        ensures { result ≡ accepted_of job }
     {
-        Accepted {
-            machine,
-            tools,
-            off,
-            on,
-        }
+        Accepted { job }
     }
 
     /// The commands at a setting of block delete, in the order in which they are executed.
@@ -58,9 +43,9 @@ impl<A: Allocator> Accepted<A> {
         ensures { result.now ≡ commands_at block_delete self.now }
     {
         if block_delete {
-            self.on.as_slice()
+            self.job.commands(true)
         } else {
-            self.off.as_slice()
+            self.job.commands(false)
         }
     }
 
@@ -70,34 +55,13 @@ impl<A: Allocator> Accepted<A> {
         // What holds of all that was accepted.
         ensures accepted { IsAccepted self.now }
     {
-        &self.machine
+        self.job.machine()
     }
 
     /// The tools.
     pub fn tools(&self) -> &Tools<A>
         ensures { tools_of result.now ≡ self.now.tools }
     {
-        &self.tools
-    }
-}
-
-impl<A: Allocator + Copy> Accepted<A> {
-    /// The same once more. It fails where memory is refused.
-    pub fn copy(&self, alloc: A) -> Result<Accepted<A>, MemoryFault>
-        ensures { IfOk result (λ a. a ≡ self.now) }
-    {
-        let Ok(machine) = self.machine.copy(alloc) else {
-            return Err(MemoryFault);
-        };
-        let Ok(tools) = self.tools.copy(alloc) else {
-            return Err(MemoryFault);
-        };
-        let Ok(off) = Vec::from_slice(alloc, self.off.as_slice()) else {
-            return Err(MemoryFault);
-        };
-        let Ok(on) = Vec::from_slice(alloc, self.on.as_slice()) else {
-            return Err(MemoryFault);
-        };
-        Ok(Accepted::new(machine, tools, off, on))
+        self.job.tools()
     }
 }

@@ -17,13 +17,14 @@ ghost use Rattle.ngc_certificate_text.specs.declared.fault.CertificateFault.TheV
 
 use crate::accepted::Accepted;
 use crate::check_fault::CheckReadFault;
-use crate::checker::program_fault;
+use crate::checker::refused;
 use crate::fault::CheckFault;
 use crate::judge::Judge;
 use crate::judged_lines::JudgedLines;
-use ngc_canonical::{ProgramFault, interpret};
-use ngc_certificate::{MemoryFault, Setting};
+use ngc_canonical::ProgramFault;
+use ngc_certificate::MemoryFault;
 use ngc_certificate_text::{CertificateFault, CertificateLines};
+use ngc_job::Job;
 use ngc_line_reader::Program;
 use ngc_machine::{Machine, Tools};
 use std::alloc::Allocator;
@@ -65,16 +66,6 @@ fn judge_of<A: Allocator + Copy>(
         Keeps (program_said (text_in program.now) rs) (setup_of machine.now tools.now) a) }
     ensures at { IfOk result (λ j. (v : JudgeData) → j ≡ Ok v → IsAt expect.Header v) }
 {
-    let off = match interpret(alloc, program, machine, tools, false) {
-        Ok(commands) => commands,
-        Err(ProgramFault::Memory) => return Err(MemoryFault),
-        Err(fault) => return Ok(Err(program_fault(Setting::Off, fault))),
-    };
-    let on = match interpret(alloc, program, machine, tools, true) {
-        Ok(commands) => commands,
-        Err(ProgramFault::Memory) => return Err(MemoryFault),
-        Err(fault) => return Ok(Err(program_fault(Setting::On, fault))),
-    };
     let own_machine = match machine.copy(alloc) {
         Ok(own_machine) => own_machine,
         Err(_) => return Err(MemoryFault),
@@ -83,7 +74,13 @@ fn judge_of<A: Allocator + Copy>(
         Ok(own_tools) => own_tools,
         Err(_) => return Err(MemoryFault),
     };
-    Ok(Ok(Judge::new(own_machine, own_tools, off, on)))
+    match Job::new(alloc, program, own_machine, own_tools) {
+        Ok(job) => Ok(Ok(Judge::new(job))),
+        Err(refusal) => match refusal.fault {
+            ProgramFault::Memory => Err(MemoryFault),
+            ProgramFault::At { .. } => Ok(Err(refused(refusal))),
+        },
+    }
 }
 
 impl<A: Allocator> CheckReader<A> {

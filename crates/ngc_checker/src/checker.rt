@@ -1,4 +1,4 @@
-ghost use Rattle.std.specs.Prelude.{◌≡◌, ◌≤◌, length, List, Ok};
+ghost use Rattle.std.specs.Prelude.{◌≡◌, ◌≤◌, length, List, MatchResult, None, Ok, Some, true};
 ghost use Rattle.ngc_line_reader.specs.Grammar.{Reading};
 ghost use Rattle.ngc_line_reader.specs.ProgramText.{AreReadings};
 ghost use Rattle.ngc_line_reader.specs.ProgramView.{text_in};
@@ -6,26 +6,33 @@ ghost use Rattle.ngc_machine.specs.Machine.{file_of};
 ghost use Rattle.ngc_canonical.specs.Interpreter.{setup_of};
 ghost use Rattle.ngc_canonical.specs.Meaning.{program_said};
 ghost use Rattle.ngc_canonical.specs.State.{COMMAND_LIMIT};
+ghost use Rattle.ngc_certificate.specs.Valid.{IsValid};
 ghost use Rattle.ngc_certificate_text.specs.Contents.{said_of};
 ghost use Rattle.ngc_checker.specs.FirstRefusal.{settings_fault};
 ghost use Rattle.ngc_checker.specs.Accepted.{Answers};
-ghost use Rattle.ngc_checker.specs.Held.{program_fault};
+ghost use Rattle.ngc_checker.specs.Held.{accepted_of, program_fault};
+ghost use Rattle.ngc_job.specs.Job.{commands_in};
 
 use crate::accepted::Accepted;
 use crate::fault::CheckFault;
 use crate::setting::setting_fault;
-use ngc_canonical::{Command, ProgramFault, interpret};
+use ngc_canonical::{Command, ProgramFault};
 use ngc_certificate::Setting;
 use ngc_certificate_text::Certificate;
+use ngc_job::{Job, JobFault};
 use ngc_line_reader::Program;
 use ngc_machine::{Machine, Tools};
 use std::alloc::Allocator;
 
-pub(crate) fn program_fault(setting: Setting, fault: ProgramFault) -> CheckFault
-    ensures { result ≡ program_fault setting fault }
+/// Why a program that has no job is refused.
+pub(crate) fn refused(refusal: JobFault) -> CheckFault
+    ensures { result ≡ program_fault refusal.setting refusal.fault }
 {
-    match fault {
-        ProgramFault::At { .. } => CheckFault::Program { setting, fault },
+    match refusal.fault {
+        ProgramFault::At { .. } => CheckFault::Program {
+            setting: refusal.setting,
+            fault: refusal.fault,
+        },
         ProgramFault::Memory => CheckFault::Memory,
     }
 }
@@ -50,6 +57,33 @@ fn settings_fault<A: Allocator>(
     setting_fault(machine, Setting::On, on, motions)
 }
 
+/// Whether a certificate shows that a job is safe, at both settings of block delete. It asks for no
+/// memory.
+///
+/// The first refusal is answered: for block delete off, and then for on, 312, 318, and the commands
+/// in their order: of a tool change 317, of a motion its pieces in their order, of a piece 313 to
+/// 316, the fixtures in theirs. The job is dropped then.
+pub fn check_job<A: Allocator>(
+    job: Job<A>,
+    certificate: &Certificate<A>,
+) -> Result<Accepted<A>, CheckFault>
+    ensures verdict { MatchResult result
+        (λ a. (settings_fault job.machine (Ok job.off) (Ok (commands_in true job))
+        (said_of certificate.now) ≡ None) × (a ≡ accepted_of job))
+        (λ fault. settings_fault job.machine (Ok job.off) (Ok (commands_in true job))
+        (said_of certificate.now) ≡ Some fault) }
+    // A certificate that is valid for the job is accepted.
+    ensures accepts { IsValid job.machine job.off (said_of certificate.now).off →
+        IsValid job.machine (commands_in true job) (said_of certificate.now).on →
+        MatchResult result (λ a. Unit {0}) (λ fault. ⊥) }
+{
+    let (off, on) = (job.commands(false), job.commands(true));
+    match settings_fault(job.machine(), off, on, certificate) {
+        Some(fault) => Err(fault),
+        None => Ok(Accepted::new(job)),
+    }
+}
+
 /// Whether a certificate shows that a program is safe on a machine with its tools, at both settings
 /// of block delete.
 ///
@@ -69,22 +103,14 @@ pub fn check<A: Allocator + Copy>(
         Answers (λ a. a) (program_said (text_in program.now) rs) (setup_of machine.now tools.now)
         (said_of certificate.now) result }
 {
-    let off = match interpret(alloc, program, machine, tools, false) {
-        Ok(commands) => commands,
-        Err(fault) => return Err(program_fault(Setting::Off, fault)),
-    };
-    let on = match interpret(alloc, program, machine, tools, true) {
-        Ok(commands) => commands,
-        Err(fault) => return Err(program_fault(Setting::On, fault)),
-    };
-    if let Some(fault) = settings_fault(machine, off.as_slice(), on.as_slice(), certificate) {
-        return Err(fault);
-    }
     let Ok(own_machine) = machine.copy(alloc) else {
         return Err(CheckFault::Memory);
     };
     let Ok(own_tools) = tools.copy(alloc) else {
         return Err(CheckFault::Memory);
     };
-    Ok(Accepted::new(own_machine, own_tools, off, on))
+    match Job::new(alloc, program, own_machine, own_tools) {
+        Ok(job) => check_job(job, certificate),
+        Err(refusal) => Err(refused(refusal)),
+    }
 }

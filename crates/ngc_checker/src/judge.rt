@@ -1,36 +1,29 @@
 //! The check of a certificate whose lines come one by one.
-ghost use Rattle.std.specs.Prelude.{◌≡◌, ◌+◌, ◌-◌, ◌≤◌, ◌∷◌, [], length, List, Option, None, Some};
-ghost use Rattle.std.specs.Prelude.{Ok, IfOk, MatchResult};
-ghost use Rattle.ngc_machine.specs.Machine.{file_of};
-ghost use Rattle.ngc_machine.specs.MachineRanges.{IsMachine};
-ghost use Rattle.ngc_machine.specs.Tools.{tools_of};
+ghost use Rattle.std.specs.Prelude.{◌≡◌, ◌+◌, ◌-◌, ◌≤◌, ◌∷◌, [], length, Option, None, Some};
+ghost use Rattle.std.specs.Prelude.{Ok, MatchResult, true};
 ghost use Rattle.ngc_certificate_text.specs.Ahead.{Rest, certificate_of, nothing_left, with_items};
 ghost use Rattle.ngc_certificate_text.specs.Ahead.{with_pieces};
 ghost use Rattle.ngc_certificate_text.specs.Certificate.{PIECE_LIMIT};
 ghost use Rattle.ngc_certificate_text.specs.Told.{onto, Fits};
 ghost use Rattle.ngc_certificate.specs.PieceFault.{◌or◌};
-ghost use Rattle.ngc_checker.specs.Accepted.{AreCommands};
+ghost use Rattle.ngc_job.specs.Job.{commands_in};
 ghost use Rattle.ngc_checker.specs.FirstRefusal.{settings_fault};
-ghost use Rattle.ngc_checker.specs.Held.{held};
+ghost use Rattle.ngc_checker.specs.Held.{accepted_of};
 ghost use Rattle.ngc_checker.specs.Judging.{MayJudge, kept_of, left_behind, verdict_of};
 
 use crate::accepted::Accepted;
 use crate::fault::CheckFault;
 use crate::setting_judge::SettingJudge;
-use ngc_canonical::Command;
 use ngc_certificate::{Piece, Setting};
 use ngc_certificate_text::{BegunMotion, Indices, Told};
-use ngc_machine::{Machine, Tools};
+use ngc_job::Job;
 use std::alloc::Allocator;
 use std::marker::Model;
 
 /// What is known of a certificate so far, with what is kept where it is accepted.
 #[derive(Drop)]
 pub struct Judge<A: Allocator> {
-    machine: Machine<A>,
-    tools: Tools<A>,
-    off: Vec<Command, A>,
-    on: Vec<Command, A>,
+    job: Job<A>,
     off_walk: SettingJudge,
     on_walk: SettingJudge,
     // How many pieces come yet of a motion that has begun.
@@ -38,8 +31,8 @@ pub struct Judge<A: Allocator> {
 }
 
 impl<A: Allocator> Model for Judge<A> {
-    ghost use Rattle.ngc_machine.specs.Machine.{file_of};
-    ghost use Rattle.ngc_machine.specs.Tools.{tools_of};
+    ghost use Rattle.std.specs.Prelude.{true};
+    ghost use Rattle.ngc_job.specs.Job.{commands_in};
     ghost use Rattle.ngc_checker.specs.Judging.{JudgeData, IsJudge};
     ghost use Rattle.ngc_checker.specs.contracts.setting_judge.SettingJudge as walked;
     ghost use Rattle.std.specs.Coded.{codes};
@@ -47,10 +40,10 @@ impl<A: Allocator> Model for Judge<A> {
     ghost Value = { JudgeData };
 
     ghost view = { λ j. record {
-      machine = file_of j.machine;
-      tools = tools_of j.tools;
-      off = j.off.items;
-      on = j.on.items;
+      machine = j.job.machine;
+      tools = j.job.tools;
+      off = j.job.off;
+      on = commands_in true j.job;
       off_walk = j.off_walk;
       on_walk = j.on_walk;
       left = j.left;
@@ -58,7 +51,7 @@ impl<A: Allocator> Model for Judge<A> {
 
     ghost coded = { Prim.hlevel (codes, walked.the_row.coded) };
 
-    ghost invariant = { λ j. IsJudge (file_of j.machine) j.off.items j.on.items j.off_walk j.on_walk j.left };
+    ghost invariant = { λ j. IsJudge j.job.machine j.job.off (commands_in true j.job) j.off_walk j.on_walk j.left };
 }
 
 fn first_of(first: Option<CheckFault>, later: Option<CheckFault>) -> Option<CheckFault>
@@ -72,28 +65,17 @@ fn first_of(first: Option<CheckFault>, later: Option<CheckFault>) -> Option<Chec
 
 impl<A: Allocator> Judge<A> {
     /// No line has come yet.
-    pub(crate) fn new(
-        machine: Machine<A>,
-        tools: Tools<A>,
-        off: Vec<Command, A>,
-        on: Vec<Command, A>,
-    ) -> Judge<A>
-        requires machine { IsMachine (file_of machine) }
-        requires off { AreCommands (file_of machine).start off.items }
-        requires on { AreCommands (file_of machine).start on.items }
+    pub(crate) fn new(job: Job<A>) -> Judge<A>
         ensures verdict { (r : Rest) →
-            settings_fault (file_of machine) (Ok off.items) (Ok on.items) (certificate_of r)
+            settings_fault job.machine (Ok job.off) (Ok (commands_in true job)) (certificate_of r)
             ≡ verdict_of result r }
-        ensures kept { kept_of result ≡ held (file_of machine) (tools_of tools) off.items on.items }
+        ensures kept { kept_of result ≡ accepted_of job }
         ensures left { result.left ≡ 0 }
     {
-        let off_walk = SettingJudge::new(&machine);
-        let on_walk = SettingJudge::new(&machine);
+        let off_walk = SettingJudge::new(job.machine());
+        let on_walk = SettingJudge::new(job.machine());
         Judge {
-            machine,
-            tools,
-            off,
-            on,
+            job,
             off_walk,
             on_walk,
             left: 0,
@@ -112,21 +94,18 @@ impl<A: Allocator> Judge<A> {
         ensures left { self.new.left ≡ begun.now.pieces_left }
     {
         let pieces = begun.pieces_left;
-        let (off, on) = (self.off.as_slice(), self.on.as_slice());
+        let machine = self.job.machine();
+        let (off, on) = (self.job.commands(false), self.job.commands(true));
         match begun.indices {
             Indices::Both(i, j) => {
-                self.off_walk
-                    .motion(&self.machine, Setting::Off, off, i, pieces);
-                self.on_walk
-                    .motion(&self.machine, Setting::On, on, j, pieces);
+                self.off_walk.motion(machine, Setting::Off, off, i, pieces);
+                self.on_walk.motion(machine, Setting::On, on, j, pieces);
             }
             Indices::Off(i) => {
-                self.off_walk
-                    .motion(&self.machine, Setting::Off, off, i, pieces);
+                self.off_walk.motion(machine, Setting::Off, off, i, pieces);
             }
             Indices::On(j) => {
-                self.on_walk
-                    .motion(&self.machine, Setting::On, on, j, pieces);
+                self.on_walk.motion(machine, Setting::On, on, j, pieces);
             }
         }
         self.left = pieces;
@@ -142,9 +121,9 @@ impl<A: Allocator> Judge<A> {
         ensures left { self.new.left ≡ begun.now.pieces_left - 1 }
     {
         let left = begun.pieces_left;
-        self.off_walk
-            .piece(&self.machine, Setting::Off, left, piece);
-        self.on_walk.piece(&self.machine, Setting::On, left, piece);
+        let machine = self.job.machine();
+        self.off_walk.piece(machine, Setting::Off, left, piece);
+        self.on_walk.piece(machine, Setting::On, left, piece);
         self.left = left - 1;
     }
 
@@ -170,19 +149,17 @@ impl<A: Allocator> Judge<A> {
             (a ≡ kept_of self)) (λ fault. verdict_of self nothing_left ≡ Some fault) }
     {
         let Judge {
-            machine,
-            tools,
-            off,
-            on,
+            job,
             mut off_walk,
             mut on_walk,
             left: _,
         } = self;
-        let first = off_walk.finish(&machine, Setting::Off, off.as_slice());
-        let later = on_walk.finish(&machine, Setting::On, on.as_slice());
+        let machine = job.machine();
+        let first = off_walk.finish(machine, Setting::Off, job.commands(false));
+        let later = on_walk.finish(machine, Setting::On, job.commands(true));
         match first_of(first, later) {
             Some(fault) => Err(fault),
-            None => Ok(Accepted::new(machine, tools, off, on)),
+            None => Ok(Accepted::new(job)),
         }
     }
 }

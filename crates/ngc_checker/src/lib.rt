@@ -10,16 +10,14 @@ mod fault;
 mod judge;
 mod judged_lines;
 pub mod laws;
-mod motions;
 mod read;
 mod setting;
 mod setting_judge;
-mod walk;
 
 pub use accepted::Accepted;
 pub use check_fault::CheckReadFault;
 pub use check_reader::CheckReader;
-pub use checker::check;
+pub use checker::{check, check_job};
 pub use fault::CheckFault;
 pub use ngc_certificate::MemoryFault;
 pub use read::check_source;

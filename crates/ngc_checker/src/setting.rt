@@ -5,8 +5,7 @@ ghost use Rattle.ngc_canonical.specs.State.{COMMAND_LIMIT};
 ghost use Rattle.ngc_checker.specs.FirstRefusal.{setting_fault, start_fault};
 
 use crate::fault::CheckFault;
-use crate::motions::first_difference;
-use crate::walk::commands_fault;
+use crate::setting_judge::SettingJudge;
 use ngc_canonical::Command;
 use ngc_certificate::{Setting, place_fault};
 use ngc_certificate_text::Motions;
@@ -33,11 +32,15 @@ pub fn setting_fault<A: Allocator>(
     requires { length commands.now ≤ COMMAND_LIMIT }
     ensures { result ≡ setting_fault (file_of machine.now) setting commands.now motions.now }
 {
-    if let Some(command) = first_difference(commands, motions) {
-        return Some(CheckFault::MotionsDiffer { setting, command });
+    let mut judge = SettingJudge::new(machine);
+    for index in 0..motions.len() {
+        judge.entry(
+            machine,
+            setting,
+            commands,
+            motions.index(index),
+            motions.pieces(index),
+        );
     }
-    if let Some(fault) = start_fault(machine) {
-        return Some(fault);
-    }
-    commands_fault(machine, setting, commands, motions)
+    judge.finish(machine, setting, commands)
 }

@@ -146,6 +146,34 @@ impl SettingJudge {
         }
     }
 
+    /// A motion of the certificate by its index, with all its pieces.
+    pub(crate) fn entry<A: Allocator>(
+        &mut self,
+        machine: &Machine<A>,
+        setting: Setting,
+        commands: &[Command],
+        index: u32,
+        pieces: &[Piece],
+    )
+        requires count { length commands.now ≤ COMMAND_LIMIT }
+        requires index { self.old.walk.index ≤ length commands.now }
+        requires none { self.old.following ≡ None }
+        requires some { 1 ≤ length pieces.now }
+        requires few { length pieces.now ≤ PIECE_LIMIT }
+        ensures index { self.new.walk.index ≤ length commands.now }
+        ensures none { self.new.following ≡ None }
+        ensures left { (entries : List Entry) →
+            fault_left (file_of machine.now) setting commands.now self.old []
+            (record { index = index; pieces = pieces.now } ∷ entries)
+            ≡ fault_left (file_of machine.now) setting commands.now self.new [] entries }
+    {
+        let count = pieces.len() as u32;
+        self.motion(machine, setting, commands, index, count);
+        for (done, piece) in pieces.iter().enumerate() {
+            self.piece(machine, setting, count - done as u32, piece);
+        }
+    }
+
     /// The first refusal of the setting, where no motion comes any more.
     pub(crate) fn finish<A: Allocator>(
         &mut self,

@@ -1,0 +1,16 @@
+-- What is left of the pieces comes to what all of them do.
+use Rattle.std.proofs.Common.{◌≡◌, ◌≤◌, ◌-◌, None, List, length, drop}
+use Rattle.ngc_machine.specs.Machine.{file_of}
+use Rattle.ngc_certificate_text.specs.Certificate.{Entry}
+use Rattle.ngc_checker.specs.Following.{IsFollowing}
+use Rattle.ngc_checker.specs.Walking.{fault_left}
+use Rattle.ngc_checker.proofs.setting_judge.SettingJudge.entry.Given as goal
+
+abbrev pub invariant-loop-done : goal.invariant-loop-done
+invariant-loop-done g l = record {
+  within : l.self.walk.index ≤ length l.commands;
+  following : IsFollowing (file_of l.machine) l.self.following (length l.pieces - l.done);
+  none : l.done ≡ length l.pieces → l.self.following ≡ None;
+  left : (entries : List Entry) → fault_left (file_of l.machine) l.setting l.commands l.initial.self l.pieces entries
+      ≡ fault_left (file_of l.machine) l.setting l.commands l.self (drop l.done l.pieces) entries;
+}

@@ -1,0 +1,2 @@
+-- What is kept of a program is its job.
+pub mod JobLaws

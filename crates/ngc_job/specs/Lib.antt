@@ -1,0 +1,2 @@
+-- What a job is.
+pub mod Job

@@ -1,0 +1,142 @@
+ghost use Rattle.std.specs.Prelude.{◌≡◌, List, is_some};
+ghost use Rattle.ngc_line_reader.specs.Grammar.{Reading};
+ghost use Rattle.ngc_line_reader.specs.ProgramText.{AreReadings};
+ghost use Rattle.ngc_line_reader.specs.ProgramView.{text_in};
+ghost use Rattle.ngc_machine.specs.Machine.{file_of};
+ghost use Rattle.ngc_machine.specs.Tools.{tools_of};
+ghost use Rattle.ngc_canonical.specs.Interpreter.{setup_of};
+ghost use Rattle.ngc_canonical.specs.Meaning.{program_said};
+ghost use Rattle.ngc_job.specs.Job.{GivesJob, IsJob, commands_in};
+
+use ngc_canonical::{Command, ProgramFault, has_deleted_lines, interpret};
+use ngc_certificate_text::Setting;
+use ngc_line_reader::Program;
+use ngc_machine::{Machine, Tools};
+use std::alloc::Allocator;
+use std::marker::Model;
+use thiserror::Error;
+
+/// Why a program has no job: its fault, or want of memory, at a setting of block delete.
+#[derive(Clone, Copy, Debug, Error)]
+#[error("the program is refused: {fault}")]
+pub struct JobFault {
+    /// The setting at which it is refused: `On` only where it isn't refused at `Off`.
+    pub setting: Setting,
+    pub fault: ProgramFault,
+}
+
+/// A program as it will run on a machine with its tools: the machine, the tools, and the commands
+/// at both settings of block delete, which are kept twice only where a line begins with `/`.
+#[derive(Drop)]
+pub struct Job<A: Allocator> {
+    machine: Machine<A>,
+    tools: Tools<A>,
+    off: Vec<Command, A>,
+    on: Option<Vec<Command, A>>,
+}
+
+impl<A: Allocator> Model for Job<A> {
+    ghost use Rattle.std.specs.Prelude.{option_map};
+    ghost use Rattle.ngc_machine.specs.Machine.{file_of};
+    ghost use Rattle.ngc_machine.specs.Tools.{tools_of};
+    ghost use Rattle.ngc_job.specs.Job.{JobData, IsJob};
+
+    ghost Value = { JobData };
+
+    ghost view = { λ j. record {
+      machine = file_of j.machine;
+      tools = tools_of j.tools;
+      off = j.off.items;
+      on = option_map (λ v. v.items) j.on;
+    } };
+
+    ghost invariant = { λ j. IsJob (record {
+      machine = file_of j.machine;
+      tools = tools_of j.tools;
+      off = j.off.items;
+      on = option_map (λ v. v.items) j.on;
+    }) };
+}
+
+impl<A: Allocator> Job<A> {
+    /// Executes a program on a machine with its tools: with block delete off, and then, where a
+    /// line begins with `/`, with block delete on. The first fault is answered, that of a program
+    /// that is refused (101, 102, 120, 131 to 133, 201 to 252) or want of memory (900); machine and
+    /// tools are dropped then.
+    pub fn new(
+        alloc: A,
+        program: &Program<A>,
+        machine: Machine<A>,
+        tools: Tools<A>,
+    ) -> Result<Job<A>, JobFault>
+    where
+        A: Copy,
+        // Whatever the lines' readings are: each line has one, and only one.
+        ensures { (rs : List Reading) → AreReadings (text_in program.now).lines rs →
+            GivesJob (λ j. j) (program_said (text_in program.now) rs) (setup_of machine tools)
+            result }
+    {
+        let off = match interpret(alloc, program, &machine, &tools, false) {
+            Ok(commands) => commands,
+            Err(fault) => {
+                return Err(JobFault {
+                    setting: Setting::Off,
+                    fault,
+                });
+            }
+        };
+        let on = if has_deleted_lines(program) {
+            match interpret(alloc, program, &machine, &tools, true) {
+                Ok(commands) => Some(commands),
+                Err(fault) => {
+                    return Err(JobFault {
+                        setting: Setting::On,
+                        fault,
+                    });
+                }
+            }
+        } else {
+            None
+        };
+        Ok(Job {
+            machine,
+            tools,
+            off,
+            on,
+        })
+    }
+
+    /// The commands at a setting of block delete, in the order in which they are executed.
+    pub fn commands(&self, block_delete: bool) -> &[Command]
+        ensures { result.now ≡ commands_in block_delete self.now }
+    {
+        match &self.on {
+            Some(on) if block_delete => on.as_slice(),
+            _ => self.off.as_slice(),
+        }
+    }
+
+    /// Whether a line of the program begins with `/`. Where none does, both settings of block
+    /// delete have the same commands.
+    pub fn has_deleted_lines(&self) -> bool
+        ensures { result ≡ is_some self.now.on }
+    {
+        self.on.is_some()
+    }
+
+    /// The machine.
+    pub fn machine(&self) -> &Machine<A>
+        ensures value { file_of result.now ≡ self.now.machine }
+        // What holds of every job.
+        ensures job { IsJob self.now }
+    {
+        &self.machine
+    }
+
+    /// The tools.
+    pub fn tools(&self) -> &Tools<A>
+        ensures { tools_of result.now ≡ self.now.tools }
+    {
+        &self.tools
+    }
+}
