@@ -59,6 +59,7 @@ impl<K: ArcKernel + Drop, A: Allocator> Model for Controller<K, A> {
       state = state_of c.progress.done c.progress.ring c.progress.drive c.progress.dwelt c.position
           c.tool c.panel;
       recent = c.recent;
+      accepted = c.accepted;
     } };
 
     ghost invariant = { λ c. IsInOrder
@@ -77,7 +78,8 @@ impl<K: ArcKernel + Drop, A: Allocator + Copy> Controller<K, A> {
     ) -> Result<Controller<K, A>, (Accepted<A>, MemoryFault)>
         ensures made { IfOk result
             (λ c. (c.job ≡ job_of accepted.machine (commands_at block_delete accepted)) ×
-            (c.state ≡ opening accepted.machine) × (c.recent ≡ [])) }
+            (c.state ≡ opening accepted.machine) × (c.recent ≡ []) ×
+            (c.accepted ≡ accepted)) }
         ensures back { IfErr result (λ e. e.0 ≡ accepted) }
     {
         let machine = accepted.machine();
@@ -107,6 +109,7 @@ impl<K: ArcKernel + Drop, A: Allocator + Copy> Controller<K, A> {
     /// (703).
     pub fn event(&mut self, event: Event) -> Result<Reply, EventFault>
         ensures job { self.new.job ≡ self.old.job }
+        ensures accepted { self.new.accepted ≡ self.old.accepted }
         ensures step { Step self.old.job self.old.state event result self.new.state }
         ensures goes_on { GoesOn self.old.job self.old.state event self.new.state }
         ensures short { LoadsShort event self.old.state self.new.state }
@@ -126,6 +129,7 @@ impl<K: ArcKernel + Drop, A: Allocator + Copy> Controller<K, A> {
     /// many were given, 0 where the next tick may tell something. It takes no memory.
     pub fn coast(&mut self, most: u64) -> u64
         ensures job { self.new.job ≡ self.old.job }
+        ensures accepted { self.new.accepted ≡ self.old.accepted }
         ensures few { result ≤ most }
         ensures state { self.new.state ≡ coasted result self.old.state }
         ensures coasts { Stretch self.old.job self.old.state self.new.state (replicate result Tick)
@@ -141,6 +145,7 @@ impl<K: ArcKernel + Drop, A: Allocator + Copy> Controller<K, A> {
     // Ticks by the kind of the head.
     fn go_on(&mut self, most: u64) -> u64
         ensures job { self.new.job ≡ self.old.job }
+        ensures accepted { self.new.accepted ≡ self.old.accepted }
         ensures recent { self.new.recent ≡ self.old.recent }
         ensures few { result ≤ most }
         ensures state { self.new.state ≡ coasted result self.old.state }
@@ -166,6 +171,7 @@ impl<K: ArcKernel + Drop, A: Allocator + Copy> Controller<K, A> {
         requires moves { IsMoving self.old.state.ring }
         requires runs { self.old.state.stopped ≡ false }
         ensures job { self.new.job ≡ self.old.job }
+        ensures accepted { self.new.accepted ≡ self.old.accepted }
         ensures recent { self.new.recent ≡ self.old.recent }
         ensures few { result ≤ most }
         ensures state { self.new.state ≡ coasted result self.old.state }
@@ -186,6 +192,7 @@ impl<K: ArcKernel + Drop, A: Allocator + Copy> Controller<K, A> {
         requires runs { self.old.state.stopped ≡ false }
         requires free { self.old.state.held ≡ false }
         ensures job { self.new.job ≡ self.old.job }
+        ensures accepted { self.new.accepted ≡ self.old.accepted }
         ensures recent { self.new.recent ≡ self.old.recent }
         ensures few { result ≤ most }
         ensures state { self.new.state ≡ coasted result self.old.state }
@@ -205,6 +212,7 @@ impl<K: ArcKernel + Drop, A: Allocator + Copy> Controller<K, A> {
     // Does what an event asks for.
     fn take(&mut self, event: Event) -> Result<Reply, EventFault>
         ensures job { self.new.job ≡ self.old.job }
+        ensures accepted { self.new.accepted ≡ self.old.accepted }
         ensures recent { self.new.recent ≡ self.old.recent }
         ensures step { Step self.old.job self.old.state event result self.new.state }
         ensures goes_on { GoesOn self.old.job self.old.state event self.new.state }
@@ -237,6 +245,7 @@ impl<K: ArcKernel + Drop, A: Allocator + Copy> Controller<K, A> {
     // The next command comes into the ring.
     fn load(&mut self) -> Result<Reply, EventFault>
         ensures job { self.new.job ≡ self.old.job }
+        ensures accepted { self.new.accepted ≡ self.old.accepted }
         ensures recent { self.new.recent ≡ self.old.recent }
         ensures loads { LoadCommand self.old.job self.old.state
             (command_at self.old.job (loaded self.old.state)) result self.new.state }
@@ -261,6 +270,7 @@ impl<K: ArcKernel + Drop, A: Allocator + Copy> Controller<K, A> {
     // One tick of the pulse clock.
     fn tick(&mut self) -> Reply
         ensures job { self.new.job ≡ self.old.job }
+        ensures accepted { self.new.accepted ≡ self.old.accepted }
         ensures recent { self.new.recent ≡ self.old.recent }
         ensures ticks { TickBy self.old.job self.old.state.stopped self.old.state.ring
             self.old.state (Ok result) self.new.state }
@@ -286,6 +296,7 @@ impl<K: ArcKernel + Drop, A: Allocator + Copy> Controller<K, A> {
     fn rest(&mut self) -> Reply
         requires { IsMoving self.old.state.ring → self.old.state.stopped ≡ true }
         ensures job { self.new.job ≡ self.old.job }
+        ensures accepted { self.new.accepted ≡ self.old.accepted }
         ensures recent { self.new.recent ≡ self.old.recent }
         ensures rests { Rests self.old.job self.old.state (Ok result) self.new.state }
     {
@@ -298,6 +309,7 @@ impl<K: ArcKernel + Drop, A: Allocator + Copy> Controller<K, A> {
         requires moves { IsMoving self.old.state.ring }
         requires runs { self.old.state.stopped ≡ false }
         ensures job { self.new.job ≡ self.old.job }
+        ensures accepted { self.new.accepted ≡ self.old.accepted }
         ensures recent { self.new.recent ≡ self.old.recent }
         ensures travels { TravelsOn self.old.job self.old.state.ring self.old.state
             (Ok result) self.new.state }
@@ -323,6 +335,7 @@ impl<K: ArcKernel + Drop, A: Allocator + Copy> Controller<K, A> {
         requires head { IsServed self.old.state.ring action }
         requires runs { self.old.state.stopped ≡ false }
         ensures job { self.new.job ≡ self.old.job }
+        ensures accepted { self.new.accepted ≡ self.old.accepted }
         ensures recent { self.new.recent ≡ self.old.recent }
         ensures serves { Serves self.old.job action self.old.state (Ok result) self.new.state }
     {
@@ -345,6 +358,7 @@ impl<K: ArcKernel + Drop, A: Allocator + Copy> Controller<K, A> {
     // Another override, in percent.
     fn override_by(&mut self, percent: u8) -> Result<Reply, EventFault>
         ensures job { self.new.job ≡ self.old.job }
+        ensures accepted { self.new.accepted ≡ self.old.accepted }
         ensures recent { self.new.recent ≡ self.old.recent }
         ensures step { Step self.old.job self.old.state
             (Event.Override percent) result self.new.state }
@@ -357,6 +371,13 @@ impl<K: ArcKernel + Drop, A: Allocator + Copy> Controller<K, A> {
         let effective = self.panel.effective();
         self.progress.aim(effective, self.accepted.machine());
         Ok(Reply::Overridden(percent))
+    }
+
+    /// Ends the run, and hands back what was accepted, as [`Controller::new`] was given it.
+    pub fn into_accepted(self) -> Accepted<A>
+        ensures { result ≡ self.accepted }
+    {
+        self.accepted
     }
 
     /// The commands that it runs.

@@ -17,8 +17,10 @@ use Rattle.ngc_behaviour.specs.Stretch.{last_state, Stretch}
 use Rattle.ngc_controller.specs.Controller.{ControllerData}
 use Rattle.ngc_controller.specs.Fields.{DWELL_LIMIT}
 use Rattle.ngc_run_log.specs.declared.recorder.Recorder.{Recorder}
+use Rattle.ngc_run_log.specs.Policy.{next_event, FollowPolicy}
 use Rattle.ngc_run_log.specs.Recording.{Records}
 use Rattle.ngc_run_log.specs.Stretches.{IsUntouched, Works, LeavesBy, Coasts, spent}
+use Rattle.ngc_run_log.proofs.Policy.{still_ticks}
 use Rattle.ngc_run_log.proofs.Quiet.{quiet, quiet_kinds, quiet_refusals}
 use Rattle.ngc_run_log.proofs.Ticks.{HasLeft, tick_goes}
 use Rattle.ngc_run_log.proofs.Untouched.{untouched_tick}
@@ -77,16 +79,18 @@ quiet_dwelt (suc n) job s (x ∷ xs) r =
 
 -- ---- the head goes on
 
--- after n such ticks
-record HasCoasted (job : Job) (s t : State) (n : ℕ) : Type 0 where
+-- after n such ticks, which lead to these states, the last one t
+record HasCoasted (job : Job) (s t : State) (n : ℕ) (xs : List State) : Type 0 where
   untouched : IsUntouched job t
   ring : t.ring ≡ s.ring
   done : t.done ≡ s.done
   running : t.stopped ≡ false
   spends : spent s + n ≤ spent t
+  follows : FollowPolicy job s (replicate n Tick) xs
 
-one_coasts : (n : ℕ) (job : Job) (s x t : State) → Works s x → HasLeft None s x → HasCoasted job x t n → HasCoasted job s t (suc n)
-one_coasts n job s x t works left later =
+one_coasts : (n : ℕ) (job : Job) (s x t : State) (xs : List State) → next_event job s ≡ Some Tick → Works s x → HasLeft None s x → HasCoasted job x t n xs →
+    HasCoasted job s t (suc n) (x ∷ xs)
+one_coasts n job s x t xs next works left later =
     let spends = works.spends in
     let more = later.spends in
     record {
@@ -95,15 +99,16 @@ one_coasts n job s x t works left later =
       done = later.done ∙ left.0;
       running = later.running;
       spends = omega (arith, spends, more);
+      follows = (next, later.follows);
     }
 
 coasted : (n : ℕ) (job : Job) (s : State) (xs : List State) → IsUntouched job s → s.stopped ≡ false → 1 ≤ length s.ring →
-    Run job s (replicate n Tick) (replicate n quiet) xs → KeepGoing job s (replicate n Tick) xs → (last_state s xs).dwelt ≤ DWELL_LIMIT →
-    HasCoasted job s (last_state s xs) n
-coasted zero job s [] u runs some r k brief = record { untouched = u; ring = refl; done = refl; running = runs; spends = omega arith }
-coasted zero job s (x ∷ xs) u runs some r k brief = absurd r
-coasted (suc n) job s [] u runs some r k brief = absurd r
-coasted (suc n) job s (x ∷ xs) u runs some r k brief =
+    next_event job s ≡ Some Tick → Run job s (replicate n Tick) (replicate n quiet) xs → KeepGoing job s (replicate n Tick) xs → (last_state s xs).dwelt ≤ DWELL_LIMIT →
+    HasCoasted job s (last_state s xs) n xs
+coasted zero job s [] u runs some next r k brief = record { untouched = u; ring = refl; done = refl; running = runs; spends = omega arith; follows = tt }
+coasted zero job s (x ∷ xs) u runs some next r k brief = absurd r
+coasted (suc n) job s [] u runs some next r k brief = absurd r
+coasted (suc n) job s (x ∷ xs) u runs some next r k brief =
     let g = tick_goes job s quiet x u runs some r.0 k.0 in
     let ended = no_end g.position g.ended g.says in
     let works : Works s x = subst (λ e. LeavesBy e s x) ended g.leaves in
@@ -111,17 +116,18 @@ coasted (suc n) job s (x ∷ xs) u runs some r k brief =
     let shorter = quiet_dwelt n job x xs r.1 in
     let untouched = untouched_tick job s quiet x u g (omega (arith, shorter, brief)) in
     let ring : length x.ring ≡ length s.ring = ap length left.1 in
-    one_coasts n job s x (last_state x xs) works left (coasted n job x xs untouched works.running (omega (arith, ring, some)) r.1 k.1 brief)
+    let still = still_ticks job job s x next runs refl works.running left.1 left.0 in
+    one_coasts n job s x (last_state x xs) xs next works left (coasted n job x xs untouched works.running (omega (arith, ring, some)) still r.1 k.1 brief)
 
 pub quiet_coasts : (n : ℕ) (old new : ControllerData) (a b : Recorder) (x : Option (List ℕ)) → IsUntouched old.job old.state → old.state.stopped ≡ false →
-    1 ≤ length old.state.ring → new.job ≡ old.job →
+    1 ≤ length old.state.ring → next_event old.job old.state ≡ Some Tick → new.job ≡ old.job → new.accepted ≡ old.accepted →
     Stretch old.job old.state new.state (replicate n Tick) (replicate n quiet) → new.state.dwelt ≤ DWELL_LIMIT →
     Records (replicate n Tick) (replicate n quiet) a b x x → Coasts old new a b x
-quiet_coasts n old new a b x u runs some same stretch brief recorded =
+quiet_coasts n old new a b x u runs some next same accepted stretch brief recorded =
     let D : State → Type 0 = λ t. t.dwelt ≤ DWELL_LIMIT in
-    let H : State → Type 0 = λ t. HasCoasted old.job old.state t n in
-    let there = coasted n old.job old.state stretch.states u runs some stretch.runs stretch.goes_on (subst D stretch.last brief) in
-    let here : HasCoasted old.job old.state new.state n = subst H (sym stretch.last) there in
+    let H : State → Type 0 = λ t. HasCoasted old.job old.state t n stretch.states in
+    let there = coasted n old.job old.state stretch.states u runs some next stretch.runs stretch.goes_on (subst D stretch.last brief) in
+    let here : HasCoasted old.job old.state new.state n stretch.states = subst H (sym stretch.last) there in
     let J : Job → Type 0 = λ j. IsUntouched j new.state in
     let spends = here.spends in
     let done = here.done in
@@ -135,7 +141,9 @@ quiet_coasts n old new a b x u runs some same stretch brief recorded =
         few = omega (arith, long, spends);
         none_refused = quiet_refusals n;
         job = same;
+        accepted = accepted;
         stretch = stretch;
+        follows = here.follows;
         records = recorded;
         untouched = subst J (sym same) here.untouched;
         done = omega (arith, done);

@@ -113,6 +113,7 @@ written_through form trace job x y report t r = record {
   outcomes = r.outcomes;
   smooth = r.smooth;
   done = r.done;
+  ended = r.ended;
   told = r.told;
   written = subst (Appends x y) (text_of_run form job trace r.events r.outcomes r.smooth.run.states t r.smooth.run.runs) r.written;
   reports = r.reports;
@@ -146,6 +147,15 @@ logged job lines x y (Err Memory) w = w
 
 pub logged_through : (job : Job) (x y : Option (List ℕ)) (r : Result Report RunFault) → GoesThroughAs Log job x y r → GoesThrough job x y r
 logged_through job x y (Ok report) w =
-    record { events = w.events; outcomes = w.outcomes; smooth = w.smooth; done = w.done; told = w.told; logged = w.written; reports = w.reports }
+    record {
+      events = w.events;
+      outcomes = w.outcomes;
+      smooth = w.smooth;
+      done = w.done;
+      ended = w.ended;
+      told = w.told;
+      logged = w.written;
+      reports = w.reports;
+    }
 logged_through job x y (Err (Write fault)) w = record { given = w.given; outcomes = w.outcomes; smooth = w.smooth; logged = w.written }
 logged_through job x y (Err Memory) w = w

@@ -28,7 +28,7 @@ use Rattle.ngc_run_log.proofs.Traces.{trace_text-append, trace_after-append, tra
 pub count_by-append : {X : Type 0} (p : X → Bool) (xs ys : List X) → count_by p (xs ++ ys) ≡ count_by p xs + count_by p ys
 count_by-append p xs ys = sum_by-append (λ x. cond (p x) 1 0) xs ys
 
-last_state-append : (s : State) (xs ys : List State) → last_state s (xs ++ ys) ≡ last_state (last_state s xs) ys
+pub last_state-append : (s : State) (xs ys : List State) → last_state s (xs ++ ys) ≡ last_state (last_state s xs) ys
 last_state-append s [] ys = refl
 last_state-append s (x ∷ xs) ys = last_state-append x xs ys
 
@@ -38,7 +38,7 @@ last_position-append p (x ∷ xs) ys = last_position-append x xs ys
 
 -- ---- runs
 
-runs_joined : (job : Job) (s : State) (es fs : List Event) (os ps : List Outcome) (xs ys : List State) → Run job s es os xs →
+pub runs_joined : (job : Job) (s : State) (es fs : List Event) (os ps : List Outcome) (xs ys : List State) → Run job s es os xs →
     Run job (last_state s xs) fs ps ys → Run job s (es ++ fs) (os ++ ps) (xs ++ ys)
 runs_joined job s [] fs [] ps [] ys r q = q
 runs_joined job s (e ∷ es) fs (o ∷ os) ps (x ∷ xs) ys r q = (r.0, runs_joined job x es fs os ps xs ys r.1 q)
@@ -47,7 +47,7 @@ runs_joined job s [] fs [] ps (x ∷ xs) ys r q = absurd r
 runs_joined job s (e ∷ es) fs [] ps xs ys r q = absurd r
 runs_joined job s (e ∷ es) fs (o ∷ os) ps [] ys r q = absurd r
 
-goings_joined : (job : Job) (s : State) (es fs : List Event) (os : List Outcome) (xs ys : List State) → Run job s es os xs → KeepGoing job s es xs →
+pub goings_joined : (job : Job) (s : State) (es fs : List Event) (os : List Outcome) (xs ys : List State) → Run job s es os xs → KeepGoing job s es xs →
     KeepGoing job (last_state s xs) fs ys → KeepGoing job s (es ++ fs) (xs ++ ys)
 goings_joined job s [] fs [] [] ys r k m = m
 goings_joined job s (e ∷ es) fs (o ∷ os) (x ∷ xs) ys r k m = (k.0, goings_joined job x es fs os xs ys r.1 k.1 m)
@@ -65,7 +65,7 @@ same_lengths job s [] [] (x ∷ xs) r = absurd r
 same_lengths job s (e ∷ es) [] xs r = absurd r
 same_lengths job s (e ∷ es) (o ∷ os) [] r = absurd r
 
-pub stretches_joined : (job : Job) (s t u : State) (es fs : List Event) (os ps : List Outcome) → Stretch job s t es os → Stretch job t u fs ps →
+abbrev pub stretches_joined : (job : Job) (s t u : State) (es fs : List Event) (os ps : List Outcome) → Stretch job s t es os → Stretch job t u fs ps →
     Stretch job s u (es ++ fs) (os ++ ps)
 stretches_joined job s t u es fs os ps a b =
     let R : State → Type 0 = λ x. Run job x fs ps b.states in
@@ -181,7 +181,7 @@ nothing_recorded job s a x = record {
   records = none_recorded a x;
 }
 
-pub one_step : (job : Job) (s t : State) (e : Event) (o : Outcome) → Step job s e o t → GoesOn job s e t → Stretch job s t (e ∷ []) (o ∷ [])
+abbrev pub one_step : (job : Job) (s t : State) (e : Event) (o : Outcome) → Step job s e o t → GoesOn job s e t → Stretch job s t (e ∷ []) (o ∷ [])
 one_step job s t e o does goes = record { states = t ∷ []; runs = (does, tt); goes_on = (goes, tt); last = refl }
 
 -- one event

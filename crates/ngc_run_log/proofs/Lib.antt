@@ -6,6 +6,8 @@ pub mod Traces
 pub mod Quiet
 -- Stretches of a run, one after another.
 pub mod Joined
+-- Which event comes next in a run by itself, and the policy over stretches that are joined.
+pub mod Policy
 -- One more event of a line, and one more line.
 pub mod Turns
 -- What a run comes to, from what is recorded of it.

@@ -8,7 +8,7 @@ use Rattle.ngc_canonical.specs.Joined.{HasEnd}
 use Rattle.ngc_events.specs.declared.event.Event.{Event}
 use Rattle.ngc_behaviour.specs.Headline.{RunsSafely, RunsInTime}
 use Rattle.ngc_behaviour.specs.Progress.{is_tick}
-use Rattle.ngc_behaviour.specs.State.{Job, State, command_at, loaded, opening}
+use Rattle.ngc_behaviour.specs.State.{Job, State, RING, command_at, loaded, opening}
 use Rattle.ngc_behaviour.specs.Step.{Outcome}
 use Rattle.ngc_behaviour.specs.Stretch.{Stretch}
 use Rattle.ngc_controller.specs.Controller.{ControllerData}
@@ -16,9 +16,11 @@ use Rattle.ngc_run_log.specs.declared.recorder.Recorder.{Recorder}
 use Rattle.ngc_run_log.specs.declared.report.Report.{Report}
 use Rattle.ngc_run_log.specs.declared.trace.Trace.{Trace}
 use Rattle.ngc_run_log.specs.Parts.{part_length, IsPart, GoesInParts, IsTimedThrough, FinishesPart, GoesParted, changes_tool}
+use Rattle.ngc_run_log.specs.Policy.{next_event}
 use Rattle.ngc_run_log.specs.Stretches.{IsUntouched, GoesBy, TellsDone}
 use Rattle.ngc_run_log.proofs.Comes.{AreNew}
 use Rattle.ngc_run_log.proofs.Joined.{stretches_joined, count_by-append}
+use Rattle.ngc_run_log.proofs.Policy.{none_is_next}
 use Rattle.ngc_run_log.proofs.Untouched.{goes_both, none_yet, tells_behind}
 use Rattle.ngc_run_log.proofs.WholeRun.{opens_runs, count_to, last_at}
 
@@ -91,7 +93,9 @@ parted_as n p d m q e old new a b ns s less loads does =
         few = omega (arith, few, less);
         none_refused = goes.none_refused;
         job = goes.job;
+        accepted = goes.accepted;
         stretch = goes.stretch;
+        follows = goes.follows;
         records = goes.records;
         untouched = goes.untouched;
         done = omega (arith, done, does);
@@ -173,9 +177,9 @@ is_next n p done left k old mid a b ns cs s opened rest same is_length more =
     }
 
 -- where it is the last one, it has more commands than are left to load
-pub more_than_left : (left ring k : ℕ) → (0 < left → 1 ≤ ring) → 1 ≤ k → k ≡ ring + left → left < k
-more_than_left zero ring k ready some is = omega (arith, some)
-more_than_left (suc n) ring k ready some is = let loaded_one = ready (omega arith) in omega (arith, loaded_one, is)
+pub more_than_left : (left ring k : ℕ) → (0 < left → ring ≡ RING) → 1 ≤ k → k ≡ ring + left → left < k
+more_than_left zero ring k full some is = omega (arith, some)
+more_than_left (suc n) ring k full some is = let sixteen = full (omega arith) in omega (arith, sixteen, is)
 
 -- ---- the whole
 
@@ -187,9 +191,9 @@ has_parts job old new (n ∷ ns) es os less h = (n, ns, refl)
 pub timed_through : (trace : Trace) (first u count : ℕ) (old mid new : ControllerData) (a b c : Recorder) (ns : List ℕ) → AreNew trace old.job old.state a →
     RunsSafely old.job → RunsInTime old.job → HasEnd old.job.commands →
     GoesBy first first 0 old mid a b None None → b.report.ticks ≡ a.report.ticks → count ≡ length mid.job.commands →
-    GoesParted (2 ^ 123) u count mid new b c ns →
+    GoesParted (2 ^ 123) u count mid new b c ns → new.state.stopped ≡ false →
     IsTimedThrough old.job c.report.ticks ns
-timed_through trace first u count old mid new a b c ns are_new safe in_time has_end loads still all parted =
+timed_through trace first u count old mid new a b c ns are_new safe in_time has_end loads still all parted runs =
     let lengths : length mid.job.commands ≡ length old.job.commands = ap (λ (j : Job). length j.commands) loads.job in
     let before : List Command = has_end.before in
     let is_count : suc (length before) ≡ length old.job.commands = count_to before has_end.last
@@ -197,7 +201,7 @@ timed_through trace first u count old mid new a b c ns are_new safe in_time has_
     let k = first + 2 ^ 123 in
     let whole = goes_both first (2 ^ 123) k first u (first + u) 0 count count old mid new a b c None None None loads parted.goes (omega arith) refl
     (omega arith) in
-    let r = opens_runs old.job old.state new.state whole.events whole.outcomes safe in_time are_new.opens whole.stretch in
+    let r = opens_runs old.job old.state new.state whole.events whole.outcomes safe in_time are_new.opens whole.stretch whole.follows in
     let opened : old.state.done ≡ 0 = ap (λ (x : State). x.done) are_new.opens in
     let loaded_done = loads.done in
     let parted_done = parted.goes.done in
@@ -219,8 +223,9 @@ timed_through trace first u count old mid new a b c ns are_new safe in_time has_
     record {
       events = whole.events;
       outcomes = whole.outcomes;
-      smooth = record { run = r.0; kinds = whole.kinds; none_refused = whole.none_refused };
+      smooth = record { run = r.0; kinds = whole.kinds; follows = r.2; none_refused = whole.none_refused };
       done = ap (λ (x : State). x.done) (sym r.1) ∙ done;
+      ended = ap (λ (x : State). next_event old.job x) (sym r.1) ∙ none_is_next old.job new.state runs done;
       told = told_behind old.job mid.job new.state.done loads.outcomes parted.goes.outcomes loads.job end (length before) has_end.last (is_count ∙ sym done)
           (ap (λ commands. slice_get commands (length before)) has_end.are ∙ last_at before has_end.last) has_end.is_end;
       ticks = omega (arith, counted, ap (λ (x : Report). x.ticks) are_new.report);

@@ -83,7 +83,7 @@ goes_by ring old new o v x m p q e true quiet runs long some small far least go 
       held = ap (λ (s : State). s.held) is;
       percent = ap (λ (s : State). s.percent) is;
       travelled = omega (arith, t, small, far, some);
-      leaves = λ _. ap (λ (s : State). s.stopped) is ∙ runs;
+      leaves = ap (λ (s : State). s.stopped) is ∙ runs ∙ sym quiet;
       left = (ap (λ (s : State). s.done) is, ap (λ (s : State). s.ring) is);
       tells = tells;
     }
@@ -159,15 +159,15 @@ after_panel : (a : Action) (s : State) → LeavesPanel (after a s) s
 after_panel (actions.Move m) s = record { held = refl; percent = refl; done = refl; ring = refl; travelled = refl }
 after_panel _ s = record { held = refl; percent = refl; done = refl; ring = refl; travelled = refl }
 
-by_switch : (b : Bool) (k : ℕ) → is_stop (if b then Stopped k else Done k) ≡ false → b ≡ false
-by_switch true k h = h
-by_switch false k h = refl
+by_switch : (b : Bool) (k : ℕ) → b ≡ is_stop (if b then Stopped k else Done k)
+by_switch true k = refl
+by_switch false k = refl
 
--- without a stop the machine runs on
-stop_tells : (a : Action) (s t : State) → t.stopped ≡ false → t.stop_switch ≡ s.stop_switch → is_stop (ending a s) ≡ false → (after a t).stopped ≡ false
-stop_tells actions.Stop s t runs switch h = h
-stop_tells actions.OptionalStop s t runs switch h = switch ∙ by_switch s.stop_switch s.done h
-stop_tells _ s t runs switch h = runs
+-- the machine is stopped behind a stop, and else runs on
+stop_tells : (a : Action) (s t : State) → t.stopped ≡ false → t.stop_switch ≡ s.stop_switch → (after a t).stopped ≡ is_stop (ending a s)
+stop_tells actions.Stop s t runs switch = refl
+stop_tells actions.OptionalStop s t runs switch = switch ∙ by_switch s.stop_switch s.done
+stop_tells _ s t runs switch = runs
 
 finish_goes : (job : Job) (l : Queued) (ls : List Queued) (old : State) (o : Outcome) (new : State) → old.stopped ≡ false →
     Finishes job l.command.action old o new → Goes (l ∷ ls) old o new
@@ -183,7 +183,7 @@ finish_goes job l ls old o new runs f =
       held = ap (λ (s : State). s.held) f.goes_on ∙ kept.held;
       percent = ap (λ (s : State). s.percent) f.goes_on ∙ kept.percent;
       travelled = omega (arith, t);
-      leaves = λ quiet. ap (λ (s : State). s.stopped) f.goes_on ∙ stop_tells a old there runs refl quiet;
+      leaves = ap (λ (s : State). s.stopped) f.goes_on ∙ stop_tells a old there runs refl;
       left = (ap (λ (s : State). s.done) f.goes_on ∙ kept.done, ap (λ (s : State). s.ring) f.goes_on ∙ kept.ring);
       tells = λ end. (let told : ending a old ≡ End = ap (λ x. ending x old) end in
           (told, ([], ap (λ x. x ∷ []) (f.says ∙ ap (λ e. Ok (Ticked None (Some e))) told))));

@@ -27,10 +27,12 @@ use Rattle.ngc_run_log.specs.Tracing.{trace_text}
 use Rattle.ngc_run_log.specs.Runs.{is_refusal}
 use Rattle.ngc_behaviour.specs.Stretch.{Stretch}
 use Rattle.ngc_run_log.specs.Recording.{HasFew}
+use Rattle.ngc_run_log.specs.Policy.{next_event, FollowPolicy}
 use Rattle.ngc_run_log.specs.Through.{IsLoadTickOrStart, TellsEnd}
 use Rattle.ngc_run_log.specs.Stretches.{IsUntouched, IsGiven, IsGivenLast, GoesBy, BreaksOff, TicksBy, Works, spent, ending_in, is_stop, does_in, SPENT_LIMIT}
 use Rattle.ngc_run_log.specs.Stretches.{TellsBy, TellsHead, GoesBehind, FinishesHead, Finishes}
 use Rattle.ngc_run_log.proofs.Joined.{one_step, stretches_joined, records_joined, begun_behind, begun_more, none_recorded, count_by-append, few_more}
+use Rattle.ngc_run_log.proofs.Policy.{start_is_next, load_is_next, follows_joined}
 use Rattle.ngc_run_log.proofs.Ticks.{Goes, HasLeft, tick_goes}
 
 -- ---- lists
@@ -161,10 +163,10 @@ pub counted_fine : (o : Outcome) → is_refusal o ≡ false → count_by is_refu
 counted_fine o fine = ap (λ b. 0 + cond b 1 0) fine
 
 abbrev pub goes_one : (event : Event) (o : Outcome) (loads does : ℕ) (old new : ControllerData) (a b : Recorder) (x y : Option (List ℕ)) →
-    IsGiven event old new a b x y o → IsLoadTickOrStart event → is_refusal o ≡ false →
+    IsGiven event old new a b x y o → IsLoadTickOrStart event → next_event old.job old.state ≡ Some event → is_refusal o ≡ false →
     IsUntouched old.job new.state → new.state.done ≡ old.state.done + does → length new.state.ring + does ≡ length old.state.ring + loads →
     GoesBy 1 loads does old new a b x y
-goes_one event o loads does old new a b x y g kind fine u done ring =
+goes_one event o loads does old new a b x y g kind next fine u done ring =
     let J : Job → Type 0 = λ j. IsUntouched j new.state in
     record {
       events = event ∷ [];
@@ -173,7 +175,9 @@ goes_one event o loads does old new a b x y g kind fine u done ring =
       few = omega arith;
       none_refused = counted_fine o fine;
       job = g.job;
+      accepted = g.accepted;
       stretch = one_step old.job old.state new.state event o g.step g.goes_on;
+      follows = (next, tt);
       records = g.records;
       untouched = subst J (sym g.job) u;
       done = done;
@@ -181,14 +185,15 @@ goes_one event o loads does old new a b x y g kind fine u done ring =
     }
 
 breaks_one : (event : Event) (old : ControllerData) (a : Recorder) (x y : Option (List ℕ)) (g : IsGivenLast event old a x y) → IsLoadTickOrStart event →
-    is_refusal g.outcome ≡ false → BreaksOff old a x y
-breaks_one event old a x y g kind fine = record {
+    next_event old.job old.state ≡ Some event → is_refusal g.outcome ≡ false → BreaksOff old a x y
+breaks_one event old a x y g kind next fine = record {
   events = event ∷ [];
   outcomes = g.outcome ∷ [];
   reached = g.reached;
   kinds = (kind, tt);
   none_refused = counted_fine g.outcome fine;
   stretch = one_step old.job old.state g.reached event g.outcome g.step g.goes_on;
+  follows = (next, tt);
   begun = begun_more x y a.chunk (trace_text a.trace (g.outcome ∷ [])) g.begun;
 }
 
@@ -198,14 +203,14 @@ fine_as o r e = ap is_refusal e
 -- ---- a load
 
 pub load_goes : (old new : ControllerData) (a b : Recorder) (x y : Option (List ℕ)) (o : Outcome) → IsUntouched old.job old.state →
-    length old.state.ring < RING → loaded old.state < length old.job.commands →
+    old.state.stopped ≡ false → length old.state.ring < RING → loaded old.state < length old.job.commands →
     IsGiven Load old new a b x y o → GoesBy 1 1 0 old new a b x y
-load_goes old new a b x y o u room left g =
+load_goes old new a b x y o u runs room left g =
     let c = comes old.job old.state o new.state left room g.step in
     let done : new.state.done ≡ old.state.done = ap (λ (s : State). s.done) c.is in
     let ring : length new.state.ring ≡ length (old.state.ring ++ c.added ∷ []) = ap (λ (s : State). length s.ring) c.is in
     let more = length-append old.state.ring (c.added ∷ []) in
-    goes_one Load o 1 0 old new a b x y g tt (fine_as o (Loaded (loaded old.state)) c.says) (untouched_load old.job old.state o new.state u c (g.short u.short))
+    goes_one Load o 1 0 old new a b x y g tt (load_is_next old.job old.state runs room left) (fine_as o (Loaded (loaded old.state)) c.says) (untouched_load old.job old.state o new.state u c (g.short u.short))
     (omega (arith, done)) (omega (arith, ring, more))
 
 pub load_runs : (old new : ControllerData) (a b : Recorder) (x y : Option (List ℕ)) (o : Outcome) → old.state.stopped ≡ false → length old.state.ring < RING →
@@ -213,27 +218,27 @@ pub load_runs : (old new : ControllerData) (a b : Recorder) (x y : Option (List 
     IsGiven Load old new a b x y o → new.state.stopped ≡ false
 load_runs old new a b x y o runs room left g = ap (λ (s : State). s.stopped) (comes old.job old.state o new.state left room g.step).is ∙ runs
 
-pub load_breaks : (old : ControllerData) (a : Recorder) (x y : Option (List ℕ)) → length old.state.ring < RING → loaded old.state < length old.job.commands →
+pub load_breaks : (old : ControllerData) (a : Recorder) (x y : Option (List ℕ)) → old.state.stopped ≡ false → length old.state.ring < RING → loaded old.state < length old.job.commands →
     IsGivenLast Load old a x y → BreaksOff old a x y
-load_breaks old a x y room left g =
-    breaks_one Load old a x y g tt (fine_as g.outcome (Loaded (loaded old.state)) (comes old.job old.state g.outcome g.reached left room g.step).says)
+load_breaks old a x y runs room left g =
+    breaks_one Load old a x y g tt (load_is_next old.job old.state runs room left) (fine_as g.outcome (Loaded (loaded old.state)) (comes old.job old.state g.outcome g.reached left room g.step).says)
 
 -- ---- a start
 
 pub start_goes : (old new : ControllerData) (a b : Recorder) (x y : Option (List ℕ)) (o : Outcome) → IsUntouched old.job old.state →
-    IsGiven Start old new a b x y o → GoesBy 1 0 0 old new a b x y
-start_goes old new a b x y o u g =
+    old.state.stopped ≡ true → IsGiven Start old new a b x y o → GoesBy 1 0 0 old new a b x y
+start_goes old new a b x y o u stops g =
     let is : new.state ≡ record old.state { stopped = false } = g.step.1 in
     let done : new.state.done ≡ old.state.done = ap (λ (s : State). s.done) is in
     let ring : length new.state.ring ≡ length old.state.ring = ap (λ (s : State). length s.ring) is in
-    goes_one Start o 0 0 old new a b x y g tt (fine_as o Started g.step.0) (untouched_start old.job old.state new.state u is) (omega (arith, done))
+    goes_one Start o 0 0 old new a b x y g tt (start_is_next old.job old.state stops) (fine_as o Started g.step.0) (untouched_start old.job old.state new.state u is) (omega (arith, done))
     (omega (arith, ring))
 
 pub start_runs : (old new : ControllerData) (a b : Recorder) (x y : Option (List ℕ)) (o : Outcome) → IsGiven Start old new a b x y o → new.state.stopped ≡ false
 start_runs old new a b x y o g = ap (λ (s : State). s.stopped) g.step.1
 
-pub start_breaks : (old : ControllerData) (a : Recorder) (x y : Option (List ℕ)) → IsGivenLast Start old a x y → BreaksOff old a x y
-start_breaks old a x y g = breaks_one Start old a x y g tt (fine_as g.outcome Started g.step.0)
+pub start_breaks : (old : ControllerData) (a : Recorder) (x y : Option (List ℕ)) → old.state.stopped ≡ true → IsGivenLast Start old a x y → BreaksOff old a x y
+start_breaks old a x y stops g = breaks_one Start old a x y g tt (start_is_next old.job old.state stops) (fine_as g.outcome Started g.step.0)
 
 -- ---- a tick
 
@@ -247,15 +252,15 @@ done_left (Some e) old new h some =
     (omega (arith, d), omega (arith, r, less, some))
 
 pub tick_ticks : (old new : ControllerData) (a b : Recorder) (x y : Option (List ℕ)) (o : Outcome) → IsUntouched old.job old.state → old.state.stopped ≡ false →
-    1 ≤ length old.state.ring →
+    1 ≤ length old.state.ring → next_event old.job old.state ≡ Some Tick →
     IsGiven Tick old new a b x y o → TicksBy old new a b x y (ending_in o)
-tick_ticks old new a b x y o u runs some g =
+tick_ticks old new a b x y o u runs some next g =
     let t = tick_goes old.job old.state o new.state u runs some g.step g.goes_on in
     let left = done_left t.ended old.state new.state t.left some in
     let ring = left.1 in
     let same : t.ended ≡ ending_in o = sym (ap ending_in t.says) in
     let here : TicksBy old new a b x y t.ended = record {
-      goes = goes_one Tick o 0 (does_in t.ended) old new a b x y g tt (fine_as o (Ticked t.position t.ended) t.says)
+      goes = goes_one Tick o 0 (does_in t.ended) old new a b x y g tt next (fine_as o (Ticked t.position t.ended) t.says)
           (untouched_tick old.job old.state o new.state u t g.dwelt) left.0 (omega (arith, ring));
       leaves = t.leaves;
       tells = t.tells;
@@ -263,10 +268,10 @@ tick_ticks old new a b x y o u runs some g =
     subst (TicksBy old new a b x y) same here
 
 pub tick_breaks : (old : ControllerData) (a : Recorder) (x y : Option (List ℕ)) → IsUntouched old.job old.state → old.state.stopped ≡ false →
-    1 ≤ length old.state.ring → IsGivenLast Tick old a x y → BreaksOff old a x y
-tick_breaks old a x y u runs some g =
+    1 ≤ length old.state.ring → next_event old.job old.state ≡ Some Tick → IsGivenLast Tick old a x y → BreaksOff old a x y
+tick_breaks old a x y u runs some next g =
     let t = tick_goes old.job old.state g.outcome g.reached u runs some g.step g.goes_on in
-    breaks_one Tick old a x y g tt (fine_as g.outcome (Ticked t.position t.ended) t.says)
+    breaks_one Tick old a x y g tt next (fine_as g.outcome (Ticked t.position t.ended) t.says)
 
 -- ---- one stretch and then another
 
@@ -278,7 +283,9 @@ none_yet n old a x u = record {
   few = omega arith;
   none_refused = refl;
   job = refl;
+  accepted = refl;
   stretch = record { states = []; runs = tt; goes_on = tt; last = refl };
+  follows = tt;
   records = none_recorded a x;
   untouched = u;
   done = omega arith;
@@ -289,7 +296,8 @@ abbrev pub goes_both : (n m k p q r f g d : ℕ) (old mid new : ControllerData) 
     GoesBy m q g mid new b c y z →
     n + m ≤ k → r ≡ p + q → d ≡ f + g → GoesBy k r d old new a c x z
 goes_both n m k p q r f g d old mid new a b c x y z s t enough loads does =
-    let S : Job → Type 0 = λ j. Stretch j mid.state new.state t.events t.outcomes in
+    let S : Job → Type 0 = λ j. (r : Stretch j mid.state new.state t.events t.outcomes) × FollowPolicy j mid.state t.events r.states in
+    let later = subst S s.job (t.stretch, t.follows) in
     let events = length-append s.events t.events in
     let refused = count_by-append is_refusal s.outcomes t.outcomes in
     record {
@@ -299,7 +307,11 @@ goes_both n m k p q r f g d old mid new a b c x y z s t enough loads does =
       few = omega (arith, events, s.few, t.few, enough);
       none_refused = omega (arith, refused, s.none_refused, t.none_refused);
       job = t.job ∙ s.job;
-      stretch = stretches_joined old.job old.state mid.state new.state s.events t.events s.outcomes t.outcomes s.stretch (subst S s.job t.stretch);
+      accepted = t.accepted ∙ s.accepted;
+      stretch = stretches_joined old.job old.state mid.state new.state s.events t.events s.outcomes t.outcomes s.stretch later.0;
+      follows =
+          follows_joined old.job old.state mid.state s.events t.events s.outcomes s.stretch.states later.0.states s.stretch.runs s.follows s.stretch.last
+          later.1;
       records = records_joined s.events t.events s.outcomes t.outcomes a b c x y z s.records t.records;
       untouched = t.untouched;
       done = omega (arith, s.done, t.done, does);
@@ -309,7 +321,8 @@ goes_both n m k p q r f g d old mid new a b c x y z s t enough loads does =
 pub breaks_later : (n p f : ℕ) (old mid : ControllerData) (a b : Recorder) (x y z : Option (List ℕ)) → GoesBy n p f old mid a b x y → BreaksOff mid b y z →
     BreaksOff old a x z
 breaks_later n p f old mid a b x y z s t =
-    let S : Job → Type 0 = λ j. Stretch j mid.state t.reached t.events t.outcomes in
+    let S : Job → Type 0 = λ j. (r : Stretch j mid.state t.reached t.events t.outcomes) × FollowPolicy j mid.state t.events r.states in
+    let later = subst S s.job (t.stretch, t.follows) in
     let refused = count_by-append is_refusal s.outcomes t.outcomes in
     record {
       events = s.events ++ t.events;
@@ -317,7 +330,10 @@ breaks_later n p f old mid a b x y z s t =
       reached = t.reached;
       kinds = all_both IsLoadTickOrStart s.events t.events s.kinds t.kinds;
       none_refused = omega (arith, refused, s.none_refused, t.none_refused);
-      stretch = stretches_joined old.job old.state mid.state t.reached s.events t.events s.outcomes t.outcomes s.stretch (subst S s.job t.stretch);
+      stretch = stretches_joined old.job old.state mid.state t.reached s.events t.events s.outcomes t.outcomes s.stretch later.0;
+      follows =
+          follows_joined old.job old.state mid.state s.events t.events s.outcomes s.stretch.states later.0.states s.stretch.runs s.follows s.stretch.last
+          later.1;
       begun = begun_behind s.events s.outcomes t.outcomes a b x y z s.records t.begun;
     }
 
@@ -375,6 +391,7 @@ tick_more ended old mid new a b c x y z none s t =
 -- the head is done
 pub record EndsHead (e : Ending) (old new : ControllerData) (a b : Recorder) (x y : Option (List ℕ)) : Type 0 where
   pub goes : GoesBy (SPENT_LIMIT + 1) 0 1 old new a b x y
+  pub stops : new.state.stopped ≡ is_stop e
   pub tells : TellsBy (Some e) old.state.ring goes.outcomes
 
 -- the tick in which the command ended
@@ -387,6 +404,7 @@ tick_last ended e old mid new a b c x y z some same s t =
     let R : List Queued → Type 0 = λ ring. TellsBy (Some e) ring (s.outcomes ++ here.goes.outcomes) in
     record {
       goes = goes_both (spent mid.state) 1 (SPENT_LIMIT + 1) 0 0 0 0 1 1 old mid new a b c x y z s here.goes (omega (arith, little)) refl refl;
+      stops = here.leaves;
       tells = subst R same (by_behind e mid.state.ring s.outcomes here.goes.outcomes here.tells);
     }
 

@@ -19,10 +19,12 @@ use Rattle.ngc_run_log.specs.declared.report.Report.{Report}
 use Rattle.ngc_run_log.specs.declared.recorder.Recorder.{Recorder}
 use Rattle.ngc_run_log.specs.declared.trace.Trace.{Trace}
 use Rattle.ngc_run_log.specs.Tracing.{last_text}
+use Rattle.ngc_run_log.specs.Policy.{next_event, FollowPolicy}
 use Rattle.ngc_run_log.specs.Runs.{IsRun, Reports}
 use Rattle.ngc_behaviour.specs.Stretch.{last_state, Stretch}
 use Rattle.ngc_run_log.specs.Forms.{IsTracedThrough, IsTracedOff}
 use Rattle.ngc_run_log.specs.Stretches.{IsUntouched, GoesBy, BreaksOff, Finishes}
+use Rattle.ngc_run_log.proofs.Policy.{none_is_next}
 use Rattle.ngc_run_log.proofs.Comes.{AreNew, all_written, all_begun, some_begun, reports}
 
 -- before the first event
@@ -41,11 +43,12 @@ opening_untouched job s machine opens =
     subst (IsUntouched job) (sym opens) here
 
 pub opens_runs : (job : Job) (s t : State) (events : List Event) (outcomes : List Outcome) → RunsSafely job → RunsInTime job → s ≡ opening job.machine →
-    Stretch job s t events outcomes →
-    (run : IsRun job events outcomes) × (t ≡ last_state (opening job.machine) run.states)
-opens_runs job s t events outcomes safe in_time opens stretch =
+    (stretch : Stretch job s t events outcomes) → FollowPolicy job s events stretch.states →
+    (run : IsRun job events outcomes) × (t ≡ last_state (opening job.machine) run.states) × FollowPolicy job (opening job.machine) events run.states
+opens_runs job s t events outcomes safe in_time opens stretch follows =
     let R : State → Type 0 = λ x. Run job x events outcomes stretch.states in
     let K : State → Type 0 = λ x. KeepGoing job x events stretch.states in
+    let F : State → Type 0 = λ x. FollowPolicy job x events stretch.states in
     let runs : Run job (opening job.machine) events outcomes stretch.states = subst R opens stretch.runs in
     let goes_on : KeepGoing job (opening job.machine) events stretch.states = subst K opens stretch.goes_on in
     let run : IsRun job events outcomes = record {
@@ -55,7 +58,7 @@ opens_runs job s t events outcomes safe in_time opens stretch =
       goes_on = goes_on;
       in_time = in_time events outcomes stretch.states runs goes_on;
     } in
-    (run, stretch.last ∙ ap (λ (x : State). last_state x stretch.states) opens)
+    (run, stretch.last ∙ ap (λ (x : State). last_state x stretch.states) opens, subst F opens follows)
 
 -- where the last command stands
 pub count_to : (before : List Command) (last : Command) → suc (length before) ≡ length (before ++ last ∷ [])
@@ -69,12 +72,13 @@ last_at (c ∷ before) last = last_at before last
 -- all is done and written
 pub through_traced : (trace : Trace) (n count : ℕ) (old new : ControllerData) (a b : Recorder) (x y z : Option (List ℕ)) (report : Report) →
     AreNew trace old.job old.state a → RunsSafely old.job → RunsInTime old.job →
-    HasEnd old.job.commands → count ≡ length old.job.commands → Finishes n count count old new a b x y → Appends y z (b.chunk ++ last_text b.trace) →
+    HasEnd old.job.commands → count ≡ length old.job.commands → Finishes n count count old new a b x y → new.state.stopped ≡ false →
+    Appends y z (b.chunk ++ last_text b.trace) →
     report ≡ b.report → IsTracedThrough trace old.job x z report
-through_traced trace n count old new a b x y z report are_new safe in_time has_end all ended wrote same =
+through_traced trace n count old new a b x y z report are_new safe in_time has_end all ended runs wrote same =
     let s : GoesBy n count count old new a b x y = ended.goes in
     let R : Report → Type 0 = λ r. Reports old.job s.events s.outcomes r in
-    let r = opens_runs old.job old.state new.state s.events s.outcomes safe in_time are_new.opens s.stretch in
+    let r = opens_runs old.job old.state new.state s.events s.outcomes safe in_time are_new.opens s.stretch s.follows in
     let none : old.state.done ≡ 0 = ap (λ (x : State). x.done) are_new.opens in
     let done : new.state.done ≡ length old.job.commands = omega (arith, s.done, none, all) in
     let before : List Command = has_end.before in
@@ -83,8 +87,9 @@ through_traced trace n count old new a b x y z report are_new safe in_time has_e
     record {
       events = s.events;
       outcomes = s.outcomes;
-      smooth = record { run = r.0; kinds = s.kinds; none_refused = s.none_refused };
+      smooth = record { run = r.0; kinds = s.kinds; follows = r.2; none_refused = s.none_refused };
       done = ap (λ (x : State). x.done) (sym r.1) ∙ done;
+      ended = ap (λ (x : State). next_event old.job x) (sym r.1) ∙ none_is_next old.job new.state runs done;
       told = ended.told (omega (arith, is_count, all)) (length before) has_end.last (is_count ∙ sym done)
           (ap (λ commands. slice_get commands (length before)) has_end.are ∙ last_at before has_end.last) has_end.is_end;
       written = all_written trace old.job old.state a b x y z s.events s.outcomes are_new s.records wrote;
@@ -97,30 +102,25 @@ pub through_unwritten : (trace : Trace) (n count : ℕ) (old new : ControllerDat
     Finishes n count count old new a b x y → AppendsBeginning y z (b.chunk ++ last_text b.trace) → IsTracedOff trace old.job x z
 through_unwritten trace n count old new a b x y z are_new safe in_time ended wrote =
     let s : GoesBy n count count old new a b x y = ended.goes in
+    let r = opens_runs old.job old.state new.state s.events s.outcomes safe in_time are_new.opens s.stretch s.follows in
     record {
       given = s.events;
       outcomes = s.outcomes;
-      smooth = record {
-        run = (opens_runs old.job old.state new.state s.events s.outcomes safe in_time are_new.opens s.stretch).0;
-        kinds = s.kinds;
-        none_refused = s.none_refused;
-      };
+      smooth = record { run = r.0; kinds = s.kinds; follows = r.2; none_refused = s.none_refused };
       written = all_begun trace old.job old.state a b x y z s.events s.outcomes are_new s.records wrote;
     }
 
 -- a write failed before all was done
 pub through_broken : (trace : Trace) (old : ControllerData) (a : Recorder) (x z : Option (List ℕ)) → AreNew trace old.job old.state a → RunsSafely old.job →
     RunsInTime old.job → BreaksOff old a x z → IsTracedOff trace old.job x z
-through_broken trace old a x z are_new safe in_time s = record {
-  given = s.events;
-  outcomes = s.outcomes;
-  smooth = record {
-    run = (opens_runs old.job old.state s.reached s.events s.outcomes safe in_time are_new.opens s.stretch).0;
-    kinds = s.kinds;
-    none_refused = s.none_refused;
-  };
-  written = some_begun trace old.job old.state a x z s.outcomes are_new s.begun;
-}
+through_broken trace old a x z are_new safe in_time s =
+    let r = opens_runs old.job old.state s.reached s.events s.outcomes safe in_time are_new.opens s.stretch s.follows in
+    record {
+      given = s.events;
+      outcomes = s.outcomes;
+      smooth = record { run = r.0; kinds = s.kinds; follows = r.2; none_refused = s.none_refused };
+      written = some_begun trace old.job old.state a x z s.outcomes are_new s.begun;
+    }
 
 -- ---- of what was accepted
 

@@ -1,5 +1,5 @@
 -- What a run comes to that is written in one of the forms. Our own.
-use Rattle.std.specs.Prelude.{◌≡◌, ℕ, List, ◌++◌, length, Option, Ok, Err, Result}
+use Rattle.std.specs.Prelude.{◌≡◌, ℕ, List, ◌++◌, length, Option, None, Ok, Err, Result}
 use Rattle.std.specs.Io.KnownBytes.{Appends, Keeps}
 use Rattle.ngc_text.specs.Written.{AppendsBeginning}
 use Rattle.ngc_events.specs.declared.event.Event.{Event}
@@ -18,6 +18,7 @@ use Rattle.ngc_run_log.specs.declared.trace.Trace.{Trace}
 use Rattle.ngc_run_log.specs.Log.{log}
 use Rattle.ngc_run_log.specs.Tracing.{whole_text}
 use Rattle.ngc_behaviour.specs.Stretch.{last_state}
+use Rattle.ngc_run_log.specs.Policy.{next_event}
 use Rattle.ngc_run_log.specs.Runs.{IsRun, Reports}
 use Rattle.ngc_run_log.specs.Through.{IsSmoothRun, TellsEnd}
 
@@ -57,13 +58,14 @@ ComesAs form job lines old new (Err Memory) = Keeps old new
 
 -- ---- through the program
 
--- every command is done at the end, which is told last, and all was written
+-- every command is done at the end, which is told last, nothing comes next, and all was written
 pub record IsWrittenThrough (form : Form) (job : Job) (old new : Option (List ℕ))
     (report : Report) : Type 0 where
   pub events : List Event
   pub outcomes : List Outcome
   pub smooth : IsSmoothRun job events outcomes
   pub done : (last_state (opening job.machine) smooth.run.states).done ≡ length job.commands
+  pub ended : next_event job (last_state (opening job.machine) smooth.run.states) ≡ None
   pub told : TellsEnd outcomes
   pub written : Appends old new (text_as form job events outcomes smooth.run.states)
   pub reports : Reports job events outcomes report
@@ -115,6 +117,7 @@ pub record IsTracedThrough (trace : Trace) (job : Job) (old new : Option (List �
   pub outcomes : List Outcome
   pub smooth : IsSmoothRun job events outcomes
   pub done : (last_state (opening job.machine) smooth.run.states).done ≡ length job.commands
+  pub ended : next_event job (last_state (opening job.machine) smooth.run.states) ≡ None
   pub told : TellsEnd outcomes
   pub written : Appends old new (whole_text trace outcomes)
   pub reports : Reports job events outcomes report

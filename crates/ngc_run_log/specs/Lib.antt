@@ -2,6 +2,7 @@ pub mod Log
 pub mod Tracing
 pub mod Recording
 pub mod Runs
+pub mod Policy
 pub mod Through
 pub mod Forms
 pub mod Stretches

@@ -11,6 +11,7 @@ use Rattle.ngc_behaviour.specs.Progress.{is_tick}
 use Rattle.ngc_behaviour.specs.Stretch.{last_state, Stretch}
 use Rattle.ngc_controller.specs.Controller.{ControllerData}
 use Rattle.ngc_run_log.specs.declared.recorder.Recorder.{Recorder}
+use Rattle.ngc_run_log.specs.Policy.{next_event}
 use Rattle.ngc_run_log.specs.Stretches.{GoesBy, TellsDone}
 use Rattle.ngc_run_log.specs.Through.{IsSmoothRun, TellsEnd}
 
@@ -45,13 +46,14 @@ GoesInParts job old (n ∷ ns) events outcomes new =
     (events ≡ first ++ later) × (outcomes ≡ told ++ more) × IsPart job old mid n first told ×
     GoesInParts job mid ns later more new
 
--- a run by itself through all commands, the end told last, has so many ticks, and each part so many
--- of them
+-- a run by itself through all commands, the end told last and nothing to come next, has so many
+-- ticks, and each part so many of them
 pub record IsTimedThrough (job : Job) (n : ℕ) (times : List ℕ) : Type 0 where
   pub events : List Event
   pub outcomes : List Outcome
   pub smooth : IsSmoothRun job events outcomes
   pub done : (last_state (opening job.machine) smooth.run.states).done ≡ length job.commands
+  pub ended : next_event job (last_state (opening job.machine) smooth.run.states) ≡ None
   pub told : TellsEnd outcomes
   pub ticks : n ≡ count_by is_tick events
   pub parts : GoesInParts job (opening job.machine) times events outcomes

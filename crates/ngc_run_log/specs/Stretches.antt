@@ -23,6 +23,7 @@ use Rattle.ngc_controller.specs.Loaded.{AreShort, LoadsShort}
 use Rattle.ngc_run_log.specs.declared.recorder.Recorder.{Recorder}
 use Rattle.ngc_run_log.specs.Tracing.{trace_text}
 use Rattle.ngc_behaviour.specs.Stretch.{Stretch}
+use Rattle.ngc_run_log.specs.Policy.{FollowPolicy}
 use Rattle.ngc_run_log.specs.Recording.{Records}
 use Rattle.ngc_run_log.specs.Runs.{is_refusal}
 use Rattle.ngc_run_log.specs.Through.{IsLoadTickOrStart, TellsEnd}
@@ -70,6 +71,7 @@ is_stop End = false
 pub record IsGiven (event : Event) (old new : ControllerData) (before after : Recorder)
     (written now : Option (List ℕ)) (outcome : Outcome) : Type 0 where
   pub job : new.job ≡ old.job
+  pub accepted : new.accepted ≡ old.accepted
   pub step : Step old.job old.state event outcome new.state
   pub goes_on : GoesOn old.job old.state event new.state
   pub short : LoadsShort event old.state new.state
@@ -87,7 +89,8 @@ pub record IsGivenLast (event : Event) (old : ControllerData) (before : Recorder
 
 -- ---- several events
 
--- at most n events were given and recorded, by which so many commands were loaded and so many done
+-- at most n events were given and recorded, each the next one by the policy, by which so many
+-- commands were loaded and so many done
 pub record GoesBy (n loads does : ℕ) (old new : ControllerData) (before after : Recorder)
     (written now : Option (List ℕ)) : Type 0 where
   pub events : List Event
@@ -96,13 +99,15 @@ pub record GoesBy (n loads does : ℕ) (old new : ControllerData) (before after 
   pub few : length events ≤ n
   pub none_refused : count_by is_refusal outcomes ≡ 0
   pub job : new.job ≡ old.job
+  pub accepted : new.accepted ≡ old.accepted
   pub stretch : Stretch old.job old.state new.state events outcomes
+  pub follows : FollowPolicy old.job old.state events stretch.states
   pub records : Records events outcomes before after written now
   pub untouched : IsUntouched new.job new.state
   pub done : new.state.done ≡ old.state.done + does
   pub ring : length new.state.ring + does ≡ length old.state.ring + loads
 
--- some events were given, and then a write failed
+-- some events were given, each the next one by the policy, and then a write failed
 pub record BreaksOff (old : ControllerData) (before : Recorder) (written now : Option (List ℕ)) :
     Type 0 where
   pub events : List Event
@@ -111,6 +116,7 @@ pub record BreaksOff (old : ControllerData) (before : Recorder) (written now : O
   pub kinds : AllByRecursion IsLoadTickOrStart events
   pub none_refused : count_by is_refusal outcomes ≡ 0
   pub stretch : Stretch old.job old.state reached events outcomes
+  pub follows : FollowPolicy old.job old.state events stretch.states
   pub begun : AppendsBeginning written now (before.chunk ++ trace_text before.trace outcomes)
 
 -- ---- what a tick leaves
@@ -129,10 +135,10 @@ pub record Coasts (old new : ControllerData) (before after : Recorder) (written 
   pub running : new.state.stopped ≡ false
   pub spends : spent old.state ≤ spent new.state
 
--- what a tick leaves, by how a command ended in it: without a stop the machine isn't stopped
+-- what a tick leaves, by how a command ended in it: the machine is stopped behind a stop alone
 abbrev pub LeavesBy : Option Ending → State → State → Type 0
 LeavesBy None old new = Works old new
-LeavesBy (Some ending) old new = is_stop ending ≡ false → new.stopped ≡ false
+LeavesBy (Some ending) old new = new.stopped ≡ is_stop ending
 
 -- where the head that ended is the program's end, that is told last
 abbrev pub TellsBy : Option Ending → List Queued → List Outcome → Type 0

@@ -16,6 +16,7 @@ use Rattle.ngc_run_log.specs.declared.report.RunFault.{RunFault}
 use Rattle.ngc_run_log.specs.declared.report.RunFault.TheVariants.{Memory, Write}
 use Rattle.ngc_run_log.specs.Log.{log}
 use Rattle.ngc_behaviour.specs.Stretch.{last_state}
+use Rattle.ngc_run_log.specs.Policy.{next_event, FollowPolicy}
 use Rattle.ngc_run_log.specs.Runs.{is_refusal, IsRun, Reports}
 
 -- nobody touches the panel but to start again
@@ -28,10 +29,11 @@ IsLoadTickOrStart Resume = ⊥
 IsLoadTickOrStart (Override n) = ⊥
 IsLoadTickOrStart (StopSwitch on) = ⊥
 
--- a run over such events, none of which is refused
+-- a run over such events, each of which is the next one by the policy, and none of which is refused
 pub record IsSmoothRun (job : Job) (events : List Event) (outcomes : List Outcome) : Type 0 where
   pub run : IsRun job events outcomes
   pub kinds : AllByRecursion IsLoadTickOrStart events
+  pub follows : FollowPolicy job (opening job.machine) events run.states
   pub none_refused : count_by is_refusal outcomes ≡ 0
 
 -- the last outcome tells the program's end
@@ -39,13 +41,14 @@ abbrev pub TellsEnd : List Outcome → Type 0
 TellsEnd outcomes =
     (before : List Outcome) × (outcomes ≡ before ++ Ok (Ticked None (Some End)) ∷ [])
 
--- every command is done at the end, which is told last, and what was written is the log of what
--- came of all events
+-- every command is done at the end, which is told last, nothing comes next, and what was written is
+-- the log of what came of all events
 pub record IsLoggedThrough (job : Job) (old new : Option (List ℕ)) (report : Report) : Type 0 where
   pub events : List Event
   pub outcomes : List Outcome
   pub smooth : IsSmoothRun job events outcomes
   pub done : (last_state (opening job.machine) smooth.run.states).done ≡ length job.commands
+  pub ended : next_event job (last_state (opening job.machine) smooth.run.states) ≡ None
   pub told : TellsEnd outcomes
   pub logged : Appends old new (log outcomes)
   pub reports : Reports job events outcomes report

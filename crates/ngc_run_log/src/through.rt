@@ -1,6 +1,6 @@
 //! A run through a whole program: nobody touches the panel but to start again behind a stop.
 ghost use Rattle.std.specs.Prelude.{◌≡◌, ◌≤◌, ◌<◌, ◌+◌, ◌-◌, ◌*◌, ◌^◌, ℕ, List, Option, min};
-ghost use Rattle.std.specs.Prelude.{length, false, OnOk, OnErr, IfOk};
+ghost use Rattle.std.specs.Prelude.{length, Some, true, false, OnOk, OnErr, IfOk};
 ghost use Rattle.ngc_behaviour.specs.Headline.{job_of, RunsInTime, RunsSafely};
 ghost use Rattle.ngc_behaviour.specs.State.{RING, loaded, opening};
 ghost use Rattle.ngc_canonical.specs.Joined.{HasEnd};
@@ -10,6 +10,7 @@ ghost use Rattle.ngc_text.specs.Failures.{CountsFailure};
 ghost use Rattle.ngc_machine.specs.MachineRanges.{IsMachine};
 ghost use Rattle.ngc_run_log.specs.Forms.{GoesThroughAs, IsTracedThrough, IsTracedOff};
 ghost use Rattle.ngc_run_log.specs.Forms.{PulsesGoThrough};
+ghost use Rattle.ngc_run_log.specs.Policy.{next_event};
 ghost use Rattle.ngc_run_log.specs.Recording.{HasFew};
 ghost use Rattle.ngc_run_log.specs.Runs.{FailsByWriting};
 ghost use Rattle.ngc_run_log.specs.Stretches.{IsUntouched, IsGiven, Coasts, IsGivenLast, GoesBy};
@@ -81,13 +82,14 @@ fn load_next<A: Allocator + Copy, W: Sink>(
     }
 }
 
-// Starts again.
+// Starts again where the machine is stopped.
 fn start_again<A: Allocator + Copy, W: Sink>(
     controller: &mut Controller<ArcPath, A>,
     recorder: &mut Recorder,
     sink: &mut W,
 ) -> Result<(), WriteFault>
     requires untouched { IsUntouched controller.old.job controller.old.state }
+    requires stops { controller.old.state.stopped ≡ true }
     requires few { HasFew (2 ^ 126) recorder.old }
     ensures goes { OnOk result
         (GoesBy 1 0 0 controller.old controller.new recorder.old recorder.new (W.written sink.old)
@@ -122,6 +124,7 @@ fn tick<A: Allocator + Copy, W: Sink>(
     requires untouched { IsUntouched controller.old.job controller.old.state }
     requires runs { controller.old.state.stopped ≡ false }
     requires some { 1 ≤ length controller.old.state.ring }
+    requires next { next_event controller.old.job controller.old.state ≡ Some Event.Tick }
     requires few { HasFew (2 ^ 126) recorder.old }
     ensures ticks { IfOk result
         (TicksBy controller.old controller.new recorder.old recorder.new (W.written sink.old)
@@ -141,6 +144,7 @@ fn coast<A: Allocator + Copy>(controller: &mut Controller<ArcPath, A>, recorder:
     requires untouched { IsUntouched controller.old.job controller.old.state }
     requires runs { controller.old.state.stopped ≡ false }
     requires some { 1 ≤ length controller.old.state.ring }
+    requires next { next_event controller.old.job controller.old.state ≡ Some Event.Tick }
     requires few { HasFew (2 ^ 125 + 2 ^ 102) recorder.old }
     ensures { (written : Option (List ℕ)) →
         Coasts controller.old controller.new recorder.old recorder.new written }
@@ -159,7 +163,7 @@ fn go_on_behind<A: Allocator + Copy, W: Sink>(
     sink: &mut W,
 ) -> Result<(), WriteFault>
     requires untouched { IsUntouched controller.old.job controller.old.state }
-    requires runs { is_stop ending ≡ false → controller.old.state.stopped ≡ false }
+    requires stops { controller.old.state.stopped ≡ is_stop ending }
     requires few { HasFew (2 ^ 126) recorder.old }
     ensures goes { OnOk result
         (GoesBehind ending controller.old controller.new recorder.old recorder.new
@@ -185,6 +189,7 @@ fn finish_head<A: Allocator + Copy, W: Sink>(
     requires untouched { IsUntouched controller.old.job controller.old.state }
     requires runs { controller.old.state.stopped ≡ false }
     requires some { 1 ≤ length controller.old.state.ring }
+    requires next { next_event controller.old.job controller.old.state ≡ Some Event.Tick }
     requires few { HasFew (2 ^ 125) recorder.old }
     ensures goes { OnOk result
         (FinishesHead controller.old controller.new recorder.old recorder.new (W.written sink.old)
@@ -236,15 +241,14 @@ pub(crate) fn fill_ring<A: Allocator + Copy, W: Sink>(
     Ok(())
 }
 
-// Loads so many commands more, each behind the end of one before it.
+// Loads so many commands more into a full ring, each behind the end of its head.
 pub(crate) fn keep_full<A: Allocator + Copy, W: Sink>(
     controller: &mut Controller<ArcPath, A>,
     count: usize,
     recorder: &mut Recorder,
     sink: &mut W,
 ) -> Result<(), WriteFault>
-    requires some { 0 < count → 1 ≤ length controller.old.state.ring }
-    requires room { length controller.old.state.ring ≤ RING }
+    requires full { 0 < count → length controller.old.state.ring ≡ RING }
     requires left { loaded controller.old.state + count ≤ length controller.old.job.commands }
     requires few_commands { count ≤ COMMAND_LIMIT }
     requires untouched { IsUntouched controller.old.job controller.old.state }
@@ -271,7 +275,7 @@ pub(crate) fn keep_full<A: Allocator + Copy, W: Sink>(
     Ok(())
 }
 
-// Goes on until so many commands are done.
+// Goes on until so many commands are done, where none is left to load.
 pub(crate) fn finish<A: Allocator + Copy, W: Sink>(
     controller: &mut Controller<ArcPath, A>,
     count: usize,
@@ -279,6 +283,8 @@ pub(crate) fn finish<A: Allocator + Copy, W: Sink>(
     sink: &mut W,
 ) -> Result<(), WriteFault>
     requires loaded { count ≤ length controller.old.state.ring }
+    requires all_loaded { 0 < count →
+        loaded controller.old.state ≡ length controller.old.job.commands }
     requires small { count ≤ RING }
     requires untouched { IsUntouched controller.old.job controller.old.state }
     requires runs { controller.old.state.stopped ≡ false }
@@ -317,6 +323,7 @@ fn go_on<A: Allocator + Copy, W: Sink>(
     ensures goes { OnOk result
         (Finishes (2 ^ 125) count count controller.old controller.new recorder.old recorder.new
         (W.written sink.old) (W.written sink.new)) }
+    ensures runs { OnOk result (controller.new.state.stopped ≡ false) }
     ensures fault { OnErr result
         (BreaksOff controller.old recorder.old (W.written sink.old) (W.written sink.new)) }
     ensures failures { CountsFailure (W.failures sink.old) (W.failures sink.new) result }

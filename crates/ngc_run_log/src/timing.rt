@@ -1,5 +1,6 @@
 //! How long a run through a program takes, and with each tool.
-ghost use Rattle.std.specs.Prelude.{◌≡◌, ◌≤◌, ◌<◌, ◌+◌, ◌^◌, length, false, None, IfErr, IfOk};
+ghost use Rattle.std.specs.Prelude.{◌≡◌, ◌≤◌, ◌<◌, ◌+◌, ◌^◌, length, false, None, OnOk, IfErr};
+ghost use Rattle.std.specs.Prelude.{IfOk};
 ghost use Rattle.ngc_behaviour.specs.Headline.{job_of, RunsInTime, RunsSafely};
 ghost use Rattle.ngc_behaviour.specs.State.{RING, loaded, opening};
 ghost use Rattle.ngc_canonical.specs.Joined.{HasEnd};
@@ -98,7 +99,7 @@ fn finish_part<A: Allocator + Copy>(
     recorder: &mut Recorder,
 )
     requires enough { count ≤ length controller.old.state.ring + unloaded }
-    requires some { 0 < unloaded → 1 ≤ length controller.old.state.ring }
+    requires full { 0 < unloaded → length controller.old.state.ring ≡ RING }
     requires room { length controller.old.state.ring ≤ RING }
     requires left { loaded controller.old.state + unloaded ≡ length controller.old.job.commands }
     requires few_commands { count ≤ COMMAND_LIMIT }
@@ -130,7 +131,7 @@ fn time_parts<A: Allocator + Copy>(
     recorder: &mut Recorder,
 ) -> Result<Vec<u128, A>, RunFault>
     requires none_done { controller.old.state.done ≡ 0 }
-    requires some { 0 < unloaded → 1 ≤ length controller.old.state.ring }
+    requires full { 0 < unloaded → length controller.old.state.ring ≡ RING }
     requires room { length controller.old.state.ring ≤ RING }
     requires left { loaded controller.old.state + unloaded ≡ length controller.old.job.commands }
     requires few_commands { length controller.old.job.commands ≤ COMMAND_LIMIT }
@@ -141,6 +142,7 @@ fn time_parts<A: Allocator + Copy>(
         (λ parts. GoesParted (2 ^ 123) unloaded
         (length controller.old.job.commands) controller.old controller.new recorder.old recorder.new
         parts.items) }
+    ensures runs { OnOk result (controller.new.state.stopped ≡ false) }
     ensures memory { IfErr result (λ fault. fault ≡ RunFault.Memory) }
 {
     let count = controller.commands().len();
@@ -173,6 +175,8 @@ fn time_all<A: Allocator + Copy>(
     requires has_end { HasEnd controller.old.job.commands }
     requires few_commands { length controller.old.job.commands ≤ COMMAND_LIMIT }
     ensures times { IfOk result (λ t. IsTimedThrough controller.old.job t.ticks t.parts.items) }
+    ensures accepted { IfOk result
+        (λ _. controller.new.accepted ≡ controller.old.accepted) }
     ensures memory { IfErr result (λ fault. fault ≡ RunFault.Memory) }
 {
     let mut recorder = Recorder::new(Trace::Untold, controller.position());
@@ -189,16 +193,17 @@ fn time_all<A: Allocator + Copy>(
 }
 
 /// How long it takes to run what was accepted through to its end, at a setting of block delete, as
-/// [`run_through`](crate::run_through) does, in ticks; and how long with each tool. Nothing is
-/// written. Only want of memory is a fault (900).
+/// [`run_through`](crate::run_through) does, in ticks; and how long with each tool. What was accepted
+/// is handed back. Nothing is written. Only want of memory is a fault (900).
 pub fn time_through<A: Allocator + Copy>(
     alloc: A,
     accepted: Accepted<A>,
     block_delete: bool,
-) -> Result<Timing<A>, RunFault>
+) -> Result<(Timing<A>, Accepted<A>), RunFault>
     ensures times { IfOk result
-        (λ t. IsTimedThrough (job_of accepted.machine (commands_at block_delete accepted)) t.ticks
-        t.parts.items) }
+        (λ r. IsTimedThrough (job_of accepted.machine (commands_at block_delete accepted))
+        r.0.ticks r.0.parts.items) }
+    ensures back { IfOk result (λ r. r.1 ≡ accepted) }
     ensures memory { IfErr result (λ fault. fault ≡ RunFault.Memory) }
 {
     // What holds of all that was accepted makes the run a safe one, which is done in time.
@@ -207,5 +212,8 @@ pub fn time_through<A: Allocator + Copy>(
         Ok(controller) => controller,
         Err(_) => return Err(RunFault::Memory),
     };
-    time_all(alloc, &mut controller)
+    match time_all(alloc, &mut controller) {
+        Ok(timing) => Ok((timing, controller.into_accepted())),
+        Err(fault) => Err(fault),
+    }
 }

@@ -1,4 +1,6 @@
-use Rattle.std.proofs.Common.{◌^◌, arith, rules, refl}
+use Rattle.std.proofs.Common.{◌^◌, ap, length, arith, rules, refl}
+use Rattle.ngc_behaviour.specs.State.{Job}
+use Rattle.ngc_run_log.proofs.Policy.{last_ticks}
 use Rattle.ngc_run_log.proofs.Untouched.{none_finished, one_more_finished, breaks_later, few_behind}
 use Rattle.ngc_run_log.proofs.through.finish.Goals as goal
 
@@ -15,6 +17,13 @@ finish_head-requires-clause-few g c =
 
 pub finish_head-requires-clause-some : goal.finish_head-requires-clause-some
 finish_head-requires-clause-some g c = omega (arith, c.loop-command.invariant.goes.goes.ring, c.requires.loaded)
+
+pub finish_head-requires-clause-next : goal.finish_head-requires-clause-next
+finish_head-requires-clause-next g c =
+    let goes = c.loop-command.invariant.goes.goes in
+    let lengths = ap (λ (j : Job). length j.commands) goes.job in
+    last_ticks c.loop-command.controller.job c.loop-command.controller.state c.loop-command.invariant.running (omega (arith, goes.ring, goes.done, c.requires.all_loaded, lengths))
+    (omega (arith, goes.ring, goes.done, c.requires.all_loaded, c.requires.loaded, lengths))
 
 pub loop-command-preserved : goal.loop-command-preserved
 loop-command-preserved g c = record {

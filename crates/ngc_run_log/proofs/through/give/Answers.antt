@@ -4,6 +4,7 @@ use Rattle.ngc_run_log.proofs.through.give.Goals as goal
 pub returns-in-Ok-clause-given : goal.returns-in-Ok-clause-given
 returns-in-Ok-clause-given g c = record {
   job = c.event-outcome.ensures.job;
+  accepted = c.event-outcome.ensures.accepted;
   step = c.event-outcome.ensures.step;
   goes_on = c.event-outcome.ensures.goes_on;
   short = c.event-outcome.ensures.short;

@@ -1,10 +1,14 @@
-use Rattle.std.proofs.Common.{◌+◌, ◌-◌, ◌*◌, ◌^◌, arith}
+use Rattle.std.proofs.Common.{◌+◌, ◌-◌, ◌*◌, ◌^◌, ap, length, arith}
 use Rattle.std.proofs.lemmas.Result.{on_ok_weaker, on_err_weaker}
+use Rattle.ngc_behaviour.specs.State.{Job}
 use Rattle.ngc_run_log.proofs.Untouched.{goes_both, breaks_later, few_behind, at_most_more, finished_behind}
 use Rattle.ngc_run_log.proofs.through.go_on.Goals as goal
 
 pub fill_ring-requires-clause-few : goal.fill_ring-requires-clause-few
 fill_ring-requires-clause-few g c = at_most_more 0 (2 ^ 120) _ c.requires.few (omega arith)
+
+pub keep_full-requires-clause-full : goal.keep_full-requires-clause-full
+keep_full-requires-clause-full g c = λ more. omega (arith, more, c.in-Ok.ensures.goes.ring, c.requires.none_loaded, c.min-first.ensures)
 
 pub keep_full-requires-clause-few : goal.keep_full-requires-clause-few
 keep_full-requires-clause-few g c =
@@ -12,6 +16,24 @@ keep_full-requires-clause-few g c =
 
 pub returns-in-Err-keep_full-clause-fault : goal.returns-in-Err-keep_full-clause-fault
 returns-in-Err-keep_full-clause-fault g c = breaks_later _ _ _ _ _ _ _ _ _ _ c.in-Ok.ensures.goes c.in-Err-keep_full.ensures.fault
+
+pub finish-requires-clause-all_loaded : goal.finish-requires-clause-all_loaded
+finish-requires-clause-all_loaded g c =
+    let first = c.in-Ok.ensures.goes in
+    let more = c.in-Ok-keep_full.ensures.goes in
+    λ some. omega (
+      arith,
+      first.ring,
+      first.done,
+      more.ring,
+      more.done,
+      c.requires.count,
+      c.requires.none_loaded,
+      c.requires.none_done,
+      c.min-first.ensures,
+      ap (λ (j : Job). length j.commands) first.job,
+      ap (λ (j : Job). length j.commands) more.job,
+    )
 
 pub finish-requires-clause-few : goal.finish-requires-clause-few
 finish-requires-clause-few g c =

@@ -49,7 +49,7 @@ returns-clause-traced g c =
     c.new-recorder.ensures.trace c.requires.begins c.new-recorder.ensures.chunk in
     if_ok_both _ _ c.finish.result c.finish.ensures.report c.finish.ensures.ok
     (λ report same wrote. through_traced _ _ _ _ _ _ _ _ _ _ report new c.requires.safe c.requires.in_time c.requires.has_end c.requires.count
-    c.in-Ok.ensures.goes wrote same)
+    c.in-Ok.ensures.goes c.in-Ok.ensures.runs wrote same)
 
 pub finish-requires : goal.finish-requires
 finish-requires g c =

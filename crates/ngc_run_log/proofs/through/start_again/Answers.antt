@@ -2,10 +2,10 @@ use Rattle.ngc_run_log.proofs.Untouched.{start_goes, start_runs, start_breaks}
 use Rattle.ngc_run_log.proofs.through.start_again.Goals as goal
 
 pub returns-in-Ok-clause-goes : goal.returns-in-Ok-clause-goes
-returns-in-Ok-clause-goes g c = start_goes _ _ _ _ _ _ _ c.requires.untouched c.in-Ok.ensures.given
+returns-in-Ok-clause-goes g c = start_goes _ _ _ _ _ _ _ c.requires.untouched c.requires.stops c.in-Ok.ensures.given
 
 pub returns-in-Ok-clause-runs : goal.returns-in-Ok-clause-runs
 returns-in-Ok-clause-runs g c = start_runs _ _ _ _ _ _ _ c.in-Ok.ensures.given
 
 pub returns-in-Err-clause-fault : goal.returns-in-Err-clause-fault
-returns-in-Err-clause-fault g c = start_breaks _ _ _ _ c.in-Err.ensures.fault
+returns-in-Err-clause-fault g c = start_breaks _ _ _ _ c.requires.stops c.in-Err.ensures.fault

@@ -1,7 +1,17 @@
-use Rattle.std.proofs.Common.{◌-◌, ◌*◌, ◌^◌, min, arith}
+use Rattle.std.proofs.Common.{◌-◌, ◌*◌, ◌^◌, ap, length, min, arith}
+use Rattle.ngc_behaviour.specs.State.{Job}
 use Rattle.ngc_run_log.proofs.Parted.{told_behind}
 use Rattle.ngc_run_log.proofs.Untouched.{few_behind, goes_both}
 use Rattle.ngc_run_log.proofs.timing.finish_part.Goals as goal
+
+pub keep_full-requires-clause-full : goal.keep_full-requires-clause-full
+keep_full-requires-clause-full g c = λ more. c.requires.full (omega (arith, more, c.min-loads.ensures))
+
+pub finish-requires-clause-all_loaded : goal.finish-requires-clause-all_loaded
+finish-requires-clause-all_loaded g c =
+    let first = c.in-Ok.ensures.goes in
+    let lengths = ap (λ (j : Job). length j.commands) first.job in
+    λ some. omega (arith, some, first.ring, first.done, c.requires.left, c.min-loads.ensures, lengths)
 
 pub finish-requires-clause-few : goal.finish-requires-clause-few
 finish-requires-clause-few g c =

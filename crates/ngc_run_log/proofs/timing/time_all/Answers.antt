@@ -1,4 +1,5 @@
-use Rattle.std.proofs.Common.{ℕ, arith, subst, sym, refl}
+use Rattle.std.proofs.Common.{ℕ, ap, length, arith, subst, sym, refl, ◌∙◌}
+use Rattle.ngc_behaviour.specs.State.{State}
 use Rattle.ngc_run_log.specs.Parts.{IsTimedThrough}
 use Rattle.ngc_run_log.specs.declared.trace.Trace.TheVariants.{Untold}
 use Rattle.ngc_run_log.proofs.Comes.{AreNew, new_recorder, none_counted}
@@ -15,6 +16,11 @@ time_parts-requires-clause-few g c =
     few_behind _ _ _ 0 16 _ _ _ _ _ _ c.load_first.ensures.goes (none_counted Untold controller.job controller.state c.new-recorder.result 0 new)
     (omega (arith, c.min-first.ensures))
 
+pub time_parts-requires-clause-full : goal.time_parts-requires-clause-full
+time_parts-requires-clause-full g c = λ more.
+    let none = ap (λ (s : State). length s.ring) c.requires.opens in
+    omega (arith, more, none, c.load_first.ensures.goes.ring, c.min-first.ensures)
+
 pub returns-in-Ok-clause-times : goal.returns-in-Ok-clause-times
 returns-in-Ok-clause-times g c =
     let controller = c.args.controller.now in
@@ -24,4 +30,7 @@ returns-in-Ok-clause-times g c =
     let P : ℕ → Type 0 = λ n. IsTimedThrough controller.job n c.in-Ok.parts.items in
     subst P (sym c.ticks.ensures)
     (timed_through Untold _ _ _ _ _ _ _ _ _ _ new c.requires.safe c.requires.in_time c.requires.has_end c.load_first.ensures.goes c.load_first.ensures.still
-    refl c.in-Ok.ensures.parts)
+    refl c.in-Ok.ensures.parts c.in-Ok.ensures.runs)
+
+pub returns-in-Ok-clause-accepted : goal.returns-in-Ok-clause-accepted
+returns-in-Ok-clause-accepted g c = c.in-Ok.ensures.parts.goes.accepted ∙ c.load_first.ensures.goes.accepted

@@ -12,7 +12,7 @@ loop-done-init g c = record {
   within = omega arith;
   count = ap length c.commands-count.ensures;
   room = c.requires.room;
-  some = c.requires.some;
+  full = c.requires.full;
   rest = c.requires.left;
   running = c.requires.runs;
 }
@@ -80,13 +80,13 @@ loop-done-preserved g c =
     record {
       goes = subst P (sym c.in-Ok.ensures.items)
           (part_more _ _ _ _ done _ left _ k _ _ _ _ _ _ _ inv.goes part (omega (arith, before, now)) next.is_length next.at (omega (arith, test, counted))
-          (λ all. more_than_left left (length c.loop-done.controller.state.ring) k inv.some some (omega (arith, all, moved, rest, lengths, at)))
+          (λ all. more_than_left left (length c.loop-done.controller.state.ring) k inv.full some (omega (arith, all, moved, rest, lengths, at)))
           (omega arith) (omega (arith, later, fewer)) refl);
       fewer = omega (arith, later, fewer);
       within = omega (arith, within, counted);
       count = inv.count;
       room = omega (arith, ring, room);
-      some = λ more. (let ready = inv.some (omega (arith, more, later)) in omega (arith, ring, ready, more, later));
+      full = λ more. (let ready = inv.full (omega (arith, more, later)) in omega (arith, ring, ready, more, later));
       rest = omega (arith, moved, ring, rest, later, same);
       running = c.finish_part.ensures.runs;
     }

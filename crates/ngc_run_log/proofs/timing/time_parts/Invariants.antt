@@ -10,7 +10,7 @@ invariant-loop-done g l = record {
   within : l.done ≤ l.count;
   count : l.count ≡ length l.initial.controller.job.commands;
   room : length l.controller.state.ring ≤ RING;
-  some : 0 < l.left → 1 ≤ length l.controller.state.ring;
+  full : 0 < l.left → length l.controller.state.ring ≡ RING;
   rest : loaded l.controller.state + l.left ≡ length l.controller.job.commands;
   running : l.controller.state.stopped ≡ false;
 }
