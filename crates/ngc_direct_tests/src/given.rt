@@ -1,7 +1,7 @@
 //! The small mill and its tools, and what the program does on them over any allocator.
 use ngc_line_reader::Program;
 use ngc_simulator::{
-    Certificate, Format, Machine, Recording, Tools, certify, check_program, list, run_program,
+    Format, Machine, Recording, Tools, certify, check_program, judge, list, run_program,
 };
 use ngc_text::{Device, Sink};
 use std::alloc::Allocator;
@@ -92,10 +92,14 @@ fn certify_text<A: Allocator + Copy, W: Sink>(
     output: &mut W,
 ) -> End {
     let mut source = Device::new(text.as_bytes());
-    let (machine, tools) = (&shop.machine, &shop.tools);
-    certify(alloc, &mut source, machine, tools, 8, Format::One, output).map_err(
-        |fault| fault.number(),
-    )
+    match (shop.machine.copy(alloc), shop.tools.copy(alloc)) {
+        (Ok(machine), Ok(tools)) => {
+            certify(alloc, &mut source, machine, tools, 8, Format::One, output).map_err(
+                |fault| fault.number(),
+            )
+        }
+        _ => Err(900),
+    }
 }
 
 fn check_text<A: Allocator + Copy, W: Sink>(
@@ -126,20 +130,11 @@ fn run_text<A: Allocator + Copy, W: Sink>(
     let program = Program::read(alloc, &mut Device::new(text.as_bytes())).map_err(
         |fault| fault.number(),
     )?;
-    let certificate = Certificate::read(alloc, &mut Device::new(certificate)).map_err(
+    let mut source = Device::new(certificate);
+    let verdict = judge(alloc, &program, &shop.machine, &shop.tools, &mut source).map_err(
         |fault| fault.number(),
     )?;
-    match run_program(
-        alloc,
-        &program,
-        &shop.machine,
-        &shop.tools,
-        &certificate,
-        events,
-        false,
-        Recording::Log,
-        output,
-    ) {
+    match run_program(alloc, verdict, events, false, Recording::Log, output) {
         Ok(_) => Ok(()),
         Err(fault) => Err(fault.number()),
     }

@@ -1,10 +1,7 @@
 -- What drawing a program comes to, from what its parts come to.
-use Rattle.std.proofs.Common.{◌≡◌, ℕ, ◌-◌, arith, List, [], ◌∷◌, ◌++◌, length, take, drop, Option, Some, None, Bool, Result, Ok, Err, IfSome, ap, refl, subst}
+use Rattle.std.proofs.Common.{◌≡◌, ℕ, ◌-◌, List, [], ◌∷◌, ◌++◌, Option, Some, None, Bool, Result, Ok, Err, IfSome, ap, refl, subst}
 use Rattle.std.proofs.Common.{sym, ◌∙◌}
-use Rattle.std.specs.Prelude.{MatchOption, option_map, min}
-use Rattle.std.proofs.lemmas.List.{take_all, take_min, drop_min, length-drop}
-use Rattle.ngc_fixed_length.specs.Grid.{grid}
-use Rattle.ngc_fixed_length.specs.declared.points.StepPos.{StepPos}
+use Rattle.std.specs.Prelude.{MatchOption, option_map}
 use Rattle.std.specs.Io.KnownBytes.{Appends, Keeps}
 use Rattle.ngc_text.specs.Written.{AppendsBeginning}
 use Rattle.ngc_line_reader.specs.ProgramText.{ProgramText, program_of, HaveReadings}
@@ -19,7 +16,7 @@ use Rattle.ngc_certificate_text.specs.declared.piece.Setting.{Setting}
 use Rattle.ngc_certificate.specs.declared.fault.MakeFault.{MakeFault}
 use Rattle.ngc_certificate.specs.declared.fault.MakeFault.TheVariants.{NotCleared}
 use Rattle.ngc_certificate.specs.Made.{GivesMade, IsMade}
-use Rattle.ngc_certificate.specs.PieceFault.{place_fault, ◌or◌}
+use Rattle.ngc_certificate.specs.PieceFault.{◌or◌}
 use Rattle.ngc_checker.specs.declared.fault.CheckFault.{CheckFault}
 use Rattle.ngc_machine.specs.Machine.{MachineFile}
 use Rattle.ngc_command_line.specs.declared.options.DrawOptions.{DrawOptions}
@@ -29,14 +26,14 @@ use Rattle.ngc_drawing.specs.declared.fault.DrawFault.TheVariants.{Memory, Write
 use Rattle.ngc_drawing.specs.declared.refusal.Refusal.{Refusal}
 use Rattle.ngc_drawing.specs.declared.view.View.{View}
 use Rattle.ngc_simulator.specs.Answers.{DrawsFrom, certificate_input, certificate_inputs, draw_inputs, program_input}
-use Rattle.ngc_simulator.specs.Drawing.{Draws, DrawsGiven, DrawsProgram, IsGivenRefusal, IsMadeRefusal, behind, fault_at, met_at, met_first, refusal_answer}
-use Rattle.ngc_simulator.specs.Drawing.{setting_of, start_of}
+use Rattle.ngc_simulator.specs.Drawing.{Draws, DrawsGiven, DrawsProgram, IsGivenRefusal, IsMadeRefusal, fault_at, refusal_answer}
+use Rattle.ngc_program_report.specs.Met.{met_at}
+use Rattle.ngc_simulator.specs.Drawing.{setting_of}
 use Rattle.ngc_simulator.specs.Faults.{of_picture}
 use Rattle.ngc_simulator.specs.Lists.{IsMeaning, IsRefused}
 use Rattle.ngc_simulator.specs.Setups.{FileBytes, KeepsFiles, KeepsNamed}
 use Rattle.ngc_simulator.specs.Shops.{GivesShop}
 use Rattle.ngc_simulator.specs.Unread.{Input, shop_inputs}
-use Rattle.ngc_simulator.specs.declared.drawing.Reached.{Reached}
 use Rattle.ngc_simulator.specs.declared.fault.AnswerFault.{AnswerFault}
 use Rattle.ngc_simulator.specs.declared.fault.AnswerFault.TheVariants as answers
 use Rattle.ngc_simulator.specs.declared.setup.Shop.{Shop}
@@ -117,20 +114,6 @@ pub no_memory : (setup : Setup) (bytes : List ℕ) (block_delete : Bool) (view :
     → fault ≡ Memory → Draws setup bytes block_delete view entries IsShown known known (Err (of_picture fault))
 no_memory setup bytes block_delete view entries IsShown known Memory is = keeps_same known
 no_memory setup bytes block_delete view entries IsShown known Write is = cc
-
--- the fixture that a command meets, where none is met at the start
-pub met_later : (machine : MachineFile) (cs : List Command) (k at : ℕ) (place : StepPos) (fixture found : Option ℕ) (reached : Reached)
-    → place ≡ grid machine.step machine.start → fixture ≡ place_fault machine None place → fixture ≡ None → at ≡ min k (length cs)
-    → reached ≡ behind (start_of machine) (take at cs) → found ≡ met_first machine reached (take (length cs - at) (drop at cs)) → found ≡ met_at machine cs k
-met_later machine cs k at place fixture found reached is_place met none is_at is_reached is =
-    is
-    ∙ ap (met_first machine reached) (take_all (length cs - at) (drop at cs) (omega (arith, length-drop at cs)))
-    ∙ ap (λ (r : Reached). met_first machine r (drop at cs)) is_reached
-    ∙ ap (λ n. met_first machine (behind (start_of machine) (take n cs)) (drop n cs)) is_at
-    ∙ ap (λ (l : List Command). met_first machine (behind (start_of machine) l) (drop (min k (length cs)) cs)) (take_min k cs)
-    ∙ ap (λ (l : List Command). met_first machine (behind (start_of machine) (take k cs)) l) (drop_min k cs)
-    ∙ ap (λ (o : Option ℕ). o or met_first machine (behind (start_of machine) (take k cs)) (drop k cs))
-    (sym none ∙ met ∙ ap (place_fault machine None) is_place)
 
 -- a command that isn't cleared, with the fixture that is met there
 pub made_refusal_of : {X : Type 0} (view : X → CertificateData) (machine : MachineFile) (commands : List Command) (fault : MakeFault) (s : Setting) (k : ℕ)

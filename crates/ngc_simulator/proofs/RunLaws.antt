@@ -1,9 +1,8 @@
 -- What running a program over events, or to its end, comes to, from what its parts come to.
 use Rattle.std.proofs.Common.{◌≡◌, ℕ, List, Option, Some, None, Bool, true, false, Result, Ok, Err, IfSome, ap, subst, ◌∙◌}
 use Rattle.std.specs.Prelude.{option_map}
-use Rattle.ngc_line_reader.specs.ProgramText.{ProgramText, program_of, HaveReadings}
 use Rattle.ngc_canonical.specs.Interpreter.{setup_of}
-use Rattle.ngc_canonical.specs.Meaning.{Program as ProgramLines, meaning, program_said}
+use Rattle.ngc_canonical.specs.Meaning.{Program as ProgramLines, meaning}
 use Rattle.ngc_canonical.specs.State.{Setup}
 use Rattle.ngc_certificate_text.specs.Certificate.{CertificateData}
 use Rattle.ngc_certificate_text.specs.Given.{GivesCertificate}
@@ -11,7 +10,7 @@ use Rattle.ngc_certificate_text.specs.Said.{certificate_said}
 use Rattle.ngc_certificate_text.specs.declared.certificate.Certificate.{Certificate}
 use Rattle.ngc_certificate_text.specs.declared.fault.CertificateFault.{CertificateFault}
 use Rattle.ngc_certificate_text.specs.declared.fault.CertificateFault.TheVariants as certificates
-use Rattle.ngc_checker.specs.Accepted.{AcceptedData, Keeps as CheckerKeeps, commands_at}
+use Rattle.ngc_checker.specs.Accepted.{AcceptedData, Answers, Keeps as CheckerKeeps, commands_at}
 use Rattle.ngc_checker.specs.declared.fault.CheckFault.{CheckFault}
 use Rattle.ngc_command_line.specs.declared.options.RunOptions.{RunOptions}
 use Rattle.ngc_command_line.specs.declared.options.RunThroughOptions.{RunThroughOptions}
@@ -28,17 +27,18 @@ use Rattle.ngc_run_log.specs.declared.report.RunFault.TheVariants as runs
 use Rattle.ngc_simulator.specs.Faults.{of_run}
 use Rattle.ngc_simulator.specs.Answers.{IsTimeOf, IsTimeOn, RunsOn, RunsThroughOn}
 use Rattle.ngc_simulator.specs.Jobs.{IsNoCertificate}
+use Rattle.ngc_simulator.specs.Judging.{IsVerdict, Verdict}
 use Rattle.ngc_simulator.specs.Running.{IsAcceptedJob, RunsOver, RunsWhole, AreNoEvents, Runs, RunsThrough, RecordsRun, RecordsThrough}
 use Rattle.ngc_simulator.specs.Setups.{FileBytes, KeepsFiles, KeepsNamed}
 use Rattle.ngc_simulator.specs.Shops.{GivesShop}
 use Rattle.ngc_simulator.specs.declared.fault.AnswerFault.{AnswerFault}
 use Rattle.ngc_simulator.specs.declared.fault.AnswerFault.TheVariants as answers
-use Rattle.ngc_simulator.specs.declared.done.RunTime.{RunTime}
+use Rattle.ngc_program_report.specs.declared.run_time.RunTime.{RunTime}
 use Rattle.ngc_simulator.specs.declared.setup.Shop.{Shop}
-use Rattle.ngc_simulator.proofs.JobLaws.{Says, given, keeps_same}
+use Rattle.ngc_simulator.proofs.JobLaws.{keeps_same}
 use Rattle.ngc_simulator.proofs.SetupLaws.{on_setup}
 
--- ---- of two files that are read, and of events
+-- ---- of the verdict on two files, and of events
 
 no_events : (A : Type 0) (events : List ℕ) (fault : EventsFault) → GivesEvents {A = A} (Err fault) (events_said events) → AreNoEvents events fault
 no_events A events (texts.BadLine line) says = says
@@ -46,25 +46,24 @@ no_events A events texts.TooManyLines says = says
 no_events A events texts.Memory says = tt
 
 pub events_refused : (A : Type 0) (recording : Recording) (setup : Setup) (bytes text events : List ℕ) (block_delete : Bool) (known : Option (List ℕ))
-    (program : ProgramText) (c : CertificateData) (fault : EventsFault)
-    → program_of bytes ≡ Ok program → HaveReadings program.lines → certificate_said text ≡ Ok c → GivesEvents {A = A} (Err fault) (events_said events)
+    (verdict : Verdict) (fault : EventsFault)
+    → IsVerdict setup bytes text verdict → GivesEvents {A = A} (Err fault) (events_said events)
     → Runs recording setup bytes text events block_delete known known (Err (answers.Events fault))
-events_refused A recording setup bytes text events block_delete known program c fault is_text have said says =
-    (((program_said program have.readings, c, given bytes text program c is_text have said), no_events A events fault says), keeps_same known)
+events_refused A recording setup bytes text events block_delete known verdict fault is says =
+    (((is.program, is.certificate, is.given), no_events A events fault says), keeps_same known)
 
-pub run_refused : (recording : Recording) (setup : Setup) (bytes text events : List ℕ) (block_delete : Bool) (known : Option (List ℕ)) (program : ProgramText)
-    (c : CertificateData) (lines : List EventLine) (fault : CheckFault)
-    → program_of bytes ≡ Ok program → HaveReadings program.lines → certificate_said text ≡ Ok c → events_said events ≡ Ok lines →
-    Says program setup c (Err fault)
+pub run_refused : (recording : Recording) (setup : Setup) (bytes text events : List ℕ) (block_delete : Bool) (known : Option (List ℕ))
+    (lines : List EventLine) (verdict : Verdict) (fault : CheckFault)
+    → IsVerdict setup bytes text verdict → verdict ≡ Err fault → events_said events ≡ Ok lines
     → Runs recording setup bytes text events block_delete known known (Err (answers.Check fault))
-run_refused recording setup bytes text events block_delete known program c lines fault is_text have said are_lines says = (
+run_refused recording setup bytes text events block_delete known lines verdict fault is refuses are_lines = (
   record {
     lines = lines;
     are_lines = are_lines;
-    program = program_said program have.readings;
-    certificate = c;
-    given = given bytes text program c is_text have said;
-    first = says have.readings have.are;
+    program = is.program;
+    certificate = is.certificate;
+    given = is.given;
+    first = subst (Answers (λ a. a) is.program setup is.certificate) refuses is.answers;
   },
   keeps_same known,
 )
@@ -74,28 +73,27 @@ means_at : (program : ProgramLines) (setup : Setup) (block_delete : Bool) (a : A
 means_at program setup false a keeps = keeps.off
 means_at program setup true a keeps = keeps.on
 
-accepted_job : (setup : Setup) (bytes text : List ℕ) (block_delete : Bool) (program : ProgramText) (c : CertificateData) (a : AcceptedData)
-    → program_of bytes ≡ Ok program → HaveReadings program.lines → certificate_said text ≡ Ok c → Says program setup c (Ok a)
-    → IsAcceptedJob setup bytes text block_delete (job_of a.machine (commands_at block_delete a))
-accepted_job setup bytes text block_delete program c a is_text have said says =
-    let checked = says have.readings have.are in record {
-      program = program_said program have.readings;
-      certificate = c;
-      given = given bytes text program c is_text have said;
+accepted_job : (setup : Setup) (bytes text : List ℕ) (block_delete : Bool) (verdict : Verdict) (a : AcceptedData)
+    → IsVerdict setup bytes text verdict → verdict ≡ Ok a → IsAcceptedJob setup bytes text block_delete (job_of a.machine (commands_at block_delete a))
+accepted_job setup bytes text block_delete verdict a is accepts =
+    let checked = subst (Answers (λ x. x) is.program setup is.certificate) accepts is.answers in record {
+      program = is.program;
+      certificate = is.certificate;
+      given = is.given;
       none_refused = checked.0;
       commands = commands_at block_delete a;
-      means = means_at (program_said program have.readings) setup block_delete a checked.1;
+      means = means_at is.program setup block_delete a checked.1;
       is_job = ap (λ machine. job_of machine (commands_at block_delete a)) checked.1.machine;
     }
 
-pub ran_over : (recording : Recording) (setup : Setup) (bytes text events : List ℕ) (block_delete : Bool) (old new : Option (List ℕ)) (program : ProgramText)
-    (c : CertificateData) (lines given_lines : List EventLine) (a : AcceptedData) (result : Result Report RunFault)
-    → program_of bytes ≡ Ok program → HaveReadings program.lines → certificate_said text ≡ Ok c → events_said events ≡ Ok lines → Says program setup c (Ok a)
+pub ran_over : (recording : Recording) (setup : Setup) (bytes text events : List ℕ) (block_delete : Bool) (old new : Option (List ℕ))
+    (lines given_lines : List EventLine) (verdict : Verdict) (a : AcceptedData) (result : Result Report RunFault)
+    → IsVerdict setup bytes text verdict → verdict ≡ Ok a → events_said events ≡ Ok lines
     → given_lines ≡ lines → RecordsRun recording (job_of a.machine (commands_at block_delete a)) given_lines old new result
     → RunsOver recording setup bytes text events block_delete old new result
-ran_over recording setup bytes text events block_delete old new program c lines given_lines a result is_text have said are_lines says same comes = record {
+ran_over recording setup bytes text events block_delete old new lines given_lines verdict a result is accepts are_lines same comes = record {
   job = job_of a.machine (commands_at block_delete a);
-  accepted = accepted_job setup bytes text block_delete program c a is_text have said says;
+  accepted = accepted_job setup bytes text block_delete verdict a is accepts;
   lines = lines;
   are_lines = are_lines;
   comes = subst (λ ls. RecordsRun recording (job_of a.machine (commands_at block_delete a)) ls old new result) same comes;
@@ -168,28 +166,28 @@ ran_files bytes after later last options shop old new outcome P Q R said keeps n
 
 -- ---- to the end
 
-pub through_refused : (recording : Recording) (setup : Setup) (bytes text : List ℕ) (block_delete : Bool) (known : Option (List ℕ)) (program : ProgramText)
-    (c : CertificateData) (fault : CheckFault)
-    → program_of bytes ≡ Ok program → HaveReadings program.lines → certificate_said text ≡ Ok c → Says program setup c (Err fault)
+pub through_refused : (recording : Recording) (setup : Setup) (bytes text : List ℕ) (block_delete : Bool) (known : Option (List ℕ))
+    (verdict : Verdict) (fault : CheckFault)
+    → IsVerdict setup bytes text verdict → verdict ≡ Err fault
     → RunsThrough recording setup bytes text block_delete known known (Err (answers.Check fault))
-through_refused recording setup bytes text block_delete known program c fault is_text have said says = (
+through_refused recording setup bytes text block_delete known verdict fault is refuses = (
   record {
-    program = program_said program have.readings;
-    certificate = c;
-    given = given bytes text program c is_text have said;
-    first = says have.readings have.are;
+    program = is.program;
+    certificate = is.certificate;
+    given = is.given;
+    first = subst (Answers (λ a. a) is.program setup is.certificate) refuses is.answers;
   },
   keeps_same known,
 )
 
-pub went_through : (recording : Recording) (setup : Setup) (bytes text : List ℕ) (block_delete : Bool) (old new : Option (List ℕ)) (program : ProgramText)
-    (c : CertificateData) (a : AcceptedData) (result : Result Report RunFault)
-    → program_of bytes ≡ Ok program → HaveReadings program.lines → certificate_said text ≡ Ok c → Says program setup c (Ok a)
+pub went_through : (recording : Recording) (setup : Setup) (bytes text : List ℕ) (block_delete : Bool) (old new : Option (List ℕ))
+    (verdict : Verdict) (a : AcceptedData) (result : Result Report RunFault)
+    → IsVerdict setup bytes text verdict → verdict ≡ Ok a
     → RecordsThrough recording (job_of a.machine (commands_at block_delete a)) old new result
     → RunsWhole recording setup bytes text block_delete old new result
-went_through recording setup bytes text block_delete old new program c a result is_text have said says goes = record {
+went_through recording setup bytes text block_delete old new verdict a result is accepts goes = record {
   job = job_of a.machine (commands_at block_delete a);
-  accepted = accepted_job setup bytes text block_delete program c a is_text have said says;
+  accepted = accepted_job setup bytes text block_delete verdict a is accepts;
   goes_through = goes;
 }
 

@@ -19,7 +19,8 @@ use Rattle.ngc_simulator.specs.Unread.{TellsKindUnread, TellsFirstUnread, FailsB
 use Rattle.ngc_simulator.specs.declared.fault.AnswerFault.{AnswerFault}
 use Rattle.ngc_simulator.specs.declared.fault.AnswerFault.TheVariants as answers
 use Rattle.ngc_simulator.specs.declared.setup.Shop.{Shop}
-use Rattle.ngc_simulator.proofs.JobLaws.{if_known, turned}
+use Rattle.ngc_program_report.proofs.WrittenLaws.{turned}
+use Rattle.ngc_simulator.proofs.JobLaws.{if_known}
 
 -- each of these files is read
 abbrev pub AllRead : FileBytes → List Input → Type 0

@@ -22,7 +22,7 @@ use Rattle.ngc_simulator.specs.declared.fault.AnswerFault.{AnswerFault}
 use Rattle.ngc_simulator.specs.declared.fault.AnswerFault.TheVariants as answers
 use Rattle.ngc_simulator.specs.declared.done.Done.{Done}
 use Rattle.ngc_simulator.specs.declared.done.Done.TheVariants.{Quietly, RunThrough}
-use Rattle.ngc_simulator.specs.declared.done.RunTime.{RunTime}
+use Rattle.ngc_program_report.specs.declared.run_time.RunTime.{RunTime}
 use Rattle.ngc_simulator.specs.Guides.{Guides, version_text}
 use Rattle.ngc_simulator.specs.Faults.{FailsByOutput, OfCertifying, OfChecking, OfDrawing}
 use Rattle.ngc_simulator.specs.Faults.{OfListing, OfReporting, OfRunning, OfTelling, OfWriting}
@@ -34,14 +34,14 @@ use Rattle.ngc_simulator.specs.Showing.{Shows}
 use Rattle.ngc_report.specs.declared.form.Form.{Form}
 use Rattle.ngc_report.specs.declared.form.Form.TheVariants.{Words, Json}
 use Rattle.ngc_simulator.specs.Reporting.{Reports}
-use Rattle.ngc_simulator.specs.declared.request.ReportRequest.{ReportRequest}
+use Rattle.ngc_program_report.specs.declared.request.ReportRequest.{ReportRequest}
 use Rattle.ngc_simulator.specs.Jobs.{Certifies, Checks}
 use Rattle.ngc_simulator.specs.Running.{Runs, RunsThrough}
 use Rattle.ngc_canonical.specs.State.{Setup}
 use Rattle.ngc_simulator.specs.Setups.{FileBytes, OnSetup}
 use Rattle.ngc_simulator.specs.Shops.{RefusesShop}
 use Rattle.ngc_simulator.specs.Mistaken.{TellsRefusal}
-use Rattle.ngc_simulator.specs.Times.{time_line}
+use Rattle.ngc_program_report.specs.Times.{time_line}
 use Rattle.ngc_simulator.specs.Unreadable.{TellsUnreadable}
 use Rattle.ngc_simulator.specs.Unread.{Input, OfProgram, OfCertificate, OfEvents, shop_inputs}
 use Rattle.ngc_simulator.specs.Unread.{FailsByInput}

@@ -33,6 +33,8 @@ use Rattle.ngc_machine.specs.declared.fault.FileFault.{FileFault}
 use Rattle.ngc_machine.specs.declared.fault.FileFault.TheVariants as files
 use Rattle.ngc_run_log.specs.declared.report.RunFault.{RunFault}
 use Rattle.ngc_run_log.specs.declared.report.RunFault.TheVariants as runs
+use Rattle.ngc_program_report.specs.declared.report_fault.ReportFault.{ReportFault}
+use Rattle.ngc_program_report.specs.declared.report_fault.ReportFault.TheVariants as reports
 use Rattle.ngc_simulator.specs.declared.fault.AnswerFault.{AnswerFault}
 use Rattle.ngc_simulator.specs.declared.fault.AnswerFault.TheVariants as answers
 
@@ -195,6 +197,11 @@ answer_status answers.UnknownView = 3
 abbrev pub of_run : RunFault → AnswerFault
 of_run runs.Memory = answers.Memory
 of_run (runs.Write e) = answers.Write e
+
+-- what is answered where a report isn't written whole
+abbrev pub of_report : ReportFault → AnswerFault
+of_report reports.Memory = answers.Make makes.Memory
+of_report (reports.Write fault) = answers.Write fault
 
 abbrev pub of_picture : DrawFault → AnswerFault
 of_picture drawings.Memory = answers.Memory

@@ -25,6 +25,7 @@ use Rattle.ngc_certificate.specs.declared.fault.MakeFault.TheVariants.{NotCleare
 use Rattle.ngc_certificate.specs.Common.{IsJoinedOf}
 use Rattle.ngc_certificate.specs.Made.{IsMade}
 use Rattle.ngc_certificate.specs.Valid.{IsValid}
+use Rattle.ngc_job.specs.Job.{JobData, commands_in}
 use Rattle.ngc_checker.specs.Accepted.{IsFirst}
 use Rattle.ngc_checker.specs.FirstRefusal.{first_refusal}
 use Rattle.ngc_simulator.specs.declared.fault.AnswerFault.{AnswerFault}
@@ -94,6 +95,24 @@ WhyNotMade setup bytes cuts (answers.Refused setting fault) =
     (program : ProgramLines) × IsProgram bytes program × IsRefusedAt setup program setting fault
 WhyNotMade setup bytes cuts (answers.Make fault) = IsNotMade setup bytes cuts fault
 WhyNotMade setup bytes cuts _ = ⊥
+
+-- the certificate that is made for a job, and it is valid
+pub record IsMadeOf (j : JobData) (cuts : ℕ) (c : CertificateData) : Type 0 where
+  pub made : IsMade j.machine cuts j.off (commands_in true j) (Ok c)
+  pub off_valid : IsValid j.machine j.off c.off
+  pub on_valid : IsValid j.machine (commands_in true j) c.on
+
+-- the certificate that is made for a job, in a format
+pub record IsFormFor (j : JobData) (cuts : ℕ) (format : Format) (f : Form) : Type 0 where
+  pub certificate : CertificateData
+  pub made : IsMadeOf j cuts certificate
+  pub written : IsWrittenAs format j.off (commands_in true j) certificate f
+
+-- no certificate is made for a job; that memory ran out says nothing
+abbrev pub IsUnmade : JobData → ℕ → MakeFault → Type 0
+IsUnmade j cuts Memory = Unit {0}
+IsUnmade j cuts (NotCleared s k) =
+    IsMade j.machine cuts j.off (commands_in true j) (Err (NotCleared s k))
 
 -- Of a program's file and a sink: the text of its certificate was written, or a beginning of it
 -- where the sink failed; where none is made, what was written is as it was.

@@ -1,8 +1,8 @@
-pub mod Listing
 pub mod Faults
 pub mod Lists
 pub mod Guides
 pub mod Jobs
+pub mod Judging
 pub mod Running
 pub mod Drawing
 pub mod Showing
@@ -14,4 +14,3 @@ pub mod Mistaken
 pub mod Status
 pub mod Answers
 pub mod Unread
-pub mod Times

@@ -11,7 +11,7 @@ use Rattle.ngc_canonical.specs.State.{Setup}
 use Rattle.ngc_canonical.specs.Meaning.{meaning, program_said, Fails}
 use Rattle.ngc_simulator.specs.declared.fault.AnswerFault.{AnswerFault}
 use Rattle.ngc_simulator.specs.declared.fault.AnswerFault.TheVariants as answers
-use Rattle.ngc_simulator.specs.Listing.{listing}
+use Rattle.ngc_listing.specs.Listing.{listing}
 
 -- a file's text has lines with readings, whose meaning on a machine with its tools, at a setting of
 -- block delete, this is

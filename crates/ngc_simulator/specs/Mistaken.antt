@@ -13,7 +13,7 @@ use Rattle.ngc_setup_sheet.specs.Mistakes.{machine_mistake_text, tools_mistake_t
 use Rattle.ngc_simulator.specs.declared.fault.AnswerFault.{AnswerFault}
 use Rattle.ngc_simulator.specs.declared.fault.AnswerFault.TheVariants as answers
 use Rattle.ngc_simulator.specs.declared.setup.Shop.{Shop}
-use Rattle.ngc_simulator.specs.Reporting.{ending}
+use Rattle.ngc_program_report.specs.Texts.{ending}
 use Rattle.ngc_simulator.specs.Setups.{FileBytes}
 use Rattle.ngc_simulator.specs.Shops.{GivesShop, RefusesShop}
 

@@ -1,199 +1,27 @@
 -- What telling whether a program fits comes to. Our own.
-use Rattle.std.specs.Prelude.{◌≡◌, ◌⊎◌, ℕ, List, [], ◌++◌, codes, decimal, slice_get, Option, Some}
-use Rattle.std.specs.Prelude.{None, is_some, option_map, Result, Ok, Err, Bool, true, false}
-use Rattle.std.specs.Prelude.{if◌then◌else◌}
+use Rattle.std.specs.Prelude.{◌≡◌, ◌⊎◌, ℕ, List, Option}
+use Rattle.std.specs.Prelude.{Result, Ok, Err, Bool, true, false}
 use Rattle.std.specs.Io.KnownBytes.{Appends, Keeps}
-use Rattle.ngc_fixed_length.specs.Grid.{grid}
 use Rattle.ngc_text.specs.Written.{AppendsBeginning}
-use Rattle.ngc_line_reader.specs.Grammar.{Reading}
-use Rattle.ngc_line_reader.specs.Program.{Line}
-use Rattle.ngc_line_reader.specs.ProgramText.{ProgramText, program_of, AreReadings}
+use Rattle.ngc_line_reader.specs.ProgramText.{program_of}
 use Rattle.ngc_line_reader.specs.ProgramView.{FaultIs}
-use Rattle.ngc_machine.specs.Machine.{MachineFile}
 use Rattle.ngc_canonical.specs.declared.command.Command.{Command}
-use Rattle.ngc_canonical.specs.Faults.{fault_number}
-use Rattle.ngc_canonical.specs.declared.fault.Fault.{Fault}
 use Rattle.ngc_canonical.specs.declared.fault.ProgramFault.{ProgramFault}
-use Rattle.ngc_canonical.specs.declared.fault.ProgramFault.TheVariants as programs
 use Rattle.ngc_canonical.specs.State.{Setup}
-use Rattle.ngc_canonical.specs.Meaning.{Program as ProgramLines, has_deleted, meaning, program_said}
+use Rattle.ngc_canonical.specs.Meaning.{Program as ProgramLines, has_deleted}
 use Rattle.ngc_certificate_text.specs.declared.piece.Setting.{Setting}
-use Rattle.ngc_certificate_text.specs.declared.piece.Setting.TheVariants.{Off, On}
-use Rattle.ngc_certificate_text.specs.Certificate.{CertificateData, Entry}
+use Rattle.ngc_certificate_text.specs.Certificate.{CertificateData}
 use Rattle.ngc_certificate.specs.declared.fault.MakeFault.TheVariants.{NotCleared, Memory}
 use Rattle.ngc_certificate.specs.Made.{IsMade}
-use Rattle.ngc_certificate.specs.PieceFault.{place_fault}
 use Rattle.ngc_certificate.specs.Uncleared.{AreUncleared}
-use Rattle.ngc_checker.specs.Accepted.{AcceptedData, Keeps as KeepsGiven}
-use Rattle.ngc_checker.specs.FirstRefusal.{first_refusal}
-use Rattle.ngc_behaviour.specs.Headline.{job_of}
-use Rattle.ngc_run_log.specs.Parts.{IsTimedThrough}
-use Rattle.ngc_report.specs.Forms.{closing, opening, report_text}
-use Rattle.ngc_report.specs.Marks.{named_line}
-use Rattle.ngc_report.specs.Quotes.{quoted}
-use Rattle.ngc_report.specs.Reports.{all_lines, fit_lines, refusal_lines}
-use Rattle.ngc_report.specs.Warnings.{warning_lines}
-use Rattle.ngc_report.specs.declared.form.Form.{Form}
-use Rattle.ngc_report.specs.declared.form.Form.TheVariants.{Words, Json}
-use Rattle.ngc_setup_sheet.specs.Sheets.{warning_facts, warnings_text}
 use Rattle.ngc_simulator.specs.declared.fault.AnswerFault.{AnswerFault}
 use Rattle.ngc_simulator.specs.declared.fault.AnswerFault.TheVariants as answers
-use Rattle.ngc_simulator.specs.declared.done.RunTime.{RunTime}
-use Rattle.ngc_simulator.specs.Drawing.{met_at}
 use Rattle.ngc_simulator.specs.Jobs.{AreMeanings, IsMadeFor, IsProgram, IsRefusedAt}
-use Rattle.ngc_simulator.specs.Times.{ProgramTimeData, seconds_text, time_text, uses_text}
-use Rattle.ngc_simulator.specs.declared.request.ReportRequest.{ReportRequest}
-
--- ---- how long it takes
-
--- a machine goes through these commands in this time, and through each part of them
-abbrev pub LastsFor : MachineFile → List Command → ProgramTimeData → Type 0
-LastsFor machine commands time =
-    IsTimedThrough (job_of machine commands) time.whole.ticks time.parts ×
-    (time.whole.ticks_per_second ≡ machine.ticks_per_second)
-
--- the line that tells it
-abbrev pub takes_words : RunTime → List ℕ
-takes_words time =
-    codes "It takes " ++ decimal time.ticks ++ codes " ticks, " ++ time_text time ++ codes " at "
-    ++ decimal time.ticks_per_second
-    ++ codes " ticks a second.\n"
-
-abbrev pub takes_fact : RunTime → List ℕ
-takes_fact time =
-    codes ",\n{\"fact\":\"time\",\"ticks\":" ++ decimal time.ticks ++ codes ",\"ticks_per_second\":"
-    ++ decimal time.ticks_per_second
-    ++ codes ",\"seconds\":" ++ seconds_text time ++ codes "}"
-
-abbrev pub takes_line : Form → RunTime → List ℕ
-takes_line Words time = takes_words time
-takes_line Json time = takes_fact time
-
--- the whole and each use
-abbrev pub duration_text : Form → List Command → ProgramTimeData → List ℕ
-duration_text form commands time = takes_line form time.whole ++ uses_text form commands time
-
--- ---- texts
-
--- the line that names the setting, in a program with lines that begin with `/`
-abbrev pub setting_line : Form → Setting → List ℕ
-setting_line Words Off = codes "With block delete off:\n"
-setting_line Words On = codes "With block delete on:\n"
-setting_line Json Off = codes ",\n{\"fact\":\"setting\",\"block_delete\":false}"
-setting_line Json On = codes ",\n{\"fact\":\"setting\",\"block_delete\":true}"
-
--- what stands before the first setting of a report, and before the other
-abbrev pub heading : Form → Bool → Bool → Setting → List ℕ
-heading form first named s =
-    (if first then opening form else []) ++ (if named then setting_line form s else [])
-
--- what fits at a setting, how long it takes, and what looks wrong there
-abbrev pub setting_text : Form → Bool → Bool → Setting → MachineFile → List Command → List Entry →
-    ProgramTimeData → List ℕ
-setting_text form first named s machine commands motions time =
-    heading form first named s
-    ++ (report_text form (fit_lines machine commands motions)
-    ++ (duration_text form commands time ++ report_text form (warning_lines machine commands)))
-
--- what looks wrong of the machine and of its tools
-abbrev pub shop_text : Form → Setup → List ℕ
-shop_text Words setup = warnings_text setup.machine setup.tools
-shop_text Json setup = warning_facts setup.machine setup.tools
-
--- at both settings, or once where they are alike; and the shop
-abbrev pub fits_text : Form → Bool → Setup → List Command → List Command → CertificateData →
-    ProgramTimeData → ProgramTimeData → List ℕ
-fits_text form false setup off on c off_time on_time =
-    setting_text form true false Off setup.machine off c.off off_time
-    ++ (shop_text form setup ++ closing form)
-fits_text form true setup off on c off_time on_time =
-    setting_text form true true Off setup.machine off c.off off_time
-    ++ (setting_text form false true On setup.machine on c.on on_time
-    ++ (shop_text form setup ++ closing form))
-
--- the number of the fault that is answered, which `ngc explain` knows more of
-abbrev pub hint : Form → ℕ → List ℕ
-hint Words number = codes "`ngc explain " ++ decimal number ++ codes "` tells more.\n"
-hint Json number = codes ",\n{\"fact\":\"fault\",\"number\":" ++ decimal number ++ codes "}"
-
--- the end of a report of what is refused
-abbrev pub ending : Form → ℕ → List ℕ
-ending form number = hint form number ++ closing form
-
--- the command that a refusal is told of, and none where the start point isn't clear
-abbrev pub told_command : Option ℕ → ℕ → Option ℕ
-told_command None k = Some k
-told_command (Some fixture) k = None
-
--- the line of the program that gives the command which is told
-abbrev pub told_number : List Command → Option ℕ → Option ℕ
-told_number commands None = None
-told_number commands (Some k) = option_map (λ c. c.line) (slice_get commands k)
-
-abbrev pub quoted_if : Form → Option ℕ → List Line → List ℕ
-quoted_if form None lines = []
-quoted_if form (Some number) lines = quoted form number lines
-
--- what is in the way of a command, and its line
-abbrev pub cause_text : Form → MachineFile → List Command → Option ℕ → Option ℕ → List Line → List ℕ
-cause_text form machine commands told fixture lines =
-    report_text form (refusal_lines machine commands told fixture)
-    ++ (quoted_if form (told_number commands told) lines ++ ending form 304)
-
--- what is in the way of command k at a setting
-abbrev pub refusal_text : Form → Bool → Setting → MachineFile → List Command → ℕ →
-    List Line → List ℕ
-refusal_text form named s machine commands k lines =
-    heading form true named s
-    ++ cause_text form machine commands
-    (told_command (place_fault machine None (grid machine.step machine.start)) k)
-    (met_at machine commands k) lines
-
--- all that is in the way at a setting
-abbrev pub setting_refusals : Form → Bool → Bool → Setting → MachineFile → List Command →
-    List ℕ → List ℕ
-setting_refusals form first named s machine commands ks =
-    heading form first named s
-    ++ report_text form
-    (all_lines machine commands
-    (is_some (place_fault machine None (grid machine.step machine.start))) ks)
-
--- at both settings, or once where they are alike
-abbrev pub refusals_text : Form → Bool → MachineFile → List Command → List Command → List ℕ →
-    List ℕ → List ℕ
-refusals_text form false machine off on off_ks on_ks =
-    setting_refusals form true false Off machine off off_ks ++ ending form 304
-refusals_text form true machine off on off_ks on_ks =
-    setting_refusals form true true Off machine off off_ks
-    ++ (setting_refusals form false true On machine on on_ks ++ ending form 304)
-
--- a program that is refused
-abbrev pub refused_line : Form → List ℕ
-refused_line Words = codes "The program is refused.\n"
-refused_line Json = codes ",\n{\"fact\":\"verdict\",\"fits\":false}"
-
--- at a line, with the word that a fault names
-abbrev pub rejection_text : Form → Bool → Setting → ℕ → Fault → List Line → List ℕ
-rejection_text form named s number fault lines =
-    heading form true named s
-    ++ (refused_line form
-    ++ (quoted form number lines
-    ++ (named_line form number fault lines ++ ending form (fault_number fault))))
-
-abbrev pub fault_text : Form → Bool → Setting → ProgramFault → List Line → List ℕ
-fault_text form named s (programs.At number fault) lines =
-    rejection_text form named s number fault lines
-fault_text form named s programs.Memory lines = []
-
-abbrev pub commands_of : Setting → List Command → List Command → List Command
-commands_of Off off on = off
-commands_of On off on = on
-
-abbrev pub is_on : Setting → Bool
-is_on Off = false
-is_on On = true
-
--- ---- reports
+use Rattle.ngc_program_report.specs.JobReports.{IsStartClear, OffBegins, OnBegins}
+use Rattle.ngc_program_report.specs.Texts.{LastsFor, commands_of, fault_text, fits_text}
+use Rattle.ngc_program_report.specs.Texts.{refusal_text, refusals_text}
+use Rattle.ngc_program_report.specs.Times.{ProgramTimeData}
+use Rattle.ngc_program_report.specs.declared.request.ReportRequest.{ReportRequest}
 
 -- the report of a file's program for which a certificate is made
 pub record IsFitReport (setup : Setup) (bytes : List ℕ) (request : ReportRequest) (text : List ℕ) :
@@ -217,7 +45,8 @@ pub record IsFirstReport (setup : Setup) (bytes : List ℕ) (request : ReportReq
   pub tells : text ≡ refusal_text request.form (has_deleted means.program.lines) s setup.machine
       (commands_of s off on) k means.is_program.text.lines
 
--- the report of all commands that aren't cleared, at either setting
+-- the report of all commands that aren't cleared, at either setting: at least command k of that
+-- setting, or the start point
 pub record IsAllReport (setup : Setup) (bytes : List ℕ) (request : ReportRequest) (s : Setting)
     (k : ℕ) (text : List ℕ) : Type 0 where
   pub off : List Command
@@ -226,8 +55,11 @@ pub record IsAllReport (setup : Setup) (bytes : List ℕ) (request : ReportReque
   pub made : IsMade setup.machine request.cuts off on (Err (NotCleared s k))
   pub off_ks : List ℕ
   pub off_uncleared : AreUncleared setup.machine request.cuts off off_ks
+  pub off_begins : IsStartClear setup.machine →
+      OffBegins (has_deleted means.program.lines) s k off_ks
   pub on_ks : List ℕ
   pub on_uncleared : AreUncleared setup.machine request.cuts on on_ks
+  pub on_begins : IsStartClear setup.machine → OnBegins s k on_ks
   pub tells : text ≡ refusals_text request.form
       (has_deleted means.program.lines) setup.machine off on off_ks on_ks
 
@@ -271,26 +103,3 @@ Reports setup bytes request old new (Err (answers.Make Memory)) = Keeps old new
 Reports setup bytes request old new (Err (answers.Write fault)) =
     (text : List ℕ) × IsReport setup bytes request text × AppendsBeginning old new text
 Reports setup bytes request old new (Err _) = ⊥
-
--- ---- of a program that was read
-
--- whether a line of it begins with `/`
-abbrev pub HasDeleted : ProgramText → Bool → Type 0
-HasDeleted text found = (rs : List Reading) → AreReadings text.lines rs →
-    found ≡ has_deleted (program_said text rs).lines
-
--- nothing is refused of a certificate for it
-abbrev pub IsPassed : ProgramText → Setup → CertificateData → Type 0
-IsPassed text setup c = (rs : List Reading) → AreReadings text.lines rs →
-    first_refusal (program_said text rs) setup c ≡ None
-
--- this was accepted of it
-abbrev pub IsAcceptedOf : ProgramText → Setup → AcceptedData → Type 0
-IsAcceptedOf text setup a =
-    (rs : List Reading) → AreReadings text.lines rs → KeepsGiven (program_said text rs) setup a
-
--- it takes so long at a setting of block delete
-abbrev pub IsTimed : ProgramText → Setup → Bool → ProgramTimeData → Type 0
-IsTimed text setup block_delete time = (rs : List Reading) → AreReadings text.lines rs →
-    (commands : List Command) × (meaning (program_said text rs) setup block_delete ≡ Ok commands) ×
-    LastsFor setup.machine commands time

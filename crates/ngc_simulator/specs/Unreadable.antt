@@ -12,7 +12,7 @@ use Rattle.ngc_report.specs.Forms.{opening}
 use Rattle.ngc_report.specs.Quotes.{bytes_with, marked}
 use Rattle.ngc_report.specs.declared.form.Form.{Form}
 use Rattle.ngc_report.specs.declared.form.Form.TheVariants.{Words, Json}
-use Rattle.ngc_simulator.specs.Reporting.{ending}
+use Rattle.ngc_program_report.specs.Texts.{ending}
 use Rattle.ngc_simulator.specs.declared.fault.AnswerFault.{AnswerFault}
 use Rattle.ngc_simulator.specs.declared.fault.AnswerFault.TheVariants as answers
 

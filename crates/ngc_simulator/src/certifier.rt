@@ -1,16 +1,12 @@
-ghost use Rattle.std.specs.Prelude.{◌≡◌, ◌≤◌, ℕ, List, IfErr, IfOk, IfSome, Ok, Err, MatchResult};
+ghost use Rattle.std.specs.Prelude.{◌≡◌, ◌≤◌, IfErr, IfOk, IfSome, Ok, Err, MatchResult};
 ghost use Rattle.ngc_canonical.specs.Interpreter.{setup_of};
 ghost use Rattle.ngc_certificate_text.specs.Contents.{form_of, said_of};
 ghost use Rattle.ngc_certificate_text.specs.Joined.{Parted};
 ghost use Rattle.ngc_text.specs.Failures.{Rises};
-ghost use Rattle.ngc_line_reader.specs.ProgramText.{program_of, HaveReadings};
-ghost use Rattle.ngc_line_reader.specs.ProgramView.{text_in};
 ghost use Rattle.ngc_line_reader.specs.declared.program.fault.ReadFault.TheVariants.{Device};
 ghost use Rattle.ngc_simulator.specs.Answers.{CertifyComes, certify_inputs};
-ghost use Rattle.ngc_simulator.specs.Faults.{FailsByOutput, OfCertifying, OfMaking};
-ghost use Rattle.ngc_simulator.specs.Jobs.{Certifies, IsCertificateFor, IsMadeFor, WhyNotMade};
-ghost use Rattle.ngc_simulator.specs.Jobs.{refused_at};
-ghost use Rattle.ngc_simulator.specs.Reporting.{IsPassed};
+ghost use Rattle.ngc_simulator.specs.Faults.{FailsByOutput, OfCertifying};
+ghost use Rattle.ngc_simulator.specs.Jobs.{Certifies, IsFormFor, IsMadeOf, IsUnmade, refused_at};
 ghost use Rattle.ngc_simulator.specs.Unread.{FailsByInput, SourceFails};
 
 use crate::done::Done;
@@ -18,122 +14,76 @@ use crate::fault::AnswerFault;
 use crate::files::Files;
 use crate::opening::open_file;
 use crate::setup::read_shop;
-use ngc_canonical::{ProgramFault, has_deleted_lines, interpret};
-use ngc_certificate::{MakeFault, Setting, join, make, make_alike};
+use ngc_canonical::ProgramFault;
+use ngc_certificate::{MakeFault, join, make, make_alike};
 use ngc_certificate_text::Certificate;
 use ngc_command_line::{CertifyOptions, Format};
+use ngc_job::{Job, JobFault};
 use ngc_line_reader::Program;
 use ngc_machine::{Machine, Tools};
 use ngc_text::{Sink, Source};
 use std::alloc::{Allocator, Global};
 
-// Why a program that is refused at a setting has no certificate.
-pub(crate) fn refused(setting: Setting, fault: ProgramFault) -> AnswerFault
-    ensures { result ≡ refused_at setting fault }
+/// Why a program that has no job has no certificate.
+pub(crate) fn refused(refusal: JobFault) -> AnswerFault
+    ensures value { result ≡ refused_at refusal.setting refusal.fault }
+    ensures faults { OfCertifying result }
 {
-    match fault {
-        ProgramFault::At { .. } => AnswerFault::Refused { setting, fault },
+    match refusal.fault {
+        ProgramFault::At { .. } => AnswerFault::Refused {
+            setting: refusal.setting,
+            fault: refusal.fault,
+        },
         ProgramFault::Memory => AnswerFault::Make(MakeFault::Memory),
     }
 }
 
-// The certificate of a program. Where block delete changes nothing, what is found serves both
-// settings.
-pub(crate) fn made<A: Allocator + Copy>(
+/// The certificate that is made for a job. Where no line begins with `/`, what is found serves both
+/// settings of block delete.
+pub(crate) fn made_for<A: Allocator + Copy>(
     alloc: A,
-    program: &Program<A>,
-    machine: &Machine<A>,
-    tools: &Tools<A>,
+    job: &Job<A>,
     cuts: u16,
-) -> Result<Certificate<A>, AnswerFault>
+) -> Result<Certificate<A>, MakeFault>
     requires { 1 ≤ cuts }
-    // Whatever file the program was read from.
-    ensures made { (bytes : List ℕ) → program_of bytes ≡ Ok (text_in program.now) →
-        HaveReadings (text_in program.now).lines →
-        MatchResult result (λ c. IsMadeFor (setup_of machine.now tools.now) bytes cuts (said_of c))
-        (WhyNotMade (setup_of machine.now tools.now) bytes cuts) }
+    ensures made { MatchResult result (λ c. IsMadeOf job.now cuts (said_of c))
+        (IsUnmade job.now cuts) }
     ensures form { IfOk result (λ c. form_of c ≡ Parted (said_of c)) }
-    ensures faults { IfErr result OfMaking }
-    // Nothing is refused of what is made.
-    ensures passes { IfOk result
-        (λ c. IsPassed (text_in program.now) (setup_of machine.now tools.now) (said_of c)) }
 {
-    let off = match interpret(alloc, program, machine, tools, false) {
-        Ok(commands) => commands,
-        Err(fault) => return Err(refused(Setting::Off, fault)),
-    };
-    if !has_deleted_lines(program) {
-        let certificate = make_alike(alloc, off.as_slice(), machine, cuts)?;
-        return Ok(certificate);
-    }
-    let on = match interpret(alloc, program, machine, tools, true) {
-        Ok(commands) => commands,
-        Err(fault) => return Err(refused(Setting::On, fault)),
-    };
-    let certificate = make(alloc, off.as_slice(), on.as_slice(), machine, cuts)?;
-    Ok(certificate)
-}
-
-// The certificate of a program, joined. Its commands are found once more, so that they aren't kept
-// while nobody asks for them.
-fn joined<A: Allocator + Copy>(
-    alloc: A,
-    certificate: Certificate<A>,
-    program: &Program<A>,
-    machine: &Machine<A>,
-    tools: &Tools<A>,
-) -> Result<Certificate<A>, AnswerFault>
-    // Whatever file the program was read from, if the certificate is the one that is made for it.
-    ensures joined { (bytes : List ℕ) (cuts : ℕ) → program_of bytes ≡ Ok (text_in program.now) →
-        HaveReadings (text_in program.now).lines →
-        IsMadeFor (setup_of machine.now tools.now) bytes cuts (said_of certificate) →
-        MatchResult result
-        (λ c. IsCertificateFor (setup_of machine.now tools.now) bytes cuts Format.Two (form_of c))
-        (WhyNotMade (setup_of machine.now tools.now) bytes cuts) }
-    ensures faults { IfErr result OfMaking }
-{
-    let off = match interpret(alloc, program, machine, tools, false) {
-        Ok(commands) => commands,
-        Err(fault) => return Err(refused(Setting::Off, fault)),
-    };
-    if !has_deleted_lines(program) {
-        let commands = off.as_slice();
-        match join(alloc, certificate, commands, commands) {
-            Ok(joined) => return Ok(joined),
-            Err(_) => return Err(AnswerFault::Make(MakeFault::Memory)),
-        }
-    }
-    let on = match interpret(alloc, program, machine, tools, true) {
-        Ok(commands) => commands,
-        Err(fault) => return Err(refused(Setting::On, fault)),
-    };
-    match join(alloc, certificate, off.as_slice(), on.as_slice()) {
-        Ok(joined) => Ok(joined),
-        Err(_) => Err(AnswerFault::Make(MakeFault::Memory)),
+    if job.has_deleted_lines() {
+        make(
+            alloc,
+            job.commands(false),
+            job.commands(true),
+            job.machine(),
+            cuts,
+        )
+    } else {
+        make_alike(alloc, job.commands(false), job.machine(), cuts)
     }
 }
 
-// The certificate of a program in a format.
-fn made_in<A: Allocator + Copy>(
+// The certificate that is made for a job, in a format.
+fn certificate_for<A: Allocator + Copy>(
     alloc: A,
-    program: &Program<A>,
-    machine: &Machine<A>,
-    tools: &Tools<A>,
+    job: &Job<A>,
     cuts: u16,
     format: Format,
-) -> Result<Certificate<A>, AnswerFault>
+) -> Result<Certificate<A>, MakeFault>
     requires { 1 ≤ cuts }
-    ensures made { (bytes : List ℕ) → program_of bytes ≡ Ok (text_in program.now) →
-        HaveReadings (text_in program.now).lines →
-        MatchResult result
-        (λ c. IsCertificateFor (setup_of machine.now tools.now) bytes cuts format (form_of c))
-        (WhyNotMade (setup_of machine.now tools.now) bytes cuts) }
-    ensures faults { IfErr result OfMaking }
+    ensures { MatchResult result (λ c. IsFormFor job.now cuts format (form_of c))
+        (IsUnmade job.now cuts) }
 {
-    let certificate = made(alloc, program, machine, tools, cuts)?;
-    match format {
-        Format::One => Ok(certificate),
-        Format::Two => joined(alloc, certificate, program, machine, tools),
+    let certificate = match made_for(alloc, job, cuts) {
+        Ok(certificate) => certificate,
+        Err(fault) => return Err(fault),
+    };
+    if let Format::One = format {
+        return Ok(certificate);
+    }
+    match join(alloc, certificate, job.commands(false), job.commands(true)) {
+        Ok(joined) => Ok(joined),
+        Err(_) => Err(MakeFault::Memory),
     }
 }
 
@@ -144,8 +94,8 @@ fn made_in<A: Allocator + Copy>(
 pub fn certify<A: Allocator + Copy, R: Source, W: Sink>(
     alloc: A,
     source: &mut R,
-    machine: &Machine<A>,
-    tools: &Tools<A>,
+    machine: Machine<A>,
+    tools: Tools<A>,
     cuts: u16,
     format: Format,
     output: &mut W,
@@ -154,7 +104,7 @@ pub fn certify<A: Allocator + Copy, R: Source, W: Sink>(
     // Where the source's bytes are known, what is written is the certificate that is made for what
     // they mean.
     ensures certifies { IfSome (R.remaining source.old)
-        (λ bytes. Certifies (setup_of machine.now tools.now) bytes cuts format
+        (λ bytes. Certifies (setup_of machine tools) bytes cuts format
         (W.written output.old) (W.written output.new) result) }
     // A fault of reading or writing comes only from a device that failed.
     ensures source { result ≡ Err (AnswerFault.Read Device) →
@@ -163,7 +113,11 @@ pub fn certify<A: Allocator + Copy, R: Source, W: Sink>(
     ensures faults { IfErr result OfCertifying }
 {
     let program = Program::read(alloc, source)?;
-    let certificate = made_in(alloc, &program, machine, tools, cuts, format)?;
+    let job = match Job::new(alloc, &program, machine, tools) {
+        Ok(job) => job,
+        Err(refusal) => return Err(refused(refusal)),
+    };
+    let certificate = certificate_for(alloc, &job, cuts, format)?;
     certificate.write(output)?;
     Ok(())
 }
@@ -187,8 +141,8 @@ pub(crate) fn certify_files<F: Files, W: Sink>(
     certify(
         alloc,
         &mut source,
-        &shop.machine,
-        &shop.tools,
+        shop.machine,
+        shop.tools,
         options.cuts,
         options.format,
         output,

@@ -12,9 +12,9 @@ ghost use Rattle.ngc_simulator.specs.Unread.{FailsByInput, SourceFails};
 use crate::done::Done;
 use crate::fault::AnswerFault;
 use crate::files::Files;
+use crate::judging::judge;
 use crate::opening::{open_file, read_program};
 use crate::setup::read_shop;
-use ngc_checker::{CheckReadFault, check_source};
 use ngc_command_line::CheckOptions;
 use ngc_line_reader::Program;
 use ngc_machine::{Machine, Tools};
@@ -45,10 +45,10 @@ pub fn check_program<A: Allocator + Copy, S: Source, W: Sink>(
     ensures sink { FailsByOutput result (W.failures output.old) (W.failures output.new) }
     ensures faults { IfErr result OfChecking }
 {
-    match check_source(alloc, program, machine, tools, certificate) {
+    let verdict = judge(alloc, program, machine, tools, certificate)?;
+    match verdict {
         Ok(_) => {}
-        Err(CheckReadFault::Certificate(fault)) => return Err(AnswerFault::Certificate(fault)),
-        Err(CheckReadFault::Check(fault)) => return Err(AnswerFault::Check(fault)),
+        Err(fault) => return Err(AnswerFault::Check(fault)),
     }
     write_all(output, b"accepted\n")?;
     Ok(())

@@ -10,21 +10,19 @@ ghost use Rattle.ngc_line_reader.specs.ProgramView.{text_in};
 ghost use Rattle.ngc_machine.specs.Machine.{file_of};
 ghost use Rattle.ngc_simulator.specs.Faults.{FailsByOutput, OfDrawing};
 ghost use Rattle.ngc_simulator.specs.Drawing.{DrawsGiven, DrawsProgram, IsMadeRefusal};
-ghost use Rattle.ngc_simulator.specs.Drawing.{after_action, behind, drawn_refusal, fault_at};
-ghost use Rattle.ngc_simulator.specs.Drawing.{fixture_of, met_at, met_by, met_first};
-ghost use Rattle.ngc_simulator.specs.Drawing.{refusal_answer, setting_of, start_of, view_named};
+ghost use Rattle.ngc_simulator.specs.Drawing.{drawn_refusal, fault_at};
+ghost use Rattle.ngc_program_report.specs.Met.{met_at};
+ghost use Rattle.ngc_simulator.specs.Drawing.{refusal_answer, setting_of, view_named};
 
 use crate::fault::AnswerFault;
-use ngc_canonical::{Action, Command, interpret};
-use ngc_certificate::{
-    MakeFault, PieceFault, PieceRefusal, Setting, make_alike, pieces_fault, place_fault, undivided,
-};
+use ngc_canonical::{Command, interpret};
+use ngc_certificate::{MakeFault, PieceFault, Setting, make_alike};
 use ngc_certificate_text::{Certificate, Motions};
 use ngc_checker::{CheckFault, setting_fault};
 use ngc_drawing::{DrawFault, Refusal, View, write_svg};
-use ngc_fixed_length::Point3;
 use ngc_line_reader::Program;
-use ngc_machine::{Machine, Tool, Tools};
+use ngc_machine::{Machine, Tools};
+use ngc_program_report::met_at;
 use ngc_text::Sink;
 use std::alloc::Allocator;
 
@@ -74,105 +72,6 @@ fn drawn_refusal(fault: &CheckFault) -> Option<Refusal>
         }),
         CheckFault::Program { .. } | CheckFault::MotionsDiffer { .. } | CheckFault::Memory => None,
     }
-}
-
-/// Where the axes stand between two commands, and with what tool.
-#[derive(Clone, Copy)]
-struct Reached {
-    tool: Option<Tool>,
-    place: Point3,
-}
-
-impl Reached {
-    fn after_action(&self, action: &Action) -> Reached
-        ensures { result ≡ after_action self.now action.now }
-    {
-        match action {
-            Action::Move(motion) => Reached {
-                tool: self.tool,
-                place: motion.way.end(),
-            },
-            Action::Mount(tool) => Reached {
-                tool: *tool,
-                place: self.place,
-            },
-            _ => *self,
-        }
-    }
-
-    // Behind commands that begin at the machine's start.
-    fn behind<A: Allocator>(machine: &Machine<A>, commands: &[Command]) -> Reached
-        ensures { result ≡ behind (start_of (file_of machine.now)) commands.now }
-    {
-        let mut reached = Reached {
-            tool: None,
-            place: machine.start,
-        };
-        for command in commands {
-            reached = reached.after_action(&command.action);
-        }
-        reached
-    }
-}
-
-// The fixture that a piece is refused for.
-fn fixture_of(refusal: Option<PieceRefusal>) -> Option<u32>
-    ensures { result ≡ fixture_of refusal }
-{
-    match refusal {
-        Some(
-            PieceRefusal {
-                fault: PieceFault::MeetsFixture(fixture),
-                ..
-            },
-        ) => Some(fixture),
-        _ => None,
-    }
-}
-
-// The fixture that an action meets: a tool change where the axes stand, a motion in one piece.
-fn met_by<A: Allocator>(machine: &Machine<A>, reached: &Reached, action: &Action) -> Option<u32>
-    ensures { result ≡ met_by (file_of machine.now) reached.now action.now }
-{
-    match action {
-        Action::Move(motion) => fixture_of(pieces_fault(
-            machine,
-            reached.tool,
-            &motion.way,
-            &[undivided(machine.step, &motion.way)],
-        )),
-        Action::Mount(tool) => place_fault(machine, *tool, &reached.place.to_grid(machine.step)),
-        _ => None,
-    }
-}
-
-fn met_first<A: Allocator>(
-    machine: &Machine<A>,
-    reached: &Reached,
-    commands: &[Command],
-) -> Option<u32>
-    ensures { result ≡ met_first (file_of machine.now) reached.now commands.now }
-{
-    match commands {
-        [] => None,
-        [command, ..] => met_by(machine, reached, &command.action),
-    }
-}
-
-// The fixture that is met at the start, or by this command.
-pub(crate) fn met_at<A: Allocator>(
-    machine: &Machine<A>,
-    commands: &[Command],
-    at: usize,
-) -> Option<u32>
-    ensures { result ≡ met_at (file_of machine.now) commands.now at }
-{
-    if let Some(fixture) = place_fault(machine, None, &machine.start.to_grid(machine.step)) {
-        return Some(fixture);
-    }
-    let at = at.min(commands.len());
-    let reached = Reached::behind(machine, &commands[..at]);
-    met_first(machine, &reached, &commands[at..])
 }
 
 fn drawn_fixture(fixture: Option<u32>) -> Option<usize>

@@ -2,7 +2,7 @@
 ghost use Rattle.std.specs.Prelude.{◌≡◌};
 ghost use Rattle.ngc_simulator.specs.Faults.{answer_number, answer_status, check_status};
 ghost use Rattle.ngc_simulator.specs.Faults.{events_status, file_status, make_status, of_picture};
-ghost use Rattle.ngc_simulator.specs.Faults.{of_run, program_status, read_status, text_status};
+ghost use Rattle.ngc_simulator.specs.Faults.{of_report, of_run, program_status, read_status, text_status};
 ghost use Rattle.ngc_simulator.specs.declared.fault.AnswerFault.TheVariants as answers;
 
 use ngc_canonical::ProgramFault;
@@ -13,6 +13,7 @@ use ngc_drawing::DrawFault;
 use ngc_events::EventsFault;
 use ngc_line_reader::ReadFault;
 use ngc_machine::FileFault;
+use ngc_program_report::ReportFault;
 use ngc_run_log::RunFault;
 use ngc_text::{InputFault, WriteFault};
 use thiserror::Error;
@@ -253,6 +254,17 @@ impl From<RunFault> for AnswerFault {
         match fault {
             RunFault::Memory => AnswerFault::Memory,
             RunFault::Write(fault) => AnswerFault::Write(fault),
+        }
+    }
+}
+
+impl From<ReportFault> for AnswerFault {
+    ghost from_gives = { λ fault answer. answer ≡ of_report fault };
+
+    fn from(fault: ReportFault) -> AnswerFault {
+        match fault {
+            ReportFault::Memory => AnswerFault::Make(MakeFault::Memory),
+            ReportFault::Write(fault) => AnswerFault::Write(fault),
         }
     }
 }

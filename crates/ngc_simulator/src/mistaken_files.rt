@@ -16,9 +16,9 @@ ghost use Rattle.ngc_simulator.specs.Unread.{setup_input, shop_inputs, unread_by
 
 use crate::fault::AnswerFault;
 use crate::files::Files;
-use crate::report_frame::{opening, write_ending};
 use crate::setup::{Shop, bytes_of, read_shop};
 use ngc_machine::FileFault;
+use ngc_program_report::{opening, write_ending};
 use ngc_report::Form;
 use ngc_setup_sheet::{write_machine_mistake, write_tools_mistake};
 use ngc_text::{InputFault, Sink, WriteFault, write_all};

@@ -13,13 +13,13 @@ use crate::fault_line::add_fault_line;
 use crate::files::Files;
 use crate::guide::{write_help, write_version};
 use crate::lister::list_files;
-use crate::report_time::add_time_line;
 use crate::reporting_files::report_files;
 use crate::running::run_files;
 use crate::showing::show_files;
 use crate::through::run_through_files;
 use ngc_command_line::Options;
 use ngc_fault_texts::{ExplainFault, explain};
+use ngc_program_report::add_time_line;
 use ngc_text::{Chunk, Sink};
 use std::alloc::Global;
 

@@ -10,9 +10,9 @@ use crate::files::Files;
 use crate::mistaken_files::read_shop_telling;
 use crate::opening::open_file;
 use crate::reporting::report_program;
-use crate::request::ReportRequest;
 use crate::unread_files::tell_unreadable;
 use ngc_command_line::ReportOptions;
+use ngc_program_report::ReportRequest;
 use ngc_report::Form;
 use ngc_text::Sink;
 use std::alloc::Global;
@@ -55,8 +55,8 @@ pub(crate) fn report_files<F: Files, W: Sink>(
     let fault = match report_program(
         alloc,
         &mut source,
-        &shop.machine,
-        &shop.tools,
+        shop.machine,
+        shop.tools,
         request,
         output,
     ) {

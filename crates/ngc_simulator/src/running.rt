@@ -1,28 +1,23 @@
-ghost use Rattle.std.specs.Prelude.{◌≡◌, ℕ, List, IfErr, Ok};
-ghost use Rattle.ngc_canonical.specs.Interpreter.{setup_of};
+ghost use Rattle.std.specs.Prelude.{ℕ, List, IfErr};
+ghost use Rattle.ngc_canonical.specs.State.{Setup};
 ghost use Rattle.ngc_behaviour.specs.Headline.{job_of};
 ghost use Rattle.ngc_checker.specs.Accepted.{commands_at};
 ghost use Rattle.ngc_run_log.specs.Runs.{FailsByWriting};
-ghost use Rattle.ngc_certificate_text.specs.Contents.{said_of};
-ghost use Rattle.ngc_certificate_text.specs.Said.{certificate_said};
-ghost use Rattle.ngc_line_reader.specs.ProgramText.{program_of, HaveReadings};
-ghost use Rattle.ngc_line_reader.specs.ProgramView.{text_in};
 ghost use Rattle.ngc_simulator.specs.Answers.{RunComes, run_inputs};
 ghost use Rattle.ngc_simulator.specs.Faults.{FailsByOutput, OfRunning};
+ghost use Rattle.ngc_simulator.specs.Judging.{IsVerdict};
 ghost use Rattle.ngc_simulator.specs.Running.{Runs, RecordsRun};
 ghost use Rattle.ngc_simulator.specs.Unread.{FailsByInput, SourceFails};
 
 use crate::done::Done;
 use crate::fault::AnswerFault;
 use crate::files::Files;
-use crate::opening::{read_certificate, read_program};
+use crate::judging::{Verdict, judge_file};
+use crate::opening::read_program;
 use crate::setup::{bytes_of, read_shop};
-use ngc_certificate_text::Certificate;
-use ngc_checker::{Accepted, check};
+use ngc_checker::Accepted;
 use ngc_command_line::{Recording, RunOptions};
 use ngc_events::{EventLine, read_events};
-use ngc_line_reader::Program;
-use ngc_machine::{Machine, Tools};
 use ngc_run_log::{Report, RunFault, run, write_pulses};
 use ngc_text::Sink;
 use std::alloc::{Allocator, Global};
@@ -47,32 +42,29 @@ fn record_run<A: Allocator + Copy, W: Sink>(
     }
 }
 
-/// Runs a program on a machine with its tools, at a setting of block delete, over the events that a
-/// text says, and writes its log or its pulses. It is run only where the certificate shows that it
-/// is safe, and else nothing is written; where a write fails, a beginning is written.
+/// Runs a program at a setting of block delete over the events of a text, and writes its log or its
+/// pulses.
+///
+/// `verdict` is what `check` or `judge` returned for the program. A program that is refused isn't
+/// run, and nothing is written. A fault of the events, 711, 712 or 900, takes precedence over the
+/// refusal. Where a write fails, a prefix of the output is written.
 pub fn run_program<A: Allocator + Copy, W: Sink>(
     alloc: A,
-    program: &Program<A>,
-    machine: &Machine<A>,
-    tools: &Tools<A>,
-    certificate: &Certificate<A>,
+    verdict: Verdict<A>,
     events: &[u8],
     block_delete: bool,
     recording: Recording,
     output: &mut W,
 ) -> Result<Report, AnswerFault>
-    // Whatever files the program and the certificate were read from: the answer is that of these
-    // and of the events.
-    ensures runs { (bytes text : List ℕ) → program_of bytes ≡ Ok (text_in program.now) →
-        HaveReadings (text_in program.now).lines →
-        certificate_said text ≡ Ok (said_of certificate.now) →
-        Runs recording (setup_of machine.now tools.now) bytes text events.now block_delete
-        (W.written output.old) (W.written output.new) result }
+    // Whatever files the verdict is on: the answer is that of these and of the events.
+    ensures runs { (setup : Setup) (bytes text : List ℕ) → IsVerdict setup bytes text verdict →
+        Runs recording setup bytes text events.now block_delete (W.written output.old)
+        (W.written output.new) result }
     ensures sink { FailsByOutput result (W.failures output.old) (W.failures output.new) }
     ensures faults { IfErr result OfRunning }
 {
     let lines = read_events(alloc, events)?;
-    let accepted = check(alloc, program, machine, tools, certificate)?;
+    let accepted = verdict?;
     let report = record_run(
         alloc,
         accepted,
@@ -84,7 +76,8 @@ pub fn run_program<A: Allocator + Copy, W: Sink>(
     Ok(report)
 }
 
-// A run over events. Each file is read before the next one is opened.
+// A run over events. Each file is read before the next one is opened. A refusal of the certificate
+// is returned only after the events are read and understood.
 pub(crate) fn run_files<F: Files, W: Sink>(
     alloc: Global,
     options: &RunOptions<'_>,
@@ -99,14 +92,11 @@ pub(crate) fn run_files<F: Files, W: Sink>(
 {
     let shop = read_shop(alloc, Some(options.machine), Some(options.tools), files)?;
     let program = read_program(alloc, options.program, files)?;
-    let certificate = read_certificate(alloc, options.certificate, files)?;
+    let verdict = judge_file(alloc, &program, &shop, options.certificate, files)?;
     let events = bytes_of(alloc, options.events, files)?;
     run_program(
         alloc,
-        &program,
-        &shop.machine,
-        &shop.tools,
-        &certificate,
+        verdict,
         events.as_slice(),
         options.delete,
         options.recording,

@@ -1,27 +1,23 @@
-ghost use Rattle.std.specs.Prelude.{◌≡◌, IfErr, List, Ok, ℕ};
-ghost use Rattle.ngc_canonical.specs.Interpreter.{setup_of};
+ghost use Rattle.std.specs.Prelude.{IfErr, List, ℕ};
+ghost use Rattle.ngc_canonical.specs.State.{Setup};
 ghost use Rattle.ngc_behaviour.specs.Headline.{job_of};
 ghost use Rattle.ngc_checker.specs.Accepted.{commands_at};
 ghost use Rattle.ngc_run_log.specs.Runs.{FailsByWriting};
-ghost use Rattle.ngc_certificate_text.specs.Contents.{said_of};
-ghost use Rattle.ngc_certificate_text.specs.Said.{certificate_said};
-ghost use Rattle.ngc_line_reader.specs.ProgramText.{program_of, HaveReadings};
-ghost use Rattle.ngc_line_reader.specs.ProgramView.{text_in};
 ghost use Rattle.ngc_simulator.specs.Answers.{RunThroughComes, run_through_inputs};
 ghost use Rattle.ngc_simulator.specs.Faults.{FailsByOutput, OfRunning};
+ghost use Rattle.ngc_simulator.specs.Judging.{IsVerdict};
 ghost use Rattle.ngc_simulator.specs.Running.{RunsThrough, RecordsThrough};
 ghost use Rattle.ngc_simulator.specs.Unread.{FailsByInput, SourceFails};
 
-use crate::done::{Done, RunTime};
+use crate::done::Done;
 use crate::fault::AnswerFault;
 use crate::files::Files;
-use crate::opening::{read_certificate, read_program};
+use crate::judging::{Verdict, judge_file};
+use crate::opening::read_program;
 use crate::setup::read_shop;
-use ngc_certificate_text::Certificate;
-use ngc_checker::{Accepted, check};
+use ngc_checker::Accepted;
 use ngc_command_line::{Recording, RunThroughOptions};
-use ngc_line_reader::Program;
-use ngc_machine::{Machine, Tools};
+use ngc_program_report::RunTime;
 use ngc_run_log::{Report, RunFault, run_through, write_pulses_through};
 use ngc_text::Sink;
 use std::alloc::{Allocator, Global};
@@ -45,29 +41,25 @@ fn record_through<A: Allocator + Copy, W: Sink>(
     }
 }
 
-/// Runs a program through to its end on a machine with its tools, at a setting of block delete, and
-/// writes its log or its pulses. It is run only where the certificate shows that it is safe, and
-/// else nothing is written; where a write fails, a beginning is written.
+/// Runs a program through to its end at a setting of block delete, and writes its log or its pulses.
+///
+/// `verdict` is what `check` or `judge` returned for the program. A program that is refused isn't
+/// run, and nothing is written. Where a write fails, a prefix of the output is written.
 pub fn run_program_through<A: Allocator + Copy, W: Sink>(
     alloc: A,
-    program: &Program<A>,
-    machine: &Machine<A>,
-    tools: &Tools<A>,
-    certificate: &Certificate<A>,
+    verdict: Verdict<A>,
     block_delete: bool,
     recording: Recording,
     output: &mut W,
 ) -> Result<Report, AnswerFault>
-    // Whatever files the program and the certificate were read from: the answer is that of these.
-    ensures runs { (bytes text : List ℕ) → program_of bytes ≡ Ok (text_in program.now) →
-        HaveReadings (text_in program.now).lines →
-        certificate_said text ≡ Ok (said_of certificate.now) →
-        RunsThrough recording (setup_of machine.now tools.now) bytes text block_delete
-        (W.written output.old) (W.written output.new) result }
+    // Whatever files the verdict is on: the answer is that of these.
+    ensures runs { (setup : Setup) (bytes text : List ℕ) → IsVerdict setup bytes text verdict →
+        RunsThrough recording setup bytes text block_delete (W.written output.old)
+        (W.written output.new) result }
     ensures sink { FailsByOutput result (W.failures output.old) (W.failures output.new) }
     ensures faults { IfErr result OfRunning }
 {
-    let accepted = check(alloc, program, machine, tools, certificate)?;
+    let accepted = verdict?;
     let report = record_through(alloc, accepted, block_delete, recording, output)?;
     Ok(report)
 }
@@ -87,17 +79,8 @@ pub(crate) fn run_through_files<F: Files, W: Sink>(
 {
     let shop = read_shop(alloc, Some(options.machine), Some(options.tools), files)?;
     let program = read_program(alloc, options.program, files)?;
-    let certificate = read_certificate(alloc, options.certificate, files)?;
-    let report = run_program_through(
-        alloc,
-        &program,
-        &shop.machine,
-        &shop.tools,
-        &certificate,
-        options.delete,
-        options.recording,
-        output,
-    )?;
+    let verdict = judge_file(alloc, &program, &shop, options.certificate, files)?;
+    let report = run_program_through(alloc, verdict, options.delete, options.recording, output)?;
     Ok(Done::RunThrough(RunTime {
         ticks: report.ticks,
         ticks_per_second: shop.machine.ticks_per_second,

@@ -15,9 +15,9 @@ ghost use Rattle.ngc_simulator.specs.Unreadable.{unreadable_line, unreadable_tex
 
 use crate::fault::AnswerFault;
 use crate::files::Files;
-use crate::report_frame::{opening, write_ending};
 use crate::setup::bytes_of;
 use ngc_line_reader::ReadFault;
+use ngc_program_report::{opening, write_ending};
 use ngc_report::{Form, write_source_line};
 use ngc_text::{InputFault, Sink, WriteFault, write_all};
 use std::alloc::Global;

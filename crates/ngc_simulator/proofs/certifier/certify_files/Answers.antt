@@ -1,6 +1,7 @@
 use Rattle.std.proofs.Common.{[], ◌∷◌, Some, Ok, Err, ap, ◌∙◌, inl, inr}
 use Rattle.ngc_simulator.proofs.FileLaws.{certified_files}
-use Rattle.ngc_simulator.proofs.JobLaws.{keeps_same, turned}
+use Rattle.ngc_program_report.proofs.WrittenLaws.{turned}
+use Rattle.ngc_simulator.proofs.JobLaws.{keeps_same}
 use Rattle.ngc_simulator.specs.Answers.{program_input, CertifyComes, certify_inputs}
 use Rattle.ngc_simulator.specs.Unread.{OfProgram, SourceFails, shop_inputs, unread_by}
 use Rattle.ngc_simulator.specs.declared.fault.AnswerFault.TheVariants as answers

@@ -1,6 +1,7 @@
 use Rattle.std.proofs.Common.{[], ◌∷◌, ◌++◌, Some, Ok, Err, ap, refl, ◌∙◌, inl, inr}
 use Rattle.ngc_simulator.proofs.FileLaws.{checked_files, unread_files}
-use Rattle.ngc_simulator.proofs.JobLaws.{if_known, keeps_same, turned}
+use Rattle.ngc_program_report.proofs.WrittenLaws.{turned}
+use Rattle.ngc_simulator.proofs.JobLaws.{if_known, keeps_same}
 use Rattle.ngc_simulator.specs.Answers.{certificate_input, program_input, CheckComes, check_inputs}
 use Rattle.ngc_simulator.specs.Faults.{OfChecking}
 use Rattle.ngc_simulator.specs.Unread.{OfCertificate, OfProgram, SourceFails, program_unread, shop_inputs, unread_by}

@@ -7,7 +7,8 @@ use Rattle.ngc_simulator.specs.Drawing.{DrawsGiven, IsGivenRefusal, fault_at, re
 use Rattle.ngc_simulator.specs.Faults.{of_picture}
 use Rattle.ngc_simulator.specs.declared.fault.AnswerFault.TheVariants as answers
 use Rattle.ngc_simulator.proofs.DrawLaws.{drawing_stopped, drawn, given_fault, given_stopped, refused_program}
-use Rattle.ngc_simulator.proofs.JobLaws.{keeps_same, turned}
+use Rattle.ngc_program_report.proofs.WrittenLaws.{turned}
+use Rattle.ngc_simulator.proofs.JobLaws.{keeps_same}
 use Rattle.ngc_simulator.proofs.drawing.draw_certified.Goals as goal
 
 pub returns-in_err-commands-clause-draws : goal.returns-in_err-commands-clause-draws

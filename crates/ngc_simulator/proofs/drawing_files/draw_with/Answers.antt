@@ -9,7 +9,8 @@ use Rattle.ngc_simulator.specs.Faults.{OfDrawing}
 use Rattle.ngc_simulator.specs.Unread.{Input, OfCertificate, OfProgram, SourceFails, certificate_unread, program_unread, shop_inputs, unread_by}
 use Rattle.ngc_simulator.proofs.DrawLaws.{given_files, with_certificate}
 use Rattle.ngc_simulator.proofs.FileLaws.{all_known, or_of_reading}
-use Rattle.ngc_simulator.proofs.JobLaws.{keeps_same, turned}
+use Rattle.ngc_program_report.proofs.WrittenLaws.{turned}
+use Rattle.ngc_simulator.proofs.JobLaws.{keeps_same}
 use Rattle.ngc_simulator.proofs.RunLaws.{no_certificate}
 use Rattle.ngc_simulator.proofs.UnreadLaws.{Told, all_read, draw_told, is_read, shop_read, told_before, told_behind, unread_told}
 use Rattle.ngc_simulator.proofs.drawing_files.draw_with.Goals as goal

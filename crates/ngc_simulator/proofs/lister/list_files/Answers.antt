@@ -1,6 +1,7 @@
 use Rattle.std.proofs.Common.{[], ◌∷◌, Ok, Err, ap, ◌∙◌, inl, inr}
 use Rattle.ngc_simulator.proofs.FileLaws.{listed}
-use Rattle.ngc_simulator.proofs.JobLaws.{keeps_same, turned}
+use Rattle.ngc_program_report.proofs.WrittenLaws.{turned}
+use Rattle.ngc_simulator.proofs.JobLaws.{keeps_same}
 use Rattle.ngc_simulator.specs.Answers.{program_input, ListComes, list_inputs}
 use Rattle.ngc_simulator.specs.Unread.{OfProgram, SourceFails, shop_inputs, unread_by}
 use Rattle.ngc_simulator.specs.declared.fault.AnswerFault.TheVariants as answers

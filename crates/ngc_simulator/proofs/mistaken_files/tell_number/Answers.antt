@@ -1,6 +1,6 @@
 use Rattle.std.proofs.Common.{ap, inr, rules}
 use Rattle.ngc_simulator.specs.Mistaken.{fault_document}
-use Rattle.ngc_simulator.proofs.ReportLaws.{appends_as}
+use Rattle.ngc_program_report.proofs.WrittenLaws.{appends_as}
 use Rattle.ngc_simulator.proofs.mistaken_files.tell_number.Goals as goal
 
 pub returns-clause-tells : goal.returns-clause-tells

@@ -1,8 +1,8 @@
 use Rattle.ngc_text.proofs.Appended.{appends_both}
 use Rattle.ngc_report.specs.Forms.{opening}
 use Rattle.ngc_report.specs.declared.form.Form.TheVariants.{Json}
-use Rattle.ngc_simulator.specs.Reporting.{ending}
-use Rattle.ngc_simulator.proofs.ReportLaws.{appends_as, begins_as, begins_first, begins_last, err_weaker, ok_weaker, on_err}
+use Rattle.ngc_program_report.specs.Texts.{ending}
+use Rattle.ngc_program_report.proofs.WrittenLaws.{appends_as, begins_as, begins_first, begins_last, err_weaker, ok_weaker, on_err}
 use Rattle.ngc_simulator.proofs.mistaken_files.write_fault_document.Goals as goal
 
 pub returns-in_err-write_all-clause-fault : goal.returns-in_err-write_all-clause-fault

@@ -1,7 +1,7 @@
 use Rattle.std.proofs.Common.{rules, Ok, Err, ap, refl, subst, ◌++◌, ◌∙◌}
 use Rattle.ngc_simulator.specs.Answers.{ComesBy}
 use Rattle.ngc_simulator.specs.Faults.{fault_line}
-use Rattle.ngc_simulator.specs.Times.{time_line}
+use Rattle.ngc_program_report.specs.Times.{time_line}
 use Rattle.ngc_simulator.specs.declared.done.Done.{Done}
 use Rattle.ngc_simulator.specs.declared.done.Done.TheVariants.{RunThrough}
 use Rattle.ngc_simulator.proofs.Told.{took_text}

@@ -1,18 +1,18 @@
 use Rattle.std.proofs.Common.{[], ◌∷◌, ◌++◌, Some, Ok, Err, inl, refl, ◌∙◌, inr}
-use Rattle.std.specs.contracts.alloc.Global
 use Rattle.ngc_canonical.specs.Interpreter.{setup_of}
-use Rattle.ngc_certificate_text.specs.Contents.{said_of}
 use Rattle.ngc_simulator.specs.declared.fault.AnswerFault.TheVariants as answers
 use Rattle.ngc_simulator.proofs.FileLaws.{all_known, or_of_reading}
-use Rattle.ngc_simulator.proofs.JobLaws.{keeps_same, turned}
-use Rattle.ngc_simulator.proofs.RunLaws.{no_certificate, ran_files, run_over}
+use Rattle.ngc_program_report.proofs.WrittenLaws.{turned}
+use Rattle.ngc_simulator.proofs.JobLaws.{keeps_same}
+use Rattle.ngc_simulator.proofs.RunLaws.{ran_files, run_over}
 use Rattle.ngc_simulator.specs.Faults.{OfRunning}
 use Rattle.ngc_simulator.specs.Answers.{certificate_input, events_input, program_input, run_inputs, RunComes}
 use Rattle.ngc_simulator.specs.Unread.{OfCertificate, OfEvents, OfProgram, SourceFails, certificate_unread, program_unread, shop_inputs, unread_by}
 use Rattle.ngc_simulator.proofs.UnreadLaws.{all_read, is_read, run_told, shop_read, told_before, told_behind, unread_told}
 use Rattle.std.specs.Prelude.{option_map}
 use Rattle.ngc_line_reader.specs.ProgramText.{program_of}
-use Rattle.ngc_certificate_text.specs.Said.{certificate_said}
+use Rattle.ngc_line_reader.specs.ProgramView.{text_in}
+use Rattle.ngc_simulator.proofs.JudgingLaws.{judged_is_read, verdict_on}
 use Rattle.ngc_simulator.proofs.running.run_files.Goals as goal
 
 pub returns-in_err-shop-clause-comes : goal.returns-in_err-shop-clause-comes
@@ -35,18 +35,18 @@ returns-in_err-program-clause-comes g c =
           (λ a b e fault_is q r. (fault_is, keeps_same _)),
     ))
 
-pub returns-in_err-certificate-clause-comes : goal.returns-in_err-certificate-clause-comes
-returns-in_err-certificate-clause-comes g c =
-    let fault = answers.Certificate c.in_err-certificate.field-0.0 in
+pub returns-in_err-verdict-clause-comes : goal.returns-in_err-verdict-clause-comes
+returns-in_err-verdict-clause-comes g c =
+    let fault = answers.Certificate c.in_err-verdict.field-0.0 in
     turned _ fault (RunComes (g.F.Files.bytes c.args.files.now) c.args.options.now (g.W.Sink.written c.args.output.now) (g.W.Sink.written c.args.output.now))
-    c.from_residual-in_err-certificate.ensures.1
+    c.from_residual-in_err-verdict.ensures.1
     (inr (
       tt,
       ran_files (g.F.Files.bytes c.args.files.now) (g.F.Files.bytes c.read_shop.new.files) (g.F.Files.bytes c.read_program.new.files)
           (g.F.Files.bytes c.read_program.new.files) c.args.options.now c.in_ok-shop.shop _ _ (Err fault) (λ a. Unit {0}) _ (λ e. Unit {0})
           c.in_ok-shop.ensures.said c.read_shop.ensures.keeps c.read_program.ensures.named (λ name. refl)
-          (all_known _ _ (λ a. tt)) c.in_err-certificate.ensures.said (all_known _ _ (λ e. tt))
-          (λ a b e p says r. (no_certificate Global.the_row.Denot said_of b c.in_err-certificate.field-0.0 says, keeps_same _)),
+          (all_known _ _ (λ a. tt)) (c.in_err-verdict.ensures.judges c.in_ok-program.ensures.readings.readings c.in_ok-program.ensures.readings.are)
+          (all_known _ _ (λ e. tt)) (λ a b e p none r. (none, keeps_same _)),
     ))
 
 pub returns-in_err-events-clause-comes : goal.returns-in_err-events-clause-comes
@@ -59,14 +59,17 @@ pub returns-clause-comes : goal.returns-clause-comes
 returns-clause-comes g c = (
   c.in_ok-run_program.field-0,
   ran_files (g.F.Files.bytes c.args.files.now) (g.F.Files.bytes c.read_shop.new.files) (g.F.Files.bytes c.read_program.new.files)
-      (g.F.Files.bytes c.read_certificate.new.files) c.args.options.now c.in_ok-shop.shop (g.W.Sink.written c.args.output.now)
+      (g.F.Files.bytes c.judge_file.new.files) c.args.options.now c.in_ok-shop.shop (g.W.Sink.written c.args.output.now)
       (g.W.Sink.written c.run_program.new.output) (Ok c.in_ok-run_program.field-0) _ _ _
-      c.in_ok-shop.ensures.said c.read_shop.ensures.keeps c.read_program.ensures.named c.read_certificate.ensures.keeps
-      c.in_ok-program.ensures.text c.in_ok-certificate.ensures.said c.in_ok-events.ensures.value
-      (λ a b e is_text said read.
+      c.in_ok-shop.ensures.said c.read_shop.ensures.keeps c.read_program.ensures.named c.judge_file.ensures.keeps
+      c.in_ok-program.ensures.text
+      (c.in_ok-verdict.ensures.judges c.in_ok-program.ensures.readings.readings c.in_ok-program.ensures.readings.are) c.in_ok-events.ensures.value
+      (λ a b e is_text judges read.
       run_over c.args.options.now.recording (setup_of c.in_ok-shop.shop.machine c.in_ok-shop.shop.tools) a b e c.as_slice.result.now c.in_ok-events.events.items
       c.args.options.now.delete _ _ (Ok c.in_ok-run_program.field-0) c.as_slice.ensures.value read
-      (c.in_ok-run_program.ensures.runs a b is_text c.in_ok-program.ensures.readings said)),
+      (c.in_ok-run_program.ensures.runs (setup_of c.in_ok-shop.shop.machine c.in_ok-shop.shop.tools) a b
+      (verdict_on (setup_of c.in_ok-shop.shop.machine c.in_ok-shop.shop.tools) a b (text_in c.in_ok-program.program) c.in_ok-verdict.verdict
+      is_text c.in_ok-program.ensures.readings judges))),
 )
 
 pub returns-in_err-run_program-clause-comes : goal.returns-in_err-run_program-clause-comes
@@ -77,14 +80,17 @@ returns-in_err-run_program-clause-comes g c =
     (inr (
       or_of_reading OfRunning fault c.in_err-run_program.ensures.faults,
       ran_files (g.F.Files.bytes c.args.files.now) (g.F.Files.bytes c.read_shop.new.files) (g.F.Files.bytes c.read_program.new.files)
-          (g.F.Files.bytes c.read_certificate.new.files) c.args.options.now c.in_ok-shop.shop (g.W.Sink.written c.args.output.now)
+          (g.F.Files.bytes c.judge_file.new.files) c.args.options.now c.in_ok-shop.shop (g.W.Sink.written c.args.output.now)
           (g.W.Sink.written c.run_program.new.output) (Err fault) _ _ _
-          c.in_ok-shop.ensures.said c.read_shop.ensures.keeps c.read_program.ensures.named c.read_certificate.ensures.keeps
-          c.in_ok-program.ensures.text c.in_ok-certificate.ensures.said c.in_ok-events.ensures.value
-          (λ a b e is_text said read.
+          c.in_ok-shop.ensures.said c.read_shop.ensures.keeps c.read_program.ensures.named c.judge_file.ensures.keeps
+          c.in_ok-program.ensures.text
+          (c.in_ok-verdict.ensures.judges c.in_ok-program.ensures.readings.readings c.in_ok-program.ensures.readings.are) c.in_ok-events.ensures.value
+          (λ a b e is_text judges read.
           run_over c.args.options.now.recording (setup_of c.in_ok-shop.shop.machine c.in_ok-shop.shop.tools) a b e c.as_slice.result.now
           c.in_ok-events.events.items c.args.options.now.delete _ _ (Err fault) c.as_slice.ensures.value read
-          (c.in_err-run_program.ensures.runs a b is_text c.in_ok-program.ensures.readings said)),
+          (c.in_err-run_program.ensures.runs (setup_of c.in_ok-shop.shop.machine c.in_ok-shop.shop.tools) a b
+          (verdict_on (setup_of c.in_ok-shop.shop.machine c.in_ok-shop.shop.tools) a b (text_in c.in_ok-program.program) c.in_ok-verdict.verdict
+          is_text c.in_ok-program.ensures.readings judges))),
     ))
 
 pub returns-in_err-shop-clause-unread : goal.returns-in_err-shop-clause-unread
@@ -108,15 +114,15 @@ returns-in_err-program-clause-unread g c =
     (Some c.args.options.now.tools.now) c.in_ok-shop.shop c.in_ok-shop.ensures.said)
     (c.read_shop.ensures.keeps (option_map (λ n. n.now) c.args.options.now.program)) c.in_ok-shop.ensures.unread c.in_err-program.ensures.unread)
 
-pub returns-in_err-certificate-clause-unread : goal.returns-in_err-certificate-clause-unread
-returns-in_err-certificate-clause-unread g c =
+pub returns-in_err-verdict-clause-unread : goal.returns-in_err-verdict-clause-unread
+returns-in_err-verdict-clause-unread g c =
     unread_told (SourceFails g.F.R.Source.remaining g.F.R.Source.failures) (g.F.Files.bytes c.args.files.now) (run_inputs c.args.options.now) _ _ _
-    (answers.Certificate c.in_err-certificate.field-0.0) c.from_residual-in_err-certificate.ensures.1
+    (answers.Certificate c.in_err-verdict.field-0.0) c.from_residual-in_err-verdict.ensures.1
     (told_behind (SourceFails g.F.R.Source.remaining g.F.R.Source.failures) (g.F.Files.bytes c.args.files.now) (g.F.Files.bytes c.read_program.new.files)
     (shop_inputs (Some c.args.options.now.machine.now) (Some c.args.options.now.tools.now)
     ++ program_input (option_map (λ n. n.now) c.args.options.now.program)
     ∷ []) OfCertificate (Some c.args.options.now.certificate.now) (events_input c.args.options.now.events.now ∷ []) _ _ _
-    (certificate_unread c.in_err-certificate.field-0.0)
+    (certificate_unread c.in_err-verdict.field-0.0)
     (all_read (g.F.Files.bytes c.args.files.now) (shop_inputs (Some c.args.options.now.machine.now) (Some c.args.options.now.tools.now))
     (program_input (option_map (λ n. n.now) c.args.options.now.program) ∷ [])
     (shop_read (g.F.Files.bytes c.args.files.now) (Some c.args.options.now.machine.now)
@@ -127,13 +133,13 @@ returns-in_err-certificate-clause-unread g c =
       tt,
     ))
     (c.read_program.ensures.named c.args.options.now.certificate.now ∙ c.read_shop.ensures.keeps (Some c.args.options.now.certificate.now))
-    (c.in_ok-program.ensures.unread ∙ c.in_ok-shop.ensures.unread) c.in_err-certificate.ensures.unread)
+    (c.in_ok-program.ensures.unread ∙ c.in_ok-shop.ensures.unread) c.in_err-verdict.ensures.unread)
 
 pub returns-in_err-events-clause-unread : goal.returns-in_err-events-clause-unread
 returns-in_err-events-clause-unread g c =
     unread_told (SourceFails g.F.R.Source.remaining g.F.R.Source.failures) (g.F.Files.bytes c.args.files.now) (run_inputs c.args.options.now) _ _ _
     (answers.Input c.in_err-events.field-0.0) c.from_residual-in_err-events.ensures.1
-    (told_behind (SourceFails g.F.R.Source.remaining g.F.R.Source.failures) (g.F.Files.bytes c.args.files.now) (g.F.Files.bytes c.read_certificate.new.files)
+    (told_behind (SourceFails g.F.R.Source.remaining g.F.R.Source.failures) (g.F.Files.bytes c.args.files.now) (g.F.Files.bytes c.judge_file.new.files)
     (shop_inputs (Some c.args.options.now.machine.now) (Some c.args.options.now.tools.now)
     ++ program_input (option_map (λ n. n.now) c.args.options.now.program) ∷ certificate_input c.args.options.now.certificate.now
     ∷ []) OfEvents (Some c.args.options.now.events.now) [] _ _ _ (Some c.in_err-events.field-0.0)
@@ -150,15 +156,15 @@ returns-in_err-events-clause-unread g c =
           (c.read_shop.ensures.keeps (option_map (λ n. n.now) c.args.options.now.program)) c.in_ok-program.ensures.text,
       tt,
     )) (
-      is_read certificate_said _ (g.F.Files.bytes c.args.files.now (Some c.args.options.now.certificate.now))
+      judged_is_read _ _ c.in_ok-verdict.verdict (g.F.Files.bytes c.args.files.now (Some c.args.options.now.certificate.now))
           (g.F.Files.bytes c.read_program.new.files (Some c.args.options.now.certificate.now))
           (c.read_program.ensures.named c.args.options.now.certificate.now ∙ c.read_shop.ensures.keeps (Some c.args.options.now.certificate.now))
-          c.in_ok-certificate.ensures.said,
+          (c.in_ok-verdict.ensures.judges c.in_ok-program.ensures.readings.readings c.in_ok-program.ensures.readings.are),
       tt,
     ))
-    (c.read_certificate.ensures.keeps (Some c.args.options.now.events.now) ∙ c.read_program.ensures.named c.args.options.now.events.now
+    (c.judge_file.ensures.keeps (Some c.args.options.now.events.now) ∙ c.read_program.ensures.named c.args.options.now.events.now
     ∙ c.read_shop.ensures.keeps (Some c.args.options.now.events.now))
-    (c.in_ok-certificate.ensures.unread ∙ c.in_ok-program.ensures.unread ∙ c.in_ok-shop.ensures.unread) (inl c.in_err-events.ensures.unread))
+    (c.in_ok-verdict.ensures.unread ∙ c.in_ok-program.ensures.unread ∙ c.in_ok-shop.ensures.unread) (inl c.in_err-events.ensures.unread))
 
 pub returns-in_err-run_program-clause-unread : goal.returns-in_err-run_program-clause-unread
 returns-in_err-run_program-clause-unread g c =
@@ -166,4 +172,4 @@ returns-in_err-run_program-clause-unread g c =
     (run_inputs c.args.options.now) _ _ _ c.in_err-run_program.field-0.0 c.from_residual-in_err-run_program.ensures.1
     (run_told (SourceFails g.F.R.Source.remaining g.F.R.Source.failures) (g.F.Files.bytes c.args.files.now)
     (run_inputs c.args.options.now) _ _ c.in_err-run_program.field-0.0 c.in_err-run_program.ensures.faults
-    (c.in_ok-events.ensures.counts ∙ c.in_ok-certificate.ensures.unread ∙ c.in_ok-program.ensures.unread ∙ c.in_ok-shop.ensures.unread))
+    (c.in_ok-events.ensures.counts ∙ c.in_ok-verdict.ensures.unread ∙ c.in_ok-program.ensures.unread ∙ c.in_ok-shop.ensures.unread))

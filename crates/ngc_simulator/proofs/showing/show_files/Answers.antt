@@ -14,7 +14,7 @@ use Rattle.ngc_simulator.specs.Showing.{Shows}
 use Rattle.ngc_simulator.specs.declared.fault.AnswerFault.{AnswerFault}
 use Rattle.ngc_simulator.specs.declared.fault.AnswerFault.TheVariants as answers
 use Rattle.ngc_simulator.specs.declared.setup.Shop.{Shop}
-use Rattle.ngc_simulator.proofs.JobLaws.{turned}
+use Rattle.ngc_program_report.proofs.WrittenLaws.{turned}
 use Rattle.ngc_simulator.proofs.SetupLaws.{on_setup}
 use Rattle.ngc_simulator.proofs.showing.show_files.Goals as goal
 

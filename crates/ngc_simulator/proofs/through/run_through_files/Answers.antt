@@ -1,16 +1,18 @@
 use Rattle.std.proofs.Common.{[], ◌∷◌, ◌++◌, Some, Ok, Err, inl, inr, refl, ◌∙◌}
-use Rattle.std.specs.contracts.alloc.Global
-use Rattle.ngc_certificate_text.specs.Contents.{said_of}
+use Rattle.ngc_canonical.specs.Interpreter.{setup_of}
 use Rattle.ngc_simulator.specs.declared.fault.AnswerFault.TheVariants as answers
 use Rattle.ngc_simulator.proofs.FileLaws.{all_known, or_of_reading}
-use Rattle.ngc_simulator.proofs.JobLaws.{keeps_same, turned}
-use Rattle.ngc_simulator.proofs.RunLaws.{no_certificate, run_timed, went_files}
+use Rattle.ngc_program_report.proofs.WrittenLaws.{turned}
+use Rattle.ngc_simulator.proofs.JobLaws.{keeps_same}
+use Rattle.ngc_simulator.proofs.RunLaws.{run_timed, went_files}
 use Rattle.ngc_simulator.specs.Faults.{OfRunning}
 use Rattle.ngc_simulator.specs.Answers.{RunThroughComes, certificate_input, program_input, run_through_inputs}
 use Rattle.ngc_simulator.specs.Unread.{OfCertificate, OfProgram, SourceFails, certificate_unread, program_unread, shop_inputs, unread_by}
 use Rattle.ngc_simulator.proofs.UnreadLaws.{all_read, is_read, run_told, shop_read, told_before, told_behind, unread_told}
 use Rattle.std.specs.Prelude.{option_map}
 use Rattle.ngc_line_reader.specs.ProgramText.{program_of}
+use Rattle.ngc_line_reader.specs.ProgramView.{text_in}
+use Rattle.ngc_simulator.proofs.JudgingLaws.{verdict_on}
 use Rattle.ngc_simulator.proofs.through.run_through_files.Goals as goal
 
 pub returns-in_err-shop-clause-comes : goal.returns-in_err-shop-clause-comes
@@ -33,18 +35,19 @@ returns-in_err-program-clause-comes g c =
           (λ a b fault_is q. (fault_is, keeps_same _)),
     ))
 
-pub returns-in_err-certificate-clause-comes : goal.returns-in_err-certificate-clause-comes
-returns-in_err-certificate-clause-comes g c =
-    let fault = answers.Certificate c.in_err-certificate.field-0.0 in
+pub returns-in_err-verdict-clause-comes : goal.returns-in_err-verdict-clause-comes
+returns-in_err-verdict-clause-comes g c =
+    let fault = answers.Certificate c.in_err-verdict.field-0.0 in
     turned _ fault (RunThroughComes (g.F.Files.bytes c.args.files.now) c.args.options.now (g.W.Sink.written c.args.output.now)
-    (g.W.Sink.written c.args.output.now)) c.from_residual-in_err-certificate.ensures.1
+    (g.W.Sink.written c.args.output.now)) c.from_residual-in_err-verdict.ensures.1
     (inr (
       tt,
       went_files (g.F.Files.bytes c.args.files.now) (g.F.Files.bytes c.read_shop.new.files)
           (g.F.Files.bytes c.read_program.new.files) c.args.options.now c.in_ok-shop.shop _ _ (Err fault) (λ a. Unit {0}) _
           c.in_ok-shop.ensures.said c.read_shop.ensures.keeps c.read_program.ensures.named
-          (all_known _ _ (λ a. tt)) c.in_err-certificate.ensures.said
-          (λ a b p says. (no_certificate Global.the_row.Denot said_of b c.in_err-certificate.field-0.0 says, keeps_same _)),
+          (all_known _ _ (λ a. tt))
+          (c.in_err-verdict.ensures.judges c.in_ok-program.ensures.readings.readings c.in_ok-program.ensures.readings.are)
+          (λ a b p none. (none, keeps_same _)),
     ))
 
 pub returns-clause-comes : goal.returns-clause-comes
@@ -54,8 +57,12 @@ returns-clause-comes g c = (
       (g.F.Files.bytes c.read_program.new.files) c.args.options.now c.in_ok-shop.shop (g.W.Sink.written c.args.output.now)
       (g.W.Sink.written c.run_program_through.new.output) (Ok c.in_ok-report.report) _ _
       c.in_ok-shop.ensures.said c.read_shop.ensures.keeps c.read_program.ensures.named
-      c.in_ok-program.ensures.text c.in_ok-certificate.ensures.said
-      (λ a b is_text said. c.in_ok-report.ensures.runs a b is_text c.in_ok-program.ensures.readings said),
+      c.in_ok-program.ensures.text
+      (c.in_ok-verdict.ensures.judges c.in_ok-program.ensures.readings.readings c.in_ok-program.ensures.readings.are)
+      (λ a b is_text judges.
+      c.in_ok-report.ensures.runs (setup_of c.in_ok-shop.shop.machine c.in_ok-shop.shop.tools) a b
+      (verdict_on (setup_of c.in_ok-shop.shop.machine c.in_ok-shop.shop.tools) a b (text_in c.in_ok-program.program) c.in_ok-verdict.verdict
+      is_text c.in_ok-program.ensures.readings judges)),
   run_timed (g.F.Files.bytes c.args.files.now) c.args.options.now c.in_ok-shop.shop c.in_ok-report.report _ c.in_ok-shop.ensures.said refl refl,
 )
 
@@ -70,8 +77,12 @@ returns-in_err-report-clause-comes g c =
           (g.F.Files.bytes c.read_program.new.files) c.args.options.now c.in_ok-shop.shop (g.W.Sink.written c.args.output.now)
           (g.W.Sink.written c.run_program_through.new.output) (Err fault) _ _
           c.in_ok-shop.ensures.said c.read_shop.ensures.keeps c.read_program.ensures.named
-          c.in_ok-program.ensures.text c.in_ok-certificate.ensures.said
-          (λ a b is_text said. c.in_err-report.ensures.runs a b is_text c.in_ok-program.ensures.readings said),
+          c.in_ok-program.ensures.text
+          (c.in_ok-verdict.ensures.judges c.in_ok-program.ensures.readings.readings c.in_ok-program.ensures.readings.are)
+          (λ a b is_text judges.
+          c.in_err-report.ensures.runs (setup_of c.in_ok-shop.shop.machine c.in_ok-shop.shop.tools) a b
+          (verdict_on (setup_of c.in_ok-shop.shop.machine c.in_ok-shop.shop.tools) a b (text_in c.in_ok-program.program) c.in_ok-verdict.verdict
+          is_text c.in_ok-program.ensures.readings judges)),
     ))
 
 pub returns-in_err-shop-clause-unread : goal.returns-in_err-shop-clause-unread
@@ -94,14 +105,14 @@ returns-in_err-program-clause-unread g c =
     (Some c.args.options.now.tools.now) c.in_ok-shop.shop c.in_ok-shop.ensures.said)
     (c.read_shop.ensures.keeps (option_map (λ n. n.now) c.args.options.now.program)) c.in_ok-shop.ensures.unread c.in_err-program.ensures.unread)
 
-pub returns-in_err-certificate-clause-unread : goal.returns-in_err-certificate-clause-unread
-returns-in_err-certificate-clause-unread g c =
+pub returns-in_err-verdict-clause-unread : goal.returns-in_err-verdict-clause-unread
+returns-in_err-verdict-clause-unread g c =
     unread_told (SourceFails g.F.R.Source.remaining g.F.R.Source.failures) (g.F.Files.bytes c.args.files.now) (run_through_inputs c.args.options.now) _ _ _
-    (answers.Certificate c.in_err-certificate.field-0.0) c.from_residual-in_err-certificate.ensures.1
+    (answers.Certificate c.in_err-verdict.field-0.0) c.from_residual-in_err-verdict.ensures.1
     (told_behind (SourceFails g.F.R.Source.remaining g.F.R.Source.failures) (g.F.Files.bytes c.args.files.now) (g.F.Files.bytes c.read_program.new.files)
     (shop_inputs (Some c.args.options.now.machine.now) (Some c.args.options.now.tools.now)
     ++ program_input (option_map (λ n. n.now) c.args.options.now.program)
-    ∷ []) OfCertificate (Some c.args.options.now.certificate.now) ([]) _ _ _ (certificate_unread c.in_err-certificate.field-0.0)
+    ∷ []) OfCertificate (Some c.args.options.now.certificate.now) ([]) _ _ _ (certificate_unread c.in_err-verdict.field-0.0)
     (all_read (g.F.Files.bytes c.args.files.now) (shop_inputs (Some c.args.options.now.machine.now) (Some c.args.options.now.tools.now))
     (program_input (option_map (λ n. n.now) c.args.options.now.program) ∷ [])
     (shop_read (g.F.Files.bytes c.args.files.now) (Some c.args.options.now.machine.now)
@@ -112,7 +123,7 @@ returns-in_err-certificate-clause-unread g c =
       tt,
     ))
     (c.read_program.ensures.named c.args.options.now.certificate.now ∙ c.read_shop.ensures.keeps (Some c.args.options.now.certificate.now))
-    (c.in_ok-program.ensures.unread ∙ c.in_ok-shop.ensures.unread) c.in_err-certificate.ensures.unread)
+    (c.in_ok-program.ensures.unread ∙ c.in_ok-shop.ensures.unread) c.in_err-verdict.ensures.unread)
 
 pub returns-in_err-report-clause-unread : goal.returns-in_err-report-clause-unread
 returns-in_err-report-clause-unread g c =
@@ -120,4 +131,4 @@ returns-in_err-report-clause-unread g c =
     (run_through_inputs c.args.options.now) _ _ _ c.in_err-report.field-0.0 c.from_residual-in_err-report.ensures.1
     (run_told (SourceFails g.F.R.Source.remaining g.F.R.Source.failures) (g.F.Files.bytes c.args.files.now)
     (run_through_inputs c.args.options.now) _ _ c.in_err-report.field-0.0 c.in_err-report.ensures.faults
-    (c.in_ok-certificate.ensures.unread ∙ c.in_ok-program.ensures.unread ∙ c.in_ok-shop.ensures.unread))
+    (c.in_ok-verdict.ensures.unread ∙ c.in_ok-program.ensures.unread ∙ c.in_ok-shop.ensures.unread))

@@ -1,0 +1,2 @@
+-- The listing.
+pub mod Listing

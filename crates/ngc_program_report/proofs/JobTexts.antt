@@ -1,0 +1,89 @@
+-- The texts of a job, from those of what was accepted of it.
+use Rattle.std.proofs.Common.{◌≡◌, ℕ, List, Option, Some, None, Bool, false, ap, refl, subst, sym, ◌∙◌}
+use Rattle.std.specs.Prelude.{is_some, true}
+use Rattle.ngc_canonical.specs.declared.command.Command.{Command}
+use Rattle.ngc_certificate.specs.Uncleared.{AreUncleared}
+use Rattle.ngc_certificate_text.specs.declared.piece.Setting.{Setting}
+use Rattle.ngc_certificate_text.specs.declared.piece.Setting.TheVariants.{Off, On}
+use Rattle.ngc_line_reader.specs.Program.{Line}
+use Rattle.ngc_machine.specs.Machine.{MachineFile}
+use Rattle.ngc_certificate_text.specs.Certificate.{CertificateData}
+use Rattle.ngc_checker.specs.Accepted.{AcceptedData, commands_at}
+use Rattle.ngc_checker.specs.Held.{accepted_of}
+use Rattle.ngc_job.specs.Job.{JobData, commands_in, on_or}
+use Rattle.ngc_report.specs.declared.form.Form.{Form}
+use Rattle.ngc_program_report.specs.JobReports.{IsFitText, IsRefusalsText, IsStartClear, OffBegins, OnBegins, first_text, setup_in}
+use Rattle.ngc_program_report.specs.Texts.{LastsFor, accepted_text, fits_text, is_on, refusal_text, refusals_text}
+use Rattle.ngc_program_report.specs.Times.{ProgramTimeData}
+
+-- what was accepted of a job is told as the job is
+pub accepted_as : (j : JobData) (c : CertificateData) (form : Form) (apart : Bool) (off_time on_time : ProgramTimeData) → apart ≡ is_some j.on
+    → accepted_text form apart (accepted_of j) c off_time on_time
+    ≡ fits_text form (is_some j.on) (setup_in j) j.off (commands_in true j) c off_time on_time
+accepted_as j c form apart off_time on_time is =
+    ap (λ (d : Bool). fits_text form d (setup_in j) j.off (commands_in true j) c off_time on_time) is
+
+-- where no line begins with `/` both settings have the same commands
+pub alike : (off : List Command) (on : Option (List Command)) → is_some on ≡ false → on_or off on ≡ off
+alike off None is = refl
+alike off (Some on) is = absurd (cc is)
+
+-- so long what was accepted of a job takes, so long does the job
+pub lasts_off : (a : AcceptedData) (j : JobData) (time : ProgramTimeData) → a ≡ accepted_of j → LastsFor a.machine (commands_at false a) time
+    → LastsFor j.machine j.off time
+lasts_off a j time is lasts = subst (λ (x : AcceptedData). LastsFor x.machine (commands_at false x) time) is lasts
+
+pub lasts_on : (a : AcceptedData) (j : JobData) (time : ProgramTimeData) → a ≡ accepted_of j → LastsFor a.machine (commands_at true a) time
+    → LastsFor j.machine (commands_in true j) time
+lasts_on a j time is lasts = subst (λ (x : AcceptedData). LastsFor x.machine (commands_at true x) time) is lasts
+
+pub lasts_alike : (j : JobData) (time : ProgramTimeData) → is_some j.on ≡ false → LastsFor j.machine j.off time → LastsFor j.machine (commands_in true j) time
+lasts_alike j time none lasts = subst (λ (cs : List Command). LastsFor j.machine cs time) (sym (alike j.off j.on none)) lasts
+
+pub fit_text : (j : JobData) (c : CertificateData) (form : Form) (apart : Bool) (a : AcceptedData) (off_time on_time : ProgramTimeData) → apart ≡ is_some j.on
+    → a ≡ accepted_of j → LastsFor j.machine j.off off_time → LastsFor j.machine (commands_in true j) on_time
+    → IsFitText j c form (accepted_text form apart a c off_time on_time)
+fit_text j c form apart a off_time on_time is_apart is off_lasts on_lasts = record {
+  off_time = off_time;
+  off_lasts = off_lasts;
+  on_time = on_time;
+  on_lasts = on_lasts;
+  tells = ap (λ (x : AcceptedData). accepted_text form apart x c off_time on_time) is ∙ accepted_as j c form apart off_time on_time is_apart;
+}
+
+-- ---- what is in the way
+
+pub first_as : (j : JobData) (form : Form) (s : Setting) (k : ℕ) (lines : List Line) (named : Bool) (m : MachineFile) (b : Bool) (cs : List Command)
+    → named ≡ is_some j.on → m ≡ j.machine → b ≡ is_on s → cs ≡ commands_in b j → refusal_text form named s m cs k lines ≡ first_text j form s k lines
+first_as j form s k lines named m b cs is_named is_machine is_set are =
+    ap (λ (d : Bool). refusal_text form d s m cs k lines) is_named
+    ∙ ap (λ (x : MachineFile). refusal_text form (is_some j.on) s x cs k lines) is_machine
+    ∙ ap (λ (l : List Command). refusal_text form (is_some j.on) s j.machine l k lines) (are ∙ ap (λ (x : Bool). commands_in x j) is_set)
+
+pub all_text : (j : JobData) (cuts : ℕ) (s : Setting) (k : ℕ) (form : Form) (named : Bool) (m : MachineFile) (off on : List Command) (off_ks on_ks : List ℕ)
+    → named ≡ is_some j.on → m ≡ j.machine → off ≡ j.off → on ≡ commands_in true j
+    → AreUncleared j.machine cuts j.off off_ks → (IsStartClear j.machine → OffBegins (is_some j.on) s k off_ks)
+    → AreUncleared j.machine cuts (commands_in true j) on_ks → (IsStartClear j.machine → OnBegins s k on_ks)
+    → IsRefusalsText j cuts s k form (refusals_text form named m off on off_ks on_ks)
+all_text j cuts s k form named m off on off_ks on_ks is_named is_machine is_off is_on off_are off_begins on_are on_begins = record {
+  off_ks = off_ks;
+  off_uncleared = off_are;
+  off_begins = off_begins;
+  on_ks = on_ks;
+  on_uncleared = on_are;
+  on_begins = on_begins;
+  tells = ap (λ (d : Bool). refusals_text form d m off on off_ks on_ks) is_named
+      ∙ ap (λ (x : MachineFile). refusals_text form (is_some j.on) x off on off_ks on_ks) is_machine
+      ∙ ap (λ (cs : List Command). refusals_text form (is_some j.on) j.machine cs on off_ks on_ks) is_off
+      ∙ ap (λ (cs : List Command). refusals_text form (is_some j.on) j.machine j.off cs off_ks on_ks) is_on;
+}
+
+-- where both settings have the same commands, what isn't cleared is told once
+pub are_alike : (j : JobData) (cuts : ℕ) (ks : List ℕ) → is_some j.on ≡ false → AreUncleared j.machine cuts j.off ks
+    → AreUncleared j.machine cuts (commands_in true j) ks
+are_alike j cuts ks none are = subst (λ (cs : List Command). AreUncleared j.machine cuts cs ks) (sym (alike j.off j.on none)) are
+
+pub once_begins : (apart : Bool) (s : Setting) (k : ℕ) (ks : List ℕ) → apart ≡ false → OffBegins apart s k ks → OnBegins s k ks
+once_begins true s k ks once begins = absurd (cc once)
+once_begins false Off k ks once begins = tt
+once_begins false On k ks once begins = begins

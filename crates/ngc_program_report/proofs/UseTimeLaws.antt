@@ -1,0 +1,86 @@
+-- Times of uses are written one after another.
+use Rattle.std.proofs.Common.{◌≡◌, ℕ, ◌*◌, ◌/◌, ◌%◌, List, [], ◌∷◌, ◌++◌, Option, codes, ap, ap₂, refl, subst, sym, ◌∙◌}
+use Rattle.std.specs.Prelude.{decimal}
+use Rattle.std.proofs.KnownBytes.{Appends-nil}
+use Rattle.std.proofs.lemmas.List.{append_assoc, append-nil}
+use Rattle.std.specs.Io.KnownBytes.{Appends}
+use Rattle.ngc_text.proofs.Appended.{appends_both}
+use Rattle.ngc_text.specs.Written.{AppendsBeginning}
+use Rattle.ngc_machine.specs.declared.tools.Tool.{Tool}
+use Rattle.ngc_report.specs.Words.{tool_text}
+use Rattle.ngc_report.specs.declared.form.Form.{Form}
+use Rattle.ngc_report.specs.declared.form.Form.TheVariants.{Words, Json}
+use Rattle.ngc_report.specs.declared.uses.ToolUse.{ToolUse}
+use Rattle.ngc_program_report.specs.Times.{clock_text, three_digits, tool_value, use_time, use_times}
+use Rattle.ngc_program_report.specs.declared.run_time.RunTime.{RunTime}
+use Rattle.ngc_program_report.proofs.WrittenLaws.{appends_as, begins_as, begins_first, begins_last}
+
+-- a beginning of a text is written, and this is left of it
+pub record IsLeft (old now : Option (List ℕ)) (left all : List ℕ) : Type 0 where
+  pub front : List ℕ
+  pub wrote : Appends old now front
+  pub splits : front ++ left ≡ all
+
+pub all_left : (old : Option (List ℕ)) (left all : List ℕ) → left ≡ all → IsLeft old old left all
+all_left old left all is = record { front = []; wrote = Appends-nil old; splits = is }
+
+pub less_left : (old now next : Option (List ℕ)) (one left before all : List ℕ) → before ≡ one ++ left → IsLeft old now before all → Appends now next one →
+    IsLeft old next left all
+less_left old now next one left before all is h wrote = record {
+  front = h.front ++ one;
+  wrote = appends_both old now next h.front one h.wrote wrote;
+  splits = append_assoc h.front one left ∙ ap (λ l. h.front ++ l) (sym is) ∙ h.splits;
+}
+
+pub breaks_off : (old now next : Option (List ℕ)) (one left before all : List ℕ) → before ≡ one ++ left → IsLeft old now before all →
+    AppendsBeginning now next one → AppendsBeginning old next all
+breaks_off old now next one left before all is h wrote =
+    let P : List ℕ → Type 0 = λ l. AppendsBeginning old next l in
+    let whole : (h.front ++ one) ++ left ≡ all = append_assoc h.front one left ∙ ap (λ l. h.front ++ l) (sym is) ∙ h.splits in
+    subst P whole (begins_first old next (h.front ++ one) left (begins_last old now next h.front one h.wrote wrote))
+
+pub none_left : (old now : Option (List ℕ)) (left all : List ℕ) → left ≡ [] → IsLeft old now left all → Appends old now all
+none_left old now left all is h =
+    let P : List ℕ → Type 0 = λ l. Appends old now l in
+    let whole : h.front ≡ all = sym (append-nil h.front) ∙ ap (λ l. h.front ++ l) (sym is) ∙ h.splits in
+    subst P whole h.wrote
+
+-- ---- a time
+
+-- its text says no more of it than these
+same_time : (form : Form) (tool : Option Tool) (a b : RunTime) → a.ticks ≡ b.ticks → a.ticks_per_second ≡ b.ticks_per_second →
+    use_time form tool a ≡ use_time form tool b
+unfolding use_time
+same_time Words tool a b same even =
+    ap₂ (λ x y. codes "With " ++ tool_text tool ++ codes " it takes " ++ decimal x ++ codes " ticks, "
+    ++ (clock_text (x / y) ++ codes "." ++ three_digits (x % y * 1000 / y)) ++ codes ".\n") same even
+same_time Json tool a b same even =
+    ap₂ (λ x y. codes ",\n{\"fact\":\"use_time\",\"tool\":" ++ tool_value tool ++ codes ",\"ticks\":" ++ decimal x ++ codes ",\"seconds\":"
+    ++ (decimal (x / y) ++ codes "." ++ three_digits (x % y * 1000 / y)) ++ codes "}") same even
+
+pub time_appended : (old new : Option (List ℕ)) (form : Form) (tool : Option Tool) (a b : RunTime) → Appends old new (use_time form tool a) →
+    a.ticks ≡ b.ticks → a.ticks_per_second ≡ b.ticks_per_second →
+    Appends old new (use_time form tool b)
+time_appended old new form tool a b wrote same even = appends_as old new (use_time form tool a) (use_time form tool b) (same_time form tool a b same even) wrote
+
+pub time_begun : (old new : Option (List ℕ)) (form : Form) (tool : Option Tool) (a b : RunTime) → AppendsBeginning old new (use_time form tool a) →
+    a.ticks ≡ b.ticks → a.ticks_per_second ≡ b.ticks_per_second →
+    AppendsBeginning old new (use_time form tool b)
+time_begun old new form tool a b wrote same even = begins_as old new (use_time form tool a) (use_time form tool b) (same_time form tool a b same even) wrote
+
+-- ---- the lines
+
+pub next_time : (form : Form) (whole : RunTime) (us : List ToolUse) (u : ToolUse) (more : List ToolUse) (ns : List ℕ) (n : ℕ) (later : List ℕ) → us ≡ u ∷ more →
+    ns ≡ n ∷ later →
+    use_times form whole us ns ≡ use_time form u.tool (record whole { ticks = n }) ++ use_times form whole more later
+next_time form whole us u more ns n later is_use is_ticks = ap₂ (λ x y. use_times form whole x y) is_use is_ticks
+
+pub no_use : (form : Form) (whole : RunTime) (us : List ToolUse) (ns : List ℕ) → us ≡ [] → use_times form whole us ns ≡ []
+no_use form whole us ns is = ap (λ x. use_times form whole x ns) is
+
+no_ticks_of : (form : Form) (whole : RunTime) (us : List ToolUse) → use_times form whole us [] ≡ []
+no_ticks_of form whole [] = refl
+no_ticks_of form whole (u ∷ us) = refl
+
+pub no_ticks : (form : Form) (whole : RunTime) (us : List ToolUse) (ns : List ℕ) → ns ≡ [] → use_times form whole us ns ≡ []
+no_ticks form whole us ns is = ap (λ x. use_times form whole us x) is ∙ no_ticks_of form whole us

@@ -1,0 +1,20 @@
+use Rattle.std.proofs.Common.{true, false}
+use Rattle.ngc_certificate_text.specs.declared.piece.Setting.TheVariants.{Off}
+use Rattle.ngc_machine.specs.Machine.{file_of}
+use Rattle.ngc_program_report.specs.Texts.{ending, setting_refusals}
+use Rattle.ngc_text.proofs.Appended.{appends_both}
+use Rattle.ngc_program_report.proofs.WrittenLaws.{begins_first, begins_last, err_weaker, ok_weaker, on_err}
+use Rattle.ngc_program_report.proofs.refusal_writer.write_all_once.Goals as goal
+
+pub returns-in_err-write_setting_refusals-clause-fault : goal.returns-in_err-write_setting_refusals-clause-fault
+returns-in_err-write_setting_refusals-clause-fault g c = on_err _ _ (begins_first _ _ _ _ c.in_err-write_setting_refusals.ensures.fault)
+
+pub returns-clause-ok : goal.returns-clause-ok
+returns-clause-ok g c =
+    ok_weaker c.write_ending.result _ _ (λ wrote. appends_both _ _ _ _ _ c.in_ok-write_setting_refusals.ensures.ok wrote) c.write_ending.ensures.ok
+
+pub returns-clause-fault : goal.returns-clause-fault
+returns-clause-fault g c =
+    let told = setting_refusals c.args.form true false Off (file_of c.args.machine.now) c.args.commands.now c.args.indices.now in
+    err_weaker c.write_ending.result _ _
+    (λ wrote. begins_last _ _ _ told (ending c.args.form 304) c.in_ok-write_setting_refusals.ensures.ok wrote) c.write_ending.ensures.fault

@@ -1,0 +1,102 @@
+-- What the report of a job says. Our own.
+use Rattle.std.specs.Prelude.{◌≡◌, ℕ, List, [], Option, None, is_some, Result, Ok, Err, Bool, true}
+use Rattle.std.specs.Prelude.{false, IsTrue}
+use Rattle.std.specs.List.{list_all}
+use Rattle.std.specs.Io.KnownBytes.{Appends, Keeps}
+use Rattle.ngc_text.specs.Failures.{Rises}
+use Rattle.ngc_text.specs.Written.{AppendsBeginning}
+use Rattle.ngc_line_reader.specs.Program.{Line}
+use Rattle.ngc_canonical.specs.State.{Setup}
+use Rattle.ngc_fixed_length.specs.Grid.{grid}
+use Rattle.ngc_machine.specs.Machine.{MachineFile}
+use Rattle.ngc_machine.specs.MachineRanges.{IsMachine}
+use Rattle.ngc_canonical.specs.declared.command.Command.{Command}
+use Rattle.ngc_certificate_text.specs.declared.piece.Setting.{Setting}
+use Rattle.ngc_certificate_text.specs.declared.piece.Setting.TheVariants.{Off, On}
+use Rattle.ngc_certificate_text.specs.Certificate.{CertificateData, Entry}
+use Rattle.ngc_certificate.specs.PieceFault.{place_fault}
+use Rattle.ngc_certificate.specs.Uncleared.{AreUncleared, BeginsWith}
+use Rattle.ngc_certificate.specs.Valid.{IsValid}
+use Rattle.ngc_job.specs.Job.{JobData, commands_in}
+use Rattle.ngc_report.specs.Reports.{fit_lines, is_line_inside}
+use Rattle.ngc_report.specs.declared.form.Form.{Form}
+use Rattle.ngc_program_report.specs.declared.report_fault.ReportFault.{ReportFault}
+use Rattle.ngc_program_report.specs.declared.report_fault.ReportFault.TheVariants as faults
+use Rattle.ngc_program_report.specs.declared.request.ReportRequest.{ReportRequest}
+use Rattle.ngc_program_report.specs.Texts.{LastsFor, fits_text, is_on, refusal_text, refusals_text}
+use Rattle.ngc_program_report.specs.Times.{ProgramTimeData}
+
+-- the machine and the tools of a job
+abbrev pub setup_in : JobData → Setup
+setup_in j = record { machine = j.machine; tools = j.tools }
+
+-- the report of a job for which this certificate is made
+pub record IsFitText (j : JobData) (c : CertificateData) (form : Form) (text : List ℕ) :
+    Type 0 where
+  pub off_time : ProgramTimeData
+  pub off_lasts : LastsFor j.machine j.off off_time
+  pub on_time : ProgramTimeData
+  pub on_lasts : LastsFor j.machine (commands_in true j) on_time
+  pub tells : text ≡ fits_text form (is_some j.on) (setup_in j) j.off (commands_in true j) c
+      off_time on_time
+
+-- the report of a program with a valid certificate tells of no side on which something is missing
+abbrev pub ValidStaysInside : Type 0
+ValidStaysInside = (machine : MachineFile) (commands : List Command) (motions : List Entry) →
+    IsMachine machine → IsValid machine commands motions →
+    IsTrue (list_all is_line_inside (fit_lines machine commands motions))
+
+-- no fixture is met at the start, where no tool is mounted
+abbrev pub IsStartClear : MachineFile → Type 0
+IsStartClear machine = place_fault machine None (grid machine.step machine.start) ≡ None
+
+-- Where no certificate is made because of command k at a setting, that command is the first that
+-- isn't cleared there; with block delete off all are cleared before one of `On` is refused, unless
+-- both settings have the same commands.
+abbrev pub OffBegins : Bool → Setting → ℕ → List ℕ → Type 0
+OffBegins true On k ks = ks ≡ []
+OffBegins apart s k ks = BeginsWith k ks
+
+abbrev pub OnBegins : Setting → ℕ → List ℕ → Type 0
+OnBegins Off k ks = Unit {0}
+OnBegins On k ks = BeginsWith k ks
+
+-- the report of all its commands that aren't cleared, at either setting, where no certificate is
+-- made because of command k at a setting
+pub record IsRefusalsText (j : JobData) (cuts : ℕ) (s : Setting) (k : ℕ) (form : Form)
+    (text : List ℕ) : Type 0 where
+  pub off_ks : List ℕ
+  pub off_uncleared : AreUncleared j.machine cuts j.off off_ks
+  pub off_begins : IsStartClear j.machine → OffBegins (is_some j.on) s k off_ks
+  pub on_ks : List ℕ
+  pub on_uncleared : AreUncleared j.machine cuts (commands_in true j) on_ks
+  pub on_begins : IsStartClear j.machine → OnBegins s k on_ks
+  pub tells : text ≡ refusals_text form (is_some j.on) j.machine j.off (commands_in true j)
+      off_ks on_ks
+
+-- the report of command k alone, which isn't cleared at a setting
+abbrev pub first_text : JobData → Form → Setting → ℕ → List Line → List ℕ
+first_text j form s k lines =
+    refusal_text form (is_some j.on) s j.machine (commands_in (is_on s) j) k lines
+
+-- the report of one of which command k isn't cleared: of all such commands, or of that one alone
+abbrev pub IsRefusalText : Bool → JobData → ReportRequest → Setting → ℕ → List Line → List ℕ →
+    Type 0
+IsRefusalText true j request s k lines text =
+    IsRefusalsText j request.cuts s k request.form text
+IsRefusalText false j request s k lines text = text ≡ first_text j request.form s k lines
+
+-- such a text was written, or a beginning of one where the sink failed; or memory ran out, and
+-- nothing was written
+abbrev pub Tells : (List ℕ → Type 0) → Option (List ℕ) → Option (List ℕ) →
+    Result (Unit {0}) ReportFault → Type 0
+Tells IsText old new (Ok u) = (text : List ℕ) × IsText text × Appends old new text
+Tells IsText old new (Err faults.Memory) = Keeps old new
+Tells IsText old new (Err (faults.Write fault)) =
+    (text : List ℕ) × IsText text × AppendsBeginning old new text
+
+-- the sink's count of failures rose where a write failed, and else it is what it was
+abbrev pub FailsByWriting : Result (Unit {0}) ReportFault → ℕ → ℕ → Type 0
+FailsByWriting (Ok u) old new = new ≡ old
+FailsByWriting (Err faults.Memory) old new = new ≡ old
+FailsByWriting (Err (faults.Write fault)) old new = Rises old new

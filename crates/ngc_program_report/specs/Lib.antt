@@ -1,0 +1,5 @@
+-- Reports of programs.
+pub mod Times
+pub mod Met
+pub mod Texts
+pub mod JobReports

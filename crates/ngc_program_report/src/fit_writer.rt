@@ -1,0 +1,212 @@
+//! How the reports of programs that fit are written.
+ghost use Rattle.std.specs.Prelude.{◌++◌, OnOk, OnErr, true, false};
+ghost use Rattle.std.specs.Io.KnownBytes.{Appends};
+ghost use Rattle.ngc_canonical.specs.Interpreter.{setup_of};
+ghost use Rattle.ngc_certificate_text.specs.Certificate.{entries_at};
+ghost use Rattle.ngc_certificate_text.specs.Contents.{said_of};
+ghost use Rattle.ngc_text.specs.Failures.{CountsFailure};
+ghost use Rattle.ngc_text.specs.Written.{AppendsBeginning};
+ghost use Rattle.ngc_machine.specs.Machine.{file_of};
+ghost use Rattle.ngc_report.specs.Forms.{closing};
+ghost use Rattle.ngc_program_report.specs.Texts.{accepted_text, duration_text, setting_text, shop_text};
+ghost use Rattle.ngc_program_report.specs.Texts.{takes_line};
+
+use crate::program_time::ProgramTime;
+use crate::report_frame::{closing, write_heading};
+use crate::report_time::add_takes_line;
+use crate::run_time::RunTime;
+use crate::use_times::write_use_times;
+use ngc_canonical::Command;
+use ngc_certificate::Setting;
+use ngc_certificate_text::Certificate;
+use ngc_checker::Accepted;
+use ngc_machine::{Machine, Tools};
+use ngc_report::{Form, write_fit, write_warnings};
+use ngc_setup_sheet::{write_warning_facts, write_warnings as write_shop_warnings};
+use ngc_text::{Chunk, Sink, WriteFault, write_all};
+use std::alloc::Allocator;
+
+fn write_takes_line<W: Sink>(form: Form, time: &RunTime, output: &mut W) -> Result<(), WriteFault>
+    ensures ok { OnOk result
+        (Appends (W.written output.old) (W.written output.new) (takes_line form time.now)) }
+    ensures fault { OnErr result
+        (AppendsBeginning (W.written output.old) (W.written output.new)
+        (takes_line form time.now)) }
+    ensures counts { CountsFailure (W.failures output.old) (W.failures output.new) result }
+{
+    let mut chunk = Chunk::new();
+    add_takes_line(&mut chunk, form, time);
+    chunk.write_out(output)
+}
+
+// How long a program takes, and with each tool.
+fn write_duration<A: Allocator, W: Sink>(
+    form: Form,
+    commands: &[Command],
+    time: &ProgramTime<A>,
+    output: &mut W,
+) -> Result<(), WriteFault>
+    ensures ok { OnOk result
+        (Appends (W.written output.old) (W.written output.new)
+        (duration_text form commands.now time.now)) }
+    ensures fault { OnErr result
+        (AppendsBeginning (W.written output.old) (W.written output.new)
+        (duration_text form commands.now time.now)) }
+    ensures counts { CountsFailure (W.failures output.old) (W.failures output.new) result }
+{
+    write_takes_line(form, &time.whole, output)?;
+    write_use_times(form, commands, time, output)
+}
+
+// What fits at a setting, how long it takes, and what looks wrong there.
+fn write_setting<A: Allocator, W: Sink>(
+    form: Form,
+    first: bool,
+    machine: &Machine<A>,
+    named: bool,
+    setting: Setting,
+    commands: &[Command],
+    certificate: &Certificate<A>,
+    time: &ProgramTime<A>,
+    output: &mut W,
+) -> Result<(), WriteFault>
+    ensures ok { OnOk result
+        (Appends (W.written output.old) (W.written output.new)
+        (setting_text form first named setting (file_of machine.now) commands.now
+        (entries_at setting (said_of certificate.now)) time.now)) }
+    ensures fault { OnErr result
+        (AppendsBeginning (W.written output.old) (W.written output.new)
+        (setting_text form first named setting (file_of machine.now) commands.now
+        (entries_at setting (said_of certificate.now)) time.now)) }
+    ensures counts { CountsFailure (W.failures output.old) (W.failures output.new) result }
+{
+    write_heading(form, first, named, setting, output)?;
+    write_fit(
+        form,
+        machine,
+        commands,
+        certificate.motions(setting),
+        output,
+    )?;
+    write_duration(form, commands, time, output)?;
+    write_warnings(form, machine, commands, output)
+}
+
+// What looks wrong of the machine and of its tools.
+fn write_shop<A: Allocator, W: Sink>(
+    form: Form,
+    machine: &Machine<A>,
+    tools: &Tools<A>,
+    output: &mut W,
+) -> Result<(), WriteFault>
+    ensures ok { OnOk result
+        (Appends (W.written output.old) (W.written output.new)
+        (shop_text form (setup_of machine.now tools.now))) }
+    ensures fault { OnErr result
+        (AppendsBeginning (W.written output.old) (W.written output.new)
+        (shop_text form (setup_of machine.now tools.now))) }
+    ensures counts { CountsFailure (W.failures output.old) (W.failures output.new) result }
+{
+    match form {
+        Form::Words => write_shop_warnings(machine, tools.tools(), output),
+        Form::Json => write_warning_facts(machine, tools.tools(), output),
+    }
+}
+
+// The shop, and the end of a report of what fits.
+fn write_fit_end<A: Allocator, W: Sink>(
+    form: Form,
+    machine: &Machine<A>,
+    tools: &Tools<A>,
+    output: &mut W,
+) -> Result<(), WriteFault>
+    ensures ok { OnOk result
+        (Appends (W.written output.old) (W.written output.new)
+        (shop_text form (setup_of machine.now tools.now) ++ closing form)) }
+    ensures fault { OnErr result
+        (AppendsBeginning (W.written output.old) (W.written output.new)
+        (shop_text form (setup_of machine.now tools.now) ++ closing form)) }
+    ensures counts { CountsFailure (W.failures output.old) (W.failures output.new) result }
+{
+    write_shop(form, machine, tools, output)?;
+    write_all(output, closing(form))
+}
+
+// What fits at both settings, which are alike.
+pub(crate) fn write_once<A: Allocator, W: Sink>(
+    form: Form,
+    accepted: &Accepted<A>,
+    certificate: &Certificate<A>,
+    time: &ProgramTime<A>,
+    output: &mut W,
+) -> Result<(), WriteFault>
+    ensures ok { OnOk result
+        (Appends (W.written output.old) (W.written output.new)
+        (accepted_text form false accepted.now (said_of certificate.now) time.now time.now)) }
+    ensures fault { OnErr result
+        (AppendsBeginning (W.written output.old) (W.written output.new)
+        (accepted_text form false accepted.now (said_of certificate.now) time.now time.now)) }
+    ensures counts { CountsFailure (W.failures output.old) (W.failures output.new) result }
+{
+    let (machine, tools) = (accepted.machine(), accepted.tools());
+    let off = accepted.commands(false);
+    write_setting(
+        form,
+        true,
+        machine,
+        false,
+        Setting::Off,
+        off,
+        certificate,
+        time,
+        output,
+    )?;
+    write_fit_end(form, machine, tools, output)
+}
+
+// What fits at each setting.
+pub(crate) fn write_both<A: Allocator, W: Sink>(
+    form: Form,
+    accepted: &Accepted<A>,
+    certificate: &Certificate<A>,
+    off_time: &ProgramTime<A>,
+    on_time: &ProgramTime<A>,
+    output: &mut W,
+) -> Result<(), WriteFault>
+    ensures ok { OnOk result
+        (Appends (W.written output.old) (W.written output.new)
+        (accepted_text form true accepted.now (said_of certificate.now) off_time.now
+        on_time.now)) }
+    ensures fault { OnErr result
+        (AppendsBeginning (W.written output.old) (W.written output.new)
+        (accepted_text form true accepted.now (said_of certificate.now) off_time.now
+        on_time.now)) }
+    ensures counts { CountsFailure (W.failures output.old) (W.failures output.new) result }
+{
+    let (machine, tools) = (accepted.machine(), accepted.tools());
+    let off = accepted.commands(false);
+    write_setting(
+        form,
+        true,
+        machine,
+        true,
+        Setting::Off,
+        off,
+        certificate,
+        off_time,
+        output,
+    )?;
+    let on = accepted.commands(true);
+    write_setting(
+        form,
+        false,
+        machine,
+        true,
+        Setting::On,
+        on,
+        certificate,
+        on_time,
+        output,
+    )?;
+    write_fit_end(form, machine, tools, output)
+}

@@ -1,0 +1,217 @@
+//! The reports of jobs: of those that fit, and of those that don't.
+ghost use Rattle.std.specs.Prelude.{◌≡◌, ◌≤◌, is_some, Err, IfOk, OnErr, OnOk, true};
+ghost use Rattle.std.specs.Io.KnownBytes.{Appends};
+ghost use Rattle.ngc_certificate.specs.Made.{IsMade};
+ghost use Rattle.ngc_certificate.specs.Uncleared.{AreUncleared};
+ghost use Rattle.ngc_certificate.specs.Valid.{IsValid};
+ghost use Rattle.ngc_certificate_text.specs.Contents.{said_of};
+ghost use Rattle.ngc_job.specs.Job.{commands_in};
+ghost use Rattle.ngc_text.specs.Failures.{CountsFailure};
+ghost use Rattle.ngc_text.specs.Written.{AppendsBeginning};
+ghost use Rattle.ngc_line_reader.specs.ProgramView.{text_in};
+ghost use Rattle.ngc_program_report.specs.JobReports.{FailsByWriting, IsFitText, IsRefusalText};
+ghost use Rattle.ngc_program_report.specs.JobReports.{IsRefusalsText, IsStartClear, OffBegins};
+ghost use Rattle.ngc_program_report.specs.JobReports.{OnBegins, Tells, first_text};
+ghost use Rattle.ngc_program_report.specs.Texts.{is_on};
+
+use crate::fit_writer::{write_both, write_once};
+use crate::refusal_writer::{is_start_refused, write_all_both, write_all_once, write_refused};
+use crate::report_fault::ReportFault;
+use crate::request::ReportRequest;
+use crate::timing::{accept, time_of};
+use ngc_certificate::{MakeFault, MemoryFault, Setting, uncleared, uncleared_from};
+use ngc_certificate_text::Certificate;
+use ngc_job::Job;
+use ngc_line_reader::Program;
+use ngc_report::Form;
+use ngc_text::{Sink, WriteFault};
+use std::alloc::Allocator;
+
+fn is_on(setting: Setting) -> bool
+    ensures { result ≡ is_on setting }
+{
+    match setting {
+        Setting::Off => false,
+        Setting::On => true,
+    }
+}
+
+/// Writes the report of a job for which a certificate was made: how far it goes and with how much
+/// room, how each tool is used, how long it takes, and what looks wrong. Nothing is written before
+/// it is known how long the job takes, nor for want of memory (900); where a write fails (902), a
+/// beginning is written.
+pub fn report_fit<A: Allocator + Copy, W: Sink>(
+    alloc: A,
+    job: Job<A>,
+    certificate: &Certificate<A>,
+    form: Form,
+    output: &mut W,
+) -> Result<(), ReportFault>
+    requires off { IsValid job.machine job.off (said_of certificate.now).off }
+    requires on { IsValid job.machine (commands_in true job) (said_of certificate.now).on }
+    ensures tells { Tells (IsFitText job (said_of certificate.now) form) (W.written output.old)
+        (W.written output.new) result }
+    ensures counts { FailsByWriting result (W.failures output.old) (W.failures output.new) }
+{
+    let apart = job.has_deleted_lines();
+    let accepted = accept(job, certificate);
+    let (off_time, accepted) = time_of(alloc, accepted, false)?;
+    if !apart {
+        write_once(form, &accepted, certificate, &off_time, output)?;
+        return Ok(());
+    }
+    let (on_time, accepted) = time_of(alloc, accepted, true)?;
+    write_both(form, &accepted, certificate, &off_time, &on_time, output)?;
+    Ok(())
+}
+
+// The report of a command that isn't cleared at a setting.
+fn report_first<A: Allocator, W: Sink>(
+    program: &Program<A>,
+    job: &Job<A>,
+    setting: Setting,
+    command: u32,
+    form: Form,
+    output: &mut W,
+) -> Result<(), WriteFault>
+    ensures ok { OnOk result
+        (Appends (W.written output.old) (W.written output.new)
+        (first_text job.now form setting command (text_in program.now).lines)) }
+    ensures fault { OnErr result
+        (AppendsBeginning (W.written output.old) (W.written output.new)
+        (first_text job.now form setting command (text_in program.now).lines)) }
+    ensures counts { CountsFailure (W.failures output.old) (W.failures output.new) result }
+{
+    write_refused(
+        form,
+        program,
+        job.machine(),
+        job.has_deleted_lines(),
+        setting,
+        job.commands(is_on(setting)),
+        command,
+        output,
+    )
+}
+
+// The commands that aren't cleared with block delete off, where no certificate is made because of a
+// command at a setting. Where the settings differ, one that is refused at `On` has them all cleared.
+fn off_uncleared<A: Allocator + Copy>(
+    alloc: A,
+    job: &Job<A>,
+    setting: Setting,
+    command: u32,
+    cuts: u16,
+) -> Result<Vec<u32, A>, MemoryFault>
+    requires cuts { 1 ≤ cuts }
+    requires refused { IsMade job.now.machine cuts job.now.off (commands_in true job.now)
+        (Err (MakeFault.NotCleared setting command)) }
+    ensures are { IfOk result (λ v. AreUncleared job.now.machine cuts job.now.off v.items) }
+    ensures begins { IfOk result (λ v. IsStartClear job.now.machine →
+        OffBegins (is_some job.now.on) setting command v.items) }
+{
+    let machine = job.machine();
+    let off = job.commands(false);
+    if is_start_refused(machine) {
+        return uncleared(alloc, off, machine, cuts);
+    }
+    match setting {
+        Setting::On if job.has_deleted_lines() => Ok(Vec::new(alloc)),
+        _ => uncleared_from(alloc, off, machine, cuts, command),
+    }
+}
+
+// The same with block delete on.
+fn on_uncleared<A: Allocator + Copy>(
+    alloc: A,
+    job: &Job<A>,
+    setting: Setting,
+    command: u32,
+    cuts: u16,
+) -> Result<Vec<u32, A>, MemoryFault>
+    requires cuts { 1 ≤ cuts }
+    requires refused { IsMade job.now.machine cuts job.now.off (commands_in true job.now)
+        (Err (MakeFault.NotCleared setting command)) }
+    ensures are { IfOk result
+        (λ v. AreUncleared job.now.machine cuts (commands_in true job.now) v.items) }
+    ensures begins { IfOk result (λ v. IsStartClear job.now.machine →
+        OnBegins setting command v.items) }
+{
+    let machine = job.machine();
+    let on = job.commands(true);
+    match setting {
+        Setting::On if !is_start_refused(machine) => {
+            uncleared_from(alloc, on, machine, cuts, command)
+        }
+        _ => uncleared(alloc, on, machine, cuts),
+    }
+}
+
+// The report of all commands that aren't cleared, where no certificate is made because of one.
+fn report_all<A: Allocator + Copy, W: Sink>(
+    alloc: A,
+    job: &Job<A>,
+    setting: Setting,
+    command: u32,
+    request: ReportRequest,
+    output: &mut W,
+) -> Result<(), ReportFault>
+    requires { IsMade job.now.machine request.cuts job.now.off (commands_in true job.now)
+        (Err (MakeFault.NotCleared setting command)) }
+    ensures tells { Tells (IsRefusalsText job.now request.cuts setting command request.form)
+        (W.written output.old) (W.written output.new) result }
+    ensures counts { FailsByWriting result (W.failures output.old) (W.failures output.new) }
+{
+    let (form, cuts) = (request.form, request.cuts);
+    let machine = job.machine();
+    let off = job.commands(false);
+    let off_indices = match off_uncleared(alloc, job, setting, command, cuts) {
+        Ok(indices) => indices,
+        Err(_) => return Err(ReportFault::Memory),
+    };
+    if !job.has_deleted_lines() {
+        write_all_once(form, machine, off, off_indices.as_slice(), output)?;
+        return Ok(());
+    }
+    let on_indices = match on_uncleared(alloc, job, setting, command, cuts) {
+        Ok(indices) => indices,
+        Err(_) => return Err(ReportFault::Memory),
+    };
+    write_all_both(
+        form,
+        machine,
+        off,
+        off_indices.as_slice(),
+        job.commands(true),
+        on_indices.as_slice(),
+        output,
+    )?;
+    Ok(())
+}
+
+/// Writes the report of a job for which no certificate is made, because a command, counted from 0,
+/// isn't cleared at a setting of block delete: what is in the way of that command, or of all that
+/// aren't cleared. Nothing is written for want of memory (900); where a write fails (902), a
+/// beginning is written.
+pub fn report_refusal<A: Allocator + Copy, W: Sink>(
+    alloc: A,
+    program: &Program<A>,
+    job: &Job<A>,
+    setting: Setting,
+    command: u32,
+    request: ReportRequest,
+    output: &mut W,
+) -> Result<(), ReportFault>
+    requires { IsMade job.now.machine request.cuts job.now.off (commands_in true job.now)
+        (Err (MakeFault.NotCleared setting command)) }
+    ensures tells { Tells
+        (IsRefusalText request.all job.now request setting command (text_in program.now).lines)
+        (W.written output.old) (W.written output.new) result }
+    ensures counts { FailsByWriting result (W.failures output.old) (W.failures output.new) }
+{
+    if request.all {
+        return report_all(alloc, job, setting, command, request, output);
+    }
+    report_first(program, job, setting, command, request.form, output)?;
+    Ok(())
+}

@@ -1,0 +1,26 @@
+//! What is told of a job: that it fits, with how much room and how long it takes, or what is in the
+//! way.
+#![tactic(auto)]
+
+mod fit_writer;
+mod job_report;
+pub mod laws;
+mod met;
+mod program_time;
+mod refusal_writer;
+mod report_fault;
+mod report_frame;
+mod report_time;
+mod request;
+mod run_time;
+mod timing;
+mod use_times;
+
+pub use job_report::{report_fit, report_refusal};
+pub use met::met_at;
+pub use refusal_writer::write_rejection;
+pub use report_fault::ReportFault;
+pub use report_frame::{opening, write_ending};
+pub use report_time::add_time_line;
+pub use request::ReportRequest;
+pub use run_time::RunTime;

@@ -1,0 +1,304 @@
+//! How the reports of programs that don't fit or are refused are written.
+ghost use Rattle.std.specs.Prelude.{◌≡◌, ◌++◌, OnOk, OnErr, None, is_some, true, false};
+ghost use Rattle.std.specs.Io.KnownBytes.{Appends};
+ghost use Rattle.ngc_canonical.specs.Faults.{fault_number};
+ghost use Rattle.ngc_certificate.specs.PieceFault.{place_fault};
+ghost use Rattle.ngc_text.specs.Failures.{CountsFailure};
+ghost use Rattle.ngc_text.specs.Written.{AppendsBeginning};
+ghost use Rattle.ngc_fixed_length.specs.Grid.{grid};
+ghost use Rattle.ngc_line_reader.specs.ProgramView.{text_in};
+ghost use Rattle.ngc_machine.specs.Machine.{file_of};
+ghost use Rattle.ngc_report.specs.Marks.{named_line};
+ghost use Rattle.ngc_program_report.specs.Texts.{cause_text, ending, quoted_if, refusal_text};
+ghost use Rattle.ngc_program_report.specs.Texts.{refusals_text, refused_line, rejection_text};
+ghost use Rattle.ngc_program_report.specs.Texts.{setting_refusals, told_command, told_number};
+
+use crate::met::met_at;
+use crate::report_frame::{write_ending, write_heading};
+use ngc_canonical::{Command, Fault};
+use ngc_certificate::{Setting, place_fault};
+use ngc_line_reader::Program;
+use ngc_machine::Machine;
+use ngc_report::{Form, write_line, write_named, write_refusal, write_refusals};
+use ngc_text::{Sink, WriteFault, write_all};
+use std::alloc::Allocator;
+
+// The command that a refusal is told of: none where the start point isn't clear.
+fn told_command<A: Allocator>(machine: &Machine<A>, command: u32) -> Option<usize>
+    ensures { result ≡ told_command
+        (place_fault (file_of machine.now) None
+        (grid (file_of machine.now).step (file_of machine.now).start)) command }
+{
+    match place_fault(machine, None, &machine.start.to_grid(machine.step)) {
+        Some(_) => None,
+        None => Some(command as usize),
+    }
+}
+
+// The line of the program that gives the command which is told.
+fn told_number(commands: &[Command], told: Option<usize>) -> Option<u32>
+    ensures { result ≡ told_number commands.now told }
+{
+    match told {
+        None => None,
+        Some(command) => match commands.get(command) {
+            None => None,
+            Some(command) => Some(command.line),
+        },
+    }
+}
+
+fn write_told_line<A: Allocator, W: Sink>(
+    form: Form,
+    program: &Program<A>,
+    number: Option<u32>,
+    output: &mut W,
+) -> Result<(), WriteFault>
+    ensures ok { OnOk result
+        (Appends (W.written output.old) (W.written output.new)
+        (quoted_if form number (text_in program.now).lines)) }
+    ensures fault { OnErr result
+        (AppendsBeginning (W.written output.old) (W.written output.new)
+        (quoted_if form number (text_in program.now).lines)) }
+    ensures counts { CountsFailure (W.failures output.old) (W.failures output.new) result }
+{
+    match number {
+        None => write_all(output, b""),
+        Some(number) => write_line(form, program, number, output),
+    }
+}
+
+// The line of the program that gives the command which is told, and the end.
+fn write_cause_end<A: Allocator, W: Sink>(
+    form: Form,
+    program: &Program<A>,
+    number: Option<u32>,
+    output: &mut W,
+) -> Result<(), WriteFault>
+    ensures ok { OnOk result
+        (Appends (W.written output.old) (W.written output.new)
+        (quoted_if form number (text_in program.now).lines ++ ending form 304)) }
+    ensures fault { OnErr result
+        (AppendsBeginning (W.written output.old) (W.written output.new)
+        (quoted_if form number (text_in program.now).lines ++ ending form 304)) }
+    ensures counts { CountsFailure (W.failures output.old) (W.failures output.new) result }
+{
+    write_told_line(form, program, number, output)?;
+    write_ending(form, 304, output)
+}
+
+// What is in the way of a command, and its line.
+fn write_cause<A: Allocator, W: Sink>(
+    form: Form,
+    program: &Program<A>,
+    machine: &Machine<A>,
+    commands: &[Command],
+    told: Option<usize>,
+    fixture: Option<u32>,
+    output: &mut W,
+) -> Result<(), WriteFault>
+    ensures ok { OnOk result
+        (Appends (W.written output.old) (W.written output.new)
+        (cause_text form (file_of machine.now) commands.now told fixture
+        (text_in program.now).lines)) }
+    ensures fault { OnErr result
+        (AppendsBeginning (W.written output.old) (W.written output.new)
+        (cause_text form (file_of machine.now) commands.now told fixture
+        (text_in program.now).lines)) }
+    ensures counts { CountsFailure (W.failures output.old) (W.failures output.new) result }
+{
+    write_refusal(form, machine, commands, told, fixture, output)?;
+    write_cause_end(form, program, told_number(commands, told), output)
+}
+
+// What is in the way of a command at a setting.
+pub(crate) fn write_refused<A: Allocator, W: Sink>(
+    form: Form,
+    program: &Program<A>,
+    machine: &Machine<A>,
+    named: bool,
+    setting: Setting,
+    commands: &[Command],
+    command: u32,
+    output: &mut W,
+) -> Result<(), WriteFault>
+    ensures ok { OnOk result
+        (Appends (W.written output.old) (W.written output.new)
+        (refusal_text form named setting (file_of machine.now) commands.now command
+        (text_in program.now).lines)) }
+    ensures fault { OnErr result
+        (AppendsBeginning (W.written output.old) (W.written output.new)
+        (refusal_text form named setting (file_of machine.now) commands.now command
+        (text_in program.now).lines)) }
+    ensures counts { CountsFailure (W.failures output.old) (W.failures output.new) result }
+{
+    write_heading(form, true, named, setting, output)?;
+    let told = told_command(machine, command);
+    let fixture = met_at(machine, commands, command as usize);
+    write_cause(form, program, machine, commands, told, fixture, output)
+}
+
+// Whether a fixture is met at the start.
+pub(crate) fn is_start_refused<A: Allocator>(machine: &Machine<A>) -> bool
+    ensures { result ≡ is_some
+        (place_fault (file_of machine.now) None
+        (grid (file_of machine.now).step (file_of machine.now).start)) }
+{
+    place_fault(machine, None, &machine.start.to_grid(machine.step)).is_some()
+}
+
+// All that is in the way at a setting.
+fn write_setting_refusals<A: Allocator, W: Sink>(
+    form: Form,
+    first: bool,
+    named: bool,
+    setting: Setting,
+    machine: &Machine<A>,
+    commands: &[Command],
+    indices: &[u32],
+    output: &mut W,
+) -> Result<(), WriteFault>
+    ensures ok { OnOk result
+        (Appends (W.written output.old) (W.written output.new)
+        (setting_refusals form first named setting
+        (file_of machine.now) commands.now indices.now)) }
+    ensures fault { OnErr result
+        (AppendsBeginning (W.written output.old) (W.written output.new)
+        (setting_refusals form first named setting
+        (file_of machine.now) commands.now indices.now)) }
+    ensures counts { CountsFailure (W.failures output.old) (W.failures output.new) result }
+{
+    write_heading(form, first, named, setting, output)?;
+    let start = is_start_refused(machine);
+    write_refusals(form, machine, commands, start, indices, output)
+}
+
+/// All that is in the way at both settings, which are alike.
+pub(crate) fn write_all_once<A: Allocator, W: Sink>(
+    form: Form,
+    machine: &Machine<A>,
+    commands: &[Command],
+    indices: &[u32],
+    output: &mut W,
+) -> Result<(), WriteFault>
+    ensures ok { OnOk result
+        (Appends (W.written output.old) (W.written output.new)
+        (refusals_text form false (file_of machine.now) commands.now commands.now indices.now
+        indices.now)) }
+    ensures fault { OnErr result
+        (AppendsBeginning (W.written output.old) (W.written output.new)
+        (refusals_text form false (file_of machine.now) commands.now commands.now indices.now
+        indices.now)) }
+    ensures counts { CountsFailure (W.failures output.old) (W.failures output.new) result }
+{
+    write_setting_refusals(
+        form,
+        true,
+        false,
+        Setting::Off,
+        machine,
+        commands,
+        indices,
+        output,
+    )?;
+    write_ending(form, 304, output)
+}
+
+/// All that is in the way at each setting.
+pub(crate) fn write_all_both<A: Allocator, W: Sink>(
+    form: Form,
+    machine: &Machine<A>,
+    off: &[Command],
+    off_indices: &[u32],
+    on: &[Command],
+    on_indices: &[u32],
+    output: &mut W,
+) -> Result<(), WriteFault>
+    ensures ok { OnOk result
+        (Appends (W.written output.old) (W.written output.new)
+        (refusals_text form true (file_of machine.now) off.now on.now off_indices.now
+        on_indices.now)) }
+    ensures fault { OnErr result
+        (AppendsBeginning (W.written output.old) (W.written output.new)
+        (refusals_text form true (file_of machine.now) off.now on.now off_indices.now
+        on_indices.now)) }
+    ensures counts { CountsFailure (W.failures output.old) (W.failures output.new) result }
+{
+    write_setting_refusals(
+        form,
+        true,
+        true,
+        Setting::Off,
+        machine,
+        off,
+        off_indices,
+        output,
+    )?;
+    write_setting_refusals(
+        form,
+        false,
+        true,
+        Setting::On,
+        machine,
+        on,
+        on_indices,
+        output,
+    )?;
+    write_ending(form, 304, output)
+}
+
+fn refused_line(form: Form) -> &'static [u8]
+    ensures { result.now ≡ refused_line form }
+{
+    match form {
+        Form::Words => b"The program is refused.\n",
+        Form::Json => b",\n{\"fact\":\"verdict\",\"fits\":false}",
+    }
+}
+
+// What a fault names of its line, and the end.
+fn write_rejection_end<A: Allocator, W: Sink>(
+    form: Form,
+    program: &Program<A>,
+    number: u32,
+    fault: &Fault,
+    output: &mut W,
+) -> Result<(), WriteFault>
+    ensures ok { OnOk result
+        (Appends (W.written output.old) (W.written output.new)
+        (named_line form number fault.now (text_in program.now).lines
+        ++ ending form (fault_number fault.now))) }
+    ensures fault { OnErr result
+        (AppendsBeginning (W.written output.old) (W.written output.new)
+        (named_line form number fault.now (text_in program.now).lines
+        ++ ending form (fault_number fault.now))) }
+    ensures counts { CountsFailure (W.failures output.old) (W.failures output.new) result }
+{
+    write_named(form, program, number, fault, output)?;
+    write_ending(form, fault.number(), output)
+}
+
+/// Writes the report of a program that is refused at a setting of block delete: its line at fault,
+/// by its number, and the word that the fault names.
+pub fn write_rejection<A: Allocator, W: Sink>(
+    form: Form,
+    program: &Program<A>,
+    named: bool,
+    setting: Setting,
+    number: u32,
+    fault: &Fault,
+    output: &mut W,
+) -> Result<(), WriteFault>
+    ensures ok { OnOk result
+        (Appends (W.written output.old) (W.written output.new)
+        (rejection_text form named setting number fault.now (text_in program.now).lines)) }
+    ensures fault { OnErr result
+        (AppendsBeginning (W.written output.old) (W.written output.new)
+        (rejection_text form named setting number fault.now (text_in program.now).lines)) }
+    ensures counts { CountsFailure (W.failures output.old) (W.failures output.new) result }
+{
+    write_heading(form, true, named, setting, output)?;
+    write_all(output, refused_line(form))?;
+    write_line(form, program, number, output)?;
+    write_rejection_end(form, program, number, fault, output)
+}

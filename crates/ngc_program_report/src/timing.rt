@@ -1,0 +1,57 @@
+//! How long a program takes on a machine.
+ghost use Rattle.std.specs.Prelude.{◌≡◌, IfErr, IfOk, true};
+ghost use Rattle.ngc_certificate.specs.Valid.{IsValid};
+ghost use Rattle.ngc_certificate_text.specs.Contents.{said_of};
+ghost use Rattle.ngc_checker.specs.Accepted.{commands_at};
+ghost use Rattle.ngc_checker.specs.Held.{accepted_of};
+ghost use Rattle.ngc_job.specs.Job.{commands_in};
+ghost use Rattle.ngc_program_report.specs.Texts.{LastsFor};
+
+use crate::program_time::ProgramTime;
+use crate::report_fault::ReportFault;
+use crate::run_time::RunTime;
+use ngc_certificate_text::Certificate;
+use ngc_checker::{Accepted, check_job};
+use ngc_job::Job;
+use ngc_run_log::time_through;
+use std::alloc::Allocator;
+
+/// A job is accepted with a certificate that is valid for it.
+pub(crate) fn accept<A: Allocator>(job: Job<A>, certificate: &Certificate<A>) -> Accepted<A>
+    requires off { IsValid job.machine job.off (said_of certificate.now).off }
+    requires on { IsValid job.machine (commands_in true job) (said_of certificate.now).on }
+    ensures { result ≡ accepted_of job }
+{
+    match check_job(job, certificate) {
+        Ok(accepted) => accepted,
+        Err(_) => unreachable!(),
+    }
+}
+
+/// How long a program takes that was accepted, at a setting of block delete, and what was accepted
+/// once more; 900 where memory runs out.
+pub(crate) fn time_of<A: Allocator + Copy>(
+    alloc: A,
+    accepted: Accepted<A>,
+    block_delete: bool,
+) -> Result<(ProgramTime<A>, Accepted<A>), ReportFault>
+    ensures lasts { IfOk result
+        (λ t. LastsFor accepted.machine (commands_at block_delete accepted) t.0) }
+    ensures back { IfOk result (λ t. t.1 ≡ accepted) }
+    ensures memory { IfErr result (λ fault. fault ≡ ReportFault.Memory) }
+{
+    let ticks_per_second = accepted.machine().ticks_per_second;
+    match time_through(alloc, accepted, block_delete) {
+        Ok((timing, accepted)) => Ok((
+            ProgramTime {
+                whole: RunTime {
+                    ticks: timing.ticks,
+                    ticks_per_second,
+                },
+                parts: timing.parts,
+            },
+            accepted,
+        )),
+        Err(_) => Err(ReportFault::Memory),
+    }
+}
