@@ -1,0 +1,11 @@
+-- The rules so far, and those of the words that are left.
+use Rattle.std.proofs.Common.{◌≡◌, ◌≤◌, ◌++◌, length, drop}
+use Rattle.std.specs.List.{filter_map}
+use Rattle.ngc_adapt.specs.Rules.{rule_for}
+use Rattle.ngc_adapt.proofs.line.rules_among.Given as goal
+
+abbrev pub invariant-loop-word : goal.invariant-loop-word
+invariant-loop-word l = record {
+  rules : l.rules.items ++ filter_map (rule_for l.modes l.words) (drop l.word-index l.words) ≡ filter_map (rule_for l.modes l.words) l.words;
+  few : length l.rules.items ≤ l.word-index;
+}

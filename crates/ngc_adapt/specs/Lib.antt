@@ -1,0 +1,6 @@
+pub mod Items
+pub mod Laws
+pub mod Lines
+pub mod Numbers
+pub mod Rules
+pub mod Text

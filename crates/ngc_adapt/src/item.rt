@@ -1,0 +1,284 @@
+ghost use Rattle.std.specs.Prelude.{◌≡◌, ◌+◌, ◌≤◌, ◌<◌, ◌∷◌, length};
+ghost use Rattle.std.specs.List.{prefix_len};
+ghost use Rattle.std.specs.Option.{option_map};
+ghost use Rattle.ngc_adapt.specs.Items as spec;
+ghost use Rattle.ngc_adapt.specs.Numbers.{is_blank as blank};
+
+use crate::number::{Number, begins, has_byte, is_blank, is_whole, number_of, value_length};
+use arrayvec::ArrayVec;
+
+/// The most words of a line that is read.
+pub const MOST_WORDS: usize = 64;
+
+/// What a word's letter is for.
+#[derive(Clone, Copy, PartialEq, Eq)]
+pub enum Letter {
+    /// A line number.
+    N,
+    /// A code.
+    G,
+    /// A code for the machine.
+    M,
+    /// A time, a count or a tolerance.
+    P,
+    /// A depth or a tolerance.
+    Q,
+    /// A radius.
+    R,
+    /// An offset along X.
+    I,
+    /// An offset along Y.
+    J,
+    /// An offset along Z.
+    K,
+    /// One of A, B, C, U, V, W, X, Y, Z.
+    Axis,
+    /// Any other letter.
+    Other,
+}
+
+impl Default for Letter {
+    ghost use Rattle.ngc_adapt.specs.declared.item.Letter.TheVariants as letters;
+
+    ghost is_default = { λ l. l ≡ letters.Other };
+
+    fn default() -> Letter {
+        Letter::Other
+    }
+}
+
+/// A letter and the number after it.
+#[derive(Clone, Copy, Default)]
+pub struct Word {
+    pub letter: Letter,
+    pub number: Number,
+}
+
+/// What a part of a line is.
+#[derive(Clone, Copy)]
+pub enum Item {
+    /// A blank, the slash of block delete, or a percent sign.
+    Mark,
+    /// A comment in parentheses, or one that a semicolon begins.
+    Comment,
+    Word(Word),
+    /// A value for a parameter.
+    Setting,
+    /// Bytes that can't be read.
+    Unread,
+}
+
+#[inline]
+fn upper(byte: u8) -> u8
+    ensures { result ≡ spec.upper byte }
+{
+    if byte >= b'a' && byte <= b'z' {
+        byte - 32
+    } else {
+        byte
+    }
+}
+
+// The letter that an upper case letter is.
+fn capital(byte: u8) -> Option<Letter>
+    ensures { result ≡ spec.capital byte }
+{
+    match byte {
+        b'G' => Some(Letter::G),
+        b'I' => Some(Letter::I),
+        b'J' => Some(Letter::J),
+        b'K' => Some(Letter::K),
+        b'M' => Some(Letter::M),
+        b'N' => Some(Letter::N),
+        b'P' => Some(Letter::P),
+        b'Q' => Some(Letter::Q),
+        b'R' => Some(Letter::R),
+        b'A'..=b'C' | b'U'..=b'Z' => Some(Letter::Axis),
+        b'A'..=b'Z' => Some(Letter::Other),
+        _ => None,
+    }
+}
+
+#[inline]
+fn is_letter(byte: u8) -> bool
+    ensures { result ≡ spec.is_letter byte }
+{
+    upper(byte) >= b'A' && upper(byte) <= b'Z'
+}
+
+fn is_in_comment(byte: u8) -> bool
+    ensures { result ≡ spec.is_in_comment byte }
+{
+    byte != b')'
+}
+
+#[tactic(auto, using(crate::proofs::Digits::counted))]
+fn comment_length(text: &[u8]) -> usize
+    ensures count { result ≡ prefix_len spec.is_in_comment text.now }
+    ensures within { result ≤ length text.now }
+{
+    text.iter().take_while(|b| is_in_comment(**b)).count()
+}
+
+// How many bytes a setting has after its #.
+fn setting_length(rest: &[u8]) -> usize
+    ensures value { result ≡ spec.setting_length rest.now }
+    ensures within { result ≤ length rest.now }
+{
+    let index = value_length(rest);
+    if begins(b'=', rest.split_at(index).1) {
+        index + 1 + value_length(rest.split_at(index + 1).1)
+    } else {
+        index
+    }
+}
+
+// How many bytes the first item of a line has, without the blanks after it.
+fn bare_length(line: &[u8]) -> usize
+    ensures value { result ≡ spec.bare_length line.now }
+    ensures within { result ≤ length line.now }
+    ensures some { 0 < length line.now → 0 < result }
+{
+    match line {
+        [] => 0,
+        [b'(', rest @ ..] => {
+            if comment_length(rest) < rest.len() {
+                comment_length(rest) + 2
+            } else {
+                line.len()
+            }
+        }
+        [b';', ..] => line.len(),
+        [b'#', rest @ ..] => setting_length(rest) + 1,
+        [first, rest @ ..] => {
+            if is_letter(*first) {
+                value_length(rest) + 1
+            } else {
+                1
+            }
+        }
+    }
+}
+
+#[tactic(auto, using(crate::proofs::Digits::counted))]
+fn blank_length(text: &[u8]) -> usize
+    ensures count { result ≡ prefix_len blank text.now }
+    ensures within { result ≤ length text.now }
+{
+    text.iter().take_while(|b| is_blank(**b)).count()
+}
+
+// How many bytes the first item of a line has.
+fn item_length(line: &[u8]) -> usize
+    ensures value { result ≡ spec.item_length line.now }
+    ensures within { result ≤ length line.now }
+    ensures some { 0 < length line.now → 0 < result }
+{
+    let bare = bare_length(line);
+    bare + blank_length(line.split_at(bare).1)
+}
+
+/// Returns whether block delete may take a line out.
+pub(crate) fn may_be_deleted(line: &[u8]) -> bool
+    ensures { result ≡ spec.may_be_deleted line.now }
+{
+    begins(b'/', line.split_at(blank_length(line)).1)
+}
+
+fn is_mark(byte: u8) -> bool
+    ensures { result ≡ spec.is_mark byte }
+{
+    is_blank(byte) || byte == b'/' || byte == b'%'
+}
+
+// Whether what follows an opening parenthesis is a comment.
+fn is_comment(rest: &[u8]) -> bool
+    ensures { result ≡ spec.is_comment rest.now }
+{
+    has_byte(b')', rest) && !has_byte(b'(', rest)
+}
+
+// Whether what follows a # is a setting.
+fn is_setting(rest: &[u8]) -> bool
+    ensures { result ≡ spec.is_setting rest.now }
+{
+    let index = value_length(rest);
+    begins(b'=', rest.split_at(index).1)
+        && is_whole(rest.split_at(index).0)
+        && is_whole(rest.split_at(index + 1).1)
+}
+
+fn word_item(letter: Option<Letter>, number: Option<Number>) -> Item
+    ensures { result ≡ spec.word_item letter number }
+{
+    match (letter, number) {
+        (Some(letter), Some(number)) => Item::Word(Word { letter, number }),
+        _ => Item::Unread,
+    }
+}
+
+// What an item of a line is.
+#[tactic(auto, unfolding(crate::specs::Items::item_of))]
+pub(crate) fn item_of(bytes: &[u8]) -> Item
+    ensures { result ≡ spec.item_of bytes.now }
+{
+    let [first, rest @ ..] = bytes else {
+        return Item::Unread;
+    };
+    if is_mark(*first) {
+        return Item::Mark;
+    }
+    if *first == b';' {
+        return Item::Comment;
+    }
+    if *first == b'(' {
+        return if is_comment(rest) {
+            Item::Comment
+        } else {
+            Item::Unread
+        };
+    }
+    if *first == b'#' {
+        return if is_setting(rest) {
+            Item::Setting
+        } else {
+            Item::Unread
+        };
+    }
+    word_item(capital(upper(*first)), number_of(rest))
+}
+
+// The first item of a line, and what follows it.
+#[tactic(auto, using(crate::proofs::ItemLaws::items_step))]
+pub(crate) fn split_item(line: &[u8]) -> (&[u8], &[u8])
+    requires { 0 < length line.now }
+    ensures items { spec.items_of line.now ≡ result.0.now ∷ spec.items_of result.1.now }
+    ensures shorter { length result.1.now < length line.now }
+{
+    line.split_at(item_length(line))
+}
+
+/// Reads the words of a line, if it can be read as a whole and has at most 64.
+pub fn read_words(line: &[u8]) -> Option<ArrayVec<Word, MOST_WORDS>>
+    ensures { option_map (λ words. words.items) result ≡ spec.words_of line.now }
+{
+    let mut words = ArrayVec::new();
+    let mut rest = line;
+    while !rest.is_empty() {
+        let (item, others) = split_item(rest);
+        match item_of(item) {
+            Item::Word(word) => {
+                if words.is_full() {
+                    return None;
+                }
+                words.push(word);
+            }
+            Item::Unread => return None,
+            Item::Mark => {}
+            Item::Comment => {}
+            Item::Setting => {}
+        }
+        rest = others;
+    }
+    Some(words)
+}

@@ -1,0 +1,302 @@
+ghost use Rattle.std.specs.Prelude.{◌≡◌, ◌+◌, ◌-◌, ◌*◌, ◌<◌, ◌≤◌, List, length, drop, take, min};
+ghost use Rattle.std.specs.Prelude.{Option, Some, None, IsTrue, IfNone, nat_le, not, if◌then◌else◌};
+ghost use Rattle.std.specs.Prelude.{take_while};
+ghost use Rattle.std.specs.Option.{option_map};
+ghost use Rattle.std.specs.List.{prefix_len, list_all, list_any};
+ghost use Rattle.std.specs.Char.{is_ascii_digit};
+ghost use Rattle.ngc_adapt.specs.Numbers as numbers;
+
+use arrayvec::ArrayVec;
+
+// The most characters of a number that is read. CAM programs write up to twenty.
+const LONGEST_NUMBER: usize = 32;
+
+/// What the rules ask of a number. Of a value that is computed they know nothing.
+#[derive(Clone, Copy, Default)]
+pub struct Number {
+    /// The code in tenths that it is, as 592 for `G59.2`.
+    pub code: Option<u16>,
+    /// Whether it is exactly 0.
+    pub is_zero: bool,
+    /// Whether it is a line number that our language doesn't have.
+    pub is_long: bool,
+}
+
+#[inline]
+pub(crate) fn is_blank(byte: u8) -> bool
+    ensures { result ≡ numbers.is_blank byte }
+{
+    byte == b' ' || byte == b'\t' || byte == b'\r'
+}
+
+#[inline]
+pub(crate) fn begins(byte: u8, text: &[u8]) -> bool
+    ensures first { result ≡ numbers.begins byte text.now }
+    ensures some { IsTrue result → 0 < length text.now }
+{
+    match text {
+        [first, ..] => *first == byte,
+        [] => false,
+    }
+}
+
+#[inline]
+fn has_sign(text: &[u8]) -> bool
+    ensures sign { result ≡ numbers.has_sign text.now }
+    ensures some { IsTrue result → 0 < length text.now }
+{
+    begins(b'+', text) || begins(b'-', text)
+}
+
+#[inline]
+fn unsigned(text: &[u8]) -> &[u8]
+    ensures { result.now ≡ numbers.unsigned text.now }
+{
+    if has_sign(text) { &text[1..] } else { text }
+}
+
+#[inline]
+fn without_first(text: &[u8]) -> &[u8]
+    ensures value { result.now ≡ drop 1 text.now }
+    ensures shorter { length result.now ≡ length text.now - 1 }
+{
+    match text {
+        [_, rest @ ..] => rest,
+        [] => text,
+    }
+}
+
+#[tactic(auto, using(crate::proofs::Digits::counted))]
+fn digit_count(text: &[u8]) -> usize
+    ensures count { result ≡ prefix_len is_ascii_digit text.now }
+    ensures within { result ≤ length text.now }
+{
+    text.iter().take_while(|b| b.is_ascii_digit()).count()
+}
+
+// The digits in front of the point, and what follows them.
+fn split_whole(text: &[u8]) -> (&[u8], &[u8])
+    ensures front { result.0.now ≡ numbers.whole_digits text.now }
+    ensures rest { result.1.now ≡ numbers.after_whole text.now }
+{
+    let digits = unsigned(text);
+    digits.split_at(digit_count(digits))
+}
+
+fn are_noughts(digits: &[u8]) -> bool
+    ensures { result ≡ list_all numbers.is_nought digits.now }
+{
+    digits.iter().all(|b| *b == b'0')
+}
+
+fn are_digits(text: &[u8]) -> bool
+    ensures { result ≡ list_all is_ascii_digit text.now }
+{
+    text.iter().all(|b| b.is_ascii_digit())
+}
+
+// The number that digits give, or 1000 where that is less.
+#[tactic(auto, using(crate::proofs::Digits::valued))]
+fn limited_value(digits: &[u8]) -> u16
+    ensures { result ≡ min (numbers.digits_value digits.now) 1000 }
+{
+    let mut value: u16 = 0;
+    for digit in digits {
+        value = (10 * value + u16::from(digit.saturating_sub(b'0'))).min(1000);
+    }
+    value
+}
+
+// The tenths that the first decimal gives.
+fn tenths(decimals: &[u8]) -> u16
+    ensures value { result ≡ numbers.digits_value (take 1 decimals.now) }
+    ensures few { result < 256 }
+{
+    match decimals {
+        [first, ..] => u16::from(first.saturating_sub(b'0')),
+        [] => 0,
+    }
+}
+
+// The code in tenths that a number is, if it is one.
+fn code_of(text: &[u8]) -> Option<u16>
+    ensures { result ≡ numbers.code_of text.now }
+{
+    let (whole, rest) = split_whole(text);
+    let decimals = without_first(rest);
+    let value = limited_value(whole);
+    if begins(b'-', text) || value >= 1000 || !are_noughts(without_first(decimals)) {
+        return None;
+    }
+    Some(10 * value + tenths(decimals))
+}
+
+// Whether a text is a number.
+fn is_number(text: &[u8]) -> bool
+    ensures { result ≡ numbers.is_number text.now }
+{
+    let (whole, rest) = split_whole(text);
+    let decimals = without_first(rest);
+    (rest.is_empty() || begins(b'.', rest))
+        && are_digits(decimals)
+        && (!whole.is_empty() || !decimals.is_empty())
+}
+
+// Whether a number is exactly 0.
+fn is_zero(text: &[u8]) -> bool
+    ensures { result ≡ numbers.is_zero text.now }
+{
+    let (whole, rest) = split_whole(text);
+    are_noughts(whole) && are_noughts(without_first(rest))
+}
+
+// Whether a number is a line number that our language doesn't have.
+fn is_long(text: &[u8]) -> bool
+    ensures { result ≡ numbers.is_long text.now }
+{
+    let (whole, rest) = split_whole(text);
+    !has_sign(text) && (begins(b'.', rest) || whole.len() > 5)
+}
+
+// The characters of a value, if there are at most 32.
+#[tactic(auto, using(crate::proofs::Filtered::filter_step, crate::proofs::Filtered::longer, crate::proofs::Filtered::filter_end))]
+fn without_blanks(value: &[u8]) -> Option<ArrayVec<u8, LONGEST_NUMBER>>
+    ensures { option_map (λ text. text.items) result ≡ numbers.short_text value.now }
+{
+    let mut text = ArrayVec::new();
+    for byte in value {
+        if !is_blank(*byte) {
+            if text.is_full() {
+                return None;
+            }
+            text.push(*byte);
+        }
+    }
+    Some(text)
+}
+
+#[inline]
+pub(crate) fn has_byte(byte: u8, bytes: &[u8]) -> bool
+    ensures { result ≡ numbers.has_byte byte bytes.now }
+{
+    bytes.iter().any(|b| *b == byte)
+}
+
+fn is_lead(byte: u8) -> bool
+    ensures { result ≡ numbers.is_lead byte }
+{
+    is_blank(byte) || byte == b'+' || byte == b'-' || byte == b'#'
+}
+
+// How many blanks, signs and # a value begins with.
+#[tactic(auto, using(crate::proofs::Digits::counted))]
+fn lead_length(value: &[u8]) -> usize
+    ensures count { result ≡ prefix_len numbers.is_lead value.now }
+    ensures within { result ≤ length value.now }
+{
+    value.iter().take_while(|b| is_lead(**b)).count()
+}
+
+// How many bytes a bracket has, to its end or to that of the line.
+#[tactic(auto, using(crate::proofs::BracketLaws::bracket_step, crate::proofs::BracketLaws::bracket_end))]
+fn bracket_length(text: &[u8]) -> usize
+    ensures count { result ≡ numbers.bracket_length 0 text.now }
+    ensures within { result ≤ length text.now }
+{
+    let mut depth: usize = 0;
+    for (i, byte) in text.iter().enumerate() {
+        if *byte == b']' && depth <= 1 {
+            return i + 1;
+        }
+        depth = match *byte {
+            b'[' => depth + 1,
+            b']' => depth - 1,
+            _ => depth,
+        };
+    }
+    text.len()
+}
+
+fn is_of_number(byte: u8) -> bool
+    ensures { result ≡ numbers.is_of_number byte }
+{
+    byte.is_ascii_digit() || byte == b'+' || byte == b'-' || byte == b'.' || is_blank(byte)
+}
+
+#[tactic(auto, using(crate::proofs::Digits::counted))]
+fn number_length(text: &[u8]) -> usize
+    ensures count { result ≡ prefix_len numbers.is_of_number text.now }
+    ensures within { result ≤ length text.now }
+{
+    text.iter().take_while(|b| is_of_number(**b)).count()
+}
+
+/// Returns how many bytes a value has.
+pub(crate) fn value_length(text: &[u8]) -> usize
+    ensures count { result ≡ numbers.value_length text.now }
+    ensures within { result ≤ length text.now }
+{
+    let lead = lead_length(text);
+    let rest = text.split_at(lead).1;
+    if begins(b'[', rest) {
+        lead + bracket_length(rest)
+    } else {
+        lead + number_length(rest)
+    }
+}
+
+// Whether a parameter or a bracket gives a value.
+fn is_computed(value: &[u8]) -> bool
+    ensures { result ≡ numbers.is_computed value.now }
+{
+    has_byte(b'#', value) || begins(b'[', value.split_at(lead_length(value)).1)
+}
+
+fn byte_count(byte: u8, bytes: &[u8]) -> usize
+    ensures { result ≡ numbers.byte_count byte bytes.now }
+{
+    bytes.iter().filter(|b| **b == byte).count()
+}
+
+fn has_digit(bytes: &[u8]) -> bool
+    ensures { result ≡ list_any is_ascii_digit bytes.now }
+{
+    bytes.iter().any(|b| b.is_ascii_digit())
+}
+
+/// Returns whether each bracket of a value is closed, and there is a digit.
+pub(crate) fn is_whole(value: &[u8]) -> bool
+    ensures { result ≡ numbers.is_whole value.now }
+{
+    byte_count(b'[', value) == byte_count(b']', value) && has_digit(value)
+}
+
+// What a number of at most 32 characters says.
+fn written_number(value: &[u8]) -> Option<Number>
+    ensures { result ≡ numbers.written_number value.now }
+{
+    let kept = without_blanks(value)?;
+    let text = kept.as_slice();
+    if !is_number(text) {
+        return None;
+    }
+    Some(Number {
+        code: code_of(text),
+        is_zero: is_zero(text),
+        is_long: is_long(text),
+    })
+}
+
+/// Reads a word's value: one that is computed, or a number of at most 32 characters.
+pub(crate) fn number_of(value: &[u8]) -> Option<Number>
+    ensures { result ≡ numbers.number_of value.now }
+{
+    if is_computed(value) {
+        return if is_whole(value) {
+            Some(Number::default())
+        } else {
+            None
+        };
+    }
+    written_number(value)
+}
