@@ -2,9 +2,9 @@
 use Rattle.std.proofs.Common.{List, true, false}
 use Rattle.ngc_machine.specs.Machine.{MachineFile}
 use Rattle.ngc_machine.specs.MachineRanges.{IsMachine}
-use Rattle.ngc_canonical.specs.declared.command.Command.{Command}
-use Rattle.ngc_canonical.specs.Joined.{HaveEvenRadii, EndIsLast}
-use Rattle.ngc_canonical.specs.Movement.{actions_of, ways_of, AreJoined}
+use Rattle.ngc_commands.specs.declared.command.Command.{Command}
+use Rattle.ngc_commands.specs.Sequence.{HaveEvenRadii, EndIsLast}
+use Rattle.ngc_commands.specs.Movement.{actions_of, ways_of, AreJoined}
 use Rattle.ngc_canonical.proofs.EndingLines.{ends_last}
 use Rattle.ngc_certificate_text.specs.Certificate.{Entry}
 use Rattle.ngc_certificate.specs.Valid.{IsValid}

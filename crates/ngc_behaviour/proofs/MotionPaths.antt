@@ -12,10 +12,10 @@ use Rattle.ngc_fixed_length.specs.Grid.{grid, greatest_distance}
 use Rattle.ngc_fixed_length.specs.LinePath.{point}
 use Rattle.ngc_step_kernel.specs.Line.{line_points}
 use Rattle.ngc_step_kernel.proofs.FollowsLine.{follows_step}
-use Rattle.ngc_canonical.specs.Movement.{end_of, AreJoined}
-use Rattle.ngc_canonical.specs.declared.movement.Way.{Way}
-use Rattle.ngc_canonical.specs.declared.movement.Way.TheVariants.{Line, Arc}
-use Rattle.ngc_canonical.specs.ProgramPath.{IsPathOf, IsPathOfAll}
+use Rattle.ngc_commands.specs.Movement.{end_of, AreJoined}
+use Rattle.ngc_commands.specs.declared.movement.Way.{Way}
+use Rattle.ngc_commands.specs.declared.movement.Way.TheVariants.{Line, Arc}
+use Rattle.ngc_commands.specs.ProgramPath.{IsPathOf, IsPathOfAll}
 use Rattle.ngc_behaviour.specs.State.{Job}
 use Rattle.ngc_behaviour.proofs.SafeRun.{path_ends, ends_last}
 use Rattle.ngc_behaviour.proofs.Effects.{emitted}

@@ -9,10 +9,10 @@ use Rattle.ngc_fixed_length.specs.declared.points.StepPos.{StepPos}
 use Rattle.ngc_fixed_length.specs.declared.points.Point3.{Point3}
 use Rattle.ngc_fixed_length.specs.Grid.{grid}
 use Rattle.ngc_fixed_length.specs.LinePath.{point, IsUnitMove}
-use Rattle.ngc_canonical.specs.declared.command.Command.{Command}
-use Rattle.ngc_canonical.specs.Movement.{actions_of, ways_of, end_of, AreJoined}
-use Rattle.ngc_canonical.specs.declared.command.Action.{Action}
-use Rattle.ngc_canonical.specs.declared.command.Action.TheVariants.{Move}
+use Rattle.ngc_commands.specs.declared.command.Command.{Command}
+use Rattle.ngc_commands.specs.Movement.{actions_of, ways_of, end_of, AreJoined}
+use Rattle.ngc_commands.specs.declared.command.Action.{Action}
+use Rattle.ngc_commands.specs.declared.command.Action.TheVariants.{Move}
 use Rattle.ngc_fixed_length.specs.Limits.{MILLION}
 use Rattle.ngc_planner.specs.Pulses.{is_stepping, is_path_step}
 use Rattle.ngc_events.specs.declared.event.Event.{Event}

@@ -3,8 +3,8 @@ use Rattle.std.proofs.Common.{◌≡◌, suc, ap, subst, sym, ◌∙◌, refl, i
 use Rattle.std.specs.Prelude.{Option, Bool, MatchBool, nat_lt, nat_le, if◌then◌else◌, ◌+◌, ◌-◌}
 use Rattle.ngc_fixed_length.specs.declared.points.StepPos.{StepPos}
 use Rattle.ngc_fixed_length.specs.LinePath.{point}
-use Rattle.ngc_canonical.specs.declared.command.Action.{Action}
-use Rattle.ngc_canonical.specs.declared.command.Command.{Command}
+use Rattle.ngc_commands.specs.declared.command.Action.{Action}
+use Rattle.ngc_commands.specs.declared.command.Command.{Command}
 use Rattle.ngc_events.specs.declared.event.Event.{Event}
 use Rattle.ngc_events.specs.declared.event.Event.TheVariants.{Load, Tick, Hold, Resume, Override, StopSwitch, Start}
 use Rattle.ngc_behaviour.specs.State.{Job, Queued, State, RING, loaded, command_at, path_steps, millionths}

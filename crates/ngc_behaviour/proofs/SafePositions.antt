@@ -7,9 +7,9 @@ use Rattle.ngc_fixed_length.specs.Boxes.{only}
 use Rattle.ngc_fixed_length.specs.declared.points.Point3.{Point3}
 use Rattle.ngc_fixed_length.specs.Grid.{grid}
 use Rattle.ngc_fixed_length.specs.Rounding.{nearest, nearest_size}
-use Rattle.ngc_canonical.specs.declared.command.Command.{Command}
-use Rattle.ngc_canonical.specs.Joined.{HaveEvenRadii}
-use Rattle.ngc_canonical.specs.Movement.{actions_of, ways_of, AreJoined}
+use Rattle.ngc_commands.specs.declared.command.Command.{Command}
+use Rattle.ngc_commands.specs.Sequence.{HaveEvenRadii}
+use Rattle.ngc_commands.specs.Movement.{actions_of, ways_of, AreJoined}
 use Rattle.ngc_machine.specs.Machine.{MachineFile}
 use Rattle.ngc_machine.specs.MachineRanges.{IsMachine}
 use Rattle.ngc_machine.specs.Ranges.{IsAtMost}

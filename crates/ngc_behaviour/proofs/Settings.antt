@@ -1,11 +1,11 @@
 -- What the checker's yes says of the commands of a setting.
 use Rattle.std.proofs.Common.{◌≡◌, List, subst, sym, ◌∙◌}
 use Rattle.std.specs.Prelude.{None, Bool, true, false, Result, Ok}
-use Rattle.ngc_canonical.specs.declared.command.Command.{Command}
+use Rattle.ngc_commands.specs.declared.command.Command.{Command}
 use Rattle.ngc_canonical.specs.declared.fault.ProgramFault.{ProgramFault}
-use Rattle.ngc_canonical.specs.Joined.{HaveEvenRadii}
+use Rattle.ngc_commands.specs.Sequence.{HaveEvenRadii}
 use Rattle.ngc_canonical.specs.Meaning.{Program, meaning}
-use Rattle.ngc_canonical.specs.Movement.{actions_of, ways_of, AreJoined}
+use Rattle.ngc_commands.specs.Movement.{actions_of, ways_of, AreJoined}
 use Rattle.ngc_canonical.specs.State.{Setup}
 use Rattle.ngc_canonical.proofs.JoinedLines.{are_joined, are_even}
 use Rattle.ngc_certificate_text.specs.Certificate.{Entry, CertificateData}

@@ -10,11 +10,11 @@ use Rattle.ngc_fixed_length.specs.declared.points.Point3.{Point3}
 use Rattle.ngc_fixed_length.specs.Grid.{grid, distance, greatest_distance}
 use Rattle.ngc_fixed_length.specs.LinePath.{point, FollowsLine, IsLineOf}
 use Rattle.ngc_fixed_length.specs.Places.{height}
-use Rattle.ngc_canonical.specs.declared.movement.Way.{Way}
-use Rattle.ngc_canonical.specs.declared.movement.Way.TheVariants.{Line, Arc}
-use Rattle.ngc_canonical.specs.declared.command.Action.{Action}
-use Rattle.ngc_canonical.specs.declared.command.Action.TheVariants.{Move}
-use Rattle.ngc_canonical.specs.ProgramPath.{IsPathOf}
+use Rattle.ngc_commands.specs.declared.movement.Way.{Way}
+use Rattle.ngc_commands.specs.declared.movement.Way.TheVariants.{Line, Arc}
+use Rattle.ngc_commands.specs.declared.command.Action.{Action}
+use Rattle.ngc_commands.specs.declared.command.Action.TheVariants.{Move}
+use Rattle.ngc_commands.specs.ProgramPath.{IsPathOf}
 use Rattle.ngc_planner.specs.declared.axes.Axes.{Axes}
 use Rattle.ngc_planner.specs.Axes.{differing, with_plane, axes_of}
 use Rattle.ngc_behaviour.specs.State.{Job}

@@ -11,14 +11,14 @@ use Rattle.ngc_fixed_length.specs.Grid.{grid}
 use Rattle.ngc_fixed_length.specs.LinePath.{point}
 use Rattle.ngc_machine.specs.Machine.{MachineFile}
 use Rattle.ngc_machine.specs.MachineRanges.{IsMachine}
-use Rattle.ngc_canonical.specs.declared.command.Command.{Command}
-use Rattle.ngc_canonical.specs.Movement.{actions_of, ways_of, start_of, end_of, AreJoined}
-use Rattle.ngc_canonical.specs.declared.movement.Way.{Way}
-use Rattle.ngc_canonical.specs.declared.command.Action.{Action}
-use Rattle.ngc_canonical.specs.declared.command.Action.TheVariants.{Move}
-use Rattle.ngc_canonical.specs.declared.command.Action.TheVariants as actions
-use Rattle.ngc_canonical.specs.Joined.{IsLastIfEnd, EndIsLast}
-use Rattle.ngc_canonical.specs.ProgramPath.{IsPathOf, IsPathOfAll}
+use Rattle.ngc_commands.specs.declared.command.Command.{Command}
+use Rattle.ngc_commands.specs.Movement.{actions_of, ways_of, start_of, end_of, AreJoined}
+use Rattle.ngc_commands.specs.declared.movement.Way.{Way}
+use Rattle.ngc_commands.specs.declared.command.Action.{Action}
+use Rattle.ngc_commands.specs.declared.command.Action.TheVariants.{Move}
+use Rattle.ngc_commands.specs.declared.command.Action.TheVariants as actions
+use Rattle.ngc_commands.specs.Sequence.{IsLastIfEnd, EndIsLast}
+use Rattle.ngc_commands.specs.ProgramPath.{IsPathOf, IsPathOfAll}
 use Rattle.ngc_fixed_length.specs.Limits.{MILLION}
 use Rattle.ngc_events.specs.declared.event.Event.{Event}
 use Rattle.ngc_events.specs.declared.reply.Ending.TheVariants.{End}

@@ -2,9 +2,9 @@
 -- on. Our own.
 use Rattle.std.specs.Prelude.{ℕ, zero, suc, ◌-◌, nat_lt, List, [], ◌∷◌, Option, None, Bool, false}
 use Rattle.std.specs.Prelude.{not, ◌&&◌, if◌then◌else◌}
-use Rattle.ngc_canonical.specs.declared.command.Action.{Action}
-use Rattle.ngc_canonical.specs.declared.command.Action.TheVariants.{Move}
-use Rattle.ngc_canonical.specs.declared.command.Command.{Command}
+use Rattle.ngc_commands.specs.declared.command.Action.{Action}
+use Rattle.ngc_commands.specs.declared.command.Action.TheVariants.{Move}
+use Rattle.ngc_commands.specs.declared.command.Command.{Command}
 use Rattle.ngc_planner.specs.declared.leg.Leg.{Leg}
 use Rattle.ngc_planner.specs.Bounds.{bound_of}
 use Rattle.ngc_planner.specs.Joints.{joint_before, joint_after}

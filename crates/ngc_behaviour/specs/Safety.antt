@@ -3,8 +3,8 @@ use Rattle.std.specs.Prelude.{◌≡◌, ℕ, ◌≤◌, List, [], ◌∷◌, �
 use Rattle.ngc_fixed_length.specs.declared.points.StepPos.{StepPos}
 use Rattle.ngc_fixed_length.specs.Grid.{grid}
 use Rattle.ngc_machine.specs.Machine.{MachineFile}
-use Rattle.ngc_canonical.specs.Movement.{actions_of, ways_of}
-use Rattle.ngc_canonical.specs.ProgramPath.{IsPathOfAll}
+use Rattle.ngc_commands.specs.Movement.{actions_of, ways_of}
+use Rattle.ngc_commands.specs.ProgramPath.{IsPathOfAll}
 use Rattle.ngc_collision.specs.Body.{IsSafe}
 use Rattle.ngc_planner.specs.Pulses.{KeepsPulseRules}
 use Rattle.ngc_events.specs.declared.event.Event.{Event}

@@ -6,12 +6,13 @@ use Rattle.ngc_line_reader.specs.Grammar.{Item, Reading}
 use Rattle.ngc_line_reader.specs.declared.letter.Letter.{Letter}
 use Rattle.ngc_machine.specs.Machine.{MachineFile}
 use Rattle.ngc_parameters.specs.Stored.{line_values}
-use Rattle.ngc_canonical.specs.declared.command.Action.TheVariants.{End}
-use Rattle.ngc_canonical.specs.declared.command.Command.{Command}
+use Rattle.ngc_commands.specs.declared.command.Action.TheVariants.{End}
+use Rattle.ngc_commands.specs.declared.command.Command.{Command}
 use Rattle.ngc_canonical.specs.declared.fault.Fault.{Fault}
 use Rattle.ngc_canonical.specs.declared.fault.Fault.TheVariants.{Value}
 use Rattle.ngc_canonical.specs.declared.fault.ProgramFault.{ProgramFault}
-use Rattle.ngc_canonical.specs.Joined.{EndIsLast, HasEnd, EndsLast, HaveEnd}
+use Rattle.ngc_canonical.specs.Joined.{EndsLast, HaveEnd}
+use Rattle.ngc_commands.specs.Sequence.{EndIsLast, HasEnd}
 use Rattle.ngc_canonical.specs.Meaning.{NumberedLine, Program, effects_of, with_settings, execute, execute_words, at_line, remaining, after_line, commands_of, past_last}
 use Rattle.ngc_canonical.specs.Meaning.{go_on, then_lines, from_state, meaning, GivesMeaning}
 use Rattle.ngc_canonical.specs.State.{Setup, State, start_state, emit}

@@ -33,14 +33,14 @@ use Rattle.ngc_modal_state.specs.declared.effect.CycleWords.{CycleWords}
 use Rattle.ngc_modal_state.specs.declared.effect.Effect.{Effect}
 use Rattle.ngc_modal_state.specs.declared.effect.Effect.TheVariants as acts
 use Rattle.ngc_modal_state.specs.declared.effect.Home.{Home}
-use Rattle.ngc_canonical.specs.declared.command.Action.TheVariants as actions
-use Rattle.ngc_canonical.specs.declared.command.SpindleState.TheVariants as turning
+use Rattle.ngc_commands.specs.declared.command.Action.TheVariants as actions
+use Rattle.ngc_commands.specs.declared.command.SpindleState.TheVariants as turning
 use Rattle.ngc_canonical.specs.declared.fault.Fault.{Fault}
 use Rattle.ngc_canonical.specs.declared.fault.Fault.TheVariants as faults
-use Rattle.ngc_canonical.specs.declared.movement.Feed.{Feed}
-use Rattle.ngc_canonical.specs.declared.movement.Feed.TheVariants.{PerMinute}
-use Rattle.ngc_canonical.specs.declared.movement.Pace.TheVariants as paces
-use Rattle.ngc_canonical.specs.declared.movement.Way.TheVariants as ways
+use Rattle.ngc_commands.specs.declared.movement.Feed.{Feed}
+use Rattle.ngc_commands.specs.declared.movement.Feed.TheVariants.{PerMinute}
+use Rattle.ngc_commands.specs.declared.movement.Pace.TheVariants as paces
+use Rattle.ngc_commands.specs.declared.movement.Way.TheVariants as ways
 use Rattle.ngc_canonical.specs.Steps.{faulted, refuse_if}
 use Rattle.ngc_canonical.specs.State.{Setup, State, emit, go, traverse_to, unseries}
 use Rattle.ngc_canonical.specs.Spindle.{spindle_state, tell_speed, turn_of, mount, mount_found, change_tool, with_coolant}

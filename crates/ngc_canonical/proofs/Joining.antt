@@ -5,17 +5,18 @@ use Rattle.std.specs.Prelude.{IfOk, nat_lt, if◌then◌else◌}
 use Rattle.std.proofs.lemmas.Bool.Decides.{nat_tests}
 use Rattle.std.proofs.lemmas.List.{map-append}
 use Rattle.ngc_fixed_length.specs.declared.points.Point3.{Point3}
-use Rattle.ngc_canonical.specs.declared.command.Action.{Action}
-use Rattle.ngc_canonical.specs.declared.command.Action.TheVariants.{Move}
-use Rattle.ngc_canonical.specs.declared.command.Command.{Command}
+use Rattle.ngc_commands.specs.declared.command.Action.{Action}
+use Rattle.ngc_commands.specs.declared.command.Action.TheVariants.{Move}
+use Rattle.ngc_commands.specs.declared.command.Command.{Command}
 use Rattle.ngc_canonical.specs.declared.fault.Fault.{Fault}
 use Rattle.ngc_canonical.specs.declared.fault.Fault.TheVariants.{TooManyCommands}
-use Rattle.ngc_canonical.specs.declared.movement.Pace.{Pace}
-use Rattle.ngc_canonical.specs.declared.movement.Way.{Way}
-use Rattle.ngc_canonical.specs.Joined.{IsEvenIfArc, HaveEvenRadii}
-use Rattle.ngc_canonical.specs.Movement.{start_of, end_of, actions_of, ways_of, AreJoined}
+use Rattle.ngc_commands.specs.declared.movement.Pace.{Pace}
+use Rattle.ngc_commands.specs.declared.movement.Way.{Way}
+use Rattle.ngc_commands.specs.Sequence.{IsEvenIfArc, HaveEvenRadii}
+use Rattle.ngc_commands.specs.Movement.{start_of, end_of, actions_of, ways_of, AreJoined}
 use Rattle.ngc_canonical.specs.Steps.{◌>>=◌}
-use Rattle.ngc_canonical.specs.State.{State, COMMAND_LIMIT, with_command, emit, at_place, motion_in, go}
+use Rattle.ngc_canonical.specs.State.{State, with_command, emit, at_place, motion_in, go}
+use Rattle.ngc_commands.specs.Sequence.{COMMAND_LIMIT}
 
 -- where ways lead to that begin at p
 abbrev pub led_to : Point3 → List Way → Point3

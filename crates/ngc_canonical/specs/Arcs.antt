@@ -12,8 +12,8 @@ use Rattle.ngc_arc_geometry.specs.declared.fault.ArcFault.TheVariants.{NoAxisWor
 use Rattle.ngc_arc_geometry.specs.declared.given.Ends.{Ends}
 use Rattle.ngc_canonical.specs.declared.fault.Fault.{Fault}
 use Rattle.ngc_canonical.specs.declared.fault.Fault.TheVariants as faults
-use Rattle.ngc_canonical.specs.declared.movement.Pace.TheVariants as paces
-use Rattle.ngc_canonical.specs.declared.movement.Way.TheVariants as ways
+use Rattle.ngc_commands.specs.declared.movement.Pace.TheVariants as paces
+use Rattle.ngc_commands.specs.declared.movement.Way.TheVariants as ways
 use Rattle.ngc_canonical.specs.Steps.{◌>>=◌, faulted, refuse_if}
 use Rattle.ngc_canonical.specs.State.{State, go}
 use Rattle.ngc_canonical.specs.Places.{word_length, end_of}

@@ -25,13 +25,13 @@ use Rattle.ngc_canned_cycles.specs.Heights.{repeats_of}
 use Rattle.ngc_canned_cycles.specs.Holes.{counting}
 use Rattle.ngc_canned_cycles.specs.Moves.{repeat_moves}
 use Rattle.ngc_canned_cycles.specs.Refusals.{check, is_in_range}
-use Rattle.ngc_canonical.specs.declared.command.Action.TheVariants as actions
-use Rattle.ngc_canonical.specs.declared.command.SpindleState.TheVariants.{Off}
+use Rattle.ngc_commands.specs.declared.command.Action.TheVariants as actions
+use Rattle.ngc_commands.specs.declared.command.SpindleState.TheVariants.{Off}
 use Rattle.ngc_canonical.specs.declared.fault.Fault.{Fault}
 use Rattle.ngc_canonical.specs.declared.fault.Fault.TheVariants as faults
-use Rattle.ngc_canonical.specs.declared.movement.Feed.TheVariants.{PerMinute}
-use Rattle.ngc_canonical.specs.declared.movement.Pace.TheVariants as paces
-use Rattle.ngc_canonical.specs.declared.movement.Way.TheVariants.{Line}
+use Rattle.ngc_commands.specs.declared.movement.Feed.TheVariants.{PerMinute}
+use Rattle.ngc_commands.specs.declared.movement.Pace.TheVariants as paces
+use Rattle.ngc_commands.specs.declared.movement.Way.TheVariants.{Line}
 use Rattle.ngc_canonical.specs.declared.state.Kept.{Kept}
 use Rattle.ngc_canonical.specs.Steps.{◌>>=◌, faulted, refuse_if}
 use Rattle.ngc_canonical.specs.State.{State, emit, go, traverse_to}

@@ -1,14 +1,10 @@
 -- What holds of the commands of every program. Our own.
-use Rattle.std.specs.Prelude.{◌≡◌, ◌≤◌, List, [], ◌∷◌, ◌++◌, length, Ok, Bool, true, false}
-use Rattle.ngc_arc_geometry.specs.Radii.{HasEvenRadii}
-use Rattle.ngc_canonical.specs.declared.command.Action.{Action}
-use Rattle.ngc_canonical.specs.declared.command.Action.TheVariants.{End}
-use Rattle.ngc_canonical.specs.declared.command.Command.{Command}
-use Rattle.ngc_canonical.specs.declared.movement.Way.{Way}
-use Rattle.ngc_canonical.specs.declared.movement.Way.TheVariants.{Line, Arc}
+use Rattle.std.specs.Prelude.{◌≡◌, ◌≤◌, List, length, Ok, Bool, true, false}
+use Rattle.ngc_commands.specs.declared.command.Command.{Command}
 use Rattle.ngc_canonical.specs.Meaning.{Program, meaning, has_deleted}
-use Rattle.ngc_canonical.specs.Movement.{actions_of, ways_of, AreJoined}
-use Rattle.ngc_canonical.specs.State.{Setup, COMMAND_LIMIT}
+use Rattle.ngc_commands.specs.Movement.{actions_of, ways_of, AreJoined}
+use Rattle.ngc_canonical.specs.State.{Setup}
+use Rattle.ngc_commands.specs.Sequence.{COMMAND_LIMIT, EndIsLast, HasEnd, HaveEvenRadii}
 
 -- the first motion begins at the machine's start point, and each further one where the motion
 -- before it ends
@@ -17,17 +13,7 @@ Joined = (program : Program) (setup : Setup) (block_delete : Bool) (commands : L
     meaning program setup block_delete ≡ Ok commands
     → AreJoined setup.machine.start (ways_of (actions_of commands))
 
--- an arc has some radius, at most a little over two metres, and the same at both ends but for a few
--- micrometres
-abbrev pub IsEvenIfArc : Way → Type 0
-IsEvenIfArc (Line start end) = Unit {0}
-IsEvenIfArc (Arc arc) = HasEvenRadii arc
-
-abbrev pub HaveEvenRadii : List Way → Type 0
-HaveEvenRadii [] = Unit {0}
-HaveEvenRadii (w ∷ ws) = IsEvenIfArc w × HaveEvenRadii ws
-
--- so has each arc of every program
+-- each arc has even radii
 abbrev pub ArcsHaveEvenRadii : Type 0
 ArcsHaveEvenRadii = (program : Program) (setup : Setup) (block_delete : Bool)
     (commands : List Command) → meaning program setup block_delete ≡ Ok commands
@@ -39,23 +25,7 @@ FewCommands = (program : Program) (setup : Setup) (block_delete : Bool) (command
     meaning program setup block_delete ≡ Ok commands
     → length commands ≤ COMMAND_LIMIT
 
--- nothing comes after the end
-abbrev pub IsLastIfEnd : Action → List Command → Type 0
-IsLastIfEnd End later = later ≡ []
-IsLastIfEnd _ later = Unit {0}
-
-abbrev pub EndIsLast : List Command → Type 0
-EndIsLast [] = Unit {0}
-EndIsLast (c ∷ cs) = IsLastIfEnd c.action cs × EndIsLast cs
-
--- the last command is the end
-pub record HasEnd (commands : List Command) : Type 0 where
-  pub before : List Command
-  pub last : Command
-  pub are : commands ≡ before ++ last ∷ []
-  pub is_end : last.action ≡ End
-
--- both of every program
+-- nothing comes after the end, and there is one
 abbrev pub EndsLast : Type 0
 EndsLast = (program : Program) (setup : Setup) (block_delete : Bool) (commands : List Command) →
     meaning program setup block_delete ≡ Ok commands

@@ -1,5 +1,3 @@
-pub mod Movement
-pub mod ProgramPath
 pub mod Faults
 pub mod Steps
 pub mod State

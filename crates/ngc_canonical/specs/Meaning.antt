@@ -8,8 +8,8 @@ use Rattle.ngc_line_reader.specs.ProgramText.{ProgramText}
 use Rattle.ngc_line_reader.specs.declared.letter.Letter.{Letter}
 use Rattle.ngc_parameters.specs.Meaning.{after_settings}
 use Rattle.ngc_parameters.specs.Stored.{line_values}
-use Rattle.ngc_canonical.specs.declared.command.Action.TheVariants.{End}
-use Rattle.ngc_canonical.specs.declared.command.Command.{Command}
+use Rattle.ngc_commands.specs.declared.command.Action.TheVariants.{End}
+use Rattle.ngc_commands.specs.declared.command.Command.{Command}
 use Rattle.ngc_modal_state.specs.declared.effect.Effect.{Effect}
 use Rattle.ngc_modal_state.specs.declared.modes.Modes.{Modes}
 use Rattle.ngc_canonical.specs.declared.fault.Fault.{Fault}

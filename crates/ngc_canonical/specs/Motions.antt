@@ -7,10 +7,10 @@ use Rattle.ngc_fixed_length.specs.declared.modes.FeedMode.TheVariants.{PerMinute
 use Rattle.ngc_modal_state.specs.declared.block.AxisWords.{AxisWords}
 use Rattle.ngc_canonical.specs.declared.fault.Fault.{Fault}
 use Rattle.ngc_canonical.specs.declared.fault.Fault.TheVariants.{FeedZero}
-use Rattle.ngc_canonical.specs.declared.movement.Feed.{Feed}
-use Rattle.ngc_canonical.specs.declared.movement.Feed.TheVariants as feeds
-use Rattle.ngc_canonical.specs.declared.movement.Pace.TheVariants as paces
-use Rattle.ngc_canonical.specs.declared.movement.Way.TheVariants.{Line}
+use Rattle.ngc_commands.specs.declared.movement.Feed.{Feed}
+use Rattle.ngc_commands.specs.declared.movement.Feed.TheVariants as feeds
+use Rattle.ngc_commands.specs.declared.movement.Pace.TheVariants as paces
+use Rattle.ngc_commands.specs.declared.movement.Way.TheVariants.{Line}
 use Rattle.ngc_canonical.specs.Steps.{◌>>=◌}
 use Rattle.ngc_canonical.specs.State.{State, go, traverse_to}
 use Rattle.ngc_canonical.specs.Places.{end_of}

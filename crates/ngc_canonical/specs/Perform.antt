@@ -9,7 +9,7 @@ use Rattle.ngc_modal_state.specs.declared.modes.Modes.{Modes}
 use Rattle.ngc_modal_state.specs.declared.effect.Effect.{Effect}
 use Rattle.ngc_modal_state.specs.declared.effect.Effect.TheVariants as acts
 use Rattle.ngc_offsets.specs.Frames as frame
-use Rattle.ngc_canonical.specs.declared.command.Action.TheVariants as actions
+use Rattle.ngc_commands.specs.declared.command.Action.TheVariants as actions
 use Rattle.ngc_canonical.specs.declared.fault.Fault.{Fault}
 use Rattle.ngc_canonical.specs.Steps.{◌>>=◌}
 use Rattle.ngc_canonical.specs.State.{Setup, State, emit, unseries}

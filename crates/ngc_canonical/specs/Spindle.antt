@@ -9,11 +9,11 @@ use Rattle.ngc_modal_state.specs.declared.code.Coolant.TheVariants as coolant
 use Rattle.ngc_modal_state.specs.declared.code.Spindle.{Spindle}
 use Rattle.ngc_modal_state.specs.declared.code.Spindle.TheVariants as spindle
 use Rattle.ngc_offsets.specs.declared.fault.FrameFault.TheVariants.{NoSuchTool}
-use Rattle.ngc_canonical.specs.declared.command.Action.TheVariants as actions
-use Rattle.ngc_canonical.specs.declared.command.CoolantState.{CoolantState}
-use Rattle.ngc_canonical.specs.declared.command.CoolantState.TheVariants.{Off, Mist, Flood, Both}
-use Rattle.ngc_canonical.specs.declared.command.SpindleState.{SpindleState}
-use Rattle.ngc_canonical.specs.declared.command.SpindleState.TheVariants as turning
+use Rattle.ngc_commands.specs.declared.command.Action.TheVariants as actions
+use Rattle.ngc_commands.specs.declared.command.CoolantState.{CoolantState}
+use Rattle.ngc_commands.specs.declared.command.CoolantState.TheVariants.{Off, Mist, Flood, Both}
+use Rattle.ngc_commands.specs.declared.command.SpindleState.{SpindleState}
+use Rattle.ngc_commands.specs.declared.command.SpindleState.TheVariants as turning
 use Rattle.ngc_canonical.specs.declared.fault.Fault.{Fault}
 use Rattle.ngc_canonical.specs.declared.fault.Fault.TheVariants.{Frame}
 use Rattle.ngc_canonical.specs.State.{State, emit}

@@ -12,20 +12,21 @@ use Rattle.ngc_modal_state.specs.Start.{start_modes}
 use Rattle.ngc_offsets.specs.Offsets.{Offsets}
 use Rattle.ngc_offsets.specs.Frames.{start_frames}
 use Rattle.ngc_parameters.specs.Meaning.{Parameters}
-use Rattle.ngc_canonical.specs.declared.command.Action.{Action}
-use Rattle.ngc_canonical.specs.declared.command.Action.TheVariants.{Move}
-use Rattle.ngc_canonical.specs.declared.command.Command.{Command}
-use Rattle.ngc_canonical.specs.declared.command.CoolantState.{CoolantState}
-use Rattle.ngc_canonical.specs.declared.command.CoolantState.TheVariants.{Off}
+use Rattle.ngc_commands.specs.declared.command.Action.{Action}
+use Rattle.ngc_commands.specs.declared.command.Action.TheVariants.{Move}
+use Rattle.ngc_commands.specs.declared.command.Command.{Command}
+use Rattle.ngc_commands.specs.declared.command.CoolantState.{CoolantState}
+use Rattle.ngc_commands.specs.declared.command.CoolantState.TheVariants.{Off}
 use Rattle.ngc_canonical.specs.declared.fault.Fault.{Fault}
-use Rattle.ngc_canonical.specs.declared.movement.Motion.{Motion}
-use Rattle.ngc_canonical.specs.declared.movement.Pace.{Pace}
-use Rattle.ngc_canonical.specs.declared.movement.Pace.TheVariants.{Rapid}
-use Rattle.ngc_canonical.specs.declared.movement.Way.{Way}
-use Rattle.ngc_canonical.specs.declared.movement.Way.TheVariants.{Line}
+use Rattle.ngc_commands.specs.declared.movement.Motion.{Motion}
+use Rattle.ngc_commands.specs.declared.movement.Pace.{Pace}
+use Rattle.ngc_commands.specs.declared.movement.Pace.TheVariants.{Rapid}
+use Rattle.ngc_commands.specs.declared.movement.Way.{Way}
+use Rattle.ngc_commands.specs.declared.movement.Way.TheVariants.{Line}
 use Rattle.ngc_canonical.specs.declared.state.Kept.{Kept}
 use Rattle.ngc_canonical.specs.declared.fault.Fault.TheVariants.{TooManyCommands}
-use Rattle.ngc_canonical.specs.Movement.{end_of}
+use Rattle.ngc_commands.specs.Movement.{end_of}
+use Rattle.ngc_commands.specs.Sequence.{COMMAND_LIMIT}
 use Rattle.ngc_canonical.specs.Steps.{◌>>=◌}
 
 -- the machine and its tools
@@ -76,10 +77,6 @@ start_state machine = record {
   commands = [];
   ended = false;
 }
-
--- a program has at most a million commands
-abbrev pub COMMAND_LIMIT : ℕ
-COMMAND_LIMIT = 1000000
 
 -- one command more, of the line that is executed
 abbrev pub with_command : Action → State → State

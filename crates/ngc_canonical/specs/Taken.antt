@@ -2,7 +2,6 @@
 use Rattle.std.specs.Prelude.{Bool, Result}
 use Rattle.ngc_line_reader.specs.Grammar.{Reading, Reads}
 use Rattle.ngc_line_reader.specs.Program.{Line}
-use Rattle.ngc_canonical.specs.declared.fault.Fault.{Fault}
 use Rattle.ngc_canonical.specs.declared.fault.ProgramFault.{ProgramFault}
 use Rattle.ngc_canonical.specs.declared.state.Refusal.{Refusal}
 use Rattle.ngc_canonical.specs.Interpreter.{Becomes, BecomesAt}

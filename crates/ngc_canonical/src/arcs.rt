@@ -10,10 +10,10 @@ ghost use Rattle.ngc_canonical.specs.Arcs.{arc_of as arc_said, arc as arc_done};
 
 use crate::fault::Fault;
 use crate::motions::feed_in;
-use crate::movement::{Pace, Way};
 use crate::places::word_length;
 use crate::state::{Interpreter, Refusal};
 use ngc_arc_geometry::{Arc, ArcFault, Ends, Offsets};
+use ngc_commands::{Pace, Way};
 use ngc_fixed_length::{Nm, Plane, Turn, Value};
 use ngc_modal_state::{ArcWords, AxisWords};
 use std::alloc::Allocator;

@@ -17,13 +17,12 @@ ghost use Rattle.ngc_canonical.specs.Cycles.{make_move as move_made, make_moves 
 ghost use Rattle.ngc_canonical.specs.Cycles.{all_moves, refusal as refused, cycle as cycle_done};
 ghost use Rattle.ngc_modal_state.specs.Use.{depth_word as word_on_depth};
 
-use crate::command::{Action, SpindleState};
 use crate::fault::Fault;
-use crate::movement::{Feed, Pace, Way};
 use crate::places::word_length;
 use crate::spindle::spindle_state;
 use crate::state::{Interpreter, Kept, Refusal};
 use ngc_canned_cycles::{Cycle, CycleFault, CycleMove, Hole, Start, fill};
+use ngc_commands::{Action, Feed, Pace, SpindleState, Way};
 use ngc_fixed_length::{Nm, Plane, Point3, Value};
 use ngc_modal_state::{AxisWords, CycleCode, CycleWords};
 use ngc_offsets::FrameFault;

@@ -5,12 +5,11 @@ ghost use Rattle.ngc_offsets.specs.Ranges.{IsMachinePlace};
 ghost use Rattle.ngc_canonical.specs.State.{emit as emitted, go as gone, start_state};
 ghost use Rattle.ngc_canonical.specs.State.{traverse_to as traversed_to};
 ghost use Rattle.ngc_canonical.specs.Interpreter.{state_of, Becomes};
-ghost use Rattle.ngc_canonical.specs.Movement.{end_of};
+ghost use Rattle.ngc_commands.specs.Movement.{end_of};
 
-use crate::command::{Action, Command, CoolantState};
 use crate::fault::Fault;
-use crate::movement::{Motion, Pace, Way};
 use crate::state::{Interpreter, Kept, Refusal};
+use ngc_commands::{Action, Command, CoolantState, Motion, Pace, Way};
 use ngc_fixed_length::{Nm, Point3, Value};
 use ngc_machine::Machine;
 use ngc_modal_state::{Modes, PathControl};

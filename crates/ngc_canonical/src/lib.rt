@@ -2,23 +2,20 @@
 #![tactic(auto)]
 
 mod arcs;
-mod command;
 mod cycles;
 mod deleted;
 mod fault;
 mod interpreter;
 pub mod laws;
 mod motions;
-mod movement;
 mod perform;
 mod places;
 mod program;
 mod spindle;
 mod state;
 
-pub use command::{Action, Command, CoolantState, SpindleState};
 pub use deleted::has_deleted_lines;
 pub use fault::{Fault, ProgramFault};
-pub use movement::{Feed, Motion, Pace, Way};
+pub use ngc_commands::{Action, Command, CoolantState, Feed, Motion, Pace, SpindleState, Way};
 pub use ngc_machine::{FileFault, Fixture, Machine, Tool, Tools, built_in_machine};
 pub use program::interpret;

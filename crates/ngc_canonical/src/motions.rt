@@ -4,11 +4,11 @@ ghost use Rattle.ngc_canonical.specs.Interpreter.{state_of, Becomes};
 ghost use Rattle.ngc_canonical.specs.Motions.{traverse as traversed, nonzero as nonzero_feed};
 ghost use Rattle.ngc_canonical.specs.Motions.{inverse_feed as inverse, feed_in as feed_by};
 ghost use Rattle.ngc_canonical.specs.Motions.{straight as moved_straight};
-ghost use Rattle.ngc_canonical.specs.declared.movement.Feed.TheVariants as feeds;
+ghost use Rattle.ngc_commands.specs.declared.movement.Feed.TheVariants as feeds;
 
 use crate::fault::Fault;
-use crate::movement::{Feed, Pace, Way};
 use crate::state::{Interpreter, Refusal};
+use ngc_commands::{Feed, Pace, Way};
 use ngc_fixed_length::{FeedMode, Value};
 use ngc_modal_state::AxisWords;
 use std::alloc::Allocator;

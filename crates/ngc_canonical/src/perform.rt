@@ -4,8 +4,8 @@ ghost use Rattle.ngc_canonical.specs.Interpreter.{setup_of, state_of, Becomes};
 ghost use Rattle.ngc_canonical.specs.Perform.{with_motion, stop as stopped, perform as performed};
 ghost use Rattle.ngc_canonical.specs.Perform.{run as run_through};
 
-use crate::command::Action;
 use crate::state::{Interpreter, Refusal};
+use ngc_commands::Action;
 use ngc_machine::{Machine, Tools};
 use ngc_modal_state::{Effect, MotionMode, Stopping};
 use std::alloc::Allocator;

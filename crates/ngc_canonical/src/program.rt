@@ -16,13 +16,13 @@ ghost use Rattle.ngc_canonical.specs.Meaning.{GivesMeaning, GivesEffects, meanin
 ghost use Rattle.ngc_canonical.specs.Meaning.{mark_of as marked_at};
 ghost use Rattle.ngc_canonical.specs.Interpreter.{setup_of, state_of, Becomes};
 ghost use Rattle.ngc_canonical.specs.Taken.{IsExecuted, IsTaken};
-ghost use Rattle.ngc_canonical.specs.Movement.{actions_of, ways_of, AreJoined};
-ghost use Rattle.ngc_canonical.specs.Joined.{HaveEvenRadii, EndIsLast, HasEnd};
+ghost use Rattle.ngc_commands.specs.Movement.{actions_of, ways_of, AreJoined};
+ghost use Rattle.ngc_commands.specs.Sequence.{HaveEvenRadii, EndIsLast, HasEnd};
 
-use crate::command::{Action, Command};
 use crate::fault::{Fault, ProgramFault};
 use crate::state::{Interpreter, Refusal};
 use arrayvec::ArrayVec;
+use ngc_commands::{Action, Command};
 use ngc_line_reader::{Line, LineView, Program, Word};
 use ngc_machine::{Machine, Tools};
 use ngc_modal_state::{Block, Effect};

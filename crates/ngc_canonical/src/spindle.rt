@@ -8,9 +8,9 @@ ghost use Rattle.ngc_canonical.specs.Spindle.{mount as mounted, change_tool as t
 ghost use Rattle.ngc_canonical.specs.Spindle.{with_coolant as coolant_with};
 ghost use Rattle.ngc_canonical.specs.Spindle.{set_coolant as coolant_set};
 
-use crate::command::{Action, CoolantState, SpindleState};
 use crate::fault::Fault;
 use crate::state::{Interpreter, Refusal};
+use ngc_commands::{Action, CoolantState, SpindleState};
 use ngc_fixed_length::{Turn, Value};
 use ngc_machine::{Tool, Tools};
 use ngc_modal_state::{Coolant, Spindle};

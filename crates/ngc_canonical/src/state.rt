@@ -3,8 +3,8 @@ ghost use Rattle.std.proofs.Props.{props};
 ghost use Rattle.std.specs.Prelude.{◌≤◌, unsigned_abs, IfSome};
 ghost use Rattle.ngc_offsets.specs.Ranges.{MACHINE_LIMIT, IsMachinePlace};
 
-use crate::command::{Command, CoolantState};
 use crate::fault::Fault;
+use ngc_commands::{Command, CoolantState};
 use ngc_fixed_length::{Nm, Point3, Turn, Value};
 use ngc_modal_state::Modes;
 use ngc_offsets::Frames;

@@ -16,7 +16,7 @@ use Rattle.ngc_arc_geometry.proofs.CutSeen.{both}
 use Rattle.ngc_arc_geometry.proofs.SweptEnds.{start_inside, end_inside}
 use Rattle.ngc_machine.specs.declared.tools.Tool.{Tool}
 use Rattle.ngc_machine.specs.Machine.{MachineFile}
-use Rattle.ngc_canonical.specs.declared.movement.Way.TheVariants.{Arc}
+use Rattle.ngc_commands.specs.declared.movement.Way.TheVariants.{Arc}
 use Rattle.ngc_collision.specs.Body.{IsSafe}
 use Rattle.ngc_certificate_text.specs.declared.piece.Cut.{Cut}
 use Rattle.ngc_certificate_text.specs.declared.piece.Cut.TheVariants.{Part, Place}

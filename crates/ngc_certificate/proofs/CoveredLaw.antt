@@ -15,7 +15,7 @@ use Rattle.ngc_arc_geometry.specs.Swept.{swept_box}
 use Rattle.ngc_arc_geometry.specs.ArcPath.{IsArcPath}
 use Rattle.ngc_arc_geometry.specs.CutArc.{cut_box, cut_boxes, is_large, IsCutChain}
 use Rattle.ngc_arc_geometry.proofs.CutChain.{covered_by_cuts}
-use Rattle.ngc_canonical.specs.declared.movement.Way.TheVariants.{Line, Arc}
+use Rattle.ngc_commands.specs.declared.movement.Way.TheVariants.{Line, Arc}
 use Rattle.ngc_certificate_text.specs.declared.piece.Cut.{Cut}
 use Rattle.ngc_certificate_text.specs.declared.piece.Cut.TheVariants.{Part, Place}
 use Rattle.ngc_certificate.specs.Chain.{ChainFrom, IsChain, are_several, first_cut, place_of, stretch}

@@ -14,7 +14,7 @@ use Rattle.std.specs.Int.{int_min, int_max}
 use Rattle.ngc_fixed_length.specs.Boxes.{IsIn}
 use Rattle.ngc_fixed_length.specs.Grid.{distance}
 use Rattle.ngc_fixed_length.specs.LinePath.{point, FollowsLine, IsLineOf}
-use Rattle.ngc_canonical.specs.declared.movement.Way.TheVariants.{Line}
+use Rattle.ngc_commands.specs.declared.movement.Way.TheVariants.{Line}
 use Rattle.ngc_certificate_text.specs.declared.piece.Cut.{Cut}
 use Rattle.ngc_certificate_text.specs.declared.piece.Cut.TheVariants.{Part, Place}
 use Rattle.ngc_certificate.specs.Chain.{ChainFrom}

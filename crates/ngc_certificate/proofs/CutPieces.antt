@@ -7,7 +7,7 @@ use Rattle.ngc_fixed_length.specs.declared.points.GridBox.{GridBox}
 use Rattle.ngc_arc_geometry.specs.Shape.{ArcShape, start_of}
 use Rattle.ngc_arc_geometry.specs.CutArc.{cut_box, cut_boxes, is_large}
 use Rattle.ngc_arc_geometry.specs.GridArcs.{ArcOnGrid}
-use Rattle.ngc_canonical.specs.declared.movement.Way.TheVariants.{Arc}
+use Rattle.ngc_commands.specs.declared.movement.Way.TheVariants.{Arc}
 use Rattle.ngc_certificate_text.specs.declared.piece.Piece.{Piece}
 use Rattle.ngc_certificate.specs.Chain.{first_cut, place_of, are_several}
 use Rattle.ngc_certificate.specs.DerivedBox.{boxes_from, HaveDerivedBoxes}

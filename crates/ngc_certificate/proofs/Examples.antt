@@ -10,11 +10,11 @@ use Rattle.ngc_fixed_length.specs.declared.points.GridBox.{GridBox}
 use Rattle.ngc_fixed_length.specs.declared.points.Point3.{Point3}
 use Rattle.ngc_arc_geometry.specs.Shape.{ArcShape}
 use Rattle.ngc_machine.specs.Machine.{MachineFile, built_in_machine}
-use Rattle.ngc_canonical.specs.declared.command.Action.TheVariants.{Move, Mount}
-use Rattle.ngc_canonical.specs.declared.command.Command.{Command}
-use Rattle.ngc_canonical.specs.declared.movement.Pace.TheVariants.{Rapid}
-use Rattle.ngc_canonical.specs.declared.movement.Way.{Way}
-use Rattle.ngc_canonical.specs.declared.movement.Way.TheVariants.{Line, Arc}
+use Rattle.ngc_commands.specs.declared.command.Action.TheVariants.{Move, Mount}
+use Rattle.ngc_commands.specs.declared.command.Command.{Command}
+use Rattle.ngc_commands.specs.declared.movement.Pace.TheVariants.{Rapid}
+use Rattle.ngc_commands.specs.declared.movement.Way.{Way}
+use Rattle.ngc_commands.specs.declared.movement.Way.TheVariants.{Line, Arc}
 use Rattle.ngc_certificate_text.specs.declared.piece.Cut.TheVariants.{Part, Place}
 use Rattle.ngc_certificate_text.specs.declared.piece.Piece.{Piece}
 use Rattle.ngc_certificate_text.specs.declared.piece.Setting.TheVariants.{Off, On}

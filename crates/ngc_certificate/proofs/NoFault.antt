@@ -8,7 +8,7 @@ use Rattle.ngc_fixed_length.specs.Boxes.{holds_box, only}
 use Rattle.ngc_machine.specs.declared.machine.Fixture.{Fixture}
 use Rattle.ngc_machine.specs.declared.tools.Tool.{Tool}
 use Rattle.ngc_machine.specs.Machine.{MachineFile}
-use Rattle.ngc_canonical.specs.declared.movement.Way.{Way}
+use Rattle.ngc_commands.specs.declared.movement.Way.{Way}
 use Rattle.ngc_collision.specs.Body.{clears, first_met, first_met_from, is_in_travel, IsClearAt}
 use Rattle.ngc_certificate_text.specs.declared.piece.Cut.{Cut}
 use Rattle.ngc_certificate_text.specs.declared.piece.Piece.{Piece}

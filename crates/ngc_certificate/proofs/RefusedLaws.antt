@@ -7,17 +7,18 @@ use Rattle.ngc_fixed_length.specs.Grid.{grid}
 use Rattle.ngc_fixed_length.specs.declared.points.Point3.{Point3}
 use Rattle.ngc_machine.specs.Machine.{MachineFile}
 use Rattle.ngc_machine.specs.declared.tools.Tool.{Tool}
-use Rattle.ngc_canonical.specs.declared.movement.Motion.{Motion}
-use Rattle.ngc_canonical.specs.declared.command.Action.{Action}
-use Rattle.ngc_canonical.specs.declared.command.Action.TheVariants.{Move, Mount}
-use Rattle.ngc_canonical.specs.declared.command.Command.{Command}
-use Rattle.ngc_canonical.specs.Movement.{actions_of, end_of}
+use Rattle.ngc_commands.specs.declared.movement.Motion.{Motion}
+use Rattle.ngc_commands.specs.declared.command.Action.{Action}
+use Rattle.ngc_commands.specs.declared.command.Action.TheVariants.{Move, Mount}
+use Rattle.ngc_commands.specs.declared.command.Command.{Command}
+use Rattle.ngc_commands.specs.Movement.{actions_of, end_of}
 use Rattle.ngc_certificate_text.specs.declared.piece.Piece.{Piece}
 use Rattle.ngc_certificate_text.specs.Certificate.{Entry}
-use Rattle.ngc_certificate.specs.declared.not_cleared.Reached.{Reached}
+use Rattle.ngc_commands.specs.Reached.{after}
+use Rattle.ngc_commands.specs.declared.reached.Reached.{Reached}
 use Rattle.ngc_certificate.specs.PieceFault.{place_fault}
 use Rattle.ngc_certificate.specs.Made.{with_pieces, unless_met, IsMadeFrom}
-use Rattle.ngc_certificate.specs.Uncleared.{AreUncleared, AreUnclearedFrom, BeginsWith, LeadsPast, past, unless_cleared}
+use Rattle.ngc_certificate.specs.Uncleared.{AreUncleared, AreUnclearedFrom, BeginsWith, LeadsPast, unless_cleared}
 
 same_refusal : (n k : ℕ) → ◌≡◌ {A = Result (List Entry) ℕ} (Err n) (Err k) → n ≡ k
 same_refusal n k e = cc
@@ -65,7 +66,7 @@ not_before machine most k n tool place (_ ∷ actions) made =
 
 abbrev GoesOn : MachineFile → ℕ → ℕ → Action → Reached → List Action → ℕ → Type 0
 GoesOn machine most k a r actions n =
-    IsMadeFrom machine most (k + 1) (past a r).tool (past a r).place actions (Err n) × LeadsPast machine most k a r true (past a r)
+    IsMadeFrom machine most (k + 1) (after r a).tool (after r a).place actions (Err n) × LeadsPast machine most k a r true
 
 past_motion : (machine : MachineFile) (most k n : ℕ) (m : Motion) (r : Reached) (actions : List Action) →
     IsMadeFrom machine most k r.tool r.place (Move m ∷ actions) (Err n) → k < n → GoesOn machine most k (Move m) r actions n
@@ -98,7 +99,7 @@ goes_past machine most k n _ r actions made before = (made, λ rest ks h. h)
 -- ---- the command that is refused
 
 refused_motion : (machine : MachineFile) (most k : ℕ) (m : Motion) (r : Reached) (actions : List Action) →
-    IsMadeFrom machine most k r.tool r.place (Move m ∷ actions) (Err k) → LeadsPast machine most k (Move m) r false (past (Move m) r)
+    IsMadeFrom machine most k r.tool r.place (Move m ∷ actions) (Err k) → LeadsPast machine most k (Move m) r false
 refused_motion machine most k m r actions made =
     elim (own_motion made.0 made.1 k k made.4) [
       | inl own ↦ (λ rest ks h. (made.0, ks, made.2, h, ap (λ (b : Bool). unless_cleared b k ks) (sym own.0)))
@@ -109,7 +110,7 @@ refused_motion machine most k m r actions made =
     ]
 
 refused_change : (machine : MachineFile) (most k : ℕ) (new : Option Tool) (r : Reached) (actions : List Action) →
-    IsMadeFrom machine most k r.tool r.place (Mount new ∷ actions) (Err k) → LeadsPast machine most k (Mount new) r false (past (Mount new) r)
+    IsMadeFrom machine most k r.tool r.place (Mount new ∷ actions) (Err k) → LeadsPast machine most k (Mount new) r false
 refused_change machine most k new r actions made =
     elim (own_change (place_fault machine new (grid machine.step r.place)) made.0 k k made.2) [
       | inl own ↦ (λ rest ks h. (ks, h, ap (λ (b : Bool). unless_cleared b k ks) (sym own.0)))
@@ -120,7 +121,7 @@ refused_change machine most k new r actions made =
     ]
 
 pub stands_refused : (machine : MachineFile) (most k : ℕ) (a : Action) (r : Reached) (actions : List Action) →
-    IsMadeFrom machine most k r.tool r.place (a ∷ actions) (Err k) → LeadsPast machine most k a r false (past a r)
+    IsMadeFrom machine most k r.tool r.place (a ∷ actions) (Err k) → LeadsPast machine most k a r false
 stands_refused machine most k (Mount new) r actions made = refused_change machine most k new r actions made
 stands_refused machine most k (Move m) r actions made = refused_motion machine most k m r actions made
 stands_refused machine most k _ r actions made =
@@ -139,9 +140,9 @@ none_refused machine most k n tool place (a ∷ actions) none made = absurd (som
 -- ---- from one command to the next, in the list of those that aren't cleared
 
 module _ (machine : MachineFile) (most i : ℕ) (commands : List Command) (action : Action) (old new : Reached)
-    (split : actions_of (drop i commands) ≡ action ∷ actions_of (drop (i + 1) commands)) where
-  abbrev after : List Action
-  after = actions_of (drop (i + 1) commands)
+    (split : actions_of (drop i commands) ≡ action ∷ actions_of (drop (i + 1) commands)) (is : new ≡ after old action) where
+  abbrev later : List Action
+  later = actions_of (drop (i + 1) commands)
 
   -- what isn't cleared from a place on completes the list so far
   abbrev Completes : ℕ → Reached → List ℕ → Type 0
@@ -152,39 +153,38 @@ module _ (machine : MachineFile) (most i : ℕ) (commands : List Command) (actio
   abbrev Refuses : ℕ → Reached → ℕ → Type 0
   Refuses k r passed = (n : ℕ) → passed ≡ n + 1 → k ≤ n → IsMadeFrom machine most k r.tool r.place (actions_of (drop k commands)) (Err n)
 
-  before : (ks : List ℕ) → AreUnclearedFrom machine most i old.tool old.place (action ∷ after) ks
-      → AreUnclearedFrom machine most i old.tool old.place (actions_of (drop i commands)) ks
-  before ks h = subst (λ (l : List Action). AreUnclearedFrom machine most i old.tool old.place l ks) (sym split) h
+  before : (clear : Bool) (ks : List ℕ) → LeadsPast machine most i action old clear → AreUnclearedFrom machine most (i + 1) new.tool new.place later ks
+      → AreUnclearedFrom machine most i old.tool old.place (actions_of (drop i commands)) (unless_cleared clear i ks)
+  before clear ks leads h =
+      subst (λ (l : List Action). AreUnclearedFrom machine most i old.tool old.place l (unless_cleared clear i ks)) (sym split)
+      (leads later ks (subst (λ (r : Reached). AreUnclearedFrom machine most (i + 1) r.tool r.place later ks) is h))
 
-  refused_here : (passed n : ℕ) → Refuses i old passed → passed ≡ n + 1 → i ≤ n → IsMadeFrom machine most i old.tool old.place (action ∷ after) (Err n)
+  refused_here : (passed n : ℕ) → Refuses i old passed → passed ≡ n + 1 → i ≤ n → IsMadeFrom machine most i old.tool old.place (action ∷ later) (Err n)
   refused_here passed n refuses e le =
       subst (λ (l : List Action). IsMadeFrom machine most i old.tool old.place l (Err n)) split (refuses n e le)
 
-  pub cleared_next : (items : List ℕ) → LeadsPast machine most i action old true new → Completes i old items → Completes (i + 1) new items
-  cleared_next items leads completes ks h = completes ks (before ks (leads after ks h))
+  pub cleared_next : (items : List ℕ) → LeadsPast machine most i action old true → Completes i old items → Completes (i + 1) new items
+  cleared_next items leads completes ks h = completes ks (before true ks leads h)
 
-  pub listed_next : (items more : List ℕ) → more ≡ items ++ (i ∷ []) → LeadsPast machine most i action old false new → Completes i old items
+  pub listed_next : (items more : List ℕ) → more ≡ items ++ (i ∷ []) → LeadsPast machine most i action old false → Completes i old items
       → Completes (i + 1) new more
-  listed_next items more is leads completes ks h =
-      subst (λ (l : List ℕ). AreUncleared machine most commands (l ++ ks)) (sym is)
+  listed_next items more added leads completes ks h =
+      subst (λ (l : List ℕ). AreUncleared machine most commands (l ++ ks)) (sym added)
       (subst (AreUncleared machine most commands) (sym (append_assoc items (i ∷ []) ks))
-      (completes (i ∷ ks) (before (i ∷ ks) (leads after ks h))))
+      (completes (i ∷ ks) (before false ks leads h)))
 
-  pub refuses_next : (passed : ℕ) → new ≡ past action old → Refuses i old passed → Refuses (i + 1) new passed
-  refuses_next passed is refuses n e le =
-      subst (λ (r : Reached). IsMadeFrom machine most (i + 1) r.tool r.place after (Err n)) (sym is)
-      (goes_past machine most i n action old after (refused_here passed n refuses e (omega (arith, le))) (omega (arith, le))).0
+  pub refuses_next : (passed : ℕ) → Refuses i old passed → Refuses (i + 1) new passed
+  refuses_next passed refuses n e le =
+      subst (λ (r : Reached). IsMadeFrom machine most (i + 1) r.tool r.place later (Err n)) (sym is)
+      (goes_past machine most i n action old later (refused_here passed n refuses e (omega (arith, le))) (omega (arith, le))).0
 
-  pub passes_cleared : (passed : ℕ) → i + 1 < passed → new ≡ past action old → Refuses i old passed → LeadsPast machine most i action old true new
-  passes_cleared passed less is refuses =
-      subst (λ (r : Reached). LeadsPast machine most i action old true r) (sym is)
-      (goes_past machine most i (passed - 1) action old after
+  pub passes_cleared : (passed : ℕ) → i + 1 < passed → Refuses i old passed → LeadsPast machine most i action old true
+  passes_cleared passed less refuses =
+      (goes_past machine most i (passed - 1) action old later
       (refused_here passed (passed - 1) refuses (omega (arith, less)) (omega (arith, less))) (omega (arith, less))).1
 
-  pub passes_refused : (passed : ℕ) → passed ≡ i + 1 → new ≡ past action old → Refuses i old passed → LeadsPast machine most i action old false new
-  passes_refused passed e is refuses =
-      subst (λ (r : Reached). LeadsPast machine most i action old false r) (sym is)
-      (stands_refused machine most i action old after (refused_here passed i refuses e (omega arith)))
+  pub passes_refused : (passed : ℕ) → passed ≡ i + 1 → Refuses i old passed → LeadsPast machine most i action old false
+  passes_refused passed e refuses = stands_refused machine most i action old later (refused_here passed i refuses e (omega arith))
 
 -- the first of a list that grows at its end
 pub begins_still : (k i : ℕ) (items more : List ℕ) → more ≡ items ++ (i ∷ []) → BeginsWith k items → BeginsWith k more

@@ -11,7 +11,7 @@ use Rattle.ngc_machine.specs.declared.machine.Fixture.{Fixture}
 use Rattle.ngc_machine.specs.declared.parts.Part.{Part}
 use Rattle.ngc_machine.specs.declared.tools.Tool.{Tool}
 use Rattle.ngc_machine.specs.Machine.{MachineFile}
-use Rattle.ngc_canonical.specs.declared.movement.Way.{Way}
+use Rattle.ngc_commands.specs.declared.movement.Way.{Way}
 use Rattle.ngc_collision.specs.Body.{Solid, span, filled, stacked, bodies, are_apart, clears, is_in_travel, IsSafe}
 use Rattle.ngc_certificate_text.specs.declared.piece.Piece.{Piece}
 use Rattle.ngc_certificate.specs.declared.stretch.Stretch.{Stretch}

@@ -4,7 +4,7 @@ use Rattle.ngc_fixed_length.specs.declared.points.Point2.{Point2}
 use Rattle.ngc_arc_geometry.specs.Shape.{ArcShape}
 use Rattle.ngc_arc_geometry.specs.CutArc.{cut_box, is_large}
 use Rattle.ngc_arc_geometry.specs.GridArcs.{ArcOnGrid}
-use Rattle.ngc_canonical.specs.declared.movement.Way.TheVariants.{Arc}
+use Rattle.ngc_commands.specs.declared.movement.Way.TheVariants.{Arc}
 use Rattle.ngc_certificate.specs.declared.shared.Shared.TheVariants.{Cut}
 use Rattle.ngc_certificate.specs.declared.stretch.Stretch.{Stretch}
 use Rattle.ngc_certificate.specs.Chain.{place_of}

@@ -2,10 +2,10 @@
 -- certificate that is joined over it. Our own.
 use Rattle.std.specs.Prelude.{◌≡◌, ℕ, ◌<◌, ◌≤◌, List, length, slice_get, Option, Some, None}
 use Rattle.std.specs.Prelude.{option_and_then}
-use Rattle.ngc_canonical.specs.declared.command.Action.{Action}
-use Rattle.ngc_canonical.specs.declared.command.Action.TheVariants.{Move}
-use Rattle.ngc_canonical.specs.declared.command.Command.{Command}
-use Rattle.ngc_canonical.specs.declared.movement.Way.{Way}
+use Rattle.ngc_commands.specs.declared.command.Action.{Action}
+use Rattle.ngc_commands.specs.declared.command.Action.TheVariants.{Move}
+use Rattle.ngc_commands.specs.declared.command.Command.{Command}
+use Rattle.ngc_commands.specs.declared.movement.Way.{Way}
 use Rattle.ngc_certificate_text.specs.Certificate.{Entry, CertificateData, entry_at}
 use Rattle.ngc_certificate_text.specs.Joined.{Form, Joined, IsJoined}
 use Rattle.ngc_certificate_text.specs.JoinedFirst.{joined_first}

@@ -10,8 +10,8 @@ use Rattle.ngc_fixed_length.specs.declared.points.Point2.{Point2}
 use Rattle.ngc_arc_geometry.specs.Shape.{ArcShape}
 use Rattle.ngc_arc_geometry.specs.Swept.{swept_box}
 use Rattle.ngc_arc_geometry.specs.CutArc.{cut_box, is_large}
-use Rattle.ngc_canonical.specs.declared.movement.Way.{Way}
-use Rattle.ngc_canonical.specs.declared.movement.Way.TheVariants.{Line, Arc}
+use Rattle.ngc_commands.specs.declared.movement.Way.{Way}
+use Rattle.ngc_commands.specs.declared.movement.Way.TheVariants.{Line, Arc}
 use Rattle.ngc_certificate_text.specs.declared.piece.Cut.{Cut}
 use Rattle.ngc_certificate_text.specs.declared.piece.Piece.{Piece}
 use Rattle.ngc_certificate.specs.declared.stretch.Stretch.{Stretch}

@@ -8,8 +8,8 @@ use Rattle.ngc_certificate_text.specs.declared.piece.Cut.TheVariants.{Place}
 use Rattle.ngc_fixed_length.specs.declared.points.Point3.{Point3}
 use Rattle.ngc_machine.specs.Machine.{MachineFile}
 use Rattle.ngc_machine.specs.declared.tools.Tool.{Tool}
-use Rattle.ngc_canonical.specs.declared.command.Action.{Action}
-use Rattle.ngc_canonical.specs.declared.movement.Way.{Way}
+use Rattle.ngc_commands.specs.declared.command.Action.{Action}
+use Rattle.ngc_commands.specs.declared.movement.Way.{Way}
 use Rattle.ngc_fixed_length.specs.Grid.{grid}
 use Rattle.std.specs.Option.{is_none}
 use Rattle.ngc_certificate_text.specs.declared.piece.Piece.{Piece}

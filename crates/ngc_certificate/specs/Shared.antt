@@ -1,7 +1,7 @@
 -- What the pieces of a motion share. Our own.
 use Rattle.std.specs.Prelude.{ℤ, Bool, true, false}
-use Rattle.ngc_canonical.specs.declared.movement.Way.{Way}
-use Rattle.ngc_canonical.specs.declared.movement.Way.TheVariants as ways
+use Rattle.ngc_commands.specs.declared.movement.Way.{Way}
+use Rattle.ngc_commands.specs.declared.movement.Way.TheVariants as ways
 use Rattle.ngc_certificate.specs.declared.shared.Shared.{Shared}
 use Rattle.ngc_certificate.specs.declared.shared.Shared.TheVariants.{Whole, Cut}
 use Rattle.ngc_certificate.specs.Inside.{whole_box}

@@ -6,13 +6,14 @@ use Rattle.ngc_fixed_length.specs.Grid.{grid}
 use Rattle.ngc_fixed_length.specs.declared.points.Point3.{Point3}
 use Rattle.ngc_machine.specs.Machine.{MachineFile}
 use Rattle.ngc_machine.specs.declared.tools.Tool.{Tool}
-use Rattle.ngc_canonical.specs.declared.command.Command.{Command}
-use Rattle.ngc_canonical.specs.declared.command.Action.{Action}
-use Rattle.ngc_canonical.specs.declared.command.Action.TheVariants.{Move, Mount}
-use Rattle.ngc_canonical.specs.Movement.{actions_of, end_of}
+use Rattle.ngc_commands.specs.declared.command.Command.{Command}
+use Rattle.ngc_commands.specs.declared.command.Action.{Action}
+use Rattle.ngc_commands.specs.declared.command.Action.TheVariants.{Move, Mount}
+use Rattle.ngc_commands.specs.Movement.{actions_of, end_of}
 use Rattle.ngc_certificate_text.specs.declared.piece.Piece.{Piece}
 use Rattle.ngc_certificate_text.specs.Certificate.{Entry}
-use Rattle.ngc_certificate.specs.declared.not_cleared.Reached.{Reached}
+use Rattle.ngc_commands.specs.Reached.{after}
+use Rattle.ngc_commands.specs.declared.reached.Reached.{Reached}
 use Rattle.ngc_certificate.specs.PieceFault.{place_fault}
 use Rattle.ngc_certificate.specs.Made.{MayFind, IsSettingMade}
 
@@ -67,16 +68,9 @@ BeginsWith k ks = (rest : List ℕ) × (ks ≡ k ∷ rest)
 
 -- ---- from one command to the next
 
--- the tool that is mounted and the place that is reached behind a command
-abbrev pub past : Action → Reached → Reached
-past (Move m) r = record { tool = r.tool; place = end_of m.way }
-past (Mount new) r = record { tool = new; place = r.place }
-past _ r = r
-
 -- command k leads on, cleared or not
-abbrev pub LeadsPast : MachineFile → ℕ → ℕ → Action → Reached → Bool → Reached → Type 0
-LeadsPast machine most k action old clear new =
+abbrev pub LeadsPast : MachineFile → ℕ → ℕ → Action → Reached → Bool → Type 0
+LeadsPast machine most k action r clear =
     (actions : List Action) (ks : List ℕ) →
-    AreUnclearedFrom machine most (k + 1) new.tool new.place actions ks →
-    AreUnclearedFrom machine most k old.tool old.place (action ∷ actions)
-    (unless_cleared clear k ks)
+    AreUnclearedFrom machine most (k + 1) (after r action).tool (after r action).place actions ks →
+    AreUnclearedFrom machine most k r.tool r.place (action ∷ actions) (unless_cleared clear k ks)

@@ -1,5 +1,5 @@
 ghost use Rattle.std.specs.Prelude.{◌≡◌, ℤ};
-ghost use Rattle.ngc_canonical.specs.declared.movement.Way.TheVariants as ways;
+ghost use Rattle.ngc_commands.specs.declared.movement.Way.TheVariants as ways;
 ghost use Rattle.ngc_certificate.specs.Chain.{first_cut as first_cut_of, part_of, place_of};
 ghost use Rattle.ngc_certificate.specs.Chain.{line_follows as line_goes_on};
 ghost use Rattle.ngc_certificate.specs.Chain.{arc_follows as arc_goes_on, follows as goes_on};
@@ -8,8 +8,8 @@ ghost use Rattle.ngc_certificate.specs.Shared.{shared_of};
 use crate::shared::Shared;
 use crate::stretch::Stretch;
 use ngc_arc_geometry::Arc;
-use ngc_canonical::Way;
 use ngc_certificate_text::Cut;
+use ngc_commands::Way;
 use ngc_fixed_length::Point2;
 
 /// Parts of a line.

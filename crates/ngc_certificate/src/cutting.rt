@@ -3,7 +3,7 @@ ghost use Rattle.std.specs.Prelude.{◌≡◌, ◌≤◌, IfOk, IfSome, IsTrue, 
 ghost use Rattle.std.specs.List.{list_all};
 ghost use Rattle.ngc_fixed_length.specs.Signed.{is_within};
 ghost use Rattle.ngc_arc_geometry.specs.CutArc.{cut_box};
-ghost use Rattle.ngc_canonical.specs.declared.movement.Way.TheVariants as ways;
+ghost use Rattle.ngc_commands.specs.declared.movement.Way.TheVariants as ways;
 ghost use Rattle.ngc_certificate_text.specs.Certificate.{good_cut, good_piece};
 ghost use Rattle.ngc_certificate.specs.Chain.{place_of};
 ghost use Rattle.ngc_certificate.specs.DerivedBox.{HaveDerivedBoxes};

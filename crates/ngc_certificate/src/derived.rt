@@ -1,5 +1,5 @@
 ghost use Rattle.std.specs.Prelude.{◌≡◌, FitsSigned};
-ghost use Rattle.ngc_canonical.specs.declared.movement.Way.TheVariants as ways;
+ghost use Rattle.ngc_commands.specs.declared.movement.Way.TheVariants as ways;
 ghost use Rattle.std.specs.Int.{w32, int_max, int_min};
 ghost use Rattle.ngc_fixed_length.specs.Grid.{grid};
 ghost use Rattle.ngc_fixed_length.specs.Length.{IsStep};
@@ -19,8 +19,8 @@ use crate::cuts::{Cuts, first_between, last_between};
 use crate::shared::Shared;
 use crate::stretch::Stretch;
 use ngc_arc_geometry::Arc;
-use ngc_canonical::Way;
 use ngc_certificate_text::{Cut, Piece};
+use ngc_commands::Way;
 use ngc_fixed_length::{GridBox, Nm, Point3, StepPos};
 
 /// The first coordinate that a piece of a line needs, in steps; the line's own is `least`.

@@ -12,8 +12,8 @@ use crate::chain::WHOLE;
 use crate::cuts::Cuts;
 use crate::derived::line_box;
 use ngc_arc_geometry::Arc;
-use ngc_canonical::Way;
 use ngc_certificate_text::{Cut, Piece};
+use ngc_commands::Way;
 use ngc_fixed_length::{GridBox, Nm, Point3};
 use std::alloc::{AllocError, Allocator};
 

@@ -2,7 +2,7 @@
 ghost use Rattle.std.specs.Prelude.{◌≡◌, ◌≤◌, true, IsTrue, IfOk};
 ghost use Rattle.std.specs.List.{list_all};
 ghost use Rattle.ngc_machine.specs.Machine.{file_of};
-ghost use Rattle.ngc_canonical.specs.declared.movement.Way.TheVariants as ways;
+ghost use Rattle.ngc_commands.specs.declared.movement.Way.TheVariants as ways;
 ghost use Rattle.ngc_certificate_text.specs.Certificate.{good_piece};
 ghost use Rattle.ngc_certificate.specs.Made.{pieces_of, cleared, IsCutClear, MayFind, MayStand};
 ghost use Rattle.ngc_certificate.specs.Making.{is_clear_in, pieces_where};
@@ -11,8 +11,9 @@ use crate::cutting::{Stops, cut_arc};
 use crate::divide::divide;
 use crate::pieces::pieces_fault;
 use ngc_arc_geometry::Arc;
-use ngc_canonical::{Machine, Tool, Way};
 use ngc_certificate_text::Piece;
+use ngc_commands::Way;
+use ngc_machine::{Machine, Tool};
 use std::alloc::{AllocError, Allocator};
 
 /// In how many pieces a line is tried, where that is less than the most.

@@ -5,8 +5,8 @@ ghost use Rattle.ngc_certificate_text.specs.Contents.{said_of, form_of};
 ghost use Rattle.ngc_certificate.specs.Common.{way_at, AreAlike, IsCommonBeginning, IsJoinedOf};
 
 use crate::fault::MemoryFault;
-use ngc_canonical::{Action, Command, Way};
 use ngc_certificate_text::{Certificate, Motions, Piece};
+use ngc_commands::{Action, Command, Way};
 use std::alloc::Allocator;
 
 // The way of the command with this index, where it is a motion.

@@ -1,7 +1,7 @@
 //! Certificates for commands.
 ghost use Rattle.std.specs.Prelude.{◌≡◌, ℕ, ◌<◌, ◌≤◌, [], length, true, IfOk, MatchResult};
 ghost use Rattle.ngc_machine.specs.Machine.{file_of};
-ghost use Rattle.ngc_canonical.specs.State.{COMMAND_LIMIT};
+ghost use Rattle.ngc_commands.specs.Sequence.{COMMAND_LIMIT};
 ghost use Rattle.ngc_certificate_text.specs.Certificate.{INDEX_LIMIT, MOTION_LIMIT};
 ghost use Rattle.ngc_certificate_text.specs.Contents.{said_of, form_of};
 ghost use Rattle.ngc_certificate_text.specs.Joined.{Parted};
@@ -12,9 +12,10 @@ ghost use Rattle.ngc_certificate.specs.Making.{is_clear_at, Leads, GivesSetting,
 use crate::fault::MakeFault;
 use crate::finding::find_clear;
 use crate::pieces::place_fault;
-use ngc_canonical::{Action, Command, Machine, Motion, Tool};
 use ngc_certificate_text::{Certificate, Motions, Piece, Setting};
+use ngc_commands::{Action, Command, Motion};
 use ngc_fixed_length::Point3;
+use ngc_machine::{Machine, Tool};
 use std::alloc::Allocator;
 
 /// Why a setting has no motions with pieces: it doesn't clear this command, counted from 0, or

@@ -1,83 +1,35 @@
 //! Commands that aren't cleared.
 ghost use Rattle.std.specs.Prelude.{◌≡◌, ℕ, ◌+◌, ◌≤◌, length, Err, IfOk};
 ghost use Rattle.ngc_machine.specs.Machine.{file_of};
-ghost use Rattle.ngc_canonical.specs.State.{COMMAND_LIMIT};
+ghost use Rattle.ngc_commands.specs.Sequence.{COMMAND_LIMIT};
 ghost use Rattle.ngc_certificate.specs.Made.{IsSettingMade};
-ghost use Rattle.ngc_certificate.specs.Uncleared.{AreUncleared, BeginsWith, LeadsPast, past};
+ghost use Rattle.ngc_certificate.specs.Uncleared.{AreUncleared, BeginsWith, LeadsPast};
 
 use crate::fault::MemoryFault;
 use crate::finding::find_clear;
 use crate::maker::is_clear_at;
-use ngc_canonical::{Action, Command, Machine, Motion, Tool};
 use ngc_certificate_text::Piece;
-use ngc_fixed_length::Point3;
+use ngc_commands::{Action, Command, Reached};
+use ngc_machine::Machine;
 use std::alloc::{AllocError, Allocator};
 
-/// The tool that is mounted and the place that is reached, whether or not the commands so far are
-/// cleared.
-#[derive(Clone, Copy)]
-struct Reached {
-    tool: Option<Tool>,
-    place: Point3,
-}
-
-impl Reached {
-    // What a command does, whether or not it is cleared.
-    fn pass(&mut self, action: &Action)
-        ensures { self.new ≡ past action.now self.old }
-    {
-        match action {
-            Action::Move(motion) => self.place = motion.way.end(),
-            Action::Mount(tool) => self.tool = *tool,
-            _ => {}
-        }
-    }
-
-    // A tool, or none, is mounted where the axes stand. Answers whether it meets no fixture.
-    fn mount<A: Allocator>(&mut self, machine: &Machine<A>, tool: Option<Tool>) -> bool
-        ensures { (most k : ℕ) →
-            LeadsPast (file_of machine.now) most k (Action.Mount tool) self.old result self.new }
-    {
-        self.tool = tool;
-        is_clear_at(machine, &tool, &self.place)
-    }
-
-    // A motion to its end. Answers whether pieces are found that clear it. `pieces` is room for
-    // them.
-    fn move_along<A: Allocator>(
-        &mut self,
-        machine: &Machine<A>,
-        motion: &Motion,
-        most: u16,
-        pieces: &mut Vec<Piece, A>,
-    ) -> Result<bool, AllocError>
-        requires { 1 ≤ most }
-        ensures { IfOk result (λ clear. (k : ℕ) →
-            LeadsPast (file_of machine.now) most k
-            (Action.Move motion.now) self.old clear self.new) }
-    {
-        let clear = find_clear(machine, &self.tool, &motion.way, most, pieces)?;
-        self.place = motion.way.end();
-        Ok(clear)
-    }
-
-    // What a command does. Answers whether it is cleared.
-    fn take<A: Allocator>(
-        &mut self,
-        machine: &Machine<A>,
-        action: &Action,
-        most: u16,
-        pieces: &mut Vec<Piece, A>,
-    ) -> Result<bool, AllocError>
-        requires { 1 ≤ most }
-        ensures { IfOk result (λ clear. (k : ℕ) →
-            LeadsPast (file_of machine.now) most k action.now self.old clear self.new) }
-    {
-        match action {
-            Action::Move(motion) => self.move_along(machine, motion, most, pieces),
-            Action::Mount(tool) => Ok(self.mount(machine, *tool)),
-            _ => Ok(true),
-        }
+// Whether a command is cleared where the machine stands: a tool change whose body meets no fixture, a
+// motion for which pieces are found. `pieces` is room for them.
+fn is_cleared<A: Allocator>(
+    machine: &Machine<A>,
+    reached: &Reached,
+    action: &Action,
+    most: u16,
+    pieces: &mut Vec<Piece, A>,
+) -> Result<bool, AllocError>
+    requires { 1 ≤ most }
+    ensures { IfOk result (λ clear. (k : ℕ) →
+        LeadsPast (file_of machine.now) most k action.now reached.now clear) }
+{
+    match action {
+        Action::Move(motion) => find_clear(machine, &reached.tool, &motion.way, most, pieces),
+        Action::Mount(tool) => Ok(is_clear_at(machine, tool, &reached.place)),
+        _ => Ok(true),
     }
 }
 
@@ -98,25 +50,22 @@ fn find_uncleared<A: Allocator + Copy>(
         (λ v. AreUncleared (file_of machine.now) cuts commands.now v.items) }
     ensures begins { (k : ℕ) → passed ≡ k + 1 → IfOk result (λ v. BeginsWith k v.items) }
 {
-    let mut reached = Reached {
-        tool: None,
-        place: machine.start,
-    };
+    let mut reached = Reached::at_start(machine);
     let mut pieces = Vec::new(alloc);
     let mut indices = Vec::new(alloc);
     for (index, command) in commands.iter().enumerate() {
         let action = &command.action;
-        if (index as u64) < passed {
-            reached.pass(action);
-            if (index as u64) + 1 < passed {
-                continue;
-            }
+        let clear = if (index as u64) < passed {
+            (index as u64) + 1 < passed
         } else {
-            match reached.take(machine, action, cuts, &mut pieces) {
-                Ok(true) => continue,
-                Ok(false) => {}
+            match is_cleared(machine, &reached, action, cuts, &mut pieces) {
+                Ok(clear) => clear,
                 Err(_) => return Err(MemoryFault),
             }
+        };
+        reached = reached.after(action);
+        if clear {
+            continue;
         }
         match indices.push(index as u32) {
             Ok(()) => {}

@@ -4,7 +4,7 @@ ghost use Rattle.ngc_certificate.specs.Shared.{shared_of};
 
 use crate::derived::whole_box;
 use ngc_arc_geometry::GridArc;
-use ngc_canonical::Way;
+use ngc_commands::Way;
 use ngc_fixed_length::{GridBox, Nm};
 
 /// What the pieces of a motion share, so that it is found once.

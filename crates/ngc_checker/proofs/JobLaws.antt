@@ -2,7 +2,7 @@
 use Rattle.std.proofs.Common.{◌≡◌, List, sym, ◌∙◌, ap, ap₂, subst, Option, Some, None, Result, Ok, Err, true}
 use Rattle.std.specs.Prelude.{MatchResult}
 use Rattle.ngc_machine.specs.Machine.{MachineFile}
-use Rattle.ngc_canonical.specs.declared.command.Command.{Command}
+use Rattle.ngc_commands.specs.declared.command.Command.{Command}
 use Rattle.ngc_canonical.specs.declared.fault.ProgramFault.{ProgramFault}
 use Rattle.ngc_canonical.specs.declared.fault.ProgramFault.TheVariants as programs
 use Rattle.ngc_canonical.specs.Meaning.{Program, meaning}

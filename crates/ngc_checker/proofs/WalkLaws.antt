@@ -7,11 +7,11 @@ use Rattle.std.proofs.lemmas.Bool.Decides.{nat_tests}
 use Rattle.std.proofs.lemmas.List.{take_all, length-drop}
 use Rattle.ngc_machine.specs.Machine.{MachineFile}
 use Rattle.ngc_fixed_length.specs.declared.points.Point3.{Point3}
-use Rattle.ngc_canonical.specs.declared.command.Action.{Action}
-use Rattle.ngc_canonical.specs.declared.command.Action.TheVariants.{Move}
-use Rattle.ngc_canonical.specs.declared.command.Command.{Command}
-use Rattle.ngc_canonical.specs.declared.movement.Motion.{Motion}
-use Rattle.ngc_canonical.specs.Movement.{actions_of, motion_indices, end_of}
+use Rattle.ngc_commands.specs.declared.command.Action.{Action}
+use Rattle.ngc_commands.specs.declared.command.Action.TheVariants.{Move}
+use Rattle.ngc_commands.specs.declared.command.Command.{Command}
+use Rattle.ngc_commands.specs.declared.movement.Motion.{Motion}
+use Rattle.ngc_commands.specs.Movement.{actions_of, motion_indices, end_of}
 use Rattle.ngc_certificate_text.specs.declared.piece.Piece.{Piece}
 use Rattle.ngc_certificate_text.specs.declared.piece.Setting.{Setting}
 use Rattle.ngc_certificate_text.specs.Certificate.{Entry, entry_at}
@@ -21,7 +21,7 @@ use Rattle.ngc_certificate.specs.declared.pieces.PieceJudge.{PieceJudge}
 use Rattle.ngc_certificate.specs.PieceFault.{pieces_fault, ◌or◌}
 use Rattle.ngc_certificate.specs.Chain.{are_several}
 use Rattle.ngc_certificate.specs.PieceJudging.{fault_ahead, is_empty}
-use Rattle.ngc_canonical.specs.declared.movement.Way.{Way}
+use Rattle.ngc_commands.specs.declared.movement.Way.{Way}
 use Rattle.ngc_machine.specs.declared.tools.Tool.{Tool}
 use Rattle.ngc_checker.specs.declared.command_walk.CommandWalk.{CommandWalk}
 use Rattle.ngc_checker.specs.declared.command_walk.NextMotion.{NextMotion}

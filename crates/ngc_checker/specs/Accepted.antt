@@ -5,7 +5,7 @@ use Rattle.std.specs.Prelude.{true, false}
 use Rattle.ngc_machine.specs.Machine.{MachineFile}
 use Rattle.ngc_machine.specs.MachineRanges.{IsMachine}
 use Rattle.ngc_machine.specs.declared.tools.Tool.{Tool}
-use Rattle.ngc_canonical.specs.declared.command.Command.{Command}
+use Rattle.ngc_commands.specs.declared.command.Command.{Command}
 use Rattle.ngc_canonical.specs.Meaning.{Program, meaning}
 use Rattle.ngc_canonical.specs.State.{Setup}
 use Rattle.ngc_certificate_text.specs.Certificate.{CertificateData}

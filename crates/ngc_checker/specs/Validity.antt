@@ -1,6 +1,6 @@
 -- When a certificate is valid for a program: what the checker's yes means. Our own.
 use Rattle.std.specs.Prelude.{◌≡◌, List, None, Ok, true, false, ◌↔◌}
-use Rattle.ngc_canonical.specs.declared.command.Command.{Command}
+use Rattle.ngc_commands.specs.declared.command.Command.{Command}
 use Rattle.ngc_canonical.specs.Meaning.{Program, meaning}
 use Rattle.ngc_canonical.specs.State.{Setup}
 use Rattle.ngc_certificate_text.specs.Certificate.{CertificateData}

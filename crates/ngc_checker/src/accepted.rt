@@ -5,7 +5,7 @@ ghost use Rattle.ngc_machine.specs.Tools.{tools_of};
 ghost use Rattle.ngc_checker.specs.Accepted.{commands_at, IsAccepted};
 ghost use Rattle.ngc_checker.specs.Held.{accepted_of};
 
-use ngc_canonical::Command;
+use ngc_commands::Command;
 use ngc_job::Job;
 use ngc_machine::{Machine, Tools};
 use std::alloc::Allocator;

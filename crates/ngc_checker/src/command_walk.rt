@@ -2,14 +2,14 @@
 ghost use Rattle.std.specs.Prelude.{◌≡◌, ◌+◌, ◌-◌, ◌<◌, ◌≤◌, ◌∷◌, [], length, drop, List};
 ghost use Rattle.std.specs.Prelude.{MatchOption, IfSome, Some, None};
 ghost use Rattle.ngc_machine.specs.Machine.{file_of};
-ghost use Rattle.ngc_canonical.specs.Movement.{actions_of, motion_indices};
-ghost use Rattle.ngc_canonical.specs.State.{COMMAND_LIMIT};
+ghost use Rattle.ngc_commands.specs.Movement.{actions_of, motion_indices};
+ghost use Rattle.ngc_commands.specs.Sequence.{COMMAND_LIMIT};
 ghost use Rattle.ngc_certificate.specs.PieceFault.{◌or◌};
 ghost use Rattle.ngc_checker.specs.Walking.{walk_from, with_motion};
 
 use crate::fault::CheckFault;
-use ngc_canonical::{Action, Command, Way};
 use ngc_certificate::{Setting, place_fault};
+use ngc_commands::{Action, Command, Way};
 use ngc_fixed_length::Point3;
 use ngc_machine::{Machine, Tool};
 use std::alloc::Allocator;
@@ -32,8 +32,8 @@ pub struct NextMotion {
 }
 
 impl CommandWalk {
-    ghost use Rattle.ngc_canonical.specs.declared.command.Action.{Action};
-    ghost use Rattle.ngc_canonical.specs.declared.command.Action.TheVariants.{Mount};
+    ghost use Rattle.ngc_commands.specs.declared.command.Action.{Action};
+    ghost use Rattle.ngc_commands.specs.declared.command.Action.TheVariants.{Mount};
     ghost use Rattle.ngc_certificate_text.specs.Certificate.{Entry};
 
     /// In front of all commands.

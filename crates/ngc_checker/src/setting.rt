@@ -1,14 +1,14 @@
 //! The check of a setting of block delete.
 ghost use Rattle.std.specs.Prelude.{◌≡◌, ◌≤◌, length};
 ghost use Rattle.ngc_machine.specs.Machine.{file_of};
-ghost use Rattle.ngc_canonical.specs.State.{COMMAND_LIMIT};
+ghost use Rattle.ngc_commands.specs.Sequence.{COMMAND_LIMIT};
 ghost use Rattle.ngc_checker.specs.FirstRefusal.{setting_fault, start_fault};
 
 use crate::fault::CheckFault;
 use crate::setting_judge::SettingJudge;
-use ngc_canonical::Command;
 use ngc_certificate::{Setting, place_fault};
 use ngc_certificate_text::Motions;
+use ngc_commands::Command;
 use ngc_machine::Machine;
 use std::alloc::Allocator;
 

@@ -2,7 +2,7 @@
 ghost use Rattle.std.specs.Prelude.{◌≡◌, ◌+◌, ◌-◌, ◌<◌, ◌≤◌, ◌∷◌, [], length, drop, List};
 ghost use Rattle.std.specs.Prelude.{MatchOption, Option, Some, None, IfSome};
 ghost use Rattle.ngc_machine.specs.Machine.{MachineFile, file_of};
-ghost use Rattle.ngc_canonical.specs.State.{COMMAND_LIMIT};
+ghost use Rattle.ngc_commands.specs.Sequence.{COMMAND_LIMIT};
 ghost use Rattle.ngc_certificate_text.specs.Certificate.{PIECE_LIMIT};
 ghost use Rattle.ngc_checker.specs.FirstRefusal.{setting_fault, start_fault};
 ghost use Rattle.ngc_checker.specs.Walking.{fault_left};
@@ -11,8 +11,8 @@ ghost use Rattle.ngc_checker.specs.Following.{IsFollowing};
 use crate::command_walk::CommandWalk;
 use crate::fault::CheckFault;
 use crate::setting::start_fault;
-use ngc_canonical::Command;
 use ngc_certificate::{Piece, PieceJudge, Setting};
+use ngc_commands::Command;
 use ngc_machine::Machine;
 use std::alloc::Allocator;
 
@@ -28,7 +28,7 @@ pub struct SettingJudge {
 }
 
 impl SettingJudge {
-    ghost use Rattle.ngc_canonical.specs.declared.command.Command.{Command};
+    ghost use Rattle.ngc_commands.specs.declared.command.Command.{Command};
     ghost use Rattle.ngc_certificate_text.specs.declared.piece.Piece.{Piece};
     ghost use Rattle.ngc_certificate_text.specs.Certificate.{Entry};
     ghost use Rattle.ngc_certificate_text.specs.declared.piece.Setting.{Setting};

@@ -7,7 +7,7 @@ use Rattle.ngc_fixed_length.specs.LinePath.{point}
 use Rattle.ngc_fixed_length.specs.declared.points.StepPos.{StepPos}
 use Rattle.ngc_machine.specs.MachineRanges.{IsMachine}
 use Rattle.ngc_machine.specs.declared.tools.Tool.{Tool}
-use Rattle.ngc_canonical.specs.declared.command.Action.{Action}
+use Rattle.ngc_commands.specs.declared.command.Action.{Action}
 use Rattle.ngc_planner.specs.Bounds.{IsMotion}
 use Rattle.ngc_fixed_length.specs.Limits.{MILLION}
 use Rattle.ngc_planner.specs.Ramp.{RampState, IsRest, MayCoast, MayCoastOn, Coasts}

@@ -3,7 +3,7 @@ use Rattle.std.specs.Prelude.{◌≡◌, ℕ, ◌<◌, ◌≤◌, List, [], ◌�
 use Rattle.std.specs.List.{AllByRecursion}
 use Rattle.ngc_fixed_length.specs.declared.points.StepPos.{StepPos}
 use Rattle.ngc_fixed_length.specs.LinePath.{point}
-use Rattle.ngc_canonical.specs.declared.command.Action.{Action}
+use Rattle.ngc_commands.specs.declared.command.Action.{Action}
 use Rattle.ngc_planner.specs.Bounds.{IsMotion}
 use Rattle.ngc_behaviour.specs.State.{Queued, path_steps}
 use Rattle.ngc_controller.specs.Loaded.{LoadedData}

@@ -10,7 +10,7 @@ ghost use Rattle.ngc_behaviour.specs.Reach.{before, stops, leg_of};
 ghost use Rattle.ngc_controller.specs.Drive.{flows_on, with_one_more};
 
 use crate::route::Loaded;
-use ngc_canonical::{Action, Command};
+use ngc_commands::{Action, Command};
 use ngc_machine::Machine;
 use ngc_planner::{Leg, Ramp, bound_of, joint_of};
 use ngc_step_kernel::ArcKernel;

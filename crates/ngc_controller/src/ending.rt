@@ -5,7 +5,7 @@ ghost use Rattle.ngc_behaviour.specs.Step.{ticks_of, ending};
 ghost use Rattle.ngc_controller.specs.Fields.{DWELL_LIMIT, panel_after, tool_after};
 
 use crate::panel::Panel;
-use ngc_canonical::Action;
+use ngc_commands::Action;
 use ngc_events::Ending;
 use ngc_machine::Tool;
 

@@ -11,7 +11,7 @@ ghost use Rattle.ngc_controller.specs.Ring.{action_of};
 use crate::drive::Drive;
 use crate::ring::Ring;
 use crate::route::Loaded;
-use ngc_canonical::{Action, Command};
+use ngc_commands::{Action, Command};
 use ngc_machine::Machine;
 use ngc_planner::{Ramp, target_at};
 use ngc_step_kernel::ArcKernel;

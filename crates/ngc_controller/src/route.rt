@@ -8,7 +8,7 @@ ghost use Rattle.ngc_behaviour.specs.State.{Job, path_steps};
 ghost use Rattle.ngc_behaviour.specs.Step.{MayTake};
 ghost use Rattle.ngc_controller.specs.Loaded.{points_of, place_of, next_place, IsLoaded};
 
-use ngc_canonical::{Action, Command, Way};
+use ngc_commands::{Action, Command, Way};
 use ngc_fixed_length::{Nm, StepPos};
 use ngc_step_kernel::{ArcKernel, LinePath, Path};
 use std::marker::Model;

@@ -3,10 +3,11 @@
 use crate::checks::{holds, same};
 use crate::given::TOOLS;
 use linked_list_allocator::LocalHeap;
-use ngc_canonical::{Action, Command, Motion, Pace, Way, interpret};
+use ngc_canonical::interpret;
 use ngc_certificate::{join, make, uncleared};
 use ngc_certificate_text::{Certificate, CertificateFault, Setting};
 use ngc_checker::{CheckReader, check};
+use ngc_commands::{Action, Command, Motion, Pace, Way};
 use ngc_drawing::{View, write_svg};
 use ngc_fixed_length::{Nm, Point3};
 use ngc_line_reader::Program;

@@ -3,7 +3,7 @@ use Rattle.std.proofs.Common.{◌≡◌, ℕ, ◌+◌, ◌<◌, List, ◌++◌, 
 use Rattle.std.proofs.lemmas.List.{drop_more}
 use Rattle.ngc_machine.specs.declared.machine.Fixture.{Fixture}
 use Rattle.ngc_machine.specs.declared.tools.Tool.{Tool}
-use Rattle.ngc_canonical.specs.declared.command.Command.{Command}
+use Rattle.ngc_commands.specs.declared.command.Command.{Command}
 use Rattle.ngc_drawing.specs.Pictures.{fixture, fixtures_from, tool_row, tool_rows}
 use Rattle.ngc_drawing.specs.Strokes.{strokes_of, strokes_from, after}
 use Rattle.ngc_drawing.specs.declared.pen.Pen.{Pen}

@@ -6,10 +6,10 @@ use Rattle.std.specs.Ordering.{int_eq}
 use Rattle.ngc_fixed_length.specs.Boxes.{lesser_corner, greater_corner}
 use Rattle.ngc_fixed_length.specs.declared.points.GridBox.{GridBox}
 use Rattle.ngc_machine.specs.declared.tools.Tool.{Tool}
-use Rattle.ngc_canonical.specs.Movement.{actions_of}
-use Rattle.ngc_canonical.specs.declared.command.Action.{Action}
-use Rattle.ngc_canonical.specs.declared.command.Action.TheVariants.{Move, Mount}
-use Rattle.ngc_canonical.specs.declared.command.Command.{Command}
+use Rattle.ngc_commands.specs.Movement.{actions_of}
+use Rattle.ngc_commands.specs.declared.command.Action.{Action}
+use Rattle.ngc_commands.specs.declared.command.Action.TheVariants.{Move, Mount}
+use Rattle.ngc_commands.specs.declared.command.Command.{Command}
 use Rattle.ngc_certificate_text.specs.Certificate.{Entry}
 use Rattle.ngc_certificate_text.specs.declared.piece.Piece.{Piece}
 use Rattle.ngc_collision.specs.Body.{bodies, span}

@@ -13,8 +13,8 @@ use crate::spot::Rectangle;
 use crate::sweep::Sweep;
 use crate::view::View;
 use arrayvec::ArrayVec;
-use ngc_canonical::{Machine, Tool};
 use ngc_collision::Solid;
+use ngc_machine::{Machine, Tool};
 use ngc_text::{Chunk, Sink, WriteFault};
 use std::alloc::Allocator;
 

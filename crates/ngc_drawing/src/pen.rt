@@ -5,7 +5,8 @@ use crate::shape::Ink;
 use crate::spot::Spot;
 use crate::tools::{number_of, rank_of};
 use crate::view::View;
-use ngc_canonical::{Action, Pace, Tool};
+use ngc_commands::{Action, Pace};
+use ngc_machine::Tool;
 
 /// A path that is being drawn: its ink, and where it has come to.
 #[derive(Clone, Copy)]

@@ -30,9 +30,9 @@ use crate::sweep::{Sweep, sweeps};
 use crate::tools::{number_of, rank_of, used};
 use crate::view::{View, to_micrometres};
 use arrayvec::ArrayVec;
-use ngc_canonical::{Action, Command, Fixture, Machine, Tool, Way};
 use ngc_certificate_text::Motions;
-use ngc_machine::Part;
+use ngc_commands::{Action, Command, Way};
+use ngc_machine::{Fixture, Machine, Part, Tool};
 use ngc_text::{Chunk, Sink, WriteFault};
 use std::alloc::Allocator;
 

@@ -11,7 +11,8 @@ use crate::shape::Sheet;
 use crate::spot::{Rectangle, Spot};
 use crate::strokes::corner_spots;
 use crate::view::View;
-use ngc_canonical::{Action, Command, Fixture, Machine, Way};
+use ngc_commands::{Action, Command, Way};
+use ngc_machine::{Fixture, Machine};
 use std::alloc::Allocator;
 
 /// In what signs and texts are measured.

@@ -1,7 +1,7 @@
 //! The path, motion by motion.
 ghost use Rattle.std.specs.Prelude.{◌≡◌, ◌≤◌, ◌++◌, length, map};
 ghost use Rattle.ngc_text.specs.Failures.{CountsFailure};
-ghost use Rattle.ngc_canonical.specs.Movement.{start_of};
+ghost use Rattle.ngc_commands.specs.Movement.{start_of};
 ghost use Rattle.ngc_drawing.specs.declared.shape.Shape.TheVariants as drawn;
 ghost use Rattle.ngc_drawing.specs.Arcs.{corner_spots};
 ghost use Rattle.ngc_drawing.specs.Draws.{Draws};
@@ -18,7 +18,7 @@ use crate::spot::Spot;
 use crate::view::{View, to_micrometres};
 use arrayvec::ArrayVec;
 use ngc_arc_geometry::Arc;
-use ngc_canonical::{Action, Way};
+use ngc_commands::{Action, Way};
 use ngc_fixed_length::{Point3, Turn};
 use ngc_text::{Chunk, Sink, WriteFault};
 

@@ -1,9 +1,9 @@
 //! The boxes of a certificate, with the tools that are mounted then.
 ghost use Rattle.std.specs.Prelude.{◌≡◌, ◌+◌, ◌*◌, ◌≤◌, ◌++◌, ◌∷◌, List, Option, map, IfOk};
 ghost use Rattle.ngc_machine.specs.declared.tools.Tool.{Tool};
-ghost use Rattle.ngc_canonical.specs.declared.command.Action.TheVariants.{Move};
-ghost use Rattle.ngc_canonical.specs.declared.movement.Motion.{Motion};
-ghost use Rattle.ngc_canonical.specs.declared.command.Action.{Action};
+ghost use Rattle.ngc_commands.specs.declared.command.Action.TheVariants.{Move};
+ghost use Rattle.ngc_commands.specs.declared.movement.Motion.{Motion};
+ghost use Rattle.ngc_commands.specs.declared.command.Action.{Action};
 ghost use Rattle.ngc_certificate_text.specs.Certificate.{MOTION_LIMIT, PIECE_LIMIT};
 ghost use Rattle.ngc_drawing.specs.Bodies.{sweep_of, is_same_x, is_same_y, is_same_z};
 ghost use Rattle.ngc_drawing.specs.Bodies.{are_seen_alike, takes, joint, joined_with, finished};
@@ -14,9 +14,10 @@ ghost use Rattle.ngc_drawing.specs.declared.sweep.Sweep.{Sweep};
 
 use crate::tools::{number_of, rank_of};
 use crate::view::View;
-use ngc_canonical::{Action, Command, Tool};
 use ngc_certificate_text::{Motions, Piece};
+use ngc_commands::{Action, Command};
 use ngc_fixed_length::GridBox;
+use ngc_machine::Tool;
 use std::alloc::{AllocError, Allocator};
 
 /// Boxes that are drawn as one: the rank of their tool, how many they are, and the least box that

@@ -1,7 +1,8 @@
 ghost use Rattle.std.specs.Prelude.{◌≡◌, IfOk, length};
 ghost use Rattle.ngc_drawing.specs.Tools.{number_of, rank_of, with_tool, mounted, used_by, used};
 
-use ngc_canonical::{Action, Command, Tool};
+use ngc_commands::{Action, Command};
+use ngc_machine::Tool;
 use std::alloc::{AllocError, Allocator};
 
 /// The number of a tool; no tool is 0.

@@ -1,7 +1,7 @@
 -- What is kept of a program is its job.
 use Rattle.std.proofs.Common.{◌≡◌, List, Option, Some, None, Bool, true, false, Ok, refl, sym, ◌∙◌}
 use Rattle.ngc_canonical.proofs.BlockDelete.{same_at_both}
-use Rattle.ngc_canonical.specs.declared.command.Command.{Command}
+use Rattle.ngc_commands.specs.declared.command.Command.{Command}
 use Rattle.ngc_canonical.specs.Meaning.{Program, has_deleted, meaning}
 use Rattle.ngc_canonical.specs.State.{Setup}
 use Rattle.ngc_job.specs.Job.{IsJobOf, JobData}

@@ -6,13 +6,14 @@ use Rattle.ngc_fixed_length.specs.declared.points.Point3.{Point3}
 use Rattle.ngc_machine.specs.Machine.{MachineFile}
 use Rattle.ngc_machine.specs.MachineRanges.{IsMachine}
 use Rattle.ngc_machine.specs.declared.tools.Tool.{Tool}
-use Rattle.ngc_canonical.specs.declared.command.Command.{Command}
+use Rattle.ngc_commands.specs.declared.command.Command.{Command}
 use Rattle.ngc_canonical.specs.declared.fault.ProgramFault.{ProgramFault}
 use Rattle.ngc_canonical.specs.declared.fault.ProgramFault.TheVariants.{At, Memory}
-use Rattle.ngc_canonical.specs.Joined.{HaveEvenRadii, EndIsLast, HasEnd}
+use Rattle.ngc_commands.specs.Sequence.{HaveEvenRadii, EndIsLast, HasEnd}
 use Rattle.ngc_canonical.specs.Meaning.{Program, has_deleted, meaning}
-use Rattle.ngc_canonical.specs.Movement.{actions_of, ways_of, AreJoined}
-use Rattle.ngc_canonical.specs.State.{Setup, COMMAND_LIMIT}
+use Rattle.ngc_commands.specs.Movement.{actions_of, ways_of, AreJoined}
+use Rattle.ngc_canonical.specs.State.{Setup}
+use Rattle.ngc_commands.specs.Sequence.{COMMAND_LIMIT}
 use Rattle.ngc_certificate_text.specs.declared.piece.Setting.{Setting}
 use Rattle.ngc_certificate_text.specs.declared.piece.Setting.TheVariants.{Off, On}
 use Rattle.ngc_job.specs.declared.job.JobFault.{JobFault}

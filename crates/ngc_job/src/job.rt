@@ -8,8 +8,9 @@ ghost use Rattle.ngc_canonical.specs.Interpreter.{setup_of};
 ghost use Rattle.ngc_canonical.specs.Meaning.{program_said};
 ghost use Rattle.ngc_job.specs.Job.{GivesJob, IsJob, commands_in};
 
-use ngc_canonical::{Command, ProgramFault, has_deleted_lines, interpret};
+use ngc_canonical::{ProgramFault, has_deleted_lines, interpret};
 use ngc_certificate_text::Setting;
+use ngc_commands::Command;
 use ngc_line_reader::Program;
 use ngc_machine::{Machine, Tools};
 use std::alloc::Allocator;

@@ -6,7 +6,7 @@ use Rattle.std.specs.Io.KnownBytes.{Appends}
 use Rattle.ngc_text.specs.Written.{AppendsBeginning}
 use Rattle.ngc_text.proofs.Appended.{appends_both, begins_after}
 use Rattle.ngc_text.specs.Collected.{WritesFront}
-use Rattle.ngc_canonical.specs.declared.command.Command.{Command}
+use Rattle.ngc_commands.specs.declared.command.Command.{Command}
 use Rattle.ngc_listing.specs.Listing.{listing_line, listing_from}
 
 -- some bytes are written, then come those that are collected, and then the rest

@@ -11,22 +11,22 @@ use Rattle.ngc_fixed_length.specs.declared.modes.Turn.TheVariants.{Clockwise, Co
 use Rattle.ngc_fixed_length.specs.declared.points.Point3.{Point3}
 use Rattle.ngc_fixed_length.specs.declared.points.StepPos.{StepPos}
 use Rattle.ngc_machine.specs.declared.tools.Tool.{Tool}
-use Rattle.ngc_canonical.specs.Movement.{end_of}
-use Rattle.ngc_canonical.specs.declared.command.Action.{Action}
-use Rattle.ngc_canonical.specs.declared.command.Action.TheVariants.{Move, Mount, Dwell, Spindle}
-use Rattle.ngc_canonical.specs.declared.command.Action.TheVariants.{Coolant, Override, Stop}
-use Rattle.ngc_canonical.specs.declared.command.Action.TheVariants.{OptionalStop, End}
-use Rattle.ngc_canonical.specs.declared.command.Command.{Command}
-use Rattle.ngc_canonical.specs.declared.movement.Feed.{Feed}
-use Rattle.ngc_canonical.specs.declared.movement.Feed.TheVariants as feeds
-use Rattle.ngc_canonical.specs.declared.movement.Pace.{Pace}
-use Rattle.ngc_canonical.specs.declared.movement.Pace.TheVariants as paces
-use Rattle.ngc_canonical.specs.declared.movement.Way.{Way}
-use Rattle.ngc_canonical.specs.declared.movement.Way.TheVariants.{Line, Arc}
-use Rattle.ngc_canonical.specs.declared.command.SpindleState.{SpindleState}
-use Rattle.ngc_canonical.specs.declared.command.SpindleState.TheVariants as spindles
-use Rattle.ngc_canonical.specs.declared.command.CoolantState.{CoolantState}
-use Rattle.ngc_canonical.specs.declared.command.CoolantState.TheVariants as coolants
+use Rattle.ngc_commands.specs.Movement.{end_of}
+use Rattle.ngc_commands.specs.declared.command.Action.{Action}
+use Rattle.ngc_commands.specs.declared.command.Action.TheVariants.{Move, Mount, Dwell, Spindle}
+use Rattle.ngc_commands.specs.declared.command.Action.TheVariants.{Coolant, Override, Stop}
+use Rattle.ngc_commands.specs.declared.command.Action.TheVariants.{OptionalStop, End}
+use Rattle.ngc_commands.specs.declared.command.Command.{Command}
+use Rattle.ngc_commands.specs.declared.movement.Feed.{Feed}
+use Rattle.ngc_commands.specs.declared.movement.Feed.TheVariants as feeds
+use Rattle.ngc_commands.specs.declared.movement.Pace.{Pace}
+use Rattle.ngc_commands.specs.declared.movement.Pace.TheVariants as paces
+use Rattle.ngc_commands.specs.declared.movement.Way.{Way}
+use Rattle.ngc_commands.specs.declared.movement.Way.TheVariants.{Line, Arc}
+use Rattle.ngc_commands.specs.declared.command.SpindleState.{SpindleState}
+use Rattle.ngc_commands.specs.declared.command.SpindleState.TheVariants as spindles
+use Rattle.ngc_commands.specs.declared.command.CoolantState.{CoolantState}
+use Rattle.ngc_commands.specs.declared.command.CoolantState.TheVariants as coolants
 
 -- three numbers, parted by one space
 abbrev pub triple : ℤ → ℤ → ℤ → List ℕ

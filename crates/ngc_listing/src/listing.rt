@@ -4,15 +4,16 @@ ghost use Rattle.ngc_text.specs.Failures.{CountsFailure};
 ghost use Rattle.ngc_fixed_length.specs.Length.{IsStep};
 ghost use Rattle.ngc_text.specs.Written.{AppendsBeginning};
 ghost use Rattle.ngc_text.specs.Collected.{CHUNK_SIZE, HasLineRoom};
-ghost use Rattle.ngc_canonical.specs.Movement.{end_of};
+ghost use Rattle.ngc_commands.specs.Movement.{end_of};
 ghost use Rattle.ngc_listing.specs.Listing.{end_text, feed_text, turn_text, plane_text, arc_text};
 ghost use Rattle.ngc_listing.specs.Listing.{spindle_text, coolant_text, number_of_tool};
 ghost use Rattle.ngc_listing.specs.Listing.{switch_text, way_text, pace_text, act_text};
 ghost use Rattle.ngc_listing.specs.Listing.{listing_line, listing};
 
 use ngc_arc_geometry::Arc;
-use ngc_canonical::{Action, Command, CoolantState, Feed, Motion, Pace, SpindleState, Tool, Way};
+use ngc_commands::{Action, Command, CoolantState, Feed, Motion, Pace, SpindleState, Way};
 use ngc_fixed_length::{Nm, Plane, Point3, Turn};
+use ngc_machine::Tool;
 use ngc_text::{Chunk, Sink, WriteFault};
 
 fn add_end(chunk: &mut Chunk, step: Nm, end: &Point3)

@@ -10,14 +10,14 @@ use Rattle.ngc_fixed_length.specs.Signed.{same}
 use Rattle.ngc_fixed_length.specs.declared.points.Point3.{Point3}
 use Rattle.ngc_arc_geometry.specs.Shape.{ArcShape}
 use Rattle.ngc_machine.specs.Machine.{MachineFile}
-use Rattle.ngc_canonical.specs.declared.command.Action.{Action}
-use Rattle.ngc_canonical.specs.declared.command.Action.TheVariants.{Move}
-use Rattle.ngc_canonical.specs.declared.movement.Feed.{Feed}
-use Rattle.ngc_canonical.specs.declared.movement.Feed.TheVariants.{PerMinute, Inverse}
-use Rattle.ngc_canonical.specs.declared.movement.Pace.{Pace}
-use Rattle.ngc_canonical.specs.declared.movement.Pace.TheVariants as paces
-use Rattle.ngc_canonical.specs.declared.movement.Way.{Way}
-use Rattle.ngc_canonical.specs.declared.movement.Way.TheVariants.{Line, Arc}
+use Rattle.ngc_commands.specs.declared.command.Action.{Action}
+use Rattle.ngc_commands.specs.declared.command.Action.TheVariants.{Move}
+use Rattle.ngc_commands.specs.declared.movement.Feed.{Feed}
+use Rattle.ngc_commands.specs.declared.movement.Feed.TheVariants.{PerMinute, Inverse}
+use Rattle.ngc_commands.specs.declared.movement.Pace.{Pace}
+use Rattle.ngc_commands.specs.declared.movement.Pace.TheVariants as paces
+use Rattle.ngc_commands.specs.declared.movement.Way.{Way}
+use Rattle.ngc_commands.specs.declared.movement.Way.TheVariants.{Line, Arc}
 
 -- how many path steps a motion may have
 abbrev pub STEPS_LIMIT : ℕ

@@ -5,7 +5,7 @@ ghost use Rattle.ngc_planner.specs.Axes.{differing, with_plane, axes_of, rate_wh
 ghost use Rattle.ngc_planner.specs.Axes.{axes_rate};
 ghost use Rattle.ngc_fixed_length.specs.Limits.{MILLION};
 
-use ngc_canonical::Way;
+use ngc_commands::Way;
 use ngc_fixed_length::{Nm, Plane, StepPos};
 use ngc_machine::{AxisRates, Machine};
 use std::alloc::Allocator;

@@ -9,7 +9,7 @@ ghost use Rattle.ngc_planner.specs.Bounds.{greatest_rate, bound_of, overridden, 
 use crate::axes::axes_rate;
 use crate::caps::cap_of;
 use ngc_arc_geometry::Arc;
-use ngc_canonical::{Action, Way};
+use ngc_commands::{Action, Way};
 use ngc_fixed_length::root_floor;
 use ngc_machine::Machine;
 use std::alloc::Allocator;

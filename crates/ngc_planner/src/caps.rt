@@ -7,7 +7,7 @@ ghost use Rattle.ngc_planner.specs.Caps.{inverse_cap, line_cap, arc_cap, feed_ca
 ghost use Rattle.ngc_planner.specs.Caps.{KeepsFeed};
 
 use ngc_arc_geometry::Arc;
-use ngc_canonical::{Action, Feed, Pace, Way};
+use ngc_commands::{Action, Feed, Pace, Way};
 use ngc_fixed_length::{Nm, Point3, root_ceil};
 use ngc_machine::Machine;
 use std::alloc::Allocator;

@@ -1,6 +1,6 @@
 -- The text of what was accepted, by the machine, the tools and the commands that are passed.
 use Rattle.std.proofs.Common.{◌≡◌, List, ◌++◌, Bool, ap₂}
-use Rattle.ngc_canonical.specs.declared.command.Command.{Command}
+use Rattle.ngc_commands.specs.declared.command.Command.{Command}
 use Rattle.ngc_certificate_text.specs.Certificate.{Entry}
 use Rattle.ngc_certificate_text.specs.declared.piece.Setting.{Setting}
 use Rattle.ngc_machine.specs.Machine.{MachineFile}

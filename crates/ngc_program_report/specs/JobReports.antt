@@ -10,7 +10,7 @@ use Rattle.ngc_canonical.specs.State.{Setup}
 use Rattle.ngc_fixed_length.specs.Grid.{grid}
 use Rattle.ngc_machine.specs.Machine.{MachineFile}
 use Rattle.ngc_machine.specs.MachineRanges.{IsMachine}
-use Rattle.ngc_canonical.specs.declared.command.Command.{Command}
+use Rattle.ngc_commands.specs.declared.command.Command.{Command}
 use Rattle.ngc_certificate_text.specs.declared.piece.Setting.{Setting}
 use Rattle.ngc_certificate_text.specs.declared.piece.Setting.TheVariants.{Off, On}
 use Rattle.ngc_certificate_text.specs.Certificate.{CertificateData, Entry}

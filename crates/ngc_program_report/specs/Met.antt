@@ -2,29 +2,16 @@
 use Rattle.std.specs.Prelude.{ℕ, List, [], ◌∷◌, take, drop, Option, Some, None}
 use Rattle.ngc_fixed_length.specs.Grid.{grid}
 use Rattle.ngc_machine.specs.Machine.{MachineFile}
-use Rattle.ngc_canonical.specs.Movement.{end_of}
-use Rattle.ngc_canonical.specs.declared.command.Action.{Action}
-use Rattle.ngc_canonical.specs.declared.command.Action.TheVariants.{Move, Mount}
-use Rattle.ngc_canonical.specs.declared.command.Command.{Command}
+use Rattle.ngc_commands.specs.Reached.{after_all, at_start}
+use Rattle.ngc_commands.specs.declared.reached.Reached.{Reached}
+use Rattle.ngc_commands.specs.declared.command.Action.{Action}
+use Rattle.ngc_commands.specs.declared.command.Action.TheVariants.{Move, Mount}
+use Rattle.ngc_commands.specs.declared.command.Command.{Command}
 use Rattle.ngc_certificate.specs.declared.fault.PieceFault.{PieceFault}
 use Rattle.ngc_certificate.specs.declared.fault.PieceFault.TheVariants as pieces
 use Rattle.ngc_certificate.specs.declared.fault.PieceRefusal.{PieceRefusal}
 use Rattle.ngc_certificate.specs.Made.{pieces_of}
 use Rattle.ngc_certificate.specs.PieceFault.{pieces_fault, place_fault, ◌or◌}
-use Rattle.ngc_program_report.specs.declared.met.Reached.{Reached}
-
--- the tool that is mounted and the place that is reached, at the start and behind commands
-abbrev pub start_of : MachineFile → Reached
-start_of machine = record { tool = None; place = machine.start }
-
-abbrev pub after_action : Reached → Action → Reached
-after_action r (Mount tool) = record { tool = tool; place = r.place }
-after_action r (Move m) = record { tool = r.tool; place = end_of m.way }
-after_action r _ = r
-
-abbrev pub behind : Reached → List Command → Reached
-behind r [] = r
-behind r (c ∷ cs) = behind (after_action r c.action) cs
 
 -- the fixture that a piece is refused for
 abbrev pub fixture_in : PieceFault → Option ℕ
@@ -52,4 +39,4 @@ met_first machine r (c ∷ cs) = met_by machine r c.action
 abbrev pub met_at : MachineFile → List Command → ℕ → Option ℕ
 met_at machine commands k =
     place_fault machine None (grid machine.step machine.start) or met_first machine
-    (behind (start_of machine) (take k commands)) (drop k commands)
+    (after_all (at_start machine) (take k commands)) (drop k commands)

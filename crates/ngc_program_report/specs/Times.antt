@@ -1,7 +1,7 @@
 -- How long a run through a program takes, as it is told. Our own.
 use Rattle.std.specs.Prelude.{ℕ, ◌*◌, ◌/◌, ◌%◌, List, [], ◌∷◌, ◌++◌, drop, codes, decimal, Option}
 use Rattle.std.specs.Prelude.{None, Some, if◌then◌else◌}
-use Rattle.ngc_canonical.specs.declared.command.Command.{Command}
+use Rattle.ngc_commands.specs.declared.command.Command.{Command}
 use Rattle.ngc_machine.specs.declared.tools.Tool.{Tool}
 use Rattle.ngc_report.specs.Uses.{moves, tool_uses, use_of}
 use Rattle.ngc_report.specs.Words.{tool_text}

@@ -1,53 +1,12 @@
 //! Which fixture a command meets.
 ghost use Rattle.std.specs.Prelude.{◌≡◌};
 ghost use Rattle.ngc_machine.specs.Machine.{file_of};
-ghost use Rattle.ngc_program_report.specs.Met.{after_action, behind, fixture_of, met_at, met_by};
-ghost use Rattle.ngc_program_report.specs.Met.{met_first, start_of};
+ghost use Rattle.ngc_program_report.specs.Met.{fixture_of, met_at, met_by, met_first};
 
-use ngc_canonical::{Action, Command};
 use ngc_certificate::{PieceFault, PieceRefusal, pieces_fault, place_fault, undivided};
-use ngc_fixed_length::Point3;
-use ngc_machine::{Machine, Tool};
+use ngc_commands::{Action, Command, Reached};
+use ngc_machine::Machine;
 use std::alloc::Allocator;
-
-/// Where the axes stand between two commands, and with what tool.
-#[derive(Clone, Copy)]
-struct Reached {
-    tool: Option<Tool>,
-    place: Point3,
-}
-
-impl Reached {
-    fn after_action(&self, action: &Action) -> Reached
-        ensures { result ≡ after_action self.now action.now }
-    {
-        match action {
-            Action::Move(motion) => Reached {
-                tool: self.tool,
-                place: motion.way.end(),
-            },
-            Action::Mount(tool) => Reached {
-                tool: *tool,
-                place: self.place,
-            },
-            _ => *self,
-        }
-    }
-
-    // Behind commands that begin at the machine's start.
-    fn behind<A: Allocator>(machine: &Machine<A>, commands: &[Command]) -> Reached
-        ensures { result ≡ behind (start_of (file_of machine.now)) commands.now }
-    {
-        let mut reached = Reached {
-            tool: None,
-            place: machine.start,
-        };
-        for command in commands {
-            reached = reached.after_action(&command.action);
-        }
-        reached
-    }
-}
 
 // The fixture that a piece is refused for.
 fn fixture_of(refusal: Option<PieceRefusal>) -> Option<u32>
@@ -102,6 +61,6 @@ pub fn met_at<A: Allocator>(machine: &Machine<A>, commands: &[Command], at: usiz
         return Some(fixture);
     }
     let at = at.min(commands.len());
-    let reached = Reached::behind(machine, &commands[..at]);
+    let reached = Reached::at_start(machine).after_all(&commands[..at]);
     met_first(machine, &reached, &commands[at..])
 }

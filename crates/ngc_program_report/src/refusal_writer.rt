@@ -15,8 +15,9 @@ ghost use Rattle.ngc_program_report.specs.Texts.{setting_refusals, told_command,
 
 use crate::met::met_at;
 use crate::report_frame::{write_ending, write_heading};
-use ngc_canonical::{Command, Fault};
+use ngc_canonical::Fault;
 use ngc_certificate::{Setting, place_fault};
+use ngc_commands::Command;
 use ngc_line_reader::Program;
 use ngc_machine::Machine;
 use ngc_report::{Form, write_line, write_named, write_refusal, write_refusals};

@@ -11,7 +11,7 @@ ghost use Rattle.ngc_program_report.specs.Times.{use_time_words, uses_text};
 use crate::program_time::ProgramTime;
 use crate::report_time::{add_seconds, add_time};
 use crate::run_time::RunTime;
-use ngc_canonical::Command;
+use ngc_commands::Command;
 use ngc_machine::Tool;
 use ngc_report::{Form, ToolUse, ToolUses};
 use ngc_text::{Chunk, Sink, WriteFault};

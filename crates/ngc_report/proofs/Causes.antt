@@ -6,15 +6,16 @@ use Rattle.std.proofs.lemmas.List.Concat.{flat_map-cons}
 use Rattle.std.proofs.lemmas.List.Sums.{fold-append}
 use Rattle.ngc_text.specs.Collected.{WritesFront}
 use Rattle.ngc_machine.specs.Machine.{MachineFile}
-use Rattle.ngc_canonical.specs.Movement.{actions_of}
-use Rattle.ngc_canonical.specs.declared.command.Command.{Command}
+use Rattle.ngc_commands.specs.Movement.{actions_of}
+use Rattle.ngc_commands.specs.declared.command.Command.{Command}
 use Rattle.ngc_report.specs.Forms.{report_text}
 use Rattle.ngc_report.specs.Reports.{causes_lines, scene_lines}
 use Rattle.std.specs.Prelude.{fold}
-use Rattle.ngc_report.specs.Scenes.{after, gone_on, scene_at}
+use Rattle.ngc_commands.specs.Reached.{after, after_all}
+use Rattle.ngc_report.specs.Scenes.{scene_at}
 use Rattle.ngc_report.specs.declared.form.Form.{Form}
 use Rattle.ngc_report.specs.declared.line.Line.{Line}
-use Rattle.ngc_report.specs.declared.scene.Reached.{Reached}
+use Rattle.ngc_commands.specs.declared.reached.Reached.{Reached}
 use Rattle.ngc_report.proofs.Ahead.{Ahead}
 
 -- nothing is left to tell
@@ -40,12 +41,12 @@ actions_of-append [] ds = refl
 actions_of-append (c ∷ cs) ds = ap (λ l. c.action ∷ l) (actions_of-append cs ds)
 
 -- some commands further
-pub gone_further : (start s : Reached) (commands : List Command) (a b : ℕ) → a ≤ b → s ≡ gone_on start (take a commands)
-    → gone_on s (take (b - a) (drop a commands)) ≡ gone_on start (take b commands)
+pub gone_further : (start s : Reached) (commands : List Command) (a b : ℕ) → a ≤ b → s ≡ after_all start (take a commands)
+    → after_all s (take (b - a) (drop a commands)) ≡ after_all start (take b commands)
 gone_further start s commands a b ahead is =
     let some : List Command = take a commands in
     let more : List Command = take (b - a) (drop a commands) in
     let sum : a + (b - a) ≡ b = omega (arith, ahead) in
-    ap (λ (x : Reached). gone_on x more) is ∙ sym (fold-append after start (actions_of some) (actions_of more))
+    ap (λ (x : Reached). after_all x more) is ∙ sym (fold-append after start (actions_of some) (actions_of more))
     ∙ ap (fold after start) (sym (actions_of-append some more))
-    ∙ ap (λ (l : List Command). gone_on start l) (sym (take-add a (b - a) commands)) ∙ ap (λ n. gone_on start (take n commands)) sum
+    ∙ ap (λ (l : List Command). after_all start l) (sym (take-add a (b - a) commands)) ∙ ap (λ n. after_all start (take n commands)) sum

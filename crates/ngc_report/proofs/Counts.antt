@@ -3,11 +3,11 @@ use Rattle.std.proofs.Common.{◌≡◌, ℕ, ◌+◌, ◌<◌, List, [], ◌∷
 use Rattle.std.specs.Prelude.{fold, MatchOption}
 use Rattle.std.proofs.lemmas.List.{drop_more}
 use Rattle.std.proofs.lemmas.List.Sums.{fold-append}
-use Rattle.ngc_canonical.specs.declared.command.Command.{Command}
+use Rattle.ngc_commands.specs.declared.command.Command.{Command}
 use Rattle.ngc_machine.specs.Machine.{MachineFile}
-use Rattle.ngc_report.specs.Scenes.{after}
+use Rattle.ngc_commands.specs.Reached.{after}
 use Rattle.ngc_report.specs.Warnings.{line_of, lines_of, warning, counted}
-use Rattle.ngc_report.specs.declared.scene.Reached.{Reached}
+use Rattle.ngc_commands.specs.declared.reached.Reached.{Reached}
 use Rattle.ngc_report.specs.declared.warnings.Concern.{Concern}
 use Rattle.ngc_report.specs.declared.warnings.Warning.{Warning}
 

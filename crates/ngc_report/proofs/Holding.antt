@@ -10,10 +10,10 @@ use Rattle.ngc_fixed_length.specs.LinePath.{point, FollowsLine, IsLineOf}
 use Rattle.ngc_fixed_length.specs.declared.points.GridBox.{GridBox}
 use Rattle.ngc_fixed_length.specs.declared.points.Point3.{Point3}
 use Rattle.ngc_fixed_length.specs.declared.points.StepPos.{StepPos}
-use Rattle.ngc_canonical.specs.Movement.{actions_of, ways_of}
-use Rattle.ngc_canonical.specs.ProgramPath.{IsPathOf}
-use Rattle.ngc_canonical.specs.declared.movement.Way.{Way}
-use Rattle.ngc_canonical.specs.declared.movement.Way.TheVariants.{Line, Arc}
+use Rattle.ngc_commands.specs.Movement.{actions_of, ways_of}
+use Rattle.ngc_commands.specs.ProgramPath.{IsPathOf}
+use Rattle.ngc_commands.specs.declared.movement.Way.{Way}
+use Rattle.ngc_commands.specs.declared.movement.Way.TheVariants.{Line, Arc}
 use Rattle.ngc_report.specs.Extents.{joint_box, reach, ExtentHoldsPaths, ExtentHoldsStart}
 
 -- ---- one motion

@@ -13,11 +13,11 @@ use Rattle.ngc_arc_geometry.specs.CutArc.{cut_box, is_large}
 use Rattle.ngc_arc_geometry.specs.Shape as shapes
 use Rattle.ngc_arc_geometry.specs.Shape.{ArcShape}
 use Rattle.ngc_arc_geometry.specs.Swept.{swept_box}
-use Rattle.ngc_canonical.specs.Movement.{actions_of, ways_of}
-use Rattle.ngc_canonical.specs.ProgramPath.{IsPathOf}
-use Rattle.ngc_canonical.specs.declared.command.Command.{Command}
-use Rattle.ngc_canonical.specs.declared.movement.Way.{Way}
-use Rattle.ngc_canonical.specs.declared.movement.Way.TheVariants.{Line, Arc}
+use Rattle.ngc_commands.specs.Movement.{actions_of, ways_of}
+use Rattle.ngc_commands.specs.ProgramPath.{IsPathOf}
+use Rattle.ngc_commands.specs.declared.command.Command.{Command}
+use Rattle.ngc_commands.specs.declared.movement.Way.{Way}
+use Rattle.ngc_commands.specs.declared.movement.Way.TheVariants.{Line, Arc}
 use Rattle.ngc_collision.specs.Body.{is_in_travel}
 use Rattle.ngc_certificate_text.specs.Certificate.{Entry}
 use Rattle.ngc_certificate_text.specs.declared.piece.Piece.{Piece}

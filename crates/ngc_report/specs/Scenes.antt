@@ -1,5 +1,5 @@
 -- What is in the way of a command. Our own.
-use Rattle.std.specs.Prelude.{◌≡◌, ◌≤◌, length, ℕ, ℤ, pos, ◌-ℤ◌, ◌*ℤ◌, int_le, List, fold, take}
+use Rattle.std.specs.Prelude.{◌≡◌, ◌≤◌, length, ℕ, ℤ, pos, ◌-ℤ◌, ◌*ℤ◌, int_le, List, take}
 use Rattle.std.specs.Prelude.{slice_get, Option, Some, None, option_map, option_and_then}
 use Rattle.std.specs.Prelude.{if◌then◌else◌}
 use Rattle.ngc_fixed_length.specs.Boxes.{only}
@@ -9,11 +9,13 @@ use Rattle.ngc_fixed_length.specs.declared.points.StepPos.{StepPos}
 use Rattle.ngc_machine.specs.Machine.{MachineFile}
 use Rattle.ngc_machine.specs.declared.machine.Fixture.{Fixture}
 use Rattle.ngc_machine.specs.declared.tools.Tool.{Tool}
-use Rattle.ngc_canonical.specs.Movement.{actions_of, start_of, end_of}
-use Rattle.ngc_canonical.specs.declared.command.Action.{Action}
-use Rattle.ngc_canonical.specs.declared.command.Action.TheVariants.{Move, Mount}
-use Rattle.ngc_canonical.specs.declared.command.Command.{Command}
-use Rattle.ngc_canonical.specs.declared.movement.Motion.{Motion}
+use Rattle.ngc_commands.specs.Movement.{start_of, end_of}
+use Rattle.ngc_commands.specs.Reached.{after_all, at_start}
+use Rattle.ngc_commands.specs.declared.reached.Reached.{Reached}
+use Rattle.ngc_commands.specs.declared.command.Action.{Action}
+use Rattle.ngc_commands.specs.declared.command.Action.TheVariants.{Move, Mount}
+use Rattle.ngc_commands.specs.declared.command.Command.{Command}
+use Rattle.ngc_commands.specs.declared.movement.Motion.{Motion}
 use Rattle.ngc_collision.specs.Body.{first_met}
 use Rattle.ngc_collision.specs.declared.solid.Place.{Place}
 use Rattle.ngc_report.specs.Extents.{reach, reach_in_pieces}
@@ -22,21 +24,11 @@ use Rattle.ngc_report.specs.Rooms.{room, is_inside}
 use Rattle.ngc_report.specs.declared.scene.Obstacle.{Obstacle}
 use Rattle.ngc_report.specs.declared.scene.Obstacle.TheVariants as obstacles
 use Rattle.ngc_report.specs.declared.scene.Scene.{Scene}
-use Rattle.ngc_report.specs.declared.scene.Reached.{Reached}
 use Rattle.ngc_report.specs.declared.refusals.Standing.{Standing}
 
--- the tool that is mounted behind an action, and the place that is reached
-abbrev pub after : Reached → Action → Reached
-after s (Move m) = record { tool = s.tool; place = end_of m.way }
-after s (Mount tool) = record { tool = tool; place = s.place }
-after s _ = s
-
--- and behind some more commands
-abbrev pub gone_on : Reached → List Command → Reached
-gone_on s commands = fold after s (actions_of commands)
-
+-- how the machine stands behind commands
 abbrev pub standing : MachineFile → List Command → Reached
-standing machine commands = gone_on (record { tool = None; place = machine.start }) commands
+standing machine commands = after_all (at_start machine) commands
 
 -- where a grid point lies, in nanometres
 abbrev pub lying : ℤ → StepPos → Place

@@ -2,14 +2,14 @@
 use Rattle.std.specs.Prelude.{ℕ, nat_lt, List, [], ◌∷◌, ◌++◌, count_by, sum_by, take_while, Option}
 use Rattle.std.specs.Prelude.{Some, None, Bool, true, false, not, ◌||◌, if◌then◌else◌}
 use Rattle.ngc_machine.specs.declared.tools.Tool.{Tool}
-use Rattle.ngc_canonical.specs.declared.command.Action.{Action}
-use Rattle.ngc_canonical.specs.declared.command.Action.TheVariants.{Move, Mount, Dwell, Stop}
-use Rattle.ngc_canonical.specs.declared.command.Action.TheVariants.{OptionalStop}
-use Rattle.ngc_canonical.specs.declared.command.Command.{Command}
-use Rattle.ngc_canonical.specs.declared.movement.Pace.{Pace}
-use Rattle.ngc_canonical.specs.declared.movement.Pace.TheVariants.{Rapid, Feed}
-use Rattle.ngc_canonical.specs.declared.movement.Way.{Way}
-use Rattle.ngc_canonical.specs.declared.movement.Way.TheVariants.{Line, Arc}
+use Rattle.ngc_commands.specs.declared.command.Action.{Action}
+use Rattle.ngc_commands.specs.declared.command.Action.TheVariants.{Move, Mount, Dwell, Stop}
+use Rattle.ngc_commands.specs.declared.command.Action.TheVariants.{OptionalStop}
+use Rattle.ngc_commands.specs.declared.command.Command.{Command}
+use Rattle.ngc_commands.specs.declared.movement.Pace.{Pace}
+use Rattle.ngc_commands.specs.declared.movement.Pace.TheVariants.{Rapid, Feed}
+use Rattle.ngc_commands.specs.declared.movement.Way.{Way}
+use Rattle.ngc_commands.specs.declared.movement.Way.TheVariants.{Line, Arc}
 use Rattle.ngc_report.specs.Ways.{length_of}
 use Rattle.ngc_report.specs.declared.uses.ToolUse.{ToolUse}
 use Rattle.ngc_report.specs.declared.uses.ToolUses.{ToolUses}

@@ -10,21 +10,21 @@ use Rattle.ngc_fixed_length.specs.declared.points.Point3.{Point3}
 use Rattle.ngc_fixed_length.specs.declared.points.StepPos.{StepPos}
 use Rattle.ngc_machine.specs.Machine.{MachineFile}
 use Rattle.ngc_machine.specs.declared.tools.Tool.{Tool}
-use Rattle.ngc_canonical.specs.declared.command.Action.{Action}
-use Rattle.ngc_canonical.specs.declared.command.Action.TheVariants.{Move}
-use Rattle.ngc_canonical.specs.declared.command.Command.{Command}
-use Rattle.ngc_canonical.specs.declared.movement.Feed.TheVariants.{PerMinute}
-use Rattle.ngc_canonical.specs.declared.movement.Motion.{Motion}
-use Rattle.ngc_canonical.specs.declared.movement.Pace.{Pace}
-use Rattle.ngc_canonical.specs.declared.movement.Pace.TheVariants.{Rapid, Feed}
-use Rattle.ngc_canonical.specs.declared.movement.Way.{Way}
-use Rattle.ngc_canonical.specs.declared.movement.Way.TheVariants.{Line}
+use Rattle.ngc_commands.specs.declared.command.Action.{Action}
+use Rattle.ngc_commands.specs.declared.command.Action.TheVariants.{Move}
+use Rattle.ngc_commands.specs.declared.command.Command.{Command}
+use Rattle.ngc_commands.specs.declared.movement.Feed.TheVariants.{PerMinute}
+use Rattle.ngc_commands.specs.declared.movement.Motion.{Motion}
+use Rattle.ngc_commands.specs.declared.movement.Pace.{Pace}
+use Rattle.ngc_commands.specs.declared.movement.Pace.TheVariants.{Rapid, Feed}
+use Rattle.ngc_commands.specs.declared.movement.Way.{Way}
+use Rattle.ngc_commands.specs.declared.movement.Way.TheVariants.{Line}
 use Rattle.ngc_collision.specs.Body.{Solid, bodies, span}
 use Rattle.ngc_report.specs.Extents.{reach}
-use Rattle.ngc_report.specs.Scenes.{after}
+use Rattle.ngc_commands.specs.Reached.{after}
 use Rattle.ngc_report.specs.declared.line.Line as told
 use Rattle.ngc_report.specs.declared.line.Line.TheVariants as lines
-use Rattle.ngc_report.specs.declared.scene.Reached.{Reached}
+use Rattle.ngc_commands.specs.declared.reached.Reached.{Reached}
 use Rattle.ngc_report.specs.declared.warnings.Concern.{Concern}
 use Rattle.ngc_report.specs.declared.warnings.Concern.TheVariants.{NoTool, FastFeed, LowHome}
 use Rattle.ngc_report.specs.declared.warnings.Warning.{Warning}

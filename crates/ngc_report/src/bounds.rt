@@ -1,7 +1,7 @@
 //! How far a program goes.
 ghost use Rattle.std.specs.Prelude.{◌≡◌, ◌∷◌, ◌+ℤ◌, ◌-ℤ◌, [], fold, map, pos};
 ghost use Rattle.std.specs.Int.{int_min, int_max};
-ghost use Rattle.ngc_canonical.specs.Movement.{ways_of};
+ghost use Rattle.ngc_commands.specs.Movement.{ways_of};
 ghost use Rattle.ngc_fixed_length.specs.Length.{IsStep};
 ghost use Rattle.ngc_machine.specs.Machine.{file_of};
 ghost use Rattle.ngc_fixed_length.specs.Boxes.{common_box, lesser_corner, greater_corner};
@@ -11,8 +11,8 @@ ghost use Rattle.ngc_report.specs.Extents.{reach_in_pieces};
 
 use crate::travel::travel_box;
 use ngc_arc_geometry::{Arc, GridArc};
-use ngc_canonical::{Action, Command, Way};
 use ngc_certificate_text::{Motions, Piece};
+use ngc_commands::{Action, Command, Way};
 use ngc_fixed_length::{GridBox, Nm, StepPos};
 use ngc_machine::Machine;
 use std::alloc::Allocator;

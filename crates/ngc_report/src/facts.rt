@@ -16,8 +16,8 @@ use crate::scene::{Met, Obstacle, Scene};
 use crate::uses::ToolUse;
 use crate::warnings::Warning;
 use crate::words::{add_count, axis_name, concern_words};
-use ngc_canonical::Tool;
 use ngc_collision::Place;
+use ngc_machine::Tool;
 use ngc_text::Chunk;
 
 #[tactic(auto, unfolding(crate::specs::Facts::tool_fact))]

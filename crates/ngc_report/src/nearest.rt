@@ -6,10 +6,10 @@ ghost use Rattle.ngc_machine.specs.Machine.{file_of};
 ghost use Rattle.ngc_report.specs.Nearing.{is_nearer, nearer, distances, around, over_pieces};
 
 use crate::gaps::gap;
-use ngc_canonical::{Machine, Tool};
 use ngc_certificate_text::{Motions, Piece};
 use ngc_collision::Solid;
 use ngc_fixed_length::GridBox;
+use ngc_machine::{Machine, Tool};
 use std::alloc::Allocator;
 
 /// The fixture that is nearest, by its number from 0, and its distance in nanometres. It is below

@@ -13,9 +13,10 @@ use crate::bounds::{extent, extent_in_travel};
 use crate::form::Form;
 use crate::line::Line;
 use crate::report::{alongs, tell_all, tell_scene, tell_start};
-use crate::scene::{Reached, Scene, gone_on, scene_of, standing};
-use ngc_canonical::{Command, Machine};
+use crate::scene::{Scene, scene_of, standing};
+use ngc_commands::{Command, Reached};
 use ngc_fixed_length::GridBox;
+use ngc_machine::Machine;
 use ngc_text::{Chunk, Sink, WriteFault};
 use std::alloc::Allocator;
 
@@ -49,7 +50,7 @@ impl Standing {
             let reached = standing(machine, &commands[..count]);
             return Standing { count, reached };
         }
-        let reached = gone_on(self.reached, &commands[self.count..count]);
+        let reached = self.reached.after_all(&commands[self.count..count]);
         Standing { count, reached }
     }
 

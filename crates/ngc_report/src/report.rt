@@ -22,9 +22,10 @@ use crate::scene::Scene;
 use crate::travel::{AxisRoom, Room, nanometres_at};
 use crate::uses::{ToolUse, ToolUses};
 use crate::words::add_line;
-use ngc_canonical::{Command, Machine};
 use ngc_certificate_text::Motions;
+use ngc_commands::Command;
 use ngc_fixed_length::{GridBox, Nm};
+use ngc_machine::Machine;
 use ngc_text::{Chunk, Sink, WriteFault};
 use std::alloc::Allocator;
 

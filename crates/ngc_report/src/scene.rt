@@ -1,9 +1,9 @@
 //! What is in the way of a command.
 ghost use Rattle.std.specs.Prelude.{◌≡◌, ◌≤◌, unsigned_abs};
-ghost use Rattle.ngc_canonical.specs.Movement.{start_of};
+ghost use Rattle.ngc_commands.specs.Movement.{start_of};
 ghost use Rattle.ngc_machine.specs.Machine.{file_of};
 ghost use Rattle.ngc_fixed_length.specs.Length.{IsStep};
-ghost use Rattle.ngc_report.specs.Scenes.{after, gone_on, standing, start_scene, still, moving};
+ghost use Rattle.ngc_report.specs.Scenes.{standing, start_scene, still, moving};
 ghost use Rattle.ngc_report.specs.Scenes.{lying, reached_at};
 ghost use Rattle.ngc_report.specs.Scenes.{scene_of, scene_at, foot, over_height, over, named};
 ghost use Rattle.ngc_report.specs.Scenes.{obstacle};
@@ -11,17 +11,11 @@ ghost use Rattle.ngc_report.specs.Scenes.{obstacle};
 use crate::bounds::{reach, reach_in_pieces};
 use crate::margins::Margin;
 use crate::travel::{Room, nanometres_at};
-use ngc_canonical::{Action, Command, Fixture, Machine, Motion, Tool, Way};
 use ngc_collision::{Place, first_met};
+use ngc_commands::{Action, Command, Motion, Reached, Way};
 use ngc_fixed_length::{GridBox, Nm, Point3, StepPos};
+use ngc_machine::{Fixture, Machine, Tool};
 use std::alloc::Allocator;
-
-// The tool that is mounted, and the place that is reached.
-#[derive(Clone, Copy)]
-pub(crate) struct Reached {
-    pub(crate) tool: Option<Tool>,
-    pub(crate) place: Point3,
-}
 
 /// What a command that may be refused does: a motion, a change of the tool, or none, which is the
 /// start.
@@ -71,42 +65,11 @@ fn start_of(way: &Way) -> Point3
     }
 }
 
-pub(crate) fn after(before: Reached, action: &Action) -> Reached
-    ensures { result ≡ after before action.now }
-{
-    match action {
-        Action::Move(motion) => Reached {
-            tool: before.tool,
-            place: motion.way.end(),
-        },
-        Action::Mount(tool) => Reached {
-            tool: *tool,
-            place: before.place,
-        },
-        _ => before,
-    }
-}
-
-/// How the machine stands behind some more commands.
-pub(crate) fn gone_on(before: Reached, commands: &[Command]) -> Reached
-    ensures { result ≡ gone_on before commands.now }
-{
-    let mut reached = before;
-    for command in commands {
-        reached = after(reached, &command.action);
-    }
-    reached
-}
-
 /// How the machine stands behind commands.
 pub(crate) fn standing<A: Allocator>(machine: &Machine<A>, commands: &[Command]) -> Reached
     ensures { result ≡ standing (file_of machine.now) commands.now }
 {
-    let start = Reached {
-        tool: None,
-        place: machine.start,
-    };
-    gone_on(start, commands)
+    Reached::at_start(machine).after_all(commands)
 }
 
 fn lying(step: Nm, point: &StepPos) -> Place

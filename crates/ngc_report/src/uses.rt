@@ -5,7 +5,8 @@ ghost use Rattle.ngc_report.specs.Uses.{traversed, fed, stretch, use_of, moves, 
 ghost use Rattle.ngc_report.specs.Uses.{uses_left};
 
 use crate::ways::length_of;
-use ngc_canonical::{Action, Command, Motion, Pace, Tool, Way};
+use ngc_commands::{Action, Command, Motion, Pace, Way};
+use ngc_machine::Tool;
 
 /// The use of a tool: from the command that mounts it to the next change, or to the end. Its
 /// motions are traverses, feeds along lines, and arcs.

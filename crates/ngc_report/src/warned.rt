@@ -12,7 +12,8 @@ use crate::form::Form;
 use crate::line::Line;
 use crate::report::tell_all;
 use crate::warnings::{Concern, warning_about};
-use ngc_canonical::{Command, Machine};
+use ngc_commands::Command;
+use ngc_machine::Machine;
 use ngc_text::{Chunk, Sink, WriteFault};
 use std::alloc::Allocator;
 

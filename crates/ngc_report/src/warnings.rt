@@ -14,10 +14,10 @@ ghost use Rattle.ngc_report.specs.Warnings.{is_low_home, concerns, is_concerned,
 ghost use Rattle.ngc_report.specs.Warnings.{warnings_about, counted, number_of};
 
 use crate::bounds::reach;
-use crate::scene::{Reached, after};
-use ngc_canonical::{Action, Command, Feed, Machine, Motion, Pace, Tool, Way};
 use ngc_collision::Solid;
+use ngc_commands::{Action, Command, Feed, Motion, Pace, Reached, Way};
 use ngc_fixed_length::{GridBox, Nm, Point3, StepPos};
+use ngc_machine::{Machine, Tool};
 use std::alloc::Allocator;
 
 /// What a warning is about.
@@ -254,13 +254,10 @@ pub(crate) fn warning_about<A: Allocator>(
         (λ w. warnings_about (file_of machine.now) concern commands.now ≡ w ∷ []) }
 {
     let mut found = None;
-    let mut reached = Reached {
-        tool: None,
-        place: machine.start,
-    };
+    let mut reached = Reached::at_start(machine);
     for command in commands {
         found = with_command(machine, concern, found, &reached, command);
-        reached = after(reached, &command.action);
+        reached = reached.after(&command.action);
     }
     found
 }

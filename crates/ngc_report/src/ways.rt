@@ -2,7 +2,7 @@
 ghost use Rattle.std.specs.Prelude.{◌≡◌, ◌*◌, ◌^◌, ◌<◌, ◌≤◌, ◌-ℤ◌, unsigned_abs};
 ghost use Rattle.ngc_report.specs.Ways.{square_between, line_length, straight_length, length_of};
 
-use ngc_canonical::{Action, Command, Way};
+use ngc_commands::{Action, Command, Way};
 use ngc_fixed_length::{Nm, Point3, root_floor};
 
 fn distance(from: Nm, to: Nm) -> u64

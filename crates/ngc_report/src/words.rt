@@ -14,8 +14,8 @@ use crate::nearest::Nearest;
 use crate::scene::{Met, Obstacle, Scene};
 use crate::uses::ToolUse;
 use crate::warnings::{Concern, Warning};
-use ngc_canonical::Tool;
 use ngc_collision::Place;
+use ngc_machine::Tool;
 use ngc_text::Chunk;
 
 /// Adds a count, of 20 digits at most.

@@ -5,7 +5,7 @@ use Rattle.std.specs.Io.KnownBytes.{Appends}
 use Rattle.ngc_text.specs.Written.{AppendsBeginning}
 use Rattle.ngc_fixed_length.specs.declared.points.StepPos.{StepPos}
 use Rattle.ngc_machine.specs.MachineRanges.{IsMachine}
-use Rattle.ngc_canonical.specs.Movement.{actions_of, ways_of, AreJoined}
+use Rattle.ngc_commands.specs.Movement.{actions_of, ways_of, AreJoined}
 use Rattle.ngc_checker.specs.Accepted.{AcceptedData, IsAccepted, commands_at}
 use Rattle.ngc_events.specs.declared.event.Event.{Event}
 use Rattle.ngc_events.specs.declared.event.EventLine.{EventLine}

@@ -4,9 +4,9 @@ use Rattle.std.specs.Prelude.{slice_get}
 use Rattle.std.specs.Io.KnownBytes.{Appends}
 use Rattle.ngc_text.specs.Written.{AppendsBeginning}
 use Rattle.ngc_machine.specs.MachineRanges.{IsMachine}
-use Rattle.ngc_canonical.specs.declared.command.Command.{Command}
-use Rattle.ngc_canonical.specs.Joined.{HasEnd}
-use Rattle.ngc_canonical.specs.State.{COMMAND_LIMIT}
+use Rattle.ngc_commands.specs.declared.command.Command.{Command}
+use Rattle.ngc_commands.specs.Sequence.{HasEnd}
+use Rattle.ngc_commands.specs.Sequence.{COMMAND_LIMIT}
 use Rattle.ngc_checker.specs.Accepted.{AcceptedData, IsAccepted, commands_at}
 use Rattle.ngc_events.specs.declared.event.Event.{Event}
 use Rattle.ngc_behaviour.specs.Headline.{job_of, RunsSafely, RunsInTime}

@@ -5,8 +5,8 @@ use Rattle.std.specs.Prelude.{false}
 use Rattle.std.specs.List.{AllByRecursion}
 use Rattle.ngc_text.specs.Written.{AppendsBeginning}
 use Rattle.ngc_machine.specs.MachineRanges.{IsMachine}
-use Rattle.ngc_canonical.specs.declared.command.Action.TheVariants as actions
-use Rattle.ngc_canonical.specs.declared.command.Command.{Command}
+use Rattle.ngc_commands.specs.declared.command.Action.TheVariants as actions
+use Rattle.ngc_commands.specs.declared.command.Command.{Command}
 use Rattle.ngc_fixed_length.specs.Limits.{MILLION}
 use Rattle.ngc_planner.specs.Caps.{STEPS_LIMIT}
 use Rattle.ngc_events.specs.declared.event.Event.{Event}

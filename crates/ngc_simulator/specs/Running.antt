@@ -3,7 +3,7 @@ use Rattle.std.specs.Prelude.{◌≡◌, ℕ, List, Option, None, Result, Ok, Er
 use Rattle.std.specs.Io.KnownBytes.{Keeps}
 use Rattle.ngc_line_reader.specs.ProgramText.{program_of}
 use Rattle.ngc_line_reader.specs.ProgramView.{FaultIs}
-use Rattle.ngc_canonical.specs.declared.command.Command.{Command}
+use Rattle.ngc_commands.specs.declared.command.Command.{Command}
 use Rattle.ngc_canonical.specs.State.{Setup}
 use Rattle.ngc_canonical.specs.Meaning.{Program as ProgramLines, meaning}
 use Rattle.ngc_certificate_text.specs.Certificate.{CertificateData}

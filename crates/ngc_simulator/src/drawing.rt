@@ -2,7 +2,7 @@
 ghost use Rattle.std.specs.Prelude.{◌≡◌, ◌≤◌, ℕ, List, IfErr, Ok, Some, None, MatchResult, length};
 ghost use Rattle.std.specs.Prelude.{option_map};
 ghost use Rattle.ngc_canonical.specs.Interpreter.{setup_of};
-ghost use Rattle.ngc_canonical.specs.State.{COMMAND_LIMIT};
+ghost use Rattle.ngc_commands.specs.Sequence.{COMMAND_LIMIT};
 ghost use Rattle.ngc_certificate_text.specs.Contents.{said_of};
 ghost use Rattle.ngc_certificate_text.specs.Said.{certificate_said};
 ghost use Rattle.ngc_line_reader.specs.ProgramText.{program_of, HaveReadings};
@@ -15,10 +15,11 @@ ghost use Rattle.ngc_program_report.specs.Met.{met_at};
 ghost use Rattle.ngc_simulator.specs.Drawing.{refusal_answer, setting_of, view_named};
 
 use crate::fault::AnswerFault;
-use ngc_canonical::{Command, interpret};
+use ngc_canonical::interpret;
 use ngc_certificate::{MakeFault, PieceFault, Setting, make_alike};
 use ngc_certificate_text::{Certificate, Motions};
 use ngc_checker::{CheckFault, setting_fault};
+use ngc_commands::Command;
 use ngc_drawing::{DrawFault, Refusal, View, write_svg};
 use ngc_line_reader::Program;
 use ngc_machine::{Machine, Tools};

@@ -11,9 +11,9 @@ use Rattle.ngc_fixed_length.specs.contracts.points.Point2PartialEq.TheImpl as fl
 use Rattle.ngc_fixed_length.specs.contracts.points.Point3PartialEq.TheImpl as points
 use Rattle.ngc_arc_geometry.specs.Shape.{ArcShape}
 use Rattle.ngc_arc_geometry.specs.contracts.arc.ArcPartialEq.TheImpl as arcs
-use Rattle.ngc_canonical.specs.declared.movement.Way.{Way}
-use Rattle.ngc_canonical.specs.declared.movement.Way.TheVariants.{Line, Arc}
-use Rattle.ngc_canonical.specs.contracts.movement.WayPartialEq.TheImpl as derived
+use Rattle.ngc_commands.specs.declared.movement.Way.{Way}
+use Rattle.ngc_commands.specs.declared.movement.Way.TheVariants.{Line, Arc}
+use Rattle.ngc_commands.specs.contracts.movement.WayPartialEq.TheImpl as derived
 use Rattle.ngc_certificate.proofs.joiner.same_way.Goals as goal
 
 point_is : (p q : Point3) → (points.eq-value).it p q ≡ true → p ≡ q

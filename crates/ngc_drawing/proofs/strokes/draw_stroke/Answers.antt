@@ -1,5 +1,5 @@
 use Rattle.std.proofs.Common.{refl}
-use Rattle.ngc_canonical.specs.Movement.{start_of}
+use Rattle.ngc_commands.specs.Movement.{start_of}
 use Rattle.ngc_drawing.proofs.Ahead.{both, cut_short}
 use Rattle.ngc_drawing.specs.Strokes.{lead, course, stroke}
 use Rattle.ngc_drawing.specs.Views.{spot}

@@ -1,5 +1,5 @@
 use Rattle.std.proofs.Common.{◌≡◌, ◌++◌, drop}
-use Rattle.ngc_canonical.specs.Movement.{actions_of}
+use Rattle.ngc_commands.specs.Movement.{actions_of}
 use Rattle.ngc_drawing.specs.Bodies.{sweeps}
 use Rattle.ngc_drawing.specs.Sweeping.{sweeps_ahead}
 use Rattle.ngc_drawing.proofs.sweep.sweeps.Given as goal

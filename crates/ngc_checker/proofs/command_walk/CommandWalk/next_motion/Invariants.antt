@@ -1,7 +1,7 @@
 -- The way from here on is the way from where it began.
 use Rattle.std.proofs.Common.{◌≡◌, ◌+◌, List, drop}
 use Rattle.ngc_machine.specs.Machine.{file_of}
-use Rattle.ngc_canonical.specs.Movement.{actions_of, motion_indices}
+use Rattle.ngc_commands.specs.Movement.{actions_of, motion_indices}
 use Rattle.ngc_certificate_text.specs.Certificate.{Entry}
 use Rattle.ngc_checker.specs.Walking.{walk_from}
 use Rattle.ngc_checker.proofs.command_walk.CommandWalk.next_motion.Given as goal

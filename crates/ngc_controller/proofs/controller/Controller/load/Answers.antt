@@ -2,7 +2,7 @@ use Rattle.std.proofs.Common.{arith, refl, sym, ap, ◌≡◌, ◌<◌, ◌≤�
 use Rattle.std.proofs.lemmas.Option.{slice_get_within, slice_get_read}
 use Rattle.ngc_behaviour.specs.Headline.{job_of}
 use Rattle.ngc_behaviour.specs.State.{RING}
-use Rattle.ngc_canonical.specs.declared.command.Command.{Command}
+use Rattle.ngc_commands.specs.declared.command.Command.{Command}
 use Rattle.ngc_machine.specs.Machine.{MachineFile}
 use Rattle.ngc_checker.specs.Accepted.{commands_at}
 use Rattle.ngc_controller.specs.Panel.{effective_at}

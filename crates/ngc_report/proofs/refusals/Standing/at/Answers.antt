@@ -1,13 +1,13 @@
 use Rattle.std.proofs.Common.{◌∙◌, None, arith}
 use Rattle.ngc_machine.specs.Machine.{file_of}
-use Rattle.ngc_report.specs.declared.scene.Reached.{Reached}
+use Rattle.ngc_commands.specs.declared.reached.Reached.{Reached}
 use Rattle.ngc_report.proofs.Causes.{gone_further}
 use Rattle.ngc_report.proofs.refusals.Standing.at.Goals as goal
 
 pub returns-clause-reached : goal.returns-clause-reached
 returns-clause-reached g c =
     let start : Reached = record { tool = None; place = (file_of c.args.machine.now).start } in
-    c.gone_on-reached.ensures
+    c.after_all-reached.ensures
     ∙ gone_further start c.args.self.now.reached c.args.commands.now c.args.self.now.count c.args.count
     (omega (arith, c.if-count-self.false)) c.requires.last.stands
 
@@ -17,7 +17,7 @@ returns-clause-stands g c =
     record {
       within = c.requires.count;
       stands =
-          c.gone_on-reached.ensures
+          c.after_all-reached.ensures
           ∙ gone_further start c.args.self.now.reached c.args.commands.now c.args.self.now.count c.args.count
           (omega (arith, c.if-count-self.false)) c.requires.last.stands;
     }

@@ -36,7 +36,7 @@ pub struct Motion {
 }
 
 impl Way {
-    ghost use Rattle.ngc_canonical.specs.Movement.{end_of};
+    ghost use Rattle.ngc_commands.specs.Movement.{end_of};
 
     /// Where the way ends.
     pub fn end(&self) -> Point3

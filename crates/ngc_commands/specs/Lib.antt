@@ -1,0 +1,4 @@
+pub mod Movement
+pub mod ProgramPath
+pub mod Sequence
+pub mod Reached

@@ -1,0 +1,22 @@
+-- The tool that is mounted and the place that is reached, between two commands. Our own.
+use Rattle.std.specs.Prelude.{List, fold, None}
+use Rattle.ngc_machine.specs.Machine.{MachineFile}
+use Rattle.ngc_commands.specs.declared.command.Action.{Action}
+use Rattle.ngc_commands.specs.declared.command.Action.TheVariants.{Move, Mount}
+use Rattle.ngc_commands.specs.declared.command.Command.{Command}
+use Rattle.ngc_commands.specs.declared.reached.Reached.{Reached}
+use Rattle.ngc_commands.specs.Movement.{actions_of, end_of}
+
+-- at the machine's start, with no tool mounted
+abbrev pub at_start : MachineFile → Reached
+at_start machine = record { tool = None; place = machine.start }
+
+-- behind an action
+abbrev pub after : Reached → Action → Reached
+after r (Move m) = record { tool = r.tool; place = end_of m.way }
+after r (Mount tool) = record { tool = tool; place = r.place }
+after r _ = r
+
+-- and behind some more commands
+abbrev pub after_all : Reached → List Command → Reached
+after_all r commands = fold after r (actions_of commands)
