@@ -1,6 +1,7 @@
 -- Numbers, items, rules and lines worked by hand, by computing the definitions.
-use Rattle.std.proofs.Common.{◌≡◌, Bool, true, false, [], ◌∷◌, Some, None, refl}
+use Rattle.std.proofs.Common.{◌≡◌, ℕ, List, ◌++◌, Bool, true, false, [], ◌∷◌, Some, None, refl}
 use Rattle.std.specs.Prelude.{codes}
+use Rattle.std.specs.Fmt.{digits}
 use Rattle.ngc_adapt.specs.declared.item.Item.TheVariants as items
 use Rattle.ngc_adapt.specs.declared.rule.Rule.TheVariants as rules
 use Rattle.ngc_adapt.specs.declared.rule.Motion.{Motion}
@@ -8,10 +9,14 @@ use Rattle.ngc_adapt.specs.declared.rule.Motion.TheVariants as motions
 use Rattle.ngc_adapt.specs.declared.rule.Plane.{Plane}
 use Rattle.ngc_adapt.specs.declared.rule.Plane.TheVariants as planes
 use Rattle.ngc_adapt.specs.declared.rule.Modes.{Modes}
+use Rattle.ngc_adapt.specs.declared.dialect.Dialect.TheVariants as dialects
+use Rattle.ngc_adapt.specs.Rules.{start_modes}
 use Rattle.ngc_adapt.specs.Numbers.{number_of, code_of, is_zero, is_long}
 use Rattle.ngc_adapt.specs.Items.{items_of, item_of}
 use Rattle.ngc_adapt.specs.Rules.{rule_for}
-use Rattle.ngc_adapt.specs.Lines.{written, rules_of, next_modes}
+use Rattle.ngc_adapt.specs.Lines.{written, rules_of, next_modes, is_end}
+use Rattle.ngc_adapt.specs.Reports.{line_report, program_report}
+use Rattle.ngc_adapt.specs.Programs.{lines_of, program_written, program_changes, change_at}
 use Rattle.ngc_adapt.specs.Text.{text_of}
 
 -- 91.1 is G91.1, also with blanks and noughts
@@ -68,7 +73,7 @@ unfolding item_of
 open_comment = refl
 
 abbrev modes : Motion → Plane → Bool → Modes
-modes motion plane altered = record { motion = motion; plane = plane; altered = altered }
+modes motion plane altered = record { dialect = dialects.LinuxCnc; motion = motion; plane = plane; altered = altered }
 
 -- a program's beginning: no motion mode, and the plane XY
 abbrev first : Modes
@@ -451,6 +456,244 @@ next_deletable_coolant = refl
 next_deletable_rotation : next_modes straight (codes "/G68 X0 Y0 R30") ≡ modes motions.Straight planes.Xy true
 unfolding next_modes items_of item_of
 next_deletable_rotation = refl
+
+abbrev grbl : Modes
+grbl = start_modes dialects.Grbl
+
+abbrev mach3 : Modes
+mach3 = start_modes dialects.Mach3
+
+abbrev fanuc : Modes
+fanuc = start_modes dialects.Fanuc
+
+abbrev traversed : Plane → Modes
+traversed plane = record { dialect = dialects.Grbl; motion = motions.Straight; plane = plane; altered = false }
+
+written_inches : written mach3 (codes "G70 G91.1") ≡ codes "G20 "
+unfolding written items_of item_of rule_for
+written_inches = refl
+
+rules_inches : rules_of mach3 (codes "G70 G91.1") ≡ rules.Inches ∷ rules.IdleCode ∷ []
+unfolding rules_of items_of item_of rule_for
+rules_inches = refl
+
+written_millimetres : written fanuc (codes "N1 g7 1.0 (mm)") ≡ codes "N1 G21 (mm)"
+unfolding written items_of item_of rule_for
+written_millimetres = refl
+
+rules_millimetres : rules_of fanuc (codes "N1 g7 1.0 (mm)") ≡ rules.Millimetres ∷ []
+unfolding rules_of items_of item_of rule_for
+rules_millimetres = refl
+
+written_inches_of_linuxcnc : written first (codes "G70") ≡ codes "G70"
+unfolding written items_of item_of rule_for
+written_inches_of_linuxcnc = refl
+
+rules_inches_of_linuxcnc : rules_of first (codes "G70") ≡ []
+unfolding rules_of items_of item_of rule_for
+rules_inches_of_linuxcnc = refl
+
+next_millimetres : next_modes mach3 (codes "G71") ≡ mach3
+unfolding next_modes items_of item_of
+next_millimetres = refl
+
+next_millimetres_of_linuxcnc : next_modes first (codes "G71") ≡ modes motions.Unknown planes.Unknown false
+unfolding next_modes items_of item_of
+next_millimetres_of_linuxcnc = refl
+
+written_tool_center : written fanuc (codes "G43.4 Z15. H1") ≡ codes "G43 Z15. H1"
+unfolding written items_of item_of rule_for
+written_tool_center = refl
+
+rules_tool_center : rules_of fanuc (codes "G43.4 Z15. H1") ≡ rules.ToolCenter ∷ []
+unfolding rules_of items_of item_of rule_for
+rules_tool_center = refl
+
+written_tool_center_without_offset : written fanuc (codes "G43.4 Z15.") ≡ codes "G43.4 Z15."
+unfolding written items_of item_of rule_for
+written_tool_center_without_offset = refl
+
+rules_tool_center_without_offset : rules_of fanuc (codes "G43.4 Z15.") ≡ []
+unfolding rules_of items_of item_of rule_for
+rules_tool_center_without_offset = refl
+
+written_tool_center_of_mach3 : written mach3 (codes "G43.4 H1") ≡ codes "G43.4 H1"
+unfolding written items_of item_of rule_for
+written_tool_center_of_mach3 = refl
+
+rules_tool_center_of_mach3 : rules_of mach3 (codes "G43.4 H1") ≡ []
+unfolding rules_of items_of item_of rule_for
+rules_tool_center_of_mach3 = refl
+
+written_look_ahead : written fanuc (codes "N7 G05.1 Q1 (smooth)") ≡ codes "N7 (smooth)"
+unfolding written items_of item_of rule_for
+written_look_ahead = refl
+
+rules_look_ahead : rules_of fanuc (codes "N7 G05.1 Q1 (smooth)") ≡ rules.LookAhead ∷ rules.LookAhead ∷ []
+unfolding rules_of items_of item_of rule_for
+rules_look_ahead = refl
+
+written_look_ahead_of_haas : written fanuc (codes "G187 P1 E0.05 M8") ≡ codes "M8"
+unfolding written items_of item_of rule_for
+written_look_ahead_of_haas = refl
+
+rules_look_ahead_of_haas : rules_of fanuc (codes "G187 P1 E0.05 M8") ≡ rules.LookAhead ∷ rules.LookAhead ∷ rules.LookAhead ∷ []
+unfolding rules_of items_of item_of rule_for
+rules_look_ahead_of_haas = refl
+
+written_look_ahead_beside_a_dwell : written fanuc (codes "G187 G4 P1") ≡ codes "G187 G4 P1"
+unfolding written items_of item_of rule_for
+written_look_ahead_beside_a_dwell = refl
+
+rules_look_ahead_beside_a_dwell : rules_of fanuc (codes "G187 G4 P1") ≡ []
+unfolding rules_of items_of item_of rule_for
+rules_look_ahead_beside_a_dwell = refl
+
+written_look_ahead_beside_a_tolerance : written fanuc (codes "G187 G64 P1") ≡ codes "G187 G64 P1"
+unfolding written items_of item_of rule_for
+written_look_ahead_beside_a_tolerance = refl
+
+rules_look_ahead_beside_a_tolerance : rules_of fanuc (codes "G187 G64 P1") ≡ []
+unfolding rules_of items_of item_of rule_for
+rules_look_ahead_beside_a_tolerance = refl
+
+written_look_ahead_beside_a_place : written fanuc (codes "G5.1 Q1 X5") ≡ codes "G5.1 Q1 X5"
+unfolding written items_of item_of rule_for
+written_look_ahead_beside_a_place = refl
+
+rules_look_ahead_beside_a_place : rules_of fanuc (codes "G5.1 Q1 X5") ≡ []
+unfolding rules_of items_of item_of rule_for
+rules_look_ahead_beside_a_place = refl
+
+written_spline_of_linuxcnc : written first (codes "G5.1 Q1") ≡ codes "G5.1 Q1"
+unfolding written items_of item_of rule_for
+written_spline_of_linuxcnc = refl
+
+rules_spline_of_linuxcnc : rules_of first (codes "G5.1 Q1") ≡ []
+unfolding rules_of items_of item_of rule_for
+rules_spline_of_linuxcnc = refl
+
+next_look_ahead : next_modes fanuc (codes "G5.1 Q1") ≡ fanuc
+unfolding next_modes items_of item_of
+next_look_ahead = refl
+
+written_first_traverse : written grbl (codes "N5 F100 X1 Y2 ;go") ≡ codes "N5 F100 G0 X1 Y2 ;go"
+unfolding written items_of item_of rule_for
+written_first_traverse = refl
+
+rules_first_traverse : rules_of grbl (codes "N5 F100 X1 Y2 ;go") ≡ rules.FirstTraverse ∷ []
+unfolding rules_of items_of item_of rule_for
+rules_first_traverse = refl
+
+written_first_traverse_beside_a_rule : written grbl (codes "/N123456Y1 K0") ≡ codes "/G0 Y1 "
+unfolding written items_of item_of rule_for
+written_first_traverse_beside_a_rule = refl
+
+rules_first_traverse_beside_a_rule : rules_of grbl (codes "/N123456Y1 K0") ≡ rules.FirstTraverse ∷ rules.LineNumber ∷ rules.ZeroOffset ∷ []
+unfolding rules_of items_of item_of rule_for
+rules_first_traverse_beside_a_rule = refl
+
+written_first_feed : written grbl (codes "G1 X1 F100") ≡ codes "G1 X1 F100"
+unfolding written items_of item_of rule_for
+written_first_feed = refl
+
+rules_first_feed : rules_of grbl (codes "G1 X1 F100") ≡ []
+unfolding rules_of items_of item_of rule_for
+rules_first_feed = refl
+
+written_first_origin : written grbl (codes "G92 X0") ≡ codes "G92 X0"
+unfolding written items_of item_of rule_for
+written_first_origin = refl
+
+rules_first_origin : rules_of grbl (codes "G92 X0") ≡ []
+unfolding rules_of items_of item_of rule_for
+rules_first_origin = refl
+
+written_first_line_of_linuxcnc : written first (codes "X1") ≡ codes "X1"
+unfolding written items_of item_of rule_for
+written_first_line_of_linuxcnc = refl
+
+rules_first_line_of_linuxcnc : rules_of first (codes "X1") ≡ []
+unfolding rules_of items_of item_of rule_for
+rules_first_line_of_linuxcnc = refl
+
+written_second_traverse : written (traversed planes.Xy) (codes "X1") ≡ codes "X1"
+unfolding written items_of item_of rule_for
+written_second_traverse = refl
+
+rules_second_traverse : rules_of (traversed planes.Xy) (codes "X1") ≡ []
+unfolding rules_of items_of item_of rule_for
+rules_second_traverse = refl
+
+next_first_traverse : next_modes grbl (codes "G18 X1") ≡ traversed planes.Zx
+unfolding next_modes items_of item_of
+next_first_traverse = refl
+
+next_first_origin : next_modes grbl (codes "G92 X0") ≡ grbl
+unfolding next_modes items_of item_of
+next_first_origin = refl
+
+next_first_deletable_traverse : next_modes grbl (codes "/X1") ≡ grbl
+unfolding next_modes items_of item_of
+next_first_deletable_traverse = refl
+
+next_first_arc : next_modes grbl (codes "G2 X1 I1") ≡ record { dialect = dialects.Grbl; motion = motions.Arc; plane = planes.Xy; altered = false }
+unfolding next_modes items_of item_of
+next_first_arc = refl
+
+-- lines that a line feed ends, with a carriage return before it
+abbrev feed : List ℕ → List ℕ → List ℕ
+feed line rest = line ++ (10 ∷ rest)
+
+abbrev return_feed : List ℕ → List ℕ → List ℕ
+return_feed line rest = line ++ (13 ∷ 10 ∷ rest)
+
+-- a percent sign begins the text, and what follows M30 is copied
+written_marked_program : program_written dialects.LinuxCnc (return_feed (codes "%") (return_feed (codes "G64 P1") (feed (codes "M30") (codes "G64 P1"))))
+    ≡ return_feed (codes "%") (return_feed (codes "G64 ") (feed (codes "M30") (codes "G64 P1")))
+unfolding lines_of written next_modes is_end items_of item_of rule_for
+written_marked_program = refl
+
+-- a percent sign that isn't the first line ends the text
+written_program_that_a_percent_sign_ends : program_written dialects.LinuxCnc (feed (codes "G80 G0") (feed (codes " %") (codes "G64 P1")))
+    ≡ feed (codes "G0") (feed (codes " %") (codes "G64 P1"))
+unfolding lines_of written next_modes is_end items_of item_of rule_for
+written_program_that_a_percent_sign_ends = refl
+
+-- block delete may take M2 out
+written_after_an_end_that_may_be_deleted : program_written dialects.LinuxCnc (feed (codes "/M2") (codes "G64 P1")) ≡ feed (codes "/M2") (codes "G64 ")
+unfolding lines_of written next_modes is_end items_of item_of rule_for
+written_after_an_end_that_may_be_deleted = refl
+
+written_first_moves_of_grbl : program_written dialects.Grbl (feed (codes "G21") (feed (codes "X1") (codes "Y1"))) ≡ feed (codes "G21") (feed (codes "G0 X1") (codes "Y1"))
+unfolding lines_of written next_modes is_end items_of item_of rule_for
+written_first_moves_of_grbl = refl
+
+changes_of_a_program : program_changes dialects.LinuxCnc (feed [] (feed (codes "N123456 G64 P1") (feed (codes "G80 G1") (feed (codes "M2") (codes "G80 G0")))))
+    ≡ change_at 2 rules.LineNumber ∷ change_at 2 rules.BlendTolerance ∷ change_at 3 rules.CycleEnd ∷ []
+unfolding lines_of rules_of next_modes is_end items_of item_of rule_for
+changes_of_a_program = refl
+
+-- reports, line by line
+report_of_two_lines : program_report dialects.LinuxCnc (feed (codes "G0 X1 K0.000 (a)") (codes "N123456 M2")) ≡ codes "line 1 (1): zero_offset exact: K0.000 -> nothing\nline 2 (2): line_number exact: N123456 -> nothing\nzero_offset: 1\nline_number: 1\n"
+unfolding digits lines_of line_report rules_of next_modes is_end items_of item_of rule_for
+report_of_two_lines = refl
+
+report_of_units : program_report dialects.Mach3 (codes "G70 ") ≡ codes "line 1 (1): inches exact: G70 -> G20\ninches: 1\n"
+unfolding digits lines_of line_report rules_of next_modes is_end items_of item_of rule_for
+report_of_units = refl
+
+report_of_looking_ahead : program_report dialects.Fanuc (codes "G187 P1") ≡ codes "line 1 (1): look_ahead told: G187 -> nothing\nline 1 (1): look_ahead told: P1 -> nothing\nlook_ahead: 2\n"
+unfolding digits lines_of line_report rules_of next_modes is_end items_of item_of rule_for
+report_of_looking_ahead = refl
+
+report_of_a_first_traverse : program_report dialects.Grbl (codes "X1") ≡ codes "line 1 (1): first_traverse exact: nothing -> G0\nfirst_traverse: 1\n"
+unfolding digits lines_of line_report rules_of next_modes is_end items_of item_of rule_for
+report_of_a_first_traverse = refl
+
+report_of_no_change : program_report dialects.Grbl (codes "G1 X1 F100") ≡ []
+unfolding digits lines_of line_report rules_of next_modes is_end items_of item_of rule_for
+report_of_no_change = refl
 
 -- a byte order mark, NUL and ^Z
 text_without_marks : text_of (239 ∷ 187 ∷ 191 ∷ 71 ∷ 0 ∷ 49 ∷ 13 ∷ 10 ∷ 26 ∷ []) ≡ 71 ∷ 49 ∷ 13 ∷ 10 ∷ []

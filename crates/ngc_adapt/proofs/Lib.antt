@@ -14,3 +14,11 @@ pub mod Examples
 pub mod BracketLaws
 -- What a rule may leave out.
 pub mod RuleLaws
+-- The lines of a text, and texts in which no rule applies.
+pub mod ProgramLaws
+-- Where a value ends, whatever follows it.
+pub mod ValueLaws
+-- What is written of a line, read again.
+pub mod ReadLaws
+-- The report of items and lines.
+pub mod ReportLaws

@@ -1,7 +1,7 @@
 -- Lines whose items stay.
 use Rattle.std.proofs.Common.{◌≡◌, ℕ, zero, suc, ◌+◌, ◌<◌, ◌≤◌, Bool, true, false, List, [], ◌∷◌, ◌++◌, length, take, drop, get_or, add-one, refl, ap, ◌∙◌, sym, arith, length-drop, Option, Some, None, cond}
-use Rattle.std.specs.Prelude.{map, is_none, option_and_then}
-use Rattle.std.specs.List.{filter_map, filter, concat, cons_option}
+use Rattle.std.specs.Prelude.{map, option_and_then, ◌&&◌, not}
+use Rattle.std.specs.List.{filter_map, concat, cons_option}
 use Rattle.std.proofs.lemmas.List.{take-append-drop}
 use Rattle.std.proofs.Math.Seq.{drop-cons}
 use Rattle.ngc_adapt.specs.declared.item.Word.{Word}
@@ -9,8 +9,8 @@ use Rattle.ngc_adapt.specs.declared.rule.Rule.{Rule}
 use Rattle.ngc_adapt.specs.declared.rule.Modes.{Modes}
 use Rattle.ngc_adapt.specs.Items.{item_length, items_within, items_of, item_of, word_in, words_in, words_of, words_unless, has_unread}
 use Rattle.ngc_adapt.proofs.ItemLaws.{some_bytes, nothing}
-use Rattle.ngc_adapt.specs.Rules.{rule_for}
-use Rattle.ngc_adapt.specs.Lines.{stays, rules_among, line_without, written, written_by}
+use Rattle.ngc_adapt.specs.Rules.{rule_for, is_first_traverse}
+use Rattle.ngc_adapt.specs.Lines.{by_rule, item_written, is_axis_item, traverse, pieces_of, traverse_rule, rules_among, rewritten, written, written_by}
 
 -- the items are the line
 whole_within : (n : ℕ) (line : List ℕ) → length line ≤ n → concat (items_within n line) ≡ line
@@ -28,53 +28,53 @@ pub whole : (line : List ℕ) → concat (items_of line) ≡ line
 unfolding items_of
 whole line = whole_within (length line) line (omega arith)
 
-no_rule : (r : Option Rule) (rs : List Rule) → cons_option r rs ≡ [] → (is_none r ≡ true) × (rs ≡ [])
+no_rule : (r : Option Rule) (rs : List Rule) → cons_option r rs ≡ [] → (r ≡ None) × (rs ≡ [])
 no_rule None rs e = (refl, e)
 no_rule (Some r) rs e = absurd cc
 
-no_rule_first : (f : Word → Option Rule) (o : Option Word) (ws : List Word) → filter_map f (cons_option o ws) ≡ []
-    → (is_none (option_and_then f o) ≡ true) × (filter_map f ws ≡ [])
+pub no_rule_first : (f : Word → Option Rule) (o : Option Word) (ws : List Word) → filter_map f (cons_option o ws) ≡ []
+    → (option_and_then f o ≡ None) × (filter_map f ws ≡ [])
 no_rule_first f None ws e = (refl, e)
 no_rule_first f (Some w) ws e = no_rule (f w) (filter_map f ws) e
 
--- where no rule leaves a word out, each item stays
+-- where no rule changes a word, each item stays
 all_stay : (modes : Modes) (words : List Word) (xs : List (List ℕ))
-    → filter_map (rule_for modes words) (filter_map word_in (map item_of xs)) ≡ [] → filter (stays modes words) xs ≡ xs
+    → filter_map (rule_for modes words) (filter_map word_in (map item_of xs)) ≡ [] → concat (pieces_of false modes words xs) ≡ concat xs
 all_stay modes words [] e = refl
 all_stay modes words (x ∷ xs) e =
     let h = no_rule_first (rule_for modes words) (word_in (item_of x)) (filter_map word_in (map item_of xs)) e in
-    ap (λ (b : Bool). cond b (x ∷ filter (stays modes words) xs) (filter (stays modes words) xs)) h.0
-    ∙ ap (λ (ys : List (List ℕ)). x ∷ ys) (all_stay modes words xs h.1)
+    ap (λ (r : Option Rule). by_rule x r ++ concat (pieces_of false modes words xs)) h.0
+    ∙ ap (λ (ys : List ℕ). x ++ ys) (all_stay modes words xs h.1)
+
+pub no_traverse : (named : Bool) (rs : List Rule) → traverse_rule named ++ rs ≡ [] → (named ≡ false) × (rs ≡ [])
+no_traverse true rs e = absurd cc
+no_traverse false rs e = (refl, e)
 
 some_of : (b : Bool) (found words : List Word) → cond b None (Some found) ≡ Some words → found ≡ words
 some_of true found words e = absurd cc
 some_of false found words e = cc
 
-words_are : (unread : Bool) (found words : List Word) → words_unless unread found ≡ Some words → found ≡ words
+pub words_are : (unread : Bool) (found words : List Word) → words_unless unread found ≡ Some words → found ≡ words
 words_are true found words e = absurd cc
 words_are false found words e = some_of _ found words e
 
--- where no rule leaves a word out, the line stays
+-- where no rule changes a word, the line stays
 pub unchanged : (modes : Modes) (words : List Word) (line : List ℕ) → words_of line ≡ Some words → rules_among modes words ≡ []
-    → line_without modes words line ≡ line
+    → rewritten modes words line ≡ line
 unchanged modes words line e none =
     let same = words_are (has_unread line) (words_in line) words e in
-    ap concat (all_stay modes words (items_of line) (ap (filter_map (rule_for modes words)) same ∙ none)) ∙ whole line
+    let h = no_traverse (is_first_traverse modes words) (filter_map (rule_for modes words) words) none in
+    ap (λ (named : Bool). concat (pieces_of named modes words (items_of line))) h.0
+    ∙ all_stay modes words (items_of line) (ap (filter_map (rule_for modes words)) same ∙ h.1) ∙ whole line
 
-pub stays_next : (modes : Modes) (words : List Word) (rest item others : List ℕ) → items_of rest ≡ item ∷ items_of others
-    → stays modes words item ≡ true → line_without modes words rest ≡ item ++ line_without modes words others
-stays_next modes words rest item others h e =
-    ap (λ (xs : List (List ℕ)). concat (filter (stays modes words) xs)) h
-    ∙ ap (λ (b : Bool). concat (cond b (item ∷ filter (stays modes words) (items_of others)) (filter (stays modes words) (items_of others)))) e
+-- what is written of an item, and of those after it
+pub written_next : (unnamed : Bool) (modes : Modes) (words : List Word) (rest item others : List ℕ) → items_of rest ≡ item ∷ items_of others
+    → concat (pieces_of unnamed modes words (items_of rest))
+    ≡ traverse (unnamed && is_axis_item item) ++ (item_written modes words item ++ concat (pieces_of (unnamed && not (is_axis_item item)) modes words (items_of others)))
+written_next unnamed modes words rest item others h = ap (λ (xs : List (List ℕ)). concat (pieces_of unnamed modes words xs)) h
 
-pub left_out_next : (modes : Modes) (words : List Word) (rest item others : List ℕ) → items_of rest ≡ item ∷ items_of others
-    → stays modes words item ≡ false → line_without modes words rest ≡ line_without modes words others
-left_out_next modes words rest item others h e =
-    ap (λ (xs : List (List ℕ)). concat (filter (stays modes words) xs)) h
-    ∙ ap (λ (b : Bool). concat (cond b (item ∷ filter (stays modes words) (items_of others)) (filter (stays modes words) (items_of others)))) e
-
-pub line_end : (modes : Modes) (words : List Word) (rest : List ℕ) → length rest ≡ 0 → line_without modes words rest ≡ []
-line_end modes words rest h = ap (λ (xs : List (List ℕ)). concat (filter (stays modes words) xs)) (nothing rest h)
+pub line_end : (unnamed : Bool) (modes : Modes) (words : List Word) (rest : List ℕ) → length rest ≡ 0 → concat (pieces_of unnamed modes words (items_of rest)) ≡ []
+line_end unnamed modes words rest h = ap (λ (xs : List (List ℕ)). concat (pieces_of unnamed modes words xs)) (nothing rest h)
 
 -- the rule of the word at i, and those of the words after it
 pub rules_step : (f : Word → Option Rule) (words : List Word) (i : ℕ) (w : Word) → i < length words → w ≡ get_or words i w
@@ -83,7 +83,7 @@ rules_step f words i w h e =
     rw add-one (ap (filter_map f) (drop-cons words i w h) ∙ ap (λ (v : Word). cons_option (f v) (filter_map f (drop (suc i) words))) (sym e))
 
 -- what is written of a line that can be read
-pub written_read : (modes : Modes) (line : List ℕ) (words : List Word) → words_of line ≡ Some words → written modes line ≡ line_without modes words line
+pub written_read : (modes : Modes) (line : List ℕ) (words : List Word) → words_of line ≡ Some words → written modes line ≡ rewritten modes words line
 unfolding written
 written_read modes line words e = ap (λ (o : Option (List Word)). written_by modes line o) e
 
@@ -98,11 +98,11 @@ written_same modes line words given rules read same is few =
     let none : rules_among modes words ≡ [] = ap (λ (ws : List Word). rules_among modes ws) (sym same) ∙ sym is ∙ no_items rules few in
     sym (written_read modes line words read ∙ unchanged modes words line read none)
 
--- what is written of a line without the words that a rule leaves out
+-- what is written of a line that a rule changes
 pub written_without : (modes : Modes) (line : List ℕ) (words given : List Word) → words_of line ≡ Some words → given ≡ words
-    → line_without modes given line ≡ written modes line
+    → rewritten modes given line ≡ written modes line
 written_without modes line words given read same =
-    ap (λ (ws : List Word). line_without modes ws line) same ∙ sym (written_read modes line words read)
+    ap (λ (ws : List Word). rewritten modes ws line) same ∙ sym (written_read modes line words read)
 
 pub added : (out old front line : List ℕ) → out ≡ front → front ≡ old ++ line → (written : List ℕ) → line ≡ written → out ≡ old ++ written
 added out old front line e f written h = e ∙ f ∙ ap (λ (s : List ℕ). old ++ s) h

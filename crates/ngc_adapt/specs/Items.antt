@@ -18,7 +18,9 @@ upper b = if nat_le 97 b && nat_le b 122 then b - 32 else b
 -- the letter that an upper case letter is: A B C U V W X Y Z name axes
 abbrev pub capital : ℕ → Option Letter
 capital b =
+    if b == 69 then Some letters.E else (
     if b == 71 then Some letters.G else (
+    if b == 72 then Some letters.H else (
     if b == 73 then Some letters.I else (
     if b == 74 then Some letters.J else (
     if b == 75 then Some letters.K else (
@@ -28,7 +30,7 @@ capital b =
     if b == 81 then Some letters.Q else (
     if b == 82 then Some letters.R else (
     if (nat_le 65 b && nat_le b 67) || (nat_le 85 b && nat_le b 90) then Some letters.Axis else (
-    if nat_le 65 b && nat_le b 90 then Some letters.Other else None))))))))))
+    if nat_le 65 b && nat_le b 90 then Some letters.Other else None))))))))))))
 
 abbrev pub letter_of : ℕ → Option Letter
 letter_of b = capital (upper b)

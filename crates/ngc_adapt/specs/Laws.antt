@@ -1,5 +1,6 @@
 -- Laws about lines and the rules that change them.
-use Rattle.std.specs.Prelude.{◌≡◌, ℕ, ◌||◌, Bool, true, false, List, Some}
+use Rattle.std.specs.Prelude.{◌≡◌, ℕ, ◌||◌, nat_lt, Bool, true, false, List, length, filter, Option}
+use Rattle.std.specs.Prelude.{Some, None}
 use Rattle.std.specs.List.{concat}
 use Rattle.ngc_adapt.specs.declared.item.Letter.{Letter}
 use Rattle.ngc_adapt.specs.declared.item.Letter.TheVariants as letters
@@ -8,31 +9,47 @@ use Rattle.ngc_adapt.specs.declared.number.Number.{Number}
 use Rattle.ngc_adapt.specs.declared.rule.Rule.{Rule}
 use Rattle.ngc_adapt.specs.declared.rule.Modes.{Modes}
 use Rattle.ngc_adapt.specs.declared.code.TheConstants as codes
-use Rattle.ngc_adapt.specs.Items.{items_of}
+use Rattle.ngc_adapt.specs.Items.{items_of, words_of}
+use Rattle.ngc_adapt.specs.Lines.{pieces, written}
 use Rattle.ngc_adapt.specs.Rules.{is_one_of, has, rule_for}
 
 -- the items of a line are the line, byte for byte
 abbrev pub ItemsAreTheLine : Type 0
 ItemsAreTheLine = (line : List ℕ) → concat (items_of line) ≡ line
 
--- What may be left out: a line number that is too long, G53, G80, an idle code, P or Q beside G64,
--- and an offset that is 0.
-abbrev pub may_go_by : List Word → Letter → Number → Bool
-may_go_by words letters.N number = number.is_long
-may_go_by words letters.G number =
+-- What may be left out or replaced: a line number that is too long, G53, G80, an idle code, a code
+-- of the dialect's own, P or Q beside G64, P, Q or E beside G5.1 or G187, and an offset that is 0.
+abbrev pub may_change_by : List Word → Letter → Number → Bool
+may_change_by words letters.N number = number.is_long
+may_change_by words letters.G number =
     is_one_of codes.MOTION_END number.code
-    || (is_one_of codes.MACHINE_COORDINATES number.code || is_one_of codes.IDLE number.code)
-may_go_by words letters.P number = has codes.BLENDED_PATH words
-may_go_by words letters.Q number = has codes.BLENDED_PATH words
-may_go_by words letters.I number = number.is_zero
-may_go_by words letters.J number = number.is_zero
-may_go_by words letters.K number = number.is_zero
-may_go_by words _ number = false
+    || (is_one_of codes.MACHINE_COORDINATES number.code || (is_one_of codes.IDLE number.code
+    || (is_one_of codes.INCHES number.code || (is_one_of codes.MILLIMETRES number.code
+    || (is_one_of codes.TOOL_CENTER number.code || is_one_of codes.LOOK_AHEAD number.code)))))
+may_change_by words letters.P number = has codes.BLENDED_PATH words || has codes.LOOK_AHEAD words
+may_change_by words letters.Q number = has codes.BLENDED_PATH words || has codes.LOOK_AHEAD words
+may_change_by words letters.E number = has codes.LOOK_AHEAD words
+may_change_by words letters.I number = number.is_zero
+may_change_by words letters.J number = number.is_zero
+may_change_by words letters.K number = number.is_zero
+may_change_by words _ number = false
 
-abbrev pub may_go : List Word → Word → Bool
-may_go words w = may_go_by words w.letter w.number
+abbrev pub may_change : List Word → Word → Bool
+may_change words w = may_change_by words w.letter w.number
 
--- no rule leaves out anything else: no place, no radius, no feed, speed, tool or M code
-abbrev pub OnlyIdleWordsGo : Type 0
-OnlyIdleWordsGo = (modes : Modes) (words : List Word) (w : Word) (rule : Rule) →
-    rule_for modes words w ≡ Some rule → may_go words w ≡ true
+-- no rule changes anything else: no place, no radius, no feed, speed, tool or M code
+abbrev pub OnlyTheseWordsChange : Type 0
+OnlyTheseWordsChange = (modes : Modes) (words : List Word) (w : Word) (rule : Rule) →
+    rule_for modes words w ≡ Some rule → may_change words w ≡ true
+
+-- the pieces that are written of a line, without the empty ones; a line that can't be read has its
+-- items
+abbrev pub items_left : Modes → List ℕ → Option (List Word) → List (List ℕ)
+items_left modes line None = items_of line
+items_left modes line (Some words) = filter (λ piece. nat_lt 0 (length piece)) (pieces modes words line)
+
+-- What is written of a line reads back as the items that stay and those that take another's place:
+-- no two of them run together.
+abbrev pub WrittenReadsBack : Type 0
+WrittenReadsBack = (modes : Modes) (line : List ℕ) →
+    items_of (written modes line) ≡ items_left modes line (words_of line)

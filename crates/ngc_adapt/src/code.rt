@@ -40,5 +40,19 @@ pub const IDLE: [u16; 9] = [131, 150, 401, 500, 501, 670, 690, 911, 970];
 /// Codes that end what a code of `IDLE` says, as G68 turns the coordinates.
 pub const ALTERING: [u16; 11] = [121, 160, 411, 421, 510, 511, 660, 680, 682, 901, 960];
 
+/// The units of other controls: inches and millimetres.
+pub const INCHES: [u16; 1] = [700];
+
+pub const MILLIMETRES: [u16; 1] = [710];
+
+/// G43.4, a tool length offset that follows rotary axes.
+pub const TOOL_CENTER: [u16; 1] = [434];
+
+/// How a control looks ahead: G5.1 and G187.
+pub const LOOK_AHEAD: [u16; 2] = [51, 1870];
+
+/// The M codes that end a program.
+pub const PROGRAM_END: [u16; 2] = [20, 300];
+
 /// The M codes of our language.
 pub const MACHINE_CODES: [u16; 14] = [0, 10, 20, 30, 40, 50, 60, 70, 80, 90, 300, 480, 490, 600];

@@ -31,6 +31,10 @@ pub enum Letter {
     J,
     /// An offset along Z.
     K,
+    /// How smooth a path is, beside G187.
+    E,
+    /// The number of a tool offset.
+    H,
     /// One of A, B, C, U, V, W, X, Y, Z.
     Axis,
     /// Any other letter.
@@ -84,7 +88,9 @@ fn capital(byte: u8) -> Option<Letter>
     ensures { result ≡ spec.capital byte }
 {
     match byte {
+        b'E' => Some(Letter::E),
         b'G' => Some(Letter::G),
+        b'H' => Some(Letter::H),
         b'I' => Some(Letter::I),
         b'J' => Some(Letter::J),
         b'K' => Some(Letter::K),

@@ -1,39 +1,67 @@
 ghost use Rattle.std.specs.Prelude.{◌≡◌, ◌≤◌, ◌++◌, [], length, IfOk, if◌then◌else◌};
-ghost use Rattle.ngc_adapt.specs.Lines.{rules_of, written, next_modes, rules_among, line_without};
-ghost use Rattle.ngc_adapt.specs.Lines.{stays};
+ghost use Rattle.ngc_adapt.specs.Lines.{rules_of, written, next_modes, rules_among, rewritten};
+ghost use Rattle.ngc_adapt.specs.Lines.{item_rule, item_written, is_axis_item, traverse};
+ghost use Rattle.ngc_adapt.specs.Lines.{traverse_rule, is_end_word, is_end};
+ghost use Rattle.std.specs.List.{list_any};
 ghost use Rattle.ngc_adapt.specs.Items.{may_be_deleted};
 ghost use Rattle.ngc_adapt.specs.Rules.{modes_after, modes_either};
 
+use crate::code;
 use crate::item::{Item, MOST_WORDS, Word, item_of, may_be_deleted, read_words, split_item};
-use crate::rule::{Modes, Motion, Plane, Rule};
+use crate::rule::{Modes, Motion, Plane, Rule, is_axis, is_m, is_one_of};
 use arrayvec::ArrayVec;
 use std::alloc::{AllocError, Allocator};
+
+/// The most rules that change a line: one for each word, and one for the line.
+pub const MOST_RULES: usize = MOST_WORDS + 1;
 
 /// What became of a line.
 #[derive(Drop)]
 pub struct AdaptedLine {
-    /// The rule by which each word was left out, from left to right.
-    pub rules: ArrayVec<Rule, MOST_WORDS>,
+    /// The rules that changed it: the first traverse, and those of its words from left to right.
+    pub rules: ArrayVec<Rule, MOST_RULES>,
     /// What the line leaves in force.
     pub modes: Modes,
+    /// Whether the line ends the program, and block delete can't take it out.
+    pub is_end: bool,
 }
 
-// Whether no rule leaves an item out.
-fn stays(modes: &Modes, words: &[Word], item: &[u8]) -> bool
-    ensures { result ≡ stays modes.now words.now item.now }
+// The rule that changes an item, if one does.
+pub(crate) fn item_rule(modes: &Modes, words: &[Word], item: &[u8]) -> Option<Rule>
+    ensures { result ≡ item_rule modes.now words.now item.now }
 {
     match item_of(item) {
-        Item::Word(word) => modes.rule_for(words, &word).is_none(),
-        Item::Mark | Item::Comment | Item::Setting | Item::Unread => true,
+        Item::Word(word) => modes.rule_for(words, &word),
+        Item::Mark | Item::Comment | Item::Setting | Item::Unread => None,
     }
 }
 
-// The rules that leave a word out, from left to right.
-fn rules_among(modes: &Modes, words: &[Word]) -> ArrayVec<Rule, MOST_WORDS>
+pub(crate) fn is_axis_item(item: &[u8]) -> bool
+    ensures { result ≡ is_axis_item item.now }
+{
+    match item_of(item) {
+        Item::Word(word) => is_axis(word.letter),
+        Item::Mark | Item::Comment | Item::Setting | Item::Unread => false,
+    }
+}
+
+fn traverse_rule(named: bool) -> ArrayVec<Rule, MOST_RULES>
+    ensures rules { result.items ≡ traverse_rule named }
+    ensures few { length result.items ≤ 1 }
+{
+    let mut rules = ArrayVec::new();
+    if named {
+        rules.push(Rule::FirstTraverse);
+    }
+    rules
+}
+
+// The rules that change a line with these words.
+fn rules_among(modes: &Modes, words: &[Word]) -> ArrayVec<Rule, MOST_RULES>
     requires { length words.now ≤ 64 }
     ensures { result.items ≡ rules_among modes.now words.now }
 {
-    let mut rules = ArrayVec::new();
+    let mut rules = traverse_rule(modes.is_first_traverse(words));
     for word in words {
         if let Some(rule) = modes.rule_for(words, word) {
             rules.push(rule);
@@ -42,22 +70,50 @@ fn rules_among(modes: &Modes, words: &[Word]) -> ArrayVec<Rule, MOST_WORDS>
     rules
 }
 
-// Adds a line without the words that a rule leaves out.
-fn add_without<A: Allocator>(
+// Adds what is written of an item.
+fn add_item<A: Allocator>(
+    modes: &Modes,
+    words: &[Word],
+    item: &[u8],
+    out: &mut Vec<u8, A>,
+) -> Result<(), AllocError>
+    ensures { IfOk result
+        (λ _. out.new.items ≡ out.old.items ++ item_written modes.now words.now item.now) }
+{
+    match item_rule(modes, words, item) {
+        Some(rule) => out.extend_from_slice(rule.replacement().as_bytes())?,
+        None => out.extend_from_slice(item)?,
+    }
+    Ok(())
+}
+
+fn add_traverse<A: Allocator>(named: bool, out: &mut Vec<u8, A>) -> Result<(), AllocError>
+    ensures { IfOk result (λ _. out.new.items ≡ out.old.items ++ traverse named) }
+{
+    if named {
+        out.extend_from_slice(b"G0 ")?;
+    }
+    Ok(())
+}
+
+// Adds what a line with these words is rewritten to.
+fn add_rewritten<A: Allocator>(
     modes: &Modes,
     words: &[Word],
     line: &[u8],
     out: &mut Vec<u8, A>,
 ) -> Result<(), AllocError>
     ensures { IfOk result
-        (λ _. out.new.items ≡ out.old.items ++ line_without modes.now words.now line.now) }
+        (λ _. out.new.items ≡ out.old.items ++ rewritten modes.now words.now line.now) }
 {
+    let mut unnamed = modes.is_first_traverse(words);
     let mut rest = line;
     while !rest.is_empty() {
         let (item, others) = split_item(rest);
-        if stays(modes, words, item) {
-            out.extend_from_slice(item)?;
-        }
+        let moves = is_axis_item(item);
+        add_traverse(unnamed && moves, out)?;
+        add_item(modes, words, item, out)?;
+        unnamed = unnamed && !moves;
         rest = others;
     }
     Ok(())
@@ -75,10 +131,22 @@ fn modes_after(modes: &Modes, words: &[Word], line: &[u8]) -> Modes
     }
 }
 
+fn is_end_word(word: &Word) -> bool
+    ensures { result ≡ is_end_word word.now }
+{
+    is_m(word.letter) && is_one_of(&code::PROGRAM_END, word.number.code)
+}
+
+fn has_end_word(words: &[Word]) -> bool
+    ensures { result ≡ list_any is_end_word words.now }
+{
+    words.iter().any(is_end_word)
+}
+
 /// Adds to `out` what is written of a line, whose line feed is not part of it, and returns the
-/// rules that changed it and what it leaves in force. A line that no rule changes is copied byte for
+/// rules that changed it, what it leaves in force and whether it ends the program. A line that no rule changes is copied byte for
 /// byte. After an error, what `out` holds is unspecified.
-#[tactic(auto, unfolding(crate::specs::Lines::rules_of, crate::specs::Lines::written, crate::specs::Lines::next_modes))]
+#[tactic(auto, unfolding(crate::specs::Lines::rules_of, crate::specs::Lines::written, crate::specs::Lines::next_modes, crate::specs::Lines::is_end))]
 pub fn adapt_line<A: Allocator>(
     modes: &Modes,
     line: &[u8],
@@ -88,6 +156,7 @@ pub fn adapt_line<A: Allocator>(
         (λ _. out.new.items ≡ out.old.items ++ written modes.now line.now) }
     ensures rules { IfOk result (λ r. r.rules.items ≡ rules_of modes.now line.now) }
     ensures modes { IfOk result (λ r. r.modes ≡ next_modes modes.now line.now) }
+    ensures end { IfOk result (λ r. r.is_end ≡ is_end line.now) }
     // A line that no rule changes is copied byte for byte.
     ensures copied { IfOk result
         (λ r. r.rules.items ≡ [] → out.new.items ≡ out.old.items ++ line.now) }
@@ -97,20 +166,23 @@ pub fn adapt_line<A: Allocator>(
         return Ok(AdaptedLine {
             rules: ArrayVec::new(),
             modes: Modes {
+                dialect: modes.dialect,
                 motion: Motion::Unknown,
                 plane: Plane::Unknown,
                 altered: modes.altered,
             },
+            is_end: false,
         });
     };
     let rules = rules_among(modes, words.as_slice());
     if rules.is_empty() {
         out.extend_from_slice(line)?;
     } else {
-        add_without(modes, words.as_slice(), line, out)?;
+        add_rewritten(modes, words.as_slice(), line, out)?;
     }
     Ok(AdaptedLine {
         rules,
         modes: modes_after(modes, words.as_slice(), line),
+        is_end: has_end_word(words.as_slice()) && !may_be_deleted(line),
     })
 }

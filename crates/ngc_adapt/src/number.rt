@@ -252,7 +252,7 @@ fn is_computed(value: &[u8]) -> bool
     has_byte(b'#', value) || begins(b'[', value.split_at(lead_length(value)).1)
 }
 
-fn byte_count(byte: u8, bytes: &[u8]) -> usize
+pub(crate) fn byte_count(byte: u8, bytes: &[u8]) -> usize
     ensures { result ≡ numbers.byte_count byte bytes.now }
 {
     bytes.iter().filter(|b| **b == byte).count()

@@ -2,9 +2,9 @@ use Rattle.std.proofs.Common.{ℕ, List, ◌++◌, length, ap, sym, ◌∙◌}
 use Rattle.std.proofs.lemmas.List.{append-nil}
 use Rattle.ngc_adapt.proofs.ItemLaws.{no_bytes}
 use Rattle.ngc_adapt.proofs.LineLaws.{line_end}
-use Rattle.ngc_adapt.proofs.line.add_without.Goals as goal
+use Rattle.ngc_adapt.proofs.line.add_rewritten.Goals as goal
 
 pub returns : goal.returns
 returns g c =
-    let end = line_end c.args.modes.now c.args.words.now c.loop-rest.rest.now (no_bytes (length c.loop-rest.rest.now) (sym c.loop-rest-test.false ∙ c.is_empty.ensures)) in
+    let end = line_end c.loop-rest.unnamed c.args.modes.now c.args.words.now c.loop-rest.rest.now (no_bytes (length c.loop-rest.rest.now) (sym c.loop-rest-test.false ∙ c.is_empty.ensures)) in
     sym (append-nil c.loop-rest.out.items) ∙ ap (λ (s : List ℕ). c.loop-rest.out.items ++ s) (sym end) ∙ c.loop-rest.invariant

@@ -1,0 +1,497 @@
+-- What is written of a line, read again.
+use Rattle.std.proofs.Common.{◌≡◌, ℕ, zero, suc, ◌+◌, ◌<◌, ◌≤◌, min, Bool, true, false, cond, List, [], ◌∷◌, ◌++◌, length, take, drop, refl, ap, ◌∙◌, sym, arith, length-drop, length-append, append-nil, append_assoc, Option, Some, None}
+use Rattle.std.specs.Prelude.{◌==◌, ◌&&◌, ◌||◌, not, nat_lt, filter, is_some, map}
+use Rattle.std.specs.List.{list_any, list_all, prefix_len, concat}
+use Rattle.std.proofs.lemmas.Bool.Decides.{nat_tests}
+use Rattle.std.proofs.lemmas.List.{drop-append-le, take-append-drop, take_at, drop_at, drop_all, drop-drop}
+use Rattle.ngc_adapt.specs.declared.item.Word.{Word}
+use Rattle.ngc_adapt.specs.declared.item.Letter.{Letter}
+use Rattle.ngc_adapt.specs.declared.item.Item.{Item}
+use Rattle.ngc_adapt.specs.declared.item.Item.TheVariants as items
+use Rattle.ngc_adapt.specs.declared.number.Number.{Number}
+use Rattle.ngc_adapt.specs.Numbers.{is_blank, begins, is_of_number, value_length, is_whole, number_of}
+use Rattle.ngc_adapt.specs.declared.rule.Rule.{Rule}
+use Rattle.ngc_adapt.specs.declared.rule.Rule.TheVariants as rules
+use Rattle.ngc_adapt.specs.declared.rule.Modes.{Modes}
+use Rattle.ngc_adapt.specs.Items.{letter_of, is_letter, is_in_comment, setting_length, bare_length, item_length, items_within, items_of, is_mark, is_comment, is_setting, word_item, item_of, is_unread, word_in, has_unread, words_in, words_of, words_unless}
+use Rattle.ngc_adapt.specs.Rules.{replacement, is_first_traverse}
+use Rattle.ngc_adapt.specs.Lines.{by_rule, item_rule, item_written, is_axis_item, is_axis_word, traverse, pieces_of, written, written_by}
+use Rattle.ngc_adapt.specs.Laws.{items_left}
+use Rattle.ngc_adapt.proofs.ItemLaws.{some_bytes, items_step, nothing}
+use Rattle.ngc_adapt.proofs.ValueLaws.{prefix_good, prefix_within, inside, value_same, number_value, whole_value, and_parts, or_parts, begins_head, value_within, one, not_empty}
+
+-- ---- what an item that can be read is
+
+comment_by : (m c o k : Bool) (w : Item) → m ≡ false → c ≡ false → o ≡ true
+    → is_unread (cond m items.Mark (cond c items.Comment (cond o (cond k items.Comment items.Unread) w))) ≡ false → k ≡ true
+comment_by true c o k w d e f h = absurd cc
+comment_by false true o k w d e f h = absurd cc
+comment_by false false false k w d e f h = absurd cc
+comment_by false false true true w d e f h = refl
+comment_by false false true false w d e f h = absurd cc
+
+no_mark : (b : ℕ) → (b == 40) ≡ true → is_mark b ≡ false
+no_mark b e = grind (arith, nat_tests)
+
+no_remark : (b : ℕ) → (b == 40) ≡ true → (b == 59) ≡ false
+no_remark b e = grind (arith, nat_tests)
+
+comment_read : (b : ℕ) (v : List ℕ) → (b == 40) ≡ true → is_unread (item_of (b ∷ v)) ≡ false → is_comment v ≡ true
+unfolding item_of
+comment_read b v e h = comment_by (is_mark b) (b == 59) (b == 40) (is_comment v) _ (no_mark b e) (no_remark b e) e h
+
+setting_by : (m c o k h g : Bool) (w : Item) → m ≡ false → c ≡ false → o ≡ false → h ≡ true
+    → is_unread (cond m items.Mark (cond c items.Comment (cond o (cond k items.Comment items.Unread) (cond h (cond g items.Setting items.Unread) w)))) ≡ false → g ≡ true
+setting_by true c o k h g w d e f i j = absurd cc
+setting_by false true o k h g w d e f i j = absurd cc
+setting_by false false true k h g w d e f i j = absurd cc
+setting_by false false false k false g w d e f i j = absurd cc
+setting_by false false false k true true w d e f i j = refl
+setting_by false false false k true false w d e f i j = absurd cc
+
+setting_no_mark : (b : ℕ) → (b == 35) ≡ true → is_mark b ≡ false
+setting_no_mark b e = grind (arith, nat_tests)
+
+setting_no_remark : (b : ℕ) → (b == 35) ≡ true → (b == 59) ≡ false
+setting_no_remark b e = grind (arith, nat_tests)
+
+setting_no_comment : (b : ℕ) → (b == 35) ≡ true → (b == 40) ≡ false
+setting_no_comment b e = grind (arith, nat_tests)
+
+setting_read : (b : ℕ) (v : List ℕ) → (b == 35) ≡ true → is_unread (item_of (b ∷ v)) ≡ false → is_setting v ≡ true
+unfolding item_of
+setting_read b v e h =
+    setting_by (is_mark b) (b == 59) (b == 40) (is_comment v) (b == 35) (is_setting v) _ (setting_no_mark b e) (setting_no_remark b e) (setting_no_comment b e) e h
+
+word_some : (l : Option Letter) (n : Option Number) → is_unread (word_item l n) ≡ false → is_some n ≡ true
+word_some (Some l) (Some n) h = refl
+word_some (Some l) None h = absurd cc
+word_some None n h = absurd cc
+
+word_by : (m c o k h g : Bool) (l : Option Letter) (n : Option Number) → m ≡ false → c ≡ false → o ≡ false → h ≡ false
+    → is_unread (cond m items.Mark (cond c items.Comment (cond o (cond k items.Comment items.Unread) (cond h (cond g items.Setting items.Unread) (word_item l n))))) ≡ false → is_some n ≡ true
+word_by true c o k h g l n d e f i j = absurd cc
+word_by false true o k h g l n d e f i j = absurd cc
+word_by false false true k h g l n d e f i j = absurd cc
+word_by false false false k true g l n d e f i j = absurd cc
+word_by false false false k false g l n d e f i j = word_some l n j
+
+letter_no_mark : (b : ℕ) → is_letter b ≡ true → is_mark b ≡ false
+letter_no_mark b e = grind (arith, nat_tests)
+
+word_read : (b : ℕ) (v : List ℕ) → is_letter b ≡ true → (b == 59) ≡ false → (b == 40) ≡ false → (b == 35) ≡ false
+    → is_unread (item_of (b ∷ v)) ≡ false → is_some (number_of v) ≡ true
+unfolding item_of
+word_read b v l c o s h =
+    word_by (is_mark b) (b == 59) (b == 40) (is_comment v) (b == 35) (is_setting v) (letter_of b) (number_of v) (letter_no_mark b l) c o s h
+
+-- ---- how many bytes it has, whatever follows
+
+comment_has_no_end : (x : ℕ) → is_in_comment x ≡ true → (x == 41) ≡ false
+comment_has_no_end x h = grind (arith, nat_tests)
+
+shortest : (n m k j : ℕ) → n ≡ m → m < k → k ≤ j → min (n + 2) (j + 1) ≡ min (m + 2) (k + 1)
+shortest n m k j e h l = omega (arith, e, h, l)
+
+shortest_within : (m k : ℕ) → min (m + 2) (k + 1) ≤ suc k
+shortest_within m k = omega arith
+
+comment_same : (v s : List ℕ) → is_comment v ≡ true
+    → (min (prefix_len is_in_comment (v ++ s) + 2) (length (v ++ s) + 1) ≡ min (prefix_len is_in_comment v + 2) (length v + 1))
+    × (min (prefix_len is_in_comment v + 2) (length v + 1) ≤ suc (length v))
+comment_same v s h =
+    let i = inside is_in_comment (λ b. b == 41) comment_has_no_end v s (and_parts _ _ h).0 in (
+      shortest (prefix_len is_in_comment (v ++ s)) (prefix_len is_in_comment v) (length v) (length (v ++ s)) i.0 i.1 (omega (arith, length-append v s)),
+      shortest_within (prefix_len is_in_comment v) (length v),
+    )
+
+remark_same : (v s : List ℕ) → s ≡ [] → (length (v ++ s) + 1 ≡ length v + 1) × (length v + 1 ≤ suc (length v))
+remark_same v s e = (omega (arith, length-append v s, ap length e), omega arith)
+
+abbrev setting_at : ℕ → List ℕ → ℕ
+setting_at n t = cond (begins 61 (drop n t)) (n + 1 + value_length (drop (n + 1) t)) n
+
+no_number : (b : ℕ) → (b == 61) ≡ true → is_of_number b ≡ false
+no_number b e = grind (arith, nat_tests)
+
+-- an = is no byte of a number
+equals_ends : (t s : List ℕ) → begins 61 t ≡ true → prefix_len is_of_number (t ++ s) ≡ 0
+equals_ends [] s e = absurd cc
+equals_ends (b ∷ t) s e =
+    ap (λ (c : Bool). cond c (1 + prefix_len is_of_number (t ++ s)) 0) (no_number b (sym (begins_head 61 b t) ∙ e))
+
+has_some : (t : List ℕ) → begins 61 t ≡ true → 0 < length t
+has_some [] e = absurd cc
+has_some (b ∷ t) e = omega arith
+
+begins_same : (t s : List ℕ) → 0 < length t → begins 61 (t ++ s) ≡ begins 61 t
+begins_same [] s h = absurd (omega arith)
+begins_same (b ∷ t) s h = begins_head 61 b (t ++ s) ∙ sym (begins_head 61 b t)
+
+setting_same : (v s : List ℕ) → is_setting v ≡ true → prefix_len is_of_number s ≡ 0
+    → (setting_length (v ++ s) + 1 ≡ setting_length v + 1) × (setting_length v + 1 ≤ suc (length v))
+setting_same v s h good =
+    let n = value_length v in
+    let index = take n v in
+    let rest = drop n v in
+    let last = drop (n + 1) v in
+    let parts = and_parts (begins 61 rest) (is_whole index && is_whole last) h in
+    let wholes = and_parts (is_whole index) (is_whole last) parts.1 in
+    let i = whole_value index wholes.0 in
+    let u = whole_value last wholes.1 in
+    let some = has_some rest parts.0 in
+    let left = length-drop n v in
+    let left_of = length-drop (n + 1) v in
+    let split = take-append-drop n v in
+    let long = value_same index (rest ++ s) i.0 i.1 (equals_ends rest s parts.0) in
+    let short = value_same index (rest ++ []) i.0 i.1 (equals_ends rest [] parts.0) in
+    let whole : v ++ s ≡ index ++ (rest ++ s) = ap (λ (t : List ℕ). t ++ s) (sym split) ∙ append_assoc index rest s in
+    let bare : v ≡ index ++ (rest ++ []) = sym split ∙ ap (λ (t : List ℕ). index ++ t) (sym (append-nil rest)) in
+    let same : value_length (v ++ s) ≡ n = ap value_length whole ∙ long.0 ∙ sym short.0 ∙ ap value_length (sym bare) in
+    let mark : begins 61 (drop n (v ++ s)) ≡ true = ap (begins 61) (drop-append-le n v s (omega (arith, some, left))) ∙ begins_same rest s some ∙ parts.0 in
+    let end : drop (n + 1) (v ++ s) ≡ last ++ s = drop-append-le (n + 1) v s (omega (arith, some, left)) in
+    let value = value_same last s u.0 u.1 good in
+    let first : setting_length (v ++ s) ≡ n + 1 + value_length last =
+    ap (λ (k : ℕ). setting_at k (v ++ s)) same ∙ ap (λ (c : Bool). cond c (n + 1 + value_length (drop (n + 1) (v ++ s))) n) mark
+    ∙ ap (λ (t : List ℕ). n + 1 + value_length t) end ∙ ap (λ (k : ℕ). n + 1 + k) value.0 in
+    let second : setting_length v ≡ n + 1 + value_length last = ap (λ (c : Bool). cond c (n + 1 + value_length last) n) parts.0 in
+    (ap (λ (k : ℕ). k + 1) (first ∙ sym second), omega (arith, second, value.1, left_of, some, left))
+
+word_same : (v s : List ℕ) → is_some (number_of v) ≡ true → prefix_len is_of_number s ≡ 0
+    → (value_length (v ++ s) + 1 ≡ value_length v + 1) × (value_length v + 1 ≤ suc (length v))
+word_same v s h good =
+    let n = number_value v h in
+    let i = value_same v s n.0 n.1 good in
+    (ap (λ (k : ℕ). k + 1) i.0, omega (arith, i.1))
+
+one_byte : (n : ℕ) → 1 ≤ suc n
+one_byte n = omega arith
+
+branch : (t : Bool) (x y u w k : ℕ) → (t ≡ true → (x ≡ y) × (y ≤ k)) → (t ≡ false → (u ≡ w) × (w ≤ k)) → (cond t x u ≡ cond t y w) × (cond t y w ≤ k)
+branch true x y u w k f g = f refl
+branch false x y u w k f g = g refl
+
+bare_same : (b : ℕ) (v s : List ℕ) → is_unread (item_of (b ∷ v)) ≡ false → ((b == 59) ≡ true → s ≡ []) → prefix_len is_of_number s ≡ 0
+    → (bare_length (b ∷ (v ++ s)) ≡ bare_length (b ∷ v)) × (bare_length (b ∷ v) ≤ suc (length v))
+bare_same b v s read end good =
+    branch (b == 40) _ _ _ _ (suc (length v)) (λ o. comment_same v s (comment_read b v o read))
+    (λ no. branch (b == 59) _ _ _ _ (suc (length v)) (λ c. remark_same v s (end c))
+    (λ nc. branch (b == 35) _ _ _ _ (suc (length v)) (λ h. setting_same v s (setting_read b v h read) good)
+    (λ nh. branch (is_letter b) _ _ _ _ (suc (length v)) (λ l. word_same v s (word_read b v l nc no nh read) good)
+    (λ nl. (refl, one_byte (length v))))))
+
+zero_if : (t : Bool) (n : ℕ) → cond t (1 + n) 0 ≡ 0 → t ≡ false
+zero_if true n h = absurd (omega (arith, h))
+zero_if false n h = refl
+
+no_blank : (b : ℕ) → is_of_number b ≡ false → is_blank b ≡ false
+no_blank b h = grind (arith, nat_tests)
+
+good_blank : (s : List ℕ) → prefix_len is_of_number s ≡ 0 → prefix_len is_blank s ≡ 0
+good_blank [] h = refl
+good_blank (b ∷ s) h =
+    ap (λ (c : Bool). cond c (1 + prefix_len is_blank s) 0) (no_blank b (zero_if (is_of_number b) (prefix_len is_of_number s) h))
+
+-- an item that can be read has its bytes, whatever follows
+pub item_same : (b : ℕ) (v s : List ℕ) → is_unread (item_of (b ∷ v)) ≡ false → ((b == 59) ≡ true → s ≡ []) → prefix_len is_of_number s ≡ 0
+    → item_length (b ∷ (v ++ s)) ≡ item_length (b ∷ v)
+item_same b v s read end good =
+    let x = b ∷ v in
+    let n = bare_length x in
+    let k = bare_same b v s read end good in
+    ap (λ (m : ℕ). m + prefix_len is_blank (drop m (x ++ s))) k.0
+    ∙ ap (λ (t : List ℕ). n + prefix_len is_blank t) (drop-append-le n x s k.1)
+    ∙ ap (λ (m : ℕ). n + m) (prefix_good is_blank (drop n x) s (good_blank s good))
+
+-- ---- an item ends in its line
+
+branch_within : (t : Bool) (x u k : ℕ) → (t ≡ true → x ≤ k) → (t ≡ false → u ≤ k) → cond t x u ≤ k
+branch_within true x u k f g = f refl
+branch_within false x u k f g = g refl
+
+setting_within : (v : List ℕ) → setting_length v + 1 ≤ suc (length v)
+setting_within v =
+    let n = value_length v in
+    let last = value_within (drop (n + 1) v) in
+    let left = length-drop n v in
+    let left_of = length-drop (n + 1) v in
+    let whole = value_within v in
+    let short : setting_length v ≤ length v =
+    branch_within (begins 61 (drop n v)) (n + 1 + value_length (drop (n + 1) v)) n (length v)
+    (λ e. let some = has_some (drop n v) e in omega (arith, some, last, left, left_of)) (λ e. whole) in
+    omega (arith, short)
+
+more : (n m : ℕ) → n ≤ m → n + 1 ≤ suc m
+more n m h = omega (arith, h)
+
+bare_within : (b : ℕ) (v : List ℕ) → bare_length (b ∷ v) ≤ suc (length v)
+bare_within b v =
+    branch_within (b == 40) _ _ (suc (length v)) (λ o. shortest_within (prefix_len is_in_comment v) (length v))
+    (λ no. branch_within (b == 59) _ _ (suc (length v)) (λ c. more (length v) (length v) (omega arith))
+    (λ nc. branch_within (b == 35) _ _ (suc (length v)) (λ h. setting_within v)
+    (λ nh. branch_within (is_letter b) _ _ (suc (length v)) (λ l. more (value_length v) (length v) (value_within v)) (λ nl. one_byte (length v)))))
+
+item_within : (b : ℕ) (v : List ℕ) → item_length (b ∷ v) ≤ length (b ∷ v)
+item_within b v =
+    let n = bare_length (b ∷ v) in
+    omega (arith, bare_within b v, prefix_within is_blank (drop n (b ∷ v)), length-drop n (b ∷ v))
+
+-- ---- what the items after the first begin with
+
+after_by : (p : ℕ → Bool) (x : ℕ) (m : List ℕ) (t : Bool) → p x ≡ t → prefix_len p (drop (prefix_len p m) m) ≡ 0
+    → prefix_len p (drop (cond t (1 + prefix_len p m) 0) (x ∷ m)) ≡ 0
+after_by p x m true e h = ap (λ (k : ℕ). prefix_len p (drop k (x ∷ m))) (sym (one (prefix_len p m))) ∙ h
+after_by p x m false e h = ap (λ (t : Bool). cond t (1 + prefix_len p m) 0) e
+
+after_prefix : (p : ℕ → Bool) (m : List ℕ) → prefix_len p (drop (prefix_len p m) m) ≡ 0
+after_prefix p [] = refl
+after_prefix p (x ∷ m) = after_by p x m (p x) refl (after_prefix p m)
+
+-- the blanks after an item belong to it
+no_blanks : (line : List ℕ) → prefix_len is_blank (drop (item_length line) line) ≡ 0
+no_blanks line =
+    let m = drop (bare_length line) line in
+    ap (prefix_len is_blank) (sym (drop-drop (prefix_len is_blank m) (bare_length line) line)) ∙ after_prefix is_blank m
+
+unread_by : (m c o k h g : Bool) (l : Option Letter) (n : Option Number) → m ≡ false → c ≡ false → o ≡ false → h ≡ false → l ≡ None
+    → is_unread (cond m items.Mark (cond c items.Comment (cond o (cond k items.Comment items.Unread) (cond h (cond g items.Setting items.Unread) (word_item l n))))) ≡ true
+unread_by true c o k h g l n d e f i j = absurd cc
+unread_by false true o k h g l n d e f i j = absurd cc
+unread_by false false true k h g l n d e f i j = absurd cc
+unread_by false false false k true g l n d e f i j = absurd cc
+unread_by false false false k false g (Some l) n d e f i j = absurd cc
+unread_by false false false k false g None n d e f i j = refl
+
+number_no_mark : (b : ℕ) → is_of_number b ≡ true → is_blank b ≡ false → is_mark b ≡ false
+number_no_mark b e h = grind (arith, nat_tests)
+
+number_no_remark : (b : ℕ) → is_of_number b ≡ true → is_blank b ≡ false → (b == 59) ≡ false
+number_no_remark b e h = grind (arith, nat_tests)
+
+number_no_comment : (b : ℕ) → is_of_number b ≡ true → is_blank b ≡ false → (b == 40) ≡ false
+number_no_comment b e h = grind (arith, nat_tests)
+
+number_no_setting : (b : ℕ) → is_of_number b ≡ true → is_blank b ≡ false → (b == 35) ≡ false
+number_no_setting b e h = grind (arith, nat_tests)
+
+number_no_letter : (b : ℕ) → is_of_number b ≡ true → is_blank b ≡ false → letter_of b ≡ None
+number_no_letter b e h = grind (arith, nat_tests)
+
+unread_number : (b : ℕ) (v : List ℕ) → is_of_number b ≡ true → is_blank b ≡ false → is_unread (item_of (b ∷ v)) ≡ true
+unfolding item_of
+unread_number b v e h =
+    unread_by (is_mark b) (b == 59) (b == 40) (is_comment v) (b == 35) (is_setting v) (letter_of b) (number_of v)
+    (number_no_mark b e h) (number_no_remark b e h) (number_no_comment b e h) (number_no_setting b e h) (number_no_letter b e h)
+
+head_by : (b : ℕ) (v : List ℕ) (t : Bool) → is_of_number b ≡ t → is_blank b ≡ false → is_unread (item_of (b ∷ v)) ≡ false → t ≡ false
+head_by b v false e h r = refl
+head_by b v true e h r = sym (unread_number b v e h) ∙ r
+
+abbrev begins_well : List ℕ → Bool
+begins_well x = prefix_len is_of_number x == 0
+
+is_zero : (n : ℕ) → (n == 0) ≡ true → n ≡ 0
+is_zero n h = grind (arith, nat_tests)
+
+-- an item that can be read, and that no blank begins
+head_good : (b : ℕ) (v : List ℕ) → prefix_len is_blank (b ∷ v) ≡ 0 → is_unread (item_of (b ∷ v)) ≡ false → begins_well (b ∷ v) ≡ true
+head_good b v h r =
+    let no = zero_if (is_blank b) (prefix_len is_blank v) h in
+    ap (λ (t : Bool). (cond t (1 + prefix_len is_of_number v) 0) == 0) (head_by b v (is_of_number b) refl no r)
+
+both : (a b : Bool) → a ≡ true → b ≡ true → (a && b) ≡ true
+both true b e h = h
+both false b e h = absurd cc
+
+-- the first item has the first byte
+item_head : (n : ℕ) (b : ℕ) (rest : List ℕ) → 0 < n → (v : List ℕ) × (take n (b ∷ rest) ≡ b ∷ v)
+item_head zero b rest h = absurd (omega arith)
+item_head (suc n) b rest h = (take n rest, refl)
+
+blank_head : (b : ℕ) (v w : List ℕ) → prefix_len is_blank (b ∷ v) ≡ 0 → prefix_len is_blank (b ∷ w) ≡ 0
+blank_head b v w h = ap (λ (t : Bool). cond t (1 + prefix_len is_blank w) 0) (zero_if (is_blank b) (prefix_len is_blank v) h)
+
+heads_good : (n : ℕ) (line : List ℕ) → length line ≤ n → list_any is_unread (map item_of (items_within n line)) ≡ false → prefix_len is_blank line ≡ 0
+    → list_all begins_well (items_within n line) ≡ true
+heads_good zero line l r h = refl
+heads_good (suc n) [] l r h = refl
+heads_good (suc n) (b ∷ rest) l r h =
+    let line = b ∷ rest in
+    let k = item_length line in
+    let some = some_bytes b rest in
+    let left = length-drop k line in
+    let parts = or_parts (is_unread (item_of (take k line))) (list_any is_unread (map item_of (items_within n (drop k line)))) r in
+    let head = item_head k b rest some in
+    both (begins_well (take k line)) (list_all begins_well (items_within n (drop k line)))
+    (ap begins_well head.1 ∙ head_good b head.0 (blank_head b rest head.0 h) (ap (λ (x : List ℕ). is_unread (item_of x)) (sym head.1) ∙ parts.0))
+    (heads_good n (drop k line) (omega (arith, l, some, left)) parts.1 (no_blanks line))
+
+heads_other : (n : ℕ) (line : List ℕ) → length line ≤ n → list_all begins_well (items_within n line) ≡ true → prefix_len is_of_number line ≡ 0
+heads_other n [] l h = refl
+heads_other zero (b ∷ rest) l h = absurd (omega arith)
+heads_other (suc n) (b ∷ rest) l h =
+    let line = b ∷ rest in
+    let k = item_length line in
+    let head = item_head k b rest (some_bytes b rest) in
+    let parts = and_parts (begins_well (take k line)) (list_all begins_well (items_within n (drop k line))) h in
+    let first = is_zero (prefix_len is_of_number (b ∷ head.0)) (ap begins_well (sym head.1) ∙ parts.0) in
+    ap (λ (t : Bool). cond t (1 + prefix_len is_of_number rest) 0) (zero_if (is_of_number b) (prefix_len is_of_number head.0) first)
+
+axis_by : (m : Bool) (i : Item) → is_axis_word (word_in (cond m items.Mark i)) ≡ true → m ≡ false
+axis_by true i h = absurd cc
+axis_by false i h = refl
+
+axis_no_mark : (b : ℕ) (v : List ℕ) → is_axis_item (b ∷ v) ≡ true → is_mark b ≡ false
+unfolding item_of
+axis_no_mark b v h = axis_by (is_mark b) _ h
+
+axis_good : (x : List ℕ) (b : ℕ) (v : List ℕ) → x ≡ b ∷ v → is_unread (item_of x) ≡ false → is_axis_item x ≡ true → begins_well x ≡ true
+axis_good x b v e r h =
+    let no = or_parts (is_blank b) ((b == 47) || (b == 37)) (axis_no_mark b v (ap is_axis_item (sym e) ∙ h)) in
+    ap begins_well e
+    ∙ head_good b v (ap (λ (t : Bool). cond t (1 + prefix_len is_blank v) 0) no.0) (ap (λ (y : List ℕ). is_unread (item_of y)) (sym e) ∙ r)
+
+-- ---- pieces
+
+good_append : (a s : List ℕ) → prefix_len is_of_number a ≡ 0 → prefix_len is_of_number s ≡ 0 → prefix_len is_of_number (a ++ s) ≡ 0
+good_append a s f g = prefix_good is_of_number a s g ∙ f
+
+traverse_good : (t : Bool) → prefix_len is_of_number (traverse t) ≡ 0
+traverse_good true = refl
+traverse_good false = refl
+
+replacement_good : (rule : Rule) → prefix_len is_of_number (replacement rule) ≡ 0
+replacement_good rules.BlendTolerance = refl
+replacement_good rules.ZeroOffset = refl
+replacement_good rules.CycleEnd = refl
+replacement_good rules.LineNumber = refl
+replacement_good rules.MachineCoordinates = refl
+replacement_good rules.IdleCode = refl
+replacement_good rules.Inches = refl
+replacement_good rules.Millimetres = refl
+replacement_good rules.ToolCenter = refl
+replacement_good rules.LookAhead = refl
+replacement_good rules.FirstTraverse = refl
+
+by_rule_good : (x : List ℕ) (r : Option Rule) → begins_well x ≡ true → prefix_len is_of_number (by_rule x r) ≡ 0
+by_rule_good x None h = is_zero (prefix_len is_of_number x) h
+by_rule_good x (Some rule) h = replacement_good rule
+
+pieces_good : (unnamed : Bool) (modes : Modes) (words : List Word) (xs : List (List ℕ)) → list_all begins_well xs ≡ true
+    → prefix_len is_of_number (concat (pieces_of unnamed modes words xs)) ≡ 0
+pieces_good unnamed modes words [] h = refl
+pieces_good unnamed modes words (x ∷ xs) h =
+    let parts = and_parts (begins_well x) (list_all begins_well xs) h in
+    good_append (traverse (unnamed && is_axis_item x)) _ (traverse_good (unnamed && is_axis_item x))
+    (good_append (item_written modes words x) _ (by_rule_good x (item_rule modes words x) parts.0)
+    (pieces_good (unnamed && not (is_axis_item x)) modes words xs parts.1))
+
+traverse_fits : (t : Bool) (s : List ℕ) → (t ≡ true → prefix_len is_of_number s ≡ 0) → 0 < length (traverse t) → item_length (traverse t ++ s) ≡ length (traverse t)
+unfolding item_of
+traverse_fits true s good h = item_same 71 (48 ∷ 32 ∷ []) s refl (λ e. absurd cc) (good refl)
+traverse_fits false s good h = absurd (omega arith)
+
+replacement_fits : (rule : Rule) (s : List ℕ) → prefix_len is_of_number s ≡ 0 → 0 < length (replacement rule)
+    → item_length (replacement rule ++ s) ≡ length (replacement rule)
+unfolding item_of
+replacement_fits rules.BlendTolerance s good h = absurd (omega arith)
+replacement_fits rules.ZeroOffset s good h = absurd (omega arith)
+replacement_fits rules.CycleEnd s good h = absurd (omega arith)
+replacement_fits rules.LineNumber s good h = absurd (omega arith)
+replacement_fits rules.MachineCoordinates s good h = absurd (omega arith)
+replacement_fits rules.IdleCode s good h = absurd (omega arith)
+replacement_fits rules.Inches s good h = item_same 71 (50 ∷ 48 ∷ 32 ∷ []) s refl (λ e. absurd cc) good
+replacement_fits rules.Millimetres s good h = item_same 71 (50 ∷ 49 ∷ 32 ∷ []) s refl (λ e. absurd cc) good
+replacement_fits rules.ToolCenter s good h = item_same 71 (52 ∷ 51 ∷ 32 ∷ []) s refl (λ e. absurd cc) good
+replacement_fits rules.LookAhead s good h = absurd (omega arith)
+replacement_fits rules.FirstTraverse s good h = absurd (omega arith)
+
+-- an item that stays, where it was read before something else
+item_fits : (x others s : List ℕ) → item_length (x ++ others) ≡ length x → is_unread (item_of x) ≡ false
+    → (begins 59 x ≡ true → others ≡ []) → (begins 59 x ≡ true → s ≡ []) → prefix_len is_of_number others ≡ 0 → prefix_len is_of_number s ≡ 0
+    → 0 < length x → item_length (x ++ s) ≡ length x
+item_fits [] others s e r f g go gs h = absurd (omega arith)
+item_fits (b ∷ v) others s e r f g go gs h =
+    item_same b v s r (λ c. g (begins_head 59 b v ∙ c)) gs ∙ sym (item_same b v others r (λ c. f (begins_head 59 b v ∙ c)) go) ∙ e
+
+by_rule_fits : (x others s : List ℕ) (r : Option Rule) → item_length (x ++ others) ≡ length x → is_unread (item_of x) ≡ false
+    → (begins 59 x ≡ true → others ≡ []) → (begins 59 x ≡ true → s ≡ []) → prefix_len is_of_number others ≡ 0 → prefix_len is_of_number s ≡ 0
+    → 0 < length (by_rule x r) → item_length (by_rule x r ++ s) ≡ length (by_rule x r)
+by_rule_fits x others s None e r f g go gs h = item_fits x others s e r f g go gs h
+by_rule_fits x others s (Some rule) e r f g go gs h = replacement_fits rule s gs h
+
+-- a piece that is an item, and the items after it
+one_piece : (p s : List ℕ) (ps : List (List ℕ)) → (0 < length p → item_length (p ++ s) ≡ length p) → items_of s ≡ filter (λ piece. nat_lt 0 (length piece)) ps
+    → items_of (p ++ s) ≡ filter (λ piece. nat_lt 0 (length piece)) (p ∷ ps)
+one_piece [] s ps f h = h
+one_piece (b ∷ v) s ps f h =
+    let p = b ∷ v in
+    let line = p ++ s in
+    let others = filter (λ piece. nat_lt 0 (length piece)) ps in
+    let e : length p ≡ item_length line = sym (f (omega arith)) in
+    items_step line (omega arith)
+    ∙ ap (λ (front : List ℕ). front ∷ items_of (drop (item_length line) line)) (take_at p s (item_length line) e)
+    ∙ ap (λ (t : List ℕ). p ∷ items_of t) (drop_at p s (item_length line) e)
+    ∙ ap (λ (xs : List (List ℕ)). p ∷ xs) h
+    ∙ sym (ap (λ (t : Bool). cond t (p ∷ others) others) (not_empty (length v)))
+
+remark_bare : (b : ℕ) (rest : List ℕ) → (b == 59) ≡ true → length (b ∷ rest) ≤ item_length (b ∷ rest)
+remark_bare b rest e = grind (arith, nat_tests)
+
+no_items_within : (n : ℕ) (line : List ℕ) → line ≡ [] → items_within n line ≡ []
+no_items_within zero line e = refl
+no_items_within (suc n) [] e = refl
+no_items_within (suc n) (b ∷ rest) e = absurd cc
+
+remark_head : (x : List ℕ) (b : ℕ) (v : List ℕ) → x ≡ b ∷ v → begins 59 x ≡ true → (b == 59) ≡ true
+remark_head x b v e h = sym (begins_head 59 b v) ∙ ap (begins 59) (sym e) ∙ h
+
+read_pieces : (n : ℕ) (line : List ℕ) (unnamed : Bool) (modes : Modes) (words : List Word) → length line ≤ n
+    → list_any is_unread (map item_of (items_within n line)) ≡ false
+    → items_of (concat (pieces_of unnamed modes words (items_within n line))) ≡ filter (λ piece. nat_lt 0 (length piece)) (pieces_of unnamed modes words (items_within n line))
+read_pieces zero line unnamed modes words l r = nothing [] refl
+read_pieces (suc n) [] unnamed modes words l r = nothing [] refl
+read_pieces (suc n) (b ∷ rest) unnamed modes words l r =
+    let line = b ∷ rest in
+    let k = item_length line in
+    let x = take k line in
+    let others = drop k line in
+    let xs = items_within n others in
+    let later = unnamed && not (is_axis_item x) in
+    let ps = pieces_of later modes words xs in
+    let some = some_bytes b rest in
+    let left = length-drop k line in
+    let within = item_within b rest in
+    let fits : length others ≤ n = omega (arith, l, some, left) in
+    let parts = or_parts (is_unread (item_of x)) (list_any is_unread (map item_of xs)) r in
+    let head = item_head k b rest some in
+    let split = take-append-drop k line in
+    let sum = length-append x others in
+    let long : item_length (x ++ others) ≡ length x = ap item_length split ∙ omega (arith, sum, ap length split, left, within) in
+    let heads = heads_good n others fits parts.1 (no_blanks line) in
+    let tail_good = pieces_good later modes words xs heads in
+    let last : begins 59 x ≡ true → others ≡ [] = λ e. drop_all k line (remark_bare b rest (remark_head x b head.0 head.1 e)) in
+    let none : begins 59 x ≡ true → concat ps ≡ [] = λ e. ap (λ (ys : List (List ℕ)). concat (pieces_of later modes words ys)) (no_items_within n others (last e)) in
+    let others_good = heads_other n others fits heads in
+    let item = item_written modes words x in
+    let named = traverse (unnamed && is_axis_item x) in
+    let second = one_piece item (concat ps) ps
+    (by_rule_fits x others (concat ps) (item_rule modes words x) long parts.0 last none others_good tail_good)
+    (read_pieces n others later modes words fits parts.1) in
+    one_piece named (item ++ concat ps) (item ∷ ps)
+    (traverse_fits (unnamed && is_axis_item x) (item ++ concat ps) (λ e. good_append item (concat ps)
+    (by_rule_good x (item_rule modes words x) (axis_good x b head.0 head.1 parts.0 (and_parts unnamed (is_axis_item x) e).1)) tail_good)) second
+
+unread_none : (u : Bool) (ws words : List Word) → words_unless u ws ≡ Some words → u ≡ false
+unread_none true ws words e = absurd cc
+unread_none false ws words e = refl
+
+by_words : (modes : Modes) (line : List ℕ) (o : Option (List Word)) → words_of line ≡ o → items_of (written_by modes line o) ≡ items_left modes line o
+unfolding items_of
+by_words modes line None e = refl
+by_words modes line (Some words) e =
+    read_pieces (length line) line (is_first_traverse modes words) modes words (omega arith) (unread_none (has_unread line) (words_in line) words e)
+
+pub read_back : (modes : Modes) (line : List ℕ) → items_of (written modes line) ≡ items_left modes line (words_of line)
+unfolding written
+read_back modes line = by_words modes line (words_of line) refl
