@@ -9,7 +9,7 @@ use Rattle.ngc_adapt.specs.declared.item.Word.{Word}
 use Rattle.ngc_adapt.specs.declared.rule.Rule.{Rule}
 use Rattle.ngc_adapt.specs.declared.rule.Modes.{Modes}
 use Rattle.ngc_adapt.specs.declared.program.Progress.{Progress}
-use Rattle.ngc_adapt.specs.declared.program.Change.{Change}
+use Rattle.ngc_adapt.specs.declared.change.Change.{Change}
 use Rattle.ngc_adapt.specs.Items.{words_of}
 use Rattle.ngc_adapt.specs.Lines.{rules_by, rules_of, written_by, written}
 use Rattle.ngc_adapt.specs.Programs.{line_length, lines_within, lines_of, body_length, body_of, end_of, body_rules, body_written, progress_after, start, change_at, lines_written, lines_changes, program_written, program_changes}

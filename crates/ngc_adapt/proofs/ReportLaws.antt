@@ -4,7 +4,7 @@ use Rattle.std.specs.Prelude.{map}
 use Rattle.std.specs.List.{filter_map, flat_map}
 use Rattle.std.proofs.Math.Seq.{drop-cons}
 use Rattle.ngc_adapt.specs.declared.dialect.Dialect.{Dialect}
-use Rattle.ngc_adapt.specs.declared.program.Change.{Change}
+use Rattle.ngc_adapt.specs.declared.change.Change.{Change}
 use Rattle.ngc_adapt.specs.declared.item.Word.{Word}
 use Rattle.ngc_adapt.specs.declared.rule.Rule.{Rule}
 use Rattle.ngc_adapt.specs.declared.rule.Modes.{Modes}

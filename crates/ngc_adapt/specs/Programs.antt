@@ -6,7 +6,7 @@ use Rattle.std.specs.List.{list_all, prefix_len}
 use Rattle.ngc_adapt.specs.declared.dialect.Dialect.{Dialect}
 use Rattle.ngc_adapt.specs.declared.rule.Rule.{Rule}
 use Rattle.ngc_adapt.specs.declared.program.Progress.{Progress}
-use Rattle.ngc_adapt.specs.declared.program.Change.{Change}
+use Rattle.ngc_adapt.specs.declared.change.Change.{Change}
 use Rattle.ngc_adapt.specs.Numbers.{is_blank, byte_count}
 use Rattle.ngc_adapt.specs.Rules.{start_modes}
 use Rattle.ngc_adapt.specs.Lines.{written, rules_of, next_modes, is_end}

@@ -8,7 +8,7 @@ use Rattle.ngc_adapt.specs.declared.rule.Rule.{Rule}
 use Rattle.ngc_adapt.specs.declared.rule.Rule.TheVariants as rules
 use Rattle.ngc_adapt.specs.declared.rule.Modes.{Modes}
 use Rattle.ngc_adapt.specs.declared.program.Progress.{Progress}
-use Rattle.ngc_adapt.specs.declared.program.Change.{Change}
+use Rattle.ngc_adapt.specs.declared.change.Change.{Change}
 use Rattle.ngc_adapt.specs.declared.report.TheConstants as constants
 use Rattle.ngc_adapt.specs.Numbers.{is_blank}
 use Rattle.ngc_adapt.specs.Items.{items_of, words_of}

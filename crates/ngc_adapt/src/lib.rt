@@ -1,6 +1,7 @@
 //! Part programs in the dialects of other controls, rewritten in our language.
 #![tactic(auto)]
 
+mod change;
 mod code;
 mod dialect;
 mod item;
@@ -12,11 +13,10 @@ mod report;
 mod rule;
 mod text;
 
+pub use change::Change;
 pub use dialect::Dialect;
-pub use item::{Letter, MOST_WORDS, Word, read_words};
-pub use line::{AdaptedLine, MOST_RULES, adapt_line};
+pub use item::{Letter, Word};
 pub use number::Number;
-pub use program::{Adapted, Change, Progress, adapt};
-pub use report::EVERY_RULE;
+pub use program::{Adapted, adapt};
 pub use rule::{Modes, Motion, Plane, Rule};
 pub use text::{TextChanges, text_of};

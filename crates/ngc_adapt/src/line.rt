@@ -144,8 +144,8 @@ fn has_end_word(words: &[Word]) -> bool
 }
 
 /// Adds to `out` what is written of a line, whose line feed is not part of it, and returns the
-/// rules that changed it, what it leaves in force and whether it ends the program. A line that no rule changes is copied byte for
-/// byte. After an error, what `out` holds is unspecified.
+/// rules that changed it, what it leaves in force and whether it ends the program. A line that no
+/// rule changes is copied byte for byte.
 #[tactic(auto, unfolding(crate::specs::Lines::rules_of, crate::specs::Lines::written, crate::specs::Lines::next_modes, crate::specs::Lines::is_end))]
 pub fn adapt_line<A: Allocator>(
     modes: &Modes,

@@ -4,38 +4,13 @@ ghost use Rattle.ngc_adapt.specs.Numbers.{is_blank as blank};
 ghost use Rattle.ngc_adapt.specs.Programs as spec;
 ghost use Rattle.ngc_adapt.specs.Reports as reports;
 
+use crate::change::Change;
 use crate::dialect::Dialect;
 use crate::line::adapt_line;
 use crate::number::{byte_count, is_blank};
 use crate::report::{add_counts, add_line_report};
 use crate::rule::{Modes, Rule};
 use std::alloc::{AllocError, Allocator};
-
-/// A change of a line.
-#[derive(Clone, Copy)]
-pub struct Change {
-    /// The line of the source, from 1.
-    pub line: usize,
-    /// The line of what is written, from 1.
-    pub written_line: usize,
-    /// The rule that changed it.
-    pub rule: Rule,
-}
-
-impl Change {
-    ghost use Rattle.ngc_adapt.specs.Programs.{change_at};
-
-    // The change of a line by a rule: lines stay lines.
-    pub(crate) fn at(number: usize, rule: Rule) -> Change
-        ensures { result ≡ change_at number rule }
-    {
-        Change {
-            line: number,
-            written_line: number,
-            rule,
-        }
-    }
-}
 
 /// What the lines before leave.
 #[derive(Clone, Copy)]
@@ -269,8 +244,11 @@ fn add_lines<A: Allocator>(
     Ok(())
 }
 
-/// Rewrites a program in a dialect in our language. The lines that are never executed are copied, and
-/// so is a program to which no rule applies, byte for byte.
+/// Rewrites a program in the dialect of a control in our language: the text, what was changed, and a
+/// report of it.
+///
+/// Lines that are never executed are copied, and so is a program to which no rule applies, byte for
+/// byte. An error means that memory was refused.
 #[tactic(auto, using(crate::proofs::ProgramLaws::copied))]
 pub fn adapt<A: Allocator + Copy>(
     alloc: A,

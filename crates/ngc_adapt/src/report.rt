@@ -6,10 +6,10 @@ ghost use Rattle.ngc_adapt.specs.Items.{items_of};
 ghost use Rattle.ngc_adapt.specs.Rules.{is_first_traverse};
 ghost use Rattle.ngc_adapt.specs.Reports as spec;
 
+use crate::change::Change;
 use crate::item::{Word, read_words, split_item};
 use crate::line::{is_axis_item, item_rule};
 use crate::number::is_blank;
-use crate::program::Change;
 use crate::rule::{Modes, Rule};
 use itoa::Buffer;
 use std::alloc::{AllocError, Allocator};

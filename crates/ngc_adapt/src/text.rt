@@ -94,7 +94,7 @@ fn lines_of<A: Allocator>(alloc: A, file: &[u8]) -> Result<Vec<u8, A>, AllocErro
 }
 
 /// Returns the program's text that a file has: without a byte order mark, NUL and ^Z, and with line
-/// feeds where carriage returns alone end its lines.
+/// feeds where carriage returns alone end its lines. An error means that memory was refused.
 #[tactic(auto, using(crate::proofs::TextLaws::same_text))]
 pub fn text_of<A: Allocator>(alloc: A, file: &[u8]) -> Result<Vec<u8, A>, AllocError>
     ensures text { IfOk result (λ text. text.items ≡ spec.text_of file.now) }

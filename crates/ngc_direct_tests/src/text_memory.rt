@@ -1,6 +1,7 @@
 //! Memory that is refused to what reads texts and expands cycles, and sources without end.
 use crate::checks::{holds, same};
 use linked_list_allocator::LocalHeap;
+use ngc_adapt::{Dialect, adapt};
 use ngc_canned_cycles::{Cycle, CycleFault, Hole, Start, expand};
 use ngc_events::{EventsFault, read_events};
 use ngc_fixed_length::{Distance, FeedMode, Nm, Plane, Point3, ReturnMode};
@@ -12,17 +13,19 @@ use std::alloc::{AllocError, Global};
 use std::process::Abort;
 use std::test::Fail;
 
-// What is read with the memory of a heap.
+// What is done with the memory of a heap.
 #[derive(Clone, Copy, Debug)]
 enum Job {
+    Dialect,
     Events,
     File,
     Program,
 }
 
-// Each job with its piece of text, how often that stands, how many events, bytes or lines are read,
-// and in which steps its heap grows.
+// Each job with its piece of text, how often that is repeated, how many changes are made or how many
+// events, bytes or lines are read, and in which steps its heap grows.
 const JOBS: &[(Job, &str, usize, usize, usize)] = &[
+    (Job::Dialect, "G1 X1 K0 F100\n", 100, 100, 1_024),
     (Job::Events, "load\n", 1_000, 1_000, 2_048),
     (
         Job::File,
@@ -34,9 +37,13 @@ const JOBS: &[(Job, &str, usize, usize, usize)] = &[
     (Job::Program, "G1 X2 Y3 F100\nX4\n\n", 2, 6, 16),
 ];
 
-// How much was read; where memory was refused, nothing.
+// How much was changed or read; nothing where memory was refused.
 fn read_in(heap: &LocalHeap, job: Job, text: &[u8]) -> Option<usize> {
     match job {
+        Job::Dialect => match adapt(heap, Dialect::LinuxCnc, text) {
+            Ok(adapted) => Some(adapted.changes.len()),
+            Err(_) => None,
+        },
         Job::Events => match read_events(heap, text) {
             Ok(events) => Some(events.len()),
             Err(EventsFault::Memory) => None,

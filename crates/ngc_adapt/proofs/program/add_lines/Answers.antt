@@ -1,6 +1,6 @@
 use Rattle.std.proofs.Common.{ℕ, List, ◌++◌, length, ap, sym, ◌∙◌}
 use Rattle.std.proofs.lemmas.List.{append-nil}
-use Rattle.ngc_adapt.specs.declared.program.Change.{Change}
+use Rattle.ngc_adapt.specs.declared.change.Change.{Change}
 use Rattle.ngc_adapt.proofs.ItemLaws.{no_bytes}
 use Rattle.ngc_adapt.proofs.ProgramLaws.{text_end, changes_end}
 use Rattle.ngc_adapt.proofs.ReportLaws.{lines_end}

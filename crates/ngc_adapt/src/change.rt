@@ -1,0 +1,29 @@
+ghost use Rattle.std.specs.Prelude.{◌≡◌};
+
+use crate::rule::Rule;
+
+/// A change of a line.
+#[derive(Clone, Copy)]
+pub struct Change {
+    /// The line of the source, from 1.
+    pub line: usize,
+    /// The line of what is written, from 1.
+    pub written_line: usize,
+    /// The rule that changed it.
+    pub rule: Rule,
+}
+
+impl Change {
+    ghost use Rattle.ngc_adapt.specs.Programs.{change_at};
+
+    // The change of a line by a rule: lines stay lines.
+    pub(crate) fn at(number: usize, rule: Rule) -> Change
+        ensures { result ≡ change_at number rule }
+    {
+        Change {
+            line: number,
+            written_line: number,
+            rule,
+        }
+    }
+}
