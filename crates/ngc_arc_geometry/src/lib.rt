@@ -19,3 +19,4 @@ pub use arc::Arc;
 pub use cut::GridArc;
 pub use fault::ArcFault;
 pub use given::{Ends, Offsets};
+pub use lengths::{halfway, moved};

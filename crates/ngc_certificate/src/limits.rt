@@ -3,7 +3,7 @@
 ghost use Rattle.std.specs.Prelude.{◌≤◌, unsigned_abs};
 ghost use Rattle.ngc_fixed_length.specs.Length.{IsStep};
 
-use ngc_fixed_length::{GridBox, Nm, Plane, Point3};
+use ngc_fixed_length::{GridBox, Nm, Plane, Point3, nanometres_at};
 use ngc_machine::{Fixture, Part};
 
 /// From one coordinate to another, in nanometres.
@@ -21,14 +21,6 @@ pub(crate) struct Block {
     pub(crate) x: Span,
     pub(crate) y: Span,
     pub(crate) z: Span,
-}
-
-/// So many steps, in nanometres.
-fn nanometres_at(step: Nm, steps: i32) -> i64
-    requires { IsStep step }
-    ensures { unsigned_abs result ≤ 107374182400000 }
-{
-    i64::from(steps) * step.nanometres()
 }
 
 impl Span {

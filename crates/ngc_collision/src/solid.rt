@@ -7,7 +7,7 @@ ghost use Rattle.ngc_collision.specs.Body.{is_below};
 ghost use Rattle.ngc_collision.specs.Inside.{place_of, solid_of, REACH, FOOT_REACH, IsReached};
 
 use arrayvec::ArrayVec;
-use ngc_fixed_length::{GridBox, Nm, Point3, StepPos};
+use ngc_fixed_length::{GridBox, Nm, Point3, StepPos, nanometres_at};
 use ngc_machine::{Fixture, Part, Tool};
 
 /// A place of the machine, in nanometres.
@@ -23,15 +23,6 @@ pub struct Place {
 pub struct Solid {
     pub low: Place,
     pub high: Place,
-}
-
-/// So many steps, in nanometres.
-fn nanometres_at(step: Nm, steps: i32) -> i64
-    requires { IsStep step }
-    ensures value { result ≡ steps *ℤ step }
-    ensures bound { unsigned_abs result ≤ REACH }
-{
-    i64::from(steps) * step.nanometres()
 }
 
 /// A coordinate so much lower.

@@ -1,3 +1,5 @@
+ghost use Rattle.std.specs.Prelude.{◌≡◌};
+
 use crate::movement::Motion;
 use ngc_fixed_length::Turn;
 use ngc_machine::Tool;
@@ -40,6 +42,17 @@ pub enum Action {
     /// The program's end, with spindle and coolant off: M2, M30, or the second `%` of a marked
     /// file.
     End,
+}
+
+impl Action {
+    ghost use Rattle.ngc_commands.specs.Reached.{mounts};
+
+    /// Returns whether the action mounts another tool, or none.
+    pub fn mounts(&self) -> bool
+        ensures { result ≡ mounts self.now }
+    {
+        matches!(self, Action::Mount(_))
+    }
 }
 
 /// A command of the machine: what it does, with the line of the program that gives it, from 1.

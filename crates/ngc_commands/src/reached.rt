@@ -16,7 +16,7 @@ pub struct Reached {
 }
 
 impl Reached {
-    /// Before the first command: at the machine's start, with no tool mounted.
+    /// Returns what holds before the first command: at the machine's start, with no tool mounted.
     pub fn at_start<A: Allocator>(machine: &Machine<A>) -> Reached
         ensures { result ≡ at_start (file_of machine.now) }
     {
@@ -26,7 +26,7 @@ impl Reached {
         }
     }
 
-    /// Behind an action.
+    /// Returns what holds after an action.
     pub fn after(self, action: &Action) -> Reached
         ensures { result ≡ after self action.now }
     {
@@ -43,7 +43,7 @@ impl Reached {
         }
     }
 
-    /// Behind some more commands.
+    /// Returns what holds after some more commands.
     pub fn after_all(self, commands: &[Command]) -> Reached
         ensures { result ≡ after_all self commands.now }
     {

@@ -12,7 +12,7 @@ ghost use Rattle.ngc_drawing.specs.Helices.{middle_direction, size, along, point
 ghost use Rattle.ngc_drawing.specs.Helices.{middle, halvings};
 ghost use Rattle.ngc_drawing.specs.Ways.{way_of, IsShort, IsReached};
 
-use ngc_arc_geometry::Arc;
+use ngc_arc_geometry::{Arc, halfway, moved};
 use ngc_fixed_length::{Nm, Point2, Point3, Turn, root_floor, rounded_quotient};
 
 /// A direction in an arc's plane, as a way from its centre in nanometres.
@@ -20,22 +20,6 @@ use ngc_fixed_length::{Nm, Point2, Point3, Turn, root_floor, rounded_quotient};
 pub(crate) struct Heading {
     pub u: i64,
     pub v: i64,
-}
-
-/// A length and so many nanometres more.
-fn moved(length: Nm, by: i64) -> Nm
-    requires { IsLength (length +ℤ by) }
-    ensures { result ≡ length +ℤ by }
-{
-    Nm::from_nanometres(i128::from(length.nanometres()) + i128::from(by)).unwrap()
-}
-
-/// Half the sum of two lengths, rounded down to a nanometre.
-fn half_way_up(one: Nm, other: Nm) -> Nm
-    ensures { result ≡ chord.halfway one other }
-{
-    let sum = one.nanometres() + other.nanometres();
-    Nm::from_nanometres(i128::from(sum.div_euclid(2))).unwrap()
 }
 
 /// The sum of two coordinates and the difference of two others.
@@ -237,12 +221,12 @@ fn point_between(arc: &Arc, one: &Point3, other: &Point3, direction: &Heading) -
     ensures { result ≡ point_between arc.now one.now other.now (way_of direction.now) }
 {
     let plane = arc.plane();
-    let height = half_way_up(one.height(plane), other.height(plane));
+    let height = halfway(one.height(plane), other.height(plane));
     direction.on_circle(arc).at_height(plane, height)
 }
 
 /// The point of an arc half way from one to another, which are at most half a turn apart.
-pub(crate) fn halfway(arc: &Arc, one: &Point3, other: &Point3) -> Point3
+pub(crate) fn halfway_along(arc: &Arc, one: &Point3, other: &Point3) -> Point3
     ensures { result ≡ halfway arc.now one.now other.now }
 {
     let direction = Heading::to(arc, one).half_turned(arc.turn(), &Heading::to(arc, other));

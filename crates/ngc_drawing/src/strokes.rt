@@ -10,7 +10,7 @@ ghost use Rattle.ngc_drawing.specs.Strokes.{lead, is_seen_clockwise, round, is_f
 ghost use Rattle.ngc_drawing.specs.Strokes.{arc_course, course, stroke, strokes_of};
 
 use crate::drawer::draw_all;
-use crate::helix::{halfway, halvings, middle};
+use crate::helix::{halfway_along, halvings, middle};
 use crate::pen::{Pen, Run, ink_of};
 use crate::shape::{Ink, Shape};
 use crate::sheet::Unit;
@@ -113,7 +113,7 @@ fn draw_curve<W: Sink>(
     if halvings == 0 {
         return draw_all(chunk, unit, &[Shape::Line(view.spot(to))], sink);
     }
-    let between = halfway(arc, from, to);
+    let between = halfway_along(arc, from, to);
     match draw_curve(chunk, unit, view, arc, halvings - 1, from, &between, sink) {
         Ok(()) => {}
         Err(fault) => return Err(fault),

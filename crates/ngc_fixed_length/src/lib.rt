@@ -7,6 +7,7 @@ mod modes;
 mod points;
 mod roots;
 mod rounding;
+mod steps;
 mod units;
 mod value;
 
@@ -16,5 +17,6 @@ pub use modes::{Distance, FeedMode, Plane, ReturnMode, System, Turn};
 pub use points::{GridBox, Point2, Point3, StepPos};
 pub use roots::{root_ceil, root_floor};
 pub use rounding::rounded_quotient;
+pub use steps::nanometres_at;
 pub use units::Units;
 pub use value::{MILLIONTHS, Value};

@@ -21,7 +21,7 @@ fn read_contents(alloc: Global, bytes: &[u8]) -> Result<Option<ToolContents>, Al
 }
 
 impl Tools<Global> {
-    /// Reads a tool table, version 1: a TOML document of whole numbers.
+    /// Reads a tool table, version 1 or 2: a TOML document of whole numbers.
     ///
     /// It is refused with 269 where it is no such document or a key is unknown, missing or of the
     /// wrong kind, and else with 261 for another version and 268 for a number out of range, a

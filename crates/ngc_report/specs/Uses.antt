@@ -10,15 +10,12 @@ use Rattle.ngc_commands.specs.declared.movement.Pace.{Pace}
 use Rattle.ngc_commands.specs.declared.movement.Pace.TheVariants.{Rapid, Feed}
 use Rattle.ngc_commands.specs.declared.movement.Way.{Way}
 use Rattle.ngc_commands.specs.declared.movement.Way.TheVariants.{Line, Arc}
+use Rattle.ngc_commands.specs.Reached.{mounts}
 use Rattle.ngc_report.specs.Ways.{length_of}
 use Rattle.ngc_report.specs.declared.uses.ToolUse.{ToolUse}
 use Rattle.ngc_report.specs.declared.uses.ToolUses.{ToolUses}
 
 -- ---- kinds of actions
-
-abbrev pub mounts : Action → Bool
-mounts (Mount tool) = true
-mounts _ = false
 
 abbrev pub rapid_line : Way → Pace → Bool
 rapid_line (Line start end) Rapid = true

@@ -6,7 +6,7 @@ ghost use Rattle.ngc_machine.specs.Machine.{file_of};
 ghost use Rattle.ngc_report.specs.Extents.{travel_box};
 ghost use Rattle.ngc_report.specs.Rooms.{axis_room};
 
-use ngc_fixed_length::{GridBox, Nm, StepPos};
+use ngc_fixed_length::{GridBox, Nm, StepPos, nanometres_at};
 use ngc_machine::Machine;
 use std::alloc::Allocator;
 
@@ -25,15 +25,6 @@ pub struct Room {
     pub x: AxisRoom,
     pub y: AxisRoom,
     pub z: AxisRoom,
-}
-
-/// So many steps, in nanometres.
-pub(crate) fn nanometres_at(step: Nm, steps: i32) -> i64
-    requires { IsStep step }
-    ensures value { result ≡ steps *ℤ step }
-    ensures bound { unsigned_abs result ≤ 107374182400000 }
-{
-    i64::from(steps) * step.nanometres()
 }
 
 // The first grid point that isn't below a coordinate, in steps.

@@ -38,10 +38,7 @@ pub struct ToolUses<'a> {
 fn is_change(command: &Command) -> bool
     ensures { result ≡ is_change command.now }
 {
-    match command.action {
-        Action::Mount(_) => true,
-        _ => false,
-    }
+    command.action.mounts()
 }
 
 fn is_traverse(command: &Command) -> bool

@@ -15,7 +15,8 @@ use Rattle.ngc_controller.specs.Controller.{ControllerData}
 use Rattle.ngc_run_log.specs.declared.recorder.Recorder.{Recorder}
 use Rattle.ngc_run_log.specs.declared.report.Report.{Report}
 use Rattle.ngc_run_log.specs.declared.trace.Trace.{Trace}
-use Rattle.ngc_run_log.specs.Parts.{part_length, IsPart, GoesInParts, IsTimedThrough, FinishesPart, GoesParted, changes_tool}
+use Rattle.ngc_run_log.specs.Parts.{part_length, IsPart, GoesInParts, IsTimedThrough, FinishesPart, GoesParted}
+use Rattle.ngc_commands.specs.Reached.{mounts}
 use Rattle.ngc_run_log.specs.Policy.{next_event}
 use Rattle.ngc_run_log.specs.Stretches.{IsUntouched, GoesBy, TellsDone}
 use Rattle.ngc_run_log.proofs.Comes.{AreNew}
@@ -131,14 +132,14 @@ part_more n k p r f d u t count old mid new a b c ns s m ticks is_length at some
 -- a part has a command at least, and no more than there are
 pub some_length : (cs : List Command) → 1 ≤ length cs → 1 ≤ part_length cs
 some_length [] some = absurd (omega (arith, some))
-some_length (c ∷ cs) some = by (changes_tool c.action) where
+some_length (c ∷ cs) some = by (mounts c.action) where
   by : (b : Bool) → 1 ≤ cond b 1 (suc (part_length cs))
   by true = omega arith
   by false = omega arith
 
 pub few_length : (cs : List Command) → part_length cs ≤ length cs
 few_length [] = omega arith
-few_length (c ∷ cs) = let less = few_length cs in by (changes_tool c.action) less where
+few_length (c ∷ cs) = let less = few_length cs in by (mounts c.action) less where
   by : (b : Bool) → part_length cs ≤ length cs → cond b 1 (suc (part_length cs)) ≤ suc (length cs)
   by true less = omega arith
   by false less = omega (arith, less)

@@ -1,9 +1,8 @@
 -- How long a run through a program takes with each tool. Our own.
 use Rattle.std.specs.Prelude.{◌≡◌, ℕ, suc, ◌+◌, ◌*◌, ◌^◌, ◌<◌, min, List, [], ◌∷◌, ◌++◌, length}
-use Rattle.std.specs.Prelude.{drop, count_by, None, Bool, true, false, if◌then◌else◌}
-use Rattle.ngc_commands.specs.declared.command.Action.{Action}
-use Rattle.ngc_commands.specs.declared.command.Action.TheVariants.{Mount}
+use Rattle.std.specs.Prelude.{drop, count_by, None, if◌then◌else◌}
 use Rattle.ngc_commands.specs.declared.command.Command.{Command}
+use Rattle.ngc_commands.specs.Reached.{mounts}
 use Rattle.ngc_events.specs.declared.event.Event.{Event}
 use Rattle.ngc_behaviour.specs.State.{Job, State, opening}
 use Rattle.ngc_behaviour.specs.Step.{Outcome}
@@ -17,14 +16,10 @@ use Rattle.ngc_run_log.specs.Through.{IsSmoothRun, TellsEnd}
 
 -- ---- parts of a program
 
-abbrev pub changes_tool : Action → Bool
-changes_tool (Mount tool) = true
-changes_tool _ = false
-
 -- how many commands there are up to the next change of the tool, with it; or all of them
 abbrev pub part_length : List Command → ℕ
 part_length [] = 0
-part_length (c ∷ cs) = if changes_tool c.action then 1 else suc (part_length cs)
+part_length (c ∷ cs) = if mounts c.action then 1 else suc (part_length cs)
 
 -- ---- and of a run
 

@@ -1,5 +1,5 @@
 -- Which event a run by itself gives next, by the state of the machine. Our own.
-use Rattle.std.specs.Prelude.{◌≡◌, nat_lt, List, [], ◌∷◌, length, Option, Some, None, Bool, ◌&&◌}
+use Rattle.std.specs.Prelude.{◌≡◌, ⊥, nat_lt, List, [], ◌∷◌, length, Option, Some, None, Bool, ◌&&◌}
 use Rattle.std.specs.Prelude.{if◌then◌else◌}
 use Rattle.ngc_events.specs.declared.event.Event.{Event}
 use Rattle.ngc_events.specs.declared.event.Event.TheVariants.{Load, Tick, Start}
@@ -20,6 +20,6 @@ next_event job s =
 -- each event is the next one in the state before it
 abbrev pub FollowPolicy : Job → State → List Event → List State → Type 0
 FollowPolicy job old [] states = Unit {0}
-FollowPolicy job old (e ∷ es) [] = Unit {0}
+FollowPolicy job old (e ∷ es) [] = ⊥
 FollowPolicy job old (e ∷ es) (new ∷ states) =
     (next_event job old ≡ Some e) × FollowPolicy job new es states

@@ -7,7 +7,7 @@ ghost use Rattle.ngc_commands.specs.Sequence.{HasEnd};
 ghost use Rattle.ngc_commands.specs.Sequence.{COMMAND_LIMIT};
 ghost use Rattle.ngc_checker.specs.Accepted.{commands_at};
 ghost use Rattle.ngc_machine.specs.MachineRanges.{IsMachine};
-ghost use Rattle.ngc_run_log.specs.Parts.{FinishesPart, GoesParted, IsTimedThrough, changes_tool};
+ghost use Rattle.ngc_run_log.specs.Parts.{FinishesPart, GoesParted, IsTimedThrough};
 ghost use Rattle.ngc_run_log.specs.Parts.{part_length};
 ghost use Rattle.ngc_run_log.specs.Recording.{HasFew};
 ghost use Rattle.ngc_run_log.specs.Stretches.{GoesBy, IsUntouched};
@@ -17,7 +17,7 @@ use crate::report::RunFault;
 use crate::through::{RING, fill_ring, finish, keep_full};
 use crate::trace::Trace;
 use ngc_checker::Accepted;
-use ngc_commands::{Action, Command};
+use ngc_commands::Command;
 use ngc_controller::Controller;
 use ngc_step_kernel::ArcPath;
 use ngc_text::{DeviceFault, Sink};
@@ -47,21 +47,12 @@ impl Sink for Nowhere {
     }
 }
 
-fn changes_tool(action: &Action) -> bool
-    ensures { result ≡ changes_tool action.now }
-{
-    match action {
-        Action::Mount(_) => true,
-        _ => false,
-    }
-}
-
 // How many commands there are up to the next change of the tool, with it.
 fn part_length(commands: &[Command]) -> usize
     ensures { result ≡ part_length commands.now }
 {
     for (i, command) in commands.iter().enumerate() {
-        if changes_tool(&command.action) {
+        if command.action.mounts() {
             return i + 1;
         }
     }

@@ -1,7 +1,7 @@
 use Rattle.std.proofs.Common.{arith, ◌*ℤ◌, ◌≡◌, ◌≤◌, FitsSigned, unsigned_abs, to_z, of_z, w64, lit<}
 use Rattle.std.proofs.lemmas.Int.{ints, to_z-of_z, fits_signed_mul, unsigned_abs-mul}
 use Rattle.std.proofs.lemmas.Nat.{mul-le}
-use Rattle.ngc_collision.proofs.solid.nanometres_at.Goals as goal
+use Rattle.ngc_fixed_length.proofs.steps.nanometres_at.Goals as goal
 
 left : (c : goal.After-nanometres) → to_z w64 (of_z w64 c.from.result) ≡ c.args.steps
 left c = omega (arith, ints)
