@@ -10,10 +10,10 @@ ghost use Rattle.ngc_report.specs.Scenes.{obstacle};
 
 use crate::bounds::{reach, reach_in_pieces};
 use crate::margins::Margin;
-use crate::travel::{Room, nanometres_at};
+use crate::travel::Room;
 use ngc_collision::{Place, first_met};
 use ngc_commands::{Action, Command, Motion, Reached, Way};
-use ngc_fixed_length::{GridBox, Nm, Point3, StepPos};
+use ngc_fixed_length::{GridBox, Nm, Point3, StepPos, nanometres_at};
 use ngc_machine::{Fixture, Machine, Tool};
 use std::alloc::Allocator;
 
