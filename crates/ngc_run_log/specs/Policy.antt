@@ -1,5 +1,5 @@
 -- Which event a run by itself gives next, by the state of the machine. Our own.
-use Rattle.std.specs.Prelude.{◌≡◌, ⊥, nat_lt, List, [], ◌∷◌, length, Option, Some, None, Bool, ◌&&◌}
+use Rattle.std.specs.Prelude.{◌≡◌, nat_lt, List, [], ◌∷◌, length, Option, Some, None, Bool, ◌&&◌}
 use Rattle.std.specs.Prelude.{if◌then◌else◌}
 use Rattle.ngc_events.specs.declared.event.Event.{Event}
 use Rattle.ngc_events.specs.declared.event.Event.TheVariants.{Load, Tick, Start}
