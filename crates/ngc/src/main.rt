@@ -6,7 +6,6 @@ mod output;
 
 use crate::host::HostFiles;
 use crate::output::Output;
-use arrayvec::ArrayVec;
 use ngc_simulator::{UsageFault, answer, read_options};
 use ngc_text::{Device, write_all};
 use std::process::ExitCode;
@@ -40,8 +39,10 @@ fn answer_words(rt: &HostRuntime) -> Result<u8, UsageFault> {
     let options = read_options(rt.alloc(), names.as_slice())?;
     let mut files = HostFiles::new(rt);
     let mut output = Output::new(rt.stdout());
-    // A line or two, told only where somebody still reads the output.
-    let mut told = Device::new(ArrayVec::<u8, 512>::new());
+    // Told only where somebody still reads the output. A fault's line has its room from the beginning,
+    // also where memory runs out.
+    let room = Vec::with_capacity(rt.alloc(), 512).map_err(|_| UsageFault::Memory)?;
+    let mut told = Device::new(room);
     let status = answer(rt.alloc(), &options, &mut files, &mut output, &mut told);
     if !output.is_closed() {
         let _ = write_all(&mut Device::new(rt.stderr()), told.into_inner().as_slice());

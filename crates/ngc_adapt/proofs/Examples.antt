@@ -1,5 +1,5 @@
 -- Numbers, items, rules and lines worked by hand, by computing the definitions.
-use Rattle.std.proofs.Common.{◌≡◌, ℕ, List, ◌++◌, Bool, true, false, [], ◌∷◌, Some, None, refl}
+use Rattle.std.proofs.Common.{◌≡◌, ℕ, List, ◌++◌, Bool, true, false, [], ◌∷◌, Option, Some, None, refl}
 use Rattle.std.specs.Prelude.{codes}
 use Rattle.std.specs.Fmt.{digits}
 use Rattle.ngc_adapt.specs.declared.item.Item.TheVariants as items
@@ -9,15 +9,26 @@ use Rattle.ngc_adapt.specs.declared.rule.Motion.TheVariants as motions
 use Rattle.ngc_adapt.specs.declared.rule.Plane.{Plane}
 use Rattle.ngc_adapt.specs.declared.rule.Plane.TheVariants as planes
 use Rattle.ngc_adapt.specs.declared.rule.Modes.{Modes}
+use Rattle.ngc_adapt.specs.declared.dialect.Dialect.{Dialect}
 use Rattle.ngc_adapt.specs.declared.dialect.Dialect.TheVariants as dialects
+use Rattle.ngc_adapt.specs.declared.rule.Cycle.{Cycle}
+use Rattle.ngc_adapt.specs.declared.rule.Cycle.TheVariants as cycles
+use Rattle.ngc_adapt.specs.declared.options.Options.{Options}
+use Rattle.ngc_adapt.specs.declared.facts.Facts.{Facts}
+use Rattle.ngc_adapt.specs.declared.facts.Levels.TheVariants as levels
+use Rattle.ngc_adapt.specs.declared.refusal.Refusal.TheVariants as refusals
+use Rattle.ngc_adapt.specs.Facts.{no_facts, facts_of}
 use Rattle.ngc_adapt.specs.Rules.{start_modes}
 use Rattle.ngc_adapt.specs.Numbers.{number_of, code_of, is_zero, is_long}
 use Rattle.ngc_adapt.specs.Items.{items_of, item_of}
 use Rattle.ngc_adapt.specs.Rules.{rule_for}
-use Rattle.ngc_adapt.specs.Lines.{written, rules_of, next_modes, is_end}
-use Rattle.ngc_adapt.specs.Reports.{line_report, program_report}
-use Rattle.ngc_adapt.specs.Programs.{lines_of, program_written, program_changes, change_at}
+use Rattle.ngc_adapt.specs.Refusals.{refusal_for}
+use Rattle.ngc_adapt.specs.Lines.{written, rules_of, next_modes, is_end, refusals_of}
+use Rattle.ngc_adapt.specs.Reports.{line_report, comment_report, program_report}
+use Rattle.ngc_adapt.specs.Programs.{program_written, program_changes, change_at}
+use Rattle.ngc_adapt.specs.Sources.{lines_of}
 use Rattle.ngc_adapt.specs.Text.{text_of}
+use Rattle.ngc_adapt.specs.Comments.{with_plain_comment, has_odd_comment}
 
 -- 91.1 is G91.1, also with blanks and noughts
 code_of_one_decimal : code_of (codes "91.1") ≡ Some 911
@@ -72,8 +83,35 @@ open_comment : item_of (codes "(a") ≡ items.Unread
 unfolding item_of
 open_comment = refl
 
+abbrev nothing : List (Option ℕ)
+nothing = None ∷ None ∷ None ∷ None ∷ None ∷ None ∷ None ∷ None ∷ None ∷ None ∷ None ∷ None ∷ None ∷ None ∷ None ∷ None ∷ []
+
+abbrev options : Dialect → Options
+options dialect = record { dialect = dialect; drop = nothing }
+
+abbrev tooled : Dialect → Motion → Plane → Bool → Cycle → Option ℕ → Option ℕ → Option ℕ → Modes
+tooled dialect motion plane altered cycle selected mounted system = record {
+  dialect = dialect;
+  drop = nothing;
+  facts = no_facts;
+  motion = motion;
+  plane = plane;
+  cycle = cycle;
+  selected = selected;
+  mounted = mounted;
+  system = system;
+  altered = altered;
+}
+
+abbrev modes_of : Dialect → Motion → Plane → Bool → Modes
+modes_of dialect motion plane altered = tooled dialect motion plane altered cycles.Unknown None None (Some 540)
+
 abbrev modes : Motion → Plane → Bool → Modes
-modes motion plane altered = record { dialect = dialects.LinuxCnc; motion = motion; plane = plane; altered = altered }
+modes motion plane altered = modes_of dialects.LinuxCnc motion plane altered
+
+-- nothing is known
+abbrev lost : Bool → Modes
+lost altered = tooled dialects.LinuxCnc motions.Unknown planes.Unknown altered cycles.Unknown None None None
 
 -- a program's beginning: no motion mode, and the plane XY
 abbrev first : Modes
@@ -205,11 +243,11 @@ rules_line_without_centre : rules_of straight (codes "X20 I0 J0") ≡ rules.Zero
 unfolding rules_of items_of item_of rule_for
 rules_line_without_centre = refl
 
-written_offset_without_place : written straight (codes "K0") ≡ codes "K0"
+written_offset_without_place : written straight (codes "K0") ≡ []
 unfolding written items_of item_of rule_for
 written_offset_without_place = refl
 
-rules_offset_without_place : rules_of straight (codes "K0") ≡ []
+rules_offset_without_place : rules_of straight (codes "K0") ≡ rules.UnusedZero ∷ []
 unfolding rules_of items_of item_of rule_for
 rules_offset_without_place = refl
 
@@ -357,19 +395,19 @@ next_rotation : next_modes straight (codes "G68 X0 Y0 R30") ≡ modes motions.St
 unfolding next_modes items_of item_of
 next_rotation = refl
 
-next_unknown_code : next_modes straight (codes "G5.1 Q1") ≡ modes motions.Unknown planes.Unknown false
+next_unknown_code : next_modes straight (codes "G5.1 Q1") ≡ lost false
 unfolding next_modes items_of item_of
 next_unknown_code = refl
 
-next_unknown_m_code : next_modes straight (codes "M98") ≡ modes motions.Unknown planes.Unknown false
+next_unknown_m_code : next_modes straight (codes "M98") ≡ lost false
 unfolding next_modes items_of item_of
 next_unknown_m_code = refl
 
-next_unreadable : next_modes straight (codes "G0 X1,5") ≡ modes motions.Unknown planes.Unknown false
+next_unreadable : next_modes straight (codes "G0 X1,5") ≡ lost false
 unfolding next_modes items_of item_of
 next_unreadable = refl
 
-next_stop : next_modes straight (codes "M0 M6 T1") ≡ straight
+next_stop : next_modes straight (codes "M0 M5") ≡ straight
 unfolding next_modes items_of item_of
 next_stop = refl
 
@@ -405,11 +443,11 @@ rules_setting_beside_words : rules_of straight (codes "#1=[2*#2+1] X#1 K0 #2=-#3
 unfolding rules_of items_of item_of rule_for
 rules_setting_beside_words = refl
 
-written_offset_that_is_computed : written straight (codes "X1 K[0]") ≡ codes "X1 K[0]"
+written_offset_that_is_computed : written straight (codes "X1 K[0]") ≡ codes "X1 "
 unfolding written items_of item_of rule_for
 written_offset_that_is_computed = refl
 
-rules_offset_that_is_computed : rules_of straight (codes "X1 K[0]") ≡ []
+rules_offset_that_is_computed : rules_of straight (codes "X1 K[0]") ≡ rules.UnusedWord ∷ []
 unfolding rules_of items_of item_of rule_for
 rules_offset_that_is_computed = refl
 
@@ -433,7 +471,7 @@ next_setting : next_modes straight (codes "#1=5") ≡ straight
 unfolding next_modes items_of item_of
 next_setting = refl
 
-next_computed_code : next_modes straight (codes "G[#1]") ≡ modes motions.Unknown planes.Unknown false
+next_computed_code : next_modes straight (codes "G[#1]") ≡ lost false
 unfolding next_modes items_of item_of
 next_computed_code = refl
 
@@ -458,16 +496,16 @@ unfolding next_modes items_of item_of
 next_deletable_rotation = refl
 
 abbrev grbl : Modes
-grbl = start_modes dialects.Grbl
+grbl = start_modes (options dialects.Grbl) no_facts
 
 abbrev mach3 : Modes
-mach3 = start_modes dialects.Mach3
+mach3 = start_modes (options dialects.Mach3) no_facts
 
 abbrev fanuc : Modes
-fanuc = start_modes dialects.Fanuc
+fanuc = start_modes (options dialects.Fanuc) no_facts
 
 abbrev traversed : Plane → Modes
-traversed plane = record { dialect = dialects.Grbl; motion = motions.Straight; plane = plane; altered = false }
+traversed plane = modes_of dialects.Grbl motions.Straight plane false
 
 written_inches : written mach3 (codes "G70 G91.1") ≡ codes "G20 "
 unfolding written items_of item_of rule_for
@@ -497,7 +535,7 @@ next_millimetres : next_modes mach3 (codes "G71") ≡ mach3
 unfolding next_modes items_of item_of
 next_millimetres = refl
 
-next_millimetres_of_linuxcnc : next_modes first (codes "G71") ≡ modes motions.Unknown planes.Unknown false
+next_millimetres_of_linuxcnc : next_modes first (codes "G71") ≡ lost false
 unfolding next_modes items_of item_of
 next_millimetres_of_linuxcnc = refl
 
@@ -541,11 +579,11 @@ rules_look_ahead_of_haas : rules_of fanuc (codes "G187 P1 E0.05 M8") ≡ rules.L
 unfolding rules_of items_of item_of rule_for
 rules_look_ahead_of_haas = refl
 
-written_look_ahead_beside_a_dwell : written fanuc (codes "G187 G4 P1") ≡ codes "G187 G4 P1"
+written_look_ahead_beside_a_dwell : written fanuc (codes "G187 G4 P1") ≡ codes "G187 G4 P0.001 "
 unfolding written items_of item_of rule_for
 written_look_ahead_beside_a_dwell = refl
 
-rules_look_ahead_beside_a_dwell : rules_of fanuc (codes "G187 G4 P1") ≡ []
+rules_look_ahead_beside_a_dwell : rules_of fanuc (codes "G187 G4 P1") ≡ rules.Milliseconds ∷ []
 unfolding rules_of items_of item_of rule_for
 rules_look_ahead_beside_a_dwell = refl
 
@@ -637,7 +675,7 @@ next_first_deletable_traverse : next_modes grbl (codes "/X1") ≡ grbl
 unfolding next_modes items_of item_of
 next_first_deletable_traverse = refl
 
-next_first_arc : next_modes grbl (codes "G2 X1 I1") ≡ record { dialect = dialects.Grbl; motion = motions.Arc; plane = planes.Xy; altered = false }
+next_first_arc : next_modes grbl (codes "G2 X1 I1") ≡ modes_of dialects.Grbl motions.Arc planes.Xy false
 unfolding next_modes items_of item_of
 next_first_arc = refl
 
@@ -649,51 +687,695 @@ abbrev return_feed : List ℕ → List ℕ → List ℕ
 return_feed line rest = line ++ (13 ∷ 10 ∷ rest)
 
 -- a percent sign begins the text, and what follows M30 is copied
-written_marked_program : program_written dialects.LinuxCnc (return_feed (codes "%") (return_feed (codes "G64 P1") (feed (codes "M30") (codes "G64 P1"))))
+written_marked_program : program_written (options dialects.LinuxCnc) (return_feed (codes "%") (return_feed (codes "G64 P1") (feed (codes "M30") (codes "G64 P1"))))
     ≡ return_feed (codes "%") (return_feed (codes "G64 ") (feed (codes "M30") (codes "G64 P1")))
 unfolding lines_of written next_modes is_end items_of item_of rule_for
 written_marked_program = refl
 
 -- a percent sign that isn't the first line ends the text
-written_program_that_a_percent_sign_ends : program_written dialects.LinuxCnc (feed (codes "G80 G0") (feed (codes " %") (codes "G64 P1")))
+written_program_that_a_percent_sign_ends : program_written (options dialects.LinuxCnc) (feed (codes "G80 G0") (feed (codes " %") (codes "G64 P1")))
     ≡ feed (codes "G0") (feed (codes " %") (codes "G64 P1"))
 unfolding lines_of written next_modes is_end items_of item_of rule_for
 written_program_that_a_percent_sign_ends = refl
 
 -- block delete may take M2 out
-written_after_an_end_that_may_be_deleted : program_written dialects.LinuxCnc (feed (codes "/M2") (codes "G64 P1")) ≡ feed (codes "/M2") (codes "G64 ")
+written_after_an_end_that_may_be_deleted : program_written (options dialects.LinuxCnc) (feed (codes "/M2") (codes "G64 P1")) ≡ feed (codes "/M2") (codes "G64 ")
 unfolding lines_of written next_modes is_end items_of item_of rule_for
 written_after_an_end_that_may_be_deleted = refl
 
-written_first_moves_of_grbl : program_written dialects.Grbl (feed (codes "G21") (feed (codes "X1") (codes "Y1"))) ≡ feed (codes "G21") (feed (codes "G0 X1") (codes "Y1"))
+written_first_moves_of_grbl : program_written (options dialects.Grbl) (feed (codes "G21") (feed (codes "X1") (codes "Y1"))) ≡ feed (codes "G21") (feed (codes "G0 X1") (codes "Y1"))
 unfolding lines_of written next_modes is_end items_of item_of rule_for
 written_first_moves_of_grbl = refl
 
-changes_of_a_program : program_changes dialects.LinuxCnc (feed [] (feed (codes "N123456 G64 P1") (feed (codes "G80 G1") (feed (codes "M2") (codes "G80 G0")))))
-    ≡ change_at 2 rules.LineNumber ∷ change_at 2 rules.BlendTolerance ∷ change_at 3 rules.CycleEnd ∷ []
+changes_of_a_program : program_changes (options dialects.LinuxCnc) (feed [] (feed (codes "N123456 G64 P1") (feed (codes "G80 G1") (feed (codes "M2") (codes "G80 G0")))))
+    ≡ change_at 2 2 rules.LineNumber ∷ change_at 2 2 rules.BlendTolerance ∷ change_at 3 3 rules.CycleEnd ∷ []
 unfolding lines_of rules_of next_modes is_end items_of item_of rule_for
 changes_of_a_program = refl
 
 -- reports, line by line
-report_of_two_lines : program_report dialects.LinuxCnc (feed (codes "G0 X1 K0.000 (a)") (codes "N123456 M2")) ≡ codes "line 1 (1): zero_offset exact: K0.000 -> nothing\nline 2 (2): line_number exact: N123456 -> nothing\nzero_offset: 1\nline_number: 1\n"
-unfolding digits lines_of line_report rules_of next_modes is_end items_of item_of rule_for
+report_of_two_lines : program_report (options dialects.LinuxCnc) (feed (codes "G0 X1 K0.000 (a)") (codes "N123456 M2")) ≡ codes "line 1 (1): zero_offset exact: K0.000 -> nothing\nline 2 (2): line_number exact: N123456 -> nothing\nzero_offset: 1\nline_number: 1\n"
+unfolding digits lines_of line_report rules_of next_modes is_end items_of item_of rule_for refusal_for
 report_of_two_lines = refl
 
-report_of_units : program_report dialects.Mach3 (codes "G70 ") ≡ codes "line 1 (1): inches exact: G70 -> G20\ninches: 1\n"
-unfolding digits lines_of line_report rules_of next_modes is_end items_of item_of rule_for
+report_of_units : program_report (options dialects.Mach3) (codes "G70 ") ≡ codes "line 1 (1): inches exact: G70 -> G20\ninches: 1\n"
+unfolding digits lines_of line_report rules_of next_modes is_end items_of item_of rule_for refusal_for
 report_of_units = refl
 
-report_of_looking_ahead : program_report dialects.Fanuc (codes "G187 P1") ≡ codes "line 1 (1): look_ahead told: G187 -> nothing\nline 1 (1): look_ahead told: P1 -> nothing\nlook_ahead: 2\n"
-unfolding digits lines_of line_report rules_of next_modes is_end items_of item_of rule_for
+report_of_looking_ahead : program_report (options dialects.Fanuc) (codes "G187 P1") ≡ codes "line 1 (1): look_ahead told: G187 -> nothing\nline 1 (1): look_ahead told: P1 -> nothing\nlook_ahead: 2\n"
+unfolding digits lines_of line_report rules_of next_modes is_end items_of item_of rule_for refusal_for
 report_of_looking_ahead = refl
 
-report_of_a_first_traverse : program_report dialects.Grbl (codes "X1") ≡ codes "line 1 (1): first_traverse exact: nothing -> G0\nfirst_traverse: 1\n"
-unfolding digits lines_of line_report rules_of next_modes is_end items_of item_of rule_for
+report_of_a_first_traverse : program_report (options dialects.Grbl) (codes "X1") ≡ codes "line 1 (1): first_traverse exact: nothing -> G0\nfirst_traverse: 1\n"
+unfolding digits lines_of line_report rules_of next_modes is_end items_of item_of rule_for refusal_for
 report_of_a_first_traverse = refl
 
-report_of_no_change : program_report dialects.Grbl (codes "G1 X1 F100") ≡ []
-unfolding digits lines_of line_report rules_of next_modes is_end items_of item_of rule_for
+report_of_no_change : program_report (options dialects.Grbl) (codes "G1 X1 F100") ≡ []
+unfolding digits lines_of line_report rules_of next_modes is_end items_of item_of rule_for refusal_for
 report_of_no_change = refl
+
+-- a tool that is selected, and one that is mounted
+abbrev with_tools : Dialect → Option ℕ → Option ℕ → Modes
+with_tools dialect selected mounted = tooled dialect motions.Off planes.Xy false cycles.Unknown selected mounted (Some 540)
+
+abbrev cycling : Dialect → Cycle → Modes
+cycling dialect cycle = tooled dialect motions.Cycle planes.Xy false cycle None None (Some 540)
+
+abbrev in_system : Option ℕ → Modes
+in_system system = tooled dialects.LinuxCnc motions.Off planes.Xy false cycles.Unknown None None system
+
+abbrev dropping : Modes
+dropping = record {
+  dialect = dialects.LinuxCnc;
+  drop = Some 640 ∷ None ∷ [];
+  facts = no_facts;
+  motion = motions.Straight;
+  plane = planes.Xy;
+  cycle = cycles.Unknown;
+  selected = None;
+  mounted = None;
+  system = Some 540;
+  altered = false;
+}
+
+abbrev turning : Modes
+turning = start_modes (options dialects.LinuxCnc)
+    (record { turns_a = true; turns_b = false; turns_c = false; jumps = true; levels = levels.None })
+
+next_tool_selected : next_modes first (codes "T12") ≡ with_tools dialects.LinuxCnc (Some 12) None
+unfolding next_modes items_of item_of
+next_tool_selected = refl
+
+next_tool_mounted : next_modes first (codes "T3 M6") ≡ with_tools dialects.LinuxCnc (Some 3) (Some 3)
+unfolding next_modes items_of item_of
+next_tool_mounted = refl
+
+next_tool_mounted_later : next_modes (with_tools dialects.LinuxCnc (Some 3) (Some 1)) (codes "M6") ≡ with_tools dialects.LinuxCnc (Some 3) (Some 3)
+unfolding next_modes items_of item_of
+next_tool_mounted_later = refl
+
+next_tool_that_may_be_deleted : next_modes (with_tools dialects.LinuxCnc (Some 3) (Some 1)) (codes "/M6") ≡ with_tools dialects.LinuxCnc (Some 3) None
+unfolding next_modes items_of item_of
+next_tool_that_may_be_deleted = refl
+
+next_tool_that_is_computed : next_modes first (codes "T#1 M6") ≡ with_tools dialects.LinuxCnc None None
+unfolding next_modes items_of item_of
+next_tool_that_is_computed = refl
+
+next_tool_in_the_spindle : next_modes (with_tools dialects.LinuxCnc (Some 3) (Some 1)) (codes "M61 Q1") ≡ with_tools dialects.LinuxCnc (Some 3) None
+unfolding next_modes items_of item_of
+next_tool_in_the_spindle = refl
+
+next_system : next_modes first (codes "G59.1") ≡ in_system (Some 591)
+unfolding next_modes items_of item_of
+next_system = refl
+
+next_system_that_may_be_deleted : next_modes first (codes "/G55") ≡ in_system None
+unfolding next_modes items_of item_of
+next_system_that_may_be_deleted = refl
+
+next_dwelling_cycle : next_modes straight (codes "G82 X1 Z-1 R1 P1") ≡ cycling dialects.LinuxCnc cycles.Dwelling
+unfolding next_modes items_of item_of
+next_dwelling_cycle = refl
+
+next_cycle_goes_on : next_modes (cycling dialects.LinuxCnc cycles.Pecking) (codes "X5") ≡ cycling dialects.LinuxCnc cycles.Pecking
+unfolding next_modes items_of item_of
+next_cycle_goes_on = refl
+
+-- G43 without H takes the mounted tool's offset
+written_tool_offset : written (with_tools dialects.LinuxCnc None (Some 12)) (codes "G43 Z15") ≡ codes "H12 G43 Z15"
+unfolding written items_of item_of rule_for digits
+written_tool_offset = refl
+
+rules_tool_offset : rules_of (with_tools dialects.LinuxCnc None (Some 12)) (codes "G43 Z15") ≡ rules.ToolOffset ∷ []
+unfolding rules_of items_of item_of rule_for
+rules_tool_offset = refl
+
+written_tool_offset_beside_a_change : written (with_tools dialects.Mach3 None (Some 12)) (codes "T7 M6 G43") ≡ codes "T7 M6 H7 G43"
+unfolding written items_of item_of rule_for digits
+written_tool_offset_beside_a_change = refl
+
+rules_tool_offset_beside_a_change : rules_of (with_tools dialects.Mach3 None (Some 12)) (codes "T7 M6 G43") ≡ rules.ToolOffset ∷ []
+unfolding rules_of items_of item_of rule_for
+rules_tool_offset_beside_a_change = refl
+
+written_tool_offset_with_its_number : written (with_tools dialects.LinuxCnc None (Some 12)) (codes "G43 H1") ≡ codes "G43 H1"
+unfolding written items_of item_of rule_for digits
+written_tool_offset_with_its_number = refl
+
+rules_tool_offset_with_its_number : rules_of (with_tools dialects.LinuxCnc None (Some 12)) (codes "G43 H1") ≡ []
+unfolding rules_of items_of item_of rule_for
+rules_tool_offset_with_its_number = refl
+
+written_tool_offset_not_known : written first (codes "G43") ≡ codes "G43"
+unfolding written items_of item_of rule_for digits
+written_tool_offset_not_known = refl
+
+rules_tool_offset_not_known : rules_of first (codes "G43") ≡ []
+unfolding rules_of items_of item_of rule_for
+rules_tool_offset_not_known = refl
+
+written_tool_offset_of_fanuc : written (with_tools dialects.Fanuc None (Some 12)) (codes "G43") ≡ codes "G43"
+unfolding written items_of item_of rule_for digits
+written_tool_offset_of_fanuc = refl
+
+rules_tool_offset_of_fanuc : rules_of (with_tools dialects.Fanuc None (Some 12)) (codes "G43") ≡ []
+unfolding rules_of items_of item_of rule_for
+rules_tool_offset_of_fanuc = refl
+
+left_tool_offset_not_known : refusals_of first (codes "G43") ≡ refusals.ToolOffset ∷ []
+unfolding refusals_of items_of item_of rule_for refusal_for
+left_tool_offset_not_known = refl
+
+-- fanuc counts milliseconds where there is no point
+written_milliseconds : written fanuc (codes "G4 P2000") ≡ codes "G4 P2.000 "
+unfolding written items_of item_of rule_for digits
+written_milliseconds = refl
+
+rules_milliseconds : rules_of fanuc (codes "G4 P2000") ≡ rules.Milliseconds ∷ []
+unfolding rules_of items_of item_of rule_for
+rules_milliseconds = refl
+
+written_short_time : written fanuc (codes "G04 U5 (a)") ≡ codes "G04 P0.005 (a)"
+unfolding written items_of item_of rule_for digits
+written_short_time = refl
+
+rules_short_time : rules_of fanuc (codes "G04 U5 (a)") ≡ rules.Milliseconds ∷ []
+unfolding rules_of items_of item_of rule_for
+rules_short_time = refl
+
+written_seconds : written fanuc (codes "G4 X2.5 M8") ≡ codes "G4 P2.5 M8"
+unfolding written items_of item_of rule_for digits
+written_seconds = refl
+
+rules_seconds : rules_of fanuc (codes "G4 X2.5 M8") ≡ rules.Seconds ∷ []
+unfolding rules_of items_of item_of rule_for
+rules_seconds = refl
+
+written_seconds_of_haas : written fanuc (codes "G4 P2.") ≡ codes "G4 P2."
+unfolding written items_of item_of rule_for digits
+written_seconds_of_haas = refl
+
+rules_seconds_of_haas : rules_of fanuc (codes "G4 P2.") ≡ []
+unfolding rules_of items_of item_of rule_for
+rules_seconds_of_haas = refl
+
+written_time_of_linuxcnc : written first (codes "G4 P2000") ≡ codes "G4 P2000"
+unfolding written items_of item_of rule_for digits
+written_time_of_linuxcnc = refl
+
+rules_time_of_linuxcnc : rules_of first (codes "G4 P2000") ≡ []
+unfolding rules_of items_of item_of rule_for
+rules_time_of_linuxcnc = refl
+
+written_milliseconds_of_a_cycle : written fanuc (codes "G98 G82 X1 Z-8 R2 P500 F100") ≡ codes "G98 G82 X1 Z-8 R2 P0.500 F100"
+unfolding written items_of item_of rule_for digits
+written_milliseconds_of_a_cycle = refl
+
+rules_milliseconds_of_a_cycle : rules_of fanuc (codes "G98 G82 X1 Z-8 R2 P500 F100") ≡ rules.Milliseconds ∷ []
+unfolding rules_of items_of item_of rule_for
+rules_milliseconds_of_a_cycle = refl
+
+written_milliseconds_of_a_cycle_that_goes_on : written (cycling dialects.Fanuc cycles.Dwelling) (codes "X5 P50") ≡ codes "X5 P0.050 "
+unfolding written items_of item_of rule_for digits
+written_milliseconds_of_a_cycle_that_goes_on = refl
+
+rules_milliseconds_of_a_cycle_that_goes_on : rules_of (cycling dialects.Fanuc cycles.Dwelling) (codes "X5 P50") ≡ rules.Milliseconds ∷ []
+unfolding rules_of items_of item_of rule_for
+rules_milliseconds_of_a_cycle_that_goes_on = refl
+
+left_time_that_is_computed : refusals_of fanuc (codes "G4 P#1") ≡ refusals.UnknownTime ∷ []
+unfolding refusals_of items_of item_of rule_for refusal_for
+left_time_that_is_computed = refl
+
+left_time_of_a_cycle_not_known : refusals_of (cycling dialects.Fanuc cycles.Unknown) (codes "X5 P50") ≡ refusals.UnknownTime ∷ []
+unfolding refusals_of items_of item_of rule_for refusal_for
+left_time_of_a_cycle_not_known = refl
+
+left_times : refusals_of fanuc (codes "G4 X2") ≡ []
+unfolding refusals_of items_of item_of rule_for refusal_for
+left_times = refl
+
+-- a cycle that holds for no time
+written_cycle_dwell : written mach3 (codes "G98 G82 X1 Z-8 R2") ≡ codes "G98 P0 G82 X1 Z-8 R2"
+unfolding written items_of item_of rule_for digits
+written_cycle_dwell = refl
+
+rules_cycle_dwell : rules_of mach3 (codes "G98 G82 X1 Z-8 R2") ≡ rules.CycleDwell ∷ []
+unfolding rules_of items_of item_of rule_for
+rules_cycle_dwell = refl
+
+written_cycle_dwell_that_may_go_on : written (cycling dialects.Mach3 cycles.Dwelling) (codes "G82 X1") ≡ codes "G82 X1"
+unfolding written items_of item_of rule_for digits
+written_cycle_dwell_that_may_go_on = refl
+
+rules_cycle_dwell_that_may_go_on : rules_of (cycling dialects.Mach3 cycles.Dwelling) (codes "G82 X1") ≡ []
+unfolding rules_of items_of item_of rule_for
+rules_cycle_dwell_that_may_go_on = refl
+
+written_cycle_dwell_of_linuxcnc : written first (codes "G82 X1 Z-8 R2") ≡ codes "G82 X1 Z-8 R2"
+unfolding written items_of item_of rule_for digits
+written_cycle_dwell_of_linuxcnc = refl
+
+rules_cycle_dwell_of_linuxcnc : rules_of first (codes "G82 X1 Z-8 R2") ≡ []
+unfolding rules_of items_of item_of rule_for
+rules_cycle_dwell_of_linuxcnc = refl
+
+-- fanuc counts holes by K
+written_hole_count : written fanuc (codes "G91 G81 X5 Z-8 R2 K3") ≡ codes "G91 G81 X5 Z-8 R2 L3"
+unfolding written items_of item_of rule_for digits
+written_hole_count = refl
+
+rules_hole_count : rules_of fanuc (codes "G91 G81 X5 Z-8 R2 K3") ≡ rules.HoleCount ∷ []
+unfolding rules_of items_of item_of rule_for
+rules_hole_count = refl
+
+written_hole_count_of_mach3 : written mach3 (codes "G81 X5 Z-8 R2 K3") ≡ codes "G81 X5 Z-8 R2 "
+unfolding written items_of item_of rule_for digits
+written_hole_count_of_mach3 = refl
+
+rules_hole_count_of_mach3 : rules_of mach3 (codes "G81 X5 Z-8 R2 K3") ≡ rules.UnusedWord ∷ []
+unfolding rules_of items_of item_of rule_for
+rules_hole_count_of_mach3 = refl
+
+-- nothing on the line uses these words
+written_unused_offset_numbers : written first (codes "G49 H0 G40 D1") ≡ codes "G49 G40 "
+unfolding written items_of item_of rule_for digits
+written_unused_offset_numbers = refl
+
+rules_unused_offset_numbers : rules_of first (codes "G49 H0 G40 D1") ≡ rules.UnusedZero ∷ rules.UnusedWord ∷ []
+unfolding rules_of items_of item_of rule_for
+rules_unused_offset_numbers = refl
+
+written_unused_offset_number_of_fanuc : written fanuc (codes "G0 H2 Z5") ≡ codes "G0 H2 Z5"
+unfolding written items_of item_of rule_for digits
+written_unused_offset_number_of_fanuc = refl
+
+rules_unused_offset_number_of_fanuc : rules_of fanuc (codes "G0 H2 Z5") ≡ []
+unfolding rules_of items_of item_of rule_for
+rules_unused_offset_number_of_fanuc = refl
+
+written_unused_time_of_a_cycle : written mach3 (codes "G98 G81 X1 Z-8 R2 P0 Q1") ≡ codes "G98 G81 X1 Z-8 R2 "
+unfolding written items_of item_of rule_for digits
+written_unused_time_of_a_cycle = refl
+
+rules_unused_time_of_a_cycle : rules_of mach3 (codes "G98 G81 X1 Z-8 R2 P0 Q1") ≡ rules.UnusedZero ∷ rules.UnusedWord ∷ []
+unfolding rules_of items_of item_of rule_for
+rules_unused_time_of_a_cycle = refl
+
+written_unused_words_of_a_line : written straight (codes "X1 R5 L2 K1") ≡ codes "X1 "
+unfolding written items_of item_of rule_for digits
+written_unused_words_of_a_line = refl
+
+rules_unused_words_of_a_line : rules_of straight (codes "X1 R5 L2 K1") ≡ rules.UnusedWord ∷ rules.UnusedWord ∷ rules.UnusedWord ∷ []
+unfolding rules_of items_of item_of rule_for
+rules_unused_words_of_a_line = refl
+
+written_corner_of_fanuc : written fanuc (codes "G1 X1 R5") ≡ codes "G1 X1 R5"
+unfolding written items_of item_of rule_for digits
+written_corner_of_fanuc = refl
+
+rules_corner_of_fanuc : rules_of fanuc (codes "G1 X1 R5") ≡ []
+unfolding rules_of items_of item_of rule_for
+rules_corner_of_fanuc = refl
+
+written_turns_of_an_arc : written (arcs planes.Xy) (codes "X1 I1 P3 L2") ≡ codes "X1 I1 P3 L2"
+unfolding written items_of item_of rule_for digits
+written_turns_of_an_arc = refl
+
+rules_turns_of_an_arc : rules_of (arcs planes.Xy) (codes "X1 I1 P3 L2") ≡ []
+unfolding rules_of items_of item_of rule_for
+rules_turns_of_an_arc = refl
+
+-- P0 of G10 L2 is the system in force
+written_system_in_force : written (in_system (Some 591)) (codes "G10 L2 P0 X0 R0.") ≡ codes "G10 L2 P7 X0 "
+unfolding written items_of item_of rule_for digits
+written_system_in_force = refl
+
+rules_system_in_force : rules_of (in_system (Some 591)) (codes "G10 L2 P0 X0 R0.") ≡ rules.SystemInForce ∷ rules.ZeroRotation ∷ []
+unfolding rules_of items_of item_of rule_for
+rules_system_in_force = refl
+
+written_system_of_the_line : written first (codes "G55 G10 L2 P0 X0") ≡ codes "G55 G10 L2 P2 X0"
+unfolding written items_of item_of rule_for digits
+written_system_of_the_line = refl
+
+rules_system_of_the_line : rules_of first (codes "G55 G10 L2 P0 X0") ≡ rules.SystemInForce ∷ []
+unfolding rules_of items_of item_of rule_for
+rules_system_of_the_line = refl
+
+written_system_not_known : written (in_system None) (codes "G10 L2 P0 X0") ≡ codes "G10 L2 P0 X0"
+unfolding written items_of item_of rule_for digits
+written_system_not_known = refl
+
+rules_system_not_known : rules_of (in_system None) (codes "G10 L2 P0 X0") ≡ []
+unfolding rules_of items_of item_of rule_for
+rules_system_not_known = refl
+
+left_system_not_known : refusals_of (in_system None) (codes "G10 L2 P0 X0") ≡ refusals.UnknownSystem ∷ []
+unfolding refusals_of items_of item_of rule_for refusal_for
+left_system_not_known = refl
+
+left_rotated_system : refusals_of first (codes "G10 L2 P1 R30") ≡ []
+unfolding refusals_of items_of item_of rule_for refusal_for
+left_rotated_system = refl
+
+-- a rotary axis that never turns
+written_idle_axis : written first (codes "G0 X1 A0.") ≡ codes "G0 X1 "
+unfolding written items_of item_of rule_for digits
+written_idle_axis = refl
+
+rules_idle_axis : rules_of first (codes "G0 X1 A0.") ≡ rules.IdleAxis ∷ []
+unfolding rules_of items_of item_of rule_for
+rules_idle_axis = refl
+
+written_idle_axis_that_goes_home : written first (codes "G28 A0") ≡ codes "G28 A0"
+unfolding written items_of item_of rule_for digits
+written_idle_axis_that_goes_home = refl
+
+rules_idle_axis_that_goes_home : rules_of first (codes "G28 A0") ≡ []
+unfolding rules_of items_of item_of rule_for
+rules_idle_axis_that_goes_home = refl
+
+written_axis_that_turns : written turning (codes "G0 A0 B0") ≡ codes "G0 A0 "
+unfolding written items_of item_of rule_for digits
+written_axis_that_turns = refl
+
+rules_axis_that_turns : rules_of turning (codes "G0 A0 B0") ≡ rules.IdleAxis ∷ []
+unfolding rules_of items_of item_of rule_for
+rules_axis_that_turns = refl
+
+left_axis_that_turns : refusals_of turning (codes "G0 A90 C0") ≡ refusals.RotaryAxis ∷ []
+unfolding refusals_of items_of item_of rule_for refusal_for
+left_axis_that_turns = refl
+
+-- M codes that are left out
+written_switches : written first (codes "M50 P0 M53") ≡ []
+unfolding written items_of item_of rule_for digits
+written_switches = refl
+
+rules_switches : rules_of first (codes "M50 P0 M53") ≡ rules.Switch ∷ rules.Dropped ∷ rules.Switch ∷ []
+unfolding rules_of items_of item_of rule_for
+rules_switches = refl
+
+written_tool_in_the_spindle : written first (codes "M61 Q1") ≡ []
+unfolding written items_of item_of rule_for digits
+written_tool_in_the_spindle = refl
+
+rules_tool_in_the_spindle : rules_of first (codes "M61 Q1") ≡ rules.ToolInSpindle ∷ rules.Dropped ∷ []
+unfolding rules_of items_of item_of rule_for
+rules_tool_in_the_spindle = refl
+
+written_dropped_code : written dropping (codes "M64 P3 (light)") ≡ codes "(light)"
+unfolding written items_of item_of rule_for digits
+written_dropped_code = refl
+
+rules_dropped_code : rules_of dropping (codes "M64 P3 (light)") ≡ rules.Dropped ∷ rules.Dropped ∷ []
+unfolding rules_of items_of item_of rule_for
+rules_dropped_code = refl
+
+written_dropped_code_beside_a_dwell : written dropping (codes "M64 G4 P3") ≡ codes "G4 P3"
+unfolding written items_of item_of rule_for digits
+written_dropped_code_beside_a_dwell = refl
+
+rules_dropped_code_beside_a_dwell : rules_of dropping (codes "M64 G4 P3") ≡ rules.Dropped ∷ []
+unfolding rules_of items_of item_of rule_for
+rules_dropped_code_beside_a_dwell = refl
+
+written_code_that_is_not_dropped : written dropping (codes "M65 P3") ≡ codes "M65 P3"
+unfolding written items_of item_of rule_for digits
+written_code_that_is_not_dropped = refl
+
+rules_code_that_is_not_dropped : rules_of dropping (codes "M65 P3") ≡ []
+unfolding rules_of items_of item_of rule_for
+rules_code_that_is_not_dropped = refl
+
+left_code_that_is_not_dropped : refusals_of dropping (codes "M65 P3") ≡ refusals.UnknownMachineCode ∷ []
+unfolding refusals_of items_of item_of rule_for refusal_for
+left_code_that_is_not_dropped = refl
+
+-- M99 ends a main program
+written_program_end : written first (codes "N9 M99") ≡ codes "N9 M2 "
+unfolding written items_of item_of rule_for digits
+written_program_end = refl
+
+rules_program_end : rules_of first (codes "N9 M99") ≡ rules.ProgramEnd ∷ []
+unfolding rules_of items_of item_of rule_for
+rules_program_end = refl
+
+written_subprogram_end : written turning (codes "M99") ≡ codes "M99"
+unfolding written items_of item_of rule_for digits
+written_subprogram_end = refl
+
+rules_subprogram_end : rules_of turning (codes "M99") ≡ []
+unfolding rules_of items_of item_of rule_for
+rules_subprogram_end = refl
+
+-- the number of a program is a comment
+written_program_number : written fanuc (codes "O01000 (PLATE)") ≡ codes "(O01000) (PLATE)"
+unfolding written items_of item_of rule_for digits
+written_program_number = refl
+
+rules_program_number : rules_of fanuc (codes "O01000 (PLATE)") ≡ rules.ProgramNumber ∷ []
+unfolding rules_of items_of item_of rule_for
+rules_program_number = refl
+
+written_program_colon : written fanuc (codes ":7") ≡ codes "(O7) "
+unfolding written items_of item_of rule_for digits
+written_program_colon = refl
+
+rules_program_colon : rules_of fanuc (codes ":7") ≡ rules.ProgramNumber ∷ []
+unfolding rules_of items_of item_of rule_for
+rules_program_colon = refl
+
+written_program_number_of_a_subprogram : written turning (codes "O7") ≡ codes "O7"
+unfolding written items_of item_of rule_for digits
+written_program_number_of_a_subprogram = refl
+
+rules_program_number_of_a_subprogram : rules_of turning (codes "O7") ≡ []
+unfolding rules_of items_of item_of rule_for
+rules_program_number_of_a_subprogram = refl
+
+left_subprogram_end : refusals_of turning (codes "M99") ≡ refusals.Subprogram ∷ []
+unfolding refusals_of items_of item_of rule_for refusal_for
+left_subprogram_end = refl
+
+left_compensation : refusals_of first (codes "G41 D1 X12") ≡ refusals.CutterCompensation ∷ []
+unfolding refusals_of items_of item_of rule_for refusal_for
+left_compensation = refl
+
+left_axes : refusals_of first (codes "G1 X1 E2 W3") ≡ refusals.MoreAxes ∷ refusals.MoreAxes ∷ []
+unfolding refusals_of items_of item_of rule_for refusal_for
+left_axes = refl
+
+left_probing : refusals_of first (codes "G38.2 Z-5 F50") ≡ refusals.Probing ∷ []
+unfolding refusals_of items_of item_of rule_for refusal_for
+left_probing = refl
+
+left_tapping : refusals_of first (codes "G84 X10 Z-8 R2") ≡ refusals.Tapping ∷ []
+unfolding refusals_of items_of item_of rule_for refusal_for
+left_tapping = refl
+
+left_thread : refusals_of first (codes "G33.1 Z-8 K1") ≡ refusals.Thread ∷ []
+unfolding refusals_of items_of item_of rule_for refusal_for
+left_thread = refl
+
+left_back_boring : refusals_of first (codes "G87 X1") ≡ refusals.BackBoring ∷ []
+unfolding refusals_of items_of item_of rule_for refusal_for
+left_back_boring = refl
+
+left_tool_table : refusals_of first (codes "G10 L20 P1 X0") ≡ refusals.ToolTable ∷ []
+unfolding refusals_of items_of item_of rule_for refusal_for
+left_tool_table = refl
+
+left_rotation : refusals_of first (codes "G68 X0 Y0 R30") ≡ refusals.Rotation ∷ []
+unfolding refusals_of items_of item_of rule_for refusal_for
+left_rotation = refl
+
+left_scaling : refusals_of first (codes "G51 X2") ≡ refusals.Scaling ∷ []
+unfolding refusals_of items_of item_of rule_for refusal_for
+left_scaling = refl
+
+left_polar : refusals_of first (codes "G16") ≡ refusals.Polar ∷ []
+unfolding refusals_of items_of item_of rule_for refusal_for
+left_polar = refl
+
+left_more_systems : refusals_of fanuc (codes "G54.1 P1 G154") ≡ refusals.MoreSystems ∷ refusals.MoreSystems ∷ []
+unfolding refusals_of items_of item_of rule_for refusal_for
+left_more_systems = refl
+
+left_feed_per_turn : refusals_of first (codes "G95 G96 S100") ≡ refusals.FeedPerTurn ∷ refusals.FeedPerTurn ∷ []
+unfolding refusals_of items_of item_of rule_for refusal_for
+left_feed_per_turn = refl
+
+left_subprogram : refusals_of fanuc (codes "M98 P2000") ≡ refusals.Subprogram ∷ []
+unfolding refusals_of items_of item_of rule_for refusal_for
+left_subprogram = refl
+
+left_program_word : refusals_of turning (codes "O1000 (PLATE)") ≡ refusals.ProgramWord ∷ []
+unfolding refusals_of items_of item_of rule_for refusal_for
+left_program_word = refl
+
+left_program_word_beside_others : refusals_of first (codes "O1000 G0") ≡ refusals.ProgramWord ∷ []
+unfolding refusals_of items_of item_of rule_for refusal_for
+left_program_word_beside_others = refl
+
+left_named_parameter : refusals_of first (codes "#<depth>=-2") ≡ refusals.NamedParameter ∷ []
+unfolding refusals_of items_of item_of rule_for refusal_for
+left_named_parameter = refl
+
+left_function : refusals_of first (codes "G1 X[10*cos[30]] Y[#1 MOD 2]") ≡ refusals.Function ∷ refusals.Function ∷ []
+unfolding refusals_of items_of item_of rule_for refusal_for
+left_function = refl
+
+left_unknown_code : refusals_of first (codes "G99.5 G5 X1") ≡ refusals.UnknownCode ∷ refusals.UnknownCode ∷ []
+unfolding refusals_of items_of item_of rule_for refusal_for
+left_unknown_code = refl
+
+left_unknown_machine_code : refusals_of first (codes "M19") ≡ refusals.UnknownMachineCode ∷ []
+unfolding refusals_of items_of item_of rule_for refusal_for
+left_unknown_machine_code = refl
+
+left_unread : refusals_of first (codes "G0 X1,5") ≡ refusals.Unread ∷ []
+unfolding refusals_of items_of item_of rule_for refusal_for
+left_unread = refl
+
+left_idle_code : refusals_of (modes motions.Off planes.Xy true) (codes "G69") ≡ refusals.UnknownCode ∷ []
+unfolding refusals_of items_of item_of rule_for refusal_for
+left_idle_code = refl
+
+left_nothing : refusals_of first (codes "G43 H1 G54 G0 X1 Y2 M3 S100 T1 M6 G10 L2 P1 X0") ≡ []
+unfolding refusals_of items_of item_of rule_for refusal_for
+left_nothing = refl
+
+-- what holds of a program
+facts_of_a_program : facts_of (feed (codes "/G0 A0 B0") (feed (codes "/ B1 C0.0") (codes "M2")))
+    ≡ record { turns_a = false; turns_b = true; turns_c = false; jumps = false; levels = levels.One 1 }
+unfolding lines_of items_of item_of
+facts_of_a_program = refl
+
+facts_of_calls : facts_of (feed (codes "/1 M98 P1") (codes "/G0 X1")) ≡ record { turns_a = true; turns_b = true; turns_c = true; jumps = true; levels = levels.One 1 }
+unfolding lines_of items_of item_of
+facts_of_calls = refl
+
+facts_of_levels : facts_of (feed (codes "/G0 X1") (feed (codes " /2G0 X2") (codes "M99 P1"))) ≡ record { turns_a = true; turns_b = true; turns_c = true; jumps = true; levels = levels.Several }
+unfolding lines_of items_of item_of
+facts_of_levels = refl
+
+facts_of_an_end : facts_of (codes "M99") ≡ no_facts
+unfolding lines_of items_of item_of
+facts_of_an_end = refl
+
+-- what is left, in a report
+report_of_a_tool : line_report 12 15 (with_tools dialects.LinuxCnc None (Some 3)) (codes "G43 E5 ") ≡ codes "line 12 (15): tool_offset exact: G43 -> H3 G43\nline 12: more_axes left: there are no E, U, V and W axes: post for X, Y and Z\n"
+unfolding digits line_report items_of item_of rule_for refusal_for
+report_of_a_tool = refl
+
+report_of_a_line_that_is_not_read : line_report 1 1 first (codes "G0 X1,5") ≡ codes "line 1: unread left: this line can't be read: correct it or leave it out\n"
+unfolding digits line_report items_of item_of rule_for refusal_for
+report_of_a_line_that_is_not_read = refl
+
+-- M99 ends the program, where it is written as M2
+written_after_a_main_program : program_written (options dialects.Fanuc) (feed (codes "G4 P500") (feed (codes "M99") (codes "G4 P500")))
+    ≡ feed (codes "G4 P0.500 ") (feed (codes "M2 ") (codes "G4 P500"))
+unfolding digits lines_of written next_modes is_end items_of item_of rule_for
+written_after_a_main_program = refl
+
+-- a word of a rotary axis that turns on another line stays
+written_axis_that_turns_elsewhere : program_written (options dialects.LinuxCnc) (feed (codes "G0 X1 A0 B0") (codes "A1"))
+    ≡ feed (codes "G0 X1 A0 ") (codes "A1")
+unfolding digits lines_of written next_modes is_end items_of item_of rule_for
+written_axis_that_turns_elsewhere = refl
+
+-- fanuc's P0 of G10 L2 is an offset of all systems
+written_offset_of_all_systems : written fanuc (codes "G10 L2 P0 X0") ≡ codes "G10 L2 P0 X0"
+unfolding written items_of item_of rule_for
+written_offset_of_all_systems = refl
+
+left_offset_of_all_systems : refusals_of fanuc (codes "G10 L2 P0 X0") ≡ refusals.UnknownSystem ∷ []
+unfolding refusals_of items_of item_of rule_for refusal_for
+left_offset_of_all_systems = refl
+
+-- a sign in front of a parameter
+written_signed_parameter : written first (codes "G0 X-#1 Y + #2") ≡ codes "G0 X[0-#1] Y[0+#2] "
+unfolding written items_of item_of rule_for
+written_signed_parameter = refl
+
+rules_signed_parameter : rules_of first (codes "G0 X-#1 Y + #2") ≡ rules.SignedParameter ∷ rules.SignedParameter ∷ []
+unfolding rules_of items_of item_of rule_for
+rules_signed_parameter = refl
+
+written_signed_bracket : written first (codes "G0 X-[#1]") ≡ codes "G0 X-[#1]"
+unfolding written items_of item_of rule_for
+written_signed_bracket = refl
+
+rules_signed_bracket : rules_of first (codes "G0 X-[#1]") ≡ []
+unfolding rules_of items_of item_of rule_for
+rules_signed_bracket = refl
+
+written_signed_offset : written straight (codes "X1 K-#1") ≡ codes "X1 "
+unfolding written items_of item_of rule_for
+written_signed_offset = refl
+
+rules_signed_offset : rules_of straight (codes "X1 K-#1") ≡ rules.UnusedWord ∷ []
+unfolding rules_of items_of item_of rule_for
+rules_signed_offset = refl
+
+left_signed_time : refusals_of fanuc (codes "G4 P-#1") ≡ refusals.UnknownTime ∷ []
+unfolding refusals_of items_of item_of rule_for refusal_for
+left_signed_time = refl
+
+-- comments with parentheses inside, or not closed
+comment_nested : with_plain_comment (codes "G0 X1 (tool (6 mm) flat) ") ≡ codes "G0 X1 (tool [6 mm] flat) "
+comment_nested = refl
+
+odd_nested : has_odd_comment (codes "G0 X1 (tool (6 mm) flat) ") ≡ true
+odd_nested = refl
+
+comment_open : with_plain_comment (codes "M3 (not closed") ≡ codes "M3 (not closed)"
+comment_open = refl
+
+odd_open : has_odd_comment (codes "M3 (not closed") ≡ true
+odd_open = refl
+
+comment_open_twice : with_plain_comment (codes "(a (b") ≡ codes "(a [b)"
+comment_open_twice = refl
+
+odd_open_twice : has_odd_comment (codes "(a (b") ≡ true
+odd_open_twice = refl
+
+comment_digits_after_the_first : with_plain_comment (codes "(a (b) X5)") ≡ codes "(a (b) X5)"
+comment_digits_after_the_first = refl
+
+odd_digits_after_the_first : has_odd_comment (codes "(a (b) X5)") ≡ false
+odd_digits_after_the_first = refl
+
+comment_two_comments : with_plain_comment (codes "(a) G0 (b) X1") ≡ codes "(a) G0 (b) X1"
+comment_two_comments = refl
+
+odd_two_comments : has_odd_comment (codes "(a) G0 (b) X1") ≡ false
+odd_two_comments = refl
+
+comment_remark : with_plain_comment (codes ";(a (b) c)") ≡ codes ";(a (b) c)"
+comment_remark = refl
+
+odd_remark : has_odd_comment (codes ";(a (b) c)") ≡ false
+odd_remark = refl
+
+comment_no_comment : with_plain_comment (codes "G0 X1") ≡ codes "G0 X1"
+comment_no_comment = refl
+
+odd_no_comment : has_odd_comment (codes "G0 X1") ≡ false
+odd_no_comment = refl
+
+comment_several_inside : with_plain_comment (codes "(a (b) c (d) e)") ≡ codes "(a [b] c [d] e)"
+comment_several_inside = refl
+
+odd_several_inside : has_odd_comment (codes "(a (b) c (d) e)") ≡ true
+odd_several_inside = refl
+
+report_of_a_comment : comment_report 3 4 (codes "M3 (a (b) c) ") ≡ codes "line 3 (4): plain_comment exact: (a (b) c) -> (a [b] c)\n"
+unfolding digits
+report_of_a_comment = refl
 
 -- a byte order mark, NUL and ^Z
 text_without_marks : text_of (239 ∷ 187 ∷ 191 ∷ 71 ∷ 0 ∷ 49 ∷ 13 ∷ 10 ∷ 26 ∷ []) ≡ 71 ∷ 49 ∷ 13 ∷ 10 ∷ []

@@ -12,12 +12,22 @@ pub mod TextLaws
 pub mod Examples
 -- A bracket byte by byte.
 pub mod BracketLaws
--- What a rule may leave out.
+-- A text whose bytes are changed one by one.
+pub mod CommentLaws
+-- The first word of a kind.
+pub mod WordLaws
+-- The ends of texts that are added.
+pub mod EndLaws
+-- What a rule may change.
 pub mod RuleLaws
--- The lines of a text, and texts in which no rule applies.
+-- The lines of a text.
+pub mod SourceLaws
+-- Texts in which no rule applies.
 pub mod ProgramLaws
 -- Where a value ends, whatever follows it.
 pub mod ValueLaws
+-- Words that a rule writes, whatever follows them.
+pub mod PieceLaws
 -- What is written of a line, read again.
 pub mod ReadLaws
 -- The report of items and lines.

@@ -10,7 +10,7 @@ use Rattle.ngc_adapt.specs.declared.rule.Modes.{Modes}
 use Rattle.ngc_adapt.specs.Items.{item_length, items_within, items_of, item_of, word_in, words_in, words_of, words_unless, has_unread}
 use Rattle.ngc_adapt.proofs.ItemLaws.{some_bytes, nothing}
 use Rattle.ngc_adapt.specs.Rules.{rule_for, is_first_traverse}
-use Rattle.ngc_adapt.specs.Lines.{by_rule, item_written, is_axis_item, traverse, pieces_of, traverse_rule, rules_among, rewritten, written, written_by}
+use Rattle.ngc_adapt.specs.Lines.{by_rule, front_by, item_front, item_written, is_axis_item, traverse, pieces_of, traverse_rule, rules_among, rewritten, written, written_by}
 
 -- the items are the line
 whole_within : (n : ℕ) (line : List ℕ) → length line ≤ n → concat (items_within n line) ≡ line
@@ -43,7 +43,7 @@ all_stay : (modes : Modes) (words : List Word) (xs : List (List ℕ))
 all_stay modes words [] e = refl
 all_stay modes words (x ∷ xs) e =
     let h = no_rule_first (rule_for modes words) (word_in (item_of x)) (filter_map word_in (map item_of xs)) e in
-    ap (λ (r : Option Rule). by_rule x r ++ concat (pieces_of false modes words xs)) h.0
+    ap (λ (r : Option Rule). front_by modes words r ++ (by_rule modes words x r ++ concat (pieces_of false modes words xs))) h.0
     ∙ ap (λ (ys : List ℕ). x ++ ys) (all_stay modes words xs h.1)
 
 pub no_traverse : (named : Bool) (rs : List Rule) → traverse_rule named ++ rs ≡ [] → (named ≡ false) × (rs ≡ [])
@@ -70,7 +70,7 @@ unchanged modes words line e none =
 -- what is written of an item, and of those after it
 pub written_next : (unnamed : Bool) (modes : Modes) (words : List Word) (rest item others : List ℕ) → items_of rest ≡ item ∷ items_of others
     → concat (pieces_of unnamed modes words (items_of rest))
-    ≡ traverse (unnamed && is_axis_item item) ++ (item_written modes words item ++ concat (pieces_of (unnamed && not (is_axis_item item)) modes words (items_of others)))
+    ≡ traverse (unnamed && is_axis_item item) ++ (item_front modes words item ++ (item_written modes words item ++ concat (pieces_of (unnamed && not (is_axis_item item)) modes words (items_of others))))
 written_next unnamed modes words rest item others h = ap (λ (xs : List (List ℕ)). concat (pieces_of unnamed modes words xs)) h
 
 pub line_end : (unnamed : Bool) (modes : Modes) (words : List Word) (rest : List ℕ) → length rest ≡ 0 → concat (pieces_of unnamed modes words (items_of rest)) ≡ []

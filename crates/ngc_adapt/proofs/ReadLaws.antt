@@ -1,23 +1,25 @@
 -- What is written of a line, read again.
-use Rattle.std.proofs.Common.{◌≡◌, ℕ, zero, suc, ◌+◌, ◌<◌, ◌≤◌, min, Bool, true, false, cond, List, [], ◌∷◌, ◌++◌, length, take, drop, refl, ap, ◌∙◌, sym, arith, length-drop, length-append, append-nil, append_assoc, Option, Some, None}
-use Rattle.std.specs.Prelude.{◌==◌, ◌&&◌, ◌||◌, not, nat_lt, filter, is_some, map}
+use Rattle.std.proofs.Common.{◌≡◌, ℕ, zero, suc, ◌+◌, ◌<◌, ◌≤◌, min, Bool, true, false, cond, List, [], ◌∷◌, ◌++◌, length, take, drop, refl, ap, ◌∙◌, sym, arith, length-drop, length-append, append-nil, append_assoc, add-one, subst, Option, Some, None}
+use Rattle.std.specs.Prelude.{◌==◌, ◌&&◌, ◌||◌, not, nat_lt, filter, is_some, map, option_and_then, codes}
 use Rattle.std.specs.List.{list_any, list_all, prefix_len, concat}
 use Rattle.std.proofs.lemmas.Bool.Decides.{nat_tests}
 use Rattle.std.proofs.lemmas.List.{drop-append-le, take-append-drop, take_at, drop_at, drop_all, drop-drop}
 use Rattle.ngc_adapt.specs.declared.item.Word.{Word}
 use Rattle.ngc_adapt.specs.declared.item.Letter.{Letter}
+use Rattle.ngc_adapt.specs.declared.item.Letter.TheVariants as letters
 use Rattle.ngc_adapt.specs.declared.item.Item.{Item}
 use Rattle.ngc_adapt.specs.declared.item.Item.TheVariants as items
 use Rattle.ngc_adapt.specs.declared.number.Number.{Number}
-use Rattle.ngc_adapt.specs.Numbers.{is_blank, begins, is_of_number, value_length, is_whole, number_of}
+use Rattle.ngc_adapt.specs.Numbers.{is_blank, begins, is_of_number, is_parameter_byte, value_length, is_whole, number_of}
 use Rattle.ngc_adapt.specs.declared.rule.Rule.{Rule}
 use Rattle.ngc_adapt.specs.declared.rule.Rule.TheVariants as rules
 use Rattle.ngc_adapt.specs.declared.rule.Modes.{Modes}
 use Rattle.ngc_adapt.specs.Items.{letter_of, is_letter, is_in_comment, setting_length, bare_length, item_length, items_within, items_of, is_mark, is_comment, is_setting, word_item, item_of, is_unread, word_in, has_unread, words_in, words_of, words_unless}
-use Rattle.ngc_adapt.specs.Rules.{replacement, is_first_traverse}
-use Rattle.ngc_adapt.specs.Lines.{by_rule, item_rule, item_written, is_axis_item, is_axis_word, traverse, pieces_of, written, written_by}
+use Rattle.ngc_adapt.specs.Rules.{front, replacement, rule_for, mounted_after, system_after, system_number, is_first_traverse}
+use Rattle.ngc_adapt.specs.Lines.{by_rule, front_by, item_rule, item_front, item_written, is_axis_item, is_axis_word, traverse, pieces_of, written, written_by}
 use Rattle.ngc_adapt.specs.Laws.{items_left}
 use Rattle.ngc_adapt.proofs.ItemLaws.{some_bytes, items_step, nothing}
+use Rattle.ngc_adapt.proofs.PieceLaws.{number_fits, seconds_fit, program_number_fits, signed_fits}
 use Rattle.ngc_adapt.proofs.ValueLaws.{prefix_good, prefix_within, inside, value_same, number_value, whole_value, and_parts, or_parts, begins_head, value_within, one, not_empty}
 
 -- ---- what an item that can be read is
@@ -337,19 +339,54 @@ heads_other (suc n) (b ∷ rest) l h =
     let first = is_zero (prefix_len is_of_number (b ∷ head.0)) (ap begins_well (sym head.1) ∙ parts.0) in
     ap (λ (t : Bool). cond t (1 + prefix_len is_of_number rest) 0) (zero_if (is_of_number b) (prefix_len is_of_number head.0) first)
 
-axis_by : (m : Bool) (i : Item) → is_axis_word (word_in (cond m items.Mark i)) ≡ true → m ≡ false
-axis_by true i h = absurd cc
-axis_by false i h = refl
+word_parts : (m c o k h g : Bool) (l : Option Letter) (n : Option Number)
+    → is_some (word_in (cond m items.Mark (cond c items.Comment (cond o (cond k items.Comment items.Unread) (cond h (cond g items.Setting items.Unread) (word_item l n)))))) ≡ true
+    → (m ≡ false) × (c ≡ false) × (o ≡ false) × (h ≡ false) × (is_some l ≡ true) × (is_some n ≡ true)
+word_parts true c o k h g l n e = absurd cc
+word_parts false true o k h g l n e = absurd cc
+word_parts false false true true h g l n e = absurd cc
+word_parts false false true false h g l n e = absurd cc
+word_parts false false false k true true l n e = absurd cc
+word_parts false false false k true false l n e = absurd cc
+word_parts false false false k false g None n e = absurd cc
+word_parts false false false k false g (Some l) None e = absurd cc
+word_parts false false false k false g (Some l) (Some n) e = (refl, refl, refl, refl, refl, refl)
 
-axis_no_mark : (b : ℕ) (v : List ℕ) → is_axis_item (b ∷ v) ≡ true → is_mark b ≡ false
+some_letter : (b : ℕ) → is_letter b ≡ false → letter_of b ≡ None
+some_letter b h = grind (arith, nat_tests)
+
+letter_by : (b : ℕ) (t : Bool) → is_letter b ≡ t → is_some (letter_of b) ≡ true → t ≡ true
+letter_by b true e h = refl
+letter_by b false e h = sym (ap (λ (l : Option Letter). is_some l) (some_letter b e)) ∙ h
+
+word_length_by : (o r h l : Bool) (x y z n : ℕ) → o ≡ false → r ≡ false → h ≡ false → l ≡ true → cond o x (cond r y (cond h z (cond l n 1))) ≡ n
+word_length_by true r h l x y z n d e f g = absurd cc
+word_length_by false true h l x y z n d e f g = absurd cc
+word_length_by false false true l x y z n d e f g = absurd cc
+word_length_by false false false true x y z n d e f g = refl
+word_length_by false false false false x y z n d e f g = absurd cc
+
+word_length : (b : ℕ) (v : List ℕ) → (b == 40) ≡ false → (b == 59) ≡ false → (b == 35) ≡ false → is_letter b ≡ true → bare_length (b ∷ v) ≡ value_length v + 1
+word_length b v o r h l = word_length_by (b == 40) (b == 59) (b == 35) (is_letter b) _ _ _ (value_length v + 1) o r h l
+
+-- a word begins with a letter, and its value can be read
+word_of : (b : ℕ) (v : List ℕ) → is_some (word_in (item_of (b ∷ v))) ≡ true
+    → (is_mark b ≡ false) × ((t : List ℕ) → bare_length (b ∷ t) ≡ value_length t + 1) × (is_some (number_of v) ≡ true)
 unfolding item_of
-axis_no_mark b v h = axis_by (is_mark b) _ h
+word_of b v h =
+    let p = word_parts (is_mark b) (b == 59) (b == 40) (is_comment v) (b == 35) (is_setting v) (letter_of b) (number_of v) h in
+    (p.0, λ t. word_length b t p.2 p.1 p.3 (letter_by b (is_letter b) refl p.4), p.5)
 
-axis_good : (x : List ℕ) (b : ℕ) (v : List ℕ) → x ≡ b ∷ v → is_unread (item_of x) ≡ false → is_axis_item x ≡ true → begins_well x ≡ true
-axis_good x b v e r h =
-    let no = or_parts (is_blank b) ((b == 47) || (b == 37)) (axis_no_mark b v (ap is_axis_item (sym e) ∙ h)) in
+word_good : (x : List ℕ) (b : ℕ) (v : List ℕ) → x ≡ b ∷ v → is_unread (item_of x) ≡ false → is_some (word_in (item_of x)) ≡ true → begins_well x ≡ true
+word_good x b v e r h =
+    let w = word_of b v (ap (λ (y : List ℕ). is_some (word_in (item_of y))) (sym e) ∙ h) in
+    let no = or_parts (is_blank b) ((b == 47) || (b == 37)) w.0 in
     ap begins_well e
     ∙ head_good b v (ap (λ (t : Bool). cond t (1 + prefix_len is_blank v) 0) no.0) (ap (λ (y : List ℕ). is_unread (item_of y)) (sym e) ∙ r)
+
+axis_some : (o : Option Word) → is_axis_word o ≡ true → is_some o ≡ true
+axis_some None h = absurd cc
+axis_some (Some w) h = refl
 
 -- ---- pieces
 
@@ -360,22 +397,80 @@ traverse_good : (t : Bool) → prefix_len is_of_number (traverse t) ≡ 0
 traverse_good true = refl
 traverse_good false = refl
 
-replacement_good : (rule : Rule) → prefix_len is_of_number (replacement rule) ≡ 0
-replacement_good rules.BlendTolerance = refl
-replacement_good rules.ZeroOffset = refl
-replacement_good rules.CycleEnd = refl
-replacement_good rules.LineNumber = refl
-replacement_good rules.MachineCoordinates = refl
-replacement_good rules.IdleCode = refl
-replacement_good rules.Inches = refl
-replacement_good rules.Millimetres = refl
-replacement_good rules.ToolCenter = refl
-replacement_good rules.LookAhead = refl
-replacement_good rules.FirstTraverse = refl
+front_good : (modes : Modes) (words : List Word) (rule : Rule) → prefix_len is_of_number (front modes words rule) ≡ 0
+front_good modes words rules.BlendTolerance = refl
+front_good modes words rules.ZeroOffset = refl
+front_good modes words rules.CycleEnd = refl
+front_good modes words rules.LineNumber = refl
+front_good modes words rules.MachineCoordinates = refl
+front_good modes words rules.IdleCode = refl
+front_good modes words rules.Inches = refl
+front_good modes words rules.Millimetres = refl
+front_good modes words rules.ToolCenter = refl
+front_good modes words rules.LookAhead = refl
+front_good modes words rules.FirstTraverse = refl
+front_good modes words rules.ToolOffset = refl
+front_good modes words rules.Milliseconds = refl
+front_good modes words rules.Seconds = refl
+front_good modes words rules.CycleDwell = refl
+front_good modes words rules.HoleCount = refl
+front_good modes words rules.UnusedZero = refl
+front_good modes words rules.UnusedWord = refl
+front_good modes words rules.SystemInForce = refl
+front_good modes words rules.ZeroRotation = refl
+front_good modes words rules.IdleAxis = refl
+front_good modes words rules.Switch = refl
+front_good modes words rules.ToolInSpindle = refl
+front_good modes words rules.Dropped = refl
+front_good modes words rules.ProgramEnd = refl
+front_good modes words rules.ProgramNumber = refl
+front_good modes words rules.PlainComment = refl
+front_good modes words rules.SignedParameter = refl
 
-by_rule_good : (x : List ℕ) (r : Option Rule) → begins_well x ≡ true → prefix_len is_of_number (by_rule x r) ≡ 0
-by_rule_good x None h = is_zero (prefix_len is_of_number x) h
-by_rule_good x (Some rule) h = replacement_good rule
+front_by_good : (modes : Modes) (words : List Word) (r : Option Rule) → prefix_len is_of_number (front_by modes words r) ≡ 0
+front_by_good modes words None = refl
+front_by_good modes words (Some rule) = front_good modes words rule
+
+-- what begins as an item does
+signed_good : (x : List ℕ) → begins_well x ≡ true → prefix_len is_of_number (take 1 x ++ (codes "[0" ++ (filter is_parameter_byte (drop 1 x) ++ codes "] "))) ≡ 0
+signed_good [] h = refl
+signed_good (b ∷ v) h =
+    let no = zero_if (is_of_number b) (prefix_len is_of_number v) (is_zero (prefix_len is_of_number (b ∷ v)) h) in
+    ap (λ (t : Bool). cond t (1 + prefix_len is_of_number (codes "[0" ++ (filter is_parameter_byte v ++ codes "] "))) 0) no
+
+replacement_good : (modes : Modes) (words : List Word) (x : List ℕ) (rule : Rule) → begins_well x ≡ true → prefix_len is_of_number (replacement modes words x rule) ≡ 0
+replacement_good modes words x rules.BlendTolerance h = refl
+replacement_good modes words x rules.ZeroOffset h = refl
+replacement_good modes words x rules.CycleEnd h = refl
+replacement_good modes words x rules.LineNumber h = refl
+replacement_good modes words x rules.MachineCoordinates h = refl
+replacement_good modes words x rules.IdleCode h = refl
+replacement_good modes words x rules.Inches h = refl
+replacement_good modes words x rules.Millimetres h = refl
+replacement_good modes words x rules.ToolCenter h = refl
+replacement_good modes words x rules.LookAhead h = refl
+replacement_good modes words x rules.FirstTraverse h = refl
+replacement_good modes words x rules.ToolOffset h = is_zero (prefix_len is_of_number x) h
+replacement_good modes words x rules.Milliseconds h = refl
+replacement_good modes words x rules.Seconds h = refl
+replacement_good modes words x rules.CycleDwell h = is_zero (prefix_len is_of_number x) h
+replacement_good modes words x rules.HoleCount h = refl
+replacement_good modes words x rules.UnusedZero h = refl
+replacement_good modes words x rules.UnusedWord h = refl
+replacement_good modes words x rules.SystemInForce h = refl
+replacement_good modes words x rules.ZeroRotation h = refl
+replacement_good modes words x rules.IdleAxis h = refl
+replacement_good modes words x rules.Switch h = refl
+replacement_good modes words x rules.ToolInSpindle h = refl
+replacement_good modes words x rules.Dropped h = refl
+replacement_good modes words x rules.ProgramEnd h = refl
+replacement_good modes words x rules.ProgramNumber h = refl
+replacement_good modes words x rules.PlainComment h = refl
+replacement_good modes words x rules.SignedParameter h = signed_good x h
+
+by_rule_good : (modes : Modes) (words : List Word) (x : List ℕ) (r : Option Rule) → begins_well x ≡ true → prefix_len is_of_number (by_rule modes words x r) ≡ 0
+by_rule_good modes words x None h = is_zero (prefix_len is_of_number x) h
+by_rule_good modes words x (Some rule) h = replacement_good modes words x rule h
 
 pieces_good : (unnamed : Bool) (modes : Modes) (words : List Word) (xs : List (List ℕ)) → list_all begins_well xs ≡ true
     → prefix_len is_of_number (concat (pieces_of unnamed modes words xs)) ≡ 0
@@ -383,28 +478,14 @@ pieces_good unnamed modes words [] h = refl
 pieces_good unnamed modes words (x ∷ xs) h =
     let parts = and_parts (begins_well x) (list_all begins_well xs) h in
     good_append (traverse (unnamed && is_axis_item x)) _ (traverse_good (unnamed && is_axis_item x))
-    (good_append (item_written modes words x) _ (by_rule_good x (item_rule modes words x) parts.0)
-    (pieces_good (unnamed && not (is_axis_item x)) modes words xs parts.1))
+    (good_append (item_front modes words x) _ (front_by_good modes words (item_rule modes words x))
+    (good_append (item_written modes words x) _ (by_rule_good modes words x (item_rule modes words x) parts.0)
+    (pieces_good (unnamed && not (is_axis_item x)) modes words xs parts.1)))
 
 traverse_fits : (t : Bool) (s : List ℕ) → (t ≡ true → prefix_len is_of_number s ≡ 0) → 0 < length (traverse t) → item_length (traverse t ++ s) ≡ length (traverse t)
 unfolding item_of
 traverse_fits true s good h = item_same 71 (48 ∷ 32 ∷ []) s refl (λ e. absurd cc) (good refl)
 traverse_fits false s good h = absurd (omega arith)
-
-replacement_fits : (rule : Rule) (s : List ℕ) → prefix_len is_of_number s ≡ 0 → 0 < length (replacement rule)
-    → item_length (replacement rule ++ s) ≡ length (replacement rule)
-unfolding item_of
-replacement_fits rules.BlendTolerance s good h = absurd (omega arith)
-replacement_fits rules.ZeroOffset s good h = absurd (omega arith)
-replacement_fits rules.CycleEnd s good h = absurd (omega arith)
-replacement_fits rules.LineNumber s good h = absurd (omega arith)
-replacement_fits rules.MachineCoordinates s good h = absurd (omega arith)
-replacement_fits rules.IdleCode s good h = absurd (omega arith)
-replacement_fits rules.Inches s good h = item_same 71 (50 ∷ 48 ∷ 32 ∷ []) s refl (λ e. absurd cc) good
-replacement_fits rules.Millimetres s good h = item_same 71 (50 ∷ 49 ∷ 32 ∷ []) s refl (λ e. absurd cc) good
-replacement_fits rules.ToolCenter s good h = item_same 71 (52 ∷ 51 ∷ 32 ∷ []) s refl (λ e. absurd cc) good
-replacement_fits rules.LookAhead s good h = absurd (omega arith)
-replacement_fits rules.FirstTraverse s good h = absurd (omega arith)
 
 -- an item that stays, where it was read before something else
 item_fits : (x others s : List ℕ) → item_length (x ++ others) ≡ length x → is_unread (item_of x) ≡ false
@@ -414,11 +495,136 @@ item_fits [] others s e r f g go gs h = absurd (omega arith)
 item_fits (b ∷ v) others s e r f g go gs h =
     item_same b v s r (λ c. g (begins_head 59 b v ∙ c)) gs ∙ sym (item_same b v others r (λ c. f (begins_head 59 b v ∙ c)) go) ∙ e
 
-by_rule_fits : (x others s : List ℕ) (r : Option Rule) → item_length (x ++ others) ≡ length x → is_unread (item_of x) ≡ false
+front_fits : (modes : Modes) (words : List Word) (rule : Rule) (s : List ℕ) → prefix_len is_of_number s ≡ 0 → 0 < length (front modes words rule)
+    → item_length (front modes words rule ++ s) ≡ length (front modes words rule)
+unfolding item_of
+front_fits modes words rules.BlendTolerance s good h = absurd (omega arith)
+front_fits modes words rules.ZeroOffset s good h = absurd (omega arith)
+front_fits modes words rules.CycleEnd s good h = absurd (omega arith)
+front_fits modes words rules.LineNumber s good h = absurd (omega arith)
+front_fits modes words rules.MachineCoordinates s good h = absurd (omega arith)
+front_fits modes words rules.IdleCode s good h = absurd (omega arith)
+front_fits modes words rules.Inches s good h = absurd (omega arith)
+front_fits modes words rules.Millimetres s good h = absurd (omega arith)
+front_fits modes words rules.ToolCenter s good h = absurd (omega arith)
+front_fits modes words rules.LookAhead s good h = absurd (omega arith)
+front_fits modes words rules.FirstTraverse s good h = absurd (omega arith)
+front_fits modes words rules.ToolOffset s good h = number_fits 72 (mounted_after modes words) s (λ t. refl) good
+front_fits modes words rules.Milliseconds s good h = absurd (omega arith)
+front_fits modes words rules.Seconds s good h = absurd (omega arith)
+front_fits modes words rules.CycleDwell s good h = item_same 80 (48 ∷ 32 ∷ []) s refl (λ e. absurd cc) good
+front_fits modes words rules.HoleCount s good h = absurd (omega arith)
+front_fits modes words rules.UnusedZero s good h = absurd (omega arith)
+front_fits modes words rules.UnusedWord s good h = absurd (omega arith)
+front_fits modes words rules.SystemInForce s good h = absurd (omega arith)
+front_fits modes words rules.ZeroRotation s good h = absurd (omega arith)
+front_fits modes words rules.IdleAxis s good h = absurd (omega arith)
+front_fits modes words rules.Switch s good h = absurd (omega arith)
+front_fits modes words rules.ToolInSpindle s good h = absurd (omega arith)
+front_fits modes words rules.Dropped s good h = absurd (omega arith)
+front_fits modes words rules.ProgramEnd s good h = absurd (omega arith)
+front_fits modes words rules.ProgramNumber s good h = absurd (omega arith)
+front_fits modes words rules.PlainComment s good h = absurd (omega arith)
+front_fits modes words rules.SignedParameter s good h = absurd (omega arith)
+
+front_by_fits : (modes : Modes) (words : List Word) (r : Option Rule) (s : List ℕ) → (is_some r ≡ true → prefix_len is_of_number s ≡ 0) → 0 < length (front_by modes words r)
+    → item_length (front_by modes words r ++ s) ≡ length (front_by modes words r)
+front_by_fits modes words None s good h = absurd (omega arith)
+front_by_fits modes words (Some rule) s good h = front_fits modes words rule s (good refl) h
+
+read_word : (l : Letter) (n : Option Number) → is_some n ≡ true → is_unread (word_item (Some l) n) ≡ false
+read_word l (Some n) h = refl
+read_word l None h = absurd cc
+
+same_tail : (n b c : ℕ) (v : List ℕ) → drop (n + 1) (b ∷ v) ≡ drop (n + 1) (c ∷ v)
+same_tail n b c v = rw add-one refl
+
+-- a word with another letter
+lettered : (b c : ℕ) (v s : List ℕ) → bare_length (b ∷ v) ≡ value_length v + 1 → bare_length (c ∷ v) ≡ value_length v + 1 → is_unread (item_of (c ∷ v)) ≡ false
+    → ((c == 59) ≡ true → s ≡ []) → item_length (b ∷ v) ≡ length (b ∷ v) → prefix_len is_of_number s ≡ 0 → item_length (c ∷ (v ++ s)) ≡ length (c ∷ v)
+lettered b c v s n m r f whole good =
+    let k = value_length v + 1 in
+    item_same c v s r f good
+    ∙ ap (λ (j : ℕ). j + prefix_len is_blank (drop j (c ∷ v))) m
+    ∙ ap (λ (t : List ℕ). k + prefix_len is_blank t) (same_tail (value_length v) c b v)
+    ∙ sym (ap (λ (j : ℕ). j + prefix_len is_blank (drop j (b ∷ v))) n)
+    ∙ whole
+
+with_p : (b : ℕ) (v s : List ℕ) → is_some (word_in (item_of (b ∷ v))) ≡ true → item_length (b ∷ v) ≡ length (b ∷ v) → prefix_len is_of_number s ≡ 0
+    → item_length (80 ∷ (v ++ s)) ≡ length (80 ∷ v)
+unfolding item_of
+with_p b v s h whole good =
+    let w = word_of b v h in
+    lettered b 80 v s (w.1 v) refl (read_word letters.P (number_of v) w.2) (λ e. absurd cc) whole good
+
+with_l : (b : ℕ) (v s : List ℕ) → is_some (word_in (item_of (b ∷ v))) ≡ true → item_length (b ∷ v) ≡ length (b ∷ v) → prefix_len is_of_number s ≡ 0
+    → item_length (76 ∷ (v ++ s)) ≡ length (76 ∷ v)
+unfolding item_of
+with_l b v s h whole good =
+    let w = word_of b v h in
+    lettered b 76 v s (w.1 v) refl (read_word letters.L (number_of v) w.2) (λ e. absurd cc) whole good
+
+with_sign : (b : ℕ) (v s : List ℕ) → is_some (word_in (item_of (b ∷ v))) ≡ true → prefix_len is_of_number s ≡ 0
+    → item_length (b ∷ ((91 ∷ (48 ∷ (filter is_parameter_byte v ++ codes "] "))) ++ s)) ≡ length (b ∷ (91 ∷ (48 ∷ (filter is_parameter_byte v ++ codes "] "))))
+with_sign b v s h good = signed_fits b v s (word_of b v h).1 good
+
+replacement_fits : (modes : Modes) (words : List Word) (b : ℕ) (v : List ℕ) (rule : Rule) (s : List ℕ) → prefix_len is_of_number s ≡ 0
+    → is_some (word_in (item_of (b ∷ v))) ≡ true → item_length (b ∷ v) ≡ length (b ∷ v) → item_length ((b ∷ v) ++ s) ≡ length (b ∷ v) → 0 < length (replacement modes words (b ∷ v) rule)
+    → item_length (replacement modes words (b ∷ v) rule ++ s) ≡ length (replacement modes words (b ∷ v) rule)
+unfolding item_of
+replacement_fits modes words b v rules.BlendTolerance s good word whole same h = absurd (omega arith)
+replacement_fits modes words b v rules.ZeroOffset s good word whole same h = absurd (omega arith)
+replacement_fits modes words b v rules.CycleEnd s good word whole same h = absurd (omega arith)
+replacement_fits modes words b v rules.LineNumber s good word whole same h = absurd (omega arith)
+replacement_fits modes words b v rules.MachineCoordinates s good word whole same h = absurd (omega arith)
+replacement_fits modes words b v rules.IdleCode s good word whole same h = absurd (omega arith)
+replacement_fits modes words b v rules.Inches s good word whole same h = item_same 71 (50 ∷ 48 ∷ 32 ∷ []) s refl (λ e. absurd cc) good
+replacement_fits modes words b v rules.Millimetres s good word whole same h = item_same 71 (50 ∷ 49 ∷ 32 ∷ []) s refl (λ e. absurd cc) good
+replacement_fits modes words b v rules.ToolCenter s good word whole same h = item_same 71 (52 ∷ 51 ∷ 32 ∷ []) s refl (λ e. absurd cc) good
+replacement_fits modes words b v rules.LookAhead s good word whole same h = absurd (omega arith)
+replacement_fits modes words b v rules.FirstTraverse s good word whole same h = absurd (omega arith)
+replacement_fits modes words b v rules.ToolOffset s good word whole same h = same
+replacement_fits modes words b v rules.Milliseconds s good word whole same h = seconds_fit (b ∷ v) s good
+replacement_fits modes words b v rules.Seconds s good word whole same h = with_p b v s word whole good
+replacement_fits modes words b v rules.CycleDwell s good word whole same h = same
+replacement_fits modes words b v rules.HoleCount s good word whole same h = with_l b v s word whole good
+replacement_fits modes words b v rules.UnusedZero s good word whole same h = absurd (omega arith)
+replacement_fits modes words b v rules.UnusedWord s good word whole same h = absurd (omega arith)
+replacement_fits modes words b v rules.SystemInForce s good word whole same h = number_fits 80 (system_number (system_after modes.system words)) s (λ t. refl) good
+replacement_fits modes words b v rules.ZeroRotation s good word whole same h = absurd (omega arith)
+replacement_fits modes words b v rules.IdleAxis s good word whole same h = absurd (omega arith)
+replacement_fits modes words b v rules.Switch s good word whole same h = absurd (omega arith)
+replacement_fits modes words b v rules.ToolInSpindle s good word whole same h = absurd (omega arith)
+replacement_fits modes words b v rules.Dropped s good word whole same h = absurd (omega arith)
+replacement_fits modes words b v rules.ProgramEnd s good word whole same h = item_same 77 (50 ∷ 32 ∷ []) s refl (λ e. absurd cc) good
+replacement_fits modes words b v rules.ProgramNumber s good word whole same h = program_number_fits (b ∷ v) s good
+replacement_fits modes words b v rules.SignedParameter s good word whole same h = with_sign b v s word good
+replacement_fits modes words b v rules.PlainComment s good word whole same h = absurd (omega arith)
+
+by_rule_fits : (modes : Modes) (words : List Word) (b : ℕ) (v others s : List ℕ) (r : Option Rule) → item_length ((b ∷ v) ++ others) ≡ length (b ∷ v)
+    → is_unread (item_of (b ∷ v)) ≡ false → (is_some r ≡ true → is_some (word_in (item_of (b ∷ v))) ≡ true)
+    → (begins 59 (b ∷ v) ≡ true → others ≡ []) → (begins 59 (b ∷ v) ≡ true → s ≡ []) → prefix_len is_of_number others ≡ 0 → prefix_len is_of_number s ≡ 0
+    → 0 < length (by_rule modes words (b ∷ v) r) → item_length (by_rule modes words (b ∷ v) r ++ s) ≡ length (by_rule modes words (b ∷ v) r)
+by_rule_fits modes words b v others s None e r w f g go gs h = item_fits (b ∷ v) others s e r f g go gs h
+by_rule_fits modes words b v others s (Some rule) e r w f g go gs h =
+    let whole = sym (item_same b v others r (λ c. f (begins_head 59 b v ∙ c)) go) ∙ e in
+    replacement_fits modes words b v rule s gs (w refl) whole (item_fits (b ∷ v) others s e r f g go gs (omega arith)) h
+
+-- a rule changes words alone
+by_word : (f : Word → Option Rule) (o : Option Word) → is_some (option_and_then f o) ≡ true → is_some o ≡ true
+by_word f None h = absurd cc
+by_word f (Some w) h = refl
+
+fits_as : (modes : Modes) (words : List Word) (x : List ℕ) (b : ℕ) (v others s : List ℕ) (r : Option Rule) → x ≡ b ∷ v → item_length (x ++ others) ≡ length x
+    → is_unread (item_of x) ≡ false → (is_some r ≡ true → is_some (word_in (item_of x)) ≡ true)
     → (begins 59 x ≡ true → others ≡ []) → (begins 59 x ≡ true → s ≡ []) → prefix_len is_of_number others ≡ 0 → prefix_len is_of_number s ≡ 0
-    → 0 < length (by_rule x r) → item_length (by_rule x r ++ s) ≡ length (by_rule x r)
-by_rule_fits x others s None e r f g go gs h = item_fits x others s e r f g go gs h
-by_rule_fits x others s (Some rule) e r f g go gs h = replacement_fits rule s gs h
+    → 0 < length (by_rule modes words x r) → item_length (by_rule modes words x r ++ s) ≡ length (by_rule modes words x r)
+fits_as modes words x b v others s r is =
+    subst
+    (λ (y : List ℕ). item_length (y ++ others) ≡ length y → is_unread (item_of y) ≡ false → (is_some r ≡ true → is_some (word_in (item_of y)) ≡ true)
+    → (begins 59 y ≡ true → others ≡ []) → (begins 59 y ≡ true → s ≡ []) → prefix_len is_of_number others ≡ 0 → prefix_len is_of_number s ≡ 0
+    → 0 < length (by_rule modes words y r) → item_length (by_rule modes words y r ++ s) ≡ length (by_rule modes words y r))
+    (sym is) (by_rule_fits modes words b v others s r)
 
 -- a piece that is an item, and the items after it
 one_piece : (p s : List ℕ) (ps : List (List ℕ)) → (0 < length p → item_length (p ++ s) ≡ length p) → items_of s ≡ filter (λ piece. nat_lt 0 (length piece)) ps
@@ -474,13 +680,19 @@ read_pieces (suc n) (b ∷ rest) unnamed modes words l r =
     let none : begins 59 x ≡ true → concat ps ≡ [] = λ e. ap (λ (ys : List (List ℕ)). concat (pieces_of later modes words ys)) (no_items_within n others (last e)) in
     let others_good = heads_other n others fits heads in
     let item = item_written modes words x in
+    let ahead = item_front modes words x in
     let named = traverse (unnamed && is_axis_item x) in
-    let second = one_piece item (concat ps) ps
-    (by_rule_fits x others (concat ps) (item_rule modes words x) long parts.0 last none others_good tail_good)
+    let by = by_word (rule_for modes words) (word_in (item_of x)) in
+    let good = λ (w : is_some (word_in (item_of x)) ≡ true).
+    good_append item (concat ps) (by_rule_good modes words x (item_rule modes words x) (word_good x b head.0 head.1 parts.0 w)) tail_good in
+    let third = one_piece item (concat ps) ps
+    (fits_as modes words x b head.0 others (concat ps) (item_rule modes words x) head.1 long parts.0 by last none others_good tail_good)
     (read_pieces n others later modes words fits parts.1) in
-    one_piece named (item ++ concat ps) (item ∷ ps)
-    (traverse_fits (unnamed && is_axis_item x) (item ++ concat ps) (λ e. good_append item (concat ps)
-    (by_rule_good x (item_rule modes words x) (axis_good x b head.0 head.1 parts.0 (and_parts unnamed (is_axis_item x) e).1)) tail_good)) second
+    let second = one_piece ahead (item ++ concat ps) (item ∷ ps)
+    (front_by_fits modes words (item_rule modes words x) (item ++ concat ps) (λ e. good (by e))) third in
+    one_piece named (ahead ++ (item ++ concat ps)) (ahead ∷ (item ∷ ps))
+    (traverse_fits (unnamed && is_axis_item x) (ahead ++ (item ++ concat ps)) (λ e. good_append ahead (item ++ concat ps)
+    (front_by_good modes words (item_rule modes words x)) (good (axis_some (word_in (item_of x)) (and_parts unnamed (is_axis_item x) e).1)))) second
 
 unread_none : (u : Bool) (ws words : List Word) → words_unless u ws ≡ Some words → u ≡ false
 unread_none true ws words e = absurd cc

@@ -7,7 +7,7 @@ use Rattle.std.proofs.lemmas.Bool.Decides.{nat_tests}
 use Rattle.std.proofs.lemmas.List.{drop-append-le}
 use Rattle.std.proofs.lemmas.List.Sums.{sum_by-cons}
 use Rattle.ngc_adapt.specs.declared.number.Number.{Number}
-use Rattle.ngc_adapt.specs.Numbers.{is_ink, begins, has_sign, unsigned, whole_digits, after_whole, has_point, decimals, is_number, without_blanks, is_lead, after_lead, depth_after, bracket_length, is_of_number, value_length, byte_count, is_computed, is_whole, number_of, has_byte, facts_of, facts_if_number, written_number, unknown_number}
+use Rattle.ngc_adapt.specs.Numbers.{is_ink, begins, has_sign, unsigned, whole_digits, after_whole, has_point, decimals, is_number, without_blanks, is_lead, after_lead, depth_after, bracket_length, is_of_number, value_length, byte_count, is_computed, is_whole, number_of, has_byte, facts_of, facts_if_number, written_number, computed_number}
 
 -- ---- prefixes
 
@@ -240,9 +240,9 @@ some_if : (w : Bool) (n : Number) → is_some (cond w (Some n) None) ≡ true �
 some_if true n h = refl
 some_if false n h = absurd cc
 
-by_computed : (v : List ℕ) (c : Bool) → is_computed v ≡ c → is_some (cond c (cond (is_whole v) (Some unknown_number) None) (written_number v)) ≡ true
+by_computed : (v : List ℕ) (c : Bool) → is_computed v ≡ c → is_some (cond c (cond (is_whole v) (Some (computed_number v)) None) (written_number v)) ≡ true
     → (list_any is_ascii_digit v ≡ true) × (begins 91 (after_lead v) ≡ true → byte_count 91 v ≡ byte_count 93 v)
-by_computed v true e h = whole_value v (some_if (is_whole v) unknown_number h)
+by_computed v true e h = whole_value v (some_if (is_whole v) (computed_number v) h)
 by_computed v false e h = (
   digits_by v (list_any is_ascii_digit v) refl h,
   λ b. clash (begins 91 (after_lead v)) (byte_count 91 v) (byte_count 93 v) (or_parts (has_byte 35 v) (begins 91 (after_lead v)) e).1 b,

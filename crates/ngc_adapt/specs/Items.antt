@@ -15,28 +15,41 @@ use Rattle.ngc_adapt.specs.Numbers.{is_blank, has_byte, begins, is_whole, value_
 abbrev pub upper : ℕ → ℕ
 upper b = if nat_le 97 b && nat_le b 122 then b - 32 else b
 
--- the letter that an upper case letter is: A B C U V W X Y Z name axes
+-- the letter that an upper case letter is; a colon names a program, as O does
 abbrev pub capital : ℕ → Option Letter
 capital b =
+    if b == 58 then Some letters.O else (
+    if b == 65 then Some letters.A else (
+    if b == 66 then Some letters.B else (
+    if b == 67 then Some letters.C else (
+    if b == 68 then Some letters.D else (
     if b == 69 then Some letters.E else (
     if b == 71 then Some letters.G else (
     if b == 72 then Some letters.H else (
     if b == 73 then Some letters.I else (
     if b == 74 then Some letters.J else (
     if b == 75 then Some letters.K else (
+    if b == 76 then Some letters.L else (
     if b == 77 then Some letters.M else (
     if b == 78 then Some letters.N else (
+    if b == 79 then Some letters.O else (
     if b == 80 then Some letters.P else (
     if b == 81 then Some letters.Q else (
     if b == 82 then Some letters.R else (
-    if (nat_le 65 b && nat_le b 67) || (nat_le 85 b && nat_le b 90) then Some letters.Axis else (
-    if nat_le 65 b && nat_le b 90 then Some letters.Other else None))))))))))))
+    if b == 84 then Some letters.T else (
+    if b == 85 then Some letters.U else (
+    if b == 86 then Some letters.V else (
+    if b == 87 then Some letters.W else (
+    if b == 88 then Some letters.X else (
+    if b == 89 then Some letters.Y else (
+    if b == 90 then Some letters.Z else (
+    if nat_le 65 b && nat_le b 90 then Some letters.Other else None)))))))))))))))))))))))))
 
 abbrev pub letter_of : ℕ → Option Letter
 letter_of b = capital (upper b)
 
 abbrev pub is_letter : ℕ → Bool
-is_letter b = nat_le 65 (upper b) && nat_le (upper b) 90
+is_letter b = b == 58 || (nat_le 65 (upper b) && nat_le (upper b) 90)
 
 abbrev pub is_in_comment : ℕ → Bool
 is_in_comment b = not (b == 41)

@@ -1,8 +1,12 @@
+pub mod Comments
+pub mod Facts
 pub mod Items
 pub mod Laws
 pub mod Lines
 pub mod Numbers
 pub mod Programs
+pub mod Refusals
 pub mod Reports
 pub mod Rules
+pub mod Sources
 pub mod Text

@@ -1,30 +1,39 @@
 -- What is written of a line: its items, without the words that a rule leaves out, and with what
 -- stands for those that a rule replaces.
-use Rattle.std.specs.Prelude.{ℕ, Bool, false, List, [], ◌∷◌, ◌++◌, ◌&&◌, not, codes, Option, Some, None}
-use Rattle.std.specs.Prelude.{option_and_then, if◌then◌else◌}
+use Rattle.std.specs.Prelude.{ℕ, Bool, false, List, [], ◌∷◌, ◌++◌, ◌&&◌, not, codes, Option, Some}
+use Rattle.std.specs.Prelude.{None}
+use Rattle.std.specs.Prelude.{◌||◌, option_and_then, is_some, if◌then◌else◌}
 use Rattle.std.specs.List.{filter_map, list_any, concat}
 use Rattle.ngc_adapt.specs.declared.code.TheConstants as codes_of
 use Rattle.ngc_adapt.specs.declared.item.Word.{Word}
 use Rattle.ngc_adapt.specs.declared.rule.Rule.{Rule}
 use Rattle.ngc_adapt.specs.declared.rule.Rule.TheVariants as rules
-use Rattle.ngc_adapt.specs.declared.rule.Motion.TheVariants as motions
-use Rattle.ngc_adapt.specs.declared.rule.Plane.TheVariants as planes
 use Rattle.ngc_adapt.specs.declared.rule.Modes.{Modes}
+use Rattle.ngc_adapt.specs.declared.refusal.Refusal.{Refusal}
 use Rattle.ngc_adapt.specs.Items.{items_of, item_of, word_in, words_of, may_be_deleted}
-use Rattle.ngc_adapt.specs.Rules.{rule_for, replacement, is_axis, is_first_traverse, modes_after}
-use Rattle.ngc_adapt.specs.Rules.{modes_either, is_m, is_one_of}
+use Rattle.ngc_adapt.specs.Rules.{rule_for, front, replacement, is_axis, is_first_traverse}
+use Rattle.ngc_adapt.specs.Rules.{modes_after, modes_either, lost_modes, is_m_code}
+use Rattle.ngc_adapt.specs.Refusals.{refusals_by}
 
 -- the rule that changes an item, if one does
 abbrev pub item_rule : Modes → List Word → List ℕ → Option Rule
 item_rule modes words item = option_and_then (rule_for modes words) (word_in (item_of item))
 
-abbrev pub by_rule : List ℕ → Option Rule → List ℕ
-by_rule item None = item
-by_rule item (Some rule) = replacement rule
+abbrev pub by_rule : Modes → List Word → List ℕ → Option Rule → List ℕ
+by_rule modes words item None = item
+by_rule modes words item (Some rule) = replacement modes words item rule
 
 -- what is written of an item
 abbrev pub item_written : Modes → List Word → List ℕ → List ℕ
-item_written modes words item = by_rule item (item_rule modes words item)
+item_written modes words item = by_rule modes words item (item_rule modes words item)
+
+abbrev pub front_by : Modes → List Word → Option Rule → List ℕ
+front_by modes words None = []
+front_by modes words (Some rule) = front modes words rule
+
+-- what is written in front of an item
+abbrev pub item_front : Modes → List Word → List ℕ → List ℕ
+item_front modes words item = front_by modes words (item_rule modes words item)
 
 abbrev pub is_axis_word : Option Word → Bool
 is_axis_word None = false
@@ -41,8 +50,9 @@ traverse named = if named then codes "G0 " else []
 abbrev pub pieces_of : Bool → Modes → List Word → List (List ℕ) → List (List ℕ)
 pieces_of unnamed modes words [] = []
 pieces_of unnamed modes words (item ∷ rest) =
-    traverse (unnamed && is_axis_item item) ∷ (item_written modes words item
-    ∷ pieces_of (unnamed && not (is_axis_item item)) modes words rest)
+    traverse (unnamed && is_axis_item item) ∷ (item_front modes words item
+    ∷ (item_written modes words item
+    ∷ pieces_of (unnamed && not (is_axis_item item)) modes words rest))
 
 -- the pieces of a line with these words
 abbrev pub pieces : Modes → List Word → List ℕ → List (List ℕ)
@@ -68,15 +78,9 @@ abbrev pub written_by : Modes → List ℕ → Option (List Word) → List ℕ
 written_by modes line None = line
 written_by modes line (Some words) = rewritten modes words line
 
--- after a line that can't be read, the modes aren't known
+-- after a line that can't be read, nothing is known
 abbrev pub modes_by : Bool → Modes → Option (List Word) → Modes
-modes_by deletable modes None =
-    record {
-      dialect = modes.dialect;
-      motion = motions.Unknown;
-      plane = planes.Unknown;
-      altered = modes.altered;
-    }
+modes_by deletable modes None = lost_modes modes modes.altered
 modes_by deletable modes (Some words) =
     if deletable then modes_either modes words else modes_after modes words
 
@@ -92,13 +96,20 @@ written modes line = written_by modes line (words_of line)
 unfoldable pub next_modes : Modes → List ℕ → Modes
 next_modes modes line = modes_by (may_be_deleted line) modes (words_of line)
 
-abbrev pub is_end_word : Word → Bool
-is_end_word w = is_m w.letter && is_one_of codes_of.PROGRAM_END w.number.code
+-- M2 or M30, or an M99 that is written as M2
+abbrev pub is_end_word : Modes → List Word → Word → Bool
+is_end_word modes words w =
+    is_m_code codes_of.PROGRAM_END w
+    || (is_m_code codes_of.SUBPROGRAM_END w && is_some (rule_for modes words w))
 
-abbrev pub has_end : Option (List Word) → Bool
-has_end None = false
-has_end (Some words) = list_any is_end_word words
+abbrev pub has_end : Modes → Option (List Word) → Bool
+has_end modes None = false
+has_end modes (Some words) = list_any (λ w. is_end_word modes words w) words
 
 -- a line that ends the program, and that block delete can't take out
-unfoldable pub is_end : List ℕ → Bool
-is_end line = has_end (words_of line) && not (may_be_deleted line)
+unfoldable pub is_end : Modes → List ℕ → Bool
+is_end modes line = has_end modes (words_of line) && not (may_be_deleted line)
+
+-- what stands in the way on a line
+unfoldable pub refusals_of : Modes → List ℕ → List Refusal
+refusals_of modes line = refusals_by modes line (words_of line)

@@ -1,6 +1,7 @@
 -- Numbers as part programs write them, in any dialect: a sign or none, digits, and at most one
 -- point among them. Blanks inside a number change nothing.
-use Rattle.std.specs.Prelude.{ℕ, ◌+◌, ◌-◌, ◌*◌, ◌==◌, ◌&&◌, ◌||◌, not, nat_lt, nat_le, Bool, false, List}
+use Rattle.std.specs.Prelude.{ℕ, ◌+◌, ◌-◌, ◌*◌, ◌==◌, ◌&&◌, ◌||◌, not, nat_lt, nat_le, Bool, true}
+use Rattle.std.specs.Prelude.{false, List}
 use Rattle.std.specs.Prelude.{[], ◌∷◌, length, take, drop, take_while, filter, fold, slice_index}
 use Rattle.std.specs.Prelude.{count_by, Option, Some, None, option_and_then, if◌then◌else◌}
 use Rattle.std.specs.Char.{is_ascii_digit}
@@ -76,8 +77,22 @@ code_of text =
 abbrev pub is_long : List ℕ → Bool
 is_long text = not (has_sign text) && (has_point text || nat_lt 5 (length (whole_digits text)))
 
+-- digits alone
+abbrev pub is_count : List ℕ → Bool
+is_count text = list_all is_ascii_digit text
+
 abbrev pub facts_of : List ℕ → Number
-facts_of text = record { code = code_of text; is_zero = is_zero text; is_long = is_long text }
+facts_of text =
+    record {
+      code = code_of text;
+      is_zero = is_zero text;
+      is_long = is_long text;
+      is_count = is_count text;
+      has_point = has_point text;
+      is_computed = false;
+      has_name = false;
+      is_signed = false;
+    }
 
 -- the characters of a value, if there are at most 32
 abbrev pub short_text : List ℕ → Option (List ℕ)
@@ -134,12 +149,34 @@ is_whole value = (byte_count 91 value == byte_count 93 value) && list_any is_asc
 abbrev pub written_number : List ℕ → Option Number
 written_number value = option_and_then facts_if_number (short_text value)
 
--- nothing is known of a value that is computed
-abbrev pub unknown_number : Number
-unknown_number = record { code = None; is_zero = false; is_long = false }
+abbrev pub is_name_byte : ℕ → Bool
+is_name_byte b = (nat_le 65 b && nat_le b 90) || (nat_le 97 b && nat_le b 122)
+
+-- the value of a parameter with a sign in front, as -#1
+abbrev pub is_signed : List ℕ → Bool
+is_signed value = has_sign (drop (prefix_len is_blank value) value) && not (has_byte 91 value)
+
+-- a byte of such a value
+abbrev pub is_parameter_byte : ℕ → Bool
+is_parameter_byte b = is_ascii_digit b || ((b == 43) || ((b == 45) || ((b == 46) || (b == 35))))
+
+-- of a value that is computed nothing is known but whether it has a sign in front and whether a
+-- name is in it: a function or an operator that is a word
+abbrev pub computed_number : List ℕ → Number
+computed_number value =
+    record {
+      code = None;
+      is_zero = false;
+      is_long = false;
+      is_count = false;
+      has_point = false;
+      is_computed = true;
+      has_name = list_any is_name_byte value;
+      is_signed = is_signed value;
+    }
 
 -- what a value says: one that is computed, or a number of at most 32 characters
 abbrev pub number_of : List ℕ → Option Number
 number_of value =
-    if is_computed value then (if is_whole value then Some unknown_number else None)
+    if is_computed value then (if is_whole value then Some (computed_number value) else None)
     else written_number value

@@ -1,8 +1,11 @@
 -- The report of what is changed: a line for each change, and then how often each rule applied.
-use Rattle.std.specs.Prelude.{ℕ, ◌+◌, ◌-◌, ◌==◌, ◌&&◌, not, nat_lt, Bool, List, [], ◌∷◌, ◌++◌, length, reverse}
-use Rattle.std.specs.Prelude.{take, codes, decimal, count_by, Option, Some, None, if◌then◌else◌}
+use Rattle.std.specs.Prelude.{ℕ, ◌+◌, ◌-◌, ◌==◌, ◌&&◌, not, nat_lt, Bool, List, [], ◌∷◌, ◌++◌}
+use Rattle.std.specs.Prelude.{length, reverse}
+use Rattle.std.specs.Prelude.{take, drop, codes, decimal, count_by, Option, Some, None}
+use Rattle.std.specs.Prelude.{if◌then◌else◌}
 use Rattle.std.specs.List.{prefix_len, flat_map}
-use Rattle.ngc_adapt.specs.declared.dialect.Dialect.{Dialect}
+use Rattle.ngc_adapt.specs.declared.options.Options.{Options}
+use Rattle.ngc_adapt.specs.declared.refusal.Refusal.{Refusal}
 use Rattle.ngc_adapt.specs.declared.item.Word.{Word}
 use Rattle.ngc_adapt.specs.declared.rule.Rule.{Rule}
 use Rattle.ngc_adapt.specs.declared.rule.Rule.TheVariants as rules
@@ -12,13 +15,23 @@ use Rattle.ngc_adapt.specs.declared.change.Change.{Change}
 use Rattle.ngc_adapt.specs.declared.report.TheConstants as constants
 use Rattle.ngc_adapt.specs.Numbers.{is_blank}
 use Rattle.ngc_adapt.specs.Items.{items_of, words_of}
-use Rattle.ngc_adapt.specs.Rules.{rule_name, replacement, is_first_traverse}
+use Rattle.ngc_adapt.specs.Sources.{lines_of, body_of}
+use Rattle.ngc_adapt.specs.Facts.{facts_of}
+use Rattle.ngc_adapt.specs.Rules.{rule_name, front, replacement, is_first_traverse}
+use Rattle.ngc_adapt.specs.Comments.{has_odd_comment, comment_of, plain}
+use Rattle.ngc_adapt.specs.Refusals.{refusal_name, sentence, refusals_by}
 use Rattle.ngc_adapt.specs.Lines.{item_rule, is_axis_item, traverse}
-use Rattle.ngc_adapt.specs.Programs.{start, lines_of, body_of, progress_after, change_at, program_changes}
+use Rattle.ngc_adapt.specs.Programs.{start, progress_after, change_at, program_changes}
 
 -- what a rule keeps: the same commands, or the motions alone
 abbrev pub class_of : Rule → List ℕ
 class_of rules.LookAhead = codes "told"
+class_of rules.CycleDwell = codes "told"
+class_of rules.UnusedWord = codes "told"
+class_of rules.Switch = codes "told"
+class_of rules.ToolInSpindle = codes "told"
+class_of rules.Dropped = codes "told"
+class_of rules.ProgramEnd = codes "told"
 class_of _ = codes "exact"
 
 -- a text without the blanks at its end
@@ -28,40 +41,66 @@ trimmed text = take (length text - prefix_len is_blank (reverse text)) text
 abbrev pub or_nothing : List ℕ → List ℕ
 or_nothing text = if nat_lt 0 (length text) then text else codes "nothing"
 
--- line N (M): RULE class: what was there -> what is written
-abbrev pub change_text : Change → List ℕ → List ℕ → List ℕ
-change_text c was is =
+-- line N (M): RULE class: what was there ->
+abbrev pub was_text : Change → List ℕ → List ℕ
+was_text c was =
     codes "line " ++ decimal c.line ++ codes " (" ++ decimal c.written_line ++ codes "): "
     ++ rule_name c.rule ++ codes " " ++ class_of c.rule ++ codes ": " ++ or_nothing (trimmed was)
-    ++ codes " -> " ++ or_nothing (trimmed is) ++ codes "\n"
+    ++ codes " -> "
 
-abbrev pub traverse_report : ℕ → Bool → List ℕ
-traverse_report number named =
-    if named then change_text (change_at number rules.FirstTraverse) [] (traverse named) else []
+-- and what is written
+abbrev pub change_text : Change → List ℕ → List ℕ → List ℕ
+change_text c was is = was_text c was ++ (or_nothing (trimmed is) ++ codes "\n")
 
-abbrev pub rule_report : ℕ → List ℕ → Option Rule → List ℕ
-rule_report number item None = []
-rule_report number item (Some rule) = change_text (change_at number rule) item (replacement rule)
+abbrev pub traverse_report : ℕ → ℕ → Bool → List ℕ
+traverse_report number written named =
+    if named then change_text (change_at number written rules.FirstTraverse) [] (traverse named)
+    else []
+
+abbrev pub rule_report : Change → Modes → List Word → List ℕ → List ℕ
+rule_report c modes words item =
+    change_text c item (front modes words c.rule ++ replacement modes words item c.rule)
+
+abbrev pub item_report : ℕ → ℕ → Modes → List Word → List ℕ → Option Rule → List ℕ
+item_report number written modes words item None = []
+item_report number written modes words item (Some rule) =
+    rule_report (change_at number written rule) modes words item
+
+-- the change of an odd comment of a line
+abbrev pub comment_report : ℕ → ℕ → List ℕ → List ℕ
+comment_report number written line =
+    if has_odd_comment line
+    then change_text (change_at number written rules.PlainComment) (comment_of line)
+    (plain (drop 1 (comment_of line)))
+    else []
 
 -- the changes of items, from left to right
-abbrev pub items_report : ℕ → Bool → Modes → List Word → List (List ℕ) → List ℕ
-items_report number unnamed modes words [] = []
-items_report number unnamed modes words (item ∷ rest) =
-    traverse_report number (unnamed && is_axis_item item)
-    ++ (rule_report number item (item_rule modes words item)
-    ++ items_report number (unnamed && not (is_axis_item item)) modes words rest)
+abbrev pub items_report : ℕ → ℕ → Bool → Modes → List Word → List (List ℕ) → List ℕ
+items_report number written unnamed modes words [] = []
+items_report number written unnamed modes words (item ∷ rest) =
+    traverse_report number written (unnamed && is_axis_item item)
+    ++ (item_report number written modes words item (item_rule modes words item)
+    ++ items_report number written (unnamed && not (is_axis_item item)) modes words rest)
 
-abbrev pub report_by : ℕ → Modes → List ℕ → Option (List Word) → List ℕ
-report_by number modes line None = []
-report_by number modes line (Some words) =
-    items_report number (is_first_traverse modes words) modes words (items_of line)
+-- line N: NAME left: what it is, and the way out
+abbrev pub refusal_text : ℕ → Refusal → List ℕ
+refusal_text number refusal =
+    codes "line " ++ decimal number ++ codes ": " ++ refusal_name refusal ++ codes " left: "
+    ++ sentence refusal ++ codes "\n"
 
--- the changes of a line with this number
-unfoldable pub line_report : ℕ → Modes → List ℕ → List ℕ
-line_report number modes line = report_by number modes line (words_of line)
+abbrev pub report_by : ℕ → ℕ → Modes → List ℕ → Option (List Word) → List ℕ
+report_by number written modes line None = []
+report_by number written modes line (Some words) =
+    items_report number written (is_first_traverse modes words) modes words (items_of line)
+
+-- the changes of a line of the source with this number, and then what stands in the way on it
+unfoldable pub line_report : ℕ → ℕ → Modes → List ℕ → List ℕ
+line_report number written modes line =
+    report_by number written modes line (words_of line)
+    ++ flat_map (refusal_text number) (refusals_by modes line (words_of line))
 
 abbrev pub body_report : ℕ → Progress → List ℕ → List ℕ
-body_report number p line = if p.ended then [] else line_report number p.modes line
+body_report number p line = if p.ended then [] else line_report number number p.modes line
 
 abbrev pub lines_report : ℕ → Progress → List (List ℕ) → List ℕ
 lines_report number p [] = []
@@ -81,6 +120,23 @@ rank rules.Millimetres = 7
 rank rules.ToolCenter = 8
 rank rules.LookAhead = 9
 rank rules.FirstTraverse = 10
+rank rules.ToolOffset = 11
+rank rules.Milliseconds = 12
+rank rules.Seconds = 13
+rank rules.CycleDwell = 14
+rank rules.HoleCount = 15
+rank rules.UnusedZero = 16
+rank rules.UnusedWord = 17
+rank rules.SystemInForce = 18
+rank rules.ZeroRotation = 19
+rank rules.IdleAxis = 20
+rank rules.Switch = 21
+rank rules.ToolInSpindle = 22
+rank rules.Dropped = 23
+rank rules.ProgramEnd = 24
+rank rules.ProgramNumber = 25
+rank rules.SignedParameter = 26
+rank rules.PlainComment = 27
 
 abbrev pub is_by : Rule → Change → Bool
 is_by rule c = rank c.rule == rank rule
@@ -94,9 +150,10 @@ abbrev pub counts_text : List Change → List ℕ
 counts_text changes = flat_map (λ rule. count_text rule (count_by (is_by rule) changes)) constants.EVERY_RULE
 
 -- what is changed of a text, line by line
-abbrev pub changes_text : Dialect → List ℕ → List ℕ
-changes_text dialect text = lines_report 1 (start dialect) (lines_of text)
+abbrev pub changes_text : Options → List ℕ → List ℕ
+changes_text options text = lines_report 1 (start options (facts_of text)) (lines_of text)
 
 -- the whole report
-abbrev pub program_report : Dialect → List ℕ → List ℕ
-program_report dialect text = changes_text dialect text ++ counts_text (program_changes dialect text)
+abbrev pub program_report : Options → List ℕ → List ℕ
+program_report options text =
+    changes_text options text ++ counts_text (program_changes options text)

@@ -16,13 +16,13 @@ pub struct Change {
 impl Change {
     ghost use Rattle.ngc_adapt.specs.Programs.{change_at};
 
-    // The change of a line by a rule: lines stay lines.
-    pub(crate) fn at(number: usize, rule: Rule) -> Change
-        ensures { result ≡ change_at number rule }
+    // The change of a line by a rule, and the line of what is written.
+    pub(crate) fn at(number: usize, written: usize, rule: Rule) -> Change
+        ensures { result ≡ change_at number written rule }
     {
         Change {
             line: number,
-            written_line: number,
+            written_line: written,
             rule,
         }
     }

@@ -56,3 +56,68 @@ pub const PROGRAM_END: [u16; 2] = [20, 300];
 
 /// The M codes of our language.
 pub const MACHINE_CODES: [u16; 14] = [0, 10, 20, 30, 40, 50, 60, 70, 80, 90, 300, 480, 490, 600];
+
+/// The dwell, which has a time beside it.
+pub const DWELL: [u16; 1] = [40];
+
+/// G10, which sets an origin or a tool.
+pub const SETTING: [u16; 1] = [100];
+
+/// Cycles that hold at the bottom of each hole.
+pub const DWELLING_CYCLES: [u16; 3] = [820, 860, 890];
+
+/// Cycles that clear the chips by pecks.
+pub const PECKING_CYCLES: [u16; 1] = [830];
+
+/// Cycles that take neither P nor Q.
+pub const PLAIN_CYCLES: [u16; 2] = [810, 850];
+
+/// G43, the offset of a tool's length.
+pub const TOOL_LENGTH: [u16; 1] = [430];
+
+/// G49, no offset of a tool's length.
+pub const TOOL_LENGTH_END: [u16; 1] = [490];
+
+/// The coordinate systems, G54 to G59.3.
+pub const SYSTEMS: [u16; 9] = [540, 550, 560, 570, 580, 590, 591, 592, 593];
+
+/// M6, which mounts the tool that is selected.
+pub const TOOL_CHANGE: [u16; 1] = [60];
+
+/// M61, which says which tool is in the spindle.
+pub const TOOL_IN_SPINDLE: [u16; 1] = [610];
+
+/// M50 to M53, switches of the panel.
+pub const SWITCHES: [u16; 4] = [500, 510, 520, 530];
+
+/// M97 and M98, which call a subprogram.
+pub const CALLS: [u16; 2] = [970, 980];
+
+/// M99, which ends a subprogram, and the main program as well.
+pub const SUBPROGRAM_END: [u16; 1] = [990];
+
+/// Compensation of the cutter's radius.
+pub const COMPENSATION: [u16; 4] = [410, 411, 420, 421];
+
+pub const PROBING: [u16; 5] = [310, 382, 383, 384, 385];
+
+pub const TAPPING: [u16; 2] = [740, 840];
+
+pub const THREADS: [u16; 3] = [330, 331, 760];
+
+pub const BACK_BORING: [u16; 2] = [870, 880];
+
+pub const ROTATION: [u16; 2] = [680, 682];
+
+pub const SCALING: [u16; 2] = [510, 511];
+
+pub const POLAR: [u16; 2] = [121, 160];
+
+/// G54.1 and G154, which name more coordinate systems by P.
+pub const MORE_SYSTEMS: [u16; 2] = [541, 1540];
+
+/// G95 feeds by the turn, and G96 keeps the speed of the surface.
+pub const FEED_PER_TURN: [u16; 2] = [950, 960];
+
+/// G65 and G66, which call a macro.
+pub const MACRO_CALLS: [u16; 2] = [650, 660];

@@ -1,5 +1,6 @@
 ghost use Rattle.std.specs.Prelude.{◌≡◌};
-ghost use Rattle.ngc_adapt.specs.Rules.{is_fanuc, has_own_units};
+ghost use Rattle.ngc_adapt.specs.Rules.{is_fanuc, is_linuxcnc, has_own_units, has_system_zero};
+ghost use Rattle.ngc_adapt.specs.Rules.{takes_mounted_tool};
 
 /// The control that a program is written for.
 #[derive(Clone, Copy, PartialEq, Eq)]
@@ -19,6 +20,26 @@ impl Dialect {
         ensures { result ≡ is_fanuc self }
     {
         matches!(self, Dialect::Fanuc)
+    }
+
+    pub(crate) fn is_linuxcnc(self) -> bool
+        ensures { result ≡ is_linuxcnc self }
+    {
+        matches!(self, Dialect::LinuxCnc)
+    }
+
+    // Whether G43 without H takes the offset of the mounted tool.
+    pub(crate) fn takes_mounted_tool(self) -> bool
+        ensures { result ≡ takes_mounted_tool self }
+    {
+        matches!(self, Dialect::LinuxCnc | Dialect::Mach3)
+    }
+
+    // Whether P0 of G10 L2 is the coordinate system in force.
+    pub(crate) fn has_system_zero(self) -> bool
+        ensures { result ≡ has_system_zero self }
+    {
+        matches!(self, Dialect::LinuxCnc | Dialect::Grbl)
     }
 
     // Whether G70 and G71 are units.

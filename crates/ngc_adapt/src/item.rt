@@ -2,9 +2,11 @@ ghost use Rattle.std.specs.Prelude.{◌≡◌, ◌+◌, ◌≤◌, ◌<◌, ◌�
 ghost use Rattle.std.specs.List.{prefix_len};
 ghost use Rattle.std.specs.Option.{option_map};
 ghost use Rattle.ngc_adapt.specs.Items as spec;
-ghost use Rattle.ngc_adapt.specs.Numbers.{is_blank as blank};
+ghost use Rattle.ngc_adapt.specs.Numbers.{number_of as number};
 
-use crate::number::{Number, begins, has_byte, is_blank, is_whole, number_of, value_length};
+use crate::number::{
+    Number, begins, blank_length, has_byte, is_blank, is_whole, number_of, value_length,
+};
 use arrayvec::ArrayVec;
 
 /// The most words of a line that is read.
@@ -13,6 +15,14 @@ pub const MOST_WORDS: usize = 64;
 /// What a word's letter is for.
 #[derive(Clone, Copy, PartialEq, Eq)]
 pub enum Letter {
+    /// A place or an angle of the rotary axis A.
+    A,
+    /// Of the rotary axis B.
+    B,
+    /// Of the rotary axis C.
+    C,
+    /// The number of a tool's radius.
+    D,
     /// A line number.
     N,
     /// A code.
@@ -33,10 +43,26 @@ pub enum Letter {
     K,
     /// How smooth a path is, beside G187.
     E,
+    /// A count, or what G10 sets.
+    L,
+    /// The name of a program, which a colon begins as well.
+    O,
+    /// A tool.
+    T,
+    /// A place on an axis beside X, or a time beside G4.
+    U,
+    /// A place on an axis beside Y.
+    V,
+    /// A place on an axis beside Z.
+    W,
+    /// A place on the axis X, or a time beside G4.
+    X,
+    /// A place on the axis Y.
+    Y,
+    /// A place on the axis Z.
+    Z,
     /// The number of a tool offset.
     H,
-    /// One of A, B, C, U, V, W, X, Y, Z.
-    Axis,
     /// Any other letter.
     Other,
 }
@@ -73,7 +99,7 @@ pub enum Item {
 }
 
 #[inline]
-fn upper(byte: u8) -> u8
+pub fn upper(byte: u8) -> u8
     ensures { result ≡ spec.upper byte }
 {
     if byte >= b'a' && byte <= b'z' {
@@ -83,23 +109,35 @@ fn upper(byte: u8) -> u8
     }
 }
 
-// The letter that an upper case letter is.
+// The letter that an upper case letter is; a colon names a program, as O does.
 fn capital(byte: u8) -> Option<Letter>
     ensures { result ≡ spec.capital byte }
 {
     match byte {
+        b':' | b'O' => Some(Letter::O),
+        b'A' => Some(Letter::A),
+        b'B' => Some(Letter::B),
+        b'C' => Some(Letter::C),
+        b'D' => Some(Letter::D),
         b'E' => Some(Letter::E),
         b'G' => Some(Letter::G),
         b'H' => Some(Letter::H),
         b'I' => Some(Letter::I),
         b'J' => Some(Letter::J),
         b'K' => Some(Letter::K),
+        b'L' => Some(Letter::L),
         b'M' => Some(Letter::M),
         b'N' => Some(Letter::N),
         b'P' => Some(Letter::P),
         b'Q' => Some(Letter::Q),
         b'R' => Some(Letter::R),
-        b'A'..=b'C' | b'U'..=b'Z' => Some(Letter::Axis),
+        b'T' => Some(Letter::T),
+        b'U' => Some(Letter::U),
+        b'V' => Some(Letter::V),
+        b'W' => Some(Letter::W),
+        b'X' => Some(Letter::X),
+        b'Y' => Some(Letter::Y),
+        b'Z' => Some(Letter::Z),
         b'A'..=b'Z' => Some(Letter::Other),
         _ => None,
     }
@@ -109,17 +147,17 @@ fn capital(byte: u8) -> Option<Letter>
 fn is_letter(byte: u8) -> bool
     ensures { result ≡ spec.is_letter byte }
 {
-    upper(byte) >= b'A' && upper(byte) <= b'Z'
+    byte == b':' || (upper(byte) >= b'A' && upper(byte) <= b'Z')
 }
 
-fn is_in_comment(byte: u8) -> bool
+pub(crate) fn is_in_comment(byte: u8) -> bool
     ensures { result ≡ spec.is_in_comment byte }
 {
     byte != b')'
 }
 
 #[tactic(auto, using(crate::proofs::Digits::counted))]
-fn comment_length(text: &[u8]) -> usize
+pub(crate) fn comment_length(text: &[u8]) -> usize
     ensures count { result ≡ prefix_len spec.is_in_comment text.now }
     ensures within { result ≤ length text.now }
 {
@@ -166,14 +204,6 @@ fn bare_length(line: &[u8]) -> usize
     }
 }
 
-#[tactic(auto, using(crate::proofs::Digits::counted))]
-fn blank_length(text: &[u8]) -> usize
-    ensures count { result ≡ prefix_len blank text.now }
-    ensures within { result ≤ length text.now }
-{
-    text.iter().take_while(|b| is_blank(**b)).count()
-}
-
 // How many bytes the first item of a line has.
 fn item_length(line: &[u8]) -> usize
     ensures value { result ≡ spec.item_length line.now }
@@ -185,7 +215,7 @@ fn item_length(line: &[u8]) -> usize
 }
 
 /// Returns whether block delete may take a line out.
-pub(crate) fn may_be_deleted(line: &[u8]) -> bool
+pub fn may_be_deleted(line: &[u8]) -> bool
     ensures { result ≡ spec.may_be_deleted line.now }
 {
     begins(b'/', line.split_at(blank_length(line)).1)
@@ -223,40 +253,55 @@ fn word_item(letter: Option<Letter>, number: Option<Number>) -> Item
     }
 }
 
-// What an item of a line is.
-#[tactic(auto, unfolding(crate::specs::Items::item_of))]
-pub(crate) fn item_of(bytes: &[u8]) -> Item
-    ensures { result ≡ spec.item_of bytes.now }
+// What an item is that a letter may begin.
+fn word_at(first: u8, rest: &[u8]) -> Item
+    ensures { result ≡ spec.word_item (spec.letter_of first) (number rest.now) }
 {
-    let [first, rest @ ..] = bytes else {
-        return Item::Unread;
-    };
-    if is_mark(*first) {
+    word_item(capital(upper(first)), number_of(rest))
+}
+
+// What an item is that begins with a byte.
+#[tactic(auto, unfolding(crate::specs::Items::item_of))]
+fn item_from(first: u8, rest: &[u8]) -> Item
+    ensures { result ≡ spec.item_of (first ∷ rest.now) }
+{
+    if is_mark(first) {
         return Item::Mark;
     }
-    if *first == b';' {
+    if first == b';' {
         return Item::Comment;
     }
-    if *first == b'(' {
+    if first == b'(' {
         return if is_comment(rest) {
             Item::Comment
         } else {
             Item::Unread
         };
     }
-    if *first == b'#' {
+    if first == b'#' {
         return if is_setting(rest) {
             Item::Setting
         } else {
             Item::Unread
         };
     }
-    word_item(capital(upper(*first)), number_of(rest))
+    word_at(first, rest)
 }
 
-// The first item of a line, and what follows it.
+/// Returns what an item of a line is.
+#[tactic(auto, unfolding(crate::specs::Items::item_of))]
+pub fn item_of(bytes: &[u8]) -> Item
+    ensures { result ≡ spec.item_of bytes.now }
+{
+    match bytes {
+        [first, rest @ ..] => item_from(*first, rest),
+        [] => Item::Unread,
+    }
+}
+
+/// Splits a line into its first item, with the blanks after it, and what follows it.
 #[tactic(auto, using(crate::proofs::ItemLaws::items_step))]
-pub(crate) fn split_item(line: &[u8]) -> (&[u8], &[u8])
+pub fn split_item(line: &[u8]) -> (&[u8], &[u8])
     requires { 0 < length line.now }
     ensures items { spec.items_of line.now ≡ result.0.now ∷ spec.items_of result.1.now }
     ensures shorter { length result.1.now < length line.now }

@@ -3,20 +3,37 @@
 
 mod change;
 mod code;
+mod comment;
 mod dialect;
+mod facts;
 mod item;
 pub mod laws;
 mod line;
 mod number;
+mod options;
 mod program;
+mod refusal;
+mod replacement;
 mod report;
 mod rule;
+mod source;
 mod text;
 
 pub use change::Change;
+pub use comment::{add_with_plain_comment, has_odd_comment};
 pub use dialect::Dialect;
-pub use item::{Letter, Word};
-pub use number::Number;
+pub use facts::{Facts, Levels};
+pub use item::{
+    Item, Letter, MOST_WORDS, Word, item_of, may_be_deleted, read_words, split_item, upper,
+};
+pub use line::{AdaptedLine, MOST_REFUSALS, MOST_RULES, adapt_line};
+pub use number::{
+    LONGEST_NUMBER, Number, begins, byte_count, is_blank, is_number, split_whole, without_blanks,
+};
+pub use options::{MOST_DROPPED, Options};
 pub use program::{Adapted, adapt};
-pub use rule::{Modes, Motion, Plane, Rule};
+pub use refusal::Refusal;
+pub use report::{add_comment_report, add_counts, add_line_report, add_refusals};
+pub use rule::{Cycle, Modes, Motion, Plane, Rule, is_one_of};
+pub use source::{body_length, split_line};
 pub use text::{TextChanges, text_of};

@@ -1,29 +1,47 @@
-ghost use Rattle.std.specs.Prelude.{◌≡◌, ◌≤◌, ◌++◌, [], length, IfOk, if◌then◌else◌};
+ghost use Rattle.std.specs.Prelude.{◌≡◌, ◌≤◌, ◌==◌, ◌&&◌, ◌++◌, ◌∷◌, [], length, IfOk};
+ghost use Rattle.std.specs.Prelude.{if◌then◌else◌};
 ghost use Rattle.ngc_adapt.specs.Lines.{rules_of, written, next_modes, rules_among, rewritten};
-ghost use Rattle.ngc_adapt.specs.Lines.{item_rule, item_written, is_axis_item, traverse};
-ghost use Rattle.ngc_adapt.specs.Lines.{traverse_rule, is_end_word, is_end};
-ghost use Rattle.std.specs.List.{list_any};
+ghost use Rattle.ngc_adapt.specs.Lines.{item_rule, item_front, item_written, is_axis_item};
+ghost use Rattle.ngc_adapt.specs.Lines.{traverse};
+ghost use Rattle.ngc_adapt.specs.Lines.{traverse_rule, is_end_word, is_end, refusals_of};
+ghost use Rattle.std.specs.List.{list_any, filter_map};
 ghost use Rattle.ngc_adapt.specs.Items.{may_be_deleted};
 ghost use Rattle.ngc_adapt.specs.Rules.{modes_after, modes_either};
+ghost use Rattle.ngc_adapt.specs.Refusals.{refusal_for};
 
 use crate::code;
 use crate::item::{Item, MOST_WORDS, Word, item_of, may_be_deleted, read_words, split_item};
-use crate::rule::{Modes, Motion, Plane, Rule, is_axis, is_m, is_one_of};
+use crate::refusal::{Refusal, unread_refusal};
+use crate::replacement::{add_front, add_replacement};
+use crate::rule::{Modes, Rule, is_axis, is_m_code};
 use arrayvec::ArrayVec;
 use std::alloc::{AllocError, Allocator};
 
 /// The most rules that change a line: one for each word, and one for the line.
 pub const MOST_RULES: usize = MOST_WORDS + 1;
 
+/// The most words of a line that stand in the way.
+pub const MOST_REFUSALS: usize = MOST_WORDS;
+
 /// What became of a line.
 #[derive(Drop)]
 pub struct AdaptedLine {
     /// The rules that changed it: the first traverse, and those of its words from left to right.
     pub rules: ArrayVec<Rule, MOST_RULES>,
+    /// What stands in the way: that the line can't be read, or its words from left to right.
+    pub refusals: ArrayVec<Refusal, MOST_REFUSALS>,
     /// What the line leaves in force.
     pub modes: Modes,
     /// Whether the line ends the program, and block delete can't take it out.
     pub is_end: bool,
+}
+
+// Whether no rule changes a line, and nothing stands in the way on it.
+pub(crate) fn is_quiet(line: &AdaptedLine) -> bool
+    ensures { result ≡ ((length line.now.rules.items == 0)
+        && (length line.now.refusals.items == 0)) }
+{
+    line.rules.is_empty() && line.refusals.is_empty()
 }
 
 // The rule that changes an item, if one does.
@@ -70,21 +88,49 @@ fn rules_among(modes: &Modes, words: &[Word]) -> ArrayVec<Rule, MOST_RULES>
     rules
 }
 
-// Adds what is written of an item.
+// What stands in the way of these words of a line.
+pub(crate) fn refusals_among(modes: &Modes, words: &[Word]) -> ArrayVec<Refusal, MOST_REFUSALS>
+    requires { length words.now ≤ 64 }
+    ensures { result.items ≡ filter_map (refusal_for modes.now words.now) words.now }
+{
+    let mut refusals = ArrayVec::new();
+    for word in words {
+        if let Some(refusal) = modes.refusal_for(words, word) {
+            refusals.push(refusal);
+        }
+    }
+    refusals
+}
+
+// The only thing that stands in the way on a line that can't be read.
+fn one_refusal(refusal: Refusal) -> ArrayVec<Refusal, MOST_REFUSALS>
+    ensures { result.items ≡ refusal ∷ [] }
+{
+    let mut refusals = ArrayVec::new();
+    refusals.push(refusal);
+    refusals
+}
+
+// Adds what is written of an item, and in front of it.
 fn add_item<A: Allocator>(
     modes: &Modes,
     words: &[Word],
     item: &[u8],
     out: &mut Vec<u8, A>,
 ) -> Result<(), AllocError>
-    ensures { IfOk result
-        (λ _. out.new.items ≡ out.old.items ++ item_written modes.now words.now item.now) }
+    ensures { IfOk result (λ _. out.new.items ≡ out.old.items
+        ++ (item_front modes.now words.now item.now ++ item_written modes.now words.now item.now)) }
 {
     match item_rule(modes, words, item) {
-        Some(rule) => out.extend_from_slice(rule.replacement().as_bytes())?,
-        None => out.extend_from_slice(item)?,
+        Some(rule) => {
+            add_front(modes, words, rule, out)?;
+            add_replacement(modes, words, item, rule, out)
+        }
+        None => {
+            out.extend_from_slice(item)?;
+            Ok(())
+        }
     }
-    Ok(())
 }
 
 fn add_traverse<A: Allocator>(named: bool, out: &mut Vec<u8, A>) -> Result<(), AllocError>
@@ -131,22 +177,25 @@ fn modes_after(modes: &Modes, words: &[Word], line: &[u8]) -> Modes
     }
 }
 
-fn is_end_word(word: &Word) -> bool
-    ensures { result ≡ is_end_word word.now }
+fn is_end_word(modes: &Modes, words: &[Word], word: &Word) -> bool
+    ensures { result ≡ is_end_word modes.now words.now word.now }
 {
-    is_m(word.letter) && is_one_of(&code::PROGRAM_END, word.number.code)
+    is_m_code(&code::PROGRAM_END, word)
+        || (is_m_code(&code::SUBPROGRAM_END, word) && modes.rule_for(words, word).is_some())
 }
 
-fn has_end_word(words: &[Word]) -> bool
-    ensures { result ≡ list_any is_end_word words.now }
+fn has_end_word(modes: &Modes, words: &[Word]) -> bool
+    ensures { result ≡ list_any (λ w. is_end_word modes.now words.now w) words.now }
 {
-    words.iter().any(is_end_word)
+    words.iter().any(|word| is_end_word(modes, words, word))
 }
 
 /// Adds to `out` what is written of a line, whose line feed is not part of it, and returns the
-/// rules that changed it, what it leaves in force and whether it ends the program. A line that no
-/// rule changes is copied byte for byte.
-#[tactic(auto, unfolding(crate::specs::Lines::rules_of, crate::specs::Lines::written, crate::specs::Lines::next_modes, crate::specs::Lines::is_end))]
+/// rules that changed it, what stands in the way, what it leaves in force and whether it ends the
+/// program. A line that no rule changes is copied byte for byte.
+///
+/// After an error, which means that memory was refused, `out` has any prefix of what is written.
+#[tactic(auto, unfolding(crate::specs::Lines::rules_of, crate::specs::Lines::written, crate::specs::Lines::next_modes, crate::specs::Lines::is_end, crate::specs::Lines::refusals_of))]
 pub fn adapt_line<A: Allocator>(
     modes: &Modes,
     line: &[u8],
@@ -155,8 +204,9 @@ pub fn adapt_line<A: Allocator>(
     ensures written { IfOk result
         (λ _. out.new.items ≡ out.old.items ++ written modes.now line.now) }
     ensures rules { IfOk result (λ r. r.rules.items ≡ rules_of modes.now line.now) }
+    ensures refusals { IfOk result (λ r. r.refusals.items ≡ refusals_of modes.now line.now) }
     ensures modes { IfOk result (λ r. r.modes ≡ next_modes modes.now line.now) }
-    ensures end { IfOk result (λ r. r.is_end ≡ is_end line.now) }
+    ensures end { IfOk result (λ r. r.is_end ≡ is_end modes.now line.now) }
     // A line that no rule changes is copied byte for byte.
     ensures copied { IfOk result
         (λ r. r.rules.items ≡ [] → out.new.items ≡ out.old.items ++ line.now) }
@@ -165,12 +215,8 @@ pub fn adapt_line<A: Allocator>(
         out.extend_from_slice(line)?;
         return Ok(AdaptedLine {
             rules: ArrayVec::new(),
-            modes: Modes {
-                dialect: modes.dialect,
-                motion: Motion::Unknown,
-                plane: Plane::Unknown,
-                altered: modes.altered,
-            },
+            refusals: one_refusal(unread_refusal(line)),
+            modes: modes.lost(modes.altered),
             is_end: false,
         });
     };
@@ -182,7 +228,8 @@ pub fn adapt_line<A: Allocator>(
     }
     Ok(AdaptedLine {
         rules,
+        refusals: refusals_among(modes, words.as_slice()),
         modes: modes_after(modes, words.as_slice(), line),
-        is_end: has_end_word(words.as_slice()) && !may_be_deleted(line),
+        is_end: has_end_word(modes, words.as_slice()) && !may_be_deleted(line),
     })
 }

@@ -9,9 +9,10 @@ ghost use Rattle.ngc_adapt.specs.Numbers as numbers;
 use arrayvec::ArrayVec;
 
 // The most characters of a number that is read. CAM programs write up to twenty.
-const LONGEST_NUMBER: usize = 32;
+pub const LONGEST_NUMBER: usize = 32;
 
-/// What the rules ask of a number. Of a value that is computed they know nothing.
+/// What the rules ask of a number. Of a value that is computed they know only whether a name is in
+/// it.
 #[derive(Clone, Copy, Default)]
 pub struct Number {
     /// The code in tenths that it is, as 592 for `G59.2`.
@@ -20,17 +21,27 @@ pub struct Number {
     pub is_zero: bool,
     /// Whether it is a line number that our language doesn't have.
     pub is_long: bool,
+    /// Whether it is written as digits alone.
+    pub is_count: bool,
+    /// Whether it is written with a point.
+    pub has_point: bool,
+    /// Whether a parameter or a bracket gives it.
+    pub is_computed: bool,
+    /// Whether a name is in what computes it, such as `cos` or `MOD`.
+    pub has_name: bool,
+    /// Whether it is a parameter with a sign in front, as `-#1`.
+    pub is_signed: bool,
 }
 
 #[inline]
-pub(crate) fn is_blank(byte: u8) -> bool
+pub fn is_blank(byte: u8) -> bool
     ensures { result ≡ numbers.is_blank byte }
 {
     byte == b' ' || byte == b'\t' || byte == b'\r'
 }
 
 #[inline]
-pub(crate) fn begins(byte: u8, text: &[u8]) -> bool
+pub fn begins(byte: u8, text: &[u8]) -> bool
     ensures first { result ≡ numbers.begins byte text.now }
     ensures some { IsTrue result → 0 < length text.now }
 {
@@ -56,7 +67,7 @@ fn unsigned(text: &[u8]) -> &[u8]
 }
 
 #[inline]
-fn without_first(text: &[u8]) -> &[u8]
+pub(crate) fn without_first(text: &[u8]) -> &[u8]
     ensures value { result.now ≡ drop 1 text.now }
     ensures shorter { length result.now ≡ length text.now - 1 }
 {
@@ -75,7 +86,7 @@ fn digit_count(text: &[u8]) -> usize
 }
 
 // The digits in front of the point, and what follows them.
-fn split_whole(text: &[u8]) -> (&[u8], &[u8])
+pub fn split_whole(text: &[u8]) -> (&[u8], &[u8])
     ensures front { result.0.now ≡ numbers.whole_digits text.now }
     ensures rest { result.1.now ≡ numbers.after_whole text.now }
 {
@@ -132,7 +143,7 @@ fn code_of(text: &[u8]) -> Option<u16>
 }
 
 // Whether a text is a number.
-fn is_number(text: &[u8]) -> bool
+pub fn is_number(text: &[u8]) -> bool
     ensures { result ≡ numbers.is_number text.now }
 {
     let (whole, rest) = split_whole(text);
@@ -158,9 +169,16 @@ fn is_long(text: &[u8]) -> bool
     !has_sign(text) && (begins(b'.', rest) || whole.len() > 5)
 }
 
+// Whether a number is written with a point.
+fn has_point(text: &[u8]) -> bool
+    ensures { result ≡ numbers.has_point text.now }
+{
+    begins(b'.', split_whole(text).1)
+}
+
 // The characters of a value, if there are at most 32.
 #[tactic(auto, using(crate::proofs::Filtered::filter_step, crate::proofs::Filtered::longer, crate::proofs::Filtered::filter_end))]
-fn without_blanks(value: &[u8]) -> Option<ArrayVec<u8, LONGEST_NUMBER>>
+pub fn without_blanks(value: &[u8]) -> Option<ArrayVec<u8, LONGEST_NUMBER>>
     ensures { option_map (λ text. text.items) result ≡ numbers.short_text value.now }
 {
     let mut text = ArrayVec::new();
@@ -252,7 +270,7 @@ fn is_computed(value: &[u8]) -> bool
     has_byte(b'#', value) || begins(b'[', value.split_at(lead_length(value)).1)
 }
 
-pub(crate) fn byte_count(byte: u8, bytes: &[u8]) -> usize
+pub fn byte_count(byte: u8, bytes: &[u8]) -> usize
     ensures { result ≡ numbers.byte_count byte bytes.now }
 {
     bytes.iter().filter(|b| **b == byte).count()
@@ -284,7 +302,63 @@ fn written_number(value: &[u8]) -> Option<Number>
         code: code_of(text),
         is_zero: is_zero(text),
         is_long: is_long(text),
+        is_count: are_digits(text),
+        has_point: has_point(text),
+        is_computed: false,
+        has_name: false,
+        is_signed: false,
     })
+}
+
+fn is_name_byte(byte: u8) -> bool
+    ensures { result ≡ numbers.is_name_byte byte }
+{
+    (byte >= b'A' && byte <= b'Z') || (byte >= b'a' && byte <= b'z')
+}
+
+fn has_name(value: &[u8]) -> bool
+    ensures { result ≡ list_any numbers.is_name_byte value.now }
+{
+    value.iter().any(|b| is_name_byte(*b))
+}
+
+// How many blanks a text begins with.
+#[tactic(auto, using(crate::proofs::Digits::counted))]
+pub(crate) fn blank_length(text: &[u8]) -> usize
+    ensures count { result ≡ prefix_len numbers.is_blank text.now }
+    ensures within { result ≤ length text.now }
+{
+    text.iter().take_while(|b| is_blank(**b)).count()
+}
+
+// Whether a value is a parameter with a sign in front.
+fn is_signed(value: &[u8]) -> bool
+    ensures { result ≡ numbers.is_signed value.now }
+{
+    has_sign(value.split_at(blank_length(value)).1) && !has_byte(b'[', value)
+}
+
+/// Returns whether a byte can be one of a parameter with a sign in front.
+pub(crate) fn is_parameter_byte(byte: u8) -> bool
+    ensures { result ≡ numbers.is_parameter_byte byte }
+{
+    byte.is_ascii_digit() || byte == b'+' || byte == b'-' || byte == b'.' || byte == b'#'
+}
+
+// What is known of a value that is computed.
+fn computed_number(value: &[u8]) -> Number
+    ensures { result ≡ numbers.computed_number value.now }
+{
+    Number {
+        code: None,
+        is_zero: false,
+        is_long: false,
+        is_count: false,
+        has_point: false,
+        is_computed: true,
+        has_name: has_name(value),
+        is_signed: is_signed(value),
+    }
 }
 
 /// Reads a word's value: one that is computed, or a number of at most 32 characters.
@@ -293,7 +367,7 @@ pub(crate) fn number_of(value: &[u8]) -> Option<Number>
 {
     if is_computed(value) {
         return if is_whole(value) {
-            Some(Number::default())
+            Some(computed_number(value))
         } else {
             None
         };

@@ -1,21 +1,27 @@
-ghost use Rattle.std.specs.Prelude.{◌≡◌, ◌-◌, ◌++◌, ◌≤◌, length, count_by, decimal, IfOk, codes};
+ghost use Rattle.std.specs.Prelude.{◌≡◌, ◌-◌, ◌==◌, ◌++◌, ◌≤◌, [], if◌then◌else◌, length, take};
+ghost use Rattle.std.specs.Prelude.{drop, count_by, decimal, IfOk, codes};
 ghost use Rattle.std.specs.List.{prefix_len, flat_map};
 ghost use Rattle.std.specs.Prelude.{reverse};
 ghost use Rattle.ngc_adapt.specs.Numbers.{is_blank as blank};
 ghost use Rattle.ngc_adapt.specs.Items.{items_of};
 ghost use Rattle.ngc_adapt.specs.Rules.{is_first_traverse};
+ghost use Rattle.ngc_adapt.specs.Lines.{item_rule};
+ghost use Rattle.ngc_adapt.specs.Comments.{plain};
 ghost use Rattle.ngc_adapt.specs.Reports as spec;
 
 use crate::change::Change;
+use crate::comment::{add_plain, comment_of, has_odd_comment};
 use crate::item::{Word, read_words, split_item};
-use crate::line::{is_axis_item, item_rule};
-use crate::number::is_blank;
+use crate::line::{is_axis_item, item_rule, refusals_among};
+use crate::number::{is_blank, without_first};
+use crate::refusal::{Refusal, unread_refusal};
+use crate::replacement::{add_front, add_replacement};
 use crate::rule::{Modes, Rule};
 use itoa::Buffer;
 use std::alloc::{AllocError, Allocator};
 
 /// Every rule, in the order of the counts.
-pub const EVERY_RULE: [Rule; 11] = [
+pub const EVERY_RULE: [Rule; 28] = [
     Rule::BlendTolerance,
     Rule::ZeroOffset,
     Rule::CycleEnd,
@@ -27,6 +33,23 @@ pub const EVERY_RULE: [Rule; 11] = [
     Rule::ToolCenter,
     Rule::LookAhead,
     Rule::FirstTraverse,
+    Rule::ToolOffset,
+    Rule::Milliseconds,
+    Rule::Seconds,
+    Rule::CycleDwell,
+    Rule::HoleCount,
+    Rule::UnusedZero,
+    Rule::UnusedWord,
+    Rule::SystemInForce,
+    Rule::ZeroRotation,
+    Rule::IdleAxis,
+    Rule::Switch,
+    Rule::ToolInSpindle,
+    Rule::Dropped,
+    Rule::ProgramEnd,
+    Rule::ProgramNumber,
+    Rule::SignedParameter,
+    Rule::PlainComment,
 ];
 
 impl Rule {
@@ -38,16 +61,13 @@ impl Rule {
     {
         match self {
             Rule::LookAhead => "told",
-            Rule::BlendTolerance
-            | Rule::ZeroOffset
-            | Rule::CycleEnd
-            | Rule::LineNumber
-            | Rule::MachineCoordinates
-            | Rule::IdleCode
-            | Rule::Inches
-            | Rule::Millimetres
-            | Rule::ToolCenter
-            | Rule::FirstTraverse => "exact",
+            Rule::CycleDwell
+            | Rule::UnusedWord
+            | Rule::Switch
+            | Rule::ToolInSpindle
+            | Rule::Dropped
+            | Rule::ProgramEnd => "told",
+            _ => "exact",
         }
     }
 
@@ -67,6 +87,23 @@ impl Rule {
             Rule::ToolCenter => 8,
             Rule::LookAhead => 9,
             Rule::FirstTraverse => 10,
+            Rule::ToolOffset => 11,
+            Rule::Milliseconds => 12,
+            Rule::Seconds => 13,
+            Rule::CycleDwell => 14,
+            Rule::HoleCount => 15,
+            Rule::UnusedZero => 16,
+            Rule::UnusedWord => 17,
+            Rule::SystemInForce => 18,
+            Rule::ZeroRotation => 19,
+            Rule::IdleAxis => 20,
+            Rule::Switch => 21,
+            Rule::ToolInSpindle => 22,
+            Rule::Dropped => 23,
+            Rule::ProgramEnd => 24,
+            Rule::ProgramNumber => 25,
+            Rule::SignedParameter => 26,
+            Rule::PlainComment => 27,
         }
     }
 }
@@ -106,15 +143,14 @@ fn add_place<A: Allocator>(change: &Change, report: &mut Vec<u8, A>) -> Result<(
     Ok(())
 }
 
-// Adds a line for a change, with what was there and what is written.
-fn add_change<A: Allocator>(
+// Adds a line for a change up to what is written.
+fn add_was<A: Allocator>(
     change: &Change,
     was: &[u8],
-    is: &[u8],
     report: &mut Vec<u8, A>,
 ) -> Result<(), AllocError>
-    ensures { IfOk result (λ _. report.new.items ≡ report.old.items
-        ++ spec.change_text change.now was.now is.now) }
+    ensures { IfOk result
+        (λ _. report.new.items ≡ report.old.items ++ spec.was_text change.now was.now) }
 {
     add_place(change, report)?;
     report.extend_from_slice(change.rule.name().as_bytes())?;
@@ -123,42 +159,122 @@ fn add_change<A: Allocator>(
     report.extend_from_slice(b": ")?;
     report.extend_from_slice(or_nothing(trimmed(was)))?;
     report.extend_from_slice(b" -> ")?;
-    report.extend_from_slice(or_nothing(trimmed(is)))?;
+    Ok(())
+}
+
+// Adds the word nothing where no byte is there.
+fn add_nothing_at<A: Allocator>(count: usize, report: &mut Vec<u8, A>) -> Result<(), AllocError>
+    ensures { IfOk result (λ _. report.new.items ≡ report.old.items
+        ++ (if count == 0 then codes "nothing" else [])) }
+{
+    if count == 0 {
+        report.extend_from_slice(b"nothing")?;
+    }
+    Ok(())
+}
+
+// Ends the line of a change, where what is written begins at this byte of the report: without the
+// blanks at its end, or as the word nothing.
+fn end_change<A: Allocator>(start: usize, report: &mut Vec<u8, A>) -> Result<(), AllocError>
+    requires { start ≤ length report.old.items }
+    ensures { IfOk result (λ _. report.new.items ≡ take start report.old.items
+        ++ (spec.or_nothing (spec.trimmed (drop start report.old.items)) ++ codes "\n")) }
+{
+    let length = trimmed(report.as_slice().split_at(start).1).len();
+    report.truncate(start + length);
+    add_nothing_at(length, report)?;
     report.extend_from_slice(b"\n")?;
     Ok(())
 }
 
+// Adds a line for the change of an item by a rule.
 fn add_rule_change<A: Allocator>(
-    number: usize,
+    change: &Change,
+    modes: &Modes,
+    words: &[Word],
     item: &[u8],
-    rule: Option<Rule>,
     report: &mut Vec<u8, A>,
 ) -> Result<(), AllocError>
-    ensures { IfOk result
-        (λ _. report.new.items ≡ report.old.items ++ spec.rule_report number item.now rule) }
+    ensures { IfOk result (λ _. report.new.items ≡ report.old.items
+        ++ spec.rule_report change.now modes.now words.now item.now) }
 {
-    if let Some(rule) = rule {
-        let change = Change::at(number, rule);
-        add_change(&change, item, rule.replacement().as_bytes(), report)?;
+    add_was(change, item, report)?;
+    let start = report.as_slice().len();
+    add_front(modes, words, change.rule, report)?;
+    add_replacement(modes, words, item, change.rule, report)?;
+    end_change(start, report)?;
+    Ok(())
+}
+
+// Adds a line for the change of a comment and what follows it.
+fn add_odd_comment<A: Allocator>(
+    change: &Change,
+    comment: &[u8],
+    report: &mut Vec<u8, A>,
+) -> Result<(), AllocError>
+    ensures { IfOk result (λ _. report.new.items ≡ report.old.items
+        ++ spec.change_text change.now comment.now (plain (drop 1 comment.now))) }
+{
+    add_was(change, comment, report)?;
+    let start = report.as_slice().len();
+    add_plain(without_first(comment), report)?;
+    end_change(start, report)?;
+    Ok(())
+}
+
+/// Adds a line for the change of a line's first comment, if our language can't read it: `number` is
+/// its line in the source and `written` its line in what is written, both from 1. An error means
+/// that memory was refused.
+pub fn add_comment_report<A: Allocator>(
+    number: usize,
+    written: usize,
+    line: &[u8],
+    report: &mut Vec<u8, A>,
+) -> Result<(), AllocError>
+    ensures { IfOk result (λ _. report.new.items ≡ report.old.items
+        ++ spec.comment_report number written line.now) }
+{
+    if has_odd_comment(line) {
+        let change = Change::at(number, written, Rule::PlainComment);
+        add_odd_comment(&change, comment_of(line), report)?;
+    }
+    Ok(())
+}
+
+fn add_item_change<A: Allocator>(
+    number: usize,
+    written: usize,
+    modes: &Modes,
+    words: &[Word],
+    item: &[u8],
+    report: &mut Vec<u8, A>,
+) -> Result<(), AllocError>
+    ensures { IfOk result (λ _. report.new.items ≡ report.old.items ++ spec.item_report number
+        written modes.now words.now item.now (item_rule modes.now words.now item.now)) }
+{
+    if let Some(rule) = item_rule(modes, words, item) {
+        let change = Change::at(number, written, rule);
+        add_rule_change(&change, modes, words, item, report)?;
     }
     Ok(())
 }
 
 fn add_traverse_change<A: Allocator>(
     number: usize,
+    written: usize,
     named: bool,
     report: &mut Vec<u8, A>,
 ) -> Result<(), AllocError>
     ensures { IfOk result
-        (λ _. report.new.items ≡ report.old.items ++ spec.traverse_report number named) }
+        (λ _. report.new.items ≡ report.old.items ++ spec.traverse_report number written named) }
 {
     if named {
-        add_change(
-            &Change::at(number, Rule::FirstTraverse),
+        add_was(
+            &Change::at(number, written, Rule::FirstTraverse),
             b"",
-            b"G0 ",
             report,
         )?;
+        report.extend_from_slice(b"G0\n")?;
     }
     Ok(())
 }
@@ -166,42 +282,86 @@ fn add_traverse_change<A: Allocator>(
 // Adds the changes of the items of a line with these words.
 fn add_items_report<A: Allocator>(
     number: usize,
+    written: usize,
     modes: &Modes,
     words: &[Word],
     line: &[u8],
     report: &mut Vec<u8, A>,
 ) -> Result<(), AllocError>
     ensures { IfOk result (λ _. report.new.items ≡ report.old.items
-        ++ spec.items_report number (is_first_traverse modes.now words.now) modes.now words.now
-        (items_of line.now)) }
+        ++ spec.items_report number written (is_first_traverse modes.now words.now) modes.now
+        words.now (items_of line.now)) }
 {
     let mut unnamed = modes.is_first_traverse(words);
     let mut rest = line;
     while !rest.is_empty() {
         let (item, others) = split_item(rest);
         let moves = is_axis_item(item);
-        add_traverse_change(number, unnamed && moves, report)?;
-        add_rule_change(number, item, item_rule(modes, words, item), report)?;
+        add_traverse_change(number, written, unnamed && moves, report)?;
+        add_item_change(number, written, modes, words, item, report)?;
         unnamed = unnamed && !moves;
         rest = others;
     }
     Ok(())
 }
 
-/// Adds a line for each change of a line with this number.
-#[tactic(auto, unfolding(crate::specs::Reports::line_report))]
-pub(crate) fn add_line_report<A: Allocator>(
+fn add_refusal<A: Allocator>(
     number: usize,
+    refusal: Refusal,
+    report: &mut Vec<u8, A>,
+) -> Result<(), AllocError>
+    ensures { IfOk result
+        (λ _. report.new.items ≡ report.old.items ++ spec.refusal_text number refusal) }
+{
+    let mut buffer = Buffer::new();
+    report.extend_from_slice(b"line ")?;
+    report.extend_from_slice(buffer.format(number).as_bytes())?;
+    report.extend_from_slice(b": ")?;
+    report.extend_from_slice(refusal.name().as_bytes())?;
+    report.extend_from_slice(b" left: ")?;
+    report.extend_from_slice(refusal.sentence().as_bytes())?;
+    report.extend_from_slice(b"\n")?;
+    Ok(())
+}
+
+/// Adds a line for each thing that stands in the way on a line of the source with this number, from
+/// 1. An error means that memory was refused.
+#[tactic(auto, using(crate::proofs::ReportLaws::refusals_step))]
+pub fn add_refusals<A: Allocator>(
+    number: usize,
+    refusals: &[Refusal],
+    report: &mut Vec<u8, A>,
+) -> Result<(), AllocError>
+    ensures { IfOk result (λ _. report.new.items ≡ report.old.items
+        ++ flat_map (spec.refusal_text number) refusals.now) }
+{
+    for refusal in refusals {
+        add_refusal(number, *refusal, report)?;
+    }
+    Ok(())
+}
+
+/// Adds a line for each change of a line, and then one for each thing that stands in the way on it:
+/// `number` is its line in the source and `written` its line in what is written, both from 1. An
+/// error means that memory was refused.
+#[tactic(auto, unfolding(crate::specs::Reports::line_report))]
+pub fn add_line_report<A: Allocator>(
+    number: usize,
+    written: usize,
     modes: &Modes,
     line: &[u8],
     report: &mut Vec<u8, A>,
 ) -> Result<(), AllocError>
     ensures { IfOk result (λ _. report.new.items ≡ report.old.items
-        ++ spec.line_report number modes.now line.now) }
+        ++ spec.line_report number written modes.now line.now) }
 {
     match read_words(line) {
-        Some(words) => add_items_report(number, modes, words.as_slice(), line, report),
-        None => Ok(()),
+        Some(words) => {
+            let words = words.as_slice();
+            add_items_report(number, written, modes, words, line, report)?;
+            add_refusals(number, refusals_among(modes, words).as_slice(), report)
+        }
+        None => add_refusal(number, unread_refusal(line), report),
     }
 }
 
@@ -252,7 +412,7 @@ fn add_counts_of<A: Allocator>(
 }
 
 /// Adds how often each rule applied, a line for each rule that did.
-pub(crate) fn add_counts<A: Allocator>(
+pub fn add_counts<A: Allocator>(
     changes: &[Change],
     report: &mut Vec<u8, A>,
 ) -> Result<(), AllocError>

@@ -16,13 +16,16 @@ use Rattle.std.proofs.lemmas.Bool.{ne_eqb}
 use Rattle.std.proofs.lemmas.Str.Parse.{digit_from_value}
 use Rattle.clap.specs.declared.builder.value_parser.ValueParser.TheVariants.{Unsigned}
 use Rattle.clap.proofs.ValueTestLemmas.{Accepts-accepts}
+use Rattle.ngc_command_line.specs.CommandLine.{MachineSource, FromGrbl, FromFigures, adapt_words, machine_words}
 use Rattle.ngc_command_line.specs.CommandLine.{certify_words, check_words, draw_words, format_text, help_words, list_words, ngc_app, report_words, run_name}
 use Rattle.ngc_command_line.specs.CommandLine.{run_words, show_words}
 use Rattle.ngc_command_line.specs.Meant.{AreCommands, AreCuts, AreCutsInRange, AreOptions, AsksForCertify, AsksForCheck, AsksForDraw, AsksForHelp, AsksForList}
-use Rattle.ngc_command_line.specs.Meant.{AsksForReport, AsksForRun, AsksForShow, IsFormat, IsTaken, is_set}
+use Rattle.ngc_command_line.specs.Meant.{AsksForAdapt, AsksForMachine, acceleration_in, feed_in, grbl_in, steps_in, travel_in}
+use Rattle.ngc_command_line.specs.Meant.{AsksForReport, AsksForRun, AsksForShow, IsFormat, IsTaken, IsTool, IsToolInRange, is_set}
 use Rattle.ngc_command_line.specs.declared.options.Format.{Format}
 use Rattle.ngc_command_line.specs.declared.options.Format.TheVariants.{One, Two}
 use Rattle.ngc_command_line.specs.declared.options.Options.{Options}
+use Rattle.ngc_command_line.specs.declared.options.Options.TheVariants.{Adapt as ToAdapt, Machine as ToMachine}
 use Rattle.ngc_command_line.specs.declared.options.Options.TheVariants.{Certify as ToCertify, Check as ToCheck, Draw as ToDraw, Explain as ToExplain}
 use Rattle.ngc_command_line.specs.declared.options.Options.TheVariants.{Help as ToHelp, List as ToList, Report as ToReport, Run as ToRun}
 use Rattle.ngc_command_line.specs.declared.options.Options.TheVariants.{RunThrough as ToRunThrough, Show as ToShow, Version as ToVersion}
@@ -79,6 +82,10 @@ list_asked program machine tools delete (Some found) (ToShow show) finds are =
     other_letter (codes "list") (codes "show") (sym finds.0 ∙ are.0) (λ letters. omega (arith, letters))
 list_asked program machine tools delete (Some found) (ToReport report) finds are =
     other_name (codes "list") (codes "report") (sym finds.0 ∙ are.0) (λ lengths. omega (arith, lengths))
+list_asked program machine tools delete (Some found) (ToAdapt adapt) finds are =
+    other_letter (codes "list") (codes "adapt") (sym finds.0 ∙ are.0) (λ letters. omega (arith, letters))
+list_asked program machine tools delete (Some found) (ToMachine made) finds are =
+    other_letter (codes "list") (codes "machine") (sym finds.0 ∙ are.0) (λ letters. omega (arith, letters))
 list_asked program machine tools delete (Some found) (ToExplain number) finds are =
     other_name (codes "list") (codes "explain") (sym finds.0 ∙ are.0) (λ differ. omega (arith, differ))
 list_asked program machine tools delete (Some found) (ToHelp command) finds are =
@@ -130,6 +137,10 @@ check_asked machine tools certificate program (Some found) (ToShow show) finds a
     other_letter (codes "check") (codes "show") (sym finds.0 ∙ are.0) (λ letters. omega (arith, letters))
 check_asked machine tools certificate program (Some found) (ToReport report) finds are =
     other_name (codes "check") (codes "report") (sym finds.0 ∙ are.0) (λ lengths. omega (arith, lengths))
+check_asked machine tools certificate program (Some found) (ToAdapt adapt) finds are =
+    other_letter (codes "check") (codes "adapt") (sym finds.0 ∙ are.0) (λ letters. omega (arith, letters))
+check_asked machine tools certificate program (Some found) (ToMachine made) finds are =
+    other_letter (codes "check") (codes "machine") (sym finds.0 ∙ are.0) (λ letters. omega (arith, letters))
 check_asked machine tools certificate program (Some found) (ToExplain number) finds are =
     other_name (codes "check") (codes "explain") (sym finds.0 ∙ are.0) (λ differ. omega (arith, differ))
 check_asked machine tools certificate program (Some found) (ToHelp command) finds are =
@@ -220,6 +231,10 @@ run_asked recording machine tools certificate events program delete (Some found)
 run_asked recording machine tools certificate events program delete (Some found) (ToShow show) finds are =
     no_run (codes "show") recording (sym (are.0) ∙ finds.0) (λ three. omega (arith, three)) (λ six. omega (arith, six))
 run_asked recording machine tools certificate events program delete (Some found) (ToReport report) finds are = report_is_no_run recording (sym are.0 ∙ finds.0)
+run_asked recording machine tools certificate events program delete (Some found) (ToAdapt adapt) finds are =
+    no_run (codes "adapt") recording (sym (are.0) ∙ finds.0) (λ three. omega (arith, three)) (λ six. omega (arith, six))
+run_asked recording machine tools certificate events program delete (Some found) (ToMachine made) finds are =
+    no_run (codes "machine") recording (sym (are.0) ∙ finds.0) (λ three. omega (arith, three)) (λ six. omega (arith, six))
 run_asked recording machine tools certificate events program delete (Some found) (ToExplain number) finds are =
     no_run (codes "explain") recording (sym (are.0) ∙ finds.0) (λ three. omega (arith, three)) (λ six. omega (arith, six))
 run_asked recording machine tools certificate events program delete (Some found) (ToHelp command) finds are =
@@ -294,6 +309,10 @@ draw_asked machine tools certificate program view delete (Some found) (ToShow sh
     other_letter (codes "draw") (codes "show") (sym finds.0 ∙ are.0) (λ letters. omega (arith, letters))
 draw_asked machine tools certificate program view delete (Some found) (ToReport report) finds are =
     other_name (codes "draw") (codes "report") (sym finds.0 ∙ are.0) (λ lengths. omega (arith, lengths))
+draw_asked machine tools certificate program view delete (Some found) (ToAdapt adapt) finds are =
+    other_letter (codes "draw") (codes "adapt") (sym finds.0 ∙ are.0) (λ letters. omega (arith, letters))
+draw_asked machine tools certificate program view delete (Some found) (ToMachine made) finds are =
+    other_letter (codes "draw") (codes "machine") (sym finds.0 ∙ are.0) (λ letters. omega (arith, letters))
 draw_asked machine tools certificate program view delete (Some found) (ToExplain number) finds are =
     other_name (codes "draw") (codes "explain") (sym finds.0 ∙ are.0) (λ lengths. omega (arith, lengths))
 draw_asked machine tools certificate program view delete (Some found) (ToHelp command) finds are =
@@ -338,6 +357,10 @@ show_asked machine tools (Some found) (ToDraw draw) finds are =
     other_letter (codes "show") (codes "draw") (sym finds.0 ∙ are.0) (λ letters. omega (arith, letters))
 show_asked machine tools (Some found) (ToReport report) finds are =
     other_name (codes "show") (codes "report") (sym finds.0 ∙ are.0) (λ lengths. omega (arith, lengths))
+show_asked machine tools (Some found) (ToAdapt adapt) finds are =
+    other_letter (codes "show") (codes "adapt") (sym finds.0 ∙ are.0) (λ letters. omega (arith, letters))
+show_asked machine tools (Some found) (ToMachine made) finds are =
+    other_letter (codes "show") (codes "machine") (sym finds.0 ∙ are.0) (λ letters. omega (arith, letters))
 show_asked machine tools (Some found) (ToExplain number) finds are =
     other_letter (codes "show") (codes "explain") (sym finds.0 ∙ are.0) (λ letters. omega (arith, letters))
 show_asked machine tools (Some found) (ToHelp command) finds are =
@@ -481,6 +504,10 @@ certify_asked machine tools program cuts format (Some found) (ToShow show) range
     other_letter (codes "certify") (codes "show") (sym finds.0 ∙ are.0) (λ letters. omega (arith, letters))
 certify_asked machine tools program cuts format (Some found) (ToReport report) range finds are =
     other_name (codes "certify") (codes "report") (sym finds.0 ∙ are.0) (λ lengths. omega (arith, lengths))
+certify_asked machine tools program cuts format (Some found) (ToAdapt adapt) range finds are =
+    other_letter (codes "certify") (codes "adapt") (sym finds.0 ∙ are.0) (λ letters. omega (arith, letters))
+certify_asked machine tools program cuts format (Some found) (ToMachine made) range finds are =
+    other_letter (codes "certify") (codes "machine") (sym finds.0 ∙ are.0) (λ letters. omega (arith, letters))
 certify_asked machine tools program cuts format (Some found) (ToExplain number) range finds are =
     other_letter (codes "certify") (codes "explain") (sym finds.0 ∙ are.0) (λ differ. omega (arith, differ))
 certify_asked machine tools program cuts format (Some found) (ToHelp command) range finds are =
@@ -579,6 +606,10 @@ report_asked machine tools program cuts all json (Some found) (ToDraw draw) rang
     other_name (codes "report") (codes "draw") (sym finds.0 ∙ are.0) (λ lengths. omega (arith, lengths))
 report_asked machine tools program cuts all json (Some found) (ToShow show) range finds are =
     other_name (codes "report") (codes "show") (sym finds.0 ∙ are.0) (λ lengths. omega (arith, lengths))
+report_asked machine tools program cuts all json (Some found) (ToAdapt adapt) range finds are =
+    other_letter (codes "report") (codes "adapt") (sym finds.0 ∙ are.0) (λ letters. omega (arith, letters))
+report_asked machine tools program cuts all json (Some found) (ToMachine made) range finds are =
+    other_letter (codes "report") (codes "machine") (sym finds.0 ∙ are.0) (λ letters. omega (arith, letters))
 report_asked machine tools program cuts all json (Some found) (ToExplain number) range finds are =
     other_name (codes "report") (codes "explain") (sym finds.0 ∙ are.0) (λ lengths. omega (arith, lengths))
 report_asked machine tools program cuts all json (Some found) (ToHelp command) range finds are =
@@ -597,6 +628,204 @@ pub report_read : (words : List Text) (machine tools : Text) (program : Option T
 report_read words machine tools program cuts all json options range spelled are =
     let Are : List Text → Type 0 = λ ws. AreOptions (subcommand_of ngc_app ws) options in
     report_asked machine tools program cuts all json _ options range (report_finds machine tools program cuts all json) (subst Are spelled are)
+
+-- the values of `adapt` that were found are these
+abbrev FindsAdapt : Text → Option Text → Option Text → Option Text → Option Text → Option (Text × List Row) → Type 0
+FindsAdapt from machine tool drop program None = ⊥
+FindsAdapt from machine tool drop program (Some found) = (found.0 ≡ codes "adapt") × (first_of (codes "from") found.1 ≡ Some from)
+    × (first_of (codes "machine") found.1 ≡ machine) × (first_of (codes "tool") found.1 ≡ tool) × (first_of (codes "drop") found.1 ≡ drop)
+    × (first_of (codes "program") found.1 ≡ program)
+
+adapt_finds : (from : Text) (machine : Option Text) (tool : Option ℕ) (drop program : Option Text)
+    → FindsAdapt from machine (text_of tool) drop program (subcommand_of ngc_app (adapt_words from machine tool drop program))
+unfolding clap_on_literals
+adapt_finds from None None None None = (refl, refl, refl, refl, refl, refl)
+adapt_finds from None None None (Some program) = (refl, refl, refl, refl, refl, refl)
+adapt_finds from None None (Some drop) None = (refl, refl, refl, refl, refl, refl)
+adapt_finds from None None (Some drop) (Some program) = (refl, refl, refl, refl, refl, refl)
+adapt_finds from None (Some tool) None None = (refl, refl, refl, refl, refl, refl)
+adapt_finds from None (Some tool) None (Some program) = (refl, refl, refl, refl, refl, refl)
+adapt_finds from None (Some tool) (Some drop) None = (refl, refl, refl, refl, refl, refl)
+adapt_finds from None (Some tool) (Some drop) (Some program) = (refl, refl, refl, refl, refl, refl)
+adapt_finds from (Some machine) None None None = (refl, refl, refl, refl, refl, refl)
+adapt_finds from (Some machine) None None (Some program) = (refl, refl, refl, refl, refl, refl)
+adapt_finds from (Some machine) None (Some drop) None = (refl, refl, refl, refl, refl, refl)
+adapt_finds from (Some machine) None (Some drop) (Some program) = (refl, refl, refl, refl, refl, refl)
+adapt_finds from (Some machine) (Some tool) None None = (refl, refl, refl, refl, refl, refl)
+adapt_finds from (Some machine) (Some tool) None (Some program) = (refl, refl, refl, refl, refl, refl)
+adapt_finds from (Some machine) (Some tool) (Some drop) None = (refl, refl, refl, refl, refl, refl)
+adapt_finds from (Some machine) (Some tool) (Some drop) (Some program) = (refl, refl, refl, refl, refl, refl)
+
+adapt_tool_taken : (from : Text) (machine : Option Text) (tool : ℕ) (drop program : Option Text) → value_kinds false (Unsigned 1 9999) (decimal tool) ≡ []
+    → IsTaken (adapt_words from machine (Some tool) drop program)
+unfolding clap_on_literals
+adapt_tool_taken from None tool None None takes = both (both (both (both (both takes refl) refl) refl) refl) refl
+adapt_tool_taken from None tool None (Some program) takes = both (both (both (both (both takes refl) refl) refl) refl) refl
+adapt_tool_taken from None tool (Some drop) None takes = both (both (both (both (both takes refl) refl) refl) refl) refl
+adapt_tool_taken from None tool (Some drop) (Some program) takes = both (both (both (both (both takes refl) refl) refl) refl) refl
+adapt_tool_taken from (Some machine) tool None None takes = both (both (both (both (both takes refl) refl) refl) refl) refl
+adapt_tool_taken from (Some machine) tool None (Some program) takes = both (both (both (both (both takes refl) refl) refl) refl) refl
+adapt_tool_taken from (Some machine) tool (Some drop) None takes = both (both (both (both (both takes refl) refl) refl) refl) refl
+adapt_tool_taken from (Some machine) tool (Some drop) (Some program) takes = both (both (both (both (both takes refl) refl) refl) refl) refl
+
+tool_in_range : (tool : ℕ) → 1 ≤ tool → tool ≤ 9999 → IsUnsignedIn 1 9999 (decimal tool)
+tool_in_range tool low high =
+    let (digits, few, least, most) = decimal_in_range tool low (omega arith) in
+    let is = sym (decimal_value tool (omega arith)) in
+    (digits, few, least, subst (λ (n : ℕ). n ≤ 9999) is high)
+
+adapt_spells : (from : Text) (machine : Option Text) (tool : Option ℕ) (drop program : Option Text) → IsToolInRange tool →
+    IsTaken (adapt_words from machine tool drop program)
+unfolding clap_on_literals
+adapt_spells from None None None None range = refl
+adapt_spells from None None None (Some program) range = refl
+adapt_spells from None None (Some drop) None range = refl
+adapt_spells from None None (Some drop) (Some program) range = refl
+adapt_spells from (Some machine) None None None range = refl
+adapt_spells from (Some machine) None None (Some program) range = refl
+adapt_spells from (Some machine) None (Some drop) None range = refl
+adapt_spells from (Some machine) None (Some drop) (Some program) range = refl
+adapt_spells from machine (Some tool) drop program range =
+    let text = Accepts-accepts false (Unsigned 1 9999) (decimal tool) (tool_in_range tool range.0 range.1) in
+    adapt_tool_taken from machine tool drop program (passes (accepts false (Unsigned 1 9999) (decimal tool)) _ text)
+
+-- the number that its decimal gives back
+tool_read : (tool read : Option ℕ) → IsToolInRange tool → IsTool (text_of tool) read → read ≡ tool
+tool_read None None range is = refl
+tool_read None (Some read) range is = absurd is
+tool_read (Some tool) None range is = absurd is
+tool_read (Some tool) (Some read) range is = ap Some (is.1 ∙ decimal_value tool (omega (arith, range.1)))
+
+adapt_asked : (from : Text) (machine : Option Text) (tool : Option ℕ) (drop program : Option Text) (found : Option (Text × List Row)) (options : Options) →
+    IsToolInRange tool → FindsAdapt from machine (text_of tool) drop program found → AreOptions found options →
+    AsksForAdapt from machine tool drop program options
+adapt_asked from machine tool drop program None options range finds are = absurd finds
+adapt_asked from machine tool drop program (Some found) (ToAdapt adapt) range finds are =
+    let read = subst (λ (text : Option Text). IsTool text adapt.tool) finds.3 are.1.tool in (
+      same_text _ _ _ are.1.from finds.1,
+      are.1.machine ∙ finds.2,
+      tool_read tool adapt.tool range read,
+      are.1.drop ∙ finds.4,
+      are.1.program ∙ finds.5,
+    )
+adapt_asked from machine tool drop program (Some found) (ToList list) range finds are =
+    other_letter (codes "adapt") (codes "list") (sym finds.0 ∙ are.0) (λ letters. omega (arith, letters))
+adapt_asked from machine tool drop program (Some found) (ToCertify certify) range finds are =
+    other_letter (codes "adapt") (codes "certify") (sym finds.0 ∙ are.0) (λ letters. omega (arith, letters))
+adapt_asked from machine tool drop program (Some found) (ToCheck check) range finds are =
+    other_letter (codes "adapt") (codes "check") (sym finds.0 ∙ are.0) (λ letters. omega (arith, letters))
+adapt_asked from machine tool drop program (Some found) (ToDraw draw) range finds are =
+    other_letter (codes "adapt") (codes "draw") (sym finds.0 ∙ are.0) (λ letters. omega (arith, letters))
+adapt_asked from machine tool drop program (Some found) (ToShow show) range finds are =
+    other_letter (codes "adapt") (codes "show") (sym finds.0 ∙ are.0) (λ letters. omega (arith, letters))
+adapt_asked from machine tool drop program (Some found) (ToReport report) range finds are =
+    other_letter (codes "adapt") (codes "report") (sym finds.0 ∙ are.0) (λ letters. omega (arith, letters))
+adapt_asked from machine tool drop program (Some found) (ToMachine made) range finds are =
+    other_letter (codes "adapt") (codes "machine") (sym finds.0 ∙ are.0) (λ letters. omega (arith, letters))
+adapt_asked from machine tool drop program (Some found) (ToExplain number) range finds are =
+    other_letter (codes "adapt") (codes "explain") (sym finds.0 ∙ are.0) (λ letters. omega (arith, letters))
+adapt_asked from machine tool drop program (Some found) (ToHelp command) range finds are =
+    other_letter (codes "adapt") (codes "help") (sym finds.0 ∙ are.0) (λ letters. omega (arith, letters))
+adapt_asked from machine tool drop program (Some found) (ToRun run) range finds are =
+    no_run (codes "adapt") run.recording (sym finds.0 ∙ are.0) (λ three. omega (arith, three)) (λ six. omega (arith, six))
+adapt_asked from machine tool drop program (Some found) (ToRunThrough run) range finds are =
+    no_run (codes "adapt") run.recording (sym finds.0 ∙ are.0) (λ three. omega (arith, three)) (λ six. omega (arith, six))
+adapt_asked from machine tool drop program (Some found) ToVersion range finds are =
+    other_letter (codes "adapt") (codes "version") (sym finds.0 ∙ are) (λ letters. omega (arith, letters))
+
+pub adapt_taken : (words : List Text) (from : Text) (machine : Option Text) (tool : Option ℕ) (drop program : Option Text) → IsToolInRange tool
+    → words ≡ adapt_words from machine tool drop program → IsTaken words
+adapt_taken words from machine tool drop program range spelled = subst IsTaken (sym spelled) (adapt_spells from machine tool drop program range)
+
+pub adapt_read : (words : List Text) (from : Text) (machine : Option Text) (tool : Option ℕ) (drop program : Option Text) (options : Options) →
+    IsToolInRange tool → words ≡ adapt_words from machine tool drop program
+    → AreOptions (subcommand_of ngc_app words) options → AsksForAdapt from machine tool drop program options
+adapt_read words from machine tool drop program options range spelled are =
+    let Are : List Text → Type 0 = λ ws. AreOptions (subcommand_of ngc_app ws) options in
+    adapt_asked from machine tool drop program _ options range (adapt_finds from machine tool drop program) (subst Are spelled are)
+
+-- the values of `machine` that were found are these
+abbrev FindsMachine : MachineSource → Option Text → Option Text → Option Text → Option (Text × List Row) → Type 0
+FindsMachine source corner ticks frame None = ⊥
+FindsMachine source corner ticks frame (Some found) = (found.0 ≡ codes "machine") × (first_of (codes "grbl") found.1 ≡ grbl_in source)
+    × (first_of (codes "steps-per-mm") found.1 ≡ steps_in source) × (first_of (codes "travel") found.1 ≡ travel_in source)
+    × (first_of (codes "feed") found.1 ≡ feed_in source) × (first_of (codes "acceleration") found.1 ≡ acceleration_in source)
+    × (first_of (codes "corner") found.1 ≡ corner) × (first_of (codes "ticks") found.1 ≡ ticks) × (first_of (codes "frame") found.1 ≡ frame)
+    × (first_of (codes "jump") found.1 ≡ None) × (first_of (codes "turn") found.1 ≡ None) × (first_of (codes "start") found.1 ≡ None) × (first_of (codes "home28") found.1 ≡ None) × (first_of (codes "home30") found.1 ≡ None)
+
+machine_spells : (source : MachineSource) (corner ticks frame : Option Text) →
+    Spells (machine_words source corner ticks frame) (FindsMachine source corner ticks frame)
+unfolding clap_on_literals
+machine_spells (FromGrbl file) None None None = (refl, (refl, refl, refl, refl, refl, refl, refl, refl, refl, refl, refl, refl, refl, refl))
+machine_spells (FromGrbl file) None None (Some frame) = (refl, (refl, refl, refl, refl, refl, refl, refl, refl, refl, refl, refl, refl, refl, refl))
+machine_spells (FromGrbl file) None (Some ticks) None = (refl, (refl, refl, refl, refl, refl, refl, refl, refl, refl, refl, refl, refl, refl, refl))
+machine_spells (FromGrbl file) None (Some ticks) (Some frame) = (refl, (refl, refl, refl, refl, refl, refl, refl, refl, refl, refl, refl, refl, refl, refl))
+machine_spells (FromGrbl file) (Some corner) None None = (refl, (refl, refl, refl, refl, refl, refl, refl, refl, refl, refl, refl, refl, refl, refl))
+machine_spells (FromGrbl file) (Some corner) None (Some frame) = (refl, (refl, refl, refl, refl, refl, refl, refl, refl, refl, refl, refl, refl, refl, refl))
+machine_spells (FromGrbl file) (Some corner) (Some ticks) None = (refl, (refl, refl, refl, refl, refl, refl, refl, refl, refl, refl, refl, refl, refl, refl))
+machine_spells (FromGrbl file) (Some corner) (Some ticks) (Some frame) = (refl, (refl, refl, refl, refl, refl, refl, refl, refl, refl, refl, refl, refl, refl, refl))
+machine_spells (FromFigures steps travel feed acceleration) None None None = (refl, (refl, refl, refl, refl, refl, refl, refl, refl, refl, refl, refl, refl, refl, refl))
+machine_spells (FromFigures steps travel feed acceleration) None None (Some frame) = (refl, (refl, refl, refl, refl, refl, refl, refl, refl, refl, refl, refl, refl, refl, refl))
+machine_spells (FromFigures steps travel feed acceleration) None (Some ticks) None = (refl, (refl, refl, refl, refl, refl, refl, refl, refl, refl, refl, refl, refl, refl, refl))
+machine_spells (FromFigures steps travel feed acceleration) None (Some ticks) (Some frame) = (refl, (refl, refl, refl, refl, refl, refl, refl, refl, refl, refl, refl, refl, refl, refl))
+machine_spells (FromFigures steps travel feed acceleration) (Some corner) None None = (refl, (refl, refl, refl, refl, refl, refl, refl, refl, refl, refl, refl, refl, refl, refl))
+machine_spells (FromFigures steps travel feed acceleration) (Some corner) None (Some frame) = (refl, (refl, refl, refl, refl, refl, refl, refl, refl, refl, refl, refl, refl, refl, refl))
+machine_spells (FromFigures steps travel feed acceleration) (Some corner) (Some ticks) None = (refl, (refl, refl, refl, refl, refl, refl, refl, refl, refl, refl, refl, refl, refl, refl))
+machine_spells (FromFigures steps travel feed acceleration) (Some corner) (Some ticks) (Some frame) = (refl, (refl, refl, refl, refl, refl, refl, refl, refl, refl, refl, refl, refl, refl, refl))
+
+machine_asked : (source : MachineSource) (corner ticks frame : Option Text) (found : Option (Text × List Row)) (options : Options)
+    → FindsMachine source corner ticks frame found → AreOptions found options → AsksForMachine source corner ticks frame options
+machine_asked source corner ticks frame None options finds are = absurd finds
+machine_asked source corner ticks frame (Some found) (ToMachine machine) finds are = (
+  are.1.grbl ∙ finds.1,
+  are.1.steps ∙ finds.2,
+  are.1.travel ∙ finds.3,
+  are.1.feed ∙ finds.4,
+  are.1.acceleration ∙ finds.5,
+  are.1.corner ∙ finds.6,
+  are.1.ticks ∙ finds.7,
+  are.1.frame ∙ finds.8,
+  are.1.jump ∙ finds.9,
+  are.1.turn ∙ finds.10,
+  are.1.start ∙ finds.11,
+  are.1.home28 ∙ finds.12,
+  are.1.home30 ∙ finds.13,
+)
+machine_asked source corner ticks frame (Some found) (ToList list) finds are =
+    other_letter (codes "machine") (codes "list") (sym finds.0 ∙ are.0) (λ letters. omega (arith, letters))
+machine_asked source corner ticks frame (Some found) (ToCertify certify) finds are =
+    other_letter (codes "machine") (codes "certify") (sym finds.0 ∙ are.0) (λ letters. omega (arith, letters))
+machine_asked source corner ticks frame (Some found) (ToCheck check) finds are =
+    other_letter (codes "machine") (codes "check") (sym finds.0 ∙ are.0) (λ letters. omega (arith, letters))
+machine_asked source corner ticks frame (Some found) (ToDraw draw) finds are =
+    other_letter (codes "machine") (codes "draw") (sym finds.0 ∙ are.0) (λ letters. omega (arith, letters))
+machine_asked source corner ticks frame (Some found) (ToShow show) finds are =
+    other_letter (codes "machine") (codes "show") (sym finds.0 ∙ are.0) (λ letters. omega (arith, letters))
+machine_asked source corner ticks frame (Some found) (ToReport report) finds are =
+    other_letter (codes "machine") (codes "report") (sym finds.0 ∙ are.0) (λ letters. omega (arith, letters))
+machine_asked source corner ticks frame (Some found) (ToAdapt adapt) finds are =
+    other_letter (codes "machine") (codes "adapt") (sym finds.0 ∙ are.0) (λ letters. omega (arith, letters))
+machine_asked source corner ticks frame (Some found) (ToExplain number) finds are =
+    other_letter (codes "machine") (codes "explain") (sym finds.0 ∙ are.0) (λ letters. omega (arith, letters))
+machine_asked source corner ticks frame (Some found) (ToHelp command) finds are =
+    other_letter (codes "machine") (codes "help") (sym finds.0 ∙ are.0) (λ letters. omega (arith, letters))
+machine_asked source corner ticks frame (Some found) (ToRun run) finds are =
+    no_run (codes "machine") run.recording (sym finds.0 ∙ are.0) (λ three. omega (arith, three)) (λ six. omega (arith, six))
+machine_asked source corner ticks frame (Some found) (ToRunThrough run) finds are =
+    no_run (codes "machine") run.recording (sym finds.0 ∙ are.0) (λ three. omega (arith, three)) (λ six. omega (arith, six))
+machine_asked source corner ticks frame (Some found) ToVersion finds are =
+    other_letter (codes "machine") (codes "version") (sym finds.0 ∙ are) (λ letters. omega (arith, letters))
+
+pub machine_taken : (words : List Text) (source : MachineSource) (corner ticks frame : Option Text) → words ≡ machine_words source corner ticks frame →
+    IsTaken words
+machine_taken words source corner ticks frame spelled = subst IsTaken (sym spelled) (machine_spells source corner ticks frame).0
+
+pub machine_read : (words : List Text) (source : MachineSource) (corner ticks frame : Option Text) (options : Options) →
+    words ≡ machine_words source corner ticks frame
+    → AreOptions (subcommand_of ngc_app words) options → AsksForMachine source corner ticks frame options
+machine_read words source corner ticks frame options spelled are =
+    let Are : List Text → Type 0 = λ ws. AreOptions (subcommand_of ngc_app ws) options in
+    machine_asked source corner ticks frame _ options (machine_spells source corner ticks frame).1 (subst Are spelled are)
 
 -- the command whose help was asked for is this
 abbrev FindsHelp : Option Text → Option (Text × List Row) → Type 0
@@ -619,10 +848,12 @@ help_spells (Some command) among = elim among [
   | inr (inr (inr (inr (inr (inl same))))) ↦ help_on command (codes "draw") same (refl, (refl, refl))
   | inr (inr (inr (inr (inr (inr (inl same)))))) ↦ help_on command (codes "show") same (refl, (refl, refl))
   | inr (inr (inr (inr (inr (inr (inr (inl same))))))) ↦ help_on command (codes "report") same (refl, (refl, refl))
-  | inr (inr (inr (inr (inr (inr (inr (inr (inl same)))))))) ↦ help_on command (codes "explain") same (refl, (refl, refl))
-  | inr (inr (inr (inr (inr (inr (inr (inr (inr (inl same))))))))) ↦ help_on command (codes "help") same (refl, (refl, refl))
-  | inr (inr (inr (inr (inr (inr (inr (inr (inr (inr (inl same)))))))))) ↦ help_on command (codes "version") same (refl, (refl, refl))
-  | inr (inr (inr (inr (inr (inr (inr (inr (inr (inr (inr none)))))))))) ↦ absurd none
+  | inr (inr (inr (inr (inr (inr (inr (inr (inl same)))))))) ↦ help_on command (codes "adapt") same (refl, (refl, refl))
+  | inr (inr (inr (inr (inr (inr (inr (inr (inr (inl same))))))))) ↦ help_on command (codes "machine") same (refl, (refl, refl))
+  | inr (inr (inr (inr (inr (inr (inr (inr (inr (inr (inl same)))))))))) ↦ help_on command (codes "explain") same (refl, (refl, refl))
+  | inr (inr (inr (inr (inr (inr (inr (inr (inr (inr (inr (inl same))))))))))) ↦ help_on command (codes "help") same (refl, (refl, refl))
+  | inr (inr (inr (inr (inr (inr (inr (inr (inr (inr (inr (inr (inl same)))))))))))) ↦ help_on command (codes "version") same (refl, (refl, refl))
+  | inr (inr (inr (inr (inr (inr (inr (inr (inr (inr (inr (inr (inr none)))))))))))) ↦ absurd none
 ]
 
 help_asked : (command : Option Text) (found : Option (Text × List Row)) (options : Options) → FindsHelp command found → AreOptions found options →
@@ -641,6 +872,10 @@ help_asked command (Some found) (ToDraw draw) finds are = other_letter (codes "h
 help_asked command (Some found) (ToShow show) finds are = other_letter (codes "help") (codes "show") (sym finds.0 ∙ are.0) (λ letters. omega (arith, letters))
 help_asked command (Some found) (ToReport report) finds are =
     other_name (codes "help") (codes "report") (sym finds.0 ∙ are.0) (λ lengths. omega (arith, lengths))
+help_asked command (Some found) (ToAdapt adapt) finds are =
+    other_letter (codes "help") (codes "adapt") (sym finds.0 ∙ are.0) (λ letters. omega (arith, letters))
+help_asked command (Some found) (ToMachine made) finds are =
+    other_letter (codes "help") (codes "machine") (sym finds.0 ∙ are.0) (λ letters. omega (arith, letters))
 help_asked command (Some found) (ToExplain number) finds are =
     other_name (codes "help") (codes "explain") (sym finds.0 ∙ are.0) (λ differ. omega (arith, differ))
 help_asked command (Some found) ToVersion finds are = other_name (codes "help") (codes "version") (sym finds.0 ∙ are) (λ differ. omega (arith, differ))
@@ -677,6 +912,10 @@ version_asked (Some found) (ToRunThrough run) finds are =
 version_asked (Some found) (ToDraw draw) finds are = other_name (codes "version") (codes "draw") (sym finds ∙ are.0) (λ lengths. omega (arith, lengths))
 version_asked (Some found) (ToShow show) finds are = other_letter (codes "version") (codes "show") (sym finds ∙ are.0) (λ letters. omega (arith, letters))
 version_asked (Some found) (ToReport report) finds are = other_name (codes "version") (codes "report") (sym finds ∙ are.0) (λ lengths. omega (arith, lengths))
+version_asked (Some found) (ToAdapt adapt) finds are =
+    other_letter (codes "version") (codes "adapt") (sym finds ∙ are.0) (λ letters. omega (arith, letters))
+version_asked (Some found) (ToMachine made) finds are =
+    other_letter (codes "version") (codes "machine") (sym finds ∙ are.0) (λ letters. omega (arith, letters))
 version_asked (Some found) (ToExplain number) finds are = other_letter (codes "version") (codes "explain") (sym finds ∙ are.0) (λ differ. omega (arith, differ))
 version_asked (Some found) (ToHelp command) finds are = other_name (codes "version") (codes "help") (sym finds ∙ are.0) (λ differ. omega (arith, differ))
 

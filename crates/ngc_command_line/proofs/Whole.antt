@@ -12,13 +12,14 @@ use Rattle.clap.specs.Simple.{built, entered, label_of, names_of, new_shape, row
 use Rattle.clap.specs.Walk.{answers_to, nothing_held, rows_after, stop_after}
 use Rattle.ngc_command_line.specs.CommandLine.{ngc_app}
 use Rattle.ngc_command_line.specs.CommandLine.{run_name}
-use Rattle.ngc_command_line.specs.Meant.{HasCertifyValues, HasCheckValues, HasDrawValues, HasExplainValues, HasReportValues, HasRunValues, HasShowValues}
+use Rattle.ngc_command_line.specs.Meant.{HasAdaptValues, HasCertifyValues, HasCheckValues, HasDrawValues, HasExplainValues}
+use Rattle.ngc_command_line.specs.Meant.{HasReportValues, HasRunValues, HasShowValues}
 use Rattle.ngc_command_line.specs.Meant.{IsTaken, IsWhole}
 use Rattle.ngc_command_line.specs.declared.options.Recording.{Recording}
 use Rattle.ngc_command_line.specs.declared.options.Recording.TheVariants.{Log, Pulses}
 use Rattle.ngc_command_line.proofs.Filled.{AreSound}
-use Rattle.ngc_command_line.proofs.Rules.{Fits, FitsCuts, FitsFormat, FitsNumber, below_passes, cuts_fit, flag_is_sound, format_fits, found_fits}
-use Rattle.ngc_command_line.proofs.Rules.{given_has_value, help_is_sound, is_true, level_is_filled, neither_true, number_fits, set_is_sound}
+use Rattle.ngc_command_line.proofs.Rules.{Fits, FitsCuts, FitsFormat, FitsNumber, FitsTool, below_passes, cuts_fit, flag_is_sound, format_fits, found_fits}
+use Rattle.ngc_command_line.proofs.Rules.{given_has_value, help_is_sound, is_true, level_is_filled, neither_true, number_fits, set_is_sound, tool_fits}
 
 -- what was found are the rows of one of these, at words in which it finds no fault
 abbrev IsOneOf : List Shape → Text × List Row → Type 0
@@ -64,8 +65,11 @@ show_shape = slice_index_or (built ngc_app).subs 6 (new_shape [])
 abbrev report_shape : Shape
 report_shape = slice_index_or (built ngc_app).subs 7 (new_shape [])
 
+abbrev adapt_shape : Shape
+adapt_shape = slice_index_or (built ngc_app).subs 8 (new_shape [])
+
 abbrev explain_shape : Shape
-explain_shape = slice_index_or (built ngc_app).subs 8 (new_shape [])
+explain_shape = slice_index_or (built ngc_app).subs 10 (new_shape [])
 
 explain_sound : AreSound FitsNumber explain_shape.rules
 explain_sound =
@@ -221,6 +225,25 @@ report_values words none =
       found_fits (codes "cuts") (IsUnsignedIn 1 65535) rows filled,
     )
 
+no_tool : (id text : Text) → bytes_eq id (codes "tool") ≡ false → FitsTool id text
+no_tool = other_fits (codes "tool") (IsUnsignedIn 1 9999)
+
+adapt_sound : AreSound FitsTool adapt_shape.rules
+adapt_sound =
+    let from = set_is_sound FitsTool _ refl refl refl (λ v none. no_tool (codes "from") v refl) in
+    let machine = set_is_sound FitsTool _ refl refl refl (λ v none. no_tool (codes "machine") v refl) in
+    let tool = set_is_sound FitsTool _ refl refl refl (λ v none same. tool_fits v none) in
+    let drop = set_is_sound FitsTool _ refl refl refl (λ v none. no_tool (codes "drop") v refl) in
+    let program = set_is_sound FitsTool _ refl refl refl (λ v none. no_tool (codes "program") v refl) in
+    (from, (machine, (tool, (drop, (program, (help_is_sound FitsTool _ refl refl, tt))))))
+
+adapt_values : (words : List Text) → level_fault adapt_shape [] nothing_held words false [] ≡ [] → HasAdaptValues (rows_after adapt_shape.rules [] words)
+adapt_values words none =
+    let rows = rows_after adapt_shape.rules [] words in
+    let (filled, required) = level_is_filled FitsTool adapt_shape adapt_sound words none in
+    let (from, rest) = neither_true _ _ required in
+    (given_has_value FitsTool (codes "from") rows filled (is_true _ from), found_fits (codes "tool") (IsUnsignedIn 1 9999) rows filled)
+
 explain_values : (words : List Text) → level_fault explain_shape [] nothing_held words false [] ≡ [] →
     HasExplainValues (rows_after explain_shape.rules [] words)
 explain_values words none =
@@ -257,6 +280,7 @@ one_whole found one = elim one [
     draw = λ same. other_letter (codes "list") (codes "draw") same (λ letters. omega (arith, letters));
     show = λ same. other_letter (codes "list") (codes "show") same (λ letters. omega (arith, letters));
     report = λ same. other_name (codes "list") (codes "report") same (λ lengths. omega (arith, lengths));
+    adapt = λ same. other_letter (codes "list") (codes "adapt") same (λ letters. omega (arith, letters));
     explain = λ same. other_name (codes "list") (codes "explain") same (λ lengths. omega (arith, lengths));
   })
   | inr (inl certify) ↦ subst (λ (f : Text × List Row). IsWhole f.0 f.1) certify.1 (record {
@@ -267,6 +291,7 @@ one_whole found one = elim one [
     draw = λ same. other_name (codes "certify") (codes "draw") same (λ lengths. omega (arith, lengths));
     show = λ same. other_letter (codes "certify") (codes "show") same (λ letters. omega (arith, letters));
     report = λ same. other_name (codes "certify") (codes "report") same (λ lengths. omega (arith, lengths));
+    adapt = λ same. other_letter (codes "certify") (codes "adapt") same (λ letters. omega (arith, letters));
     explain = λ same. other_letter (codes "certify") (codes "explain") same (λ letters. omega (arith, letters));
   })
   | inr (inr (inl check)) ↦ subst (λ (f : Text × List Row). IsWhole f.0 f.1) check.1 (record {
@@ -277,6 +302,7 @@ one_whole found one = elim one [
     draw = λ same. other_name (codes "check") (codes "draw") same (λ lengths. omega (arith, lengths));
     show = λ same. other_letter (codes "check") (codes "show") same (λ letters. omega (arith, letters));
     report = λ same. other_name (codes "check") (codes "report") same (λ lengths. omega (arith, lengths));
+    adapt = λ same. other_letter (codes "check") (codes "adapt") same (λ letters. omega (arith, letters));
     explain = λ same. other_name (codes "check") (codes "explain") same (λ lengths. omega (arith, lengths));
   })
   | inr (inr (inr (inl run))) ↦ subst (λ (f : Text × List Row). IsWhole f.0 f.1) run.1 (record {
@@ -287,6 +313,7 @@ one_whole found one = elim one [
     draw = λ same. other_name (codes "run") (codes "draw") same (λ lengths. omega (arith, lengths));
     show = λ same. other_letter (codes "run") (codes "show") same (λ letters. omega (arith, letters));
     report = λ same. other_name (codes "run") (codes "report") same (λ lengths. omega (arith, lengths));
+    adapt = λ same. other_letter (codes "run") (codes "adapt") same (λ letters. omega (arith, letters));
     explain = λ same. other_name (codes "run") (codes "explain") same (λ lengths. omega (arith, lengths));
   })
   | inr (inr (inr (inr (inl pulses)))) ↦ subst (λ (f : Text × List Row). IsWhole f.0 f.1) pulses.1 (record {
@@ -297,6 +324,7 @@ one_whole found one = elim one [
     draw = λ same. other_name (codes "pulses") (codes "draw") same (λ lengths. omega (arith, lengths));
     show = λ same. other_letter (codes "pulses") (codes "show") same (λ letters. omega (arith, letters));
     report = λ same. other_letter (codes "pulses") (codes "report") same (λ letters. omega (arith, letters));
+    adapt = λ same. other_letter (codes "pulses") (codes "adapt") same (λ letters. omega (arith, letters));
     explain = λ same. other_name (codes "pulses") (codes "explain") same (λ lengths. omega (arith, lengths));
   })
   | inr (inr (inr (inr (inr (inl draw))))) ↦ subst (λ (f : Text × List Row). IsWhole f.0 f.1) draw.1 (record {
@@ -307,6 +335,7 @@ one_whole found one = elim one [
     draw = λ same. draw_values draw.0 draw.2;
     show = λ same. other_letter (codes "draw") (codes "show") same (λ letters. omega (arith, letters));
     report = λ same. other_name (codes "draw") (codes "report") same (λ lengths. omega (arith, lengths));
+    adapt = λ same. other_letter (codes "draw") (codes "adapt") same (λ letters. omega (arith, letters));
     explain = λ same. other_name (codes "draw") (codes "explain") same (λ lengths. omega (arith, lengths));
   })
   | inr (inr (inr (inr (inr (inr (inl show)))))) ↦ subst (λ (f : Text × List Row). IsWhole f.0 f.1) show.1 (record {
@@ -317,6 +346,7 @@ one_whole found one = elim one [
     draw = λ same. other_letter (codes "show") (codes "draw") same (λ letters. omega (arith, letters));
     show = λ same. show_values show.0 show.2;
     report = λ same. other_name (codes "show") (codes "report") same (λ lengths. omega (arith, lengths));
+    adapt = λ same. other_letter (codes "show") (codes "adapt") same (λ letters. omega (arith, letters));
     explain = λ same. other_letter (codes "show") (codes "explain") same (λ letters. omega (arith, letters));
   })
   | inr (inr (inr (inr (inr (inr (inr (inl report))))))) ↦ subst (λ (f : Text × List Row). IsWhole f.0 f.1) report.1 (record {
@@ -327,39 +357,65 @@ one_whole found one = elim one [
     draw = λ same. other_name (codes "report") (codes "draw") same (λ lengths. omega (arith, lengths));
     show = λ same. other_name (codes "report") (codes "show") same (λ lengths. omega (arith, lengths));
     report = λ same. report_values report.0 report.2;
+    adapt = λ same. other_letter (codes "report") (codes "adapt") same (λ letters. omega (arith, letters));
     explain = λ same. other_name (codes "report") (codes "explain") same (λ lengths. omega (arith, lengths));
   })
-  | inr (inr (inr (inr (inr (inr (inr (inr (inl explain)))))))) ↦ subst (λ (f : Text × List Row). IsWhole f.0 f.1) explain.1 (record {
+  | inr (inr (inr (inr (inr (inr (inr (inr (inl adapt)))))))) ↦ subst (λ (f : Text × List Row). IsWhole f.0 f.1) adapt.1 (record {
     named = inr (inr (inr (inr (inr (inr (inr (inr (inl refl))))))));
+    certify = λ same. other_letter (codes "adapt") (codes "certify") same (λ letters. omega (arith, letters));
+    check = λ same. other_letter (codes "adapt") (codes "check") same (λ letters. omega (arith, letters));
+    run = λ recording same. no_run (codes "adapt") recording same (λ three. omega (arith, three)) (λ six. omega (arith, six));
+    draw = λ same. other_letter (codes "adapt") (codes "draw") same (λ letters. omega (arith, letters));
+    show = λ same. other_letter (codes "adapt") (codes "show") same (λ letters. omega (arith, letters));
+    report = λ same. other_letter (codes "adapt") (codes "report") same (λ letters. omega (arith, letters));
+    adapt = λ same. adapt_values adapt.0 adapt.2;
+    explain = λ same. other_letter (codes "adapt") (codes "explain") same (λ letters. omega (arith, letters));
+  })
+  | inr (inr (inr (inr (inr (inr (inr (inr (inr (inl machine))))))))) ↦ subst (λ (f : Text × List Row). IsWhole f.0 f.1) machine.1 (record {
+    named = inr (inr (inr (inr (inr (inr (inr (inr (inr (inl refl)))))))));
+    certify = λ same. other_letter (codes "machine") (codes "certify") same (λ letters. omega (arith, letters));
+    check = λ same. other_letter (codes "machine") (codes "check") same (λ letters. omega (arith, letters));
+    run = λ recording same. no_run (codes "machine") recording same (λ three. omega (arith, three)) (λ six. omega (arith, six));
+    draw = λ same. other_letter (codes "machine") (codes "draw") same (λ letters. omega (arith, letters));
+    show = λ same. other_letter (codes "machine") (codes "show") same (λ letters. omega (arith, letters));
+    report = λ same. other_letter (codes "machine") (codes "report") same (λ letters. omega (arith, letters));
+    adapt = λ same. other_letter (codes "machine") (codes "adapt") same (λ letters. omega (arith, letters));
+    explain = λ same. other_letter (codes "machine") (codes "explain") same (λ letters. omega (arith, letters));
+  })
+  | inr (inr (inr (inr (inr (inr (inr (inr (inr (inr (inl explain)))))))))) ↦ subst (λ (f : Text × List Row). IsWhole f.0 f.1) explain.1 (record {
+    named = inr (inr (inr (inr (inr (inr (inr (inr (inr (inr (inl refl))))))))));
     certify = λ same. other_letter (codes "explain") (codes "certify") same (λ letters. omega (arith, letters));
     check = λ same. other_name (codes "explain") (codes "check") same (λ lengths. omega (arith, lengths));
     run = λ recording same. no_run (codes "explain") recording same (λ three. omega (arith, three)) (λ six. omega (arith, six));
     draw = λ same. other_name (codes "explain") (codes "draw") same (λ lengths. omega (arith, lengths));
     show = λ same. other_letter (codes "explain") (codes "show") same (λ letters. omega (arith, letters));
     report = λ same. other_name (codes "explain") (codes "report") same (λ lengths. omega (arith, lengths));
+    adapt = λ same. other_letter (codes "explain") (codes "adapt") same (λ letters. omega (arith, letters));
     explain = λ same. explain_values explain.0 explain.2;
   })
-  | inr (inr (inr (inr (inr (inr (inr (inr (inr (inl help))))))))) ↦ subst (λ (f : Text × List Row). IsWhole f.0 f.1) help.1 (record {
-    named = inr (inr (inr (inr (inr (inr (inr (inr (inr (inl refl)))))))));
+  | inr (inr (inr (inr (inr (inr (inr (inr (inr (inr (inr (inl help))))))))))) ↦ subst (λ (f : Text × List Row). IsWhole f.0 f.1) help.1 (record {
+    named = inr (inr (inr (inr (inr (inr (inr (inr (inr (inr (inr (inl refl)))))))))));
     certify = λ same. other_name (codes "help") (codes "certify") same (λ lengths. omega (arith, lengths));
     check = λ same. other_name (codes "help") (codes "check") same (λ lengths. omega (arith, lengths));
     run = λ recording same. no_run (codes "help") recording same (λ three. omega (arith, three)) (λ six. omega (arith, six));
     draw = λ same. other_letter (codes "help") (codes "draw") same (λ letters. omega (arith, letters));
     show = λ same. other_letter (codes "help") (codes "show") same (λ letters. omega (arith, letters));
     report = λ same. other_name (codes "help") (codes "report") same (λ lengths. omega (arith, lengths));
+    adapt = λ same. other_letter (codes "help") (codes "adapt") same (λ letters. omega (arith, letters));
     explain = λ same. other_name (codes "help") (codes "explain") same (λ lengths. omega (arith, lengths));
   })
-  | inr (inr (inr (inr (inr (inr (inr (inr (inr (inr (inl version)))))))))) ↦ subst (λ (f : Text × List Row). IsWhole f.0 f.1) version.1 (record {
-    named = inr (inr (inr (inr (inr (inr (inr (inr (inr (inr (inl refl))))))))));
+  | inr (inr (inr (inr (inr (inr (inr (inr (inr (inr (inr (inr (inl version)))))))))))) ↦ subst (λ (f : Text × List Row). IsWhole f.0 f.1) version.1 (record {
+    named = inr (inr (inr (inr (inr (inr (inr (inr (inr (inr (inr (inr (inl refl))))))))))));
     certify = λ same. other_letter (codes "version") (codes "certify") same (λ letters. omega (arith, letters));
     check = λ same. other_name (codes "version") (codes "check") same (λ lengths. omega (arith, lengths));
     run = λ recording same. no_run (codes "version") recording same (λ three. omega (arith, three)) (λ six. omega (arith, six));
     draw = λ same. other_name (codes "version") (codes "draw") same (λ lengths. omega (arith, lengths));
     show = λ same. other_letter (codes "version") (codes "show") same (λ letters. omega (arith, letters));
     report = λ same. other_name (codes "version") (codes "report") same (λ lengths. omega (arith, lengths));
+    adapt = λ same. other_letter (codes "version") (codes "adapt") same (λ letters. omega (arith, letters));
     explain = λ same. other_letter (codes "version") (codes "explain") same (λ letters. omega (arith, letters));
   })
-  | inr (inr (inr (inr (inr (inr (inr (inr (inr (inr (inr none)))))))))) ↦ absurd none
+  | inr (inr (inr (inr (inr (inr (inr (inr (inr (inr (inr (inr (inr none)))))))))))) ↦ absurd none
 ]
 
 -- the subcommand that taken words name

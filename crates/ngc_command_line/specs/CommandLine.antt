@@ -86,6 +86,27 @@ report_app = fold with_rule (new_app (codes "report"))
     (required_file (codes "machine") ∷ required_file (codes "tools")
     ∷ file_option (codes "program") ∷ cuts_option ∷ flag (codes "all") ∷ flag (codes "json") ∷ [])
 
+-- `--tool N`, with a number from 1 to 9,999
+abbrev pub tool_option : Rule
+tool_option = record (file_option (codes "tool")) { parser = Some (Unsigned 1 9999) }
+
+-- `adapt --from CONTROL [--machine FILE] [--tool N] [--drop CODES] [--program FILE]`
+abbrev pub adapt_app : App
+adapt_app = fold with_rule (new_app (codes "adapt"))
+    (required_file (codes "from") ∷ file_option (codes "machine") ∷ tool_option
+    ∷ file_option (codes "drop") ∷ file_option (codes "program") ∷ [])
+
+-- `machine [--grbl FILE] [--steps-per-mm N] [--travel X,Y,Z] [--feed X,Y,Z] [--acceleration X,Y,Z]`
+-- and `[--corner SPEED] [--ticks N] [--frame END] [--jump SPEED] [--turn ACCELERATION]
+-- [--start X,Y,Z] [--home28 X,Y,Z] [--home30 X,Y,Z]`
+abbrev pub machine_app : App
+machine_app = fold with_rule (new_app (codes "machine"))
+    (file_option (codes "grbl") ∷ file_option (codes "steps-per-mm") ∷ file_option (codes "travel")
+    ∷ file_option (codes "feed") ∷ file_option (codes "acceleration")
+    ∷ file_option (codes "corner") ∷ file_option (codes "ticks") ∷ file_option (codes "frame")
+    ∷ file_option (codes "jump") ∷ file_option (codes "turn") ∷ file_option (codes "start")
+    ∷ file_option (codes "home28") ∷ file_option (codes "home30") ∷ [])
+
 -- `N`, a number from 1 to 999, which may not be left out
 abbrev pub number_argument : Rule
 number_argument = record (new_rule (codes "number")) {
@@ -118,12 +139,13 @@ ngc_settings = let bare : App = new_app (codes "ngc") in record bare {
 }
 
 -- the program's commands: those that list a program, and make and check its certificate; those that
--- run it, and show it; and those that read no file
+-- run it, show it, adapt it, and make a machine file; and those that read no file
 abbrev pub certifying_shapes : List Shape
 certifying_shapes = list_app.top ∷ certify_app.top ∷ check_app.top ∷ []
 
 abbrev pub running_shapes : List Shape
-running_shapes = run_app.top ∷ pulses_app.top ∷ draw_app.top ∷ show_app.top ∷ report_app.top ∷ []
+running_shapes = run_app.top ∷ pulses_app.top ∷ draw_app.top ∷ show_app.top ∷ report_app.top
+    ∷ adapt_app.top ∷ machine_app.top ∷ []
 
 abbrev pub guide_shapes : List Shape
 guide_shapes = explain_app.top ∷ help_app.top ∷ (new_app (codes "version")).top ∷ []
@@ -196,6 +218,35 @@ report_words machine tools program cuts all json = codes "report"
     ∷ (codes "--machine=" ++ machine) ∷ (codes "--tools=" ++ tools)
     ∷ (file_words (codes "--program=") program ++ cuts_words cuts
     ++ flag_words (codes "--all") all ++ flag_words (codes "--json") json)
+
+-- the one word `--tool=N`, where there is a number
+abbrev pub tool_words : Option ℕ → List Text
+tool_words None = []
+tool_words (Some tool) = (codes "--tool=" ++ decimal tool) ∷ []
+
+-- the words of `ngc adapt` with these options, in one spelling
+abbrev pub adapt_words : Text → Option Text → Option ℕ → Option Text → Option Text → List Text
+adapt_words from machine tool drop program = codes "adapt" ∷ (codes "--from=" ++ from)
+    ∷ (file_words (codes "--machine=") machine ++ tool_words tool
+    ++ file_words (codes "--drop=") drop ++ file_words (codes "--program=") program)
+
+-- where the figures of a machine come from: a dump of GRBL's settings, or steps, travel, feed and
+-- acceleration
+pub data MachineSource : Type 0 where
+  FromGrbl : (file : Text) → MachineSource
+  FromFigures : (steps travel feed acceleration : Text) → MachineSource
+
+abbrev pub source_words : MachineSource → List Text
+source_words (FromGrbl file) = (codes "--grbl=" ++ file) ∷ []
+source_words (FromFigures steps travel feed acceleration) =
+    (codes "--steps-per-mm=" ++ steps) ∷ (codes "--travel=" ++ travel)
+    ∷ (codes "--feed=" ++ feed) ∷ (codes "--acceleration=" ++ acceleration) ∷ []
+
+-- the words of `ngc machine` with these options, in one spelling
+abbrev pub machine_words : MachineSource → Option Text → Option Text → Option Text → List Text
+machine_words source corner ticks frame = codes "machine"
+    ∷ (source_words source ++ file_words (codes "--corner=") corner
+    ++ file_words (codes "--ticks=") ticks ++ file_words (codes "--frame=") frame)
 
 -- the words of `ngc run` or `ngc pulses` with these options, in one spelling
 abbrev pub run_words : Recording → Text → Text → Text → Option Text → Option Text → Bool → List Text

@@ -5,13 +5,15 @@ use Rattle.std.specs.Str.{bytes_eq}
 use Rattle.std.specs.Str.Parse.{IsNumeral, digits_value, without_leading_plus}
 use Rattle.std.specs.Option.{option_map_or}
 use Rattle.clap.specs.Words.{IsUnsignedIn, Row, Shape, Text, fault_of, first_of}
-use Rattle.ngc_command_line.specs.CommandLine.{ngc_app, run_name}
+use Rattle.ngc_command_line.specs.CommandLine.{MachineSource, FromGrbl, FromFigures, ngc_app, run_name}
+use Rattle.ngc_command_line.specs.declared.options.AdaptOptions.{AdaptOptions}
 use Rattle.ngc_command_line.specs.declared.options.CertifyOptions.{CertifyOptions}
 use Rattle.ngc_command_line.specs.declared.options.CheckOptions.{CheckOptions}
 use Rattle.ngc_command_line.specs.declared.options.DrawOptions.{DrawOptions}
 use Rattle.ngc_command_line.specs.declared.options.Format.{Format}
 use Rattle.ngc_command_line.specs.declared.options.Format.TheVariants.{One, Two}
 use Rattle.ngc_command_line.specs.declared.options.ListOptions.{ListOptions}
+use Rattle.ngc_command_line.specs.declared.options.MachineOptions.{MachineOptions}
 use Rattle.ngc_command_line.specs.declared.options.Recording.{Recording}
 use Rattle.ngc_command_line.specs.declared.options.ReportOptions.{ReportOptions}
 use Rattle.ngc_command_line.specs.declared.options.RunOptions.{RunOptions}
@@ -25,6 +27,7 @@ use Rattle.ngc_command_line.specs.declared.options.Options.TheVariants.{Run as T
 use Rattle.ngc_command_line.specs.declared.options.Options.TheVariants.{RunThrough as ToRunThrough}
 use Rattle.ngc_command_line.specs.declared.options.Options.TheVariants.{Draw as ToDraw}
 use Rattle.ngc_command_line.specs.declared.options.Options.TheVariants.{Show as ToShow}
+use Rattle.ngc_command_line.specs.declared.options.Options.TheVariants.{Adapt as ToAdapt, Machine as ToMachine}
 use Rattle.ngc_command_line.specs.declared.options.Options.TheVariants.{Explain as ToExplain}
 use Rattle.ngc_command_line.specs.declared.options.Options.TheVariants.{Help as ToHelp}
 use Rattle.ngc_command_line.specs.declared.options.Options.TheVariants.{Report as ToReport}
@@ -138,6 +141,39 @@ pub record AreReportOptions (rows : List Row) (options : ReportOptions) : Type 0
   pub all : options.all ≡ is_set (codes "all") rows
   pub json : options.json ≡ is_set (codes "json") rows
 
+-- the number of a tool: none where no text is given, else the number from 1 to 9,999 whose decimal
+-- the text is; a plus sign may stand before it
+abbrev pub IsTool : Option Text → Option ℕ → Type 0
+IsTool None None = Unit {0}
+IsTool None (Some tool) = ⊥
+IsTool (Some text) None = ⊥
+IsTool (Some text) (Some tool) = IsNumeral 10 (without_leading_plus text)
+    × (tool ≡ digits_value 10 (without_leading_plus text)) × (1 ≤ tool) × (tool ≤ 9999)
+
+-- each option of `adapt` by the first value that was found under its own name
+pub record AreAdaptOptions (rows : List Row) (options : AdaptOptions) : Type 0 where
+  pub from : Some options.from.now ≡ first_of (codes "from") rows
+  pub machine : option_map (λ name. name.now) options.machine ≡ first_of (codes "machine") rows
+  pub tool : IsTool (first_of (codes "tool") rows) options.tool
+  pub drop : option_map (λ name. name.now) options.drop ≡ first_of (codes "drop") rows
+  pub program : option_map (λ name. name.now) options.program ≡ first_of (codes "program") rows
+
+-- each option of `machine` by the first value that was found under its own name
+pub record AreMachineOptions (rows : List Row) (options : MachineOptions) : Type 0 where
+  pub grbl : option_map (λ name. name.now) options.grbl ≡ first_of (codes "grbl") rows
+  pub steps : option_map (λ name. name.now) options.steps ≡ first_of (codes "steps-per-mm") rows
+  pub travel : option_map (λ name. name.now) options.travel ≡ first_of (codes "travel") rows
+  pub feed : option_map (λ name. name.now) options.feed ≡ first_of (codes "feed") rows
+  pub acceleration : option_map (λ name. name.now) options.acceleration ≡ first_of (codes "acceleration") rows
+  pub corner : option_map (λ name. name.now) options.corner ≡ first_of (codes "corner") rows
+  pub ticks : option_map (λ name. name.now) options.ticks ≡ first_of (codes "ticks") rows
+  pub frame : option_map (λ name. name.now) options.frame ≡ first_of (codes "frame") rows
+  pub jump : option_map (λ name. name.now) options.jump ≡ first_of (codes "jump") rows
+  pub turn : option_map (λ name. name.now) options.turn ≡ first_of (codes "turn") rows
+  pub start : option_map (λ name. name.now) options.start ≡ first_of (codes "start") rows
+  pub home28 : option_map (λ name. name.now) options.home28 ≡ first_of (codes "home28") rows
+  pub home30 : option_map (λ name. name.now) options.home30 ≡ first_of (codes "home30") rows
+
 -- a value was found under the name
 abbrev pub HasValue : Text → List Row → Type 0
 HasValue name rows = is_some (first_of name rows) ≡ true
@@ -171,6 +207,11 @@ abbrev pub HasReportValues : List Row → Type 0
 HasReportValues rows = HasValue (codes "machine") rows × HasValue (codes "tools") rows
     × IfSome (first_of (codes "cuts") rows) (IsUnsignedIn 1 65535)
 
+-- what is found for `adapt` where the words are taken
+abbrev pub HasAdaptValues : List Row → Type 0
+HasAdaptValues rows = HasValue (codes "from") rows
+    × IfSome (first_of (codes "tool") rows) (IsUnsignedIn 1 9999)
+
 -- what is found for `explain` where the words are taken
 abbrev pub HasExplainValues : List Row → Type 0
 HasExplainValues rows = HasValue (codes "number") rows
@@ -190,6 +231,7 @@ pub record IsWhole (name : Text) (rows : List Row) : Type 0 where
   pub draw : name ≡ codes "draw" → HasDrawValues rows
   pub show : name ≡ codes "show" → HasShowValues rows
   pub report : name ≡ codes "report" → HasReportValues rows
+  pub adapt : name ≡ codes "adapt" → HasAdaptValues rows
   pub explain : name ≡ codes "explain" → HasExplainValues rows
 
 -- the options are those of the subcommand that was found, and there is one
@@ -206,6 +248,9 @@ AreOptions (Some found) (ToDraw draw) = (found.0 ≡ codes "draw") × AreDrawOpt
 AreOptions (Some found) (ToShow show) = (found.0 ≡ codes "show") × AreShowOptions found.1 show
 AreOptions (Some found) (ToReport report) =
     (found.0 ≡ codes "report") × AreReportOptions found.1 report
+AreOptions (Some found) (ToAdapt adapt) = (found.0 ≡ codes "adapt") × AreAdaptOptions found.1 adapt
+AreOptions (Some found) (ToMachine machine) =
+    (found.0 ≡ codes "machine") × AreMachineOptions found.1 machine
 AreOptions (Some found) (ToExplain number) =
     (found.0 ≡ codes "explain") × IsNumber (first_of (codes "number") found.1) number
 AreOptions (Some found) (ToHelp command) = (found.0 ≡ codes "help")
@@ -274,6 +319,54 @@ AsksForReport machine tools program cuts all json (ToReport report) =
     × (report.cuts ≡ unwrap_or cuts 8) × (report.all ≡ all) × (report.json ≡ json)
 AsksForReport machine tools program cuts all json other = ⊥
 
+-- `adapt` is asked for, with these options
+abbrev pub AsksForAdapt : Text → Option Text → Option ℕ → Option Text → Option Text →
+    Options → Type 0
+AsksForAdapt from machine tool drop program (ToAdapt adapt) =
+    (adapt.from.now ≡ from) × (option_map (λ name. name.now) adapt.machine ≡ machine)
+    × (adapt.tool ≡ tool) × (option_map (λ name. name.now) adapt.drop ≡ drop)
+    × (option_map (λ name. name.now) adapt.program ≡ program)
+AsksForAdapt from machine tool drop program other = ⊥
+
+abbrev pub grbl_in : MachineSource → Option Text
+grbl_in (FromGrbl file) = Some file
+grbl_in (FromFigures steps travel feed acceleration) = None
+
+abbrev pub steps_in : MachineSource → Option Text
+steps_in (FromGrbl file) = None
+steps_in (FromFigures steps travel feed acceleration) = Some steps
+
+abbrev pub travel_in : MachineSource → Option Text
+travel_in (FromGrbl file) = None
+travel_in (FromFigures steps travel feed acceleration) = Some travel
+
+abbrev pub feed_in : MachineSource → Option Text
+feed_in (FromGrbl file) = None
+feed_in (FromFigures steps travel feed acceleration) = Some feed
+
+abbrev pub acceleration_in : MachineSource → Option Text
+acceleration_in (FromGrbl file) = None
+acceleration_in (FromFigures steps travel feed acceleration) = Some acceleration
+
+-- `machine` is asked for, with these options
+abbrev pub AsksForMachine : MachineSource → Option Text → Option Text → Option Text →
+    Options → Type 0
+AsksForMachine source corner ticks frame (ToMachine machine) =
+    (option_map (λ name. name.now) machine.grbl ≡ grbl_in source)
+    × (option_map (λ name. name.now) machine.steps ≡ steps_in source)
+    × (option_map (λ name. name.now) machine.travel ≡ travel_in source)
+    × (option_map (λ name. name.now) machine.feed ≡ feed_in source)
+    × (option_map (λ name. name.now) machine.acceleration ≡ acceleration_in source)
+    × (option_map (λ name. name.now) machine.corner ≡ corner)
+    × (option_map (λ name. name.now) machine.ticks ≡ ticks)
+    × (option_map (λ name. name.now) machine.frame ≡ frame)
+    × (option_map (λ name. name.now) machine.jump ≡ None)
+    × (option_map (λ name. name.now) machine.turn ≡ None)
+    × (option_map (λ name. name.now) machine.start ≡ None)
+    × (option_map (λ name. name.now) machine.home28 ≡ None)
+    × (option_map (λ name. name.now) machine.home30 ≡ None)
+AsksForMachine source corner ticks frame other = ⊥
+
 -- `help` is asked for, of this command
 abbrev pub AsksForHelp : Option Text → Options → Type 0
 AsksForHelp command (ToHelp asked) = option_map (λ name. name.now) asked ≡ command
@@ -286,6 +379,10 @@ AreCommands command = IfSome command (IsNameAmong ngc_app.subs)
 -- the number of cuts, where one is given, is from 1 to 65,535
 abbrev pub AreCutsInRange : Option ℕ → Type 0
 AreCutsInRange cuts = IfSome cuts (λ number. (1 ≤ number) × (number ≤ 65535))
+
+-- the number of a tool, where one is given, is from 1 to 9,999
+abbrev pub IsToolInRange : Option ℕ → Type 0
+IsToolInRange tool = IfSome tool (λ number. (1 ≤ number) × (number ≤ 9999))
 
 -- the table of numbers
 abbrev pub usage_fault_number : UsageFault → ℕ

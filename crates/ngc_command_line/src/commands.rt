@@ -5,6 +5,7 @@ ghost use Rattle.clap.specs.Words.{app_of, with_subcommand};
 ghost use Rattle.ngc_command_line.specs.CommandLine.{ngc_app, ngc_settings};
 ghost use Rattle.ngc_command_line.specs.Rows.{app_for, app_named, shape_named};
 
+use crate::adapt::ADAPT;
 use crate::arguments::help_end;
 use crate::certify::CERTIFY;
 use crate::check::CHECK;
@@ -12,6 +13,7 @@ use crate::draw::DRAW;
 use crate::explain::EXPLAIN;
 use crate::guide::{HELP, VERSION};
 use crate::list::LIST;
+use crate::machine::MACHINE;
 use crate::report::REPORT;
 use crate::run::{PULSES, RUN};
 use crate::show::SHOW;
@@ -28,13 +30,15 @@ enum Subcommand {
     Draw,
     Show,
     Report,
+    Adapt,
+    Machine,
     Explain,
     Help,
     Version,
 }
 
 // In the order of the help.
-const SUBCOMMANDS: [Subcommand; 11] = [
+const SUBCOMMANDS: [Subcommand; 13] = [
     Subcommand::List,
     Subcommand::Certify,
     Subcommand::Check,
@@ -43,6 +47,8 @@ const SUBCOMMANDS: [Subcommand; 11] = [
     Subcommand::Draw,
     Subcommand::Show,
     Subcommand::Report,
+    Subcommand::Adapt,
+    Subcommand::Machine,
     Subcommand::Explain,
     Subcommand::Help,
     Subcommand::Version,
@@ -61,6 +67,8 @@ fn row_named(subcommand: &Subcommand) -> &'static SubcommandRow<'static>
         Subcommand::Draw => &DRAW,
         Subcommand::Show => &SHOW,
         Subcommand::Report => &REPORT,
+        Subcommand::Adapt => &ADAPT,
+        Subcommand::Machine => &MACHINE,
         Subcommand::Explain => &EXPLAIN,
         Subcommand::Help => &HELP,
         Subcommand::Version => &VERSION,

@@ -11,13 +11,16 @@ ghost use Rattle.clap.specs.Walk.{texts};
 ghost use Rattle.ngc_command_line.specs.CommandLine.{certify_words, check_words, draw_words};
 ghost use Rattle.ngc_command_line.specs.CommandLine.{help_words, list_words, show_words};
 ghost use Rattle.ngc_command_line.specs.CommandLine.{ngc_app, run_words};
+ghost use Rattle.ngc_command_line.specs.CommandLine.{MachineSource, adapt_words, machine_words};
 ghost use Rattle.ngc_command_line.specs.CommandLine.{report_words};
 ghost use Rattle.ngc_command_line.specs.Meant.{AreCutsInRange, AreOptions, AsksForCertify};
 ghost use Rattle.ngc_command_line.specs.Meant.{AsksForCheck, AsksForDraw, AsksForList, AsksForRun};
 ghost use Rattle.ngc_command_line.specs.Meant.{AsksForShow, AsksForHelp};
 ghost use Rattle.ngc_command_line.specs.Meant.{AreCommands, AsksForReport, help_fault_number};
-ghost use Rattle.ngc_command_line.specs.Meant.{IsTaken, IsWhole, usage_fault_number};
+ghost use Rattle.ngc_command_line.specs.Meant.{AsksForAdapt, AsksForMachine, IsTaken, IsToolInRange, IsWhole};
+ghost use Rattle.ngc_command_line.specs.Meant.{usage_fault_number};
 
+mod adapt;
 mod arguments;
 mod certify;
 mod check;
@@ -26,12 +29,14 @@ mod draw;
 mod explain;
 mod guide;
 mod list;
+mod machine;
 mod options;
 mod report;
 mod run;
 mod show;
 mod table;
 
+use adapt::adapt_options;
 use certify::certify_options;
 use check::check_options;
 use clap::ArgMatches;
@@ -41,9 +46,10 @@ use draw::draw_options;
 use explain::explained_number;
 use guide::topic;
 use list::list_options;
+use machine::machine_options;
 pub use options::{
-    CertifyOptions, CheckOptions, DrawOptions, Format, ListOptions, Options, Recording,
-    ReportOptions, RunOptions, RunThroughOptions, ShowOptions,
+    AdaptOptions, CertifyOptions, CheckOptions, DrawOptions, Format, ListOptions, MachineOptions,
+    Options, Recording, ReportOptions, RunOptions, RunThroughOptions, ShowOptions,
 };
 use report::report_options;
 use run::run_options;
@@ -124,6 +130,8 @@ fn options_of<'a>(name: &str, found: &ArgMatches<'a>) -> Options<'a>
         "draw" => Options::Draw(draw_options(found)),
         "show" => Options::Show(show_options(found)),
         "report" => Options::Report(report_options(found)),
+        "adapt" => Options::Adapt(adapt_options(found)),
+        "machine" => Options::Machine(machine_options(found)),
         "explain" => Options::Explain(explained_number(found)),
         "help" => Options::Help(topic(found)),
         "version" => Options::Version,
@@ -191,6 +199,21 @@ pub fn read_options<'a>(alloc: Global, words: &'a [&'a str]) -> Result<Options<'
         → AreCutsInRange cuts
         → texts words.entry.now ≡ report_words machine tools program cuts all json
         → MatchResult result (AsksForReport machine tools program cuts all json)
+        (λ fault. fault ≡ UsageFault.Memory) }
+    // `adapt --from=CONTROL --machine=FILE --tool=N --drop=CODES --program=FILE` is read as it is
+    // spelled, where the last four may be left out.
+    ensures spelled_adapt { (from : Text) (machine : Option Text) (tool : Option ℕ)
+        (drop program : Option Text)
+        → IsToolInRange tool
+        → texts words.entry.now ≡ adapt_words from machine tool drop program
+        → MatchResult result (AsksForAdapt from machine tool drop program)
+        (λ fault. fault ≡ UsageFault.Memory) }
+    // `machine --grbl=FILE --corner=SPEED --ticks=N --frame=END` is read as it is spelled, where the
+    // last three may be left out, and so is `machine --steps-per-mm=N --travel=X,Y,Z --feed=X,Y,Z
+    // --acceleration=X,Y,Z` with the same three. Its other options are left to tests.
+    ensures spelled_machine { (source : MachineSource) (corner ticks frame : Option Text)
+        → texts words.entry.now ≡ machine_words source corner ticks frame
+        → MatchResult result (AsksForMachine source corner ticks frame)
         (λ fault. fault ≡ UsageFault.Memory) }
     // So are `help`, `help COMMAND` with the name of a command, and `version`.
     ensures spelled_help { (command : Option Text) → AreCommands command

@@ -23,6 +23,10 @@ pub enum Options<'a> {
     /// `ngc report`: tell whether a part program fits a machine, with how much room and how long it
     /// takes.
     Report(ReportOptions<'a>),
+    /// `ngc adapt`: print a part program for another control as one for this.
+    Adapt(AdaptOptions<'a>),
+    /// `ngc machine`: print a machine file from figures at hand.
+    Machine(MachineOptions<'a>),
     /// `ngc explain`: print what is told of the fault with this number, 1 to 999.
     Explain(u16),
     /// `ngc help`: print the help of a command. With none it is that of the program.
@@ -170,4 +174,50 @@ pub struct ReportOptions<'a> {
     /// Whether the report is a JSON document in place of sentences.
     pub json: bool,
     ghost some_cuts: { 1 ≤ cuts },
+}
+
+/// The options of `ngc adapt`.
+#[derive(Clone, Copy)]
+pub struct AdaptOptions<'a> {
+    /// The name of the control that the program is written for.
+    pub from: &'a str,
+    /// The machine file. With none a built-in small mill is used.
+    pub machine: Option<&'a str>,
+    /// The number of the tool, 1 to 9,999, to mount in front of a program that mounts none.
+    pub tool: Option<u16>,
+    /// The M codes that the machine can do without.
+    pub drop: Option<&'a str>,
+    /// The file of the part program. With none it comes from standard input.
+    pub program: Option<&'a str>,
+}
+
+/// The options of `ngc machine`, as they are written.
+#[derive(Clone, Copy)]
+pub struct MachineOptions<'a> {
+    /// The file of what GRBL prints for `$$`. With it the four figures below are left out.
+    pub grbl: Option<&'a str>,
+    /// Steps for a millimetre.
+    pub steps: Option<&'a str>,
+    /// How far each axis goes, in millimetres.
+    pub travel: Option<&'a str>,
+    /// The greatest speed of each axis, in millimetres a minute.
+    pub feed: Option<&'a str>,
+    /// The greatest acceleration of each axis, in millimetres per second squared.
+    pub acceleration: Option<&'a str>,
+    /// The speed through a corner, in millimetres a second.
+    pub corner: Option<&'a str>,
+    /// Ticks of the controller a second.
+    pub ticks: Option<&'a str>,
+    /// At which end of its travel each axis has its zero.
+    pub frame: Option<&'a str>,
+    /// How much the speed of an axis may change where two motions meet, in millimetres a second.
+    pub jump: Option<&'a str>,
+    /// The greatest acceleration towards the centre of an arc, in millimetres per second squared.
+    pub turn: Option<&'a str>,
+    /// Where the machine starts, in millimetres.
+    pub start: Option<&'a str>,
+    /// Where G28 goes, in millimetres.
+    pub home28: Option<&'a str>,
+    /// Where G30 goes, in millimetres.
+    pub home30: Option<&'a str>,
 }

@@ -1,6 +1,6 @@
-//! Programs in the dialects of other controls, which no command rewrites yet.
+//! Lines and programs in the dialects of other controls, by the library alone.
 use crate::checks::same;
-use ngc_adapt::{Dialect, adapt};
+use ngc_adapt::{Dialect, MOST_DROPPED, Options, adapt};
 use std::test::Fail;
 
 // A dialect, a program in it, what is written, and the report. Lines after the end are copied.
@@ -29,7 +29,11 @@ const ROWS: &[(Dialect, &str, &str, &str)] = &[
 #[test]
 fn programs_are_adapted(rt: HostRuntime) -> Result<(), Fail> {
     for (row, (dialect, source, text, report)) in ROWS.iter().enumerate() {
-        let adapted = adapt(rt.alloc(), *dialect, source.as_bytes())?;
+        let options = Options {
+            dialect: *dialect,
+            drop: [None; MOST_DROPPED],
+        };
+        let adapted = adapt(rt.alloc(), &options, source.as_bytes())?;
         same(&rt, &row, &adapted.text.as_slice(), &text.as_bytes());
         same(&rt, &row, &adapted.report.as_slice(), &report.as_bytes());
     }

@@ -1,7 +1,7 @@
 //! Memory that is refused to what reads texts and expands cycles, and sources without end.
 use crate::checks::{holds, same};
 use linked_list_allocator::LocalHeap;
-use ngc_adapt::{Dialect, adapt};
+use ngc_adapt::{Dialect, MOST_DROPPED, Options, adapt};
 use ngc_canned_cycles::{Cycle, CycleFault, Hole, Start, expand};
 use ngc_events::{EventsFault, read_events};
 use ngc_fixed_length::{Distance, FeedMode, Nm, Plane, Point3, ReturnMode};
@@ -40,10 +40,16 @@ const JOBS: &[(Job, &str, usize, usize, usize)] = &[
 // How much was changed or read; nothing where memory was refused.
 fn read_in(heap: &LocalHeap, job: Job, text: &[u8]) -> Option<usize> {
     match job {
-        Job::Dialect => match adapt(heap, Dialect::LinuxCnc, text) {
-            Ok(adapted) => Some(adapted.changes.len()),
-            Err(_) => None,
-        },
+        Job::Dialect => {
+            let options = Options {
+                dialect: Dialect::LinuxCnc,
+                drop: [None; MOST_DROPPED],
+            };
+            match adapt(heap, &options, text) {
+                Ok(adapted) => Some(adapted.changes.len()),
+                Err(_) => None,
+            }
+        }
         Job::Events => match read_events(heap, text) {
             Ok(events) => Some(events.len()),
             Err(EventsFault::Memory) => None,

@@ -104,6 +104,34 @@ pub(crate) fn shell() -> &'static [Row]
             mend: "Write one of the three names; without `--view` it is `top`.",
         },
         Row {
+            number: 724,
+            rule: "The control that `ngc adapt` is given is `linuxcnc`, `grbl`, `mach3` or `fanuc` (our own).",
+            example: "command `ngc adapt --from haas --program part.nc`",
+            answer: "`ngc: fault 724`",
+            place: Some("3"),
+            mend: "Write one of the four names: `fanuc` for Fanuc and Haas, `mach3` for Mach3 and Mach4, `grbl` for\n\
+             GRBL and its relatives, `linuxcnc` for LinuxCNC and PathPilot.",
+        },
+        Row {
+            number: 725,
+            rule: "What `ngc adapt` is given to drop are 1 to 16 M codes separated by commas, each `M` and a whole\n\
+             number from 0 to 999 (our own).",
+            example: "command `ngc adapt --from linuxcnc --drop G64 --program part.ngc`",
+            answer: "`ngc: fault 725`",
+            place: Some("3"),
+            mend: "Write the codes as in `--drop M64,M65`; only M codes can be dropped.",
+        },
+        Row {
+            number: 726,
+            rule: "`ngc machine` is given either a dump of GRBL's settings, `--grbl`, or all of `--steps-per-mm`,\n\
+             `--travel`, `--feed` and `--acceleration` (our own).",
+            example: "command `ngc machine --steps-per-mm 800`",
+            answer: "`ngc: fault 726`",
+            place: Some("3"),
+            mend: "Give the file of what GRBL prints for `$$`, and none of the four nor `--frame`; or all four\n\
+             figures.",
+        },
+        Row {
             number: 900,
             rule: "There is enough memory for the files and the commands (our own).",
             example: "command `ngc list` in a shell after `ulimit -v 8000`, with a program of 100,000 lines",

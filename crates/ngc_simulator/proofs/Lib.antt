@@ -1,3 +1,5 @@
+-- Programs for other controls, adapted.
+mod AdaptLaws
 -- What listing a file comes to, from what its parts come to.
 pub mod ListLaws
 -- What the second sink takes.

@@ -14,7 +14,7 @@ use Rattle.ngc_machine.specs.ToolText.{tool_table}
 use Rattle.ngc_simulator.specs.Setups.{FileBytes, IfMachine, KeepsFiles}
 use Rattle.ngc_simulator.specs.Shops.{GivesShop}
 use Rattle.ngc_simulator.specs.Faults.{OfCertifying, OfChecking, OfDrawing, OfListing, OfRunning}
-use Rattle.ngc_simulator.specs.Unread.{Kind, OfMachine, OfTools, OfProgram, OfCertificate, OfEvents, IsReadAs, Input, setup_input, shop_inputs, AtFirst}
+use Rattle.ngc_simulator.specs.Unread.{Kind, OfMachine, OfTools, OfProgram, OfCertificate, OfEvents, OfSource, IsReadAs, Input, setup_input, shop_inputs, AtFirst}
 use Rattle.ngc_simulator.specs.Unread.{TellsKindUnread, TellsFirstUnread, FailsBy, FailsByInput, program_unread, certificate_unread, unread_by}
 use Rattle.ngc_simulator.specs.declared.fault.AnswerFault.{AnswerFault}
 use Rattle.ngc_simulator.specs.declared.fault.AnswerFault.TheVariants as answers
@@ -84,6 +84,7 @@ unopened fails bytes files kind name more old mid new e is all same rises =
     by_kind OfProgram = inl rises
     by_kind OfCertificate = inl rises
     by_kind OfEvents = inl rises
+    by_kind OfSource = inl rises
 
 -- ---- that a file was read
 

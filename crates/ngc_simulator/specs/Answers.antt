@@ -1,11 +1,14 @@
 -- What a run of the program comes to.
 use Rattle.std.specs.Prelude.{◌≡◌, ◌⊎◌, ℕ, Bool, true, false, List, [], ◌∷◌, ◌++◌, Option, Some}
-use Rattle.std.specs.Prelude.{Result, Ok, Err, IfSome, option_map, MatchOption, None}
+use Rattle.std.specs.Prelude.{Result, Ok, Err, IfSome, IsSomeAnd, option_map, MatchOption, None}
+use Rattle.std.specs.Prelude.{if◌then◌else◌}
 use Rattle.std.specs.Io.KnownBytes.{Appends, Keeps}
 use Rattle.ngc_command_line.specs.declared.options.ListOptions.{ListOptions}
+use Rattle.ngc_command_line.specs.declared.options.AdaptOptions.{AdaptOptions}
 use Rattle.ngc_command_line.specs.declared.options.CertifyOptions.{CertifyOptions}
 use Rattle.ngc_command_line.specs.declared.options.CheckOptions.{CheckOptions}
 use Rattle.ngc_command_line.specs.declared.options.DrawOptions.{DrawOptions}
+use Rattle.ngc_command_line.specs.declared.options.MachineOptions.{MachineOptions}
 use Rattle.ngc_command_line.specs.declared.options.ReportOptions.{ReportOptions}
 use Rattle.ngc_command_line.specs.declared.options.RunOptions.{RunOptions}
 use Rattle.ngc_command_line.specs.declared.options.RunThroughOptions.{RunThroughOptions}
@@ -21,7 +24,8 @@ use Rattle.ngc_run_log.specs.declared.report.Report.{Report}
 use Rattle.ngc_simulator.specs.declared.fault.AnswerFault.{AnswerFault}
 use Rattle.ngc_simulator.specs.declared.fault.AnswerFault.TheVariants as answers
 use Rattle.ngc_simulator.specs.declared.done.Done.{Done}
-use Rattle.ngc_simulator.specs.declared.done.Done.TheVariants.{Quietly, RunThrough}
+use Rattle.ngc_simulator.specs.declared.done.Notes.{Notes}
+use Rattle.ngc_simulator.specs.declared.done.Done.TheVariants.{Quietly, RunThrough, WithNotes}
 use Rattle.ngc_program_report.specs.declared.run_time.RunTime.{RunTime}
 use Rattle.ngc_simulator.specs.Guides.{Guides, version_text}
 use Rattle.ngc_simulator.specs.Faults.{FailsByOutput, OfCertifying, OfChecking, OfDrawing}
@@ -43,7 +47,11 @@ use Rattle.ngc_simulator.specs.Shops.{RefusesShop}
 use Rattle.ngc_simulator.specs.Mistaken.{TellsRefusal}
 use Rattle.ngc_program_report.specs.Times.{time_line}
 use Rattle.ngc_simulator.specs.Unreadable.{TellsUnreadable}
-use Rattle.ngc_simulator.specs.Unread.{Input, OfProgram, OfCertificate, OfEvents, shop_inputs}
+use Rattle.ngc_simulator.specs.Unread.{Input, OfProgram, OfCertificate, OfEvents, OfSource, shop_inputs}
+use Rattle.ngc_adapt_program.specs.declared.request.Request.{Request}
+use Rattle.ngc_adapt_program.specs.Requests.{control_named, dropped_codes}
+use Rattle.ngc_simulator.specs.Adapting.{Adapts, IsRequest}
+use Rattle.ngc_simulator.specs.Making.{Makes, OnDump, has_source}
 use Rattle.ngc_simulator.specs.Unread.{FailsByInput}
 
 -- what `list`, `certify`, `check` and `run` come to on the files that they name
@@ -137,6 +145,7 @@ abbrev pub Comes : (AnswerFault → Type 0) → (AnswerFault → Type 0) →
     (Result (Unit {0}) AnswerFault → Type 0) → Result Done AnswerFault → Type 0
 Comes Stops MayFail Does (Ok Quietly) = Does (Ok tt)
 Comes Stops MayFail Does (Ok (RunThrough time)) = ⊥
+Comes Stops MayFail Does (Ok (WithNotes notes)) = ⊥
 Comes Stops MayFail Does (Err fault) = Stops fault ⊎ (MayFail fault × Does (Err fault))
 
 abbrev pub ListComes : FileBytes → ListOptions → Option (List ℕ) → Option (List ℕ) →
@@ -205,6 +214,7 @@ abbrev pub ReportComes : FileBytes → ReportOptions → Option (List ℕ) → O
     Result Done AnswerFault → Type 0
 ReportComes bytes options old new (Ok Quietly) = ReportsOn bytes options old new (Ok tt)
 ReportComes bytes options old new (Ok (RunThrough time)) = ⊥
+ReportComes bytes options old new (Ok (WithNotes notes)) = ⊥
 ReportComes bytes options old new (Err fault) =
     TellsRefusal (form_asked options.json) bytes (Some options.machine.now)
     (Some options.tools.now) old new fault ⊎ ReportFails bytes options old new fault
@@ -222,6 +232,7 @@ IsTimeOn bytes options report time = OnSetup bytes (Some options.machine.now)
 abbrev pub RunThroughComes : FileBytes → RunThroughOptions → Option (List ℕ) → Option (List ℕ) →
     Result Done AnswerFault → Type 0
 RunThroughComes bytes options old new (Ok Quietly) = ⊥
+RunThroughComes bytes options old new (Ok (WithNotes notes)) = ⊥
 RunThroughComes bytes options old new (Ok (RunThrough time)) =
     (report : Report) × RunsThroughOn bytes options old new (Ok report) ×
     IsTimeOn bytes options report time
@@ -229,10 +240,57 @@ RunThroughComes bytes options old new (Err fault) =
     StopsEarly bytes (Some options.machine.now) (Some options.tools.now) old new fault
     ⊎ (OrOfReading OfRunning fault × RunsThroughOn bytes options old new (Err fault))
 
+-- ---- programs for other controls
+
+-- options that ask of a program what isn't known leave what was written as it was
+abbrev pub NoRequest : AdaptOptions → AnswerFault → Type 0
+NoRequest options answers.UnknownControl = control_named options.from.now ≡ None
+NoRequest options answers.WrongCodes =
+    IsSomeAnd options.drop (λ text. dropped_codes text.now ≡ None)
+NoRequest options _ = ⊥
+
+abbrev pub AdaptsOn : FileBytes → AdaptOptions → Option (List ℕ) → Option (List ℕ) →
+    Result Notes AnswerFault → Type 0
+AdaptsOn bytes options old new outcome =
+    OnSetup bytes (option_map (λ name. name.now) options.machine) None (λ setup.
+    IfSome (bytes (option_map (λ name. name.now) options.program)) (λ file.
+    (request : Request) × IsRequest options setup.machine request
+    × Adapts setup.machine request file old new outcome))
+
+abbrev pub AdaptComes : FileBytes → AdaptOptions → Option (List ℕ) → Option (List ℕ) →
+    Result Done AnswerFault → Type 0
+AdaptComes bytes options old new (Ok Quietly) = ⊥
+AdaptComes bytes options old new (Ok (RunThrough time)) = ⊥
+AdaptComes bytes options old new (Ok (WithNotes notes)) = AdaptsOn bytes options old new (Ok notes)
+AdaptComes bytes options old new (Err fault) =
+    (NoRequest options fault × Keeps old new)
+    ⊎ StopsEarly bytes (option_map (λ name. name.now) options.machine) None old new fault
+    ⊎ AdaptsOn bytes options old new (Err fault)
+
+-- ---- machine files from figures
+
+abbrev pub MakesOn : FileBytes → MachineOptions → Option (List ℕ) → Option (List ℕ) →
+    Result Notes AnswerFault → Type 0
+MakesOn bytes options old new outcome =
+    (has_source options ≡ true)
+    × OnDump bytes (option_map (λ name. name.now) options.grbl)
+    (λ dump. Makes options dump old new outcome)
+
+abbrev pub MachineComes : FileBytes → MachineOptions → Option (List ℕ) → Option (List ℕ) →
+    Result Done AnswerFault → Type 0
+MachineComes bytes options old new (Ok Quietly) = ⊥
+MachineComes bytes options old new (Ok (RunThrough time)) = ⊥
+MachineComes bytes options old new (Ok (WithNotes notes)) = MakesOn bytes options old new (Ok notes)
+MachineComes bytes options old new (Err answers.NoFigures) =
+    (has_source options ≡ false) × Keeps old new
+MachineComes bytes options old new (Err (answers.Input e)) = Keeps old new
+MachineComes bytes options old new (Err fault) = MakesOn bytes options old new (Err fault)
+
 -- `explain` reads no file, and neither do `help` and `version`
 abbrev pub ExplainComes : ℕ → Option (List ℕ) → Option (List ℕ) → Result Done AnswerFault → Type 0
 ExplainComes number old new (Ok Quietly) = TellsFault number old new (Ok tt)
 ExplainComes number old new (Ok (RunThrough time)) = ⊥
+ExplainComes number old new (Ok (WithNotes notes)) = ⊥
 ExplainComes number old new (Err answers.UnknownFault) =
     TellsFault number old new (Err Unknown) × (is_fault number ≡ false)
 ExplainComes number old new (Err (answers.Write fault)) =
@@ -242,11 +300,13 @@ ExplainComes number old new (Err fault) = ⊥
 abbrev pub HelpComes : Option (List ℕ) → Option (List ℕ) → Result Done AnswerFault → Type 0
 HelpComes old new (Ok Quietly) = Guides old new (Ok tt)
 HelpComes old new (Ok (RunThrough time)) = ⊥
+HelpComes old new (Ok (WithNotes notes)) = ⊥
 HelpComes old new (Err fault) = Guides old new (Err fault)
 
 abbrev pub VersionComes : Option (List ℕ) → Option (List ℕ) → Result Done AnswerFault → Type 0
 VersionComes old new (Ok Quietly) = Appends old new version_text
 VersionComes old new (Ok (RunThrough time)) = ⊥
+VersionComes old new (Ok (WithNotes notes)) = ⊥
 VersionComes old new (Err (answers.Write fault)) = AppendsBeginning old new version_text
 VersionComes old new (Err fault) = ⊥
 
@@ -264,6 +324,9 @@ ComesBy bytes (commands.Draw options) old new outcome =
     old new outcome
 ComesBy bytes (commands.Show options) old new outcome = ShowComes bytes options old new outcome
 ComesBy bytes (commands.Report options) old new outcome = ReportComes bytes options old new outcome
+ComesBy bytes (commands.Adapt options) old new outcome = AdaptComes bytes options old new outcome
+ComesBy bytes (commands.Machine options) old new outcome =
+    MachineComes bytes options old new outcome
 ComesBy bytes (commands.Explain number) old new outcome = ExplainComes number old new outcome
 ComesBy bytes (commands.Help command) old new outcome = HelpComes old new outcome
 ComesBy bytes commands.Version old new outcome = VersionComes old new outcome
@@ -328,6 +391,23 @@ report_inputs options =
     shop_inputs (Some options.machine.now) (Some options.tools.now)
     ++ program_input (option_map (λ name. name.now) options.program) ∷ []
 
+-- a program for another control, by any bytes
+abbrev pub source_input : Option (List ℕ) → Input
+source_input name = record { kind = OfSource; name = name }
+
+-- where it is known what is asked
+abbrev pub adapt_inputs : AdaptOptions → List Input
+adapt_inputs options =
+    shop_inputs (option_map (λ name. name.now) options.machine) None
+    ++ source_input (option_map (λ name. name.now) options.program) ∷ []
+
+abbrev pub dump_inputs : Option (List ℕ) → List Input
+dump_inputs None = []
+dump_inputs (Some name) = source_input (Some name) ∷ []
+
+abbrev pub machine_inputs : MachineOptions → List Input
+machine_inputs options = dump_inputs (option_map (λ name. name.now) options.grbl)
+
 abbrev pub inputs_of : Options → List Input
 inputs_of (commands.List options) = list_inputs options
 inputs_of (commands.Certify options) = certify_inputs options
@@ -338,6 +418,8 @@ inputs_of (commands.Draw options) =
     draw_inputs options (view_named (option_map (λ name. name.now) options.view))
 inputs_of (commands.Show options) = show_inputs options
 inputs_of (commands.Report options) = report_inputs options
+inputs_of (commands.Adapt options) = adapt_inputs options
+inputs_of (commands.Machine options) = machine_inputs options
 inputs_of (commands.Explain number) = []
 inputs_of (commands.Help command) = []
 inputs_of commands.Version = []
@@ -350,9 +432,14 @@ pub record Taking : Type 0 where
   pub failures : ℕ
   pub failures_now : ℕ
 
+-- what isn't written, where notes tell why, is refused
+abbrev pub done_status : Done → ℕ
+done_status (WithNotes notes) = if notes.is_written then 0 else 3
+done_status _ = 0
+
 -- the exit status of what a run came to
 abbrev pub status_of : Result Done AnswerFault → ℕ
-status_of (Ok done) = 0
+status_of (Ok done) = done_status done
 status_of (Err fault) = answer_status fault
 
 -- the whole text was written, or the sink failed behind a beginning of it
@@ -371,14 +458,18 @@ IsQuiet (commands.RunThrough options) = ⊥
 IsQuiet (commands.Draw options) = Unit {0}
 IsQuiet (commands.Show options) = Unit {0}
 IsQuiet (commands.Report options) = Unit {0}
+IsQuiet (commands.Adapt options) = ⊥
+IsQuiet (commands.Machine options) = ⊥
 IsQuiet (commands.Explain number) = Unit {0}
 IsQuiet (commands.Help command) = Unit {0}
 IsQuiet commands.Version = Unit {0}
 
--- nothing or the time where what was asked is done, and else the line that tells the fault
+-- nothing, the time or the report where what was asked is done, and else the line that tells the
+-- fault
 abbrev pub Tells : Result Done AnswerFault → Taking → Type 0
 Tells (Ok Quietly) sink = (sink.new ≡ sink.old) × (sink.failures_now ≡ sink.failures)
 Tells (Ok (RunThrough time)) sink = Takes sink (time_line time)
+Tells (Ok (WithNotes notes)) sink = Takes sink notes.text.items
 Tells (Err fault) sink = Takes sink (fault_line fault)
 
 -- What files are given: their bytes, where they are known, which of them have a source that fails,

@@ -54,6 +54,9 @@ answer_number (answers.Write e) = 902
 answer_number answers.UnknownFault = 721
 answer_number answers.UnknownCommand = 722
 answer_number answers.UnknownView = 723
+answer_number answers.UnknownControl = 724
+answer_number answers.WrongCodes = 725
+answer_number answers.NoFigures = 726
 
 -- where a fault stands: a line and a column, a line, a file, or nowhere
 abbrev pub read_place : ReadFault → List ℕ
@@ -191,6 +194,9 @@ answer_status (answers.Write e) = 1
 answer_status answers.UnknownFault = 3
 answer_status answers.UnknownCommand = 3
 answer_status answers.UnknownView = 3
+answer_status answers.UnknownControl = 3
+answer_status answers.WrongCodes = 3
+answer_status answers.NoFigures = 3
 
 -- ---- what a run and a picture fail by
 

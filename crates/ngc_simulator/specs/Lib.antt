@@ -10,7 +10,9 @@ pub mod Reporting
 pub mod Unreadable
 pub mod Setups
 pub mod Shops
+pub mod Making
 pub mod Mistaken
 pub mod Status
+pub mod Adapting
 pub mod Answers
 pub mod Unread

@@ -27,6 +27,7 @@ pub data Kind : Type 0 where
   OfProgram : Kind
   OfCertificate : Kind
   OfEvents : Kind
+  OfSource : Kind
 
 -- what a text is read as is not refused
 abbrev pub IsReadAs : Kind → List ℕ → Type 0
@@ -35,6 +36,7 @@ IsReadAs OfTools text = IsOk (tool_table text)
 IsReadAs OfProgram text = IsOk (program_of text)
 IsReadAs OfCertificate text = IsOk (certificate_said text)
 IsReadAs OfEvents text = IsOk (events_said text)
+IsReadAs OfSource text = Unit {0}
 
 -- a file that a command reads: what it is read as, and its name, or standard input
 pub record Input : Type 0 where

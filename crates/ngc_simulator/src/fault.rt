@@ -69,6 +69,15 @@ pub enum AnswerFault {
     /// No view has the name: 723.
     #[error("no view has this name")]
     UnknownView,
+    /// No control has the name: 724.
+    #[error("no control has this name")]
+    UnknownControl,
+    /// The codes to drop are no list of M codes: 725.
+    #[error("no list of M codes")]
+    WrongCodes,
+    /// Neither a dump of settings nor all figures are given, or both are: 726.
+    #[error("no figures of a machine")]
+    NoFigures,
 }
 
 impl AnswerFault {
@@ -91,6 +100,9 @@ impl AnswerFault {
             AnswerFault::UnknownFault => 721,
             AnswerFault::UnknownCommand => 722,
             AnswerFault::UnknownView => 723,
+            AnswerFault::UnknownControl => 724,
+            AnswerFault::WrongCodes => 725,
+            AnswerFault::NoFigures => 726,
         }
     }
 
@@ -110,6 +122,7 @@ impl AnswerFault {
             AnswerFault::Events(fault) => status_of_events(fault),
             AnswerFault::Input(_) | AnswerFault::Memory | AnswerFault::Write(_) => 1,
             AnswerFault::UnknownFault | AnswerFault::UnknownCommand | AnswerFault::UnknownView => 3,
+            AnswerFault::UnknownControl | AnswerFault::WrongCodes | AnswerFault::NoFigures => 3,
         }
     }
 }

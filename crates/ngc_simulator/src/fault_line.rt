@@ -196,7 +196,10 @@ fn add_place(chunk: &mut Chunk, fault: &AnswerFault)
         | AnswerFault::Write(_)
         | AnswerFault::UnknownFault
         | AnswerFault::UnknownCommand
-        | AnswerFault::UnknownView => {}
+        | AnswerFault::UnknownView
+        | AnswerFault::UnknownControl
+        | AnswerFault::WrongCodes
+        | AnswerFault::NoFigures => {}
     }
 }
 

@@ -2,6 +2,7 @@
 //! machine and shows it.
 #![tactic(auto)]
 
+mod adapting;
 mod certifier;
 mod checking;
 mod done;
@@ -13,6 +14,7 @@ mod files;
 mod guide;
 mod judging;
 mod lister;
+mod making;
 mod mistaken_files;
 mod opening;
 mod program;
@@ -26,7 +28,7 @@ mod unread_files;
 
 pub use certifier::certify;
 pub use checking::check_program;
-pub use done::Done;
+pub use done::{Done, Notes};
 pub use drawing::{draw_certified, draw_program};
 pub use fault::AnswerFault;
 pub use files::Files;
@@ -40,8 +42,9 @@ pub use ngc_certificate::{MakeFault, PieceFault, Setting};
 pub use ngc_certificate_text::{Certificate, CertificateFault};
 pub use ngc_checker::{Accepted, CheckFault, check};
 pub use ngc_command_line::{
-    CertifyOptions, CheckOptions, DrawOptions, Format, HelpFault, ListOptions, Options, Recording,
-    ReportOptions, RunOptions, RunThroughOptions, ShowOptions, UsageFault, help_text, read_options,
+    AdaptOptions, CertifyOptions, CheckOptions, DrawOptions, Format, HelpFault, ListOptions,
+    MachineOptions, Options, Recording, ReportOptions, RunOptions, RunThroughOptions, ShowOptions,
+    UsageFault, help_text, read_options,
 };
 pub use ngc_controller::{Controller, MemoryFault};
 pub use ngc_drawing::{DrawFault, Refusal, View, write_svg};

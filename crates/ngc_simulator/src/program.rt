@@ -4,6 +4,7 @@ ghost use Rattle.ngc_simulator.specs.Faults.{FailsByOutput};
 ghost use Rattle.ngc_simulator.specs.Status.{IsStatus};
 ghost use Rattle.ngc_simulator.specs.Unread.{FailsByInput, SourceFails};
 
+use crate::adapting::adapt_files;
 use crate::certifier::certify_files;
 use crate::checking::check_files;
 use crate::done::Done;
@@ -13,6 +14,7 @@ use crate::fault_line::add_fault_line;
 use crate::files::Files;
 use crate::guide::{write_help, write_version};
 use crate::lister::list_files;
+use crate::making::machine_files;
 use crate::reporting_files::report_files;
 use crate::running::run_files;
 use crate::showing::show_files;
@@ -20,7 +22,7 @@ use crate::through::run_through_files;
 use ngc_command_line::Options;
 use ngc_fault_texts::{ExplainFault, explain};
 use ngc_program_report::add_time_line;
-use ngc_text::{Chunk, Sink};
+use ngc_text::{Chunk, Sink, write_all};
 use std::alloc::Global;
 
 fn run_command<F: Files, W: Sink>(
@@ -44,6 +46,8 @@ fn run_command<F: Files, W: Sink>(
         Options::Draw(options) => draw_files(alloc, options, files, output),
         Options::Show(options) => show_files(alloc, options, files, output),
         Options::Report(options) => report_files(alloc, options, files, output),
+        Options::Adapt(options) => adapt_files(alloc, options, files, output),
+        Options::Machine(options) => machine_files(alloc, options, files, output),
         Options::Explain(number) => match explain(*number, output) {
             Ok(()) => Ok(Done::Quietly),
             Err(ExplainFault::Unknown) => Err(AnswerFault::UnknownFault),
@@ -61,7 +65,7 @@ fn run_command<F: Files, W: Sink>(
 }
 
 /// Does what the options ask: writes output to the first sink, and the line of a fault, or of the
-/// time of a run to the end, to the second. It answers the exit status: 0 for done, 1 for input,
+/// time of a run to the end, or the report of a program that is adapted, to the second. It answers the exit status: 0 for done, 1 for input,
 /// output or memory, 3 for a file or a program that is refused, 4 for a certificate that is refused
 /// or isn't made.
 pub fn answer<F: Files, W: Sink, E: Sink>(
@@ -96,7 +100,7 @@ pub fn answer<F: Files, W: Sink, E: Sink>(
         }) result }
     ensures status { IsStatus result }
     // What is done has written what it had to, and nothing to the second sink but the time of a run
-    // to the end.
+    // to the end and the report of a program that is adapted.
     ensures done { result ≡ 0 → W.failures output.new ≡ W.failures output.old }
     ensures quiet { IsQuiet options.now → result ≡ 0 → E.written errors.new ≡ E.written errors.old }
 {
@@ -107,6 +111,10 @@ pub fn answer<F: Files, W: Sink, E: Sink>(
             add_time_line(&mut chunk, &time);
             let _ = chunk.write_out(errors);
             0
+        }
+        Ok(Done::WithNotes(notes)) => {
+            let _ = write_all(errors, notes.text.as_slice());
+            if notes.is_written { 0 } else { 3 }
         }
         Err(fault) => {
             let mut chunk = Chunk::new();

@@ -23,7 +23,7 @@ pub struct Shop {
 }
 
 /// How many bytes of a machine file, tool table or events file are read: a longer one is 901.
-const FILE_LIMIT: usize = 20_000_000;
+pub(crate) const FILE_LIMIT: usize = 20_000_000;
 
 /// The bytes of a named file.
 pub fn bytes_of<F: Files>(alloc: Global, name: &str, files: &mut F) -> Result<Vec<u8>, InputFault>

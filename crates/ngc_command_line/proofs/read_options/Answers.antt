@@ -4,7 +4,7 @@ use Rattle.clap.specs.Walk.{texts}
 use Rattle.ngc_command_line.specs.Meant.{AreOptions}
 use Rattle.ngc_command_line.proofs.Found.{found_from_parts}
 use Rattle.ngc_command_line.proofs.Simple.{ngc_is_free, ngc_is_simple, taken_is_memory}
-use Rattle.ngc_command_line.proofs.Spelled.{certify_read, certify_taken, check_read, check_taken, draw_read, draw_taken, help_read, help_taken, list_read}
+use Rattle.ngc_command_line.proofs.Spelled.{adapt_read, adapt_taken, certify_read, certify_taken, check_read, check_taken, draw_read, draw_taken, help_read, help_taken, list_read, machine_read, machine_taken}
 use Rattle.ngc_command_line.proofs.Spelled.{list_taken, report_read, report_taken, run_read, run_taken, show_read, show_taken, version_read, version_taken}
 use Rattle.ngc_command_line.proofs.Whole.{taken_is_whole}
 use Rattle.ngc_command_line.proofs.read_options.Goals as goal
@@ -58,6 +58,14 @@ pub returns-clause-spelled_report : goal.returns-clause-spelled_report
 returns-clause-spelled_report c =
     λ machine tools program cuts all json range spelled. report_read _ machine tools program cuts all json _ range spelled (returns-clause-options c)
 
+pub returns-clause-spelled_adapt : goal.returns-clause-spelled_adapt
+returns-clause-spelled_adapt c =
+    λ from machine tool drop program range spelled. adapt_read _ from machine tool drop program _ range spelled (returns-clause-options c)
+
+pub returns-clause-spelled_machine : goal.returns-clause-spelled_machine
+returns-clause-spelled_machine c =
+    λ source corner ticks frame spelled. machine_read _ source corner ticks frame _ spelled (returns-clause-options c)
+
 pub returns-clause-spelled_help : goal.returns-clause-spelled_help
 returns-clause-spelled_help c = λ command among spelled. help_read _ command _ among spelled (returns-clause-options c)
 
@@ -99,6 +107,15 @@ pub returns-in-Err-clause-spelled_report : goal.returns-in-Err-clause-spelled_re
 returns-in-Err-clause-spelled_report c = λ machine tools program cuts all json range spelled.
     c.usage_fault.ensures
     (taken_is_memory _ _ c.in-Err.error c.in-Ok.ensures (report_taken _ machine tools program cuts all json range spelled) c.in-Err.ensures.kinds)
+
+pub returns-in-Err-clause-spelled_adapt : goal.returns-in-Err-clause-spelled_adapt
+returns-in-Err-clause-spelled_adapt c = λ from machine tool drop program range spelled.
+    c.usage_fault.ensures
+    (taken_is_memory _ _ c.in-Err.error c.in-Ok.ensures (adapt_taken _ from machine tool drop program range spelled) c.in-Err.ensures.kinds)
+
+pub returns-in-Err-clause-spelled_machine : goal.returns-in-Err-clause-spelled_machine
+returns-in-Err-clause-spelled_machine c = λ source corner ticks frame spelled.
+    c.usage_fault.ensures (taken_is_memory _ _ c.in-Err.error c.in-Ok.ensures (machine_taken _ source corner ticks frame spelled) c.in-Err.ensures.kinds)
 
 pub returns-in-Err-clause-spelled_help : goal.returns-in-Err-clause-spelled_help
 returns-in-Err-clause-spelled_help c = λ command among spelled.

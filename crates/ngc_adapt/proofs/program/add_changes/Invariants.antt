@@ -5,4 +5,4 @@ use Rattle.ngc_adapt.specs.Programs.{change_at}
 use Rattle.ngc_adapt.proofs.program.add_changes.Given as goal
 
 abbrev pub invariant-loop-rule : goal.invariant-loop-rule
-invariant-loop-rule g l = l.changes.items ++ map (change_at l.number) (drop l.rule-index l.rules) ≡ l.fn.changes.items ++ map (change_at l.number) l.rules
+invariant-loop-rule g l = l.changes.items ++ map (change_at l.number l.number) (drop l.rule-index l.rules) ≡ l.fn.changes.items ++ map (change_at l.number l.number) l.rules

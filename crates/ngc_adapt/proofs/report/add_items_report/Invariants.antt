@@ -7,8 +7,8 @@ use Rattle.ngc_adapt.proofs.report.add_items_report.Given as goal
 
 abbrev pub invariant-loop-rest : goal.invariant-loop-rest
 invariant-loop-rest g l =
-    l.report.items ++ items_report l.number l.unnamed l.modes l.words (items_of l.rest)
-    ≡ l.fn.report.items ++ items_report l.number (is_first_traverse l.modes l.words) l.modes l.words (items_of l.fn.line)
+    l.report.items ++ items_report l.number l.written l.unnamed l.modes l.words (items_of l.rest)
+    ≡ l.fn.report.items ++ items_report l.number l.written (is_first_traverse l.modes l.words) l.modes l.words (items_of l.fn.line)
 
 abbrev pub decreases-loop-rest : goal.decreases-loop-rest
 decreases-loop-rest g l = length l.rest

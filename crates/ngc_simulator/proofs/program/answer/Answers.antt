@@ -7,8 +7,8 @@ use Rattle.ngc_simulator.specs.declared.done.Done.TheVariants.{RunThrough}
 use Rattle.ngc_simulator.proofs.Told.{took_text}
 use Rattle.ngc_simulator.proofs.program.answer.Goals as goal
 
-pub returns-in-Err-clause-answers : goal.returns-in-Err-clause-answers
-returns-in-Err-clause-answers g c = record {
+pub returns-clause-answers : goal.returns-clause-answers
+returns-clause-answers g c = record {
   outcome = Err c.in-Err.fault;
   comes = search rules;
   unread = c.in-Err.ensures.unread;

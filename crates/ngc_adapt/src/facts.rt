@@ -1,0 +1,182 @@
+ghost use Rattle.std.specs.Prelude.{◌≡◌, ◌≤◌, fold, length};
+ghost use Rattle.std.specs.List.{list_any};
+ghost use Rattle.ngc_adapt.specs.Facts as spec;
+ghost use Rattle.ngc_adapt.specs.Items.{words_of};
+
+use crate::code;
+use crate::item::{Letter, Word, read_words};
+use crate::number::{begins, blank_length};
+use crate::rule::{has_m, has_p};
+use crate::source::{body_length, split_line};
+
+/// The levels of block delete in a program.
+#[derive(Clone, Copy, PartialEq, Eq)]
+pub enum Levels {
+    /// No line may be deleted.
+    None,
+    /// All lines that may be deleted have this one: 1 for a slash alone.
+    One(u8),
+    /// There are at least two.
+    Several,
+}
+
+/// What holds of a whole program. A line that can't be read may have anything.
+#[derive(Clone, Copy)]
+pub struct Facts {
+    /// Whether a word A isn't 0.
+    pub turns_a: bool,
+    /// Whether a word B isn't 0.
+    pub turns_b: bool,
+    /// Whether a word C isn't 0.
+    pub turns_c: bool,
+    /// Whether a line jumps or calls a subprogram: `GOTO`, M97, M98, `M99 P`.
+    pub jumps: bool,
+    /// The levels of block delete.
+    pub levels: Levels,
+}
+
+fn turns_a(word: &Word) -> bool
+    ensures { result ≡ spec.turns_a word.now }
+{
+    matches!(word.letter, Letter::A) && !word.number.is_zero
+}
+
+fn turns_b(word: &Word) -> bool
+    ensures { result ≡ spec.turns_b word.now }
+{
+    matches!(word.letter, Letter::B) && !word.number.is_zero
+}
+
+fn turns_c(word: &Word) -> bool
+    ensures { result ≡ spec.turns_c word.now }
+{
+    matches!(word.letter, Letter::C) && !word.number.is_zero
+}
+
+fn has_turn_a(words: &[Word]) -> bool
+    ensures { result ≡ list_any spec.turns_a words.now }
+{
+    words.iter().any(turns_a)
+}
+
+fn has_turn_b(words: &[Word]) -> bool
+    ensures { result ≡ list_any spec.turns_b words.now }
+{
+    words.iter().any(turns_b)
+}
+
+fn has_turn_c(words: &[Word]) -> bool
+    ensures { result ≡ list_any spec.turns_c words.now }
+{
+    words.iter().any(turns_c)
+}
+
+fn has_jump(words: &[Word]) -> bool
+    ensures { result ≡ spec.has_jump words.now }
+{
+    has_m(&code::CALLS, words) || (has_m(&code::SUBPROGRAM_END, words) && has_p(words))
+}
+
+// The digit of a slash of block delete: a slash alone is the level 1.
+fn level_digit(rest: &[u8]) -> u8
+    ensures { result ≡ spec.level_digit rest.now }
+{
+    match rest {
+        [first, ..] => {
+            if first.is_ascii_digit() {
+                *first - b'0'
+            } else {
+                1
+            }
+        }
+        [] => 1,
+    }
+}
+
+// The level of block delete at which a line is taken out.
+fn level_of(line: &[u8]) -> Option<u8>
+    ensures { result ≡ spec.level_of line.now }
+{
+    let rest = line.split_at(blank_length(line)).1;
+    if begins(b'/', rest) {
+        Some(level_digit(&rest[1..]))
+    } else {
+        None
+    }
+}
+
+impl Levels {
+    ghost use Rattle.ngc_adapt.specs.Facts.{levels_after};
+
+    fn after(self, level: Option<u8>) -> Levels
+        ensures { result ≡ levels_after self level }
+    {
+        match (self, level) {
+            (levels, None) => levels,
+            (Levels::None, Some(k)) => Levels::One(k),
+            (Levels::One(j), Some(k)) => {
+                if j == k {
+                    Levels::One(j)
+                } else {
+                    Levels::Several
+                }
+            }
+            (Levels::Several, Some(_)) => Levels::Several,
+        }
+    }
+}
+
+impl Facts {
+    ghost use Rattle.ngc_adapt.specs.Facts.{no_facts, facts_after, facts_of};
+
+    fn none() -> Facts
+        ensures { result ≡ no_facts }
+    {
+        Facts {
+            turns_a: false,
+            turns_b: false,
+            turns_c: false,
+            jumps: false,
+            levels: Levels::None,
+        }
+    }
+
+    // What holds after a line without its end.
+    fn after(&self, body: &[u8]) -> Facts
+        ensures { result ≡ spec.facts_by self.now
+            (spec.levels_after self.now.levels (spec.level_of body.now)) (words_of body.now) }
+    {
+        let levels = self.levels.after(level_of(body));
+        let Some(words) = read_words(body) else {
+            return Facts {
+                turns_a: true,
+                turns_b: true,
+                turns_c: true,
+                jumps: true,
+                levels,
+            };
+        };
+        let words = words.as_slice();
+        Facts {
+            turns_a: self.turns_a || has_turn_a(words),
+            turns_b: self.turns_b || has_turn_b(words),
+            turns_c: self.turns_c || has_turn_c(words),
+            jumps: self.jumps || has_jump(words),
+            levels,
+        }
+    }
+
+    /// Returns what holds of a program's text, after one pass over it.
+    pub fn of(text: &[u8]) -> Facts
+        ensures { result ≡ facts_of text.now }
+    {
+        let mut facts = Facts::none();
+        let mut rest = text;
+        while !rest.is_empty() {
+            let (line, others) = split_line(rest);
+            facts = facts.after(line.split_at(body_length(line)).0);
+            rest = others;
+        }
+        facts
+    }
+}

@@ -1,0 +1,13 @@
+use crate::dialect::Dialect;
+
+/// The most M codes that can be dropped.
+pub const MOST_DROPPED: usize = 16;
+
+/// What the user says of a program.
+#[derive(Clone, Copy)]
+pub struct Options {
+    /// The control that it is written for.
+    pub dialect: Dialect,
+    /// M codes in tenths, as 640 for M64, that the machine can do without.
+    pub drop: [Option<u16>; MOST_DROPPED],
+}

@@ -1,0 +1,315 @@
+ghost use Rattle.std.specs.Prelude.{◌≡◌};
+ghost use Rattle.ngc_adapt.specs.Refusals as spec;
+ghost use Rattle.ngc_adapt.specs.declared.refusal.Refusal.TheVariants as refusals;
+
+use crate::code;
+use crate::item::{Letter, Word};
+use crate::number::{Number, has_byte};
+use crate::rule::{Modes, Motion, has, has_offset_number, is_known, is_one_of, is_own};
+
+/// What no rule rewrites.
+#[derive(Clone, Copy, PartialEq, Eq)]
+pub enum Refusal {
+    /// G41 or G42.
+    CutterCompensation,
+    /// A, B or C.
+    RotaryAxis,
+    /// E, U, V or W.
+    MoreAxes,
+    /// G31 or G38.2 to G38.5.
+    Probing,
+    /// G74 or G84.
+    Tapping,
+    /// G33, G33.1 or G76.
+    Thread,
+    /// G87 or G88.
+    BackBoring,
+    /// G10 without L2.
+    ToolTable,
+    /// G68.
+    Rotation,
+    /// G51.
+    Scaling,
+    /// G12.1 or G16.
+    Polar,
+    /// G54.1 or G154.
+    MoreSystems,
+    /// G95 or G96.
+    FeedPerTurn,
+    /// M97, M98, an M99 that may end a subprogram, G65 or G66.
+    Subprogram,
+    /// An O word.
+    ProgramWord,
+    /// A parameter with a name.
+    NamedParameter,
+    /// A function, or an operator that is a word, in a value.
+    Function,
+    /// A code that our language doesn't have.
+    UnknownCode,
+    /// An M code that our language doesn't have.
+    UnknownMachineCode,
+    /// P of fanuc whose unit isn't known.
+    UnknownTime,
+    /// P0 of G10 L2 where it isn't known which coordinate system it names.
+    UnknownSystem,
+    /// G43 without H where the mounted tool isn't known.
+    ToolOffset,
+    /// A line that can't be read.
+    Unread,
+}
+
+impl Default for Refusal {
+    ghost is_default = { λ r. r ≡ refusals.Unread };
+
+    fn default() -> Refusal {
+        Refusal::Unread
+    }
+}
+
+impl Refusal {
+    ghost use Rattle.ngc_adapt.specs.Refusals.{refusal_name, sentence};
+
+    /// Returns the name under which it is reported.
+    pub fn name(self) -> &'static str
+        ensures { result.now ≡ refusal_name self }
+    {
+        match self {
+            Refusal::CutterCompensation => "cutter_compensation",
+            Refusal::RotaryAxis => "rotary_axis",
+            Refusal::MoreAxes => "more_axes",
+            Refusal::Probing => "probing",
+            Refusal::Tapping => "tapping",
+            Refusal::Thread => "thread",
+            Refusal::BackBoring => "back_boring",
+            Refusal::ToolTable => "tool_table",
+            Refusal::Rotation => "rotation",
+            Refusal::Scaling => "scaling",
+            Refusal::Polar => "polar",
+            Refusal::MoreSystems => "more_systems",
+            Refusal::FeedPerTurn => "feed_per_turn",
+            Refusal::Subprogram => "subprogram",
+            Refusal::ProgramWord => "program_word",
+            Refusal::NamedParameter => "named_parameter",
+            Refusal::Function => "function",
+            Refusal::UnknownCode => "unknown_code",
+            Refusal::UnknownMachineCode => "unknown_machine_code",
+            Refusal::UnknownTime => "unknown_time",
+            Refusal::UnknownSystem => "unknown_system",
+            Refusal::ToolOffset => "tool_offset",
+            Refusal::Unread => "unread",
+        }
+    }
+
+    /// Returns what it is, and the way out.
+    pub fn sentence(self) -> &'static str
+        ensures { result.now ≡ sentence self }
+    {
+        match self {
+            Refusal::CutterCompensation => {
+                "let the CAM program compensate for the cutter: in computer"
+            }
+            Refusal::RotaryAxis => "there are no rotary axes: post for three axes",
+            Refusal::MoreAxes => "there are no E, U, V and W axes: post for X, Y and Z",
+            Refusal::Probing => "there is no probe: set the origin before the program",
+            Refusal::Tapping => "there is no tapping: drill here, and tap by hand",
+            Refusal::Thread => "there are no threads: mill them by arcs",
+            Refusal::BackBoring => "there is no G87 and G88: write the moves of the cycle out",
+            Refusal::ToolTable => {
+                "only G10 L2 is known: set tools and origins in the tool table and the machine file"
+            }
+            Refusal::Rotation => "nothing is rotated: rotate the part in the CAM program",
+            Refusal::Scaling => "nothing is scaled: scale the part in the CAM program",
+            Refusal::Polar => "there are no polar coordinates: post X and Y",
+            Refusal::MoreSystems => "there are nine coordinate systems: use G54 to G59.3",
+            Refusal::FeedPerTurn => {
+                "F is a feed a minute and S is turns a minute: post with G94 and G97"
+            }
+            Refusal::Subprogram => {
+                "there are no subprograms: post without them, or write the lines out"
+            }
+            Refusal::ProgramWord => {
+                "there are no O words: write loops and calls out, or leave the program's name out"
+            }
+            Refusal::NamedParameter => "parameters have numbers alone: number this one",
+            Refusal::Function => "there are no functions: write the value",
+            Refusal::UnknownCode => "this code isn't known: leave it out if the part needs none",
+            Refusal::UnknownMachineCode => {
+                "this M code isn't known: name it after --drop if the machine can do without"
+            }
+            Refusal::UnknownTime => {
+                "it isn't known whether P is in milliseconds: write it with a point, in seconds"
+            }
+            Refusal::UnknownSystem => {
+                "it isn't known which coordinate system P0 names: write its number after P"
+            }
+            Refusal::ToolOffset => {
+                "it isn't known which tool is mounted: write its number after H"
+            }
+            Refusal::Unread => "this line can't be read: correct it or leave it out",
+        }
+    }
+}
+
+fn refuse(holds: bool, refusal: Refusal) -> Option<Refusal>
+    ensures { result ≡ spec.refuse holds refusal }
+{
+    if holds { Some(refusal) } else { None }
+}
+
+// What stands in the way of an M code.
+fn m_refusal(code: Option<u16>) -> Option<Refusal>
+    ensures { result ≡ spec.m_refusal code }
+{
+    if is_one_of(&code::CALLS, code) || is_one_of(&code::SUBPROGRAM_END, code) {
+        Some(Refusal::Subprogram)
+    } else {
+        refuse(
+            !is_one_of(&code::MACHINE_CODES, code),
+            Refusal::UnknownMachineCode,
+        )
+    }
+}
+
+// What stands in the way of a code that a whole family of codes shares.
+fn family_refusal(code: Option<u16>) -> Option<Refusal>
+    ensures { result ≡ spec.family_refusal code }
+{
+    if is_one_of(&code::COMPENSATION, code) {
+        Some(Refusal::CutterCompensation)
+    } else if is_one_of(&code::PROBING, code) {
+        Some(Refusal::Probing)
+    } else if is_one_of(&code::TAPPING, code) {
+        Some(Refusal::Tapping)
+    } else if is_one_of(&code::THREADS, code) {
+        Some(Refusal::Thread)
+    } else if is_one_of(&code::BACK_BORING, code) {
+        Some(Refusal::BackBoring)
+    } else if is_one_of(&code::ROTATION, code) {
+        Some(Refusal::Rotation)
+    } else if is_one_of(&code::SCALING, code) {
+        Some(Refusal::Scaling)
+    } else if is_one_of(&code::POLAR, code) {
+        Some(Refusal::Polar)
+    } else if is_one_of(&code::MORE_SYSTEMS, code) {
+        Some(Refusal::MoreSystems)
+    } else if is_one_of(&code::FEED_PER_TURN, code) {
+        Some(Refusal::FeedPerTurn)
+    } else if is_one_of(&code::MACRO_CALLS, code) {
+        Some(Refusal::Subprogram)
+    } else {
+        None
+    }
+}
+
+/// What stands in the way on a line that can't be read.
+pub(crate) fn unread_refusal(line: &[u8]) -> Refusal
+    ensures { result ≡ spec.unread_refusal line.now }
+{
+    if has_byte(b'<', line) {
+        Refusal::NamedParameter
+    } else {
+        Refusal::Unread
+    }
+}
+
+impl Motion {
+    ghost use Rattle.ngc_adapt.specs.Refusals.{may_be_cycle};
+
+    fn may_be_cycle(self) -> bool
+        ensures { result ≡ may_be_cycle self }
+    {
+        matches!(self, Motion::Cycle | Motion::Unknown)
+    }
+}
+
+impl Modes {
+    ghost use Rattle.ngc_adapt.specs.Refusals.{is_foreign, g_refusal, time_refusal, p_refusal};
+    ghost use Rattle.ngc_adapt.specs.Refusals.{letter_refusal, word_refusal, refusal_for};
+    ghost use Rattle.ngc_adapt.specs.Refusals.{own_refusal};
+
+    // Whether our language doesn't have a code.
+    fn is_foreign(&self, code: Option<u16>) -> bool
+        ensures { result ≡ is_foreign self.now code }
+    {
+        is_one_of(&code::IDLE, code) || is_own(self.dialect, code) || !is_known(self.dialect, code)
+    }
+
+    // What stands in the way of a code of no such family.
+    fn own_refusal(&self, words: &[Word], code: Option<u16>) -> Option<Refusal>
+        ensures { result ≡ own_refusal self.now words.now code }
+    {
+        if is_one_of(&code::SETTING, code) {
+            refuse(!self.sets_origin(words), Refusal::ToolTable)
+        } else if is_one_of(&code::TOOL_LENGTH, code) {
+            refuse(!has_offset_number(words), Refusal::ToolOffset)
+        } else {
+            refuse(self.is_foreign(code), Refusal::UnknownCode)
+        }
+    }
+
+    // What stands in the way of a code.
+    fn g_refusal(&self, words: &[Word], code: Option<u16>) -> Option<Refusal>
+        ensures { result ≡ g_refusal self.now words.now code }
+    {
+        family_refusal(code).or(self.own_refusal(words, code))
+    }
+
+    // What stands in the way of a P whose unit isn't known.
+    fn time_refusal(&self, words: &[Word], number: &Number) -> Option<Refusal>
+        ensures { result ≡ time_refusal self.now words.now number.now }
+    {
+        refuse(
+            self.dialect.is_fanuc()
+                && !number.has_point
+                && !self.has_unknown(words)
+                && (has(&code::DWELL, words) || self.motion.after(words).may_be_cycle())
+                && !has(&code::SETTING, words),
+            Refusal::UnknownTime,
+        )
+    }
+
+    // What stands in the way of P.
+    fn p_refusal(&self, words: &[Word], number: &Number) -> Option<Refusal>
+        ensures { result ≡ p_refusal self.now words.now number.now }
+    {
+        if number.is_zero && self.sets_origin(words) {
+            Some(Refusal::UnknownSystem)
+        } else {
+            self.time_refusal(words, number)
+        }
+    }
+
+    // What stands in the way of a word by its letter.
+    fn letter_refusal(&self, words: &[Word], letter: Letter, number: &Number) -> Option<Refusal>
+        ensures { result ≡ letter_refusal self.now words.now letter number.now }
+    {
+        match letter {
+            Letter::A | Letter::B | Letter::C => Some(Refusal::RotaryAxis),
+            Letter::E | Letter::U | Letter::V | Letter::W => Some(Refusal::MoreAxes),
+            Letter::O => Some(Refusal::ProgramWord),
+            Letter::G => self.g_refusal(words, number.code),
+            Letter::M => m_refusal(number.code),
+            Letter::P => self.p_refusal(words, number),
+            _ => None,
+        }
+    }
+
+    // What stands in the way of a word that no rule changes.
+    fn word_refusal(&self, words: &[Word], word: &Word) -> Option<Refusal>
+        ensures { result ≡ word_refusal self.now words.now word.now }
+    {
+        self.letter_refusal(words, word.letter, &word.number)
+            .or(refuse(word.number.has_name, Refusal::Function))
+    }
+
+    /// Returns what stands in the way of a word of a line, unless a rule changes it by its letter.
+    #[tactic(auto, unfolding(crate::specs::Refusals::refusal_for))]
+    pub fn refusal_for(&self, words: &[Word], word: &Word) -> Option<Refusal>
+        ensures { result ≡ refusal_for self.now words.now word.now }
+    {
+        match self.rule_of(words, word) {
+            Some(_) => None,
+            None => self.word_refusal(words, word),
+        }
+    }
+}

@@ -1,0 +1,8 @@
+-- The number that digits give.
+pub mod Digits
+-- The words of a line.
+pub mod WordLaws
+-- What is written of a line.
+pub mod LineLaws
+-- Values, places and lines worked by hand, by computing the definitions.
+pub mod Examples

@@ -1,0 +1,64 @@
+-- What is written of a line, item by item.
+use Rattle.std.proofs.Common.{cond, ◌≡◌, ℕ, Bool, true, false, List, [], ◌∷◌, ◌++◌, length, ap, refl}
+use Rattle.std.specs.Prelude.{◌&&◌, ◌||◌, not, codes, Option, Some, None}
+use Rattle.ngc_adapt.specs.Items.{items_of}
+use Rattle.ngc_adapt.proofs.ItemLaws.{nothing}
+use Rattle.ngc_adapt_moves.specs.declared.plan.Plan.{Plan}
+use Rattle.ngc_adapt_moves.specs.declared.rule.Rule.{Rule}
+use Rattle.ngc_adapt_moves.specs.Plans.{rule_if, rules_of, is_changed, plan_of}
+use Rattle.ngc_adapt_moves.specs.Lines.{items_written, item_written, is_place_item, front_if, feed_items, rewritten, rules_by, written_by, written, rules_for}
+use Rattle.ngc_adapt_moves.specs.declared.places.Places.{Places}
+use Rattle.ngc_adapt_moves.specs.declared.word.Word.{Word}
+use Rattle.ngc_adapt_moves.specs.Words.{words_of}
+use Rattle.ngc_adapt_moves.specs.Laws.{UnchangedIsCopied}
+
+-- what is written of an item, and of those after it
+pub written_next : (first : Bool) (plan : Plan) (rest item others : List ℕ) → items_of rest ≡ item ∷ items_of others
+    → items_written first plan (items_of rest)
+    ≡ front_if (first && is_place_item item) plan ++ (item_written plan item ++ items_written (first && not (is_place_item item)) plan (items_of others))
+written_next first plan rest item others h = ap (λ (xs : List (List ℕ)). items_written first plan xs) h
+
+pub line_end : (first : Bool) (plan : Plan) (rest : List ℕ) → length rest ≡ 0 → items_written first plan (items_of rest) ≡ []
+line_end first plan rest h = ap (λ (xs : List (List ℕ)). items_written first plan xs) (nothing rest h)
+
+pub feed_end : (rest : List ℕ) → length rest ≡ 0 → feed_items (items_of rest) ≡ []
+feed_end rest h = ap (λ (xs : List (List ℕ)). feed_items xs) (nothing rest h)
+
+last_none : (xs : List Rule) (b : Bool) (r : Rule) → xs ++ rule_if b r ≡ [] → (xs ≡ []) × (b ≡ false)
+last_none [] true r e = absurd cc
+last_none [] false r e = (refl, refl)
+last_none (x ∷ xs) b r e = absurd cc
+
+only_none : (b : Bool) (r : Rule) → rule_if b r ≡ [] → b ≡ false
+only_none true r e = absurd cc
+only_none false r e = refl
+
+neither : (a b : Bool) → a ≡ false → b ≡ false → (a || b) ≡ false
+neither true b h k = absurd cc
+neither false b h k = k
+
+-- where no rule holds, nothing is changed
+none_changed : (plan : Plan) → rules_of plan ≡ [] → is_changed plan ≡ false
+none_changed plan h =
+    let f = last_none _ _ _ h in
+    let e = last_none _ _ _ f.0 in
+    let d = last_none _ _ _ e.0 in
+    let c = last_none _ _ _ d.0 in
+    let b = last_none _ _ _ c.0 in
+    let a = only_none _ _ b.0 in
+    neither _ _ a (neither _ _ b.1 (neither _ _ c.1 (neither _ _ d.1 (neither _ _ e.1 f.1))))
+
+stays : (t : Bool) (x line : List ℕ) → t ≡ false → cond t x line ≡ line
+stays true x line e = absurd cc
+stays false x line e = refl
+
+pub unchanged : (separator : List ℕ) (plan : Plan) (line : List ℕ) → rules_of plan ≡ [] → rewritten separator plan line ≡ line
+unchanged separator plan line h = stays (is_changed plan) _ line (none_changed plan h)
+
+by_words : (places : Places) (line : List ℕ) (words : Option (List Word)) → rules_by places words ≡ [] → written_by places line words ≡ line
+by_words places line None h = refl
+by_words places line (Some words) h = unchanged (codes "\n") (plan_of places words) line h
+
+pub unchanged_is_copied : UnchangedIsCopied
+unfolding written rules_for
+unchanged_is_copied places line h = by_words places line (words_of line) h

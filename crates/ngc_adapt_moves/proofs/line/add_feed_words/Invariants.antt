@@ -1,0 +1,11 @@
+-- What is written so far, and what is left to write.
+use Rattle.std.proofs.Common.{◌≡◌, ◌++◌, length}
+use Rattle.ngc_adapt.specs.Items.{items_of}
+use Rattle.ngc_adapt_moves.specs.Lines.{feed_items, feed_words}
+use Rattle.ngc_adapt_moves.proofs.line.add_feed_words.Given as goal
+
+abbrev pub invariant-loop-rest : goal.invariant-loop-rest
+invariant-loop-rest g l = l.out.items ++ feed_items (items_of l.rest) ≡ l.fn.out.items ++ feed_words l.fn.line
+
+abbrev pub decreases-loop-rest : goal.decreases-loop-rest
+decreases-loop-rest g l = length l.rest

@@ -1,0 +1,13 @@
+pub mod Arcs
+pub mod Axes
+pub mod Homing
+pub mod Laws
+pub mod LineReports
+pub mod LineWords
+pub mod Lines
+pub mod Places
+pub mod Plans
+pub mod Reports
+pub mod Texts
+pub mod Values
+pub mod Words

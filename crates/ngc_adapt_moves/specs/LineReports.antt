@@ -1,0 +1,75 @@
+-- The report of a line: each change with what was there and what is written, and each reason why the
+-- line is left.
+use Rattle.std.specs.Prelude.{ℕ, Bool, List, [], ◌++◌, codes, decimal, Option, Some, None}
+use Rattle.std.specs.Prelude.{if◌then◌else◌}
+use Rattle.ngc_adapt_moves.specs.declared.places.Places.{Places}
+use Rattle.ngc_adapt_moves.specs.declared.plan.Plan.{Plan}
+use Rattle.ngc_adapt_moves.specs.declared.rule.Rule.{Rule}
+use Rattle.ngc_adapt_moves.specs.declared.rule.Rule.TheVariants as rules
+use Rattle.ngc_adapt_moves.specs.declared.rule.Refusal.{Refusal}
+use Rattle.ngc_adapt_moves.specs.declared.rule.Refusal.TheVariants as refusals
+use Rattle.ngc_adapt_moves.specs.declared.word.Word.{Word}
+use Rattle.ngc_adapt_moves.specs.Lines.{rewritten}
+use Rattle.ngc_adapt_moves.specs.Plans.{plan_of, is_homed, is_named, is_circled, is_first, is_origin}
+use Rattle.ngc_adapt_moves.specs.Plans.{homing_refusal, naming_refusal, circle_refusal, centre_refusal}
+use Rattle.ngc_adapt_moves.specs.Plans.{feeding_refusal}
+use Rattle.ngc_adapt_moves.specs.Reports.{rule_name, class_of, refusal_name, sentence}
+use Rattle.ngc_adapt_moves.specs.Words.{words_of}
+
+-- where a change is, in the source and in what is written
+abbrev pub place_text : ℕ → ℕ → List ℕ
+place_text number written_number =
+    codes "line " ++ (decimal number ++ (codes " (" ++ (decimal written_number ++ codes "): ")))
+
+abbrev pub rule_text : Rule → List ℕ
+rule_text rule = rule_name rule ++ (codes " " ++ (class_of rule ++ codes ": "))
+
+-- what a line was and what is written: a slash parts the lines
+abbrev pub was_text : Plan → List ℕ → List ℕ
+was_text plan line = line ++ (codes " -> " ++ (rewritten (codes " / ") plan line ++ codes "\n"))
+
+abbrev pub change_if : Bool → ℕ → ℕ → Rule → Plan → List ℕ → List ℕ
+change_if holds number written_number rule plan line =
+    if holds then place_text number written_number ++ (rule_text rule ++ was_text plan line) else []
+
+unfoldable pub changes_text : ℕ → ℕ → Plan → List ℕ → List ℕ
+changes_text number written_number plan line =
+    change_if (is_homed plan.homing) number written_number rules.PartHome plan line
+    ++ (change_if (is_named plan.naming) number written_number rules.MotionAnew plan line
+    ++ (change_if (is_circled plan.circle) number written_number rules.FullCircle plan line
+    ++ (change_if (is_origin plan) number written_number rules.ArcOrigin plan line
+    ++ (change_if plan.apart number written_number rules.MotionApart plan line
+    ++ change_if (is_first plan.feeding) number written_number rules.FeedFirst plan line))))
+
+unfoldable pub refusal_text : ℕ → Refusal → List ℕ
+refusal_text number refusal =
+    codes "line " ++ (decimal number ++ (codes ": " ++ (refusal_name refusal ++ (codes " left: "
+    ++ (sentence refusal ++ codes "\n")))))
+
+abbrev pub refusal_if : ℕ → Option Refusal → List ℕ
+refusal_if number (Some refusal) = refusal_text number refusal
+refusal_if number None = []
+
+unfoldable pub refusals_text : ℕ → Plan → List ℕ
+refusals_text number plan =
+    refusal_if number (homing_refusal plan.homing)
+    ++ (refusal_if number (naming_refusal plan.naming)
+    ++ (refusal_if number (circle_refusal plan.circle)
+    ++ (refusal_if number (centre_refusal plan.centre)
+    ++ refusal_if number (feeding_refusal plan.feeding))))
+
+-- the report of a line with these words
+unfoldable pub words_report : ℕ → ℕ → Places → List Word → List ℕ → List ℕ
+words_report number written_number places words line =
+    changes_text number written_number (plan_of places words) line
+    ++ refusals_text number (plan_of places words)
+
+abbrev pub report_by : ℕ → ℕ → Places → List ℕ → Option (List Word) → List ℕ
+report_by number written_number places line None = refusal_text number refusals.NotRead
+report_by number written_number places line (Some words) =
+    words_report number written_number places words line
+
+-- the report of a line
+unfoldable pub line_report : ℕ → ℕ → Places → List ℕ → List ℕ
+line_report number written_number places line =
+    report_by number written_number places line (words_of line)

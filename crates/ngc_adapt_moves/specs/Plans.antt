@@ -1,0 +1,245 @@
+-- What the rules make of a line with these words.
+use Rattle.std.specs.Prelude.{ℕ, ◌+◌, ℤ, ◌&&◌, ◌||◌, not, Bool, true, false, List, [], ◌∷◌, ◌++◌, Option}
+use Rattle.std.specs.Prelude.{Some, None, if◌then◌else◌}
+use Rattle.ngc_adapt.specs.declared.dialect.Dialect.{Dialect}
+use Rattle.ngc_adapt.specs.declared.dialect.Dialect.TheVariants as dialects
+use Rattle.ngc_fixed_length.specs.declared.units.Units.{Units}
+use Rattle.ngc_fixed_length.specs.declared.modes.FeedMode.{FeedMode}
+use Rattle.ngc_fixed_length.specs.declared.modes.FeedMode.TheVariants as feeds
+use Rattle.ngc_adapt_moves.specs.declared.arc.Circle.{Circle}
+use Rattle.ngc_adapt_moves.specs.declared.arc.Circle.TheVariants as circles
+use Rattle.ngc_adapt_moves.specs.declared.arc.Centre.{Centre}
+use Rattle.ngc_adapt_moves.specs.declared.arc.Centre.TheVariants as centres
+use Rattle.ngc_adapt_moves.specs.declared.axis.Axis.{Axis}
+use Rattle.ngc_adapt_moves.specs.declared.axis.Place.{Place}
+use Rattle.ngc_adapt_moves.specs.declared.homing.Homing.{Homing}
+use Rattle.ngc_adapt_moves.specs.declared.homing.Homing.TheVariants as homings
+use Rattle.ngc_adapt_moves.specs.declared.places.Motion.{Motion}
+use Rattle.ngc_adapt_moves.specs.declared.places.Motion.TheVariants as motions
+use Rattle.ngc_adapt_moves.specs.declared.places.Places.{Places}
+use Rattle.ngc_adapt_moves.specs.declared.plan.Naming.{Naming}
+use Rattle.ngc_adapt_moves.specs.declared.plan.Naming.TheVariants as namings
+use Rattle.ngc_adapt_moves.specs.declared.plan.Feeding.{Feeding}
+use Rattle.ngc_adapt_moves.specs.declared.plan.Feeding.TheVariants as feedings
+use Rattle.ngc_adapt_moves.specs.declared.plan.Plan.{Plan}
+use Rattle.ngc_adapt_moves.specs.declared.rule.Rule.{Rule}
+use Rattle.ngc_adapt_moves.specs.declared.rule.Rule.TheVariants as rules
+use Rattle.ngc_adapt_moves.specs.declared.rule.Refusal.{Refusal}
+use Rattle.ngc_adapt_moves.specs.declared.rule.Refusal.TheVariants as refusals
+use Rattle.ngc_adapt_moves.specs.declared.text.Text.{Text}
+use Rattle.ngc_adapt_moves.specs.declared.text.Text.TheVariants as texts
+use Rattle.ngc_adapt_moves.specs.declared.word.Letter.{Letter}
+use Rattle.ngc_adapt_moves.specs.declared.word.Letter.TheVariants as letters
+use Rattle.ngc_adapt_moves.specs.declared.word.Word.{Word}
+use Rattle.ngc_adapt_moves.specs.declared.code.TheConstants as codes
+use Rattle.ngc_adapt_moves.specs.Axes.{along}
+use Rattle.ngc_adapt_moves.specs.LineWords.{has, has_axes, has_feed, has_motion, has_place}
+use Rattle.ngc_adapt_moves.specs.LineWords.{has_unknown, is_code, is_f}
+use Rattle.ngc_adapt_moves.specs.Places.{changes_units, feed_mode_after, modes_after}
+use Rattle.ngc_adapt_moves.specs.Homing.{homing_of, is_part_home}
+use Rattle.ngc_adapt_moves.specs.Arcs.{circle_of, centre_of}
+
+-- the motions of G0 to G3
+abbrev pub has_name : Motion → Bool
+has_name motions.Traverse = true
+has_name motions.Feed = true
+has_name motions.Clockwise = true
+has_name motions.Counterclockwise = true
+has_name _ = false
+
+-- a line moves by the motion in force, and what is written leaves another
+abbrev pub is_unnamed : Places → List Word → Bool
+is_unnamed places words =
+    places.motion_anew
+    && (has_place words
+    && not (has_motion words || has_unknown words || has codes.FOR_ONE_LINE words))
+
+abbrev pub naming_of : Places → List Word → Naming
+naming_of places words =
+    if not (is_unnamed places words) then namings.Other else (
+    if has_name places.motion then namings.By places.motion else namings.Left)
+
+-- a motion code is beside a code that takes the axis words, which are none of its own
+abbrev pub is_apart : List Word → Bool
+is_apart words =
+    has codes.TAKING_AXES words
+    && (has codes.NAMED_MOTION words
+    && (has_axes words && (not (is_part_home words) && not (has_unknown words))))
+
+abbrev pub is_linuxcnc : Dialect → Bool
+is_linuxcnc dialects.LinuxCnc = true
+is_linuxcnc _ = false
+
+abbrev pub feeding_in : Option Units → Option FeedMode → Feeding
+feeding_in units (Some feeds.InverseTime) = feedings.Other
+feeding_in (Some units) (Some feeds.PerMinute) = feedings.First
+feeding_in None (Some feeds.PerMinute) = feedings.Left
+feeding_in units None = feedings.Left
+
+-- F beside a change of the units: LinuxCNC counts it in the units before
+abbrev pub feeding_of : Places → List Word → Feeding
+feeding_of places words =
+    if is_linuxcnc places.dialect
+    && (has_feed words && (changes_units places.units words && not (has_unknown words)))
+    then feeding_in places.units (feed_mode_after places.feed_mode words) else feedings.Other
+
+-- what the rules make of a line with these words
+abbrev pub plan_of : Places → List Word → Plan
+plan_of places words =
+    record {
+      homing = homing_of places words;
+      naming = naming_of places words;
+      circle = circle_of places (modes_after places words) words;
+      centre = centre_of places (modes_after places words) words;
+      has_arc_code = has codes.ARC_DISTANCE words;
+      apart = is_apart words;
+      feeding = feeding_of places words;
+    }
+
+abbrev pub is_homed : Homing → Bool
+is_homed (homings.Direct place) = true
+is_homed (homings.Between place) = true
+is_homed _ = false
+
+abbrev pub is_named : Naming → Bool
+is_named (namings.By motion) = true
+is_named _ = false
+
+abbrev pub is_circled : Circle → Bool
+is_circled (circles.From axis value) = true
+is_circled _ = false
+
+abbrev pub is_centred : Centre → Bool
+is_centred (centres.By offsets) = true
+is_centred _ = false
+
+abbrev pub is_first : Feeding → Bool
+is_first feedings.First = true
+is_first _ = false
+
+-- offsets from the origin, or the codes that say so, are changed
+abbrev pub is_origin : Plan → Bool
+is_origin plan = plan.has_arc_code || is_centred plan.centre
+
+-- a rule changes the line
+abbrev pub is_changed : Plan → Bool
+is_changed plan =
+    is_homed plan.homing || (is_named plan.naming || (is_circled plan.circle || (is_origin plan
+    || (plan.apart || is_first plan.feeding))))
+
+abbrev pub rule_if : Bool → Rule → List Rule
+rule_if holds rule = if holds then rule ∷ [] else []
+
+-- the rules that change the line
+abbrev pub rules_of : Plan → List Rule
+rules_of plan =
+    ((((rule_if (is_homed plan.homing) rules.PartHome
+    ++ rule_if (is_named plan.naming) rules.MotionAnew)
+    ++ rule_if (is_circled plan.circle) rules.FullCircle)
+    ++ rule_if (is_origin plan) rules.ArcOrigin) ++ rule_if plan.apart rules.MotionApart)
+    ++ rule_if (is_first plan.feeding) rules.FeedFirst
+
+abbrev pub homing_refusal : Homing → Option Refusal
+homing_refusal (homings.Left refusal) = Some refusal
+homing_refusal _ = None
+
+abbrev pub naming_refusal : Naming → Option Refusal
+naming_refusal namings.Left = Some refusals.MotionNotKnown
+naming_refusal _ = None
+
+abbrev pub circle_refusal : Circle → Option Refusal
+circle_refusal (circles.Left refusal) = Some refusal
+circle_refusal _ = None
+
+abbrev pub centre_refusal : Centre → Option Refusal
+centre_refusal (centres.Left refusal) = Some refusal
+centre_refusal _ = None
+
+abbrev pub feeding_refusal : Feeding → Option Refusal
+feeding_refusal feedings.Left = Some refusals.FeedNotKnown
+feeding_refusal _ = None
+
+abbrev pub refusal_if : Option Refusal → List Refusal
+refusal_if (Some refusal) = refusal ∷ []
+refusal_if None = []
+
+-- why the line is left, if it is
+abbrev pub refusals_of : Plan → List Refusal
+refusals_of plan =
+    (((refusal_if (homing_refusal plan.homing) ++ refusal_if (naming_refusal plan.naming))
+    ++ refusal_if (circle_refusal plan.circle)) ++ refusal_if (centre_refusal plan.centre))
+    ++ refusal_if (feeding_refusal plan.feeding)
+
+-- the code that names the motion anew
+abbrev pub naming_text : Naming → Text
+naming_text (namings.By motion) = texts.Motion motion
+naming_text _ = texts.Nothing
+
+-- the axis word of the circle's start
+abbrev pub circle_text : Circle → Text
+circle_text (circles.From axis value) = texts.Coordinate axis value
+circle_text _ = texts.Nothing
+
+abbrev pub coordinate_at : Axis → Option ℤ → Option Text
+coordinate_at axis (Some value) = Some (texts.Coordinate axis value)
+coordinate_at axis None = None
+
+abbrev pub coordinate_text : Place → Letter → Option Text
+coordinate_text place (letters.Axis axis) = coordinate_at axis (along axis place)
+coordinate_text place _ = None
+
+abbrev pub offset_at : Axis → Option ℤ → Option Text
+offset_at axis (Some value) = Some (texts.Offset axis value)
+offset_at axis None = None
+
+abbrev pub offset_text : Place → Letter → Option Text
+offset_text place (letters.Offset axis) = offset_at axis (along axis place)
+offset_text place _ = None
+
+-- straight home: G53 G0 for the homing code, no other motion code, and the home of each axis
+abbrev pub direct_change : Place → Word → Option Text
+direct_change place w =
+    if is_code codes.HOMING w then Some texts.MachineTraverse else (
+    if is_code codes.MOTION w then Some texts.Nothing else coordinate_text place w.letter)
+
+-- by a place between: G0 for the homing code, and no other motion code
+abbrev pub between_change : Word → Option Text
+between_change w =
+    if is_code codes.HOMING w then Some (texts.Motion motions.Traverse) else (
+    if is_code codes.MOTION w then Some texts.Nothing else None)
+
+abbrev pub arc_change : Centre → Word → Option Text
+arc_change (centres.By offsets) w = offset_text offsets w.letter
+arc_change _ w = None
+
+abbrev pub homing_change : Homing → Centre → Word → Option Text
+homing_change (homings.Direct place) centre w = direct_change place w
+homing_change (homings.Between place) centre w = between_change w
+homing_change homings.Other centre w = arc_change centre w
+homing_change (homings.Left refusal) centre w = arc_change centre w
+
+-- a word that is left out of the source's own line: G90.1 and G91.1, a motion code that takes no axis
+-- words, F that is written on a line before
+abbrev pub leaves_out : Plan → Word → Bool
+leaves_out plan w =
+    is_code codes.ARC_DISTANCE w
+    || ((plan.apart && is_code codes.NAMED_MOTION w) || (is_first plan.feeding && is_f w.letter))
+
+-- what is written in place of a word, if it is changed
+abbrev pub change_of : Plan → Word → Option Text
+change_of plan w =
+    if leaves_out plan w then Some texts.Nothing
+    else homing_change plan.homing plan.centre w
+
+-- how many lines are written before the source's own
+abbrev pub before_count : Plan → ℕ
+before_count plan = if is_first plan.feeding then 1 else 0
+
+-- the source's own, and those after it
+abbrev pub homing_lines : Homing → ℕ
+homing_lines (homings.Between place) = 2
+homing_lines _ = 1
+
+-- how many lines are written
+abbrev pub line_count : Plan → ℕ
+line_count plan = before_count plan + homing_lines plan.homing

@@ -1,0 +1,93 @@
+//! Codes by what they do, in tenths: 592 is G59.2.
+
+pub const TRAVERSE: [u16; 1] = [0];
+
+pub const FEED: [u16; 1] = [10];
+
+pub const CLOCKWISE: [u16; 1] = [20];
+
+pub const COUNTERCLOCKWISE: [u16; 1] = [30];
+
+/// Canned cycles.
+pub const CYCLES: [u16; 12] = [730, 740, 760, 810, 820, 830, 840, 850, 860, 870, 880, 890];
+
+/// The end of a motion mode.
+pub const MOTION_END: [u16; 1] = [800];
+
+/// The motion modes, and their end.
+pub const MOTION: [u16; 5] = [0, 10, 20, 30, 800];
+
+/// The motions of G0 to G3.
+pub const NAMED_MOTION: [u16; 4] = [0, 10, 20, 30];
+
+pub const PLANE_XY: [u16; 1] = [170];
+
+pub const PLANE_ZX: [u16; 1] = [180];
+
+pub const PLANE_YZ: [u16; 1] = [190];
+
+pub const INCHES: [u16; 1] = [200];
+
+pub const MILLIMETRES: [u16; 1] = [210];
+
+pub const ABSOLUTE: [u16; 1] = [900];
+
+pub const INCREMENTAL: [u16; 1] = [910];
+
+/// Offsets of arcs from the origin.
+pub const ARCS_FROM_ORIGIN: [u16; 1] = [901];
+
+/// Offsets of arcs from the current point.
+pub const ARCS_FROM_POINT: [u16; 1] = [911];
+
+/// The units, the distance mode, and that of arcs.
+pub const UNITS: [u16; 2] = [200, 210];
+
+pub const DISTANCE: [u16; 2] = [900, 910];
+
+pub const ARC_DISTANCE: [u16; 2] = [901, 911];
+
+/// Machine coordinates.
+pub const MACHINE_COORDINATES: [u16; 1] = [530];
+
+/// G28, the first home.
+pub const FIRST_HOME: [u16; 1] = [280];
+
+/// Homing: G28 and G30.
+pub const HOMING: [u16; 2] = [280, 300];
+
+/// Offsets of the axes by the place that the line names.
+pub const AXIS_OFFSETS: [u16; 1] = [920];
+
+/// Codes that take the axis words of their line: origins, homing, offsets of the axes.
+pub const TAKING_AXES: [u16; 5] = [100, 280, 300, 520, 920];
+
+/// F gives how often a minute a motion could be made, or lengths a minute.
+pub const INVERSE_TIME: [u16; 1] = [930];
+
+pub const PER_MINUTE: [u16; 1] = [940];
+
+pub const FEED_MODE: [u16; 2] = [930, 940];
+
+pub const TOOL_LENGTH: [u16; 2] = [430, 490];
+
+/// Codes by which a place gets other coordinates: G10, G52, G54 to G59.3, G92.1 to G92.3.
+pub const ORIGINS: [u16; 14] = [
+    100, 520, 540, 550, 560, 570, 580, 590, 591, 592, 593, 921, 922, 923,
+];
+
+/// Codes that act on their line alone, and take the axis words from the motion: dwell, origins,
+/// homing, offsets of the axes.
+pub const FOR_ONE_LINE: [u16; 6] = [40, 100, 280, 300, 520, 920];
+
+/// Modes that neither move nor change where a place is.
+pub const PLAIN: [u16; 9] = [400, 610, 611, 640, 930, 940, 970, 980, 990];
+
+/// The M codes that stop or end a program, after the motion of their line.
+pub const STOPS: [u16; 5] = [0, 10, 20, 300, 600];
+
+/// The change of the tool.
+pub const TOOL_CHANGE: [u16; 1] = [60];
+
+/// The M codes of our language that leave the tool where it is.
+pub const MACHINE_CODES: [u16; 13] = [0, 10, 20, 30, 40, 50, 70, 80, 90, 300, 480, 490, 600];

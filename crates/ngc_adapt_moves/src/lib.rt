@@ -1,0 +1,29 @@
+//! Lines of part programs rewritten where that takes the place of the tool or further lines.
+#![tactic(auto)]
+
+mod arc;
+mod axis;
+mod code;
+mod homing;
+pub mod laws;
+mod line;
+mod line_words;
+mod places;
+mod plan;
+mod report;
+mod rule;
+mod text;
+mod value;
+mod word;
+
+pub use arc::{Centre, Circle};
+pub use axis::{Axis, Place};
+pub use homing::Homing;
+pub use line::{Rewritten, rewrite_line};
+pub use places::{ArcDistance, Homes, Motion, Places};
+pub use plan::{Feeding, MOST_RULES, Naming, Plan};
+pub use report::add_line_report;
+pub use rule::{Refusal, Rule};
+pub use text::Text;
+pub use value::value_of;
+pub use word::{Letter, Word, read_words};

@@ -1,0 +1,308 @@
+//! What is written of a line.
+ghost use Rattle.std.specs.Prelude.{◌≡◌, ◌++◌, [], codes, length, IfOk, if◌then◌else◌};
+ghost use Rattle.ngc_adapt_moves.specs.Lines as spec;
+
+use crate::axis::{Axis, Place};
+use crate::homing::Homing;
+use crate::line_words::{has_motion, has_unknown, is_f, is_of_place};
+use crate::places::{Motion, Places};
+use crate::plan::{MOST_RULES, Plan, plan_of};
+use crate::rule::{Refusal, Rule};
+use crate::text::{add_text, add_value, axis_letter};
+use crate::word::{Word, read_words, word_of};
+use arrayvec::ArrayVec;
+use ngc_adapt::{may_be_deleted, split_item};
+use ngc_fixed_length::Value;
+use std::alloc::{AllocError, Allocator};
+
+/// What became of a line.
+#[derive(Drop)]
+pub struct Rewritten {
+    /// The rules that changed it.
+    pub rules: ArrayVec<Rule, MOST_RULES>,
+    /// Why it is left, where it means something else in our language.
+    pub refusals: ArrayVec<Refusal, MOST_RULES>,
+    /// What the line leaves.
+    pub after: Places,
+    /// How many lines are written before the source's own.
+    pub before_count: usize,
+    /// How many lines are written in all.
+    pub line_count: usize,
+}
+
+fn is_place_item(item: &[u8]) -> bool
+    ensures { result ≡ spec.is_place_item item.now }
+{
+    match word_of(item) {
+        Some(word) => is_of_place(word.letter),
+        None => false,
+    }
+}
+
+// Adds what is written of an item.
+fn add_item<A: Allocator>(plan: &Plan, item: &[u8], out: &mut Vec<u8, A>) -> Result<(), AllocError>
+    ensures { IfOk result
+        (λ _. out.new.items ≡ out.old.items ++ spec.item_written plan.now item.now) }
+{
+    let change = match word_of(item) {
+        Some(word) => plan.change_of(&word),
+        None => None,
+    };
+    match change {
+        Some(text) => add_text(text, out),
+        None => {
+            out.extend_from_slice(item)?;
+            Ok(())
+        }
+    }
+}
+
+// Adds what is written in front of the first word of a place.
+fn add_front<A: Allocator>(plan: &Plan, out: &mut Vec<u8, A>) -> Result<(), AllocError>
+    ensures { IfOk result (λ _. out.new.items ≡ out.old.items ++ spec.front plan.now) }
+{
+    add_text(plan.naming.text(), out)?;
+    add_text(plan.circle.text(), out)?;
+    Ok(())
+}
+
+fn add_front_if<A: Allocator>(
+    holds: bool,
+    plan: &Plan,
+    out: &mut Vec<u8, A>,
+) -> Result<(), AllocError>
+    ensures { IfOk result
+        (λ _. out.new.items ≡ out.old.items ++ spec.front_if holds plan.now) }
+{
+    if holds { add_front(plan, out) } else { Ok(()) }
+}
+
+fn is_feed_item(item: &[u8]) -> bool
+    ensures { result ≡ spec.is_feed_item item.now }
+{
+    match word_of(item) {
+        Some(word) => is_f(word.letter),
+        None => false,
+    }
+}
+
+fn add_item_if<A: Allocator>(
+    holds: bool,
+    item: &[u8],
+    out: &mut Vec<u8, A>,
+) -> Result<(), AllocError>
+    ensures { IfOk result
+        (λ _. out.new.items ≡ out.old.items ++ spec.item_if holds item.now) }
+{
+    if holds {
+        out.extend_from_slice(item)
+    } else {
+        Ok(())
+    }
+}
+
+// Adds the F words of a line.
+fn add_feed_words<A: Allocator>(line: &[u8], out: &mut Vec<u8, A>) -> Result<(), AllocError>
+    ensures { IfOk result (λ _. out.new.items ≡ out.old.items ++ spec.feed_words line.now) }
+{
+    let mut rest = line;
+    while !rest.is_empty() {
+        let (item, others) = split_item(rest);
+        add_item_if(is_feed_item(item), item, out)?;
+        rest = others;
+    }
+    Ok(())
+}
+
+// Adds the lines before the source's own, each with a separator behind it.
+fn add_before<A: Allocator>(
+    separator: &[u8],
+    plan: &Plan,
+    line: &[u8],
+    out: &mut Vec<u8, A>,
+) -> Result<(), AllocError>
+    ensures { IfOk result (λ _. out.new.items ≡ out.old.items
+        ++ spec.before_written separator.now plan.now line.now) }
+{
+    if plan.feeding.is_first() {
+        out.extend_from_slice(slash(may_be_deleted(line)))?;
+        add_feed_words(line, out)?;
+        out.extend_from_slice(separator)?;
+    }
+    Ok(())
+}
+
+// Adds what the source's own line is rewritten to.
+fn add_main<A: Allocator>(plan: &Plan, line: &[u8], out: &mut Vec<u8, A>) -> Result<(), AllocError>
+    ensures { IfOk result
+        (λ _. out.new.items ≡ out.old.items ++ spec.main_written plan.now line.now) }
+{
+    let mut first = true;
+    let mut rest = line;
+    while !rest.is_empty() {
+        let (item, others) = split_item(rest);
+        let places = is_place_item(item);
+        add_front_if(first && places, plan, out)?;
+        add_item(plan, item, out)?;
+        first = first && !places;
+        rest = others;
+    }
+    Ok(())
+}
+
+fn add_target<A: Allocator>(
+    axis: Axis,
+    target: Option<Value>,
+    out: &mut Vec<u8, A>,
+) -> Result<(), AllocError>
+    ensures { IfOk result
+        (λ _. out.new.items ≡ out.old.items ++ spec.target_text axis target) }
+{
+    match target {
+        Some(value) => {
+            out.extend_from_slice(b" ")?;
+            out.push(axis_letter(axis))?;
+            add_value(value, out)
+        }
+        None => Ok(()),
+    }
+}
+
+fn slash(deletable: bool) -> &'static [u8]
+    ensures { result.now ≡ spec.slash deletable }
+{
+    if deletable { b"/" } else { b"" }
+}
+
+// Adds the line that goes straight to places of the machine.
+fn add_home_line<A: Allocator>(
+    place: &Place,
+    deletable: bool,
+    out: &mut Vec<u8, A>,
+) -> Result<(), AllocError>
+    ensures { IfOk result
+        (λ _. out.new.items ≡ out.old.items ++ spec.home_line place.now deletable) }
+{
+    out.extend_from_slice(slash(deletable))?;
+    out.extend_from_slice(b"G53 G0")?;
+    add_target(Axis::X, place.x, out)?;
+    add_target(Axis::Y, place.y, out)?;
+    add_target(Axis::Z, place.z, out)?;
+    Ok(())
+}
+
+// Adds the lines after the source's own, each behind a separator.
+fn add_after<A: Allocator>(
+    separator: &[u8],
+    homing: &Homing,
+    deletable: bool,
+    out: &mut Vec<u8, A>,
+) -> Result<(), AllocError>
+    ensures { IfOk result (λ _. out.new.items ≡ out.old.items
+        ++ spec.after_written separator.now homing.now deletable) }
+{
+    match homing {
+        Homing::Between(place) => {
+            out.extend_from_slice(separator)?;
+            add_home_line(place, deletable, out)
+        }
+        Homing::Other | Homing::Left(_) | Homing::Direct(_) => Ok(()),
+    }
+}
+
+// Adds what a line is rewritten to, with a separator between lines.
+pub(crate) fn add_rewritten<A: Allocator>(
+    separator: &[u8],
+    plan: &Plan,
+    line: &[u8],
+    out: &mut Vec<u8, A>,
+) -> Result<(), AllocError>
+    ensures { IfOk result (λ _. out.new.items ≡ out.old.items
+        ++ spec.rewritten separator.now plan.now line.now) }
+{
+    if plan.is_changed() {
+        add_before(separator, plan, line, out)?;
+        add_main(plan, line, out)?;
+        add_after(separator, &plan.homing, may_be_deleted(line), out)?;
+    } else {
+        out.extend_from_slice(line)?;
+    }
+    Ok(())
+}
+
+fn is_traverse(motion: Motion) -> bool
+    ensures { result ≡ spec.is_traverse motion }
+{
+    matches!(motion, Motion::Traverse)
+}
+
+// Whether the next line that moves must name its motion.
+fn is_anew(places: &Places, plan: &Plan, words: &[Word], deletable: bool) -> bool
+    ensures { result ≡ spec.is_anew places.now plan.now words.now deletable }
+{
+    if has_unknown(words) {
+        places.motion_anew
+    } else if plan.homing.is_homed() {
+        (deletable && places.motion_anew) || !is_traverse(places.modes_after(words).motion)
+    } else {
+        plan.apart
+            || (places.motion_anew && (deletable || !(has_motion(words) || plan.naming.is_named())))
+    }
+}
+
+// What a line with these words leaves.
+fn next_places(places: &Places, plan: &Plan, words: &[Word], deletable: bool) -> Places
+    ensures { result ≡ spec.next_places places.now plan.now words.now deletable }
+{
+    let mut after = places.after_line(words, deletable);
+    after.motion_anew = is_anew(places, plan, words, deletable);
+    after
+}
+
+fn not_read() -> ArrayVec<Refusal, MOST_RULES>
+    ensures { result.items ≡ spec.not_read }
+{
+    let mut refusals = ArrayVec::new();
+    refusals.push(Refusal::NotRead);
+    refusals
+}
+
+/// Adds to `out` what is written of a line, whose line feed is not part of it, and returns the rules
+/// that changed it, why it is left where it means something else in our language, what it leaves, and
+/// how many lines are written, with line feeds between them. A line that no rule changes is copied
+/// byte for byte. An error means that memory was refused.
+#[tactic(auto, unfolding(crate::specs::Lines::written, crate::specs::Lines::before_for, crate::specs::Lines::rules_for, crate::specs::Lines::refusals_for, crate::specs::Lines::places_after, crate::specs::Lines::lines_for))]
+pub fn rewrite_line<A: Allocator>(
+    places: &Places,
+    line: &[u8],
+    out: &mut Vec<u8, A>,
+) -> Result<Rewritten, AllocError>
+    ensures written { IfOk result
+        (λ _. out.new.items ≡ out.old.items ++ spec.written places.now line.now) }
+    ensures rules { IfOk result (λ r. r.rules.items ≡ spec.rules_for places.now line.now) }
+    ensures refusals { IfOk result
+        (λ r. r.refusals.items ≡ spec.refusals_for places.now line.now) }
+    ensures after { IfOk result (λ r. r.after ≡ spec.places_after places.now line.now) }
+    ensures before { IfOk result (λ r. r.before_count ≡ spec.before_for places.now line.now) }
+    ensures lines { IfOk result (λ r. r.line_count ≡ spec.lines_for places.now line.now) }
+{
+    let Some(words) = read_words(line) else {
+        out.extend_from_slice(line)?;
+        return Ok(Rewritten {
+            rules: ArrayVec::new(),
+            refusals: not_read(),
+            after: places.lost(),
+            before_count: 0,
+            line_count: 1,
+        });
+    };
+    let plan = plan_of(places, words.as_slice());
+    add_rewritten(b"\n", &plan, line, out)?;
+    Ok(Rewritten {
+        rules: plan.rules(),
+        refusals: plan.refusals(),
+        after: next_places(places, &plan, words.as_slice(), may_be_deleted(line)),
+        before_count: plan.before_count(),
+        line_count: plan.line_count(),
+    })
+}

@@ -1,0 +1,477 @@
+//! What the lines before leave: modes, and the place of the tool.
+ghost use Rattle.std.specs.Prelude.{◌≡◌, if◌then◌else◌};
+ghost use Rattle.ngc_adapt_moves.specs.Places as spec;
+ghost use Rattle.ngc_adapt_moves.specs.Axes.{nowhere};
+
+use crate::axis::{Axis, Place};
+use crate::code;
+use crate::line_words::{
+    has, has_axes, has_m, has_motion, has_plane, has_repeats, has_unknown, is_same_axis, may_move,
+    names, value_along,
+};
+use crate::value::known;
+use crate::word::Word;
+use ngc_adapt::Dialect;
+use ngc_fixed_length::{Distance, FeedMode, Plane, Units, Value};
+
+/// The motion mode in force.
+#[derive(Clone, Copy, PartialEq, Eq)]
+pub enum Motion {
+    /// Not known, after a line that can't be read, one that block delete may take out, or a code that
+    /// isn't known.
+    Unknown,
+    /// None: axis words alone don't move.
+    Off,
+    /// G0.
+    Traverse,
+    /// G1.
+    Feed,
+    /// G2.
+    Clockwise,
+    /// G3.
+    Counterclockwise,
+    /// A canned cycle.
+    Cycle,
+}
+
+/// From where the offsets of an arc lead to its centre.
+#[derive(Clone, Copy, PartialEq, Eq)]
+pub enum ArcDistance {
+    /// From the current point, G91.1.
+    Point,
+    /// From the origin, G90.1.
+    Origin,
+}
+
+/// The places of the machine to which G28 and G30 go, in nanometres of its own coordinates.
+#[derive(Clone, Copy)]
+pub struct Homes {
+    pub home28: [i64; 3],
+    pub home30: [i64; 3],
+}
+
+/// What the lines before leave, as far as the rules ask for it. A mode that isn't known is `None`.
+#[derive(Clone, Copy)]
+pub struct Places {
+    pub dialect: Dialect,
+    /// The homes of the machine, if its file was given.
+    pub homes: Option<Homes>,
+    pub motion: Motion,
+    pub plane: Option<Plane>,
+    pub units: Option<Units>,
+    pub distance: Option<Distance>,
+    pub arc_distance: Option<ArcDistance>,
+    pub feed_mode: Option<FeedMode>,
+    /// The place of the tool in programmed coordinates.
+    pub place: Place,
+    /// Whether what is written leaves another motion mode than the source, so that the next line that
+    /// moves must name its own.
+    pub motion_anew: bool,
+}
+
+fn nowhere() -> Place
+    ensures { result ≡ nowhere }
+{
+    Place {
+        x: None,
+        y: None,
+        z: None,
+    }
+}
+
+fn start_motion(dialect: Dialect) -> Motion
+    ensures { result ≡ spec.start_motion dialect }
+{
+    match dialect {
+        Dialect::Grbl => Motion::Traverse,
+        Dialect::LinuxCnc | Dialect::Mach3 | Dialect::Fanuc => Motion::Off,
+    }
+}
+
+fn motion_after(before: Motion, words: &[Word]) -> Motion
+    ensures { result ≡ spec.motion_after before words.now }
+{
+    if has(&code::TRAVERSE, words) {
+        Motion::Traverse
+    } else if has(&code::FEED, words) {
+        Motion::Feed
+    } else if has(&code::CLOCKWISE, words) {
+        Motion::Clockwise
+    } else if has(&code::COUNTERCLOCKWISE, words) {
+        Motion::Counterclockwise
+    } else if has(&code::CYCLES, words) {
+        Motion::Cycle
+    } else if has(&code::MOTION_END, words) {
+        Motion::Off
+    } else {
+        before
+    }
+}
+
+fn plane_after(before: Option<Plane>, words: &[Word]) -> Option<Plane>
+    ensures { result ≡ spec.plane_after before words.now }
+{
+    if has(&code::PLANE_XY, words) {
+        Some(Plane::XY)
+    } else if has(&code::PLANE_ZX, words) {
+        Some(Plane::ZX)
+    } else if has(&code::PLANE_YZ, words) {
+        Some(Plane::YZ)
+    } else {
+        before
+    }
+}
+
+pub(crate) fn units_after(before: Option<Units>, words: &[Word]) -> Option<Units>
+    ensures { result ≡ spec.units_after before words.now }
+{
+    if has(&code::INCHES, words) {
+        Some(Units::Inches)
+    } else if has(&code::MILLIMETRES, words) {
+        Some(Units::Millimetres)
+    } else {
+        before
+    }
+}
+
+pub(crate) fn distance_after(before: Option<Distance>, words: &[Word]) -> Option<Distance>
+    ensures { result ≡ spec.distance_after before words.now }
+{
+    if has(&code::ABSOLUTE, words) {
+        Some(Distance::Absolute)
+    } else if has(&code::INCREMENTAL, words) {
+        Some(Distance::Incremental)
+    } else {
+        before
+    }
+}
+
+fn arc_distance_after(before: Option<ArcDistance>, words: &[Word]) -> Option<ArcDistance>
+    ensures { result ≡ spec.arc_distance_after before words.now }
+{
+    if has(&code::ARCS_FROM_ORIGIN, words) {
+        Some(ArcDistance::Origin)
+    } else if has(&code::ARCS_FROM_POINT, words) {
+        Some(ArcDistance::Point)
+    } else {
+        before
+    }
+}
+
+pub(crate) fn feed_mode_after(before: Option<FeedMode>, words: &[Word]) -> Option<FeedMode>
+    ensures { result ≡ spec.feed_mode_after before words.now }
+{
+    if has(&code::INVERSE_TIME, words) {
+        Some(FeedMode::InverseTime)
+    } else if has(&code::PER_MINUTE, words) {
+        Some(FeedMode::PerMinute)
+    } else {
+        before
+    }
+}
+
+fn are_inches(units: Option<Units>) -> bool
+    ensures { result ≡ spec.are_inches units }
+{
+    matches!(units, Some(Units::Inches))
+}
+
+fn are_millimetres(units: Option<Units>) -> bool
+    ensures { result ≡ spec.are_millimetres units }
+{
+    matches!(units, Some(Units::Millimetres))
+}
+
+// Whether a line names other units than those in force.
+pub(crate) fn changes_units(units: Option<Units>, words: &[Word]) -> bool
+    ensures { result ≡ spec.changes_units units words.now }
+{
+    (has(&code::INCHES, words) && !are_inches(units))
+        || (has(&code::MILLIMETRES, words) && !are_millimetres(units))
+}
+
+// Whether a place gets other coordinates on a line, or the tool may be taken elsewhere.
+fn loses_place(units: Option<Units>, words: &[Word]) -> bool
+    ensures { result ≡ spec.loses_place units words.now }
+{
+    changes_units(units, words)
+        || has(&code::ORIGINS, words)
+        || has_m(&code::TOOL_CHANGE, words)
+        || has_unknown(words)
+}
+
+fn is_z(axis: Axis) -> bool
+    ensures { result ≡ spec.is_z axis }
+{
+    matches!(axis, Axis::Z)
+}
+
+// Where an axis is as the motion of a line begins.
+pub(crate) fn start_along(places: &Places, words: &[Word], axis: Axis) -> Option<Value>
+    ensures { result ≡ spec.start_along places.now words.now axis }
+{
+    if loses_place(places.units, words) || (is_z(axis) && has(&code::TOOL_LENGTH, words)) {
+        None
+    } else {
+        places.place.along(axis)
+    }
+}
+
+fn sum(start: Option<Value>, value: Option<Value>) -> Option<Value>
+    ensures { result ≡ spec.sum start value }
+{
+    match (start, value) {
+        (Some(start), Some(value)) => known(start.add(value)),
+        _ => None,
+    }
+}
+
+// Where a word leads.
+fn led_to(distance: Option<Distance>, start: Option<Value>, value: Option<Value>) -> Option<Value>
+    ensures { result ≡ spec.led_to distance start value }
+{
+    match distance {
+        Some(Distance::Absolute) => value,
+        Some(Distance::Incremental) => sum(start, value),
+        None => None,
+    }
+}
+
+// Where the words of a line lead an axis.
+fn target_along(
+    distance: Option<Distance>,
+    start: Option<Value>,
+    words: &[Word],
+    axis: Axis,
+) -> Option<Value>
+    ensures { result ≡ spec.target_along distance start words.now axis }
+{
+    if names(axis, words) {
+        led_to(distance, start, value_along(axis, words))
+    } else {
+        start
+    }
+}
+
+// Where an axis is whose word leads to a place that isn't known.
+fn unless_named(start: Option<Value>, words: &[Word], axis: Axis) -> Option<Value>
+    ensures { result ≡ spec.unless_named start words.now axis }
+{
+    if names(axis, words) { None } else { start }
+}
+
+fn unless_any(start: Option<Value>, words: &[Word]) -> Option<Value>
+    ensures { result ≡ spec.unless_any start words.now }
+{
+    if has_axes(words) { None } else { start }
+}
+
+// The axis along the holes of a plane.
+pub(crate) fn hole_axis(plane: Plane) -> Axis
+    ensures { result ≡ spec.hole_axis plane }
+{
+    match plane {
+        Plane::XY => Axis::Z,
+        Plane::ZX => Axis::Y,
+        Plane::YZ => Axis::X,
+    }
+}
+
+// Whether an axis is in the plane, if that is known.
+fn is_in_plane(plane: Option<Plane>, axis: Axis) -> bool
+    ensures { result ≡ spec.is_in_plane plane axis }
+{
+    match plane {
+        Some(plane) => !is_same_axis(hole_axis(plane), axis),
+        None => false,
+    }
+}
+
+// Where an axis is after a cycle.
+fn after_cycle(after: &Places, start: Option<Value>, words: &[Word], axis: Axis) -> Option<Value>
+    ensures { result ≡ spec.after_cycle after.now start words.now axis }
+{
+    if !is_in_plane(after.plane, axis) {
+        unless_any(start, words)
+    } else if has_repeats(words) {
+        unless_named(start, words, axis)
+    } else {
+        target_along(after.distance, start, words, axis)
+    }
+}
+
+// Where an axis is after a motion in the modes that the line leaves.
+fn after_motion(after: &Places, start: Option<Value>, words: &[Word], axis: Axis) -> Option<Value>
+    ensures { result ≡ spec.after_motion after.now start words.now axis }
+{
+    match after.motion {
+        Motion::Unknown | Motion::Off => unless_any(start, words),
+        Motion::Traverse | Motion::Feed | Motion::Clockwise | Motion::Counterclockwise => {
+            target_along(after.distance, start, words, axis)
+        }
+        Motion::Cycle => after_cycle(after, start, words, axis),
+    }
+}
+
+// Where an axis is after homing, which goes to places of the machine: on the axes that are named, or
+// on all.
+fn after_homing(start: Option<Value>, words: &[Word], axis: Axis) -> Option<Value>
+    ensures { result ≡ spec.after_homing start words.now axis }
+{
+    if has_axes(words) {
+        unless_named(start, words, axis)
+    } else {
+        None
+    }
+}
+
+// Where an axis is after a line, in the modes that it leaves.
+fn place_along(after: &Places, start: Option<Value>, words: &[Word], axis: Axis) -> Option<Value>
+    ensures { result ≡ spec.place_along after.now start words.now axis }
+{
+    if has(&code::HOMING, words) {
+        after_homing(start, words, axis)
+    } else if has(&code::AXIS_OFFSETS, words) {
+        target_along(Some(Distance::Absolute), start, words, axis)
+    } else if has(&code::FOR_ONE_LINE, words) || has(&code::MACHINE_COORDINATES, words) {
+        unless_named(start, words, axis)
+    } else {
+        after_motion(after, start, words, axis)
+    }
+}
+
+impl Places {
+    ghost use Rattle.ngc_adapt_moves.specs.Places.{start, lost, modes_after, modes_either};
+    ghost use Rattle.ngc_adapt_moves.specs.Places.{place_after, place_either, after_line};
+
+    /// Returns what holds where a program starts: the plane XY, millimetres, G90 and G91.1, no motion
+    /// mode but in grbl, which starts with G0, and no place.
+    pub fn start(dialect: Dialect, homes: Option<Homes>) -> Places
+        ensures { result ≡ start dialect homes }
+    {
+        Places {
+            dialect,
+            homes,
+            motion: start_motion(dialect),
+            plane: Some(Plane::XY),
+            units: Some(Units::Millimetres),
+            distance: Some(Distance::Absolute),
+            arc_distance: Some(ArcDistance::Point),
+            feed_mode: Some(FeedMode::PerMinute),
+            place: nowhere(),
+            motion_anew: false,
+        }
+    }
+
+    /// Returns what holds after a line of which nothing is known.
+    pub fn lost(&self) -> Places
+        ensures { result ≡ lost self.now }
+    {
+        Places {
+            dialect: self.dialect,
+            homes: self.homes,
+            motion: Motion::Unknown,
+            plane: None,
+            units: None,
+            distance: None,
+            arc_distance: None,
+            feed_mode: None,
+            place: nowhere(),
+            motion_anew: self.motion_anew,
+        }
+    }
+
+    // The modes that a line leaves, at the place before it.
+    pub(crate) fn modes_after(&self, words: &[Word]) -> Places
+        ensures { result ≡ modes_after self.now words.now }
+    {
+        Places {
+            dialect: self.dialect,
+            homes: self.homes,
+            motion: motion_after(self.motion, words),
+            plane: plane_after(self.plane, words),
+            units: units_after(self.units, words),
+            distance: distance_after(self.distance, words),
+            arc_distance: arc_distance_after(self.arc_distance, words),
+            feed_mode: feed_mode_after(self.feed_mode, words),
+            place: self.place,
+            motion_anew: self.motion_anew,
+        }
+    }
+
+    // The place of the tool after a line.
+    fn place_after(&self, words: &[Word]) -> Place
+        ensures { result ≡ place_after self.now words.now }
+    {
+        let after = self.modes_after(words);
+        Place {
+            x: place_along(&after, start_along(self, words, Axis::X), words, Axis::X),
+            y: place_along(&after, start_along(self, words, Axis::Y), words, Axis::Y),
+            z: place_along(&after, start_along(self, words, Axis::Z), words, Axis::Z),
+        }
+    }
+
+    // The place of the tool after a line that block delete may take out.
+    fn place_either(&self, words: &[Word]) -> Place
+        ensures { result ≡ place_either self.now words.now }
+    {
+        if may_move(words) {
+            nowhere()
+        } else {
+            self.place
+        }
+    }
+
+    // The modes that a line leaves that block delete may take out: what it sets isn't known.
+    fn modes_either(&self, words: &[Word]) -> Places
+        ensures { result ≡ modes_either self.now words.now }
+    {
+        Places {
+            dialect: self.dialect,
+            homes: self.homes,
+            motion: if has_motion(words) {
+                Motion::Unknown
+            } else {
+                self.motion
+            },
+            plane: if has_plane(words) { None } else { self.plane },
+            units: if has(&code::UNITS, words) {
+                None
+            } else {
+                self.units
+            },
+            distance: if has(&code::DISTANCE, words) {
+                None
+            } else {
+                self.distance
+            },
+            arc_distance: if has(&code::ARC_DISTANCE, words) {
+                None
+            } else {
+                self.arc_distance
+            },
+            feed_mode: if has(&code::FEED_MODE, words) {
+                None
+            } else {
+                self.feed_mode
+            },
+            place: self.place_either(words),
+            motion_anew: self.motion_anew,
+        }
+    }
+
+    // What a line with these words leaves, by its own words.
+    pub(crate) fn after_line(&self, words: &[Word], may_be_deleted: bool) -> Places
+        ensures { result ≡ after_line self.now words.now may_be_deleted }
+    {
+        if has_unknown(words) {
+            self.lost()
+        } else if may_be_deleted {
+            self.modes_either(words)
+        } else {
+            let mut after = self.modes_after(words);
+            after.place = self.place_after(words);
+            after
+        }
+    }
+}

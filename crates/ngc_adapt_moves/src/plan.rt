@@ -1,0 +1,433 @@
+//! What the rules make of a line with these words.
+ghost use Rattle.std.specs.Prelude.{◌≡◌, ◌+◌, ◌≤◌, ◌++◌, length};
+ghost use Rattle.ngc_adapt_moves.specs.Plans as spec;
+
+use crate::arc::{Centre, Circle, centre_of, circle_of};
+use crate::axis::Place;
+use crate::code;
+use crate::homing::{Homing, homing_of, is_part_home};
+use crate::line_words::{
+    has, has_axes, has_feed, has_motion, has_place, has_unknown, is_code, is_f,
+};
+use crate::places::{Motion, Places, changes_units, feed_mode_after};
+use crate::rule::{Refusal, Rule};
+use crate::text::Text;
+use crate::word::{Letter, Word};
+use arrayvec::ArrayVec;
+use ngc_adapt::Dialect;
+use ngc_fixed_length::{FeedMode, Units};
+
+/// The most rules that change a line, and the most for which it is left.
+pub const MOST_RULES: usize = 6;
+
+/// What becomes of a line that may have to name its motion.
+#[derive(Clone, Copy)]
+pub enum Naming {
+    /// It needn't.
+    Other,
+    /// Its motion isn't known.
+    Left,
+    /// It names this motion.
+    By(Motion),
+}
+
+/// What becomes of an F word beside a change of the units.
+#[derive(Clone, Copy)]
+pub enum Feeding {
+    /// The line is none.
+    Other,
+    /// It is left, in units or a feed mode that isn't known.
+    Left,
+    /// F is written on a line before.
+    First,
+}
+
+/// What the rules make of a line.
+#[derive(Clone, Copy)]
+pub struct Plan {
+    pub homing: Homing,
+    pub naming: Naming,
+    pub circle: Circle,
+    pub centre: Centre,
+    /// Whether G90.1 and G91.1 are left out.
+    pub has_arc_code: bool,
+    /// Whether a motion code is left out beside a code that takes the axis words.
+    pub apart: bool,
+    pub feeding: Feeding,
+}
+
+fn has_name(motion: Motion) -> bool
+    ensures { result ≡ spec.has_name motion }
+{
+    matches!(
+        motion,
+        Motion::Traverse | Motion::Feed | Motion::Clockwise | Motion::Counterclockwise
+    )
+}
+
+// Whether a line moves by the motion in force, and what is written leaves another.
+fn is_unnamed(places: &Places, words: &[Word]) -> bool
+    ensures { result ≡ spec.is_unnamed places.now words.now }
+{
+    places.motion_anew
+        && has_place(words)
+        && !(has_motion(words) || has_unknown(words) || has(&code::FOR_ONE_LINE, words))
+}
+
+fn naming_of(places: &Places, words: &[Word]) -> Naming
+    ensures { result ≡ spec.naming_of places.now words.now }
+{
+    if !is_unnamed(places, words) {
+        Naming::Other
+    } else if has_name(places.motion) {
+        Naming::By(places.motion)
+    } else {
+        Naming::Left
+    }
+}
+
+// Whether a motion code is beside a code that takes the axis words.
+fn is_apart(words: &[Word]) -> bool
+    ensures { result ≡ spec.is_apart words.now }
+{
+    has(&code::TAKING_AXES, words)
+        && has(&code::NAMED_MOTION, words)
+        && has_axes(words)
+        && !is_part_home(words)
+        && !has_unknown(words)
+}
+
+fn feeding_in(units: Option<Units>, feed_mode: Option<FeedMode>) -> Feeding
+    ensures { result ≡ spec.feeding_in units feed_mode }
+{
+    match feed_mode {
+        Some(FeedMode::InverseTime) => Feeding::Other,
+        Some(FeedMode::PerMinute) => match units {
+            Some(_) => Feeding::First,
+            None => Feeding::Left,
+        },
+        None => Feeding::Left,
+    }
+}
+
+// What becomes of F beside a change of the units: LinuxCNC counts it in the units before.
+fn feeding_of(places: &Places, words: &[Word]) -> Feeding
+    ensures { result ≡ spec.feeding_of places.now words.now }
+{
+    let counts_before = is_linuxcnc(places.dialect)
+        && has_feed(words)
+        && changes_units(places.units, words)
+        && !has_unknown(words);
+    if counts_before {
+        feeding_in(places.units, feed_mode_after(places.feed_mode, words))
+    } else {
+        Feeding::Other
+    }
+}
+
+fn is_linuxcnc(dialect: Dialect) -> bool
+    ensures { result ≡ spec.is_linuxcnc dialect }
+{
+    matches!(dialect, Dialect::LinuxCnc)
+}
+
+/// Returns what the rules make of a line with these words.
+pub(crate) fn plan_of(places: &Places, words: &[Word]) -> Plan
+    ensures { result ≡ spec.plan_of places.now words.now }
+{
+    let after = places.modes_after(words);
+    Plan {
+        homing: homing_of(places, words),
+        naming: naming_of(places, words),
+        circle: circle_of(places, &after, words),
+        centre: centre_of(places, &after, words),
+        has_arc_code: has(&code::ARC_DISTANCE, words),
+        apart: is_apart(words),
+        feeding: feeding_of(places, words),
+    }
+}
+
+// Adds a rule that holds.
+fn add_rule(holds: bool, rule: Rule, rules: &mut ArrayVec<Rule, MOST_RULES>)
+    requires { length rules.old.items ≤ 5 }
+    ensures items { rules.new.items ≡ rules.old.items ++ spec.rule_if holds rule }
+    ensures few { length rules.new.items ≤ length rules.old.items + 1 }
+{
+    if holds {
+        rules.push(rule);
+    }
+}
+
+fn add_refusal(refusal: Option<Refusal>, refusals: &mut ArrayVec<Refusal, MOST_RULES>)
+    requires { length refusals.old.items ≤ 5 }
+    ensures items { refusals.new.items ≡ refusals.old.items ++ spec.refusal_if refusal }
+    ensures few { length refusals.new.items ≤ length refusals.old.items + 1 }
+{
+    if let Some(refusal) = refusal {
+        refusals.push(refusal);
+    }
+}
+
+impl Homing {
+    ghost use Rattle.ngc_adapt_moves.specs.Plans.{is_homed, homing_refusal};
+
+    pub(crate) fn is_homed(&self) -> bool
+        ensures { result ≡ is_homed self.now }
+    {
+        matches!(self, Homing::Direct(_) | Homing::Between(_))
+    }
+
+    pub(crate) fn refusal(&self) -> Option<Refusal>
+        ensures { result ≡ homing_refusal self.now }
+    {
+        match self {
+            Homing::Left(refusal) => Some(*refusal),
+            Homing::Other | Homing::Direct(_) | Homing::Between(_) => None,
+        }
+    }
+}
+
+impl Naming {
+    ghost use Rattle.ngc_adapt_moves.specs.Plans.{is_named, naming_refusal, naming_text};
+
+    pub(crate) fn is_named(&self) -> bool
+        ensures { result ≡ is_named self.now }
+    {
+        matches!(self, Naming::By(_))
+    }
+
+    pub(crate) fn refusal(&self) -> Option<Refusal>
+        ensures { result ≡ naming_refusal self.now }
+    {
+        match self {
+            Naming::Left => Some(Refusal::MotionNotKnown),
+            Naming::Other | Naming::By(_) => None,
+        }
+    }
+
+    /// Returns the code that names the motion anew.
+    pub(crate) fn text(&self) -> Text
+        ensures { result ≡ naming_text self.now }
+    {
+        match self {
+            Naming::By(motion) => Text::Motion(*motion),
+            Naming::Other | Naming::Left => Text::Nothing,
+        }
+    }
+}
+
+impl Circle {
+    ghost use Rattle.ngc_adapt_moves.specs.Plans.{is_circled, circle_refusal, circle_text};
+
+    pub(crate) fn is_circled(&self) -> bool
+        ensures { result ≡ is_circled self.now }
+    {
+        matches!(self, Circle::From(_, _))
+    }
+
+    pub(crate) fn refusal(&self) -> Option<Refusal>
+        ensures { result ≡ circle_refusal self.now }
+    {
+        match self {
+            Circle::Left(refusal) => Some(*refusal),
+            Circle::Other | Circle::From(_, _) => None,
+        }
+    }
+
+    /// Returns the axis word of the circle's start.
+    pub(crate) fn text(&self) -> Text
+        ensures { result ≡ circle_text self.now }
+    {
+        match self {
+            Circle::From(axis, value) => Text::Coordinate(*axis, *value),
+            Circle::Other | Circle::Left(_) => Text::Nothing,
+        }
+    }
+}
+
+impl Centre {
+    ghost use Rattle.ngc_adapt_moves.specs.Plans.{is_centred, centre_refusal};
+
+    pub(crate) fn is_centred(&self) -> bool
+        ensures { result ≡ is_centred self.now }
+    {
+        matches!(self, Centre::By(_))
+    }
+
+    pub(crate) fn refusal(&self) -> Option<Refusal>
+        ensures { result ≡ centre_refusal self.now }
+    {
+        match self {
+            Centre::Left(refusal) => Some(*refusal),
+            Centre::Other | Centre::By(_) => None,
+        }
+    }
+}
+
+impl Feeding {
+    ghost use Rattle.ngc_adapt_moves.specs.Plans.{is_first, feeding_refusal};
+
+    pub(crate) fn is_first(&self) -> bool
+        ensures { result ≡ is_first self.now }
+    {
+        matches!(self, Feeding::First)
+    }
+
+    pub(crate) fn refusal(&self) -> Option<Refusal>
+        ensures { result ≡ feeding_refusal self.now }
+    {
+        match self {
+            Feeding::Left => Some(Refusal::FeedNotKnown),
+            Feeding::Other | Feeding::First => None,
+        }
+    }
+}
+
+fn coordinate_text(place: &Place, letter: Letter) -> Option<Text>
+    ensures { result ≡ spec.coordinate_text place.now letter }
+{
+    match letter {
+        Letter::Axis(axis) => match place.along(axis) {
+            Some(value) => Some(Text::Coordinate(axis, value)),
+            None => None,
+        },
+        _ => None,
+    }
+}
+
+fn offset_text(place: &Place, letter: Letter) -> Option<Text>
+    ensures { result ≡ spec.offset_text place.now letter }
+{
+    match letter {
+        Letter::Offset(axis) => match place.along(axis) {
+            Some(value) => Some(Text::Offset(axis, value)),
+            None => None,
+        },
+        _ => None,
+    }
+}
+
+fn direct_change(place: &Place, word: &Word) -> Option<Text>
+    ensures { result ≡ spec.direct_change place.now word.now }
+{
+    if is_code(&code::HOMING, word) {
+        Some(Text::MachineTraverse)
+    } else if is_code(&code::MOTION, word) {
+        Some(Text::Nothing)
+    } else {
+        coordinate_text(place, word.letter)
+    }
+}
+
+fn between_change(word: &Word) -> Option<Text>
+    ensures { result ≡ spec.between_change word.now }
+{
+    if is_code(&code::HOMING, word) {
+        Some(Text::Motion(Motion::Traverse))
+    } else if is_code(&code::MOTION, word) {
+        Some(Text::Nothing)
+    } else {
+        None
+    }
+}
+
+fn arc_change(centre: &Centre, word: &Word) -> Option<Text>
+    ensures { result ≡ spec.arc_change centre.now word.now }
+{
+    match centre {
+        Centre::By(offsets) => offset_text(offsets, word.letter),
+        Centre::Other | Centre::Left(_) => None,
+    }
+}
+
+impl Plan {
+    ghost use Rattle.ngc_adapt_moves.specs.Plans.{is_origin, is_changed, rules_of, refusals_of};
+    ghost use Rattle.ngc_adapt_moves.specs.Plans.{change_of, leaves_out, before_count, line_count};
+
+    /// Returns whether offsets from the origin, or the codes that say so, are changed.
+    pub(crate) fn is_origin(&self) -> bool
+        ensures { result ≡ is_origin self.now }
+    {
+        self.has_arc_code || self.centre.is_centred()
+    }
+
+    /// Returns whether a rule changes the line.
+    pub(crate) fn is_changed(&self) -> bool
+        ensures { result ≡ is_changed self.now }
+    {
+        self.homing.is_homed()
+            || self.naming.is_named()
+            || self.circle.is_circled()
+            || self.is_origin()
+            || self.apart
+            || self.feeding.is_first()
+    }
+
+    /// Returns the rules that change the line.
+    pub(crate) fn rules(&self) -> ArrayVec<Rule, MOST_RULES>
+        ensures { result.items ≡ rules_of self.now }
+    {
+        let mut rules = ArrayVec::new();
+        add_rule(self.homing.is_homed(), Rule::PartHome, &mut rules);
+        add_rule(self.naming.is_named(), Rule::MotionAnew, &mut rules);
+        add_rule(self.circle.is_circled(), Rule::FullCircle, &mut rules);
+        add_rule(self.is_origin(), Rule::ArcOrigin, &mut rules);
+        add_rule(self.apart, Rule::MotionApart, &mut rules);
+        add_rule(self.feeding.is_first(), Rule::FeedFirst, &mut rules);
+        rules
+    }
+
+    /// Returns why the line is left, if it is.
+    pub(crate) fn refusals(&self) -> ArrayVec<Refusal, MOST_RULES>
+        ensures { result.items ≡ refusals_of self.now }
+    {
+        let mut refusals = ArrayVec::new();
+        add_refusal(self.homing.refusal(), &mut refusals);
+        add_refusal(self.naming.refusal(), &mut refusals);
+        add_refusal(self.circle.refusal(), &mut refusals);
+        add_refusal(self.centre.refusal(), &mut refusals);
+        add_refusal(self.feeding.refusal(), &mut refusals);
+        refusals
+    }
+
+    // Whether a word is left out of the source's own line.
+    fn leaves_out(&self, word: &Word) -> bool
+        ensures { result ≡ leaves_out self.now word.now }
+    {
+        is_code(&code::ARC_DISTANCE, word)
+            || (self.apart && is_code(&code::NAMED_MOTION, word))
+            || (self.feeding.is_first() && is_f(word.letter))
+    }
+
+    /// Returns what is written in place of a word, if it is changed.
+    pub(crate) fn change_of(&self, word: &Word) -> Option<Text>
+        ensures { result ≡ change_of self.now word.now }
+    {
+        if self.leaves_out(word) {
+            return Some(Text::Nothing);
+        }
+        match &self.homing {
+            Homing::Direct(place) => direct_change(place, word),
+            Homing::Between(_) => between_change(word),
+            Homing::Other | Homing::Left(_) => arc_change(&self.centre, word),
+        }
+    }
+
+    /// Returns how many lines are written before the source's own.
+    pub(crate) fn before_count(&self) -> usize
+        ensures value { result ≡ before_count self.now }
+        ensures few { result ≤ 1 }
+    {
+        if self.feeding.is_first() { 1 } else { 0 }
+    }
+
+    /// Returns how many lines are written.
+    pub(crate) fn line_count(&self) -> usize
+        ensures { result ≡ line_count self.now }
+    {
+        match &self.homing {
+            Homing::Between(_) => self.before_count() + 2,
+            Homing::Other | Homing::Left(_) | Homing::Direct(_) => self.before_count() + 1,
+        }
+    }
+}

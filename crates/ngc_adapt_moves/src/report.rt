@@ -1,0 +1,257 @@
+//! The report of a line.
+ghost use Rattle.std.specs.Prelude.{◌≡◌, ◌++◌, codes, decimal, IfOk};
+ghost use Rattle.ngc_adapt_moves.specs.Reports as spec;
+ghost use Rattle.ngc_adapt_moves.specs.LineReports as report_of;
+
+use crate::line::add_rewritten;
+use crate::places::Places;
+use crate::plan::{Plan, plan_of};
+use crate::rule::{Refusal, Rule};
+use crate::word::{Word, read_words};
+use itoa::Buffer;
+use std::alloc::{AllocError, Allocator};
+
+// Adds a number of a line.
+fn add_number<A: Allocator>(number: usize, report: &mut Vec<u8, A>) -> Result<(), AllocError>
+    ensures { IfOk result (λ _. report.new.items ≡ report.old.items ++ decimal number) }
+{
+    let mut buffer = Buffer::new();
+    report.extend_from_slice(buffer.format(number).as_bytes())
+}
+
+// Adds where a change is.
+fn add_place<A: Allocator>(
+    number: usize,
+    written_number: usize,
+    report: &mut Vec<u8, A>,
+) -> Result<(), AllocError>
+    ensures { IfOk result (λ _. report.new.items ≡ report.old.items
+        ++ report_of.place_text number written_number) }
+{
+    report.extend_from_slice(b"line ")?;
+    add_number(number, report)?;
+    report.extend_from_slice(b" (")?;
+    add_number(written_number, report)?;
+    report.extend_from_slice(b"): ")?;
+    Ok(())
+}
+
+fn add_rule<A: Allocator>(rule: Rule, report: &mut Vec<u8, A>) -> Result<(), AllocError>
+    ensures { IfOk result
+        (λ _. report.new.items ≡ report.old.items ++ report_of.rule_text rule) }
+{
+    report.extend_from_slice(rule.name().as_bytes())?;
+    report.extend_from_slice(b" ")?;
+    report.extend_from_slice(rule.class().as_bytes())?;
+    report.extend_from_slice(b": ")?;
+    Ok(())
+}
+
+// Adds what a line was and what is written.
+fn add_was<A: Allocator>(
+    plan: &Plan,
+    line: &[u8],
+    report: &mut Vec<u8, A>,
+) -> Result<(), AllocError>
+    ensures { IfOk result (λ _. report.new.items ≡ report.old.items
+        ++ report_of.was_text plan.now line.now) }
+{
+    report.extend_from_slice(line)?;
+    report.extend_from_slice(b" -> ")?;
+    add_rewritten(b" / ", plan, line, report)?;
+    report.extend_from_slice(b"\n")?;
+    Ok(())
+}
+
+fn add_change_if<A: Allocator>(
+    holds: bool,
+    number: usize,
+    written_number: usize,
+    rule: Rule,
+    plan: &Plan,
+    line: &[u8],
+    report: &mut Vec<u8, A>,
+) -> Result<(), AllocError>
+    ensures { IfOk result (λ _. report.new.items ≡ report.old.items
+        ++ report_of.change_if holds number written_number rule plan.now line.now) }
+{
+    if holds {
+        add_place(number, written_number, report)?;
+        add_rule(rule, report)?;
+        add_was(plan, line, report)?;
+    }
+    Ok(())
+}
+
+// Adds the changes of a line.
+#[tactic(auto, unfolding(crate::specs::LineReports::changes_text))]
+fn add_changes<A: Allocator>(
+    number: usize,
+    written_number: usize,
+    plan: &Plan,
+    line: &[u8],
+    report: &mut Vec<u8, A>,
+) -> Result<(), AllocError>
+    ensures { IfOk result (λ _. report.new.items ≡ report.old.items
+        ++ report_of.changes_text number written_number plan.now line.now) }
+{
+    add_change_if(
+        plan.homing.is_homed(),
+        number,
+        written_number,
+        Rule::PartHome,
+        plan,
+        line,
+        report,
+    )?;
+    add_change_if(
+        plan.naming.is_named(),
+        number,
+        written_number,
+        Rule::MotionAnew,
+        plan,
+        line,
+        report,
+    )?;
+    add_change_if(
+        plan.circle.is_circled(),
+        number,
+        written_number,
+        Rule::FullCircle,
+        plan,
+        line,
+        report,
+    )?;
+    add_change_if(
+        plan.is_origin(),
+        number,
+        written_number,
+        Rule::ArcOrigin,
+        plan,
+        line,
+        report,
+    )?;
+    add_change_if(
+        plan.apart,
+        number,
+        written_number,
+        Rule::MotionApart,
+        plan,
+        line,
+        report,
+    )?;
+    add_change_if(
+        plan.feeding.is_first(),
+        number,
+        written_number,
+        Rule::FeedFirst,
+        plan,
+        line,
+        report,
+    )?;
+    Ok(())
+}
+
+// Adds why a line is left.
+#[tactic(auto, unfolding(crate::specs::LineReports::refusal_text))]
+fn add_refusal<A: Allocator>(
+    number: usize,
+    refusal: Refusal,
+    report: &mut Vec<u8, A>,
+) -> Result<(), AllocError>
+    ensures { IfOk result (λ _. report.new.items ≡ report.old.items
+        ++ report_of.refusal_text number refusal) }
+{
+    report.extend_from_slice(b"line ")?;
+    add_number(number, report)?;
+    report.extend_from_slice(b": ")?;
+    report.extend_from_slice(refusal.name().as_bytes())?;
+    report.extend_from_slice(b" left: ")?;
+    report.extend_from_slice(refusal.sentence().as_bytes())?;
+    report.extend_from_slice(b"\n")?;
+    Ok(())
+}
+
+fn add_refusal_if<A: Allocator>(
+    number: usize,
+    refusal: Option<Refusal>,
+    report: &mut Vec<u8, A>,
+) -> Result<(), AllocError>
+    ensures { IfOk result (λ _. report.new.items ≡ report.old.items
+        ++ report_of.refusal_if number refusal) }
+{
+    match refusal {
+        Some(refusal) => add_refusal(number, refusal, report),
+        None => Ok(()),
+    }
+}
+
+// Adds why a line is left, if it is.
+#[tactic(auto, unfolding(crate::specs::LineReports::refusals_text))]
+fn add_refusals<A: Allocator>(
+    number: usize,
+    plan: &Plan,
+    report: &mut Vec<u8, A>,
+) -> Result<(), AllocError>
+    ensures { IfOk result (λ _. report.new.items ≡ report.old.items
+        ++ report_of.refusals_text number plan.now) }
+{
+    add_refusal_if(number, plan.homing.refusal(), report)?;
+    add_refusal_if(number, plan.naming.refusal(), report)?;
+    add_refusal_if(number, plan.circle.refusal(), report)?;
+    add_refusal_if(number, plan.centre.refusal(), report)?;
+    add_refusal_if(number, plan.feeding.refusal(), report)?;
+    Ok(())
+}
+
+// Adds the report of a line with these words.
+#[tactic(auto, unfolding(crate::specs::LineReports::words_report))]
+fn add_words_report<A: Allocator>(
+    number: usize,
+    written_number: usize,
+    places: &Places,
+    words: &[Word],
+    line: &[u8],
+    report: &mut Vec<u8, A>,
+) -> Result<(), AllocError>
+    ensures { IfOk result (λ _. report.new.items ≡ report.old.items
+        ++ report_of.words_report number written_number places.now words.now line.now) }
+{
+    let plan = plan_of(places, words);
+    add_changes(number, written_number, &plan, line, report)?;
+    add_refusals(number, &plan, report)?;
+    Ok(())
+}
+
+/// Adds a line for each change of a line, and one for each reason why it is left: `number` is that of
+/// the line in the source, and `written_number` that of the source's own line in what is written. An
+/// error means that memory was refused.
+#[tactic(auto, unfolding(crate::specs::LineReports::line_report))]
+pub fn add_line_report<A: Allocator>(
+    number: usize,
+    written_number: usize,
+    places: &Places,
+    line: &[u8],
+    report: &mut Vec<u8, A>,
+) -> Result<(), AllocError>
+    ensures { IfOk result (λ _. report.new.items ≡ report.old.items
+        ++ report_of.line_report number written_number places.now line.now) }
+{
+    match read_words(line) {
+        Some(words) => {
+            add_words_report(
+                number,
+                written_number,
+                places,
+                words.as_slice(),
+                line,
+                report,
+            )?;
+            Ok(())
+        }
+        None => {
+            add_refusal(number, Refusal::NotRead, report)?;
+            Ok(())
+        }
+    }
+}

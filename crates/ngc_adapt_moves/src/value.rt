@@ -1,0 +1,98 @@
+ghost use Rattle.std.specs.Prelude.{◌≡◌, ◌<◌, min};
+ghost use Rattle.ngc_adapt.specs.Numbers.{digits_value};
+ghost use Rattle.ngc_adapt_moves.specs.Values as spec;
+
+use ngc_adapt::{begins, is_number, split_whole, without_blanks};
+use ngc_fixed_length::{NumberFault, Value};
+
+// One above the greatest whole number that is read.
+const WHOLE_LIMIT: u64 = 1_000_000_000;
+
+/// Returns a result that is a value, and `None` where it is too large.
+pub(crate) fn known(number: Result<Value, NumberFault>) -> Option<Value>
+    ensures { result ≡ spec.known number }
+{
+    match number {
+        Ok(value) => Some(value),
+        Err(_) => None,
+    }
+}
+
+// The number that digits give, or 10^9 where that is less.
+#[tactic(auto, using(crate::proofs::Digits::valued))]
+fn limited_value(digits: &[u8]) -> u64
+    ensures { result ≡ min (digits_value digits.now) 1000000000 }
+{
+    let mut value: u64 = 0;
+    for digit in digits {
+        value = (10 * value + u64::from(digit.saturating_sub(b'0'))).min(WHOLE_LIMIT);
+    }
+    value
+}
+
+// The decimal at an index behind the point, 0 where none is written.
+fn decimal_at(decimals: &[u8], index: usize) -> u64
+    ensures value { result ≡ spec.decimal_at decimals.now index }
+    ensures few { result < 256 }
+{
+    if index < decimals.len() {
+        u64::from(decimals[index].saturating_sub(b'0'))
+    } else {
+        0
+    }
+}
+
+// The millionths that six decimals give.
+fn millionths_in(decimals: &[u8]) -> u64
+    ensures value { result ≡ spec.millionths_in decimals.now }
+    ensures few { result < 100000000 }
+{
+    100_000 * decimal_at(decimals, 0)
+        + 10_000 * decimal_at(decimals, 1)
+        + 1_000 * decimal_at(decimals, 2)
+        + 100 * decimal_at(decimals, 3)
+        + 10 * decimal_at(decimals, 4)
+        + decimal_at(decimals, 5)
+}
+
+fn without_point(rest: &[u8]) -> &[u8]
+    ensures { result.now ≡ spec.without_point rest.now }
+{
+    match rest {
+        [_, decimals @ ..] => decimals,
+        [] => rest,
+    }
+}
+
+pub(crate) fn signed(negative: bool, size: u64) -> i128
+    ensures { result ≡ spec.signed negative size }
+{
+    if negative {
+        -i128::from(size)
+    } else {
+        i128::from(size)
+    }
+}
+
+// The value that a number gives, if it is one of less than 10^9 with at most six decimals.
+fn number_value(text: &[u8]) -> Option<Value>
+    ensures { result ≡ spec.number_value text.now }
+{
+    let (whole, rest) = split_whole(text);
+    let decimals = without_point(rest);
+    let units = limited_value(whole);
+    if !is_number(text) || decimals.len() > 6 || units >= WHOLE_LIMIT {
+        return None;
+    }
+    let size = 1_000_000 * units + millionths_in(decimals);
+    known(Value::from_millionths(signed(begins(b'-', text), size)))
+}
+
+/// Returns the value of a word in millionths, if it is a number of at most six decimals. A value that
+/// a parameter or a bracket gives isn't known.
+pub fn value_of(text: &[u8]) -> Option<Value>
+    ensures { result ≡ spec.value_of text.now }
+{
+    let kept = without_blanks(text)?;
+    number_value(kept.as_slice())
+}

@@ -1,0 +1,122 @@
+ghost use Rattle.std.specs.Prelude.{◌≡◌, length};
+ghost use Rattle.std.specs.Option.{option_map};
+ghost use Rattle.ngc_adapt.specs.Items.{is_unread, item_of};
+ghost use Rattle.ngc_adapt_moves.specs.Words as spec;
+
+use crate::axis::Axis;
+use crate::value::value_of;
+use arrayvec::ArrayVec;
+use ngc_adapt::{Item, MOST_WORDS, item_of, split_item, upper};
+use ngc_fixed_length::Value;
+
+/// What a word's letter is for.
+#[derive(Clone, Copy, PartialEq, Eq)]
+pub enum Letter {
+    /// A code.
+    G,
+    /// A code for the machine.
+    M,
+    /// A feed.
+    F,
+    /// How often a cycle is made.
+    L,
+    /// A dwell, or how many turns an arc makes.
+    P,
+    /// A radius, or the height to which a cycle goes back.
+    R,
+    /// X, Y or Z.
+    Axis(Axis),
+    /// I, J or K, which lead along X, Y or Z.
+    Offset(Axis),
+    /// A, B, C, E, U, V or W: axes that our language doesn't have.
+    OtherAxis,
+    /// Any other letter.
+    Other,
+}
+
+impl Default for Letter {
+    ghost use Rattle.ngc_adapt_moves.specs.declared.word.Letter.TheVariants as letters;
+
+    ghost is_default = { λ l. l ≡ letters.Other };
+
+    fn default() -> Letter {
+        Letter::Other
+    }
+}
+
+/// A letter and the number after it.
+#[derive(Clone, Copy, Default)]
+pub struct Word {
+    pub letter: Letter,
+    /// The code in tenths that the number is, as 592 for `G59.2`.
+    pub code: Option<u16>,
+    /// The number in millionths, where it has at most six decimals.
+    pub value: Option<Value>,
+}
+
+// The letter that an upper case letter is.
+fn capital(byte: u8) -> Letter
+    ensures { result ≡ spec.capital byte }
+{
+    match byte {
+        b'G' => Letter::G,
+        b'M' => Letter::M,
+        b'F' => Letter::F,
+        b'L' => Letter::L,
+        b'P' => Letter::P,
+        b'R' => Letter::R,
+        b'X' => Letter::Axis(Axis::X),
+        b'Y' => Letter::Axis(Axis::Y),
+        b'Z' => Letter::Axis(Axis::Z),
+        b'I' => Letter::Offset(Axis::X),
+        b'J' => Letter::Offset(Axis::Y),
+        b'K' => Letter::Offset(Axis::Z),
+        b'A'..=b'C' | b'E' | b'U'..=b'W' => Letter::OtherAxis,
+        _ => Letter::Other,
+    }
+}
+
+fn is_unread(item: &[u8]) -> bool
+    ensures { result ≡ is_unread (item_of item.now) }
+{
+    matches!(item_of(item), Item::Unread)
+}
+
+/// Returns the word that an item of a line is, if it is one.
+pub(crate) fn word_of(item: &[u8]) -> Option<Word>
+    ensures { result ≡ spec.word_of item.now }
+{
+    let Item::Word(word) = item_of(item) else {
+        return None;
+    };
+    let [first, rest @ ..] = item else {
+        return None;
+    };
+    Some(Word {
+        letter: capital(upper(*first)),
+        code: word.number.code,
+        value: value_of(rest),
+    })
+}
+
+/// Reads the words of a line, if it can be read as a whole and has at most 64.
+pub fn read_words(line: &[u8]) -> Option<ArrayVec<Word, MOST_WORDS>>
+    ensures { option_map (λ words. words.items) result ≡ spec.words_of line.now }
+{
+    let mut words = ArrayVec::new();
+    let mut rest = line;
+    while !rest.is_empty() {
+        let (item, others) = split_item(rest);
+        if is_unread(item) {
+            return None;
+        }
+        if let Some(word) = word_of(item) {
+            if words.is_full() {
+                return None;
+            }
+            words.push(word);
+        }
+        rest = others;
+    }
+    Some(words)
+}

@@ -1,0 +1,7 @@
+-- How many bytes a text begins with, and the number that digits give.
+use Rattle.std.proofs.lemmas.List.Folds.{length-prefix_len}
+use Rattle.std.proofs.lemmas.List.Sums.{fold_more}
+
+pub ruleset counted = length-prefix_len
+
+pub ruleset valued = fold_more

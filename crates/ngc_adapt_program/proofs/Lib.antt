@@ -1,0 +1,8 @@
+-- How many bytes a text begins with, and the number that digits give.
+mod Counted
+-- The lines and items that are left.
+mod Ends
+-- Line feeds behind a seam.
+mod Feeds
+-- What is left at the end, and whole reports.
+mod Wholes

@@ -1,0 +1,281 @@
+-- What is written of a whole program for another control: its lines in order, each by what the lines
+-- before leave in force, with a line that mounts a tool in front and a line that ends it, where they
+-- are wanted. Lines after the end are copied. Our own.
+use Rattle.std.specs.Prelude.{ℕ, ◌+◌, ◌==◌, ◌&&◌, ◌||◌, not, nat_lt, Bool, true, false, List, [], ◌∷◌, ◌++◌}
+use Rattle.std.specs.Prelude.{length, map, codes, decimal, count_by, Option, Some, None, if◌then◌else◌}
+use Rattle.std.specs.List.{list_all, list_any}
+use Rattle.ngc_adapt.specs.declared.item.Word.{Word}
+use Rattle.ngc_adapt.specs.declared.item.Letter.{Letter}
+use Rattle.ngc_adapt.specs.declared.item.Letter.TheVariants as letters
+use Rattle.ngc_adapt.specs.declared.change.Change.{Change}
+use Rattle.ngc_adapt.specs.Facts.{facts_of}
+use Rattle.ngc_adapt.specs.Items.{words_of}
+use Rattle.ngc_adapt.specs.Lines.{written, rules_of, next_modes, is_end, refusals_of}
+use Rattle.ngc_adapt.specs.Numbers.{is_blank, byte_count}
+use Rattle.ngc_adapt.specs.Programs.{change_at}
+use Rattle.ngc_adapt.specs.Reports.{line_report, counts_text}
+use Rattle.ngc_adapt.specs.Rules.{start_modes}
+use Rattle.ngc_adapt.specs.Sources.{lines_of, body_of, end_of, ends}
+use Rattle.ngc_adapt.specs.Text.{text_of}
+use Rattle.ngc_adapt_moves.specs.declared.places.Places.{Places}
+use Rattle.ngc_adapt_moves.specs.Places.{start as start_places, lost}
+use Rattle.ngc_adapt_moves.specs.Lines.{written as moves_written, refusals_for, places_after}
+use Rattle.ngc_adapt_moves.specs.LineReports.{line_report as moves_report}
+use Rattle.ngc_adapt_program.specs.declared.request.Request.{Request}
+use Rattle.ngc_adapt_program.specs.declared.program.Progress.{Progress}
+use Rattle.ngc_adapt_program.specs.ToolNumbers.{tools_named, tools_text}
+
+-- ---- the words of lines
+
+abbrev pub is_m : Letter → Bool
+is_m letters.M = true
+is_m _ = false
+
+abbrev pub is_tool_change : Option ℕ → Bool
+is_tool_change (Some code) = code == 60
+is_tool_change None = false
+
+-- M6
+abbrev pub mounts : Word → Bool
+mounts w = is_m w.letter && is_tool_change w.number.code
+
+abbrev pub words_mount : Option (List Word) → Bool
+words_mount None = false
+words_mount (Some words) = list_any mounts words
+
+abbrev pub body_mounts : List ℕ → Bool
+body_mounts body = words_mount (words_of body)
+
+abbrev pub line_mounts : List ℕ → Bool
+line_mounts line = body_mounts (body_of line)
+
+-- a line of a text mounts a tool
+abbrev pub mounts_tool : List ℕ → Bool
+mounts_tool text = list_any line_mounts (lines_of text)
+
+abbrev pub has_words : Option (List Word) → Bool
+has_words None = true
+has_words (Some words) = nat_lt 0 (length words)
+
+-- a line that says something to execute: it has a word, or can't be read
+abbrev pub is_executed : List ℕ → Bool
+is_executed body = has_words (words_of body)
+
+abbrev pub is_blank_or_percent : ℕ → Bool
+is_blank_or_percent b = is_blank b || b == 37
+
+abbrev pub is_percent_line : List ℕ → Bool
+is_percent_line body = (byte_count 37 body == 1) && list_all is_blank_or_percent body
+
+-- ---- what the lines before leave
+
+abbrev pub start : Request → List ℕ → Progress
+start request text =
+    record {
+      modes = start_modes request.options (facts_of text);
+      places = start_places request.options.dialect request.homes;
+      begun = false;
+      marked = false;
+      closed = false;
+      ended = false;
+      tool = if mounts_tool text then None else request.tool;
+      lacks_feed = false;
+    }
+
+abbrev pub tool_left : Bool → Option ℕ → Option ℕ
+tool_left executed tool = if executed then None else tool
+
+-- The first line that isn't blank may be a percent sign, which begins the text. Any other percent
+-- sign ends it, as M2 and M30 do where they are executed.
+abbrev pub ends_text : Progress → List ℕ → Bool
+ends_text p body = if is_percent_line body then p.begun else is_end p.modes body
+
+-- ---- a line by its words, and then by the moves that it makes
+
+-- the words of a line stand in the way
+abbrev pub has_refused_words : Progress → List ℕ → Bool
+has_refused_words p body = nat_lt 0 (length (refusals_of p.modes body))
+
+abbrev pub moved : Bool → Places → List ℕ → List ℕ
+moved refused places line = if refused then line else moves_written places line
+
+-- a line whose words stand in the way is rewritten by its words alone
+abbrev pub executed_written : Progress → List ℕ → List ℕ
+executed_written p body = moved (has_refused_words p body) p.places (written p.modes body)
+
+abbrev pub moved_places : Bool → Places → List ℕ → Places
+moved_places refused places line = if refused then lost places else places_after places line
+
+abbrev pub next_places : Progress → List ℕ → Places
+next_places p body = moved_places (has_refused_words p body) p.places (written p.modes body)
+
+abbrev pub after_body : Progress → List ℕ → Bool → Progress
+after_body p body lacks_feed =
+    record {
+      modes = next_modes p.modes body;
+      places = next_places p body;
+      begun = p.begun || not (list_all is_blank body);
+      marked = p.marked || (is_percent_line body && not p.begun);
+      closed = p.closed || (is_percent_line body && p.begun);
+      ended = ends_text p body;
+      tool = tool_left (is_executed body) p.tool;
+      lacks_feed = lacks_feed;
+    }
+
+-- after the end a percent sign still closes the text
+abbrev pub after_ended : Progress → List ℕ → Bool → Progress
+after_ended p body lacks_feed =
+    record {
+      modes = p.modes;
+      places = p.places;
+      begun = p.begun;
+      marked = p.marked;
+      closed = p.closed || is_percent_line body;
+      ended = true;
+      tool = p.tool;
+      lacks_feed = lacks_feed;
+    }
+
+abbrev pub progress_after_body : Progress → List ℕ → Bool → Progress
+progress_after_body p body lacks_feed =
+    if p.ended then after_ended p body lacks_feed else after_body p body lacks_feed
+
+abbrev pub progress_after : Progress → List ℕ → Progress
+progress_after p line = progress_after_body p (body_of line) (not (ends 10 line))
+
+-- ---- what is written
+
+unfoldable pub tool_line : Option ℕ → List ℕ
+tool_line None = []
+tool_line (Some tool) = codes "T" ++ decimal tool ++ codes " M6\n"
+
+-- the line that mounts a tool goes in front of the first line that is executed
+abbrev pub tool_before : Progress → List ℕ → Option ℕ
+tool_before p body = if not p.ended && is_executed body then p.tool else None
+
+abbrev pub body_written : Progress → List ℕ → List ℕ
+body_written p body = if p.ended then body else executed_written p body
+
+abbrev pub line_written : Progress → List ℕ → List ℕ
+line_written p line =
+    tool_line (tool_before p (body_of line)) ++ (body_written p (body_of line) ++ end_of line)
+
+abbrev pub feed_if : Bool → List ℕ
+feed_if lacks_feed = if lacks_feed then codes "\n" else []
+
+-- a text that a percent sign begins is closed by one, and any other ends by M2
+abbrev pub ending_line : Progress → List ℕ
+ending_line p =
+    if p.marked then (if p.closed then [] else codes "%\n")
+    else (if p.ended then [] else codes "M2\n")
+
+abbrev pub has_ending : Progress → Bool
+has_ending p = if p.marked then not p.closed else not p.ended
+
+abbrev pub ending_written : Progress → List ℕ
+ending_written p = feed_if (has_ending p && p.lacks_feed) ++ ending_line p
+
+abbrev pub lines_written : Progress → List (List ℕ) → List ℕ
+lines_written p [] = ending_written p
+lines_written p (line ∷ rest) = line_written p line ++ lines_written (progress_after p line) rest
+
+-- what is written of a file
+unfoldable pub program_written : Request → List ℕ → List ℕ
+program_written request file = lines_written (start request (text_of file)) (lines_of (text_of file))
+
+-- ---- what stands in the way
+
+abbrev pub is_left : Progress → List ℕ → Bool
+is_left p body =
+    not p.ended
+    && (has_refused_words p body
+    || nat_lt 0 (length (refusals_for p.places (written p.modes body))))
+
+abbrev pub lines_left : Progress → List (List ℕ) → Bool
+lines_left p [] = false
+lines_left p (line ∷ rest) = is_left p (body_of line) || lines_left (progress_after p line) rest
+
+-- something in a file stands in the way
+unfoldable pub program_left : Request → List ℕ → Bool
+program_left request file = lines_left (start request (text_of file)) (lines_of (text_of file))
+
+-- ---- the report
+
+abbrev pub is_feed : ℕ → Bool
+is_feed b = b == 10
+
+abbrev pub feeds : List ℕ → ℕ
+feeds text = count_by is_feed text
+
+-- line N (M): RULE CLASS: nothing ->
+unfoldable pub place_text : ℕ → ℕ → List ℕ
+place_text number line =
+    codes "line " ++ decimal number ++ codes " (" ++ decimal line ++ codes "): "
+
+unfoldable pub added_text : ℕ → ℕ → List ℕ → List ℕ
+added_text number line rule = place_text number line ++ (rule ++ codes ": nothing -> ")
+
+abbrev pub tool_report : ℕ → ℕ → Option ℕ → List ℕ
+tool_report number line None = []
+tool_report number line (Some tool) =
+    added_text number line (codes "first_tool told") ++ tool_line (Some tool)
+
+abbrev pub moved_report : ℕ → ℕ → Progress → List ℕ → List ℕ
+moved_report number line p body =
+    if has_refused_words p body then []
+    else moves_report number line p.places (written p.modes body)
+
+-- of a line with a number, where `before` lines are written before it
+abbrev pub body_report : ℕ → ℕ → Progress → List ℕ → List ℕ
+body_report number before p body =
+    if p.ended then []
+    else line_report number (before + 1) p.modes body ++ moved_report number (before + 1) p body
+
+abbrev pub source_report : ℕ → ℕ → Progress → List ℕ → List ℕ
+source_report number before p body =
+    tool_report number (before + 1) (tool_before p body)
+    ++ body_report number (before + feeds (tool_line (tool_before p body))) p body
+
+abbrev pub ending_rule : Bool → List ℕ
+ending_rule marked = if marked then codes "closing_percent exact" else codes "program_end told"
+
+abbrev pub ending_report : ℕ → ℕ → Progress → List ℕ
+ending_report number before p =
+    if has_ending p
+    then added_text number (before + feeds (feed_if p.lacks_feed) + 1) (ending_rule p.marked)
+    ++ ending_line p
+    else []
+
+abbrev pub lines_report : ℕ → ℕ → Progress → List (List ℕ) → List ℕ
+lines_report number before p [] = ending_report number before p
+lines_report number before p (line ∷ rest) =
+    source_report number before p (body_of line)
+    ++ lines_report (number + 1) (before + feeds (line_written p line)) (progress_after p line) rest
+
+-- ---- how often each rule applied
+
+abbrev pub word_changes : ℕ → ℕ → Progress → List ℕ → List Change
+word_changes number before p body =
+    if p.ended then [] else map (change_at number (before + 1)) (rules_of p.modes body)
+
+abbrev pub body_changes : ℕ → ℕ → Progress → List ℕ → List Change
+body_changes number before p body =
+    word_changes number (before + feeds (tool_line (tool_before p body))) p body
+
+abbrev pub lines_changes : ℕ → ℕ → Progress → List (List ℕ) → List Change
+lines_changes number before p [] = []
+lines_changes number before p (line ∷ rest) =
+    body_changes number before p (body_of line)
+    ++ lines_changes (number + 1) (before + feeds (line_written p line)) (progress_after p line) rest
+
+abbrev pub program_changes : Request → List ℕ → List Change
+program_changes request file =
+    lines_changes 1 0 (start request (text_of file)) (lines_of (text_of file))
+
+-- a line for each change and for each word that stands in the way, which tools are named, and how
+-- often each rule of words applied
+unfoldable pub program_report : Request → List ℕ → List ℕ
+program_report request file =
+    lines_report 1 0 (start request (text_of file)) (lines_of (text_of file))
+    ++ (tools_text (tools_named (program_written request file))
+    ++ counts_text (program_changes request file))

@@ -1,0 +1,646 @@
+ghost use Rattle.std.specs.Prelude.{◌≡◌, ◌+◌, ◌≤◌, ◌++◌, ◌||◌, [], length, map, IfOk, true, false};
+ghost use Rattle.std.specs.Prelude.{nat_lt, ◌<◌, ◌^◌, drop};
+ghost use Rattle.std.specs.List.{list_all};
+ghost use Rattle.ngc_adapt.specs.Numbers.{is_blank as blank};
+ghost use Rattle.ngc_adapt.specs.Sources.{body_of, ends, lines_of};
+ghost use Rattle.ngc_adapt.specs.Lines.{written, rules_of, next_modes, is_end, refusals_of};
+ghost use Rattle.ngc_adapt.specs.Programs.{change_at};
+ghost use Rattle.ngc_adapt.specs.Reports.{line_report};
+ghost use Rattle.ngc_adapt_moves.specs.Lines.{written as moves_written, refusals_for, places_after};
+ghost use Rattle.ngc_adapt_moves.specs.LineReports.{line_report as moves_report};
+ghost use Rattle.ngc_adapt_program.specs.Programs as spec;
+ghost use Rattle.ngc_adapt_program.specs.ToolNumbers.{tools_named};
+
+use crate::mounted::{is_executed, mounts_tool};
+use crate::request::Request;
+use crate::tools::{add_tools_report, tools_named};
+use itoa::Buffer;
+use ngc_adapt::{
+    Change, Facts, Modes, Rule, adapt_line, add_counts, add_line_report, body_length, byte_count,
+    is_blank, split_line, text_of,
+};
+use ngc_adapt_moves::{Places, add_line_report as add_moves_report, rewrite_line};
+use std::alloc::{AllocError, Allocator};
+
+/// What the lines before leave.
+#[derive(Clone, Copy)]
+pub struct Progress {
+    /// What they leave in force.
+    pub modes: Modes,
+    /// Where they leave the tool.
+    pub places: Places,
+    /// Whether one of them isn't blank.
+    pub begun: bool,
+    /// Whether the first of these is a percent sign.
+    pub marked: bool,
+    /// Whether another percent sign followed.
+    pub closed: bool,
+    /// Whether nothing that follows is executed.
+    pub ended: bool,
+    /// The tool to mount in front of the next line that is executed.
+    pub tool: Option<u16>,
+    /// Whether the last of them has no line feed.
+    pub lacks_feed: bool,
+}
+
+/// A program in our language, or what stands in the way of one.
+#[derive(Drop)]
+pub struct Adapted<A: Allocator> {
+    /// What is written.
+    pub text: Vec<u8, A>,
+    /// A line for each change and for each word that stands in the way, the tools that are named, and
+    /// how often each rule applied.
+    pub report: Vec<u8, A>,
+    /// The numbers of the tools that are named.
+    pub tools: Vec<u16, A>,
+    /// Whether something stands in the way, so that what is written isn't the program.
+    pub is_left: bool,
+}
+
+fn is_blank_or_percent(byte: u8) -> bool
+    ensures { result ≡ spec.is_blank_or_percent byte }
+{
+    is_blank(byte) || byte == b'%'
+}
+
+fn is_all_blank_or_percent(body: &[u8]) -> bool
+    ensures { result ≡ list_all spec.is_blank_or_percent body.now }
+{
+    body.iter().all(|b| is_blank_or_percent(*b))
+}
+
+fn is_percent_line(body: &[u8]) -> bool
+    ensures { result ≡ spec.is_percent_line body.now }
+{
+    byte_count(b'%', body) == 1 && is_all_blank_or_percent(body)
+}
+
+fn is_blank_line(body: &[u8]) -> bool
+    ensures { result ≡ list_all blank body.now }
+{
+    body.iter().all(|b| is_blank(*b))
+}
+
+fn is_feed(byte: u8) -> bool
+    ensures { result ≡ spec.is_feed byte }
+{
+    byte == b'\n'
+}
+
+// How many line feeds a text has.
+fn feeds(text: &[u8]) -> usize
+    ensures { result ≡ spec.feeds text.now }
+{
+    text.iter().filter(|b| is_feed(**b)).count()
+}
+
+// How many line feeds a text has behind its first bytes.
+fn feeds_from(text: &[u8], start: usize) -> usize
+    requires { start ≤ length text.now }
+    ensures count { result ≡ spec.feeds (drop start text.now) }
+    ensures few { start + result ≤ length text.now }
+{
+    feeds(&text[start..])
+}
+
+fn ends_with_feed(line: &[u8]) -> bool
+    ensures { result ≡ ends 10 line.now }
+{
+    !line.is_empty() && is_feed(line[line.len() - 1])
+}
+
+impl Progress {
+    ghost use Rattle.ngc_adapt_program.specs.Programs.{start, after_ended, tool_before, has_ending};
+
+    /// Returns what is known where a text begins.
+    pub fn start(request: &Request, text: &[u8]) -> Progress
+        ensures { result ≡ start request.now text.now }
+    {
+        Progress {
+            modes: Modes::start(&request.options, &Facts::of(text)),
+            places: Places::start(request.options.dialect, request.homes),
+            begun: false,
+            marked: false,
+            closed: false,
+            ended: false,
+            tool: if mounts_tool(text) {
+                None
+            } else {
+                request.tool
+            },
+            lacks_feed: false,
+        }
+    }
+
+    // What a line after the end leaves.
+    fn after_ended(&self, body: &[u8], lacks_feed: bool) -> Progress
+        ensures { result ≡ after_ended self.now body.now lacks_feed }
+    {
+        Progress {
+            closed: self.closed || is_percent_line(body),
+            ended: true,
+            lacks_feed,
+            ..*self
+        }
+    }
+
+    // The tool to mount in front of a line.
+    fn tool_before(&self, body: &[u8]) -> Option<u16>
+        ensures { result ≡ tool_before self.now body.now }
+    {
+        if !self.ended && is_executed(body) {
+            self.tool
+        } else {
+            None
+        }
+    }
+
+    fn has_ending(&self) -> bool
+        ensures { result ≡ has_ending self.now }
+    {
+        if self.marked {
+            !self.closed
+        } else {
+            !self.ended
+        }
+    }
+
+    // The line that ends the text.
+    fn ending_line(&self) -> &'static [u8]
+        requires { has_ending self.now ≡ true }
+        ensures { result.now ≡ spec.ending_line self.now }
+    {
+        if self.marked { b"%\n" } else { b"M2\n" }
+    }
+}
+
+#[tactic(auto, unfolding(crate::specs::Programs::tool_line))]
+fn add_tool_line<A: Allocator>(tool: Option<u16>, text: &mut Vec<u8, A>) -> Result<(), AllocError>
+    ensures { IfOk result (λ _. text.new.items ≡ text.old.items ++ spec.tool_line tool) }
+{
+    if let Some(tool) = tool {
+        let mut buffer = Buffer::new();
+        text.extend_from_slice(b"T")?;
+        text.extend_from_slice(buffer.format(tool).as_bytes())?;
+        text.extend_from_slice(b" M6\n")?;
+    }
+    Ok(())
+}
+
+#[tactic(auto, unfolding(crate::specs::Programs::place_text))]
+fn add_place<A: Allocator>(
+    number: usize,
+    line: usize,
+    report: &mut Vec<u8, A>,
+) -> Result<(), AllocError>
+    ensures { IfOk result
+        (λ _. report.new.items ≡ report.old.items ++ spec.place_text number line) }
+{
+    let mut buffer = Buffer::new();
+    report.extend_from_slice(b"line ")?;
+    report.extend_from_slice(buffer.format(number).as_bytes())?;
+    report.extend_from_slice(b" (")?;
+    report.extend_from_slice(buffer.format(line).as_bytes())?;
+    report.extend_from_slice(b"): ")?;
+    Ok(())
+}
+
+// Adds where a line is added, and by which rule.
+#[tactic(auto, unfolding(crate::specs::Programs::added_text))]
+fn add_added<A: Allocator>(
+    number: usize,
+    line: usize,
+    rule: &[u8],
+    report: &mut Vec<u8, A>,
+) -> Result<(), AllocError>
+    ensures { IfOk result
+        (λ _. report.new.items ≡ report.old.items ++ spec.added_text number line rule.now) }
+{
+    add_place(number, line, report)?;
+    report.extend_from_slice(rule)?;
+    report.extend_from_slice(b": nothing -> ")?;
+    Ok(())
+}
+
+fn add_tool_report<A: Allocator>(
+    number: usize,
+    line: usize,
+    tool: Option<u16>,
+    report: &mut Vec<u8, A>,
+) -> Result<(), AllocError>
+    ensures { IfOk result
+        (λ _. report.new.items ≡ report.old.items ++ spec.tool_report number line tool) }
+{
+    match tool {
+        Some(tool) => {
+            add_added(number, line, b"first_tool told", report)?;
+            add_tool_line(Some(tool), report)?;
+            Ok(())
+        }
+        None => Ok(()),
+    }
+}
+
+// Adds a change by each of the rules.
+fn add_changes<A: Allocator>(
+    number: usize,
+    line: usize,
+    rules: &[Rule],
+    changes: &mut Vec<Change, A>,
+) -> Result<(), AllocError>
+    ensures { IfOk result
+        (λ _. changes.new.items ≡ changes.old.items ++ map (change_at number line) rules.now) }
+{
+    for rule in rules {
+        changes.push(Change {
+            line: number,
+            written_line: line,
+            rule: *rule,
+        })?;
+    }
+    Ok(())
+}
+
+// What is written so far, with its report. A refused growth leaves any beginning of what it adds.
+#[derive(Drop)]
+struct Writing<A: Allocator> {
+    text: Vec<u8, A>,
+    report: Vec<u8, A>,
+    changes: Vec<Change, A>,
+    // Whether something stands in the way.
+    is_left: bool,
+    // How many lines the text has.
+    before: usize,
+}
+
+impl<A: Allocator> Writing<A> {
+    ghost use Rattle.ngc_adapt_program.specs.Programs.{feeds, has_refused_words};
+
+    // Adds the line that mounts a tool.
+    #[tactic(auto, using(crate::proofs::Feeds::seam_feeds))]
+    fn add_tool(&mut self, number: usize, tool: Option<u16>) -> Result<(), AllocError>
+        requires { self.old.before ≡ feeds self.old.text.items }
+        ensures text { IfOk result
+            (λ _. self.new.text.items ≡ self.old.text.items ++ spec.tool_line tool) }
+        ensures report { IfOk result (λ _. self.new.report.items ≡ self.old.report.items
+            ++ spec.tool_report number (self.old.before + 1) tool) }
+        ensures changes { IfOk result (λ _. self.new.changes ≡ self.old.changes) }
+        ensures left { self.new.is_left ≡ self.old.is_left }
+        ensures before { IfOk result
+            (λ _. self.new.before ≡ self.old.before + feeds (spec.tool_line tool)) }
+    {
+        add_tool_report(number, self.before + 1, tool, &mut self.report)?;
+        let start = self.text.len();
+        add_tool_line(tool, &mut self.text)?;
+        self.before += feeds_from(self.text.as_slice(), start);
+        Ok(())
+    }
+
+    // Adds what the words of a line are rewritten to, and returns what they leave in force.
+    fn add_words(
+        &mut self,
+        number: usize,
+        progress: &Progress,
+        body: &[u8],
+        out: &mut Vec<u8, A>,
+    ) -> Result<Executed, AllocError>
+        requires { self.old.before ≡ feeds self.old.text.items }
+        ensures out { IfOk result
+            (λ _. out.new.items ≡ out.old.items ++ written progress.now.modes body.now) }
+        ensures report { IfOk result (λ _. self.new.report.items ≡ self.old.report.items
+            ++ line_report number (self.old.before + 1) progress.now.modes body.now) }
+        ensures changes { IfOk result (λ _. self.new.changes.items ≡ self.old.changes.items
+            ++ map (change_at number (self.old.before + 1)) (rules_of progress.now.modes body.now)) }
+        ensures same { (self.new.text ≡ self.old.text) × (self.new.is_left ≡ self.old.is_left)
+            × (self.new.before ≡ self.old.before) }
+        ensures modes { IfOk result (λ e. e.modes ≡ next_modes progress.now.modes body.now) }
+        ensures end { IfOk result (λ e. e.is_end ≡ is_end progress.now.modes body.now) }
+        ensures refused { IfOk result (λ e. e.is_refused ≡ has_refused_words progress.now body.now) }
+    {
+        let line = self.before + 1;
+        let adapted = adapt_line(&progress.modes, body, out)?;
+        add_changes(number, line, adapted.rules.as_slice(), &mut self.changes)?;
+        add_line_report(number, line, &progress.modes, body, &mut self.report)?;
+        Ok(Executed {
+            modes: adapted.modes,
+            is_end: adapted.is_end,
+            is_refused: !adapted.refusals.is_empty(),
+        })
+    }
+
+    // Adds what a line with rewritten words becomes by the moves that it makes, and returns where it
+    // leaves the tool.
+    fn add_moves(
+        &mut self,
+        number: usize,
+        places: &Places,
+        line: &[u8],
+    ) -> Result<Places, AllocError>
+        requires { self.old.before ≡ feeds self.old.text.items }
+        ensures text { IfOk result
+            (λ _. self.new.text.items ≡ self.old.text.items ++ moves_written places.now line.now) }
+        ensures report { IfOk result (λ _. self.new.report.items ≡ self.old.report.items
+            ++ moves_report number (self.old.before + 1) places.now line.now) }
+        ensures left { IfOk result (λ _. self.new.is_left ≡ (self.old.is_left
+            || nat_lt 0 (length (refusals_for places.now line.now)))) }
+        ensures same { (self.new.changes ≡ self.old.changes) × (self.new.before ≡ self.old.before) }
+        ensures places { IfOk result (λ p. p ≡ places_after places.now line.now) }
+    {
+        let rewritten = rewrite_line(places, line, &mut self.text)?;
+        self.is_left = self.is_left || !rewritten.refusals.is_empty();
+        add_moves_report(number, self.before + 1, places, line, &mut self.report)?;
+        Ok(rewritten.after)
+    }
+}
+
+// What the words of a line leave.
+#[derive(Clone, Copy)]
+struct Executed {
+    modes: Modes,
+    is_end: bool,
+    // Whether one of them stands in the way.
+    is_refused: bool,
+}
+
+// Adds what is written of a line that is executed, and returns what it leaves.
+fn add_executed<A: Allocator + Copy>(
+    alloc: A,
+    number: usize,
+    progress: &Progress,
+    body: &[u8],
+    lacks_feed: bool,
+    out: &mut Writing<A>,
+) -> Result<Progress, AllocError>
+    requires { out.old.before ≡ spec.feeds out.old.text.items }
+    ensures text { IfOk result (λ _. out.new.text.items ≡ out.old.text.items
+        ++ spec.executed_written progress.now body.now) }
+    ensures report { IfOk result (λ _. out.new.report.items ≡ out.old.report.items
+        ++ (line_report number (out.old.before + 1) progress.now.modes body.now
+        ++ spec.moved_report number (out.old.before + 1) progress.now body.now)) }
+    ensures changes { IfOk result (λ _. out.new.changes.items ≡ out.old.changes.items
+        ++ map (change_at number (out.old.before + 1)) (rules_of progress.now.modes body.now)) }
+    ensures left { IfOk result (λ _. out.new.is_left ≡ (out.old.is_left
+        || (spec.has_refused_words progress.now body.now
+        || nat_lt 0 (length (refusals_for progress.now.places
+        (written progress.now.modes body.now)))))) }
+    ensures progress { IfOk result (λ p. p ≡ spec.after_body progress.now body.now lacks_feed) }
+{
+    let mut line = Vec::new(alloc);
+    let executed = out.add_words(number, progress, body, &mut line)?;
+    let places = if executed.is_refused {
+        out.is_left = true;
+        out.text.extend_from_slice(line.as_slice())?;
+        progress.places.lost()
+    } else {
+        out.add_moves(number, &progress.places, line.as_slice())?
+    };
+    Ok(after_body(progress, &executed, places, body, lacks_feed))
+}
+
+// What a line that is executed leaves.
+fn after_body(
+    progress: &Progress,
+    executed: &Executed,
+    places: Places,
+    body: &[u8],
+    lacks_feed: bool,
+) -> Progress
+    requires modes { executed.now.modes ≡ next_modes progress.now.modes body.now }
+    requires end { executed.now.is_end ≡ is_end progress.now.modes body.now }
+    requires places { places ≡ spec.next_places progress.now body.now }
+    ensures { result ≡ spec.after_body progress.now body.now lacks_feed }
+{
+    let percent = is_percent_line(body);
+    Progress {
+        modes: executed.modes,
+        places,
+        begun: progress.begun || !is_blank_line(body),
+        marked: progress.marked || (percent && !progress.begun),
+        closed: progress.closed || (percent && progress.begun),
+        ended: if percent {
+            progress.begun
+        } else {
+            executed.is_end
+        },
+        tool: if is_executed(body) {
+            None
+        } else {
+            progress.tool
+        },
+        lacks_feed,
+    }
+}
+
+// Adds what is written of a line without what stands in front of it, and returns what it leaves.
+fn add_body<A: Allocator + Copy>(
+    alloc: A,
+    number: usize,
+    progress: &Progress,
+    body: &[u8],
+    lacks_feed: bool,
+    out: &mut Writing<A>,
+) -> Result<Progress, AllocError>
+    requires { out.old.before ≡ spec.feeds out.old.text.items }
+    ensures text { IfOk result
+        (λ _. out.new.text.items ≡ out.old.text.items ++ spec.body_written progress.now body.now) }
+    ensures report { IfOk result (λ _. out.new.report.items ≡ out.old.report.items
+        ++ spec.body_report number out.old.before progress.now body.now) }
+    ensures changes { IfOk result (λ _. out.new.changes.items ≡ out.old.changes.items
+        ++ spec.word_changes number out.old.before progress.now body.now) }
+    ensures left { IfOk result
+        (λ _. out.new.is_left ≡ (out.old.is_left || spec.is_left progress.now body.now)) }
+    ensures progress { IfOk result
+        (λ p. p ≡ spec.progress_after_body progress.now body.now lacks_feed) }
+{
+    if progress.ended {
+        out.text.extend_from_slice(body)?;
+        return Ok(progress.after_ended(body, lacks_feed));
+    }
+    let after = add_executed(alloc, number, progress, body, lacks_feed, out)?;
+    Ok(after)
+}
+
+// Adds what is written of a line, its changes and their report, and returns what it leaves. How many
+// lines the text has isn't counted.
+fn add_source<A: Allocator + Copy>(
+    alloc: A,
+    number: usize,
+    progress: &Progress,
+    line: &[u8],
+    out: &mut Writing<A>,
+) -> Result<Progress, AllocError>
+    requires { out.old.before ≡ spec.feeds out.old.text.items }
+    ensures text { IfOk result
+        (λ _. out.new.text.items ≡ out.old.text.items ++ spec.line_written progress.now line.now) }
+    ensures report { IfOk result (λ _. out.new.report.items ≡ out.old.report.items
+        ++ spec.source_report number out.old.before progress.now (body_of line.now)) }
+    ensures changes { IfOk result (λ _. out.new.changes.items ≡ out.old.changes.items
+        ++ spec.body_changes number out.old.before progress.now (body_of line.now)) }
+    ensures left { IfOk result
+        (λ _. out.new.is_left ≡ (out.old.is_left || spec.is_left progress.now (body_of line.now))) }
+    ensures progress { IfOk result (λ p. p ≡ spec.progress_after progress.now line.now) }
+{
+    let (body, end) = line.split_at(body_length(line));
+    out.add_tool(number, progress.tool_before(body))?;
+    let after = add_body(alloc, number, progress, body, !ends_with_feed(line), out)?;
+    out.text.extend_from_slice(end)?;
+    Ok(after)
+}
+
+// The same, and counts the lines.
+#[tactic(auto, using(crate::proofs::Feeds::seam_feeds))]
+fn add_line<A: Allocator + Copy>(
+    alloc: A,
+    number: usize,
+    progress: &Progress,
+    line: &[u8],
+    out: &mut Writing<A>,
+) -> Result<Progress, AllocError>
+    requires { out.old.before ≡ spec.feeds out.old.text.items }
+    ensures text { IfOk result
+        (λ _. out.new.text.items ≡ out.old.text.items ++ spec.line_written progress.now line.now) }
+    ensures report { IfOk result (λ _. out.new.report.items ≡ out.old.report.items
+        ++ spec.source_report number out.old.before progress.now (body_of line.now)) }
+    ensures changes { IfOk result (λ _. out.new.changes.items ≡ out.old.changes.items
+        ++ spec.body_changes number out.old.before progress.now (body_of line.now)) }
+    ensures left { IfOk result
+        (λ _. out.new.is_left ≡ (out.old.is_left || spec.is_left progress.now (body_of line.now))) }
+    ensures before { IfOk result (λ _. out.new.before
+        ≡ out.old.before + spec.feeds (spec.line_written progress.now line.now)) }
+    ensures progress { IfOk result (λ p. p ≡ spec.progress_after progress.now line.now) }
+{
+    let start = out.text.len();
+    let before = out.before;
+    let after = add_source(alloc, number, progress, line, out)?;
+    out.before = before + feeds_from(out.text.as_slice(), start);
+    Ok(after)
+}
+
+fn ending_rule(marked: bool) -> &'static [u8]
+    ensures { result.now ≡ spec.ending_rule marked }
+{
+    if marked {
+        b"closing_percent exact"
+    } else {
+        b"program_end told"
+    }
+}
+
+// How many line feeds come before the line that ends a text.
+fn feed_count(lacks_feed: bool) -> usize
+    ensures count { result ≡ spec.feeds (spec.feed_if lacks_feed) }
+    ensures few { result ≤ 1 }
+{
+    if lacks_feed { 1 } else { 0 }
+}
+
+fn add_ending_report<A: Allocator>(
+    number: usize,
+    before: usize,
+    progress: &Progress,
+    report: &mut Vec<u8, A>,
+) -> Result<(), AllocError>
+    requires some { spec.has_ending progress.now ≡ true }
+    requires few { before + 2 < 2 ^ 64 }
+    ensures { IfOk result (λ _. report.new.items ≡ report.old.items
+        ++ spec.ending_report number before progress.now) }
+{
+    let line = before + feed_count(progress.lacks_feed) + 1;
+    add_added(number, line, ending_rule(progress.marked), report)?;
+    report.extend_from_slice(progress.ending_line())?;
+    Ok(())
+}
+
+// Adds the line that ends the text, where it lacks one, after `number` lines of the source.
+fn add_ending<A: Allocator>(
+    number: usize,
+    progress: &Progress,
+    out: &mut Writing<A>,
+) -> Result<(), AllocError>
+    requires { out.old.before ≡ spec.feeds out.old.text.items }
+    ensures text { IfOk result
+        (λ _. out.new.text.items ≡ out.old.text.items ++ spec.ending_written progress.now) }
+    ensures report { IfOk result (λ _. out.new.report.items ≡ out.old.report.items
+        ++ spec.ending_report number out.old.before progress.now) }
+    ensures changes { out.new.changes ≡ out.old.changes }
+    ensures left { out.new.is_left ≡ out.old.is_left }
+{
+    if !progress.has_ending() {
+        return Ok(());
+    }
+    add_ending_report(number, out.before, progress, &mut out.report)?;
+    if progress.lacks_feed {
+        out.text.extend_from_slice(b"\n")?;
+    }
+    out.text.extend_from_slice(progress.ending_line())?;
+    Ok(())
+}
+
+// Adds what is written of a text, with its changes and their report.
+fn add_lines<A: Allocator + Copy>(
+    alloc: A,
+    request: &Request,
+    source: &[u8],
+    out: &mut Writing<A>,
+) -> Result<(), AllocError>
+    requires text { out.old.text.items ≡ [] }
+    requires before { out.old.before ≡ 0 }
+    requires left { out.old.is_left ≡ false }
+    ensures text { IfOk result (λ _. out.new.text.items
+        ≡ spec.lines_written (spec.start request.now source.now) (lines_of source.now)) }
+    ensures report { IfOk result (λ _. out.new.report.items ≡ out.old.report.items
+        ++ spec.lines_report 1 0 (spec.start request.now source.now) (lines_of source.now)) }
+    ensures changes { IfOk result (λ _. out.new.changes.items ≡ out.old.changes.items
+        ++ spec.lines_changes 1 0 (spec.start request.now source.now) (lines_of source.now)) }
+    ensures left { IfOk result (λ _. out.new.is_left
+        ≡ spec.lines_left (spec.start request.now source.now) (lines_of source.now)) }
+{
+    let mut progress = Progress::start(request, source);
+    let mut number = 1;
+    let mut rest = source;
+    while !rest.is_empty() {
+        let (line, others) = split_line(rest);
+        progress = add_line(alloc, number, &progress, line, out)?;
+        number += 1;
+        rest = others;
+    }
+    add_ending(number, &progress, out)?;
+    Ok(())
+}
+
+/// Rewrites the file of a program for another control as a program in our language: its text, a
+/// report of each change and of all that stands in the way, and the tools that it names.
+///
+/// Lines after the end are copied, and so is a line to which no rule applies, byte for byte. Where
+/// something stands in the way, the text isn't the program. An error means that memory was refused.
+#[tactic(auto, unfolding(crate::specs::Programs::program_written, crate::specs::Programs::program_report, crate::specs::Programs::program_left))]
+pub fn adapt_program<A: Allocator + Copy>(
+    alloc: A,
+    request: &Request,
+    file: &[u8],
+) -> Result<Adapted<A>, AllocError>
+    ensures text { IfOk result (λ a. a.text.items ≡ spec.program_written request.now file.now) }
+    ensures report { IfOk result (λ a. a.report.items ≡ spec.program_report request.now file.now) }
+    ensures tools { IfOk result
+        (λ a. a.tools.items ≡ tools_named (spec.program_written request.now file.now)) }
+    ensures left { IfOk result (λ a. a.is_left ≡ spec.program_left request.now file.now) }
+{
+    let source = text_of(alloc, file)?;
+    let mut out = Writing {
+        text: Vec::with_capacity(alloc, file.len())?,
+        report: Vec::new(alloc),
+        changes: Vec::new(alloc),
+        is_left: false,
+        before: 0,
+    };
+    add_lines(alloc, request, source.as_slice(), &mut out)?;
+    let tools = tools_named(alloc, out.text.as_slice())?;
+    add_tools_report(tools.as_slice(), &mut out.report)?;
+    add_counts(out.changes.as_slice(), &mut out.report)?;
+    Ok(Adapted {
+        text: out.text,
+        report: out.report,
+        tools,
+        is_left: out.is_left,
+    })
+}

@@ -1,0 +1,163 @@
+-- Figures of three machines, and figures that are refused, worked by hand by dividing by the longer
+-- of the file's step and the motor's.
+use Rattle.std.proofs.Common.{◌≡◌, ℕ, ◌*◌, Some, None, refl}
+use Rattle.std.specs.Prelude.{pos, neg_ℤ, Ok, Err}
+use Rattle.ngc_machine_maker.specs.declared.figures.Acceleration.{Acceleration}
+use Rattle.ngc_machine_maker.specs.declared.figures.Axis.TheVariants as axes
+use Rattle.ngc_machine_maker.specs.declared.figures.End.TheVariants as ends
+use Rattle.ngc_machine_maker.specs.declared.figures.Figures.{Figures}
+use Rattle.ngc_machine_maker.specs.declared.figures.Length.{Length}
+use Rattle.ngc_machine_maker.specs.declared.figures.PerAxis.{PerAxis}
+use Rattle.ngc_machine_maker.specs.declared.figures.Speed.{Speed}
+use Rattle.ngc_machine_maker.specs.declared.refusal.Refusal.TheVariants as refusals
+use Rattle.ngc_machine_maker.specs.declared.refusal.Stop.TheVariants as stops
+use Rattle.ngc_machine_maker.specs.Formulas.{nearest_step}
+use Rattle.ngc_machine_maker.specs.Numbers.{numbers_of}
+
+abbrev pub three : {T : Type 0} → T → T → T → PerAxis T
+three x y z = record { x = x; y = y; z = z }
+
+-- in whole millimetres, millimetres a minute, and millimetres per second squared
+abbrev pub mm : ℕ → Length
+mm n = record { nanometres = n * 1000000 }
+
+abbrev pub mm_a_minute : ℕ → Speed
+mm_a_minute n = record { micrometres_a_minute = n * 1000 }
+
+abbrev pub mm_a_second_squared : ℕ → Acceleration
+mm_a_second_squared n = record { micrometres_a_second_squared = n * 1000 }
+
+-- 188.976 steps a millimetre are steps of 5,291.677 nm; 20 turns an inch with 1,600 steps a turn are
+-- 1259.84252 steps a millimetre, and steps of 793.75 nm
+nearest_of_188_976 : nearest_step 188976000 ≡ 5292
+nearest_of_188_976 = refl
+
+nearest_of_20_turns_an_inch : nearest_step 1259842520 ≡ 794
+nearest_of_20_turns_an_inch = refl
+
+nearest_of_800 : nearest_step 800000000 ≡ 1250
+nearest_of_800 = refl
+
+-- A small router with 800 steps a millimetre, 300 by 180 by 45 mm. 1,000 mm/min are 13,333.3 steps a
+-- second, so 27,000 ticks, of which a step takes 0.493827. 20 mm/s^2 are 16,000 steps per second
+-- squared, over 27,000 twice 21.95 millionths.
+abbrev pub small_router : Figures
+small_router = record {
+  steps = record { millionths = 800000000 };
+  travel = three (mm 300) (mm 180) (mm 45);
+  feed = three (mm_a_minute 1000) (mm_a_minute 1000) (mm_a_minute 600);
+  acceleration = three (mm_a_second_squared 30) (mm_a_second_squared 30) (mm_a_second_squared 20);
+  corner = mm_a_minute 300;
+  jump = mm_a_minute 0;
+  arcs = None;
+  ticks = None;
+  zero = three ends.Low ends.Low ends.High;
+  start = three (mm 0) (mm 0) (mm 0);
+  home28 = None;
+  home30 = None;
+}
+
+numbers_of_a_small_router : numbers_of small_router ≡ Ok (record {
+  step = 1250;
+  ticks_per_second = 27000;
+  max_rate = 493827;
+  change = 21;
+  corner = 148148;
+  turn = 10973936;
+  axis_rate = three 493827 493827 296296;
+  jump = 0;
+  low = three (pos 0) (pos 0) (neg_ℤ (pos 45000000));
+  high = three (pos 300000000) (pos 180000000) (pos 0);
+  start = three (pos 0) (pos 0) (pos 0);
+  home28 = three (pos 0) (pos 0) (pos 0);
+  home30 = three (pos 0) (pos 0) (pos 0);
+})
+numbers_of_a_small_router = refl
+
+-- A mill with screws of 20 turns an inch and motors of 200 steps a turn at 8 microsteps, 220 by 127
+-- by 159 mm, with zero at the high ends and a start 1 mm from there. The file's step of 794 nm is
+-- longer than the motor's: X has 277,078 steps of it, 219.999932 mm.
+abbrev bench_mill : Figures
+bench_mill = record {
+  steps = record { millionths = 1259842520 };
+  travel = three (mm 220) (mm 127) (mm 159);
+  feed = three (mm_a_minute 558) (mm_a_minute 558) (mm_a_minute 400);
+  acceleration = three (mm_a_second_squared 50) (mm_a_second_squared 50) (mm_a_second_squared 50);
+  corner = mm_a_minute 300;
+  jump = mm_a_minute 0;
+  arcs = None;
+  ticks = None;
+  zero = three ends.High ends.High ends.High;
+  start = three (mm 1) (mm 1) (mm 1);
+  home28 = Some (three (mm 0) (mm 0) (mm 0));
+  home30 = None;
+}
+
+numbers_of_a_bench_mill : numbers_of bench_mill ≡ Ok (record {
+  step = 794;
+  ticks_per_second = 24000;
+  max_rate = 488035;
+  change = 109;
+  corner = 262384;
+  turn = 54663448;
+  axis_rate = three 488035 488035 349846;
+  jump = 0;
+  low = three (neg_ℤ (pos 219999932)) (neg_ℤ (pos 126999506)) (neg_ℤ (pos 158999294));
+  high = three (pos 0) (pos 0) (pos 0);
+  start = three (neg_ℤ (pos 999646)) (neg_ℤ (pos 999646)) (neg_ℤ (pos 999646));
+  home28 = three (pos 0) (pos 0) (pos 0);
+  home30 = three (neg_ℤ (pos 999646)) (neg_ℤ (pos 999646)) (neg_ℤ (pos 999646));
+})
+numbers_of_a_bench_mill = refl
+
+-- A large router with 188.976 steps a millimetre, 800 by 600 by 100 mm, at 40,000 ticks a second,
+-- with its start at the top of Z.
+abbrev pub large_router : Figures
+large_router = record {
+  steps = record { millionths = 188976000 };
+  travel = three (mm 800) (mm 600) (mm 100);
+  feed = three (mm_a_minute 10000) (mm_a_minute 10000) (mm_a_minute 5000);
+  acceleration = three (mm_a_second_squared 200) (mm_a_second_squared 200) (mm_a_second_squared 150);
+  corner = mm_a_minute 600;
+  jump = mm_a_minute 1200;
+  arcs = Some (mm_a_second_squared 300);
+  ticks = Some 40000;
+  zero = three ends.Low ends.Low ends.Low;
+  start = three (mm 0) (mm 0) (mm 100);
+  home28 = None;
+  home30 = None;
+}
+
+numbers_of_a_large_router : numbers_of large_router ≡ Ok (record {
+  step = 5292;
+  ticks_per_second = 40000;
+  max_rate = 787351;
+  change = 17;
+  corner = 47241;
+  turn = 17715419;
+  axis_rate = three 787351 787351 393675;
+  jump = 94482;
+  low = three (pos 0) (pos 0) (pos 0);
+  high = three (pos 799996932) (pos 599996376) (pos 99997632);
+  start = three (pos 0) (pos 0) (pos 99997632);
+  home28 = three (pos 0) (pos 0) (pos 99997632);
+  home30 = three (pos 0) (pos 0) (pos 99997632);
+})
+numbers_of_a_large_router = refl
+
+-- 10 steps a millimetre are steps of 100,000 nm, and 2,100 are steps of 476 nm
+long_step : numbers_of (record large_router { steps = record { millionths = 10000000 } }) ≡ Err refusals.Step
+long_step = refl
+
+short_step : numbers_of (record large_router { steps = record { millionths = 2100000000 } }) ≡ Err refusals.Step
+short_step = refl
+
+-- 10,000 mm/min are 31,496 steps a second: more than 30,000 ticks
+few_ticks : numbers_of (record large_router { ticks = Some 30000 }) ≡ Err (refusals.FastFeed axes.X)
+few_ticks = refl
+
+long_travel : numbers_of (record large_router { travel = three (mm 800) (mm 1001) (mm 100) }) ≡ Err (refusals.Travel axes.Y)
+long_travel = refl
+
+start_outside : numbers_of (record large_router { start = three (mm 0) (mm 0) (mm 101) }) ≡ Err (refusals.Outside stops.Start axes.Z)
+start_outside = refl

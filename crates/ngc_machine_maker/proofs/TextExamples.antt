@@ -1,0 +1,147 @@
+-- Texts worked by hand: a machine file, a note, options, and the settings of a controller with Grbl.
+use Rattle.std.proofs.Common.{◌≡◌, ℕ, ◌++◌, List, Some, None, refl}
+use Rattle.std.specs.Fmt.{digits}
+use Rattle.std.specs.Prelude.{Ok, Err, codes, pos, neg_ℤ}
+use Rattle.ngc_text.specs.Millimetres.{number_text, length_text}
+use Rattle.ngc_machine_maker.specs.declared.figures.Axis.TheVariants as axes
+use Rattle.ngc_machine_maker.specs.declared.figures.End.TheVariants as ends
+use Rattle.ngc_machine_maker.specs.declared.numbers.MachineNumbers.{MachineNumbers}
+use Rattle.ngc_machine_maker.specs.declared.refusal.Field.TheVariants as fields
+use Rattle.ngc_machine_maker.specs.declared.refusal.Refusal.TheVariants as refusals
+use Rattle.ngc_machine_maker.specs.declared.refusal.Stop.TheVariants as stops
+use Rattle.ngc_machine_maker.specs.Choices.{place_in}
+use Rattle.ngc_machine_maker.specs.Decimals.{number_in}
+use Rattle.ngc_machine_maker.specs.File.{heading, scale_text, scale_after, steps_text, errors_text}
+use Rattle.ngc_machine_maker.specs.File.{step_lines, speed_lines, acceleration_lines, place_lines}
+use Rattle.ngc_machine_maker.specs.File.{file_text, notes_text}
+use Rattle.ngc_machine_maker.specs.Grbl.{lines_of, has_setting, value_of, setting, figures_in}
+use Rattle.ngc_machine_maker.specs.Options.{lengths_in, speeds_in, second_speed_in, frame_in}
+use Rattle.ngc_machine_maker.specs.Sentences.{refusal_text, refusal_line, axis_text, stop_text}
+use Rattle.ngc_machine_maker.specs.Texts.{line_text, value_text, remark_text}
+use Rattle.ngc_machine_maker.proofs.Examples.{three, mm, mm_a_minute, small_router, large_router}
+
+-- ---- the file of the small router, and the note of the large one
+
+abbrev small_numbers : MachineNumbers
+small_numbers = record {
+  step = 1250;
+  ticks_per_second = 27000;
+  max_rate = 493827;
+  change = 21;
+  corner = 148148;
+  turn = 10973936;
+  axis_rate = three 493827 493827 296296;
+  jump = 0;
+  low = three (pos 0) (pos 0) (neg_ℤ (pos 45000000));
+  high = three (pos 300000000) (pos 180000000) (pos 0);
+  start = three (pos 0) (pos 0) (pos 0);
+  home28 = three (pos 0) (pos 0) (pos 0);
+  home30 = three (pos 0) (pos 0) (pos 0);
+}
+
+-- 21 millionths a tick at 27,000 ticks a second are 15,309 steps per second squared: 19.136 mm/s^2
+file_of_a_small_router : file_text small_numbers small_router ≡ codes "# Made by `ngc machine`. Lengths are nanometres, rates are millionths of a step in a\n# tick, three numbers are X, Y, Z, and remarks are in the units of a shop.\n\nversion = 2\nstep = 1250 # 0.00125 mm\nticks_per_second = 27000 # how often the controller may give steps\nmax_rate = 493827 # 1000 mm/min\naxis_rate = [493827, 493827, 296296] # X 1000, Y 1000, Z 599.999 mm/min\ncorner = 148148 # 300 mm/min\njump = 0 # 0 mm/min\nchange = 21 # 19.136 mm/s^2\nturn = 10973936 # 20 mm/s^2 on arcs at most\nlow = [0, 0, -45000000] # X 0, Y 0, Z -45 mm\nhigh = [300000000, 180000000, 0] # X 300, Y 180, Z 0 mm\nstart = [0, 0, 0] # X 0, Y 0, Z 0 mm\nhome28 = [0, 0, 0] # X 0, Y 0, Z 0 mm\nhome30 = [0, 0, 0] # X 0, Y 0, Z 0 mm\n"
+unfolding digits number_text length_text heading scale_after step_lines speed_lines acceleration_lines place_lines line_text value_text remark_text
+file_of_a_small_router = refl
+
+no_note_of_a_small_router : notes_text small_numbers small_router ≡ codes ""
+unfolding scale_after
+no_note_of_a_small_router = refl
+
+-- 799.996932 mm in steps of 5,292 nm are 151,171 steps, which the motor makes 799.948141 mm long
+note_of_a_large_router : notes_text (record small_numbers {
+  step = 5292;
+  low = three (pos 0) (pos 0) (pos 0);
+  high = three (pos 799996932) (pos 599996376) (pos 99997632);
+}) large_router ≡ codes "note: the motors' step is 5291.677 nm, and the file's 5292 nm: over their travel the axes go X 0.048791, Y 0.036593, Z 0.006099 mm less far than the file says\n"
+unfolding digits number_text scale_after scale_text steps_text errors_text
+note_of_a_large_router = refl
+
+-- ---- options
+
+decimal_number : number_in 6 (codes "188.976") ≡ Some 188976000
+unfolding number_in
+decimal_number = refl
+
+number_without_a_whole : number_in 3 (codes ".5") ≡ Some 500
+unfolding number_in
+number_without_a_whole = refl
+
+too_many_decimals : number_in 3 (codes "1.0005") ≡ None
+unfolding number_in
+too_many_decimals = refl
+
+two_points : number_in 6 (codes "1.2.3") ≡ None
+unfolding number_in
+two_points = refl
+
+negative_number : number_in 6 (codes "-1") ≡ None
+unfolding number_in
+negative_number = refl
+
+large_number : number_in 6 (codes "4294.967296") ≡ None
+unfolding number_in
+large_number = refl
+
+three_lengths : lengths_in fields.Travel (codes "300,180,45") ≡ Ok (three (mm 300) (mm 180) (mm 45))
+unfolding number_in
+three_lengths = refl
+
+two_lengths : lengths_in fields.Travel (codes "300,180") ≡ Err (refusals.Unread fields.Travel)
+unfolding number_in
+two_lengths = refl
+
+four_speeds : speeds_in fields.Feed (codes "1000,1000,600,1") ≡ Err (refusals.Unread fields.Feed)
+unfolding number_in
+four_speeds = refl
+
+-- 5 mm/s are 300 mm/min
+corner_speed : second_speed_in fields.Corner (codes "5") ≡ Ok (mm_a_minute 300)
+unfolding number_in
+corner_speed = refl
+
+frame_of_low_ends : frame_in (codes "low") ≡ Ok (three ends.Low ends.Low ends.Low)
+frame_of_low_ends = refl
+
+start_below_zero : place_in (three ends.Low ends.Low ends.High) stops.Start (codes "10,0,-1") ≡ Ok (three (mm 10) (mm 0) (mm 1))
+unfolding number_in
+start_below_zero = refl
+
+start_above_zero : place_in (three ends.Low ends.Low ends.High) stops.Start (codes "10,0,1") ≡ Err (refusals.Unread (fields.Stop stops.Start))
+unfolding number_in
+start_above_zero = refl
+
+-- ---- settings: X and Y home to their low ends, at which the start is 1 mm from -300 and -180
+
+abbrev settings_of_feed : List ℕ
+settings_of_feed = codes "$110=1000.000\n$111=1000.000\n$112=600.000\n$120=30.000\n$121=30.000\n$122=20.000\n$130=300.000\n$131=180.000\n$132=45.000\nok\n"
+
+figures_of_settings : figures_in (codes "Grbl 1.1f ['$' for help]\n$23=3 (homing dir mask)\r\n$27=1.000\r\n$100=800.000 (x, step/mm)\n$101=800.000\n$102=800.000\n" ++ settings_of_feed)
+    ≡ Ok (record small_router {
+      zero = three ends.High ends.High ends.High;
+      start = three (mm 299) (mm 179) (mm 1);
+    })
+unfolding lines_of has_setting value_of setting number_in
+figures_of_settings = refl
+
+unequal_settings : figures_in (codes "$23=3\n$27=1.000\n$100=800.000\n$101=400.000\n$102=800.000\n" ++ settings_of_feed) ≡ Err refusals.UnequalSteps
+unfolding lines_of has_setting value_of setting number_in
+unequal_settings = refl
+
+missing_setting : figures_in (codes "$27=1.000\n$100=800.000\n$101=800.000\n$102=800.000\n" ++ settings_of_feed) ≡ Err (refusals.Missing 23)
+unfolding lines_of has_setting value_of setting number_in
+missing_setting = refl
+
+setting_with_a_comma : figures_in (codes "$23=3\n$100=800,000\n") ≡ Err (refusals.Setting 100 2)
+unfolding lines_of has_setting value_of setting number_in
+setting_with_a_comma = refl
+
+-- ---- what refusals say
+
+sentence_of_a_place : refusal_line (refusals.Outside stops.Home28 axes.Z) ≡ codes "home28 is outside the travel of Z: give a place within it\n"
+unfolding refusal_text axis_text stop_text
+sentence_of_a_place = refl
+
+sentence_of_a_setting : refusal_line (refusals.Setting 100 2) ≡ codes "line 2: the value of $100 is not a number, as in $100=800.000\n"
+unfolding digits refusal_text
+sentence_of_a_setting = refl

@@ -1,0 +1,12 @@
+use Rattle.std.proofs.lemmas.List.{append_assoc}
+use Rattle.ngc_machine_maker.specs.Sentences.{refusal_text}
+use Rattle.ngc_machine_maker.proofs.sentences.add_missing.Goals as goal
+
+pub returns-clause-text : goal.returns-clause-text
+unfolding refusal_text
+returns-clause-text c =
+    rw (
+      c.add_text-2.ensures,
+      c.add_number.ensures.text,
+      c.add_text.ensures,
+    ) (simp append_assoc)

@@ -1,0 +1,74 @@
+-- A machine file, line by line.
+use Rattle.std.specs.Prelude.{ℕ, ℤ, List, [], ◌++◌, codes, decimal, Bool, if◌then◌else◌}
+use Rattle.ngc_text.specs.Millimetres.{size_text}
+use Rattle.ngc_machine_maker.specs.declared.figures.Figures.{Figures}
+use Rattle.ngc_machine_maker.specs.declared.figures.PerAxis.{PerAxis}
+use Rattle.ngc_machine_maker.specs.declared.line.Remark.TheVariants as remarks
+use Rattle.ngc_machine_maker.specs.declared.line.Value.TheVariants as values
+use Rattle.ngc_machine_maker.specs.declared.numbers.MachineNumbers.{MachineNumbers}
+use Rattle.ngc_machine_maker.specs.ShopUnits.{speed, speeds, acceleration, arc_acceleration}
+use Rattle.ngc_machine_maker.specs.ShopUnits.{motor_step, is_whole, is_short, errors}
+use Rattle.ngc_machine_maker.specs.Texts.{line_text, thousandths_text, axes_text}
+
+unfoldable pub heading : List ℕ
+heading =
+    codes "# Made by `ngc machine`. Lengths are nanometres, rates are millionths of a step in a\n"
+    ++ codes "# tick, three numbers are X, Y, Z, and remarks are in the units of a shop.\n"
+
+-- ---- the motor's step, where it is no whole number of nanometres
+
+abbrev pub direction_text : Bool → List ℕ
+direction_text short = if short then codes "less far" else codes "farther"
+
+unfoldable pub steps_text : MachineNumbers → Figures → List ℕ
+steps_text n f = codes "the motors' step is " ++ thousandths_text (motor_step f)
+    ++ codes " nm, and the file's " ++ decimal n.step ++ codes " nm"
+
+unfoldable pub errors_text : MachineNumbers → Figures → List ℕ
+errors_text n f =
+    axes_text (size_text (errors n f).x) (size_text (errors n f).y) (size_text (errors n f).z)
+
+unfoldable pub scale_text : MachineNumbers → Figures → List ℕ
+scale_text n f = steps_text n f ++ codes ": over their travel the axes go " ++ errors_text n f
+    ++ codes " mm " ++ direction_text (is_short n f) ++ codes " than the file says\n"
+
+-- after the first word of a remark or a note, if there is anything to say
+unfoldable pub scale_after : List ℕ → MachineNumbers → Figures → List ℕ
+scale_after before n f = if is_whole n f then [] else before ++ scale_text n f
+
+-- ---- the keys
+
+unfoldable pub step_lines : MachineNumbers → List ℕ
+step_lines n = codes "\nversion = 2\n"
+    ++ line_text (codes "step") (values.Number n.step) (remarks.Step n.step)
+    ++ line_text (codes "ticks_per_second") (values.Number n.ticks_per_second) remarks.Ticks
+
+abbrev pub rate_line : List ℕ → MachineNumbers → ℕ → List ℕ
+rate_line key n rate = line_text key (values.Number rate) (remarks.Speed (speed n rate))
+
+unfoldable pub speed_lines : MachineNumbers → List ℕ
+speed_lines n = rate_line (codes "max_rate") n n.max_rate
+    ++ line_text (codes "axis_rate") (values.Rates n.axis_rate) (remarks.Speeds (speeds n))
+    ++ rate_line (codes "corner") n n.corner ++ rate_line (codes "jump") n n.jump
+
+unfoldable pub acceleration_lines : MachineNumbers → List ℕ
+acceleration_lines n =
+    line_text (codes "change") (values.Number n.change) (remarks.Acceleration (acceleration n))
+    ++ line_text (codes "turn") (values.Number n.turn) (remarks.Arcs (arc_acceleration n))
+
+abbrev pub place_line : List ℕ → PerAxis ℤ → List ℕ
+place_line key place = line_text key (values.Place place) (remarks.Place place)
+
+unfoldable pub place_lines : MachineNumbers → List ℕ
+place_lines n = place_line (codes "low") n.low ++ place_line (codes "high") n.high
+    ++ place_line (codes "start") n.start ++ place_line (codes "home28") n.home28
+    ++ place_line (codes "home30") n.home30
+
+-- the whole file
+abbrev pub file_text : MachineNumbers → Figures → List ℕ
+file_text n f = heading ++ scale_after (codes "# ") n f ++ step_lines n ++ speed_lines n
+    ++ acceleration_lines n ++ place_lines n
+
+-- the notes beside it
+abbrev pub notes_text : MachineNumbers → Figures → List ℕ
+notes_text n f = scale_after (codes "note: ") n f

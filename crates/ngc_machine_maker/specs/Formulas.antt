@@ -1,0 +1,152 @@
+-- From a shop's figures to the numbers of a machine file. A step in the file is a whole number of
+-- nanometres, and the motor's may be a little shorter or longer. What is a limit is counted in both
+-- steps, and the fewer steps are taken: neither by the file nor by the motor is the machine faster
+-- than asked, or does it go farther.
+use Rattle.std.specs.Prelude.{ℕ, ◌+◌, ◌*◌, ◌/◌, ◌==◌, ◌||◌, nat_lt, min, max, Option, Some, None}
+use Rattle.std.specs.Prelude.{Result, Ok, Err, if◌then◌else◌}
+use Rattle.ngc_machine_maker.specs.declared.figures.Axis.{Axis}
+use Rattle.ngc_machine_maker.specs.declared.figures.Axis.TheVariants as axes
+use Rattle.ngc_machine_maker.specs.declared.figures.PerAxis.{PerAxis}
+use Rattle.ngc_machine_maker.specs.declared.figures.StepsPerMillimetre.{StepsPerMillimetre}
+use Rattle.ngc_machine_maker.specs.declared.figures.Speed.{Speed}
+use Rattle.ngc_machine_maker.specs.declared.figures.Acceleration.{Acceleration}
+use Rattle.ngc_machine_maker.specs.declared.figures.Figures.{Figures}
+use Rattle.ngc_machine_maker.specs.declared.refusal.Refusal.{Refusal}
+use Rattle.ngc_machine_maker.specs.declared.refusal.Refusal.TheVariants as refusals
+use Rattle.ngc_machine_maker.specs.declared.rates.Rates.{Rates}
+use Rattle.ngc_machine_maker.specs.declared.scale.Scale.{Scale}
+
+-- the first refusal, or what follows from the value
+abbrev pub and_then : {T U : Type 0} → Result T Refusal → (T → Result U Refusal) → Result U Refusal
+and_then (Err refusal) f = Err refusal
+and_then (Ok x) f = f x
+
+-- a millimetre has 1,000,000 nm, and steps a millimetre are in millionths: the nearest whole number
+-- of nanometres, halves upwards
+abbrev pub nearest_step : ℕ → ℕ
+nearest_step steps = (2000000000000 + steps) / (2 * steps)
+
+-- a motor's step is from 500 to 50,000 nm where it has 20 to 2,000 steps a millimetre
+abbrev pub scale_of : StepsPerMillimetre → Result Scale Refusal
+scale_of s =
+    if nat_lt s.millionths 20000000 || nat_lt 2000000000 s.millionths then Err refusals.Step
+    else Ok (record { steps = s.millionths; step = nearest_step s.millionths })
+
+-- how many steps have the length of an amount of nanometres over a divisor, by the motor's step and
+-- by the file's: the fewer
+abbrev pub steps_in : Scale → ℕ → ℕ → ℕ
+steps_in scale amount divisor =
+    min (amount * scale.steps / (divisor * 1000000000000)) (amount / (divisor * scale.step))
+
+-- ---- rates, in millionths of a step a tick. A speed is in thousandths of a millimetre a minute,
+-- and an acceleration in thousandths of a millimetre per second squared
+
+abbrev pub rate_of : Scale → ℕ → Speed → ℕ
+rate_of scale ticks speed =
+    steps_in scale (speed.micrometres_a_minute * 1000000000) (60 * ticks)
+
+-- of how much the rate changes from a tick to the next
+abbrev pub change_of : Scale → ℕ → ℕ → ℕ
+change_of scale ticks acceleration = steps_in scale (acceleration * 1000000000) (ticks * ticks)
+
+-- half of what an arc has where it runs along an axis: where it runs diagonally it has twice that
+abbrev pub turn_of : Scale → ℕ → ℕ → ℕ
+turn_of scale ticks acceleration =
+    steps_in scale (acceleration * 1000000000000000) (2 * (ticks * ticks))
+
+abbrev pub fastest : PerAxis Speed → ℕ
+fastest speeds =
+    max (max speeds.x.micrometres_a_minute speeds.y.micrometres_a_minute)
+    speeds.z.micrometres_a_minute
+
+abbrev pub least : PerAxis Acceleration → ℕ
+least a =
+    min (min a.x.micrometres_a_second_squared a.y.micrometres_a_second_squared)
+    a.z.micrometres_a_second_squared
+
+-- two ticks for each step of the fastest axis, in the next whole thousand above; from 10,000 to
+-- 1,000,000
+abbrev pub chosen_ticks : Scale → PerAxis Speed → ℕ
+chosen_ticks scale feed =
+    min (max (1000 * (fastest feed * scale.steps / 30000000000000 + 1)) 10000) 1000000
+
+abbrev pub given_ticks : ℕ → Result ℕ Refusal
+given_ticks ticks =
+    if nat_lt ticks 1 || nat_lt 1000000 ticks then Err refusals.Ticks else Ok ticks
+
+abbrev pub ticks_by : ℕ → Option ℕ → Result ℕ Refusal
+ticks_by chosen None = Ok chosen
+ticks_by chosen (Some ticks) = given_ticks ticks
+
+abbrev pub ticks_of : Scale → Figures → Result ℕ Refusal
+ticks_of scale f = ticks_by (chosen_ticks scale f.feed) f.ticks
+
+-- the rate of an axis: from a millionth of a step in a tick to a step
+abbrev pub rate_within : Axis → ℕ → Result ℕ Refusal
+rate_within axis rate =
+    if rate == 0 then Err (refusals.SlowFeed axis) else (
+    if nat_lt 1000000 rate then Err (refusals.FastFeed axis) else Ok rate)
+
+abbrev pub axis_rate : Scale → ℕ → Speed → Axis → Result ℕ Refusal
+axis_rate scale ticks speed axis = rate_within axis (rate_of scale ticks speed)
+
+-- what is made of the value of each axis, or the first refusal
+abbrev pub each_axis : {T U : Type 0} → (T → Axis → Result U Refusal) → PerAxis T →
+    Result (PerAxis U) Refusal
+each_axis f p =
+    and_then (f p.x axes.X) (λ x. and_then (f p.y axes.Y) (λ y. and_then (f p.z axes.Z) (λ z.
+    Ok (record { x = x; y = y; z = z }))))
+
+abbrev pub each_rate : Scale → ℕ → PerAxis Speed → Result (PerAxis ℕ) Refusal
+each_rate scale ticks feed = each_axis (axis_rate scale ticks) feed
+
+abbrev pub greatest_of : PerAxis ℕ → ℕ
+greatest_of rates = max (max rates.x rates.y) rates.z
+
+-- a number that is not zero
+abbrev pub some : Refusal → ℕ → Result ℕ Refusal
+some refusal n = if n == 0 then Err refusal else Ok n
+
+-- no motion is faster than the greatest rate, so the corner's rate need not be
+abbrev pub corner_of : Scale → ℕ → ℕ → Speed → Result ℕ Refusal
+corner_of scale ticks most speed =
+    some refusals.SlowCorner (min (rate_of scale ticks speed) most)
+
+abbrev pub jump_of : Scale → ℕ → Speed → ℕ
+jump_of scale ticks speed = min (rate_of scale ticks speed) 1000000
+
+-- one change serves all axes: what the slowest follows
+abbrev pub limited_change : Scale → ℕ → PerAxis Acceleration → Result ℕ Refusal
+limited_change scale ticks accelerations =
+    some refusals.LowAcceleration (min (change_of scale ticks (least accelerations)) 1000000)
+
+abbrev pub limited_turn : Scale → ℕ → ℕ → Result ℕ Refusal
+limited_turn scale ticks acceleration =
+    some refusals.LowArcs (min (turn_of scale ticks acceleration) 1000000000000)
+
+abbrev pub arcs_by : ℕ → Option Acceleration → ℕ
+arcs_by otherwise None = otherwise
+arcs_by otherwise (Some a) = a.micrometres_a_second_squared
+
+-- the greatest acceleration towards the centre of an arc: what is given, or that of the slowest
+-- axis
+abbrev pub arcs_of : Figures → ℕ
+arcs_of f = arcs_by (least f.acceleration) f.arcs
+
+-- the rates of some figures, or the first that is refused
+abbrev pub rates_of : Scale → Figures → Result Rates Refusal
+rates_of scale f =
+    and_then (ticks_of scale f) (λ ticks.
+    and_then (each_rate scale ticks f.feed) (λ rates.
+    and_then (corner_of scale ticks (greatest_of rates) f.corner) (λ corner.
+    and_then (limited_change scale ticks f.acceleration) (λ change.
+    and_then (limited_turn scale ticks (arcs_of f)) (λ turn.
+    Ok (record {
+      ticks = ticks;
+      axis_rate = rates;
+      max_rate = greatest_of rates;
+      change = change;
+      corner = corner;
+      turn = turn;
+      jump = jump_of scale ticks f.jump;
+    }))))))

@@ -1,0 +1,15 @@
+pub mod Formulas
+pub mod Ranges
+pub mod Safe
+pub mod Places
+pub mod Numbers
+pub mod InFile
+pub mod Asked
+pub mod Texts
+pub mod ShopUnits
+pub mod File
+pub mod Decimals
+pub mod Options
+pub mod Choices
+pub mod Grbl
+pub mod Sentences

@@ -1,0 +1,116 @@
+-- The figures that the texts of options give.
+use Rattle.std.specs.Borrow.{Bor}
+use Rattle.std.specs.Prelude.{ℕ, ◌*◌, nat_lt, List, codes, bytes_eq, Option, Some, None, Result}
+use Rattle.std.specs.Prelude.{Ok, Err, if◌then◌else◌}
+use Rattle.ngc_machine_maker.specs.declared.figures.Acceleration.{Acceleration}
+use Rattle.ngc_machine_maker.specs.declared.figures.End.{End}
+use Rattle.ngc_machine_maker.specs.declared.figures.End.TheVariants as ends
+use Rattle.ngc_machine_maker.specs.declared.figures.Figures.{Figures}
+use Rattle.ngc_machine_maker.specs.declared.figures.Length.{Length}
+use Rattle.ngc_machine_maker.specs.declared.figures.PerAxis.{PerAxis}
+use Rattle.ngc_machine_maker.specs.declared.figures.Speed.{Speed}
+use Rattle.ngc_machine_maker.specs.declared.figures.StepsPerMillimetre.{StepsPerMillimetre}
+use Rattle.ngc_machine_maker.specs.declared.options.Options.{Options}
+use Rattle.ngc_machine_maker.specs.declared.refusal.Field.{Field}
+use Rattle.ngc_machine_maker.specs.declared.refusal.Field.TheVariants as fields
+use Rattle.ngc_machine_maker.specs.declared.refusal.Refusal.{Refusal}
+use Rattle.ngc_machine_maker.specs.declared.refusal.Refusal.TheVariants as refusals
+use Rattle.ngc_machine_maker.specs.Decimals.{number_in, numbers_in}
+use Rattle.ngc_machine_maker.specs.Formulas.{and_then}
+
+abbrev pub same_for_all : {T : Type 0} → T → PerAxis T
+same_for_all value = record { x = value; y = value; z = value }
+
+-- ---- figures as numbers
+
+abbrev pub steps : ℕ → StepsPerMillimetre
+steps n = record { millionths = n }
+
+abbrev pub length_of : ℕ → Length
+length_of n = record { nanometres = n }
+
+abbrev pub speed_of : ℕ → Speed
+speed_of n = record { micrometres_a_minute = n }
+
+abbrev pub acceleration_of : ℕ → Acceleration
+acceleration_of n = record { micrometres_a_second_squared = n }
+
+abbrev pub each_of : {T : Type 0} → (ℕ → T) → PerAxis ℕ → PerAxis T
+each_of f p = record { x = f p.x; y = f p.y; z = f p.z }
+
+-- ---- their texts
+
+-- what a text gives, or that it can't be read
+abbrev pub read_by : {T U : Type 0} → Field → (T → U) → Option T → Result U Refusal
+read_by field f None = Err (refusals.Unread field)
+read_by field f (Some x) = Ok (f x)
+
+-- steps a millimetre have up to six decimals, and so have lengths in millimetres
+abbrev pub steps_in : List ℕ → Result StepsPerMillimetre Refusal
+steps_in text = read_by fields.Steps steps (number_in 6 text)
+
+abbrev pub lengths_in : Field → List ℕ → Result (PerAxis Length) Refusal
+lengths_in field text = read_by field (each_of length_of) (numbers_in 6 text)
+
+-- speeds in millimetres a minute have up to three decimals, and so have accelerations
+abbrev pub speeds_in : Field → List ℕ → Result (PerAxis Speed) Refusal
+speeds_in field text = read_by field (each_of speed_of) (numbers_in 3 text)
+
+abbrev pub accelerations_in : Field → List ℕ → Result (PerAxis Acceleration) Refusal
+accelerations_in field text = read_by field (each_of acceleration_of) (numbers_in 3 text)
+
+-- a speed in millimetres a second, up to 71,582.788
+abbrev pub seconds_within : Field → ℕ → Result Speed Refusal
+seconds_within field n =
+    if nat_lt 71582788 n then Err (refusals.Unread field) else Ok (speed_of (60 * n))
+
+abbrev pub seconds_by : Field → Option ℕ → Result Speed Refusal
+seconds_by field None = Err (refusals.Unread field)
+seconds_by field (Some n) = seconds_within field n
+
+abbrev pub second_speed_in : Field → List ℕ → Result Speed Refusal
+second_speed_in field text = seconds_by field (number_in 3 text)
+
+-- the ends at which zero is: as most mills have it, low on X and Y and high on Z, unless all are
+-- low or all high
+abbrev pub usual_frame : PerAxis End
+usual_frame = record { x = ends.Low; y = ends.Low; z = ends.High }
+
+abbrev pub frame_in : List ℕ → Result (PerAxis End) Refusal
+frame_in text =
+    if bytes_eq text (codes "low") then Ok (same_for_all ends.Low) else (
+    if bytes_eq text (codes "high") then Ok (same_for_all ends.High)
+    else Err (refusals.Unread fields.Frame))
+
+abbrev pub frame_by : Option (Bor (List ℕ)) → Result (PerAxis End) Refusal
+frame_by None = Ok usual_frame
+frame_by (Some text) = frame_in text.now
+
+-- ---- the figures of a machine: it takes up 5 mm/s at once, and starts at zero
+
+abbrev pub figures_by : StepsPerMillimetre → PerAxis Length → PerAxis Speed →
+    PerAxis Acceleration → PerAxis End → Figures
+figures_by steps travel feed acceleration zero =
+    record {
+      steps = steps;
+      travel = travel;
+      feed = feed;
+      acceleration = acceleration;
+      corner = speed_of 300000;
+      jump = speed_of 0;
+      arcs = None;
+      ticks = None;
+      zero = zero;
+      start = same_for_all (length_of 0);
+      home28 = None;
+      home30 = None;
+    }
+
+abbrev pub figures_of : Options → Result Figures Refusal
+figures_of o =
+    and_then (steps_in o.steps_per_mm.now) (λ steps.
+    and_then (lengths_in fields.Travel o.travel.now) (λ travel.
+    and_then (speeds_in fields.Feed o.feed.now) (λ feed.
+    and_then (accelerations_in fields.Acceleration o.acceleration.now) (λ acceleration.
+    and_then (frame_by o.frame) (λ zero.
+    Ok (figures_by steps travel feed acceleration zero))))))

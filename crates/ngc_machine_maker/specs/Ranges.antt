@@ -1,0 +1,56 @@
+-- How large the numbers of a machine file may be.
+use Rattle.std.specs.Prelude.{ℕ, ◌≤◌, ◌*◌}
+use Rattle.ngc_machine_maker.specs.declared.figures.PerAxis.{PerAxis}
+use Rattle.ngc_machine_maker.specs.declared.rates.Rates.{Rates}
+use Rattle.ngc_machine_maker.specs.declared.scale.Scale.{Scale}
+
+-- a step of 500 to 50,000 nm
+pub record IsScale (scale : Scale) : Type 0 where
+  pub least_steps : 20000000 ≤ scale.steps
+  pub greatest_steps : scale.steps ≤ 2000000000
+  pub least : 500 ≤ scale.step
+  pub greatest : scale.step ≤ 50000
+
+-- a rate, a change of the rate, or a number of ticks a second
+pub record IsRate (rate : ℕ) : Type 0 where
+  pub least : 1 ≤ rate
+  pub greatest : rate ≤ 1000000
+
+-- a rate of each axis
+pub record AreRates (rates : PerAxis ℕ) : Type 0 where
+  pub x : IsRate rates.x
+  pub y : IsRate rates.y
+  pub z : IsRate rates.z
+
+-- the bound of rates on arcs
+pub record IsTurn (turn : ℕ) : Type 0 where
+  pub least : 1 ≤ turn
+  pub greatest : turn ≤ 1000000000000
+
+pub record AreAllRates (rates : Rates) : Type 0 where
+  pub ticks : IsRate rates.ticks
+  pub axis_rate : AreRates rates.axis_rate
+  pub max_rate : IsRate rates.max_rate
+  pub change : IsRate rates.change
+  pub corner : IsRate rates.corner
+  pub turn : IsTurn rates.turn
+  pub jump : rates.jump ≤ 1000000
+
+-- a travel in steps: at least one, and at most 1,000 mm
+pub record IsTravel (scale : Scale) (steps : ℕ) : Type 0 where
+  pub some : 1 ≤ steps
+  pub greatest : steps * scale.step ≤ 1000000000
+
+pub record AreTravels (scale : Scale) (travel : PerAxis ℕ) : Type 0 where
+  pub x : IsTravel scale travel.x
+  pub y : IsTravel scale travel.y
+  pub z : IsTravel scale travel.z
+
+-- a place in a travel, both in steps from zero
+pub record IsStop (travel stop : ℕ) : Type 0 where
+  pub within : stop ≤ travel
+
+pub record AreStops (travel stops : PerAxis ℕ) : Type 0 where
+  pub x : IsStop travel.x stops.x
+  pub y : IsStop travel.y stops.y
+  pub z : IsStop travel.z stops.z

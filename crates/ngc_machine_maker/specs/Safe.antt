@@ -1,0 +1,59 @@
+-- The safe side: what the file allows, converted back, is at most what was asked.
+use Rattle.std.specs.Prelude.{ℕ, ◌≤◌, ◌*◌}
+use Rattle.ngc_machine_maker.specs.declared.figures.PerAxis.{PerAxis}
+use Rattle.ngc_machine_maker.specs.declared.figures.Speed.{Speed}
+use Rattle.ngc_machine_maker.specs.declared.figures.Acceleration.{Acceleration}
+use Rattle.ngc_machine_maker.specs.declared.figures.Figures.{Figures}
+use Rattle.ngc_machine_maker.specs.declared.figures.Length.{Length}
+use Rattle.ngc_machine_maker.specs.declared.rates.Rates.{Rates}
+use Rattle.ngc_machine_maker.specs.declared.scale.Scale.{Scale}
+use Rattle.ngc_machine_maker.specs.Formulas.{arcs_of}
+
+-- so many steps are no longer than an amount of nanometres over a divisor, by the file's step and
+-- by the motor's
+pub record IsNoMore (scale : Scale) (steps amount divisor : ℕ) : Type 0 where
+  pub by_file : steps * (divisor * scale.step) ≤ amount
+  pub by_motor : steps * (divisor * 1000000000000) ≤ amount * scale.steps
+
+-- a rate is no faster than a speed
+abbrev pub IsNoFaster : Scale → ℕ → ℕ → Speed → Type 0
+IsNoFaster scale ticks rate speed =
+    IsNoMore scale rate (speed.micrometres_a_minute * 1000000000) (60 * ticks)
+
+-- a change of the rate is no harder than an acceleration
+abbrev pub IsNoHarder : Scale → ℕ → ℕ → ℕ → Type 0
+IsNoHarder scale ticks change acceleration =
+    IsNoMore scale change (acceleration * 1000000000) (ticks * ticks)
+
+-- and what an arc has where it runs diagonally, which is twice its turn
+abbrev pub IsNoHarderOnArcs : Scale → ℕ → ℕ → ℕ → Type 0
+IsNoHarderOnArcs scale ticks turn acceleration =
+    IsNoMore scale turn (acceleration * 1000000000000000) (2 * (ticks * ticks))
+
+pub record AreNoFaster (scale : Scale) (ticks : ℕ) (rates : PerAxis ℕ) (feed : PerAxis Speed)
+    : Type 0 where
+  pub x : IsNoFaster scale ticks rates.x feed.x
+  pub y : IsNoFaster scale ticks rates.y feed.y
+  pub z : IsNoFaster scale ticks rates.z feed.z
+
+abbrev pub IsFollowedBy : Scale → ℕ → ℕ → Acceleration → Type 0
+IsFollowedBy scale ticks change a = IsNoHarder scale ticks change a.micrometres_a_second_squared
+
+-- rates are no faster and no harder than asked, on each axis
+pub record AreSafe (scale : Scale) (rates : Rates) (f : Figures) : Type 0 where
+  pub feed : AreNoFaster scale rates.ticks rates.axis_rate f.feed
+  pub corner : IsNoFaster scale rates.ticks rates.corner f.corner
+  pub jump : IsNoFaster scale rates.ticks rates.jump f.jump
+  pub x_follows : IsFollowedBy scale rates.ticks rates.change f.acceleration.x
+  pub y_follows : IsFollowedBy scale rates.ticks rates.change f.acceleration.y
+  pub z_follows : IsFollowedBy scale rates.ticks rates.change f.acceleration.z
+  pub arcs : IsNoHarderOnArcs scale rates.ticks rates.turn (arcs_of f)
+
+-- so many steps are no longer than a length
+abbrev pub IsNoFarther : Scale → ℕ → Length → Type 0
+IsNoFarther scale steps length = IsNoMore scale steps length.nanometres 1
+
+pub record AreNoFarther (scale : Scale) (steps : PerAxis ℕ) (travel : PerAxis Length) : Type 0 where
+  pub x : IsNoFarther scale steps.x travel.x
+  pub y : IsNoFarther scale steps.y travel.y
+  pub z : IsNoFarther scale steps.z travel.z

@@ -1,0 +1,207 @@
+//! What may be chosen beside the figures of a machine.
+ghost use Rattle.std.specs.Prelude.{◌≡◌};
+ghost use Rattle.ngc_machine_maker.specs.Choices as spec;
+ghost use Rattle.ngc_machine_maker.specs.Options.{second_speed_in};
+
+use crate::decimal::{begins, number_in, split_three, without_first};
+use crate::figures::{Acceleration, End, Figures, Length, PerAxis, Speed};
+use crate::refusal::{Field, Refusal, Stop};
+
+/// The texts of the options that may be left out.
+#[derive(Clone, Copy)]
+pub struct Choices<'a> {
+    /// The speed that an axis may take up at once, in millimetres a second. `None`: 5.
+    pub corner: Option<&'a [u8]>,
+    /// How much the speed of an axis may change where two motions meet, in millimetres a second.
+    /// `None`: 0, so that the corner speed alone rules.
+    pub jump: Option<&'a [u8]>,
+    /// The greatest acceleration towards the centre of an arc, in millimetres per second squared.
+    /// `None`: the least of the axes' accelerations.
+    pub arcs: Option<&'a [u8]>,
+    /// Ticks a second. `None`: about two for each step of the fastest axis.
+    pub ticks: Option<&'a [u8]>,
+    /// The coordinates of the start in millimetres, as `0,0,-1`.
+    pub start: Option<&'a [u8]>,
+    /// Those of the place where `G28` goes. `None`: the start.
+    pub home28: Option<&'a [u8]>,
+    /// Those of the place where `G30` goes. `None`: the start.
+    pub home30: Option<&'a [u8]>,
+}
+
+fn second_speed_in(field: Field, text: &[u8]) -> Result<Speed, Refusal>
+    ensures { result ≡ second_speed_in field text.now }
+{
+    match number_in(text, 3) {
+        Some(number) if number <= 71_582_788 => Ok(Speed {
+            micrometres_a_minute: 60 * number,
+        }),
+        _ => Err(Refusal::Unread(field)),
+    }
+}
+
+fn speed_by(field: Field, otherwise: Speed, text: Option<&[u8]>) -> Result<Speed, Refusal>
+    ensures { result ≡ spec.speed_by field otherwise text.entry }
+{
+    match text {
+        None => Ok(otherwise),
+        Some(text) => second_speed_in(field, text),
+    }
+}
+
+fn arcs_in(text: &[u8]) -> Result<Option<Acceleration>, Refusal>
+    ensures { result ≡ spec.arcs_in text.now }
+{
+    match number_in(text, 3) {
+        None => Err(Refusal::Unread(Field::Arcs)),
+        Some(micrometres_a_second_squared) => Ok(Some(Acceleration {
+            micrometres_a_second_squared,
+        })),
+    }
+}
+
+fn arcs_by(
+    otherwise: Option<Acceleration>,
+    text: Option<&[u8]>,
+) -> Result<Option<Acceleration>, Refusal>
+    ensures { result ≡ spec.arcs_by otherwise text.entry }
+{
+    match text {
+        None => Ok(otherwise),
+        Some(text) => arcs_in(text),
+    }
+}
+
+fn ticks_in(text: &[u8]) -> Result<Option<u32>, Refusal>
+    ensures { result ≡ spec.ticks_in text.now }
+{
+    match number_in(text, 0) {
+        None => Err(Refusal::Unread(Field::Ticks)),
+        Some(ticks) => Ok(Some(ticks)),
+    }
+}
+
+fn ticks_by(otherwise: Option<u32>, text: Option<&[u8]>) -> Result<Option<u32>, Refusal>
+    ensures { result ≡ spec.ticks_by otherwise text.entry }
+{
+    match text {
+        None => Ok(otherwise),
+        Some(text) => ticks_in(text),
+    }
+}
+
+fn zero_in(text: &[u8]) -> Option<u32>
+    ensures { result ≡ spec.zero_in text.now }
+{
+    match number_in(text, 6) {
+        Some(0) => Some(0),
+        _ => None,
+    }
+}
+
+// How far a coordinate is from zero, into the travel.
+fn distance_in(zero: End, text: &[u8]) -> Option<u32>
+    ensures { result ≡ spec.distance_in zero text.now }
+{
+    match zero {
+        End::Low => number_in(text, 6),
+        End::High => {
+            if begins(b'-', text) {
+                number_in(without_first(text), 6)
+            } else {
+                zero_in(text)
+            }
+        }
+    }
+}
+
+fn distances_in(zero: &PerAxis<End>, text: &[u8]) -> Option<PerAxis<u32>>
+    ensures { result ≡ spec.distances_in zero.now text.now }
+{
+    let (x, y, z) = split_three(text);
+    match (
+        distance_in(zero.x, x),
+        distance_in(zero.y, y),
+        distance_in(zero.z, z),
+    ) {
+        (Some(x), Some(y), Some(z)) => Some(PerAxis { x, y, z }),
+        _ => None,
+    }
+}
+
+fn place_in(zero: &PerAxis<End>, stop: Stop, text: &[u8]) -> Result<PerAxis<Length>, Refusal>
+    ensures { result ≡ spec.place_in zero.now stop text.now }
+{
+    match distances_in(zero, text) {
+        None => Err(Refusal::Unread(Field::Stop(stop))),
+        Some(distances) => Ok(PerAxis {
+            x: Length {
+                nanometres: distances.x,
+            },
+            y: Length {
+                nanometres: distances.y,
+            },
+            z: Length {
+                nanometres: distances.z,
+            },
+        }),
+    }
+}
+
+fn start_by(
+    zero: &PerAxis<End>,
+    otherwise: PerAxis<Length>,
+    text: Option<&[u8]>,
+) -> Result<PerAxis<Length>, Refusal>
+    ensures { result ≡ spec.start_by zero.now otherwise text.entry }
+{
+    match text {
+        None => Ok(otherwise),
+        Some(text) => place_in(zero, Stop::Start, text),
+    }
+}
+
+fn home_by(
+    zero: &PerAxis<End>,
+    stop: Stop,
+    otherwise: Option<PerAxis<Length>>,
+    text: Option<&[u8]>,
+) -> Result<Option<PerAxis<Length>>, Refusal>
+    ensures { result ≡ spec.home_by zero.now stop otherwise text.entry }
+{
+    match text {
+        None => Ok(otherwise),
+        Some(text) => {
+            let place = place_in(zero, stop, text)?;
+            Ok(Some(place))
+        }
+    }
+}
+
+impl Figures {
+    /// Returns the figures with what is chosen, or the first choice that can't be read.
+    pub fn with_choices(&self, choices: &Choices<'_>) -> Result<Figures, Refusal>
+        ensures { result ≡ spec.chosen self.now choices.now }
+    {
+        let corner = speed_by(Field::Corner, self.corner, choices.corner)?;
+        let jump = speed_by(Field::Jump, self.jump, choices.jump)?;
+        let arcs = arcs_by(self.arcs, choices.arcs)?;
+        let ticks = ticks_by(self.ticks, choices.ticks)?;
+        let start = start_by(&self.zero, self.start, choices.start)?;
+        let home28 = home_by(&self.zero, Stop::Home28, self.home28, choices.home28)?;
+        let home30 = home_by(&self.zero, Stop::Home30, self.home30, choices.home30)?;
+        Ok(Figures {
+            steps: self.steps,
+            travel: self.travel,
+            feed: self.feed,
+            acceleration: self.acceleration,
+            corner,
+            jump,
+            arcs,
+            ticks,
+            zero: self.zero,
+            start,
+            home28,
+            home30,
+        })
+    }
+}

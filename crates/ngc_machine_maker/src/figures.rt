@@ -1,0 +1,79 @@
+//! What a shop knows of its machine.
+
+/// An axis of the machine.
+#[derive(Clone, Copy)]
+pub enum Axis {
+    X,
+    Y,
+    Z,
+}
+
+/// A value for each axis.
+#[derive(Clone, Copy)]
+pub struct PerAxis<T> {
+    pub x: T,
+    pub y: T,
+    pub z: T,
+}
+
+/// How many steps of a motor move an axis by a millimetre.
+#[derive(Clone, Copy)]
+pub struct StepsPerMillimetre {
+    /// In millionths: 800,000,000 is 800 steps a millimetre.
+    pub millionths: u32,
+}
+
+/// A length.
+#[derive(Clone, Copy)]
+pub struct Length {
+    pub nanometres: u32,
+}
+
+/// A speed.
+#[derive(Clone, Copy)]
+pub struct Speed {
+    /// In thousandths of a millimetre a minute.
+    pub micrometres_a_minute: u32,
+}
+
+/// An acceleration.
+#[derive(Clone, Copy)]
+pub struct Acceleration {
+    /// In thousandths of a millimetre per second squared.
+    pub micrometres_a_second_squared: u32,
+}
+
+/// The end of an axis' travel at which its coordinate is zero.
+#[derive(Clone, Copy)]
+pub enum End {
+    /// All other coordinates are positive.
+    Low,
+    /// All other coordinates are negative.
+    High,
+}
+
+/// The figures of a machine. A stop is how far an axis is from its zero, into the travel.
+#[derive(Clone, Copy)]
+pub struct Figures {
+    pub steps: StepsPerMillimetre,
+    pub travel: PerAxis<Length>,
+    /// The greatest speed of each axis.
+    pub feed: PerAxis<Speed>,
+    /// The acceleration that each axis follows.
+    pub acceleration: PerAxis<Acceleration>,
+    /// The speed that an axis may take up or lose at once.
+    pub corner: Speed,
+    /// How much the speed of an axis may change where two motions meet. 0: `corner` alone rules.
+    pub jump: Speed,
+    /// The greatest acceleration towards the centre of an arc. `None`: the least of the axes'.
+    pub arcs: Option<Acceleration>,
+    /// Ticks a second. `None`: about two for each step of the fastest axis.
+    pub ticks: Option<u32>,
+    pub zero: PerAxis<End>,
+    /// Where the axes are when a program starts.
+    pub start: PerAxis<Length>,
+    /// Where `G28` goes. `None`: to the start.
+    pub home28: Option<PerAxis<Length>>,
+    /// Where `G30` goes. `None`: to the start.
+    pub home30: Option<PerAxis<Length>>,
+}

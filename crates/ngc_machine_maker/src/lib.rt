@@ -1,0 +1,26 @@
+//! A machine file from the figures that a shop has at hand, each rounding to the safe side.
+#![tactic(auto)]
+
+mod choices;
+mod decimal;
+mod figures;
+mod file;
+mod grbl;
+mod line;
+mod numbers;
+mod options;
+mod places;
+mod rates;
+mod refusal;
+mod scale;
+mod sentences;
+mod shop_units;
+
+pub use choices::Choices;
+pub use figures::{Acceleration, Axis, End, Figures, Length, PerAxis, Speed, StepsPerMillimetre};
+pub use file::{write_machine_file, write_notes};
+pub use grbl::read_grbl;
+pub use numbers::{MachineNumbers, numbers_of};
+pub use options::Options;
+pub use refusal::{Field, Refusal, Stop};
+pub use sentences::write_refusal;

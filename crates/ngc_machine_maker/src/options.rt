@@ -1,0 +1,190 @@
+//! Figures from the texts of options.
+ghost use Rattle.std.specs.Prelude.{◌≡◌};
+ghost use Rattle.ngc_machine_maker.specs.declared.refusal.Field.TheVariants as fields;
+ghost use Rattle.ngc_machine_maker.specs.Options as spec;
+
+use crate::decimal::{number_in, numbers_in};
+use crate::figures::{Acceleration, End, Figures, Length, PerAxis, Speed, StepsPerMillimetre};
+use crate::refusal::{Field, Refusal};
+
+/// The texts of the options that must be given, and of the frame.
+#[derive(Clone, Copy)]
+pub struct Options<'a> {
+    /// Steps a millimetre, as `800` or `188.976`: the same on all axes.
+    pub steps_per_mm: &'a [u8],
+    /// The travel of X, Y and Z in millimetres, as `300,180,45`.
+    pub travel: &'a [u8],
+    /// The greatest speeds of X, Y and Z in millimetres a minute.
+    pub feed: &'a [u8],
+    /// The accelerations of X, Y and Z in millimetres per second squared.
+    pub acceleration: &'a [u8],
+    /// `low` or `high`: the end of each travel at which zero is. `None`: low on X and Y, high on Z.
+    pub frame: Option<&'a [u8]>,
+}
+
+pub(crate) fn length_of(nanometres: u32) -> Length
+    ensures { result ≡ spec.length_of nanometres }
+{
+    Length { nanometres }
+}
+
+fn speed_of(micrometres_a_minute: u32) -> Speed
+    ensures { result ≡ spec.speed_of micrometres_a_minute }
+{
+    Speed {
+        micrometres_a_minute,
+    }
+}
+
+fn acceleration_of(micrometres_a_second_squared: u32) -> Acceleration
+    ensures { result ≡ spec.acceleration_of micrometres_a_second_squared }
+{
+    Acceleration {
+        micrometres_a_second_squared,
+    }
+}
+
+pub(crate) fn lengths(numbers: &PerAxis<u32>) -> PerAxis<Length>
+    ensures { result ≡ spec.each_of spec.length_of numbers.now }
+{
+    PerAxis {
+        x: length_of(numbers.x),
+        y: length_of(numbers.y),
+        z: length_of(numbers.z),
+    }
+}
+
+pub(crate) fn speeds(numbers: &PerAxis<u32>) -> PerAxis<Speed>
+    ensures { result ≡ spec.each_of spec.speed_of numbers.now }
+{
+    PerAxis {
+        x: speed_of(numbers.x),
+        y: speed_of(numbers.y),
+        z: speed_of(numbers.z),
+    }
+}
+
+pub(crate) fn accelerations(numbers: &PerAxis<u32>) -> PerAxis<Acceleration>
+    ensures { result ≡ spec.each_of spec.acceleration_of numbers.now }
+{
+    PerAxis {
+        x: acceleration_of(numbers.x),
+        y: acceleration_of(numbers.y),
+        z: acceleration_of(numbers.z),
+    }
+}
+
+fn steps_in(text: &[u8]) -> Result<StepsPerMillimetre, Refusal>
+    ensures { result ≡ spec.steps_in text.now }
+{
+    match number_in(text, 6) {
+        None => Err(Refusal::Unread(Field::Steps)),
+        Some(millionths) => Ok(StepsPerMillimetre { millionths }),
+    }
+}
+
+fn lengths_in(field: Field, text: &[u8]) -> Result<PerAxis<Length>, Refusal>
+    ensures { result ≡ spec.lengths_in field text.now }
+{
+    match numbers_in(text, 6) {
+        None => Err(Refusal::Unread(field)),
+        Some(numbers) => Ok(lengths(&numbers)),
+    }
+}
+
+fn speeds_in(field: Field, text: &[u8]) -> Result<PerAxis<Speed>, Refusal>
+    ensures { result ≡ spec.speeds_in field text.now }
+{
+    match numbers_in(text, 3) {
+        None => Err(Refusal::Unread(field)),
+        Some(numbers) => Ok(speeds(&numbers)),
+    }
+}
+
+fn accelerations_in(field: Field, text: &[u8]) -> Result<PerAxis<Acceleration>, Refusal>
+    ensures { result ≡ spec.accelerations_in field text.now }
+{
+    match numbers_in(text, 3) {
+        None => Err(Refusal::Unread(field)),
+        Some(numbers) => Ok(accelerations(&numbers)),
+    }
+}
+
+pub(crate) fn all_at(end: End) -> PerAxis<End>
+    ensures { result ≡ spec.same_for_all end }
+{
+    PerAxis {
+        x: end,
+        y: end,
+        z: end,
+    }
+}
+
+fn frame_in(text: &[u8]) -> Result<PerAxis<End>, Refusal>
+    ensures { result ≡ spec.frame_in text.now }
+{
+    if text == b"low".as_slice() {
+        return Ok(all_at(End::Low));
+    }
+    if text == b"high".as_slice() {
+        return Ok(all_at(End::High));
+    }
+    Err(Refusal::Unread(Field::Frame))
+}
+
+fn frame_by(text: Option<&[u8]>) -> Result<PerAxis<End>, Refusal>
+    ensures { result ≡ spec.frame_by text.entry }
+{
+    match text {
+        None => Ok(PerAxis {
+            x: End::Low,
+            y: End::Low,
+            z: End::High,
+        }),
+        Some(text) => frame_in(text),
+    }
+}
+
+/// Returns the figures of a machine that takes up 5 mm/s at once and starts at zero.
+pub(crate) fn figures_by(
+    steps: StepsPerMillimetre,
+    travel: PerAxis<Length>,
+    feed: PerAxis<Speed>,
+    acceleration: PerAxis<Acceleration>,
+    zero: PerAxis<End>,
+) -> Figures
+    ensures { result ≡ spec.figures_by steps travel feed acceleration zero }
+{
+    Figures {
+        steps,
+        travel,
+        feed,
+        acceleration,
+        corner: speed_of(300_000),
+        jump: speed_of(0),
+        arcs: None,
+        ticks: None,
+        zero,
+        start: PerAxis {
+            x: length_of(0),
+            y: length_of(0),
+            z: length_of(0),
+        },
+        home28: None,
+        home30: None,
+    }
+}
+
+impl Figures {
+    /// Returns the figures that options give, or the first that can't be read.
+    pub fn from_options(options: &Options<'_>) -> Result<Figures, Refusal>
+        ensures { result ≡ spec.figures_of options.now }
+    {
+        let steps = steps_in(options.steps_per_mm)?;
+        let travel = lengths_in(Field::Travel, options.travel)?;
+        let feed = speeds_in(Field::Feed, options.feed)?;
+        let acceleration = accelerations_in(Field::Acceleration, options.acceleration)?;
+        let zero = frame_by(options.frame)?;
+        Ok(figures_by(steps, travel, feed, acceleration, zero))
+    }
+}

@@ -1,0 +1,231 @@
+//! Speeds and accelerations in steps.
+ghost use Rattle.std.specs.Prelude.{◌≡◌, ◌+◌, ◌*◌, ◌/◌, ◌<◌, ◌≤◌, ◌^◌, min, max, IfOk};
+ghost use Rattle.ngc_machine_maker.specs.Formulas.{rate_of, change_of, turn_of, axis_rate};
+ghost use Rattle.ngc_machine_maker.specs.Formulas.{each_rate, fastest, least};
+ghost use Rattle.ngc_machine_maker.specs.Formulas.{chosen_ticks, ticks_of, corner_of, jump_of};
+ghost use Rattle.ngc_machine_maker.specs.Formulas.{limited_change, limited_turn, arcs_of};
+ghost use Rattle.ngc_machine_maker.specs.Formulas.{greatest_of, rates_of};
+ghost use Rattle.ngc_machine_maker.specs.Ranges.{IsScale, IsRate, AreRates, IsTurn, AreAllRates};
+ghost use Rattle.ngc_machine_maker.specs.Safe.{IsNoMore, IsNoFaster, IsNoHarder, IsNoHarderOnArcs};
+ghost use Rattle.ngc_machine_maker.specs.Safe.{AreNoFaster, AreSafe};
+
+use crate::figures::{Acceleration, Axis, Figures, PerAxis, Speed};
+use crate::refusal::Refusal;
+use crate::scale::Scale;
+
+const GREATEST_RATE: u128 = 1_000_000;
+
+const GREATEST_TURN: u128 = 1_000_000_000_000;
+
+/// The rates of a machine file, in millionths of a step a tick.
+#[derive(Clone, Copy)]
+pub(crate) struct Rates {
+    pub ticks: u32,
+    pub axis_rate: PerAxis<u32>,
+    pub max_rate: u32,
+    pub change: u32,
+    pub corner: u32,
+    pub turn: u64,
+    pub jump: u32,
+}
+
+fn fastest(speeds: &PerAxis<Speed>) -> u32
+    ensures { result ≡ fastest speeds.now }
+{
+    speeds
+        .x
+        .micrometres_a_minute
+        .max(speeds.y.micrometres_a_minute)
+        .max(speeds.z.micrometres_a_minute)
+}
+
+fn least(accelerations: &PerAxis<Acceleration>) -> u32
+    ensures { result ≡ least accelerations.now }
+{
+    accelerations
+        .x
+        .micrometres_a_second_squared
+        .min(accelerations.y.micrometres_a_second_squared)
+        .min(accelerations.z.micrometres_a_second_squared)
+}
+
+// About two ticks for each step of the fastest axis, in whole thousands.
+fn chosen_ticks(scale: &Scale, feed: &PerAxis<Speed>) -> u32
+    ensures value { result ≡ chosen_ticks scale.now feed.now }
+    ensures range { IsRate result }
+{
+    let thousands = u64::from(fastest(feed)) * u64::from(scale.steps) / 30_000_000_000_000 + 1;
+    (1_000 * thousands).clamp(10_000, 1_000_000) as u32
+}
+
+fn ticks_of(scale: &Scale, figures: &Figures) -> Result<u32, Refusal>
+    ensures value { result ≡ ticks_of scale.now figures.now }
+    ensures range { IfOk result IsRate }
+{
+    match figures.ticks {
+        None => Ok(chosen_ticks(scale, &figures.feed)),
+        Some(ticks) if ticks < 1 || ticks > 1_000_000 => Err(Refusal::Ticks),
+        Some(ticks) => Ok(ticks),
+    }
+}
+
+fn rate_of(scale: &Scale, ticks: u32, speed: Speed) -> u128
+    requires scale { IsScale scale.now }
+    requires ticks { IsRate ticks }
+    ensures value { result ≡ rate_of scale.now ticks speed }
+    ensures safe { IsNoFaster scale.now ticks result speed }
+{
+    let amount = u128::from(speed.micrometres_a_minute) * 1_000_000_000;
+    scale.steps_in(amount, 60 * u128::from(ticks))
+}
+
+fn change_of(scale: &Scale, ticks: u32, acceleration: u32) -> u128
+    requires scale { IsScale scale.now }
+    requires ticks { IsRate ticks }
+    ensures value { result ≡ change_of scale.now ticks acceleration }
+    ensures safe { IsNoHarder scale.now ticks result acceleration }
+{
+    let amount = u128::from(acceleration) * 1_000_000_000;
+    scale.steps_in(amount, u128::from(ticks) * u128::from(ticks))
+}
+
+fn turn_of(scale: &Scale, ticks: u32, acceleration: u32) -> u128
+    requires scale { IsScale scale.now }
+    requires ticks { IsRate ticks }
+    ensures value { result ≡ turn_of scale.now ticks acceleration }
+    ensures safe { IsNoHarderOnArcs scale.now ticks result acceleration }
+{
+    let amount = u128::from(acceleration) * 1_000_000_000_000_000;
+    scale.steps_in(amount, 2 * (u128::from(ticks) * u128::from(ticks)))
+}
+
+fn axis_rate(scale: &Scale, ticks: u32, speed: Speed, axis: Axis) -> Result<u32, Refusal>
+    requires scale { IsScale scale.now }
+    requires ticks { IsRate ticks }
+    ensures value { result ≡ axis_rate scale.now ticks speed axis }
+    ensures range { IfOk result IsRate }
+    ensures safe { IfOk result (λ rate. IsNoFaster scale.now ticks rate speed) }
+{
+    let rate = rate_of(scale, ticks, speed);
+    if rate == 0 {
+        return Err(Refusal::SlowFeed(axis));
+    }
+    if rate > GREATEST_RATE {
+        return Err(Refusal::FastFeed(axis));
+    }
+    Ok(rate as u32)
+}
+
+fn axis_rates(scale: &Scale, ticks: u32, feed: &PerAxis<Speed>) -> Result<PerAxis<u32>, Refusal>
+    requires scale { IsScale scale.now }
+    requires ticks { IsRate ticks }
+    ensures value { result ≡ each_rate scale.now ticks feed.now }
+    ensures range { IfOk result AreRates }
+    ensures safe { IfOk result (λ rates. AreNoFaster scale.now ticks rates feed.now) }
+{
+    let x = axis_rate(scale, ticks, feed.x, Axis::X)?;
+    let y = axis_rate(scale, ticks, feed.y, Axis::Y)?;
+    let z = axis_rate(scale, ticks, feed.z, Axis::Z)?;
+    Ok(PerAxis { x, y, z })
+}
+
+fn corner_of(scale: &Scale, ticks: u32, most: u32, speed: Speed) -> Result<u32, Refusal>
+    requires scale { IsScale scale.now }
+    requires ticks { IsRate ticks }
+    requires most { IsRate most }
+    ensures value { result ≡ corner_of scale.now ticks most speed }
+    ensures range { IfOk result IsRate }
+    ensures safe { IfOk result (λ rate. IsNoFaster scale.now ticks rate speed) }
+{
+    let rate = rate_of(scale, ticks, speed).min(u128::from(most));
+    if rate == 0 {
+        return Err(Refusal::SlowCorner);
+    }
+    Ok(rate as u32)
+}
+
+fn jump_of(scale: &Scale, ticks: u32, speed: Speed) -> u32
+    requires scale { IsScale scale.now }
+    requires ticks { IsRate ticks }
+    ensures value { result ≡ jump_of scale.now ticks speed }
+    ensures range { result ≤ 1000000 }
+    ensures safe { IsNoFaster scale.now ticks result speed }
+{
+    rate_of(scale, ticks, speed).min(GREATEST_RATE) as u32
+}
+
+// A change at which the slowest axis follows, at most a step a tick in a tick.
+fn limited_change(
+    scale: &Scale,
+    ticks: u32,
+    accelerations: &PerAxis<Acceleration>,
+) -> Result<u32, Refusal>
+    requires scale { IsScale scale.now }
+    requires ticks { IsRate ticks }
+    ensures value { result ≡ limited_change scale.now ticks accelerations.now }
+    ensures range { IfOk result IsRate }
+    ensures safe { IfOk result (λ change.
+        IsNoHarder scale.now ticks change (least accelerations.now)) }
+{
+    let change = change_of(scale, ticks, least(accelerations)).min(GREATEST_RATE);
+    if change == 0 {
+        return Err(Refusal::LowAcceleration);
+    }
+    Ok(change as u32)
+}
+
+fn limited_turn(scale: &Scale, ticks: u32, acceleration: u32) -> Result<u64, Refusal>
+    requires scale { IsScale scale.now }
+    requires ticks { IsRate ticks }
+    ensures value { result ≡ limited_turn scale.now ticks acceleration }
+    ensures range { IfOk result IsTurn }
+    ensures safe { IfOk result (λ turn. IsNoHarderOnArcs scale.now ticks turn acceleration) }
+{
+    let turn = turn_of(scale, ticks, acceleration).min(GREATEST_TURN);
+    if turn == 0 {
+        return Err(Refusal::LowArcs);
+    }
+    Ok(turn as u64)
+}
+
+// The greatest acceleration towards the centre of an arc that was asked.
+fn arcs_of(figures: &Figures) -> u32
+    ensures { result ≡ arcs_of figures.now }
+{
+    match figures.arcs {
+        Some(acceleration) => acceleration.micrometres_a_second_squared,
+        None => least(&figures.acceleration),
+    }
+}
+
+fn greatest_of(rates: &PerAxis<u32>) -> u32
+    requires { AreRates rates.now }
+    ensures value { result ≡ greatest_of rates.now }
+    ensures range { IsRate result }
+{
+    rates.x.max(rates.y).max(rates.z)
+}
+
+/// Returns the rates of some figures, or the first that is refused.
+pub(crate) fn rates_of(scale: &Scale, figures: &Figures) -> Result<Rates, Refusal>
+    requires { IsScale scale.now }
+    ensures value { result ≡ rates_of scale.now figures.now }
+    ensures range { IfOk result AreAllRates }
+    ensures safe { IfOk result (λ rates. AreSafe scale.now rates figures.now) }
+{
+    let ticks = ticks_of(scale, figures)?;
+    let axis_rate = axis_rates(scale, ticks, &figures.feed)?;
+    let max_rate = greatest_of(&axis_rate);
+    let corner = corner_of(scale, ticks, max_rate, figures.corner)?;
+    let change = limited_change(scale, ticks, &figures.acceleration)?;
+    let turn = limited_turn(scale, ticks, arcs_of(figures))?;
+    Ok(Rates {
+        ticks,
+        axis_rate,
+        max_rate,
+        change,
+        corner,
+        turn,
+        jump: jump_of(scale, ticks, figures.jump),
+    })
+}

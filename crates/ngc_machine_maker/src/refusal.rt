@@ -1,0 +1,57 @@
+//! Why figures are refused.
+
+use crate::figures::Axis;
+
+/// A place at which all axes stop.
+#[derive(Clone, Copy)]
+pub enum Stop {
+    Start,
+    Home28,
+    Home30,
+}
+
+/// An option.
+#[derive(Clone, Copy)]
+pub enum Field {
+    Steps,
+    Travel,
+    Feed,
+    Acceleration,
+    Frame,
+    Corner,
+    Jump,
+    Arcs,
+    Ticks,
+    Stop(Stop),
+}
+
+/// Why no machine file is made of some figures.
+#[derive(Clone, Copy)]
+pub enum Refusal {
+    /// The text of an option can't be read.
+    Unread(Field),
+    /// The step is not from 500 to 50,000 nm.
+    Step,
+    /// The ticks a second are not from 1 to 1,000,000.
+    Ticks,
+    /// The axis has less than a millionth of a step in a tick.
+    SlowFeed(Axis),
+    /// The axis has more than a step in a tick.
+    FastFeed(Axis),
+    /// The corner speed is less than a millionth of a step in a tick.
+    SlowCorner,
+    /// The acceleration is less than a millionth of a step a tick in each tick.
+    LowAcceleration,
+    /// The acceleration on arcs rounds to nothing.
+    LowArcs,
+    /// The travel is shorter than a step, or longer than 1,000 mm.
+    Travel(Axis),
+    /// The place is outside the travel.
+    Outside(Stop, Axis),
+    /// The setting with this number is missing.
+    Missing(u32),
+    /// The value of the setting with this number, on the line with that one, is no number.
+    Setting(u32, usize),
+    /// The steps a millimetre differ from axis to axis.
+    UnequalSteps,
+}
