@@ -5,21 +5,21 @@ use Rattle.std.proofs.lemmas.List.{drop_more}
 use Rattle.std.proofs.lemmas.List.Sums.{fold-append}
 use Rattle.ngc_commands.specs.declared.command.Command.{Command}
 use Rattle.ngc_machine.specs.Machine.{MachineFile}
-use Rattle.ngc_commands.specs.Reached.{after}
+use Rattle.ngc_report.specs.Standings.{next}
 use Rattle.ngc_report.specs.Warnings.{line_of, lines_of, warning, counted}
-use Rattle.ngc_commands.specs.declared.reached.Reached.{Reached}
+use Rattle.ngc_report.specs.declared.standing.Standing.{Standing}
 use Rattle.ngc_report.specs.declared.warnings.Concern.{Concern}
 use Rattle.ngc_report.specs.declared.warnings.Warning.{Warning}
 
 -- one command further
-pub next_command : (machine : MachineFile) (concern : Concern) (found : Option Warning) (s : Reached) (cs : List Command) (i : ℕ) (c : Command) →
+pub next_command : (machine : MachineFile) (concern : Concern) (found : Option Warning) (s : Standing) (cs : List Command) (i : ℕ) (c : Command) →
     i < length cs → c ≡ get_or cs i c
-    → fold (counted concern) (fold (counted concern) found (line_of machine concern s c)) (lines_of machine concern (after s c.action) (drop (i + 1) cs))
+    → fold (counted concern) (fold (counted concern) found (line_of machine concern s c)) (lines_of machine concern (next s c.action) (drop (i + 1) cs))
     ≡ fold (counted concern) found (lines_of machine concern s (drop i cs))
 next_command machine concern found s cs i c inside is =
-    let next : drop i cs ≡ c ∷ drop (i + 1) cs = drop_more cs i c inside ∙ ap (λ (x : Command). x ∷ drop (i + 1) cs) (sym is) in
-    sym (fold-append (counted concern) found (line_of machine concern s c) (lines_of machine concern (after s c.action) (drop (i + 1) cs)))
-    ∙ ap (λ (l : List Command). fold (counted concern) found (lines_of machine concern s l)) (sym next)
+    let further : drop i cs ≡ c ∷ drop (i + 1) cs = drop_more cs i c inside ∙ ap (λ (x : Command). x ∷ drop (i + 1) cs) (sym is) in
+    sym (fold-append (counted concern) found (line_of machine concern s c) (lines_of machine concern (next s c.action) (drop (i + 1) cs)))
+    ∙ ap (λ (l : List Command). fold (counted concern) found (lines_of machine concern s l)) (sym further)
 
 counted_on : (concern : Concern) (w : Warning) (ls : List ℕ) → fold (counted concern) (Some w) ls ≡ Some (record w { count = w.count + length ls })
 counted_on concern w [] = ap (λ (n : ℕ). Some (record w { count = n })) (omega arith)

@@ -1,13 +1,18 @@
 -- What passes and is nearly always a mistake. Our own.
-use Rattle.std.specs.Prelude.{ℕ, ◌+◌, ◌*◌, min, nat_lt, ℤ, int_lt, unsigned_abs, List, [], ◌∷◌, ◌++◌}
+use Rattle.std.specs.Prelude.{ℕ, ◌+◌, ◌*◌, min, nat_lt, nat_le, ℤ, int_lt, unsigned_abs, List, []}
+use Rattle.std.specs.Prelude.{◌∷◌, ◌++◌}
 use Rattle.std.specs.Prelude.{length, map, Option, Some, None, Bool, false, not, ◌&&◌, ◌||◌}
 use Rattle.std.specs.Prelude.{if◌then◌else◌}
 use Rattle.std.specs.List.{list_any}
 use Rattle.std.specs.Ordering.{int_eq}
 use Rattle.ngc_fixed_length.specs.Grid.{grid}
 use Rattle.ngc_fixed_length.specs.declared.points.GridBox.{GridBox}
+use Rattle.ngc_fixed_length.specs.declared.points.Point2.{Point2}
 use Rattle.ngc_fixed_length.specs.declared.points.Point3.{Point3}
 use Rattle.ngc_fixed_length.specs.declared.points.StepPos.{StepPos}
+use Rattle.ngc_arc_geometry.specs.Radii.{inner_radius}
+use Rattle.ngc_arc_geometry.specs.Sector.{extremes, is_full}
+use Rattle.ngc_arc_geometry.specs.Shape.{ArcShape, start_of, end_of}
 use Rattle.ngc_machine.specs.Machine.{MachineFile}
 use Rattle.ngc_machine.specs.declared.tools.Tool.{Tool}
 use Rattle.ngc_commands.specs.declared.command.Action.{Action}
@@ -18,15 +23,17 @@ use Rattle.ngc_commands.specs.declared.movement.Motion.{Motion}
 use Rattle.ngc_commands.specs.declared.movement.Pace.{Pace}
 use Rattle.ngc_commands.specs.declared.movement.Pace.TheVariants.{Rapid, Feed}
 use Rattle.ngc_commands.specs.declared.movement.Way.{Way}
-use Rattle.ngc_commands.specs.declared.movement.Way.TheVariants.{Line}
+use Rattle.ngc_commands.specs.declared.movement.Way.TheVariants.{Line, Arc}
 use Rattle.ngc_collision.specs.Body.{Solid, bodies, span}
 use Rattle.ngc_report.specs.Extents.{reach}
-use Rattle.ngc_commands.specs.Reached.{after}
+use Rattle.ngc_report.specs.Standings.{beginning, next}
+use Rattle.ngc_report.specs.Ways.{square_between}
 use Rattle.ngc_report.specs.declared.line.Line as told
 use Rattle.ngc_report.specs.declared.line.Line.TheVariants as lines
-use Rattle.ngc_commands.specs.declared.reached.Reached.{Reached}
+use Rattle.ngc_report.specs.declared.standing.Standing.{Standing}
 use Rattle.ngc_report.specs.declared.warnings.Concern.{Concern}
-use Rattle.ngc_report.specs.declared.warnings.Concern.TheVariants.{NoTool, FastFeed, LowHome}
+use Rattle.ngc_report.specs.declared.warnings.Concern.TheVariants.{NoTool, IdleSpindle}
+use Rattle.ngc_report.specs.declared.warnings.Concern.TheVariants.{FastFeed, NearlyFull, LowHome}
 use Rattle.ngc_report.specs.declared.warnings.Warning.{Warning}
 
 -- ---- without a tool
@@ -39,6 +46,13 @@ leaves p b = not (int_eq b.low.z p.z) || not (int_eq b.high.z p.z)
 abbrev pub is_unarmed : MachineFile → Option Tool → Way → Bool
 is_unarmed machine None way = leaves (grid machine.step machine.start) (reach machine.step way)
 is_unarmed machine (Some tool) way = false
+
+-- ---- the spindle off
+
+-- a feed with a tool that doesn't turn
+abbrev pub is_idle : Bool → Option Tool → Pace → Bool
+is_idle is_turning (Some tool) (Feed feed) = not is_turning
+is_idle is_turning tool pace = false
 
 -- ---- too fast
 
@@ -68,6 +82,24 @@ is_fast machine way (Feed (PerMinute feed)) =
     nat_lt (60 * greatest_speed machine way) (1000000 * feed)
 is_fast machine way _ = false
 
+-- ---- nearly a full circle
+
+abbrev pub square_apart : Point2 → Point2 → ℕ
+square_apart p q = square_between p.u q.u + square_between p.v q.v
+
+-- the ends lie less than 0.01 mm apart, and less than a degree about the centre: the square of the
+-- chord of a degree is the 3,283rd part of the squared radius
+abbrev pub ends_meet : ArcShape → Bool
+ends_meet a =
+    nat_lt (square_apart (start_of a) (end_of a)) 100000000
+    && nat_le (3283 * square_apart (start_of a) (end_of a)) (inner_radius a * inner_radius a)
+
+-- such ends, and no full circle: where two of the points at which a full circle crosses the axes
+-- through its centre are on the arc it is longer than a degree, and so longer than 359 degrees
+abbrev pub is_nearly_full : Way → Bool
+is_nearly_full (Arc a) = ends_meet a && (not (is_full a) && nat_lt 1 (length (extremes a)))
+is_nearly_full (Line start end) = false
+
 -- ---- home between fixtures
 
 abbrev pub is_at : Point3 → Point3 → Bool
@@ -95,34 +127,32 @@ is_low_home machine tool _ _ = false
 
 -- ---- over a program
 
-abbrev pub concerns : MachineFile → Concern → Option Tool → Motion → Bool
-concerns machine NoTool tool m = is_unarmed machine tool m.way
-concerns machine FastFeed tool m = is_fast machine m.way m.pace
-concerns machine LowHome tool m = is_low_home machine tool m.way m.pace
+abbrev pub concerns : MachineFile → Concern → Standing → Motion → Bool
+concerns machine NoTool s m = is_unarmed machine s.reached.tool m.way
+concerns machine IdleSpindle s m = is_idle s.is_turning s.reached.tool m.pace
+concerns machine FastFeed s m = is_fast machine m.way m.pace
+concerns machine NearlyFull s m = is_nearly_full m.way
+concerns machine LowHome s m = is_low_home machine s.reached.tool m.way m.pace
 
--- a motion, with the tool that is mounted then
-abbrev pub is_concerned : MachineFile → Concern → Reached → Action → Bool
-is_concerned machine concern s (Move m) = concerns machine concern s.tool m
+-- a motion, with what holds then of tool and spindle
+abbrev pub is_concerned : MachineFile → Concern → Standing → Action → Bool
+is_concerned machine concern s (Move m) = concerns machine concern s m
 is_concerned machine concern s _ = false
 
-abbrev pub line_of : MachineFile → Concern → Reached → Command → List ℕ
+abbrev pub line_of : MachineFile → Concern → Standing → Command → List ℕ
 line_of machine concern s c = if is_concerned machine concern s c.action then c.line ∷ [] else []
 
 -- the lines of the commands concerned, in order
-abbrev pub lines_of : MachineFile → Concern → Reached → List Command → List ℕ
+abbrev pub lines_of : MachineFile → Concern → Standing → List Command → List ℕ
 lines_of machine concern s [] = []
 lines_of machine concern s (c ∷ cs) =
-    line_of machine concern s c ++ lines_of machine concern (after s c.action) cs
+    line_of machine concern s c ++ lines_of machine concern (next s c.action) cs
 
 -- none, or one of their number and the first
 abbrev pub warning : Concern → List ℕ → List Warning
 warning concern [] = []
 warning concern (line ∷ lines) =
     record { concern = concern; count = length (line ∷ lines); line = line } ∷ []
-
--- a program begins at the start, without a tool
-abbrev pub beginning : MachineFile → Reached
-beginning machine = record { tool = None; place = machine.start }
 
 abbrev pub warnings_about : MachineFile → Concern → List Command → List Warning
 warnings_about machine concern commands =
@@ -131,10 +161,16 @@ warnings_about machine concern commands =
 abbrev pub warned : MachineFile → Concern → List Command → List told.Line
 warned machine concern commands = map lines.Warned (warnings_about machine concern commands)
 
+-- what is asked of a motion by itself, and of traverses home
+abbrev pub motion_lines : MachineFile → List Command → List told.Line
+motion_lines machine commands =
+    warned machine FastFeed commands
+    ++ (warned machine NearlyFull commands ++ warned machine LowHome commands)
+
 abbrev pub warning_lines : MachineFile → List Command → List told.Line
 warning_lines machine commands =
     warned machine NoTool commands
-    ++ (warned machine FastFeed commands ++ warned machine LowHome commands)
+    ++ (warned machine IdleSpindle commands ++ motion_lines machine commands)
 
 -- ---- as they are counted
 

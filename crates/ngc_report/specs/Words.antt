@@ -19,7 +19,8 @@ use Rattle.ngc_report.specs.declared.scene.Obstacle.TheVariants.{Travel, Fixture
 use Rattle.ngc_report.specs.declared.scene.Scene.{Scene}
 use Rattle.ngc_report.specs.declared.uses.ToolUse.{ToolUse}
 use Rattle.ngc_report.specs.declared.warnings.Concern.{Concern}
-use Rattle.ngc_report.specs.declared.warnings.Concern.TheVariants.{NoTool, FastFeed, LowHome}
+use Rattle.ngc_report.specs.declared.warnings.Concern.TheVariants.{NoTool, IdleSpindle}
+use Rattle.ngc_report.specs.declared.warnings.Concern.TheVariants.{FastFeed, NearlyFull, LowHome}
 use Rattle.ngc_report.specs.declared.warnings.Warning.{Warning}
 
 -- ---- lengths
@@ -97,7 +98,9 @@ obstacle_text (Some (Fixture m)) = met_text m
 
 unfoldable pub concern_text : Concern → List ℕ
 concern_text NoTool = codes "motions without a tool, away from the height of the start"
+concern_text IdleSpindle = codes "feeds with a tool and the spindle off"
 concern_text FastFeed = codes "feeds above the greatest speed of the machine"
+concern_text NearlyFull = codes "arcs of over 359 degrees with ends less than 0.01 mm apart"
 concern_text LowHome = codes "traverses home along X or Y, below the top of a fixture"
 
 abbrev pub warning_text : Warning → List ℕ

@@ -34,7 +34,9 @@
 //!
 //! ```text
 //! warning: motions without a tool, away from the height of the start: 2, the first in line 3.
+//! warning: feeds with a tool and the spindle off: 4, the first in line 5.
 //! warning: feeds above the greatest speed of the machine: 5, the first in line 7.
+//! warning: arcs of over 359 degrees with ends less than 0.01 mm apart: 1, the first in line 8.
 //! warning: traverses home along X or Y, below the top of a fixture: 1, the first in line 9.
 //! ```
 #![tactic(auto)]
@@ -53,6 +55,7 @@ mod refusals;
 mod report;
 mod scene;
 mod source_lines;
+mod standing;
 mod travel;
 mod uses;
 mod warned;

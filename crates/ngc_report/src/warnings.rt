@@ -1,5 +1,5 @@
 //! What passes and is nearly always a mistake.
-ghost use Rattle.std.specs.Prelude.{◌≡◌, ◌+◌, ◌≤◌, ◌<◌, ◌∷◌, [], map, fold, unsigned_abs};
+ghost use Rattle.std.specs.Prelude.{◌≡◌, ◌+◌, ◌*◌, ◌≤◌, ◌<◌, ◌^◌, ◌∷◌, [], map, fold, unsigned_abs};
 ghost use Rattle.std.specs.Prelude.{MatchOption};
 ghost use Rattle.ngc_fixed_length.specs.Limits.{MILLION};
 ghost use Rattle.std.specs.List.{list_any};
@@ -9,14 +9,18 @@ ghost use Rattle.ngc_fixed_length.specs.Length.{IsStep};
 ghost use Rattle.ngc_machine.specs.Machine.{file_of};
 ghost use Rattle.ngc_report.specs.Warnings.{leaves, is_unarmed, step_speed, greatest_speed};
 ghost use Rattle.ngc_report.specs.Warnings.{rate_on_axis, greatest_rate};
+ghost use Rattle.ngc_report.specs.Warnings.{is_idle, square_apart, ends_meet, is_nearly_full};
 ghost use Rattle.ngc_report.specs.Warnings.{is_fast, is_at, goes_home, is_low, comes_low};
 ghost use Rattle.ngc_report.specs.Warnings.{is_low_home, concerns, is_concerned, line_of};
 ghost use Rattle.ngc_report.specs.Warnings.{warnings_about, counted, number_of};
 
 use crate::bounds::reach;
+use crate::standing::Standing;
+use crate::ways::square_between;
+use ngc_arc_geometry::Arc;
 use ngc_collision::Solid;
-use ngc_commands::{Action, Command, Feed, Motion, Pace, Reached, Way};
-use ngc_fixed_length::{GridBox, Nm, Point3, StepPos};
+use ngc_commands::{Action, Command, Feed, Motion, Pace, Way};
+use ngc_fixed_length::{GridBox, Nm, Point2, Point3, StepPos};
 use ngc_machine::{Machine, Tool};
 use std::alloc::Allocator;
 
@@ -25,9 +29,14 @@ use std::alloc::Allocator;
 pub enum Concern {
     /// Motions without a tool that don't stay at the height of the start.
     NoTool,
+    /// Feeds with a tool while the spindle is off, or at speed 0.
+    IdleSpindle,
     /// Feeds a minute above the greatest speed that the machine has along an axis on this motion.
     /// Inverse time feeds and traverses don't count.
     FastFeed,
+    /// Arcs of more than 359 degrees, and no full circles, whose ends lie less than 0.01 mm apart in
+    /// the plane: mostly an arc of less than a degree, whose ends were rounded.
+    NearlyFull,
     /// Traverses along a line to a home position, not only up or down, on which a part of the
     /// tool's body, or without a tool the controlled point, comes below the top of a fixture.
     LowHome,
@@ -59,6 +68,15 @@ fn is_unarmed<A: Allocator>(machine: &Machine<A>, tool: &Option<Tool>, way: &Way
             &reach(machine.step, way),
         ),
         Some(_) => false,
+    }
+}
+
+fn is_idle(is_turning: bool, tool: &Option<Tool>, pace: &Pace) -> bool
+    ensures { result ≡ is_idle is_turning tool.now pace.now }
+{
+    match (tool, pace) {
+        (Some(_), Pace::Feed(_)) => !is_turning,
+        (None, _) | (Some(_), Pace::Rapid) => false,
     }
 }
 
@@ -113,6 +131,36 @@ fn is_fast<A: Allocator>(machine: &Machine<A>, way: &Way, pace: &Pace) -> bool
             60 * u128::from(greatest_speed(machine, way)) < 1_000_000 * u128::from(*feed)
         }
         Pace::Feed(Feed::Inverse(_)) | Pace::Rapid => false,
+    }
+}
+
+// The squared distance of two points of the plane, in square nanometres.
+fn square_apart(from: &Point2, to: &Point2) -> u128
+    ensures value { result ≡ square_apart from.now to.now }
+    ensures bound { result ≤ 8 * 10 ^ 22 }
+{
+    square_between(from.u, to.u) + square_between(from.v, to.v)
+}
+
+// A radius, and with it its square, are only found where the ends are near.
+fn ends_meet(arc: &Arc) -> bool
+    ensures { result ≡ ends_meet arc.now }
+{
+    let plane = arc.plane();
+    let apart = square_apart(&arc.start().in_plane(plane), &arc.end().in_plane(plane));
+    apart < 100_000_000
+        && {
+            let radius = u128::from(arc.inner_radius());
+            3283 * apart <= radius * radius
+        }
+}
+
+fn is_nearly_full(way: &Way) -> bool
+    ensures { result ≡ is_nearly_full way.now }
+{
+    match way {
+        Way::Arc(arc) => ends_meet(arc) && !arc.is_full_circle() && 1 < arc.extremes().len(),
+        Way::Line { .. } => false,
     }
 }
 
@@ -181,14 +229,17 @@ fn is_low_home<A: Allocator>(
 fn concerns<A: Allocator>(
     machine: &Machine<A>,
     concern: Concern,
-    tool: &Option<Tool>,
+    before: &Standing,
     motion: &Motion,
 ) -> bool
-    ensures { result ≡ concerns (file_of machine.now) concern tool.now motion.now }
+    ensures { result ≡ concerns (file_of machine.now) concern before.now motion.now }
 {
+    let tool = &before.reached.tool;
     match concern {
         Concern::NoTool => is_unarmed(machine, tool, &motion.way),
+        Concern::IdleSpindle => is_idle(before.is_turning, tool, &motion.pace),
         Concern::FastFeed => is_fast(machine, &motion.way, &motion.pace),
+        Concern::NearlyFull => is_nearly_full(&motion.way),
         Concern::LowHome => is_low_home(machine, tool, &motion.way, &motion.pace),
     }
 }
@@ -196,13 +247,13 @@ fn concerns<A: Allocator>(
 fn is_concerned<A: Allocator>(
     machine: &Machine<A>,
     concern: Concern,
-    before: &Reached,
+    before: &Standing,
     action: &Action,
 ) -> bool
     ensures { result ≡ is_concerned (file_of machine.now) concern before.now action.now }
 {
     match action {
-        Action::Move(motion) => concerns(machine, concern, &before.tool, motion),
+        Action::Move(motion) => concerns(machine, concern, before, motion),
         _ => false,
     }
 }
@@ -229,7 +280,7 @@ fn with_command<A: Allocator>(
     machine: &Machine<A>,
     concern: Concern,
     found: Option<Warning>,
-    before: &Reached,
+    before: &Standing,
     command: &Command,
 ) -> Option<Warning>
     requires { number_of found < usize.MAX }
@@ -254,10 +305,10 @@ pub(crate) fn warning_about<A: Allocator>(
         (λ w. warnings_about (file_of machine.now) concern commands.now ≡ w ∷ []) }
 {
     let mut found = None;
-    let mut reached = Reached::at_start(machine);
+    let mut before = Standing::at_start(machine);
     for command in commands {
-        found = with_command(machine, concern, found, &reached, command);
-        reached = reached.after(&command.action);
+        found = with_command(machine, concern, found, &before, command);
+        before = before.after(&command.action);
     }
     found
 }

@@ -12,7 +12,7 @@ fn distance(from: Nm, to: Nm) -> u64
     (to.nanometres() - from.nanometres()).unsigned_abs()
 }
 
-fn square_between(from: Nm, to: Nm) -> u128
+pub(crate) fn square_between(from: Nm, to: Nm) -> u128
     ensures value { result ≡ square_between from to }
     ensures bound { result ≤ 4 * 10 ^ 22 }
 {

@@ -2,15 +2,16 @@ use Rattle.std.proofs.Common.{sym, ◌∙◌, arith}
 use Rattle.std.specs.Prelude.{fold}
 use Rattle.std.proofs.lemmas.List.{at_drop_all}
 use Rattle.ngc_machine.specs.Machine.{file_of}
-use Rattle.ngc_report.specs.Warnings.{lines_of, beginning, counted}
+use Rattle.ngc_report.specs.Warnings.{lines_of, counted}
+use Rattle.ngc_report.specs.Standings.{beginning}
 use Rattle.ngc_report.proofs.Counts.{next_command, all_counted}
 use Rattle.ngc_report.proofs.warnings.warning_about.Goals as goal
 
 pub loop-command-preserved : goal.loop-command-preserved
 loop-command-preserved g c = record {
   same =
-      rw (c.with_command-found.ensures.value, c.after-reached.ensures)
-      (next_command (file_of c.args.machine.now) c.args.concern c.loop-command.found c.loop-command.reached c.args.commands.now c.loop-command.command-index
+      rw (c.with_command-found.ensures.value, c.after-before.ensures)
+      (next_command (file_of c.args.machine.now) c.args.concern c.loop-command.found c.loop-command.before c.args.commands.now c.loop-command.command-index
       c.command-item.result
       c.loop-command-test.true c.command-item.is ∙ c.loop-command.invariant.same);
   few = omega (arith, c.with_command-found.ensures.few);
@@ -21,6 +22,6 @@ returns g c =
     let m = file_of c.args.machine.now in
     let k = c.args.concern in
     all_counted k (lines_of m k (beginning m) c.args.commands.now) c.loop-command.found
-    (sym (at_drop_all (λ l. fold (counted k) c.loop-command.found (lines_of m k c.loop-command.reached l)) c.args.commands.now c.loop-command.command-index
+    (sym (at_drop_all (λ l. fold (counted k) c.loop-command.found (lines_of m k c.loop-command.before l)) c.args.commands.now c.loop-command.command-index
     c.loop-command-test.false)
     ∙ c.loop-command.invariant.same)
