@@ -1,18 +1,18 @@
 -- The commands concerned, counted one by one.
-use Rattle.std.proofs.Common.{◌≡◌, ℕ, ◌+◌, ◌<◌, List, [], ◌∷◌, length, get_or, drop, Option, Some, None, ap, sym, subst, ◌∙◌, refl, arith}
-use Rattle.std.specs.Prelude.{fold, MatchOption}
+use Rattle.std.proofs.Common.{◌≡◌, ℕ, ◌+◌, ◌<◌, List, [], ◌∷◌, length, get_or, drop, Option, Some, None, ap, sym, ◌∙◌, refl, arith}
+use Rattle.std.specs.Prelude.{fold}
 use Rattle.std.proofs.lemmas.List.{drop_more}
 use Rattle.std.proofs.lemmas.List.Sums.{fold-append}
 use Rattle.ngc_commands.specs.declared.command.Command.{Command}
 use Rattle.ngc_machine.specs.Machine.{MachineFile}
-use Rattle.ngc_report.specs.Standings.{next}
-use Rattle.ngc_report.specs.Warnings.{line_of, lines_of, warning, counted}
-use Rattle.ngc_report.specs.declared.standing.Standing.{Standing}
+use Rattle.ngc_report.specs.ToolStates.{next}
+use Rattle.ngc_report.specs.Warnings.{line_of, lines_of, warning, last_of, counted}
+use Rattle.ngc_report.specs.declared.tool_state.ToolState.{ToolState}
 use Rattle.ngc_report.specs.declared.warnings.Concern.{Concern}
 use Rattle.ngc_report.specs.declared.warnings.Warning.{Warning}
 
 -- one command further
-pub next_command : (machine : MachineFile) (concern : Concern) (found : Option Warning) (s : Standing) (cs : List Command) (i : ℕ) (c : Command) →
+pub next_command : (machine : MachineFile) (concern : Concern) (found : Option Warning) (s : ToolState) (cs : List Command) (i : ℕ) (c : Command) →
     i < length cs → c ≡ get_or cs i c
     → fold (counted concern) (fold (counted concern) found (line_of machine concern s c)) (lines_of machine concern (next s c.action) (drop (i + 1) cs))
     ≡ fold (counted concern) found (lines_of machine concern s (drop i cs))
@@ -21,17 +21,16 @@ next_command machine concern found s cs i c inside is =
     sym (fold-append (counted concern) found (line_of machine concern s c) (lines_of machine concern (next s c.action) (drop (i + 1) cs)))
     ∙ ap (λ (l : List Command). fold (counted concern) found (lines_of machine concern s l)) (sym further)
 
-counted_on : (concern : Concern) (w : Warning) (ls : List ℕ) → fold (counted concern) (Some w) ls ≡ Some (record w { count = w.count + length ls })
+counted_on : (concern : Concern) (w : Warning) (ls : List ℕ) → fold (counted concern) (Some w) ls
+    ≡ Some (record w { count = w.count + length ls; last = last_of w.last ls })
 counted_on concern w [] = ap (λ (n : ℕ). Some (record w { count = n })) (omega arith)
 counted_on concern w (l ∷ ls) =
-    counted_on concern (record w { count = w.count + 1 }) ls ∙ ap (λ (n : ℕ). Some (record w { count = n })) (omega arith)
+    counted_on concern (record w { count = w.count + 1; last = l }) ls
+    ∙ ap (λ (n : ℕ). Some (record w { count = n; last = last_of l ls })) (omega arith)
 
 -- what is counted is the warning
-pub all_counted : (concern : Concern) (ls : List ℕ) (found : Option Warning) → found ≡ fold (counted concern) None ls
-    → MatchOption found (warning concern ls ≡ []) (λ w. warning concern ls ≡ w ∷ [])
-all_counted concern [] found is =
-    subst (λ (o : Option Warning). MatchOption o (warning concern [] ≡ []) (λ w. warning concern [] ≡ w ∷ [])) (sym is) refl
-all_counted concern (l ∷ ls) found is =
-    subst (λ (o : Option Warning). MatchOption o (warning concern (l ∷ ls) ≡ []) (λ w. warning concern (l ∷ ls) ≡ w ∷ []))
-    (sym (is ∙ counted_on concern (record { concern = concern; count = 1; line = l }) ls))
-    (ap (λ (n : ℕ). record { concern = concern; count = n; line = l } ∷ []) (omega arith))
+pub all_counted : (concern : Concern) (ls : List ℕ) → fold (counted concern) None ls ≡ warning concern ls
+all_counted concern [] = refl
+all_counted concern (l ∷ ls) =
+    counted_on concern (record { concern = concern; count = 1; line = l; last = l }) ls
+    ∙ ap (λ (n : ℕ). Some (record { concern = concern; count = n; line = l; last = last_of l ls })) (omega arith)

@@ -96,8 +96,18 @@ warning_fact w =
     ++ decimal w.count ++ codes ",\"line\":" ++
     decimal w.line ++ codes "}"
 
+abbrev pub nose_fact : Warning → List ℕ
+nose_fact w =
+    codes ",\n{\"fact\":\"verdict\",\"fits\":true,\"tested\":\"nose\",\"motions\":"
+    ++ decimal w.count ++ codes ",\"first\":" ++ decimal w.line ++ codes ",\"last\":"
+    ++ decimal w.last ++ codes "}"
+
+unfoldable pub fits_fact : Option Warning → List ℕ
+fits_fact None = codes ",\n{\"fact\":\"verdict\",\"fits\":true}"
+fits_fact (Some w) = nose_fact w
+
 unfoldable pub line_fact : Line → List ℕ
-line_fact lines.Fits = codes ",\n{\"fact\":\"verdict\",\"fits\":true}"
+line_fact (lines.Fits nose) = fits_fact nose
 line_fact lines.Refused = codes ",\n{\"fact\":\"verdict\",\"fits\":false}"
 line_fact (lines.Along a) = along_fact a
 line_fact (lines.Use u n) = use_fact u n

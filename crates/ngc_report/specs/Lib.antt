@@ -6,7 +6,7 @@ pub mod Ways
 pub mod Uses
 pub mod Margins
 pub mod Scenes
-pub mod Standings
+pub mod ToolStates
 pub mod Words
 pub mod Facts
 pub mod Forms

@@ -17,6 +17,7 @@ use Rattle.ngc_report.specs.Nearing.{nearest}
 use Rattle.ngc_report.specs.Rooms.{room, is_inside_on}
 use Rattle.ngc_report.specs.Scenes.{start_scene, scene_at, obstacle}
 use Rattle.ngc_report.specs.Uses.{tool_uses}
+use Rattle.ngc_report.specs.Warnings.{warning_about}
 use Rattle.ngc_report.specs.Forms.{report_text}
 use Rattle.ngc_report.specs.declared.form.Form.{Form}
 use Rattle.ngc_report.specs.declared.line.Line.{Line}
@@ -26,6 +27,7 @@ use Rattle.ngc_report.specs.declared.margins.Axis.TheVariants.{X, Y, Z}
 use Rattle.ngc_report.specs.declared.scene.Scene.{Scene}
 use Rattle.ngc_report.specs.declared.travel.AxisRoom.{AxisRoom}
 use Rattle.ngc_report.specs.declared.uses.ToolUse.{ToolUse}
+use Rattle.ngc_report.specs.declared.warnings.Concern.TheVariants.{NoTool}
 
 -- the text of lines comes behind what was collected; where a write fails, a beginning of both is
 -- written
@@ -58,10 +60,14 @@ use_lines machine (u ∷ us) motions =
 
 -- ---- reports
 
+-- without a tool a motion is tested for the spindle nose alone
+abbrev pub fit_line : MachineFile → List Command → Line
+fit_line machine commands = lines.Fits (warning_about machine NoTool commands)
+
 -- of a program that fits
 abbrev pub fit_lines : MachineFile → List Command → List Entry → List Line
 fit_lines machine commands motions =
-    lines.Fits ∷ (alongs machine (fit_extent machine motions)
+    fit_line machine commands ∷ (alongs machine (fit_extent machine motions)
     ++ use_lines machine (tool_uses commands) motions)
 
 -- each box of each piece lies within the travel limits
@@ -110,9 +116,9 @@ abbrev pub causes_lines : MachineFile → List Command → List ℕ → List Lin
 causes_lines machine commands ks =
     flat_map (λ k. scene_lines machine k None (scene_at machine commands k)) ks
 
-abbrev pub verdict_line : Bool → List ℕ → Line
-verdict_line false [] = lines.Fits
-verdict_line _ _ = lines.Refused
+abbrev pub verdict_line : MachineFile → List Command → Bool → List ℕ → Line
+verdict_line machine commands false [] = fit_line machine commands
+verdict_line machine commands _ _ = lines.Refused
 
 abbrev pub start_lines_if : MachineFile → Bool → List Line
 start_lines_if machine false = []
@@ -127,7 +133,7 @@ told_extent machine commands _ _ = extent machine commands
 -- of a setting at which these commands are refused, and the start or not
 abbrev pub all_lines : MachineFile → List Command → Bool → List ℕ → List Line
 all_lines machine commands start ks =
-    verdict_line start ks
+    verdict_line machine commands start ks
     ∷ (alongs machine (told_extent machine commands start ks)
     ++ (start_lines_if machine start ++ causes_lines machine commands ks))
 

@@ -1,7 +1,7 @@
 -- What passes and is nearly always a mistake. Our own.
 use Rattle.std.specs.Prelude.{ℕ, ◌+◌, ◌*◌, min, nat_lt, nat_le, ℤ, int_lt, unsigned_abs, List, []}
 use Rattle.std.specs.Prelude.{◌∷◌, ◌++◌}
-use Rattle.std.specs.Prelude.{length, map, Option, Some, None, Bool, false, not, ◌&&◌, ◌||◌}
+use Rattle.std.specs.Prelude.{length, Option, Some, None, Bool, false, not, ◌&&◌, ◌||◌}
 use Rattle.std.specs.Prelude.{if◌then◌else◌}
 use Rattle.std.specs.List.{list_any}
 use Rattle.std.specs.Ordering.{int_eq}
@@ -26,11 +26,11 @@ use Rattle.ngc_commands.specs.declared.movement.Way.{Way}
 use Rattle.ngc_commands.specs.declared.movement.Way.TheVariants.{Line, Arc}
 use Rattle.ngc_collision.specs.Body.{Solid, bodies, span}
 use Rattle.ngc_report.specs.Extents.{reach}
-use Rattle.ngc_report.specs.Standings.{beginning, next}
+use Rattle.ngc_report.specs.ToolStates.{beginning, next}
 use Rattle.ngc_report.specs.Ways.{square_between}
 use Rattle.ngc_report.specs.declared.line.Line as told
 use Rattle.ngc_report.specs.declared.line.Line.TheVariants as lines
-use Rattle.ngc_report.specs.declared.standing.Standing.{Standing}
+use Rattle.ngc_report.specs.declared.tool_state.ToolState.{ToolState}
 use Rattle.ngc_report.specs.declared.warnings.Concern.{Concern}
 use Rattle.ngc_report.specs.declared.warnings.Concern.TheVariants.{NoTool, IdleSpindle}
 use Rattle.ngc_report.specs.declared.warnings.Concern.TheVariants.{FastFeed, NearlyFull, LowHome}
@@ -127,7 +127,7 @@ is_low_home machine tool _ _ = false
 
 -- ---- over a program
 
-abbrev pub concerns : MachineFile → Concern → Standing → Motion → Bool
+abbrev pub concerns : MachineFile → Concern → ToolState → Motion → Bool
 concerns machine NoTool s m = is_unarmed machine s.reached.tool m.way
 concerns machine IdleSpindle s m = is_idle s.is_turning s.reached.tool m.pace
 concerns machine FastFeed s m = is_fast machine m.way m.pace
@@ -135,31 +135,43 @@ concerns machine NearlyFull s m = is_nearly_full m.way
 concerns machine LowHome s m = is_low_home machine s.reached.tool m.way m.pace
 
 -- a motion, with what holds then of tool and spindle
-abbrev pub is_concerned : MachineFile → Concern → Standing → Action → Bool
+abbrev pub is_concerned : MachineFile → Concern → ToolState → Action → Bool
 is_concerned machine concern s (Move m) = concerns machine concern s m
 is_concerned machine concern s _ = false
 
-abbrev pub line_of : MachineFile → Concern → Standing → Command → List ℕ
+abbrev pub line_of : MachineFile → Concern → ToolState → Command → List ℕ
 line_of machine concern s c = if is_concerned machine concern s c.action then c.line ∷ [] else []
 
 -- the lines of the commands concerned, in order
-abbrev pub lines_of : MachineFile → Concern → Standing → List Command → List ℕ
+abbrev pub lines_of : MachineFile → Concern → ToolState → List Command → List ℕ
 lines_of machine concern s [] = []
 lines_of machine concern s (c ∷ cs) =
     line_of machine concern s c ++ lines_of machine concern (next s c.action) cs
 
--- none, or one of their number and the first
-abbrev pub warning : Concern → List ℕ → List Warning
-warning concern [] = []
-warning concern (line ∷ lines) =
-    record { concern = concern; count = length (line ∷ lines); line = line } ∷ []
+abbrev pub last_of : ℕ → List ℕ → ℕ
+last_of line [] = line
+last_of line (next ∷ lines) = last_of next lines
 
-abbrev pub warnings_about : MachineFile → Concern → List Command → List Warning
-warnings_about machine concern commands =
+-- none, or one with their number, the first and the last
+abbrev pub warning : Concern → List ℕ → Option Warning
+warning concern [] = None
+warning concern (line ∷ lines) = Some (record {
+  concern = concern;
+  count = length (line ∷ lines);
+  line = line;
+  last = last_of line lines;
+})
+
+abbrev pub warning_about : MachineFile → Concern → List Command → Option Warning
+warning_about machine concern commands =
     warning concern (lines_of machine concern (beginning machine) commands)
 
+abbrev pub warned_lines : Option Warning → List told.Line
+warned_lines None = []
+warned_lines (Some w) = lines.Warned w ∷ []
+
 abbrev pub warned : MachineFile → Concern → List Command → List told.Line
-warned machine concern commands = map lines.Warned (warnings_about machine concern commands)
+warned machine concern commands = warned_lines (warning_about machine concern commands)
 
 -- what is asked of a motion by itself, and of traverses home
 abbrev pub motion_lines : MachineFile → List Command → List told.Line
@@ -176,8 +188,9 @@ warning_lines machine commands =
 
 -- one command more is concerned
 abbrev pub counted : Concern → Option Warning → ℕ → Option Warning
-counted concern None line = Some (record { concern = concern; count = 1; line = line })
-counted concern (Some w) line = Some (record w { count = w.count + 1 })
+counted concern None line =
+    Some (record { concern = concern; count = 1; line = line; last = line })
+counted concern (Some w) line = Some (record w { count = w.count + 1; last = line })
 
 abbrev pub number_of : Option Warning → ℕ
 number_of None = 0

@@ -108,9 +108,20 @@ warning_text w =
     codes "warning: " ++ concern_text w.concern ++ codes ": " ++ decimal w.count
     ++ codes ", the first in line " ++ decimal w.line ++ codes ".\n"
 
-unfoldable pub line_text : Line → List ℕ
-line_text lines.Fits =
+-- a program that fits, with its motions without a tool, if it has any
+abbrev pub nose_text : Warning → List ℕ
+nose_text w =
+    codes "The program fits, but without a tool only the spindle nose was tested: motions "
+    ++ decimal w.count ++ codes ", the first in line " ++ decimal w.line
+    ++ codes ", the last in line " ++ decimal w.last ++ codes ".\n"
+
+unfoldable pub fits_text : Option Warning → List ℕ
+fits_text None =
     codes "The program fits: every position is inside the travel and clear of every fixture.\n"
+fits_text (Some w) = nose_text w
+
+unfoldable pub line_text : Line → List ℕ
+line_text (lines.Fits nose) = fits_text nose
 line_text lines.Refused = codes "The program does not fit.\n"
 line_text (lines.Along a) = along_text a
 line_text (lines.Use u n) = use_text u n

@@ -6,7 +6,7 @@ ghost use Rattle.ngc_text.specs.Collected.{CHUNK_SIZE, HasLineRoom};
 ghost use Rattle.ngc_report.specs.Facts.{tool_fact, triple, nearest_fact, along_fact, use_fact};
 ghost use Rattle.ngc_report.specs.Facts.{side_fact, start_fact, command_fact, over_fact};
 ghost use Rattle.ngc_report.specs.Facts.{travel_fact, fixture_fact, obstacle_fact, warning_fact};
-ghost use Rattle.ngc_report.specs.Facts.{line_fact};
+ghost use Rattle.ngc_report.specs.Facts.{nose_fact, fits_fact, line_fact};
 ghost use Rattle.ngc_report.specs.Words.{concern_text};
 
 use crate::line::{Along, Line};
@@ -221,6 +221,31 @@ fn add_warning(chunk: &mut Chunk, warning: &Warning)
     chunk.add_text(b"}");
 }
 
+// Adds that a program fits, and on which motions only the spindle nose was tested.
+fn add_nose(chunk: &mut Chunk, nose: &Warning)
+    requires { HasLineRoom chunk.old }
+    ensures { chunk.new ≡ chunk.old ++ nose_fact nose.now }
+{
+    chunk.add_text(b",\n{\"fact\":\"verdict\",\"fits\":true,\"tested\":\"nose\",\"motions\":");
+    chunk.add_number(nose.count);
+    chunk.add_text(b",\"first\":");
+    chunk.add_number(nose.line);
+    chunk.add_text(b",\"last\":");
+    chunk.add_number(nose.last);
+    chunk.add_text(b"}");
+}
+
+#[tactic(auto, unfolding(crate::specs::Facts::fits_fact))]
+fn add_fits(chunk: &mut Chunk, nose: &Option<Warning>)
+    requires { HasLineRoom chunk.old }
+    ensures { chunk.new ≡ chunk.old ++ fits_fact nose.now }
+{
+    match nose {
+        None => chunk.add_text(b",\n{\"fact\":\"verdict\",\"fits\":true}"),
+        Some(nose) => add_nose(chunk, nose),
+    }
+}
+
 /// Adds the fact that a line tells.
 #[tactic(auto, unfolding(crate::specs::Facts::line_fact))]
 pub(crate) fn add_fact(chunk: &mut Chunk, line: &Line)
@@ -228,7 +253,7 @@ pub(crate) fn add_fact(chunk: &mut Chunk, line: &Line)
     ensures { chunk.new ≡ chunk.old ++ line_fact line.now }
 {
     match line {
-        Line::Fits => chunk.add_text(b",\n{\"fact\":\"verdict\",\"fits\":true}"),
+        Line::Fits(nose) => add_fits(chunk, nose),
         Line::Refused => chunk.add_text(b",\n{\"fact\":\"verdict\",\"fits\":false}"),
         Line::Along(along) => add_along(chunk, along),
         Line::Use(one, nearest) => add_use(chunk, one, nearest),

@@ -15,7 +15,9 @@
 //! 1; nearest fixture 2, 4.25 mm away.
 //! ```
 //!
-//! Without fixtures a use ends behind its stops. Of a program that is refused, commands and
+//! Where motions without a tool leave the height of the start, the first line is `The program fits,
+//! but without a tool only the spindle nose was tested: motions 2, the first in line 3, the last in
+//! line 4.` Without fixtures a use ends behind its stops. Of a program that is refused, commands and
 //! fixtures count from 0:
 //!
 //! ```text
@@ -55,7 +57,7 @@ mod refusals;
 mod report;
 mod scene;
 mod source_lines;
-mod standing;
+mod tool_state;
 mod travel;
 mod uses;
 mod warned;

@@ -17,8 +17,9 @@ pub struct Along {
 /// A line of a report.
 #[derive(Clone, Copy)]
 pub enum Line {
-    /// Every position is inside the travel and clear of every fixture.
-    Fits,
+    /// Every position is inside the travel and clear of every fixture. On these motions, if there
+    /// are any, no tool is mounted, so that only the spindle nose was tested.
+    Fits(Option<Warning>),
     /// A motion, a tool change or the start isn't.
     Refused,
     /// How far it goes along an axis.

@@ -12,7 +12,7 @@ ghost use Rattle.ngc_report.specs.Scenes.{StandsBehind, scene_at, standing as st
 use crate::bounds::{extent, extent_in_travel};
 use crate::form::Form;
 use crate::line::Line;
-use crate::report::{alongs, tell_all, tell_scene, tell_start};
+use crate::report::{alongs, fit_line, tell_all, tell_scene, tell_start};
 use crate::scene::{Scene, scene_of, standing};
 use ngc_commands::{Command, Reached};
 use ngc_fixed_length::GridBox;
@@ -138,13 +138,18 @@ fn tell_refused<A: Allocator, W: Sink>(
     tell_causes(chunk, form, machine, commands, indices, sink)
 }
 
-fn verdict(start: bool, indices: &[u32]) -> Line
-    ensures { result ≡ verdict_line start indices.now }
+fn verdict<A: Allocator>(
+    machine: &Machine<A>,
+    commands: &[Command],
+    start: bool,
+    indices: &[u32],
+) -> Line
+    ensures { result ≡ verdict_line (file_of machine.now) commands.now start indices.now }
 {
     if start || !indices.is_empty() {
         Line::Refused
     } else {
-        Line::Fits
+        fit_line(machine, commands)
     }
 }
 
@@ -176,7 +181,12 @@ fn tell_everything<A: Allocator, W: Sink>(
         (all_lines (file_of machine.now) commands.now start indices.now) }
     ensures counts { CountsFailure (W.failures sink.old) (W.failures sink.new) result }
 {
-    match tell_all(chunk, form, &[verdict(start, indices)], sink) {
+    match tell_all(
+        chunk,
+        form,
+        &[verdict(machine, commands, start, indices)],
+        sink,
+    ) {
         Ok(()) => {}
         Err(fault) => return Err(fault),
     }

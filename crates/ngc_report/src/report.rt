@@ -9,6 +9,7 @@ ghost use Rattle.ngc_machine.specs.Machine.{file_of};
 ghost use Rattle.ngc_text.specs.Collected.{HasLineRoom};
 ghost use Rattle.ngc_report.specs.Reports.{Tells, motions_in, along, alongs, use_lines, fit_lines};
 ghost use Rattle.ngc_report.specs.Reports.{start_lines, scene_lines, cause_lines, refusal_lines};
+ghost use Rattle.ngc_report.specs.Reports.{fit_line};
 ghost use Rattle.ngc_report.specs.Uses.{tool_uses};
 ghost use Rattle.ngc_report.specs.Forms.{spelled, report_text};
 
@@ -21,6 +22,7 @@ use crate::nearest::Nearest;
 use crate::scene::Scene;
 use crate::travel::{AxisRoom, Room};
 use crate::uses::{ToolUse, ToolUses};
+use crate::warnings::{Concern, warning_about};
 use crate::words::add_line;
 use ngc_certificate_text::Motions;
 use ngc_commands::Command;
@@ -132,6 +134,13 @@ fn tell_uses<A: Allocator, B: Allocator, W: Sink>(
     Ok(())
 }
 
+/// That a program fits, and on which of its motions only the spindle nose was tested.
+pub(crate) fn fit_line<A: Allocator>(machine: &Machine<A>, commands: &[Command]) -> Line
+    ensures { result ≡ fit_line (file_of machine.now) commands.now }
+{
+    Line::Fits(warning_about(machine, Concern::NoTool, commands))
+}
+
 fn tell_fit<A: Allocator, B: Allocator, W: Sink>(
     chunk: &mut Chunk,
     form: Form,
@@ -144,7 +153,7 @@ fn tell_fit<A: Allocator, B: Allocator, W: Sink>(
         (fit_lines (file_of machine.now) commands.now motions.now) }
     ensures counts { CountsFailure (W.failures sink.old) (W.failures sink.new) result }
 {
-    match tell_all(chunk, form, &[Line::Fits], sink) {
+    match tell_all(chunk, form, &[fit_line(machine, commands)], sink) {
         Ok(()) => {}
         Err(fault) => return Err(fault),
     }

@@ -1,6 +1,5 @@
 //! What passes and is nearly always a mistake.
 ghost use Rattle.std.specs.Prelude.{◌≡◌, ◌+◌, ◌*◌, ◌≤◌, ◌<◌, ◌^◌, ◌∷◌, [], map, fold, unsigned_abs};
-ghost use Rattle.std.specs.Prelude.{MatchOption};
 ghost use Rattle.ngc_fixed_length.specs.Limits.{MILLION};
 ghost use Rattle.std.specs.List.{list_any};
 ghost use Rattle.std.specs.Ordering.{int_eq};
@@ -12,10 +11,10 @@ ghost use Rattle.ngc_report.specs.Warnings.{rate_on_axis, greatest_rate};
 ghost use Rattle.ngc_report.specs.Warnings.{is_idle, square_apart, ends_meet, is_nearly_full};
 ghost use Rattle.ngc_report.specs.Warnings.{is_fast, is_at, goes_home, is_low, comes_low};
 ghost use Rattle.ngc_report.specs.Warnings.{is_low_home, concerns, is_concerned, line_of};
-ghost use Rattle.ngc_report.specs.Warnings.{warnings_about, counted, number_of};
+ghost use Rattle.ngc_report.specs.Warnings.{warning_about, counted, number_of};
 
 use crate::bounds::reach;
-use crate::standing::Standing;
+use crate::tool_state::ToolState;
 use crate::ways::square_between;
 use ngc_arc_geometry::Arc;
 use ngc_collision::Solid;
@@ -50,6 +49,8 @@ pub struct Warning {
     pub count: usize,
     /// The line of the program that gives the first of them, from 1.
     pub line: u32,
+    /// The line that gives the last of them.
+    pub last: u32,
 }
 
 /// Whether a box doesn't stay at the height of a grid point.
@@ -229,7 +230,7 @@ fn is_low_home<A: Allocator>(
 fn concerns<A: Allocator>(
     machine: &Machine<A>,
     concern: Concern,
-    before: &Standing,
+    before: &ToolState,
     motion: &Motion,
 ) -> bool
     ensures { result ≡ concerns (file_of machine.now) concern before.now motion.now }
@@ -247,7 +248,7 @@ fn concerns<A: Allocator>(
 fn is_concerned<A: Allocator>(
     machine: &Machine<A>,
     concern: Concern,
-    before: &Standing,
+    before: &ToolState,
     action: &Action,
 ) -> bool
     ensures { result ≡ is_concerned (file_of machine.now) concern before.now action.now }
@@ -268,9 +269,11 @@ fn counted(concern: Concern, found: Option<Warning>, line: u32) -> Option<Warnin
             concern,
             count: 1,
             line,
+            last: line,
         }),
         Some(warning) => Some(Warning {
             count: warning.count + 1,
+            last: line,
             ..warning
         }),
     }
@@ -280,7 +283,7 @@ fn with_command<A: Allocator>(
     machine: &Machine<A>,
     concern: Concern,
     found: Option<Warning>,
-    before: &Standing,
+    before: &ToolState,
     command: &Command,
 ) -> Option<Warning>
     requires { number_of found < usize.MAX }
@@ -301,11 +304,10 @@ pub(crate) fn warning_about<A: Allocator>(
     concern: Concern,
     commands: &[Command],
 ) -> Option<Warning>
-    ensures { MatchOption result (warnings_about (file_of machine.now) concern commands.now ≡ [])
-        (λ w. warnings_about (file_of machine.now) concern commands.now ≡ w ∷ []) }
+    ensures { result ≡ warning_about (file_of machine.now) concern commands.now }
 {
     let mut found = None;
-    let mut before = Standing::at_start(machine);
+    let mut before = ToolState::at_start(machine);
     for command in commands {
         found = with_command(machine, concern, found, &before, command);
         before = before.after(&command.action);

@@ -6,7 +6,8 @@ ghost use Rattle.ngc_text.specs.Millimetres.{mm_text};
 ghost use Rattle.ngc_report.specs.Words.{room_words, room_text, place_text, axis_text, side_text};
 ghost use Rattle.ngc_report.specs.Words.{tool_text, nearest_text, along_text, use_text};
 ghost use Rattle.ngc_report.specs.Words.{command_text, over_text, met_text, obstacle_text};
-ghost use Rattle.ngc_report.specs.Words.{concern_text, warning_text, line_text};
+ghost use Rattle.ngc_report.specs.Words.{concern_text, warning_text, nose_text, fits_text};
+ghost use Rattle.ngc_report.specs.Words.{line_text};
 
 use crate::line::{Along, Line};
 use crate::margins::{Axis, Margin, Side};
@@ -289,6 +290,35 @@ fn add_warning(chunk: &mut Chunk, warning: &Warning)
     chunk.add_text(b".\n");
 }
 
+// Adds that a program fits, and on which motions only the spindle nose was tested.
+fn add_nose(chunk: &mut Chunk, nose: &Warning)
+    requires { HasLineRoom chunk.old }
+    ensures { chunk.new ≡ chunk.old ++ nose_text nose.now }
+{
+    chunk.add_text(
+        b"The program fits, but without a tool only the spindle nose was tested: motions ",
+    );
+    chunk.add_number(nose.count);
+    chunk.add_text(b", the first in line ");
+    chunk.add_number(nose.line);
+    chunk.add_text(b", the last in line ");
+    chunk.add_number(nose.last);
+    chunk.add_text(b".\n");
+}
+
+#[tactic(auto, unfolding(crate::specs::Words::fits_text))]
+fn add_fits(chunk: &mut Chunk, nose: &Option<Warning>)
+    requires { HasLineRoom chunk.old }
+    ensures { chunk.new ≡ chunk.old ++ fits_text nose.now }
+{
+    match nose {
+        None => chunk.add_text(
+            b"The program fits: every position is inside the travel and clear of every fixture.\n",
+        ),
+        Some(nose) => add_nose(chunk, nose),
+    }
+}
+
 /// Adds the text of a line.
 #[tactic(auto, unfolding(crate::specs::Words::line_text))]
 pub(crate) fn add_line(chunk: &mut Chunk, line: &Line)
@@ -296,9 +326,7 @@ pub(crate) fn add_line(chunk: &mut Chunk, line: &Line)
     ensures { chunk.new ≡ chunk.old ++ line_text line.now }
 {
     match line {
-        Line::Fits => chunk.add_text(
-            b"The program fits: every position is inside the travel and clear of every fixture.\n",
-        ),
+        Line::Fits(nose) => add_fits(chunk, nose),
         Line::Refused => chunk.add_text(b"The program does not fit.\n"),
         Line::Along(along) => add_along(chunk, along),
         Line::Use(one, nearest) => add_use(chunk, one, nearest),

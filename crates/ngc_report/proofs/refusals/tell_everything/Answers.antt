@@ -8,7 +8,7 @@ use Rattle.ngc_report.proofs.refusals.tell_everything.Goals as goal
 pub returns-in-Err-clause-told : goal.returns-in-Err-clause-told
 returns-in-Err-clause-told g c =
     let m = file_of c.args.machine.now in
-    let head : List Line = verdict_line c.args.start c.args.indices.now ∷ [] in
+    let head : List Line = verdict_line m c.args.commands.now c.args.start c.args.indices.now ∷ [] in
     let sides : List Line = alongs m (told_extent m c.args.commands.now c.args.start c.args.indices.now) in
     let rest : List Line = start_lines_if m c.args.start ++ causes_lines m c.args.commands.now c.args.indices.now in
     first_stopped c.args.form (g.W.Sink.written c.args.sink.now) (g.W.Sink.written c.tell_all.new.sink) c.args.chunk.now head (sides ++ rest)
@@ -17,7 +17,7 @@ returns-in-Err-clause-told g c =
 pub returns-in-Err-tell_all-clause-told : goal.returns-in-Err-tell_all-clause-told
 returns-in-Err-tell_all-clause-told g c =
     let m = file_of c.args.machine.now in
-    let head : List Line = verdict_line c.args.start c.args.indices.now ∷ [] in
+    let head : List Line = verdict_line m c.args.commands.now c.args.start c.args.indices.now ∷ [] in
     let sides : List Line = alongs m (told_extent m c.args.commands.now c.args.start c.args.indices.now) in
     let rest : List Line = start_lines_if m c.args.start ++ causes_lines m c.args.commands.now c.args.indices.now in
     second_stopped c.args.form (g.W.Sink.written c.args.sink.now) (g.W.Sink.written c.tell_all.new.sink)
@@ -27,7 +27,7 @@ returns-in-Err-tell_all-clause-told g c =
 pub returns-clause-told : goal.returns-clause-told
 returns-clause-told g c =
     let m = file_of c.args.machine.now in
-    let head : List Line = verdict_line c.args.start c.args.indices.now ∷ [] in
+    let head : List Line = verdict_line m c.args.commands.now c.args.start c.args.indices.now ∷ [] in
     let sides : List Line = alongs m (told_extent m c.args.commands.now c.args.start c.args.indices.now) in
     let rest : List Line = start_lines_if m c.args.start ++ causes_lines m c.args.commands.now c.args.indices.now in
     all_three c.args.form c.tell_refused.result (g.W.Sink.written c.args.sink.now) (g.W.Sink.written c.tell_all.new.sink)

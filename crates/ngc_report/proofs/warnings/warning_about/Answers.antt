@@ -3,7 +3,7 @@ use Rattle.std.specs.Prelude.{fold}
 use Rattle.std.proofs.lemmas.List.{at_drop_all}
 use Rattle.ngc_machine.specs.Machine.{file_of}
 use Rattle.ngc_report.specs.Warnings.{lines_of, counted}
-use Rattle.ngc_report.specs.Standings.{beginning}
+use Rattle.ngc_report.specs.ToolStates.{beginning}
 use Rattle.ngc_report.proofs.Counts.{next_command, all_counted}
 use Rattle.ngc_report.proofs.warnings.warning_about.Goals as goal
 
@@ -21,7 +21,6 @@ pub returns : goal.returns
 returns g c =
     let m = file_of c.args.machine.now in
     let k = c.args.concern in
-    all_counted k (lines_of m k (beginning m) c.args.commands.now) c.loop-command.found
-    (sym (at_drop_all (λ l. fold (counted k) c.loop-command.found (lines_of m k c.loop-command.before l)) c.args.commands.now c.loop-command.command-index
+    sym (at_drop_all (λ l. fold (counted k) c.loop-command.found (lines_of m k c.loop-command.before l)) c.args.commands.now c.loop-command.command-index
     c.loop-command-test.false)
-    ∙ c.loop-command.invariant.same)
+    ∙ c.loop-command.invariant.same ∙ all_counted k (lines_of m k (beginning m) c.args.commands.now)

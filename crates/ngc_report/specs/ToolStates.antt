@@ -6,7 +6,7 @@ use Rattle.ngc_commands.specs.declared.command.Action.TheVariants.{Mount, Spindl
 use Rattle.ngc_commands.specs.declared.command.SpindleState.{SpindleState}
 use Rattle.ngc_commands.specs.declared.command.SpindleState.TheVariants.{Off, Turning}
 use Rattle.ngc_commands.specs.Reached.{after, at_start}
-use Rattle.ngc_report.specs.declared.standing.Standing.{Standing}
+use Rattle.ngc_report.specs.declared.tool_state.ToolState.{ToolState}
 
 -- at speed 0 it stands still
 abbrev pub turns : SpindleState → Bool
@@ -20,9 +20,9 @@ is_turning_after was (Mount tool) = false
 is_turning_after was _ = was
 
 -- a program begins at the start, without a tool, and with the spindle off
-abbrev pub beginning : MachineFile → Standing
+abbrev pub beginning : MachineFile → ToolState
 beginning machine = record { reached = at_start machine; is_turning = false }
 
-abbrev pub next : Standing → Action → Standing
+abbrev pub next : ToolState → Action → ToolState
 next s action =
     record { reached = after s.reached action; is_turning = is_turning_after s.is_turning action }

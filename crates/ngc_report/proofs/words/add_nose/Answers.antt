@@ -1,0 +1,14 @@
+use Rattle.std.proofs.lemmas.List.{append_assoc}
+use Rattle.ngc_report.proofs.words.add_nose.Goals as goal
+
+pub returns : goal.returns
+returns c =
+    rw (
+      c.add_text-4.ensures,
+      c.add_number-3.ensures.text,
+      c.add_text-3.ensures,
+      c.add_number-2.ensures.text,
+      c.add_text-2.ensures,
+      c.add_number.ensures.text,
+      c.add_text.ensures,
+    ) (simp append_assoc)
