@@ -333,53 +333,56 @@ draw_read words machine tools certificate program view delete options spelled ar
     draw_asked machine tools certificate program view delete _ options (draw_spells machine tools certificate program view delete).1 (subst Are spelled are)
 
 -- the values of `show` that were found are these
-abbrev FindsShow : Text → Option Text → Option (Text × List Row) → Type 0
-FindsShow machine tools None = ⊥
-FindsShow machine tools (Some found) =
+abbrev FindsShow : Text → Option Text → Bool → Option (Text × List Row) → Type 0
+FindsShow machine tools warnings None = ⊥
+FindsShow machine tools warnings (Some found) =
     (found.0 ≡ codes "show") × (first_of (codes "machine") found.1 ≡ Some machine) × (first_of (codes "tools") found.1 ≡ tools)
+    × (is_set (codes "warnings") found.1 ≡ warnings)
 
-show_spells : (machine : Text) (tools : Option Text) → Spells (show_words machine tools) (FindsShow machine tools)
+show_spells : (machine : Text) (tools : Option Text) (warnings : Bool) → Spells (show_words machine tools warnings) (FindsShow machine tools warnings)
 unfolding clap_on_literals
-show_spells machine None = (refl, (refl, refl, refl))
-show_spells machine (Some tools) = (refl, (refl, refl, refl))
+show_spells machine None false = (refl, (refl, refl, refl, refl))
+show_spells machine None true = (refl, (refl, refl, refl, refl))
+show_spells machine (Some tools) false = (refl, (refl, refl, refl, refl))
+show_spells machine (Some tools) true = (refl, (refl, refl, refl, refl))
 
-show_asked : (machine : Text) (tools : Option Text) (found : Option (Text × List Row)) (options : Options)
-    → FindsShow machine tools found → AreOptions found options → AsksForShow machine tools options
-show_asked machine tools None options finds are = absurd finds
-show_asked machine tools (Some found) (ToShow show) finds are = (same_text _ _ _ are.1.machine finds.1, are.1.tools ∙ finds.2)
-show_asked machine tools (Some found) (ToList list) finds are =
+show_asked : (machine : Text) (tools : Option Text) (warnings : Bool) (found : Option (Text × List Row)) (options : Options)
+    → FindsShow machine tools warnings found → AreOptions found options → AsksForShow machine tools warnings options
+show_asked machine tools warnings None options finds are = absurd finds
+show_asked machine tools warnings (Some found) (ToShow show) finds are = (same_text _ _ _ are.1.machine finds.1, are.1.tools ∙ finds.2, are.1.warnings ∙ finds.3)
+show_asked machine tools warnings (Some found) (ToList list) finds are =
     other_letter (codes "show") (codes "list") (sym finds.0 ∙ are.0) (λ letters. omega (arith, letters))
-show_asked machine tools (Some found) (ToCertify certify) finds are =
+show_asked machine tools warnings (Some found) (ToCertify certify) finds are =
     other_letter (codes "show") (codes "certify") (sym finds.0 ∙ are.0) (λ letters. omega (arith, letters))
-show_asked machine tools (Some found) (ToCheck check) finds are =
+show_asked machine tools warnings (Some found) (ToCheck check) finds are =
     other_letter (codes "show") (codes "check") (sym finds.0 ∙ are.0) (λ letters. omega (arith, letters))
-show_asked machine tools (Some found) (ToDraw draw) finds are =
+show_asked machine tools warnings (Some found) (ToDraw draw) finds are =
     other_letter (codes "show") (codes "draw") (sym finds.0 ∙ are.0) (λ letters. omega (arith, letters))
-show_asked machine tools (Some found) (ToReport report) finds are =
+show_asked machine tools warnings (Some found) (ToReport report) finds are =
     other_name (codes "show") (codes "report") (sym finds.0 ∙ are.0) (λ lengths. omega (arith, lengths))
-show_asked machine tools (Some found) (ToAdapt adapt) finds are =
+show_asked machine tools warnings (Some found) (ToAdapt adapt) finds are =
     other_letter (codes "show") (codes "adapt") (sym finds.0 ∙ are.0) (λ letters. omega (arith, letters))
-show_asked machine tools (Some found) (ToMachine made) finds are =
+show_asked machine tools warnings (Some found) (ToMachine made) finds are =
     other_letter (codes "show") (codes "machine") (sym finds.0 ∙ are.0) (λ letters. omega (arith, letters))
-show_asked machine tools (Some found) (ToExplain number) finds are =
+show_asked machine tools warnings (Some found) (ToExplain number) finds are =
     other_letter (codes "show") (codes "explain") (sym finds.0 ∙ are.0) (λ letters. omega (arith, letters))
-show_asked machine tools (Some found) (ToHelp command) finds are =
+show_asked machine tools warnings (Some found) (ToHelp command) finds are =
     other_letter (codes "show") (codes "help") (sym finds.0 ∙ are.0) (λ letters. omega (arith, letters))
-show_asked machine tools (Some found) (ToRun run) finds are =
+show_asked machine tools warnings (Some found) (ToRun run) finds are =
     no_run (codes "show") run.recording (sym finds.0 ∙ are.0) (λ three. omega (arith, three)) (λ six. omega (arith, six))
-show_asked machine tools (Some found) (ToRunThrough run) finds are =
+show_asked machine tools warnings (Some found) (ToRunThrough run) finds are =
     no_run (codes "show") run.recording (sym finds.0 ∙ are.0) (λ three. omega (arith, three)) (λ six. omega (arith, six))
-show_asked machine tools (Some found) ToVersion finds are =
+show_asked machine tools warnings (Some found) ToVersion finds are =
     other_letter (codes "show") (codes "version") (sym finds.0 ∙ are) (λ letters. omega (arith, letters))
 
-pub show_taken : (words : List Text) (machine : Text) (tools : Option Text) → words ≡ show_words machine tools → IsTaken words
-show_taken words machine tools spelled = subst IsTaken (sym spelled) (show_spells machine tools).0
+pub show_taken : (words : List Text) (machine : Text) (tools : Option Text) (warnings : Bool) → words ≡ show_words machine tools warnings → IsTaken words
+show_taken words machine tools warnings spelled = subst IsTaken (sym spelled) (show_spells machine tools warnings).0
 
-pub show_read : (words : List Text) (machine : Text) (tools : Option Text) (options : Options) → words ≡ show_words machine tools
-    → AreOptions (subcommand_of ngc_app words) options → AsksForShow machine tools options
-show_read words machine tools options spelled are =
+pub show_read : (words : List Text) (machine : Text) (tools : Option Text) (warnings : Bool) (options : Options)
+    → words ≡ show_words machine tools warnings → AreOptions (subcommand_of ngc_app words) options → AsksForShow machine tools warnings options
+show_read words machine tools warnings options spelled are =
     let Are : List Text → Type 0 = λ ws. AreOptions (subcommand_of ngc_app ws) options in
-    show_asked machine tools _ options (show_spells machine tools).1 (subst Are spelled are)
+    show_asked machine tools warnings _ options (show_spells machine tools warnings).1 (subst Are spelled are)
 
 -- the values of `certify` that were found are these
 abbrev FindsCertify : Text → Text → Option Text → Option Text → Option Text → Option (Text × List Row) → Type 0

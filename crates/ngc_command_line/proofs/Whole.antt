@@ -195,7 +195,8 @@ show_sound : AreSound FitsCuts show_shape.rules
 show_sound =
     let machine = set_is_sound FitsCuts _ refl refl refl (λ v none. no_cuts (codes "machine") v refl) in
     let tools = set_is_sound FitsCuts _ refl refl refl (λ v none. no_cuts (codes "tools") v refl) in
-    (machine, (tools, (help_is_sound FitsCuts _ refl refl, tt)))
+    let warnings = flag_is_sound FitsCuts _ (codes "true") (codes "false") refl refl refl (λ v. no_cuts (codes "warnings") v refl) in
+    (machine, (tools, (warnings, (help_is_sound FitsCuts _ refl refl, tt))))
 
 show_values : (words : List Text) → level_fault show_shape [] nothing_held words false [] ≡ [] → HasShowValues (rows_after show_shape.rules [] words)
 show_values words none =

@@ -75,10 +75,10 @@ draw_app = fold with_rule (new_app (codes "draw"))
     ∷ file_option (codes "certificate") ∷ file_option (codes "program")
     ∷ file_option (codes "view") ∷ flag (codes "delete") ∷ [])
 
--- `show --machine FILE [--tools FILE]`
+-- `show --machine FILE [--tools FILE] [--warnings]`
 abbrev pub show_app : App
 show_app = fold with_rule (new_app (codes "show"))
-    (required_file (codes "machine") ∷ file_option (codes "tools") ∷ [])
+    (required_file (codes "machine") ∷ file_option (codes "tools") ∷ flag (codes "warnings") ∷ [])
 
 -- `report --machine FILE --tools FILE [--program FILE] [--cuts N] [--all] [--json]`
 abbrev pub report_app : App
@@ -208,9 +208,9 @@ draw_words machine tools certificate program view delete = codes "draw"
     ++ file_words (codes "--view=") view ++ flag_words (codes "--delete") delete)
 
 -- the words of `ngc show` with these options, in one spelling
-abbrev pub show_words : Text → Option Text → List Text
-show_words machine tools =
-    codes "show" ∷ (codes "--machine=" ++ machine) ∷ file_words (codes "--tools=") tools
+abbrev pub show_words : Text → Option Text → Bool → List Text
+show_words machine tools warnings = codes "show" ∷ (codes "--machine=" ++ machine)
+    ∷ (file_words (codes "--tools=") tools ++ flag_words (codes "--warnings") warnings)
 
 -- the words of `ngc report` with these options, in one spelling
 abbrev pub report_words : Text → Text → Option Text → Option ℕ → Bool → Bool → List Text

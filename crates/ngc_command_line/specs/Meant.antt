@@ -131,6 +131,7 @@ pub record AreDrawOptions (rows : List Row) (options : DrawOptions) : Type 0 whe
 pub record AreShowOptions (rows : List Row) (options : ShowOptions) : Type 0 where
   pub machine : Some options.machine.now ≡ first_of (codes "machine") rows
   pub tools : option_map (λ name. name.now) options.tools ≡ first_of (codes "tools") rows
+  pub warnings : options.warnings ≡ is_set (codes "warnings") rows
 
 -- each option of `report` by the first value that was found under its own name
 pub record AreReportOptions (rows : List Row) (options : ReportOptions) : Type 0 where
@@ -306,10 +307,11 @@ AsksForDraw machine tools certificate program view delete (ToDraw draw) =
 AsksForDraw machine tools certificate program view delete other = ⊥
 
 -- `show` is asked for, with these options
-abbrev pub AsksForShow : Text → Option Text → Options → Type 0
-AsksForShow machine tools (ToShow show) =
+abbrev pub AsksForShow : Text → Option Text → Bool → Options → Type 0
+AsksForShow machine tools warnings (ToShow show) =
     (show.machine.now ≡ machine) × (option_map (λ name. name.now) show.tools ≡ tools)
-AsksForShow machine tools other = ⊥
+    × (show.warnings ≡ warnings)
+AsksForShow machine tools warnings other = ⊥
 
 -- `report` is asked for, with these options, and 8 cuts where none are given
 abbrev pub AsksForReport : Text → Text → Option Text → Option ℕ → Bool → Bool → Options → Type 0

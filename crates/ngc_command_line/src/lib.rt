@@ -188,10 +188,12 @@ pub fn read_options<'a>(alloc: Global, words: &'a [&'a str]) -> Result<Options<'
         → texts words.entry.now ≡ draw_words machine tools certificate program view delete
         → MatchResult result (AsksForDraw machine tools certificate program view delete)
         (λ fault. fault ≡ UsageFault.Memory) }
-    // `show --machine=FILE --tools=FILE` is read as it is spelled, where the last may be left out.
-    ensures spelled_show { (machine : Text) (tools : Option Text)
-        → texts words.entry.now ≡ show_words machine tools
-        → MatchResult result (AsksForShow machine tools) (λ fault. fault ≡ UsageFault.Memory) }
+    // `show --machine=FILE --tools=FILE --warnings` is read as it is spelled, where the last two may
+    // be left out.
+    ensures spelled_show { (machine : Text) (tools : Option Text) (warnings : Bool)
+        → texts words.entry.now ≡ show_words machine tools warnings
+        → MatchResult result (AsksForShow machine tools warnings)
+        (λ fault. fault ≡ UsageFault.Memory) }
     // `report --machine=FILE --tools=FILE --program=FILE --cuts=N --all --json` is read as it is
     // spelled, where the last four may be left out.
     ensures spelled_report { (machine tools : Text) (program : Option Text) (cuts : Option ℕ)

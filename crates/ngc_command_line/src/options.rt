@@ -156,6 +156,8 @@ pub struct ShowOptions<'a> {
     pub machine: &'a str,
     /// The file of the tool table. With none there are no tools.
     pub tools: Option<&'a str>,
+    /// Whether the warnings alone are printed.
+    pub warnings: bool,
 }
 
 /// The options of `ngc report`.

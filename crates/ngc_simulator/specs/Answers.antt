@@ -112,7 +112,7 @@ abbrev pub ShowsOn : FileBytes → ShowOptions → Option (List ℕ) → Option 
     Result (Unit {0}) AnswerFault → Type 0
 ShowsOn bytes options old new outcome =
     OnSetup bytes (Some options.machine.now) (option_map (λ name. name.now) options.tools)
-    (λ setup. Shows setup old new outcome)
+    (λ setup. Shows options.warnings setup old new outcome)
 
 -- what a report is asked for
 abbrev pub form_asked : Bool → Form

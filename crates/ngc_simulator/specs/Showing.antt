@@ -1,13 +1,22 @@
 -- What showing a machine comes to.
-use Rattle.std.specs.Prelude.{ℕ, List, Option, Result, Ok, Err}
+use Rattle.std.specs.Prelude.{ℕ, Bool, true, false, List, Option, Result, Ok, Err}
 use Rattle.std.specs.Io.KnownBytes.{Appends}
 use Rattle.ngc_canonical.specs.State.{Setup}
+use Rattle.ngc_machine.specs.Machine.{MachineFile}
+use Rattle.ngc_machine.specs.declared.tools.Tool.{Tool}
 use Rattle.ngc_text.specs.Written.{AppendsBeginning}
-use Rattle.ngc_setup_sheet.specs.Sheets.{sheet_text}
+use Rattle.ngc_setup_sheet.specs.Sheets.{sheet_text, warnings_text}
 use Rattle.ngc_simulator.specs.declared.fault.AnswerFault.{AnswerFault}
 
--- the setup sheet is written, or where a write fails a beginning of it
-abbrev pub Shows : Setup → Option (List ℕ) → Option (List ℕ) →
+-- what is shown of a machine and its tools: the setup sheet, or its warnings alone
+abbrev pub shown_text : Bool → MachineFile → List Tool → List ℕ
+shown_text false machine tools = sheet_text machine tools
+shown_text true machine tools = warnings_text machine tools
+
+-- it is written, or where a write fails a beginning of it
+abbrev pub Shows : Bool → Setup → Option (List ℕ) → Option (List ℕ) →
     Result (Unit {0}) AnswerFault → Type 0
-Shows setup old new (Ok u) = Appends old new (sheet_text setup.machine setup.tools)
-Shows setup old new (Err fault) = AppendsBeginning old new (sheet_text setup.machine setup.tools)
+Shows warnings setup old new (Ok u) =
+    Appends old new (shown_text warnings setup.machine setup.tools)
+Shows warnings setup old new (Err fault) =
+    AppendsBeginning old new (shown_text warnings setup.machine setup.tools)

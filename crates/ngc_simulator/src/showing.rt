@@ -1,6 +1,12 @@
 //! The setup sheet of a machine, from the files that the command line names.
+ghost use Rattle.std.specs.Prelude.{OnErr, OnOk};
+ghost use Rattle.std.specs.Io.KnownBytes.{Appends};
+ghost use Rattle.ngc_text.specs.Failures.{CountsFailure};
+ghost use Rattle.ngc_text.specs.Written.{AppendsBeginning};
+ghost use Rattle.ngc_machine.specs.Machine.{file_of};
 ghost use Rattle.ngc_simulator.specs.Answers.{ShowComes, show_inputs};
 ghost use Rattle.ngc_simulator.specs.Faults.{FailsByOutput};
+ghost use Rattle.ngc_simulator.specs.Showing.{shown_text};
 ghost use Rattle.ngc_simulator.specs.Unread.{FailsByInput, SourceFails};
 
 use crate::done::Done;
@@ -8,13 +14,36 @@ use crate::fault::AnswerFault;
 use crate::files::Files;
 use crate::mistaken_files::read_shop_telling;
 use ngc_command_line::ShowOptions;
+use ngc_machine::{Machine, Tool};
 use ngc_report::Form;
-use ngc_setup_sheet::write_sheet;
-use ngc_text::Sink;
+use ngc_setup_sheet::{write_sheet, write_warnings};
+use ngc_text::{Sink, WriteFault};
 use std::alloc::Global;
 
-/// A setup sheet. Both files are read before anything is written, and of one that is refused the
-/// mistake is.
+// The setup sheet, or its warnings alone.
+fn write_shown<W: Sink>(
+    warnings: bool,
+    machine: &Machine<Global>,
+    tools: &[Tool],
+    output: &mut W,
+) -> Result<(), WriteFault>
+    ensures ok { OnOk result
+        (Appends (W.written output.old) (W.written output.new)
+        (shown_text warnings (file_of machine.now) tools.now)) }
+    ensures fault { OnErr result
+        (AppendsBeginning (W.written output.old) (W.written output.new)
+        (shown_text warnings (file_of machine.now) tools.now)) }
+    ensures counts { CountsFailure (W.failures output.old) (W.failures output.new) result }
+{
+    if warnings {
+        write_warnings(machine, tools, output)
+    } else {
+        write_sheet(machine, tools, output)
+    }
+}
+
+/// A setup sheet, or its warnings alone. Both files are read before anything is written, and of one
+/// that is refused the mistake is.
 pub(crate) fn show_files<F: Files, W: Sink>(
     alloc: Global,
     options: &ShowOptions<'_>,
@@ -29,6 +58,6 @@ pub(crate) fn show_files<F: Files, W: Sink>(
 {
     let (machine, tools) = (options.machine, options.tools);
     let shop = read_shop_telling(alloc, Form::Words, machine, tools, files, output)?;
-    write_sheet(&shop.machine, shop.tools.tools(), output)?;
+    write_shown(options.warnings, &shop.machine, shop.tools.tools(), output)?;
     Ok(Done::Quietly)
 }

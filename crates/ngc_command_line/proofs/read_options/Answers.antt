@@ -52,7 +52,7 @@ returns-clause-spelled_draw c =
     λ machine tools certificate program view delete spelled. draw_read _ machine tools certificate program view delete _ spelled (returns-clause-options c)
 
 pub returns-clause-spelled_show : goal.returns-clause-spelled_show
-returns-clause-spelled_show c = λ machine tools spelled. show_read _ machine tools _ spelled (returns-clause-options c)
+returns-clause-spelled_show c = λ machine tools warnings spelled. show_read _ machine tools warnings _ spelled (returns-clause-options c)
 
 pub returns-clause-spelled_report : goal.returns-clause-spelled_report
 returns-clause-spelled_report c =
@@ -100,8 +100,8 @@ returns-in-Err-clause-spelled_draw c = λ machine tools certificate program view
     (taken_is_memory _ _ c.in-Err.error c.in-Ok.ensures (draw_taken _ machine tools certificate program view delete spelled) c.in-Err.ensures.kinds)
 
 pub returns-in-Err-clause-spelled_show : goal.returns-in-Err-clause-spelled_show
-returns-in-Err-clause-spelled_show c = λ machine tools spelled.
-    c.usage_fault.ensures (taken_is_memory _ _ c.in-Err.error c.in-Ok.ensures (show_taken _ machine tools spelled) c.in-Err.ensures.kinds)
+returns-in-Err-clause-spelled_show c = λ machine tools warnings spelled.
+    c.usage_fault.ensures (taken_is_memory _ _ c.in-Err.error c.in-Ok.ensures (show_taken _ machine tools warnings spelled) c.in-Err.ensures.kinds)
 
 pub returns-in-Err-clause-spelled_report : goal.returns-in-Err-clause-spelled_report
 returns-in-Err-clause-spelled_report c = λ machine tools program cuts all json range spelled.

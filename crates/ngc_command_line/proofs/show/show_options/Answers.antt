@@ -7,4 +7,5 @@ pub returns : goal.returns
 returns c = record {
   machine = c.required.ensures;
   tools = c.get_str.ensures ∙ first_value-rows (found_of c.args.found.now) (codes "tools");
+  warnings = c.flag_is_set.ensures;
 }

@@ -6,11 +6,10 @@ use Rattle.ngc_command_line.specs.declared.options.ShowOptions.{ShowOptions}
 use Rattle.ngc_text.specs.Written.{AppendsBeginning}
 use Rattle.ngc_machine.specs.Machine.{file_of}
 use Rattle.ngc_machine.specs.declared.tools.Tool.{Tool}
-use Rattle.ngc_setup_sheet.specs.Sheets.{sheet_text}
 use Rattle.ngc_simulator.specs.Answers.{ShowsOn, ShowComes}
 use Rattle.ngc_simulator.specs.Setups.{FileBytes}
 use Rattle.ngc_simulator.specs.Shops.{GivesShop}
-use Rattle.ngc_simulator.specs.Showing.{Shows}
+use Rattle.ngc_simulator.specs.Showing.{Shows, shown_text}
 use Rattle.ngc_simulator.specs.declared.fault.AnswerFault.{AnswerFault}
 use Rattle.ngc_simulator.specs.declared.fault.AnswerFault.TheVariants as answers
 use Rattle.ngc_simulator.specs.declared.setup.Shop.{Shop}
@@ -20,10 +19,10 @@ use Rattle.ngc_simulator.proofs.showing.show_files.Goals as goal
 
 shown : (bytes : FileBytes) (options : ShowOptions) (shop : Shop) (old new : Option (List ℕ)) (outcome : Result (Unit {0}) AnswerFault)
     → GivesShop bytes (Some options.machine.now) (option_map (λ n. n.now) options.tools) (Ok shop)
-    → Shows (setup_of shop.machine shop.tools) old new outcome → ShowsOn bytes options old new outcome
+    → Shows options.warnings (setup_of shop.machine shop.tools) old new outcome → ShowsOn bytes options old new outcome
 shown bytes options shop old new outcome said shows =
     on_setup bytes (Some options.machine.now) (option_map (λ n. n.now) options.tools) (setup_of shop.machine shop.tools)
-    (λ setup. Shows setup old new outcome) said.0 said.1 shows
+    (λ setup. Shows options.warnings setup old new outcome) said.0 said.1 shows
 
 pub returns-in_err-shop-clause-comes : goal.returns-in_err-shop-clause-comes
 returns-in_err-shop-clause-comes g c =
@@ -34,22 +33,22 @@ returns-in_err-shop-clause-comes g c =
 pub returns-clause-comes : goal.returns-clause-comes
 returns-clause-comes g c =
     let old = g.W.Sink.written c.read_shop_telling.new.output in
-    let new = g.W.Sink.written c.write_sheet.new.sink in
+    let new = g.W.Sink.written c.write_shown.new.output in
     subst (λ (o : Option (List ℕ)). ShowsOn (g.F.Files.bytes c.args.files.now) c.args.options.now o new (Ok tt)) c.in_ok-shop.ensures.said.1
     (shown (g.F.Files.bytes c.args.files.now) c.args.options.now c.in_ok-shop.shop old new (Ok tt) c.in_ok-shop.ensures.said.0
-    (subst (λ (ts : List Tool). Appends old new (sheet_text (file_of c.in_ok-shop.shop.machine) ts)) c.tools.ensures.tools c.in_ok-write_sheet.ensures.ok))
+    (subst (λ (ts : List Tool). Appends old new (shown_text c.args.options.now.warnings (file_of c.in_ok-shop.shop.machine) ts)) c.tools.ensures.tools c.in_ok-write_shown.ensures.ok))
 
-pub returns-in_err-write_sheet-clause-comes : goal.returns-in_err-write_sheet-clause-comes
-returns-in_err-write_sheet-clause-comes g c =
+pub returns-in_err-write_shown-clause-comes : goal.returns-in_err-write_shown-clause-comes
+returns-in_err-write_shown-clause-comes g c =
     let old = g.W.Sink.written c.read_shop_telling.new.output in
-    let new = g.W.Sink.written c.write_sheet.new.sink in
-    let fault = answers.Write c.in_err-write_sheet.field-0.0 in
+    let new = g.W.Sink.written c.write_shown.new.output in
+    let fault = answers.Write c.in_err-write_shown.field-0.0 in
     turned _ fault (ShowComes (g.F.Files.bytes c.args.files.now) c.args.options.now (g.W.Sink.written c.args.output.now)
-    (g.W.Sink.written c.write_sheet.new.sink)) c.from_residual-in_err-write_sheet.ensures.1
+    (g.W.Sink.written c.write_shown.new.output)) c.from_residual-in_err-write_shown.ensures.1
     (inr (
       tt,
       subst (λ (o : Option (List ℕ)). ShowsOn (g.F.Files.bytes c.args.files.now) c.args.options.now o new (Err fault)) c.in_ok-shop.ensures.said.1
           (shown (g.F.Files.bytes c.args.files.now) c.args.options.now c.in_ok-shop.shop old new (Err fault) c.in_ok-shop.ensures.said.0
-          (subst (λ (ts : List Tool). AppendsBeginning old new (sheet_text (file_of c.in_ok-shop.shop.machine) ts)) c.tools.ensures.tools
-          c.in_err-write_sheet.ensures.fault)),
+          (subst (λ (ts : List Tool). AppendsBeginning old new (shown_text c.args.options.now.warnings (file_of c.in_ok-shop.shop.machine) ts)) c.tools.ensures.tools
+          c.in_err-write_shown.ensures.fault)),
     ))
