@@ -12,6 +12,8 @@ pub mod JobLaws
 pub mod FileLaws
 -- What the checker says of the program of one file and the certificate of another, from what it says of the certificate's text.
 pub mod JudgingLaws
+-- What making a machine file comes to, from what its parts come to.
+pub mod MakingLaws
 -- What running a program over events, or to its end, comes to, from what its parts come to.
 pub mod RunLaws
 -- What drawing a program comes to, from what its parts come to.

@@ -86,16 +86,27 @@ abbrev pub MakesFile : Result Figures Refusal → Option (List ℕ) → Option (
 MakesFile (Ok figures) old new notes = WritesNumbers figures (numbers_of figures) old new notes
 MakesFile (Err refusal) old new notes = TellsRefusal refusal old new notes
 
-abbrev pub MakeFails : Option (List ℕ) → Option (List ℕ) → AnswerFault → Type 0
-MakeFails old new answers.Memory = Keeps old new
-MakeFails old new (answers.Write e) = (text : List ℕ) × AppendsBeginning old new text
-MakeFails old new _ = ⊥
+-- the text of the machine file that is asked for
+pub record IsAskedFile (options : MachineOptions) (dump : Option (List ℕ)) (text : List ℕ) : Type 0 where
+  pub figures : Figures
+  pub are_asked : IsAskedFor options dump (Ok figures)
+  pub numbers : MachineNumbers
+  pub are_numbers : numbers_of figures ≡ Ok numbers
+  pub is_text : text ≡ file_text numbers figures
+
+-- where a write fails, a beginning of that text is written
+abbrev pub MakeFails : MachineOptions → Option (List ℕ) → Option (List ℕ) → Option (List ℕ) →
+    AnswerFault → Type 0
+MakeFails options dump old new answers.Memory = Keeps old new
+MakeFails options dump old new (answers.Write e) =
+    (text : List ℕ) × IsAskedFile options dump text × AppendsBeginning old new text
+MakeFails options dump old new _ = ⊥
 
 abbrev pub Makes : MachineOptions → Option (List ℕ) → Option (List ℕ) → Option (List ℕ) →
     Result Notes AnswerFault → Type 0
 Makes options dump old new (Ok notes) = (asked : Result Figures Refusal)
     × IsAskedFor options dump asked × MakesFile asked old new notes
-Makes options dump old new (Err fault) = MakeFails old new fault
+Makes options dump old new (Err fault) = MakeFails options dump old new fault
 
 -- of the dump that is named, where its bytes are known
 abbrev pub OnDump : FileBytes → Option (List ℕ) → (Option (List ℕ) → Type 0) → Type 0
