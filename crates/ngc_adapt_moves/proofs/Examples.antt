@@ -22,7 +22,7 @@ use Rattle.ngc_adapt_moves.specs.Axes.{nowhere}
 use Rattle.ngc_adapt_moves.specs.Values.{value_of}
 use Rattle.ngc_adapt_moves.specs.Texts.{value_text}
 use Rattle.ngc_adapt_moves.specs.Lines.{written, rules_for, refusals_for, places_after, lines_for, before_for}
-use Rattle.ngc_adapt_moves.specs.LineReports.{line_report, words_report, changes_text, refusals_text, refusal_text}
+use Rattle.ngc_adapt_moves.specs.LineReports.{line_report, plan_report, changes_text, refusals_text, refusal_text}
 
 -- ---- values
 
@@ -322,11 +322,11 @@ refused_line = refl
 -- ---- the report
 
 report_of_homing : line_report 7 8 feeding (codes "G28 Z7.5") ≡ codes "line 7 (8): part_home exact: G28 Z7.5 -> G0 Z7.5 / G53 G0 Z50\n"
-unfolding line_report words_report changes_text refusals_text refusal_text items_of item_of digits
+unfolding line_report plan_report changes_text refusals_text refusal_text items_of item_of digits
 report_of_homing = refl
 
 report_of_a_refusal : line_report 7 8 (without_homes feeding) (codes "G28 Z7.5") ≡ codes "line 7: part_home left: only the axes named go home in the source, all three here: name the machine file by --machine\n"
-unfolding line_report words_report changes_text refusals_text refusal_text items_of item_of digits
+unfolding line_report plan_report changes_text refusals_text refusal_text items_of item_of digits
 report_of_a_refusal = refl
 
 -- ---- motion codes beside codes that take the axis words, and F beside a change of the units

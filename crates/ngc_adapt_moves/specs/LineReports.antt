@@ -58,16 +58,15 @@ refusals_text number plan =
     ++ (refusal_if number (centre_refusal plan.centre)
     ++ refusal_if number (feeding_refusal plan.feeding))))
 
--- the report of a line with these words
-unfoldable pub words_report : ℕ → ℕ → Places → List Word → List ℕ → List ℕ
-words_report number written_number places words line =
-    changes_text number written_number (plan_of places words) line
-    ++ refusals_text number (plan_of places words)
+-- the report of a line of which the rules make this
+unfoldable pub plan_report : ℕ → ℕ → Plan → List ℕ → List ℕ
+plan_report number written_number plan line =
+    changes_text number written_number plan line ++ refusals_text number plan
 
 abbrev pub report_by : ℕ → ℕ → Places → List ℕ → Option (List Word) → List ℕ
 report_by number written_number places line None = refusal_text number refusals.NotRead
 report_by number written_number places line (Some words) =
-    words_report number written_number places words line
+    plan_report number written_number (plan_of places words) line
 
 -- the report of a line
 unfoldable pub line_report : ℕ → ℕ → Places → List ℕ → List ℕ

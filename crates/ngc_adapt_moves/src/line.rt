@@ -6,29 +6,12 @@ use crate::axis::{Axis, Place};
 use crate::homing::Homing;
 use crate::line_words::{has_motion, has_unknown, is_f, is_of_place};
 use crate::places::{Motion, Places};
-use crate::plan::{MOST_RULES, Plan, plan_of};
-use crate::rule::{Refusal, Rule};
+use crate::plan::Plan;
 use crate::text::{add_text, add_value, axis_letter};
-use crate::word::{Word, read_words, word_of};
-use arrayvec::ArrayVec;
+use crate::word::{Word, word_of};
 use ngc_adapt::{may_be_deleted, split_item};
 use ngc_fixed_length::Value;
 use std::alloc::{AllocError, Allocator};
-
-/// What became of a line.
-#[derive(Drop)]
-pub struct Rewritten {
-    /// The rules that changed it.
-    pub rules: ArrayVec<Rule, MOST_RULES>,
-    /// Why it is left, where it means something else in our language.
-    pub refusals: ArrayVec<Refusal, MOST_RULES>,
-    /// What the line leaves.
-    pub after: Places,
-    /// How many lines are written before the source's own.
-    pub before_count: usize,
-    /// How many lines are written in all.
-    pub line_count: usize,
-}
 
 fn is_place_item(item: &[u8]) -> bool
     ensures { result ≡ spec.is_place_item item.now }
@@ -251,58 +234,10 @@ fn is_anew(places: &Places, plan: &Plan, words: &[Word], deletable: bool) -> boo
 }
 
 // What a line with these words leaves.
-fn next_places(places: &Places, plan: &Plan, words: &[Word], deletable: bool) -> Places
+pub(crate) fn next_places(places: &Places, plan: &Plan, words: &[Word], deletable: bool) -> Places
     ensures { result ≡ spec.next_places places.now plan.now words.now deletable }
 {
     let mut after = places.after_line(words, deletable);
     after.motion_anew = is_anew(places, plan, words, deletable);
     after
-}
-
-fn not_read() -> ArrayVec<Refusal, MOST_RULES>
-    ensures { result.items ≡ spec.not_read }
-{
-    let mut refusals = ArrayVec::new();
-    refusals.push(Refusal::NotRead);
-    refusals
-}
-
-/// Adds to `out` what is written of a line, whose line feed is not part of it, and returns the rules
-/// that changed it, why it is left where it means something else in our language, what it leaves, and
-/// how many lines are written, with line feeds between them. A line that no rule changes is copied
-/// byte for byte. An error means that memory was refused.
-#[tactic(auto, unfolding(crate::specs::Lines::written, crate::specs::Lines::before_for, crate::specs::Lines::rules_for, crate::specs::Lines::refusals_for, crate::specs::Lines::places_after, crate::specs::Lines::lines_for))]
-pub fn rewrite_line<A: Allocator>(
-    places: &Places,
-    line: &[u8],
-    out: &mut Vec<u8, A>,
-) -> Result<Rewritten, AllocError>
-    ensures written { IfOk result
-        (λ _. out.new.items ≡ out.old.items ++ spec.written places.now line.now) }
-    ensures rules { IfOk result (λ r. r.rules.items ≡ spec.rules_for places.now line.now) }
-    ensures refusals { IfOk result
-        (λ r. r.refusals.items ≡ spec.refusals_for places.now line.now) }
-    ensures after { IfOk result (λ r. r.after ≡ spec.places_after places.now line.now) }
-    ensures before { IfOk result (λ r. r.before_count ≡ spec.before_for places.now line.now) }
-    ensures lines { IfOk result (λ r. r.line_count ≡ spec.lines_for places.now line.now) }
-{
-    let Some(words) = read_words(line) else {
-        out.extend_from_slice(line)?;
-        return Ok(Rewritten {
-            rules: ArrayVec::new(),
-            refusals: not_read(),
-            after: places.lost(),
-            before_count: 0,
-            line_count: 1,
-        });
-    };
-    let plan = plan_of(places, words.as_slice());
-    add_rewritten(b"\n", &plan, line, out)?;
-    Ok(Rewritten {
-        rules: plan.rules(),
-        refusals: plan.refusals(),
-        after: next_places(places, &plan, words.as_slice(), may_be_deleted(line)),
-        before_count: plan.before_count(),
-        line_count: plan.line_count(),
-    })
 }

@@ -4,10 +4,8 @@ ghost use Rattle.ngc_adapt_moves.specs.Reports as spec;
 ghost use Rattle.ngc_adapt_moves.specs.LineReports as report_of;
 
 use crate::line::add_rewritten;
-use crate::places::Places;
-use crate::plan::{Plan, plan_of};
+use crate::plan::Plan;
 use crate::rule::{Refusal, Rule};
-use crate::word::{Word, read_words};
 use itoa::Buffer;
 use std::alloc::{AllocError, Allocator};
 
@@ -154,7 +152,7 @@ fn add_changes<A: Allocator>(
 
 // Adds why a line is left.
 #[tactic(auto, unfolding(crate::specs::LineReports::refusal_text))]
-fn add_refusal<A: Allocator>(
+pub(crate) fn add_refusal<A: Allocator>(
     number: usize,
     refusal: Refusal,
     report: &mut Vec<u8, A>,
@@ -204,54 +202,19 @@ fn add_refusals<A: Allocator>(
     Ok(())
 }
 
-// Adds the report of a line with these words.
-#[tactic(auto, unfolding(crate::specs::LineReports::words_report))]
-fn add_words_report<A: Allocator>(
+// Adds the report of a line of which the rules make this.
+#[tactic(auto, unfolding(crate::specs::LineReports::plan_report))]
+pub(crate) fn add_plan_report<A: Allocator>(
     number: usize,
     written_number: usize,
-    places: &Places,
-    words: &[Word],
+    plan: &Plan,
     line: &[u8],
     report: &mut Vec<u8, A>,
 ) -> Result<(), AllocError>
     ensures { IfOk result (λ _. report.new.items ≡ report.old.items
-        ++ report_of.words_report number written_number places.now words.now line.now) }
+        ++ report_of.plan_report number written_number plan.now line.now) }
 {
-    let plan = plan_of(places, words);
-    add_changes(number, written_number, &plan, line, report)?;
-    add_refusals(number, &plan, report)?;
+    add_changes(number, written_number, plan, line, report)?;
+    add_refusals(number, plan, report)?;
     Ok(())
-}
-
-/// Adds a line for each change of a line, and one for each reason why it is left: `number` is that of
-/// the line in the source, and `written_number` that of the source's own line in what is written. An
-/// error means that memory was refused.
-#[tactic(auto, unfolding(crate::specs::LineReports::line_report))]
-pub fn add_line_report<A: Allocator>(
-    number: usize,
-    written_number: usize,
-    places: &Places,
-    line: &[u8],
-    report: &mut Vec<u8, A>,
-) -> Result<(), AllocError>
-    ensures { IfOk result (λ _. report.new.items ≡ report.old.items
-        ++ report_of.line_report number written_number places.now line.now) }
-{
-    match read_words(line) {
-        Some(words) => {
-            add_words_report(
-                number,
-                written_number,
-                places,
-                words.as_slice(),
-                line,
-                report,
-            )?;
-            Ok(())
-        }
-        None => {
-            add_refusal(number, Refusal::NotRead, report)?;
-            Ok(())
-        }
-    }
 }

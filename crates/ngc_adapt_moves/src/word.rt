@@ -1,6 +1,6 @@
 ghost use Rattle.std.specs.Prelude.{◌≡◌, length};
 ghost use Rattle.std.specs.Option.{option_map};
-ghost use Rattle.ngc_adapt.specs.Items.{is_unread, item_of};
+ghost use Rattle.ngc_adapt.specs.Items.{is_unread};
 ghost use Rattle.ngc_adapt_moves.specs.Words as spec;
 
 use crate::axis::Axis;
@@ -76,17 +76,17 @@ fn capital(byte: u8) -> Letter
     }
 }
 
-fn is_unread(item: &[u8]) -> bool
-    ensures { result ≡ is_unread (item_of item.now) }
+fn is_unread(part: &Item) -> bool
+    ensures { result ≡ is_unread part.now }
 {
-    matches!(item_of(item), Item::Unread)
+    matches!(part, Item::Unread)
 }
 
-/// Returns the word that an item of a line is, if it is one.
-pub(crate) fn word_of(item: &[u8]) -> Option<Word>
-    ensures { result ≡ spec.word_of item.now }
+// The word that an item of a line is, of which this is known.
+fn word_from(item: &[u8], part: &Item) -> Option<Word>
+    ensures { result ≡ spec.read item.now part.now }
 {
-    let Item::Word(word) = item_of(item) else {
+    let Item::Word(word) = part else {
         return None;
     };
     let [first, rest @ ..] = item else {
@@ -99,6 +99,13 @@ pub(crate) fn word_of(item: &[u8]) -> Option<Word>
     })
 }
 
+/// Returns the word that an item of a line is, if it is one.
+pub(crate) fn word_of(item: &[u8]) -> Option<Word>
+    ensures { result ≡ spec.word_of item.now }
+{
+    word_from(item, &item_of(item))
+}
+
 /// Reads the words of a line, if it can be read as a whole and has at most 64.
 pub fn read_words(line: &[u8]) -> Option<ArrayVec<Word, MOST_WORDS>>
     ensures { option_map (λ words. words.items) result ≡ spec.words_of line.now }
@@ -107,10 +114,11 @@ pub fn read_words(line: &[u8]) -> Option<ArrayVec<Word, MOST_WORDS>>
     let mut rest = line;
     while !rest.is_empty() {
         let (item, others) = split_item(rest);
-        if is_unread(item) {
+        let part = item_of(item);
+        if is_unread(&part) {
             return None;
         }
-        if let Some(word) = word_of(item) {
+        if let Some(word) = word_from(item, &part) {
             if words.is_full() {
                 return None;
             }

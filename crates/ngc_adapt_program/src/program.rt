@@ -1,5 +1,5 @@
 ghost use Rattle.std.specs.Prelude.{◌≡◌, ◌+◌, ◌≤◌, ◌++◌, ◌||◌, [], length, map, IfOk, true, false};
-ghost use Rattle.std.specs.Prelude.{nat_lt, ◌<◌, ◌^◌, drop};
+ghost use Rattle.std.specs.Prelude.{nat_lt, ◌<◌, ◌^◌, drop, if◌then◌else◌};
 ghost use Rattle.std.specs.List.{list_all};
 ghost use Rattle.ngc_adapt.specs.Numbers.{is_blank as blank};
 ghost use Rattle.ngc_adapt.specs.Sources.{body_of, ends, lines_of};
@@ -19,7 +19,7 @@ use ngc_adapt::{
     Change, Facts, Modes, Rule, adapt_line, add_counts, add_line_report, body_length, byte_count,
     is_blank, split_line, text_of,
 };
-use ngc_adapt_moves::{Places, add_line_report as add_moves_report, rewrite_line};
+use ngc_adapt_moves::{Places, rewrite_line};
 use std::alloc::{AllocError, Allocator};
 
 /// What the lines before leave.
@@ -109,6 +109,26 @@ fn ends_with_feed(line: &[u8]) -> bool
     !line.is_empty() && is_feed(line[line.len() - 1])
 }
 
+// The tool to mount in a text that mounts none. The text is read only where a tool is asked for.
+fn tool_to_mount(text: &[u8], tool: Option<u16>) -> Option<u16>
+    ensures { result ≡ (if spec.mounts_tool text.now then None else tool) }
+{
+    match tool {
+        Some(_) => { if mounts_tool(text) { None } else { tool } }
+        None => None,
+    }
+}
+
+// The tool that is left to mount after a line.
+fn tool_left(body: &[u8], tool: Option<u16>) -> Option<u16>
+    ensures { result ≡ spec.tool_left (spec.is_executed body.now) tool }
+{
+    match tool {
+        Some(_) => { if is_executed(body) { None } else { tool } }
+        None => None,
+    }
+}
+
 impl Progress {
     ghost use Rattle.ngc_adapt_program.specs.Programs.{start, after_ended, tool_before, has_ending};
 
@@ -123,11 +143,7 @@ impl Progress {
             marked: false,
             closed: false,
             ended: false,
-            tool: if mounts_tool(text) {
-                None
-            } else {
-                request.tool
-            },
+            tool: tool_to_mount(text, request.tool),
             lacks_feed: false,
         }
     }
@@ -148,10 +164,15 @@ impl Progress {
     fn tool_before(&self, body: &[u8]) -> Option<u16>
         ensures { result ≡ tool_before self.now body.now }
     {
-        if !self.ended && is_executed(body) {
-            self.tool
-        } else {
-            None
+        match self.tool {
+            Some(_) => {
+                if !self.ended && is_executed(body) {
+                    self.tool
+                } else {
+                    None
+                }
+            }
+            None => None,
         }
     }
 
@@ -346,9 +367,15 @@ impl<A: Allocator> Writing<A> {
         ensures same { (self.new.changes ≡ self.old.changes) × (self.new.before ≡ self.old.before) }
         ensures places { IfOk result (λ p. p ≡ places_after places.now line.now) }
     {
-        let rewritten = rewrite_line(places, line, &mut self.text)?;
+        let rewritten = rewrite_line(
+            number,
+            self.before + 1,
+            places,
+            line,
+            &mut self.text,
+            &mut self.report,
+        )?;
         self.is_left = self.is_left || !rewritten.refusals.is_empty();
-        add_moves_report(number, self.before + 1, places, line, &mut self.report)?;
         Ok(rewritten.after)
     }
 }
@@ -422,11 +449,7 @@ fn after_body(
         } else {
             executed.is_end
         },
-        tool: if is_executed(body) {
-            None
-        } else {
-            progress.tool
-        },
+        tool: tool_left(body, progress.tool),
         lacks_feed,
     }
 }

@@ -1,0 +1,88 @@
+//! A line rewritten, with the report of it.
+ghost use Rattle.std.specs.Prelude.{◌≡◌, ◌++◌, IfOk};
+ghost use Rattle.ngc_adapt_moves.specs.LineReports.{line_report};
+ghost use Rattle.ngc_adapt_moves.specs.Lines as spec;
+
+use crate::line::{add_rewritten, next_places};
+use crate::places::Places;
+use crate::plan::{MOST_RULES, plan_of};
+use crate::report::{add_plan_report, add_refusal};
+use crate::rule::{Refusal, Rule};
+use crate::word::read_words;
+use arrayvec::ArrayVec;
+use ngc_adapt::may_be_deleted;
+use std::alloc::{AllocError, Allocator};
+
+/// What became of a line.
+#[derive(Drop)]
+pub struct Rewritten {
+    /// The rules that changed it.
+    pub rules: ArrayVec<Rule, MOST_RULES>,
+    /// Why it is left, where it means something else in our language.
+    pub refusals: ArrayVec<Refusal, MOST_RULES>,
+    /// What the line leaves.
+    pub after: Places,
+    /// How many lines are written before the source's own.
+    pub before_count: usize,
+    /// How many lines are written in all.
+    pub line_count: usize,
+}
+
+fn not_read() -> ArrayVec<Refusal, MOST_RULES>
+    ensures { result.items ≡ spec.not_read }
+{
+    let mut refusals = ArrayVec::new();
+    refusals.push(Refusal::NotRead);
+    refusals
+}
+
+/// Adds to `out` what is written of a line, whose line feed is not part of it, and to `report` a line
+/// for each change and one for each reason why the line is left. Returns the rules that changed it,
+/// why it is left where it means something else in our language, what it leaves, and how many lines
+/// are written, with line feeds between them.
+///
+/// `number` is the number of the line in the source, and `written_number` that of the source's own
+/// line in what is written. A line that no rule changes is copied byte for byte. An error means that
+/// memory was refused.
+#[tactic(auto, unfolding(crate::specs::LineReports::line_report, crate::specs::Lines::written, crate::specs::Lines::before_for, crate::specs::Lines::rules_for, crate::specs::Lines::refusals_for, crate::specs::Lines::places_after, crate::specs::Lines::lines_for))]
+pub fn rewrite_line<A: Allocator>(
+    number: usize,
+    written_number: usize,
+    places: &Places,
+    line: &[u8],
+    out: &mut Vec<u8, A>,
+    report: &mut Vec<u8, A>,
+) -> Result<Rewritten, AllocError>
+    ensures written { IfOk result
+        (λ _. out.new.items ≡ out.old.items ++ spec.written places.now line.now) }
+    ensures report { IfOk result (λ _. report.new.items ≡ report.old.items
+        ++ line_report number written_number places.now line.now) }
+    ensures rules { IfOk result (λ r. r.rules.items ≡ spec.rules_for places.now line.now) }
+    ensures refusals { IfOk result
+        (λ r. r.refusals.items ≡ spec.refusals_for places.now line.now) }
+    ensures after { IfOk result (λ r. r.after ≡ spec.places_after places.now line.now) }
+    ensures before { IfOk result (λ r. r.before_count ≡ spec.before_for places.now line.now) }
+    ensures lines { IfOk result (λ r. r.line_count ≡ spec.lines_for places.now line.now) }
+{
+    let Some(words) = read_words(line) else {
+        out.extend_from_slice(line)?;
+        add_refusal(number, Refusal::NotRead, report)?;
+        return Ok(Rewritten {
+            rules: ArrayVec::new(),
+            refusals: not_read(),
+            after: places.lost(),
+            before_count: 0,
+            line_count: 1,
+        });
+    };
+    let plan = plan_of(places, words.as_slice());
+    add_rewritten(b"\n", &plan, line, out)?;
+    add_plan_report(number, written_number, &plan, line, report)?;
+    Ok(Rewritten {
+        rules: plan.rules(),
+        refusals: plan.refusals(),
+        after: next_places(places, &plan, words.as_slice(), may_be_deleted(line)),
+        before_count: plan.before_count(),
+        line_count: plan.line_count(),
+    })
+}
