@@ -24,8 +24,7 @@ use Rattle.ngc_adapt.specs.Items.{items_of, item_of}
 use Rattle.ngc_adapt.specs.Rules.{rule_for}
 use Rattle.ngc_adapt.specs.Refusals.{refusal_for}
 use Rattle.ngc_adapt.specs.Lines.{written, rules_of, next_modes, is_end, refusals_of}
-use Rattle.ngc_adapt.specs.Reports.{line_report, comment_report, program_report}
-use Rattle.ngc_adapt.specs.Programs.{program_written, program_changes, change_at}
+use Rattle.ngc_adapt.specs.Reports.{line_report, comment_report}
 use Rattle.ngc_adapt.specs.Sources.{lines_of}
 use Rattle.ngc_adapt.specs.Text.{text_of}
 use Rattle.ngc_adapt.specs.Comments.{with_plain_comment, has_odd_comment}
@@ -679,58 +678,29 @@ next_first_arc : next_modes grbl (codes "G2 X1 I1") ≡ modes_of dialects.Grbl m
 unfolding next_modes items_of item_of
 next_first_arc = refl
 
--- lines that a line feed ends, with a carriage return before it
+-- lines that a line feed ends
 abbrev feed : List ℕ → List ℕ → List ℕ
 feed line rest = line ++ (10 ∷ rest)
 
-abbrev return_feed : List ℕ → List ℕ → List ℕ
-return_feed line rest = line ++ (13 ∷ 10 ∷ rest)
+-- reports of lines
+report_of_an_offset : line_report 1 1 first (codes "G0 X1 K0.000 (a)") ≡ codes "line 1 (1): zero_offset exact: K0.000 -> nothing\n"
+unfolding digits line_report items_of item_of rule_for refusal_for
+report_of_an_offset = refl
 
--- a percent sign begins the text, and what follows M30 is copied
-written_marked_program : program_written (options dialects.LinuxCnc) (return_feed (codes "%") (return_feed (codes "G64 P1") (feed (codes "M30") (codes "G64 P1"))))
-    ≡ return_feed (codes "%") (return_feed (codes "G64 ") (feed (codes "M30") (codes "G64 P1")))
-unfolding lines_of written next_modes is_end items_of item_of rule_for
-written_marked_program = refl
-
--- a percent sign that isn't the first line ends the text
-written_program_that_a_percent_sign_ends : program_written (options dialects.LinuxCnc) (feed (codes "G80 G0") (feed (codes " %") (codes "G64 P1")))
-    ≡ feed (codes "G0") (feed (codes " %") (codes "G64 P1"))
-unfolding lines_of written next_modes is_end items_of item_of rule_for
-written_program_that_a_percent_sign_ends = refl
-
--- block delete may take M2 out
-written_after_an_end_that_may_be_deleted : program_written (options dialects.LinuxCnc) (feed (codes "/M2") (codes "G64 P1")) ≡ feed (codes "/M2") (codes "G64 ")
-unfolding lines_of written next_modes is_end items_of item_of rule_for
-written_after_an_end_that_may_be_deleted = refl
-
-written_first_moves_of_grbl : program_written (options dialects.Grbl) (feed (codes "G21") (feed (codes "X1") (codes "Y1"))) ≡ feed (codes "G21") (feed (codes "G0 X1") (codes "Y1"))
-unfolding lines_of written next_modes is_end items_of item_of rule_for
-written_first_moves_of_grbl = refl
-
-changes_of_a_program : program_changes (options dialects.LinuxCnc) (feed [] (feed (codes "N123456 G64 P1") (feed (codes "G80 G1") (feed (codes "M2") (codes "G80 G0")))))
-    ≡ change_at 2 2 rules.LineNumber ∷ change_at 2 2 rules.BlendTolerance ∷ change_at 3 3 rules.CycleEnd ∷ []
-unfolding lines_of rules_of next_modes is_end items_of item_of rule_for
-changes_of_a_program = refl
-
--- reports, line by line
-report_of_two_lines : program_report (options dialects.LinuxCnc) (feed (codes "G0 X1 K0.000 (a)") (codes "N123456 M2")) ≡ codes "line 1 (1): zero_offset exact: K0.000 -> nothing\nline 2 (2): line_number exact: N123456 -> nothing\nzero_offset: 1\nline_number: 1\n"
-unfolding digits lines_of line_report rules_of next_modes is_end items_of item_of rule_for refusal_for
-report_of_two_lines = refl
-
-report_of_units : program_report (options dialects.Mach3) (codes "G70 ") ≡ codes "line 1 (1): inches exact: G70 -> G20\ninches: 1\n"
-unfolding digits lines_of line_report rules_of next_modes is_end items_of item_of rule_for refusal_for
+report_of_units : line_report 1 1 mach3 (codes "G70 ") ≡ codes "line 1 (1): inches exact: G70 -> G20\n"
+unfolding digits line_report items_of item_of rule_for refusal_for
 report_of_units = refl
 
-report_of_looking_ahead : program_report (options dialects.Fanuc) (codes "G187 P1") ≡ codes "line 1 (1): look_ahead told: G187 -> nothing\nline 1 (1): look_ahead told: P1 -> nothing\nlook_ahead: 2\n"
-unfolding digits lines_of line_report rules_of next_modes is_end items_of item_of rule_for refusal_for
+report_of_looking_ahead : line_report 1 1 fanuc (codes "G187 P1") ≡ codes "line 1 (1): look_ahead told: G187 -> nothing\nline 1 (1): look_ahead told: P1 -> nothing\n"
+unfolding digits line_report items_of item_of rule_for refusal_for
 report_of_looking_ahead = refl
 
-report_of_a_first_traverse : program_report (options dialects.Grbl) (codes "X1") ≡ codes "line 1 (1): first_traverse exact: nothing -> G0\nfirst_traverse: 1\n"
-unfolding digits lines_of line_report rules_of next_modes is_end items_of item_of rule_for refusal_for
+report_of_a_first_traverse : line_report 1 1 grbl (codes "X1") ≡ codes "line 1 (1): first_traverse exact: nothing -> G0\n"
+unfolding digits line_report items_of item_of rule_for refusal_for
 report_of_a_first_traverse = refl
 
-report_of_no_change : program_report (options dialects.Grbl) (codes "G1 X1 F100") ≡ []
-unfolding digits lines_of line_report rules_of next_modes is_end items_of item_of rule_for refusal_for
+report_of_no_change : line_report 1 1 grbl (codes "G1 X1 F100") ≡ []
+unfolding digits line_report items_of item_of rule_for refusal_for
 report_of_no_change = refl
 
 -- a tool that is selected, and one that is mounted
@@ -1273,18 +1243,6 @@ report_of_a_tool = refl
 report_of_a_line_that_is_not_read : line_report 1 1 first (codes "G0 X1,5") ≡ codes "line 1: unread left: this line can't be read: correct it or leave it out\n"
 unfolding digits line_report items_of item_of rule_for refusal_for
 report_of_a_line_that_is_not_read = refl
-
--- M99 ends the program, where it is written as M2
-written_after_a_main_program : program_written (options dialects.Fanuc) (feed (codes "G4 P500") (feed (codes "M99") (codes "G4 P500")))
-    ≡ feed (codes "G4 P0.500 ") (feed (codes "M2 ") (codes "G4 P500"))
-unfolding digits lines_of written next_modes is_end items_of item_of rule_for
-written_after_a_main_program = refl
-
--- a word of a rotary axis that turns on another line stays
-written_axis_that_turns_elsewhere : program_written (options dialects.LinuxCnc) (feed (codes "G0 X1 A0 B0") (codes "A1"))
-    ≡ feed (codes "G0 X1 A0 ") (codes "A1")
-unfolding digits lines_of written next_modes is_end items_of item_of rule_for
-written_axis_that_turns_elsewhere = refl
 
 -- fanuc's P0 of G10 L2 is an offset of all systems
 written_offset_of_all_systems : written fanuc (codes "G10 L2 P0 X0") ≡ codes "G10 L2 P0 X0"

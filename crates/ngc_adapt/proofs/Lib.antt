@@ -22,8 +22,6 @@ pub mod EndLaws
 pub mod RuleLaws
 -- The lines of a text.
 pub mod SourceLaws
--- Texts in which no rule applies.
-pub mod ProgramLaws
 -- Where a value ends, whatever follows it.
 pub mod ValueLaws
 -- Words that a rule writes, whatever follows them.
@@ -32,3 +30,5 @@ pub mod PieceLaws
 pub mod ReadLaws
 -- The report of items and lines.
 pub mod ReportLaws
+-- Values that have no blank in front of a character.
+pub mod OnePiece

@@ -10,7 +10,7 @@ use Rattle.ngc_adapt.specs.declared.rule.Modes.{Modes}
 use Rattle.ngc_adapt.specs.Items.{item_length, items_within, items_of, item_of, word_in, words_in, words_of, words_unless, has_unread}
 use Rattle.ngc_adapt.proofs.ItemLaws.{some_bytes, nothing}
 use Rattle.ngc_adapt.specs.Rules.{rule_for, is_first_traverse}
-use Rattle.ngc_adapt.specs.Lines.{by_rule, front_by, item_front, item_written, is_axis_item, traverse, pieces_of, traverse_rule, rules_among, rewritten, written, written_by}
+use Rattle.ngc_adapt.specs.Lines.{by_rule, front_by, item_front, item_written, is_axis_item, traverse, pieces_of, traverse_rule, rules_among, rules_by, rules_of, rewritten, written, written_by}
 
 -- the items are the line
 whole_within : (n : ℕ) (line : List ℕ) → length line ≤ n → concat (items_within n line) ≡ line
@@ -82,27 +82,15 @@ pub rules_step : (f : Word → Option Rule) (words : List Word) (i : ℕ) (w : W
 rules_step f words i w h e =
     rw add-one (ap (filter_map f) (drop-cons words i w h) ∙ ap (λ (v : Word). cons_option (f v) (filter_map f (drop (suc i) words))) (sym e))
 
--- what is written of a line that can be read
-pub written_read : (modes : Modes) (line : List ℕ) (words : List Word) → words_of line ≡ Some words → written modes line ≡ rewritten modes words line
-unfolding written
-written_read modes line words e = ap (λ (o : Option (List Word)). written_by modes line o) e
+by_words : (modes : Modes) (line : List ℕ) (o : Option (List Word)) → words_of line ≡ o → rules_by modes o ≡ [] → written_by modes line o ≡ line
+by_words modes line None e h = refl
+by_words modes line (Some words) e h = unchanged modes words line e h
+
+-- a line that no rule changes
+pub same_line : (modes : Modes) (line : List ℕ) → rules_of modes line ≡ [] → written modes line ≡ line
+unfolding rules_of written
+same_line modes line h = by_words modes line (words_of line) refl h
 
 pub no_items : (rules : List Rule) → length rules ≡ 0 → rules ≡ []
 no_items [] e = refl
-no_items (r ∷ rs) e = absurd (omega arith)
-
--- what is written of a line that no rule changes
-pub written_same : (modes : Modes) (line : List ℕ) (words given : List Word) (rules : List Rule) → words_of line ≡ Some words → given ≡ words
-    → rules ≡ rules_among modes given → length rules ≡ 0 → line ≡ written modes line
-written_same modes line words given rules read same is few =
-    let none : rules_among modes words ≡ [] = ap (λ (ws : List Word). rules_among modes ws) (sym same) ∙ sym is ∙ no_items rules few in
-    sym (written_read modes line words read ∙ unchanged modes words line read none)
-
--- what is written of a line that a rule changes
-pub written_without : (modes : Modes) (line : List ℕ) (words given : List Word) → words_of line ≡ Some words → given ≡ words
-    → rewritten modes given line ≡ written modes line
-written_without modes line words given read same =
-    ap (λ (ws : List Word). rewritten modes ws line) same ∙ sym (written_read modes line words read)
-
-pub added : (out old front line : List ℕ) → out ≡ front → front ≡ old ++ line → (written : List ℕ) → line ≡ written → out ≡ old ++ written
-added out old front line e f written h = e ∙ f ∙ ap (λ (s : List ℕ). old ++ s) h
+no_items (r ∷ rules) e = absurd (omega arith)

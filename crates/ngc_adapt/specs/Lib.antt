@@ -1,10 +1,10 @@
+pub mod Changes
 pub mod Comments
 pub mod Facts
 pub mod Items
 pub mod Laws
 pub mod Lines
 pub mod Numbers
-pub mod Programs
 pub mod Refusals
 pub mod Reports
 pub mod Rules

@@ -42,12 +42,15 @@ has_point text = begins 46 (after_whole text)
 abbrev pub decimals : List ℕ → List ℕ
 decimals text = drop 1 (after_whole text)
 
+-- digits and what follows them make a number: nothing follows, or a point and digits
+abbrev pub make_number : List ℕ → List ℕ → Bool
+make_number whole rest =
+    ((length rest == 0) || begins 46 rest)
+    && (list_all is_ascii_digit (drop 1 rest) && nat_lt 0 (length whole + length (drop 1 rest)))
+
 -- a text that is a number
 abbrev pub is_number : List ℕ → Bool
-is_number text =
-    ((length (after_whole text) == 0) || has_point text)
-    && (list_all is_ascii_digit (decimals text)
-    && nat_lt 0 (length (whole_digits text) + length (decimals text)))
+is_number text = make_number (whole_digits text) (after_whole text)
 
 abbrev pub is_nought : ℕ → Bool
 is_nought b = b == 48
@@ -62,16 +65,14 @@ digits_value digits = fold (λ n d. 10 * n + (d - 48)) 0 digits
 
 -- A code is written in tenths: 592 is G59.2. A number is a code where it is below 1000, has no
 -- minus sign, and no decimal but the first is other than 0.
-abbrev pub is_code : List ℕ → Bool
-is_code text =
-    not (begins 45 text)
-    && (nat_lt (digits_value (whole_digits text)) 1000 && list_all is_nought (drop 1 (decimals text)))
+abbrev pub code_in : Bool → List ℕ → List ℕ → Option ℕ
+code_in negative whole decimals =
+    if not negative && (nat_lt (digits_value whole) 1000 && list_all is_nought (drop 1 decimals))
+    then Some (10 * digits_value whole + digits_value (take 1 decimals))
+    else None
 
 abbrev pub code_of : List ℕ → Option ℕ
-code_of text =
-    if is_code text
-    then Some (10 * digits_value (whole_digits text) + digits_value (take 1 (decimals text)))
-    else None
+code_of text = code_in (begins 45 text) (whole_digits text) (decimals text)
 
 -- A line number that our language doesn't have: it has more than five digits, or a point.
 abbrev pub is_long : List ℕ → Bool
@@ -98,6 +99,12 @@ facts_of text =
 abbrev pub short_text : List ℕ → Option (List ℕ)
 short_text value =
     if nat_le (length (without_blanks value)) 32 then Some (without_blanks value) else None
+
+-- the characters of a value that has no blank in front of one of them, if there are at most 32
+abbrev pub in_one_piece : List ℕ → Option (List ℕ)
+in_one_piece value =
+    if nat_le (prefix_len is_ink value) 32 && list_all is_blank (drop (prefix_len is_ink value) value)
+    then Some (take (prefix_len is_ink value) value) else None
 
 abbrev pub facts_if_number : List ℕ → Option Number
 facts_if_number text = if is_number text then Some (facts_of text) else None

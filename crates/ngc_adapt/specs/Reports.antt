@@ -4,24 +4,20 @@ use Rattle.std.specs.Prelude.{length, reverse}
 use Rattle.std.specs.Prelude.{take, drop, codes, decimal, count_by, Option, Some, None}
 use Rattle.std.specs.Prelude.{if◌then◌else◌}
 use Rattle.std.specs.List.{prefix_len, flat_map}
-use Rattle.ngc_adapt.specs.declared.options.Options.{Options}
 use Rattle.ngc_adapt.specs.declared.refusal.Refusal.{Refusal}
 use Rattle.ngc_adapt.specs.declared.item.Word.{Word}
 use Rattle.ngc_adapt.specs.declared.rule.Rule.{Rule}
 use Rattle.ngc_adapt.specs.declared.rule.Rule.TheVariants as rules
 use Rattle.ngc_adapt.specs.declared.rule.Modes.{Modes}
-use Rattle.ngc_adapt.specs.declared.program.Progress.{Progress}
 use Rattle.ngc_adapt.specs.declared.change.Change.{Change}
 use Rattle.ngc_adapt.specs.declared.report.TheConstants as constants
 use Rattle.ngc_adapt.specs.Numbers.{is_blank}
 use Rattle.ngc_adapt.specs.Items.{items_of, words_of}
-use Rattle.ngc_adapt.specs.Sources.{lines_of, body_of}
-use Rattle.ngc_adapt.specs.Facts.{facts_of}
 use Rattle.ngc_adapt.specs.Rules.{rule_name, front, replacement, is_first_traverse}
 use Rattle.ngc_adapt.specs.Comments.{has_odd_comment, comment_of, plain}
 use Rattle.ngc_adapt.specs.Refusals.{refusal_name, sentence, refusals_by}
 use Rattle.ngc_adapt.specs.Lines.{item_rule, is_axis_item, traverse}
-use Rattle.ngc_adapt.specs.Programs.{start, progress_after, change_at, program_changes}
+use Rattle.ngc_adapt.specs.Changes.{change_at}
 
 -- what a rule keeps: the same commands, or the motions alone
 abbrev pub class_of : Rule → List ℕ
@@ -99,15 +95,6 @@ line_report number written modes line =
     report_by number written modes line (words_of line)
     ++ flat_map (refusal_text number) (refusals_by modes line (words_of line))
 
-abbrev pub body_report : ℕ → Progress → List ℕ → List ℕ
-body_report number p line = if p.ended then [] else line_report number number p.modes line
-
-abbrev pub lines_report : ℕ → Progress → List (List ℕ) → List ℕ
-lines_report number p [] = []
-lines_report number p (line ∷ rest) =
-    body_report number p (body_of line)
-    ++ lines_report (number + 1) (progress_after p (body_of line)) rest
-
 abbrev pub rank : Rule → ℕ
 rank rules.BlendTolerance = 0
 rank rules.ZeroOffset = 1
@@ -148,12 +135,3 @@ count_text rule count =
 -- RULE: how often it applied, for each rule that did
 abbrev pub counts_text : List Change → List ℕ
 counts_text changes = flat_map (λ rule. count_text rule (count_by (is_by rule) changes)) constants.EVERY_RULE
-
--- what is changed of a text, line by line
-abbrev pub changes_text : Options → List ℕ → List ℕ
-changes_text options text = lines_report 1 (start options (facts_of text)) (lines_of text)
-
--- the whole report
-abbrev pub program_report : Options → List ℕ → List ℕ
-program_report options text =
-    changes_text options text ++ counts_text (program_changes options text)

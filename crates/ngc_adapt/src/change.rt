@@ -14,7 +14,7 @@ pub struct Change {
 }
 
 impl Change {
-    ghost use Rattle.ngc_adapt.specs.Programs.{change_at};
+    ghost use Rattle.ngc_adapt.specs.Changes.{change_at};
 
     // The change of a line by a rule, and the line of what is written.
     pub(crate) fn at(number: usize, written: usize, rule: Rule) -> Change

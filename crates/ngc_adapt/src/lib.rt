@@ -1,6 +1,7 @@
 //! Part programs in the dialects of other controls, rewritten in our language.
 #![tactic(auto)]
 
+mod adapting;
 mod change;
 mod code;
 mod comment;
@@ -11,7 +12,6 @@ pub mod laws;
 mod line;
 mod number;
 mod options;
-mod program;
 mod refusal;
 mod replacement;
 mod report;
@@ -19,6 +19,7 @@ mod rule;
 mod source;
 mod text;
 
+pub use adapting::{AdaptedLine, adapt_line};
 pub use change::Change;
 pub use comment::{add_with_plain_comment, has_odd_comment};
 pub use dialect::Dialect;
@@ -26,14 +27,14 @@ pub use facts::{Facts, Levels};
 pub use item::{
     Item, Letter, MOST_WORDS, Word, item_of, may_be_deleted, read_words, split_item, upper,
 };
-pub use line::{AdaptedLine, MOST_REFUSALS, MOST_RULES, adapt_line};
+pub use line::{MOST_REFUSALS, MOST_RULES};
 pub use number::{
-    LONGEST_NUMBER, Number, begins, byte_count, is_blank, is_number, split_whole, without_blanks,
+    LONGEST_NUMBER, Number, begins, byte_count, in_one_piece, is_blank, make_number, split_whole,
+    without_blanks,
 };
 pub use options::{MOST_DROPPED, Options};
-pub use program::{Adapted, adapt};
 pub use refusal::Refusal;
-pub use report::{add_comment_report, add_counts, add_line_report, add_refusals};
+pub use report::{add_comment_report, add_counts};
 pub use rule::{Cycle, Modes, Motion, Plane, Rule, is_one_of};
 pub use source::{body_length, split_line};
 pub use text::{TextChanges, text_of};

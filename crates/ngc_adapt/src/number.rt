@@ -1,5 +1,5 @@
 ghost use Rattle.std.specs.Prelude.{◌≡◌, ◌+◌, ◌-◌, ◌*◌, ◌<◌, ◌≤◌, List, length, drop, take, min};
-ghost use Rattle.std.specs.Prelude.{Option, Some, None, IsTrue, IfNone, nat_le, not, if◌then◌else◌};
+ghost use Rattle.std.specs.Prelude.{Option, Some, None, IsTrue, IfNone, IfSome, nat_le, not, if◌then◌else◌};
 ghost use Rattle.std.specs.Prelude.{take_while};
 ghost use Rattle.std.specs.Option.{option_map};
 ghost use Rattle.std.specs.List.{prefix_len, list_all, list_any};
@@ -129,51 +129,26 @@ fn tenths(decimals: &[u8]) -> u16
     }
 }
 
-// The code in tenths that a number is, if it is one.
-fn code_of(text: &[u8]) -> Option<u16>
-    ensures { result ≡ numbers.code_of text.now }
+// The code in tenths that the parts of a number are, if they are one.
+fn code_in(negative: bool, whole: &[u8], decimals: &[u8]) -> Option<u16>
+    ensures { result ≡ numbers.code_in negative whole.now decimals.now }
 {
-    let (whole, rest) = split_whole(text);
-    let decimals = without_first(rest);
     let value = limited_value(whole);
-    if begins(b'-', text) || value >= 1000 || !are_noughts(without_first(decimals)) {
+    if negative || value >= 1000 || !are_noughts(without_first(decimals)) {
         return None;
     }
     Some(10 * value + tenths(decimals))
 }
 
-// Whether a text is a number.
-pub fn is_number(text: &[u8]) -> bool
-    ensures { result ≡ numbers.is_number text.now }
+/// Returns whether digits and what follows them make a number: nothing follows, or a point and
+/// digits.
+pub fn make_number(whole: &[u8], rest: &[u8]) -> bool
+    ensures { result ≡ numbers.make_number whole.now rest.now }
 {
-    let (whole, rest) = split_whole(text);
     let decimals = without_first(rest);
     (rest.is_empty() || begins(b'.', rest))
         && are_digits(decimals)
         && (!whole.is_empty() || !decimals.is_empty())
-}
-
-// Whether a number is exactly 0.
-fn is_zero(text: &[u8]) -> bool
-    ensures { result ≡ numbers.is_zero text.now }
-{
-    let (whole, rest) = split_whole(text);
-    are_noughts(whole) && are_noughts(without_first(rest))
-}
-
-// Whether a number is a line number that our language doesn't have.
-fn is_long(text: &[u8]) -> bool
-    ensures { result ≡ numbers.is_long text.now }
-{
-    let (whole, rest) = split_whole(text);
-    !has_sign(text) && (begins(b'.', rest) || whole.len() > 5)
-}
-
-// Whether a number is written with a point.
-fn has_point(text: &[u8]) -> bool
-    ensures { result ≡ numbers.has_point text.now }
-{
-    begins(b'.', split_whole(text).1)
 }
 
 // The characters of a value, if there are at most 32.
@@ -191,6 +166,42 @@ pub fn without_blanks(value: &[u8]) -> Option<ArrayVec<u8, LONGEST_NUMBER>>
         }
     }
     Some(text)
+}
+
+fn is_ink(byte: u8) -> bool
+    ensures { result ≡ numbers.is_ink byte }
+{
+    !is_blank(byte)
+}
+
+// How many characters a value begins with.
+#[tactic(auto, using(crate::proofs::Digits::counted))]
+fn ink_length(value: &[u8]) -> usize
+    ensures count { result ≡ prefix_len numbers.is_ink value.now }
+    ensures within { result ≤ length value.now }
+{
+    value.iter().take_while(|b| is_ink(**b)).count()
+}
+
+fn are_blanks(text: &[u8]) -> bool
+    ensures { result ≡ list_all numbers.is_blank text.now }
+{
+    text.iter().all(|b| is_blank(*b))
+}
+
+/// Returns the characters of a value that has no blank in front of one of them, if there are at most
+/// 32. They are what `without_blanks` gives, without a copy.
+#[tactic(auto, using(crate::proofs::OnePiece::short_piece))]
+pub fn in_one_piece(value: &[u8]) -> Option<&[u8]>
+    ensures piece { option_map (λ text. text.now) result ≡ numbers.in_one_piece value.now }
+    ensures short { IfSome result (λ text. numbers.short_text value.now ≡ Some text.now) }
+{
+    let (text, rest) = value.split_at(ink_length(value));
+    if text.len() <= LONGEST_NUMBER && are_blanks(rest) {
+        Some(text)
+    } else {
+        None
+    }
 }
 
 #[inline]
@@ -289,25 +300,37 @@ pub(crate) fn is_whole(value: &[u8]) -> bool
     byte_count(b'[', value) == byte_count(b']', value) && has_digit(value)
 }
 
-// What a number of at most 32 characters says.
-fn written_number(value: &[u8]) -> Option<Number>
-    ensures { result ≡ numbers.written_number value.now }
+// What the characters of a number say.
+fn number_in(text: &[u8]) -> Option<Number>
+    ensures { result ≡ numbers.facts_if_number text.now }
 {
-    let kept = without_blanks(value)?;
-    let text = kept.as_slice();
-    if !is_number(text) {
+    let (whole, rest) = split_whole(text);
+    if !make_number(whole, rest) {
         return None;
     }
+    let decimals = without_first(rest);
+    let has_point = begins(b'.', rest);
     Some(Number {
-        code: code_of(text),
-        is_zero: is_zero(text),
-        is_long: is_long(text),
+        code: code_in(begins(b'-', text), whole, decimals),
+        is_zero: are_noughts(whole) && are_noughts(decimals),
+        is_long: !has_sign(text) && (has_point || whole.len() > 5),
         is_count: are_digits(text),
-        has_point: has_point(text),
+        has_point,
         is_computed: false,
         has_name: false,
         is_signed: false,
     })
+}
+
+// What a number of at most 32 characters says.
+fn written_number(value: &[u8]) -> Option<Number>
+    ensures { result ≡ numbers.written_number value.now }
+{
+    if let Some(text) = in_one_piece(value) {
+        return number_in(text);
+    }
+    let kept = without_blanks(value)?;
+    number_in(kept.as_slice())
 }
 
 fn is_name_byte(byte: u8) -> bool

@@ -3,18 +3,15 @@ ghost use Rattle.std.specs.Prelude.{drop, count_by, decimal, IfOk, codes};
 ghost use Rattle.std.specs.List.{prefix_len, flat_map};
 ghost use Rattle.std.specs.Prelude.{reverse};
 ghost use Rattle.ngc_adapt.specs.Numbers.{is_blank as blank};
-ghost use Rattle.ngc_adapt.specs.Items.{items_of};
-ghost use Rattle.ngc_adapt.specs.Rules.{is_first_traverse};
 ghost use Rattle.ngc_adapt.specs.Lines.{item_rule};
 ghost use Rattle.ngc_adapt.specs.Comments.{plain};
 ghost use Rattle.ngc_adapt.specs.Reports as spec;
 
 use crate::change::Change;
 use crate::comment::{add_plain, comment_of, has_odd_comment};
-use crate::item::{Word, read_words, split_item};
-use crate::line::{is_axis_item, item_rule, refusals_among};
+use crate::item::Word;
 use crate::number::{is_blank, without_first};
-use crate::refusal::{Refusal, unread_refusal};
+use crate::refusal::Refusal;
 use crate::replacement::{add_front, add_replacement};
 use crate::rule::{Modes, Rule};
 use itoa::Buffer;
@@ -241,25 +238,27 @@ pub fn add_comment_report<A: Allocator>(
     Ok(())
 }
 
-fn add_item_change<A: Allocator>(
+pub(crate) fn add_item_change<A: Allocator>(
     number: usize,
     written: usize,
     modes: &Modes,
     words: &[Word],
     item: &[u8],
+    rule: Option<Rule>,
     report: &mut Vec<u8, A>,
 ) -> Result<(), AllocError>
+    requires { rule ≡ item_rule modes.now words.now item.now }
     ensures { IfOk result (λ _. report.new.items ≡ report.old.items ++ spec.item_report number
         written modes.now words.now item.now (item_rule modes.now words.now item.now)) }
 {
-    if let Some(rule) = item_rule(modes, words, item) {
+    if let Some(rule) = rule {
         let change = Change::at(number, written, rule);
         add_rule_change(&change, modes, words, item, report)?;
     }
     Ok(())
 }
 
-fn add_traverse_change<A: Allocator>(
+pub(crate) fn add_traverse_change<A: Allocator>(
     number: usize,
     written: usize,
     named: bool,
@@ -279,33 +278,7 @@ fn add_traverse_change<A: Allocator>(
     Ok(())
 }
 
-// Adds the changes of the items of a line with these words.
-fn add_items_report<A: Allocator>(
-    number: usize,
-    written: usize,
-    modes: &Modes,
-    words: &[Word],
-    line: &[u8],
-    report: &mut Vec<u8, A>,
-) -> Result<(), AllocError>
-    ensures { IfOk result (λ _. report.new.items ≡ report.old.items
-        ++ spec.items_report number written (is_first_traverse modes.now words.now) modes.now
-        words.now (items_of line.now)) }
-{
-    let mut unnamed = modes.is_first_traverse(words);
-    let mut rest = line;
-    while !rest.is_empty() {
-        let (item, others) = split_item(rest);
-        let moves = is_axis_item(item);
-        add_traverse_change(number, written, unnamed && moves, report)?;
-        add_item_change(number, written, modes, words, item, report)?;
-        unnamed = unnamed && !moves;
-        rest = others;
-    }
-    Ok(())
-}
-
-fn add_refusal<A: Allocator>(
+pub(crate) fn add_refusal<A: Allocator>(
     number: usize,
     refusal: Refusal,
     report: &mut Vec<u8, A>,
@@ -324,10 +297,9 @@ fn add_refusal<A: Allocator>(
     Ok(())
 }
 
-/// Adds a line for each thing that stands in the way on a line of the source with this number, from
-/// 1. An error means that memory was refused.
+// Adds a line for each thing that stands in the way on a line of the source with this number, from 1.
 #[tactic(auto, using(crate::proofs::ReportLaws::refusals_step))]
-pub fn add_refusals<A: Allocator>(
+pub(crate) fn add_refusals<A: Allocator>(
     number: usize,
     refusals: &[Refusal],
     report: &mut Vec<u8, A>,
@@ -339,30 +311,6 @@ pub fn add_refusals<A: Allocator>(
         add_refusal(number, *refusal, report)?;
     }
     Ok(())
-}
-
-/// Adds a line for each change of a line, and then one for each thing that stands in the way on it:
-/// `number` is its line in the source and `written` its line in what is written, both from 1. An
-/// error means that memory was refused.
-#[tactic(auto, unfolding(crate::specs::Reports::line_report))]
-pub fn add_line_report<A: Allocator>(
-    number: usize,
-    written: usize,
-    modes: &Modes,
-    line: &[u8],
-    report: &mut Vec<u8, A>,
-) -> Result<(), AllocError>
-    ensures { IfOk result (λ _. report.new.items ≡ report.old.items
-        ++ spec.line_report number written modes.now line.now) }
-{
-    match read_words(line) {
-        Some(words) => {
-            let words = words.as_slice();
-            add_items_report(number, written, modes, words, line, report)?;
-            add_refusals(number, refusals_among(modes, words).as_slice(), report)
-        }
-        None => add_refusal(number, unread_refusal(line), report),
-    }
 }
 
 fn is_by(rule: Rule, change: &Change) -> bool

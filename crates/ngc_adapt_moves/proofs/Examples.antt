@@ -78,7 +78,7 @@ at motion distance place =
       arc_distance = Some arcs.Point;
       feed_mode = Some feeds.PerMinute;
       place = place;
-      motion_anew = false;
+      motion_again = false;
     }
 
 abbrev place : ℤ → ℤ → ℤ → Place
@@ -91,8 +91,8 @@ here = place (pos 1000000) (pos 2000000) (pos 3000000)
 abbrev feeding : Places
 feeding = at motions.Feed distances.Absolute here
 
-abbrev anew : Bool → Places → Places
-anew b p =
+abbrev again : Bool → Places → Places
+again b p =
     record {
       dialect = p.dialect;
       homes = p.homes;
@@ -103,7 +103,7 @@ anew b p =
       arc_distance = p.arc_distance;
       feed_mode = p.feed_mode;
       place = p.place;
-      motion_anew = b;
+      motion_again = b;
     }
 
 abbrev without_homes : Places → Places
@@ -118,7 +118,7 @@ without_homes p =
       arc_distance = p.arc_distance;
       feed_mode = p.feed_mode;
       place = p.place;
-      motion_anew = p.motion_anew;
+      motion_again = p.motion_again;
     }
 
 abbrev from_origin : Places → Places
@@ -133,7 +133,7 @@ from_origin p =
       arc_distance = Some arcs.Origin;
       feed_mode = p.feed_mode;
       place = p.place;
-      motion_anew = p.motion_anew;
+      motion_again = p.motion_again;
     }
 
 -- Z alone goes home, straight, in G91
@@ -151,7 +151,7 @@ lines_home_of_z = refl
 
 -- Z isn't known after it, X and Y are; the next motion must name G1
 after_home_of_z : places_after feeding (codes "G91 G28 Z0")
-    ≡ anew true (at motions.Feed distances.Incremental (record { x = Some (pos 1000000); y = Some (pos 2000000); z = None }))
+    ≡ again true (at motions.Feed distances.Incremental (record { x = Some (pos 1000000); y = Some (pos 2000000); z = None }))
 unfolding places_after items_of item_of
 after_home_of_z = refl
 
@@ -212,26 +212,26 @@ refusals_home_of_all : refusals_for feeding (codes "G28") ≡ []
 unfolding refusals_for items_of item_of
 refusals_home_of_all = refl
 
-written_motion_anew : written (anew true feeding) (codes "N20 X5 F100") ≡ codes "N20 G1 X5 F100"
+written_motion_again : written (again true feeding) (codes "N20 X5 F100") ≡ codes "N20 G1 X5 F100"
 unfolding written items_of item_of
-written_motion_anew = refl
+written_motion_again = refl
 
-after_motion_anew : places_after (anew true feeding) (codes "N20 X5 F100")
+after_motion_again : places_after (again true feeding) (codes "N20 X5 F100")
     ≡ at motions.Feed distances.Absolute (place (pos 5000000) (pos 2000000) (pos 3000000))
 unfolding places_after items_of item_of
-after_motion_anew = refl
+after_motion_again = refl
 
-written_motion_named : written (anew true feeding) (codes "G1 X5") ≡ codes "G1 X5"
+written_motion_named : written (again true feeding) (codes "G1 X5") ≡ codes "G1 X5"
 unfolding written items_of item_of
 written_motion_named = refl
 
-after_a_line_without_motion : places_after (anew true feeding) (codes "M5 F100") ≡ anew true feeding
+after_a_line_without_motion : places_after (again true feeding) (codes "M5 F100") ≡ again true feeding
 unfolding places_after items_of item_of
 after_a_line_without_motion = refl
 
-refused_motion_anew : refusals_for (anew true (at motions.Unknown distances.Absolute here)) (codes "X5") ≡ refusals.MotionNotKnown ∷ []
+refused_motion_again : refusals_for (again true (at motions.Unknown distances.Absolute here)) (codes "X5") ≡ refusals.MotionNotKnown ∷ []
 unfolding refusals_for items_of item_of
-refused_motion_anew = refl
+refused_motion_again = refl
 
 -- a full circle from X 1
 written_full_circle : written feeding (codes "G2 I5 F100") ≡ codes "G2 X1 I5 F100"
@@ -254,9 +254,9 @@ refused_full_circle : refusals_for (at motions.Feed distances.Absolute nowhere) 
 unfolding refusals_for items_of item_of
 refused_full_circle = refl
 
-written_full_circle_anew : written (anew true (at motions.Clockwise distances.Absolute here)) (codes "I5") ≡ codes "G2 X1 I5"
+written_full_circle_again : written (again true (at motions.Clockwise distances.Absolute here)) (codes "I5") ≡ codes "G2 X1 I5"
 unfolding written items_of item_of digits
-written_full_circle_anew = refl
+written_full_circle_again = refl
 
 -- G90.1: the centre is at X 6, Y 2, which is 5 and 0 from X 1, Y 2
 written_arc_from_the_origin : written (from_origin feeding) (codes "G2 X11 I6 J2 F100") ≡ codes "G2 X11 I5 J0 F100"
@@ -343,7 +343,7 @@ in_linuxcnc u p =
       arc_distance = p.arc_distance;
       feed_mode = p.feed_mode;
       place = p.place;
-      motion_anew = p.motion_anew;
+      motion_again = p.motion_again;
     }
 
 written_motion_apart : written feeding (codes "G0 G92 X0") ≡ codes "G92 X0"
@@ -351,7 +351,7 @@ unfolding written items_of item_of
 written_motion_apart = refl
 
 after_motion_apart : places_after feeding (codes "G0 G92 X0")
-    ≡ anew true (at motions.Traverse distances.Absolute (place (pos 0) (pos 2000000) (pos 3000000)))
+    ≡ again true (at motions.Traverse distances.Absolute (place (pos 0) (pos 2000000) (pos 3000000)))
 unfolding places_after items_of item_of
 after_motion_apart = refl
 

@@ -35,7 +35,7 @@ change_if holds number written_number rule plan line =
 unfoldable pub changes_text : ℕ → ℕ → Plan → List ℕ → List ℕ
 changes_text number written_number plan line =
     change_if (is_homed plan.homing) number written_number rules.PartHome plan line
-    ++ (change_if (is_named plan.naming) number written_number rules.MotionAnew plan line
+    ++ (change_if (is_named plan.naming) number written_number rules.MotionAgain plan line
     ++ (change_if (is_circled plan.circle) number written_number rules.FullCircle plan line
     ++ (change_if (is_origin plan) number written_number rules.ArcOrigin plan line
     ++ (change_if plan.apart number written_number rules.MotionApart plan line

@@ -116,16 +116,16 @@ is_traverse _ = false
 
 -- The next line that moves must name its motion: after homing, which leaves G0, and after a line
 -- whose motion code is left out, until a line names one that block delete can't take out.
-abbrev pub is_anew : Places → Plan → List Word → Bool → Bool
-is_anew places plan words deletable =
-    if has_unknown words then places.motion_anew else (
+abbrev pub is_again : Places → Plan → List Word → Bool → Bool
+is_again places plan words deletable =
+    if has_unknown words then places.motion_again else (
     if is_homed plan.homing
-    then (deletable && places.motion_anew) || not (is_traverse (modes_after places words).motion)
-    else plan.apart || (places.motion_anew
+    then (deletable && places.motion_again) || not (is_traverse (modes_after places words).motion)
+    else plan.apart || (places.motion_again
     && (deletable || not (has_motion words || is_named plan.naming))))
 
-abbrev pub with_anew : Bool → Places → Places
-with_anew anew places =
+abbrev pub with_again : Bool → Places → Places
+with_again again places =
     record {
       dialect = places.dialect;
       homes = places.homes;
@@ -136,12 +136,12 @@ with_anew anew places =
       arc_distance = places.arc_distance;
       feed_mode = places.feed_mode;
       place = places.place;
-      motion_anew = anew;
+      motion_again = again;
     }
 
 abbrev pub next_places : Places → Plan → List Word → Bool → Places
 next_places places plan words deletable =
-    with_anew (is_anew places plan words deletable) (after_line places words deletable)
+    with_again (is_again places plan words deletable) (after_line places words deletable)
 
 abbrev pub not_read : List Refusal
 not_read = refusals.NotRead ∷ []

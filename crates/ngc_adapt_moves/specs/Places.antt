@@ -94,10 +94,12 @@ is_z axes.Z = true
 is_z _ = false
 
 -- where an axis is as the motion of a line begins: G43 and G49 give Z other coordinates
+abbrev pub start_unless : Bool → Places → List Word → Axis → Option ℤ
+start_unless lost places words axis =
+    if lost || (is_z axis && has codes.TOOL_LENGTH words) then None else along axis places.place
+
 abbrev pub start_along : Places → List Word → Axis → Option ℤ
-start_along places words axis =
-    if loses_place places.units words || (is_z axis && has codes.TOOL_LENGTH words) then None
-    else along axis places.place
+start_along places words axis = start_unless (loses_place places.units words) places words axis
 
 abbrev pub sum : Option ℤ → Option ℤ → Option ℤ
 sum (Some start) (Some value) = known (sum_of start value)
@@ -176,7 +178,7 @@ start dialect homes =
       arc_distance = Some arcs.Point;
       feed_mode = Some feeds.PerMinute;
       place = nowhere;
-      motion_anew = false;
+      motion_again = false;
     }
 
 -- after a line of which nothing is known
@@ -192,7 +194,7 @@ lost places =
       arc_distance = None;
       feed_mode = None;
       place = nowhere;
-      motion_anew = places.motion_anew;
+      motion_again = places.motion_again;
     }
 
 -- the modes that a line leaves, at the place before it
@@ -208,7 +210,7 @@ modes_after places words =
       arc_distance = arc_distance_after places.arc_distance words;
       feed_mode = feed_mode_after places.feed_mode words;
       place = places.place;
-      motion_anew = places.motion_anew;
+      motion_again = places.motion_again;
     }
 
 abbrev pub after_along : Places → List Word → Axis → Option ℤ
@@ -239,7 +241,7 @@ modes_either places words =
       arc_distance = if has codes.ARC_DISTANCE words then None else places.arc_distance;
       feed_mode = if has codes.FEED_MODE words then None else places.feed_mode;
       place = place_either places words;
-      motion_anew = places.motion_anew;
+      motion_again = places.motion_again;
     }
 
 abbrev pub with_place : Place → Places → Places
@@ -254,7 +256,7 @@ with_place place places =
       arc_distance = places.arc_distance;
       feed_mode = places.feed_mode;
       place = place;
-      motion_anew = places.motion_anew;
+      motion_again = places.motion_again;
     }
 
 -- what a line with these words leaves, by its own words

@@ -50,7 +50,7 @@ has_name _ = false
 -- a line moves by the motion in force, and what is written leaves another
 abbrev pub is_unnamed : Places → List Word → Bool
 is_unnamed places words =
-    places.motion_anew
+    places.motion_again
     && (has_place words
     && not (has_motion words || has_unknown words || has codes.FOR_ONE_LINE words))
 
@@ -134,7 +134,7 @@ rule_if holds rule = if holds then rule ∷ [] else []
 abbrev pub rules_of : Plan → List Rule
 rules_of plan =
     ((((rule_if (is_homed plan.homing) rules.PartHome
-    ++ rule_if (is_named plan.naming) rules.MotionAnew)
+    ++ rule_if (is_named plan.naming) rules.MotionAgain)
     ++ rule_if (is_circled plan.circle) rules.FullCircle)
     ++ rule_if (is_origin plan) rules.ArcOrigin) ++ rule_if plan.apart rules.MotionApart)
     ++ rule_if (is_first plan.feeding) rules.FeedFirst
@@ -170,7 +170,7 @@ refusals_of plan =
     ++ refusal_if (circle_refusal plan.circle)) ++ refusal_if (centre_refusal plan.centre))
     ++ refusal_if (feeding_refusal plan.feeding)
 
--- the code that names the motion anew
+-- the code that names the motion again
 abbrev pub naming_text : Naming → Text
 naming_text (namings.By motion) = texts.Motion motion
 naming_text _ = texts.Nothing

@@ -7,7 +7,7 @@ use Rattle.ngc_adapt_moves.specs.declared.rule.Refusal.TheVariants as refusals
 
 abbrev pub rule_name : Rule → List ℕ
 rule_name rules.PartHome = codes "part_home"
-rule_name rules.MotionAnew = codes "motion_anew"
+rule_name rules.MotionAgain = codes "motion_again"
 rule_name rules.FullCircle = codes "full_circle"
 rule_name rules.ArcOrigin = codes "arc_origin"
 rule_name rules.MotionApart = codes "motion_apart"
@@ -16,7 +16,7 @@ rule_name rules.FeedFirst = codes "feed_first"
 -- what a rule keeps: the same commands
 abbrev pub class_of : Rule → List ℕ
 class_of rules.PartHome = codes "exact"
-class_of rules.MotionAnew = codes "exact"
+class_of rules.MotionAgain = codes "exact"
 class_of rules.FullCircle = codes "exact"
 class_of rules.ArcOrigin = codes "exact"
 class_of rules.MotionApart = codes "exact"
@@ -29,7 +29,7 @@ refusal_name refusals.HomingNotAlone = codes "part_home"
 refusal_name refusals.UnitsNotKnown = codes "part_home"
 refusal_name refusals.HomeNotWhole = codes "part_home"
 refusal_name refusals.StopBesideHoming = codes "part_home"
-refusal_name refusals.MotionNotKnown = codes "motion_anew"
+refusal_name refusals.MotionNotKnown = codes "motion_again"
 refusal_name refusals.CircleNotKnown = codes "full_circle"
 refusal_name refusals.ArcDistanceNotKnown = codes "arc_origin"
 refusal_name refusals.ArcPlaceNotKnown = codes "arc_origin"

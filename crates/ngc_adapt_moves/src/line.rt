@@ -1,6 +1,7 @@
 //! What is written of a line.
 ghost use Rattle.std.specs.Prelude.{◌≡◌, ◌++◌, [], codes, length, IfOk, if◌then◌else◌};
 ghost use Rattle.ngc_adapt_moves.specs.Lines as spec;
+ghost use Rattle.ngc_adapt_moves.specs.Places.{modes_after};
 
 use crate::axis::{Axis, Place};
 use crate::homing::Homing;
@@ -220,24 +221,33 @@ fn is_traverse(motion: Motion) -> bool
 }
 
 // Whether the next line that moves must name its motion.
-fn is_anew(places: &Places, plan: &Plan, words: &[Word], deletable: bool) -> bool
-    ensures { result ≡ spec.is_anew places.now plan.now words.now deletable }
+fn is_again(places: &Places, plan: &Plan, modes: &Places, words: &[Word], deletable: bool) -> bool
+    requires { modes.now ≡ modes_after places.now words.now }
+    ensures { result ≡ spec.is_again places.now plan.now words.now deletable }
 {
     if has_unknown(words) {
-        places.motion_anew
+        places.motion_again
     } else if plan.homing.is_homed() {
-        (deletable && places.motion_anew) || !is_traverse(places.modes_after(words).motion)
+        (deletable && places.motion_again) || !is_traverse(modes.motion)
     } else {
         plan.apart
-            || (places.motion_anew && (deletable || !(has_motion(words) || plan.naming.is_named())))
+            || (places.motion_again
+                && (deletable || !(has_motion(words) || plan.naming.is_named())))
     }
 }
 
-// What a line with these words leaves.
-pub(crate) fn next_places(places: &Places, plan: &Plan, words: &[Word], deletable: bool) -> Places
+// What a line with these words leaves, whose own words leave these modes.
+pub(crate) fn next_places(
+    places: &Places,
+    plan: &Plan,
+    modes: &Places,
+    words: &[Word],
+    deletable: bool,
+) -> Places
+    requires { modes.now ≡ modes_after places.now words.now }
     ensures { result ≡ spec.next_places places.now plan.now words.now deletable }
 {
-    let mut after = places.after_line(words, deletable);
-    after.motion_anew = is_anew(places, plan, words, deletable);
+    let mut after = places.after_line(modes, words, deletable);
+    after.motion_again = is_again(places, plan, modes, words, deletable);
     after
 }

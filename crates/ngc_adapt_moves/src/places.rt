@@ -66,7 +66,7 @@ pub struct Places {
     pub place: Place,
     /// Whether what is written leaves another motion mode than the source, so that the next line that
     /// moves must name its own.
-    pub motion_anew: bool,
+    pub motion_again: bool,
 }
 
 fn nowhere() -> Place
@@ -206,15 +206,22 @@ fn is_z(axis: Axis) -> bool
     matches!(axis, Axis::Z)
 }
 
-// Where an axis is as the motion of a line begins.
-pub(crate) fn start_along(places: &Places, words: &[Word], axis: Axis) -> Option<Value>
-    ensures { result ≡ spec.start_along places.now words.now axis }
+// Where an axis is as the motion of a line begins that loses the place, or doesn't.
+fn start_unless(lost: bool, places: &Places, words: &[Word], axis: Axis) -> Option<Value>
+    ensures { result ≡ spec.start_unless lost places.now words.now axis }
 {
-    if loses_place(places.units, words) || (is_z(axis) && has(&code::TOOL_LENGTH, words)) {
+    if lost || (is_z(axis) && has(&code::TOOL_LENGTH, words)) {
         None
     } else {
         places.place.along(axis)
     }
+}
+
+// Where an axis is as the motion of a line begins.
+pub(crate) fn start_along(places: &Places, words: &[Word], axis: Axis) -> Option<Value>
+    ensures { result ≡ spec.start_along places.now words.now axis }
+{
+    start_unless(loses_place(places.units, words), places, words, axis)
 }
 
 fn sum(start: Option<Value>, value: Option<Value>) -> Option<Value>
@@ -359,7 +366,7 @@ impl Places {
             arc_distance: Some(ArcDistance::Point),
             feed_mode: Some(FeedMode::PerMinute),
             place: nowhere(),
-            motion_anew: false,
+            motion_again: false,
         }
     }
 
@@ -377,7 +384,7 @@ impl Places {
             arc_distance: None,
             feed_mode: None,
             place: nowhere(),
-            motion_anew: self.motion_anew,
+            motion_again: self.motion_again,
         }
     }
 
@@ -395,19 +402,23 @@ impl Places {
             arc_distance: arc_distance_after(self.arc_distance, words),
             feed_mode: feed_mode_after(self.feed_mode, words),
             place: self.place,
-            motion_anew: self.motion_anew,
+            motion_again: self.motion_again,
         }
     }
 
-    // The place of the tool after a line.
-    fn place_after(&self, words: &[Word]) -> Place
+    // The place of the tool after a line that leaves these modes.
+    fn place_after(&self, after: &Places, words: &[Word]) -> Place
+        requires { after.now ≡ modes_after self.now words.now }
         ensures { result ≡ place_after self.now words.now }
     {
-        let after = self.modes_after(words);
+        let lost = loses_place(self.units, words);
+        let x = start_unless(lost, self, words, Axis::X);
+        let y = start_unless(lost, self, words, Axis::Y);
+        let z = start_unless(lost, self, words, Axis::Z);
         Place {
-            x: place_along(&after, start_along(self, words, Axis::X), words, Axis::X),
-            y: place_along(&after, start_along(self, words, Axis::Y), words, Axis::Y),
-            z: place_along(&after, start_along(self, words, Axis::Z), words, Axis::Z),
+            x: place_along(after, x, words, Axis::X),
+            y: place_along(after, y, words, Axis::Y),
+            z: place_along(after, z, words, Axis::Z),
         }
     }
 
@@ -456,12 +467,14 @@ impl Places {
                 self.feed_mode
             },
             place: self.place_either(words),
-            motion_anew: self.motion_anew,
+            motion_again: self.motion_again,
         }
     }
 
-    // What a line with these words leaves, by its own words.
-    pub(crate) fn after_line(&self, words: &[Word], may_be_deleted: bool) -> Places
+    // What a line with these words leaves, by its own words, where block delete can't take it out in
+    // these modes.
+    pub(crate) fn after_line(&self, modes: &Places, words: &[Word], may_be_deleted: bool) -> Places
+        requires { modes.now ≡ modes_after self.now words.now }
         ensures { result ≡ after_line self.now words.now may_be_deleted }
     {
         if has_unknown(words) {
@@ -469,8 +482,8 @@ impl Places {
         } else if may_be_deleted {
             self.modes_either(words)
         } else {
-            let mut after = self.modes_after(words);
-            after.place = self.place_after(words);
+            let mut after = *modes;
+            after.place = self.place_after(modes, words);
             after
         }
     }

@@ -1,5 +1,6 @@
 //! What the rules make of a line with these words.
 ghost use Rattle.std.specs.Prelude.{◌≡◌, ◌+◌, ◌≤◌, ◌++◌, length};
+ghost use Rattle.ngc_adapt_moves.specs.Places.{modes_after};
 ghost use Rattle.ngc_adapt_moves.specs.Plans as spec;
 
 use crate::arc::{Centre, Circle, centre_of, circle_of};
@@ -69,7 +70,7 @@ fn has_name(motion: Motion) -> bool
 fn is_unnamed(places: &Places, words: &[Word]) -> bool
     ensures { result ≡ spec.is_unnamed places.now words.now }
 {
-    places.motion_anew
+    places.motion_again
         && has_place(words)
         && !(has_motion(words) || has_unknown(words) || has(&code::FOR_ONE_LINE, words))
 }
@@ -131,16 +132,16 @@ fn is_linuxcnc(dialect: Dialect) -> bool
     matches!(dialect, Dialect::LinuxCnc)
 }
 
-/// Returns what the rules make of a line with these words.
-pub(crate) fn plan_of(places: &Places, words: &[Word]) -> Plan
+/// Returns what the rules make of a line with these words, which leave these modes.
+pub(crate) fn plan_of(places: &Places, after: &Places, words: &[Word]) -> Plan
+    requires { after.now ≡ modes_after places.now words.now }
     ensures { result ≡ spec.plan_of places.now words.now }
 {
-    let after = places.modes_after(words);
     Plan {
         homing: homing_of(places, words),
         naming: naming_of(places, words),
-        circle: circle_of(places, &after, words),
-        centre: centre_of(places, &after, words),
+        circle: circle_of(places, after, words),
+        centre: centre_of(places, after, words),
         has_arc_code: has(&code::ARC_DISTANCE, words),
         apart: is_apart(words),
         feeding: feeding_of(places, words),
@@ -205,7 +206,7 @@ impl Naming {
         }
     }
 
-    /// Returns the code that names the motion anew.
+    /// Returns the code that names the motion again.
     pub(crate) fn text(&self) -> Text
         ensures { result ≡ naming_text self.now }
     {
@@ -369,7 +370,7 @@ impl Plan {
     {
         let mut rules = ArrayVec::new();
         add_rule(self.homing.is_homed(), Rule::PartHome, &mut rules);
-        add_rule(self.naming.is_named(), Rule::MotionAnew, &mut rules);
+        add_rule(self.naming.is_named(), Rule::MotionAgain, &mut rules);
         add_rule(self.circle.is_circled(), Rule::FullCircle, &mut rules);
         add_rule(self.is_origin(), Rule::ArcOrigin, &mut rules);
         add_rule(self.apart, Rule::MotionApart, &mut rules);

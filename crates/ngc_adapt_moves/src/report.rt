@@ -106,7 +106,7 @@ fn add_changes<A: Allocator>(
         plan.naming.is_named(),
         number,
         written_number,
-        Rule::MotionAnew,
+        Rule::MotionAgain,
         plan,
         line,
         report,

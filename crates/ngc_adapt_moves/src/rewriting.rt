@@ -75,13 +75,15 @@ pub fn rewrite_line<A: Allocator>(
             line_count: 1,
         });
     };
-    let plan = plan_of(places, words.as_slice());
+    let words = words.as_slice();
+    let modes = places.modes_after(words);
+    let plan = plan_of(places, &modes, words);
     add_rewritten(b"\n", &plan, line, out)?;
     add_plan_report(number, written_number, &plan, line, report)?;
     Ok(Rewritten {
         rules: plan.rules(),
         refusals: plan.refusals(),
-        after: next_places(places, &plan, words.as_slice(), may_be_deleted(line)),
+        after: next_places(places, &plan, &modes, words, may_be_deleted(line)),
         before_count: plan.before_count(),
         line_count: plan.line_count(),
     })

@@ -6,13 +6,13 @@ ghost use Rattle.ngc_adapt_moves.specs.Reports as spec;
 pub enum Rule {
     /// G28 or G30 with one or two axes: only these go home.
     PartHome,
-    /// A motion code written anew, since what is written before leaves another.
-    MotionAnew,
+    /// A motion code written again, since what is written before leaves another.
+    MotionAgain,
     /// A full circle without an axis word, which our language asks for.
     FullCircle,
     /// Offsets of arcs from the origin, G90.1, made to lead from the current point.
     ArcOrigin,
-    /// A motion code beside a code that takes the axis words of the line, left out and written anew
+    /// A motion code beside a code that takes the axis words of the line, left out and written again
     /// where the next line moves.
     MotionApart,
     /// F beside a change of the units, which LinuxCNC counts in the units before: on a line before.
@@ -36,7 +36,7 @@ impl Rule {
     {
         match self {
             Rule::PartHome => "part_home",
-            Rule::MotionAnew => "motion_anew",
+            Rule::MotionAgain => "motion_again",
             Rule::FullCircle => "full_circle",
             Rule::ArcOrigin => "arc_origin",
             Rule::MotionApart => "motion_apart",
@@ -50,7 +50,7 @@ impl Rule {
     {
         match self {
             Rule::PartHome
-            | Rule::MotionAnew
+            | Rule::MotionAgain
             | Rule::FullCircle
             | Rule::ArcOrigin
             | Rule::MotionApart
@@ -108,7 +108,7 @@ impl Refusal {
             Refusal::UnitsNotKnown => "part_home",
             Refusal::HomeNotWhole => "part_home",
             Refusal::StopBesideHoming => "part_home",
-            Refusal::MotionNotKnown => "motion_anew",
+            Refusal::MotionNotKnown => "motion_again",
             Refusal::CircleNotKnown => "full_circle",
             Refusal::ArcDistanceNotKnown => "arc_origin",
             Refusal::ArcPlaceNotKnown => "arc_origin",

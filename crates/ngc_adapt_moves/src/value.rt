@@ -2,7 +2,7 @@ ghost use Rattle.std.specs.Prelude.{◌≡◌, ◌<◌, min};
 ghost use Rattle.ngc_adapt.specs.Numbers.{digits_value};
 ghost use Rattle.ngc_adapt_moves.specs.Values as spec;
 
-use ngc_adapt::{begins, is_number, split_whole, without_blanks};
+use ngc_adapt::{begins, in_one_piece, make_number, split_whole, without_blanks};
 use ngc_fixed_length::{NumberFault, Value};
 
 // One above the greatest whole number that is read.
@@ -81,7 +81,7 @@ fn number_value(text: &[u8]) -> Option<Value>
     let (whole, rest) = split_whole(text);
     let decimals = without_point(rest);
     let units = limited_value(whole);
-    if !is_number(text) || decimals.len() > 6 || units >= WHOLE_LIMIT {
+    if !make_number(whole, rest) || decimals.len() > 6 || units >= WHOLE_LIMIT {
         return None;
     }
     let size = 1_000_000 * units + millionths_in(decimals);
@@ -93,6 +93,9 @@ fn number_value(text: &[u8]) -> Option<Value>
 pub fn value_of(text: &[u8]) -> Option<Value>
     ensures { result ≡ spec.value_of text.now }
 {
+    if let Some(kept) = in_one_piece(text) {
+        return number_value(kept);
+    }
     let kept = without_blanks(text)?;
     number_value(kept.as_slice())
 }

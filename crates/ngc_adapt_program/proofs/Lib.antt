@@ -6,3 +6,5 @@ mod Ends
 mod Feeds
 -- What is left at the end, and whole reports.
 mod Wholes
+-- Texts in which no rule applies.
+mod KeptLaws

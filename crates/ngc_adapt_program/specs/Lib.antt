@@ -1,3 +1,4 @@
+pub mod Laws
 pub mod Programs
 pub mod Requests
 pub mod ToolNumbers

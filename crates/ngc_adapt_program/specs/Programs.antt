@@ -12,7 +12,7 @@ use Rattle.ngc_adapt.specs.Facts.{facts_of}
 use Rattle.ngc_adapt.specs.Items.{words_of}
 use Rattle.ngc_adapt.specs.Lines.{written, rules_of, next_modes, is_end, refusals_of}
 use Rattle.ngc_adapt.specs.Numbers.{is_blank, byte_count}
-use Rattle.ngc_adapt.specs.Programs.{change_at}
+use Rattle.ngc_adapt.specs.Changes.{change_at}
 use Rattle.ngc_adapt.specs.Reports.{line_report, counts_text}
 use Rattle.ngc_adapt.specs.Rules.{start_modes}
 use Rattle.ngc_adapt.specs.Sources.{lines_of, body_of, end_of, ends}

@@ -2,6 +2,7 @@
 #![tactic(auto)]
 
 mod control;
+pub mod laws;
 mod mounted;
 mod program;
 mod request;

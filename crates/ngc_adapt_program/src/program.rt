@@ -4,7 +4,7 @@ ghost use Rattle.std.specs.List.{list_all};
 ghost use Rattle.ngc_adapt.specs.Numbers.{is_blank as blank};
 ghost use Rattle.ngc_adapt.specs.Sources.{body_of, ends, lines_of};
 ghost use Rattle.ngc_adapt.specs.Lines.{written, rules_of, next_modes, is_end, refusals_of};
-ghost use Rattle.ngc_adapt.specs.Programs.{change_at};
+ghost use Rattle.ngc_adapt.specs.Changes.{change_at};
 ghost use Rattle.ngc_adapt.specs.Reports.{line_report};
 ghost use Rattle.ngc_adapt_moves.specs.Lines.{written as moves_written, refusals_for, places_after};
 ghost use Rattle.ngc_adapt_moves.specs.LineReports.{line_report as moves_report};
@@ -16,8 +16,8 @@ use crate::request::Request;
 use crate::tools::{add_tools_report, tools_named};
 use itoa::Buffer;
 use ngc_adapt::{
-    Change, Facts, Modes, Rule, adapt_line, add_counts, add_line_report, body_length, byte_count,
-    is_blank, split_line, text_of,
+    Change, Facts, Modes, Rule, adapt_line, add_counts, body_length, byte_count, is_blank,
+    split_line, text_of,
 };
 use ngc_adapt_moves::{Places, rewrite_line};
 use std::alloc::{AllocError, Allocator};
@@ -339,9 +339,8 @@ impl<A: Allocator> Writing<A> {
         ensures refused { IfOk result (λ e. e.is_refused ≡ has_refused_words progress.now body.now) }
     {
         let line = self.before + 1;
-        let adapted = adapt_line(&progress.modes, body, out)?;
+        let adapted = adapt_line(number, line, &progress.modes, body, out, &mut self.report)?;
         add_changes(number, line, adapted.rules.as_slice(), &mut self.changes)?;
-        add_line_report(number, line, &progress.modes, body, &mut self.report)?;
         Ok(Executed {
             modes: adapted.modes,
             is_end: adapted.is_end,

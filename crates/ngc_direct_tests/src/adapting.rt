@@ -1,6 +1,7 @@
-//! Lines and programs in the dialects of other controls, by the library alone.
+//! Programs in the dialects of other controls, by the library alone.
 use crate::checks::same;
-use ngc_adapt::{Dialect, MOST_DROPPED, Options, adapt};
+use ngc_adapt::{Dialect, MOST_DROPPED, Options};
+use ngc_adapt_program::{Request, adapt_program};
 use std::test::Fail;
 
 // A dialect, a program in it, what is written, and the report. Lines after the end are copied.
@@ -29,11 +30,15 @@ const ROWS: &[(Dialect, &str, &str, &str)] = &[
 #[test]
 fn programs_are_adapted(rt: HostRuntime) -> Result<(), Fail> {
     for (row, (dialect, source, text, report)) in ROWS.iter().enumerate() {
-        let options = Options {
-            dialect: *dialect,
-            drop: [None; MOST_DROPPED],
+        let request = Request {
+            options: Options {
+                dialect: *dialect,
+                drop: [None; MOST_DROPPED],
+            },
+            homes: None,
+            tool: None,
         };
-        let adapted = adapt(rt.alloc(), &options, source.as_bytes())?;
+        let adapted = adapt_program(rt.alloc(), &request, source.as_bytes())?;
         same(&rt, &row, &adapted.text.as_slice(), &text.as_bytes());
         same(&rt, &row, &adapted.report.as_slice(), &report.as_bytes());
     }

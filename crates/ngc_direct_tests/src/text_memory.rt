@@ -1,7 +1,8 @@
 //! Memory that is refused to what reads texts and expands cycles, and sources without end.
 use crate::checks::{holds, same};
 use linked_list_allocator::LocalHeap;
-use ngc_adapt::{Dialect, MOST_DROPPED, Options, adapt};
+use ngc_adapt::{Dialect, MOST_DROPPED, Options};
+use ngc_adapt_program::{Request, adapt_program};
 use ngc_canned_cycles::{Cycle, CycleFault, Hole, Start, expand};
 use ngc_events::{EventsFault, read_events};
 use ngc_fixed_length::{Distance, FeedMode, Nm, Plane, Point3, ReturnMode};
@@ -22,10 +23,11 @@ enum Job {
     Program,
 }
 
-// Each job with its piece of text, how often that is repeated, how many changes are made or how many
-// events, bytes or lines are read, and in which steps its heap grows.
+// Each job with its piece of text, how often that is repeated, how many bytes are written or how many
+// events, bytes or lines are read, and in which steps its heap grows. Of each line to adapt K0 and the
+// blank behind it are left out, and M2 is added.
 const JOBS: &[(Job, &str, usize, usize, usize)] = &[
-    (Job::Dialect, "G1 X1 K0 F100\n", 100, 100, 1_024),
+    (Job::Dialect, "G1 X1 K0 F100\n", 100, 1_103, 1_024),
     (Job::Events, "load\n", 1_000, 1_000, 2_048),
     (
         Job::File,
@@ -37,16 +39,20 @@ const JOBS: &[(Job, &str, usize, usize, usize)] = &[
     (Job::Program, "G1 X2 Y3 F100\nX4\n\n", 2, 6, 16),
 ];
 
-// How much was changed or read; nothing where memory was refused.
+// How much was written or read; nothing where memory was refused.
 fn read_in(heap: &LocalHeap, job: Job, text: &[u8]) -> Option<usize> {
     match job {
         Job::Dialect => {
-            let options = Options {
-                dialect: Dialect::LinuxCnc,
-                drop: [None; MOST_DROPPED],
+            let request = Request {
+                options: Options {
+                    dialect: Dialect::LinuxCnc,
+                    drop: [None; MOST_DROPPED],
+                },
+                homes: None,
+                tool: None,
             };
-            match adapt(heap, &options, text) {
-                Ok(adapted) => Some(adapted.changes.len()),
+            match adapt_program(heap, &request, text) {
+                Ok(adapted) => Some(adapted.text.len()),
                 Err(_) => None,
             }
         }

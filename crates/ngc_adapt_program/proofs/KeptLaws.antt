@@ -1,0 +1,100 @@
+-- Texts in which no rule applies.
+use Rattle.std.proofs.Common.{◌≡◌, ℕ, Bool, true, false, List, [], ◌∷◌, ◌++◌, length, arith, refl, ap, sym, ◌∙◌, Option, Some, None}
+use Rattle.std.specs.Prelude.{◌==◌, ◌&&◌, ◌||◌, not, codes, if◌then◌else◌}
+use Rattle.std.specs.List.{concat}
+use Rattle.std.proofs.lemmas.Bool.Decides.{nat_tests}
+use Rattle.std.proofs.lemmas.List.{take-append-drop}
+use Rattle.ngc_adapt.specs.declared.rule.Rule.{Rule}
+use Rattle.ngc_adapt.specs.Lines.{rules_of, written}
+use Rattle.ngc_adapt.specs.Sources.{lines_of, body_of, body_length, end_of, ends}
+use Rattle.ngc_adapt.specs.Text.{text_of}
+use Rattle.ngc_adapt.proofs.LineLaws.{same_line}
+use Rattle.ngc_adapt.proofs.SourceLaws.{whole}
+use Rattle.ngc_adapt_moves.specs.declared.rule.Rule.{Rule as MovesRule}
+use Rattle.ngc_adapt_moves.specs.declared.places.Places.{Places}
+use Rattle.ngc_adapt_moves.specs.Lines.{rules_for, written as moves_written}
+use Rattle.ngc_adapt_moves.proofs.LineLaws.{unchanged_is_copied}
+use Rattle.ngc_adapt_program.specs.declared.program.Progress.{Progress}
+use Rattle.ngc_adapt_program.specs.Laws.{is_kept, are_kept, KeptIsCopied}
+use Rattle.ngc_adapt_program.specs.Programs.{start, progress_after, progress_after_body, tool_left, tool_line, tool_before, has_refused_words, moved, body_written, line_written, feed_if, ending_line, ending_written, lines_written, program_written, is_executed, mounts_tool}
+
+no_rules : (rules : List Rule) → (length rules == 0) ≡ true → rules ≡ []
+no_rules [] h = refl
+no_rules (r ∷ rules) h = absurd (grind (arith, nat_tests))
+
+no_moves : (rules : List MovesRule) → (length rules == 0) ≡ true → rules ≡ []
+no_moves [] h = refl
+no_moves (r ∷ rules) h = absurd (grind (arith, nat_tests))
+
+both : (a b : Bool) → (a && b) ≡ true → (a ≡ true) × (b ≡ true)
+both true b h = (refl, h)
+both false b h = absurd cc
+
+never : (b : Bool) (tool : Option ℕ) → tool ≡ None → (if b then tool else None) ≡ None
+never true tool h = h
+never false tool h = refl
+
+never_mounted : (b : Bool) (tool : Option ℕ) → tool ≡ None → (if b then None else tool) ≡ None
+never_mounted true tool h = refl
+never_mounted false tool h = h
+
+none_left : (b : Bool) (tool : Option ℕ) → tool ≡ None → tool_left b tool ≡ None
+none_left true tool h = refl
+none_left false tool h = h
+
+no_line : (tool : Option ℕ) → tool ≡ None → tool_line tool ≡ []
+unfolding tool_line
+no_line None h = refl
+no_line (Some n) h = absurd cc
+
+kept_moved : (refused : Bool) (places : Places) (body out : List ℕ) → out ≡ body → moves_written places out ≡ out → moved refused places out ≡ body
+kept_moved true places body out h k = h
+kept_moved false places body out h k = k ∙ h
+
+kept_if : (ended changed : Bool) (body out : List ℕ) → (changed ≡ true → out ≡ body) → (ended || changed) ≡ true → (if ended then body else out) ≡ body
+kept_if true changed body out f h = refl
+kept_if false changed body out f h = f h
+
+kept_body : (p : Progress) (body : List ℕ) → is_kept p body ≡ true → body_written p body ≡ body
+kept_body p body h =
+    let quiet : Bool = (length (rules_of p.modes body) == 0) && (length (rules_for p.places (written p.modes body)) == 0) in
+    let stays : quiet ≡ true → moved (has_refused_words p body) p.places (written p.modes body) ≡ body =
+    λ (e : quiet ≡ true).
+    let none = both (length (rules_of p.modes body) == 0) (length (rules_for p.places (written p.modes body)) == 0) e in
+    kept_moved (has_refused_words p body) p.places body (written p.modes body)
+    (same_line p.modes body (no_rules (rules_of p.modes body) none.0))
+    (unchanged_is_copied p.places (written p.modes body) (no_moves (rules_for p.places (written p.modes body)) none.1)) in
+    kept_if p.ended quiet body (moved (has_refused_words p body) p.places (written p.modes body)) stays h
+
+kept_line : (p : Progress) (line : List ℕ) → p.tool ≡ None → is_kept p (body_of line) ≡ true → line_written p line ≡ line
+kept_line p line none h =
+    let before = no_line (tool_before p (body_of line)) (never (not p.ended && is_executed (body_of line)) p.tool none) in
+    ap (λ (t : List ℕ). t ++ (body_written p (body_of line) ++ end_of line)) before
+    ∙ ap (λ (t : List ℕ). t ++ end_of line) (kept_body p (body_of line) h)
+    ∙ take-append-drop (body_length line) line
+
+tool_after : (ended : Bool) (x y : Progress) → x.tool ≡ None → y.tool ≡ None → (if ended then x else y).tool ≡ None
+tool_after true x y h k = h
+tool_after false x y h k = k
+
+none_after : (p : Progress) (line : List ℕ) → p.tool ≡ None → (progress_after p line).tool ≡ None
+none_after p line none = tool_after p.ended _ _ none (none_left (is_executed (body_of line)) p.tool none)
+
+no_ending : (marked closed ended lacks : Bool) → not (if marked then not closed else not ended) ≡ true
+    → feed_if ((if marked then not closed else not ended) && lacks) ++ (if marked then (if closed then [] else codes "%\n") else (if ended then [] else codes "M2\n")) ≡ []
+no_ending true true ended lacks h = refl
+no_ending true false ended lacks h = absurd cc
+no_ending false closed true lacks h = refl
+no_ending false closed false lacks h = absurd cc
+
+kept_lines : (p : Progress) (lines : List (List ℕ)) → p.tool ≡ None → are_kept p lines ≡ true → lines_written p lines ≡ concat lines
+kept_lines p [] none h = no_ending p.marked p.closed p.ended p.lacks_feed h
+kept_lines p (line ∷ rest) none h =
+    let parts = both (is_kept p (body_of line)) (are_kept (progress_after p line) rest) h in
+    ap (λ (t : List ℕ). t ++ lines_written (progress_after p line) rest) (kept_line p line none parts.0)
+    ∙ ap (λ (t : List ℕ). line ++ t) (kept_lines (progress_after p line) rest (none_after p line none) parts.1)
+
+pub kept_is_copied : KeptIsCopied
+unfolding program_written
+kept_is_copied request file none h =
+    kept_lines (start request (text_of file)) (lines_of (text_of file)) (never_mounted (mounts_tool (text_of file)) request.tool none) h ∙ whole (text_of file)
