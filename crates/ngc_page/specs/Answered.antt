@@ -1,0 +1,65 @@
+-- What a call is answered.
+use Rattle.std.specs.Prelude.{◌≡◌, ◌<◌, ℕ, List, [], ◌++◌, length, take, drop, min, Option, Some}
+use Rattle.std.specs.Prelude.{IfErr, Result}
+use Rattle.ngc_text.specs.declared.input_fault.InputFault.{InputFault}
+use Rattle.ngc_text.specs.declared.input_fault.InputFault.TheVariants.{Device}
+use Rattle.ngc_command_line.specs.declared.options.Options.{Options}
+use Rattle.ngc_simulator.specs.Answers.{ComesBy, Tells, status_of}
+use Rattle.ngc_simulator.specs.Setups.{FileBytes}
+use Rattle.ngc_simulator.specs.Unread.{unread_by}
+use Rattle.ngc_simulator.specs.declared.done.Done.{Done}
+use Rattle.ngc_simulator.specs.declared.fault.AnswerFault.{AnswerFault}
+use Rattle.ngc_page.specs.declared.lines.TheConstants.{LINES_LIMIT}
+
+-- a file couldn't be opened, or reading it failed
+abbrev pub SaysUnreadable : Option InputFault → Type 0
+SaysUnreadable (Some Device) = Unit {0}
+SaysUnreadable _ = ⊥
+
+-- What `ngc` comes to with these options on these files: its output, the lines of its standard
+-- error, of which the first 65,536 bytes are kept, and its status. No file is unreadable.
+pub record Told (files : FileBytes) (options : Options) (output errors : List ℕ) (status : ℕ) :
+    Type 0 where
+  pub outcome : Result Done AnswerFault
+  pub failed : ℕ
+  pub comes : ComesBy files options (Some []) (Some output) outcome
+  pub says : status ≡ status_of outcome
+  pub read : IfErr outcome (λ fault. ¬ SaysUnreadable (unread_by fault))
+  pub tells : Tells outcome
+      (record { old = Some []; new = Some errors; failures = 0; failures_now = failed })
+  pub keeps : 0 < failed → length errors ≡ LINES_LIMIT
+
+-- the text stands at the front of what was there, as far as that reaches
+abbrev pub Holds : List ℕ → List ℕ → List ℕ → Type 0
+Holds old new text =
+    new ≡ take (min (length text) (length old)) text ++ drop (min (length text) (length old)) old
+
+-- the page's space for a text, before and after a call, and the length that it is told
+pub record Space : Type 0 where
+  pub old : List ℕ
+  pub new : List ℕ
+  pub told : ℕ
+
+abbrev pub space : List ℕ → List ℕ → ℕ → Space
+space old new told = record { old = old; new = new; told = told }
+
+-- a text is handed over: as much of it as there is space for, and the length of all of it
+pub record HandsOver (space : Space) (text : List ℕ) : Type 0 where
+  pub holds : Holds space.old space.new text
+  pub told : space.told ≡ length text
+
+-- what `ngc` comes to with these options, with both texts handed over
+pub record ToldIn (files : FileBytes) (options : Options) (output errors : Space) (status : ℕ) :
+    Type 0 where
+  pub text : List ℕ
+  pub lines : List ℕ
+  pub told : Told files options text lines status
+  pub text_handed : HandsOver output text
+  pub lines_handed : HandsOver errors lines
+
+-- the same with options that ask for this
+pub record Answered (files : FileBytes) (Asks : Options → Type 0) (output errors : Space)
+    (status : ℕ) : Type 0 where
+  pub options : Options
+  pub asks : Asks options
+  pub told : ToldIn files options output errors status

@@ -1,0 +1,79 @@
+-- What the calls ask for, by what the command line asks for.
+use Rattle.std.specs.Prelude.{◌≡◌, ◌⊎◌, ◌==◌, ℕ, Bool, true, false, List, [], Option, Some, None, codes}
+use Rattle.std.specs.Prelude.{if◌then◌else◌}
+use Rattle.std.specs.Str.{IsUtf8}
+use Rattle.ngc_command_line.specs.CommandLine.{FromGrbl}
+use Rattle.ngc_command_line.specs.Meant.{AsksForAdapt, AsksForCertify, AsksForCheck, AsksForDraw, AsksForList}
+use Rattle.ngc_command_line.specs.Meant.{AsksForMachine, AsksForReport, AsksForRun, AsksForShow}
+use Rattle.ngc_command_line.specs.declared.options.Format.{Format}
+use Rattle.ngc_command_line.specs.declared.options.Format.TheVariants.{One, Two}
+use Rattle.ngc_command_line.specs.declared.options.Options.{Options}
+use Rattle.ngc_command_line.specs.declared.options.Options.TheVariants as commands
+use Rattle.ngc_command_line.specs.declared.options.Recording.TheVariants.{Pulses}
+
+abbrev pub AsksReport : Bool → Bool → Options → Type 0
+AsksReport all json =
+    AsksForReport (codes "machine") (codes "tools") (Some (codes "program")) None all json
+
+-- the views by their numbers
+abbrev pub view_name : ℕ → List ℕ
+view_name n = if n == 1 then codes "front" else if n == 2 then codes "side" else codes "top"
+
+abbrev pub AsksDraw : ℕ → Bool → Options → Type 0
+AsksDraw view delete =
+    AsksForDraw (codes "machine") (codes "tools") None (Some (codes "program"))
+    (Some (view_name view)) delete
+
+abbrev pub AsksList : Bool → Options → Type 0
+AsksList delete =
+    AsksForList (Some (codes "program")) (Some (codes "machine")) (Some (codes "tools")) delete
+
+-- the versions of a certificate's text
+abbrev pub format_asked : Bool → Format
+format_asked true = Two
+format_asked false = One
+
+abbrev pub AsksCertify : Bool → Options → Type 0
+AsksCertify second =
+    AsksForCertify (codes "machine") (codes "tools") (Some (codes "program")) None
+    (Some (format_asked second))
+
+abbrev pub AsksCheck : Options → Type 0
+AsksCheck =
+    AsksForCheck (codes "machine") (codes "tools") (codes "certificate") (Some (codes "program"))
+
+-- a run without events
+abbrev pub AsksPulses : Bool → Options → Type 0
+AsksPulses delete =
+    AsksForRun Pulses (codes "machine") (codes "tools") (codes "certificate") None
+    (Some (codes "program")) delete
+
+abbrev pub AsksShow : Options → Type 0
+AsksShow = AsksForShow (codes "machine") (Some (codes "tools"))
+
+abbrev pub AsksExplain : ℕ → Options → Type 0
+AsksExplain number options = options ≡ commands.Explain number
+
+-- the controls by their numbers
+abbrev pub control_name : ℕ → List ℕ
+control_name n = if n == 1 then codes "grbl" else if n == 2 then codes "mach3"
+    else if n == 3 then codes "fanuc" else codes "linuxcnc"
+
+-- a tool other than 0 is mounted in front
+abbrev pub tool_asked : ℕ → Option ℕ
+tool_asked n = if n == 0 then None else Some n
+
+-- the codes of a text that isn't empty; one that isn't UTF-8 counts as no list of codes
+abbrev pub AreCodes : List ℕ → Option (List ℕ) → Type 0
+AreCodes text None = text ≡ []
+AreCodes text (Some drop) = (drop ≡ text) ⊎ (¬ IsUtf8 text × (drop ≡ codes "?"))
+
+pub record AsksAdapt (control tool : ℕ) (text : List ℕ) (options : Options) : Type 0 where
+  pub drop : Option (List ℕ)
+  pub are_codes : AreCodes text drop
+  pub asks : AsksForAdapt (control_name control) (Some (codes "machine")) (tool_asked tool) drop
+      (Some (codes "program")) options
+
+-- a machine file from the dump of GRBL's settings that is the file `program`
+abbrev pub AsksMachine : Options → Type 0
+AsksMachine = AsksForMachine (FromGrbl (codes "program")) None None None

@@ -1,0 +1,4 @@
+pub mod Passed
+pub mod Files
+pub mod Asked
+pub mod Answered

@@ -1,0 +1,13 @@
+-- The files that a page passes.
+use Rattle.std.specs.Prelude.{ℕ, List, [], Some, None, codes, if◌then◌else◌}
+use Rattle.std.specs.Str.{bytes_eq}
+use Rattle.ngc_simulator.specs.Setups.{FileBytes}
+
+-- The four files go by their names, and any other file and standard input are empty.
+abbrev pub passed : List ℕ → List ℕ → List ℕ → List ℕ → FileBytes
+passed program machine tools certificate None = Some []
+passed program machine tools certificate (Some name) =
+    if bytes_eq name (codes "program") then Some program
+    else if bytes_eq name (codes "machine") then Some machine
+    else if bytes_eq name (codes "tools") then Some tools
+    else if bytes_eq name (codes "certificate") then Some certificate else Some []

@@ -1,0 +1,70 @@
+//! What every call does once it is known what is asked.
+ghost use Rattle.std.specs.Prelude.{◌≡◌, length};
+ghost use Rattle.ngc_page.specs.Answered.{Holds, Told, ToldIn, space};
+ghost use Rattle.ngc_page.specs.Files.{bytes_of};
+
+use crate::files::PassedFiles;
+use crate::lines::Lines;
+use ngc_command_line::Options;
+use ngc_simulator::answer;
+use ngc_text::Device;
+use std::alloc::Global;
+
+/// The lengths of the two texts in bytes, which may be greater than the space there was for them.
+#[repr(C)]
+pub struct Lengths {
+    pub output: usize,
+    pub errors: usize,
+}
+
+/// What a command writes, and its exit status.
+#[derive(Drop)]
+struct Answer {
+    output: Vec<u8>,
+    errors: Lines,
+    status: u8,
+}
+
+fn answer_in_memory(alloc: Global, options: &Options<'_>, mut files: PassedFiles<'_>) -> Answer
+    ensures { Told (bytes_of files.entry) options.now result.output.items result.errors.taken.items
+        result.status }
+{
+    let mut output = Device::new(Vec::new(alloc));
+    let mut errors = Lines::new();
+    let status = answer(alloc, options, &mut files, &mut output, &mut errors);
+    Answer {
+        output: output.into_inner(),
+        errors,
+        status,
+    }
+}
+
+// Copies as many bytes as both have.
+fn copy_front(text: &[u8], space: &mut [u8])
+    ensures { Holds space.old space.new text.now }
+{
+    let count = text.len().min(space.len());
+    space[..count].copy_from_slice(&text[..count]);
+}
+
+/// Answers a command: its output and the lines of its standard error go to the front of the two
+/// slices, as far as there is space, and the exit status is returned.
+pub fn answer_into(
+    alloc: Global,
+    options: &Options<'_>,
+    files: PassedFiles<'_>,
+    output: &mut [u8],
+    errors: &mut [u8],
+    lengths: &mut Lengths,
+) -> u32
+    ensures { ToldIn (bytes_of files.entry) options.now
+        (space output.old output.new lengths.new.output)
+        (space errors.old errors.new lengths.new.errors) result }
+{
+    let answer = answer_in_memory(alloc, options, files);
+    copy_front(answer.output.as_slice(), output);
+    copy_front(answer.errors.taken.as_slice(), errors);
+    lengths.output = answer.output.len();
+    lengths.errors = answer.errors.taken.len();
+    u32::from(answer.status)
+}

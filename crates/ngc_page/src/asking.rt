@@ -1,0 +1,180 @@
+//! What each call asks for, in the terms of the command line. The files are named `program`,
+//! `machine`, `tools` and `certificate`.
+ghost use Rattle.std.specs.Prelude.{◌≡◌, option_map};
+ghost use Rattle.ngc_page.specs.Asked.{AreCodes, AsksAdapt, AsksCertify, AsksCheck, AsksDraw};
+ghost use Rattle.ngc_page.specs.Asked.{AsksList, AsksMachine, AsksPulses, AsksReport, AsksShow};
+ghost use Rattle.ngc_page.specs.Asked.{control_name, format_asked, tool_asked, view_name};
+
+use ngc_command_line::{
+    AdaptOptions, CertifyOptions, CheckOptions, DrawOptions, Format, ListOptions, MachineOptions,
+    Options, Recording, ReportOptions, RunThroughOptions, ShowOptions,
+};
+
+/// The options of a report.
+pub fn report_options(all: bool, json: bool) -> Options<'static>
+    ensures { AsksReport all json result }
+{
+    Options::Report(ReportOptions {
+        machine: "machine",
+        tools: "tools",
+        program: Some("program"),
+        cuts: 8,
+        all,
+        json,
+    })
+}
+
+fn view_name(view: u32) -> &'static str
+    ensures { result.now ≡ view_name view }
+{
+    match view {
+        1 => "front",
+        2 => "side",
+        _ => "top",
+    }
+}
+
+/// The options of a picture without a certificate.
+pub fn draw_options(view: u32, delete: bool) -> Options<'static>
+    ensures { AsksDraw view delete result }
+{
+    Options::Draw(DrawOptions {
+        machine: "machine",
+        tools: "tools",
+        certificate: None,
+        program: Some("program"),
+        view: Some(view_name(view)),
+        delete,
+    })
+}
+
+/// The options of a listing.
+pub fn list_options(delete: bool) -> Options<'static>
+    ensures { AsksList delete result }
+{
+    Options::List(ListOptions {
+        program: Some("program"),
+        machine: Some("machine"),
+        tools: Some("tools"),
+        delete,
+    })
+}
+
+fn format_asked(second: bool) -> Format
+    ensures { result ≡ format_asked second }
+{
+    if second { Format::Two } else { Format::One }
+}
+
+/// The options of a certificate, in version 2 of the text or in version 1.
+pub fn certify_options(second: bool) -> Options<'static>
+    ensures { AsksCertify second result }
+{
+    Options::Certify(CertifyOptions {
+        machine: "machine",
+        tools: "tools",
+        program: Some("program"),
+        cuts: 8,
+        format: format_asked(second),
+    })
+}
+
+/// The options of a check.
+pub fn check_options() -> Options<'static>
+    ensures { AsksCheck result }
+{
+    Options::Check(CheckOptions {
+        machine: "machine",
+        tools: "tools",
+        certificate: "certificate",
+        program: Some("program"),
+    })
+}
+
+/// The options of a run to the end whose pulses are written.
+pub fn pulses_options(delete: bool) -> Options<'static>
+    ensures { AsksPulses delete result }
+{
+    Options::RunThrough(RunThroughOptions {
+        recording: Recording::Pulses,
+        machine: "machine",
+        tools: "tools",
+        certificate: "certificate",
+        program: Some("program"),
+        delete,
+    })
+}
+
+/// The options of a setup sheet.
+pub fn show_options() -> Options<'static>
+    ensures { AsksShow result }
+{
+    Options::Show(ShowOptions {
+        machine: "machine",
+        tools: Some("tools"),
+    })
+}
+
+fn control_name(control: u32) -> &'static str
+    ensures { result.now ≡ control_name control }
+{
+    match control {
+        1 => "grbl",
+        2 => "mach3",
+        3 => "fanuc",
+        _ => "linuxcnc",
+    }
+}
+
+fn tool_asked(tool: u16) -> Option<u16>
+    ensures { result ≡ tool_asked tool }
+{
+    if tool == 0 { None } else { Some(tool) }
+}
+
+// A text that isn't UTF-8 is refused as one that is no list of codes.
+fn codes_asked(text: &[u8]) -> Option<&str>
+    ensures { AreCodes text.now (option_map (λ codes. codes.now) result) }
+{
+    if text.is_empty() {
+        return None;
+    }
+    match str::from_utf8(text) {
+        Ok(codes) => Some(codes),
+        Err(_) => Some("?"),
+    }
+}
+
+/// The options of adapting a program for another control.
+pub fn adapt_options(control: u32, tool: u16, drop: &[u8]) -> Options<'_>
+    ensures { AsksAdapt control tool drop.now result }
+{
+    Options::Adapt(AdaptOptions {
+        from: control_name(control),
+        machine: Some("machine"),
+        tool: tool_asked(tool),
+        drop: codes_asked(drop),
+        program: Some("program"),
+    })
+}
+
+/// The options of making a machine file from a dump of GRBL's settings, which is the file `program`.
+pub fn machine_options() -> Options<'static>
+    ensures { AsksMachine result }
+{
+    Options::Machine(MachineOptions {
+        grbl: Some("program"),
+        steps: None,
+        travel: None,
+        feed: None,
+        acceleration: None,
+        corner: None,
+        ticks: None,
+        frame: None,
+        jump: None,
+        turn: None,
+        start: None,
+        home28: None,
+        home30: None,
+    })
+}

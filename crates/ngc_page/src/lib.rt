@@ -1,0 +1,286 @@
+//! The program's commands as calls of a static library: files go in as bytes, and what the command
+//! writes comes out as bytes. A web page calls them as WebAssembly.
+//!
+//! Each call writes the command's output and the lines of its standard error to the front of two
+//! slices, as far as there is space, their lengths to `lengths`, and returns the exit status of the
+//! program: 0 for done, 1 where memory ends or a file is too long, 3 for a file or a program
+//! that is refused, 4 for a certificate that is refused or isn't made.
+#![tactic(auto)]
+
+ghost use Rattle.std.specs.Prelude.{[]};
+ghost use Rattle.ngc_page.specs.Answered.{Answered, space};
+ghost use Rattle.ngc_page.specs.Asked.{AsksAdapt, AsksCertify, AsksCheck, AsksDraw, AsksExplain};
+ghost use Rattle.ngc_page.specs.Asked.{AsksList, AsksMachine, AsksPulses, AsksReport, AsksShow};
+ghost use Rattle.ngc_page.specs.Passed.{passed};
+
+mod answering;
+mod asking;
+mod files;
+mod lines;
+
+pub use crate::answering::Lengths;
+use crate::answering::answer_into;
+use crate::asking::{
+    adapt_options, certify_options, check_options, draw_options, list_options, machine_options,
+    pulses_options, report_options, show_options,
+};
+use crate::files::PassedFiles;
+use ngc_command_line::Options;
+use std::alloc::Global;
+
+/// Writes the report of a part program on a machine with its tools. With `all` every command that
+/// nothing clears is in it, and not the first alone; with `json` it is a JSON document.
+#[unsafe(no_mangle)]
+pub extern "C" fn ngc_report(
+    alloc: Global,
+    program: &[u8],
+    machine: &[u8],
+    tools: &[u8],
+    all: bool,
+    json: bool,
+    output: &mut [u8],
+    errors: &mut [u8],
+    lengths: &mut Lengths,
+) -> u32
+    ensures { Answered (passed program.now machine.now tools.now []) (AsksReport all json)
+        (space output.old output.new lengths.new.output)
+        (space errors.old errors.new lengths.new.errors) result }
+{
+    let options = report_options(all, json);
+    let files = PassedFiles {
+        program,
+        machine,
+        tools,
+        certificate: b"",
+    };
+    answer_into(alloc, &options, files, output, errors, lengths)
+}
+
+/// Writes the picture of a part program at a setting of block delete: from the front where `view`
+/// is 1, from the side where it is 2, and else from the top.
+#[unsafe(no_mangle)]
+pub extern "C" fn ngc_draw(
+    alloc: Global,
+    program: &[u8],
+    machine: &[u8],
+    tools: &[u8],
+    view: u32,
+    delete: bool,
+    output: &mut [u8],
+    errors: &mut [u8],
+    lengths: &mut Lengths,
+) -> u32
+    ensures { Answered (passed program.now machine.now tools.now []) (AsksDraw view delete)
+        (space output.old output.new lengths.new.output)
+        (space errors.old errors.new lengths.new.errors) result }
+{
+    let options = draw_options(view, delete);
+    let files = PassedFiles {
+        program,
+        machine,
+        tools,
+        certificate: b"",
+    };
+    answer_into(alloc, &options, files, output, errors, lengths)
+}
+
+/// Writes the commands of a part program at a setting of block delete.
+#[unsafe(no_mangle)]
+pub extern "C" fn ngc_list(
+    alloc: Global,
+    program: &[u8],
+    machine: &[u8],
+    tools: &[u8],
+    delete: bool,
+    output: &mut [u8],
+    errors: &mut [u8],
+    lengths: &mut Lengths,
+) -> u32
+    ensures { Answered (passed program.now machine.now tools.now []) (AsksList delete)
+        (space output.old output.new lengths.new.output)
+        (space errors.old errors.new lengths.new.errors) result }
+{
+    let options = list_options(delete);
+    let files = PassedFiles {
+        program,
+        machine,
+        tools,
+        certificate: b"",
+    };
+    answer_into(alloc, &options, files, output, errors, lengths)
+}
+
+/// Writes a certificate of a part program, in version 2 of the text where `second` is set, and else
+/// in version 1.
+#[unsafe(no_mangle)]
+pub extern "C" fn ngc_certify(
+    alloc: Global,
+    program: &[u8],
+    machine: &[u8],
+    tools: &[u8],
+    second: bool,
+    output: &mut [u8],
+    errors: &mut [u8],
+    lengths: &mut Lengths,
+) -> u32
+    ensures { Answered (passed program.now machine.now tools.now []) (AsksCertify second)
+        (space output.old output.new lengths.new.output)
+        (space errors.old errors.new lengths.new.errors) result }
+{
+    let options = certify_options(second);
+    let files = PassedFiles {
+        program,
+        machine,
+        tools,
+        certificate: b"",
+    };
+    answer_into(alloc, &options, files, output, errors, lengths)
+}
+
+/// Checks a certificate of a part program, and writes that it is accepted.
+#[unsafe(no_mangle)]
+pub extern "C" fn ngc_check(
+    alloc: Global,
+    program: &[u8],
+    machine: &[u8],
+    tools: &[u8],
+    certificate: &[u8],
+    output: &mut [u8],
+    errors: &mut [u8],
+    lengths: &mut Lengths,
+) -> u32
+    ensures { Answered (passed program.now machine.now tools.now certificate.now) AsksCheck
+        (space output.old output.new lengths.new.output)
+        (space errors.old errors.new lengths.new.errors) result }
+{
+    let options = check_options();
+    let files = PassedFiles {
+        program,
+        machine,
+        tools,
+        certificate,
+    };
+    answer_into(alloc, &options, files, output, errors, lengths)
+}
+
+/// Writes the pulses of a run to the end of a part program whose certificate is accepted, at a
+/// setting of block delete.
+#[unsafe(no_mangle)]
+pub extern "C" fn ngc_pulses(
+    alloc: Global,
+    program: &[u8],
+    machine: &[u8],
+    tools: &[u8],
+    certificate: &[u8],
+    delete: bool,
+    output: &mut [u8],
+    errors: &mut [u8],
+    lengths: &mut Lengths,
+) -> u32
+    ensures { Answered (passed program.now machine.now tools.now certificate.now) (AsksPulses delete)
+        (space output.old output.new lengths.new.output)
+        (space errors.old errors.new lengths.new.errors) result }
+{
+    let options = pulses_options(delete);
+    let files = PassedFiles {
+        program,
+        machine,
+        tools,
+        certificate,
+    };
+    answer_into(alloc, &options, files, output, errors, lengths)
+}
+
+/// Writes what a machine file and a tool table say.
+#[unsafe(no_mangle)]
+pub extern "C" fn ngc_show(
+    alloc: Global,
+    machine: &[u8],
+    tools: &[u8],
+    output: &mut [u8],
+    errors: &mut [u8],
+    lengths: &mut Lengths,
+) -> u32
+    ensures { Answered (passed [] machine.now tools.now []) AsksShow
+        (space output.old output.new lengths.new.output)
+        (space errors.old errors.new lengths.new.errors) result }
+{
+    let options = show_options();
+    let files = PassedFiles {
+        program: b"",
+        machine,
+        tools,
+        certificate: b"",
+    };
+    answer_into(alloc, &options, files, output, errors, lengths)
+}
+
+/// Writes a part program for another control as one for this, and the changes to the errors: for GRBL
+/// where `control` is 1, Mach3 where it is 2, Fanuc where it is 3, and else LinuxCNC. A `tool` other
+/// than 0 is mounted in front, and `drop` lists M codes that the machine can do without, or is empty.
+#[unsafe(no_mangle)]
+pub extern "C" fn ngc_adapt(
+    alloc: Global,
+    program: &[u8],
+    machine: &[u8],
+    drop: &[u8],
+    control: u32,
+    tool: u16,
+    output: &mut [u8],
+    errors: &mut [u8],
+    lengths: &mut Lengths,
+) -> u32
+    ensures { Answered (passed program.now machine.now [] []) (AsksAdapt control tool drop.now)
+        (space output.old output.new lengths.new.output)
+        (space errors.old errors.new lengths.new.errors) result }
+{
+    let options = adapt_options(control, tool, drop);
+    let files = PassedFiles {
+        program,
+        machine,
+        tools: b"",
+        certificate: b"",
+    };
+    answer_into(alloc, &options, files, output, errors, lengths)
+}
+
+/// Writes a machine file from a dump of GRBL's settings, and how each number was rounded to the errors.
+#[unsafe(no_mangle)]
+pub extern "C" fn ngc_machine(
+    alloc: Global,
+    settings: &[u8],
+    output: &mut [u8],
+    errors: &mut [u8],
+    lengths: &mut Lengths,
+) -> u32
+    ensures { Answered (passed settings.now [] [] []) AsksMachine
+        (space output.old output.new lengths.new.output)
+        (space errors.old errors.new lengths.new.errors) result }
+{
+    let options = machine_options();
+    let files = PassedFiles {
+        program: settings,
+        machine: b"",
+        tools: b"",
+        certificate: b"",
+    };
+    answer_into(alloc, &options, files, output, errors, lengths)
+}
+
+/// Writes what the fault with this number means.
+#[unsafe(no_mangle)]
+pub extern "C" fn ngc_explain(
+    alloc: Global,
+    number: u16,
+    output: &mut [u8],
+    errors: &mut [u8],
+    lengths: &mut Lengths,
+) -> u32
+    ensures { Answered (passed [] [] [] []) (AsksExplain number)
+        (space output.old output.new lengths.new.output)
+        (space errors.old errors.new lengths.new.errors) result }
+{
+    let options = Options::Explain(number);
+    let files = PassedFiles::none();
+    answer_into(alloc, &options, files, output, errors, lengths)
+}
