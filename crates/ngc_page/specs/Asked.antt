@@ -49,7 +49,7 @@ AsksPulses delete =
     (Some (codes "program")) delete
 
 abbrev pub AsksShow : Options → Type 0
-AsksShow = AsksForShow (codes "machine") (Some (codes "tools"))
+AsksShow = AsksForShow (codes "machine") (Some (codes "tools")) false
 
 abbrev pub AsksExplain : ℕ → Options → Type 0
 AsksExplain number options = options ≡ commands.Explain number

@@ -112,6 +112,7 @@ pub fn show_options() -> Options<'static>
     Options::Show(ShowOptions {
         machine: "machine",
         tools: Some("tools"),
+        warnings: false,
     })
 }
 
