@@ -471,8 +471,8 @@ impl Places {
         }
     }
 
-    // What a line with these words leaves, by its own words, where block delete can't take it out in
-    // these modes.
+    // What a line with these words leaves, by its own words. Where block delete can't take it out, it
+    // leaves `modes`.
     pub(crate) fn after_line(&self, modes: &Places, words: &[Word], may_be_deleted: bool) -> Places
         requires { modes.now ≡ modes_after self.now words.now }
         ensures { result ≡ after_line self.now words.now may_be_deleted }
