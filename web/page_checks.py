@@ -386,7 +386,7 @@ def ended_memory(checks, browser, program, module, examples, folder):
         wanted = (made.returncode, made.stdout, made.stderr)
         given = ", ".join(f"given_{it}" for it in list(kept)[:count])
         seen, wrong = {}, []
-        for pages in (least, least + places // 2, *(least + places + it for it in (1, 3, 5, 7, 9, 12, 16, 20, 24, 28, 36, 48, 64, 96, 160, 256, 512, 4096))):
+        for pages in (least, least + places // 2, *(least + places + it for it in (1, 4, 7, 12, 16, 24, 32, 64, 128, 4096))):
             take_module(browser, with_most_memory(module, pages))
             got = browser.value(f"ask('{export}', [{given}], {choices}).then(it => [it.status, text(it.output), text(it.errors)], it => [it.kind, it.message, ''])")
             got = (got[0], got[1].encode(), got[2].encode())
@@ -452,7 +452,9 @@ CONTRAST = """(() => {
   while (walk.nextNode()) {
     const it = walk.currentNode.parentElement;
     if (!walk.currentNode.data.trim() || !it.checkVisibility() || it.closest('script, style, option, :disabled')) continue;
-    add(it.closest('svg') ? getComputedStyle(it).fill : getComputedStyle(it).color, under(it), walk.currentNode.data);
+    if (!it.closest('svg')) add(getComputedStyle(it).color, under(it), walk.currentNode.data);
+    // The picture's marks may lie on a fixture, which is gray of a share of 0.3 on white. Its legend is on white.
+    else add(getComputedStyle(it).fill, it.closest('tspan') ? [255, 255, 255, 255] : [217, 217, 217, 255], walk.currentNode.data);
   }
   for (const it of document.querySelectorAll('#lines li')) add(getComputedStyle(it, '::before').color, under(it), 'number ' + it.dataset.number);
   for (const it of document.querySelectorAll('input, select')) if (it.checkVisibility()) add(getComputedStyle(it).color, under(it), it.id || it.type);
@@ -629,7 +631,7 @@ def narrow(checks, browser, pictures):
     width, wider = browser.value("document.documentElement.scrollWidth"), browser.value(WIDER)
     checks.expect("with a long file name too", width <= 360 and not wider, (width, wider[:5]))
     show(browser, "low_slot.ngc")
-    small = browser.value("[...document.querySelectorAll('button, select, input, summary')].filter(it => it.checkVisibility()).filter(it => { const label = it.labels?.[0] ?? it; const { width, height } = label.getBoundingClientRect(); return width < 24 || height < 24; }).map(it => it.id || it.textContent)")
+    small = browser.value("[...document.querySelectorAll('button, select, input, summary')].filter(it => it.checkVisibility()).filter(it => { const sizes = [it, ...(it.labels ?? [])].map(it => it.getBoundingClientRect()); return sizes.every(({ width, height }) => width < 24 || height < 24); }).map(it => it.id || it.textContent)")
     checks.expect("each control is at least 24 points wide and high", not small, small)
     if pictures:
         for scheme in ("light", "dark"):
