@@ -114,7 +114,8 @@ def save_each(checks, browser, program, folder, downloads, name, names, more=())
             while not (file.exists() and file.stat().st_size == len(made.stdout)) and time.time() < until:
                 time.sleep(0.05)
             got = file.read_bytes() if file.exists() else None
-            checks.expect(f"{file.name} is saved with the {len(made.stdout)} bytes of `ngc {' '.join(words)}`", got == made.stdout, (said, None if got is None else len(got)))
+            what = f"{file.name} is saved with the {len(made.stdout)} bytes of `ngc {' '.join(words)}`"
+            checks.expect(what, got == made.stdout, (said, None if got is None else len(got)))
             checks.expect("the page says so", said.startswith(f"Saved as {file.name}, {len(made.stdout):,} bytes."), said)
             file.unlink(missing_ok=True)
         else:
@@ -167,7 +168,8 @@ def give_files(checks, browser, program, examples, folder):
 def drag(browser, selector, file, to_drop=True):
     """Drags a file over the middle of an element, and drops it."""
     browser.value(f"document.querySelector({json.dumps(selector)}).scrollIntoView({{ block: 'center' }}); 0")
-    x, y = browser.value(f"(() => {{ const at = document.querySelector({json.dumps(selector)}).getBoundingClientRect(); return [at.x + at.width / 2, at.y + 8]; }})()")
+    place = f"document.querySelector({json.dumps(selector)}).getBoundingClientRect()"
+    x, y = browser.value(f"(({{ x, y, width }}) => [x + width / 2, y + 8])({place})")
     data = {"items": [], "files": [str(file)], "dragOperationsMask": 1}
     for kind in ("dragEnter", "dragOver", *["drop"] * to_drop):
         browser.call("Input.dispatchDragEvent", type=kind, x=x, y=y, data=data)
@@ -211,7 +213,12 @@ def remember(checks, browser, page, program, examples, folder):
     made = native(program, ["report"], folder, (examples / "slot.ngc", examples / "small_mill.toml", examples / "holder_tools.toml"))
     checks.expect("its report is that of `ngc report` for these files", browser.value("element('report').textContent") == made.stdout.decode())
     machine = (examples / "small_mill.toml").read_bytes()
-    for what, data in (("a comment that isn't UTF-8", b"# Fr\xe4se\n" + machine), ("a byte order mark", b"\xef\xbb\xbf" + machine), ("lines that end with CR LF", machine.replace(b"\n", b"\r\n"))):
+    odd = {
+        "a comment that isn't UTF-8": b"# Fr\xe4se\n" + machine,
+        "a byte order mark": b"\xef\xbb\xbf" + machine,
+        "lines that end with CR LF": machine.replace(b"\n", b"\r\n"),
+    }
+    for what, data in odd.items():
         file = folder / "kept.toml"
         file.write_bytes(data)
         choose(browser, "machine", file)
@@ -294,9 +301,13 @@ def large_programs(checks, browser, program, examples, folder):
         choose(browser, "program", file)
         made = native(program, ["report"], folder, (file, machine, tools))
         said, shown = browser.value(VERDICT), browser.value("element('report').textContent")
-        checks.expect(f"a program of {what} has the report and the fault of `ngc report`", shown == made.stdout.decode() and browser.value("element('errors').textContent") == made.stderr.decode(), said)
+        errors = browser.value("element('errors').textContent")
+        same = (shown, errors) == (made.stdout.decode(), made.stderr.decode())
+        checks.expect(f"a program of {what} has the report and the fault of `ngc report`", same, said)
         fault = made.stderr.decode().split()[2:3]
-        checks.expect(f"its sentence is `{said}`", said.startswith("It fits") if not fault else said.endswith(f"Fault {fault[0]}.") and said.startswith(("The program is refused.", "It does not fit.")))
+        is_refused = said.startswith(("The program is refused.", "It does not fit."))
+        is_right = is_refused and said.endswith(f"Fault {fault[0]}.") if fault else said.startswith("It fits")
+        checks.expect(f"its sentence is `{said}`", is_right)
         show(browser, "slot.ngc")
         said = browser.value(VERDICT)
         checks.expect("the next run works", said.startswith("It fits"), said)
@@ -388,14 +399,16 @@ def ended_memory(checks, browser, program, module, examples, folder):
         seen, wrong = {}, []
         for pages in (least, least + places // 2, *(least + places + it for it in (1, 4, 7, 12, 16, 24, 32, 64, 128, 4096))):
             take_module(browser, with_most_memory(module, pages))
-            got = browser.value(f"ask('{export}', [{given}], {choices}).then(it => [it.status, text(it.output), text(it.errors)], it => [it.kind, it.message, ''])")
+            asked = f"ask('{export}', [{given}], {choices})"
+            got = browser.value(f"{asked}.then(it => [it.status, text(it.output), text(it.errors)], it => [it.kind, it.message, ''])")
             got = (got[0], got[1].encode(), got[2].encode())
             kind = "no space" if got[0] == "other" and NO_MEMORY in got[1].decode() else "the bytes of the program" if got == wanted else \
                 f"fault {got[2].split()[2].decode()}" if got[0] == 1 and got[2] in (b"ngc: fault 900\n", b"ngc: fault 902\n") else None
             if not kind:
                 wrong.append((pages, got[0], got[1][:100], got[2][:100]))
             seen[kind] = seen.get(kind, 0) + 1
-        checks.expect(f"{export} with {sum(seen.values())} sizes of memory never traps: {', '.join(f'{it} {times} times' for it, times in seen.items())}", not wrong, wrong)
+        met = ", ".join(f"{it} {times} times" for it, times in seen.items())
+        checks.expect(f"{export} with {sum(seen.values())} sizes of memory never traps: {met}", not wrong, wrong)
         checks.expect(f"{export} has met an end of memory", any(it and it.startswith("fault") for it in seen))
     browser.value(f"files.program.bytes = given_program; 0")
     for pages in (least, least + places + 9):
@@ -413,7 +426,8 @@ def ended_memory(checks, browser, program, module, examples, folder):
 def traps(checks, browser, module):
     trap = browser.value("ask('ngc_check', given(), [1n << 50n, 10n]).then(() => 'none', it => it.kind + ': ' + it.message)")
     checks.expect("a call with an address outside of the memory traps, and the page sees a trap", trap.startswith("trap: RuntimeError"), trap)
-    same = browser.value("(async () => { const before = worker; const { status } = await ask('ngc_report', given(), [0, 0]); return status === 0 && worker === before; })()")
+    browser.value("window.before = worker; 0")
+    same = browser.value("ask('ngc_report', given(), [0, 0]).then(it => it.status === 0 && worker === before)")
     checks.expect("the next call of the same worker works", same)
     take_module(browser, with_little_stack(module, 64))
     show(browser, "slot.ngc")
@@ -443,28 +457,60 @@ SHOWN = "it.checkVisibility() && it.getClientRects().length"
 # The least contrast of each text that is shown, as [contrast, text, colours]. Disabled controls may be weaker.
 CONTRAST = """(() => {
   const canvas = document.createElement('canvas').getContext('2d', { willReadFrequently: true });
-  const colour = name => { canvas.clearRect(0, 0, 1, 1); canvas.fillStyle = name; canvas.fillRect(0, 0, 1, 1); return [...canvas.getImageData(0, 0, 1, 1).data]; };
-  const light = ([r, g, b]) => [.2126, .7152, .0722].reduce((sum, share, at) => { const c = [r, g, b][at] / 255; return sum + share * (c <= .04045 ? c / 12.92 : ((c + .055) / 1.055) ** 2.4); }, 0);
-  const under = it => { for (; it; it = it.parentElement) { const c = colour(getComputedStyle(it).backgroundColor); if (c[3] === 255) return c; } return colour('Canvas'); };
+  // Red, green, blue and opacity of a colour, from 0 to 255.
+  const colour = name => {
+    canvas.clearRect(0, 0, 1, 1);
+    canvas.fillStyle = name;
+    canvas.fillRect(0, 0, 1, 1);
+    return [...canvas.getImageData(0, 0, 1, 1).data];
+  };
+  // The relative luminance of WCAG 2, and the ratio of two.
+  const linear = c => c <= .04045 ? c / 12.92 : ((c + .055) / 1.055) ** 2.4;
+  const light = parts => [.2126, .7152, .0722].reduce((sum, share, at) => sum + share * linear(parts[at] / 255), 0);
+  const ratio = (a, b) => (Math.max(a, b) + .05) / (Math.min(a, b) + .05);
+  const ground = it => {
+    const found = it ? colour(getComputedStyle(it).backgroundColor) : colour('Canvas');
+    return !it || found[3] === 255 ? found : ground(it.parentElement);
+  };
   const found = [];
-  const add = (ink, ground, text) => { const [a, b] = [light(colour(ink)), light(ground)]; found.push([(Math.max(a, b) + .05) / (Math.min(a, b) + .05), text.trim().slice(0, 40), ink, ground.join()]); };
+  const add = (ink, under, text) => found.push([ratio(light(colour(ink)), light(under)), text.trim().slice(0, 40), ink, under.join()]);
+  const shown = selector => [...document.querySelectorAll(selector)].filter(it => it.checkVisibility());
   const walk = document.createTreeWalker(document.body, NodeFilter.SHOW_TEXT);
   while (walk.nextNode()) {
     const it = walk.currentNode.parentElement;
     if (!walk.currentNode.data.trim() || !it.checkVisibility() || it.closest('script, style, option, :disabled')) continue;
-    if (!it.closest('svg')) add(getComputedStyle(it).color, under(it), walk.currentNode.data);
+    if (!it.closest('svg')) add(getComputedStyle(it).color, ground(it), walk.currentNode.data);
     // The picture's marks may lie on a fixture, which is gray of a share of 0.3 on white. Its legend is on white.
     else add(getComputedStyle(it).fill, it.closest('tspan') ? [255, 255, 255, 255] : [217, 217, 217, 255], walk.currentNode.data);
   }
-  for (const it of document.querySelectorAll('#lines li')) add(getComputedStyle(it, '::before').color, under(it), 'number ' + it.dataset.number);
-  for (const it of document.querySelectorAll('input, select')) if (it.checkVisibility()) add(getComputedStyle(it).color, under(it), it.id || it.type);
-  for (const it of document.querySelectorAll('input[placeholder]')) if (it.checkVisibility()) add(getComputedStyle(it, '::placeholder').color, under(it), it.placeholder);
-  for (const it of document.querySelectorAll('input[type=file]')) if (it.checkVisibility()) { const s = getComputedStyle(it, '::file-selector-button'), c = colour(s.backgroundColor); add(s.color, c[3] === 255 ? c : under(it), 'the button of a file field'); }
+  for (const it of shown('#lines li')) add(getComputedStyle(it, '::before').color, ground(it), `number ${it.dataset.number}`);
+  for (const it of shown('input, select')) add(getComputedStyle(it).color, ground(it), it.id || it.type);
+  for (const it of shown('input[placeholder]')) add(getComputedStyle(it, '::placeholder').color, ground(it), it.placeholder);
+  for (const it of shown('input[type=file]')) {
+    const { color, backgroundColor } = getComputedStyle(it, '::file-selector-button'), own = colour(backgroundColor);
+    add(color, own[3] === 255 ? own : ground(it), 'the button of a file field');
+  }
   return found;
 })()"""
-WIDER = """[...document.body.querySelectorAll('*')].filter(it => it.checkVisibility() && !it.closest('svg') && it.getBoundingClientRect().right > innerWidth + .5)
+WIDER = """[...document.body.querySelectorAll('*')]
+  .filter(it => it.checkVisibility() && !it.closest('svg') && it.getBoundingClientRect().right > innerWidth + .5)
   .map(it => `${it.tagName} ${it.id} ${it.textContent.trim().slice(0, 30)} ${it.getBoundingClientRect().right}`)"""
-FOCUSED = "(() => { const it = document.activeElement; if (!it || it === document.body) return ''; it.dataset.met = 'yes'; return it.id || it.textContent.trim().slice(0, 20) || it.tagName; })()"
+# The controls that are less than 24 points wide or high, with their labels.
+SMALL = """[...document.querySelectorAll('button, select, input, summary')].filter(it => it.checkVisibility())
+  .filter(it => [it, ...(it.labels ?? [])].map(it => it.getBoundingClientRect()).every(({ width, height }) => width < 24 || height < 24))
+  .map(it => it.id || it.textContent)"""
+LONG_NAME = """put('program', 'a_name_' + 'that_is_long_'.repeat(12) + '.ngc', files.program.bytes);
+  element('saved').textContent = `Saved as ${files.program.name}`; 0"""
+REACHABLE = """[...document.querySelectorAll('button:enabled, input:enabled, select:enabled, summary, [tabindex="0"]')]
+  .filter(it => it.checkVisibility() && it.getClientRects().length)"""
+MARK_FOCUSED = "document.activeElement.dataset.met = 'yes'; 0"
+MISSED = f"{REACHABLE}.filter(it => !it.dataset.met).map(it => it.id || it.outerHTML.slice(0, 60))"
+RINGLESS = f"{REACHABLE}.filter(it => {{ it.focus({{ focusVisible: true }}); return getComputedStyle(it).outlineStyle === 'none'; }}).length"
+IN_SIGHT = """(() => {
+  const line = document.querySelector('#lines [aria-selected=true]').getBoundingClientRect(), list = element('lines').getBoundingClientRect();
+  return line.bottom <= list.bottom + 1 && line.top >= list.top - 1;
+})()"""
+DUPLICATES = "[...document.querySelectorAll('[id]')].map(it => it.id).filter((it, at, all) => all.indexOf(it) !== at)"
 
 
 def media(browser, scheme):
@@ -503,7 +549,7 @@ def names_and_roles(checks, browser):
     checks.expect("the tree has a heading, a main part and a status", {"heading", "main", "status"} <= roles, sorted(map(str, roles)))
     options = [it for it in nodes if it.get("role", {}).get("value") == "option" and not it.get("ignored")]
     checks.expect("each option has a name", all(it.get("name", {}).get("value") for it in options), len(options))
-    duplicates = browser.value("(() => { const all = [...document.querySelectorAll('[id]')].map(it => it.id); return all.filter((it, at) => all.indexOf(it) !== at); })()")
+    duplicates = browser.value(DUPLICATES)
     checks.expect("no two elements have the same id", not duplicates, duplicates)
 
 
@@ -517,14 +563,15 @@ def contrasts(checks, browser):
             found = browser.value(CONTRAST)
             least = min(found)
             weak = sorted({tuple(it) for it in found if it[0] < 4.5})
-            checks.expect(f"in {scheme} mode each of {len(found)} texts of {example} has a contrast of at least 4.5 (the least is {least[0]:.2f}, `{least[1]}`)", not weak, weak[:5])
+            what = f"in {scheme} mode each of {len(found)} texts of {example} has a contrast of at least 4.5"
+            checks.expect(f"{what} (the least is {least[0]:.2f}, `{least[1]}`)", not weak, weak[:5])
     media(browser, "light")
 
 
-def press(browser, key, code=None, number=0, text=None, modifiers=0):
-    more = {"text": text} if text else {}
-    for kind in ("keyDown", "keyUp"):
-        browser.call("Input.dispatchKeyEvent", type=kind, key=key, code=code or key, windowsVirtualKeyCode=number, modifiers=modifiers, **(more if kind == "keyDown" else {}))
+def press(browser, key, code=None, number=0, text=None):
+    keys = {"key": key, "code": code or key, "windowsVirtualKeyCode": number}
+    browser.call("Input.dispatchKeyEvent", type="keyDown", **keys, **({"text": text} if text else {}))
+    browser.call("Input.dispatchKeyEvent", type="keyUp", **keys)
 
 
 def tab(browser):
@@ -551,15 +598,12 @@ def keyboard(checks, browser, examples):
     enter(browser)
     checks.expect("Enter on the summary opens the part for other controls", browser.value("document.querySelector('details').open"))
     browser.value("document.activeElement.blur(); 0")
-    order = []
     for _ in range(90):
         tab(browser)
-        order.append(browser.value(FOCUSED))
-    focusable = "button:enabled, input:enabled, select:enabled, summary, [tabindex=\"0\"]"
-    missed = browser.value(f"[...document.querySelectorAll('{focusable}')].filter(it => {SHOWN} && !it.dataset.met).map(it => it.id || it.outerHTML.slice(0, 60))")
-    count = browser.value(f"[...document.querySelectorAll('{focusable}')].filter(it => {SHOWN}).length")
+        browser.value(MARK_FOCUSED)
+    missed, count = browser.value(MISSED), browser.value(f"{REACHABLE}.length")
     checks.expect(f"the Tab key reaches each of the {count} controls that aren't disabled, and leaves each", not missed, missed)
-    ringed = browser.value(f"[...document.querySelectorAll('{focusable}')].filter(it => {SHOWN}).filter(it => {{ it.focus({{ focusVisible: true }}); return getComputedStyle(it).outlineStyle === 'none'; }}).length")
+    ringed = browser.value(RINGLESS)
     checks.expect("each shows that it has the focus", ringed == 0, ringed)
     browser.value("document.activeElement.blur(); 0")
     tab_to(browser, "document.querySelector('[data-view=\"2\"]')")
@@ -574,7 +618,8 @@ def keyboard(checks, browser, examples):
     moved = browser.value("frame.join()")
     press(browser, "0", number=48, text="0")
     after = browser.value("frame.join()")
-    checks.expect("in the picture + zooms, an arrow moves, and 0 shows the whole", before != zoomed != moved and after == before, (before, zoomed, moved, after))
+    is_right = before != zoomed != moved and after == before
+    checks.expect("in the picture + zooms, an arrow moves, and 0 shows the whole", is_right, (before, zoomed, moved, after))
     tab_to(browser, "element('lines')")
     chosen = "document.querySelector('#lines [aria-selected=true]').dataset.number"
     press(browser, "Home", number=36)
@@ -586,8 +631,7 @@ def keyboard(checks, browser, examples):
     checks.expect("in the list Home, an arrow and End choose lines", (first, second) == ("1", "2") and int(last) > 10, (first, second, last))
     active = browser.value("document.getElementById(element('lines').getAttribute('aria-activedescendant')).dataset.number")
     checks.expect("the list names the chosen line as its active one", active == last, active)
-    in_sight = browser.value("(() => { const a = document.querySelector('#lines [aria-selected=true]').getBoundingClientRect(), b = element('lines').getBoundingClientRect(); return a.bottom <= b.bottom + 1 && a.top >= b.top - 1; })()")
-    checks.expect("the chosen line is in sight", in_sight)
+    checks.expect("the chosen line is in sight", browser.value(IN_SIGHT))
     browser.value("document.querySelector('details').open = false; document.activeElement.blur(); 0")
     tab_to(browser, "element('all')")
     press(browser, " ", code="Space", number=32, text=" ")
@@ -627,11 +671,11 @@ def narrow(checks, browser, pictures):
         width = browser.value("document.documentElement.scrollWidth")
         wider = browser.value(WIDER)
         checks.expect(f"in a window of 360 points the page with {example} is 360 points wide", width <= 360 and not wider, (width, wider[:5]))
-    browser.value("files.program.name = 'a_name_' + 'that_is_long_'.repeat(12) + '.ngc'; put('program', files.program.name, files.program.bytes); element('saved').textContent = `Saved as ${files.program.name}`; 0")
+    browser.value(LONG_NAME)
     width, wider = browser.value("document.documentElement.scrollWidth"), browser.value(WIDER)
     checks.expect("with a long file name too", width <= 360 and not wider, (width, wider[:5]))
     show(browser, "low_slot.ngc")
-    small = browser.value("[...document.querySelectorAll('button, select, input, summary')].filter(it => it.checkVisibility()).filter(it => { const sizes = [it, ...(it.labels ?? [])].map(it => it.getBoundingClientRect()); return sizes.every(({ width, height }) => width < 24 || height < 24); }).map(it => it.id || it.textContent)")
+    small = browser.value(SMALL)
     checks.expect("each control is at least 24 points wide and high", not small, small)
     if pictures:
         for scheme in ("light", "dark"):
