@@ -291,7 +291,7 @@ def large_programs(checks, browser, program, examples, folder):
     machine, tools = examples / "clamped_mill.toml", examples / "tools.toml"
     comment = b"(" + b"x" * 198 + b")"
     lines = {
-        "20 MB in 1,250,000 lines": long_program(1_333_000)[:20_000_000],
+        "20 MB in more than a million lines": long_program(1_333_000)[:20_000_000],
         "20 MB in one line": b"(" + b"x" * 20_000_000,
         "20 MB in 95,012 lines": long_program(95_000).replace(b" Y30\n", b" Y30 " + comment + b"\n"),
     }
