@@ -49,7 +49,7 @@ def show(browser, example):
 def choose(browser, kind, file):
     """Chooses a file in a field, and waits until the page has judged it."""
     browser.choose(f"#field-{kind} input", file)
-    browser.wait(f"element('name-{kind}').textContent === {json.dumps(named(file))} && {IDLE}")
+    browser.wait(f"element('name-{kind}').textContent === {json.dumps(named(file))} && {IDLE}", 300)
 
 
 def named(file):
