@@ -3,6 +3,7 @@
 Both classes have the same calls: `value` evaluates an expression in the page, `wait` waits until one holds, `open` opens a file,
 `choose` gives a file to a field, `picture` takes a picture, and `complaints` returns what the browser wrote to its console.
 """
+import atexit
 import base64
 import fcntl
 import json
@@ -69,6 +70,7 @@ class Chromium(Browser):
         quiet = {"stdout": subprocess.DEVNULL, "stderr": subprocess.DEVNULL}
         command = command_of(self.NAMES, "Chromium")
         self.process = subprocess.Popen([command, *flags, "about:blank"], preexec_fn=place, close_fds=False, **quiet)
+        atexit.register(self.process.kill)
         os.close(read)
         os.close(write)
         self.number, self.buffer, self.target, self.events = 0, b"", {}, []
@@ -195,6 +197,7 @@ class Firefox(Browser):
         command = [command_of(self.NAMES, "Firefox"), "--headless", "--no-remote", "--profile", folder, "--remote-debugging-port", "0", "about:blank"]
         quiet = {"stdout": subprocess.DEVNULL, "stderr": subprocess.DEVNULL}
         self.process = subprocess.Popen(command, env={**os.environ, "HOME": str(folder)}, **quiet)
+        atexit.register(self.process.kill)
         told, until = folder / "WebDriverBiDiServer.json", time.time() + 60
         while not (told.exists() and told.read_text().strip().endswith("}")):
             if time.time() > until or self.process.poll() is not None:
