@@ -106,6 +106,8 @@ def save_each(checks, browser, program, folder, downloads, name, names, more=())
                 made = native(program, [*words, "--certificate", "saved.cert"], folder, names)
         else:
             made = native(program, words, folder, names if count == 3 else (None, *names[1:]))
+        # Chromium drops what a page saves beyond ten files a second.
+        time.sleep(0.2)
         browser.value(f"document.querySelector('[data-save={key}]').click(); 0")
         browser.wait(f"{SAVED} !== 'Working.'")
         said = browser.value(SAVED)
