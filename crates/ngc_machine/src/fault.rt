@@ -14,7 +14,8 @@ pub enum FileFault {
     /// 263: not 1 to 1,000,000.
     #[error("the ticks per second are out of range")]
     TicksPerSecond,
-    /// 264: not 1 to 1,000,000, the bound for arcs not 1 to 10^12.
+    /// 264: a rate not 1 to 1,000,000, the bound for arcs not 1 to 10^12, a jump over 1,000,000, a
+    /// ring not 16 to 1,024, or a feed of arcs not 0 or 1.
     #[error("a rate is out of range")]
     Rates,
     /// 265: a limit over 10^9 nm in size or above its counterpart, or a start point beyond them or

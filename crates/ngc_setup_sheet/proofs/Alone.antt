@@ -10,7 +10,7 @@ use Rattle.ngc_text.specs.Collected.{WritesFront}
 use Rattle.ngc_machine.specs.Machine.{MachineFile}
 use Rattle.ngc_machine.specs.declared.machine.Fixture.{Fixture}
 use Rattle.ngc_machine.specs.declared.tools.Tool.{Tool}
-use Rattle.ngc_setup_sheet.specs.Sheets.{fixture_lines, fixtures_from, tool_lines, is_warning, as_fact}
+use Rattle.ngc_setup_sheet.specs.Sheets.{fixture_lines, fixtures_from, tool_lines, is_warning, as_fact, as_remark}
 use Rattle.ngc_setup_sheet.specs.Spelling.{line_text, lines_text}
 use Rattle.ngc_setup_sheet.specs.Writes.{Writes, styled, chosen}
 use Rattle.ngc_setup_sheet.specs.declared.line.Line.{Line}
@@ -25,14 +25,17 @@ use Rattle.ngc_setup_sheet.proofs.Steps.{next_fixture, next_tool}
 pub chosen-append : (s : Style) (a b : List Line) → chosen s (a ++ b) ≡ chosen s a ++ chosen s b
 chosen-append styles.Lines a b = filter-append is_warning a b
 chosen-append styles.Facts a b = ap (map as_fact) (filter-append is_warning a b) ∙ map-append as_fact (filter is_warning a) (filter is_warning b)
+chosen-append styles.Remarks a b = ap (map as_remark) (filter-append is_warning a b) ∙ map-append as_remark (filter is_warning a) (filter is_warning b)
 
 pub told : (s : Style) (l : Line) → is_warning l ≡ true → line_text (styled s l) ≡ lines_text (chosen s (l ∷ []))
 told styles.Lines l h = sym (ap (λ b. lines_text (cond b (l ∷ []) [])) h ∙ append-nil (line_text l))
 told styles.Facts l h = sym (ap (λ b. lines_text (map as_fact (cond b (l ∷ []) []))) h ∙ append-nil (line_text (as_fact l)))
+told styles.Remarks l h = sym (ap (λ b. lines_text (map as_remark (cond b (l ∷ []) []))) h ∙ append-nil (line_text (as_remark l)))
 
 pub untold : (s : Style) (l : Line) → is_warning l ≡ false → [] ≡ chosen s (l ∷ [])
 untold styles.Lines l h = sym (ap (λ b. cond b (l ∷ []) []) h)
 untold styles.Facts l h = sym (ap (λ b. map as_fact (cond b (l ∷ []) [])) h)
+untold styles.Remarks l h = sym (ap (λ b. map as_remark (cond b (l ∷ []) [])) h)
 
 abbrev pub told_of : Style → Line → List ℕ
 told_of s l = lines_text (chosen s (l ∷ []))
@@ -40,6 +43,7 @@ told_of s l = lines_text (chosen s (l ∷ []))
 chosen_none : (s : Style) → [] ≡ lines_text (chosen s [])
 chosen_none styles.Lines = refl
 chosen_none styles.Facts = refl
+chosen_none styles.Remarks = refl
 
 pub told_of_all : (s : Style) (ls : List Line) → flat_map (told_of s) ls ≡ lines_text (chosen s ls)
 told_of_all s [] = chosen_none s

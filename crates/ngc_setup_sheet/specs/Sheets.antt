@@ -1,6 +1,6 @@
 -- What a setup sheet tells of a machine and of its tools. Our own.
 use Rattle.std.specs.Prelude.{ℕ, ◌+◌, min, nat_lt, ℤ, pos, ◌+ℤ◌, ◌*ℤ◌, List, [], ◌∷◌, ◌++◌, map}
-use Rattle.std.specs.Prelude.{filter, flat_map, Bool, true, false, ◌&&◌, if◌then◌else◌}
+use Rattle.std.specs.Prelude.{filter, flat_map, ◌==◌, Bool, true, false, not, ◌&&◌, if◌then◌else◌}
 use Rattle.std.specs.Ordering.{int_eq}
 use Rattle.ngc_fixed_length.specs.declared.modes.System.{System}
 use Rattle.ngc_fixed_length.specs.declared.modes.System.TheVariants as systems
@@ -56,6 +56,14 @@ jump_facts m =
     line_where (nat_lt 0 m.jump)
     (lines.Fact facts.Jump (figures.Speed (millimetres_a_minute m m.jump)))
 
+-- how many commands the ring takes, where that isn't 16, and the feed on arcs, where it is kept at
+-- each place
+abbrev pub ring_facts : MachineFile → List Line
+ring_facts m = line_where (not (m.ring == 16)) (lines.Fact facts.Ring (figures.Count m.ring))
+
+abbrev pub arc_feed_facts : MachineFile → List Line
+arc_feed_facts m = line_where m.arc_feed (lines.Fact facts.ArcFeed figures.ByPlace)
+
 abbrev pub rate_facts : MachineFile → List Line
 rate_facts m =
     lines.Fact facts.Acceleration (figures.Acceleration (acceleration m m.change)) ∷
@@ -110,8 +118,8 @@ machine_warnings m =
 
 unfoldable pub machine_lines : MachineFile → Reach → List Line
 machine_lines m r =
-    step_facts m ++ (jump_facts m ++ (rate_facts m ++ (machine_places m ++
-    (origins_from m r systems.First m.origins ++ machine_warnings m))))
+    step_facts m ++ (jump_facts m ++ (rate_facts m ++ (ring_facts m ++ (arc_feed_facts m ++
+    (machine_places m ++ (origins_from m r systems.First m.origins ++ machine_warnings m))))))
 
 -- ---- fixtures
 
@@ -183,3 +191,14 @@ as_fact l = l
 -- an object for each warning, in the order of the sheet
 abbrev pub warning_facts : MachineFile → List Tool → List ℕ
 warning_facts m tools = lines_text (map as_fact (filter is_warning (sheet m tools)))
+
+-- ---- the same warnings for a machine file
+
+-- a warning as a comment of it
+abbrev pub as_remark : Line → Line
+as_remark (lines.Warning w) = lines.WarningRemark w
+as_remark l = l
+
+-- a comment for each warning, in the order of the sheet
+abbrev pub warning_remarks : MachineFile → List Tool → List ℕ
+warning_remarks m tools = lines_text (map as_remark (filter is_warning (sheet m tools)))

@@ -57,6 +57,8 @@ fact_text facts.Ticks = codes "  ticks                 "
 fact_text facts.GreatestSpeed = codes "  greatest speed        "
 fact_text facts.CornerSpeed = codes "  speed at corners      "
 fact_text facts.Jump = codes "  jump at corners       "
+fact_text facts.Ring = codes "  commands in the ring  "
+fact_text facts.ArcFeed = codes "  feed on arcs          "
 fact_text facts.Acceleration = codes "  acceleration          "
 fact_text facts.ArcAcceleration = codes "  acceleration on arcs  "
 fact_text (facts.Speed axes.X) = codes "  speed of X            "
@@ -79,6 +81,8 @@ unfoldable pub figure_text : Figure → List ℕ
 figure_text (figures.Length z) = mm_text z
 figure_text (figures.PerMillimetre n) = thousandths_text n ++ codes " a mm"
 figure_text (figures.PerSecond n) = decimal n ++ codes " a second"
+figure_text (figures.Count n) = decimal n
+figure_text figures.ByPlace = codes "at each place"
 figure_text (figures.Speed n) = thousandths_text n ++ codes " mm/min"
 figure_text (figures.Acceleration n) = thousandths_text n ++ codes " mm/s^2"
 figure_text (figures.Span s) = span_text s
@@ -110,6 +114,10 @@ warning_text (warnings.Offset n) = codes "tool " ++ decimal n
 abbrev pub warning_object : Warning → List ℕ
 warning_object w = codes ",\n{\"fact\":\"warning\",\"text\":\"" ++ warning_text w ++ codes "\"}"
 
+-- a comment of a TOML document, on a line of its own: it ends at the line feed
+abbrev pub warning_remark : Warning → List ℕ
+warning_remark w = codes "# Warning: " ++ warning_text w ++ codes "\n"
+
 abbrev pub line_text : Line → List ℕ
 line_text lines.Machine = codes "machine\n"
 line_text (lines.Fixture n) = codes "fixture " ++ decimal n ++ codes "\n"
@@ -117,6 +125,7 @@ line_text (lines.Tool n) = codes "tool " ++ decimal n ++ codes "\n"
 line_text (lines.Fact f figure) = fact_text f ++ figure_text figure ++ codes "\n"
 line_text (lines.Warning w) = codes "warning: " ++ warning_text w ++ codes "\n"
 line_text (lines.WarningFact w) = warning_object w
+line_text (lines.WarningRemark w) = warning_remark w
 
 abbrev pub lines_text : List Line → List ℕ
 lines_text told = flat_map line_text told

@@ -24,4 +24,4 @@ pub use mistake::{Ask, Bounds, Each, Mistake, Rule, Section, Word};
 pub use mistaken::{write_machine_mistake, write_tools_mistake};
 pub use quoted::Seek;
 pub use sheet::write_sheet;
-pub use warned::{write_warning_facts, write_warnings};
+pub use warned::{write_warning_facts, write_warning_remarks, write_warnings};

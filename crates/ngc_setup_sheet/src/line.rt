@@ -26,6 +26,10 @@ pub enum Fact {
     CornerSpeed,
     /// How much an axis' speed may change at once where two motions meet.
     Jump,
+    /// How many commands are loaded and not done at most.
+    Ring,
+    /// Where the feed of an arc is kept.
+    ArcFeed,
     Acceleration,
     /// The greatest acceleration towards the centre of an arc.
     ArcAcceleration,
@@ -54,6 +58,9 @@ pub enum Figure {
     Length(i64),
     PerMillimetre(u128),
     PerSecond(u32),
+    Count(u32),
+    /// At each place.
+    ByPlace,
     /// In thousandths of a millimetre a minute.
     Speed(u128),
     /// In thousandths of a millimetre per second squared.
@@ -84,7 +91,7 @@ pub enum Warning {
     Offset(u32),
 }
 
-/// A line of a setup sheet, or what stands in a JSON document in place of a warning.
+/// A line of a setup sheet, or what stands elsewhere in place of a warning.
 #[derive(Clone, Copy)]
 pub enum Line {
     /// What follows is of the machine.
@@ -97,6 +104,8 @@ pub enum Line {
     Warning(Warning),
     /// The warning as an object of a JSON document.
     WarningFact(Warning),
+    /// The warning as a comment of a machine file.
+    WarningRemark(Warning),
 }
 
 impl Default for Line {

@@ -7,8 +7,8 @@ ghost use Rattle.ngc_setup_sheet.specs.Reaches.{IsReach};
 ghost use Rattle.ngc_fixed_length.specs.declared.modes.System.TheVariants as systems;
 ghost use Rattle.ngc_setup_sheet.specs.declared.line.Figure.TheVariants as figures;
 ghost use Rattle.ngc_setup_sheet.specs.Sheets.{line_where, warned, from, axis_speed, step_facts};
-ghost use Rattle.ngc_setup_sheet.specs.Sheets.{jump_facts, rate_facts, machine_places, is_zero};
-ghost use Rattle.ngc_setup_sheet.specs.Sheets.{origin_lines, next_system, origins_from};
+ghost use Rattle.ngc_setup_sheet.specs.Sheets.{jump_facts, ring_facts, arc_feed_facts, rate_facts, machine_places};
+ghost use Rattle.ngc_setup_sheet.specs.Sheets.{is_zero, origin_lines, next_system, origins_from};
 ghost use Rattle.ngc_setup_sheet.specs.Sheets.{machine_warnings, machine_lines, fixture_facts};
 ghost use Rattle.ngc_setup_sheet.specs.Sheets.{fixture_lines, part_line, part_lines, tool_facts};
 ghost use Rattle.ngc_setup_sheet.specs.Sheets.{tool_lines};
@@ -97,6 +97,27 @@ fn add_jump<A: Allocator>(lines: &mut Lines, machine: &Machine<A>)
 {
     let speed = Figure::Speed(millimetres_a_minute(machine, machine.jump));
     add_where(lines, 0 < machine.jump, Line::Fact(Fact::Jump, speed));
+}
+
+fn add_ring<A: Allocator>(lines: &mut Lines, machine: &Machine<A>)
+    requires { array_vec_len lines.old < 48 }
+    ensures items { lines.new.items ≡ lines.old.items ++ ring_facts (file_of machine.now) }
+    ensures few { array_vec_len lines.new ≤ array_vec_len lines.old + 1 }
+{
+    let ring = Line::Fact(Fact::Ring, Figure::Count(machine.ring));
+    add_where(lines, machine.ring != 16, ring);
+}
+
+fn add_arc_feed<A: Allocator>(lines: &mut Lines, machine: &Machine<A>)
+    requires { array_vec_len lines.old < 48 }
+    ensures items { lines.new.items ≡ lines.old.items ++ arc_feed_facts (file_of machine.now) }
+    ensures few { array_vec_len lines.new ≤ array_vec_len lines.old + 1 }
+{
+    add_where(
+        lines,
+        machine.arc_feed,
+        Line::Fact(Fact::ArcFeed, Figure::ByPlace),
+    );
 }
 
 fn rate_facts<A: Allocator>(machine: &Machine<A>) -> [Line; 5]
@@ -238,6 +259,8 @@ pub(crate) fn machine_lines<A: Allocator>(machine: &Machine<A>, reach: &Reach) -
     add_all(&mut lines, &step_facts(machine));
     add_jump(&mut lines, machine);
     add_all(&mut lines, &rate_facts(machine));
+    add_ring(&mut lines, machine);
+    add_arc_feed(&mut lines, machine);
     add_all(&mut lines, &machine_places(machine));
     add_origins(&mut lines, machine, reach, &machine.origins);
     warn_of_machine(&mut lines, machine);

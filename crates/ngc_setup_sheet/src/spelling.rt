@@ -5,7 +5,7 @@ ghost use Rattle.ngc_text.specs.Millimetres.{mm_text};
 ghost use Rattle.ngc_setup_sheet.specs.Spelling.{thousandths_text, span_text, place_text};
 ghost use Rattle.ngc_setup_sheet.specs.Spelling.{system_text, origin_text, fact_text};
 ghost use Rattle.ngc_setup_sheet.specs.Spelling.{figure_text, warning_text};
-ghost use Rattle.ngc_setup_sheet.specs.Spelling.{warning_object, line_text};
+ghost use Rattle.ngc_setup_sheet.specs.Spelling.{warning_object, warning_remark, line_text};
 
 use crate::line::{Axis, Fact, Figure, Line, Span, Warning};
 use itoa::Integer;
@@ -94,6 +94,8 @@ fn fact(fact: &Fact) -> &'static [u8]
         Fact::GreatestSpeed => b"  greatest speed        ",
         Fact::CornerSpeed => b"  speed at corners      ",
         Fact::Jump => b"  jump at corners       ",
+        Fact::Ring => b"  commands in the ring  ",
+        Fact::ArcFeed => b"  feed on arcs          ",
         Fact::Acceleration => b"  acceleration          ",
         Fact::ArcAcceleration => b"  acceleration on arcs  ",
         Fact::Speed(Axis::X) => b"  speed of X            ",
@@ -159,6 +161,8 @@ fn add_figure(chunk: &mut Chunk, figure: &Figure)
         Figure::Length(nanometres) => chunk.add_millimetres(i128::from(*nanometres)),
         Figure::PerMillimetre(number) => add_rounded(chunk, *number, b" a mm"),
         Figure::PerSecond(number) => add_numbered(chunk, b"", *number, b" a second"),
+        Figure::Count(number) => chunk.add_number(*number),
+        Figure::ByPlace => chunk.add_text(b"at each place"),
         Figure::Speed(number) => add_rounded(chunk, *number, b" mm/min"),
         Figure::Acceleration(number) => add_rounded(chunk, *number, b" mm/s^2"),
         Figure::Span(span) => add_span(chunk, span),
@@ -256,6 +260,15 @@ fn add_warning_object(chunk: &mut Chunk, warning: &Warning)
     chunk.add_text(b"\"}");
 }
 
+fn add_warning_remark(chunk: &mut Chunk, warning: &Warning)
+    requires { HasLineRoom chunk.old }
+    ensures { chunk.new ≡ chunk.old ++ warning_remark warning.now }
+{
+    chunk.add_text(b"# Warning: ");
+    add_warning(chunk, warning);
+    chunk.add_text(b"\n");
+}
+
 /// Adds the text of a line.
 pub(crate) fn add_line(chunk: &mut Chunk, line: &Line)
     requires { HasLineRoom chunk.old }
@@ -268,5 +281,6 @@ pub(crate) fn add_line(chunk: &mut Chunk, line: &Line)
         Line::Fact(fact, figure) => add_fact(chunk, fact, figure),
         Line::Warning(warning) => add_warned(chunk, warning),
         Line::WarningFact(warning) => add_warning_object(chunk, warning),
+        Line::WarningRemark(warning) => add_warning_remark(chunk, warning),
     }
 }

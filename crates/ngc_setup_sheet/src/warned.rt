@@ -6,7 +6,7 @@ ghost use Rattle.ngc_text.specs.Written.{AppendsBeginning};
 ghost use Rattle.ngc_machine.specs.Machine.{file_of};
 ghost use Rattle.ngc_setup_sheet.specs.Reaches.{IsReach};
 ghost use Rattle.ngc_setup_sheet.specs.Sheets.{fixtures_from, tool_lines, sheet, warnings_text};
-ghost use Rattle.ngc_setup_sheet.specs.Sheets.{warning_facts};
+ghost use Rattle.ngc_setup_sheet.specs.Sheets.{warning_facts, warning_remarks};
 ghost use Rattle.ngc_setup_sheet.specs.Writes.{Writes, chosen};
 
 use crate::lines::{fixture_lines, machine_lines, tool_lines};
@@ -129,6 +129,32 @@ pub fn write_warning_facts<A: Allocator, W: Sink>(
 {
     let mut chunk = Chunk::new();
     match warn_of_all(&mut chunk, Style::Facts, machine, tools, sink) {
+        Ok(()) => chunk.write_out(sink),
+        Err(fault) => Err(fault),
+    }
+}
+
+/// Writes the warnings that `write_warnings` writes, in its order, each as a comment of a TOML
+/// document on a line of its own, which begins with `# Warning: `; nothing where nothing looks
+/// wrong.
+///
+/// It takes no memory. After a fault (902) a beginning of the text is written, and the sink has
+/// counted the failure.
+pub fn write_warning_remarks<A: Allocator, W: Sink>(
+    machine: &Machine<A>,
+    tools: &[Tool],
+    sink: &mut W,
+) -> Result<(), WriteFault>
+    ensures ok { OnOk result
+        (Appends (W.written sink.old) (W.written sink.new)
+        (warning_remarks (file_of machine.now) tools.now)) }
+    ensures fault { OnErr result
+        (AppendsBeginning (W.written sink.old) (W.written sink.new)
+        (warning_remarks (file_of machine.now) tools.now)) }
+    ensures counts { CountsFailure (W.failures sink.old) (W.failures sink.new) result }
+{
+    let mut chunk = Chunk::new();
+    match warn_of_all(&mut chunk, Style::Remarks, machine, tools, sink) {
         Ok(()) => chunk.write_out(sink),
         Err(fault) => Err(fault),
     }

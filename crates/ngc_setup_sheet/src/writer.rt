@@ -3,7 +3,7 @@ ghost use Rattle.std.specs.Prelude.{◌≡◌, ◌∷◌, []};
 ghost use Rattle.ngc_text.specs.Failures.{CountsFailure};
 ghost use Rattle.ngc_text.specs.Collected.{HasLineRoom};
 ghost use Rattle.ngc_certificate_text.specs.Collects.{Collects};
-ghost use Rattle.ngc_setup_sheet.specs.Sheets.{is_warning, as_fact};
+ghost use Rattle.ngc_setup_sheet.specs.Sheets.{is_warning, as_fact, as_remark};
 ghost use Rattle.ngc_setup_sheet.specs.Spelling.{line_text};
 ghost use Rattle.ngc_setup_sheet.specs.Writes.{Writes, styled, chosen};
 
@@ -18,6 +18,8 @@ pub(crate) enum Style {
     Lines,
     /// As objects of a JSON document.
     Facts,
+    /// As comments of a machine file.
+    Remarks,
 }
 
 fn write_line<W: Sink>(chunk: &mut Chunk, line: &Line, sink: &mut W) -> Result<(), WriteFault>
@@ -61,7 +63,8 @@ fn is_warning(line: &Line) -> bool
         | Line::Fixture(_)
         | Line::Tool(_)
         | Line::Fact(_, _)
-        | Line::WarningFact(_) => false,
+        | Line::WarningFact(_)
+        | Line::WarningRemark(_) => false,
     }
 }
 
@@ -74,7 +77,22 @@ fn as_fact(line: &Line) -> Line
         | Line::Fixture(_)
         | Line::Tool(_)
         | Line::Fact(_, _)
-        | Line::WarningFact(_) => *line,
+        | Line::WarningFact(_)
+        | Line::WarningRemark(_) => *line,
+    }
+}
+
+fn as_remark(line: &Line) -> Line
+    ensures { result ≡ as_remark line.now }
+{
+    match line {
+        Line::Warning(warning) => Line::WarningRemark(*warning),
+        Line::Machine
+        | Line::Fixture(_)
+        | Line::Tool(_)
+        | Line::Fact(_, _)
+        | Line::WarningFact(_)
+        | Line::WarningRemark(_) => *line,
     }
 }
 
@@ -84,6 +102,7 @@ fn styled(style: Style, line: &Line) -> Line
     match style {
         Style::Lines => *line,
         Style::Facts => as_fact(line),
+        Style::Remarks => as_remark(line),
     }
 }
 
