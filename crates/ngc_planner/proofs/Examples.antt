@@ -15,6 +15,8 @@ use Rattle.ngc_commands.specs.declared.movement.Feed.TheVariants.{PerMinute, Inv
 use Rattle.ngc_commands.specs.declared.movement.Pace.TheVariants as paces
 use Rattle.ngc_commands.specs.declared.movement.Way.{Way}
 use Rattle.ngc_commands.specs.declared.movement.Way.TheVariants as ways
+use Rattle.ngc_fixed_length.specs.declared.points.StepPos.{StepPos}
+use Rattle.ngc_planner.specs.ArcFeed.{farther_out, target_on}
 use Rattle.ngc_planner.specs.Braking.{braking, braking_terms}
 use Rattle.ngc_planner.specs.Caps.{cap_of}
 use Rattle.ngc_planner.specs.Bounds.{turn_rate, bound_of, target_at, least_travel}
@@ -23,7 +25,7 @@ use Rattle.ngc_planner.specs.Reach.{reach, free}
 use Rattle.ngc_planner.specs.Room.{has_room}
 use Rattle.ngc_planner.specs.declared.leg.Leg.{Leg}
 
-abbrev at : ℤ → ℤ → ℤ → Point3
+abbrev pub at : ℤ → ℤ → ℤ → Point3
 at x y z = record { x = x; y = y; z = z }
 
 abbrev traverse : Point3 → Point3 → Action
@@ -143,7 +145,7 @@ no_room_to_stop = refl
 -- ---- joints by headings
 
 -- the built-in machine, with a corner of 5,000 and a jump
-abbrev jumping : ℕ → MachineFile
+abbrev pub jumping : ℕ → MachineFile
 jumping jump = record {
   step = pos 10000;
   ticks_per_second = 10000;
@@ -153,6 +155,8 @@ jumping jump = record {
   corner = 5000;
   jump = jump;
   turn = 1000000000;
+  ring = 16;
+  arc_feed = false;
   low = record { x = pos 0; y = pos 0; z = negsuc 99999999 };
   high = record { x = pos 300000000; y = pos 300000000; z = pos 0 };
   start = zero_point;
@@ -196,10 +200,10 @@ joint_onward : joint_along 1 (lines (at (pos 3000001) (pos 6000002) (negsuc 9000
 joint_onward = refl
 
 -- from zero about a point on the y axis, as a line along the x axis meets it, and another level arc
-abbrev bow : Turn → ℤ → ArcShape
+abbrev pub bow : Turn → ℤ → ArcShape
 bow turn centre = record { plane = XY; turn = turn; start = at (pos 0) (pos 0) (pos 0); end = at (pos 5000000) centre (pos 0); centre = record { u = pos 0; v = centre } }
 
-abbrev from_left : Way
+abbrev pub from_left : Way
 from_left = ways.Line (at (negsuc 9999999) (pos 0) (pos 0)) (at (pos 0) (pos 0) (pos 0))
 
 -- a line that runs into an arc along its tangent, and one that the arc turns back
@@ -256,3 +260,65 @@ joint_plain_slight = refl
 
 joint_plain_onward : joint_along 0 (lines (at (pos 3000001) (pos 6000002) (negsuc 9000002)) (at (pos 7) (pos 14) (negsuc 20))) ≡ 1000000
 joint_plain_onward = refl
+
+-- ---- arcs at their feed
+
+-- the built-in machine with arcs at their feed
+abbrev at_feed : MachineFile
+at_feed = record built_in_machine { arc_feed = true }
+
+-- a circle of radius 5 mm about zero
+abbrev round : ArcShape
+round =
+    record { plane = XY; turn = Counterclockwise; start = at (pos 5000000) (pos 0) (pos 0); end = at (pos 5000000) (pos 0) (pos 0); centre = record { u = pos 0; v = pos 0 } }
+
+abbrev step_at : ℤ → ℤ → ℤ → StepPos
+step_at x y z = record { x = x; y = y; z = z }
+
+-- 600 mm a minute are 100,000 path steps of 0.01 mm in a million ticks along an axis; where the
+-- circle crosses the x axis it is so less a step of its 500
+place_on_axis : target_on at_feed (along round (PerMinute 600000000)) 2828 100 (step_at (pos 500) (pos 0) (pos 0)) ≡ 99800
+unfolding whole_root whole_root_above
+place_on_axis = refl
+
+-- at 30 degrees it is 432 of 500
+place_at_thirty : target_on at_feed (along round (PerMinute 600000000)) 2828 100 (step_at (negsuc 432) (pos 250) (pos 0)) ≡ 86400
+unfolding whole_root whole_root_above
+place_at_thirty = refl
+
+-- at 45 degrees 353 of 500, which is 70,600, and the cap without a place is 100,000 / 1.415
+place_diagonal : target_on at_feed (along round (PerMinute 600000000)) 2828 100 (step_at (pos 354) (negsuc 353) (pos 0)) ≡ 70671
+unfolding whole_root whole_root_above
+place_diagonal = refl
+
+place_without : target_on built_in_machine (along round (PerMinute 600000000)) 2828 100 (step_at (pos 500) (pos 0) (pos 0)) ≡ 70671
+unfolding whole_root whole_root_above
+place_without = refl
+
+-- half of it
+place_overridden : target_on at_feed (along round (PerMinute 600000000)) 2828 50 (step_at (pos 500) (pos 0) (pos 0)) ≡ 49900
+unfolding whole_root whole_root_above
+place_overridden = refl
+
+-- no place is farther out than the radius
+place_outside : target_on at_feed (along round (PerMinute 600000000)) 2828 100 (step_at (pos 600) (pos 0) (pos 0)) ≡ 100000
+unfolding whole_root whole_root_above
+place_outside = refl
+
+-- twice a minute over 2,828 path steps
+place_inverse : target_on at_feed (along round (Inverse 2000000)) 2828 100 (step_at (pos 500) (pos 0) (pos 0)) ≡ 9426
+unfolding whole_root whole_root_above
+place_inverse = refl
+
+-- a helix is slower all along
+place_helix : target_on at_feed (along (record round { end = at (pos 5000000) (pos 0) (pos 1000000) }) (PerMinute 600000000)) 2828 100
+    (step_at (pos 500) (pos 0) (pos 0)) ≡ 57703
+unfolding whole_root whole_root_above
+place_helix = refl
+
+-- a plane sees two of the coordinates
+out_zx : farther_out (pos 10000) (record round { plane = ZX }) (step_at (pos 300) (pos 700) (negsuc 399)) ≡ 4000000
+out_zx = refl
+
+out_yz : farther_out (pos 10000) (record round { plane = YZ; centre = record { u = pos 1000000; v = pos 0 } }) (step_at (pos 700) (negsuc 299) (pos 200)) ≡ 4000000
+out_yz = refl

@@ -1,3 +1,5 @@
+-- Targets by the place on an arc.
+pub mod ArcFeedLaws
 -- The greatest rate of a motion, and the least that it travels.
 pub mod BoundLaws
 -- What braking takes: a sum that is also a closed form.
@@ -16,8 +18,18 @@ pub mod HeadingLaws
 pub mod StraightLaws
 -- How much the rates of axes change at a joint.
 pub mod JointLaws
+-- What a window allows: the greatest rate, and when no heading behind lowers it.
+pub mod WindowLaws
+-- What the joint over a window is beside that of the two neighbours, and what it keeps.
+pub mod JointWindowLaws
+-- Joints over a window, by computing the definitions.
+pub mod WindowExamples
+-- What is kept of the motions ahead: from load to load, and as motions leave.
+pub mod OutlookLaws
 -- Points with equal coordinates are equal.
 pub mod Points
+-- The motions of a queue after one has left.
+pub mod QueueLaws
 -- A tick of a ramp: that its rate is allowed, and what is kept.
 pub mod RampLaws
 -- How far the way is free.

@@ -1,6 +1,6 @@
 -- Which rates a tick may have on a motion, and which one it is to reach. Our own.
 use Rattle.std.specs.Prelude.{◌≡◌, ℕ, ◌*◌, ◌/◌, ◌≤◌, ◌↔◌, min, max, ◌==◌, unsigned_abs}
-use Rattle.std.specs.Prelude.{if◌then◌else◌}
+use Rattle.std.specs.Prelude.{List, if◌then◌else◌}
 use Rattle.ngc_fixed_length.specs.Roots.{whole_root}
 use Rattle.ngc_arc_geometry.specs.Radii.{inner_radius}
 use Rattle.ngc_arc_geometry.specs.Shape.{ArcShape}
@@ -8,13 +8,14 @@ use Rattle.ngc_machine.specs.Machine.{MachineFile}
 use Rattle.ngc_machine.specs.MachineRanges.{IsMachine}
 use Rattle.ngc_commands.specs.declared.command.Action.{Action}
 use Rattle.ngc_commands.specs.declared.command.Action.TheVariants.{Move}
+use Rattle.ngc_commands.specs.declared.command.Command.{Command}
 use Rattle.ngc_commands.specs.declared.movement.Motion.{Motion}
 use Rattle.ngc_commands.specs.declared.movement.Way.{Way}
 use Rattle.ngc_commands.specs.declared.movement.Way.TheVariants.{Line, Arc}
 use Rattle.ngc_planner.specs.Axes.{MayMoveAxes, axes_bound}
 use Rattle.ngc_fixed_length.specs.Limits.{MILLION}
 use Rattle.ngc_planner.specs.Caps.{cap_of}
-use Rattle.ngc_planner.specs.Joints.{joint_of}
+use Rattle.ngc_planner.specs.Joints.{joint_at, joint_before}
 
 -- on an arc v*v*step is at most the machine's turn times the radius
 abbrev pub MayTurnOn : MachineFile → Way → ℕ → Type 0
@@ -57,11 +58,14 @@ bound_of machine action n = min (min (greatest_rate machine action) (2 * cap_of 
 abbrev pub overridden : ℕ → ℕ → ℕ
 overridden cap percent = if percent == 0 then 0 else max 1 (cap * percent / 100)
 
--- the rate that a tick of a motion of n path steps is to reach
+-- the rate that a tick of a motion is to reach, by a cap
+abbrev pub aimed_at : MachineFile → Action → ℕ → ℕ → ℕ
+aimed_at machine action cap percent =
+    min (min (overridden cap percent) (greatest_rate machine action)) (turn_bound machine action)
+
+-- by the cap of a motion of n path steps
 abbrev pub target_at : MachineFile → Action → ℕ → ℕ → ℕ
-target_at machine action n percent =
-    min (min (overridden (cap_of action n machine) percent) (greatest_rate machine action))
-    (turn_bound machine action)
+target_at machine action n percent = aimed_at machine action (cap_of action n machine) percent
 
 -- the rate that a motion of n path steps has in each of its ticks at least, if its end allows it
 abbrev pub least_travel : MachineFile → Action → ℕ → ℕ
@@ -79,18 +83,19 @@ IsGreatestBound =
     (machine : MachineFile) (action : Action) (n v : ℕ) → IsMachine machine →
     (v ≤ bound_of machine action n) ↔ IsWithinBounds machine action n v
 
--- at least that much is aimed at under every override, and allowed by every bound
-pub record IsLeastTravel (machine : MachineFile) (action next : Action) (n percent : ℕ) :
-    Type 0 where
+-- at least that much is aimed at under every override, and allowed by every bound, wherever among
+-- commands the motion is
+pub record IsLeastTravel (machine : MachineFile) (action : Action) (commands : List Command)
+    (k n percent : ℕ) : Type 0 where
   pub some : 1 ≤ least_travel machine action n
   pub change : least_travel machine action n ≤ machine.change
   pub target : 1 ≤ percent → least_travel machine action n ≤ target_at machine action n percent
   pub bound : least_travel machine action n ≤ bound_of machine action n
-  pub entry : least_travel machine action n ≤ joint_of machine next action
-  pub exit : least_travel machine action n ≤ joint_of machine action next
+  pub entry : least_travel machine action n ≤ joint_before machine commands k
+  pub exit : least_travel machine action n ≤ joint_at machine commands k
 
 abbrev pub MayTravelLeast : Type 0
 MayTravelLeast =
-    (machine : MachineFile) (action next : Action) (n percent : ℕ) → IsMachine machine →
-    IsMotion action →
-    IsLeastTravel machine action next n percent
+    (machine : MachineFile) (action : Action) (commands : List Command) (k n percent : ℕ) →
+    IsMachine machine → IsMotion action →
+    IsLeastTravel machine action commands k n percent

@@ -3,10 +3,15 @@ pub mod Braking
 pub mod Caps
 pub mod Bounds
 pub mod Headings
+pub mod ArcFeed
 pub mod Joints
+pub mod Window
 pub mod Pulses
 pub mod Leg
 pub mod Reach
 pub mod Room
 pub mod Ramp
+pub mod Outlook
+pub mod Queue
+pub mod Legs
 pub mod Inside

@@ -4,7 +4,7 @@ ghost use Rattle.ngc_planner.specs.Axes.{axes_bound};
 ghost use Rattle.ngc_fixed_length.specs.Limits.{MILLION};
 ghost use Rattle.ngc_planner.specs.Caps.{STEPS_LIMIT};
 ghost use Rattle.ngc_planner.specs.Bounds.{IsMotion, arc_rate, turn_rate, turn_bound};
-ghost use Rattle.ngc_planner.specs.Bounds.{greatest_rate, bound_of, overridden, target_at};
+ghost use Rattle.ngc_planner.specs.Bounds.{greatest_rate, bound_of, overridden, aimed_at, target_at};
 
 use crate::axes::axes_rate;
 use crate::caps::cap_of;
@@ -90,6 +90,22 @@ fn overridden(cap: u128, percent: u8) -> u128
     }
 }
 
+/// The rate that a tick on a motion is to reach, by a cap under an override in percent.
+pub(crate) fn aimed_at<A: Allocator>(
+    action: &Action,
+    cap: u128,
+    percent: u8,
+    machine: &Machine<A>,
+) -> u64
+    requires { cap < 2 ^ 115 }
+    ensures value { result ≡ aimed_at (file_of machine.now) action.now cap percent }
+    ensures greatest { result ≤ MILLION }
+{
+    let wanted = overridden(cap, percent);
+    let greatest = wanted.min(u128::from(greatest_rate(action, machine))) as u64;
+    greatest.min(turn_bound(action, machine))
+}
+
 /// The rate that a tick on a motion of `n` path steps, at most 10^9, is to reach under an override
 /// in percent.
 pub fn target_at<A: Allocator>(action: &Action, n: u64, percent: u8, machine: &Machine<A>) -> u64
@@ -98,7 +114,5 @@ pub fn target_at<A: Allocator>(action: &Action, n: u64, percent: u8, machine: &M
     ensures least { IsMotion action.now → 1 ≤ percent → 1 ≤ result }
     ensures greatest { result ≤ MILLION }
 {
-    let wanted = overridden(cap_of(action, n, machine), percent);
-    let greatest = wanted.min(u128::from(greatest_rate(action, machine))) as u64;
-    greatest.min(turn_bound(action, machine))
+    aimed_at(action, cap_of(action, n, machine), percent, machine)
 }

@@ -6,5 +6,5 @@ use Rattle.ngc_planner.proofs.bounds.target_at.Goals as goal
 pub returns-clause-least : goal.returns-clause-least
 returns-clause-least g c = λ moves some. (
     let least = target_some c.args.action.now c.args.n c.args.percent (file_of c.args.machine.now) (ranges_of c.args.machine.now) moves some in
-    let wanted = rw c.cap_of.ensures.value at c.overridden-wanted.ensures in
-    omega (arith, least, wanted, c.greatest_rate.ensures.value))
+    let value = rw c.cap_of.ensures.value at c.aimed_at.ensures.value in
+    omega (arith, least, value))

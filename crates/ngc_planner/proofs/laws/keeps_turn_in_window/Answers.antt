@@ -1,0 +1,5 @@
+use Rattle.ngc_planner.proofs.JointWindowLaws.{keeps_turn_in_window}
+use Rattle.ngc_planner.proofs.laws.keeps_turn_in_window.Goals as goal
+
+pub returns : goal.returns
+returns c = keeps_turn_in_window

@@ -1,5 +1,0 @@
-use Rattle.std.proofs.Common.{rules}
-use Rattle.ngc_planner.proofs.ramp.Ramp.new.Goals as goal
-
-pub returns : goal.returns
-returns c = search rules

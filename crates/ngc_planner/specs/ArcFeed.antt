@@ -1,0 +1,107 @@
+-- Arcs at their feed: a target that depends on the place. Our own; what F means is NISTIR 6556,
+-- 2.1.2.5.
+use Rattle.std.specs.Prelude.{◌≡◌, ℕ, ◌+◌, ◌-◌, ◌*◌, ◌/◌, ◌≤◌, min, max, ℤ, unsigned_abs, Bool, true}
+use Rattle.std.specs.Prelude.{false, ◌&&◌, if◌then◌else◌}
+use Rattle.ngc_fixed_length.specs.Grid.{distance}
+use Rattle.ngc_fixed_length.specs.Limits.{MILLION}
+use Rattle.ngc_fixed_length.specs.declared.points.StepPos.{StepPos}
+use Rattle.ngc_arc_geometry.specs.GridPlaces.{seen}
+use Rattle.ngc_arc_geometry.specs.Radii.{outer_radius}
+use Rattle.ngc_arc_geometry.specs.Shape.{ArcShape}
+use Rattle.ngc_machine.specs.Machine.{MachineFile}
+use Rattle.ngc_commands.specs.declared.command.Action.{Action}
+use Rattle.ngc_commands.specs.declared.command.Action.TheVariants.{Move}
+use Rattle.ngc_commands.specs.declared.movement.Feed.{Feed}
+use Rattle.ngc_commands.specs.declared.movement.Feed.TheVariants.{PerMinute, Inverse}
+use Rattle.ngc_commands.specs.declared.movement.Pace.{Pace}
+use Rattle.ngc_commands.specs.declared.movement.Pace.TheVariants as paces
+use Rattle.ngc_commands.specs.declared.movement.Way.{Way}
+use Rattle.ngc_commands.specs.declared.movement.Way.TheVariants.{Line, Arc}
+use Rattle.ngc_planner.specs.Bounds.{aimed_at, target_at}
+use Rattle.ngc_planner.specs.Caps.{cap_of}
+use Rattle.ngc_planner.specs.Headings.{is_level}
+
+-- how far out a grid point is from an arc's centre, along the axis of the plane on which that is
+-- more
+abbrev pub farther_out : ℤ → ArcShape → StepPos → ℕ
+farther_out step a p =
+    max (distance a.centre.u (seen step a p).u) (distance a.centre.v (seen step a p).v)
+
+-- The cap at a place m nanometres out, at f nanometres a minute. Where a circle is m out along one
+-- axis, the tool goes m nanometres along the other for each `radius` of the circle, and each step
+-- along that axis is a path step. A grid point may lie a step farther out than the arc, so a step
+-- is taken off; and no place counts as farther out than the radius.
+abbrev pub place_cap : ℕ → ℕ → ℕ → ℕ → ℕ → ℕ
+place_cap hz step radius m f = f * MILLION * min (m - step) radius / (60 * hz * step * radius)
+
+-- on an arc without change of height, and at a feed a minute; else there is none
+abbrev pub feed_cap_at : MachineFile → ArcShape → Feed → StepPos → ℕ
+feed_cap_at m a (PerMinute f) p = if is_level a
+    then place_cap m.ticks_per_second (unsigned_abs m.step) (outer_radius a)
+    (farther_out m.step a p) f
+    else 0
+feed_cap_at m a (Inverse f) p = 0
+
+abbrev pub arc_cap_at : MachineFile → ArcShape → Pace → StepPos → ℕ
+arc_cap_at m a paces.Rapid p = 0
+arc_cap_at m a (paces.Feed f) p = feed_cap_at m a f p
+
+abbrev pub way_cap_at : MachineFile → Way → Pace → StepPos → ℕ
+way_cap_at m (Line b e) pace p = 0
+way_cap_at m (Arc a) pace p = arc_cap_at m a pace p
+
+-- where the machine has arcs at their feed
+abbrev pub cap_at : MachineFile → Action → StepPos → ℕ
+cap_at m (Move motion) p = if m.arc_feed then way_cap_at m motion.way motion.pace p else 0
+cap_at m _ p = 0
+
+-- the rate that a tick of a motion of n path steps is to reach at a place: by the greater of its
+-- two caps, so that no place asks for less than `target_at`
+abbrev pub target_on : MachineFile → Action → ℕ → ℕ → StepPos → ℕ
+target_on machine action n percent p =
+    aimed_at machine action (max (cap_of action n machine) (cap_at machine action p)) percent
+
+-- ---- whether it depends on the place
+
+abbrev pub is_minute_feed : Feed → Bool
+is_minute_feed (PerMinute f) = true
+is_minute_feed (Inverse f) = false
+
+abbrev pub has_minute_feed : Pace → Bool
+has_minute_feed paces.Rapid = false
+has_minute_feed (paces.Feed f) = is_minute_feed f
+
+abbrev pub is_level_arc : Way → Bool
+is_level_arc (Line b e) = false
+is_level_arc (Arc a) = is_level a
+
+abbrev pub is_by_place : MachineFile → Action → Bool
+is_by_place m (Move motion) =
+    m.arc_feed && (is_level_arc motion.way && has_minute_feed motion.pace)
+is_by_place m _ = false
+
+-- ---- what holds of every place
+
+-- no rate up to the cap makes more of the arc than f nanometres a minute, and none more path steps
+-- than a line along an axis has at that feed
+pub record KeepsArcFeed (hz step radius m f v : ℕ) : Type 0 where
+  pub along_arc : v * (60 * hz * step * radius) ≤ f * MILLION * (m - step)
+  pub along_axis : v * (60 * hz * step * radius) ≤ f * MILLION * radius
+
+abbrev pub PlacesKeepFeed : Type 0
+PlacesKeepFeed =
+    (hz step radius m f v : ℕ) → v ≤ place_cap hz step radius m f →
+    KeepsArcFeed hz step radius m f v
+
+-- no place asks for less than the target without it
+abbrev pub IsNoLessByPlace : Type 0
+IsNoLessByPlace =
+    (machine : MachineFile) (action : Action) (n percent : ℕ) (p : StepPos) →
+    target_at machine action n percent ≤ target_on machine action n percent p
+
+-- and for the same, unless the machine and the motion are of that kind
+abbrev pub IsSameElsewhere : Type 0
+IsSameElsewhere =
+    (machine : MachineFile) (action : Action) (n percent : ℕ) (p : StepPos) →
+    is_by_place machine action ≡ false →
+    target_on machine action n percent p ≡ target_at machine action n percent

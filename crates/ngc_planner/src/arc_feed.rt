@@ -1,0 +1,195 @@
+ghost use Rattle.std.specs.Prelude.{◌≡◌, ◌≤◌, ◌<◌, ◌^◌, ◌*ℤ◌};
+ghost use Rattle.ngc_arc_geometry.specs.Radii.{IsArc};
+ghost use Rattle.ngc_fixed_length.specs.Grid.{distance};
+ghost use Rattle.ngc_fixed_length.specs.Length.{IsStep};
+ghost use Rattle.ngc_fixed_length.specs.Limits.{MILLION};
+ghost use Rattle.ngc_machine.specs.Machine.{file_of};
+ghost use Rattle.ngc_planner.specs.ArcFeed.{farther_out, place_cap, feed_cap_at, arc_cap_at};
+ghost use Rattle.ngc_planner.specs.ArcFeed.{way_cap_at, cap_at, target_on, is_minute_feed};
+ghost use Rattle.ngc_planner.specs.ArcFeed.{has_minute_feed, is_level_arc, is_by_place};
+ghost use Rattle.ngc_planner.specs.Bounds.{IsMotion};
+ghost use Rattle.ngc_planner.specs.Caps.{STEPS_LIMIT};
+
+use crate::bounds::aimed_at;
+use crate::caps::cap_of;
+use crate::headings::is_level;
+use ngc_arc_geometry::Arc;
+use ngc_commands::{Action, Feed, Pace, Way};
+use ngc_fixed_length::{Nm, Plane, StepPos, nanometres_at};
+use ngc_machine::Machine;
+use std::alloc::Allocator;
+
+/// How far a number of steps is from a coordinate, in nanometres.
+fn distance(coordinate: Nm, steps: i32, step: Nm) -> u64
+    requires { IsStep step }
+    ensures value { result ≡ distance coordinate (steps *ℤ step) }
+{
+    nanometres_at(step, steps).abs_diff(coordinate.nanometres())
+}
+
+/// How far out a grid point is from an arc's centre, along the axis of the plane on which that is
+/// more, in nanometres.
+fn farther_out(step: Nm, arc: &Arc, position: &StepPos) -> u64
+    requires { IsStep step }
+    ensures value { result ≡ farther_out step arc.now position.now }
+    ensures arc { IsArc arc.now }
+{
+    let (u, v) = match arc.plane() {
+        Plane::XY => (position.x, position.y),
+        Plane::ZX => (position.z, position.x),
+        Plane::YZ => (position.y, position.z),
+    };
+    let centre = arc.centre();
+    distance(centre.u, u, step).max(distance(centre.v, v, step))
+}
+
+/// The cap at a place so many nanometres farther out on an arc of a radius, at a feed in nanometres
+/// a minute.
+fn place_cap(ticks_per_second: u32, step: u64, radius: u64, farther_out: u64, feed: u64) -> u128
+    requires ticks { 1 ≤ ticks_per_second }
+    requires step_least { 1 ≤ step }
+    requires step_greatest { step ≤ 50000 }
+    requires radius_least { 1 ≤ radius }
+    requires radius_greatest { radius ≤ 2000020000 }
+    ensures value { result ≡ place_cap ticks_per_second step radius farther_out feed }
+    ensures bound { result < 2 ^ 115 }
+{
+    let out = farther_out.saturating_sub(step).min(radius);
+    u128::from(feed) * 1_000_000 * u128::from(out)
+        / (60 * u128::from(ticks_per_second) * u128::from(step) * u128::from(radius))
+}
+
+/// The cap at a place of an arc without change of height, at a feed a minute, and else 0.
+fn feed_cap_at<A: Allocator>(
+    arc: &Arc,
+    feed: &Feed,
+    position: &StepPos,
+    machine: &Machine<A>,
+) -> u128
+    ensures value { result ≡ feed_cap_at (file_of machine.now) arc.now feed.now position.now }
+    ensures bound { result < 2 ^ 115 }
+{
+    match feed {
+        Feed::PerMinute(feed) => {
+            if !is_level(arc) {
+                return 0;
+            }
+            let step = machine.step.nanometres().unsigned_abs();
+            let out = farther_out(machine.step, arc, position);
+            place_cap(
+                machine.ticks_per_second,
+                step,
+                arc.outer_radius(),
+                out,
+                *feed,
+            )
+        }
+        Feed::Inverse(_) => 0,
+    }
+}
+
+fn arc_cap_at<A: Allocator>(
+    arc: &Arc,
+    pace: &Pace,
+    position: &StepPos,
+    machine: &Machine<A>,
+) -> u128
+    ensures value { result ≡ arc_cap_at (file_of machine.now) arc.now pace.now position.now }
+    ensures bound { result < 2 ^ 115 }
+{
+    match pace {
+        Pace::Rapid => 0,
+        Pace::Feed(feed) => feed_cap_at(arc, feed, position, machine),
+    }
+}
+
+fn way_cap_at<A: Allocator>(
+    way: &Way,
+    pace: &Pace,
+    position: &StepPos,
+    machine: &Machine<A>,
+) -> u128
+    ensures value { result ≡ way_cap_at (file_of machine.now) way.now pace.now position.now }
+    ensures bound { result < 2 ^ 115 }
+{
+    match way {
+        Way::Line { .. } => 0,
+        Way::Arc(arc) => arc_cap_at(arc, pace, position, machine),
+    }
+}
+
+/// The cap of an action at a place, 0 where no place changes it.
+fn cap_at<A: Allocator>(action: &Action, position: &StepPos, machine: &Machine<A>) -> u128
+    ensures value { result ≡ cap_at (file_of machine.now) action.now position.now }
+    ensures bound { result < 2 ^ 115 }
+{
+    match action {
+        Action::Move(motion) => {
+            if machine.arc_feed {
+                way_cap_at(&motion.way, &motion.pace, position, machine)
+            } else {
+                0
+            }
+        }
+        _ => 0,
+    }
+}
+
+/// The rate that a tick on a motion of `n` path steps, at most 10^9, is to reach at a grid point of
+/// its path under an override in percent: that of `target_at`, or more on an arc where the machine
+/// has arcs at their feed.
+pub fn target_on<A: Allocator>(
+    action: &Action,
+    n: u64,
+    percent: u8,
+    position: &StepPos,
+    machine: &Machine<A>,
+) -> u64
+    requires { n ≤ STEPS_LIMIT }
+    ensures value { result ≡ target_on (file_of machine.now) action.now n percent position.now }
+    ensures least { IsMotion action.now → 1 ≤ percent → 1 ≤ result }
+    ensures greatest { result ≤ MILLION }
+{
+    let cap = cap_of(action, n, machine).max(cap_at(action, position, machine));
+    aimed_at(action, cap, percent, machine)
+}
+
+fn is_minute_feed(feed: &Feed) -> bool
+    ensures { result ≡ is_minute_feed feed.now }
+{
+    match feed {
+        Feed::PerMinute(_) => true,
+        Feed::Inverse(_) => false,
+    }
+}
+
+fn has_minute_feed(pace: &Pace) -> bool
+    ensures { result ≡ has_minute_feed pace.now }
+{
+    match pace {
+        Pace::Rapid => false,
+        Pace::Feed(feed) => is_minute_feed(feed),
+    }
+}
+
+fn is_level_arc(way: &Way) -> bool
+    ensures { result ≡ is_level_arc way.now }
+{
+    match way {
+        Way::Line { .. } => false,
+        Way::Arc(arc) => is_level(arc),
+    }
+}
+
+/// Whether the target of `target_on` depends on the grid point: on an arc without change of height
+/// at a feed a minute, where the machine has arcs at their feed.
+pub fn is_by_place<A: Allocator>(action: &Action, machine: &Machine<A>) -> bool
+    ensures { result ≡ is_by_place (file_of machine.now) action.now }
+{
+    match action {
+        Action::Move(motion) => {
+            machine.arc_feed && (is_level_arc(&motion.way) && has_minute_feed(&motion.pace))
+        }
+        _ => false,
+    }
+}

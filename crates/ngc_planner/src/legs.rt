@@ -1,0 +1,114 @@
+//! Where a ramp keeps its motions.
+ghost use Rattle.std.specs.Prelude.{◌≡◌, ◌≢◌, ◌≤◌, ◌<◌, ◌++◌, ◌∷◌, [], length, drop, IfOk};
+ghost use Rattle.std.specs.List.{All};
+ghost use Rattle.ngc_fixed_length.specs.Limits.{MILLION};
+ghost use Rattle.ngc_planner.specs.Leg.{IsLeg};
+ghost use Rattle.ngc_planner.specs.Queue.{Waiting};
+ghost use Rattle.ngc_planner.specs.Ramp.{LEGS, MOST_LEGS};
+ghost use Rattle.ngc_planner.specs.Room.{legs_beyond};
+
+use crate::leg::Leg;
+use crate::queue::Queue;
+use crate::stretch::legs_beyond;
+use arrayvec::ArrayVec;
+use std::alloc::{AllocError, Allocator};
+use std::marker::Model;
+
+/// Up to 16 motions in place, or as many as there is memory for.
+#[derive(Drop)]
+enum Store<A: Allocator> {
+    /// With the change of the ramp.
+    Few(u64, ArrayVec<Leg, 16>),
+    Many(Queue<A>),
+}
+
+/// Motions that wait, the first one first.
+#[derive(Drop)]
+pub struct Legs<A: Allocator> {
+    store: Store<A>,
+}
+
+impl<A: Allocator> Model for Legs<A> {
+    ghost use Rattle.ngc_planner.specs.Queue.{Waiting};
+    ghost use Rattle.ngc_planner.specs.Legs.{waiting_in};
+
+    ghost Value = { Waiting };
+
+    ghost view = { λ l. waiting_in l.store };
+}
+
+impl<A: Allocator + Copy> Legs<A> {
+    /// Room for so many motions, 1 to 1,024, on a ramp with this change, 1 to 1,000,000. All memory
+    /// is taken here.
+    pub fn many(alloc: A, change: u64, room: usize) -> Result<Legs<A>, AllocError>
+        requires least { 1 ≤ change }
+        requires greatest { change ≤ MILLION }
+        requires some { 1 ≤ room }
+        requires few { room ≤ MOST_LEGS }
+        ensures { IfOk result (λ (l : Waiting). l ≡ record { legs = []; room = room; change = change }) }
+    {
+        let queue = Queue::new(alloc, change, room)?;
+        Ok(Legs {
+            store: Store::Many(queue),
+        })
+    }
+}
+
+impl<A: Allocator> Legs<A> {
+    /// Room for 16 motions on a ramp with this change, without memory.
+    pub fn few(change: u64) -> Legs<A>
+        ensures { result ≡ record { legs = []; room = LEGS; change = change } }
+    {
+        Legs {
+            store: Store::Few(change, ArrayVec::new()),
+        }
+    }
+
+    /// The motions.
+    pub fn as_slice(&self) -> &[Leg]
+        ensures { result.now ≡ self.now.legs }
+    {
+        match &self.store {
+            Store::Few(_, legs) => legs.as_slice(),
+            Store::Many(queue) => queue.as_slice(),
+        }
+    }
+
+    /// One more motion, behind the others. There must be room.
+    pub fn push(&mut self, leg: Leg)
+        requires room { length self.old.legs < self.old.room }
+        requires leg { IsLeg leg }
+        ensures { self.new ≡ record self.old { legs = self.old.legs ++ leg ∷ [] } }
+    {
+        match &mut self.store {
+            Store::Few(_, legs) => legs.push(leg),
+            Store::Many(queue) => queue.push(leg),
+        }
+    }
+
+    /// The first motion leaves. There must be one.
+    pub fn leave(&mut self)
+        requires { self.old.legs ≢ [] }
+        ensures { self.new ≡ record self.old { legs = drop 1 self.old.legs } }
+    {
+        match &mut self.store {
+            Store::Few(_, legs) => {
+                legs.remove(0);
+            }
+            Store::Many(queue) => queue.leave(),
+        }
+    }
+
+    /// How far beyond the second motion the way to brake may end.
+    pub fn beyond(&self) -> u64
+        requires change_least { 1 ≤ self.now.change }
+        requires change_greatest { self.now.change ≤ MILLION }
+        requires each { All IsLeg self.now.legs }
+        ensures { result ≡ legs_beyond self.now.change self.now.legs }
+    {
+        match &self.store {
+            Store::Few(change, legs) => legs_beyond(*change, legs.as_slice()),
+            Store::Many(queue) => queue.beyond(),
+        }
+    }
+}

@@ -1,0 +1,184 @@
+//! The greatest rate that a joint's window allows.
+ghost use Rattle.std.specs.Prelude.{◌≡◌, ◌+◌, ◌*◌, ◌^◌, ◌≤◌, ◌<◌, min, reverse, length};
+ghost use Rattle.ngc_fixed_length.specs.Limits.{MILLION};
+ghost use Rattle.ngc_machine.specs.Machine.{file_of};
+ghost use Rattle.ngc_planner.specs.Headings.{IsHeading};
+ghost use Rattle.ngc_planner.specs.Window.{line_steps, is_line, is_still, passing_heading};
+ghost use Rattle.ngc_planner.specs.Window.{steps_of, goes_straight, passed_on, window};
+ghost use Rattle.ngc_planner.specs.Joints.{may_head, greatest_root, heading_rate, rate_from_all};
+
+use crate::displacement::Displacement;
+use crate::headings::end_heading;
+use ngc_commands::{Action, Command, Way};
+use ngc_fixed_length::root_floor;
+use ngc_machine::Machine;
+use std::alloc::Allocator;
+
+/// Whether a rate may change its heading by so many millionths over so many path steps.
+fn may_head(jump: u32, turn: u64, difference: u64, way: u64, rate: u64) -> bool
+    requires jump { jump ≤ MILLION }
+    requires turn { turn ≤ 10 ^ 12 }
+    requires difference { difference ≤ 2000000 }
+    requires way { way ≤ 12800000000 }
+    requires rate { rate ≤ MILLION }
+    ensures { result ≡ may_head jump turn difference way rate }
+{
+    let wanted = u128::from(rate * rate) * u128::from(difference);
+    let jumped = u128::from(jump) * u128::from(rate);
+    wanted <= 1_000_000 * (jumped + u128::from(turn) * u128::from(way))
+}
+
+/// The greatest `v` with `v * v * n` at most `j * v + t`. The root is of less than 2 * 10^35.
+fn greatest_root(n: u64, j: u128, t: u128) -> u64
+    requires least { 1 ≤ n }
+    requires greatest { n ≤ 2000000 }
+    requires j { j ≤ 10 ^ 12 }
+    requires t { t ≤ 2 * 10 ^ 28 }
+    ensures { result ≡ greatest_root n j t }
+{
+    let root = root_floor(j * j + 4 * u128::from(n) * t);
+    ((j + u128::from(root)) / (2 * u128::from(n))) as u64
+}
+
+/// A rate, lowered to one that may change its heading by so many millionths over so many path
+/// steps.
+fn lowered(rate: u64, jump: u32, turn: u64, difference: u64, way: u64) -> u64
+    requires jump { jump ≤ MILLION }
+    requires turn { turn ≤ 10 ^ 12 }
+    requires difference { difference ≤ 2000000 }
+    requires way { way ≤ 12800000000 }
+    requires rate { rate ≤ MILLION }
+    ensures value { result ≡ min rate (heading_rate jump turn difference way) }
+    ensures greatest { result ≤ MILLION }
+{
+    if may_head(jump, turn, difference, way, rate) {
+        rate
+    } else {
+        let jump = 1_000_000 * u128::from(jump);
+        let turn = 1_000_000 * (u128::from(turn) * u128::from(way));
+        greatest_root(difference, jump, turn)
+    }
+}
+
+/// The path steps of a line, and 0 for an arc.
+fn line_steps<A: Allocator>(way: &Way, machine: &Machine<A>) -> u64
+    ensures value { result ≡ line_steps (file_of machine.now) way.now }
+    ensures bound { result ≤ 400000000 }
+{
+    match way {
+        Way::Line { start, end } => {
+            let step = machine.step;
+            u64::from(start.to_grid(step).greatest_distance(&end.to_grid(step)))
+        }
+        Way::Arc(_) => 0,
+    }
+}
+
+fn is_line(way: &Way) -> bool
+    ensures { result ≡ is_line way.now }
+{
+    matches!(way, Way::Line { .. })
+}
+
+/// Where an action heads at its end, if it is a motion with path steps that doesn't stop there.
+fn passing_heading<A: Allocator>(action: &Action, machine: &Machine<A>) -> Option<Displacement>
+    ensures { result ≡ passing_heading (file_of machine.now) action.now }
+{
+    let Action::Move(motion) = action else {
+        return None;
+    };
+    let still = is_line(&motion.way) && line_steps(&motion.way, machine) == 0;
+    if motion.stop || still {
+        None
+    } else {
+        end_heading(&motion.way)
+    }
+}
+
+fn steps_of<A: Allocator>(action: &Action, machine: &Machine<A>) -> u64
+    ensures value { result ≡ steps_of (file_of machine.now) action.now }
+    ensures bound { result ≤ 400000000 }
+{
+    match action {
+        Action::Move(motion) => line_steps(&motion.way, machine),
+        _ => 0,
+    }
+}
+
+fn goes_straight(action: &Action) -> bool
+    ensures { result ≡ goes_straight action.now }
+{
+    match action {
+        Action::Move(motion) => is_line(&motion.way),
+        _ => false,
+    }
+}
+
+/// A rate, lowered to one that may change into a heading from each that was passed on commands, of
+/// which the last ended so many path steps ago.
+fn lowered_on<A: Allocator>(
+    rate: u64,
+    next: &Displacement,
+    way: u64,
+    commands: &[Command],
+    machine: &Machine<A>,
+) -> u64
+    requires rate { rate ≤ MILLION }
+    requires next { IsHeading next.now }
+    requires way { way ≤ 400000000 }
+    requires length { length commands.now ≤ 31 }
+    ensures value { result ≡ min rate (rate_from_all (file_of machine.now) next.now
+        (passed_on (file_of machine.now) way (reverse commands.now))) }
+    ensures greatest { result ≤ MILLION }
+{
+    let mut rate = rate;
+    let mut way = way;
+    let mut commands = commands;
+    while let Some((command, before)) = commands.split_last() {
+        // No two headings differ by more than 2,000,000, so none that was passed lowers it.
+        if may_head(machine.jump, machine.turn, 2_000_000, way, rate) {
+            return rate;
+        }
+        let Some(heading) = passing_heading(&command.action, machine) else {
+            return rate;
+        };
+        rate = lowered(
+            rate,
+            machine.jump,
+            machine.turn,
+            heading.difference(next),
+            way,
+        );
+        if !goes_straight(&command.action) {
+            return rate;
+        }
+        way += steps_of(&command.action, machine);
+        commands = before;
+    }
+    rate
+}
+
+/// The greatest rate that may change into a heading from each of a window: the one at the end of a
+/// way, and those that were passed on the commands before it.
+pub(crate) fn window_rate<A: Allocator>(
+    earlier: &[Command],
+    way: &Way,
+    heading: &Displacement,
+    next: &Displacement,
+    machine: &Machine<A>,
+) -> u64
+    requires length { length earlier.now ≤ 31 }
+    requires heading { IsHeading heading.now }
+    requires next { IsHeading next.now }
+    ensures value { result ≡ rate_from_all (file_of machine.now) next.now
+        (window (file_of machine.now) heading.now way.now (reverse earlier.now)) }
+    ensures greatest { result ≤ MILLION }
+{
+    let difference = heading.difference(next);
+    let rate = lowered(1_000_000, machine.jump, machine.turn, difference, 0);
+    if is_line(way) {
+        lowered_on(rate, next, line_steps(way, machine), earlier, machine)
+    } else {
+        rate
+    }
+}
