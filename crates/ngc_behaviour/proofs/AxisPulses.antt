@@ -16,7 +16,7 @@ use Rattle.ngc_fixed_length.specs.Limits.{MILLION}
 use Rattle.ngc_planner.specs.Pulses.{is_stepping, is_path_step, up_to_whole}
 use Rattle.ngc_events.specs.declared.event.Event.{Event}
 use Rattle.ngc_events.specs.declared.event.Event.TheVariants.{Load, Tick, Hold, Resume, Override, StopSwitch, Start}
-use Rattle.ngc_behaviour.specs.State.{Job, Queued, State, opening, loaded, command_at, path_steps, millionths, RING}
+use Rattle.ngc_behaviour.specs.State.{Job, Queued, State, opening, loaded, command_at, path_steps, millionths}
 use Rattle.ngc_behaviour.specs.Step.{Outcome, Step, LoadCommand, MayTake, Rests, Finishes, Dwells, Serves, Travels, HeadTick, TickBy, without_head, after}
 use Rattle.ngc_behaviour.specs.Step.{place_after, ticks_of}
 use Rattle.ngc_behaviour.specs.RateRules.{GoesOnInto}
@@ -244,7 +244,7 @@ load_stays : (job : Job) (moves : Action → Bool) (old : State) (next : Option 
     on_axis moves new ≡ on_axis moves old
 load_stays job moves old None o new f t = ap (on_axis moves) t.1
 load_stays job moves old (Some c) o new f t =
-    elim (match_with (nat_lt (length old.ring) RING) _ _ t) [
+    elim (match_with (nat_lt (length old.ring) job.machine.ring) _ _ t) [
       | inl u ↦ ap (on_axis moves) u.1.3 ∙ pushed moves old.ring (record { command = c; path = u.1.0 }) old.travelled f
       | inr u ↦ ap (on_axis moves) u.1.1
     ]

@@ -16,9 +16,9 @@ use Rattle.ngc_events.specs.declared.event.Event.TheVariants.{Load, Tick, Hold, 
 use Rattle.ngc_events.specs.declared.reply.Ending.{Ending}
 use Rattle.ngc_events.specs.declared.reply.Ending.TheVariants.{Done, Stopped, End}
 use Rattle.ngc_events.specs.declared.reply.Reply.TheVariants.{Loaded, Ticked, Held, Resumed, Overridden, Switched, Started}
-use Rattle.ngc_behaviour.specs.State.{Job, Queued, State, RING, loaded, command_at, path_steps, millionths}
+use Rattle.ngc_behaviour.specs.State.{Job, Queued, State, loaded, command_at, path_steps, millionths, place_before}
 use Rattle.ngc_behaviour.specs.Step.{Outcome, Step, LoadCommand, MayTake, Rests, Finishes, Dwells, Serves, Travels, HeadTick, TickBy, without_head, after}
-use Rattle.ngc_behaviour.specs.Step.{ending, ends_at, pulse, place_before, place_after, ticks_of}
+use Rattle.ngc_behaviour.specs.Step.{ending, ends_at, pulse, place_after, ticks_of}
 use Rattle.ngc_behaviour.specs.Run.{position_in}
 use Rattle.ngc_behaviour.proofs.Cases.{match_with}
 use Rattle.ngc_behaviour.proofs.RatesOfRun.{Fits, GoesOver, goes_over, travel_small}
@@ -255,7 +255,7 @@ on_load : (job : Job) (old : State) (next : Option Command) (o : Outcome) (new :
     LoadCommand job old next o new → Effect job (spot old) (spot new) o
 on_load job old None o new e t = stands (record { same = ap spot t.1; silent = ap position_in t.0; no_end = ap tells_end t.0 })
 on_load job old (Some c) o new e t =
-    elim (match_with (nat_lt (length old.ring) RING) _ _ t) [
+    elim (match_with (nat_lt (length old.ring) job.machine.ring) _ _ t) [
       | inl u ↦ grows (record {
         command = c;
         path = u.1.0;

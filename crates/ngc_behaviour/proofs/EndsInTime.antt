@@ -17,7 +17,7 @@ use Rattle.ngc_planner.specs.Bounds.{IsMotion}
 use Rattle.ngc_planner.proofs.BoundLaws.{may_travel_least}
 use Rattle.ngc_events.specs.declared.event.Event.{Event}
 use Rattle.ngc_events.specs.declared.event.Event.TheVariants.{Load, Tick, Hold, Resume, Override, StopSwitch, Start}
-use Rattle.ngc_behaviour.specs.State.{Job, Queued, State, opening, loaded, command_at, path_steps, millionths, effective, RING}
+use Rattle.ngc_behaviour.specs.State.{Job, Queued, State, opening, loaded, command_at, path_steps, millionths, effective}
 use Rattle.ngc_behaviour.specs.Reach.{rest}
 use Rattle.ngc_behaviour.specs.Step.{Outcome, Step, LoadCommand, MayTake, Rests, Finishes, Dwells, Serves, Travels, HeadTick, TickBy, without_head, after}
 use Rattle.ngc_behaviour.specs.Step.{ticks_of}
@@ -89,7 +89,7 @@ tick_ahead job false (l ∷ ls) old o new t = head_ahead job l ls old o new t
 
 load_ahead : (job : Job) (old : State) (next : Option Command) (o : Outcome) (new : State) → LoadCommand job old next o new → GoesAhead old new
 load_ahead job old None o new t = subst (GoesAhead old) (sym t.1) (same_ahead old)
-load_ahead job old (Some c) o new t = elim (match_with (nat_lt (length old.ring) RING) _ _ t) [
+load_ahead job old (Some c) o new t = elim (match_with (nat_lt (length old.ring) job.machine.ring) _ _ t) [
   | inl u ↦ subst (GoesAhead old) (sym u.1.3) (inl (refl, omega arith))
   | inr u ↦ subst (GoesAhead old) (sym u.1.1) (same_ahead old)
 ]
@@ -270,4 +270,4 @@ moves job l _ e take some = absurd (let none = ap length take in omega (arith, n
 pub machines_run_in_time : MachinesRunInTime
 machines_run_in_time job m es os states r g k l c some =
     let is_motion = moves job l l.command.action refl (keep_paths job es os states r k l c).path some in
-    ends_in_time job m es os states r g k l c some (may_travel_least job.machine l.command.action l.command.action (path_steps l) 1 m is_motion).some
+    ends_in_time job m es os states r g k l c some (may_travel_least job.machine l.command.action job.commands 0 (path_steps l) 1 m is_motion).some

@@ -17,7 +17,7 @@ use Rattle.ngc_fixed_length.specs.Limits.{MILLION}
 use Rattle.ngc_planner.specs.Pulses.{is_stepping, is_path_step}
 use Rattle.ngc_events.specs.declared.event.Event.{Event}
 use Rattle.ngc_events.specs.declared.event.Event.TheVariants.{Load, Tick, Hold, Resume, Override, StopSwitch, Start}
-use Rattle.ngc_behaviour.specs.State.{Job, Queued, State, opening, loaded, command_at, path_steps, millionths, RING}
+use Rattle.ngc_behaviour.specs.State.{Job, Queued, State, opening, loaded, command_at, path_steps, millionths}
 use Rattle.ngc_behaviour.specs.Step.{Outcome, Step, LoadCommand, MayTake, Rests, Finishes, Dwells, Serves, Travels, HeadTick, TickBy, without_head, after}
 use Rattle.ngc_behaviour.specs.Step.{place_after, ticks_of}
 use Rattle.ngc_behaviour.specs.Run.{Run, step_to, pulses}
@@ -315,7 +315,7 @@ load_walks : (job : Job) (old : State) (next : Option Command) (o : Outcome) (ne
     LoadCommand job old next o new → WalksIn job new
 load_walks job old None o new e walks t = subst (WalksIn job) (sym t.1) walks
 load_walks job old (Some c) o new e walks t =
-    elim (match_with (nat_lt (length old.ring) RING) _ _ t) [
+    elim (match_with (nat_lt (length old.ring) job.machine.ring) _ _ t) [
       | inl u ↦
           let l : Queued = record { command = c; path = u.1.0 } in
           subst (WalksIn job) (sym u.1.3)
@@ -351,7 +351,7 @@ load_waits : (job : Job) (old : State) (next : Option Command) (o : Outcome) (ne
     (new.travelled ≡ old.travelled) × (new.rate ≡ old.rate)
 load_waits job old None o new t = (ap (λ (s : State). s.travelled) t.1, ap (λ (s : State). s.rate) t.1)
 load_waits job old (Some c) o new t =
-    elim (match_with (nat_lt (length old.ring) RING) _ _ t) [
+    elim (match_with (nat_lt (length old.ring) job.machine.ring) _ _ t) [
       | inl u ↦ (ap (λ (s : State). s.travelled) u.1.3, ap (λ (s : State). s.rate) u.1.3)
       | inr u ↦ (ap (λ (s : State). s.travelled) u.1.1, ap (λ (s : State). s.rate) u.1.1)
     ]

@@ -5,21 +5,24 @@ use Rattle.std.specs.Prelude.{Option, Some, None, nat_lt, not, ◌&&◌}
 use Rattle.std.proofs.lemmas.Bool.{lt-ltb, le-ltb, true≢false, false≢true}
 use Rattle.std.proofs.lemmas.Bool.Decides.{nat_tests}
 use Rattle.std.proofs.lemmas.List.{append-nil}
+use Rattle.ngc_fixed_length.specs.LinePath.{point}
 use Rattle.ngc_machine.specs.Machine.{MachineFile}
 use Rattle.ngc_machine.specs.MachineRanges.{IsMachine}
 use Rattle.ngc_commands.specs.declared.command.Command.{Command}
 use Rattle.ngc_planner.specs.declared.leg.Leg.{Leg}
+use Rattle.ngc_planner.specs.ArcFeed.{target_on}
 use Rattle.ngc_planner.specs.Braking.{braking}
 use Rattle.ngc_fixed_length.specs.Limits.{MILLION}
-use Rattle.ngc_planner.specs.Bounds.{IsWithinBounds, IsMotion, IsLeastTravel, bound_of, least_travel}
-use Rattle.ngc_planner.specs.Joints.{joint_before, joint_after}
+use Rattle.ngc_planner.specs.Bounds.{IsWithinBounds, IsMotion, bound_of, least_travel}
+use Rattle.ngc_planner.specs.Joints.{joint_before}
 use Rattle.ngc_planner.specs.Leg.{tick_bound}
 use Rattle.ngc_planner.specs.Reach.{ahead, reach as ramp_reach, free as ramp_free}
 use Rattle.ngc_planner.specs.Ramp.{RampState, MayTick, pace as ramp_pace, GoesOnInto as GoesOnLeg}
+use Rattle.ngc_planner.proofs.ArcFeedLaws.{no_less_by_place}
 use Rattle.ngc_planner.proofs.BoundLaws.{greatest_bound, may_travel_least}
 use Rattle.ngc_planner.proofs.RampLaws.{tick_bound_greatest}
-use Rattle.ngc_behaviour.specs.State.{Job, Queued, State, command_at, path_steps, millionths, effective}
-use Rattle.ngc_behaviour.specs.Reach.{before, stops, flows_into, leg_of, legs_behind, rest, reach, free}
+use Rattle.ngc_behaviour.specs.State.{Job, Queued, State, path_steps, millionths, place_before, effective}
+use Rattle.ngc_behaviour.specs.Reach.{stops, flows_into, leg_of, legs_behind, rest, reach, free}
 use Rattle.ngc_behaviour.specs.RateRules.{GoesOnInto, MayTravel, target, head_bound, pace}
 use Rattle.ngc_behaviour.specs.Progress.{TravelsAtLeast}
 
@@ -96,7 +99,7 @@ same_bound : (job : Job) (joined : Bool) (l : Queued) (s : State) (r : ℕ) → 
     head_bound job l s ≡ tick_bound (leg_of job s.done joined l) r
 same_bound job joined l s r left within =
     let bound = bound_of job.machine l.command.action (path_steps l) in
-    let entry = joint_before job.machine (before job s.done) l.command in
+    let entry = joint_before job.machine job.commands s.done in
     ap (λ b. cond b (min bound entry) bound) (same_test s.travelled r (millionths l) left within)
 
 entered : (bound entry r m v : ℕ) (b : Bool) → b ≡ (r == m) → r ≡ m → v ≤ cond b (min bound entry) bound → v ≤ entry
@@ -140,15 +143,8 @@ may_travel job l ls s r joined wish v machine some change rate left within aim m
 
 -- ---- how far it goes at least
 
-before_least : (m : MachineFile) (b : Option Command) (c : Command) (least : ℕ) → least ≤ MILLION → ((d : Command) → least ≤ joint_before m (Some d) c) →
-    least ≤ joint_before m b c
-before_least m None c least small each = small
-before_least m (Some d) c least small each = each d
-
-after_least : (m : MachineFile) (c : Command) (a : Option Command) (least : ℕ) → least ≤ MILLION → ((d : Command) → least ≤ joint_after m c (Some d)) →
-    least ≤ joint_after m c a
-after_least m c None least small each = small
-after_least m c (Some d) least small each = each d
+no_greater : (a b c : ℕ) → a ≤ b → b ≤ c → a ≤ c
+no_greater a b c p q = omega arith
 
 -- while the machine is free it travels at least the least travel of a motion, whatever lies behind it
 pub travels_at_least : (job : Job) (l : Queued) (ls : List Queued) (s : State) (r : RampState) (joined : Bool) (wish v : ℕ) → IsMachine job.machine →
@@ -159,13 +155,13 @@ travels_at_least job l ls s r joined wish v machine moves steps change rate left
     let c = l.command in
     let n = path_steps l in
     let least = least_travel m c.action n in
-    let law : (d : Command) → IsLeastTravel m c.action d.action n (effective s) = λ d. may_travel_least m c.action d.action n (effective s) machine moves in
-    let own = law c in
+    let own = may_travel_least m c.action job.commands s.done n (effective s) machine moves in
     let small : least ≤ MILLION = omega (arith, own.change, machine.change.greatest) in
-    let wished : least ≤ wish = rw (aim, free.not_held) (own.target free.some_override) in
-    let entry = before_least m (before job s.done) c least small (λ d. (law d).entry) in
-    let exit = after_least m c (command_at job (suc s.done)) least small (λ d. (law d).exit) in
-    omega (arith, may.at_least, own.change, own.bound)
+    let more = no_less_by_place m c.action n (effective s) (point l.path (place_before s)) in
+    let aimed : least ≤ target_on m c.action n (effective s) (point l.path (place_before s)) = (
+    let low = own.target free.some_override in no_greater least _ _ low more) in
+    let wished : least ≤ wish = rw (aim, free.not_held) aimed in
+    omega (arith, may.at_least, own.change, own.bound, own.entry, own.exit)
 
 -- ---- a load
 

@@ -15,7 +15,7 @@ use Rattle.ngc_fixed_length.specs.Limits.{MILLION}
 use Rattle.ngc_planner.specs.Bounds.{MayTurnOn, MayTurn}
 use Rattle.ngc_events.specs.declared.event.Event.{Event}
 use Rattle.ngc_events.specs.declared.event.Event.TheVariants.{Load, Tick, Hold, Resume, Override, StopSwitch, Start}
-use Rattle.ngc_behaviour.specs.State.{Job, Queued, State, opening, loaded, command_at, path_steps, millionths, RING}
+use Rattle.ngc_behaviour.specs.State.{Job, Queued, State, opening, loaded, command_at, path_steps, millionths}
 use Rattle.ngc_behaviour.specs.Reach.{stops, flows_into}
 use Rattle.ngc_behaviour.specs.RateRules.{GoesOnInto, KeepsRateRules}
 use Rattle.ngc_behaviour.specs.Step.{Outcome, Step, LoadCommand, Rests, Finishes, Dwells, Serves, Travels, HeadTick, TickBy, without_head, after, ticks_of}
@@ -179,7 +179,7 @@ Same old new = (new.rate ≡ old.rate) × Fits new.ring new.travelled
 load_keeps : (job : Job) (old : State) (next : Option Command) (o : Outcome) (new : State) → Fits old.ring old.travelled → LoadCommand job old next o new →
     Same old new
 load_keeps job old None o new f t = subst (Same old) (sym t.1) (refl, f)
-load_keeps job old (Some c) o new f t = elim (match_with (nat_lt (length old.ring) RING) _ _ t) [
+load_keeps job old (Some c) o new f t = elim (match_with (nat_lt (length old.ring) job.machine.ring) _ _ t) [
   | inl u ↦ subst (Same old) (sym u.1.3) (refl, more_fits old.ring (record { command = c; path = u.1.0 }) old.travelled f)
   | inr u ↦ subst (Same old) (sym u.1.1) (refl, f)
 ]

@@ -7,7 +7,7 @@ use Rattle.ngc_commands.specs.declared.command.Action.{Action}
 use Rattle.ngc_commands.specs.declared.command.Command.{Command}
 use Rattle.ngc_events.specs.declared.event.Event.{Event}
 use Rattle.ngc_events.specs.declared.event.Event.TheVariants.{Load, Tick, Hold, Resume, Override, StopSwitch, Start}
-use Rattle.ngc_behaviour.specs.State.{Job, Queued, State, RING, loaded, command_at, path_steps, millionths}
+use Rattle.ngc_behaviour.specs.State.{Job, Queued, State, loaded, command_at, path_steps, millionths}
 use Rattle.ngc_behaviour.specs.Step.{Outcome, Step, LoadCommand, MayTake, Rests, Finishes, Dwells, Serves, Travels, HeadTick, TickBy, without_head, place_after}
 use Rattle.ngc_behaviour.specs.Step.{ticks_of}
 use Rattle.ngc_behaviour.proofs.Cases.{match_with}
@@ -70,7 +70,7 @@ tick_ring job false (l ∷ ls) old o new t = head_ring job l ls old o new t
 load_ring : (job : Job) (old : State) (next : Option Command) (o : Outcome) (new : State) → command_at job (loaded old) ≡ next →
     LoadCommand job old next o new → RingAfter job old new
 load_ring job old None o new e t = still job old new _ t.1 refl refl
-load_ring job old (Some c) o new e t = elim (match_with (nat_lt (length old.ring) RING) _ _ t) [
+load_ring job old (Some c) o new e t = elim (match_with (nat_lt (length old.ring) job.machine.ring) _ _ t) [
   | inl u ↦ grows (record {
     command = c;
     path = u.1.0;

@@ -22,7 +22,7 @@ use Rattle.ngc_certificate.specs.Valid.{AreClearFrom}
 use Rattle.ngc_certificate.proofs.SafeOnPath.{safe_on_path}
 use Rattle.ngc_events.specs.declared.event.Event.{Event}
 use Rattle.ngc_events.specs.declared.event.Event.TheVariants.{Load, Tick, Hold, Resume, Override, StopSwitch, Start}
-use Rattle.ngc_behaviour.specs.State.{Job, Queued, State, loaded, command_at, path_steps, millionths, RING}
+use Rattle.ngc_behaviour.specs.State.{Job, Queued, State, loaded, command_at, path_steps, millionths}
 use Rattle.ngc_behaviour.specs.Step.{Outcome, Step, LoadCommand, MayTake, Rests, Finishes, Dwells, Serves, Travels, HeadTick, TickBy, without_head, after}
 use Rattle.ngc_behaviour.specs.Step.{place_after, ticks_of}
 use Rattle.ngc_behaviour.specs.Run.{Run}
@@ -253,7 +253,7 @@ on_load : (job : Job) (old : State) (next : Option Command) (o : Outcome) (new :
     LoadCommand job old next o new → HoldsIn job new
 on_load job old None o new e h t = subst (HoldsIn job) (sym t.1) h
 on_load job old (Some c) o new e h t =
-    elim (match_with (nat_lt (length old.ring) RING) _ _ t) [
+    elim (match_with (nat_lt (length old.ring) job.machine.ring) _ _ t) [
       | inl u ↦ subst (HoldsIn job) (sym u.1.3)
           (record {
             left = h.left;

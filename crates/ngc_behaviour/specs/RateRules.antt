@@ -2,11 +2,13 @@
 use Rattle.std.specs.Prelude.{◌≡◌, ℕ, suc, ◌+◌, ◌-◌, ◌≤◌, ◌<◌, min, max, ◌==◌, List, [], ◌∷◌, true}
 use Rattle.std.specs.Prelude.{if◌then◌else◌}
 use Rattle.ngc_planner.specs.Braking.{braking}
-use Rattle.ngc_planner.specs.Bounds.{IsWithinBounds, bound_of, target_at}
-use Rattle.ngc_planner.specs.Joints.{joint_before, joint_after}
-use Rattle.ngc_behaviour.specs.State.{Job, Queued, State, command_at, path_steps, millionths}
-use Rattle.ngc_behaviour.specs.State.{effective}
-use Rattle.ngc_behaviour.specs.Reach.{before, flows_into, reach, free}
+use Rattle.ngc_fixed_length.specs.LinePath.{point}
+use Rattle.ngc_planner.specs.ArcFeed.{target_on}
+use Rattle.ngc_planner.specs.Bounds.{IsWithinBounds, bound_of}
+use Rattle.ngc_planner.specs.Joints.{joint_at, joint_before}
+use Rattle.ngc_behaviour.specs.State.{Job, Queued, State, path_steps, millionths}
+use Rattle.ngc_behaviour.specs.State.{place_before, effective}
+use Rattle.ngc_behaviour.specs.Reach.{flows_into, reach, free}
 
 -- the way goes on into the next motion, which is within its bounds too
 abbrev pub GoesOnInto : Job → ℕ → Queued → List Queued → Type 0
@@ -21,22 +23,22 @@ pub record KeepsRateRules (job : Job) (l : Queued) (ls : List Queued) (s : State
   pub slower : s.rate ≤ v + job.machine.change
   pub within : IsWithinBounds job.machine l.command.action (path_steps l) v
   -- the first tick on a motion, and the last
-  pub enters : s.travelled ≡ 0 → v ≤ joint_before job.machine (before job s.done) l.command
-  pub leaves : millionths l ≤ s.travelled + v →
-      v ≤ joint_after job.machine l.command (command_at job (suc s.done))
+  pub enters : s.travelled ≡ 0 → v ≤ joint_before job.machine job.commands s.done
+  pub leaves : millionths l ≤ s.travelled + v → v ≤ joint_at job.machine job.commands s.done
   pub goes_on : millionths l < s.travelled + v → GoesOnInto job v l ls
 
--- nothing is to be travelled while held
+-- what is to be travelled at the grid point that the head's path has reached; nothing while held
 abbrev pub target : Job → Queued → State → ℕ
-target job l s =
-    if s.held then 0 else target_at job.machine l.command.action (path_steps l) (effective s)
+target job l s = if s.held then 0 else
+    target_on job.machine l.command.action (path_steps l) (effective s)
+    (point l.path (place_before s))
 
 -- in its first tick a motion is bound by the joint too
 abbrev pub head_bound : Job → Queued → State → ℕ
 head_bound job l s =
     if s.travelled == 0
     then min (bound_of job.machine l.command.action (path_steps l))
-    (joint_before job.machine (before job s.done) l.command)
+    (joint_before job.machine job.commands s.done)
     else bound_of job.machine l.command.action (path_steps l)
 
 -- the rate that a tick has at least, where the way is free for it

@@ -1,20 +1,14 @@
 -- The ring's motions as the legs of a ramp: how far the way is loaded, and how far a rate may go
 -- on. Our own.
-use Rattle.std.specs.Prelude.{ℕ, zero, suc, ◌-◌, nat_lt, List, [], ◌∷◌, Option, None, Bool, false}
+use Rattle.std.specs.Prelude.{ℕ, suc, ◌-◌, nat_lt, List, [], ◌∷◌, Bool, false}
 use Rattle.std.specs.Prelude.{not, ◌&&◌, if◌then◌else◌}
 use Rattle.ngc_commands.specs.declared.command.Action.{Action}
 use Rattle.ngc_commands.specs.declared.command.Action.TheVariants.{Move}
-use Rattle.ngc_commands.specs.declared.command.Command.{Command}
 use Rattle.ngc_planner.specs.declared.leg.Leg.{Leg}
 use Rattle.ngc_planner.specs.Bounds.{bound_of}
-use Rattle.ngc_planner.specs.Joints.{joint_before, joint_after}
+use Rattle.ngc_planner.specs.Joints.{joint_at, joint_before}
 use Rattle.ngc_planner.specs.Reach as legs
-use Rattle.ngc_behaviour.specs.State.{Job, Queued, State, command_at, path_steps, millionths}
-
--- the command before command k
-abbrev pub before : Job → ℕ → Option Command
-before job zero = None
-before job (suc k) = command_at job k
+use Rattle.ngc_behaviour.specs.State.{Job, Queued, State, path_steps, millionths}
 
 -- the axes stop at the end of a motion in exact stop mode (NISTIR 6556, 3.5.14)
 abbrev pub stops : Action → Bool
@@ -32,8 +26,8 @@ abbrev pub leg_of : Job → ℕ → Bool → Queued → Leg
 leg_of job k joined l = record {
   millionths = millionths l;
   bound = bound_of job.machine l.command.action (path_steps l);
-  entry = joint_before job.machine (before job k) l.command;
-  exit = joint_after job.machine l.command (command_at job (suc k));
+  entry = joint_before job.machine job.commands k;
+  exit = joint_at job.machine job.commands k;
   joined = joined;
 }
 

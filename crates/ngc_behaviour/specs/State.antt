@@ -1,5 +1,5 @@
 -- The state of a machine that runs a program. Our own.
-use Rattle.std.specs.Prelude.{ℕ, ◌+◌, ◌-◌, ◌*◌, List, [], length, slice_get, Option, None, Bool}
+use Rattle.std.specs.Prelude.{ℕ, ◌+◌, ◌-◌, ◌*◌, ◌/◌, List, [], length, slice_get, Option, None, Bool}
 use Rattle.std.specs.Prelude.{true, false, if◌then◌else◌}
 use Rattle.ngc_fixed_length.specs.declared.points.StepPos.{StepPos}
 use Rattle.ngc_fixed_length.specs.Grid.{grid}
@@ -53,10 +53,6 @@ opening machine = record {
   stop_switch = false;
 }
 
--- how many commands the ring takes
-abbrev pub RING : ℕ
-RING = 16
-
 -- the index of the next command to load, and commands by index
 abbrev pub loaded : State → ℕ
 loaded s = s.done + length s.ring
@@ -70,6 +66,10 @@ path_steps l = length l.path - 1
 
 abbrev pub millionths : Queued → ℕ
 millionths l = path_steps l * MILLION
+
+-- the place on the head's path
+abbrev pub place_before : State → ℕ
+place_before s = s.travelled / MILLION
 
 -- the percentage that counts
 abbrev pub effective : State → ℕ

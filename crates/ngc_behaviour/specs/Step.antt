@@ -21,8 +21,8 @@ use Rattle.ngc_events.specs.declared.reply.Reply.TheVariants.{Overridden, Switch
 use Rattle.ngc_events.specs.declared.event_fault.EventFault.{EventFault}
 use Rattle.ngc_events.specs.declared.event_fault.EventFault.TheVariants.{OverrideTooLarge, RingFull}
 use Rattle.ngc_events.specs.declared.event_fault.EventFault.TheVariants.{AllLoaded}
-use Rattle.ngc_behaviour.specs.State.{Job, State, Queued, RING, loaded, command_at, path_steps}
-use Rattle.ngc_behaviour.specs.State.{millionths}
+use Rattle.ngc_behaviour.specs.State.{Job, State, Queued, loaded, command_at, path_steps}
+use Rattle.ngc_behaviour.specs.State.{millionths, place_before}
 use Rattle.ngc_behaviour.specs.RateRules.{MayTravel}
 
 -- a reply, or why the event was refused
@@ -39,7 +39,7 @@ MayTake job _ path = path ≡ []
 abbrev pub LoadCommand : Job → State → Option Command → Outcome → State → Type 0
 LoadCommand job old None outcome new = (outcome ≡ Err AllLoaded) × (new ≡ old)
 LoadCommand job old (Some c) outcome new =
-    MatchBool (nat_lt (length old.ring) RING)
+    MatchBool (nat_lt (length old.ring) job.machine.ring)
     ((path : List StepPos) × MayTake job c.action path × (outcome ≡ Ok (Loaded (loaded old))) ×
     (new ≡ record old { ring = old.ring ++ record { command = c; path = path } ∷ [] }))
     ((outcome ≡ Err RingFull) × (new ≡ old))
@@ -94,10 +94,7 @@ Serves job action old outcome new =
     MatchBool (nat_lt (suc old.dwelt) (ticks_of job action)) (Dwells job old outcome new)
     (Finishes job action old outcome new)
 
--- the place on the head's path before and after v millionths
-abbrev pub place_before : State → ℕ
-place_before s = s.travelled / MILLION
-
+-- the place on the head's path after v millionths more
 abbrev pub place_after : Queued → State → ℕ → ℕ
 place_after l s v = min (s.travelled + v) (millionths l) / MILLION
 

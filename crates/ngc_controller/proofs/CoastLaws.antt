@@ -8,6 +8,7 @@ use Rattle.ngc_fixed_length.specs.declared.points.StepPos.{StepPos}
 use Rattle.ngc_machine.specs.MachineRanges.{IsMachine}
 use Rattle.ngc_machine.specs.declared.tools.Tool.{Tool}
 use Rattle.ngc_commands.specs.declared.command.Action.{Action}
+use Rattle.ngc_planner.specs.ArcFeed.{target_on}
 use Rattle.ngc_planner.specs.Bounds.{IsMotion}
 use Rattle.ngc_fixed_length.specs.Limits.{MILLION}
 use Rattle.ngc_planner.specs.Ramp.{RampState, IsRest, MayCoast, MayCoastOn, Coasts}
@@ -15,11 +16,11 @@ use Rattle.ngc_planner.proofs.CoastLaws.{coast_ticks, coast_on}
 use Rattle.ngc_events.specs.declared.event.Event.{Event}
 use Rattle.ngc_events.specs.declared.event.Event.TheVariants.{Tick}
 use Rattle.ngc_events.specs.declared.reply.Reply.TheVariants.{Ticked}
-use Rattle.ngc_behaviour.specs.State.{Job, Queued, State, path_steps, millionths, effective}
+use Rattle.ngc_behaviour.specs.State.{Job, Queued, State, path_steps, millionths, place_before, effective}
 use Rattle.ngc_behaviour.specs.Progress.{TravelsAtLeast, GoesOn}
 use Rattle.ngc_behaviour.specs.RateRules.{target}
 use Rattle.ngc_behaviour.specs.Reach.{leg_of, legs_behind}
-use Rattle.ngc_behaviour.specs.Step.{Outcome, Travels, Dwells, Finishes, Serves, Rests, HeadTick, TickBy, Step, place_before, ticks_of}
+use Rattle.ngc_behaviour.specs.Step.{Outcome, Travels, Dwells, Finishes, Serves, Rests, HeadTick, TickBy, Step, ticks_of}
 use Rattle.ngc_behaviour.specs.Stretch.{Stretch}
 use Rattle.ngc_controller.specs.declared.drive.Drive.{Drive}
 use Rattle.ngc_controller.specs.declared.panel.Panel.{Panel}
@@ -114,8 +115,8 @@ travels_step job l ls s new travels moves runs ring =
 
 -- the others follow
 even_on : (job : Job) (l : Queued) (ls : List Queued) (s : State) (r : RampState) (joined : Bool) (wish n : ℕ) → IsEven job l ls s r joined wish (suc n) →
-    r.rate < r.rest → IsEven job l ls (travelled_one l s) (one_less r) joined wish n
-even_on job l ls s r joined wish n h less = record {
+    r.rate < r.rest → (s.travelled + s.rate) / MILLION ≡ s.travelled / MILLION → IsEven job l ls (travelled_one l s) (one_less r) joined wish n
+even_on job l ls s r joined wish n h less place = record {
   machine = h.machine;
   motion = h.motion;
   moves = h.moves;
@@ -126,7 +127,7 @@ even_on job l ls s r joined wish n h less = record {
   rate = h.rate;
   within = omega (arith, h.within);
   at = omega (arith, h.at, h.within, h.rate);
-  aim = h.aim;
+  aim = h.aim ∙ ap (λ k. if s.held then 0 else target_on job.machine l.command.action (path_steps l) (effective s) (point l.path k)) (sym place);
   may = coast_on r wish n (leg_of job s.done joined l) h.within h.may;
 }
 
@@ -160,7 +161,7 @@ coasts_even (suc n) job l ls s r joined wish h =
     ∙ sym (coasted_travelled (suc n) l ls s (omega arith) h.ring h.moves) in
     subst (λ t. Stretch job s t (replicate (suc n) Tick) (replicate (suc n) quiet)) last
     (tick_more job s mid (coasted n mid) Tick quiet (replicate n Tick) (replicate n quiet) (travels_step job l ls s mid travels h.moves h.runs h.ring) least
-    (coasts_even n job l ls mid (one_less r) joined wish (even_on job l ls s r joined wish n h less)))
+    (coasts_even n job l ls mid (one_less r) joined wish (even_on job l ls s r joined wish n h less place)))
 
 -- ---- by what the fields keep
 
@@ -177,7 +178,7 @@ pub record IsEvenOn (job : Job) (queue : List Queued) (s : State) (r : RampState
   pub at : s.travelled ≡ travelled_of queue r.rest
   pub place_at : place ≡ s.travelled / MILLION
   pub aim : wish ≡ (if s.held then 0 else aimed)
-  pub target : IsTarget job.machine (effective s) queue aimed
+  pub target : IsTarget job.machine (effective s) queue place aimed
   pub may : MayCoastOn r.legs r wish n
   pub some : 1 ≤ n
   pub point_at : IsPointOn queue place p
@@ -199,7 +200,8 @@ even_head job l ls s r wish aimed n place p h =
       rate = h.rate;
       within = left.1;
       at = h.at ∙ moving_travelled l ls r.rest h.moves;
-      aim = h.aim ∙ ap (λ t. if s.held then 0 else t) (h.target h.moves);
+      aim = h.aim ∙ ap (λ t. if s.held then 0 else t) (h.target h.moves
+          ∙ ap (λ k. target_on job.machine l.command.action (path_steps l) (effective s) (point l.path k)) h.place_at);
       may = may h.some;
     }
 
@@ -209,7 +211,7 @@ coasts_on job [] s r wish aimed n place p h = elim h.moves [ ]
 coasts_on job (l ∷ ls) s r wish aimed n place p h = coasts_even n job l ls s r h.legs.0 wish (even_head job l ls s r wish aimed n place p h)
 
 -- from the fields
-pub even_by : (job : Job) (done : ℕ) (ring after : RingData) (drive : Drive) (dwelt : ℕ) (position : StepPos) (tool : Option Tool) (panel : Panel)
+pub even_by : {A : Type 0} (job : Job) (done : ℕ) (ring after : RingData) (drive : Drive A) (dwelt : ℕ) (position : StepPos) (tool : Option Tool) (panel : Panel)
     (s : RampState) (wish n : ℕ) (p : StepPos) →
     IsInOrder job done ring drive dwelt panel → IsMoving ring.loaded → panel.stopped ≡ false → wish ≡ (if panel.held then 0 else drive.target) →
     Coasts drive.ramp wish n s → 1 ≤ n → after.loaded ≡ ring.loaded → after.place ≡ ring.place → IsPointOn after.loaded after.place p →
@@ -305,10 +307,10 @@ served_dwelt : (queue : List Queued) (s : State) (a : Action) (n : ℕ) → IsSe
 served_dwelt [] s a n served ring some = elim served [ ]
 served_dwelt (l ∷ ls) s a n served ring some = coasted_dwelt n l ls s some ring (omega (arith, served.1))
 
-pub state_served : (done : ℕ) (ring : RingData) (drive new : Drive) (dwelt n : ℕ) (position : StepPos) (tool : Option Tool) (panel : Panel) (a : Action) →
+pub state_served : {A : Type 0} (done : ℕ) (ring : RingData) (drive new : Drive A) (dwelt n : ℕ) (position : StepPos) (tool : Option Tool) (panel : Panel) (a : Action) →
     IsServed ring.loaded a → 1 ≤ n →
     new ≡ record drive { ramp = record drive.ramp { rate = 0 } } → state_of done ring new (dwelt + n) position tool panel
     ≡ coasted n (state_of done ring drive dwelt position tool panel)
-state_served done ring drive new dwelt n position tool panel a served some is =
+state_served {A = A} done ring drive new dwelt n position tool panel a served some is =
     let old = state_of done ring drive dwelt position tool panel in
-    ap (λ (d : Drive). state_of done ring d (dwelt + n) position tool panel) is ∙ sym (served_dwelt ring.loaded old a n served refl some)
+    ap (λ (d : Drive A). state_of done ring d (dwelt + n) position tool panel) is ∙ sym (served_dwelt ring.loaded old a n served refl some)

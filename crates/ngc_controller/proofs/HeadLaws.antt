@@ -8,11 +8,13 @@ use Rattle.std.proofs.lemmas.Bool.Decides.{nat_tests}
 use Rattle.ngc_fixed_length.specs.declared.points.StepPos.{StepPos}
 use Rattle.ngc_machine.specs.MachineRanges.{IsMachine}
 use Rattle.ngc_machine.specs.declared.tools.Tool.{Tool}
+use Rattle.ngc_fixed_length.specs.LinePath.{point}
+use Rattle.ngc_planner.specs.ArcFeed.{target_on}
 use Rattle.ngc_planner.specs.declared.leg.Leg.{Leg}
 use Rattle.ngc_fixed_length.specs.Limits.{MILLION}
 use Rattle.ngc_planner.specs.Ramp.{RampState, IsRest, TicksTo, next_rest, after_tick}
 use Rattle.ngc_planner.proofs.RampLaws.{ends_slowly}
-use Rattle.ngc_behaviour.specs.State.{Job, Queued, State, millionths, effective}
+use Rattle.ngc_behaviour.specs.State.{Job, Queued, State, path_steps, millionths, effective}
 use Rattle.ngc_behaviour.specs.Reach.{leg_of, legs_behind}
 use Rattle.ngc_events.specs.declared.reply.Ending.TheVariants.{Done}
 use Rattle.ngc_events.specs.declared.reply.Reply.TheVariants.{Ticked}
@@ -23,7 +25,8 @@ use Rattle.ngc_controller.specs.Fields.{travelled_of, state_of, IsInOrder, Trave
 use Rattle.ngc_controller.specs.Loaded.{next_place}
 use Rattle.ngc_controller.specs.Ring.{RingData, IsMoving, IsPointOn}
 use Rattle.ngc_controller.proofs.LegLaws.{moving_legs, moving_travelled, behind_is, behind_left, none_ahead, travelled_over}
-use Rattle.ngc_controller.proofs.OrderLaws.{IsLeft, same_ring}
+use Rattle.ngc_controller.specs.Panel.{effective_at}
+use Rattle.ngc_controller.proofs.OrderLaws.{IsLeft, same_ring, same_drive}
 use Rattle.ngc_controller.proofs.TravelLaws.{IsTravel, has_travelled, goes_on, ends_there}
 
 -- what is known of a tick of the ramp r to s, with this ring
@@ -34,11 +37,12 @@ pub record IsTravelOn (job : Job) (ring : List Queued) (old : State) (r s : Ramp
   pub legs : (joined : Bool) × (r.legs ≡ legs_of job old.done joined ring)
   pub left : IsRest r.rest r.legs
   pub change : r.change ≡ job.machine.change
+  pub places : r.room ≡ job.machine.ring
   pub rate : r.rate ≡ old.rate
   pub at : old.travelled ≡ travelled_of ring r.rest
   pub place_at : place ≡ old.travelled / MILLION
   pub aim : wish ≡ (if old.held then 0 else aimed)
-  pub target : IsTarget job.machine (effective old) ring aimed
+  pub target : IsTarget job.machine (effective old) ring place aimed
   pub tick : (head : Leg) (legs : List Leg) → r.legs ≡ head ∷ legs → TicksTo r wish head legs v due ended s
   pub place_next : next ≡ next_place place due
   pub point_at : IsPointOn ring next p
@@ -65,7 +69,8 @@ travel job l ls old r s wish aimed v place due ended next p h =
       within = left.1;
       at = h.at ∙ moving_travelled l ls r.rest h.moves;
       place_at = h.place_at;
-      aim = h.aim ∙ ap (λ t. if old.held then 0 else t) (h.target h.moves);
+      aim = h.aim ∙ ap (λ t. if old.held then 0 else t) (h.target h.moves
+          ∙ ap (λ k. target_on job.machine l.command.action (path_steps l) (effective old) (point l.path k)) h.place_at);
       tick = h.tick (leg_of job old.done h.legs.0 l) (legs_behind job (suc old.done) l ls) legs;
       place_next = h.place_next;
       point_at = h.point_at.0;
@@ -79,6 +84,7 @@ pub record Goes (r s : RampState) (v : ℕ) : Type 0 where
   pub rest : s.rest ≡ r.rest - v
   pub legs : s.legs ≡ r.legs
   pub change : s.change ≡ r.change
+  pub room : s.room ≡ r.room
 
 pub record Ends (r s : RampState) (behind : List Leg) (v : ℕ) : Type 0 where
   pub all : r.rest ≤ v
@@ -86,6 +92,7 @@ pub record Ends (r s : RampState) (behind : List Leg) (v : ℕ) : Type 0 where
   pub rest : s.rest ≡ next_rest (v - r.rest) behind
   pub legs : s.legs ≡ behind
   pub change : s.change ≡ r.change
+  pub room : s.room ≡ r.room
 
 goes : (r s : RampState) (legs : List Leg) (v : ℕ) (ended : Bool) → ended ≡ nat_le r.rest v → ended ≡ false → s ≡ after_tick r legs v → Goes r s v
 goes r s legs v ended test on e =
@@ -98,6 +105,7 @@ goes r s legs v ended test on e =
       rest = ap (λ (x : RampState). x.rest) whole;
       legs = ap (λ (x : RampState). x.legs) whole;
       change = ap (λ (x : RampState). x.change) whole;
+      room = ap (λ (x : RampState). x.room) whole;
     }
 
 ends : (r s : RampState) (legs : List Leg) (v : ℕ) (ended : Bool) → ended ≡ nat_le r.rest v → ended ≡ true → s ≡ after_tick r legs v → Ends r s legs v
@@ -111,6 +119,7 @@ ends r s legs v ended test done e =
       rest = ap (λ (x : RampState). x.rest) whole;
       legs = ap (λ (x : RampState). x.legs) whole;
       change = ap (λ (x : RampState). x.change) whole;
+      room = ap (λ (x : RampState). x.room) whole;
     }
 
 -- what a test of the end says
@@ -143,7 +152,7 @@ travel_goes_on job (l ∷ ls) old new r s wish aimed v place due ended next p t 
 -- what the ramp and the ring keep
 place_on : (job : Job) (ring : List Queued) (old : State) (r s : RampState) (wish aimed v place : ℕ) (due ended : Bool) (next : ℕ) (p : StepPos) →
     IsTravelOn job ring old r s wish aimed v place due ended next p → ended ≡ false →
-    (next ≡ travelled_of ring s.rest / MILLION) × (s.legs ≡ r.legs) × (s.change ≡ r.change) × IsRest s.rest s.legs
+    (next ≡ travelled_of ring s.rest / MILLION) × (s.legs ≡ r.legs) × (s.change ≡ r.change) × IsRest s.rest s.legs × (s.room ≡ r.room)
 place_on job [] old r s wish aimed v place due ended next p h on = elim h.moves [ ]
 place_on job (l ∷ ls) old r s wish aimed v place due ended next p h on =
     let k = travel job l ls old r s wish aimed v place due ended next p h in
@@ -155,31 +164,35 @@ place_on job (l ∷ ls) old r s wish aimed v place due ended next p h on =
       g.legs,
       g.change,
       subst (λ ks. IsRest s.rest ks) (sym (g.legs ∙ k.legs)) (omega (arith, g.rest, g.less), omega (arith, g.rest, k.within)),
+      g.room,
     )
 
-pub order_goes_on : (job : Job) (done : ℕ) (ring after : RingData) (drive : Drive) (dwelt : ℕ) (panel : Panel) (old : State) (s : RampState) (wish v : ℕ)
+pub order_goes_on : {A : Type 0} (job : Job) (done : ℕ) (ring after : RingData) (drive new : Drive A) (dwelt : ℕ) (panel : Panel) (old : State) (s : RampState) (wish v : ℕ)
     (due ended : Bool) (p : StepPos) → IsInOrder job done ring drive dwelt panel →
-    IsTravelOn job ring.loaded old drive.ramp s wish drive.target v ring.place due ended after.place p → ended ≡ false → after.loaded ≡ ring.loaded →
-    panel.stopped ≡ false →
-    IsInOrder job done after (record { ramp = s; target = drive.target; flows_on = drive.flows_on }) dwelt panel
-order_goes_on job done ring after drive dwelt panel old s wish v due ended p o h go queue runs =
+    IsTravelOn job ring.loaded old drive.ramp s wish drive.target v ring.place due ended after.place p → ended ≡ false → after.loaded ≡ ring.loaded → after.room ≡ ring.room →
+    panel.stopped ≡ false → new.ramp ≡ s → new.flows_on ≡ drive.flows_on →
+    IsTarget job.machine (effective_at panel) after.loaded after.place new.target →
+    IsInOrder {A = A} job done after new dwelt panel
+order_goes_on {A = A} job done ring after drive new dwelt panel old s wish v due ended p o h go queue room runs ramp flows target =
     let on = place_on job ring.loaded old drive.ramp s wish drive.target v ring.place due ended after.place p h go in
-    let here : IsInOrder job done (record { loaded = ring.loaded; place = after.place })
-    (record { ramp = s; target = drive.target; flows_on = drive.flows_on }) dwelt panel = record {
+    let here : IsInOrder {A = A} job done (record { loaded = ring.loaded; place = after.place; room = ring.room })
+    (record { ramp = s; target = new.target; flows_on = drive.flows_on }) dwelt panel = record {
       machine = o.machine;
       change = on.2 ∙ o.change;
+      room = o.room;
+      places = on.4 ∙ o.places;
       legs = (o.legs.0, on.1 ∙ o.legs.1);
       left = on.3;
       slow = λ still. absurd (still h.moves);
       whole = λ still. absurd (still h.moves);
       flows_on = o.flows_on;
       place = on.0;
-      target = o.target;
+      target = subst (λ xs. IsTarget job.machine (effective_at panel) xs after.place new.target) queue target;
       few = o.few;
       brief = o.brief;
       still = λ stopped. cc;
     } in
-    rw (same_ring after ring.loaded after.place queue refl) here
+    rw (same_ring after ring.loaded after.place ring.room queue refl room, same_drive new s drive.flows_on ramp flows) here
 
 -- ---- where it ends
 
@@ -212,6 +225,7 @@ ends_on job (l ∷ ls) old r s wish aimed v place due ended next p h done =
       all = e.all;
       left = record {
         change = e.change ∙ k.change;
+        places = e.room ∙ h.places;
         legs = (b.0, e.legs ∙ b.1);
         left = subst (λ ks. IsRest s.rest ks) (sym e.legs) (subst (λ n. IsRest n behind) (sym e.rest) (behind_left job (suc old.done) l ls (v - r.rest) few));
         slow = λ still. (let slow = slows still in omega (arith, e.rate, slow.1, k.change));
@@ -239,7 +253,7 @@ travel_ends job (l ∷ ls) old new r s wish aimed v place due ended next p t xs 
 
 -- ---- from the fields
 
-pub travels_by : (job : Job) (done : ℕ) (ring after : RingData) (drive : Drive) (dwelt : ℕ) (position : StepPos) (tool : Option Tool) (panel : Panel)
+pub travels_by : {A : Type 0} (job : Job) (done : ℕ) (ring after : RingData) (drive : Drive A) (dwelt : ℕ) (position : StepPos) (tool : Option Tool) (panel : Panel)
     (s : RampState) (wish v : ℕ) (due ended : Bool) (p : StepPos) →
     IsInOrder job done ring drive dwelt panel → IsMoving ring.loaded → wish ≡ (if panel.held then 0 else drive.target) →
     ((head : Leg) (legs : List Leg) → drive.ramp.legs ≡ head ∷ legs → TicksTo drive.ramp wish head legs v due ended s) →
@@ -251,6 +265,7 @@ travels_by job done ring after drive dwelt position tool panel s wish v due ende
   legs = o.legs;
   left = o.left;
   change = o.change;
+  places = o.places;
   rate = refl;
   at = refl;
   place_at = o.place;

@@ -163,6 +163,7 @@ whole_with rest (x ∷ xs) leg h = h
 -- the ramp with the leg of one command more, if it has one
 pub record HasOneMore (r s : RampState) : Type 0 where
   pub change : s.change ≡ r.change
+  pub places : s.room ≡ r.room
   pub rate : s.rate ≡ r.rate
   pub left : IsRest r.rest r.legs → IsRest s.rest s.legs
   pub whole : r.rest ≡ next_rest 0 r.legs → s.rest ≡ next_rest 0 s.legs
@@ -170,13 +171,14 @@ pub record HasOneMore (r s : RampState) : Type 0 where
 has_leg : (job : Job) (k : ℕ) (on : Bool) (q : Queued) (r : RampState) → 1 ≤ path_steps q → HasOneMore r (loaded r (leg_of job k on q))
 has_leg job k on q r some = record {
   change = refl;
+  places = refl;
   rate = refl;
   left = λ h. left_with r.rest r.legs (leg_of job k on q) (omega arith) h;
   whole = λ h. whole_with r.rest r.legs (leg_of job k on q) h;
 }
 
 has_none : (r : RampState) → HasOneMore r r
-has_none r = record { change = refl; rate = refl; left = λ h. h; whole = λ h. h }
+has_none r = record { change = refl; places = refl; rate = refl; left = λ h. h; whole = λ h. h }
 
 pub has_one_more : (job : Job) (k : ℕ) (on : Bool) (q : Queued) (r s : RampState) → s ≡ with_one_more job k on q r → HasOneMore r s
 has_one_more job k on q r s is = elim (cases_lt 0 (path_steps q)) [

@@ -15,7 +15,7 @@ use Rattle.ngc_planner.specs.Ramp.{RampState, IsRest, next_rest}
 use Rattle.ngc_events.specs.declared.reply.Reply.TheVariants.{Loaded}
 use Rattle.ngc_events.specs.declared.event_fault.EventFault.TheVariants.{RingFull}
 use Rattle.ngc_behaviour.specs.Headline.{job_of}
-use Rattle.ngc_behaviour.specs.State.{Job, Queued, State, RING, command_at}
+use Rattle.ngc_behaviour.specs.State.{Job, Queued, State, command_at}
 use Rattle.ngc_behaviour.specs.Step.{Outcome, MayTake, LoadCommand, Dwells, Finishes, Serves, after, without_head, ticks_of}
 use Rattle.ngc_controller.specs.declared.drive.Drive.{Drive}
 use Rattle.ngc_controller.specs.declared.panel.Panel.{Panel}
@@ -29,6 +29,7 @@ use Rattle.ngc_controller.proofs.LegLaws.{travelled_more}
 -- what the ramp keeps
 pub record IsLeft (job : Job) (done : ℕ) (ring : List Queued) (ramp : RampState) : Type 0 where
   pub change : ramp.change ≡ job.machine.change
+  pub places : ramp.room ≡ job.machine.ring
   pub legs : (joined : Bool) × (ramp.legs ≡ legs_of job done joined ring)
   pub left : IsRest ramp.rest ramp.legs
   pub slow : (IsMoving ring → ⊥) → ramp.rate ≤ job.machine.change
@@ -36,47 +37,51 @@ pub record IsLeft (job : Job) (done : ℕ) (ring : List Queued) (ramp : RampStat
 
 -- ---- the head leaves, and the next command is the head
 
-pub same_ring : (r : RingData) (xs : List Queued) (p : ℕ) → r.loaded ≡ xs → r.place ≡ p → r ≡ record { loaded = xs; place = p }
-same_ring r xs p e f = ap₂ (λ (ys : List Queued) (q : ℕ). record { loaded = ys; place = q }) e f
+pub same_ring : (r : RingData) (xs : List Queued) (p n : ℕ) → r.loaded ≡ xs → r.place ≡ p → r.room ≡ n → r ≡ record { loaded = xs; place = p; room = n }
+same_ring r xs p n e f k =
+    ap₂ (λ (ys : List Queued) (q : ℕ). record { loaded = ys; place = q; room = r.room }) e f ∙ ap (λ m. record { loaded = xs; place = p; room = m }) k
 
-same_drive : (d : Drive) (r : RampState) (b : Bool) → d.ramp ≡ r → d.flows_on ≡ b → d ≡ record { ramp = r; target = d.target; flows_on = b }
+pub same_drive : {A : Type 0} (d : Drive A) (r : RampState) (b : Bool) → d.ramp ≡ r → d.flows_on ≡ b → d ≡ record { ramp = r; target = d.target; flows_on = b }
 same_drive d r b e f = ap₂ (λ (x : RampState) (y : Bool). record { ramp = x; target = d.target; flows_on = y }) e f
 
 last_of_drop : (b : Bool) (ring : List Queued) → b ≡ last_flows_on b ring → b ≡ last_flows_on b (drop 1 ring)
 last_of_drop b [] h = refl
 last_of_drop b (l ∷ ls) h = last_of_rest b l ls h
 
-pub left_order : (job : Job) (done : ℕ) (ring : List Queued) (ramp : RampState) (on : Bool) (panel : Panel) (next : ℕ) (after : RingData) (new : Drive)
+pub left_order : {A : Type 0} (job : Job) (done : ℕ) (ring : List Queued) (ramp : RampState) (on : Bool) (panel : Panel) (next : ℕ) (after : RingData) (new : Drive A)
     (dwelt : ℕ) →
     IsMachine job.machine → IsLeft job (suc done) (drop 1 ring) ramp → travelled_of (drop 1 ring) ramp.rest / MILLION ≡ 0 → on ≡ last_flows_on on ring →
     (panel.stopped ≡ true → ramp.rate ≡ 0) →
     done + length ring ≤ length job.commands → 1 ≤ length ring →
-    after.loaded ≡ drop 1 ring → after.place ≡ 0 → next ≡ done + 1 → dwelt ≡ 0 → new.ramp ≡ ramp → new.flows_on ≡ on →
-    IsTarget job.machine (effective_at panel) after.loaded new.target →
+    after.loaded ≡ drop 1 ring → after.place ≡ 0 → after.room ≡ job.machine.ring → next ≡ done + 1 → dwelt ≡ 0 → new.ramp ≡ ramp → new.flows_on ≡ on →
+    IsTarget job.machine (effective_at panel) after.loaded after.place new.target →
     IsInOrder job next after new dwelt panel
-left_order job done ring ramp on panel next after new dwelt machine o zero last still few some queue place more brief same flows target =
+left_order {A = A} job done ring ramp on panel next after new dwelt machine o zero last still few some queue place room more brief same flows target =
     let shorter = length-drop 1 ring in
     let then : next ≡ suc done = omega arith in
-    let order : IsInOrder job (suc done) (record { loaded = drop 1 ring; place = 0 }) (record { ramp = ramp; target = new.target; flows_on = on }) 0 panel =
+    let order : IsInOrder {A = A} job (suc done) (record { loaded = drop 1 ring; place = 0; room = job.machine.ring }) (record { ramp = ramp; target = new.target; flows_on = on }) 0 panel =
     record {
       machine = machine;
       change = o.change;
+      room = refl;
+      places = o.places;
       legs = o.legs;
       left = o.left;
       slow = o.slow;
       whole = o.whole;
       flows_on = last_of_drop on ring last;
       place = sym zero;
-      target = subst (λ xs. IsTarget job.machine (effective_at panel) xs new.target) queue target;
+      target = subst (λ xs. IsTarget job.machine (effective_at panel) xs 0 new.target) queue
+          (subst (λ k. IsTarget job.machine (effective_at panel) after.loaded k new.target) place target);
       few = omega arith;
       brief = omega arith;
       still = still;
     } in
-    rw (then, brief, same_ring after (drop 1 ring) 0 queue place, same_drive new ramp on same flows) order
+    rw (then, brief, same_ring after (drop 1 ring) 0 job.machine.ring queue place room, same_drive new ramp on same flows) order
 
-pub target_as : (machine asked : MachineFile) (percent counted : ℕ) (ring : List Queued) (target : ℕ) → IsTarget asked counted ring target → asked ≡ machine →
-    counted ≡ percent → IsTarget machine percent ring target
-target_as machine asked percent counted ring target h e f = rw (sym e, sym f) h
+pub target_as : (machine asked : MachineFile) (percent counted : ℕ) (ring : List Queued) (place target : ℕ) → IsTarget asked counted ring place target →
+    asked ≡ machine → counted ≡ percent → IsTarget machine percent ring place target
+target_as machine asked percent counted ring place target h e f = rw (sym e, sym f) h
 
 -- ---- a command that travels nothing
 
@@ -85,22 +90,25 @@ served_still [] a served moves = moves
 served_still (l ∷ ls) a served moves = omega (arith, served.1, moves)
 
 left_behind : (job : Job) (done : ℕ) (ring : List Queued) (ramp : RampState) (a : Action) → IsServed ring a → ramp.change ≡ job.machine.change →
+    ramp.room ≡ job.machine.ring →
     (joined : Bool) → ramp.legs ≡ legs_of job done joined ring → IsRest ramp.rest ramp.legs → ramp.rest ≡ next_rest 0 ramp.legs →
     IsLeft job (suc done) (drop 1 ring) (record ramp { rate = 0 }) × (travelled_of (drop 1 ring) ramp.rest ≡ 0)
-left_behind job done [] ramp a served change joined legs left whole = elim served [ ]
-left_behind job done (l ∷ ls) ramp a served change joined legs left whole =
+left_behind job done [] ramp a served change places joined legs left whole = elim served [ ]
+left_behind job done (l ∷ ls) ramp a served change places joined legs left whole =
     let b = behind_is job (suc done) l ls in
     let are : ramp.legs ≡ legs_of job (suc done) b.0 ls = legs ∙ still_legs job done joined l ls (omega (arith, served.1)) ∙ b.1 in (
-      record { change = change; legs = (b.0, are); left = left; slow = λ still. omega arith; whole = λ still. whole },
+      record { change = change; places = places; legs = (b.0, are); left = left; slow = λ still. omega arith; whole = λ still. whole },
       travelled_over job (suc done) b.0 ls (record ramp { rate = 0 }) 0 are whole (omega arith) (λ still. refl),
     )
 
-pub rests_still : (job : Job) (done : ℕ) (ring : RingData) (drive new : Drive) (dwelt n : ℕ) (panel : Panel) → IsInOrder job done ring drive dwelt panel →
+pub rests_still : {A : Type 0} (job : Job) (done : ℕ) (ring : RingData) (drive new : Drive A) (dwelt n : ℕ) (panel : Panel) → IsInOrder job done ring drive dwelt panel →
     new ≡ record drive { ramp = record drive.ramp { rate = 0 } } → n ≤ DWELL_LIMIT → IsInOrder job done ring new n panel
 rests_still job done ring drive new dwelt n panel o is brief =
     let here : IsInOrder job done ring (record drive { ramp = record drive.ramp { rate = 0 } }) n panel = record {
       machine = o.machine;
       change = o.change;
+      room = o.room;
+      places = o.places;
       legs = o.legs;
       left = o.left;
       slow = λ still. omega arith;
@@ -114,11 +122,11 @@ rests_still job done ring drive new dwelt n panel o is brief =
     } in
     rw is here
 
-pub served_left : (job : Job) (done : ℕ) (ring : RingData) (drive : Drive) (dwelt : ℕ) (panel : Panel) (a : Action) →
+pub served_left : {A : Type 0} (job : Job) (done : ℕ) (ring : RingData) (drive : Drive A) (dwelt : ℕ) (panel : Panel) (a : Action) →
     IsInOrder job done ring drive dwelt panel → IsServed ring.loaded a →
     IsLeft job (suc done) (drop 1 ring.loaded) (record drive.ramp { rate = 0 }) × (travelled_of (drop 1 ring.loaded) drive.ramp.rest ≡ 0)
 served_left job done ring drive dwelt panel a o served =
-    left_behind job done ring.loaded drive.ramp a served o.change o.legs.0 o.legs.1 o.left (o.whole (served_still ring.loaded a served))
+    left_behind job done ring.loaded drive.ramp a served o.change o.places o.legs.0 o.legs.1 o.left (o.whole (served_still ring.loaded a served))
 
 pub served_some : (ring : List Queued) (a : Action) → IsServed ring a → 1 ≤ length ring
 served_some [] a served = elim served [ ]
@@ -155,9 +163,11 @@ serves_done job a old new outcome over h = subst (λ t. MatchBool t (Dwells job 
 
 -- ---- a command more
 
-pub few_on : (job : Job) (done : ℕ) (ring : RingData) (drive : Drive) (dwelt : ℕ) (panel : Panel) → IsInOrder job done ring drive dwelt panel →
-    length drive.ramp.legs ≤ length ring.loaded
-few_on job done ring drive dwelt panel o = let few = few_legs job done o.legs.0 ring.loaded in omega (arith, few, ap length o.legs.1)
+pub few_on : {A : Type 0} (job : Job) (done : ℕ) (ring : RingData) (drive : Drive A) (dwelt : ℕ) (panel : Panel) → IsInOrder job done ring drive dwelt panel →
+    length ring.loaded < job.machine.ring → length drive.ramp.legs < drive.ramp.room
+few_on job done ring drive dwelt panel o room =
+    let few = few_legs job done o.legs.0 ring.loaded in
+    omega (arith, few, ap length o.legs.1, o.places, room)
 
 pub more_as : (machine asked : MachineFile) (commands given : List Command) (k : ℕ) (on : Bool) (q : Queued) (old new : RampState) →
     new ≡ with_one_more (job_of asked given) k on q old → asked ≡ machine → given ≡ commands → new ≡ with_one_more (job_of machine commands) k on q old
@@ -167,38 +177,41 @@ still_before : (ring : List Queued) (q : Queued) → (IsMoving (ring ++ q ∷ []
 still_before [] q still moves = moves
 still_before (l ∷ ls) q still moves = still moves
 
-pub loaded_order : (job : Job) (done : ℕ) (ring : RingData) (drive : Drive) (dwelt : ℕ) (panel : Panel) (q : Queued) (k : ℕ) (after : RingData) (d : Drive)
+pub loaded_order : {A : Type 0} (job : Job) (done : ℕ) (ring : RingData) (drive : Drive A) (dwelt : ℕ) (panel : Panel) (q : Queued) (k : ℕ) (after : RingData) (d : Drive A)
     (n : ℕ) → IsInOrder job done ring drive dwelt panel →
     d.ramp ≡ with_one_more job (done + length ring.loaded) drive.flows_on q drive.ramp → d.flows_on ≡ flows_on q →
-    IsTarget job.machine (effective_at panel) after.loaded d.target →
-    done + length ring.loaded < length job.commands → k ≡ done → n ≡ dwelt → after.loaded ≡ ring.loaded ++ q ∷ [] → after.place ≡ ring.place →
+    IsTarget job.machine (effective_at panel) after.loaded after.place d.target →
+    done + length ring.loaded < length job.commands → k ≡ done → n ≡ dwelt → after.loaded ≡ ring.loaded ++ q ∷ [] → after.place ≡ ring.place → after.room ≡ ring.room →
     IsInOrder job k after d n panel
-loaded_order job done ring drive dwelt panel q k after d n o is flows target less same brief queue place =
+loaded_order job done ring drive dwelt panel q k after d n o is flows target less same brief queue place room =
     let all = ring.loaded ++ q ∷ [] in
     let more = length-append ring.loaded (q ∷ []) in
     let has = has_one_more job (done + length ring.loaded) drive.flows_on q drive.ramp d.ramp is in
     let legs = legs_of_more job done o.legs.0 drive.flows_on ring.loaded q drive.ramp o.legs.1 o.flows_on in
     let far = travelled_more job done (done + length ring.loaded) o.legs.0 drive.flows_on ring.loaded q drive.ramp d.ramp o.legs.1 is in
-    let here : IsInOrder job done (record { loaded = all; place = ring.place }) d dwelt panel = record {
+    let here : IsInOrder job done (record { loaded = all; place = ring.place; room = ring.room }) d dwelt panel = record {
       machine = o.machine;
       change = has.change ∙ o.change;
+      room = o.room;
+      places = has.places ∙ o.places;
       legs = (legs.0, ap (λ (x : RampState). x.legs) is ∙ legs.1);
       left = has.left o.left;
       slow = λ still. (let slow = o.slow (still_before ring.loaded q still) in omega (arith, has.rate, slow));
       whole = λ still. has.whole (o.whole (still_before ring.loaded q still));
       flows_on = flows ∙ sym (last_of_more d.flows_on ring.loaded q);
       place = o.place ∙ ap (λ x. x / MILLION) (sym far);
-      target = subst (λ xs. IsTarget job.machine (effective_at panel) xs d.target) queue target;
+      target = subst (λ xs. IsTarget job.machine (effective_at panel) xs ring.place d.target) queue
+          (subst (λ k. IsTarget job.machine (effective_at panel) after.loaded k d.target) place target);
       few = omega arith;
       brief = o.brief;
       still = λ stopped. has.rate ∙ o.still stopped;
     } in
-    rw (same, brief, same_ring after all ring.place queue place) here
+    rw (same, brief, same_ring after all ring.place ring.room queue place room) here
 
 -- the state after a load
-pub loads : (job : Job) (done : ℕ) (ring : RingData) (drive : Drive) (dwelt : ℕ) (position : StepPos) (tool : Option Tool) (panel : Panel) (c : Command)
-    (q : Queued) (k : ℕ) (after : RingData) (d : Drive) (n : ℕ) →
-    IsInOrder job done ring drive dwelt panel → command_at job (done + length ring.loaded) ≡ Some c → length ring.loaded < RING → q.command ≡ c →
+pub loads : {A : Type 0} (job : Job) (done : ℕ) (ring : RingData) (drive : Drive A) (dwelt : ℕ) (position : StepPos) (tool : Option Tool) (panel : Panel) (c : Command)
+    (q : Queued) (k : ℕ) (after : RingData) (d : Drive A) (n : ℕ) →
+    IsInOrder job done ring drive dwelt panel → command_at job (done + length ring.loaded) ≡ Some c → length ring.loaded < job.machine.ring → q.command ≡ c →
     MayTake job c.action q.path →
     d.ramp ≡ with_one_more job (done + length ring.loaded) drive.flows_on q drive.ramp → k ≡ done → n ≡ dwelt → after.loaded ≡ ring.loaded ++ q ∷ [] →
     LoadCommand job (state_of done ring drive dwelt position tool panel) (command_at job (done + length ring.loaded)) (Ok (Loaded (done + length ring.loaded)))
@@ -218,16 +231,16 @@ loads job done ring drive dwelt position tool panel c q k after d n o found room
     subst (λ found. LoadCommand job old found out new) (sym found)
     (subst (λ b. MatchBool b ((path : List StepPos) × MayTake job c.action path × (out ≡ Ok (Loaded (done + length ring.loaded))) ×
     (new ≡ record old { ring = ring.loaded ++ record { command = c; path = path } ∷ [] })) ((out ≡ Err RingFull) × (new ≡ old)))
-    (sym (lt-ltb (length ring.loaded) RING room))
+    (sym (lt-ltb (length ring.loaded) job.machine.ring room))
     (q.path, takes, refl, whole))
 
 -- where there is no room
-pub loads_not : (job : Job) (old new : State) (c : Command) (found : Option Command) → found ≡ Some c → RING ≤ length old.ring → new ≡ old →
+pub loads_not : (job : Job) (old new : State) (c : Command) (found : Option Command) → found ≡ Some c → job.machine.ring ≤ length old.ring → new ≡ old →
     LoadCommand job old found (Err RingFull) new
 loads_not job old new c found is full same =
     let out : Outcome = Err RingFull in
     subst (λ f. LoadCommand job old f out new) (sym is)
     (subst (λ b. MatchBool b ((path : List StepPos) × MayTake job c.action path × (out ≡ Ok (Loaded (old.done + length old.ring))) ×
     (new ≡ record old { ring = old.ring ++ record { command = c; path = path } ∷ [] })) ((out ≡ Err RingFull) × (new ≡ old)))
-    (sym (le-ltb (length old.ring) RING full))
+    (sym (le-ltb (length old.ring) job.machine.ring full))
     (refl, same))

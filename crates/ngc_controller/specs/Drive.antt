@@ -1,9 +1,10 @@
 -- The ramp of the motions in the ring, and the rate that the head is to reach. Our own.
-use Rattle.std.specs.Prelude.{◌≡◌, ℕ, suc, ◌≤◌, nat_lt, List, [], ◌∷◌, Bool, not, ◌&&◌}
+use Rattle.std.specs.Prelude.{◌≡◌, ℕ, suc, ◌≤◌, nat_lt, List, [], ◌∷◌, Bool, false, not, ◌&&◌}
 use Rattle.std.specs.Prelude.{if◌then◌else◌}
 use Rattle.ngc_machine.specs.Machine.{MachineFile}
 use Rattle.ngc_planner.specs.declared.leg.Leg.{Leg}
-use Rattle.ngc_planner.specs.Bounds.{target_at}
+use Rattle.ngc_fixed_length.specs.LinePath.{point}
+use Rattle.ngc_planner.specs.ArcFeed.{target_on, is_by_place}
 use Rattle.ngc_planner.specs.Ramp.{RampState, loaded}
 use Rattle.ngc_behaviour.specs.State.{Job, Queued, path_steps}
 use Rattle.ngc_behaviour.specs.Reach.{stops, leg_of, legs_behind}
@@ -29,8 +30,14 @@ abbrev pub with_one_more : Job → ℕ → Bool → Queued → RampState → Ram
 with_one_more job k joined l ramp =
     if nat_lt 0 (path_steps l) then loaded ramp (leg_of job k joined l) else ramp
 
--- the target is that of the head
-abbrev pub IsTarget : MachineFile → ℕ → List Queued → ℕ → Type 0
-IsTarget machine percent [] target = Unit {0}
-IsTarget machine percent (l ∷ ls) target =
-    1 ≤ path_steps l → target ≡ target_at machine l.command.action (path_steps l) percent
+-- the target is that of the head at a place of its path
+abbrev pub IsTarget : MachineFile → ℕ → List Queued → ℕ → ℕ → Type 0
+IsTarget machine percent [] place target = Unit {0}
+IsTarget machine percent (l ∷ ls) place target =
+    1 ≤ path_steps l →
+    target ≡ target_on machine l.command.action (path_steps l) percent (point l.path place)
+
+-- it depends on that place
+abbrev pub is_head_by_place : MachineFile → List Queued → Bool
+is_head_by_place machine [] = false
+is_head_by_place machine (l ∷ ls) = is_by_place machine l.command.action

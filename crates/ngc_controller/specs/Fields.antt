@@ -23,7 +23,8 @@ abbrev pub travelled_of : List Queued → ℕ → ℕ
 travelled_of [] rest = 0
 travelled_of (l ∷ ls) rest = if nat_lt 0 (path_steps l) then millionths l - rest else 0
 
-abbrev pub state_of : ℕ → RingData → Drive → ℕ → StepPos → Option Tool → Panel → State
+abbrev pub state_of :
+    {A : Type 0} → ℕ → RingData → Drive A → ℕ → StepPos → Option Tool → Panel → State
 state_of done ring drive dwelt position tool panel = record {
   done = done;
   ring = ring.loaded;
@@ -44,18 +45,21 @@ abbrev pub DWELL_LIMIT : ℕ
 DWELL_LIMIT = 2 ^ 100
 
 -- what the fields keep: the ramp is on the head, where that is a motion with path steps; otherwise
--- nothing travels, and the motions behind the head are still whole
-pub record IsInOrder (job : Job) (done : ℕ) (ring : RingData) (drive : Drive) (dwelt : ℕ)
-    (panel : Panel) : Type 0 where
+-- nothing travels, and the motions behind the head are still whole; ring and ramp have room for as
+-- many as the machine's file says
+pub record IsInOrder {A : Type 0} (job : Job) (done : ℕ) (ring : RingData) (drive : Drive A)
+    (dwelt : ℕ) (panel : Panel) : Type 0 where
   pub machine : IsMachine job.machine
   pub change : drive.ramp.change ≡ job.machine.change
+  pub room : ring.room ≡ job.machine.ring
+  pub places : drive.ramp.room ≡ job.machine.ring
   pub legs : (joined : Bool) × (drive.ramp.legs ≡ legs_of job done joined ring.loaded)
   pub left : IsRest drive.ramp.rest drive.ramp.legs
   pub slow : (IsMoving ring.loaded → ⊥) → drive.ramp.rate ≤ job.machine.change
   pub whole : (IsMoving ring.loaded → ⊥) → drive.ramp.rest ≡ next_rest 0 drive.ramp.legs
   pub flows_on : drive.flows_on ≡ last_flows_on drive.flows_on ring.loaded
   pub place : ring.place ≡ travelled_of ring.loaded drive.ramp.rest / MILLION
-  pub target : IsTarget job.machine (effective_at panel) ring.loaded drive.target
+  pub target : IsTarget job.machine (effective_at panel) ring.loaded ring.place drive.target
   pub few : done + length ring.loaded ≤ length job.commands
   pub brief : dwelt ≤ DWELL_LIMIT
   pub still : panel.stopped ≡ true → drive.ramp.rate ≡ 0

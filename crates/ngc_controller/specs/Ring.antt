@@ -1,22 +1,20 @@
 -- The ring of loaded commands. Our own.
-use Rattle.std.specs.Prelude.{◌≡◌, ℕ, ◌<◌, ◌≤◌, List, [], ◌∷◌, map, Option, Some, None}
+use Rattle.std.specs.Prelude.{◌≡◌, ℕ, suc, ◌<◌, ◌≤◌, List, [], ◌∷◌, map, Option, Some, None}
 use Rattle.std.specs.List.{AllByRecursion}
 use Rattle.ngc_fixed_length.specs.declared.points.StepPos.{StepPos}
 use Rattle.ngc_fixed_length.specs.LinePath.{point}
 use Rattle.ngc_commands.specs.declared.command.Action.{Action}
 use Rattle.ngc_planner.specs.Bounds.{IsMotion}
+use Rattle.ngc_planner.specs.Ramp.{MOST_LEGS}
 use Rattle.ngc_behaviour.specs.State.{Queued, path_steps}
 use Rattle.ngc_controller.specs.Loaded.{LoadedData}
 
--- what is loaded, the head first, and the place on the head's path; the others are at the beginning
--- of theirs
+-- what is loaded, the head first, the place on the head's path, and how many commands there may be;
+-- all but the head are at the beginning of their paths
 pub record RingData : Type 0 where
   pub loaded : List Queued
   pub place : ℕ
-
--- how many commands wait behind the head
-abbrev pub BEHIND : ℕ
-BEHIND = 15
+  pub room : ℕ
 
 abbrev pub queue_of : Option LoadedData → List LoadedData → List Queued
 queue_of None behind = map (λ (l : LoadedData). l.queued) behind
@@ -34,7 +32,7 @@ IsLed (Some head) behind = Unit {0}
 -- what a ring keeps
 pub record IsRing (head : Option LoadedData) (behind : List LoadedData) (capacity : ℕ) :
     Type 0 where
-  pub room : capacity ≡ BEHIND
+  pub few : suc capacity ≤ MOST_LEGS
   pub led : IsLed head behind
   pub waits : AllByRecursion (λ (l : LoadedData). l.place ≡ 0) behind
 

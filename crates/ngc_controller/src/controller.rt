@@ -29,9 +29,6 @@ use ngc_step_kernel::ArcKernel;
 use std::alloc::Allocator;
 use std::marker::Model;
 
-/// How many commands may be loaded and not done.
-const RING: u32 = 16;
-
 /// A machine that runs what was accepted, at a setting of block delete, driven by events. `K` leads
 /// its arcs over the grid.
 #[derive(Drop)]
@@ -84,7 +81,8 @@ impl<K: ArcKernel + Drop, A: Allocator + Copy> Controller<K, A> {
     {
         let machine = accepted.machine();
         let position = machine.start.to_grid(machine.step);
-        let progress = match Progress::new(alloc, u64::from(machine.change)) {
+        let ring = machine.ring as usize;
+        let progress = match Progress::new(alloc, u64::from(machine.change), ring) {
             Ok(progress) => progress,
             Err(_) => return Err((accepted, MemoryFault)),
         };
@@ -105,7 +103,8 @@ impl<K: ArcKernel + Drop, A: Allocator + Copy> Controller<K, A> {
 
     /// Takes an event, and answers what the machine did. It takes no memory. A refused event leaves
     /// the controller as it was, its latest replies too: an override over 200 percent (701), a load
-    /// while sixteen commands are loaded and not done (702), or a load behind the last command
+    /// while as many commands as the machine's ring takes are loaded and not done (702), or a load
+    /// behind the last command
     /// (703).
     pub fn event(&mut self, event: Event) -> Result<Reply, EventFault>
         ensures job { self.new.job ≡ self.old.job }
@@ -258,7 +257,7 @@ impl<K: ArcKernel + Drop, A: Allocator + Copy> Controller<K, A> {
         let Some(command) = commands.get(index as usize) else {
             return Err(EventFault::AllLoaded);
         };
-        if self.progress.ring.len() >= RING {
+        if self.progress.ring.len() >= machine.ring {
             return Err(EventFault::RingFull);
         }
         let loaded = Loaded::new(command, machine.step);
@@ -316,7 +315,10 @@ impl<K: ArcKernel + Drop, A: Allocator + Copy> Controller<K, A> {
     {
         let wish = self.panel.wish(self.progress.drive.target);
         let travel = self.progress.drive.ramp.tick(wish);
-        self.position = self.progress.ring.follow(travel.due);
+        let percent = self.panel.effective();
+        self.position = self
+            .progress
+            .follow(travel.due, percent, self.accepted.machine());
         let position = travel.due.then_some(self.position);
         if !travel.ended {
             return Reply::Ticked {
@@ -378,6 +380,15 @@ impl<K: ArcKernel + Drop, A: Allocator + Copy> Controller<K, A> {
         ensures { result ≡ self.accepted }
     {
         self.accepted
+    }
+
+    /// How many commands may be loaded and not done: what the machine's file says, 16 to 1,024.
+    pub fn ring(&self) -> usize
+        ensures value { result ≡ self.now.job.machine.ring }
+        ensures least { 16 ≤ result }
+        ensures greatest { result ≤ 1024 }
+    {
+        self.accepted.machine().ring as usize
     }
 
     /// The commands that it runs.

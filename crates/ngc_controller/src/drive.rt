@@ -1,25 +1,24 @@
 //! The ramp, and how motions come onto it.
 ghost use Rattle.std.specs.Prelude.{◌≡◌, ◌≤◌, ◌<◌, ◌+◌, length};
 ghost use Rattle.ngc_machine.specs.Machine.{file_of};
-ghost use Rattle.ngc_planner.specs.Joints.{joint_before, joint_after};
+ghost use Rattle.ngc_planner.specs.Joints.{joint_before};
 ghost use Rattle.ngc_planner.specs.Leg.{IsLeg};
-ghost use Rattle.ngc_planner.specs.Ramp.{LEGS};
 ghost use Rattle.ngc_behaviour.specs.Headline.{job_of};
-ghost use Rattle.ngc_behaviour.specs.State.{path_steps, command_at};
-ghost use Rattle.ngc_behaviour.specs.Reach.{before, stops, leg_of};
+ghost use Rattle.ngc_behaviour.specs.State.{path_steps};
+ghost use Rattle.ngc_behaviour.specs.Reach.{stops, leg_of};
 ghost use Rattle.ngc_controller.specs.Drive.{flows_on, with_one_more};
 
 use crate::route::Loaded;
 use ngc_commands::{Action, Command};
 use ngc_machine::Machine;
-use ngc_planner::{Leg, Ramp, bound_of, joint_of};
+use ngc_planner::{Leg, Ramp, bound_of, joint_at};
 use ngc_step_kernel::ArcKernel;
 use std::alloc::Allocator;
 
 /// The ramp of the motions in the ring, and the rate that the head is to reach.
 #[derive(Drop)]
-pub struct Drive {
-    pub ramp: Ramp,
+pub struct Drive<A: Allocator> {
+    pub ramp: Ramp<A>,
     /// In millionths of a path step a tick. It is kept, so that a tick need not compute it.
     pub target: u64,
     /// Whether the command that was loaded last is a motion with path steps at whose end the axes
@@ -38,39 +37,14 @@ fn stops(action: &Action) -> bool
 }
 
 // The greatest rate of the first tick of the motion at an index.
-fn entry_of<A: Allocator>(
-    commands: &[Command],
-    index: u32,
-    command: &Command,
-    machine: &Machine<A>,
-) -> u64
-    ensures value { result ≡ joint_before (file_of machine.now)
-        (before (job_of (file_of machine.now) commands.now) index) command.now }
+fn entry_of<A: Allocator>(commands: &[Command], index: u32, machine: &Machine<A>) -> u64
+    ensures value { result ≡ joint_before (file_of machine.now) commands.now index }
     ensures least { 1 ≤ result }
 {
     if index == 0 {
-        return 1_000_000;
-    }
-    match commands.get(index as usize - 1) {
-        Some(before) => joint_of(&before.action, &command.action, machine),
-        None => 1_000_000,
-    }
-}
-
-// The greatest rate of its last tick.
-fn exit_of<A: Allocator>(
-    commands: &[Command],
-    index: u32,
-    command: &Command,
-    machine: &Machine<A>,
-) -> u64
-    ensures value { result ≡ joint_after (file_of machine.now) command.now
-        (command_at (job_of (file_of machine.now) commands.now) (index + 1)) }
-    ensures least { 1 ≤ result }
-{
-    match commands.get(index as usize + 1) {
-        Some(next) => joint_of(&command.action, &next.action, machine),
-        None => 1_000_000,
+        1_000_000
+    } else {
+        joint_at(commands, index - 1, machine)
     }
 }
 
@@ -93,23 +67,23 @@ fn leg_of<K: ArcKernel + Drop, A: Allocator>(
     Leg {
         millionths: steps * 1_000_000,
         bound: bound_of(&command.action, steps, machine),
-        entry: entry_of(commands, index, command, machine),
-        exit: exit_of(commands, index, command, machine),
+        entry: entry_of(commands, index, machine),
+        exit: joint_at(commands, index, machine),
         joined,
     }
 }
 
-impl Drive {
+impl<A: Allocator> Drive<A> {
     /// One more command is loaded, at an index. A motion with path steps comes onto the ramp, which
     /// must have room.
-    pub fn load<K: ArcKernel + Drop, A: Allocator>(
+    pub fn load<K: ArcKernel + Drop, B: Allocator>(
         &mut self,
         loaded: &Loaded<K>,
         index: u32,
         commands: &[Command],
-        machine: &Machine<A>,
+        machine: &Machine<B>,
     )
-        requires { length self.old.ramp.legs < LEGS }
+        requires { length self.old.ramp.legs < self.old.ramp.room }
         ensures ramp { self.new.ramp ≡ with_one_more
             (job_of (file_of machine.now) commands.now) index self.old.flows_on loaded.now.queued
             self.old.ramp }

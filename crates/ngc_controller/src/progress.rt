@@ -1,19 +1,22 @@
 //! How far the machine is in its commands.
-ghost use Rattle.std.specs.Prelude.{◌≡◌, ◌≤◌, ◌<◌, ◌+◌, ◌^◌, ◌++◌, ◌∷◌, [], length, drop, IfOk};
+ghost use Rattle.std.specs.Prelude.{◌≡◌, ◌≤◌, ◌<◌, ◌+◌, ◌^◌, ◌++◌, ◌∷◌, [], length, drop, true};
+ghost use Rattle.std.specs.Prelude.{IfOk};
 ghost use Rattle.ngc_machine.specs.Machine.{file_of};
 ghost use Rattle.ngc_fixed_length.specs.Limits.{MILLION};
 ghost use Rattle.ngc_behaviour.specs.Headline.{job_of};
-ghost use Rattle.ngc_behaviour.specs.State.{RING};
-ghost use Rattle.ngc_controller.specs.Drive.{flows_on, with_one_more, IsTarget};
+ghost use Rattle.ngc_planner.specs.Ramp.{MOST_LEGS};
+ghost use Rattle.ngc_controller.specs.Drive.{flows_on, with_one_more, IsTarget, is_head_by_place};
+ghost use Rattle.ngc_controller.specs.Loaded.{next_place};
 ghost use Rattle.ngc_controller.specs.Opening.{IsOpening};
-ghost use Rattle.ngc_controller.specs.Ring.{action_of};
+ghost use Rattle.ngc_controller.specs.Ring.{action_of, IsMoving, IsPointOn, HasNext};
 
 use crate::drive::Drive;
 use crate::ring::Ring;
 use crate::route::Loaded;
 use ngc_commands::{Action, Command};
+use ngc_fixed_length::StepPos;
 use ngc_machine::Machine;
-use ngc_planner::{Ramp, target_at};
+use ngc_planner::{Ramp, is_by_place, target_on};
 use ngc_step_kernel::ArcKernel;
 use std::alloc::{AllocError, Allocator};
 
@@ -21,26 +24,29 @@ use std::alloc::{AllocError, Allocator};
 #[derive(Drop)]
 pub struct Progress<K: ArcKernel + Drop, A: Allocator> {
     pub ring: Ring<K, A>,
-    pub drive: Drive,
+    pub drive: Drive<A>,
     /// How many commands are done.
     pub done: u32,
     /// How many ticks the head has dwelt.
     pub dwelt: u128,
 }
 
-impl<K: ArcKernel + Drop, A: Allocator> Progress<K, A> {
+impl<K: ArcKernel + Drop, A: Allocator + Copy> Progress<K, A> {
     /// Nothing is loaded, and nothing is done. All memory is taken here. The change is that of the
-    /// ramp, 1 to 1,000,000.
-    pub fn new(alloc: A, change: u64) -> Result<Progress<K, A>, AllocError>
+    /// ramp, 1 to 1,000,000, and `ring` is how many commands may be loaded, 1 to 1,024.
+    pub fn new(alloc: A, change: u64, ring: usize) -> Result<Progress<K, A>, AllocError>
         requires least { 1 ≤ change }
         requires greatest { change ≤ MILLION }
-        ensures { IfOk result (IsOpening change) }
+        requires some { 1 ≤ ring }
+        requires few { ring ≤ MOST_LEGS }
+        ensures { IfOk result (IsOpening change ring) }
     {
-        let ring = Ring::new(alloc)?;
+        let ramp = Ramp::with_ring(alloc, change, ring)?;
+        let ring = Ring::new(alloc, ring)?;
         Ok(Progress {
             ring,
             drive: Drive {
-                ramp: Ramp::new(change),
+                ramp,
                 target: 0,
                 flows_on: false,
             },
@@ -67,14 +73,15 @@ impl<K: ArcKernel + Drop, A: Allocator> Progress<K, A> {
         percent: u8,
         machine: &Machine<B>,
     )
-        requires room { length self.old.ring.loaded < RING }
-        requires legs { length self.old.drive.ramp.legs ≤ length self.old.ring.loaded }
+        requires room { length self.old.ring.loaded < self.old.ring.room }
+        requires legs { length self.old.drive.ramp.legs < self.old.drive.ramp.room }
         requires few { self.old.done + length self.old.ring.loaded < 2 ^ 32 }
         requires beginning { loaded.place ≡ 0 }
         requires aimed { IsTarget (file_of machine.now) percent self.old.ring.loaded
-            self.old.drive.target }
+            self.old.ring.place self.old.drive.target }
         ensures loaded { self.new.ring.loaded ≡ self.old.ring.loaded ++ loaded.queued ∷ [] }
         ensures place { self.new.ring.place ≡ self.old.ring.place }
+        ensures room { self.new.ring.room ≡ self.old.ring.room }
         ensures done { self.new.done ≡ self.old.done }
         ensures dwelt { self.new.dwelt ≡ self.old.dwelt }
         ensures ramp { self.new.drive.ramp ≡ with_one_more
@@ -83,7 +90,7 @@ impl<K: ArcKernel + Drop, A: Allocator> Progress<K, A> {
             self.old.drive.ramp }
         ensures flows_on { self.new.drive.flows_on ≡ flows_on loaded.queued }
         ensures target { IsTarget (file_of machine.now) percent self.new.ring.loaded
-            self.new.drive.target }
+            self.new.ring.place self.new.drive.target }
     {
         let ahead = self.ring.len();
         self.drive
@@ -100,12 +107,13 @@ impl<K: ArcKernel + Drop, A: Allocator> Progress<K, A> {
         requires { self.old.done + 1 < 2 ^ 32 }
         ensures loaded { self.new.ring.loaded ≡ drop 1 self.old.ring.loaded }
         ensures place { self.new.ring.place ≡ 0 }
+        ensures room { self.new.ring.room ≡ self.old.ring.room }
         ensures done { self.new.done ≡ self.old.done + 1 }
         ensures dwelt { self.new.dwelt ≡ 0 }
         ensures ramp { self.new.drive.ramp ≡ self.old.drive.ramp }
         ensures flows_on { self.new.drive.flows_on ≡ self.old.drive.flows_on }
         ensures target { IsTarget (file_of machine.now) percent self.new.ring.loaded
-            self.new.drive.target }
+            self.new.ring.place self.new.drive.target }
     {
         self.ring.leave();
         self.done += 1;
@@ -113,7 +121,7 @@ impl<K: ArcKernel + Drop, A: Allocator> Progress<K, A> {
         self.aim(percent, machine);
     }
 
-    /// The head is to reach another rate, at an override in percent.
+    /// The head is to reach the rate of its place, at an override in percent.
     pub fn aim<B: Allocator>(&mut self, percent: u8, machine: &Machine<B>)
         ensures ring { self.new.ring ≡ self.old.ring }
         ensures done { self.new.done ≡ self.old.done }
@@ -121,15 +129,52 @@ impl<K: ArcKernel + Drop, A: Allocator> Progress<K, A> {
         ensures ramp { self.new.drive.ramp ≡ self.old.drive.ramp }
         ensures flows_on { self.new.drive.flows_on ≡ self.old.drive.flows_on }
         ensures target { IsTarget (file_of machine.now) percent self.old.ring.loaded
-            self.new.drive.target }
+            self.old.ring.place self.new.drive.target }
     {
         if let Some(head) = self.ring.head() {
-            self.drive.target = target_at(
+            self.drive.target = target_on(
                 &head.command().action,
                 head.path_steps(),
                 percent,
+                &head.position(),
                 machine,
             );
         }
+    }
+
+    // Whether the target of the head depends on the place.
+    fn is_by_place<B: Allocator>(&self, machine: &Machine<B>) -> bool
+        ensures { result ≡ is_head_by_place (file_of machine.now) self.now.ring.loaded }
+    {
+        match self.ring.head() {
+            Some(head) => is_by_place(&head.command().action, machine),
+            None => false,
+        }
+    }
+
+    /// Goes one place on along the head's path, if it is due, and answers the point there. The head
+    /// must be a motion with path steps. The target stays that of the place, at an override in
+    /// percent.
+    pub fn follow<B: Allocator>(&mut self, due: bool, percent: u8, machine: &Machine<B>) -> StepPos
+        requires moves { IsMoving self.old.ring.loaded }
+        requires room { due ≡ true → HasNext self.old.ring.loaded self.old.ring.place }
+        requires aimed { IsTarget (file_of machine.now) percent self.old.ring.loaded
+            self.old.ring.place self.old.drive.target }
+        ensures loaded { self.new.ring.loaded ≡ self.old.ring.loaded }
+        ensures place { self.new.ring.place ≡ next_place self.old.ring.place due }
+        ensures room { self.new.ring.room ≡ self.old.ring.room }
+        ensures point { IsPointOn self.new.ring.loaded self.new.ring.place result }
+        ensures done { self.new.done ≡ self.old.done }
+        ensures dwelt { self.new.dwelt ≡ self.old.dwelt }
+        ensures ramp { self.new.drive.ramp ≡ self.old.drive.ramp }
+        ensures flows_on { self.new.drive.flows_on ≡ self.old.drive.flows_on }
+        ensures target { IsTarget (file_of machine.now) percent self.new.ring.loaded
+            self.new.ring.place self.new.drive.target }
+    {
+        let position = self.ring.follow(due);
+        if due && self.is_by_place(machine) {
+            self.aim(percent, machine);
+        }
+        position
     }
 }

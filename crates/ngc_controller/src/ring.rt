@@ -1,7 +1,7 @@
 //! The commands that are loaded and not done.
-ghost use Rattle.std.specs.Prelude.{◌≡◌, ◌≤◌, ◌<◌, ◌++◌, ◌∷◌, [], length, drop, true, IsTrue, ◌↔◌};
-ghost use Rattle.std.specs.Prelude.{IfOk, option_copied};
-ghost use Rattle.ngc_behaviour.specs.State.{RING};
+ghost use Rattle.std.specs.Prelude.{◌≡◌, ◌≤◌, ◌<◌, ◌++◌, ◌∷◌, [], length, drop, true, IsTrue};
+ghost use Rattle.std.specs.Prelude.{◌↔◌, suc, IfOk, option_copied};
+ghost use Rattle.ngc_planner.specs.Ramp.{MOST_LEGS};
 ghost use Rattle.ngc_controller.specs.Loaded.{next_place};
 ghost use Rattle.ngc_controller.specs.Ring.{RingData, IsMoving, IsPointOn, HasNext, head_of};
 
@@ -12,10 +12,8 @@ use ngc_step_kernel::ArcKernel;
 use std::alloc::{AllocError, Allocator};
 use std::marker::Model;
 
-/// How many commands wait behind the head.
-const BEHIND: usize = 15;
-
-/// A ring of up to 16 commands. The head stands by itself, so that a tick reaches it at once.
+/// A ring of commands, as many as it has memory for. The head stands by itself, so that a tick
+/// reaches it at once.
 #[derive(Drop)]
 pub struct Ring<K: ArcKernel + Drop, A: Allocator> {
     head: Option<Loaded<K>>,
@@ -24,10 +22,15 @@ pub struct Ring<K: ArcKernel + Drop, A: Allocator> {
 
 impl<K: ArcKernel + Drop, A: Allocator> Model for Ring<K, A> {
     ghost use Rattle.ngc_controller.specs.Ring.{RingData, queue_of, place_at, IsRing};
+    ghost use Rattle.std.specs.Prelude.{suc};
 
     ghost Value = { RingData };
 
-    ghost view = { λ r. record { loaded = queue_of r.head r.behind.items; place = place_at r.head } };
+    ghost view = { λ r. record {
+      loaded = queue_of r.head r.behind.items;
+      place = place_at r.head;
+      room = suc r.behind.capacity;
+    } };
 
     ghost invariant = { λ r. IsRing r.head r.behind.items r.behind.capacity };
 }
@@ -45,18 +48,21 @@ fn put<K: ArcKernel + Drop, A: Allocator>(
 }
 
 impl<K: ArcKernel + Drop, A: Allocator> Ring<K, A> {
-    /// An empty ring with all its memory.
-    pub fn new(alloc: A) -> Result<Ring<K, A>, AllocError>
-        ensures { IfOk result (λ (r : RingData). (r.loaded ≡ []) × (r.place ≡ 0)) }
+    /// An empty ring for so many commands, 1 to 1,024, with all its memory.
+    pub fn new(alloc: A, room: usize) -> Result<Ring<K, A>, AllocError>
+        requires some { 1 ≤ room }
+        requires few { room ≤ MOST_LEGS }
+        ensures { IfOk result
+            (λ (r : RingData). r ≡ record { loaded = []; place = 0; room = room }) }
     {
-        let behind = HeapCircularBuffer::with_capacity(alloc, BEHIND)?;
+        let behind = HeapCircularBuffer::with_capacity(alloc, room - 1)?;
         Ok(Ring { head: None, behind })
     }
 
     /// How many commands are loaded, the head among them.
     pub fn len(&self) -> u32
         ensures value { result ≡ length self.now.loaded }
-        ensures few { result ≤ RING }
+        ensures few { result ≤ self.now.room }
     {
         match self.head {
             Some(_) => 1 + self.behind.len() as u32,
@@ -64,12 +70,13 @@ impl<K: ArcKernel + Drop, A: Allocator> Ring<K, A> {
         }
     }
 
-    /// Puts a command behind the others. There must be fewer than 16.
+    /// Puts a command behind the others. There must be room.
     pub fn push(&mut self, loaded: Loaded<K>)
-        requires room { length self.old.loaded < RING }
+        requires room { length self.old.loaded < self.old.room }
         requires beginning { loaded.place ≡ 0 }
         ensures loaded { self.new.loaded ≡ self.old.loaded ++ loaded.queued ∷ [] }
         ensures place { self.new.place ≡ self.old.place }
+        ensures room { self.new.room ≡ self.old.room }
     {
         if self.head.is_none() {
             self.head = Some(loaded);
@@ -103,6 +110,7 @@ impl<K: ArcKernel + Drop, A: Allocator> Ring<K, A> {
         ensures loaded { self.new.loaded ≡ self.old.loaded }
         ensures place { self.new.place ≡ next_place self.old.place due }
         ensures point { IsPointOn self.new.loaded self.new.place result }
+        ensures room { self.new.room ≡ self.old.room }
     {
         let Some(head) = &mut self.head else {
             unreachable!();
@@ -114,6 +122,7 @@ impl<K: ArcKernel + Drop, A: Allocator> Ring<K, A> {
     pub fn leave(&mut self)
         ensures loaded { self.new.loaded ≡ drop 1 self.old.loaded }
         ensures place { self.new.place ≡ 0 }
+        ensures room { self.new.room ≡ self.old.room }
     {
         self.head = self.behind.pop_front();
     }

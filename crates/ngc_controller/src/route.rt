@@ -52,6 +52,17 @@ impl<K: ArcKernel + Drop> Route<K> {
         }
     }
 
+    /// The point at the place; at no path it is zero.
+    fn position(&self) -> StepPos
+        ensures { result ≡ point (points_of K.points self.now) (place_of K.place self.now) }
+    {
+        match self {
+            Route::Line(line) => line.position(),
+            Route::Arc(arc) => arc.position(),
+            Route::Still => StepPos { x: 0, y: 0, z: 0 },
+        }
+    }
+
     /// Goes one place on, if it is due, and answers the point there.
     fn follow(&mut self, due: bool) -> StepPos
         requires moves { 1 < length (points_of K.points self.old) }
@@ -134,6 +145,13 @@ impl<K: ArcKernel + Drop> Loaded<K> {
         ensures moves { 1 ≤ result → IsMotion self.now.queued.command.action }
     {
         self.steps
+    }
+
+    /// The point of the path at the place, zero for a command that is no motion.
+    pub fn position(&self) -> StepPos
+        ensures { result ≡ point self.now.queued.path self.now.place }
+    {
+        self.route.position()
     }
 
     /// Goes one place on along the path, if it is due, and answers the point there.

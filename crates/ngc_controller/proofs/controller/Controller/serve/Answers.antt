@@ -39,17 +39,17 @@ invariant_of-self-2 g c =
     let served : IsServed p.ring.loaded c.args.action = subst (λ (x : ControllerData). IsServed x.state.ring c.args.action)
     (sym c.self.view_is) c.requires.head in
     let ramp : RampState = record p.drive.ramp { rate = 0 } in
-    let halted : Drive = record p.drive { ramp = ramp } in
+    let halted = record p.drive { ramp = ramp } in
     let n = c.leave.new.self in
     let panel = c.panel_after-self-inside.result in
     let left = served_left job p.done p.ring p.drive p.dwelt i.panel c.args.action o served in
-    let target = target_as i.accepted.machine _ (effective_at panel) _ n.ring.loaded n.drive.target c.leave.ensures.target c.machine-machine.ensures.value
+    let target = target_as i.accepted.machine _ (effective_at panel) _ n.ring.loaded n.ring.place n.drive.target c.leave.ensures.target c.machine-machine.ensures.value
     c.effective.ensures in
     left_order job p.done p.ring.loaded ramp p.drive.flows_on panel n.done n.ring n.drive n.dwelt o.machine left.0 (ap (λ x. x / MILLION) left.1) o.flows_on
-    (λ stopped. refl) o.few (served_some p.ring.loaded c.args.action served) c.leave.ensures.loaded c.leave.ensures.place c.leave.ensures.done
+    (λ stopped. refl) o.few (served_some p.ring.loaded c.args.action served) c.leave.ensures.loaded c.leave.ensures.place (c.leave.ensures.room ∙ o.room) c.leave.ensures.done
     c.leave.ensures.dwelt
-    (c.leave.ensures.ramp ∙ ap (λ (d : Drive). d.ramp) {y = halted} c.halt.ensures)
-    (c.leave.ensures.flows_on ∙ ap (λ (d : Drive). d.flows_on) {y = halted} c.halt.ensures) target
+    (c.leave.ensures.ramp ∙ ap (λ (d : Drive _). d.ramp) {y = halted} c.halt.ensures)
+    (c.leave.ensures.flows_on ∙ ap (λ (d : Drive _). d.flows_on) {y = halted} c.halt.ensures) target
 
 pub returns-clause-serves : goal.returns-clause-serves
 returns-clause-serves g c =
@@ -61,12 +61,12 @@ returns-clause-serves g c =
     let served : IsServed p.ring.loaded c.args.action = subst (λ (x : ControllerData). IsServed x.state.ring c.args.action)
     (sym c.self.view_is) c.requires.head in
     let still : RampState = record p.drive.ramp { rate = 0 } in
-    let halted : Drive = record p.drive { ramp = still } in
+    let halted = record p.drive { ramp = still } in
     let n = c.leave.new.self in
     let panel = c.panel_after-self-inside.result in
     let left = served_left job p.done p.ring p.drive p.dwelt i.panel c.args.action o served in
     let queue : n.ring.loaded ≡ drop 1 p.ring.loaded = c.leave.ensures.loaded in
-    let ramp : n.drive.ramp ≡ still = c.leave.ensures.ramp ∙ ap (λ (d : Drive). d.ramp) {y = halted} c.halt.ensures in
+    let ramp : n.drive.ramp ≡ still = c.leave.ensures.ramp ∙ ap (λ (d : Drive _). d.ramp) {y = halted} c.halt.ensures in
     let none : travelled_of n.ring.loaded n.drive.ramp.rest ≡ 0 = ap (λ xs. travelled_of xs n.drive.ramp.rest) queue
     ∙ ap (λ (x : RampState). travelled_of (drop 1 p.ring.loaded) x.rest) {y = still} ramp ∙ left.1 in
     let ticks = c.dwells_on.ensures.value job (ap (λ (m : MachineFile). m.ticks_per_second) (sym c.machine-machine.ensures.value)) in
