@@ -9,7 +9,7 @@ pub enum EventFault {
     /// 701: an override over 200 percent.
     #[error("override over 200 percent")]
     OverrideTooLarge,
-    /// 702: a load while sixteen commands are loaded and not done.
+    /// 702: a load while as many commands are loaded and not done as the machine's ring takes.
     #[error("no room for a command")]
     RingFull,
     /// 703: a load behind the last command.

@@ -13,10 +13,10 @@ use Rattle.ngc_pulses.proofs.Adding.{dumped-append}
 
 -- ---- ticks that stay
 
-still_axis : (up : Bool) (a : ℤ) → axis_step up (a -ℤ a) ≡ record { steps = false; turns = false; up = up }
+pub still_axis : (up : Bool) (a : ℤ) → axis_step up (a -ℤ a) ≡ record { steps = false; turns = false; up = up }
 still_axis up a = let none : a -ℤ a ≡ pos 0 = omega (arith, ints) in ap (axis_step up) none
 
-abbrev resting : Directions → Steps
+abbrev pub resting : Directions → Steps
 resting d = record {
   x = record { steps = false; turns = false; up = d.x };
   y = record { steps = false; turns = false; up = d.y };
@@ -26,7 +26,7 @@ resting d = record {
 abbrev made : AxisStep → AxisStep → AxisStep → Steps
 made x y z = record { x = x; y = y; z = z }
 
-still_steps : (d : Directions) (p : StepPos) → steps_of d (step_between p p) ≡ resting d
+pub still_steps : (d : Directions) (p : StepPos) → steps_of d (step_between p p) ≡ resting d
 still_steps d p =
     ap (λ s. made s (axis_step d.y (p.y -ℤ p.y)) (axis_step d.z (p.z -ℤ p.z))) (still_axis d.x p.x)
     ∙ ap (λ s. made (record { steps = false; turns = false; up = d.x }) s (axis_step d.z (p.z -ℤ p.z))) (still_axis d.y p.y)
@@ -83,7 +83,7 @@ pub ticks_after : (d : DumpState) (ticks : List (Option StepPos)) → (after_tic
 ticks_after d [] = omega arith
 ticks_after d (t ∷ ticks) = omega (arith, ticks_after (after_tick d t) ticks, one_more d t)
 
-as_many : (p : StepPos) (ticks : List (Option StepPos)) → length (pulses_over p ticks) ≡ length ticks
+pub as_many : (p : StepPos) (ticks : List (Option StepPos)) → length (pulses_over p ticks) ≡ length ticks
 as_many p [] = refl
 as_many p (None ∷ ticks) = ap suc (as_many p ticks)
 as_many p (Some q ∷ ticks) = ap suc (as_many q ticks)

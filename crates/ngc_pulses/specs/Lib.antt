@@ -1,2 +1,4 @@
 pub mod Vcd
 pub mod Dumping
+pub mod Samples
+pub mod Sampling

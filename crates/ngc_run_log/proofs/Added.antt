@@ -5,10 +5,10 @@ use Rattle.ngc_text.proofs.Appended.{begins_after}
 use Rattle.ngc_text.specs.Written.{AppendsBeginning}
 use Rattle.ngc_text.specs.Collected.{WritesFront}
 
-pub front_begun : (x y z : Option (List ℕ)) (before after more : List ℕ) → WritesFront x y before after → AppendsBeginning y z (after ++ more) →
-    AppendsBeginning x z (before ++ more)
-front_begun x y z before after more w b =
+-- what is still collected of a text isn't written whole
+pub front_begun_all : (x y z : Option (List ℕ)) (before after : List ℕ) → WritesFront x y before after → AppendsBeginning y z after →
+    AppendsBeginning x z before
+front_begun_all x y z before after w b =
     let P : List ℕ → Type 0 = λ text. AppendsBeginning x z text in
-    let text : w.0 ++ ((after ++ more) ++ []) ≡ before ++ more =
-    ap (λ l. w.0 ++ l) (append-nil (after ++ more)) ∙ sym (append_assoc w.0 after more) ∙ ap (λ l. l ++ more) (sym w.2) in
-    subst P text (begins_after x y z w.0 (after ++ more) [] w.1 b)
+    let text : w.0 ++ (after ++ []) ≡ before = ap (λ l. w.0 ++ l) (append-nil after) ∙ sym w.2 in
+    subst P text (begins_after x y z w.0 after [] w.1 b)

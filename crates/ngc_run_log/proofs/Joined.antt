@@ -191,7 +191,7 @@ one_recorded job s t a b x y e o does goes recorded = record { outcomes = o ∷ 
 
 -- one event, whose text can't be collected
 pub one_cut : (job : Job) (s t : State) (a : Recorder) (x y : Option (List ℕ)) (e : Event) (o : Outcome) → Step job s e o t → GoesOn job s e t
-    → AppendsBeginning x y a.chunk → IsCutShort job s a x y (e ∷ [])
+    → AppendsBeginning x y (a.chunk ++ trace_text a.trace (o ∷ [])) → IsCutShort job s a x y (e ∷ [])
 one_cut job s t a x y e o does goes wrote = record {
   given = e ∷ [];
   left = [];
@@ -199,7 +199,7 @@ one_cut job s t a x y e o does goes wrote = record {
   outcomes = o ∷ [];
   reached = t;
   stretch = one_step job s t e o does goes;
-  begun = begun_more x y a.chunk (trace_text a.trace (o ∷ [])) wrote;
+  begun = wrote;
 }
 
 -- ---- how large the counts are

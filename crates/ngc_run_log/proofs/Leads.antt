@@ -14,8 +14,8 @@ use Rattle.ngc_events.specs.declared.event.Event.{Event}
 use Rattle.ngc_events.specs.declared.event.Event.TheVariants.{Load, Tick, Hold, Resume, Override, StopSwitch, Start}
 use Rattle.ngc_events.specs.declared.reply.Ending.{Ending}
 use Rattle.ngc_events.specs.declared.reply.Reply.TheVariants.{Ticked}
-use Rattle.ngc_behaviour.specs.State.{Job, Queued, State, RING, opening, loaded, command_at, path_steps, millionths}
-use Rattle.ngc_behaviour.specs.Step.{Outcome, Step, LoadCommand, Rests, Serves, Dwells, Finishes, Travels, HeadTick, TickBy, without_head, place_before}
+use Rattle.ngc_behaviour.specs.State.{Job, Queued, State, opening, loaded, command_at, path_steps, millionths, place_before}
+use Rattle.ngc_behaviour.specs.Step.{Outcome, Step, LoadCommand, Rests, Serves, Dwells, Finishes, Travels, HeadTick, TickBy, without_head}
 use Rattle.ngc_behaviour.specs.Step.{place_after, pulse, ends_at, ending, ticks_of}
 use Rattle.ngc_behaviour.specs.Run.{Run, step_to, pulses}
 use Rattle.ngc_behaviour.specs.Safety.{start_of_job}
@@ -107,7 +107,7 @@ IsStill old o new = (tick_in o ≡ []) × (new.position ≡ old.position)
 load_still : (job : Job) (old : State) (next : Option Command) (o : Outcome) (new : State) → LoadCommand job old next o new → IsStill old o new
 load_still job old None o new t = (ap tick_in t.0, ap (λ (s : State). s.position) t.1)
 load_still job old (Some c) o new t =
-    elim (match_with (nat_lt (length old.ring) RING) _ _ t) [
+    elim (match_with (nat_lt (length old.ring) job.machine.ring) _ _ t) [
       | inl u ↦ (ap tick_in u.1.2, ap (λ (s : State). s.position) u.1.3)
       | inr u ↦ (ap tick_in u.1.0, ap (λ (s : State). s.position) u.1.1)
     ]

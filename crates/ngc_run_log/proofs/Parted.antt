@@ -8,7 +8,7 @@ use Rattle.ngc_commands.specs.Sequence.{HasEnd}
 use Rattle.ngc_events.specs.declared.event.Event.{Event}
 use Rattle.ngc_behaviour.specs.Headline.{RunsSafely, RunsInTime}
 use Rattle.ngc_behaviour.specs.Progress.{is_tick}
-use Rattle.ngc_behaviour.specs.State.{Job, State, RING, command_at, loaded, opening}
+use Rattle.ngc_behaviour.specs.State.{Job, State, command_at, loaded, opening}
 use Rattle.ngc_behaviour.specs.Step.{Outcome}
 use Rattle.ngc_behaviour.specs.Stretch.{Stretch}
 use Rattle.ngc_controller.specs.Controller.{ControllerData}
@@ -178,9 +178,9 @@ is_next n p done left k old mid a b ns cs s opened rest same is_length more =
     }
 
 -- where it is the last one, it has more commands than are left to load
-pub more_than_left : (left ring k : ℕ) → (0 < left → ring ≡ RING) → 1 ≤ k → k ≡ ring + left → left < k
-more_than_left zero ring k full some is = omega (arith, some)
-more_than_left (suc n) ring k full some is = let sixteen = full (omega arith) in omega (arith, sixteen, is)
+pub more_than_left : (room left ring k : ℕ) → 1 ≤ room → (0 < left → ring ≡ room) → 1 ≤ k → k ≡ ring + left → left < k
+more_than_left room zero ring k any full some is = omega (arith, some)
+more_than_left room (suc n) ring k any full some is = let all = full (omega arith) in omega (arith, any, all, is)
 
 -- ---- the whole
 

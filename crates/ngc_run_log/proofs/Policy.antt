@@ -4,7 +4,7 @@ use Rattle.std.specs.Prelude.{nat_lt, ◌&&◌, if◌then◌else◌}
 use Rattle.std.proofs.lemmas.Bool.{lt-ltb, le-ltb}
 use Rattle.ngc_events.specs.declared.event.Event.{Event}
 use Rattle.ngc_events.specs.declared.event.Event.TheVariants.{Load, Tick, Start}
-use Rattle.ngc_behaviour.specs.State.{Job, Queued, State, RING, loaded}
+use Rattle.ngc_behaviour.specs.State.{Job, Queued, State, loaded}
 use Rattle.ngc_behaviour.specs.Step.{Outcome}
 use Rattle.ngc_behaviour.specs.Run.{Run}
 use Rattle.ngc_behaviour.specs.Stretch.{last_state}
@@ -34,38 +34,38 @@ second_false false b q = refl
 pub start_is_next : (job : Job) (s : State) → s.stopped ≡ true → next_event job s ≡ Some Start
 start_is_next job s stops = event_as job s true (can_load job s) (nat_lt s.done (length job.commands)) stops refl refl
 
-pub load_is_next : (job : Job) (s : State) → s.stopped ≡ false → length s.ring < RING → loaded s < length job.commands → next_event job s ≡ Some Load
+pub load_is_next : (job : Job) (s : State) → s.stopped ≡ false → length s.ring < job.machine.ring → loaded s < length job.commands → next_event job s ≡ Some Load
 load_is_next job s runs room left =
     event_as job s false true (nat_lt s.done (length job.commands)) runs
-    (both_true (nat_lt (length s.ring) RING) (nat_lt (loaded s) (length job.commands)) (lt-ltb (length s.ring) RING room)
+    (both_true (nat_lt (length s.ring) job.machine.ring) (nat_lt (loaded s) (length job.commands)) (lt-ltb (length s.ring) job.machine.ring room)
     (lt-ltb (loaded s) (length job.commands) left)) refl
 
 -- the ring is full
-pub full_ticks : (job : Job) (s : State) → s.stopped ≡ false → RING ≤ length s.ring → s.done < length job.commands → next_event job s ≡ Some Tick
+pub full_ticks : (job : Job) (s : State) → s.stopped ≡ false → job.machine.ring ≤ length s.ring → s.done < length job.commands → next_event job s ≡ Some Tick
 full_ticks job s runs full more =
     event_as job s false false true runs
-    (first_false (nat_lt (length s.ring) RING) (nat_lt (loaded s) (length job.commands)) (le-ltb (length s.ring) RING full))
+    (first_false (nat_lt (length s.ring) job.machine.ring) (nat_lt (loaded s) (length job.commands)) (le-ltb (length s.ring) job.machine.ring full))
     (lt-ltb s.done (length job.commands) more)
 
 -- all commands are loaded
 pub last_ticks : (job : Job) (s : State) → s.stopped ≡ false → length job.commands ≤ loaded s → s.done < length job.commands → next_event job s ≡ Some Tick
 last_ticks job s runs all more =
     event_as job s false false true runs
-    (second_false (nat_lt (length s.ring) RING) (nat_lt (loaded s) (length job.commands)) (le-ltb (loaded s) (length job.commands) all))
+    (second_false (nat_lt (length s.ring) job.machine.ring) (nat_lt (loaded s) (length job.commands)) (le-ltb (loaded s) (length job.commands) all))
     (lt-ltb s.done (length job.commands) more)
 
 -- all commands are done
 pub none_is_next : (job : Job) (s : State) → s.stopped ≡ false → s.done ≡ length job.commands → next_event job s ≡ None
 none_is_next job s runs all =
     event_as job s false false false runs
-    (second_false (nat_lt (length s.ring) RING) (nat_lt (loaded s) (length job.commands)) (le-ltb (loaded s) (length job.commands) (omega (arith, all))))
+    (second_false (nat_lt (length s.ring) job.machine.ring) (nat_lt (loaded s) (length job.commands)) (le-ltb (loaded s) (length job.commands) (omega (arith, all))))
     (le-ltb s.done (length job.commands) (omega (arith, all)))
 
 -- ---- it depends on these alone
 
 abbrev event_of : Job → Bool → List Queued → ℕ → Option Event
 event_of job stopped ring done =
-    event_by stopped (nat_lt (length ring) RING && nat_lt (done + length ring) (length job.commands)) (nat_lt done (length job.commands))
+    event_by stopped (nat_lt (length ring) job.machine.ring && nat_lt (done + length ring) (length job.commands)) (nat_lt done (length job.commands))
 
 -- the machine runs on with the same commands
 pub still_ticks : (job at : Job) (s t : State) → next_event job s ≡ Some Tick → s.stopped ≡ false → at ≡ job → t.stopped ≡ false → t.ring ≡ s.ring →

@@ -12,15 +12,19 @@ use Rattle.ngc_behaviour.specs.Run.{positions}
 use Rattle.ngc_behaviour.specs.Progress.{is_tick}
 use Rattle.ngc_behaviour.specs.Stretch.{Stretch}
 use Rattle.ngc_pulses.specs.Dumping.{DumpState, ticks_text, after_ticks}
+use Rattle.ngc_pulses.specs.declared.samples.Switch.{Switch}
+use Rattle.ngc_pulses.specs.Sampling.{SampleState, samples_text, after_samples, rested}
+use Rattle.ngc_pulses.proofs.Sampled.{rest_tick, rests_text, rests_after}
+use Rattle.ngc_run_log.specs.declared.switches.Switches.{Switches}
 use Rattle.ngc_run_log.specs.declared.recorder.Recorder.{Recorder}
 use Rattle.ngc_run_log.specs.declared.report.Report.{Report}
 use Rattle.ngc_run_log.specs.declared.trace.Trace.{Trace}
-use Rattle.ngc_run_log.specs.declared.trace.Trace.TheVariants.{Log, Pulses, Untold}
+use Rattle.ngc_run_log.specs.declared.trace.Trace.TheVariants.{Log, Pulses, Samples, Untold}
 use Rattle.ngc_run_log.specs.Log.{log}
 use Rattle.ngc_run_log.specs.Recording.{Records, IsRecorded}
 use Rattle.ngc_run_log.specs.Runs.{is_refusal, last_position}
 use Rattle.ngc_run_log.specs.Through.{IsLoadTickOrStart}
-use Rattle.ngc_run_log.specs.Tracing.{ticks_in, trace_text, trace_after}
+use Rattle.ngc_run_log.specs.Tracing.{ticks_in, samples_in, trace_text, trace_after}
 use Rattle.ngc_run_log.proofs.Joined.{count_by-append}
 
 abbrev pub quiet : Outcome
@@ -58,6 +62,10 @@ quiet_in : (n : ℕ) → ticks_in (replicate n quiet) ≡ replicate n None
 quiet_in zero = refl
 quiet_in (suc n) = ap (λ l. None ∷ l) (quiet_in n)
 
+quiet_sampled : (list : List Switch) (n : ℕ) → samples_in list (replicate n quiet) ≡ replicate n rest_tick
+quiet_sampled list zero = refl
+quiet_sampled list (suc n) = ap (λ l. rest_tick ∷ l) (quiet_sampled list n)
+
 none_text : (n : ℕ) (d : DumpState) → ticks_text d (replicate n None) ≡ []
 none_text zero d = refl
 none_text (suc n) d = none_text n (record d { ticks = d.ticks + 1 })
@@ -71,10 +79,14 @@ none_after (suc n) d =
 quiet_text : (t : Trace) (n : ℕ) → trace_text t (replicate n quiet) ≡ []
 quiet_text Log n = quiet_log n
 quiet_text (Pulses d) n = ap (ticks_text d) (quiet_in n) ∙ none_text n d
+quiet_text (Samples d s) n = ap (samples_text d) (quiet_sampled s.list.now n) ∙ rests_text n d
 quiet_text Untold n = refl
 
 pub quiet_dumped : (n : ℕ) (d : DumpState) → trace_after (Pulses d) (replicate n quiet) ≡ Pulses (record d { ticks = d.ticks + n })
 quiet_dumped n d = ap Pulses (ap (after_ticks d) (quiet_in n) ∙ none_after n d)
+
+pub quiet_rested : (n : ℕ) (d : SampleState) (s : Switches) → trace_after (Samples d s) (replicate n quiet) ≡ Samples (rested n d) s
+quiet_rested n d s = ap (λ k. Samples k s) (ap (after_samples d) (quiet_sampled s.list.now n) ∙ rests_after n d)
 
 -- ---- as they are recorded
 

@@ -62,7 +62,7 @@ moves job _ path take some = absurd (let none = ap length take in omega (arith, 
 least_some : (job : Job) (l : Queued) → IsMachine job.machine → MayTake job l.command.action l.path → 0 < path_steps l →
     1 ≤ least_travel job.machine l.command.action (path_steps l)
 least_some job l m take some =
-    (may_travel_least job.machine l.command.action l.command.action (path_steps l) 1 m (moves job l.command.action l.path take (omega (arith, some)))).some
+    (may_travel_least job.machine l.command.action job.commands 0 (path_steps l) 1 m (moves job l.command.action l.path take (omega (arith, some)))).some
 
 -- what a tick of rate v leaves on a motion of x millionths
 goes_by : (ring : List Queued) (old new : State) (o : Outcome) (v x m : ℕ) (p : Option StepPos) (q : StepPos) (e : Ending) (b : Bool) →

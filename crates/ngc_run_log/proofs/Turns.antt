@@ -10,6 +10,7 @@ use Rattle.ngc_behaviour.specs.Step.{Outcome, Step}
 use Rattle.ngc_behaviour.specs.Run.{events_of}
 use Rattle.ngc_behaviour.specs.Progress.{GoesOn}
 use Rattle.ngc_run_log.specs.declared.recorder.Recorder.{Recorder}
+use Rattle.ngc_run_log.specs.Tracing.{trace_text}
 use Rattle.ngc_run_log.specs.Recording.{HasFew, Records, IsRecorded, IsCutShort}
 use Rattle.ngc_run_log.proofs.Joined.{recorded_both, cut_after, one_recorded, one_cut, few_more}
 
@@ -33,7 +34,8 @@ turns_left e k n h =
     ∙ ap (λ m. replicate m e) all
 
 pub turn_cut : (job at : Job) (s t u : State) (a b : Recorder) (x y z : Option (List ℕ)) (e : Event) (o : Outcome) (k n : ℕ) → at ≡ job → k < n
-    → IsRecorded job s t a b x y (replicate k e) → Step at t e o u → GoesOn at t e u → AppendsBeginning y z b.chunk → IsCutShort job s a x z (replicate n e)
+    → IsRecorded job s t a b x y (replicate k e) → Step at t e o u → GoesOn at t e u → AppendsBeginning y z (b.chunk ++ trace_text b.trace (o ∷ [])) →
+    IsCutShort job s a x z (replicate n e)
 turn_cut job at s t u a b x y z e o k n same h done does goes wrote =
     let S : Job → Type 0 = λ j. Step j t e o u in
     let G : Job → Type 0 = λ j. GoesOn j t e u in

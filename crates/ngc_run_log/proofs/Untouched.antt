@@ -17,7 +17,7 @@ use Rattle.ngc_events.specs.declared.reply.Ending.TheVariants.{Stopped, End}
 use Rattle.ngc_events.specs.declared.reply.Reply.{Reply}
 use Rattle.ngc_events.specs.declared.reply.Reply.TheVariants.{Loaded, Ticked, Started}
 use Rattle.ngc_events.specs.declared.event_fault.EventFault.TheVariants.{RingFull}
-use Rattle.ngc_behaviour.specs.State.{Job, Queued, State, RING, loaded, command_at, path_steps}
+use Rattle.ngc_behaviour.specs.State.{Job, Queued, State, loaded, command_at, path_steps}
 use Rattle.ngc_behaviour.specs.Step.{Outcome, Step, LoadCommand, MayTake}
 use Rattle.ngc_controller.specs.Controller.{ControllerData}
 use Rattle.ngc_controller.specs.Fields.{DWELL_LIMIT}
@@ -73,10 +73,10 @@ load_by : (b : Bool) (job : Job) (old : State) (c : Command) (o : Outcome) (new 
 load_by true job old c o new found room t = record { says = t.2; added = record { command = c; path = t.0 }; takes = t.1; next = found; is = t.3 }
 load_by false job old c o new found room t = cc
 
-load_comes : (job : Job) (old : State) (o : Outcome) (new : State) (c : Command) → command_at job (loaded old) ≡ Some c → length old.ring < RING →
+load_comes : (job : Job) (old : State) (o : Outcome) (new : State) (c : Command) → command_at job (loaded old) ≡ Some c → length old.ring < job.machine.ring →
     Step job old Load o new → Comes job old o new
 load_comes job old o new c found room t =
-    load_by (nat_lt (length old.ring) RING) job old c o new found (lt-ltb (length old.ring) RING room) (subst (λ next. LoadCommand job old next o new) found t)
+    load_by (nat_lt (length old.ring) job.machine.ring) job old c o new found (lt-ltb (length old.ring) job.machine.ring room) (subst (λ next. LoadCommand job old next o new) found t)
 
 found_within : (xs : List Command) (k : ℕ) → k < length xs → (c : Command) × (slice_get xs k ≡ Some c)
 found_within xs k h = elim ((slice_get_cases xs k).1) [
@@ -84,7 +84,7 @@ found_within xs k h = elim ((slice_get_cases xs k).1) [
   | inr p ↦ absurd (let past = p.0 in omega (arith, h, past))
 ]
 
-pub comes : (job : Job) (old : State) (o : Outcome) (new : State) → loaded old < length job.commands → length old.ring < RING → Step job old Load o new →
+pub comes : (job : Job) (old : State) (o : Outcome) (new : State) → loaded old < length job.commands → length old.ring < job.machine.ring → Step job old Load o new →
     Comes job old o new
 comes job old o new left room t = let f = found_within job.commands (loaded old) left in load_comes job old o new f.0 f.1 room t
 
@@ -194,7 +194,7 @@ breaks_one event old a x y g kind next fine = record {
   none_refused = counted_fine g.outcome fine;
   stretch = one_step old.job old.state g.reached event g.outcome g.step g.goes_on;
   follows = (next, tt);
-  begun = begun_more x y a.chunk (trace_text a.trace (g.outcome ∷ [])) g.begun;
+  begun = g.begun;
 }
 
 fine_as : (o : Outcome) (r : Reply) → o ≡ Ok r → is_refusal o ≡ false
@@ -203,7 +203,7 @@ fine_as o r e = ap is_refusal e
 -- ---- a load
 
 pub load_goes : (old new : ControllerData) (a b : Recorder) (x y : Option (List ℕ)) (o : Outcome) → IsUntouched old.job old.state →
-    old.state.stopped ≡ false → length old.state.ring < RING → loaded old.state < length old.job.commands →
+    old.state.stopped ≡ false → length old.state.ring < old.job.machine.ring → loaded old.state < length old.job.commands →
     IsGiven Load old new a b x y o → GoesBy 1 1 0 old new a b x y
 load_goes old new a b x y o u runs room left g =
     let c = comes old.job old.state o new.state left room g.step in
@@ -213,12 +213,12 @@ load_goes old new a b x y o u runs room left g =
     goes_one Load o 1 0 old new a b x y g tt (load_is_next old.job old.state runs room left) (fine_as o (Loaded (loaded old.state)) c.says) (untouched_load old.job old.state o new.state u c (g.short u.short))
     (omega (arith, done)) (omega (arith, ring, more))
 
-pub load_runs : (old new : ControllerData) (a b : Recorder) (x y : Option (List ℕ)) (o : Outcome) → old.state.stopped ≡ false → length old.state.ring < RING →
+pub load_runs : (old new : ControllerData) (a b : Recorder) (x y : Option (List ℕ)) (o : Outcome) → old.state.stopped ≡ false → length old.state.ring < old.job.machine.ring →
     loaded old.state < length old.job.commands →
     IsGiven Load old new a b x y o → new.state.stopped ≡ false
 load_runs old new a b x y o runs room left g = ap (λ (s : State). s.stopped) (comes old.job old.state o new.state left room g.step).is ∙ runs
 
-pub load_breaks : (old : ControllerData) (a : Recorder) (x y : Option (List ℕ)) → old.state.stopped ≡ false → length old.state.ring < RING → loaded old.state < length old.job.commands →
+pub load_breaks : (old : ControllerData) (a : Recorder) (x y : Option (List ℕ)) → old.state.stopped ≡ false → length old.state.ring < old.job.machine.ring → loaded old.state < length old.job.commands →
     IsGivenLast Load old a x y → BreaksOff old a x y
 load_breaks old a x y runs room left g =
     breaks_one Load old a x y g tt (load_is_next old.job old.state runs room left) (fine_as g.outcome (Loaded (loaded old.state)) (comes old.job old.state g.outcome g.reached left room g.step).says)

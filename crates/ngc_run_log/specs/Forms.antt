@@ -8,26 +8,31 @@ use Rattle.ngc_behaviour.specs.State.{Job, State, opening}
 use Rattle.ngc_behaviour.specs.Step.{Outcome}
 use Rattle.ngc_behaviour.specs.Run.{events_of, pulses}
 use Rattle.ngc_behaviour.specs.Safety.{start_of_job}
+use Rattle.ngc_pulses.specs.Samples.{samples}
 use Rattle.ngc_pulses.specs.Vcd.{vcd}
 use Rattle.ngc_run_log.specs.declared.report.Report.{Report}
 use Rattle.ngc_run_log.specs.declared.report.RunFault.{RunFault}
 use Rattle.ngc_run_log.specs.declared.report.RunFault.TheVariants.{Memory, Write}
 use Rattle.ngc_run_log.specs.declared.trace.Form.{Form}
-use Rattle.ngc_run_log.specs.declared.trace.Form.TheVariants.{Log, Pulses}
+use Rattle.ngc_run_log.specs.declared.trace.Form.TheVariants.{Log, Pulses, Samples}
 use Rattle.ngc_run_log.specs.declared.trace.Trace.{Trace}
 use Rattle.ngc_run_log.specs.Log.{log}
-use Rattle.ngc_run_log.specs.Tracing.{whole_text}
+use Rattle.ngc_run_log.specs.Tracing.{switches_in, whole_text}
 use Rattle.ngc_behaviour.specs.Stretch.{last_state}
 use Rattle.ngc_run_log.specs.Policy.{next_event}
+use Rattle.ngc_run_log.specs.Switching.{switches}
 use Rattle.ngc_run_log.specs.Runs.{IsRun, Reports}
 use Rattle.ngc_run_log.specs.Through.{IsSmoothRun, TellsEnd}
 
--- the log of a run's outcomes, or the dump of its ticks' pulses: of the very pulses that a safe run
--- bounds
+-- the log of a run's outcomes, or the dump or the samples of its ticks' pulses: of the very pulses
+-- that a safe run bounds
 abbrev pub text_as : Form → Job → List Event → List Outcome → List State → List ℕ
 text_as Log job events outcomes states = log outcomes
 text_as Pulses job events outcomes states =
     vcd job.machine.ticks_per_second (pulses (start_of_job job) events states)
+text_as (Samples inverted) job events outcomes states =
+    samples inverted (pulses (start_of_job job) events states)
+    (switches_in (switches job.commands) outcomes)
 
 -- ---- over lists of events
 
@@ -92,6 +97,16 @@ PulsesCome = ComesAs Pulses
 abbrev pub PulsesGoThrough : Job → Option (List ℕ) → Option (List ℕ) →
     Result Report RunFault → Type 0
 PulsesGoThrough = GoesThroughAs Pulses
+
+-- ---- the samples, in which the bits of a mask are turned over
+
+abbrev pub SamplesCome : ℕ → Job → List EventLine → Option (List ℕ) → Option (List ℕ) →
+    Result Report RunFault → Type 0
+SamplesCome inverted = ComesAs (Samples inverted)
+
+abbrev pub SamplesGoThrough : ℕ → Job → Option (List ℕ) → Option (List ℕ) →
+    Result Report RunFault → Type 0
+SamplesGoThrough inverted = GoesThroughAs (Samples inverted)
 
 -- ---- on the way, from a trace on
 

@@ -1,4 +1,5 @@
 pub mod Log
+pub mod Switching
 pub mod Tracing
 pub mod Recording
 pub mod Runs

@@ -3,11 +3,11 @@ use Rattle.std.specs.Prelude.{◌≡◌, nat_lt, List, [], ◌∷◌, length, Op
 use Rattle.std.specs.Prelude.{if◌then◌else◌}
 use Rattle.ngc_events.specs.declared.event.Event.{Event}
 use Rattle.ngc_events.specs.declared.event.Event.TheVariants.{Load, Tick, Start}
-use Rattle.ngc_behaviour.specs.State.{Job, State, RING, loaded}
+use Rattle.ngc_behaviour.specs.State.{Job, State, loaded}
 
 -- the ring has room, and a command is left to load
 abbrev pub can_load : Job → State → Bool
-can_load job s = nat_lt (length s.ring) RING && nat_lt (loaded s) (length job.commands)
+can_load job s = nat_lt (length s.ring) job.machine.ring && nat_lt (loaded s) (length job.commands)
 
 -- Where the machine is stopped, a start. Else a load, where one is possible. Else a tick, while a
 -- command is not done. Then nothing more.

@@ -85,7 +85,7 @@ pub record IsGivenLast (event : Event) (old : ControllerData) (before : Recorder
   pub reached : State
   pub step : Step old.job old.state event outcome reached
   pub goes_on : GoesOn old.job old.state event reached
-  pub begun : AppendsBeginning written now before.chunk
+  pub begun : AppendsBeginning written now (before.chunk ++ trace_text before.trace (outcome ∷ []))
 
 -- ---- several events
 

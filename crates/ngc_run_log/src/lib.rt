@@ -1,15 +1,16 @@
-//! Runs of the machine over lists of events, their log, their pulses and their time.
+//! Runs of the machine over lists of events, their log, their pulses, as a dump or as samples, and their time.
 #![tactic(auto)]
 
 mod log_line;
 mod recorder;
 mod report;
 mod runner;
+mod switches;
 mod through;
 mod timing;
 mod trace;
 
 pub use report::{Report, RunFault};
-pub use runner::{run, write_pulses};
-pub use through::{run_through, write_pulses_through};
+pub use runner::{run, write_pulses, write_samples};
+pub use through::{run_through, write_pulses_through, write_samples_through};
 pub use timing::{Timing, time_through};

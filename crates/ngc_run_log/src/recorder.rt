@@ -7,7 +7,7 @@ ghost use Rattle.ngc_events.specs.declared.reply.Reply.TheVariants.{Ticked};
 ghost use Rattle.ngc_text.specs.Failures.{CountsFailure};
 ghost use Rattle.ngc_text.specs.Written.{AppendsBeginning};
 ghost use Rattle.ngc_run_log.specs.Recording.{HasFew, Records};
-ghost use Rattle.ngc_run_log.specs.Tracing.{last_text, opening_text};
+ghost use Rattle.ngc_run_log.specs.Tracing.{last_text, opening_text, trace_text};
 
 use crate::report::Report;
 use crate::trace::Trace;
@@ -17,19 +17,19 @@ use ngc_text::{Chunk, Sink, WriteFault};
 
 /// The report so far, and what its text has beyond what is written.
 #[derive(Drop)]
-pub(crate) struct Recorder {
+pub(crate) struct Recorder<'s> {
     report: Report,
-    trace: Trace,
+    trace: Trace<'s>,
     chunk: Chunk,
 }
 
-impl Recorder {
+impl<'s> Recorder<'s> {
     /// Nothing is given yet, and the machine stands at a position, in steps.
-    pub(crate) fn new(trace: Trace, position: StepPos) -> Recorder
+    pub(crate) fn new(trace: Trace<'s>, position: StepPos) -> Recorder<'s>
         ensures report { result.report
             ≡ record { ticks = 0; path_steps = 0; refused = 0; position = position } }
-        ensures trace { result.trace ≡ trace }
-        ensures chunk { result.chunk ≡ opening_text trace }
+        ensures trace { result.trace ≡ trace.entry }
+        ensures chunk { result.chunk ≡ opening_text trace.entry }
     {
         let mut chunk = Chunk::new();
         trace.open(&mut chunk);
@@ -57,7 +57,8 @@ impl Recorder {
             (Records (event ∷ []) (outcome.now ∷ []) self.old self.new (W.written sink.old)
             (W.written sink.new)) }
         ensures fault { OnErr result
-            (AppendsBeginning (W.written sink.old) (W.written sink.new) self.old.chunk) }
+            (AppendsBeginning (W.written sink.old) (W.written sink.new)
+            (self.old.chunk ++ trace_text self.old.trace (outcome.now ∷ []))) }
         ensures failures { CountsFailure (W.failures sink.old) (W.failures sink.new) result }
     {
         self.report.count(event, outcome);
@@ -72,12 +73,7 @@ impl Recorder {
             self.trace.rest(1);
             return Ok(());
         }
-        match self.chunk.make_room(sink) {
-            Ok(()) => {}
-            Err(fault) => return Err(fault),
-        }
-        self.trace.tell(outcome, &mut self.chunk);
-        Ok(())
+        self.trace.tell(outcome, &mut self.chunk, sink)
     }
 
     /// Counts ticks of which nothing is told.
@@ -99,24 +95,26 @@ impl Recorder {
     }
 
     /// Writes the rest of the text, and answers the report.
-    pub(crate) fn finish<W: Sink>(mut self, sink: &mut W) -> Result<Report, WriteFault>
+    pub(crate) fn finish<W: Sink>(self, sink: &mut W) -> Result<Report, WriteFault>
         requires { HasFew (2 ^ 126) self }
-        ensures report { IfOk result (λ report. report ≡ self.report) }
+        ensures report { IfOk result (λ report. report ≡ self.entry.report) }
         ensures ok { OnOk result
             (Appends (W.written sink.old) (W.written sink.new)
-            (self.chunk ++ last_text self.trace)) }
+            (self.entry.chunk ++ last_text self.entry.trace)) }
         ensures fault { OnErr result
             (AppendsBeginning (W.written sink.old) (W.written sink.new)
-            (self.chunk ++ last_text self.trace)) }
+            (self.entry.chunk ++ last_text self.entry.trace)) }
         ensures failures { CountsFailure (W.failures sink.old) (W.failures sink.new) result }
     {
-        match self.chunk.make_room(sink) {
+        let report = self.report;
+        let mut trace = self.trace;
+        let mut chunk = self.chunk;
+        match trace.close(&mut chunk, sink) {
             Ok(()) => {}
             Err(fault) => return Err(fault),
         }
-        self.trace.close(&mut self.chunk);
-        match self.chunk.write_out(sink) {
-            Ok(()) => Ok(self.report),
+        match chunk.write_out(sink) {
+            Ok(()) => Ok(report),
             Err(fault) => Err(fault),
         }
     }

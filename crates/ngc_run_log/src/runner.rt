@@ -5,12 +5,14 @@ ghost use Rattle.ngc_behaviour.specs.State.{opening};
 ghost use Rattle.ngc_checker.specs.Accepted.{commands_at};
 ghost use Rattle.ngc_text.specs.Failures.{CountsFailure};
 ghost use Rattle.ngc_run_log.specs.Forms.{ComesAs, IsTracedRun, IsUntracedRun, PulsesCome};
+ghost use Rattle.ngc_run_log.specs.Forms.{SamplesCome};
 ghost use Rattle.ngc_run_log.specs.Recording.{HasFew, IsCutShort, IsRecorded};
 ghost use Rattle.ngc_run_log.specs.Runs.{ComesTo, FailsByWriting};
 ghost use Rattle.ngc_run_log.specs.Tracing.{ticks_of};
 
 use crate::recorder::Recorder;
 use crate::report::{Report, RunFault};
+use crate::switches::{Switches, switches_for};
 use crate::trace::{Form, Trace};
 use ngc_checker::Accepted;
 use ngc_controller::Controller;
@@ -77,7 +79,7 @@ fn run_line<A: Allocator + Copy, W: Sink>(
 fn run_lines<A: Allocator + Copy, W: Sink>(
     controller: &mut Controller<ArcPath, A>,
     lines: &[EventLine],
-    trace: Trace,
+    trace: Trace<'_>,
     sink: &mut W,
 ) -> Result<Report, WriteFault>
     requires opens { controller.old.state ≡ opening controller.old.job.machine }
@@ -85,10 +87,10 @@ fn run_lines<A: Allocator + Copy, W: Sink>(
     requires in_time { RunsInTime controller.old.job }
     requires begins { ticks_of trace ≡ 0 }
     ensures traced { IfOk result
-        (λ report. IsTracedRun trace controller.old.job lines.now (W.written sink.old)
+        (λ report. IsTracedRun trace.entry controller.old.job lines.now (W.written sink.old)
         (W.written sink.new) report) }
     ensures broken { OnErr result
-        (IsUntracedRun trace controller.old.job lines.now (W.written sink.old)
+        (IsUntracedRun trace.entry controller.old.job lines.now (W.written sink.old)
         (W.written sink.new)) }
     ensures failures { CountsFailure (W.failures sink.old) (W.failures sink.new) result }
 {
@@ -117,11 +119,18 @@ fn run_as<A: Allocator + Copy, W: Sink>(
 {
     // What holds of all that was accepted makes the run a safe one, which is done in time.
     let ticks_per_second = accepted.machine().ticks_per_second;
+    let kept = match switches_for(alloc, form, accepted.commands(block_delete)) {
+        Ok(kept) => kept,
+        Err(fault) => return Err(fault),
+    };
     let mut controller = match Controller::<ArcPath, A>::new(alloc, accepted, block_delete) {
         Ok(controller) => controller,
         Err(_) => return Err(RunFault::Memory),
     };
-    let trace = Trace::new(form, ticks_per_second, controller.position());
+    let switches = Switches {
+        list: kept.as_slice(),
+    };
+    let trace = Trace::new(form, ticks_per_second, controller.position(), switches);
     match run_lines(&mut controller, lines, trace, sink) {
         Ok(report) => Ok(report),
         Err(fault) => Err(RunFault::Write(fault)),
@@ -161,4 +170,31 @@ pub fn write_pulses<A: Allocator + Copy, W: Sink>(
     ensures counts { FailsByWriting result (W.failures sink.old) (W.failures sink.new) }
 {
     run_as(alloc, accepted, block_delete, lines, Form::Pulses, sink)
+}
+
+/// Runs what was accepted, at a setting of block delete, over events in their order, and writes its
+/// samples: two bytes for each tick, with the steps and directions, the spindle and the coolant, in
+/// which the bits of `inverted` are turned over. What is no tick writes nothing. Want of memory is
+/// 900, with nothing written; where a write failed (902) a beginning of the samples is written.
+pub fn write_samples<A: Allocator + Copy, W: Sink>(
+    alloc: A,
+    accepted: Accepted<A>,
+    block_delete: bool,
+    lines: &[EventLine],
+    inverted: u8,
+    sink: &mut W,
+) -> Result<Report, RunFault>
+    ensures comes { SamplesCome inverted
+        (job_of accepted.machine (commands_at block_delete accepted)) lines.now
+        (W.written sink.old) (W.written sink.new) result }
+    ensures counts { FailsByWriting result (W.failures sink.old) (W.failures sink.new) }
+{
+    run_as(
+        alloc,
+        accepted,
+        block_delete,
+        lines,
+        Form::Samples(inverted),
+        sink,
+    )
 }

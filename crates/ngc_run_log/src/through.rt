@@ -2,14 +2,14 @@
 ghost use Rattle.std.specs.Prelude.{◌≡◌, ◌≤◌, ◌<◌, ◌+◌, ◌-◌, ◌*◌, ◌^◌, ℕ, List, Option, min};
 ghost use Rattle.std.specs.Prelude.{length, Some, true, false, OnOk, OnErr, IfOk};
 ghost use Rattle.ngc_behaviour.specs.Headline.{job_of, RunsInTime, RunsSafely};
-ghost use Rattle.ngc_behaviour.specs.State.{RING, loaded, opening};
+ghost use Rattle.ngc_behaviour.specs.State.{loaded, opening};
 ghost use Rattle.ngc_commands.specs.Sequence.{HasEnd};
 ghost use Rattle.ngc_commands.specs.Sequence.{COMMAND_LIMIT};
 ghost use Rattle.ngc_checker.specs.Accepted.{commands_at};
 ghost use Rattle.ngc_text.specs.Failures.{CountsFailure};
 ghost use Rattle.ngc_machine.specs.MachineRanges.{IsMachine};
 ghost use Rattle.ngc_run_log.specs.Forms.{GoesThroughAs, IsTracedThrough, IsTracedOff};
-ghost use Rattle.ngc_run_log.specs.Forms.{PulsesGoThrough};
+ghost use Rattle.ngc_run_log.specs.Forms.{PulsesGoThrough, SamplesGoThrough};
 ghost use Rattle.ngc_run_log.specs.Policy.{next_event};
 ghost use Rattle.ngc_run_log.specs.Recording.{HasFew};
 ghost use Rattle.ngc_run_log.specs.Runs.{FailsByWriting};
@@ -21,6 +21,7 @@ ghost use Rattle.ngc_run_log.specs.Tracing.{ticks_of};
 
 use crate::recorder::Recorder;
 use crate::report::{Report, RunFault};
+use crate::switches::{Switches, switches_for};
 use crate::trace::{Form, Trace};
 use ngc_checker::Accepted;
 use ngc_controller::Controller;
@@ -28,9 +29,6 @@ use ngc_events::{Ending, Event, EventFault, Reply};
 use ngc_step_kernel::ArcPath;
 use ngc_text::{Sink, WriteFault};
 use std::alloc::Allocator;
-
-/// How many commands may be loaded and not done.
-pub(crate) const RING: usize = 16;
 
 // Gives an event, and records what came of it.
 fn give<A: Allocator + Copy, W: Sink>(
@@ -64,7 +62,7 @@ fn load_next<A: Allocator + Copy, W: Sink>(
 ) -> Result<(), WriteFault>
     requires untouched { IsUntouched controller.old.job controller.old.state }
     requires runs { controller.old.state.stopped ≡ false }
-    requires room { length controller.old.state.ring < RING }
+    requires room { length controller.old.state.ring < controller.old.job.machine.ring }
     requires left { loaded controller.old.state < length controller.old.job.commands }
     requires few { HasFew (2 ^ 126) recorder.old }
     ensures goes { OnOk result
@@ -218,7 +216,8 @@ pub(crate) fn fill_ring<A: Allocator + Copy, W: Sink>(
     recorder: &mut Recorder,
     sink: &mut W,
 ) -> Result<(), WriteFault>
-    requires room { length controller.old.state.ring + count ≤ RING }
+    requires room { length controller.old.state.ring + count
+        ≤ controller.old.job.machine.ring }
     requires left { loaded controller.old.state + count ≤ length controller.old.job.commands }
     requires untouched { IsUntouched controller.old.job controller.old.state }
     requires runs { controller.old.state.stopped ≡ false }
@@ -248,7 +247,8 @@ pub(crate) fn keep_full<A: Allocator + Copy, W: Sink>(
     recorder: &mut Recorder,
     sink: &mut W,
 ) -> Result<(), WriteFault>
-    requires full { 0 < count → length controller.old.state.ring ≡ RING }
+    requires full { 0 < count →
+        length controller.old.state.ring ≡ controller.old.job.machine.ring }
     requires left { loaded controller.old.state + count ≤ length controller.old.job.commands }
     requires few_commands { count ≤ COMMAND_LIMIT }
     requires untouched { IsUntouched controller.old.job controller.old.state }
@@ -285,7 +285,7 @@ pub(crate) fn finish<A: Allocator + Copy, W: Sink>(
     requires loaded { count ≤ length controller.old.state.ring }
     requires all_loaded { 0 < count →
         loaded controller.old.state ≡ length controller.old.job.commands }
-    requires small { count ≤ RING }
+    requires small { count ≤ controller.old.job.machine.ring }
     requires untouched { IsUntouched controller.old.job controller.old.state }
     requires runs { controller.old.state.stopped ≡ false }
     requires few { HasFew (2 ^ 124) recorder.old }
@@ -328,7 +328,7 @@ fn go_on<A: Allocator + Copy, W: Sink>(
         (BreaksOff controller.old recorder.old (W.written sink.old) (W.written sink.new)) }
     ensures failures { CountsFailure (W.failures sink.old) (W.failures sink.new) result }
 {
-    let first = count.min(RING);
+    let first = count.min(controller.ring());
     match fill_ring(controller, first, recorder, sink) {
         Ok(()) => {}
         Err(fault) => return Err(fault),
@@ -344,7 +344,7 @@ fn go_on<A: Allocator + Copy, W: Sink>(
 fn go_through<A: Allocator + Copy, W: Sink>(
     controller: &mut Controller<ArcPath, A>,
     count: usize,
-    trace: Trace,
+    trace: Trace<'_>,
     sink: &mut W,
 ) -> Result<Report, WriteFault>
     requires opens { controller.old.state ≡ opening controller.old.job.machine }
@@ -356,9 +356,9 @@ fn go_through<A: Allocator + Copy, W: Sink>(
     requires few_commands { count ≤ COMMAND_LIMIT }
     requires begins { ticks_of trace ≡ 0 }
     ensures traced { IfOk result
-        (IsTracedThrough trace controller.old.job (W.written sink.old) (W.written sink.new)) }
+        (IsTracedThrough trace.entry controller.old.job (W.written sink.old) (W.written sink.new)) }
     ensures broken { OnErr result
-        (IsTracedOff trace controller.old.job (W.written sink.old) (W.written sink.new)) }
+        (IsTracedOff trace.entry controller.old.job (W.written sink.old) (W.written sink.new)) }
     ensures failures { CountsFailure (W.failures sink.old) (W.failures sink.new) result }
 {
     let mut recorder = Recorder::new(trace, controller.position());
@@ -384,12 +384,19 @@ fn go_through_as<A: Allocator + Copy, W: Sink>(
 {
     // What holds of all that was accepted makes the run a safe one, which is done in time.
     let ticks_per_second = accepted.machine().ticks_per_second;
+    let kept = match switches_for(alloc, form, accepted.commands(block_delete)) {
+        Ok(kept) => kept,
+        Err(fault) => return Err(fault),
+    };
     let count = accepted.commands(block_delete).len();
     let mut controller = match Controller::<ArcPath, A>::new(alloc, accepted, block_delete) {
         Ok(controller) => controller,
         Err(_) => return Err(RunFault::Memory),
     };
-    let trace = Trace::new(form, ticks_per_second, controller.position());
+    let switches = Switches {
+        list: kept.as_slice(),
+    };
+    let trace = Trace::new(form, ticks_per_second, controller.position(), switches);
     match go_through(&mut controller, count, trace, sink) {
         Ok(report) => Ok(report),
         Err(fault) => Err(RunFault::Write(fault)),
@@ -428,4 +435,22 @@ pub fn write_pulses_through<A: Allocator + Copy, W: Sink>(
     ensures counts { FailsByWriting result (W.failures sink.old) (W.failures sink.new) }
 {
     go_through_as(alloc, accepted, block_delete, Form::Pulses, sink)
+}
+
+/// Runs what was accepted through to its end as [`run_through`] does, and writes the samples of all
+/// its ticks, in which the bits of `inverted` are turned over. Want of memory is 900, with nothing
+/// written; where a write failed (902) a beginning of the samples is written.
+pub fn write_samples_through<A: Allocator + Copy, W: Sink>(
+    alloc: A,
+    accepted: Accepted<A>,
+    block_delete: bool,
+    inverted: u8,
+    sink: &mut W,
+) -> Result<Report, RunFault>
+    ensures goes_through { SamplesGoThrough inverted
+        (job_of accepted.machine (commands_at block_delete accepted)) (W.written sink.old)
+        (W.written sink.new) result }
+    ensures counts { FailsByWriting result (W.failures sink.old) (W.failures sink.new) }
+{
+    go_through_as(alloc, accepted, block_delete, Form::Samples(inverted), sink)
 }

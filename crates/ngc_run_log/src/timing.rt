@@ -2,7 +2,7 @@
 ghost use Rattle.std.specs.Prelude.{◌≡◌, ◌≤◌, ◌<◌, ◌+◌, ◌^◌, length, false, None, OnOk, IfErr};
 ghost use Rattle.std.specs.Prelude.{IfOk};
 ghost use Rattle.ngc_behaviour.specs.Headline.{job_of, RunsInTime, RunsSafely};
-ghost use Rattle.ngc_behaviour.specs.State.{RING, loaded, opening};
+ghost use Rattle.ngc_behaviour.specs.State.{loaded, opening};
 ghost use Rattle.ngc_commands.specs.Sequence.{HasEnd};
 ghost use Rattle.ngc_commands.specs.Sequence.{COMMAND_LIMIT};
 ghost use Rattle.ngc_checker.specs.Accepted.{commands_at};
@@ -14,7 +14,7 @@ ghost use Rattle.ngc_run_log.specs.Stretches.{GoesBy, IsUntouched};
 
 use crate::recorder::Recorder;
 use crate::report::RunFault;
-use crate::through::{RING, fill_ring, finish, keep_full};
+use crate::through::{fill_ring, finish, keep_full};
 use crate::trace::Trace;
 use ngc_checker::Accepted;
 use ngc_commands::Command;
@@ -65,7 +65,8 @@ fn load_first<A: Allocator + Copy>(
     count: usize,
     recorder: &mut Recorder,
 )
-    requires room { length controller.old.state.ring + count ≤ RING }
+    requires room { length controller.old.state.ring + count
+        ≤ controller.old.job.machine.ring }
     requires left { loaded controller.old.state + count ≤ length controller.old.job.commands }
     requires untouched { IsUntouched controller.old.job controller.old.state }
     requires runs { controller.old.state.stopped ≡ false }
@@ -90,8 +91,9 @@ fn finish_part<A: Allocator + Copy>(
     recorder: &mut Recorder,
 )
     requires enough { count ≤ length controller.old.state.ring + unloaded }
-    requires full { 0 < unloaded → length controller.old.state.ring ≡ RING }
-    requires room { length controller.old.state.ring ≤ RING }
+    requires full { 0 < unloaded →
+        length controller.old.state.ring ≡ controller.old.job.machine.ring }
+    requires room { length controller.old.state.ring ≤ controller.old.job.machine.ring }
     requires left { loaded controller.old.state + unloaded ≡ length controller.old.job.commands }
     requires few_commands { count ≤ COMMAND_LIMIT }
     requires untouched { IsUntouched controller.old.job controller.old.state }
@@ -122,13 +124,14 @@ fn time_parts<A: Allocator + Copy>(
     recorder: &mut Recorder,
 ) -> Result<Vec<u128, A>, RunFault>
     requires none_done { controller.old.state.done ≡ 0 }
-    requires full { 0 < unloaded → length controller.old.state.ring ≡ RING }
-    requires room { length controller.old.state.ring ≤ RING }
+    requires full { 0 < unloaded →
+        length controller.old.state.ring ≡ controller.old.job.machine.ring }
+    requires room { length controller.old.state.ring ≤ controller.old.job.machine.ring }
     requires left { loaded controller.old.state + unloaded ≡ length controller.old.job.commands }
     requires few_commands { length controller.old.job.commands ≤ COMMAND_LIMIT }
     requires untouched { IsUntouched controller.old.job controller.old.state }
     requires runs { controller.old.state.stopped ≡ false }
-    requires few { HasFew 16 recorder.old }
+    requires few { HasFew (2 ^ 10) recorder.old }
     ensures parts { IfOk result
         (λ parts. GoesParted (2 ^ 123) unloaded
         (length controller.old.job.commands) controller.old controller.new recorder.old recorder.new
@@ -172,7 +175,7 @@ fn time_all<A: Allocator + Copy>(
 {
     let mut recorder = Recorder::new(Trace::Untold, controller.position());
     let count = controller.commands().len();
-    let first = count.min(RING);
+    let first = count.min(controller.ring());
     load_first(controller, first, &mut recorder);
     match time_parts(alloc, controller, count - first, &mut recorder) {
         Ok(parts) => Ok(Timing {

@@ -1,32 +1,42 @@
-//! What is written of a run: its log, its pulses, or nothing.
-ghost use Rattle.std.specs.Prelude.{◌≡◌, ◌≤◌, ◌+◌, ◌^◌, ◌++◌, ◌∷◌, [], replicate, Ok, None};
+//! What is written of a run: its log, its pulses in one of two forms, or nothing.
+ghost use Rattle.std.specs.Prelude.{◌≡◌, ◌≤◌, ◌+◌, ◌^◌, ◌++◌, ◌∷◌, [], replicate, Ok, None, OnOk};
+ghost use Rattle.std.specs.Prelude.{OnErr};
 ghost use Rattle.ngc_events.specs.declared.reply.Reply.TheVariants.{Ticked};
 ghost use Rattle.ngc_machine.specs.Ranges.{IsRate};
-ghost use Rattle.ngc_text.specs.Collected.{HasLineRoom};
-ghost use Rattle.ngc_pulses.specs.Dumping.{after_tick, tick_text};
-ghost use Rattle.ngc_run_log.specs.Tracing.{last_text, opening_text, ticks_of, trace_after};
-ghost use Rattle.ngc_run_log.specs.Tracing.{trace_of, trace_text};
+ghost use Rattle.ngc_text.specs.Collected.{HasLineRoom, WritesFront};
+ghost use Rattle.ngc_text.specs.Failures.{CountsFailure};
+ghost use Rattle.ngc_text.specs.Written.{AppendsBeginning};
+ghost use Rattle.ngc_pulses.specs.Dumping.{after_tick, closing_text, tick_text};
+ghost use Rattle.ngc_pulses.specs.Sampling.{after_samples, rest_bytes, samples_text};
+ghost use Rattle.ngc_run_log.specs.Log.{log};
+ghost use Rattle.ngc_run_log.specs.Tracing.{dump_after, dump_text, last_text, opening_text};
+ghost use Rattle.ngc_run_log.specs.Tracing.{sampled, switched_by, ticks_of, trace_after, trace_of};
+ghost use Rattle.ngc_run_log.specs.Tracing.{trace_text};
 
 use crate::log_line::add_outcome;
+use crate::switches::Switches;
 use ngc_events::{EventFault, Reply};
 use ngc_fixed_length::StepPos;
-use ngc_pulses::PulseDump;
-use ngc_text::Chunk;
+use ngc_pulses::{PulseDump, PulseSamples, Switch};
+use ngc_text::{Chunk, Sink, WriteFault};
 
 /// In which form a run is written.
 #[derive(Clone, Copy)]
 pub(crate) enum Form {
     /// What came of each event.
     Log,
-    /// The pulses of its ticks.
+    /// The pulses of its ticks as a value change dump.
     Pulses,
+    /// The pulses of its ticks as samples, in which the bits of a mask are turned over.
+    Samples(u8),
 }
 
 /// What is known of the text behind some events.
 #[derive(Drop)]
-pub(crate) enum Trace {
+pub(crate) enum Trace<'s> {
     Log,
     Pulses(PulseDump),
+    Samples(PulseSamples, Switches<'s>),
     Untold,
 }
 
@@ -53,15 +63,151 @@ fn add_tick(dump: &mut PulseDump, position: Option<StepPos>, chunk: &mut Chunk)
     }
 }
 
-impl Trace {
+// Adds the changes of an outcome's tick, if it is one.
+fn add_changes(dump: &mut PulseDump, outcome: &Result<Reply, EventFault>, chunk: &mut Chunk)
+    requires few { dump.old.ticks ≤ 2 ^ 126 }
+    requires room { HasLineRoom chunk.old }
+    ensures state { dump.new ≡ dump_after dump.old (outcome.now ∷ []) }
+    ensures text { chunk.new ≡ chunk.old ++ dump_text dump.old (outcome.now ∷ []) }
+{
+    if let Ok(Reply::Ticked { position, .. }) = outcome {
+        add_tick(dump, *position, chunk);
+    }
+}
+
+// Adds what the log says of an outcome, behind what the chunk has no room for.
+fn write_outcome<W: Sink>(
+    outcome: &Result<Reply, EventFault>,
+    chunk: &mut Chunk,
+    sink: &mut W,
+) -> Result<(), WriteFault>
+    ensures text { OnOk result
+        (WritesFront (W.written sink.old) (W.written sink.new)
+        (chunk.old ++ log (outcome.now ∷ [])) chunk.new) }
+    ensures fault { OnErr result
+        (AppendsBeginning (W.written sink.old) (W.written sink.new)
+        (chunk.old ++ log (outcome.now ∷ []))) }
+    ensures failures { CountsFailure (W.failures sink.old) (W.failures sink.new) result }
+{
+    match chunk.make_room(sink) {
+        Ok(()) => {}
+        Err(fault) => return Err(fault),
+    }
+    add_outcome(chunk, outcome);
+    Ok(())
+}
+
+// Adds the changes of an outcome's tick, behind what the chunk has no room for.
+fn write_changes<W: Sink>(
+    dump: &mut PulseDump,
+    outcome: &Result<Reply, EventFault>,
+    chunk: &mut Chunk,
+    sink: &mut W,
+) -> Result<(), WriteFault>
+    requires { dump.old.ticks ≤ 2 ^ 126 }
+    ensures state { OnOk result (dump.new ≡ dump_after dump.old (outcome.now ∷ [])) }
+    ensures text { OnOk result
+        (WritesFront (W.written sink.old) (W.written sink.new)
+        (chunk.old ++ dump_text dump.old (outcome.now ∷ [])) chunk.new) }
+    ensures fault { OnErr result
+        (AppendsBeginning (W.written sink.old) (W.written sink.new)
+        (chunk.old ++ dump_text dump.old (outcome.now ∷ []))) }
+    ensures failures { CountsFailure (W.failures sink.old) (W.failures sink.new) result }
+{
+    match chunk.make_room(sink) {
+        Ok(()) => {}
+        Err(fault) => return Err(fault),
+    }
+    add_changes(dump, outcome, chunk);
+    Ok(())
+}
+
+// Adds the last time of a dump, behind what the chunk has no room for.
+fn close_dump<W: Sink>(dump: &PulseDump, chunk: &mut Chunk, sink: &mut W) -> Result<(), WriteFault>
+    requires { dump.now.ticks ≤ 2 ^ 126 }
+    ensures text { OnOk result
+        (WritesFront (W.written sink.old) (W.written sink.new)
+        (chunk.old ++ closing_text dump.now) chunk.new) }
+    ensures fault { OnErr result
+        (AppendsBeginning (W.written sink.old) (W.written sink.new)
+        (chunk.old ++ closing_text dump.now)) }
+    ensures failures { CountsFailure (W.failures sink.old) (W.failures sink.new) result }
+{
+    match chunk.make_room(sink) {
+        Ok(()) => {}
+        Err(fault) => return Err(fault),
+    }
+    dump.close(chunk);
+    Ok(())
+}
+
+// Writes the bytes of a reply's tick, if it is one, in which this is switched.
+fn write_sample<W: Sink>(
+    samples: &mut PulseSamples,
+    switch: Switch,
+    reply: &Reply,
+    chunk: &mut Chunk,
+    sink: &mut W,
+) -> Result<(), WriteFault>
+    requires { samples.old.resting ≤ 2 ^ 126 }
+    ensures state { OnOk result
+        (samples.new ≡ after_samples samples.old (sampled switch (Ok reply.now))) }
+    ensures text { OnOk result
+        (WritesFront (W.written sink.old) (W.written sink.new)
+        (chunk.old ++ samples_text samples.old (sampled switch (Ok reply.now))) chunk.new) }
+    ensures fault { OnErr result
+        (AppendsBeginning (W.written sink.old) (W.written sink.new)
+        (chunk.old ++ samples_text samples.old (sampled switch (Ok reply.now)))) }
+    ensures failures { CountsFailure (W.failures sink.old) (W.failures sink.new) result }
+{
+    match reply {
+        Reply::Ticked { position, .. } => samples.tick(*position, switch, chunk, sink),
+        _ => Ok(()),
+    }
+}
+
+// Writes the bytes of an outcome's tick, if it is one, in which this is switched.
+fn write_tick<W: Sink>(
+    samples: &mut PulseSamples,
+    switch: Switch,
+    outcome: &Result<Reply, EventFault>,
+    chunk: &mut Chunk,
+    sink: &mut W,
+) -> Result<(), WriteFault>
+    requires { samples.old.resting ≤ 2 ^ 126 }
+    ensures state { OnOk result
+        (samples.new ≡ after_samples samples.old (sampled switch outcome.now)) }
+    ensures text { OnOk result
+        (WritesFront (W.written sink.old) (W.written sink.new)
+        (chunk.old ++ samples_text samples.old (sampled switch outcome.now)) chunk.new) }
+    ensures fault { OnErr result
+        (AppendsBeginning (W.written sink.old) (W.written sink.new)
+        (chunk.old ++ samples_text samples.old (sampled switch outcome.now))) }
+    ensures failures { CountsFailure (W.failures sink.old) (W.failures sink.new) result }
+{
+    match outcome {
+        Ok(reply) => write_sample(samples, switch, reply, chunk, sink),
+        Err(_) => Ok(()),
+    }
+}
+
+impl<'s> Trace<'s> {
     /// Before the first event, with a machine that stands at a position, in steps.
-    pub(crate) fn new(form: Form, ticks_per_second: u32, position: StepPos) -> Trace
+    pub(crate) fn new(
+        form: Form,
+        ticks_per_second: u32,
+        position: StepPos,
+        switches: Switches<'s>,
+    ) -> Trace<'s>
         requires { IsRate ticks_per_second }
-        ensures { result ≡ trace_of form ticks_per_second position }
+        ensures { result ≡ trace_of form ticks_per_second position switches.entry }
     {
         match form {
             Form::Log => Trace::Log,
             Form::Pulses => Trace::Pulses(PulseDump::new(ticks_per_second, position)),
+            Form::Samples(inverted) => {
+                Trace::Samples(PulseSamples::new(inverted, position), switches)
+            }
         }
     }
 
@@ -71,12 +217,12 @@ impl Trace {
         ensures { chunk.new ≡ chunk.old ++ opening_text self.now }
     {
         match self {
-            Trace::Log | Trace::Untold => {}
+            Trace::Log | Trace::Samples(_, _) | Trace::Untold => {}
             Trace::Pulses(dump) => dump.open(chunk),
         }
     }
 
-    /// Counts ticks in which nothing was commanded and nothing ended, which have no text.
+    /// Counts ticks in which nothing was commanded and nothing ended, which add no text yet.
     pub(crate) fn rest(&mut self, count: u64)
         requires { ticks_of self.old + count ≤ 2 ^ 126 + 1 }
         ensures { self.new ≡ trace_after self.old (replicate count (Ok (Ticked None None))) }
@@ -84,36 +230,66 @@ impl Trace {
         match self {
             Trace::Log | Trace::Untold => {}
             Trace::Pulses(dump) => rest_for(dump, count),
+            Trace::Samples(samples, _) => samples.rest(count),
         }
     }
 
-    /// Adds the text of an outcome.
-    pub(crate) fn tell(&mut self, outcome: &Result<Reply, EventFault>, chunk: &mut Chunk)
+    // What is switched in an outcome's tick, where that is written.
+    fn switched_by(&self, outcome: &Result<Reply, EventFault>) -> Switch
+        ensures { result ≡ switched_by self.now outcome.now }
+    {
+        match (self, outcome) {
+            (Trace::Samples(_, switches), Ok(Reply::Ticked { ending, .. })) => switches.by(ending),
+            _ => Switch::Nothing,
+        }
+    }
+
+    /// Adds the text of an outcome. What the chunk hasn't room for is written.
+    pub(crate) fn tell<W: Sink>(
+        &mut self,
+        outcome: &Result<Reply, EventFault>,
+        chunk: &mut Chunk,
+        sink: &mut W,
+    ) -> Result<(), WriteFault>
         requires few { ticks_of self.old ≤ 2 ^ 126 }
-        requires room { HasLineRoom chunk.old }
-        ensures trace { self.new ≡ trace_after self.old (outcome.now ∷ []) }
-        ensures text { chunk.new ≡ chunk.old ++ trace_text self.old (outcome.now ∷ []) }
+        ensures trace { OnOk result (self.new ≡ trace_after self.old (outcome.now ∷ [])) }
+        ensures text { OnOk result
+            (WritesFront (W.written sink.old) (W.written sink.new)
+            (chunk.old ++ trace_text self.old (outcome.now ∷ [])) chunk.new) }
+        ensures fault { OnErr result
+            (AppendsBeginning (W.written sink.old) (W.written sink.new)
+            (chunk.old ++ trace_text self.old (outcome.now ∷ []))) }
+        ensures failures { CountsFailure (W.failures sink.old) (W.failures sink.new) result }
     {
+        let switch = self.switched_by(outcome);
         match self {
-            Trace::Log => add_outcome(chunk, outcome),
-            Trace::Pulses(dump) => {
-                if let Ok(Reply::Ticked { position, .. }) = outcome {
-                    add_tick(dump, *position, chunk);
-                }
-            }
-            Trace::Untold => {}
+            Trace::Log => write_outcome(outcome, chunk, sink),
+            Trace::Pulses(dump) => write_changes(dump, outcome, chunk, sink),
+            Trace::Samples(samples, _) => write_tick(samples, switch, outcome, chunk, sink),
+            Trace::Untold => Ok(()),
         }
     }
 
-    /// Adds what stands behind the text of the last event.
-    pub(crate) fn close(&self, chunk: &mut Chunk)
-        requires few { ticks_of self.now ≤ 2 ^ 126 }
-        requires room { HasLineRoom chunk.old }
-        ensures { chunk.new ≡ chunk.old ++ last_text self.now }
+    /// Adds what stands behind the text of the last event. What the chunk hasn't room for is
+    /// written.
+    pub(crate) fn close<W: Sink>(
+        &mut self,
+        chunk: &mut Chunk,
+        sink: &mut W,
+    ) -> Result<(), WriteFault>
+        requires few { ticks_of self.old ≤ 2 ^ 126 }
+        ensures text { OnOk result
+            (WritesFront (W.written sink.old) (W.written sink.new)
+            (chunk.old ++ last_text self.old) chunk.new) }
+        ensures fault { OnErr result
+            (AppendsBeginning (W.written sink.old) (W.written sink.new)
+            (chunk.old ++ last_text self.old)) }
+        ensures failures { CountsFailure (W.failures sink.old) (W.failures sink.new) result }
     {
         match self {
-            Trace::Log | Trace::Untold => {}
-            Trace::Pulses(dump) => dump.close(chunk),
+            Trace::Log | Trace::Untold => Ok(()),
+            Trace::Pulses(dump) => close_dump(dump, chunk, sink),
+            Trace::Samples(samples, _) => samples.write_rests(chunk, sink),
         }
     }
 }

@@ -13,10 +13,11 @@ loop-command-init g c = record {
 
 pub load_next-requires-clause-few : goal.load_next-requires-clause-few
 load_next-requires-clause-few g c =
-    few_behind _ _ _ (2 ^ 120) (2 ^ 126) _ _ _ _ _ _ c.loop-command.invariant.goes c.requires.few (omega (arith, c.requires.room))
+    few_behind _ _ _ (2 ^ 120) (2 ^ 126) _ _ _ _ _ _ c.loop-command.invariant.goes c.requires.few (omega (arith, c.requires.room, c.requires.untouched.machine.ring.greatest))
 
 pub load_next-requires-clause-room : goal.load_next-requires-clause-room
-load_next-requires-clause-room g c = omega (arith, c.loop-command.invariant.goes.ring, c.requires.room)
+load_next-requires-clause-room g c =
+    omega (arith, c.loop-command.invariant.goes.ring, c.requires.room, ap (λ (j : Job). j.machine.ring) c.loop-command.invariant.goes.job)
 
 pub load_next-requires-clause-left : goal.load_next-requires-clause-left
 load_next-requires-clause-left g c =

@@ -13,7 +13,7 @@ loop-command-init g c = record {
 
 pub finish_head-requires-clause-few : goal.finish_head-requires-clause-few
 finish_head-requires-clause-few g c =
-    few_behind _ _ _ (2 ^ 124) (2 ^ 125) _ _ _ _ _ _ c.loop-command.invariant.goes.goes c.requires.few (omega (arith, c.requires.small))
+    few_behind _ _ _ (2 ^ 124) (2 ^ 125) _ _ _ _ _ _ c.loop-command.invariant.goes.goes c.requires.few (omega (arith, c.requires.small, c.requires.untouched.machine.ring.greatest))
 
 pub finish_head-requires-clause-some : goal.finish_head-requires-clause-some
 finish_head-requires-clause-some g c = omega (arith, c.loop-command.invariant.goes.goes.ring, c.requires.loaded)

@@ -8,7 +8,7 @@ pub fill_ring-requires-clause-few : goal.fill_ring-requires-clause-few
 fill_ring-requires-clause-few g c = at_most_more 0 (2 ^ 120) _ c.requires.few (omega arith)
 
 pub keep_full-requires-clause-full : goal.keep_full-requires-clause-full
-keep_full-requires-clause-full g c = λ more. omega (arith, more, c.in-Ok.ensures.goes.ring, c.requires.none_loaded, c.min-first.ensures)
+keep_full-requires-clause-full g c = λ more. omega (arith, more, c.in-Ok.ensures.goes.ring, c.requires.none_loaded, c.min-first.ensures, c.ring.ensures, ap (λ (j : Job). j.machine.ring) c.in-Ok.ensures.goes.job)
 
 pub keep_full-requires-clause-few : goal.keep_full-requires-clause-few
 keep_full-requires-clause-few g c =

@@ -16,13 +16,13 @@ finish_head-requires-clause-few g c =
     few_behind _ _ _ (2 ^ 124) (2 ^ 125) _ _ _ _ _ _ c.loop-command.invariant.goes c.requires.few (omega (arith, c.requires.few_commands))
 
 pub finish_head-requires-clause-some : goal.finish_head-requires-clause-some
-finish_head-requires-clause-some g c = omega (arith, c.loop-command.invariant.goes.ring, c.requires.full)
+finish_head-requires-clause-some g c = omega (arith, c.loop-command.invariant.goes.ring, c.requires.full, c.requires.untouched.machine.ring.least)
 
 pub finish_head-requires-clause-next : goal.finish_head-requires-clause-next
 finish_head-requires-clause-next g c =
     let goes = c.loop-command.invariant.goes in
-    full_ticks c.loop-command.controller.job c.loop-command.controller.state c.loop-command.invariant.running (omega (arith, goes.ring, c.requires.full))
-    (omega (arith, goes.ring, goes.done, c.requires.full, c.requires.left, ap (λ (j : Job). length j.commands) goes.job))
+    full_ticks c.loop-command.controller.job c.loop-command.controller.state c.loop-command.invariant.running (omega (arith, goes.ring, c.requires.full, ap (λ (j : Job). j.machine.ring) goes.job))
+    (omega (arith, goes.ring, goes.done, c.requires.full, c.requires.left, c.requires.untouched.machine.ring.least, ap (λ (j : Job). length j.commands) goes.job))
 
 pub load_next-requires-clause-few : goal.load_next-requires-clause-few
 load_next-requires-clause-few g c =
@@ -30,7 +30,18 @@ load_next-requires-clause-few g c =
     few_behind _ _ _ (2 ^ 125) (2 ^ 126) _ _ _ _ _ _ c.in-Ok.ensures.goes.goes before (omega arith)
 
 pub load_next-requires-clause-room : goal.load_next-requires-clause-room
-load_next-requires-clause-room g c = omega (arith, c.loop-command.invariant.goes.ring, c.in-Ok.ensures.goes.goes.ring, c.requires.full)
+load_next-requires-clause-room g c =
+    let before = c.loop-command.invariant.goes in
+    let head = c.in-Ok.ensures.goes.goes in
+    omega (
+      arith,
+      before.ring,
+      head.ring,
+      c.requires.full,
+      c.requires.untouched.machine.ring.least,
+      ap (λ (j : Job). j.machine.ring) before.job,
+      ap (λ (j : Job). j.machine.ring) head.job,
+    )
 
 pub load_next-requires-clause-left : goal.load_next-requires-clause-left
 load_next-requires-clause-left g c =

@@ -1,5 +1,5 @@
-use Rattle.std.proofs.Common.{ℕ, ap, length, arith, subst, sym, refl, ◌∙◌}
-use Rattle.ngc_behaviour.specs.State.{State}
+use Rattle.std.proofs.Common.{ℕ, ◌^◌, ap, length, arith, subst, sym, refl, ◌∙◌}
+use Rattle.ngc_behaviour.specs.State.{Job, State}
 use Rattle.ngc_run_log.specs.Parts.{IsTimedThrough}
 use Rattle.ngc_run_log.specs.declared.trace.Trace.TheVariants.{Untold}
 use Rattle.ngc_run_log.proofs.Comes.{AreNew, new_recorder, none_counted}
@@ -13,13 +13,13 @@ time_parts-requires-clause-few g c =
     let new : AreNew Untold controller.job controller.state c.new-recorder.result =
     new_recorder Untold controller.job controller.state c.new-recorder.result _ c.requires.opens c.position.ensures c.new-recorder.ensures.report
     c.new-recorder.ensures.trace refl c.new-recorder.ensures.chunk in
-    few_behind _ _ _ 0 16 _ _ _ _ _ _ c.load_first.ensures.goes (none_counted Untold controller.job controller.state c.new-recorder.result 0 new)
-    (omega (arith, c.min-first.ensures))
+    few_behind _ _ _ 0 (2 ^ 10) _ _ _ _ _ _ c.load_first.ensures.goes (none_counted Untold controller.job controller.state c.new-recorder.result 0 new)
+    (omega (arith, c.min-first.ensures, c.ring.ensures, c.requires.machine.ring.greatest))
 
 pub time_parts-requires-clause-full : goal.time_parts-requires-clause-full
 time_parts-requires-clause-full g c = λ more.
     let none = ap (λ (s : State). length s.ring) c.requires.opens in
-    omega (arith, more, none, c.load_first.ensures.goes.ring, c.min-first.ensures)
+    omega (arith, more, none, c.load_first.ensures.goes.ring, c.min-first.ensures, c.ring.ensures, ap (λ (j : Job). j.machine.ring) c.load_first.ensures.goes.job)
 
 pub returns-in-Ok-clause-times : goal.returns-in-Ok-clause-times
 returns-in-Ok-clause-times g c =

@@ -38,7 +38,7 @@ finish_part-requires-clause-few g c =
     let inv = c.loop-done.invariant in
     let within = inv.within in
     let counted = inv.count in
-    few_behind _ _ _ 16 (2 ^ 123) _ _ _ _ _ _ inv.goes.goes c.requires.few (omega (arith, within, counted, c.requires.few_commands))
+    few_behind _ _ _ (2 ^ 10) (2 ^ 123) _ _ _ _ _ _ inv.goes.goes c.requires.few (omega (arith, within, counted, c.requires.few_commands))
 
 pub loop-done-smaller : goal.loop-done-smaller
 loop-done-smaller g c =
@@ -80,7 +80,7 @@ loop-done-preserved g c =
     record {
       goes = subst P (sym c.in-Ok.ensures.items)
           (part_more _ _ _ _ done _ left _ k _ _ _ _ _ _ _ inv.goes part (omega (arith, before, now)) next.is_length next.at (omega (arith, test, counted))
-          (λ all. more_than_left left (length c.loop-done.controller.state.ring) k inv.full some (omega (arith, all, moved, rest, lengths, at)))
+          (λ all. more_than_left c.args.controller.now.job.machine.ring left (length c.loop-done.controller.state.ring) k (omega (arith, c.requires.untouched.machine.ring.least)) inv.full some (omega (arith, all, moved, rest, lengths, at)))
           (omega arith) (omega (arith, later, fewer)) refl);
       fewer = omega (arith, later, fewer);
       within = omega (arith, within, counted);

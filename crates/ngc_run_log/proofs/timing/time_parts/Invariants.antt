@@ -1,5 +1,5 @@
 use Rattle.std.proofs.Common.{◌≡◌, ◌+◌, ◌-◌, ◌*◌, ◌^◌, ◌≤◌, ◌<◌, length, false}
-use Rattle.ngc_behaviour.specs.State.{RING, loaded}
+use Rattle.ngc_behaviour.specs.State.{loaded}
 use Rattle.ngc_run_log.specs.Parts.{GoesParted}
 use Rattle.ngc_run_log.proofs.timing.time_parts.Given as goal
 
@@ -9,8 +9,8 @@ invariant-loop-done g l = record {
   fewer : l.left ≤ l.unloaded;
   within : l.done ≤ l.count;
   count : l.count ≡ length l.initial.controller.job.commands;
-  room : length l.controller.state.ring ≤ RING;
-  full : 0 < l.left → length l.controller.state.ring ≡ RING;
+  room : length l.controller.state.ring ≤ l.initial.controller.job.machine.ring;
+  full : 0 < l.left → length l.controller.state.ring ≡ l.initial.controller.job.machine.ring;
   rest : loaded l.controller.state + l.left ≡ length l.controller.job.commands;
   running : l.controller.state.stopped ≡ false;
 }
