@@ -97,6 +97,13 @@ FitsCuts = Fits (codes "cuts") (IsUnsignedIn 1 65535)
 abbrev pub FitsFormat : Text → Text → Type 0
 FitsFormat = Fits (codes "format") (IsUnsignedIn 1 2)
 
+-- and one of `--inverted` is 0 to 255
+abbrev pub FitsMask : Text → Text → Type 0
+FitsMask = Fits (codes "inverted") (IsUnsignedIn 0 255)
+
+pub mask_fits : (text : Text) → value_kinds false (Unsigned 0 255) text ≡ [] → IsUnsignedIn 0 255 text
+mask_fits text none = accepts-Accepts false (Unsigned 0 255) text (accepted _ _ none)
+
 pub format_fits : (text : Text) → value_kinds false (Unsigned 1 2) text ≡ [] → IsUnsignedIn 1 2 text
 format_fits text none = accepts-Accepts false (Unsigned 1 2) text (accepted _ _ none)
 

@@ -21,7 +21,7 @@ use Rattle.ngc_command_line.specs.CommandLine.{certify_words, check_words, draw_
 use Rattle.ngc_command_line.specs.CommandLine.{run_words, show_words}
 use Rattle.ngc_command_line.specs.Meant.{AreCommands, AreCuts, AreCutsInRange, AreOptions, AsksForCertify, AsksForCheck, AsksForDraw, AsksForHelp, AsksForList}
 use Rattle.ngc_command_line.specs.Meant.{AsksForAdapt, AsksForMachine, acceleration_in, feed_in, grbl_in, steps_in, travel_in}
-use Rattle.ngc_command_line.specs.Meant.{AsksForReport, AsksForRun, AsksForShow, IsFormat, IsTaken, IsTool, IsToolInRange, is_set}
+use Rattle.ngc_command_line.specs.Meant.{AsksForReport, AsksForRun, AsksForShow, IsFormat, IsMask, IsTaken, IsTool, IsToolInRange, is_set}
 use Rattle.ngc_command_line.specs.declared.options.Format.{Format}
 use Rattle.ngc_command_line.specs.declared.options.Format.TheVariants.{One, Two}
 use Rattle.ngc_command_line.specs.declared.options.Options.{Options}
@@ -160,32 +160,54 @@ check_read words machine tools certificate program options spelled are =
     check_asked machine tools certificate program _ options (check_spells machine tools certificate program).1 (subst Are spelled are)
 
 -- the values of a run that were found are these
-abbrev FindsRun : Recording → Text → Text → Text → Option Text → Option Text → Bool → Option (Text × List Row) → Type 0
-FindsRun recording machine tools certificate events program delete None = ⊥
-FindsRun recording machine tools certificate events program delete (Some found) = (found.0 ≡ run_name recording)
+abbrev FindsRun : Recording → Text → Text → Text → Option Text → Option Text → Bool → Option Text → Option (Text × List Row) → Type 0
+FindsRun recording machine tools certificate events program delete output None = ⊥
+FindsRun recording machine tools certificate events program delete output (Some found) = (found.0 ≡ run_name recording)
     × (first_of (codes "machine") found.1 ≡ Some machine) × (first_of (codes "tools") found.1 ≡ Some tools)
     × (first_of (codes "certificate") found.1 ≡ Some certificate) × (first_of (codes "events") found.1 ≡ events)
     × (first_of (codes "program") found.1 ≡ program) × (is_set (codes "delete") found.1 ≡ delete)
+    × (first_of (codes "output") found.1 ≡ output) × (first_of (codes "inverted") found.1 ≡ None)
 
-run_spells : (recording : Recording) (machine tools certificate : Text) (events program : Option Text) (delete : Bool)
-    → Spells (run_words recording machine tools certificate events program delete) (FindsRun recording machine tools certificate events program delete)
+run_spells : (recording : Recording) (machine tools certificate : Text) (events program : Option Text) (delete : Bool) (output : Option Text)
+    → Spells (run_words recording machine tools certificate events program delete output) (FindsRun recording machine tools certificate events program delete output)
 unfolding clap_on_literals
-run_spells Log machine tools certificate None None false = (refl, (refl, refl, refl, refl, refl, refl, refl))
-run_spells Log machine tools certificate None None true = (refl, (refl, refl, refl, refl, refl, refl, refl))
-run_spells Log machine tools certificate None (Some program) false = (refl, (refl, refl, refl, refl, refl, refl, refl))
-run_spells Log machine tools certificate None (Some program) true = (refl, (refl, refl, refl, refl, refl, refl, refl))
-run_spells Log machine tools certificate (Some events) None false = (refl, (refl, refl, refl, refl, refl, refl, refl))
-run_spells Log machine tools certificate (Some events) None true = (refl, (refl, refl, refl, refl, refl, refl, refl))
-run_spells Log machine tools certificate (Some events) (Some program) false = (refl, (refl, refl, refl, refl, refl, refl, refl))
-run_spells Log machine tools certificate (Some events) (Some program) true = (refl, (refl, refl, refl, refl, refl, refl, refl))
-run_spells Pulses machine tools certificate None None false = (refl, (refl, refl, refl, refl, refl, refl, refl))
-run_spells Pulses machine tools certificate None None true = (refl, (refl, refl, refl, refl, refl, refl, refl))
-run_spells Pulses machine tools certificate None (Some program) false = (refl, (refl, refl, refl, refl, refl, refl, refl))
-run_spells Pulses machine tools certificate None (Some program) true = (refl, (refl, refl, refl, refl, refl, refl, refl))
-run_spells Pulses machine tools certificate (Some events) None false = (refl, (refl, refl, refl, refl, refl, refl, refl))
-run_spells Pulses machine tools certificate (Some events) None true = (refl, (refl, refl, refl, refl, refl, refl, refl))
-run_spells Pulses machine tools certificate (Some events) (Some program) false = (refl, (refl, refl, refl, refl, refl, refl, refl))
-run_spells Pulses machine tools certificate (Some events) (Some program) true = (refl, (refl, refl, refl, refl, refl, refl, refl))
+run_spells Log machine tools certificate None None false None = (refl, (refl, refl, refl, refl, refl, refl, refl, refl, refl))
+run_spells Log machine tools certificate None None false (Some output) = (refl, (refl, refl, refl, refl, refl, refl, refl, refl, refl))
+run_spells Log machine tools certificate None None true None = (refl, (refl, refl, refl, refl, refl, refl, refl, refl, refl))
+run_spells Log machine tools certificate None None true (Some output) = (refl, (refl, refl, refl, refl, refl, refl, refl, refl, refl))
+run_spells Log machine tools certificate None (Some program) false None = (refl, (refl, refl, refl, refl, refl, refl, refl, refl, refl))
+run_spells Log machine tools certificate None (Some program) false (Some output) = (refl, (refl, refl, refl, refl, refl, refl, refl, refl, refl))
+run_spells Log machine tools certificate None (Some program) true None = (refl, (refl, refl, refl, refl, refl, refl, refl, refl, refl))
+run_spells Log machine tools certificate None (Some program) true (Some output) = (refl, (refl, refl, refl, refl, refl, refl, refl, refl, refl))
+run_spells Log machine tools certificate (Some events) None false None = (refl, (refl, refl, refl, refl, refl, refl, refl, refl, refl))
+run_spells Log machine tools certificate (Some events) None false (Some output) = (refl, (refl, refl, refl, refl, refl, refl, refl, refl, refl))
+run_spells Log machine tools certificate (Some events) None true None = (refl, (refl, refl, refl, refl, refl, refl, refl, refl, refl))
+run_spells Log machine tools certificate (Some events) None true (Some output) = (refl, (refl, refl, refl, refl, refl, refl, refl, refl, refl))
+run_spells Log machine tools certificate (Some events) (Some program) false None = (refl, (refl, refl, refl, refl, refl, refl, refl, refl, refl))
+run_spells Log machine tools certificate (Some events) (Some program) false (Some output) = (refl, (refl, refl, refl, refl, refl, refl, refl, refl, refl))
+run_spells Log machine tools certificate (Some events) (Some program) true None = (refl, (refl, refl, refl, refl, refl, refl, refl, refl, refl))
+run_spells Log machine tools certificate (Some events) (Some program) true (Some output) = (refl, (refl, refl, refl, refl, refl, refl, refl, refl, refl))
+run_spells Pulses machine tools certificate None None false None = (refl, (refl, refl, refl, refl, refl, refl, refl, refl, refl))
+run_spells Pulses machine tools certificate None None false (Some output) = (refl, (refl, refl, refl, refl, refl, refl, refl, refl, refl))
+run_spells Pulses machine tools certificate None None true None = (refl, (refl, refl, refl, refl, refl, refl, refl, refl, refl))
+run_spells Pulses machine tools certificate None None true (Some output) = (refl, (refl, refl, refl, refl, refl, refl, refl, refl, refl))
+run_spells Pulses machine tools certificate None (Some program) false None = (refl, (refl, refl, refl, refl, refl, refl, refl, refl, refl))
+run_spells Pulses machine tools certificate None (Some program) false (Some output) = (refl, (refl, refl, refl, refl, refl, refl, refl, refl, refl))
+run_spells Pulses machine tools certificate None (Some program) true None = (refl, (refl, refl, refl, refl, refl, refl, refl, refl, refl))
+run_spells Pulses machine tools certificate None (Some program) true (Some output) = (refl, (refl, refl, refl, refl, refl, refl, refl, refl, refl))
+run_spells Pulses machine tools certificate (Some events) None false None = (refl, (refl, refl, refl, refl, refl, refl, refl, refl, refl))
+run_spells Pulses machine tools certificate (Some events) None false (Some output) = (refl, (refl, refl, refl, refl, refl, refl, refl, refl, refl))
+run_spells Pulses machine tools certificate (Some events) None true None = (refl, (refl, refl, refl, refl, refl, refl, refl, refl, refl))
+run_spells Pulses machine tools certificate (Some events) None true (Some output) = (refl, (refl, refl, refl, refl, refl, refl, refl, refl, refl))
+run_spells Pulses machine tools certificate (Some events) (Some program) false None = (refl, (refl, refl, refl, refl, refl, refl, refl, refl, refl))
+run_spells Pulses machine tools certificate (Some events) (Some program) false (Some output) = (refl, (refl, refl, refl, refl, refl, refl, refl, refl, refl))
+run_spells Pulses machine tools certificate (Some events) (Some program) true None = (refl, (refl, refl, refl, refl, refl, refl, refl, refl, refl))
+run_spells Pulses machine tools certificate (Some events) (Some program) true (Some output) = (refl, (refl, refl, refl, refl, refl, refl, refl, refl, refl))
+
+-- no bits are turned over
+no_mask : (found : Option Text) (mask : ℕ) → IsMask found mask → found ≡ None → mask ≡ 0
+no_mask None mask is none = is
+no_mask (Some text) mask is none = let h : Some text ≡ None = none in cc
 
 -- what writes the one isn't called as what writes the other
 same_recording : (a b : Recording) → run_name a ≡ run_name b → a ≡ b
@@ -194,12 +216,12 @@ same_recording Log Pulses same = other_name (codes "run") (codes "pulses") same 
 same_recording Pulses Log same = other_name (codes "pulses") (codes "run") same (λ lengths. omega (arith, lengths))
 same_recording Pulses Pulses same = refl
 
-run_asked : (recording : Recording) (machine tools certificate : Text) (events program : Option Text) (delete : Bool) (found : Option (Text × List Row))
+run_asked : (recording : Recording) (machine tools certificate : Text) (events program : Option Text) (delete : Bool) (output : Option Text) (found : Option (Text × List Row))
     (options : Options)
-    → FindsRun recording machine tools certificate events program delete found → AreOptions found options
-    → AsksForRun recording machine tools certificate events program delete options
-run_asked recording machine tools certificate events program delete None options finds are = absurd finds
-run_asked recording machine tools certificate (Some events) program delete (Some found) (ToRun run) finds are = (
+    → FindsRun recording machine tools certificate events program delete output found → AreOptions found options
+    → AsksForRun recording machine tools certificate events program delete output options
+run_asked recording machine tools certificate events program delete output None options finds are = absurd finds
+run_asked recording machine tools certificate (Some events) program delete output (Some found) (ToRun run) finds are = (
   same_recording _ _ (sym are.0 ∙ finds.0),
   same_text _ _ _ are.1.machine finds.1,
   same_text _ _ _ are.1.tools finds.2,
@@ -207,52 +229,56 @@ run_asked recording machine tools certificate (Some events) program delete (Some
   same_text _ _ _ are.1.events finds.4,
   are.1.program ∙ finds.5,
   are.1.delete ∙ finds.6,
+  are.1.output ∙ finds.7,
+  no_mask _ run.inverted are.1.inverted finds.8,
 )
-run_asked recording machine tools certificate None program delete (Some found) (ToRun run) finds are = let h : Some run.events.now ≡ None =
+run_asked recording machine tools certificate None program delete output (Some found) (ToRun run) finds are = let h : Some run.events.now ≡ None =
     are.1.events ∙ finds.4 in cc
-run_asked recording machine tools certificate (Some events) program delete (Some found) (ToRunThrough run) finds are = let h : None ≡ Some events =
+run_asked recording machine tools certificate (Some events) program delete output (Some found) (ToRunThrough run) finds are = let h : None ≡ Some events =
     are.1.events ∙ finds.4 in cc
-run_asked recording machine tools certificate None program delete (Some found) (ToRunThrough run) finds are = (
+run_asked recording machine tools certificate None program delete output (Some found) (ToRunThrough run) finds are = (
   same_recording _ _ (sym are.0 ∙ finds.0),
   same_text _ _ _ are.1.machine finds.1,
   same_text _ _ _ are.1.tools finds.2,
   same_text _ _ _ are.1.certificate finds.3,
   are.1.program ∙ finds.5,
   are.1.delete ∙ finds.6,
+  are.1.output ∙ finds.7,
+  no_mask _ run.inverted are.1.inverted finds.8,
 )
-run_asked recording machine tools certificate events program delete (Some found) (ToList list) finds are =
+run_asked recording machine tools certificate events program delete output (Some found) (ToList list) finds are =
     no_run (codes "list") recording (sym (are.0) ∙ finds.0) (λ three. omega (arith, three)) (λ six. omega (arith, six))
-run_asked recording machine tools certificate events program delete (Some found) (ToCertify certify) finds are =
+run_asked recording machine tools certificate events program delete output (Some found) (ToCertify certify) finds are =
     no_run (codes "certify") recording (sym (are.0) ∙ finds.0) (λ three. omega (arith, three)) (λ six. omega (arith, six))
-run_asked recording machine tools certificate events program delete (Some found) (ToCheck check) finds are =
+run_asked recording machine tools certificate events program delete output (Some found) (ToCheck check) finds are =
     no_run (codes "check") recording (sym (are.0) ∙ finds.0) (λ three. omega (arith, three)) (λ six. omega (arith, six))
-run_asked recording machine tools certificate events program delete (Some found) (ToDraw draw) finds are =
+run_asked recording machine tools certificate events program delete output (Some found) (ToDraw draw) finds are =
     no_run (codes "draw") recording (sym (are.0) ∙ finds.0) (λ three. omega (arith, three)) (λ six. omega (arith, six))
-run_asked recording machine tools certificate events program delete (Some found) (ToShow show) finds are =
+run_asked recording machine tools certificate events program delete output (Some found) (ToShow show) finds are =
     no_run (codes "show") recording (sym (are.0) ∙ finds.0) (λ three. omega (arith, three)) (λ six. omega (arith, six))
-run_asked recording machine tools certificate events program delete (Some found) (ToReport report) finds are = report_is_no_run recording (sym are.0 ∙ finds.0)
-run_asked recording machine tools certificate events program delete (Some found) (ToAdapt adapt) finds are =
+run_asked recording machine tools certificate events program delete output (Some found) (ToReport report) finds are = report_is_no_run recording (sym are.0 ∙ finds.0)
+run_asked recording machine tools certificate events program delete output (Some found) (ToAdapt adapt) finds are =
     no_run (codes "adapt") recording (sym (are.0) ∙ finds.0) (λ three. omega (arith, three)) (λ six. omega (arith, six))
-run_asked recording machine tools certificate events program delete (Some found) (ToMachine made) finds are =
+run_asked recording machine tools certificate events program delete output (Some found) (ToMachine made) finds are =
     no_run (codes "machine") recording (sym (are.0) ∙ finds.0) (λ three. omega (arith, three)) (λ six. omega (arith, six))
-run_asked recording machine tools certificate events program delete (Some found) (ToExplain number) finds are =
+run_asked recording machine tools certificate events program delete output (Some found) (ToExplain number) finds are =
     no_run (codes "explain") recording (sym (are.0) ∙ finds.0) (λ three. omega (arith, three)) (λ six. omega (arith, six))
-run_asked recording machine tools certificate events program delete (Some found) (ToHelp command) finds are =
+run_asked recording machine tools certificate events program delete output (Some found) (ToHelp command) finds are =
     no_run (codes "help") recording (sym (are.0) ∙ finds.0) (λ three. omega (arith, three)) (λ six. omega (arith, six))
-run_asked recording machine tools certificate events program delete (Some found) ToVersion finds are =
+run_asked recording machine tools certificate events program delete output (Some found) ToVersion finds are =
     no_run (codes "version") recording (sym (are) ∙ finds.0) (λ three. omega (arith, three)) (λ six. omega (arith, six))
 
-pub run_taken : (words : List Text) (recording : Recording) (machine tools certificate : Text) (events program : Option Text) (delete : Bool)
-    → words ≡ run_words recording machine tools certificate events program delete → IsTaken words
-run_taken words recording machine tools certificate events program delete spelled =
-    subst IsTaken (sym spelled) (run_spells recording machine tools certificate events program delete).0
+pub run_taken : (words : List Text) (recording : Recording) (machine tools certificate : Text) (events program : Option Text) (delete : Bool) (output : Option Text)
+    → words ≡ run_words recording machine tools certificate events program delete output → IsTaken words
+run_taken words recording machine tools certificate events program delete output spelled =
+    subst IsTaken (sym spelled) (run_spells recording machine tools certificate events program delete output).0
 
-pub run_read : (words : List Text) (recording : Recording) (machine tools certificate : Text) (events program : Option Text) (delete : Bool) (options : Options)
-    → words ≡ run_words recording machine tools certificate events program delete → AreOptions (subcommand_of ngc_app words) options
-    → AsksForRun recording machine tools certificate events program delete options
-run_read words recording machine tools certificate events program delete options spelled are =
+pub run_read : (words : List Text) (recording : Recording) (machine tools certificate : Text) (events program : Option Text) (delete : Bool) (output : Option Text) (options : Options)
+    → words ≡ run_words recording machine tools certificate events program delete output → AreOptions (subcommand_of ngc_app words) options
+    → AsksForRun recording machine tools certificate events program delete output options
+run_read words recording machine tools certificate events program delete output options spelled are =
     let Are : List Text → Type 0 = λ ws. AreOptions (subcommand_of ngc_app ws) options in
-    run_asked recording machine tools certificate events program delete _ options (run_spells recording machine tools certificate events program delete).1
+    run_asked recording machine tools certificate events program delete output _ options (run_spells recording machine tools certificate events program delete output).1
     (subst Are spelled are)
 
 -- the values of `draw` that were found are these

@@ -18,8 +18,8 @@ use Rattle.ngc_command_line.specs.Meant.{IsTaken, IsWhole}
 use Rattle.ngc_command_line.specs.declared.options.Recording.{Recording}
 use Rattle.ngc_command_line.specs.declared.options.Recording.TheVariants.{Log, Pulses}
 use Rattle.ngc_command_line.proofs.Filled.{AreSound}
-use Rattle.ngc_command_line.proofs.Rules.{Fits, FitsCuts, FitsFormat, FitsNumber, FitsTool, below_passes, cuts_fit, flag_is_sound, format_fits, found_fits}
-use Rattle.ngc_command_line.proofs.Rules.{given_has_value, help_is_sound, is_true, level_is_filled, neither_true, number_fits, set_is_sound, tool_fits}
+use Rattle.ngc_command_line.proofs.Rules.{Fits, FitsCuts, FitsFormat, FitsMask, FitsNumber, FitsTool, below_passes, cuts_fit, flag_is_sound, format_fits, found_fits}
+use Rattle.ngc_command_line.proofs.Rules.{given_has_value, help_is_sound, is_true, level_is_filled, mask_fits, neither_true, number_fits, set_is_sound, tool_fits}
 
 -- what was found are the rows of one of these, at words in which it finds no fault
 abbrev IsOneOf : List Shape → Text × List Row → Type 0
@@ -104,6 +104,9 @@ certify_format_sound =
     let format = set_is_sound FitsFormat _ refl refl refl (λ v none same. format_fits v none) in
     (machine, (tools, (program, (cuts, (format, (help_is_sound FitsFormat _ refl refl, tt))))))
 
+no_mask : (id text : Text) → bytes_eq id (codes "inverted") ≡ false → FitsMask id text
+no_mask = other_fits (codes "inverted") (IsUnsignedIn 0 255)
+
 check_sound : AreSound FitsCuts check_shape.rules
 check_sound =
     let machine = set_is_sound FitsCuts _ refl refl refl (λ v none. no_cuts (codes "machine") v refl) in
@@ -112,15 +115,17 @@ check_sound =
     let program = set_is_sound FitsCuts _ refl refl refl (λ v none. no_cuts (codes "program") v refl) in
     (machine, (tools, (certificate, (program, (help_is_sound FitsCuts _ refl refl, tt)))))
 
-run_sound : AreSound FitsCuts run_shape.rules
+run_sound : AreSound FitsMask run_shape.rules
 run_sound =
-    let machine = set_is_sound FitsCuts _ refl refl refl (λ v none. no_cuts (codes "machine") v refl) in
-    let tools = set_is_sound FitsCuts _ refl refl refl (λ v none. no_cuts (codes "tools") v refl) in
-    let certificate = set_is_sound FitsCuts _ refl refl refl (λ v none. no_cuts (codes "certificate") v refl) in
-    let events = set_is_sound FitsCuts _ refl refl refl (λ v none. no_cuts (codes "events") v refl) in
-    let program = set_is_sound FitsCuts _ refl refl refl (λ v none. no_cuts (codes "program") v refl) in
-    let delete = flag_is_sound FitsCuts _ (codes "true") (codes "false") refl refl refl (λ v. no_cuts (codes "delete") v refl) in
-    (machine, (tools, (certificate, (events, (program, (delete, (help_is_sound FitsCuts _ refl refl, tt)))))))
+    let machine = set_is_sound FitsMask _ refl refl refl (λ v none. no_mask (codes "machine") v refl) in
+    let tools = set_is_sound FitsMask _ refl refl refl (λ v none. no_mask (codes "tools") v refl) in
+    let certificate = set_is_sound FitsMask _ refl refl refl (λ v none. no_mask (codes "certificate") v refl) in
+    let events = set_is_sound FitsMask _ refl refl refl (λ v none. no_mask (codes "events") v refl) in
+    let program = set_is_sound FitsMask _ refl refl refl (λ v none. no_mask (codes "program") v refl) in
+    let delete = flag_is_sound FitsMask _ (codes "true") (codes "false") refl refl refl (λ v. no_mask (codes "delete") v refl) in
+    let output = set_is_sound FitsMask _ refl refl refl (λ v none. no_mask (codes "output") v refl) in
+    let inverted = set_is_sound FitsMask _ refl refl refl (λ v none same. mask_fits v none) in
+    (machine, (tools, (certificate, (events, (program, (delete, (output, (inverted, (help_is_sound FitsMask _ refl refl, tt)))))))))
 
 certify_values : (words : List Text) → level_fault certify_shape [] nothing_held words false [] ≡ [] →
     HasCertifyValues (rows_after certify_shape.rules [] words)
@@ -150,25 +155,27 @@ check_values words none =
 run_values : (words : List Text) → level_fault run_shape [] nothing_held words false [] ≡ [] → HasRunValues (rows_after run_shape.rules [] words)
 run_values words none =
     let rows = rows_after run_shape.rules [] words in
-    let (filled, required) = level_is_filled FitsCuts run_shape run_sound words none in
+    let (filled, required) = level_is_filled FitsMask run_shape run_sound words none in
     let (machine, others) = neither_true _ _ required in
     let (tools, more) = neither_true _ _ others in
     let (certificate, rest) = neither_true _ _ more in (
-      given_has_value FitsCuts (codes "machine") rows filled (is_true _ machine),
-      given_has_value FitsCuts (codes "tools") rows filled (is_true _ tools),
-      given_has_value FitsCuts (codes "certificate") rows filled (is_true _ certificate),
+      given_has_value FitsMask (codes "machine") rows filled (is_true _ machine),
+      given_has_value FitsMask (codes "tools") rows filled (is_true _ tools),
+      given_has_value FitsMask (codes "certificate") rows filled (is_true _ certificate),
+      found_fits (codes "inverted") (IsUnsignedIn 0 255) rows filled,
     )
 
 pulses_values : (words : List Text) → level_fault pulses_shape [] nothing_held words false [] ≡ [] → HasRunValues (rows_after pulses_shape.rules [] words)
 pulses_values words none =
     let rows = rows_after pulses_shape.rules [] words in
-    let (filled, required) = level_is_filled FitsCuts pulses_shape run_sound words none in
+    let (filled, required) = level_is_filled FitsMask pulses_shape run_sound words none in
     let (machine, others) = neither_true _ _ required in
     let (tools, more) = neither_true _ _ others in
     let (certificate, rest) = neither_true _ _ more in (
-      given_has_value FitsCuts (codes "machine") rows filled (is_true _ machine),
-      given_has_value FitsCuts (codes "tools") rows filled (is_true _ tools),
-      given_has_value FitsCuts (codes "certificate") rows filled (is_true _ certificate),
+      given_has_value FitsMask (codes "machine") rows filled (is_true _ machine),
+      given_has_value FitsMask (codes "tools") rows filled (is_true _ tools),
+      given_has_value FitsMask (codes "certificate") rows filled (is_true _ certificate),
+      found_fits (codes "inverted") (IsUnsignedIn 0 255) rows filled,
     )
 
 draw_sound : AreSound FitsCuts draw_shape.rules

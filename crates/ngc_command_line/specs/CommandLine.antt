@@ -26,6 +26,10 @@ cuts_option = record (file_option (codes "cuts")) { parser = Some (Unsigned 1 65
 abbrev pub format_option : Rule
 format_option = record (file_option (codes "format")) { parser = Some (Unsigned 1 2) }
 
+-- `--inverted MASK`, with a number from 0 to 255
+abbrev pub inverted_option : Rule
+inverted_option = record (file_option (codes "inverted")) { parser = Some (Unsigned 0 255) }
+
 -- `--NAME`
 abbrev pub flag : Text → Rule
 flag name = record (new_rule name) { long = Some name; action = Some SetTrue }
@@ -49,11 +53,13 @@ check_app = fold with_rule (new_app (codes "check"))
     ∷ required_file (codes "certificate") ∷ file_option (codes "program") ∷ [])
 
 -- `--machine FILE --tools FILE --certificate FILE [--events FILE] [--program FILE] [--delete]`
+-- and `[--output FORM] [--inverted MASK]`
 abbrev pub with_run_rules : App → App
 with_run_rules app = fold with_rule app
     (required_file (codes "machine") ∷ required_file (codes "tools")
     ∷ required_file (codes "certificate") ∷ file_option (codes "events")
-    ∷ file_option (codes "program") ∷ flag (codes "delete") ∷ [])
+    ∷ file_option (codes "program") ∷ flag (codes "delete") ∷ file_option (codes "output")
+    ∷ inverted_option ∷ [])
 
 -- what runs a program is called by what it writes
 abbrev pub run_name : Recording → Text
@@ -249,9 +255,10 @@ machine_words source corner ticks frame = codes "machine"
     ++ file_words (codes "--ticks=") ticks ++ file_words (codes "--frame=") frame)
 
 -- the words of `ngc run` or `ngc pulses` with these options, in one spelling
-abbrev pub run_words : Recording → Text → Text → Text → Option Text → Option Text → Bool → List Text
-run_words recording machine tools certificate events program delete = run_name recording
+abbrev pub run_words : Recording → Text → Text → Text → Option Text → Option Text → Bool →
+    Option Text → List Text
+run_words recording machine tools certificate events program delete output = run_name recording
     ∷ (codes "--machine=" ++ machine) ∷ (codes "--tools=" ++ tools)
     ∷ (codes "--certificate=" ++ certificate)
     ∷ (file_words (codes "--events=") events ++ file_words (codes "--program=") program
-    ++ flag_words (codes "--delete") delete)
+    ++ flag_words (codes "--delete") delete ++ file_words (codes "--output=") output)

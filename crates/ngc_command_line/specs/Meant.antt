@@ -71,6 +71,13 @@ IsFormat None format = format ≡ One
 IsFormat (Some text) format = IsNumeral 10 (without_leading_plus text)
     × (format_number format ≡ digits_value 10 (without_leading_plus text))
 
+-- the bits that are turned over: none where no text is given, else those of the number whose decimal
+-- the text is; a plus sign may stand before it
+abbrev pub IsMask : Option Text → ℕ → Type 0
+IsMask None mask = mask ≡ 0
+IsMask (Some text) mask = IsNumeral 10 (without_leading_plus text)
+    × (mask ≡ digits_value 10 (without_leading_plus text)) × (mask ≤ 255)
+
 -- each option of `certify` by the first value that was found under its own name
 pub record AreCertifyOptions (rows : List Row) (options : CertifyOptions) : Type 0 where
   pub machine : Some options.machine.now ≡ first_of (codes "machine") rows
@@ -100,6 +107,8 @@ pub record AreRunOptions (rows : List Row) (options : RunOptions) : Type 0 where
   pub events : Some options.events.now ≡ first_of (codes "events") rows
   pub program : option_map (λ name. name.now) options.program ≡ first_of (codes "program") rows
   pub delete : options.delete ≡ is_set (codes "delete") rows
+  pub output : option_map (λ name. name.now) options.output ≡ first_of (codes "output") rows
+  pub inverted : IsMask (first_of (codes "inverted") rows) options.inverted
 
 -- and of a run without events
 pub record AreRunThroughOptions (rows : List Row) (options : RunThroughOptions) : Type 0 where
@@ -109,6 +118,8 @@ pub record AreRunThroughOptions (rows : List Row) (options : RunThroughOptions) 
   pub events : None ≡ first_of (codes "events") rows
   pub program : option_map (λ name. name.now) options.program ≡ first_of (codes "program") rows
   pub delete : options.delete ≡ is_set (codes "delete") rows
+  pub output : option_map (λ name. name.now) options.output ≡ first_of (codes "output") rows
+  pub inverted : IsMask (first_of (codes "inverted") rows) options.inverted
 
 -- the options are those of a run that writes this, with events or without
 abbrev pub AreRunsOptions : Recording → List Row → Options → Type 0
@@ -194,6 +205,7 @@ HasCheckValues rows = HasValue (codes "machine") rows × HasValue (codes "tools"
 abbrev pub HasRunValues : List Row → Type 0
 HasRunValues rows = HasValue (codes "machine") rows × HasValue (codes "tools") rows
     × HasValue (codes "certificate") rows
+    × IfSome (first_of (codes "inverted") rows) (IsUnsignedIn 0 255)
 
 -- what is found for `draw` where the words are taken
 abbrev pub HasDrawValues : List Row → Type 0
@@ -283,18 +295,20 @@ AsksForCheck machine tools certificate program (ToCheck check) =
     × (option_map (λ name. name.now) check.program ≡ program)
 AsksForCheck machine tools certificate program other = ⊥
 
--- a run that writes this is asked for, with these options
+-- a run that writes this is asked for, with these options, and no bits are turned over
 abbrev pub AsksForRun : Recording → Text → Text → Text → Option Text → Option Text → Bool →
-    Options → Type 0
-AsksForRun recording machine tools certificate (Some events) program delete (ToRun run) =
+    Option Text → Options → Type 0
+AsksForRun recording machine tools certificate (Some events) program delete output (ToRun run) =
     (run.recording ≡ recording) × (run.machine.now ≡ machine) × (run.tools.now ≡ tools)
     × (run.certificate.now ≡ certificate) × (run.events.now ≡ events)
     × (option_map (λ name. name.now) run.program ≡ program) × (run.delete ≡ delete)
-AsksForRun recording machine tools certificate None program delete (ToRunThrough run) =
+    × (option_map (λ name. name.now) run.output ≡ output) × (run.inverted ≡ 0)
+AsksForRun recording machine tools certificate None program delete output (ToRunThrough run) =
     (run.recording ≡ recording) × (run.machine.now ≡ machine) × (run.tools.now ≡ tools)
     × (run.certificate.now ≡ certificate)
     × (option_map (λ name. name.now) run.program ≡ program) × (run.delete ≡ delete)
-AsksForRun recording machine tools certificate events program delete other = ⊥
+    × (option_map (λ name. name.now) run.output ≡ output) × (run.inverted ≡ 0)
+AsksForRun recording machine tools certificate events program delete output other = ⊥
 
 -- `draw` is asked for, with these options
 abbrev pub AsksForDraw : Text → Text → Option Text → Option Text → Option Text → Bool →

@@ -172,14 +172,15 @@ pub fn read_options<'a>(alloc: Global, words: &'a [&'a str]) -> Result<Options<'
         → texts words.entry.now ≡ check_words machine tools certificate program
         → MatchResult result (AsksForCheck machine tools certificate program)
         (λ fault. fault ≡ UsageFault.Memory) }
-    // `run --machine=FILE --tools=FILE --certificate=FILE --events=FILE --program=FILE --delete` is
-    // read as it is spelled, where the last three may be left out, and so is `pulses` with the
-    // same.
+    // `run --machine=FILE --tools=FILE --certificate=FILE --events=FILE --program=FILE --delete
+    // --output=FORM` is read as it is spelled, where the last four may be left out, and so is
+    // `pulses` with the same.
     ensures spelled_run { (recording : Recording) (machine tools certificate : Text)
-        (events program : Option Text) (delete : Bool)
+        (events program : Option Text) (delete : Bool) (output : Option Text)
         → texts words.entry.now
-        ≡ run_words recording machine tools certificate events program delete
-        → MatchResult result (AsksForRun recording machine tools certificate events program delete)
+        ≡ run_words recording machine tools certificate events program delete output
+        → MatchResult result
+        (AsksForRun recording machine tools certificate events program delete output)
         (λ fault. fault ≡ UsageFault.Memory) }
     // `draw --machine=FILE --tools=FILE --certificate=FILE --program=FILE --view=VIEW --delete` is
     // read as it is spelled, where the last four may be left out.

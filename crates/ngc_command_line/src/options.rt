@@ -112,6 +112,11 @@ pub struct RunOptions<'a> {
     pub program: Option<&'a str>,
     /// Whether block delete is on, so that lines that begin with `/` are left out.
     pub delete: bool,
+    /// The name of the form: `samples`, or `log` of the log and `vcd` of the pulses, and else none
+    /// has it. With none given it is not samples.
+    pub output: Option<&'a str>,
+    /// The bits that are turned over in each byte of the samples. Where none are given it is 0.
+    pub inverted: u8,
 }
 
 /// The options of `ngc run` and `ngc pulses` without events.
@@ -129,6 +134,11 @@ pub struct RunThroughOptions<'a> {
     pub program: Option<&'a str>,
     /// Whether block delete is on, so that lines that begin with `/` are left out.
     pub delete: bool,
+    /// The name of the form: `samples`, or `log` of the log and `vcd` of the pulses, and else none
+    /// has it. With none given it is not samples.
+    pub output: Option<&'a str>,
+    /// The bits that are turned over in each byte of the samples. Where none are given it is 0.
+    pub inverted: u8,
 }
 
 /// The options of `ngc draw`.

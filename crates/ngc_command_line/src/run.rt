@@ -1,7 +1,8 @@
 //! `ngc run` and `ngc pulses`.
 
-ghost use Rattle.clap.specs.Words.{found_of, rows_of};
-ghost use Rattle.ngc_command_line.specs.Meant.{AreRunsOptions, HasRunValues};
+ghost use Rattle.std.specs.Prelude.{IfSome, Some, codes};
+ghost use Rattle.clap.specs.Words.{IsUnsignedIn, first_of, found_of, rows_of};
+ghost use Rattle.ngc_command_line.specs.Meant.{AreRunsOptions, HasRunValues, IsMask};
 
 use crate::arguments::{
     DELETE, PROGRAM, REQUIRED_CERTIFICATE, REQUIRED_MACHINE, REQUIRED_TOOLS, flag_is_set, help_end,
@@ -19,14 +20,29 @@ const EVENTS: Argument<'static> = Argument {
     help: "List of events: what is done at the panel, and when\n[default: run the program through]",
 };
 
-const RUN_ARGUMENTS: &[Argument<'static>] = &[
-    REQUIRED_MACHINE,
-    REQUIRED_TOOLS,
-    REQUIRED_CERTIFICATE,
-    EVENTS,
-    PROGRAM,
-    DELETE,
-];
+const LOG_OUTPUT: Argument<'static> = Argument {
+    name: "output",
+    is_named: true,
+    is_required: false,
+    takes: Takes::Text("FORM"),
+    help: "What to print: log, or samples, which are two bytes\nfor each tick [default: log]",
+};
+
+const PULSES_OUTPUT: Argument<'static> = Argument {
+    name: "output",
+    is_named: true,
+    is_required: false,
+    takes: Takes::Text("FORM"),
+    help: "What to print: vcd, or samples, which are two bytes\nfor each tick [default: vcd]",
+};
+
+const INVERTED: Argument<'static> = Argument {
+    name: "inverted",
+    is_named: true,
+    is_required: false,
+    takes: Takes::Number("MASK", 0, 255),
+    help: "Bits to turn over in each byte of the samples,\n0 to 255 [default: 0]",
+};
 
 pub(crate) static RUN: SubcommandRow<'static> = SubcommandRow {
     name: "run",
@@ -35,18 +51,57 @@ pub(crate) static RUN: SubcommandRow<'static> = SubcommandRow {
         "  ngc run --program examples/slot.ngc --certificate slot.cert \\
     --machine examples/clamped_mill.toml --tools examples/tools.toml"
     ),
-    arguments: RUN_ARGUMENTS,
+    arguments: &[
+        REQUIRED_MACHINE,
+        REQUIRED_TOOLS,
+        REQUIRED_CERTIFICATE,
+        EVENTS,
+        PROGRAM,
+        DELETE,
+        LOG_OUTPUT,
+        INVERTED,
+    ],
 };
 
 pub(crate) static PULSES: SubcommandRow<'static> = SubcommandRow {
     name: "pulses",
-    about: "Run a part program as `run` does, and print the pulses as a VCD",
+    about: "Run a part program as `run` does, and print the pulses",
     help_end: help_end!(
         "  ngc pulses --program examples/slot.ngc --certificate slot.cert \\
     --machine examples/clamped_mill.toml --tools examples/tools.toml > slot.vcd"
     ),
-    arguments: RUN_ARGUMENTS,
+    arguments: &[
+        REQUIRED_MACHINE,
+        REQUIRED_TOOLS,
+        REQUIRED_CERTIFICATE,
+        EVENTS,
+        PROGRAM,
+        DELETE,
+        PULSES_OUTPUT,
+        INVERTED,
+    ],
 };
+
+fn mask_in(text: &str) -> u8
+    requires { IsUnsignedIn 0 255 text.now }
+    ensures { IsMask (Some text.now) result }
+{
+    match text.parse::<u8>() {
+        Ok(mask) => mask,
+        Err(_) => unreachable!(),
+    }
+}
+
+fn mask_of(found: &ArgMatches<'_>) -> u8
+    requires { IfSome (first_of (codes "inverted") (rows_of (found_of found.now)))
+        (IsUnsignedIn 0 255) }
+    ensures { IsMask (first_of (codes "inverted") (rows_of (found_of found.now))) result }
+{
+    match found.get_str("inverted") {
+        Some(text) => mask_in(text),
+        None => 0,
+    }
+}
 
 // With events, or through to the program's end.
 pub(crate) fn run_options<'a>(recording: Recording, found: &ArgMatches<'a>) -> Options<'a>
@@ -58,6 +113,8 @@ pub(crate) fn run_options<'a>(recording: Recording, found: &ArgMatches<'a>) -> O
     let certificate = required(found, "certificate");
     let program = found.get_str("program");
     let delete = flag_is_set(found, "delete");
+    let output = found.get_str("output");
+    let inverted = mask_of(found);
     match found.get_str("events") {
         Some(events) => Options::Run(RunOptions {
             recording,
@@ -67,6 +124,8 @@ pub(crate) fn run_options<'a>(recording: Recording, found: &ArgMatches<'a>) -> O
             events,
             program,
             delete,
+            output,
+            inverted,
         }),
         None => Options::RunThrough(RunThroughOptions {
             recording,
@@ -75,6 +134,8 @@ pub(crate) fn run_options<'a>(recording: Recording, found: &ArgMatches<'a>) -> O
             certificate,
             program,
             delete,
+            output,
+            inverted,
         }),
     }
 }

@@ -46,8 +46,9 @@ pub(crate) fn log() -> &'static [Row]
         },
         Row {
             number: 702,
-            rule: "A command is loaded while fewer than sixteen are loaded and not done (our own).",
-            example: "events of seventeen lines `load`, and a program of as many commands",
+            rule: "A load comes while fewer commands are loaded and not done than the machine's `ring`, 16 where\n\
+             the key is missing (our own).",
+            example: "no `ring`, events of seventeen lines `load`, and a program of as many commands",
             answer: "`refused 702`",
             place: None,
             mend: "Give ticks before the next load, until a command is done.",
@@ -130,6 +131,15 @@ pub(crate) fn shell() -> &'static [Row]
             place: Some("3"),
             mend: "Give the file of what GRBL prints for `$$`, and none of the four nor `--frame`; or all four\n\
              figures.",
+        },
+        Row {
+            number: 727,
+            rule: "The form that `ngc run` is given is `log` or `samples`, that of `ngc pulses` is `vcd` or\n\
+             `samples` (our own).",
+            example: "command `ngc run --output vcd` with a machine file, a tool table and a certificate",
+            answer: "`ngc: fault 727`",
+            place: Some("3"),
+            mend: "Write one of the command's two names; without `--output` it is the first of them.",
         },
         Row {
             number: 900,

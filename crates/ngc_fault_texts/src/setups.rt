@@ -45,7 +45,7 @@ pub(crate) fn setup() -> &'static [Row]
         Row {
             number: 264,
             rule: "`max_rate`, `axis_rate`, `change` and `corner` are 1 to 1,000,000, `jump` is 0 to 1,000,000,\n\
-             `turn` is 1 to 1,000,000,000,000.",
+             `turn` is 1 to 1,000,000,000,000, `ring` is 16 to 1,024, `arc_feed` is 0 or 1.",
             example: "machine file `corner = 0`",
             answer: "`ngc: fault 264 machine`",
             place: None,

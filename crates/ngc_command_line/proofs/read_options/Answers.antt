@@ -44,8 +44,8 @@ returns-clause-spelled_check c =
     λ machine tools certificate program spelled. check_read _ machine tools certificate program _ spelled (returns-clause-options c)
 
 pub returns-clause-spelled_run : goal.returns-clause-spelled_run
-returns-clause-spelled_run c = λ recording machine tools certificate events program delete spelled.
-    run_read _ recording machine tools certificate events program delete _ spelled (returns-clause-options c)
+returns-clause-spelled_run c = λ recording machine tools certificate events program delete output spelled.
+    run_read _ recording machine tools certificate events program delete output _ spelled (returns-clause-options c)
 
 pub returns-clause-spelled_draw : goal.returns-clause-spelled_draw
 returns-clause-spelled_draw c =
@@ -89,9 +89,9 @@ returns-in-Err-clause-spelled_check c = λ machine tools certificate program spe
     c.usage_fault.ensures (taken_is_memory _ _ c.in-Err.error c.in-Ok.ensures (check_taken _ machine tools certificate program spelled) c.in-Err.ensures.kinds)
 
 pub returns-in-Err-clause-spelled_run : goal.returns-in-Err-clause-spelled_run
-returns-in-Err-clause-spelled_run c = λ recording machine tools certificate events program delete spelled.
+returns-in-Err-clause-spelled_run c = λ recording machine tools certificate events program delete output spelled.
     c.usage_fault.ensures
-    (taken_is_memory _ _ c.in-Err.error c.in-Ok.ensures (run_taken _ recording machine tools certificate events program delete spelled)
+    (taken_is_memory _ _ c.in-Err.error c.in-Ok.ensures (run_taken _ recording machine tools certificate events program delete output spelled)
     c.in-Err.ensures.kinds)
 
 pub returns-in-Err-clause-spelled_draw : goal.returns-in-Err-clause-spelled_draw

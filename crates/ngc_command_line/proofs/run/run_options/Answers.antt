@@ -14,6 +14,8 @@ returns-in-Some c = (
     events = sym (ap (option_map (λ name. name.now)) c.in-Some.is) ∙ c.get_str.ensures ∙ first_value-rows (found_of c.args.found.now) (codes "events");
     program = c.get_str-program.ensures ∙ first_value-rows (found_of c.args.found.now) (codes "program");
     delete = c.flag_is_set-delete.ensures;
+    output = c.get_str-output.ensures ∙ first_value-rows (found_of c.args.found.now) (codes "output");
+    inverted = c.mask_of-inverted.ensures;
   },
 )
 
@@ -27,5 +29,7 @@ returns-in-None c = (
     events = sym (ap (option_map (λ name. name.now)) c.in-None.is) ∙ c.get_str.ensures ∙ first_value-rows (found_of c.args.found.now) (codes "events");
     program = c.get_str-program.ensures ∙ first_value-rows (found_of c.args.found.now) (codes "program");
     delete = c.flag_is_set-delete.ensures;
+    output = c.get_str-output.ensures ∙ first_value-rows (found_of c.args.found.now) (codes "output");
+    inverted = c.mask_of-inverted.ensures;
   },
 )
