@@ -40,13 +40,14 @@ neither false b h k = k
 -- where no rule holds, nothing is changed
 none_changed : (plan : Plan) → rules_of plan ≡ [] → is_changed plan ≡ false
 none_changed plan h =
-    let f = last_none _ _ _ h in
+    let g = last_none _ _ _ h in
+    let f = last_none _ _ _ g.0 in
     let e = last_none _ _ _ f.0 in
     let d = last_none _ _ _ e.0 in
     let c = last_none _ _ _ d.0 in
     let b = last_none _ _ _ c.0 in
     let a = only_none _ _ b.0 in
-    neither _ _ a (neither _ _ b.1 (neither _ _ c.1 (neither _ _ d.1 (neither _ _ e.1 f.1))))
+    neither _ _ a (neither _ _ b.1 (neither _ _ c.1 (neither _ _ d.1 (neither _ _ e.1 (neither _ _ f.1 g.1)))))
 
 stays : (t : Bool) (x line : List ℕ) → t ≡ false → cond t x line ≡ line
 stays true x line e = absurd cc

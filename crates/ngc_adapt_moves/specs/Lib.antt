@@ -7,6 +7,7 @@ pub mod LineWords
 pub mod Lines
 pub mod Places
 pub mod Plans
+pub mod Radii
 pub mod Reports
 pub mod Texts
 pub mod Values

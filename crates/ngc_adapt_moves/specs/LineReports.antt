@@ -1,9 +1,14 @@
 -- The report of a line: each change with what was there and what is written, and each reason why the
 -- line is left.
-use Rattle.std.specs.Prelude.{ℕ, Bool, List, [], ◌++◌, codes, decimal, Option, Some, None}
+use Rattle.std.specs.Prelude.{ℕ, ℤ, Bool, List, [], ◌∷◌, ◌++◌, codes, decimal, Option, Some, None}
 use Rattle.std.specs.Prelude.{if◌then◌else◌}
+use Rattle.ngc_adapt_moves.specs.declared.axis.Axis.{Axis}
+use Rattle.ngc_adapt_moves.specs.declared.axis.Axis.TheVariants as axes
+use Rattle.ngc_adapt_moves.specs.declared.axis.Place.{Place}
 use Rattle.ngc_adapt_moves.specs.declared.places.Places.{Places}
 use Rattle.ngc_adapt_moves.specs.declared.plan.Plan.{Plan}
+use Rattle.ngc_adapt_moves.specs.declared.radii.Balance.{Balance}
+use Rattle.ngc_adapt_moves.specs.declared.radii.Balance.TheVariants as balances
 use Rattle.ngc_adapt_moves.specs.declared.rule.Rule.{Rule}
 use Rattle.ngc_adapt_moves.specs.declared.rule.Rule.TheVariants as rules
 use Rattle.ngc_adapt_moves.specs.declared.rule.Refusal.{Refusal}
@@ -12,8 +17,9 @@ use Rattle.ngc_adapt_moves.specs.declared.word.Word.{Word}
 use Rattle.ngc_adapt_moves.specs.Lines.{rewritten}
 use Rattle.ngc_adapt_moves.specs.Plans.{plan_of, is_homed, is_named, is_circled, is_first, is_origin}
 use Rattle.ngc_adapt_moves.specs.Plans.{homing_refusal, naming_refusal, circle_refusal, centre_refusal}
-use Rattle.ngc_adapt_moves.specs.Plans.{feeding_refusal}
+use Rattle.ngc_adapt_moves.specs.Plans.{feeding_refusal, balance_refusal}
 use Rattle.ngc_adapt_moves.specs.Reports.{rule_name, class_of, refusal_name, sentence}
+use Rattle.ngc_adapt_moves.specs.Texts.{offset_letter, value_text}
 use Rattle.ngc_adapt_moves.specs.Words.{words_of}
 
 -- where a change is, in the source and in what is written
@@ -32,6 +38,23 @@ abbrev pub change_if : Bool → ℕ → ℕ → Rule → Plan → List ℕ → L
 change_if holds number written_number rule plan line =
     if holds then place_text number written_number ++ (rule_text rule ++ was_text plan line) else []
 
+unfoldable pub shift_along : Axis → Option ℤ → List ℕ
+shift_along axis (Some value) = codes " " ++ (offset_letter axis ∷ value_text value)
+shift_along axis None = []
+
+-- by how much a centre is moved
+unfoldable pub shift_text : Place → List ℕ
+shift_text shift =
+    codes " (centre moved by" ++ (shift_along axes.X shift.x ++ (shift_along axes.Y shift.y
+    ++ (shift_along axes.Z shift.z ++ codes ")")))
+
+-- a centre that is moved: what the line was, what is written, and by how much it is moved
+abbrev pub moved_if : Balance → ℕ → ℕ → Plan → List ℕ → List ℕ
+moved_if (balances.Moved moved) number written_number plan line =
+    place_text number written_number ++ (rule_text rules.MovedCentre ++ (line ++ (codes " -> "
+    ++ (rewritten (codes " / ") plan line ++ (shift_text moved.shift ++ codes "\n")))))
+moved_if _ number written_number plan line = []
+
 unfoldable pub changes_text : ℕ → ℕ → Plan → List ℕ → List ℕ
 changes_text number written_number plan line =
     change_if (is_homed plan.homing) number written_number rules.PartHome plan line
@@ -39,7 +62,8 @@ changes_text number written_number plan line =
     ++ (change_if (is_circled plan.circle) number written_number rules.FullCircle plan line
     ++ (change_if (is_origin plan) number written_number rules.ArcOrigin plan line
     ++ (change_if plan.apart number written_number rules.MotionApart plan line
-    ++ change_if (is_first plan.feeding) number written_number rules.FeedFirst plan line))))
+    ++ (change_if (is_first plan.feeding) number written_number rules.FeedFirst plan line
+    ++ moved_if plan.balance number written_number plan line)))))
 
 unfoldable pub refusal_text : ℕ → Refusal → List ℕ
 refusal_text number refusal =
@@ -56,7 +80,8 @@ refusals_text number plan =
     ++ (refusal_if number (naming_refusal plan.naming)
     ++ (refusal_if number (circle_refusal plan.circle)
     ++ (refusal_if number (centre_refusal plan.centre)
-    ++ refusal_if number (feeding_refusal plan.feeding))))
+    ++ (refusal_if number (feeding_refusal plan.feeding)
+    ++ refusal_if number (balance_refusal plan.balance)))))
 
 -- the report of a line of which the rules make this
 unfoldable pub plan_report : ℕ → ℕ → Plan → List ℕ → List ℕ

@@ -19,7 +19,7 @@ use Rattle.ngc_adapt_moves.specs.declared.text.Text.{Text}
 use Rattle.ngc_adapt_moves.specs.declared.word.Word.{Word}
 use Rattle.ngc_adapt_moves.specs.LineWords.{has_motion, has_unknown, is_f, is_of_place}
 use Rattle.ngc_adapt_moves.specs.Places.{after_line, lost, modes_after}
-use Rattle.ngc_adapt_moves.specs.Plans.{before_count, change_of, circle_text, is_changed, is_first, is_homed, is_named}
+use Rattle.ngc_adapt_moves.specs.Plans.{added_text, before_count, change_of, circle_text, is_changed, is_first, is_homed, is_named}
 use Rattle.ngc_adapt_moves.specs.Plans.{line_count, naming_text, plan_of, refusals_of, rules_of}
 use Rattle.ngc_adapt_moves.specs.Texts.{axis_letter, text_of, value_text}
 use Rattle.ngc_adapt_moves.specs.Words.{word_of, words_of}
@@ -43,9 +43,12 @@ changed item None = item
 abbrev pub item_written : Plan → List ℕ → List ℕ
 item_written plan item = changed item (item_change plan (word_of item))
 
--- what is written in front of the first word of a place: a motion code, the axis word of a circle
+-- what is written in front of the first word of a place: a motion code, the axis word of a circle, an
+-- offset
 abbrev pub front : Plan → List ℕ
-front plan = text_of (naming_text plan.naming) ++ text_of (circle_text plan.circle)
+front plan =
+    text_of (naming_text plan.naming)
+    ++ (text_of (circle_text plan.circle) ++ text_of (added_text plan.balance))
 
 abbrev pub front_if : Bool → Plan → List ℕ
 front_if holds plan = if holds then front plan else []

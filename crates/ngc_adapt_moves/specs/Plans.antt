@@ -22,6 +22,8 @@ use Rattle.ngc_adapt_moves.specs.declared.plan.Naming.TheVariants as namings
 use Rattle.ngc_adapt_moves.specs.declared.plan.Feeding.{Feeding}
 use Rattle.ngc_adapt_moves.specs.declared.plan.Feeding.TheVariants as feedings
 use Rattle.ngc_adapt_moves.specs.declared.plan.Plan.{Plan}
+use Rattle.ngc_adapt_moves.specs.declared.radii.Balance.{Balance}
+use Rattle.ngc_adapt_moves.specs.declared.radii.Balance.TheVariants as balances
 use Rattle.ngc_adapt_moves.specs.declared.rule.Rule.{Rule}
 use Rattle.ngc_adapt_moves.specs.declared.rule.Rule.TheVariants as rules
 use Rattle.ngc_adapt_moves.specs.declared.rule.Refusal.{Refusal}
@@ -38,6 +40,7 @@ use Rattle.ngc_adapt_moves.specs.LineWords.{has_unknown, is_code, is_f}
 use Rattle.ngc_adapt_moves.specs.Places.{changes_units, feed_mode_after, modes_after}
 use Rattle.ngc_adapt_moves.specs.Homing.{homing_of, is_part_home}
 use Rattle.ngc_adapt_moves.specs.Arcs.{circle_of, centre_of}
+use Rattle.ngc_adapt_moves.specs.Radii.{balance_of}
 
 -- the motions of G0 to G3
 abbrev pub has_name : Motion → Bool
@@ -94,6 +97,9 @@ plan_of places words =
       has_arc_code = has codes.ARC_DISTANCE words;
       apart = is_apart words;
       feeding = feeding_of places words;
+      balance =
+          balance_of places (modes_after places words)
+          (centre_of places (modes_after places words) words) words;
     }
 
 abbrev pub is_homed : Homing → Bool
@@ -117,6 +123,10 @@ abbrev pub is_first : Feeding → Bool
 is_first feedings.First = true
 is_first _ = false
 
+abbrev pub is_moved : Balance → Bool
+is_moved (balances.Moved moved) = true
+is_moved _ = false
+
 -- offsets from the origin, or the codes that say so, are changed
 abbrev pub is_origin : Plan → Bool
 is_origin plan = plan.has_arc_code || is_centred plan.centre
@@ -125,7 +135,7 @@ is_origin plan = plan.has_arc_code || is_centred plan.centre
 abbrev pub is_changed : Plan → Bool
 is_changed plan =
     is_homed plan.homing || (is_named plan.naming || (is_circled plan.circle || (is_origin plan
-    || (plan.apart || is_first plan.feeding))))
+    || (plan.apart || (is_first plan.feeding || is_moved plan.balance)))))
 
 abbrev pub rule_if : Bool → Rule → List Rule
 rule_if holds rule = if holds then rule ∷ [] else []
@@ -133,11 +143,12 @@ rule_if holds rule = if holds then rule ∷ [] else []
 -- the rules that change the line
 abbrev pub rules_of : Plan → List Rule
 rules_of plan =
-    ((((rule_if (is_homed plan.homing) rules.PartHome
+    (((((rule_if (is_homed plan.homing) rules.PartHome
     ++ rule_if (is_named plan.naming) rules.MotionAgain)
     ++ rule_if (is_circled plan.circle) rules.FullCircle)
     ++ rule_if (is_origin plan) rules.ArcOrigin) ++ rule_if plan.apart rules.MotionApart)
-    ++ rule_if (is_first plan.feeding) rules.FeedFirst
+    ++ rule_if (is_first plan.feeding) rules.FeedFirst)
+    ++ rule_if (is_moved plan.balance) rules.MovedCentre
 
 abbrev pub homing_refusal : Homing → Option Refusal
 homing_refusal (homings.Left refusal) = Some refusal
@@ -159,6 +170,10 @@ abbrev pub feeding_refusal : Feeding → Option Refusal
 feeding_refusal feedings.Left = Some refusals.FeedNotKnown
 feeding_refusal _ = None
 
+abbrev pub balance_refusal : Balance → Option Refusal
+balance_refusal (balances.Left refusal) = Some refusal
+balance_refusal _ = None
+
 abbrev pub refusal_if : Option Refusal → List Refusal
 refusal_if (Some refusal) = refusal ∷ []
 refusal_if None = []
@@ -166,9 +181,9 @@ refusal_if None = []
 -- why the line is left, if it is
 abbrev pub refusals_of : Plan → List Refusal
 refusals_of plan =
-    (((refusal_if (homing_refusal plan.homing) ++ refusal_if (naming_refusal plan.naming))
+    ((((refusal_if (homing_refusal plan.homing) ++ refusal_if (naming_refusal plan.naming))
     ++ refusal_if (circle_refusal plan.circle)) ++ refusal_if (centre_refusal plan.centre))
-    ++ refusal_if (feeding_refusal plan.feeding)
+    ++ refusal_if (feeding_refusal plan.feeding)) ++ refusal_if (balance_refusal plan.balance)
 
 -- the code that names the motion again
 abbrev pub naming_text : Naming → Text
@@ -179,6 +194,11 @@ naming_text _ = texts.Nothing
 abbrev pub circle_text : Circle → Text
 circle_text (circles.From axis value) = texts.Coordinate axis value
 circle_text _ = texts.Nothing
+
+-- the word of an offset that the line doesn't have
+abbrev pub added_text : Balance → Text
+added_text (balances.Moved moved) = moved.added
+added_text _ = texts.Nothing
 
 abbrev pub coordinate_at : Axis → Option ℤ → Option Text
 coordinate_at axis (Some value) = Some (texts.Coordinate axis value)
@@ -208,15 +228,20 @@ between_change w =
     if is_code codes.HOMING w then Some (texts.Motion motions.Traverse) else (
     if is_code codes.MOTION w then Some texts.Nothing else None)
 
-abbrev pub arc_change : Centre → Word → Option Text
-arc_change (centres.By offsets) w = offset_text offsets w.letter
-arc_change _ w = None
+abbrev pub centre_change : Centre → Word → Option Text
+centre_change (centres.By offsets) w = offset_text offsets w.letter
+centre_change _ w = None
 
-abbrev pub homing_change : Homing → Centre → Word → Option Text
-homing_change (homings.Direct place) centre w = direct_change place w
-homing_change (homings.Between place) centre w = between_change w
-homing_change homings.Other centre w = arc_change centre w
-homing_change (homings.Left refusal) centre w = arc_change centre w
+-- a centre that is moved goes before offsets from the current point
+abbrev pub arc_change : Balance → Centre → Word → Option Text
+arc_change (balances.Moved moved) centre w = offset_text moved.offsets w.letter
+arc_change _ centre w = centre_change centre w
+
+abbrev pub homing_change : Homing → Balance → Centre → Word → Option Text
+homing_change (homings.Direct place) balance centre w = direct_change place w
+homing_change (homings.Between place) balance centre w = between_change w
+homing_change homings.Other balance centre w = arc_change balance centre w
+homing_change (homings.Left refusal) balance centre w = arc_change balance centre w
 
 -- a word that is left out of the source's own line: G90.1 and G91.1, a motion code that takes no axis
 -- words, F that is written on a line before
@@ -229,7 +254,7 @@ leaves_out plan w =
 abbrev pub change_of : Plan → Word → Option Text
 change_of plan w =
     if leaves_out plan w then Some texts.Nothing
-    else homing_change plan.homing plan.centre w
+    else homing_change plan.homing plan.balance plan.centre w
 
 -- how many lines are written before the source's own
 abbrev pub before_count : Plan → ℕ

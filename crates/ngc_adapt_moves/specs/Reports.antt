@@ -12,8 +12,9 @@ rule_name rules.FullCircle = codes "full_circle"
 rule_name rules.ArcOrigin = codes "arc_origin"
 rule_name rules.MotionApart = codes "motion_apart"
 rule_name rules.FeedFirst = codes "feed_first"
+rule_name rules.MovedCentre = codes "moved_centre"
 
--- what a rule keeps: the same commands
+-- what a rule keeps: the same commands, or the same within a length
 abbrev pub class_of : Rule → List ℕ
 class_of rules.PartHome = codes "exact"
 class_of rules.MotionAgain = codes "exact"
@@ -21,6 +22,7 @@ class_of rules.FullCircle = codes "exact"
 class_of rules.ArcOrigin = codes "exact"
 class_of rules.MotionApart = codes "exact"
 class_of rules.FeedFirst = codes "exact"
+class_of rules.MovedCentre = codes "bound"
 
 abbrev pub refusal_name : Refusal → List ℕ
 refusal_name refusals.NotRead = codes "not_read"
@@ -34,6 +36,7 @@ refusal_name refusals.CircleNotKnown = codes "full_circle"
 refusal_name refusals.ArcDistanceNotKnown = codes "arc_origin"
 refusal_name refusals.ArcPlaceNotKnown = codes "arc_origin"
 refusal_name refusals.FeedNotKnown = codes "feed_first"
+refusal_name refusals.RadiiDiffer = codes "moved_centre"
 
 -- what is wrong, and the way out
 abbrev pub sentence : Refusal → List ℕ
@@ -58,3 +61,5 @@ sentence refusals.ArcPlaceNotKnown =
     codes "offsets from the origin need both offsets and a known place: write X and Y on a line before it"
 sentence refusals.FeedNotKnown =
     codes "F counts in the units before, which aren't known: write F on a line after this one"
+sentence refusals.RadiiDiffer =
+    codes "the radii at start and end of the arc differ by too much: post with more decimals"

@@ -42,7 +42,7 @@ fn is_round(motion: Motion) -> bool
 }
 
 // Whether a line moves along an arc with offsets, in the modes that it leaves.
-fn is_arc(after: &Places, words: &[Word]) -> bool
+pub(crate) fn is_arc(after: &Places, words: &[Word]) -> bool
     ensures { result ≡ spec.is_arc after.now words.now }
 {
     is_round(after.motion)
@@ -54,7 +54,7 @@ fn is_arc(after: &Places, words: &[Word]) -> bool
 }
 
 // The first axis of a plane, and the second.
-fn first_axis(plane: Plane) -> Axis
+pub(crate) fn first_axis(plane: Plane) -> Axis
     ensures { result ≡ spec.first_axis plane }
 {
     match plane {
@@ -64,7 +64,7 @@ fn first_axis(plane: Plane) -> Axis
     }
 }
 
-fn second_axis(plane: Plane) -> Axis
+pub(crate) fn second_axis(plane: Plane) -> Axis
     ensures { result ≡ spec.second_axis plane }
 {
     match plane {
@@ -121,7 +121,7 @@ pub(crate) fn circle_of(places: &Places, after: &Places, words: &[Word]) -> Circ
     }
 }
 
-fn difference(value: Option<Value>, start: Option<Value>) -> Option<Value>
+pub(crate) fn difference(value: Option<Value>, start: Option<Value>) -> Option<Value>
     ensures { result ≡ spec.difference value start }
 {
     match (value, start) {

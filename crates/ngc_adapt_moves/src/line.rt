@@ -47,6 +47,7 @@ fn add_front<A: Allocator>(plan: &Plan, out: &mut Vec<u8, A>) -> Result<(), Allo
 {
     add_text(plan.naming.text(), out)?;
     add_text(plan.circle.text(), out)?;
+    add_text(plan.balance.text(), out)?;
     Ok(())
 }
 

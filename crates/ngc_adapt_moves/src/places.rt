@@ -224,7 +224,7 @@ pub(crate) fn start_along(places: &Places, words: &[Word], axis: Axis) -> Option
     start_unless(loses_place(places.units, words), places, words, axis)
 }
 
-fn sum(start: Option<Value>, value: Option<Value>) -> Option<Value>
+pub(crate) fn sum(start: Option<Value>, value: Option<Value>) -> Option<Value>
     ensures { result ≡ spec.sum start value }
 {
     match (start, value) {

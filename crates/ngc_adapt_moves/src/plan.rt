@@ -11,6 +11,7 @@ use crate::line_words::{
     has, has_axes, has_feed, has_motion, has_place, has_unknown, is_code, is_f,
 };
 use crate::places::{Motion, Places, changes_units, feed_mode_after};
+use crate::radii::{Balance, balance_of};
 use crate::rule::{Refusal, Rule};
 use crate::text::Text;
 use crate::word::{Letter, Word};
@@ -19,7 +20,7 @@ use ngc_adapt::Dialect;
 use ngc_fixed_length::{FeedMode, Units};
 
 /// The most rules that change a line, and the most for which it is left.
-pub const MOST_RULES: usize = 6;
+pub const MOST_RULES: usize = 7;
 
 /// What becomes of a line that may have to name its motion.
 #[derive(Clone, Copy)]
@@ -55,6 +56,7 @@ pub struct Plan {
     /// Whether a motion code is left out beside a code that takes the axis words.
     pub apart: bool,
     pub feeding: Feeding,
+    pub balance: Balance,
 }
 
 fn has_name(motion: Motion) -> bool
@@ -137,20 +139,22 @@ pub(crate) fn plan_of(places: &Places, after: &Places, words: &[Word]) -> Plan
     requires { after.now ≡ modes_after places.now words.now }
     ensures { result ≡ spec.plan_of places.now words.now }
 {
+    let centre = centre_of(places, after, words);
     Plan {
         homing: homing_of(places, words),
         naming: naming_of(places, words),
         circle: circle_of(places, after, words),
-        centre: centre_of(places, after, words),
+        centre,
         has_arc_code: has(&code::ARC_DISTANCE, words),
         apart: is_apart(words),
         feeding: feeding_of(places, words),
+        balance: balance_of(places, after, &centre, words),
     }
 }
 
 // Adds a rule that holds.
 fn add_rule(holds: bool, rule: Rule, rules: &mut ArrayVec<Rule, MOST_RULES>)
-    requires { length rules.old.items ≤ 5 }
+    requires { length rules.old.items ≤ 6 }
     ensures items { rules.new.items ≡ rules.old.items ++ spec.rule_if holds rule }
     ensures few { length rules.new.items ≤ length rules.old.items + 1 }
 {
@@ -160,7 +164,7 @@ fn add_rule(holds: bool, rule: Rule, rules: &mut ArrayVec<Rule, MOST_RULES>)
 }
 
 fn add_refusal(refusal: Option<Refusal>, refusals: &mut ArrayVec<Refusal, MOST_RULES>)
-    requires { length refusals.old.items ≤ 5 }
+    requires { length refusals.old.items ≤ 6 }
     ensures items { refusals.new.items ≡ refusals.old.items ++ spec.refusal_if refusal }
     ensures few { length refusals.new.items ≤ length refusals.old.items + 1 }
 {
@@ -284,6 +288,35 @@ impl Feeding {
     }
 }
 
+impl Balance {
+    ghost use Rattle.ngc_adapt_moves.specs.Plans.{is_moved, balance_refusal, added_text};
+
+    pub(crate) fn is_moved(&self) -> bool
+        ensures { result ≡ is_moved self.now }
+    {
+        matches!(self, Balance::Moved(_))
+    }
+
+    pub(crate) fn refusal(&self) -> Option<Refusal>
+        ensures { result ≡ balance_refusal self.now }
+    {
+        match self {
+            Balance::Left(refusal) => Some(*refusal),
+            Balance::Other | Balance::Moved(_) => None,
+        }
+    }
+
+    /// Returns the word of an offset that the line doesn't have.
+    pub(crate) fn text(&self) -> Text
+        ensures { result ≡ added_text self.now }
+    {
+        match self {
+            Balance::Moved(moved) => moved.added,
+            Balance::Other | Balance::Left(_) => Text::Nothing,
+        }
+    }
+}
+
 fn coordinate_text(place: &Place, letter: Letter) -> Option<Text>
     ensures { result ≡ spec.coordinate_text place.now letter }
 {
@@ -332,8 +365,17 @@ fn between_change(word: &Word) -> Option<Text>
     }
 }
 
-fn arc_change(centre: &Centre, word: &Word) -> Option<Text>
-    ensures { result ≡ spec.arc_change centre.now word.now }
+fn arc_change(balance: &Balance, centre: &Centre, word: &Word) -> Option<Text>
+    ensures { result ≡ spec.arc_change balance.now centre.now word.now }
+{
+    match balance {
+        Balance::Moved(moved) => offset_text(&moved.offsets, word.letter),
+        Balance::Other | Balance::Left(_) => centre_change(centre, word),
+    }
+}
+
+fn centre_change(centre: &Centre, word: &Word) -> Option<Text>
+    ensures { result ≡ spec.centre_change centre.now word.now }
 {
     match centre {
         Centre::By(offsets) => offset_text(offsets, word.letter),
@@ -362,6 +404,7 @@ impl Plan {
             || self.is_origin()
             || self.apart
             || self.feeding.is_first()
+            || self.balance.is_moved()
     }
 
     /// Returns the rules that change the line.
@@ -375,6 +418,7 @@ impl Plan {
         add_rule(self.is_origin(), Rule::ArcOrigin, &mut rules);
         add_rule(self.apart, Rule::MotionApart, &mut rules);
         add_rule(self.feeding.is_first(), Rule::FeedFirst, &mut rules);
+        add_rule(self.balance.is_moved(), Rule::MovedCentre, &mut rules);
         rules
     }
 
@@ -388,6 +432,7 @@ impl Plan {
         add_refusal(self.circle.refusal(), &mut refusals);
         add_refusal(self.centre.refusal(), &mut refusals);
         add_refusal(self.feeding.refusal(), &mut refusals);
+        add_refusal(self.balance.refusal(), &mut refusals);
         refusals
     }
 
@@ -410,7 +455,7 @@ impl Plan {
         match &self.homing {
             Homing::Direct(place) => direct_change(place, word),
             Homing::Between(_) => between_change(word),
-            Homing::Other | Homing::Left(_) => arc_change(&self.centre, word),
+            Homing::Other | Homing::Left(_) => arc_change(&self.balance, &self.centre, word),
         }
     }
 

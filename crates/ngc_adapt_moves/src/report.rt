@@ -3,10 +3,14 @@ ghost use Rattle.std.specs.Prelude.{◌≡◌, ◌++◌, codes, decimal, IfOk};
 ghost use Rattle.ngc_adapt_moves.specs.Reports as spec;
 ghost use Rattle.ngc_adapt_moves.specs.LineReports as report_of;
 
+use crate::axis::{Axis, Place};
 use crate::line::add_rewritten;
 use crate::plan::Plan;
+use crate::radii::Balance;
 use crate::rule::{Refusal, Rule};
+use crate::text::{add_value, offset_letter};
 use itoa::Buffer;
+use ngc_fixed_length::Value;
 use std::alloc::{AllocError, Allocator};
 
 // Adds a number of a line.
@@ -81,6 +85,63 @@ fn add_change_if<A: Allocator>(
     Ok(())
 }
 
+#[tactic(auto, unfolding(crate::specs::LineReports::shift_along))]
+fn add_shift_along<A: Allocator>(
+    axis: Axis,
+    shift: Option<Value>,
+    report: &mut Vec<u8, A>,
+) -> Result<(), AllocError>
+    ensures { IfOk result
+        (λ _. report.new.items ≡ report.old.items ++ report_of.shift_along axis shift) }
+{
+    match shift {
+        Some(value) => {
+            report.extend_from_slice(b" ")?;
+            report.push(offset_letter(axis))?;
+            add_value(value, report)
+        }
+        None => Ok(()),
+    }
+}
+
+// Adds by how much a centre is moved.
+#[tactic(auto, unfolding(crate::specs::LineReports::shift_text))]
+fn add_shift<A: Allocator>(shift: &Place, report: &mut Vec<u8, A>) -> Result<(), AllocError>
+    ensures { IfOk result
+        (λ _. report.new.items ≡ report.old.items ++ report_of.shift_text shift.now) }
+{
+    report.extend_from_slice(b" (centre moved by")?;
+    add_shift_along(Axis::X, shift.x, report)?;
+    add_shift_along(Axis::Y, shift.y, report)?;
+    add_shift_along(Axis::Z, shift.z, report)?;
+    report.extend_from_slice(b")")?;
+    Ok(())
+}
+
+// Adds the change of a line whose centre is moved.
+fn add_moved<A: Allocator>(
+    number: usize,
+    written_number: usize,
+    plan: &Plan,
+    line: &[u8],
+    report: &mut Vec<u8, A>,
+) -> Result<(), AllocError>
+    ensures { IfOk result (λ _. report.new.items ≡ report.old.items
+        ++ report_of.moved_if plan.now.balance number written_number plan.now line.now) }
+{
+    let Balance::Moved(moved) = &plan.balance else {
+        return Ok(());
+    };
+    add_place(number, written_number, report)?;
+    add_rule(Rule::MovedCentre, report)?;
+    report.extend_from_slice(line)?;
+    report.extend_from_slice(b" -> ")?;
+    add_rewritten(b" / ", plan, line, report)?;
+    add_shift(&moved.shift, report)?;
+    report.extend_from_slice(b"\n")?;
+    Ok(())
+}
+
 // Adds the changes of a line.
 #[tactic(auto, unfolding(crate::specs::LineReports::changes_text))]
 fn add_changes<A: Allocator>(
@@ -147,6 +208,7 @@ fn add_changes<A: Allocator>(
         line,
         report,
     )?;
+    add_moved(number, written_number, plan, line, report)?;
     Ok(())
 }
 
@@ -199,6 +261,7 @@ fn add_refusals<A: Allocator>(
     add_refusal_if(number, plan.circle.refusal(), report)?;
     add_refusal_if(number, plan.centre.refusal(), report)?;
     add_refusal_if(number, plan.feeding.refusal(), report)?;
+    add_refusal_if(number, plan.balance.refusal(), report)?;
     Ok(())
 }
 

@@ -17,6 +17,8 @@ pub enum Rule {
     MotionApart,
     /// F beside a change of the units, which LinuxCNC counts in the units before: on a line before.
     FeedFirst,
+    /// The centre of an arc whose radii at start and end differ by more than our language allows.
+    MovedCentre,
 }
 
 impl Default for Rule {
@@ -41,10 +43,12 @@ impl Rule {
             Rule::ArcOrigin => "arc_origin",
             Rule::MotionApart => "motion_apart",
             Rule::FeedFirst => "feed_first",
+            Rule::MovedCentre => "moved_centre",
         }
     }
 
-    /// Returns what the rule keeps: `exact` for the same commands.
+    /// Returns what the rule keeps: `exact` for the same commands, `bound` for the same within the
+    /// length that the report names.
     pub fn class(self) -> &'static str
         ensures { result.now ≡ spec.class_of self }
     {
@@ -55,6 +59,7 @@ impl Rule {
             | Rule::ArcOrigin
             | Rule::MotionApart
             | Rule::FeedFirst => "exact",
+            Rule::MovedCentre => "bound",
         }
     }
 }
@@ -84,6 +89,8 @@ pub enum Refusal {
     ArcPlaceNotKnown,
     /// F beside a change of the units, from units or in a feed mode that isn't known.
     FeedNotKnown,
+    /// An arc whose radii at start and end differ by more than the centre could be moved for.
+    RadiiDiffer,
 }
 
 impl Default for Refusal {
@@ -113,6 +120,7 @@ impl Refusal {
             Refusal::ArcDistanceNotKnown => "arc_origin",
             Refusal::ArcPlaceNotKnown => "arc_origin",
             Refusal::FeedNotKnown => "feed_first",
+            Refusal::RadiiDiffer => "moved_centre",
         }
     }
 
@@ -149,6 +157,9 @@ impl Refusal {
             }
             Refusal::FeedNotKnown => {
                 "F counts in the units before, which aren't known: write F on a line after this one"
+            }
+            Refusal::RadiiDiffer => {
+                "the radii at start and end of the arc differ by too much: post with more decimals"
             }
         }
     }

@@ -102,7 +102,7 @@ pub(crate) fn axis_letter(axis: Axis) -> u8
     }
 }
 
-fn offset_letter(axis: Axis) -> u8
+pub(crate) fn offset_letter(axis: Axis) -> u8
     ensures { result ≡ spec.offset_letter axis }
 {
     match axis {

@@ -1,5 +1,5 @@
 -- The lines and items that are left, where none is.
-use Rattle.std.proofs.Common.{◌≡◌, ℕ, suc, ◌+◌, ◌<◌, Bool, false, List, ◌++◌, length, drop, get_or, add-one, drop-cons, ap, sym, ◌∙◌}
+use Rattle.std.proofs.Common.{◌≡◌, ℕ, suc, ◌+◌, ◌<◌, Bool, false, List, [], ◌++◌, length, drop, get_or, add-one, drop-cons, ap, sym, ◌∙◌}
 use Rattle.std.specs.Prelude.{fold}
 use Rattle.std.specs.List.{list_any, flat_map}
 use Rattle.ngc_adapt.specs.Items.{items_of}
@@ -15,6 +15,9 @@ folded_lines f tools rest h = ap (λ (xs : List (List ℕ)). fold f tools xs) (n
 
 pub none_of_lines : (p : List ℕ → Bool) (rest : List ℕ) → length rest ≡ 0 → list_any p (lines_of rest) ≡ false
 none_of_lines p rest h = ap (λ (xs : List (List ℕ)). list_any p xs) (no_lines rest h)
+
+pub none_mapped : (f : List ℕ → List ℕ) (rest : List ℕ) → length rest ≡ 0 → flat_map f (lines_of rest) ≡ []
+none_mapped f rest h = ap (flat_map f) (no_lines rest h)
 
 -- the text of the number at i, and those of the numbers after it
 pub texts_step : (f : ℕ → List ℕ) (numbers : List ℕ) (i n : ℕ) → i < length numbers → n ≡ get_or numbers i n

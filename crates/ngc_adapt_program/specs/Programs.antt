@@ -3,17 +3,19 @@
 -- are wanted. Lines after the end are copied. Our own.
 use Rattle.std.specs.Prelude.{ℕ, ◌+◌, ◌==◌, ◌&&◌, ◌||◌, not, nat_lt, Bool, true, false, List, [], ◌∷◌, ◌++◌}
 use Rattle.std.specs.Prelude.{length, map, codes, decimal, count_by, Option, Some, None, if◌then◌else◌}
-use Rattle.std.specs.List.{list_all, list_any}
+use Rattle.std.specs.List.{list_all, list_any, flat_map}
 use Rattle.ngc_adapt.specs.declared.item.Word.{Word}
 use Rattle.ngc_adapt.specs.declared.item.Letter.{Letter}
 use Rattle.ngc_adapt.specs.declared.item.Letter.TheVariants as letters
 use Rattle.ngc_adapt.specs.declared.change.Change.{Change}
+use Rattle.ngc_adapt.specs.declared.rule.Rule.TheVariants as rules
+use Rattle.ngc_adapt.specs.Comments.{has_odd_comment, with_plain_comment}
 use Rattle.ngc_adapt.specs.Facts.{facts_of}
 use Rattle.ngc_adapt.specs.Items.{words_of}
 use Rattle.ngc_adapt.specs.Lines.{written, rules_of, next_modes, is_end, refusals_of}
 use Rattle.ngc_adapt.specs.Numbers.{is_blank, byte_count}
 use Rattle.ngc_adapt.specs.Changes.{change_at}
-use Rattle.ngc_adapt.specs.Reports.{line_report, counts_text}
+use Rattle.ngc_adapt.specs.Reports.{line_report, comment_report, counts_text}
 use Rattle.ngc_adapt.specs.Rules.{start_modes}
 use Rattle.ngc_adapt.specs.Sources.{lines_of, body_of, end_of, ends}
 use Rattle.ngc_adapt.specs.Text.{text_of}
@@ -66,6 +68,16 @@ is_blank_or_percent b = is_blank b || b == 37
 
 abbrev pub is_percent_line : List ℕ → Bool
 is_percent_line body = (byte_count 37 body == 1) && list_all is_blank_or_percent body
+
+-- ---- comments
+
+-- a line whose first comment our language can read, with its line feed
+abbrev pub plain_line : List ℕ → List ℕ
+plain_line line = with_plain_comment (body_of line) ++ end_of line
+
+-- a text of such lines
+unfoldable pub plain_text : List ℕ → List ℕ
+plain_text text = flat_map plain_line (lines_of text)
 
 -- ---- what the lines before leave
 
@@ -140,8 +152,16 @@ abbrev pub progress_after_body : Progress → List ℕ → Bool → Progress
 progress_after_body p body lacks_feed =
     if p.ended then after_ended p body lacks_feed else after_body p body lacks_feed
 
-abbrev pub progress_after : Progress → List ℕ → Progress
-progress_after p line = progress_after_body p (body_of line) (not (ends 10 line))
+-- what is read of a line: its first comment is one that our language can read. After the end the line
+-- stays as it is
+abbrev pub read_of : Progress → List ℕ → List ℕ
+read_of p body = if p.ended then body else with_plain_comment body
+
+abbrev pub read_line : Progress → List ℕ → List ℕ
+read_line p line = read_of p (body_of line)
+
+unfoldable pub progress_after : Progress → List ℕ → Progress
+progress_after p line = progress_after_body p (read_line p line) (not (ends 10 line))
 
 -- ---- what is written
 
@@ -156,9 +176,10 @@ tool_before p body = if not p.ended && is_executed body then p.tool else None
 abbrev pub body_written : Progress → List ℕ → List ℕ
 body_written p body = if p.ended then body else executed_written p body
 
-abbrev pub line_written : Progress → List ℕ → List ℕ
+unfoldable pub line_written : Progress → List ℕ → List ℕ
 line_written p line =
-    tool_line (tool_before p (body_of line)) ++ (body_written p (body_of line) ++ end_of line)
+    tool_line (tool_before p (read_line p line))
+    ++ (body_written p (read_line p line) ++ end_of line)
 
 abbrev pub feed_if : Bool → List ℕ
 feed_if lacks_feed = if lacks_feed then codes "\n" else []
@@ -181,7 +202,8 @@ lines_written p (line ∷ rest) = line_written p line ++ lines_written (progress
 
 -- what is written of a file
 unfoldable pub program_written : Request → List ℕ → List ℕ
-program_written request file = lines_written (start request (text_of file)) (lines_of (text_of file))
+program_written request file =
+    lines_written (start request (plain_text (text_of file))) (lines_of (text_of file))
 
 -- ---- what stands in the way
 
@@ -191,13 +213,18 @@ is_left p body =
     && (has_refused_words p body
     || nat_lt 0 (length (refusals_for p.places (written p.modes body))))
 
+-- something on a line of the source stands in the way
+unfoldable pub source_left : Progress → List ℕ → Bool
+source_left p line = is_left p (read_line p line)
+
 abbrev pub lines_left : Progress → List (List ℕ) → Bool
 lines_left p [] = false
-lines_left p (line ∷ rest) = is_left p (body_of line) || lines_left (progress_after p line) rest
+lines_left p (line ∷ rest) = source_left p line || lines_left (progress_after p line) rest
 
 -- something in a file stands in the way
 unfoldable pub program_left : Request → List ℕ → Bool
-program_left request file = lines_left (start request (text_of file)) (lines_of (text_of file))
+program_left request file =
+    lines_left (start request (plain_text (text_of file))) (lines_of (text_of file))
 
 -- ---- the report
 
@@ -231,10 +258,21 @@ body_report number before p body =
     if p.ended then []
     else line_report number (before + 1) p.modes body ++ moved_report number (before + 1) p body
 
-abbrev pub source_report : ℕ → ℕ → Progress → List ℕ → List ℕ
-source_report number before p body =
-    tool_report number (before + 1) (tool_before p body)
-    ++ body_report number (before + feeds (tool_line (tool_before p body))) p body
+-- the change of a line's comment
+abbrev pub plain_report : ℕ → ℕ → Progress → List ℕ → List ℕ
+plain_report number before p body =
+    if p.ended then [] else comment_report number (before + 1) body
+
+-- of a line of the source with these bytes, of which this is read
+abbrev pub parts_report : ℕ → ℕ → Progress → List ℕ → List ℕ → List ℕ
+parts_report number before p body read =
+    let above = before + feeds (tool_line (tool_before p read)) in
+    tool_report number (before + 1) (tool_before p read)
+    ++ (plain_report number above p body ++ body_report number above p read)
+
+unfoldable pub source_report : ℕ → ℕ → Progress → List ℕ → List ℕ
+source_report number before p line =
+    parts_report number before p (body_of line) (read_line p line)
 
 abbrev pub ending_rule : Bool → List ℕ
 ending_rule marked = if marked then codes "closing_percent exact" else codes "program_end told"
@@ -249,7 +287,7 @@ ending_report number before p =
 abbrev pub lines_report : ℕ → ℕ → Progress → List (List ℕ) → List ℕ
 lines_report number before p [] = ending_report number before p
 lines_report number before p (line ∷ rest) =
-    source_report number before p (body_of line)
+    source_report number before p line
     ++ lines_report (number + 1) (before + feeds (line_written p line)) (progress_after p line) rest
 
 -- ---- how often each rule applied
@@ -258,24 +296,34 @@ abbrev pub word_changes : ℕ → ℕ → Progress → List ℕ → List Change
 word_changes number before p body =
     if p.ended then [] else map (change_at number (before + 1)) (rules_of p.modes body)
 
-abbrev pub body_changes : ℕ → ℕ → Progress → List ℕ → List Change
-body_changes number before p body =
-    word_changes number (before + feeds (tool_line (tool_before p body))) p body
+abbrev pub plain_changes : ℕ → ℕ → Progress → List ℕ → List Change
+plain_changes number before p body =
+    if not p.ended && has_odd_comment body
+    then change_at number (before + 1) rules.PlainComment ∷ [] else []
+
+abbrev pub parts_changes : ℕ → ℕ → Progress → List ℕ → List ℕ → List Change
+parts_changes number before p body read =
+    let above = before + feeds (tool_line (tool_before p read)) in
+    plain_changes number above p body ++ word_changes number above p read
+
+unfoldable pub source_changes : ℕ → ℕ → Progress → List ℕ → List Change
+source_changes number before p line =
+    parts_changes number before p (body_of line) (read_line p line)
 
 abbrev pub lines_changes : ℕ → ℕ → Progress → List (List ℕ) → List Change
 lines_changes number before p [] = []
 lines_changes number before p (line ∷ rest) =
-    body_changes number before p (body_of line)
+    source_changes number before p line
     ++ lines_changes (number + 1) (before + feeds (line_written p line)) (progress_after p line) rest
 
 abbrev pub program_changes : Request → List ℕ → List Change
 program_changes request file =
-    lines_changes 1 0 (start request (text_of file)) (lines_of (text_of file))
+    lines_changes 1 0 (start request (plain_text (text_of file))) (lines_of (text_of file))
 
 -- a line for each change and for each word that stands in the way, which tools are named, and how
 -- often each rule of words applied
 unfoldable pub program_report : Request → List ℕ → List ℕ
 program_report request file =
-    lines_report 1 0 (start request (text_of file)) (lines_of (text_of file))
+    lines_report 1 0 (start request (plain_text (text_of file))) (lines_of (text_of file))
     ++ (tools_text (tools_named (program_written request file))
     ++ counts_text (program_changes request file))

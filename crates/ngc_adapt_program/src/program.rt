@@ -16,8 +16,8 @@ use crate::request::Request;
 use crate::tools::{add_tools_report, tools_named};
 use itoa::Buffer;
 use ngc_adapt::{
-    Change, Facts, Modes, Rule, adapt_line, add_counts, body_length, byte_count, is_blank,
-    split_line, text_of,
+    Change, Facts, Modes, Rule, adapt_line, add_comment_report, add_counts, add_with_plain_comment,
+    body_length, byte_count, has_odd_comment, is_blank, split_line, text_of,
 };
 use ngc_adapt_moves::{Places, rewrite_line};
 use std::alloc::{AllocError, Allocator};
@@ -317,6 +317,30 @@ impl<A: Allocator> Writing<A> {
         Ok(())
     }
 
+    // Adds the change of a line's comment, and its report.
+    fn add_comment(
+        &mut self,
+        number: usize,
+        progress: &Progress,
+        body: &[u8],
+    ) -> Result<(), AllocError>
+        requires { self.old.before ≡ feeds self.old.text.items }
+        ensures report { IfOk result (λ _. self.new.report.items ≡ self.old.report.items
+            ++ spec.plain_report number self.old.before progress.now body.now) }
+        ensures changes { IfOk result (λ _. self.new.changes.items ≡ self.old.changes.items
+            ++ spec.plain_changes number self.old.before progress.now body.now) }
+        ensures same { (self.new.text ≡ self.old.text) × (self.new.is_left ≡ self.old.is_left)
+            × (self.new.before ≡ self.old.before) }
+    {
+        if progress.ended || !has_odd_comment(body) {
+            return Ok(());
+        }
+        let written = self.before + 1;
+        add_comment_report(number, written, body, &mut self.report)?;
+        add_changes(number, written, &[Rule::PlainComment], &mut self.changes)?;
+        Ok(())
+    }
+
     // Adds what the words of a line are rewritten to, and returns what they leave in force.
     fn add_words(
         &mut self,
@@ -482,8 +506,74 @@ fn add_body<A: Allocator + Copy>(
     Ok(after)
 }
 
+// Adds what is written of a line with these bytes, of which this is read, with its changes and their
+// report, and returns what it leaves.
+fn add_parts<A: Allocator + Copy>(
+    alloc: A,
+    number: usize,
+    progress: &Progress,
+    body: &[u8],
+    read: &[u8],
+    lacks_feed: bool,
+    out: &mut Writing<A>,
+) -> Result<Progress, AllocError>
+    requires { out.old.before ≡ spec.feeds out.old.text.items }
+    ensures text { IfOk result (λ _. out.new.text.items ≡ out.old.text.items
+        ++ (spec.tool_line (spec.tool_before progress.now read.now)
+        ++ spec.body_written progress.now read.now)) }
+    ensures report { IfOk result (λ _. out.new.report.items ≡ out.old.report.items
+        ++ spec.parts_report number out.old.before progress.now body.now read.now) }
+    ensures changes { IfOk result (λ _. out.new.changes.items ≡ out.old.changes.items
+        ++ spec.parts_changes number out.old.before progress.now body.now read.now) }
+    ensures left { IfOk result
+        (λ _. out.new.is_left ≡ (out.old.is_left || spec.is_left progress.now read.now)) }
+    ensures progress { IfOk result
+        (λ p. p ≡ spec.progress_after_body progress.now read.now lacks_feed) }
+{
+    out.add_tool(number, progress.tool_before(read))?;
+    out.add_comment(number, progress, body)?;
+    let after = add_body(alloc, number, progress, read, lacks_feed, out)?;
+    Ok(after)
+}
+
+// The same of a line with these bytes.
+fn add_read<A: Allocator + Copy>(
+    alloc: A,
+    number: usize,
+    progress: &Progress,
+    body: &[u8],
+    lacks_feed: bool,
+    out: &mut Writing<A>,
+) -> Result<Progress, AllocError>
+    requires { out.old.before ≡ spec.feeds out.old.text.items }
+    ensures text { IfOk result (λ _. out.new.text.items ≡ out.old.text.items
+        ++ (spec.tool_line (spec.tool_before progress.now (spec.read_of progress.now body.now))
+        ++ spec.body_written progress.now (spec.read_of progress.now body.now))) }
+    ensures report { IfOk result (λ _. out.new.report.items ≡ out.old.report.items
+        ++ spec.parts_report number out.old.before progress.now body.now
+        (spec.read_of progress.now body.now)) }
+    ensures changes { IfOk result (λ _. out.new.changes.items ≡ out.old.changes.items
+        ++ spec.parts_changes number out.old.before progress.now body.now
+        (spec.read_of progress.now body.now)) }
+    ensures left { IfOk result (λ _. out.new.is_left
+        ≡ (out.old.is_left || spec.is_left progress.now (spec.read_of progress.now body.now))) }
+    ensures progress { IfOk result (λ p. p
+        ≡ spec.progress_after_body progress.now (spec.read_of progress.now body.now) lacks_feed) }
+{
+    if progress.ended || !has_odd_comment(body) {
+        let after = add_parts(alloc, number, progress, body, body, lacks_feed, out)?;
+        return Ok(after);
+    }
+    let mut plain = Vec::new(alloc);
+    add_with_plain_comment(body, &mut plain)?;
+    let read = plain.as_slice();
+    let after = add_parts(alloc, number, progress, body, read, lacks_feed, out)?;
+    Ok(after)
+}
+
 // Adds what is written of a line, its changes and their report, and returns what it leaves. How many
 // lines the text has isn't counted.
+#[tactic(auto, unfolding(crate::specs::Programs::line_written, crate::specs::Programs::source_report, crate::specs::Programs::source_changes, crate::specs::Programs::source_left, crate::specs::Programs::progress_after))]
 fn add_source<A: Allocator + Copy>(
     alloc: A,
     number: usize,
@@ -495,16 +585,15 @@ fn add_source<A: Allocator + Copy>(
     ensures text { IfOk result
         (λ _. out.new.text.items ≡ out.old.text.items ++ spec.line_written progress.now line.now) }
     ensures report { IfOk result (λ _. out.new.report.items ≡ out.old.report.items
-        ++ spec.source_report number out.old.before progress.now (body_of line.now)) }
+        ++ spec.source_report number out.old.before progress.now line.now) }
     ensures changes { IfOk result (λ _. out.new.changes.items ≡ out.old.changes.items
-        ++ spec.body_changes number out.old.before progress.now (body_of line.now)) }
+        ++ spec.source_changes number out.old.before progress.now line.now) }
     ensures left { IfOk result
-        (λ _. out.new.is_left ≡ (out.old.is_left || spec.is_left progress.now (body_of line.now))) }
+        (λ _. out.new.is_left ≡ (out.old.is_left || spec.source_left progress.now line.now)) }
     ensures progress { IfOk result (λ p. p ≡ spec.progress_after progress.now line.now) }
 {
     let (body, end) = line.split_at(body_length(line));
-    out.add_tool(number, progress.tool_before(body))?;
-    let after = add_body(alloc, number, progress, body, !ends_with_feed(line), out)?;
+    let after = add_read(alloc, number, progress, body, !ends_with_feed(line), out)?;
     out.text.extend_from_slice(end)?;
     Ok(after)
 }
@@ -522,11 +611,11 @@ fn add_line<A: Allocator + Copy>(
     ensures text { IfOk result
         (λ _. out.new.text.items ≡ out.old.text.items ++ spec.line_written progress.now line.now) }
     ensures report { IfOk result (λ _. out.new.report.items ≡ out.old.report.items
-        ++ spec.source_report number out.old.before progress.now (body_of line.now)) }
+        ++ spec.source_report number out.old.before progress.now line.now) }
     ensures changes { IfOk result (λ _. out.new.changes.items ≡ out.old.changes.items
-        ++ spec.body_changes number out.old.before progress.now (body_of line.now)) }
+        ++ spec.source_changes number out.old.before progress.now line.now) }
     ensures left { IfOk result
-        (λ _. out.new.is_left ≡ (out.old.is_left || spec.is_left progress.now (body_of line.now))) }
+        (λ _. out.new.is_left ≡ (out.old.is_left || spec.source_left progress.now line.now)) }
     ensures before { IfOk result (λ _. out.new.before
         ≡ out.old.before + spec.feeds (spec.line_written progress.now line.now)) }
     ensures progress { IfOk result (λ p. p ≡ spec.progress_after progress.now line.now) }
@@ -598,26 +687,45 @@ fn add_ending<A: Allocator>(
     Ok(())
 }
 
-// Adds what is written of a text, with its changes and their report.
+// A text of lines whose first comments our language can read.
+#[tactic(auto, unfolding(crate::specs::Programs::plain_text))]
+fn plain_text<A: Allocator>(alloc: A, text: &[u8]) -> Result<Vec<u8, A>, AllocError>
+    ensures { IfOk result (λ plain. plain.items ≡ spec.plain_text text.now) }
+{
+    let mut plain = Vec::with_capacity(alloc, text.len())?;
+    let mut rest = text;
+    while !rest.is_empty() {
+        let (line, others) = split_line(rest);
+        let (body, end) = line.split_at(body_length(line));
+        add_with_plain_comment(body, &mut plain)?;
+        plain.extend_from_slice(end)?;
+        rest = others;
+    }
+    Ok(plain)
+}
+
+// Adds what is written of a text, with its changes and their report. The other text is the same with
+// plain comments.
 fn add_lines<A: Allocator + Copy>(
     alloc: A,
     request: &Request,
     source: &[u8],
+    plain: &[u8],
     out: &mut Writing<A>,
 ) -> Result<(), AllocError>
     requires text { out.old.text.items ≡ [] }
     requires before { out.old.before ≡ 0 }
     requires left { out.old.is_left ≡ false }
     ensures text { IfOk result (λ _. out.new.text.items
-        ≡ spec.lines_written (spec.start request.now source.now) (lines_of source.now)) }
+        ≡ spec.lines_written (spec.start request.now plain.now) (lines_of source.now)) }
     ensures report { IfOk result (λ _. out.new.report.items ≡ out.old.report.items
-        ++ spec.lines_report 1 0 (spec.start request.now source.now) (lines_of source.now)) }
+        ++ spec.lines_report 1 0 (spec.start request.now plain.now) (lines_of source.now)) }
     ensures changes { IfOk result (λ _. out.new.changes.items ≡ out.old.changes.items
-        ++ spec.lines_changes 1 0 (spec.start request.now source.now) (lines_of source.now)) }
+        ++ spec.lines_changes 1 0 (spec.start request.now plain.now) (lines_of source.now)) }
     ensures left { IfOk result (λ _. out.new.is_left
-        ≡ spec.lines_left (spec.start request.now source.now) (lines_of source.now)) }
+        ≡ spec.lines_left (spec.start request.now plain.now) (lines_of source.now)) }
 {
-    let mut progress = Progress::start(request, source);
+    let mut progress = Progress::start(request, plain);
     let mut number = 1;
     let mut rest = source;
     while !rest.is_empty() {
@@ -648,6 +756,7 @@ pub fn adapt_program<A: Allocator + Copy>(
     ensures left { IfOk result (λ a. a.is_left ≡ spec.program_left request.now file.now) }
 {
     let source = text_of(alloc, file)?;
+    let plain = plain_text(alloc, source.as_slice())?;
     let mut out = Writing {
         text: Vec::with_capacity(alloc, file.len())?,
         report: Vec::new(alloc),
@@ -655,7 +764,13 @@ pub fn adapt_program<A: Allocator + Copy>(
         is_left: false,
         before: 0,
     };
-    add_lines(alloc, request, source.as_slice(), &mut out)?;
+    add_lines(
+        alloc,
+        request,
+        source.as_slice(),
+        plain.as_slice(),
+        &mut out,
+    )?;
     let tools = tools_named(alloc, out.text.as_slice())?;
     add_tools_report(tools.as_slice(), &mut out.report)?;
     add_counts(out.changes.as_slice(), &mut out.report)?;

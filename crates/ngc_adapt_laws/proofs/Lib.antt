@@ -1,0 +1,10 @@
+-- Texts of bytes that neither begin a comment nor end one.
+pub mod Shown
+-- Numbers, and words with them.
+pub mod Words
+-- Lines of words.
+pub mod Lines
+-- Lines of which words are left out.
+pub mod LeftOut
+-- Lines worked by hand.
+pub mod Examples
