@@ -3,6 +3,7 @@ use Rattle.std.proofs.Common.{◌≡◌, List, ◌++◌, Bool, ap₂}
 use Rattle.ngc_commands.specs.declared.command.Command.{Command}
 use Rattle.ngc_certificate_text.specs.Certificate.{Entry}
 use Rattle.ngc_certificate_text.specs.declared.piece.Setting.{Setting}
+use Rattle.ngc_line_reader.specs.Program.{Line}
 use Rattle.ngc_machine.specs.Machine.{MachineFile}
 use Rattle.ngc_machine.specs.declared.tools.Tool.{Tool}
 use Rattle.ngc_report.specs.Forms.{closing}
@@ -10,11 +11,11 @@ use Rattle.ngc_report.specs.declared.form.Form.{Form}
 use Rattle.ngc_program_report.specs.Texts.{setting_text, shop_text}
 use Rattle.ngc_program_report.specs.Times.{ProgramTimeData}
 
-pub setting_as : (form : Form) (first named : Bool) (s : Setting) (entries : List Entry) (time : ProgramTimeData) (machine own : MachineFile)
+pub setting_as : (form : Form) (first named : Bool) (s : Setting) (entries : List Entry) (time : ProgramTimeData) (lines : List Line) (machine own : MachineFile)
     (commands given : List Command) → machine ≡ own → commands ≡ given
-    → setting_text form first named s machine commands entries time ≡ setting_text form first named s own given entries time
-setting_as form first named s entries time machine own commands given is are =
-    ap₂ (λ (m : MachineFile) (cs : List Command). setting_text form first named s m cs entries time) is are
+    → setting_text form first named s machine commands entries time lines ≡ setting_text form first named s own given entries time lines
+setting_as form first named s entries time lines machine own commands given is are =
+    ap₂ (λ (m : MachineFile) (cs : List Command). setting_text form first named s m cs entries time lines) is are
 
 pub shop_as : (form : Form) (machine own : MachineFile) (tools given : List Tool) → machine ≡ own → tools ≡ given
     → shop_text form (record { machine = machine; tools = tools }) ++ closing form ≡ shop_text form (record { machine = own; tools = given }) ++ closing form

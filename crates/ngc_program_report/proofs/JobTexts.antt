@@ -17,11 +17,11 @@ use Rattle.ngc_program_report.specs.Texts.{LastsFor, accepted_text, fits_text, i
 use Rattle.ngc_program_report.specs.Times.{ProgramTimeData}
 
 -- what was accepted of a job is told as the job is
-pub accepted_as : (j : JobData) (c : CertificateData) (form : Form) (apart : Bool) (off_time on_time : ProgramTimeData) → apart ≡ is_some j.on
-    → accepted_text form apart (accepted_of j) c off_time on_time
-    ≡ fits_text form (is_some j.on) (setup_in j) j.off (commands_in true j) c off_time on_time
-accepted_as j c form apart off_time on_time is =
-    ap (λ (d : Bool). fits_text form d (setup_in j) j.off (commands_in true j) c off_time on_time) is
+pub accepted_as : (j : JobData) (c : CertificateData) (form : Form) (apart : Bool) (off_time on_time : ProgramTimeData) (lines : List Line) → apart ≡ is_some j.on
+    → accepted_text form apart (accepted_of j) c off_time on_time lines
+    ≡ fits_text form (is_some j.on) (setup_in j) j.off (commands_in true j) c off_time on_time lines
+accepted_as j c form apart off_time on_time lines is =
+    ap (λ (d : Bool). fits_text form d (setup_in j) j.off (commands_in true j) c off_time on_time lines) is
 
 -- where no line begins with `/` both settings have the same commands
 pub alike : (off : List Command) (on : Option (List Command)) → is_some on ≡ false → on_or off on ≡ off
@@ -40,15 +40,15 @@ lasts_on a j time is lasts = subst (λ (x : AcceptedData). LastsFor x.machine (c
 pub lasts_alike : (j : JobData) (time : ProgramTimeData) → is_some j.on ≡ false → LastsFor j.machine j.off time → LastsFor j.machine (commands_in true j) time
 lasts_alike j time none lasts = subst (λ (cs : List Command). LastsFor j.machine cs time) (sym (alike j.off j.on none)) lasts
 
-pub fit_text : (j : JobData) (c : CertificateData) (form : Form) (apart : Bool) (a : AcceptedData) (off_time on_time : ProgramTimeData) → apart ≡ is_some j.on
+pub fit_text : (j : JobData) (c : CertificateData) (form : Form) (apart : Bool) (a : AcceptedData) (off_time on_time : ProgramTimeData) (lines : List Line) → apart ≡ is_some j.on
     → a ≡ accepted_of j → LastsFor j.machine j.off off_time → LastsFor j.machine (commands_in true j) on_time
-    → IsFitText j c form (accepted_text form apart a c off_time on_time)
-fit_text j c form apart a off_time on_time is_apart is off_lasts on_lasts = record {
+    → IsFitText j c form lines (accepted_text form apart a c off_time on_time lines)
+fit_text j c form apart a off_time on_time lines is_apart is off_lasts on_lasts = record {
   off_time = off_time;
   off_lasts = off_lasts;
   on_time = on_time;
   on_lasts = on_lasts;
-  tells = ap (λ (x : AcceptedData). accepted_text form apart x c off_time on_time) is ∙ accepted_as j c form apart off_time on_time is_apart;
+  tells = ap (λ (x : AcceptedData). accepted_text form apart x c off_time on_time lines) is ∙ accepted_as j c form apart off_time on_time lines is_apart;
 }
 
 -- ---- what is in the way

@@ -30,15 +30,15 @@ use Rattle.ngc_program_report.specs.Times.{ProgramTimeData}
 abbrev pub setup_in : JobData → Setup
 setup_in j = record { machine = j.machine; tools = j.tools }
 
--- the report of a job for which this certificate is made
-pub record IsFitText (j : JobData) (c : CertificateData) (form : Form) (text : List ℕ) :
-    Type 0 where
+-- the report of a job for which this certificate is made, of a program with these lines
+pub record IsFitText (j : JobData) (c : CertificateData) (form : Form) (lines : List Line)
+    (text : List ℕ) : Type 0 where
   pub off_time : ProgramTimeData
   pub off_lasts : LastsFor j.machine j.off off_time
   pub on_time : ProgramTimeData
   pub on_lasts : LastsFor j.machine (commands_in true j) on_time
   pub tells : text ≡ fits_text form (is_some j.on) (setup_in j) j.off (commands_in true j) c
-      off_time on_time
+      off_time on_time lines
 
 -- the report of a program with a valid certificate tells of no side on which something is missing
 abbrev pub ValidStaysInside : Type 0

@@ -25,6 +25,7 @@ use Rattle.ngc_report.specs.Reports.{all_lines, fit_lines, refusal_lines}
 use Rattle.ngc_report.specs.Warnings.{warning_lines}
 use Rattle.ngc_report.specs.declared.form.Form.{Form}
 use Rattle.ngc_report.specs.declared.form.Form.TheVariants.{Words, Json}
+use Rattle.ngc_word_warnings.specs.Spelling.{word_warnings}
 use Rattle.ngc_setup_sheet.specs.Sheets.{warning_facts, warnings_text}
 use Rattle.ngc_program_report.specs.declared.run_time.RunTime.{RunTime}
 use Rattle.ngc_program_report.specs.Met.{met_at}
@@ -73,13 +74,23 @@ abbrev pub heading : Form → Bool → Bool → Setting → List ℕ
 heading form first named s =
     (if first then opening form else []) ++ (if named then setting_line form s else [])
 
+abbrev pub is_on : Setting → Bool
+is_on Off = false
+is_on On = true
+
+-- what looks wrong at a setting: of the commands there, and of the words of the program's lines
+abbrev pub remarks : Form → Setting → MachineFile → List Command → List Line → List ℕ
+remarks form s machine commands lines =
+    report_text form (warning_lines machine commands)
+    ++ word_warnings form (is_on s) commands lines
+
 -- what fits at a setting, how long it takes, and what looks wrong there
 abbrev pub setting_text : Form → Bool → Bool → Setting → MachineFile → List Command → List Entry →
-    ProgramTimeData → List ℕ
-setting_text form first named s machine commands motions time =
+    ProgramTimeData → List Line → List ℕ
+setting_text form first named s machine commands motions time lines =
     heading form first named s
     ++ (report_text form (fit_lines machine commands motions)
-    ++ (duration_text form commands time ++ report_text form (warning_lines machine commands)))
+    ++ (duration_text form commands time ++ remarks form s machine commands lines))
 
 -- what looks wrong of the machine and of its tools
 abbrev pub shop_text : Form → Setup → List ℕ
@@ -88,20 +99,20 @@ shop_text Json setup = warning_facts setup.machine setup.tools
 
 -- at both settings, or once where they are alike; and the shop
 abbrev pub fits_text : Form → Bool → Setup → List Command → List Command → CertificateData →
-    ProgramTimeData → ProgramTimeData → List ℕ
-fits_text form false setup off on c off_time on_time =
-    setting_text form true false Off setup.machine off c.off off_time
+    ProgramTimeData → ProgramTimeData → List Line → List ℕ
+fits_text form false setup off on c off_time on_time lines =
+    setting_text form true false Off setup.machine off c.off off_time lines
     ++ (shop_text form setup ++ closing form)
-fits_text form true setup off on c off_time on_time =
-    setting_text form true true Off setup.machine off c.off off_time
-    ++ (setting_text form false true On setup.machine on c.on on_time
+fits_text form true setup off on c off_time on_time lines =
+    setting_text form true true Off setup.machine off c.off off_time lines
+    ++ (setting_text form false true On setup.machine on c.on on_time lines
     ++ (shop_text form setup ++ closing form))
 
 -- of what was accepted
 abbrev pub accepted_text : Form → Bool → AcceptedData → CertificateData → ProgramTimeData →
-    ProgramTimeData → List ℕ
-accepted_text form named a c off_time on_time = fits_text form named
-    (record { machine = a.machine; tools = a.tools }) a.off a.on c off_time on_time
+    ProgramTimeData → List Line → List ℕ
+accepted_text form named a c off_time on_time lines = fits_text form named
+    (record { machine = a.machine; tools = a.tools }) a.off a.on c off_time on_time lines
 
 -- the number of the fault that is answered, which `ngc explain` knows more of
 abbrev pub hint : Form → ℕ → List ℕ
@@ -180,7 +191,3 @@ fault_text form named s programs.Memory lines = []
 abbrev pub commands_of : Setting → List Command → List Command → List Command
 commands_of Off off on = off
 commands_of On off on = on
-
-abbrev pub is_on : Setting → Bool
-is_on Off = false
-is_on On = true

@@ -1,5 +1,5 @@
 //! How the reports of programs that fit are written.
-ghost use Rattle.std.specs.Prelude.{◌++◌, OnOk, OnErr, true, false};
+ghost use Rattle.std.specs.Prelude.{◌≡◌, ◌++◌, OnOk, OnErr, true, false};
 ghost use Rattle.std.specs.Io.KnownBytes.{Appends};
 ghost use Rattle.ngc_canonical.specs.Interpreter.{setup_of};
 ghost use Rattle.ngc_certificate_text.specs.Certificate.{entries_at};
@@ -8,8 +8,9 @@ ghost use Rattle.ngc_text.specs.Failures.{CountsFailure};
 ghost use Rattle.ngc_text.specs.Written.{AppendsBeginning};
 ghost use Rattle.ngc_machine.specs.Machine.{file_of};
 ghost use Rattle.ngc_report.specs.Forms.{closing};
-ghost use Rattle.ngc_program_report.specs.Texts.{accepted_text, duration_text, setting_text, shop_text};
-ghost use Rattle.ngc_program_report.specs.Texts.{takes_line};
+ghost use Rattle.ngc_line_reader.specs.ProgramView.{text_in};
+ghost use Rattle.ngc_program_report.specs.Texts.{accepted_text, duration_text, is_on, remarks};
+ghost use Rattle.ngc_program_report.specs.Texts.{setting_text, shop_text, takes_line};
 
 use crate::program_time::ProgramTime;
 use crate::report_frame::{closing, write_heading};
@@ -20,10 +21,12 @@ use ngc_certificate::Setting;
 use ngc_certificate_text::Certificate;
 use ngc_checker::Accepted;
 use ngc_commands::Command;
+use ngc_line_reader::Program;
 use ngc_machine::{Machine, Tools};
 use ngc_report::{Form, write_fit, write_warnings};
 use ngc_setup_sheet::{write_warning_facts, write_warnings as write_shop_warnings};
 use ngc_text::{Chunk, Sink, WriteFault, write_all};
+use ngc_word_warnings::write_word_warnings;
 use std::alloc::Allocator;
 
 fn write_takes_line<W: Sink>(form: Form, time: &RunTime, output: &mut W) -> Result<(), WriteFault>
@@ -58,9 +61,41 @@ fn write_duration<A: Allocator, W: Sink>(
     write_use_times(form, commands, time, output)
 }
 
+// Whether block delete takes out lines at a setting.
+pub(crate) fn is_on(setting: Setting) -> bool
+    ensures { result ≡ is_on setting }
+{
+    match setting {
+        Setting::Off => false,
+        Setting::On => true,
+    }
+}
+
+// What looks wrong at a setting.
+fn write_remarks<A: Allocator, W: Sink>(
+    form: Form,
+    program: &Program<A>,
+    setting: Setting,
+    machine: &Machine<A>,
+    commands: &[Command],
+    output: &mut W,
+) -> Result<(), WriteFault>
+    ensures ok { OnOk result
+        (Appends (W.written output.old) (W.written output.new)
+        (remarks form setting (file_of machine.now) commands.now (text_in program.now).lines)) }
+    ensures fault { OnErr result
+        (AppendsBeginning (W.written output.old) (W.written output.new)
+        (remarks form setting (file_of machine.now) commands.now (text_in program.now).lines)) }
+    ensures counts { CountsFailure (W.failures output.old) (W.failures output.new) result }
+{
+    write_warnings(form, machine, commands, output)?;
+    write_word_warnings(form, is_on(setting), program, commands, output)
+}
+
 // What fits at a setting, how long it takes, and what looks wrong there.
 fn write_setting<A: Allocator, W: Sink>(
     form: Form,
+    program: &Program<A>,
     first: bool,
     machine: &Machine<A>,
     named: bool,
@@ -73,11 +108,11 @@ fn write_setting<A: Allocator, W: Sink>(
     ensures ok { OnOk result
         (Appends (W.written output.old) (W.written output.new)
         (setting_text form first named setting (file_of machine.now) commands.now
-        (entries_at setting (said_of certificate.now)) time.now)) }
+        (entries_at setting (said_of certificate.now)) time.now (text_in program.now).lines)) }
     ensures fault { OnErr result
         (AppendsBeginning (W.written output.old) (W.written output.new)
         (setting_text form first named setting (file_of machine.now) commands.now
-        (entries_at setting (said_of certificate.now)) time.now)) }
+        (entries_at setting (said_of certificate.now)) time.now (text_in program.now).lines)) }
     ensures counts { CountsFailure (W.failures output.old) (W.failures output.new) result }
 {
     write_heading(form, first, named, setting, output)?;
@@ -89,7 +124,7 @@ fn write_setting<A: Allocator, W: Sink>(
         output,
     )?;
     write_duration(form, commands, time, output)?;
-    write_warnings(form, machine, commands, output)
+    write_remarks(form, program, setting, machine, commands, output)
 }
 
 // What looks wrong of the machine and of its tools.
@@ -135,6 +170,7 @@ fn write_fit_end<A: Allocator, W: Sink>(
 // What fits at both settings, which are alike.
 pub(crate) fn write_once<A: Allocator, W: Sink>(
     form: Form,
+    program: &Program<A>,
     accepted: &Accepted<A>,
     certificate: &Certificate<A>,
     time: &ProgramTime<A>,
@@ -142,16 +178,19 @@ pub(crate) fn write_once<A: Allocator, W: Sink>(
 ) -> Result<(), WriteFault>
     ensures ok { OnOk result
         (Appends (W.written output.old) (W.written output.new)
-        (accepted_text form false accepted.now (said_of certificate.now) time.now time.now)) }
+        (accepted_text form false accepted.now (said_of certificate.now) time.now time.now
+        (text_in program.now).lines)) }
     ensures fault { OnErr result
         (AppendsBeginning (W.written output.old) (W.written output.new)
-        (accepted_text form false accepted.now (said_of certificate.now) time.now time.now)) }
+        (accepted_text form false accepted.now (said_of certificate.now) time.now time.now
+        (text_in program.now).lines)) }
     ensures counts { CountsFailure (W.failures output.old) (W.failures output.new) result }
 {
     let (machine, tools) = (accepted.machine(), accepted.tools());
     let off = accepted.commands(false);
     write_setting(
         form,
+        program,
         true,
         machine,
         false,
@@ -167,6 +206,7 @@ pub(crate) fn write_once<A: Allocator, W: Sink>(
 // What fits at each setting.
 pub(crate) fn write_both<A: Allocator, W: Sink>(
     form: Form,
+    program: &Program<A>,
     accepted: &Accepted<A>,
     certificate: &Certificate<A>,
     off_time: &ProgramTime<A>,
@@ -176,17 +216,18 @@ pub(crate) fn write_both<A: Allocator, W: Sink>(
     ensures ok { OnOk result
         (Appends (W.written output.old) (W.written output.new)
         (accepted_text form true accepted.now (said_of certificate.now) off_time.now
-        on_time.now)) }
+        on_time.now (text_in program.now).lines)) }
     ensures fault { OnErr result
         (AppendsBeginning (W.written output.old) (W.written output.new)
         (accepted_text form true accepted.now (said_of certificate.now) off_time.now
-        on_time.now)) }
+        on_time.now (text_in program.now).lines)) }
     ensures counts { CountsFailure (W.failures output.old) (W.failures output.new) result }
 {
     let (machine, tools) = (accepted.machine(), accepted.tools());
     let off = accepted.commands(false);
     write_setting(
         form,
+        program,
         true,
         machine,
         true,
@@ -199,6 +240,7 @@ pub(crate) fn write_both<A: Allocator, W: Sink>(
     let on = accepted.commands(true);
     write_setting(
         form,
+        program,
         false,
         machine,
         true,

@@ -12,9 +12,8 @@ ghost use Rattle.ngc_line_reader.specs.ProgramView.{text_in};
 ghost use Rattle.ngc_program_report.specs.JobReports.{FailsByWriting, IsFitText, IsRefusalText};
 ghost use Rattle.ngc_program_report.specs.JobReports.{IsRefusalsText, IsStartClear, OffBegins};
 ghost use Rattle.ngc_program_report.specs.JobReports.{OnBegins, Tells, first_text};
-ghost use Rattle.ngc_program_report.specs.Texts.{is_on};
 
-use crate::fit_writer::{write_both, write_once};
+use crate::fit_writer::{is_on, write_both, write_once};
 use crate::refusal_writer::{is_start_refused, write_all_both, write_all_once, write_refused};
 use crate::report_fault::ReportFault;
 use crate::request::ReportRequest;
@@ -27,21 +26,14 @@ use ngc_report::Form;
 use ngc_text::{Sink, WriteFault};
 use std::alloc::Allocator;
 
-fn is_on(setting: Setting) -> bool
-    ensures { result ≡ is_on setting }
-{
-    match setting {
-        Setting::Off => false,
-        Setting::On => true,
-    }
-}
-
 /// Writes the report of a job for which a certificate was made: how far it goes and with how much
-/// room, how each tool is used, how long it takes, and what looks wrong. Nothing is written before
+/// room, how each tool is used, how long it takes, and what looks wrong of its commands and of the
+/// words of the program. Nothing is written before
 /// it is known how long the job takes, nor for want of memory (900); where a write fails (902), a
 /// beginning is written.
 pub fn report_fit<A: Allocator + Copy, W: Sink>(
     alloc: A,
+    program: &Program<A>,
     job: Job<A>,
     certificate: &Certificate<A>,
     form: Form,
@@ -49,19 +41,28 @@ pub fn report_fit<A: Allocator + Copy, W: Sink>(
 ) -> Result<(), ReportFault>
     requires off { IsValid job.machine job.off (said_of certificate.now).off }
     requires on { IsValid job.machine (commands_in true job) (said_of certificate.now).on }
-    ensures tells { Tells (IsFitText job (said_of certificate.now) form) (W.written output.old)
-        (W.written output.new) result }
+    ensures tells { Tells
+        (IsFitText job (said_of certificate.now) form (text_in program.now).lines)
+        (W.written output.old) (W.written output.new) result }
     ensures counts { FailsByWriting result (W.failures output.old) (W.failures output.new) }
 {
     let apart = job.has_deleted_lines();
     let accepted = accept(job, certificate);
     let (off_time, accepted) = time_of(alloc, accepted, false)?;
     if !apart {
-        write_once(form, &accepted, certificate, &off_time, output)?;
+        write_once(form, program, &accepted, certificate, &off_time, output)?;
         return Ok(());
     }
     let (on_time, accepted) = time_of(alloc, accepted, true)?;
-    write_both(form, &accepted, certificate, &off_time, &on_time, output)?;
+    write_both(
+        form,
+        program,
+        &accepted,
+        certificate,
+        &off_time,
+        &on_time,
+        output,
+    )?;
     Ok(())
 }
 

@@ -70,7 +70,7 @@ pub use form::Form;
 pub use gaps::gap;
 pub use line::{Along, Line};
 pub use margins::{Axis, Margin, Side};
-pub use marks::{mark_of, write_named};
+pub use marks::{letter_byte, mark_of, write_named, written_number};
 pub use nearest::Nearest;
 pub use quotes::write_line;
 pub use refusals::write_refusals;

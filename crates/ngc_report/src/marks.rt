@@ -22,7 +22,8 @@ use ngc_modal_state::{MissingWord, ModalFault};
 use ngc_text::{Chunk, Sink, WriteFault};
 use std::alloc::Allocator;
 
-fn letter_byte(letter: Letter) -> u8
+/// Returns the byte that spells a letter, in upper case.
+pub fn letter_byte(letter: Letter) -> u8
     ensures { result ≡ letter_byte letter }
 {
     match letter {
@@ -68,7 +69,9 @@ fn number_of(symbol: Symbol) -> Option<i64>
     }
 }
 
-fn written_number(tokens: &[Token], word: &RawWord) -> Option<i64>
+/// Returns the number that a word's value is written as, in millionths, among the tokens of its
+/// line, or `None` where the value has brackets or a parameter.
+pub fn written_number(tokens: &[Token], word: &RawWord) -> Option<i64>
     ensures { result ≡ written_number tokens.now word.now }
 {
     match tokens.get(usize::from(word.first)) {

@@ -29,9 +29,9 @@ returns-clause-ok g c =
     let fits = appends_as _ _ _ _
     (ap (λ motions. report_text c.args.form (fit_lines (file_of c.args.machine.now) c.args.commands.now motions)) c.motions.ensures)
     c.in_ok-write_fit.ensures.ok in
-    ok_weaker c.write_warnings.result _ _
+    ok_weaker c.write_remarks.result _ _
     (λ wrote. appends_both _ _ _ _ _ head (appends_both _ _ _ _ _ fits (appends_both _ _ _ _ _ c.in_ok-write_duration.ensures.ok wrote)))
-    c.write_warnings.ensures.ok
+    c.write_remarks.ensures.ok
 
 pub returns-clause-fault : goal.returns-clause-fault
 returns-clause-fault g c =
@@ -39,6 +39,6 @@ returns-clause-fault g c =
     let fits = appends_as _ _ _ _
     (ap (λ motions. report_text c.args.form (fit_lines (file_of c.args.machine.now) c.args.commands.now motions)) c.motions.ensures)
     c.in_ok-write_fit.ensures.ok in
-    err_weaker c.write_warnings.result _ _
+    err_weaker c.write_remarks.result _ _
     (λ wrote. begins_last _ _ _ _ _ head (begins_last _ _ _ _ _ fits (begins_last _ _ _ _ _ c.in_ok-write_duration.ensures.ok wrote)))
-    c.write_warnings.ensures.fault
+    c.write_remarks.ensures.fault

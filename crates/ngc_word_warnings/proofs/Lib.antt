@@ -1,0 +1,2 @@
+-- What is found over lines, one line further.
+pub mod Further

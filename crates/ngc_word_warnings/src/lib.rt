@@ -1,0 +1,21 @@
+//! What the words of a program say that passes and is nearly always a mistake.
+//!
+//! Each kind is a line of text, or a fact of a JSON document, with the number of the program's
+//! lines that it is about and the first of them:
+//!
+//! ```text
+//! warning: T words of tools that are never mounted: 1, the first in line 5: write M6 T3.
+//! warning: G43 with the H of another tool: 1, the first in line 8: H2, but tool 1 is mounted.
+//! warning: G28 or G30 with one or two axis words, each 0: 1, the first in line 12: X, Y and Z all go home.
+//! ```
+#![tactic(auto)]
+
+mod said;
+mod slip;
+mod slips;
+mod spelling;
+mod written;
+
+pub use slip::{Found, Kind, Slip, Slips};
+pub use slips::slips_of;
+pub use written::write_word_warnings;

@@ -1,0 +1,103 @@
+//! What a line of a program says in words that are written as numbers.
+ghost use Rattle.std.specs.Prelude.{◌≡◌, find};
+ghost use Rattle.ngc_line_reader.specs.ScanLine.{parts_of};
+ghost use Rattle.ngc_word_warnings.specs.Slips.{axis_words, count_if, has_code, has_letter};
+ghost use Rattle.ngc_word_warnings.specs.Slips.{has_word, is_code, is_number, is_zero};
+ghost use Rattle.ngc_word_warnings.specs.Slips.{number_behind, zero_words};
+
+use ngc_line_reader::{Letter, Line, RawWord, Token};
+use ngc_report::{letter_byte, written_number};
+
+fn has_letter(letter: Letter, word: &RawWord) -> bool
+    ensures { result ≡ has_letter letter word.now }
+{
+    letter_byte(word.letter) == letter_byte(letter)
+}
+
+fn is_number(number: i64, written: Option<i64>) -> bool
+    ensures { result ≡ is_number number written }
+{
+    match written {
+        Some(written) => written == number,
+        None => false,
+    }
+}
+
+fn is_code(letter: Letter, number: i64, tokens: &[Token], word: &RawWord) -> bool
+    ensures { result ≡ is_code letter number tokens.now word.now }
+{
+    has_letter(letter, word) && is_number(number, written_number(tokens, word))
+}
+
+fn word_behind(line: &Line, letter: Letter) -> Option<RawWord>
+    ensures { result ≡ find (has_letter letter) line.now.words.items }
+{
+    line.words
+        .as_slice()
+        .iter()
+        .find(|word| has_letter(letter, word))
+        .copied()
+}
+
+// Whether the line has a word with a letter.
+fn has_word(line: &Line, letter: Letter) -> bool
+    ensures { result ≡ has_word letter (parts_of line.now) }
+{
+    line.words
+        .as_slice()
+        .iter()
+        .any(|word| has_letter(letter, word))
+}
+
+/// Whether the line has a word that is written as this letter and number, in millionths.
+pub(crate) fn has_code(line: &Line, letter: Letter, number: i64) -> bool
+    ensures { result ≡ has_code letter number (parts_of line.now) }
+{
+    let tokens = line.tokens.as_slice();
+    line.words
+        .as_slice()
+        .iter()
+        .any(|word| is_code(letter, number, tokens, word))
+}
+
+fn count_if(is_so: bool) -> u8
+    ensures { result ≡ count_if is_so }
+{
+    if is_so { 1 } else { 0 }
+}
+
+/// How many of the words X, Y and Z the line has.
+pub(crate) fn axis_words(line: &Line) -> u8
+    ensures { result ≡ axis_words (parts_of line.now) }
+{
+    count_if(has_word(line, Letter::X))
+        + count_if(has_word(line, Letter::Y))
+        + count_if(has_word(line, Letter::Z))
+}
+
+// Whether the line has 0 behind a letter.
+fn is_zero(line: &Line, letter: Letter) -> bool
+    ensures { result ≡ is_zero letter (parts_of line.now) }
+{
+    is_number(0, number_behind(line, letter))
+}
+
+/// How many of the words X, Y and Z the line has that are written as 0.
+pub(crate) fn zero_words(line: &Line) -> u8
+    ensures { result ≡ zero_words (parts_of line.now) }
+{
+    count_if(is_zero(line, Letter::X))
+        + count_if(is_zero(line, Letter::Y))
+        + count_if(is_zero(line, Letter::Z))
+}
+
+/// The number that the line has behind a letter, in millionths, or `None` where no such word is
+/// written as a number.
+pub(crate) fn number_behind(line: &Line, letter: Letter) -> Option<i64>
+    ensures { result ≡ number_behind letter (parts_of line.now) }
+{
+    match word_behind(line, letter) {
+        Some(word) => written_number(line.tokens.as_slice(), &word),
+        None => None,
+    }
+}

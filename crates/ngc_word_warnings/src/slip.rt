@@ -1,0 +1,38 @@
+/// A kind of mistake in the words of a line.
+#[derive(Clone, Copy)]
+pub enum Kind {
+    /// A T word with the number of a tool that no command of the program mounts.
+    Unmounted,
+    /// G43 with the H of another tool than the one that is mounted then; H0 is no tool's.
+    OtherOffset,
+    /// G28 or G30 with one or two of the words X, Y and Z, each 0. Other controls move only those
+    /// axes home.
+    PartHome,
+}
+
+/// A mistake in the words of a line, with the numbers that it is about.
+#[derive(Clone, Copy)]
+pub enum Slip {
+    /// The number behind T, in millionths, of a tool that no command mounts.
+    Unmounted { tool: i64 },
+    /// The number behind H, in millionths, and that of the tool that is mounted.
+    OtherOffset { offset: i64, tool: u32 },
+    /// G28 or G30 with some axis words, each 0.
+    PartHome,
+}
+
+/// A mistake with its line.
+#[derive(Clone, Copy)]
+pub struct Found {
+    /// The number of the line in the file, from 1.
+    pub line: u32,
+    pub slip: Slip,
+}
+
+/// The mistakes of a kind in a program.
+#[derive(Clone, Copy)]
+pub struct Slips {
+    pub first: Found,
+    /// How many lines have one, at least 1.
+    pub count: usize,
+}

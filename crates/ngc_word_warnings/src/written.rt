@@ -1,0 +1,91 @@
+//! How all mistakes in the words of a program are written.
+ghost use Rattle.std.specs.Prelude.{◌≡◌, ◌+◌, ◌≤◌, ◌++◌, length, OnOk, OnErr};
+ghost use Rattle.std.specs.Io.KnownBytes.{Appends};
+ghost use Rattle.ngc_text.specs.Collected.{CHUNK_SIZE};
+ghost use Rattle.ngc_text.specs.Failures.{CountsFailure};
+ghost use Rattle.ngc_text.specs.Written.{AppendsBeginning};
+ghost use Rattle.ngc_line_reader.specs.ProgramView.{text_in};
+ghost use Rattle.ngc_word_warnings.specs.Spelling.{kind_line, word_warnings};
+
+use crate::slip::Kind;
+use crate::slips::slips_of;
+use crate::spelling::add_slips;
+use ngc_commands::Command;
+use ngc_line_reader::Program;
+use ngc_report::Form;
+use ngc_text::{Chunk, Sink, WriteFault};
+use std::alloc::Allocator;
+
+fn add_kind<A: Allocator>(
+    chunk: &mut Chunk,
+    form: Form,
+    kind: Kind,
+    deletes: bool,
+    program: &Program<A>,
+    commands: &[Command],
+)
+    requires { length chunk.old + 400 ≤ CHUNK_SIZE }
+    ensures text { chunk.new ≡ chunk.old
+        ++ kind_line form kind deletes commands.now (text_in program.now).lines }
+    ensures short { length chunk.new ≤ length chunk.old + 400 }
+{
+    add_slips(chunk, form, &slips_of(kind, deletes, program, commands));
+}
+
+fn warnings_of<A: Allocator>(
+    form: Form,
+    deletes: bool,
+    program: &Program<A>,
+    commands: &[Command],
+) -> Chunk
+    ensures { result ≡ word_warnings form deletes commands.now (text_in program.now).lines }
+{
+    let mut chunk = Chunk::new();
+    add_kind(
+        &mut chunk,
+        form,
+        Kind::Unmounted,
+        deletes,
+        program,
+        commands,
+    );
+    add_kind(
+        &mut chunk,
+        form,
+        Kind::OtherOffset,
+        deletes,
+        program,
+        commands,
+    );
+    add_kind(&mut chunk, form, Kind::PartHome, deletes, program, commands);
+    chunk
+}
+
+/// Writes what the words of a program say that is nearly always a mistake, where block delete
+/// takes out lines or not, and the program gives these commands there: T words of tools that are
+/// never mounted, G43 with the H of another tool than the mounted one, and G28 or G30 with one or
+/// two axis words, each 0, where other controls move only these axes home. Each kind that there is has a line with the number of the program's lines that
+/// have it, and the first of them, from 1, with its numbers; of a program without any nothing is
+/// written. Words whose values have brackets or parameters are not looked at, nor lines behind
+/// that of the last command.
+///
+/// It takes no memory. After a fault (902, and only where the sink failed) a beginning of the text
+/// is written.
+pub fn write_word_warnings<A: Allocator, W: Sink>(
+    form: Form,
+    deletes: bool,
+    program: &Program<A>,
+    commands: &[Command],
+    sink: &mut W,
+) -> Result<(), WriteFault>
+    ensures ok { OnOk result
+        (Appends (W.written sink.old) (W.written sink.new)
+        (word_warnings form deletes commands.now (text_in program.now).lines)) }
+    ensures fault { OnErr result
+        (AppendsBeginning (W.written sink.old) (W.written sink.new)
+        (word_warnings form deletes commands.now (text_in program.now).lines)) }
+    ensures counts { CountsFailure (W.failures sink.old) (W.failures sink.new) result }
+{
+    let mut chunk = warnings_of(form, deletes, program, commands);
+    chunk.write_out(sink)
+}
